@@ -1,0 +1,6 @@
+pub mod CallNumbers
+pub mod Errors
+pub mod Log
+pub mod Outside
+pub mod Registers
+pub mod Windows
