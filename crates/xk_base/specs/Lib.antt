@@ -1,4 +1,5 @@
 pub mod CallNumbers
+pub mod Counting
 pub mod Errors
 pub mod Log
 pub mod Outside
