@@ -1,4 +1,5 @@
 pub mod CallNumbers
+pub mod Circle
 pub mod Counting
 pub mod Errors
 pub mod Log
