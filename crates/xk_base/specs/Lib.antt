@@ -4,5 +4,6 @@ pub mod Counting
 pub mod Errors
 pub mod Log
 pub mod Outside
+pub mod RowMap
 pub mod Registers
 pub mod Windows
