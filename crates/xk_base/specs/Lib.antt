@@ -1,8 +1,10 @@
 pub mod CallNumbers
+pub mod Circle
 pub mod Counting
 pub mod Errors
 pub mod Fields
 pub mod Log
 pub mod Outside
+pub mod RowMap
 pub mod Registers
 pub mod Windows
