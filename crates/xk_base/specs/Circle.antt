@@ -1,7 +1,7 @@
 -- The ids of threads of n processes: the pids are 2 to n + 1, and each process has the tids 1 to `TID_LIMIT`.
 -- Their ascending order is (2, 1), (2, 2), .., (2, TID_LIMIT), (3, 1) and so on. Bent into a circle, the first
 -- follows the last.
-use Rattle.std.specs.Prelude.{ℕ, ◌+◌, ◌-◌, ◌*◌, ◌/◌, ◌%◌, ◌==◌, min, Bool, ◌&&◌, nat_le, nat_lt, Option, List, map}
+use Rattle.std.specs.Prelude.{ℕ, ◌+◌, ◌-◌, ◌*◌, ◌/◌, ◌%◌, ◌<◌, ◌≤◌, ◌==◌, min, Bool, ◌&&◌, nat_le, nat_lt, Option, List, map}
 use Rattle.std.specs.Option.{option_map}
 use Rattle.xk_base.specs.declared.ids.ThreadId.{ThreadId}
 use Rattle.xk_base.specs.declared.limits.TheConstants.{TID_LIMIT}
@@ -11,9 +11,17 @@ use Rattle.xk_base.specs.Counting.{least_below, listed_below}
 abbrev pub is_pid : ℕ → ℕ → Bool
 is_pid n pid = nat_le 2 pid && nat_lt pid (n + 2)
 
+-- .. as a fact
+abbrev pub IsPid : ℕ → ℕ → Type 0
+IsPid n pid = (2 ≤ pid) × (pid < n + 2)
+
 -- the tid is one that a thread may have
 abbrev pub is_tid : ℕ → Bool
 is_tid tid = nat_le 1 tid && nat_le tid TID_LIMIT
+
+-- .. as a fact
+abbrev pub IsTid : ℕ → Type 0
+IsTid tid = (1 ≤ tid) × (tid ≤ TID_LIMIT)
 
 -- the id is one of a thread of n processes
 abbrev pub is_thread_id : ℕ → ThreadId → Bool

@@ -1,10 +1,14 @@
 pub mod CallNumbers
+pub mod CallWords
 pub mod Circle
 pub mod Counting
 pub mod Errors
 pub mod Fields
+pub mod Flags
+pub mod Kinds
 pub mod Log
 pub mod Outside
-pub mod RowMap
 pub mod Registers
+pub mod Replies
+pub mod RowMap
 pub mod Windows

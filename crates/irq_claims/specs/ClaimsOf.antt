@@ -1,0 +1,7 @@
+use Rattle.xk_base.specs.RowMap.{row_map}
+use Rattle.irq_claims.specs.declared.claims.Claims.{Claims}
+use Rattle.irq_claims.specs.ClaimMap.{ClaimMap}
+
+-- the claims that the table holds
+unfoldable pub claims_of : Claims → ClaimMap
+claims_of t = row_map t.by_number

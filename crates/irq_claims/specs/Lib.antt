@@ -1,0 +1,2 @@
+pub mod ClaimMap
+pub mod ClaimsOf

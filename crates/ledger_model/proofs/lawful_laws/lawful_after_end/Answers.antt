@@ -1,0 +1,5 @@
+use Rattle.ledger_model.proofs.Ending.{end_loan_lawful}
+use Rattle.ledger_model.proofs.lawful_laws.lawful_after_end.Goals as goal
+
+pub returns : goal.returns
+returns c = end_loan_lawful

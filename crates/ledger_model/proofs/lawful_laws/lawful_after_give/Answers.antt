@@ -1,0 +1,5 @@
+use Rattle.ledger_model.proofs.Giving.{give_lawful}
+use Rattle.ledger_model.proofs.lawful_laws.lawful_after_give.Goals as goal
+
+pub returns : goal.returns
+returns c = λ procs capacity from n to ledger h can. give_lawful procs from n to ledger can capacity h

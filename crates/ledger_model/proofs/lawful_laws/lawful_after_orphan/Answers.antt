@@ -1,0 +1,5 @@
+use Rattle.ledger_model.proofs.Orphaning.{orphan_loan_lawful}
+use Rattle.ledger_model.proofs.lawful_laws.lawful_after_orphan.Goals as goal
+
+pub returns : goal.returns
+returns c = orphan_loan_lawful

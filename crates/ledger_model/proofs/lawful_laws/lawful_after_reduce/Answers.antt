@@ -1,0 +1,5 @@
+use Rattle.ledger_model.proofs.Removing.{reduce_lawful}
+use Rattle.ledger_model.proofs.lawful_laws.lawful_after_reduce.Goals as goal
+
+pub returns : goal.returns
+returns c = reduce_lawful

@@ -1,0 +1,5 @@
+use Rattle.ledger_model.proofs.Writing.{write_lawful}
+use Rattle.ledger_model.proofs.lawful_laws.lawful_after_write.Goals as goal
+
+pub returns : goal.returns
+returns c = write_lawful

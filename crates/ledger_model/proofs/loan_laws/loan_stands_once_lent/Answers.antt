@@ -1,0 +1,5 @@
+use Rattle.ledger_model.proofs.Lending.{lend_stands}
+use Rattle.ledger_model.proofs.loan_laws.loan_stands_once_lent.Goals as goal
+
+pub returns : goal.returns
+returns c = lend_stands

@@ -1,0 +1,8 @@
+use Rattle.ledger_model.proofs.Locality.{make_orphans, make_outside}
+use Rattle.ledger_model.proofs.step_laws.make_leaves.Goals as goal
+
+pub returns-clause-homes : goal.returns-clause-homes
+returns-clause-homes c = make_outside
+
+pub returns-clause-orphans : goal.returns-clause-orphans
+returns-clause-orphans c = make_orphans

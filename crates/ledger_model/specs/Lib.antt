@@ -1,0 +1,10 @@
+pub mod Conditions
+pub mod LeastRun
+pub mod Lawful
+pub mod Ledger
+pub mod Life
+pub mod Listings
+pub mod Loans
+pub mod Places
+pub mod Reach
+pub mod Steps

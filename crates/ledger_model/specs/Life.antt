@@ -1,0 +1,105 @@
+-- The life of a ledger: its steps as values, each with its condition, one after another.
+use Rattle.std.specs.Prelude.{◌≡◌, ℕ, Bool, true, false, IsFalse, List, [], ◌∷◌, Some, None}
+use Rattle.std.specs.Bool.{⊤}
+use Rattle.xk_base.specs.declared.ids.Number.{Number}
+use Rattle.xk_base.specs.declared.ids.Pid.{Pid}
+use Rattle.xk_base.specs.declared.ids.Place.{Place}
+use Rattle.xk_base.specs.declared.pages.LoanKind.{LoanKind}
+use Rattle.xk_base.specs.declared.pages.LoanKind.TheVariants.{Shared}
+use Rattle.xk_base.specs.declared.pages.Right.{Right}
+use Rattle.ledger_model.specs.Conditions.{CanMake, CanMakeConsole, CanWrite, CanRemove, CanReduce, CanLend, CanGive, CanForget}
+use Rattle.ledger_model.specs.Ledger.{Ledger, Page, PageLoan, PageName}
+use Rattle.ledger_model.specs.Loans.{same_number}
+use Rattle.ledger_model.specs.Steps.{make, make_console, write, remove, reduce, lend, end_loan, give, orphan_loan, forget}
+
+-- a step with its arguments
+pub data Step : Type 0 where
+  Make : Place → ℕ → Right → Step
+  MakeConsole : Place → Bool → Step
+  Write : PageName → ℕ → List ℕ → Step
+  Remove : (Place → Bool) → Step
+  Reduce : (Place → Bool) → Right → Step
+  Lend : Place → ℕ → Place → LoanKind → Number → Step
+  End : Number → Step
+  Give : Place → ℕ → Place → Step
+  MakeOrphans : Number → Step
+  Forget : Pid → Step
+
+-- the ledger after a step
+abbrev pub after : ℕ → Step → Ledger → Ledger
+after procs (Make first n right) ledger = make first n right ledger
+after procs (MakeConsole place w) ledger = make_console place w ledger
+after procs (Write name offset bytes) ledger = write name offset bytes ledger
+after procs (Remove places) ledger = remove places ledger
+after procs (Reduce places right) ledger = reduce places right ledger
+after procs (Lend from n to kind number) ledger = lend from n to kind number ledger
+after procs (End number) ledger = end_loan number ledger
+after procs (Give from n to) ledger = give from n to ledger
+after procs (MakeOrphans number) ledger = orphan_loan procs number ledger
+after procs (Forget pid) ledger = forget pid ledger
+
+-- the condition of a step
+abbrev pub May : ℕ → ℕ → Step → Ledger → Type 0
+May procs capacity (Make first n right) ledger = CanMake procs capacity ledger first n
+May procs capacity (MakeConsole place w) ledger = CanMakeConsole procs ledger place
+May procs capacity (Write name offset bytes) ledger = CanWrite procs ledger name offset bytes
+May procs capacity (Remove places) ledger = CanRemove ledger places
+May procs capacity (Reduce places right) ledger = CanReduce ledger places right
+May procs capacity (Lend from n to kind number) ledger = CanLend procs ledger from n to kind number
+May procs capacity (End number) ledger = ⊤
+May procs capacity (Give from n to) ledger = CanGive procs ledger from n to
+May procs capacity (MakeOrphans number) ledger = ⊤
+May procs capacity (Forget pid) ledger = CanForget ledger pid
+
+-- the step ends the loan of that number, or makes its pages orphans
+abbrev pub ends : Number → Step → Bool
+ends number (Make first n right) = false
+ends number (MakeConsole place w) = false
+ends number (Write name offset bytes) = false
+ends number (Remove places) = false
+ends number (Reduce places right) = false
+ends number (Lend from n to kind other) = false
+ends number (End other) = same_number other number
+ends number (Give from n to) = false
+ends number (MakeOrphans other) = same_number other number
+ends number (Forget pid) = false
+
+-- the step begins a loan of that number
+abbrev pub lends : Number → Step → Bool
+lends number (Make first n right) = false
+lends number (MakeConsole place w) = false
+lends number (Write name offset bytes) = false
+lends number (Remove places) = false
+lends number (Reduce places right) = false
+lends number (Lend from n to kind other) = same_number other number
+lends number (End other) = false
+lends number (Give from n to) = false
+lends number (MakeOrphans other) = false
+lends number (Forget pid) = false
+
+-- the ledger after a list of steps
+unfoldable pub after_all : ℕ → List Step → Ledger → Ledger
+after_all procs [] ledger = ledger
+after_all procs (step ∷ steps) ledger = after_all procs steps (after procs step ledger)
+
+-- each step of the list has its condition when its turn comes
+unfoldable pub MayAll : ℕ → ℕ → List Step → Ledger → Type 0
+MayAll procs capacity [] ledger = ⊤
+MayAll procs capacity (step ∷ steps) ledger = May procs capacity step ledger × MayAll procs capacity steps (after procs step ledger)
+
+-- and none of them ends the loan of that number
+unfoldable pub NoneEnds : Number → List Step → Type 0
+NoneEnds number [] = ⊤
+NoneEnds number (step ∷ steps) = IsFalse (ends number step) × NoneEnds number steps
+
+-- What a page on loan keeps: its right and its loan, and under a Shared loan its bytes.
+pub record IsStillLent (loan : PageLoan) (before now : Page) : Type 0 where
+  pub right : now.right ≡ before.right
+  pub still : now.loan ≡ Some loan
+  pub bytes : loan.kind ≡ Shared → now.contents ≡ before.contents
+
+-- What a page has back after its loan: no loan and the right from before, and after a Shared loan the bytes from before.
+pub record IsBack (kind : LoanKind) (before now : Page) : Type 0 where
+  pub no_loan : now.loan ≡ None
+  pub right : now.right ≡ before.right
+  pub bytes : kind ≡ Shared → now.contents ≡ before.contents

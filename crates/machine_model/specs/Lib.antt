@@ -1,0 +1,12 @@
+pub mod Calls
+pub mod Changes
+pub mod Ends
+pub mod Instructions
+pub mod Interrupts
+pub mod Machine
+pub mod MemoryCalls
+pub mod Order
+pub mod Step
+pub mod ThreadCalls
+pub mod Threads
+pub mod Views

@@ -1,0 +1,15 @@
+//! The abstract machine: what its state is, and what each step does to it. The definitions stand in
+//! `specs/`. The functions here are laws of them, and a few plain functions that meet them.
+#![tactic(auto)]
+
+mod laws;
+mod order;
+mod refusals;
+
+pub use laws::{
+    arguments_are_given, next_ready_is_ready, no_step_without_actor, none_ready_without_next,
+    other_registers_stay, records_carry_their_step, refusal_changes_caller_alone,
+    refused_caller_goes_on, step_counts_one,
+};
+pub use order::next_ready;
+pub use refusals::{first_refusal, refusal_words};

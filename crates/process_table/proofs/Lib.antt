@@ -1,0 +1,2 @@
+pub mod ByPid
+pub mod Laws

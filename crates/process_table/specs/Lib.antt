@@ -1,0 +1,3 @@
+pub mod ProcessMap
+pub mod ProcessesOf
+pub mod State

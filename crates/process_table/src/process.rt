@@ -1,0 +1,117 @@
+//! One process.
+
+ghost use Rattle.std.specs.Prelude.{◌≡◌, ◌≤◌, length, IfOk, OnOk, OnErr};
+ghost use Rattle.process_table.specs.State.{new_process, dead_process, place_of, server_at, has_room, connection, with_heap, with_connection};
+
+use std::alloc::Global;
+use std::marker::Model;
+use xk_base::limits::CONNECTION_LIMIT;
+use xk_base::{Cid, NoMemory, Serial, XousError};
+
+/// How many connections a process has at most.
+const CONNECTIONS: usize = CONNECTION_LIMIT as usize;
+
+/// What the table knows of a process. All room for its connections is taken at once.
+#[derive(Debug, Drop)]
+pub struct Process {
+    alive: bool,
+    heap: u32,
+    connections: Vec<Serial>,
+}
+
+impl Model for Process {
+    ghost use Rattle.std.specs.Prelude.{◌≤◌, vec_len, vec_capacity};
+    ghost use Rattle.process_table.specs.declared.process.TheConstants.{CONNECTIONS};
+    ghost use Rattle.process_table.specs.State.{ProcessState};
+
+    ghost Value = { ProcessState };
+
+    ghost view = { λ p. record { alive = p.alive; heap = p.heap; connections = p.connections.items } };
+
+    ghost invariant = { λ p. (vec_len p.connections ≤ CONNECTIONS) × (CONNECTIONS ≤ vec_capacity p.connections) };
+}
+
+impl Process {
+    /// A process of a new machine.
+    pub fn new(alloc: Global) -> Result<Process, NoMemory>
+        ensures { IfOk result (λ p. p ≡ new_process) }
+    {
+        match Vec::with_capacity(alloc, CONNECTIONS) {
+            Ok(connections) => Ok(Process {
+                alive: true,
+                heap: 0,
+                connections,
+            }),
+            Err(_) => Err(NoMemory),
+        }
+    }
+
+    pub fn is_alive(&self) -> bool
+        ensures { result ≡ self.now.alive }
+    {
+        self.alive
+    }
+
+    /// The length of its heap in bytes.
+    pub fn heap(&self) -> u32
+        ensures { result ≡ self.now.heap }
+    {
+        self.heap
+    }
+
+    pub fn set_heap(&mut self, bytes: u32)
+        ensures { self.new ≡ with_heap bytes self.old }
+    {
+        self.heap = bytes;
+    }
+
+    /// The place of the server among its connections.
+    fn place_of(&self, serial: Serial) -> Option<usize>
+        ensures { result ≡ place_of serial self.now.connections }
+    {
+        self.connections.iter().position(|s| *s == serial)
+    }
+
+    /// Whether it is connected to the server, or may be.
+    pub fn has_room(&self, serial: Serial) -> bool
+        ensures { result ≡ has_room serial self.now.connections }
+    {
+        self.place_of(serial).is_some() || self.connections.len() < CONNECTIONS
+    }
+
+    /// Its connection to the server, made where there is none.
+    pub fn connect(&mut self, serial: Serial) -> Result<Cid, XousError>
+        ensures answer { result ≡ connection serial self.old.connections }
+        ensures ok { OnOk result (self.new ≡ with_connection serial self.old) }
+        ensures err { OnErr result (self.new ≡ self.old) }
+    {
+        if let Some(k) = self.place_of(serial) {
+            return Ok(Cid(k as u32 + 2));
+        }
+        let k = self.connections.len();
+        if k == CONNECTIONS {
+            return Err(XousError::InvalidLimit);
+        }
+        self.connections.push_reserved(serial);
+        Ok(Cid(k as u32 + 2))
+    }
+
+    /// The server of the connection; `None` exactly where it has no such connection.
+    pub fn server_of(&self, cid: Cid) -> Option<Serial>
+        ensures { result ≡ server_at cid.0 self.now.connections }
+    {
+        if cid.0 < 2 {
+            return None;
+        }
+        self.connections.get(cid.0 as usize - 2).copied()
+    }
+
+    /// Ends the process: its heap and its connections go.
+    pub fn end(&mut self)
+        ensures { self.new ≡ dead_process }
+    {
+        self.alive = false;
+        self.heap = 0;
+        self.connections.clear();
+    }
+}

@@ -1,0 +1,165 @@
+//! The table of processes.
+
+ghost use Rattle.std.specs.Prelude.{◌≡◌, ◌≤◌, IfOk, OnOk, OnErr};
+ghost use Rattle.xk_base.specs.Circle.{IsPid};
+ghost use Rattle.process_table.specs.State.{dead_process, server_at, has_room, connection, with_heap, with_connection};
+ghost use Rattle.process_table.specs.ProcessMap.{new_processes, change, is_alive, heap_of, connections_of};
+
+use crate::process::Process;
+use std::alloc::Global;
+use xk_base::limits::PROCESS_LIMIT;
+use xk_base::{Cid, NoMemory, Pid, Serial, XousError};
+
+/// The processes by pid, from 2 on. A pid is used once.
+#[derive(Debug, Drop)]
+pub struct Processes {
+    by_pid: Vec<Process>,
+}
+
+#[tactic(auto, using(crate::proofs::ByPid::by_pid_laws), unfolding(crate::specs::ProcessesOf::process_count, crate::specs::ProcessesOf::processes_of))]
+impl Processes {
+    ghost use Rattle.process_table.specs.ProcessesOf.{process_count, processes_of};
+
+    /// A table of `procs` processes, all alive, with no heap and no connection. It takes all memory that
+    /// they will ever need.
+    pub fn new(alloc: Global, procs: u32) -> Result<Processes, NoMemory>
+        requires { procs ≤ PROCESS_LIMIT }
+        ensures count { IfOk result (λ t. process_count t ≡ procs) }
+        ensures fresh { IfOk result (λ t. processes_of t ≡ new_processes procs) }
+    {
+        let Ok(mut by_pid) = Vec::with_capacity(alloc, procs as usize) else {
+            return Err(NoMemory);
+        };
+        for _process in 0..procs {
+            by_pid.push_reserved(Process::new(alloc)?);
+        }
+        Ok(Processes { by_pid })
+    }
+
+    /// Whether the process is there and alive, for any pid.
+    pub fn alive(&self, pid: Pid) -> bool
+        ensures { result ≡ is_alive (processes_of self.now pid.0) }
+    {
+        if pid.0 < 2 {
+            return false;
+        }
+        match self.by_pid.get(pid.0 as usize - 2) {
+            Some(process) => process.is_alive(),
+            None => false,
+        }
+    }
+
+    /// The length of its heap in bytes.
+    pub fn heap(&self, pid: Pid) -> u32
+        requires { IsPid (process_count self.now) pid.0 }
+        ensures { result ≡ heap_of (processes_of self.now pid.0) }
+    {
+        self.by_pid[pid.0 as usize - 2].heap()
+    }
+
+    /// Sets the length of its heap in bytes.
+    pub fn set_heap(&mut self, pid: Pid, bytes: u32)
+        requires { IsPid (process_count self.old) pid.0 }
+        ensures after { processes_of self.new ≡ change pid.0 (with_heap bytes) (processes_of self.old) }
+        ensures count { process_count self.new ≡ process_count self.old }
+    {
+        self.by_pid[pid.0 as usize - 2].set_heap(bytes);
+    }
+
+    /// Whether the process is connected to the server, or may be.
+    pub fn room(&self, pid: Pid, serial: Serial) -> bool
+        requires { IsPid (process_count self.now) pid.0 }
+        ensures { result ≡ has_room serial (connections_of (processes_of self.now pid.0)) }
+    {
+        self.by_pid[pid.0 as usize - 2].has_room(serial)
+    }
+
+    /// The connection of the process to the server: the one that is there, or a new one with the least
+    /// unused number. It is refused with `InvalidLimit` exactly where `room` is false.
+    pub fn connect(&mut self, pid: Pid, serial: Serial) -> Result<Cid, XousError>
+        requires { IsPid (process_count self.old) pid.0 }
+        ensures answer { result ≡ connection serial (connections_of (processes_of self.old pid.0)) }
+        ensures ok { OnOk result (processes_of self.new ≡ change pid.0 (with_connection serial) (processes_of self.old)) }
+        ensures err { OnErr result (processes_of self.new ≡ processes_of self.old) }
+        ensures count { process_count self.new ≡ process_count self.old }
+    {
+        self.by_pid[pid.0 as usize - 2].connect(serial)
+    }
+
+    /// The server that the process reaches by the connection; `None` exactly where it has no such
+    /// connection. The server may be dead.
+    pub fn server_of(&self, pid: Pid, cid: Cid) -> Option<Serial>
+        requires { IsPid (process_count self.now) pid.0 }
+        ensures { result ≡ server_at cid.0 (connections_of (processes_of self.now pid.0)) }
+    {
+        self.by_pid[pid.0 as usize - 2].server_of(cid)
+    }
+
+    /// Ends the process: it is dead from now on, with no heap and no connection.
+    pub fn end(&mut self, pid: Pid)
+        requires { IsPid (process_count self.old) pid.0 }
+        ensures after { processes_of self.new ≡ change pid.0 (λ _. dead_process) (processes_of self.old) }
+        ensures count { process_count self.new ≡ process_count self.old }
+    {
+        self.by_pid[pid.0 as usize - 2].end();
+    }
+}
+
+#[cfg(test)]
+mod tests {
+    use super::*;
+
+    #[test]
+    fn connections_stay(rt: HostRuntime) {
+        if let Ok(mut processes) = Processes::new(rt.alloc(), 3) {
+            assert_eq!(rt; processes.connect(Pid(3), Serial(1)), Ok(Cid(2)));
+            assert_eq!(rt; processes.connect(Pid(3), Serial(1)), Ok(Cid(2)));
+            // The server with serial 1 dies, and another is made under the same identifier.
+            assert_eq!(rt; processes.connect(Pid(3), Serial(2)), Ok(Cid(3)));
+            assert_eq!(rt; processes.server_of(Pid(3), Cid(2)), Some(Serial(1)));
+            assert_eq!(rt; processes.server_of(Pid(3), Cid(3)), Some(Serial(2)));
+            assert_eq!(rt; processes.server_of(Pid(3), Cid(1)), None);
+            assert_eq!(rt; processes.server_of(Pid(3), Cid(4)), None);
+            assert_eq!(rt; processes.server_of(Pid(4), Cid(2)), None);
+        } else {
+            assert!(rt; false);
+        }
+    }
+
+    #[test]
+    fn connections_are_few(rt: HostRuntime) {
+        if let Ok(mut processes) = Processes::new(rt.alloc(), 1) {
+            for k in 0..32 {
+                assert!(rt; processes.room(Pid(2), Serial(k)));
+                assert_eq!(rt; processes.connect(Pid(2), Serial(k)), Ok(Cid(k + 2)));
+            }
+            assert!(rt; !processes.room(Pid(2), Serial(32)));
+            assert_eq!(rt;
+                processes.connect(Pid(2), Serial(32)),
+                Err(XousError::InvalidLimit)
+            );
+            assert!(rt; processes.room(Pid(2), Serial(31)));
+            assert_eq!(rt; processes.connect(Pid(2), Serial(31)), Ok(Cid(33)));
+        } else {
+            assert!(rt; false);
+        }
+    }
+
+    #[test]
+    fn the_dead_have_nothing(rt: HostRuntime) {
+        if let Ok(mut processes) = Processes::new(rt.alloc(), 2) {
+            processes.set_heap(Pid(2), 4096);
+            processes.set_heap(Pid(3), 8192);
+            assert_eq!(rt; processes.connect(Pid(3), Serial(1)), Ok(Cid(2)));
+            processes.end(Pid(3));
+            assert_eq!(rt; processes.heap(Pid(2)), 4096);
+            assert_eq!(rt; processes.heap(Pid(3)), 0);
+            assert_eq!(rt; processes.server_of(Pid(3), Cid(2)), None);
+            for (pid, alive) in [(0, false), (1, false), (2, true), (3, false), (4, false)] {
+                assert_eq!(rt; processes.alive(Pid(pid)), alive);
+            }
+        } else {
+            assert!(rt; false);
+        }
+    }
+}

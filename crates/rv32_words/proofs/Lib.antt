@@ -1,0 +1,4 @@
+pub mod Extension
+pub mod FormatFields
+pub mod Found
+pub mod Only

@@ -1,0 +1,4 @@
+pub mod Calls
+pub mod Families
+pub mod MapFlags
+pub mod Replies

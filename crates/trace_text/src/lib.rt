@@ -1,0 +1,11 @@
+//! The lines of a transcript: one for each record of a run, and a last one.
+//!
+//! Numbers are decimal and words are eight lower-case hexadecimal digits. No line takes memory.
+#![tactic(auto)]
+
+mod lines;
+mod pieces;
+#[cfg(test)]
+mod tests;
+
+pub use lines::{EndWord, end_line, line};

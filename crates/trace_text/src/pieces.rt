@@ -1,0 +1,86 @@
+//! Pieces of a line, each appended to a buffer that has room for it.
+
+ghost use Rattle.std.specs.Prelude.{◌≡◌, ◌+◌, ◌≤◌, ◌++◌, length, decimal, codes};
+ghost use Rattle.arrayvec.specs.ArrayVec.{array_vec_len};
+ghost use Rattle.trace_text.specs.Lines.{thread_text};
+ghost use Rattle.trace_text.specs.Words.{byte_text, word_text, words_text};
+
+use arrayvec::ArrayVec;
+use itoa::Buffer;
+use xk_base::ThreadId;
+
+/// A line that is being written; the longest that is written has fewer bytes than fit.
+pub type Line = ArrayVec<u8, 160>;
+
+/// Appends the bytes.
+pub fn put(out: &mut Line, bytes: &[u8])
+    requires { array_vec_len out.old + length bytes.now ≤ 160 }
+    ensures text { out.new.items ≡ out.old.items ++ bytes.now }
+    ensures len { array_vec_len out.new ≡ array_vec_len out.old + length bytes.now }
+{
+    match out.try_extend_from_slice(bytes) {
+        Ok(()) => {}
+        Err(_) => unreachable!(),
+    }
+}
+
+/// Appends the number in decimal.
+pub fn put_decimal(out: &mut Line, n: u32)
+    requires { array_vec_len out.old + 10 ≤ 160 }
+    ensures text { out.new.items ≡ out.old.items ++ decimal n }
+    ensures len { array_vec_len out.new ≤ array_vec_len out.old + 10 }
+{
+    let mut buffer = Buffer::new();
+    put(out, buffer.format(n).as_bytes());
+}
+
+/// Appends the byte as two hexadecimal digits.
+#[tactic(auto, using(crate::proofs::Digits::encoded_byte))]
+pub fn put_byte(out: &mut Line, byte: u8)
+    requires { array_vec_len out.old + 2 ≤ 160 }
+    ensures text { out.new.items ≡ out.old.items ++ byte_text byte }
+    ensures len { array_vec_len out.new ≡ array_vec_len out.old + 2 }
+{
+    let mut pair = [0u8; 2];
+    match hex::encode_to_slice([byte].as_slice(), &mut pair) {
+        Ok(()) => put(out, &pair),
+        Err(_) => unreachable!(),
+    }
+}
+
+/// Appends the word as eight hexadecimal digits.
+#[tactic(auto, using(crate::proofs::Digits::encoded_word))]
+pub fn put_word(out: &mut Line, word: u32)
+    requires { array_vec_len out.old + 8 ≤ 160 }
+    ensures text { out.new.items ≡ out.old.items ++ word_text word }
+    ensures len { array_vec_len out.new ≡ array_vec_len out.old + 8 }
+{
+    let mut digits = [0u8; 8];
+    match hex::encode_to_slice(word.to_be_bytes().as_slice(), &mut digits) {
+        Ok(()) => put(out, &digits),
+        Err(_) => unreachable!(),
+    }
+}
+
+/// Appends each word after a space.
+pub fn put_words(out: &mut Line, words: &[u32; 8])
+    requires { array_vec_len out.old + 72 ≤ 160 }
+    ensures text { out.new.items ≡ out.old.items ++ words_text words.now }
+    ensures len { array_vec_len out.new ≡ array_vec_len out.old + 72 }
+{
+    for word in words {
+        put(out, b" ");
+        put_word(out, *word);
+    }
+}
+
+/// Appends the thread as its process and its number there, as `2.2`.
+pub fn put_thread(out: &mut Line, thread: ThreadId)
+    requires { array_vec_len out.old + 21 ≤ 160 }
+    ensures text { out.new.items ≡ out.old.items ++ thread_text thread }
+    ensures len { array_vec_len out.new ≤ array_vec_len out.old + 21 }
+{
+    put_decimal(out, thread.pid.0 as u32);
+    put(out, b".");
+    put_decimal(out, thread.tid.0 as u32);
+}

@@ -1,0 +1,4 @@
+pub mod AskedFilesLemmas
+pub mod PagesLemmas
+pub mod ReadingLemmas
+pub mod ToldLemmas

@@ -1,0 +1,13 @@
+pub mod AskedFiles
+pub mod AskedView
+pub mod Calls
+pub mod Host
+pub mod MemHost
+pub mod MemHostView
+pub mod MemSink
+pub mod MemStore
+pub mod Pages
+pub mod PagesView
+pub mod Store
+pub mod SureSink
+pub mod Told
