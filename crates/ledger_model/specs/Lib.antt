@@ -1,10 +1,11 @@
 pub mod Conditions
-pub mod LeastRun
 pub mod Lawful
+pub mod LeastRun
 pub mod Ledger
 pub mod Life
 pub mod Listings
 pub mod Loans
 pub mod Places
 pub mod Reach
+pub mod RunTests
 pub mod Steps
