@@ -3,7 +3,7 @@
 ghost use Rattle.std.specs.Prelude.{◌≡◌, ◌<◌, ◌≤◌, ◌+◌, ◌*◌, ◌^◌};
 ghost use Rattle.xk_base.specs.Fields.{sign_extended};
 
-/// A number with `width` more bits behind its own.
+/// The number `high` with `width` more bits behind its own, which spell `low`.
 pub fn joined(high: u32, width: u32, low: u32) -> u32
     requires room { high * 2 ^ width < 2 ^ 32 }
     requires some { width < 32 }
@@ -13,7 +13,7 @@ pub fn joined(high: u32, width: u32, low: u32) -> u32
     high << width | low
 }
 
-/// The signed number that `width` bits spell in two's complement.
+/// The signed number that `width` bits spell in two's complement, of which the highest is the sign.
 pub fn sign_extend(bits: u32, width: u32) -> i32
     requires some { 1 ≤ width }
     requires room { width ≤ 32 }

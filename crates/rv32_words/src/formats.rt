@@ -38,6 +38,7 @@ pub fn r_type(opcode: u32, funct3: u32, funct7: u32, rd: u8, rs1: u8, rs2: u8) -
     )
 }
 
+/// An instruction of one source register and an immediate of 12 bits.
 pub fn i_type(opcode: u32, funct3: u32, rd: u8, rs1: u8, imm: i32) -> u32
     requires opcode { opcode < 2 ^ 7 }
     requires funct3 { funct3 < 2 ^ 3 }
@@ -53,6 +54,7 @@ pub fn i_type(opcode: u32, funct3: u32, rd: u8, rs1: u8, imm: i32) -> u32
     )
 }
 
+/// A store: two source registers and an immediate of 12 bits in two parts.
 pub fn s_type(opcode: u32, funct3: u32, rs1: u8, rs2: u8, imm: i32) -> u32
     requires opcode { opcode < 2 ^ 7 }
     requires funct3 { funct3 < 2 ^ 3 }
@@ -64,6 +66,7 @@ pub fn s_type(opcode: u32, funct3: u32, rs1: u8, rs2: u8, imm: i32) -> u32
     with_low_part(high, rs1, funct3, bits & 0x1f, opcode)
 }
 
+/// A branch: two source registers and an even immediate of 13 bits in four parts.
 pub fn b_type(opcode: u32, funct3: u32, rs1: u8, rs2: u8, imm: i32) -> u32
     requires opcode { opcode < 2 ^ 7 }
     requires funct3 { funct3 < 2 ^ 3 }
@@ -76,6 +79,7 @@ pub fn b_type(opcode: u32, funct3: u32, rs1: u8, rs2: u8, imm: i32) -> u32
     with_low_part(joined(high, 5, u32::from(rs2)), rs1, funct3, low, opcode)
 }
 
+/// An instruction of the upper 20 bits of an immediate.
 pub fn u_type(opcode: u32, rd: u8, imm: u32) -> u32
     requires opcode { opcode < 2 ^ 7 }
     requires fields { FieldsFit (UType opcode rd imm) }
@@ -84,6 +88,7 @@ pub fn u_type(opcode: u32, rd: u8, imm: u32) -> u32
     joined(joined(imm >> 12, 5, u32::from(rd)), 7, opcode)
 }
 
+/// A jump: an even immediate of 21 bits in four parts.
 pub fn j_type(opcode: u32, rd: u8, imm: i32) -> u32
     requires opcode { opcode < 2 ^ 7 }
     requires fields { FieldsFit (JType opcode rd imm) }
