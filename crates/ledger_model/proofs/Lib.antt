@@ -15,4 +15,5 @@ pub mod Owners
 pub mod PlaceLaws
 pub mod Reaching
 pub mod Removing
+pub mod SmallLaws
 pub mod Writing

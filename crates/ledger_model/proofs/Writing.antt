@@ -1,16 +1,15 @@
 -- Laws of `write`, which changes bytes alone.
-use Rattle.std.proofs.Common.{◌≡◌, ◌≢◌, ℕ, ◌+◌, ◌-◌, ◌<◌, ◌≤◌, Bool, true, false, List, [], ◌++◌, length, take, drop, Option, Some, None, refl, sym, ap, subst, ◌∙◌, arith, ◌⊎◌, inl, inr, length-append, length-take, length-drop}
-use Rattle.std.specs.Prelude.{◌==◌, is_some, if◌then◌else◌}
+use Rattle.std.proofs.Common.{◌≡◌, ℕ, ◌+◌, ◌<◌, ◌≤◌, List, ◌++◌, length, take, drop, Option, Some, None, refl, sym, ap, subst, ◌∙◌, arith, inl, inr, length-append, length-take, length-drop}
+use Rattle.std.specs.Prelude.{is_some}
 use Rattle.std.specs.List.{All}
-use Rattle.std.specs.Option.{option_and_then, option_map}
+use Rattle.std.specs.Option.{option_map}
 use Rattle.std.proofs.lemmas.Bool.{cases_Bool, cond-true, cond-false}
 use Rattle.std.proofs.lemmas.List.Elements.{All-append, All-take, All-drop}
 use Rattle.std.proofs.lemmas.Option.{none-some, same_Some}
-use Rattle.xk_base.specs.declared.ids.Place.{Place}
 use Rattle.ledger_model.specs.Conditions.{CanWrite}
 use Rattle.ledger_model.specs.Lawful.{IsLawful, IsPage}
-use Rattle.ledger_model.specs.Ledger.{Ledger, Contents, Console, Bytes, Page, PageLoan, Orphan, PageName, Homed, Orphaned, loan_at, loan_of, contents_of, has_bytes, is_counted, pages}
-use Rattle.ledger_model.specs.Loans.{bare, bare_page, bare_orphan, bare_contents, loans, orphan_loan_at, loan_of_orphan}
+use Rattle.ledger_model.specs.Ledger.{Ledger, Contents, Console, Bytes, Page, Orphan, PageName, Homed, Orphaned, loan_of, has_bytes, is_counted, pages}
+use Rattle.ledger_model.specs.Loans.{bare, bare_page, bare_orphan, bare_contents, loans, loan_of_orphan}
 use Rattle.ledger_model.specs.Places.{same_place, count_places}
 use Rattle.ledger_model.specs.Steps.{write, written, written_contents, written_page, written_orphan}
 use Rattle.ledger_model.proofs.LedgerLaws.{if_same, same_ledger}
@@ -25,29 +24,35 @@ record FitsPage (offset : ℕ) (bytes : List ℕ) : Type 0 where
   fits : offset + length bytes ≤ 4096
   each : All (λ b. b < 256) bytes
 
-written-whole : (old bytes : List ℕ) (offset : ℕ) → FitsPage offset bytes → IsPage old → IsPage (written old offset bytes)
+written-whole : (old bytes : List ℕ) (offset : ℕ) → FitsPage offset bytes → IsPage old
+    → IsPage (written old offset bytes)
 written-whole old bytes offset can h = record {
-    size = let fits : offset + length bytes ≤ 4096 = can.fits in let size : length old ≡ 4096 = h.size in
+  size = let fits : offset + length bytes ≤ 4096 = can.fits in let size : length old ≡ 4096 = h.size in
       simp (length-append, length-take, length-drop) (omega arith);
-    each = All-append (λ b. b < 256) (take offset old) (bytes ++ drop (offset + length bytes) old) (All-take (λ b. b < 256) offset old h.each)
-      (All-append (λ b. b < 256) bytes (drop (offset + length bytes) old) can.each (All-drop (λ b. b < 256) (offset + length bytes) old h.each)) }
+  each = All-append (λ b. b < 256) (take offset old) (bytes ++ drop (offset + length bytes) old) (All-take (λ b. b < 256) offset old h.each)
+      (All-append (λ b. b < 256) bytes (drop (offset + length bytes) old) can.each (All-drop (λ b. b < 256) (offset + length bytes) old h.each));
+}
 
 -- ---- rights and loans stay
 
-bare_contents-written : (offset : ℕ) (bytes : List ℕ) (c : Contents) → bare_contents (written_contents offset bytes c) ≡ bare_contents c
+bare_contents-written : (offset : ℕ) (bytes : List ℕ) (c : Contents)
+    → bare_contents (written_contents offset bytes c) ≡ bare_contents c
 bare_contents-written offset bytes Console = refl
 bare_contents-written offset bytes (Bytes old) = refl
 
-bare_page-written : (offset : ℕ) (bytes : List ℕ) (o : Option Page) → option_map bare_page (option_map (written_page offset bytes) o) ≡ option_map bare_page o
+bare_page-written : (offset : ℕ) (bytes : List ℕ) (o : Option Page)
+    → option_map bare_page (option_map (written_page offset bytes) o) ≡ option_map bare_page o
 bare_page-written offset bytes None = refl
 bare_page-written offset bytes (Some page) = ap (λ c. Some (record page { contents = c })) (bare_contents-written offset bytes page.contents)
 
-bare_orphan-written : (offset : ℕ) (bytes : List ℕ) (o : Option Orphan) → option_map bare_orphan (option_map (written_orphan offset bytes) o) ≡ option_map bare_orphan o
+bare_orphan-written : (offset : ℕ) (bytes : List ℕ) (o : Option Orphan)
+    → option_map bare_orphan (option_map (written_orphan offset bytes) o) ≡ option_map bare_orphan o
 bare_orphan-written offset bytes None = refl
 bare_orphan-written offset bytes (Some orphan) = refl
 
 -- a write changes bytes alone
-pub write_bare : (name : PageName) (offset : ℕ) (bytes : List ℕ) (l : Ledger) → bare (write name offset bytes l) ≡ bare l
+pub write_bare : (name : PageName) (offset : ℕ) (bytes : List ℕ) (l : Ledger)
+    → bare (write name offset bytes l) ≡ bare l
 unfolding write bare
 write_bare (Homed place) offset bytes l = same_ledger (bare (write (Homed place) offset bytes l)) (bare l)
     (λ p. if_same (same_place p place) (option_map bare_page) (option_map (written_page offset bytes) (l.home p)) (l.home p) (bare_page-written offset bytes (l.home p)))
@@ -62,7 +67,8 @@ bare-loan : (o : Option Page) → loan_of (option_map bare_page o) ≡ loan_of o
 bare-loan None = refl
 bare-loan (Some page) = refl
 
-bare-orphan_loan : (o : Option Orphan) → option_map loan_of_orphan (option_map bare_orphan o) ≡ option_map loan_of_orphan o
+bare-orphan_loan : (o : Option Orphan)
+    → option_map loan_of_orphan (option_map bare_orphan o) ≡ option_map loan_of_orphan o
 bare-orphan_loan None = refl
 bare-orphan_loan (Some orphan) = refl
 
@@ -91,9 +97,9 @@ pages-bare : (procs : ℕ) (l : Ledger) → pages procs (bare l) ≡ pages procs
 unfolding bare pages
 pages-bare procs l =
     let homes : count_places procs (λ p. is_counted ((bare l).home p)) ≡ count_places procs (λ p. is_counted (l.home p)) =
-      count_places-same procs (λ p. is_counted ((bare l).home p)) (λ p. is_counted (l.home p)) (λ p. bare-counted (l.home p)) in
+    count_places-same procs (λ p. is_counted ((bare l).home p)) (λ p. is_counted (l.home p)) (λ p. bare-counted (l.home p)) in
     let orphans : count_places procs (λ p. is_some ((bare l).orphan p)) ≡ count_places procs (λ p. is_some (l.orphan p)) =
-      count_places-same procs (λ p. is_some ((bare l).orphan p)) (λ p. is_some (l.orphan p)) (λ p. bare-is_orphan (l.orphan p)) in
+    count_places-same procs (λ p. is_some ((bare l).orphan p)) (λ p. is_some (l.orphan p)) (λ p. bare-is_orphan (l.orphan p)) in
     omega arith
 
 pub bare-pages : (procs : ℕ) (l m : Ledger) → bare m ≡ bare l → pages procs m ≡ pages procs l
@@ -101,56 +107,72 @@ bare-pages procs l m e = sym (pages-bare procs m) ∙ (ap (pages procs) e ∙ pa
 
 -- ---- write
 
-pub write_loans : (name : PageName) (offset : ℕ) (bytes : List ℕ) (l : Ledger) → loans (write name offset bytes l) ≡ loans l
+pub write_loans : (name : PageName) (offset : ℕ) (bytes : List ℕ) (l : Ledger)
+    → loans (write name offset bytes l) ≡ loans l
 write_loans name offset bytes l = bare-loans l (write name offset bytes l) (write_bare name offset bytes l)
 
-pub write_pages : (procs : ℕ) (name : PageName) (offset : ℕ) (bytes : List ℕ) (l : Ledger) → pages procs (write name offset bytes l) ≡ pages procs l
+pub write_pages : (procs : ℕ) (name : PageName) (offset : ℕ) (bytes : List ℕ) (l : Ledger)
+    → pages procs (write name offset bytes l) ≡ pages procs l
 write_pages procs name offset bytes l = bare-pages procs l (write name offset bytes l) (write_bare name offset bytes l)
 
-written_from : (offset : ℕ) (bytes : List ℕ) → FitsPage offset bytes → (a : Page) → ComesFrom a (written_page offset bytes a)
+written_from : (offset : ℕ) (bytes : List ℕ) → FitsPage offset bytes → (a : Page)
+    → ComesFrom a (written_page offset bytes a)
 written_from offset bytes can a = record {
-    console = written_console a.contents;
-    fetch = λ c x. x;
-    loan = λ x e. e;
-    right = λ x e. refl;
-    whole = written_bytes a.contents }
-    where
+  console = written_console a.contents;
+  fetch = λ c x. x;
+  loan = λ x e. e;
+  right = λ x e. refl;
+  whole = written_bytes a.contents;
+}
+  where
     written_console : (c : Contents) → written_contents offset bytes c ≡ Console → c ≡ Console
     written_console Console e = refl
     written_console (Bytes old) e = cc
-    written_bytes : (c : Contents) (new : List ℕ) → written_contents offset bytes c ≡ Bytes new → ((old : List ℕ) → c ≡ Bytes old → IsPage old) → IsPage new
+
+    written_bytes : (c : Contents) (new : List ℕ) → written_contents offset bytes c ≡ Bytes new
+        → ((old : List ℕ) → c ≡ Bytes old → IsPage old) → IsPage new
     written_bytes Console new e h = cc
     written_bytes (Bytes old) new e h = let same : written old offset bytes ≡ new = cc in subst IsPage same (written-whole old bytes offset can (h old refl))
 
-written_home : (offset : ℕ) (bytes : List ℕ) (o : Option Page) (b : Page) → option_map (written_page offset bytes) o ≡ Some b → (a : Page) × (o ≡ Some a) × (written_page offset bytes a ≡ b)
+written_home : (offset : ℕ) (bytes : List ℕ) (o : Option Page) (b : Page)
+    → option_map (written_page offset bytes) o ≡ Some b → (a : Page) × (o ≡ Some a) × (written_page offset bytes a ≡ b)
 written_home offset bytes None b e = absurd (none-some b e)
 written_home offset bytes (Some a) b e = (a, refl, same_Some (written_page offset bytes a) b e)
 
-written_at : (offset : ℕ) (bytes : List ℕ) (o : Option Orphan) (b : Orphan) → option_map (written_orphan offset bytes) o ≡ Some b → (a : Orphan) × (o ≡ Some a) × (written_orphan offset bytes a ≡ b)
+written_at : (offset : ℕ) (bytes : List ℕ) (o : Option Orphan) (b : Orphan)
+    → option_map (written_orphan offset bytes) o ≡ Some b
+    → (a : Orphan) × (o ≡ Some a) × (written_orphan offset bytes a ≡ b)
 written_at offset bytes None b e = absurd (none-some b e)
 written_at offset bytes (Some a) b e = (a, refl, same_Some (written_orphan offset bytes a) b e)
 
-write_narrower : (name : PageName) (offset : ℕ) (bytes : List ℕ) (l : Ledger) → FitsPage offset bytes → Narrower l (write name offset bytes l)
+write_narrower : (name : PageName) (offset : ℕ) (bytes : List ℕ) (l : Ledger) → FitsPage offset bytes
+    → Narrower l (write name offset bytes l)
 unfolding write
 write_narrower (Homed place) offset bytes l can = record {
-    homes = λ p b e. elim (cases_Bool (same_place p place)) [
-        inl here ↦
-          let a : (a : Page) × (l.home p ≡ Some a) × (written_page offset bytes a ≡ b) =
-            written_home offset bytes (l.home p) b (sym (cond-true (same_place p place) (option_map (written_page offset bytes) (l.home p)) (l.home p) here) ∙ e) in
-          (a.0, a.1, subst (ComesFrom a.0) a.2 (written_from offset bytes can a.0))
-      | inr there ↦ (b, sym (cond-false (same_place p place) (option_map (written_page offset bytes) (l.home p)) (l.home p) there) ∙ e, same_page b) ];
-    orphans = λ p b e. (b, e, λ whole. whole) }
+  homes = λ p b e. elim (cases_Bool (same_place p place)) [
+    | inl here ↦
+        let a : (a : Page) × (l.home p ≡ Some a) × (written_page offset bytes a ≡ b) =
+        written_home offset bytes (l.home p) b (sym (cond-true (same_place p place) (option_map (written_page offset bytes) (l.home p)) (l.home p) here) ∙ e) in
+        (a.0, a.1, subst (ComesFrom a.0) a.2 (written_from offset bytes can a.0))
+    | inr there ↦ (b, sym (cond-false (same_place p place) (option_map (written_page offset bytes) (l.home p)) (l.home p) there) ∙ e, same_page b)
+  ];
+  orphans = λ p b e. (b, e, λ whole. whole);
+}
 write_narrower (Orphaned place) offset bytes l can = record {
-    homes = λ p b e. (b, e, same_page b);
-    orphans = λ p b e. elim (cases_Bool (same_place p place)) [
-        inl here ↦
-          let a : (a : Orphan) × (l.orphan p ≡ Some a) × (written_orphan offset bytes a ≡ b) =
-            written_at offset bytes (l.orphan p) b (sym (cond-true (same_place p place) (option_map (written_orphan offset bytes) (l.orphan p)) (l.orphan p) here) ∙ e) in
-          (a.0, a.1, λ whole. subst (λ (o : Orphan). IsPage o.bytes) a.2 (written-whole a.0.bytes bytes offset can whole))
-      | inr there ↦ (b, sym (cond-false (same_place p place) (option_map (written_orphan offset bytes) (l.orphan p)) (l.orphan p) there) ∙ e, λ whole. whole) ] }
+  homes = λ p b e. (b, e, same_page b);
+  orphans = λ p b e. elim (cases_Bool (same_place p place)) [
+    | inl here ↦
+        let a : (a : Orphan) × (l.orphan p ≡ Some a) × (written_orphan offset bytes a ≡ b) =
+        written_at offset bytes (l.orphan p) b (sym (cond-true (same_place p place) (option_map (written_orphan offset bytes) (l.orphan p)) (l.orphan p) here) ∙ e) in
+        (a.0, a.1, λ whole. subst (λ (o : Orphan). IsPage o.bytes) a.2 (written-whole a.0.bytes bytes offset can whole))
+    | inr there ↦ (b, sym (cond-false (same_place p place) (option_map (written_orphan offset bytes) (l.orphan p)) (l.orphan p) there) ∙ e, λ whole. whole)
+  ];
+}
 
-pub write_lawful : (procs capacity : ℕ) (name : PageName) (offset : ℕ) (bytes : List ℕ) (l : Ledger) → IsLawful procs capacity l → CanWrite procs l name offset bytes → IsLawful procs capacity (write name offset bytes l)
+pub write_lawful : (procs capacity : ℕ) (name : PageName) (offset : ℕ) (bytes : List ℕ) (l : Ledger)
+    → IsLawful procs capacity l → CanWrite procs l name offset bytes
+    → IsLawful procs capacity (write name offset bytes l)
 write_lawful procs capacity name offset bytes l h can =
     lawful_narrower procs capacity l (write name offset bytes l) h (write_narrower name offset bytes l (record { fits = can.fits; each = can.each }))
-      (let e : pages procs (write name offset bytes l) ≡ pages procs l = write_pages procs name offset bytes l in omega arith)
-      (λ number. same_runs l (write name offset bytes l) (write_loans name offset bytes l) number (h.one_run number))
+    (let e : pages procs (write name offset bytes l) ≡ pages procs l = write_pages procs name offset bytes l in omega arith)
+    (λ number. same_runs l (write name offset bytes l) (write_loans name offset bytes l) number (h.one_run number))

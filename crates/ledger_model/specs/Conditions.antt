@@ -69,7 +69,8 @@ pub record CanRemove (ledger : Ledger) (places : Place → Bool) : Type 0 where
 -- .. and each page there has the right that it is to have
 pub record CanReduce (ledger : Ledger) (places : Place → Bool) (right : Right) : Type 0 where
   pub not_lent : (p : Place) → places p ≡ true → IsFalse (is_lent (ledger.home p))
-  pub within : (p : Place) (page : Page) → places p ≡ true → ledger.home p ≡ Some page → IsTrue (is_within right page.right)
+  pub within : (p : Place) (page : Page) → places p ≡ true → ledger.home p ≡ Some page
+      → IsTrue (is_within right page.right)
 
 -- n pages at `from` that may be lent, n free places of the Message window at `to`, and a number that nothing has
 pub record CanLend (procs : ℕ) (ledger : Ledger) (from : Place) (n : ℕ) (to : Place) (kind : LoanKind) (number : Number) : Type 0 where

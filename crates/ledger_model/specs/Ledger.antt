@@ -2,7 +2,7 @@
 -- loan, and every orphan by its holder's place. The owner of a page is the process of its home. An
 -- orphan is a page whose lender died while another process held it: its owner is the kernel.
 use Rattle.std.specs.Prelude.{ℕ, ◌+◌, Bool, true, false, is_some, List, Option, Some, None}
-use Rattle.std.specs.Option.{option_and_then, option_map}
+use Rattle.std.specs.Option.{option_map}
 use Rattle.xk_base.specs.declared.ids.Number.{Number}
 use Rattle.xk_base.specs.declared.ids.Place.{Place}
 use Rattle.xk_base.specs.declared.pages.LoanKind.{LoanKind}

@@ -8,4 +8,5 @@ pub mod Loans
 pub mod Places
 pub mod Reach
 pub mod RunTests
+pub mod Small
 pub mod Steps

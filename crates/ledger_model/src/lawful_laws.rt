@@ -14,99 +14,74 @@ ghost use Rattle.xk_base.specs.declared.pages.Right.{Right};
 
 /// `make` keeps the ledger lawful.
 pub fn lawful_after_make()
-    ensures {
-        (procs capacity : ℕ) (first : Place) (n : ℕ) (right : Right) (ledger : Ledger) → IsLawful procs capacity ledger → CanMake procs capacity ledger first n
-        → IsLawful procs capacity (make first n right ledger)
-    }
-{
-}
+    ensures { (procs capacity : ℕ) (first : Place) (n : ℕ) (right : Right) (ledger : Ledger)
+        → IsLawful procs capacity ledger → CanMake procs capacity ledger first n
+        → IsLawful procs capacity (make first n right ledger) }
+{}
 
 /// `make_console` keeps the ledger lawful.
 pub fn lawful_after_make_console()
-    ensures {
-        (procs capacity : ℕ) (place : Place) (w : Bool) (ledger : Ledger) → IsLawful procs capacity ledger → CanMakeConsole procs ledger place
-        → IsLawful procs capacity (make_console place w ledger)
-    }
-{
-}
+    ensures { (procs capacity : ℕ) (place : Place) (w : Bool) (ledger : Ledger)
+        → IsLawful procs capacity ledger → CanMakeConsole procs ledger place
+        → IsLawful procs capacity (make_console place w ledger) }
+{}
 
 /// `write` keeps the ledger lawful.
 pub fn lawful_after_write()
-    ensures {
-        (procs capacity : ℕ) (name : PageName) (offset : ℕ) (bytes : List ℕ) (ledger : Ledger) → IsLawful procs capacity ledger → CanWrite procs ledger name offset bytes
-        → IsLawful procs capacity (write name offset bytes ledger)
-    }
-{
-}
+    ensures { (procs capacity : ℕ) (name : PageName) (offset : ℕ) (bytes : List ℕ) (ledger : Ledger)
+        → IsLawful procs capacity ledger → CanWrite procs ledger name offset bytes
+        → IsLawful procs capacity (write name offset bytes ledger) }
+{}
 
 /// `remove` keeps the ledger lawful.
 pub fn lawful_after_remove()
-    ensures {
-        (procs capacity : ℕ) (places : Place → Bool) (ledger : Ledger) → IsLawful procs capacity ledger → CanRemove ledger places
-        → IsLawful procs capacity (remove places ledger)
-    }
-{
-}
+    ensures { (procs capacity : ℕ) (places : Place → Bool) (ledger : Ledger)
+        → IsLawful procs capacity ledger → CanRemove ledger places
+        → IsLawful procs capacity (remove places ledger) }
+{}
 
 /// `reduce` keeps the ledger lawful.
 pub fn lawful_after_reduce()
-    ensures {
-        (procs capacity : ℕ) (places : Place → Bool) (right : Right) (ledger : Ledger) → IsLawful procs capacity ledger → CanReduce ledger places right
-        → IsLawful procs capacity (reduce places right ledger)
-    }
-{
-}
+    ensures { (procs capacity : ℕ) (places : Place → Bool) (right : Right) (ledger : Ledger)
+        → IsLawful procs capacity ledger → CanReduce ledger places right
+        → IsLawful procs capacity (reduce places right ledger) }
+{}
 
 /// `lend` keeps the ledger lawful.
 pub fn lawful_after_lend()
-    ensures {
-        (procs capacity : ℕ) (from : Place) (n : ℕ) (to : Place) (kind : LoanKind) (number : Number) (ledger : Ledger) → IsLawful procs capacity ledger → CanLend procs ledger from n to kind number
-        → IsLawful procs capacity (lend from n to kind number ledger)
-    }
-{
-}
+    ensures { (procs capacity : ℕ) (from : Place) (n : ℕ) (to : Place) (kind : LoanKind) (number : Number) (ledger : Ledger)
+        → IsLawful procs capacity ledger → CanLend procs ledger from n to kind number
+        → IsLawful procs capacity (lend from n to kind number ledger) }
+{}
 
 /// `end_loan` keeps the ledger lawful, whatever its number.
 pub fn lawful_after_end()
-    ensures {
-        (procs capacity : ℕ) (number : Number) (ledger : Ledger) → IsLawful procs capacity ledger
-        → IsLawful procs capacity (end_loan number ledger)
-    }
-{
-}
+    ensures { (procs capacity : ℕ) (number : Number) (ledger : Ledger) → IsLawful procs capacity ledger
+        → IsLawful procs capacity (end_loan number ledger) }
+{}
 
 /// `give` keeps the ledger lawful.
 pub fn lawful_after_give()
-    ensures {
-        (procs capacity : ℕ) (from : Place) (n : ℕ) (to : Place) (ledger : Ledger) → IsLawful procs capacity ledger → CanGive procs ledger from n to
-        → IsLawful procs capacity (give from n to ledger)
-    }
-{
-}
+    ensures { (procs capacity : ℕ) (from : Place) (n : ℕ) (to : Place) (ledger : Ledger)
+        → IsLawful procs capacity ledger → CanGive procs ledger from n to
+        → IsLawful procs capacity (give from n to ledger) }
+{}
 
 /// `orphan_loan` keeps the ledger lawful, whatever its number.
 pub fn lawful_after_orphan()
-    ensures {
-        (procs capacity : ℕ) (number : Number) (ledger : Ledger) → IsLawful procs capacity ledger
-        → IsLawful procs capacity (orphan_loan procs number ledger)
-    }
-{
-}
+    ensures { (procs capacity : ℕ) (number : Number) (ledger : Ledger) → IsLawful procs capacity ledger
+        → IsLawful procs capacity (orphan_loan procs number ledger) }
+{}
 
 /// `forget` keeps the ledger lawful.
 pub fn lawful_after_forget()
-    ensures {
-        (procs capacity : ℕ) (pid : Pid) (ledger : Ledger) → IsLawful procs capacity ledger → CanForget ledger pid
-        → IsLawful procs capacity (forget pid ledger)
-    }
-{
-}
+    ensures { (procs capacity : ℕ) (pid : Pid) (ledger : Ledger) → IsLawful procs capacity ledger
+        → CanForget ledger pid → IsLawful procs capacity (forget pid ledger) }
+{}
 
 /// A lawful ledger is lawful after any list of steps, each under its condition.
 pub fn lawful_after_all()
-    ensures {
-        (procs capacity : ℕ) (steps : List Step) (ledger : Ledger) → IsLawful procs capacity ledger
-        → MayAll procs capacity steps ledger → IsLawful procs capacity (after_all procs steps ledger)
-    }
-{
-}
+    ensures { (procs capacity : ℕ) (steps : List Step) (ledger : Ledger)
+        → IsLawful procs capacity ledger → MayAll procs capacity steps ledger
+        → IsLawful procs capacity (after_all procs steps ledger) }
+{}

@@ -10,4 +10,5 @@ pub mod loan_laws;
 pub mod page_laws;
 pub mod place_laws;
 pub mod reach_laws;
+pub mod small;
 pub mod step_laws;

@@ -10,30 +10,18 @@ ghost use Rattle.xk_base.specs.declared.ids.Place.{Place};
 
 /// The first listing has each home once, in the order of places.
 pub fn homes_are_listed()
-    ensures members {
-        (procs capacity : ℕ) (ledger : Ledger) (p : Place) → IsLawful procs capacity ledger
-        → Contains (home_places procs ledger) p ↔ IsTrue (is_some (ledger.home p))
-    }
-    ensures ascends {
-        (procs : ℕ) (ledger : Ledger) → AllPairs (λ p q. IsTrue (is_before p q)) (home_places procs ledger)
-    }
-    ensures once {
-        (procs : ℕ) (ledger : Ledger) → AllPairs (λ p q. p ≢ q) (home_places procs ledger)
-    }
-{
-}
+    ensures members { (procs capacity : ℕ) (ledger : Ledger) (p : Place) → IsLawful procs capacity ledger
+        → Contains (home_places procs ledger) p ↔ IsTrue (is_some (ledger.home p)) }
+    ensures ascends { (procs : ℕ) (ledger : Ledger)
+        → AllPairs (λ p q. IsTrue (is_before p q)) (home_places procs ledger) }
+    ensures once { (procs : ℕ) (ledger : Ledger) → AllPairs (λ p q. p ≢ q) (home_places procs ledger) }
+{}
 
 /// The second listing has each place of an orphan once, in the order of places.
 pub fn orphans_are_listed()
-    ensures members {
-        (procs capacity : ℕ) (ledger : Ledger) (p : Place) → IsLawful procs capacity ledger
-        → Contains (orphan_places procs ledger) p ↔ IsTrue (is_some (ledger.orphan p))
-    }
-    ensures ascends {
-        (procs : ℕ) (ledger : Ledger) → AllPairs (λ p q. IsTrue (is_before p q)) (orphan_places procs ledger)
-    }
-    ensures once {
-        (procs : ℕ) (ledger : Ledger) → AllPairs (λ p q. p ≢ q) (orphan_places procs ledger)
-    }
-{
-}
+    ensures members { (procs capacity : ℕ) (ledger : Ledger) (p : Place) → IsLawful procs capacity ledger
+        → Contains (orphan_places procs ledger) p ↔ IsTrue (is_some (ledger.orphan p)) }
+    ensures ascends { (procs : ℕ) (ledger : Ledger)
+        → AllPairs (λ p q. IsTrue (is_before p q)) (orphan_places procs ledger) }
+    ensures once { (procs : ℕ) (ledger : Ledger) → AllPairs (λ p q. p ≢ q) (orphan_places procs ledger) }
+{}

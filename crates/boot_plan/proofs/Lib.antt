@@ -1,0 +1,12 @@
+pub mod ContentLaws
+pub mod Counts
+pub mod DifferentPages
+pub mod FirstFault
+pub mod Flags
+pub mod ImageFaultLaws
+pub mod LawfulPages
+pub mod LawfulPlans
+pub mod Lists
+pub mod NoFault
+pub mod Ranges
+pub mod Rows

@@ -1,0 +1,14 @@
+-- How many pages a machine has room for.
+use Rattle.std.specs.Prelude.{ℕ, ◌+◌, ◌-◌, ◌*◌}
+
+-- the frames that hold the page tables of this many processes: a root each, and four tables for each of five windows
+abbrev pub table_frames : ℕ → ℕ
+table_frames processes = 21 * processes
+
+-- the frames that hold pages: all but those of tables and the one that is always free, through which pages are exchanged
+abbrev pub page_frames : ℕ → ℕ → ℕ
+page_frames frames processes = frames - table_frames processes - 1
+
+-- a page stands in a frame or in a slot of the swap store
+abbrev pub capacity : ℕ → ℕ → ℕ → ℕ
+capacity frames processes slots = page_frames frames processes + slots

@@ -1,0 +1,71 @@
+-- The faults of a plan, in the order in which they are looked for. A fault of a process is at its pid.
+use Rattle.std.specs.Prelude.{◌≡◌, ℕ, ◌+◌, ◌*◌, ◌/◌, ◌%◌, Bool, not, ◌&&◌, ◌||◌, ◌==◌, nat_lt, List, [], ◌∷◌, ◌++◌, length, Option, Some}
+use Rattle.std.specs.List.{list_any}
+use Rattle.xk_base.specs.Windows.{in_window}
+use Rattle.xk_base.specs.declared.windows.Window.TheVariants.{Image}
+use Rattle.kernel_args.specs.declared.args.Args.{Args}
+use Rattle.kernel_args.specs.declared.args.ProcArgs.{ProcArgs}
+use Rattle.kernel_args.specs.declared.args.Section.{Section}
+use Rattle.kernel_args.specs.declared.faults.ArgFault.{ArgFault}
+use Rattle.kernel_args.specs.Faults.{Check, ◌⇒◌at◌, first_fault}
+use Rattle.boot_plan.specs.declared.faults.PlanError.{PlanError}
+use Rattle.boot_plan.specs.declared.faults.PlanError.TheVariants as errors
+use Rattle.boot_plan.specs.declared.faults.TheConstants.{SECTION_OUTSIDE, SECTION_MISALIGNED, SECTIONS_OVERLAP, LOAD_OUTSIDE, ENTRY_OUTSIDE, RAM_TOO_SMALL}
+use Rattle.boot_plan.specs.Sections.{section_pages, has_page, shares_page, is_executable, file_sizes}
+use Rattle.boot_plan.specs.Capacity.{table_frames, capacity}
+use Rattle.boot_plan.specs.FirstPages.{plan_of, planned_pages}
+
+-- the faults of a section behind these earlier ones of its process: its address isn't that of a page; it has a page
+-- outside the Image window; it shares a page with an earlier section
+abbrev pub section_faults : ℕ → List Section → Section → List Check
+section_faults pid earlier s =
+    (not (s.addr % 4096 == 0) ⇒ SECTION_MISALIGNED at pid)
+    ∷ (list_any (λ vpn. not (in_window Image vpn)) (section_pages s) ⇒ SECTION_OUTSIDE at pid)
+    ∷ (list_any (shares_page s) earlier ⇒ SECTIONS_OVERLAP at pid)
+    ∷ []
+
+abbrev pub sections_faults : ℕ → List Section → List Section → List Check
+sections_faults pid earlier [] = []
+sections_faults pid earlier (s ∷ ss) = section_faults pid earlier s ++ sections_faults pid (earlier ++ s ∷ []) ss
+
+-- the load offset lies before the end of the row of tags, or the bytes of the sections pass the end of the file
+abbrev pub is_load_outside : ℕ → ℕ → ProcArgs → Bool
+is_load_outside words file_len p = nat_lt p.load (4 * words) || nat_lt file_len (p.load + file_sizes p.sections)
+
+-- the entry isn't a multiple of 4, or its page isn't of an executable section
+abbrev pub is_entry_outside : ProcArgs → Bool
+is_entry_outside p =
+    not (p.entry % 4 == 0) || not (list_any (λ s. is_executable s && has_page (p.entry / 4096) s) p.sections)
+
+-- the faults of a process; words is the size of the row of tags
+abbrev pub process_faults : ℕ → ℕ → ℕ → ProcArgs → List Check
+process_faults words file_len pid p =
+    sections_faults pid [] p.sections
+    ++ (is_load_outside words file_len p ⇒ LOAD_OUTSIDE at pid)
+    ∷ (is_entry_outside p ⇒ ENTRY_OUTSIDE at pid)
+    ∷ []
+
+-- the faults of processes with the pids from this one on
+abbrev pub processes_faults : ℕ → ℕ → ℕ → List ProcArgs → List Check
+processes_faults words file_len pid [] = []
+processes_faults words file_len pid (p ∷ ps) =
+    process_faults words file_len pid p ++ processes_faults words file_len (pid + 1) ps
+
+-- RAM hasn't the tables, a page and the free frame, or the first pages are more than there is room for
+abbrev pub is_ram_too_small : Args → ℕ → Bool
+is_ram_too_small args slots =
+    nat_lt (args.ram_size / 4096) (table_frames (length args.procs) + 2)
+    || nat_lt (capacity (args.ram_size / 4096) (length args.procs) slots) (planned_pages (plan_of args slots))
+
+abbrev pub plan_faults : Args → ℕ → ℕ → List Check
+plan_faults args file_len slots =
+    processes_faults args.words file_len 2 args.procs ++ (is_ram_too_small args slots ⇒ RAM_TOO_SMALL at 0) ∷ []
+
+-- the first fault of the plan for a file of this many bytes, run with this many slots
+abbrev pub plan_fault : Args → ℕ → ℕ → Option ArgFault
+plan_fault args file_len slots = first_fault (plan_faults args file_len slots)
+
+-- The error is the first fault of the plan; want of memory is free.
+abbrev pub IsPlanFault : Args → ℕ → ℕ → PlanError → Type 0
+IsPlanFault args file_len slots (errors.Fault f) = plan_fault args file_len slots ≡ Some f
+IsPlanFault args file_len slots errors.NoMemory = Unit {0}

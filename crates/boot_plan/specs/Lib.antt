@@ -1,0 +1,7 @@
+pub mod Capacity
+pub mod Content
+pub mod Faults
+pub mod FirstPages
+pub mod ImageFault
+pub mod Lawful
+pub mod Sections

@@ -1,0 +1,188 @@
+//! The faults of a plan.
+
+ghost use Rattle.std.specs.Prelude.{◌≡◌, ◌≤◌, ◌+◌, ◌*◌, ◌&&◌, [], length, map, sum_by, All, Some};
+ghost use Rattle.std.specs.List.{list_any};
+ghost use Rattle.kernel_args.specs.Faults.{first_fault};
+ghost use Rattle.kernel_args.specs.Image.{IsSoundArgs};
+ghost use Rattle.boot_plan.specs.Sections.{shares_page, has_page, is_executable, file_sizes};
+ghost use Rattle.boot_plan.specs.Faults.{section_faults, sections_faults, is_load_outside, is_entry_outside, process_faults, processes_faults, is_ram_too_small, plan_fault};
+ghost use Rattle.boot_plan.specs.FirstPages.{process_pages, process_plan};
+
+use crate::capacity::{TABLE_FRAMES, capacity_of};
+use crate::faults::{
+    ENTRY_OUTSIDE, LOAD_OUTSIDE, RAM_TOO_SMALL, SECTION_MISALIGNED, SECTION_OUTSIDE,
+    SECTIONS_OVERLAP,
+};
+use crate::sections::{file_size, has_page, is_executable, leaves_window, page_count, shares_page};
+use kernel_args::{ArgFault, Args, ProcArgs, Section};
+use xk_base::limits::PAGE_SIZE;
+
+fn fault(what: u8, at: u32) -> Option<ArgFault>
+    ensures { result ≡ Some (record { what = what; at = at }) }
+{
+    Some(ArgFault { what, at })
+}
+
+/// Whether the section shares a page with some of the others.
+fn overlaps_any(section: &Section, others: &[Section]) -> bool
+    ensures { result ≡ list_any (shares_page section.now) others.now }
+{
+    others.iter().any(|other| shares_page(section, other))
+}
+
+/// The first fault of a section behind these earlier ones of its process.
+fn section_fault(pid: u32, earlier: &[Section], section: &Section) -> Option<ArgFault>
+    ensures { result ≡ first_fault (section_faults pid earlier.now section.now) }
+{
+    if section.addr % PAGE_SIZE != 0 {
+        return fault(SECTION_MISALIGNED, pid);
+    }
+    if leaves_window(section) {
+        return fault(SECTION_OUTSIDE, pid);
+    }
+    if overlaps_any(section, earlier) {
+        return fault(SECTIONS_OVERLAP, pid);
+    }
+    None
+}
+
+/// The first fault of the sections of a process.
+fn sections_fault(pid: u32, sections: &[Section]) -> Option<ArgFault>
+    ensures { result ≡ first_fault (sections_faults pid [] sections.now) }
+{
+    for (i, section) in sections.iter().enumerate() {
+        let found = section_fault(pid, &sections[..i], section);
+        if found.is_some() {
+            return found;
+        }
+    }
+    None
+}
+
+/// How many bytes of the file sections have.
+fn file_sizes(sections: &[Section]) -> u64
+    requires { length sections.now ≤ 32 }
+    ensures { result ≡ file_sizes sections.now }
+{
+    sections.iter().map(|s| file_size(s) as u64).sum()
+}
+
+/// Whether the bytes of the sections begin in the row of tags, which has this many words, or pass
+/// the end of the file.
+fn loads_outside(words: u32, file_len: u32, process: &ProcArgs) -> bool
+    requires { length process.now.sections ≤ 32 }
+    ensures { result ≡ is_load_outside words file_len process.now }
+{
+    let load = process.load;
+    (load as u64) < 4 * words as u64
+        || load > file_len
+        || file_sizes(process.sections.as_slice()) > (file_len - load) as u64
+}
+
+/// Whether the page is one of an executable section.
+fn has_code(sections: &[Section], vpn: u32) -> bool
+    ensures { result ≡ list_any (λ s. is_executable s && has_page vpn s) sections.now }
+{
+    sections
+        .iter()
+        .any(|s| is_executable(s) && has_page(s, vpn))
+}
+
+/// Whether the entry isn't that of an instruction in an executable section.
+fn enters_outside(process: &ProcArgs) -> bool
+    ensures { result ≡ is_entry_outside process.now }
+{
+    process.entry % 4 != 0 || !has_code(process.sections.as_slice(), process.entry / PAGE_SIZE)
+}
+
+/// The first fault of a process with this pid; `words` is the size of the row of tags.
+#[tactic(auto, using(crate::proofs::FirstFault::first_fault_append))]
+fn process_fault(words: u32, file_len: u32, pid: u32, process: &ProcArgs) -> Option<ArgFault>
+    requires { length process.now.sections ≤ 32 }
+    ensures { result ≡ first_fault (process_faults words file_len pid process.now) }
+{
+    let found = sections_fault(pid, process.sections.as_slice());
+    if found.is_some() {
+        return found;
+    }
+    if loads_outside(words, file_len, process) {
+        return fault(LOAD_OUTSIDE, pid);
+    }
+    if enters_outside(process) {
+        return fault(ENTRY_OUTSIDE, pid);
+    }
+    None
+}
+
+/// The first fault of the processes of an image.
+fn processes_fault(words: u32, file_len: u32, processes: &[ProcArgs]) -> Option<ArgFault>
+    requires few { length processes.now ≤ 32 }
+    requires sections { All (λ p. length p.sections ≤ 32) processes.now }
+    ensures { result ≡ first_fault (processes_faults words file_len 2 processes.now) }
+{
+    let mut pid = 2;
+    for process in processes {
+        let found = process_fault(words, file_len, pid, process);
+        if found.is_some() {
+            return found;
+        }
+        pid += 1;
+    }
+    None
+}
+
+/// How many pages a process starts with.
+fn first_pages(process: &ProcArgs) -> u32
+    requires { length process.now.sections ≤ 32 }
+    ensures count { result ≡ length (process_pages process.now) }
+    ensures few { result ≤ 33554441 }
+{
+    let mut count = 9;
+    for section in process.sections.as_slice() {
+        count += page_count(section);
+    }
+    count
+}
+
+/// How many pages processes start with.
+fn all_first_pages(processes: &[ProcArgs]) -> u32
+    requires few { length processes.now ≤ 32 }
+    requires sections { All (λ p. length p.sections ≤ 32) processes.now }
+    ensures { result ≡ sum_by (λ p. length p.pages) (map process_plan processes.now) }
+{
+    let mut count = 0;
+    for process in processes {
+        count += first_pages(process);
+    }
+    count
+}
+
+/// Whether RAM hasn't room for the tables, a page and the free frame, or RAM and slots haven't
+/// room for the first pages.
+fn has_small_ram(args: &Args, slots: u32) -> bool
+    requires sound { IsSoundArgs args.now }
+    requires few_slots { slots ≤ 16384 }
+    ensures { result ≡ is_ram_too_small args.now slots }
+{
+    let frames = args.ram_size / PAGE_SIZE;
+    let processes = args.procs.as_slice().len() as u32;
+    frames < TABLE_FRAMES * processes + 2
+        || capacity_of(frames, processes, slots) < all_first_pages(args.procs.as_slice())
+}
+
+/// The first fault of the plan of an image whose file has `file_len` bytes.
+#[tactic(auto, using(crate::proofs::FirstFault::first_fault_append))]
+pub(crate) fn find_fault(args: &Args, file_len: u32, slots: u32) -> Option<ArgFault>
+    requires sound { IsSoundArgs args.now }
+    requires few_slots { slots ≤ 16384 }
+    ensures { result ≡ plan_fault args.now file_len slots }
+{
+    let found = processes_fault(args.words, file_len, args.procs.as_slice());
+    if found.is_some() {
+        return found;
+    }
+    if has_small_ram(args, slots) {
+        return fault(RAM_TOO_SMALL, 0);
+    }
+    None
+}

@@ -1,0 +1,36 @@
+//! What holds of the plan of any arguments.
+
+ghost use Rattle.std.specs.Prelude.{◌≡◌, ◌<◌, ℕ, ◌+◌, ◌*◌, ◌%◌, List, [], ◌∷◌, ◌++◌, length, map, take, slice_index_or, Any, Option, None};
+ghost use Rattle.std.specs.List.{flat_map};
+ghost use Rattle.kernel_args.specs.declared.args.Args.{Args};
+ghost use Rattle.kernel_args.specs.declared.args.ProcArgs.{ProcArgs};
+ghost use Rattle.kernel_args.specs.declared.args.Section.{Section};
+ghost use Rattle.kernel_args.specs.declared.faults.ArgFault.{ArgFault};
+ghost use Rattle.kernel_args.specs.Faults.{args_fault};
+ghost use Rattle.kernel_args.specs.Image.{Spells};
+ghost use Rattle.boot_plan.specs.Sections.{page_count, section_pages, file_sizes};
+ghost use Rattle.boot_plan.specs.FirstPages.{process_pages, stack_pages, interrupt_page};
+ghost use Rattle.boot_plan.specs.Content.{HoldsByte};
+ghost use Rattle.boot_plan.specs.ImageFault.{IsImageFault};
+
+/// A process starts with the pages of its sections, its stack and its interrupt page, and its
+/// sections stand there with their bytes, each from its address on, and zeros up to the end of
+/// its last page. The function does nothing; its contract is the law.
+pub fn sections_stand_in_pages()
+    ensures pages { (p : ProcArgs) → map (λ page. page.vpn.0) (process_pages p)
+        ≡ flat_map section_pages p.sections ++ (stack_pages ++ interrupt_page ∷ []) }
+    ensures bytes { (file : List ℕ) (p : ProcArgs) (i k : ℕ) (d : Section) → i < length p.sections
+        → (slice_index_or p.sections i d).addr % 4096 ≡ 0
+        → k < 4096 * page_count (slice_index_or p.sections i d).size
+        → Any (HoldsByte file (p.load + file_sizes (take i p.sections)) (slice_index_or p.sections i d) k) (process_pages p) }
+{}
+
+/// An image has exactly one answer for a number of slots, its first fault or that it has none, since
+/// bytes without a fault of their arguments spell one list of arguments. The function does nothing;
+/// its contract is the law.
+pub fn image_has_one_first_fault()
+    ensures some { (bytes : List ℕ) (slots : ℕ) → (args_fault bytes ≡ None → (args : Args) × Spells bytes args)
+        → (fault : Option ArgFault) × IsImageFault bytes slots fault }
+    ensures once { (bytes : List ℕ) (slots : ℕ) → ((one other : Args) → Spells bytes one → Spells bytes other → one ≡ other)
+        → (one other : Option ArgFault) → IsImageFault bytes slots one → IsImageFault bytes slots other → one ≡ other }
+{}

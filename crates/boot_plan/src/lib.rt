@@ -1,0 +1,21 @@
+//! The plan of a kernel image: which pages its processes start with, or the first fault of the
+//! plan.
+#![tactic(auto)]
+
+mod capacity;
+mod checks;
+mod faults;
+mod laws;
+mod pages;
+mod planning;
+mod plans;
+mod sections;
+
+pub use capacity::cap;
+pub use faults::{
+    ENTRY_OUTSIDE, LOAD_OUTSIDE, PlanError, RAM_TOO_SMALL, SECTION_MISALIGNED, SECTION_OUTSIDE,
+    SECTIONS_OVERLAP, TOO_LONG,
+};
+pub use laws::{image_has_one_first_fault, sections_stand_in_pages};
+pub use planning::plan;
+pub use plans::{BootPlan, PagePlan, ProcPlan};

@@ -1,0 +1,12 @@
+pub mod CheckLaws
+pub mod NumberLaws
+pub mod JoinedLaws
+pub mod TagLaws
+pub mod ContentsLaws
+pub mod ProcessLaws
+pub mod RowLaws
+pub mod RowFaults
+pub mod HeaderLaws
+pub mod ImageLaws
+pub mod NameLaws
+pub mod ReadLaws

@@ -1,0 +1,111 @@
+-- The faults of an image, in the order in which they are looked for.
+use Rattle.std.specs.Prelude.{◌≡◌, ℕ, ◌+◌, ◌*◌, ◌/◌, ◌%◌, Bool, true, false, not, ◌&&◌, ◌||◌, ◌==◌, nat_eq, nat_lt, nat_le, if◌then◌else◌, List, [], ◌∷◌, ◌++◌, length, take, drop, Option, Some, None, codes}
+use Rattle.std.specs.Option.{option_or}
+use Rattle.std.specs.List.{list_any}
+use Rattle.std.specs.Cmp.Lexicographic.{pointwise}
+use Rattle.byteorder.specs.Endian.{little_number}
+use Rattle.kernel_args.specs.declared.args.Section.{Section}
+use Rattle.kernel_args.specs.declared.faults.ArgFault.{ArgFault}
+use Rattle.kernel_args.specs.declared.faults.ArgsError.{ArgsError}
+use Rattle.kernel_args.specs.declared.faults.ArgsError.TheVariants as errors
+use Rattle.kernel_args.specs.declared.faults.TheConstants.{TOO_SHORT, NOT_XARG, BAD_VERSION, BAD_TOTAL, BAD_CHECK, BAD_RAM, NO_PROCESS, TOO_MANY_PROCESSES, BAD_INI, BAD_NAMES}
+use Rattle.kernel_args.specs.CheckNumber.{check_number}
+use Rattle.kernel_args.specs.Joined.{Cut, cut}
+use Rattle.kernel_args.specs.Tags.{Tag, front_tag, has_name}
+use Rattle.kernel_args.specs.Contents.{front_section, front_entry}
+
+-- a fault, and whether it holds
+abbrev pub Check : Type 0
+Check = Bool × ArgFault
+
+infix 5 ◌⇒◌at◌
+abbrev pub ◌⇒◌at◌ : Bool → ℕ → ℕ → Check
+test ⇒ what at place = (test, record { what = what; at = place })
+
+-- the first fault that holds
+abbrev pub first_fault : List Check → Option ArgFault
+first_fault [] = None
+first_fault (c ∷ cs) = if c.0 then Some c.1 else first_fault cs
+
+-- the number of n bytes at an offset
+abbrev pub number_at : ℕ → ℕ → List ℕ → ℕ
+number_at n offset bytes = little_number n (drop offset bytes)
+
+-- the size of the row of tags in bytes, as the first tag says
+abbrev pub row_size : List ℕ → ℕ
+row_size bytes = 4 * number_at 4 8 bytes
+
+-- the first four bytes aren't `XArg`, or the length isn't five words
+unfoldable pub is_not_xarg : List ℕ → Bool
+is_not_xarg bytes = not (pointwise nat_eq (take 4 bytes) (codes "XArg")) || not (number_at 2 6 bytes == 5)
+
+unfoldable pub is_bad_header_check : List ℕ → Bool
+is_bad_header_check bytes = not (number_at 2 4 bytes == check_number (take 20 (drop 8 bytes)))
+
+-- below seven words, or past the end of the file
+unfoldable pub is_bad_total : List ℕ → Bool
+is_bad_total bytes = nat_lt (row_size bytes) 28 || nat_lt (length bytes) (row_size bytes)
+
+-- start or size isn't a multiple of 4096, size is 0 or above 64 MiB, or RAM passes 0xF0000000
+unfoldable pub is_bad_ram : ℕ → ℕ → Bool
+is_bad_ram start size =
+    not (start % 4096 == 0) || not (size % 4096 == 0) || size == 0 || nat_lt 67108864 size || nat_lt 0xF0000000 (start + size)
+
+-- the faults of the first tag
+unfoldable pub header_faults : List ℕ → List Check
+header_faults bytes =
+    (nat_lt (length bytes) 28 ⇒ TOO_SHORT at 0)
+    ∷ (is_not_xarg bytes ⇒ NOT_XARG at 0)
+    ∷ (is_bad_header_check bytes ⇒ BAD_CHECK at 0)
+    ∷ (not (number_at 4 12 bytes == 1) ⇒ BAD_VERSION at 12)
+    ∷ (is_bad_total bytes ⇒ BAD_TOTAL at 8)
+    ∷ (is_bad_ram (number_at 4 16 bytes) (number_at 4 20 bytes) ⇒ BAD_RAM at 16)
+    ∷ []
+
+abbrev pub has_unknown_flag : Section → Bool
+has_unknown_flag s = nat_lt 31 s.flags
+
+-- below four words, odd, above 66 words, or a section flag outside 1, 2, 4, 8 and 16
+abbrev pub is_bad_process : List ℕ → Bool
+is_bad_process contents =
+    nat_lt (length contents / 4) 4 || length contents / 4 % 2 == 1 || nat_lt 66 (length contents / 4)
+    || list_any has_unknown_flag (cut front_section (drop 8 contents)).items
+
+-- the entries don't fill the contents exactly
+abbrev pub is_bad_names : List ℕ → Bool
+is_bad_names contents = not (length (cut front_entry contents).rest == 0)
+
+-- the faults of a whole tag at an offset, behind this many processes
+abbrev pub tag_faults : ℕ → ℕ → Tag → List Check
+tag_faults offset processes t =
+    (not (t.check == check_number t.contents) ⇒ BAD_CHECK at offset)
+    ∷ ((has_name (codes "IniE") t && nat_le 32 processes) ⇒ TOO_MANY_PROCESSES at offset)
+    ∷ ((has_name (codes "IniE") t && is_bad_process t.contents) ⇒ BAD_INI at offset)
+    ∷ ((has_name (codes "PNam") t && is_bad_names t.contents) ⇒ BAD_NAMES at offset)
+    ∷ []
+
+-- the faults where the whole tags of the row end: a part of a tag is left, or there was no process
+abbrev pub end_faults : ℕ → ℕ → List ℕ → List Check
+end_faults offset processes rest =
+    (not (length rest == 0) ⇒ BAD_TOTAL at offset)
+    ∷ ((processes == 0) ⇒ NO_PROCESS at offset)
+    ∷ []
+
+-- the first fault of tags from an offset on, behind this many processes, and of what is left
+abbrev pub tags_fault : ℕ → ℕ → List Tag → List ℕ → Option ArgFault
+tags_fault offset processes [] rest = first_fault (end_faults offset processes rest)
+tags_fault offset processes (t ∷ ts) rest =
+    option_or (first_fault (tag_faults offset processes t))
+    (tags_fault (offset + 8 + length t.contents) (if has_name (codes "IniE") t then processes + 1 else processes) ts rest)
+
+unfoldable pub row_fault : ℕ → ℕ → List ℕ → Option ArgFault
+row_fault offset processes row = let tags = cut front_tag row in tags_fault offset processes tags.items tags.rest
+
+-- the first fault of an image
+unfoldable pub args_fault : List ℕ → Option ArgFault
+args_fault bytes = option_or (first_fault (header_faults bytes)) (row_fault 28 0 (drop 28 (take (row_size bytes) bytes)))
+
+-- The error is this fault; want of memory is free.
+abbrev pub IsFault : Option ArgFault → ArgsError → Type 0
+IsFault fault (errors.Fault f) = fault ≡ Some f
+IsFault fault errors.NoMemory = Unit {0}

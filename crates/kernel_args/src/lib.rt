@@ -1,0 +1,25 @@
+//! The arguments of a kernel image: the row of tags at the front of the file. They are read with
+//! the first fault that the image has, and written.
+#![tactic(auto)]
+
+mod args;
+mod check_number;
+mod faults;
+mod header;
+mod laws;
+mod names;
+mod process;
+mod reading;
+mod tag;
+
+pub use args::{Args, ProcArgs, ProcName, Section};
+pub use check_number::crc_x25;
+pub use faults::{
+    ArgFault, ArgsError, BAD_CHECK, BAD_INI, BAD_NAMES, BAD_RAM, BAD_TOTAL, BAD_VERSION,
+    NO_PROCESS, NOT_XARG, TOO_MANY_PROCESSES, TOO_SHORT,
+};
+pub use laws::spelled_once_or_faulty;
+pub use reading::read_args;
+
+#[cfg(test)]
+mod tests;

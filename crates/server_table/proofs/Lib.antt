@@ -1,0 +1,5 @@
+pub mod Answered
+pub mod Changes
+pub mod Laws
+pub mod Made
+pub mod Serials

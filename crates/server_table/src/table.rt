@@ -1,0 +1,269 @@
+//! The table of servers.
+
+ghost use Rattle.std.specs.Prelude.{◌≡◌, ◌<◌, Option, IfOk, IfSome, OnOk, OnErr, is_none, vec_len};
+ghost use Rattle.std.specs.Option.{option_map};
+ghost use Rattle.xk_base.specs.declared.limits.TheConstants.{SERVER_LIMIT};
+ghost use Rattle.xk_base.specs.Counting.{least_below};
+ghost use Rattle.xk_base.specs.RowMap.{row_map};
+ghost use Rattle.server_table.specs.Seats.{seat_with, lower, AreApart, AreCounted};
+ghost use Rattle.server_table.specs.ServerState.{no_servers, with_sid, least_of, at_seat, free_seat, made_answer, with_server, without_server};
+
+use std::alloc::Global;
+use xk_base::limits::SERVER_LIMIT;
+use xk_base::{NoMemory, Pid, Serial, Sid, XousError};
+
+/// How many servers are alive at most.
+const SEATS: usize = SERVER_LIMIT as usize;
+
+/// What stands at a seat: a living server.
+#[derive(Clone, Copy, Debug, PartialEq, Eq)]
+pub struct ServerSeat {
+    /// Its identifier.
+    pub sid: Sid,
+    pub serial: Serial,
+    /// The process that owns it.
+    pub pid: Pid,
+}
+
+/// The living servers by seat, and the serial that the next one gets.
+#[derive(Debug, Drop)]
+pub struct Servers {
+    next: u32,
+    seats: Vec<Option<ServerSeat>>,
+    ghost size: { vec_len seats ≡ SERVER_LIMIT },
+    ghost apart: { AreApart seats.items next },
+    ghost counted: { AreCounted seats.items next },
+}
+
+/// The lower of two serials, where the first may be missing.
+fn lower(least: Option<Serial>, serial: Serial) -> Option<Serial>
+    ensures { result ≡ lower least serial }
+{
+    match least {
+        Some(lowest) => {
+            if lowest.0 <= serial.0 {
+                Some(lowest)
+            } else {
+                Some(serial)
+            }
+        }
+        None => Some(serial),
+    }
+}
+
+impl Servers {
+    ghost use Rattle.server_table.specs.ServersOf.{servers_of};
+
+    /// A table without servers. It takes all memory that they will ever need.
+    pub fn new(alloc: Global) -> Result<Servers, NoMemory>
+        ensures { IfOk result (λ t. servers_of t ≡ no_servers) }
+    {
+        let Ok(mut seats) = Vec::with_capacity(alloc, SEATS) else {
+            return Err(NoMemory);
+        };
+        for _seat in 0..SEATS {
+            seats.push_reserved(None);
+        }
+        Ok(Servers { next: 1, seats })
+    }
+
+    /// The serial that the next server gets.
+    pub fn next_serial(&self) -> Serial
+        ensures { result.0 ≡ (servers_of self.now).next }
+    {
+        Serial(self.next)
+    }
+
+    /// The seat of the living server with that serial.
+    fn seat_of(&self, s: Serial) -> Option<usize>
+        ensures found { result ≡ seat_with self.now.seats.items s.0 }
+        ensures within { IfSome result (λ k. k < SERVER_LIMIT) }
+    {
+        for k in 0..SEATS {
+            if let Some(server) = self.seats[k]
+                && server.serial == s
+            {
+                return Some(k);
+            }
+        }
+        None
+    }
+
+    /// The least empty seat.
+    fn empty_seat(&self) -> Option<usize>
+        ensures found { result ≡ least_below SERVER_LIMIT (λ i. is_none (row_map self.now.seats.items i)) }
+        ensures within { IfSome result (λ k. k < SERVER_LIMIT) }
+    {
+        for k in 0..SEATS {
+            if self.seats[k].is_none() {
+                return Some(k);
+            }
+        }
+        None
+    }
+
+    /// The living server with that identifier; `None` exactly where no living server has it.
+    pub fn find(&self, sid: Sid) -> Option<Serial>
+        ensures { result ≡ with_sid sid (servers_of self.now) }
+    {
+        for k in 0..SEATS {
+            if let Some(server) = self.seats[k]
+                && server.sid == sid
+            {
+                return Some(server.serial);
+            }
+        }
+        None
+    }
+
+    /// The process of the server; `None` exactly where no living server has that serial.
+    pub fn owner(&self, s: Serial) -> Option<Pid>
+        ensures { result ≡ option_map (λ v. v.pid) ((servers_of self.now).live s.0) }
+    {
+        match self.seat_of(s) {
+            Some(seat) => match self.seats[seat] {
+                Some(server) => Some(server.pid),
+                None => None,
+            },
+            None => None,
+        }
+    }
+
+    /// The seat of the server; `None` exactly where no living server has that serial.
+    pub fn seat(&self, s: Serial) -> Option<u8>
+        ensures answer { result ≡ option_map (λ v. v.seat) ((servers_of self.now).live s.0) }
+        ensures within { IfSome result (λ seat. seat < SERVER_LIMIT) }
+    {
+        match self.seat_of(s) {
+            Some(seat) => match self.seats[seat] {
+                Some(_) => Some(seat as u8),
+                None => None,
+            },
+            None => None,
+        }
+    }
+
+    /// The living server of the process with the least serial; `None` exactly where it has none.
+    pub fn any_of(&self, pid: Pid) -> Option<Serial>
+        ensures { result ≡ least_of pid (servers_of self.now) }
+    {
+        let mut least = None;
+        for k in 0..SEATS {
+            if let Some(server) = self.seats[k]
+                && server.pid == pid
+            {
+                least = lower(least, server.serial);
+            }
+        }
+        least
+    }
+
+    /// The living server at the seat; `None` exactly where the seat is empty.
+    pub fn at_seat(&self, seat: u8) -> Option<ServerSeat>
+        requires { seat < SERVER_LIMIT }
+        ensures { result ≡ at_seat seat (servers_of self.now) }
+    {
+        self.seats[seat as usize]
+    }
+
+    /// Makes a server of the process, at the least empty seat. It is refused with `ServerExists` exactly
+    /// where a living server has the identifier, and else with `InvalidLimit` exactly where the greatest
+    /// number of servers is alive.
+    pub fn make(&mut self, sid: Sid, pid: Pid) -> Result<Serial, XousError>
+        requires { (servers_of self.old).next < 4294967295 }
+        ensures answer { result ≡ made_answer sid (servers_of self.old) }
+        ensures ok { OnOk result (servers_of self.new ≡ with_server sid pid (free_seat (servers_of self.old)) (servers_of self.old)) }
+        ensures err { OnErr result (self.new ≡ self.old) }
+    {
+        if self.find(sid).is_some() {
+            return Err(XousError::ServerExists);
+        }
+        let Some(seat) = self.empty_seat() else {
+            return Err(XousError::InvalidLimit);
+        };
+        let serial = Serial(self.next);
+        self.seats[seat] = Some(ServerSeat { sid, serial, pid });
+        self.next += 1;
+        Ok(serial)
+    }
+
+    /// The server is no longer alive, if it was. Its seat may be used again, and its serial never.
+    pub fn remove(&mut self, s: Serial)
+        ensures { servers_of self.new ≡ without_server s.0 (servers_of self.old) }
+    {
+        if let Some(seat) = self.seat_of(s) {
+            self.seats[seat] = None;
+        }
+    }
+}
+
+#[cfg(test)]
+mod tests {
+    use super::*;
+
+    const SID: Sid = Sid([1, 2, 3, 4]);
+
+    fn make(servers: &mut Servers, sid: Sid, pid: u8) -> Option<Result<Serial, XousError>> {
+        if servers.next_serial().0 < u32::MAX {
+            Some(servers.make(sid, Pid(pid)))
+        } else {
+            None
+        }
+    }
+
+    #[test]
+    fn a_seat_is_used_again_and_a_serial_never(rt: HostRuntime) {
+        if let Ok(mut servers) = Servers::new(rt.alloc()) {
+            assert_eq!(rt; servers.next_serial(), Serial(1));
+            assert_eq!(rt; make(&mut servers, SID, 2), Some(Ok(Serial(1))));
+            assert_eq!(rt;
+                make(&mut servers, SID, 4),
+                Some(Err(XousError::ServerExists))
+            );
+            assert_eq!(rt; servers.find(SID), Some(Serial(1)));
+            servers.remove(Serial(1));
+            assert_eq!(rt; servers.find(SID), None);
+            assert_eq!(rt; make(&mut servers, SID, 4), Some(Ok(Serial(2))));
+            assert_eq!(rt; servers.seat(Serial(2)), Some(0));
+            assert_eq!(rt; servers.owner(Serial(2)), Some(Pid(4)));
+            assert_eq!(rt; servers.seat(Serial(1)), None);
+            assert_eq!(rt; servers.owner(Serial(1)), None);
+            assert_eq!(rt;
+                servers.at_seat(0).map(|server| server.serial),
+                Some(Serial(2))
+            );
+            assert_eq!(rt; servers.at_seat(63), None);
+        } else {
+            assert!(rt; false);
+        }
+    }
+
+    #[test]
+    fn servers_are_few(rt: HostRuntime) {
+        if let Ok(mut servers) = Servers::new(rt.alloc()) {
+            for k in 0..64 {
+                let pid = if k < 40 { 2 } else { 3 };
+                assert_eq!(rt;
+                    make(&mut servers, Sid([k, 0, 0, 0]), pid),
+                    Some(Ok(Serial(k + 1)))
+                );
+            }
+            assert_eq!(rt;
+                make(&mut servers, SID, 2),
+                Some(Err(XousError::InvalidLimit))
+            );
+            assert_eq!(rt;
+                make(&mut servers, Sid([0; 4]), 2),
+                Some(Err(XousError::ServerExists))
+            );
+            servers.remove(Serial(1));
+            assert_eq!(rt; make(&mut servers, SID, 3), Some(Ok(Serial(65))));
+            assert_eq!(rt; servers.seat(Serial(65)), Some(0));
+            assert_eq!(rt; servers.any_of(Pid(2)), Some(Serial(2)));
+            assert_eq!(rt; servers.any_of(Pid(3)), Some(Serial(41)));
+            assert_eq!(rt; servers.any_of(Pid(4)), None);
+        } else {
+            assert!(rt; false);
+        }
+    }
+}

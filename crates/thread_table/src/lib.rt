@@ -1,0 +1,8 @@
+//! The threads of all processes, each with its `pc`, registers and state, and their order.
+#![tactic(auto)]
+
+mod table;
+mod thread;
+
+pub use table::Threads;
+pub use thread::{Thread, ThreadState};

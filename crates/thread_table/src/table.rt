@@ -1,0 +1,305 @@
+//! The table of threads.
+
+ghost use Rattle.std.specs.Prelude.{◌≡◌, ◌<◌, ◌≤◌, IfOk, IsSome, vec_len};
+ghost use Rattle.std.specs.Option.{option_copied};
+ghost use Rattle.xk_base.specs.Circle.{IsPid, IsTid, is_thread_id, same_thread, thread_ids, place_of, id_at, ids_until};
+ghost use Rattle.xk_base.specs.Counting.{put_at};
+ghost use Rattle.xk_base.specs.declared.limits.TheConstants.{PROCESS_LIMIT};
+ghost use Rattle.thread_table.specs.ThreadMap.{no_threads, without_process, free_tid, live_threads, receiver, next_ready, is_ready};
+
+use crate::thread::Thread;
+use std::alloc::Global;
+use xk_base::limits::{PROCESS_LIMIT, TID_LIMIT};
+use xk_base::{NoMemory, Pid, Serial, ThreadId, Tid};
+
+/// How many threads a process has at most.
+const TIDS: usize = TID_LIMIT as usize;
+
+/// The threads of a fixed number of processes, with a place for each (pid, tid) that they may have, in
+/// ascending order.
+#[derive(Debug, Drop)]
+pub struct Threads {
+    procs: u32,
+    by_place: Vec<Option<Thread>>,
+    ghost few: { procs ≤ PROCESS_LIMIT },
+    ghost whole: { vec_len by_place ≡ thread_ids procs },
+}
+
+/// The place of the id.
+fn place_of(id: ThreadId) -> usize
+    requires pid { 2 ≤ id.pid.0 }
+    requires tid { 1 ≤ id.tid.0 }
+    ensures { result ≡ place_of id }
+{
+    (id.pid.0 as usize - 2) * TIDS + (id.tid.0 as usize - 1)
+}
+
+/// The id at the place.
+fn id_at(place: usize) -> ThreadId
+    requires { place < thread_ids PROCESS_LIMIT }
+    ensures { result ≡ id_at place }
+{
+    ThreadId {
+        pid: Pid((place / TIDS + 2) as u8),
+        tid: Tid((place % TIDS + 1) as u8),
+    }
+}
+
+/// How many ids stand at or before the id.
+fn ids_until(id: ThreadId) -> usize
+    requires { 2 ≤ id.pid.0 }
+    ensures { result ≡ ids_until id }
+{
+    (id.pid.0 as usize - 2) * TIDS + id.tid.0.min(TID_LIMIT) as usize
+}
+
+#[tactic(auto, using(crate::proofs::Places::thread_map_laws), unfolding(crate::specs::ThreadsOf::process_count, crate::specs::ThreadsOf::threads_of))]
+impl Threads {
+    ghost use Rattle.thread_table.specs.ThreadsOf.{process_count, threads_of};
+
+    /// A table without threads for `procs` processes. It takes all memory that their threads will ever
+    /// need.
+    pub fn new(alloc: Global, procs: u32) -> Result<Threads, NoMemory>
+        requires { procs ≤ PROCESS_LIMIT }
+        ensures count { IfOk result (λ t. process_count t ≡ procs) }
+        ensures empty { IfOk result (λ t. threads_of t ≡ no_threads) }
+    {
+        let places = procs as usize * TIDS;
+        let Ok(mut by_place) = Vec::with_capacity(alloc, places) else {
+            return Err(NoMemory);
+        };
+        for _place in 0..places {
+            by_place.push_reserved(None);
+        }
+        Ok(Threads { procs, by_place })
+    }
+
+    /// Whether the table has a place for the id.
+    fn has_place(&self, id: ThreadId) -> bool
+        ensures { result ≡ is_thread_id (process_count self.now) id }
+    {
+        2 <= id.pid.0
+            && u32::from(id.pid.0) < self.procs + 2
+            && 1 <= id.tid.0
+            && id.tid.0 <= TID_LIMIT
+    }
+
+    /// The thread; `None` exactly where there is no such one. Any id may be asked for.
+    pub fn get(&self, id: ThreadId) -> Option<&Thread>
+        ensures { option_copied result ≡ threads_of self.now id }
+    {
+        if self.has_place(id) {
+            self.by_place[place_of(id)].as_ref()
+        } else {
+            None
+        }
+    }
+
+    /// Puts a new thread there.
+    pub fn start(&mut self, id: ThreadId, t: Thread)
+        requires pid { IsPid (process_count self.old) id.pid.0 }
+        requires tid { IsTid id.tid.0 }
+        requires free { threads_of self.old id ≡ None }
+        ensures after { threads_of self.new ≡ put_at same_thread (threads_of self.old) id (Some t) }
+        ensures count { process_count self.new ≡ process_count self.old }
+    {
+        self.by_place[place_of(id)] = Some(t);
+    }
+
+    /// Puts this in place of the thread.
+    pub fn set(&mut self, id: ThreadId, t: Thread)
+        requires { IsSome (threads_of self.old id) }
+        ensures after { threads_of self.new ≡ put_at same_thread (threads_of self.old) id (Some t) }
+        ensures count { process_count self.new ≡ process_count self.old }
+    {
+        self.by_place[place_of(id)] = Some(t);
+    }
+
+    /// Ends the thread.
+    pub fn end(&mut self, id: ThreadId)
+        requires { IsSome (threads_of self.old id) }
+        ensures after { threads_of self.new ≡ put_at same_thread (threads_of self.old) id None }
+        ensures count { process_count self.new ≡ process_count self.old }
+    {
+        self.by_place[place_of(id)] = None;
+    }
+
+    /// Ends all threads of the process.
+    pub fn end_process(&mut self, pid: Pid)
+        requires { IsPid (process_count self.old) pid.0 }
+        ensures after { threads_of self.new ≡ without_process pid (threads_of self.old) }
+        ensures count { process_count self.new ≡ process_count self.old }
+    {
+        let first = (pid.0 as usize - 2) * TIDS;
+        for k in 0..TIDS {
+            self.by_place[first + k] = None;
+        }
+    }
+
+    /// The least of 2 to 31 that is the tid of no thread of the process; `None` exactly where all are.
+    pub fn free_tid(&self, pid: Pid) -> Option<Tid>
+        requires { IsPid (process_count self.now) pid.0 }
+        ensures { result ≡ free_tid pid (threads_of self.now) }
+    {
+        for k in 0..TID_LIMIT - 1 {
+            let tid = Tid(k + 2);
+            if self.get(ThreadId { pid, tid }).is_none() {
+                return Some(tid);
+            }
+        }
+        None
+    }
+
+    /// How many threads above tid 1 the process has.
+    pub fn live(&self, pid: Pid) -> u32
+        requires { IsPid (process_count self.now) pid.0 }
+        ensures { result ≡ live_threads pid (threads_of self.now) }
+    {
+        let mut live = 0;
+        for k in 0..TID_LIMIT - 1 {
+            let above = Tid(k + 2);
+            if self.get(ThreadId { pid, tid: above }).is_some() {
+                live += 1;
+            }
+        }
+        live
+    }
+
+    /// Of the threads that are Receiving at the server the one with the least tid; `None` exactly where
+    /// there is none. Of two processes with such a thread the one with the lower pid comes first.
+    pub fn receiver(&self, serial: Serial) -> Option<ThreadId>
+        ensures { result ≡ receiver (process_count self.now) serial (threads_of self.now) }
+    {
+        let procs = self.procs as usize;
+        for k in 0..procs * TIDS {
+            let id = ThreadId {
+                pid: Pid((k % procs + 2) as u8),
+                tid: Tid((k / procs + 1) as u8),
+            };
+            if let Some(thread) = self.get(id)
+                && thread.state.is_receiving(serial)
+            {
+                return Some(id);
+            }
+        }
+        None
+    }
+
+    /// Whether a thread that may do the next step stands at the place.
+    fn is_ready_at(&self, place: usize) -> bool
+        requires { place < thread_ids (process_count self.now) }
+        ensures { result ≡ is_ready (threads_of self.now (id_at place)) }
+    {
+        match &self.by_place[place] {
+            Some(thread) => thread.state.is_ready(),
+            None => false,
+        }
+    }
+
+    /// The first Ready thread strictly after the id in the cyclic order of (pid, tid), the id itself
+    /// last; `None` exactly where no thread is Ready.
+    pub fn next_ready_after(&self, id: ThreadId) -> Option<ThreadId>
+        requires { IsPid (process_count self.now) id.pid.0 }
+        ensures { result ≡ next_ready (process_count self.now) (threads_of self.now) id }
+    {
+        let places = self.procs as usize * TIDS;
+        for k in 0..places {
+            let place = (ids_until(id) + k) % places;
+            if self.is_ready_at(place) {
+                return Some(id_at(place));
+            }
+        }
+        None
+    }
+}
+
+#[cfg(test)]
+mod tests {
+    use super::*;
+    use crate::thread::ThreadState;
+    use xk_base::{Number, Regs};
+
+    fn id(pid: u8, tid: u8) -> ThreadId
+        ensures { result ≡ record { pid = record { 0 = pid }; tid = record { 0 = tid } } }
+    {
+        ThreadId {
+            pid: Pid(pid),
+            tid: Tid(tid),
+        }
+    }
+
+    fn thread(pc: u32, state: ThreadState) -> Thread {
+        Thread {
+            pc,
+            regs: Regs::new(),
+            state,
+        }
+    }
+
+    #[test]
+    fn order_goes_round(rt: HostRuntime) {
+        if let Ok(mut threads) = Threads::new(rt.alloc(), 3) {
+            assert_eq!(rt; threads.next_ready_after(id(2, 2)), None);
+            threads.start(id(2, 2), thread(4, ThreadState::Ready));
+            assert_eq!(rt; threads.next_ready_after(id(2, 2)), Some(id(2, 2)));
+            threads.start(id(2, 1), thread(0, ThreadState::Idle));
+            threads.start(id(4, 3), thread(8, ThreadState::Ready));
+            threads.start(id(4, 31), thread(12, ThreadState::Waiting(Number(1))));
+            for (from, next) in [
+                ((2, 2), (4, 3)),
+                ((2, 1), (2, 2)),
+                ((4, 3), (2, 2)),
+                ((3, 7), (4, 3)),
+            ] {
+                assert_eq!(rt;
+                    threads.next_ready_after(id(from.0, from.1)),
+                    Some(id(next.0, next.1))
+                );
+            }
+            threads.end(id(2, 2));
+            assert_eq!(rt; threads.next_ready_after(id(2, 2)), Some(id(4, 3)));
+            threads.end_process(Pid(4));
+            assert_eq!(rt; threads.next_ready_after(id(2, 2)), None);
+        } else {
+            assert!(rt; false);
+        }
+    }
+
+    #[test]
+    fn tids_are_counted_from_2(rt: HostRuntime) {
+        if let Ok(mut threads) = Threads::new(rt.alloc(), 2) {
+            threads.start(id(3, 1), thread(0, ThreadState::Idle));
+            assert_eq!(rt; threads.live(Pid(3)), 0);
+            assert_eq!(rt; threads.free_tid(Pid(3)), Some(Tid(2)));
+            for tid in 2..32 {
+                assert_eq!(rt; threads.free_tid(Pid(3)), Some(Tid(tid)));
+                if threads.get(id(3, tid)).is_none() {
+                    threads.start(id(3, tid), thread(0, ThreadState::Ready));
+                }
+            }
+            assert_eq!(rt; threads.free_tid(Pid(3)), None);
+            assert_eq!(rt; threads.live(Pid(3)), 30);
+            assert_eq!(rt; threads.live(Pid(2)), 0);
+        } else {
+            assert!(rt; false);
+        }
+    }
+
+    #[test]
+    fn the_lowest_receiver_is_found(rt: HostRuntime) {
+        if let Ok(mut threads) = Threads::new(rt.alloc(), 2) {
+            threads.start(id(3, 9), thread(0, ThreadState::Receiving(Serial(1))));
+            threads.start(id(3, 4), thread(0, ThreadState::Receiving(Serial(1))));
+            threads.start(id(3, 2), thread(0, ThreadState::Receiving(Serial(2))));
+            assert_eq!(rt; threads.receiver(Serial(1)), Some(id(3, 4)));
+            threads.set(id(3, 4), thread(16, ThreadState::Ready));
+            assert_eq!(rt; threads.receiver(Serial(1)), Some(id(3, 9)));
+            assert_eq!(rt; threads.receiver(Serial(3)), None);
+            assert_eq!(rt; threads.get(id(3, 4)).map(|thread| thread.pc), Some(16));
+            assert_eq!(rt; threads.get(id(3, 5)).map(|thread| thread.pc), None);
+            assert_eq!(rt; threads.get(id(1, 0)).map(|thread| thread.pc), None);
+        } else {
+            assert!(rt; false);
+        }
+    }
+}

@@ -1,0 +1,52 @@
+//! One thread.
+
+ghost use Rattle.std.specs.Prelude.{◌≡◌};
+ghost use Rattle.thread_table.specs.States.{is_ready_state, is_receiving_state};
+
+use xk_base::{Number, Regs, Serial, Tid};
+
+/// What a thread does.
+#[derive(Clone, Copy, Debug, PartialEq, Eq)]
+pub enum ThreadState {
+    /// It may do the next step.
+    Ready,
+    /// It waits for a message at the server.
+    Receiving(Serial),
+    /// It waits for the answer to the message.
+    Waiting(Number),
+    /// It waits for the end of another thread of its process.
+    Joining(Tid),
+    /// It waits for an interrupt, as an interrupt thread alone does.
+    Idle,
+}
+
+/// A thread.
+#[derive(Clone, Copy, Debug, PartialEq, Eq)]
+pub struct Thread {
+    /// The address of its next instruction.
+    pub pc: u32,
+    pub regs: Regs,
+    pub state: ThreadState,
+}
+
+impl ThreadState {
+    /// Whether the thread may do the next step.
+    pub(crate) fn is_ready(self) -> bool
+        ensures { result ≡ is_ready_state self }
+    {
+        match self {
+            ThreadState::Ready => true,
+            _ => false,
+        }
+    }
+
+    /// Whether the thread waits for a message at the server.
+    pub(crate) fn is_receiving(self, serial: Serial) -> bool
+        ensures { result ≡ is_receiving_state serial self }
+    {
+        match self {
+            ThreadState::Receiving(at) => at == serial,
+            _ => false,
+        }
+    }
+}
