@@ -13,19 +13,21 @@ row_map_read xs k d l = get_or_default xs k d None l
 pub row_map_set : {V : Type 0} (xs : List (Option V)) (k : ℕ) (v : Option V) → k < length xs → row_map (set xs k v) ≡ put_at nat_eq (row_map xs) k v
 row_map_set {V} xs k v l = λ i q. at q i
   where
-  at : (q : ℕ) → row_map (set xs k v) q ≡ put_at nat_eq (row_map xs) k v q
-  at q = elim (cases_eq q k) [
-    inl same ↦
-      rw (cond-true (nat_eq q k) v (get_or xs q None) (eq-eqb q k same))
-        (ap (λ j. get_or (set xs k v) j None) same ∙ get_or-set_same xs k v None l)
-    | inr apart ↦
-      rw (cond-false (nat_eq q k) v (get_or xs q None) (ne_eqb q k apart)) (get_or-set_other xs k q v None apart) ]
+    at : (q : ℕ) → row_map (set xs k v) q ≡ put_at nat_eq (row_map xs) k v q
+    at q = elim (cases_eq q k) [
+      | inl same ↦
+          rw (cond-true (nat_eq q k) v (get_or xs q None) (eq-eqb q k same))
+          (ap (λ j. get_or (set xs k v) j None) same ∙ get_or-set_same xs k v None l)
+      | inr apart ↦
+          rw (cond-false (nat_eq q k) v (get_or xs q None) (ne_eqb q k apart)) (get_or-set_other xs k q v None apart)
+    ]
 
 -- empty places are the map without a key
 pub row_map_replicate : {V : Type 0} (n : ℕ) → row_map {V = V} (replicate n None) ≡ (λ _. None)
 row_map_replicate {V} n = λ i q. at q i
   where
-  at : (q : ℕ) → row_map {V = V} (replicate n None) q ≡ None
-  at q = elim (cases_lt q n) [
-    inl inside ↦ get_or-replicate n q None None inside
-    | inr past ↦ get_or_past (replicate {A = Option V} n None) q None (omega (arith, length-replicate {A = Option V} n None)) ]
+    at : (q : ℕ) → row_map {V = V} (replicate n None) q ≡ None
+    at q = elim (cases_lt q n) [
+      | inl inside ↦ get_or-replicate n q None None inside
+      | inr past ↦ get_or_past (replicate {A = Option V} n None) q None (omega (arith, length-replicate {A = Option V} n None))
+    ]
