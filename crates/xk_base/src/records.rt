@@ -112,7 +112,7 @@ mod tests {
                 step: 7,
                 what: What::Gone(Pid(3)),
             };
-            assert_eq!(rt; log.as_slice(), &[gone]);
+            assert_eq!(rt; log.as_slice(), [gone].as_slice());
         } else {
             assert!(rt; false);
         }

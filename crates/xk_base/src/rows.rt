@@ -60,6 +60,6 @@ mod tests {
         let mut row = Row::new(rt.alloc());
         assert_eq!(rt; row.push(7u32), Ok(()));
         assert_eq!(rt; row.push(9u32), Ok(()));
-        assert_eq!(rt; row.as_slice(), &[7, 9]);
+        assert_eq!(rt; row.as_slice(), [7, 9].as_slice());
     }
 }
