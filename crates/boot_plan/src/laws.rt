@@ -1,13 +1,10 @@
 //! What holds of the plan of any arguments.
 
-ghost use Rattle.std.specs.Prelude.{◌≡◌, ◌<◌, ℕ, ◌+◌, ◌*◌, ◌%◌, List, [], ◌∷◌, ◌++◌, length, map, take, slice_index_or, Any, Option, None};
+ghost use Rattle.std.specs.Prelude.{◌≡◌, ◌<◌, ℕ, ◌+◌, ◌*◌, ◌%◌, List, [], ◌∷◌, ◌++◌, length, map, take, slice_index, slice_index_or, Any, Option};
 ghost use Rattle.std.specs.List.{flat_map};
-ghost use Rattle.kernel_args.specs.declared.args.Args.{Args};
 ghost use Rattle.kernel_args.specs.declared.args.ProcArgs.{ProcArgs};
 ghost use Rattle.kernel_args.specs.declared.args.Section.{Section};
 ghost use Rattle.kernel_args.specs.declared.faults.ArgFault.{ArgFault};
-ghost use Rattle.kernel_args.specs.Faults.{args_fault};
-ghost use Rattle.kernel_args.specs.Image.{Spells};
 ghost use Rattle.boot_plan.specs.Sections.{page_count, section_pages, file_sizes};
 ghost use Rattle.boot_plan.specs.FirstPages.{process_pages, stack_pages, interrupt_page};
 ghost use Rattle.boot_plan.specs.Content.{HoldsByte};
@@ -25,12 +22,13 @@ pub fn sections_stand_in_pages()
         → Any (HoldsByte file (p.load + file_sizes (take i p.sections)) (slice_index_or p.sections i d) k) (process_pages p) }
 {}
 
-/// An image has exactly one answer for a number of slots, its first fault or that it has none, since
-/// bytes without a fault of their arguments spell one list of arguments. The function does nothing;
-/// its contract is the law.
+/// An image has exactly one answer for a number of slots: its first fault, or that it has none. The
+/// function does nothing; its contract is the law.
 pub fn image_has_one_first_fault()
-    ensures some { (bytes : List ℕ) (slots : ℕ) → (args_fault bytes ≡ None → (args : Args) × Spells bytes args)
+    ensures some { (bytes : List ℕ) (slots : ℕ) → ((i : ℕ) → slice_index bytes i < 256)
         → (fault : Option ArgFault) × IsImageFault bytes slots fault }
-    ensures once { (bytes : List ℕ) (slots : ℕ) → ((one other : Args) → Spells bytes one → Spells bytes other → one ≡ other)
-        → (one other : Option ArgFault) → IsImageFault bytes slots one → IsImageFault bytes slots other → one ≡ other }
-{}
+    ensures once { (bytes : List ℕ) (slots : ℕ) (one other : Option ArgFault)
+        → IsImageFault bytes slots one → IsImageFault bytes slots other → one ≡ other }
+{
+    kernel_args::spelled_once_or_faulty();
+}
