@@ -1,32 +1,39 @@
 -- Bytes spell exactly one list of arguments, or have a fault, and never both.
-use Rattle.std.proofs.Common.{◌≡◌, ℕ, ◌*◌, ◌≤◌, List, [], ◌∷◌, ◌++◌, length, map, take, drop, Option, None, refl, sym, ap, subst, ◌∙◌, append_assoc, arith}
-use Rattle.std.specs.Prelude.{codes}
+use Rattle.std.proofs.Common.{◌≡◌, ℕ, zero, suc, ◌+◌, ◌-◌, ◌*◌, ◌/◌, ◌%◌, ◌^◌, ◌<◌, ◌≤◌, Bool, true, false, List, [], ◌∷◌, ◌++◌, length, map, take, drop, Option, Some, None, refl, sym, ap, subst, ◌∙◌, append_assoc, arith}
+use Rattle.std.specs.Prelude.{codes, All}
 use Rattle.std.specs.Option.{option_or}
 use Rattle.std.specs.List.{flat_map, AllByRecursion}
 use Rattle.std.proofs.lemmas.List.{length-append, length-take, length-map, take_at, drop_at, take-append-drop, append-nil}
-use Rattle.std.proofs.lemmas.List.Elements.{All-from_recursion}
+use Rattle.std.proofs.lemmas.List.Elements.{All-from_recursion, All-weaker, recursion_from_All}
 use Rattle.kernel_args.specs.declared.args.Args.{Args}
 use Rattle.kernel_args.specs.declared.args.ProcArgs.{ProcArgs}
 use Rattle.kernel_args.specs.declared.args.ProcName.{ProcName}
 use Rattle.kernel_args.specs.declared.faults.ArgFault.{ArgFault}
 use Rattle.kernel_args.specs.Joined.{Cut, cut}
 use Rattle.kernel_args.specs.Tags.{Tag, IsTag, tag_bytes, front_tag, contents_of}
-use Rattle.kernel_args.specs.Contents.{process_contents, IsProcess, Entry, IsEntry, entry_bytes, front_entry, name_of}
-use Rattle.kernel_args.specs.Image.{IsRightTag, header_tag, SpellsTags, Spells}
+use Rattle.kernel_args.specs.Contents.{process_contents, IsSection, IsProcess, Entry, IsEntry, entry_bytes, front_entry, name_of}
+use Rattle.kernel_args.specs.Image.{IsRam, IsSoundProcess, IsSoundArgs, IsRightTag, header_tag, SpellsTags, Spells}
 use Rattle.kernel_args.specs.Faults.{first_fault, number_at, row_size, header_faults, tags_fault, row_fault, args_fault}
 use Rattle.kernel_args.specs.Reading.{HeaderIs}
 use Rattle.kernel_args.proofs.NumberLaws.{IsBytes, IsBytes-drop, IsBytes-take, IsBytes-left}
-use Rattle.kernel_args.proofs.JoinedLaws.{cut_joined, cut_joins, joined_once}
+use Rattle.kernel_args.proofs.JoinedLaws.{IsCut, cut_joined, cut_joins, joined_once}
 use Rattle.kernel_args.proofs.TagLaws.{tags, length-tag_bytes}
 use Rattle.kernel_args.proofs.ContentsLaws.{entries}
 use Rattle.kernel_args.proofs.ProcessLaws.{process_is_good, processes_once}
 use Rattle.kernel_args.proofs.RowLaws.{names_are_good}
-use Rattle.kernel_args.proofs.RowFaults.{option_or_none, IsGoodProcess, IsGoodNames, no_tags_fault, tags_spelled}
+use Rattle.kernel_args.proofs.RowFaults.{option_or_none, IsGoodProcess, IsGoodNames, no_tags_fault, Spelled, tags_spelled}
 use Rattle.kernel_args.proofs.HeaderLaws.{header_of, header_is_good, BeginsWith, begins_with}
 
 -- the row of tags behind the first
 abbrev pub row_of : List ℕ → List ℕ
 row_of bytes = drop 28 (take (row_size bytes) bytes)
+
+process_is_sound : (p : ProcArgs) → IsProcess p → IsSoundProcess p
+process_is_sound p h = record {
+  some = h.some;
+  few = h.few;
+  flags = All-weaker IsSection (λ s. s.flags < 32) (λ s k. k.flags) p.sections (All-from_recursion IsSection p.sections h.sections);
+}
 
 -- a header, and tags that spell the rest, are an image
 pub spells_from : (bytes : List ℕ) (args : Args) (ts : List Tag) → BeginsWith bytes args → row_of bytes ≡ flat_map tag_bytes ts
@@ -43,7 +50,7 @@ spells_from bytes args ts b row s some few =
       words = b.fits;
       ram_name = b.ram_name;
       spelled = s;
-      sound = record { words = b.long; ram = b.ram; some = some; few = few; procs = All-from_recursion IsProcess args.procs s.each_process };
+      sound = record { words = b.long; ram = b.ram; some = some; few = few; procs = All-weaker IsProcess IsSoundProcess process_is_sound args.procs (All-from_recursion IsProcess args.procs s.each_process) };
     }
 
 -- ---- bytes without a fault spell arguments

@@ -1,5 +1,5 @@
 -- The grammar of images: which arguments bytes spell.
-use Rattle.std.specs.Prelude.{◌≡◌, ◌<◌, ◌≤◌, ℕ, ◌+◌, ◌*◌, ◌%◌, ◌^◌, List, ◌∷◌, ◌++◌, length, map, codes, All}
+use Rattle.std.specs.Prelude.{◌≡◌, ◌<◌, ◌≤◌, ℕ, ◌+◌, ◌*◌, ◌%◌, ◌^◌, List, [], ◌∷◌, ◌++◌, length, map, codes, All}
 use Rattle.std.specs.List.{flat_map, AllByRecursion}
 use Rattle.kernel_args.specs.declared.args.Args.{Args}
 use Rattle.kernel_args.specs.declared.args.ProcArgs.{ProcArgs}
@@ -16,14 +16,20 @@ pub record IsRam (start size : ℕ) : Type 0 where
   pub few : size ≤ 67108864
   pub below : start + size ≤ 0xF0000000
 
--- What a plan of the first pages asks of arguments: they have a header, RAM that can be had, one to 32
--- processes, each with one to 32 sections, and no section flag but 1, 2, 4, 8 and 16.
+-- one to 32 sections, and no section flag but 1, 2, 4, 8 and 16
+pub record IsSoundProcess (p : ProcArgs) : Type 0 where
+  pub some : 1 ≤ length p.sections
+  pub few : length p.sections ≤ 32
+  pub flags : All (λ s. s.flags < 32) p.sections
+
+-- What a plan of the first pages asks of arguments: they have a header, RAM that can be had, and one to 32
+-- processes, each with sections in the limits of an image.
 pub record IsSoundArgs (args : Args) : Type 0 where
   pub words : 7 ≤ args.words
   pub ram : IsRam args.ram_start args.ram_size
   pub some : 1 ≤ length args.procs
   pub few : length args.procs ≤ 32
-  pub procs : All IsProcess args.procs
+  pub procs : All IsSoundProcess args.procs
 
 abbrev pub header_tag : Args → Tag
 header_tag args = record { name = codes "XArg"; check = check_number (header_contents args); contents = header_contents args }

@@ -1,8 +1,7 @@
 //! Plans of small images.
 
 ghost use Rattle.std.specs.Prelude.{◌≤◌, ◌<◌, ◌+◌, IfOk};
-ghost use Rattle.kernel_args.specs.Contents.{IsSection, IsProcess};
-ghost use Rattle.kernel_args.specs.Image.{IsSoundArgs};
+ghost use Rattle.kernel_args.specs.Image.{IsSoundProcess, IsSoundArgs};
 
 use super::*;
 use crate::{
@@ -17,12 +16,12 @@ use xk_base::{Right, Vpn};
 type Piece = (u32, u32, u8);
 
 fn section(piece: Piece) -> Section
-    ensures { IsSection result }
+    ensures { result.flags < 32 }
 {
     let (addr, size, flags) = piece;
     Section {
         addr,
-        size: size % 0x100_0000,
+        size,
         flags: flags % 32,
     }
 }
@@ -31,7 +30,7 @@ fn section(piece: Piece) -> Section
 fn args(alloc: Global, frames: u32, process: ProcArgs) -> Result<Args, NoMemory>
     requires some { 0 < frames }
     requires few { frames ≤ 16384 }
-    requires process { IsProcess process }
+    requires process { IsSoundProcess process }
     ensures { IfOk result IsSoundArgs }
 {
     let mut procs = Row::new(alloc);
@@ -95,7 +94,7 @@ fn sections_have_their_faults(rt: HostRuntime) -> Result<(), Fail> {
         ((0xFF_F000, 4096, 2), None),
         ((0xFF_F000, 4097, 2), at_pid(SECTION_OUTSIDE)),
         ((0xF000, 4096, 2), at_pid(SECTION_OUTSIDE)),
-        ((0xFFFF_F000, 0xFF_FFFF, 2), at_pid(SECTION_OUTSIDE)),
+        ((0xFFFF_F000, 0xFFFF_FFFF, 2), at_pid(SECTION_OUTSIDE)),
         ((0xFFFF_F000, 0, 0), None),
         ((0xFFFF_F001, 0, 0), at_pid(SECTION_MISALIGNED)),
         ((0x1_0000, 1, 2), at_pid(SECTIONS_OVERLAP)),
