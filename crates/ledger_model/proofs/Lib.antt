@@ -1,5 +1,6 @@
 pub mod Console
 pub mod Ending
+mod Examples
 pub mod Giving
 pub mod LeastRuns
 pub mod LedgerLaws

@@ -1,0 +1,18 @@
+-- Small ledgers are counted by evaluation.
+use Rattle.std.proofs.Common.{◌≡◌, ℕ, true, false, Some, None, refl}
+use Rattle.std.specs.Prelude.{if◌then◌else◌}
+use Rattle.xk_base.specs.Counting.{count_below}
+use Rattle.xk_base.specs.declared.ids.Place.{Place}
+use Rattle.ledger_model.specs.Ledger.{Ledger, Bytes, pages, empty_ledger}
+use Rattle.ledger_model.specs.Places.{place_at, count_places, in_run}
+use Rattle.ledger_model.specs.Steps.{make, make_console}
+
+-- two pages of the Heap window and the console
+example : Ledger
+unfolding make make_console
+example = make_console (record { pid = record { 0 = 2 }; vpn = record { 0 = 0x6_0000 } }) true
+    (make (record { pid = record { 0 = 3 }; vpn = record { 0 = 0x2_0000 } }) 2 (record { w = true; x = false }) empty_ledger)
+
+counted : pages 2 example ≡ 2
+unfolding pages count_places place_at count_below example make make_console
+counted = refl
