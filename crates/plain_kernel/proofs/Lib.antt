@@ -1,0 +1,10 @@
+pub mod ArgumentsLemmas
+pub mod BootLemmas
+pub mod CallLemmas
+pub mod ExecutionLemmas
+pub mod LoadingLemmas
+pub mod MachineLemmas
+pub mod MappingLemmas
+pub mod MemoryLemmas
+pub mod PagesLemmas
+pub mod StepLemmas

@@ -1,0 +1,9 @@
+pub mod Access
+pub mod Built
+pub mod Execution
+pub mod Mapped
+pub mod Mapping
+pub mod Places
+pub mod Start
+pub mod State
+pub mod Storing

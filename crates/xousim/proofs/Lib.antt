@@ -1,0 +1,5 @@
+pub mod EventsLemmas
+pub mod HistoryLemmas
+pub mod ReadingLemmas
+pub mod ToldLemmas
+pub mod TopLemmas

@@ -1,0 +1,60 @@
+-- Growing and consuming, one piece after another.
+use Rattle.std.proofs.Common.{◌≡◌, ◌<◌, ◌≤◌, ◌+◌, ℕ, suc, List, [], ◌∷◌, ◌++◌, length, take, drop, get_or, Option, Some, None, Result, Ok, Err, OnErr, refl, sym, ap, ◌∙◌, subst, arith, append_assoc, append-nil, drop-cons}
+use Rattle.std.proofs.lemmas.Option.{none-some, same_Some}
+use Rattle.std.proofs.lemmas.List.{take-append-drop}
+use Rattle.std.proofs.lemmas.Grind.{common_steps, flat_map-append}
+use Rattle.std.specs.List.{flat_map}
+use Rattle.xk_ports.specs.Told.{Grows, GrowsByPrefix, Consumes}
+use Rattle.xk_ports.proofs.ToldLemmas.{Grows-append, Grows-none}
+use Rattle.xousim.specs.Reading.{IsTold}
+use Rattle.xk_base.specs.declared.records.Rec.{Rec}
+use Rattle.trace_text.specs.Lines.{line_of, text_of}
+
+-- nothing is consumed
+pub Consumes-none : (old : Option (List ℕ)) → Consumes old old []
+Consumes-none None = refl
+Consumes-none (Some xs) = refl
+
+-- one piece after another
+pub Consumes-append : (old mid new : Option (List ℕ)) (xs ys : List ℕ) → Consumes old mid xs → Consumes mid new ys → Consumes old new (xs ++ ys)
+Consumes-append old None None xs ys first second = first
+Consumes-append old (Some m) None xs ys first second = absurd (none-some m (sym second))
+Consumes-append old None (Some rest) xs ys first second = absurd (none-some (ys ++ rest) second)
+Consumes-append old (Some m) (Some rest) xs ys first second =
+    let same : m ≡ ys ++ rest = same_Some _ _ second in
+    first ∙ ap (λ (zs : List ℕ). Some zs) (ap (λ (zs : List ℕ). xs ++ zs) same ∙ sym (append_assoc xs ys rest))
+
+-- where nothing is left, what was consumed is the whole
+pub consumed_whole : (old new : Option (List ℕ)) (xs : List ℕ) → Consumes old new xs → IsTold new [] → IsTold old xs
+consumed_whole None new xs used empty = tt
+consumed_whole (Some whole) None xs used empty = absurd (none-some whole (sym used))
+consumed_whole (Some whole) (Some rest) xs used empty =
+    same_Some _ _ used ∙ (ap (λ (zs : List ℕ). xs ++ zs) empty ∙ append-nil xs)
+
+-- the whole has at least what was consumed
+pub consumed_front : (old new : Option (List ℕ)) (xs : List ℕ) → Consumes old new xs → (whole : List ℕ) × (length xs ≤ length whole) × IsTold old whole
+consumed_front None new xs used = (xs, omega arith, tt)
+consumed_front (Some whole) None xs used = absurd (none-some whole (sym used))
+consumed_front (Some whole) (Some rest) xs used =
+    let same : whole ≡ xs ++ rest = same_Some _ _ used in (whole, grind (arith, common_steps), refl)
+
+-- a front of what comes after
+pub prefix_after : (old mid new : Option (List ℕ)) (xs ys zs : List ℕ) → Grows old mid xs → GrowsByPrefix mid new ys → GrowsByPrefix old new (xs ++ (ys ++ zs))
+prefix_after old mid new xs ys zs first second = (
+  xs ++ second.0,
+  second.1 ++ zs,
+  rw second.2 (simp append_assoc),
+  Grows-append old mid new xs second.0 first second.3,
+)
+
+-- the lines before a record, its line, and the lines after it
+pub text_at : (records : List Rec) (i : ℕ) (d : Rec) → i < length records → text_of records ≡ text_of (take i records) ++ (line_of (get_or records i d) ++ text_of (drop (suc i) records))
+text_at records i d inside =
+    ap text_of (sym (take-append-drop i records))
+    ∙ (flat_map-append line_of (take i records) (drop i records)
+    ∙ ap (λ (rs : List Rec). text_of (take i records) ++ text_of rs) (drop-cons records i d inside))
+
+-- a fact under either answer
+pub on_err : {T E : Type 0} (r : Result T E) (P : Type 0) → P → OnErr r P
+on_err (Ok x) P p = tt
+on_err (Err e) P p = p

@@ -1,0 +1,18 @@
+use Rattle.std.proofs.Common.{◌≡◌, ◌≤◌, ◌-◌, Option, List, ℕ, Result}
+use Rattle.xk_base.specs.declared.errors.Failed.{Failed}
+use Rattle.xousim.specs.declared.ending.Ending.{Ending}
+use Rattle.xousim.specs.History.{ticks}
+use Rattle.plain_kernel.specs.State.{machine_of}
+use Rattle.xousim.specs.Writing.{Wrote}
+use Rattle.xousim.proofs.playing.play_tick.Given as goal
+
+-- Whatever is written for the rest completes the whole.
+abbrev pub invariant-steps : goal.invariant-steps
+invariant-steps g l = record {
+  rest : (result : Result Ending Failed) (after : Option (List ℕ))
+      → Wrote (g.K.Sink.written l.out) after (ticks (l.count - l.done) l.limit (machine_of l.kernel)) result
+      → Wrote (g.K.Sink.written l.fn.out) after (ticks l.count l.limit (machine_of l.fn.kernel)) result;
+  machine : (ticks (l.count - l.done) l.limit (machine_of l.kernel)).machine ≡ (ticks l.count l.limit (machine_of l.fn.kernel)).machine;
+  later : g.K.Sink.faults l.fn.out ≤ g.K.Sink.faults l.out;
+  within : (machine_of l.kernel).steps ≤ l.limit;
+}

@@ -1,0 +1,59 @@
+-- What a list of events makes of a machine: its history up to the step limit.
+use Rattle.std.specs.Prelude.{ℕ, zero, suc, ◌==◌, Bool, true, false, List, [], ◌∷◌, ◌++◌, if◌then◌else◌, is_some}
+use Rattle.xk_base.specs.declared.records.Rec.{Rec}
+use Rattle.machine_model.specs.Machine.{Machine}
+use Rattle.machine_model.specs.Order.{actor, turn}
+use Rattle.machine_model.specs.Step.{step}
+use Rattle.xousim.specs.declared.ending.Ending.{Ending}
+use Rattle.xousim.specs.declared.ending.Ending.TheVariants.{Played, LimitMet, Unbuilt}
+use Rattle.xousim.specs.declared.events.Event.{Event}
+use Rattle.xousim.specs.declared.events.Event.TheVariants.{Tick}
+use Rattle.xousim.specs.Events.{Input}
+use Rattle.plain_kernel.specs.Built.{step_built}
+
+-- the records in order, the last state, and why it ended there
+pub record History : Type 0 where
+  pub records : List Rec
+  pub machine : Machine
+  pub ending : Ending
+
+abbrev pub ended : Ending → Machine → History
+ended ending m = record { records = []; machine = m; ending = ending }
+
+-- the same history after some records
+abbrev pub behind : List Rec → History → History
+behind records h = record h { records = records ++ h.records }
+
+abbrev pub go_on : Ending → History → (Machine → History) → History
+go_on Played h next = behind h.records (next h.machine)
+go_on LimitMet h next = h
+go_on Unbuilt h next = h
+
+-- a history and what comes after it, where it didn't end early
+abbrev pub followed_by : History → (Machine → History) → History
+followed_by h next = go_on h.ending h next
+
+-- `tick N`: at most N steps, fewer where no thread is ready; then the turn ends
+unfoldable pub ticks : ℕ → ℕ → Machine → History
+ticks zero limit m = ended Played (turn m)
+ticks (suc n) limit m =
+    if is_some (actor m) then (
+    if m.steps == limit then ended LimitMet m else (
+    if step_built m then behind (step m).records (ticks n limit (step m).machine) else ended Unbuilt m))
+    else ended Played (turn m)
+
+unfoldable pub play : Event → ℕ → Machine → History
+play (Tick n) limit m = ticks n limit m
+
+-- the events in order, and then this ending
+unfoldable pub history_to : Ending → List Event → ℕ → Machine → History
+history_to last [] limit m = ended last m
+history_to last (event ∷ events) limit m = followed_by (play event limit m) (history_to last events limit)
+
+-- the events in order
+abbrev pub history : List Event → ℕ → Machine → History
+history events limit m = history_to Played events limit m
+
+-- an event file: its events in order; where a line of it isn't built the history ends there
+abbrev pub history_of : Input → ℕ → Machine → History
+history_of input limit m = history_to (if input.whole then Played else Unbuilt) input.events limit m

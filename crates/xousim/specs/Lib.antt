@@ -1,0 +1,9 @@
+pub mod Adapters
+pub mod Events
+pub mod Finish
+pub mod History
+pub mod Outcome
+pub mod Reading
+pub mod Status
+pub mod Words
+pub mod Writing

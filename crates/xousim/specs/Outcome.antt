@@ -1,0 +1,147 @@
+-- How a call of the program ends: what holds for each status. `names` are the files that the words name, `file`
+-- is what the host has under each name where it tells it, and `before` and `after` are what `out` holds.
+use Rattle.std.specs.Prelude.{◌≡◌, ◌≤◌, ◌<◌, ◌⊎◌, ℕ, Bool, List, [], ◌∷◌, ◌++◌, length, Option, Some, None}
+use Rattle.kernel_args.specs.declared.args.Args.{Args}
+use Rattle.kernel_args.specs.declared.faults.ArgFault.{ArgFault}
+use Rattle.kernel_args.specs.Image.{Spells}
+use Rattle.boot_plan.specs.FirstPages.{plan_of}
+use Rattle.boot_plan.specs.ImageFault.{IsImageFault}
+use Rattle.machine_model.specs.Machine.{Machine}
+use Rattle.trace_text.specs.declared.lines.EndWord.TheVariants as words
+use Rattle.trace_text.specs.Lines.{text_of, end_line_of}
+use Rattle.xk_base.specs.declared.limits.TheConstants.{DEFAULT_STEPS}
+use Rattle.xk_base.specs.Outside.{Rose}
+use Rattle.xk_ports.specs.declared.host.FileSlot.TheVariants.{First, Second}
+use Rattle.xk_ports.specs.Host.{FileAsked}
+use Rattle.xk_ports.specs.Told.{Grows, GrowsByPrefix}
+use Rattle.xousim.specs.declared.ending.Ending.{Ending}
+use Rattle.xousim.specs.declared.ending.Ending.TheVariants.{Played, LimitMet, Unbuilt}
+use Rattle.xousim.specs.declared.status.Status.{Status}
+use Rattle.xousim.specs.declared.status.Status.TheVariants.{Done, ReadFault, WriteFault, ImageFault, StepLimit, NoMemory, NotBuilt}
+use Rattle.xousim.specs.declared.top.TheConstants.{EVENTS_LIMIT}
+use Rattle.xousim.specs.Events.{input_of}
+use Rattle.xousim.specs.History.{History, history_of}
+use Rattle.xousim.specs.Reading.{IsFile}
+use Rattle.plain_kernel.specs.Start.{start}
+use Rattle.xousim.specs.Words.{Names}
+
+-- the files of the host by their names, where they are told
+abbrev pub Told : Type 0
+Told = Option (List ℕ → Option (List ℕ))
+
+-- ---- images
+
+-- The image has no fault, and these are its arguments.
+pub record IsSoundImage (image : List ℕ) (args : Args) : Type 0 where
+  pub spelled : Spells image args
+  pub no_fault : IsImageFault image 0 None
+
+-- an image of one process boots this machine
+pub record Boots (image : List ℕ) (machine : Machine) : Type 0 where
+  pub args : Args
+  pub sound : IsSoundImage image args
+  pub one : length args.procs ≡ 1
+  pub start : machine ≡ start (plan_of args 0) image
+
+-- an image of several processes isn't built
+pub record HasSeveral (image : List ℕ) : Type 0 where
+  pub args : Args
+  pub sound : IsSoundImage image args
+  pub several : 2 ≤ length args.procs
+
+-- the file of that name is an image that boots this machine
+pub record Image (file : Told) (name : List ℕ) (machine : Machine) : Type 0 where
+  pub bytes : List ℕ
+  pub read : IsFile file name bytes
+  pub boots : Boots bytes machine
+
+-- What holds where the image isn't booted, by the status: it has this first fault; it isn't built; it couldn't be read,
+-- and the host's count of faults rose; there was no memory.
+abbrev pub Refuses : Told → List ℕ → Type 0 → Status → Type 0
+Refuses file name host_rose (ImageFault fault) = (image : List ℕ) × IsFile file name image × IsImageFault image 0 (Some fault)
+Refuses file name host_rose NotBuilt = (image : List ℕ) × IsFile file name image × HasSeveral image
+Refuses file name host_rose ReadFault = host_rose
+Refuses file name host_rose NoMemory = Unit {0}
+Refuses file name host_rose Done = ⊥
+Refuses file name host_rose (StepLimit limit) = ⊥
+Refuses file name host_rose WriteFault = ⊥
+
+-- the same of bytes that were read
+abbrev pub RefusesBytes : List ℕ → Status → Type 0
+RefusesBytes image (ImageFault fault) = IsImageFault image 0 (Some fault)
+RefusesBytes image NotBuilt = HasSeveral image
+RefusesBytes image NoMemory = Unit {0}
+RefusesBytes image ReadFault = ⊥
+RefusesBytes image Done = ⊥
+RefusesBytes image (StepLimit limit) = ⊥
+RefusesBytes image WriteFault = ⊥
+
+-- ---- events
+
+-- the history of a machine over the events of a file, up to the default step limit
+abbrev pub run_of : Machine → List ℕ → History
+run_of machine events = history_of (input_of events) DEFAULT_STEPS machine
+
+-- the last line; a history that ends at what isn't built has none
+abbrev pub last_line : ℕ → Ending → List ℕ
+last_line steps Played = end_line_of steps words.Done
+last_line steps LimitMet = end_line_of steps words.Limit
+last_line steps Unbuilt = []
+
+-- the whole text of a history: the lines of its records and the last line
+abbrev pub transcript : History → List ℕ
+transcript h = text_of h.records ++ last_line h.machine.steps h.ending
+
+-- the file of that name, no longer than is built, is read to its end
+pub record EventFile (file : Told) (name : List ℕ) : Type 0 where
+  pub bytes : List ℕ
+  pub read : IsFile file name bytes
+  pub short : length bytes ≤ EVENTS_LIMIT
+
+-- the history ended in this way, and exactly its transcript was written
+pub record Ran (file : Told) (name : List ℕ) (machine : Machine) (before after : Option (List ℕ)) (ending : Ending) : Type 0 where
+  pub events : EventFile file name
+  pub ended : (run_of machine events.bytes).ending ≡ ending
+  pub written : Grows before after (transcript (run_of machine events.bytes))
+
+-- a part from the front of the transcript was written
+pub record RanInPart (file : Told) (name : List ℕ) (machine : Machine) (before after : Option (List ℕ)) : Type 0 where
+  pub events : EventFile file name
+  pub written : GrowsByPrefix before after (transcript (run_of machine events.bytes))
+
+-- the event file is longer than is built
+pub record IsLong (file : Told) (name : List ℕ) : Type 0 where
+  pub bytes : List ℕ
+  pub read : IsFile file name bytes
+  pub long : EVENTS_LIMIT < length bytes
+
+-- What holds where the image boots the machine, by the status.
+abbrev pub Plays : Told → List ℕ → Machine → Option (List ℕ) → Option (List ℕ) → Type 0 → Type 0 → Status → Type 0
+Plays file name machine before after host_rose out_rose Done = Ran file name machine before after Played
+Plays file name machine before after host_rose out_rose (StepLimit limit) = (limit ≡ DEFAULT_STEPS) × Ran file name machine before after LimitMet
+Plays file name machine before after host_rose out_rose NotBuilt = Ran file name machine before after Unbuilt ⊎ (IsLong file name × (after ≡ before))
+Plays file name machine before after host_rose out_rose WriteFault = out_rose × RanInPart file name machine before after
+Plays file name machine before after host_rose out_rose ReadFault = host_rose × (after ≡ before)
+Plays file name machine before after host_rose out_rose NoMemory = after ≡ before
+Plays file name machine before after host_rose out_rose (ImageFault fault) = ⊥
+
+-- ---- a call
+
+-- What holds of a call with words that name files. Either the image isn't booted, and nothing is written; or it boots a
+-- machine, and the events are played on it.
+abbrev pub Ends : Told → Names → Option (List ℕ) → Option (List ℕ) → Type 0 → Type 0 → Status → Type 0
+Ends file names before after host_rose out_rose status =
+    (Refuses file names.image host_rose status × (after ≡ before))
+    ⊎ ((machine : Machine) × Image file names.image machine × Plays file names.events machine before after host_rose out_rose status)
+
+-- The image is asked for at the first slot, and besides, only where it boots, the event file at the second.
+abbrev pub Asks : Told → Names → Option (List FileAsked) → Option (List FileAsked) → Type 0
+Asks file names old new =
+    ((first : Bool) × Grows old new (record { slot = First; name = names.image; picked = first } ∷ []))
+    ⊎ ((machine : Machine) × Image file names.image machine × (first : Bool) × (second : Bool)
+    × Grows old new (record { slot = First; name = names.image; picked = first } ∷ record { slot = Second; name = names.events; picked = second } ∷ []))
+
+-- the notes got this text, or a part from its front where their count of faults rose
+abbrev pub Notes : Option (List ℕ) → Option (List ℕ) → ℕ → ℕ → List ℕ → Type 0
+Notes before after faults_before faults_after text =
+    Grows before after text ⊎ (Rose faults_before faults_after × GrowsByPrefix before after text)

@@ -1,0 +1,12 @@
+//! Why a history ends.
+
+/// Why a history ends.
+#[derive(Clone, Copy, Debug, PartialEq, Eq)]
+pub enum Ending {
+    /// All events were played.
+    Played,
+    /// A tick still had steps to do, some thread was ready, and the steps done met the limit.
+    LimitMet,
+    /// The next step, or the next line of the event file, isn't built.
+    Unbuilt,
+}

@@ -1,0 +1,104 @@
+//! The text of a status on the notes.
+
+ghost use Rattle.std.specs.Prelude.{◌≡◌, ◌+◌, ◌≤◌, [], ◌++◌, length, decimal};
+ghost use Rattle.arrayvec.specs.ArrayVec.{array_vec_len};
+ghost use Rattle.xk_ports.specs.Told.{Grows, GrowsByPrefix};
+ghost use Rattle.xousim.specs.Status.{fault_name, note_of};
+ghost use Rattle.xousim.specs.Outcome.{Notes};
+
+use crate::status::Status;
+use arrayvec::ArrayVec;
+use itoa::Buffer;
+use kernel_args::ArgFault;
+use xk_ports::{Sink, put_all};
+
+/// The longest note has 48 bytes.
+type Note = ArrayVec<u8, 64>;
+
+/// The name of an image's fault.
+fn name(what: u8) -> &'static [u8]
+    ensures name { result.now ≡ fault_name what }
+    ensures short { length result.now ≤ 17 }
+{
+    match what {
+        kernel_args::TOO_SHORT => b"TooShort",
+        kernel_args::NOT_XARG => b"NotXArg",
+        kernel_args::BAD_VERSION => b"BadVersion",
+        kernel_args::BAD_TOTAL => b"BadTotal",
+        kernel_args::BAD_CHECK => b"BadCheck",
+        kernel_args::BAD_RAM => b"BadRam",
+        kernel_args::NO_PROCESS => b"NoProcess",
+        kernel_args::TOO_MANY_PROCESSES => b"TooManyProcesses",
+        kernel_args::BAD_INI => b"BadIni",
+        kernel_args::BAD_NAMES => b"BadNames",
+        boot_plan::SECTION_OUTSIDE => b"SectionOutside",
+        boot_plan::SECTION_MISALIGNED => b"SectionMisaligned",
+        boot_plan::SECTIONS_OVERLAP => b"SectionsOverlap",
+        boot_plan::LOAD_OUTSIDE => b"LoadOutside",
+        boot_plan::ENTRY_OUTSIDE => b"EntryOutside",
+        boot_plan::RAM_TOO_SMALL => b"RamTooSmall",
+        _ => b"TooLong",
+    }
+}
+
+/// Appends text for which there is room.
+fn put(note: &mut Note, text: &[u8])
+    requires { array_vec_len note.old + length text.now ≤ 64 }
+    ensures text { note.new.items ≡ note.old.items ++ text.now }
+    ensures len { array_vec_len note.new ≡ array_vec_len note.old + length text.now }
+{
+    match note.try_extend_from_slice(text) {
+        Ok(()) => {}
+        Err(_) => unreachable!(),
+    }
+}
+
+/// Appends a number in decimal.
+fn put_number(note: &mut Note, number: u32)
+    requires { array_vec_len note.old + 10 ≤ 64 }
+    ensures text { note.new.items ≡ note.old.items ++ decimal number }
+    ensures len { array_vec_len note.new ≤ array_vec_len note.old + 10 }
+{
+    let mut digits = Buffer::new();
+    put(note, digits.format(number).as_bytes());
+}
+
+fn put_fault(note: &mut Note, fault: ArgFault)
+    requires { note.old.items ≡ [] }
+    ensures { note.new.items ≡ note_of (Status.ImageFault fault) }
+{
+    put(note, b"image fault ");
+    put(note, name(fault.what));
+    put(note, b" at ");
+    put_number(note, fault.at);
+    put(note, b"\n");
+}
+
+/// The note of a status.
+fn note(status: Status) -> Note
+    ensures { result.items ≡ note_of status }
+{
+    let mut note = Note::new();
+    match status {
+        Status::Done => {}
+        Status::ReadFault => put(&mut note, b"read fault\n"),
+        Status::WriteFault => put(&mut note, b"write fault\n"),
+        Status::ImageFault(fault) => put_fault(&mut note, fault),
+        Status::StepLimit(limit) => {
+            put(&mut note, b"step limit ");
+            put_number(&mut note, limit);
+            put(&mut note, b"\n");
+        }
+        Status::NoMemory => put(&mut note, b"no memory\n"),
+        Status::NotBuilt => put(&mut note, b"not built\n"),
+    }
+    note
+}
+
+/// Writes the note of a status. A fault there leaves the status as it was decided.
+pub fn write_note<N: Sink>(status: Status, notes: &mut N)
+    ensures noted { Notes (N.written notes.old) (N.written notes.new) (N.faults notes.old) (N.faults notes.new) (note_of status) }
+    ensures never_falls { N.faults notes.old ≤ N.faults notes.new }
+{
+    let _ = put_all(notes, note(status).as_slice());
+}

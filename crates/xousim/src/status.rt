@@ -1,0 +1,49 @@
+//! How a call of the program ends.
+
+ghost use Rattle.std.specs.Prelude.{◌≡◌};
+ghost use Rattle.xousim.specs.Status.{number_of};
+
+use kernel_args::ArgFault;
+
+/// How a call ends.
+#[derive(Clone, Copy, Debug, PartialEq, Eq)]
+pub enum Status {
+    /// All events were played.
+    Done,
+    /// A file couldn't be read.
+    ReadFault,
+    /// The output couldn't be written.
+    WriteFault,
+    /// The image has this first fault.
+    ImageFault(ArgFault),
+    /// The run met this step limit.
+    StepLimit(u32),
+    /// There was no memory.
+    NoMemory,
+    /// The words, the image, an event or a step isn't built yet.
+    NotBuilt,
+}
+
+impl Status {
+    /// The number with which the program ends.
+    pub fn number(&self) -> u8
+        ensures { result ≡ number_of self.now }
+    {
+        match self {
+            Status::Done => 0,
+            Status::ReadFault => 3,
+            Status::WriteFault => 4,
+            Status::ImageFault(_) => 5,
+            Status::StepLimit(_) => 7,
+            Status::NoMemory => 9,
+            Status::NotBuilt => 10,
+        }
+    }
+}
+
+/// How a call ended, and the store that it was given.
+#[derive(Debug)]
+pub struct Ended<W> {
+    pub status: Status,
+    pub store: W,
+}

@@ -1,0 +1,206 @@
+//! The program over files and streams in memory, and each real adapter once.
+
+use crate::adapters::{FileHost, WriterSink};
+use crate::status::{Ended, Status};
+use crate::top::xous_main;
+use kernel_args::ArgFault;
+use std::alloc::Global;
+use std::fs::OpenOptions;
+use std::test::Fail;
+use xk_ports::{MemHost, MemSink, MemStore, SureSink, SureStore};
+
+/// A process that maps the console, stores one byte there and loops.
+const FIRST_IMAGE: [u8; 88] = [
+    0x58, 0x41, 0x72, 0x67, 0xca, 0x7f, 0x05, 0x00, 0x0d, 0x00, 0x00, 0x00, 0x01, 0x00, 0x00, 0x00,
+    0x00, 0x00, 0x00, 0x40, 0x00, 0x00, 0x00, 0x01, 0x73, 0x72, 0x61, 0x6d, 0x49, 0x6e, 0x69, 0x45,
+    0xd5, 0xfe, 0x04, 0x00, 0x34, 0x00, 0x00, 0x00, 0x00, 0x00, 0x01, 0x00, 0x00, 0x00, 0x01, 0x00,
+    0x24, 0x00, 0x00, 0x04, 0x13, 0x05, 0x20, 0x00, 0xb7, 0x05, 0x00, 0xf0, 0x13, 0x06, 0x00, 0x00,
+    0xb7, 0x16, 0x00, 0x00, 0x13, 0x07, 0x60, 0x00, 0x73, 0x00, 0x00, 0x00, 0x93, 0x07, 0x80, 0x06,
+    0x23, 0x80, 0xf5, 0x00, 0x6f, 0x00, 0x00, 0x00,
+];
+
+const FIRST_LINES: &[u8] =
+    b"6 2.2 call 00000002 f0000000 00000000 00001000 00000006 00000000 00000000 00000000\n6 2.2 reply 00000003 60000000 00001000 00000000 00000000 00000000 00000000 00000000\n8 2.2 byte 68\n";
+
+/// What a run left: its status, its output and its notes.
+#[derive(Drop)]
+struct Outcome {
+    status: Status,
+    out: Vec<u8>,
+    notes: Vec<u8>,
+}
+
+fn words(alloc: Global, texts: &[&str]) -> Result<Vec<String>, Fail> {
+    let mut words = Vec::new(alloc);
+    for text in texts {
+        words.push(String::from_str(alloc, text)?)?;
+    }
+    Ok(words)
+}
+
+/// Runs `trace` over an image and an event file, where these calls of the host and of the output
+/// fail.
+fn trace(
+    alloc: Global,
+    image: &[u8],
+    events: &[u8],
+    host_fails: &[u64],
+    out_fails: &[u64],
+) -> Result<Outcome, Fail> {
+    let mut files = Vec::new(alloc);
+    files.push((String::from_str(alloc, "i")?, image.to_vec(alloc)?))?;
+    files.push((String::from_str(alloc, "e")?, events.to_vec(alloc)?))?;
+    let mut host = MemHost::new(alloc, files, 7, host_fails.to_vec(alloc)?, 100)?;
+    let mut out = MemSink::new(alloc, 1000, out_fails.to_vec(alloc)?)?;
+    let mut notes = MemSink::new(alloc, 100, Vec::new(alloc))?;
+    let words = words(alloc, &["trace", "i", "e"])?;
+    let store = MemStore::new(Vec::new(alloc));
+    let Ended { status, store: _ } = xous_main(
+        alloc,
+        words.as_slice(),
+        &mut host,
+        &mut out,
+        &mut notes,
+        store,
+    );
+    Ok(Outcome {
+        status,
+        out: out.as_slice().to_vec(alloc)?,
+        notes: notes.as_slice().to_vec(alloc)?,
+    })
+}
+
+#[test]
+fn first_run(rt: HostRuntime) -> Result<(), Fail> {
+    let run = trace(rt.alloc(), &FIRST_IMAGE, b"tick 100", &[], &[])?;
+    assert_eq!(rt; run.status, Status::Done);
+    assert!(rt; run.out.as_slice().strip_prefix(FIRST_LINES) == Some(b"end 100 done\n".as_slice()));
+    assert_eq!(rt; run.notes.as_slice(), b"".as_slice());
+    Ok(())
+}
+
+#[test]
+fn empty_event_file(rt: HostRuntime) -> Result<(), Fail> {
+    let run = trace(rt.alloc(), &FIRST_IMAGE, b"", &[], &[])?;
+    assert_eq!(rt; run.status, Status::Done);
+    assert_eq!(rt; run.out.as_slice(), b"end 0 done\n".as_slice());
+    Ok(())
+}
+
+#[test]
+fn images_with_faults(rt: HostRuntime) -> Result<(), Fail> {
+    let run = trace(rt.alloc(), b"", b"", &[], &[])?;
+    assert_eq!(rt; run.status, Status::ImageFault(ArgFault { what: 1, at: 0 }));
+    assert_eq!(rt; run.out.as_slice(), b"".as_slice());
+    assert_eq!(rt;
+        run.notes.as_slice(),
+        b"image fault TooShort at 0\n".as_slice()
+    );
+    let run = trace(rt.alloc(), &[0; 28], b"", &[], &[])?;
+    assert_eq!(rt;
+        run.notes.as_slice(),
+        b"image fault NotXArg at 0\n".as_slice()
+    );
+    let mut damaged = FIRST_IMAGE;
+    damaged[12] = 2;
+    let run = trace(rt.alloc(), &damaged, b"", &[], &[])?;
+    assert_eq!(rt;
+        run.notes.as_slice(),
+        b"image fault BadCheck at 0\n".as_slice()
+    );
+    Ok(())
+}
+
+#[test]
+fn what_is_not_built(rt: HostRuntime) -> Result<(), Fail> {
+    let run = trace(rt.alloc(), &FIRST_IMAGE, b"tick 6\nkill 2\n", &[], &[])?;
+    assert_eq!(rt; run.status, Status::NotBuilt);
+    assert_eq!(rt; run.out.len(), 167);
+    assert_eq!(rt; run.notes.as_slice(), b"not built\n".as_slice());
+    Ok(())
+}
+
+#[test]
+fn faults_outside(rt: HostRuntime) -> Result<(), Fail> {
+    let run = trace(rt.alloc(), &FIRST_IMAGE, b"tick 100", &[1], &[])?;
+    assert_eq!(rt; run.status, Status::ReadFault);
+    assert_eq!(rt; run.out.as_slice(), b"".as_slice());
+    assert_eq!(rt; run.notes.as_slice(), b"read fault\n".as_slice());
+    let run = trace(rt.alloc(), &FIRST_IMAGE, b"tick 100", &[], &[1])?;
+    assert_eq!(rt; run.status, Status::WriteFault);
+    assert_eq!(rt; run.out.as_slice(), b"".as_slice());
+    assert_eq!(rt; run.notes.as_slice(), b"write fault\n".as_slice());
+    Ok(())
+}
+
+#[test]
+fn first_run_sure(rt: HostRuntime) -> Result<(), Fail> {
+    let alloc = rt.alloc();
+    let mut files = Vec::new(alloc);
+    files.push((String::from_str(alloc, "i")?, FIRST_IMAGE.to_vec(alloc)?))?;
+    files.push((String::from_str(alloc, "e")?, b"tick 100".to_vec(alloc)?))?;
+    let mut host = MemHost::new(alloc, files, 4096, Vec::new(alloc), 100)?;
+    let mut out = SureSink::new(alloc, 1000)?;
+    let mut notes = SureSink::new(alloc, 100)?;
+    let words = words(alloc, &["trace", "i", "e"])?;
+    let store = SureStore::new();
+    let Ended { status, store: _ } = xous_main(
+        alloc,
+        words.as_slice(),
+        &mut host,
+        &mut out,
+        &mut notes,
+        store,
+    );
+    assert_eq!(rt; status, Status::Done);
+    assert!(rt; out.as_slice().strip_prefix(FIRST_LINES) == Some(b"end 100 done\n".as_slice()));
+    Ok(())
+}
+
+/// A file that isn't there and a folder in place of a file are read faults.
+#[test]
+fn real_files(rt: HostRuntime) -> Result<(), Fail> {
+    let alloc = rt.alloc();
+    for name in ["no-such-file", "."] {
+        let mut host = FileHost::new(&rt);
+        let mut out = MemSink::new(alloc, 100, Vec::new(alloc))?;
+        let mut notes = MemSink::new(alloc, 100, Vec::new(alloc))?;
+        let words = words(alloc, &["trace", name, name])?;
+        let store = SureStore::new();
+        let Ended { status, store: _ } = xous_main(
+            alloc,
+            words.as_slice(),
+            &mut host,
+            &mut out,
+            &mut notes,
+            store,
+        );
+        assert_eq!(rt; status.number(), 3);
+        assert_eq!(rt; notes.as_slice(), b"read fault\n".as_slice());
+    }
+    Ok(())
+}
+
+/// A device that takes nothing is a write fault, also on the notes, and no crash or loop.
+#[test]
+fn real_streams(rt: HostRuntime) -> Result<(), Fail> {
+    let alloc = rt.alloc();
+    let mut files = Vec::new(alloc);
+    files.push((String::from_str(alloc, "i")?, FIRST_IMAGE.to_vec(alloc)?))?;
+    files.push((String::from_str(alloc, "e")?, b"tick 100".to_vec(alloc)?))?;
+    let mut host = MemHost::new(alloc, files, 4096, Vec::new(alloc), 100)?;
+    let mut out = WriterSink::new(OpenOptions::new().write(true).open(&rt, "/dev/full")?);
+    let mut notes = WriterSink::new(OpenOptions::new().write(true).open(&rt, "/dev/full")?);
+    let words = words(alloc, &["trace", "i", "e"])?;
+    let store = SureStore::new();
+    let Ended { status, store: _ } = xous_main(
+        alloc,
+        words.as_slice(),
+        &mut host,
+        &mut out,
+        &mut notes,
+        store,
+    );
+    assert_eq!(rt; status.number(), 4);
+    Ok(())
+}
