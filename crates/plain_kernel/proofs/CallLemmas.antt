@@ -1,9 +1,8 @@
 -- The call that maps the console.
-use Rattle.std.proofs.Common.{◌≡◌, ℕ, ◌+◌, ◌*◌, ◌/◌, ◌%◌, Bool, true, false, List, [], ◌∷◌, ◌++◌, nat_eq, Option, Some, None, refl, sym, ap, subst, ◌∙◌, arith, ◌⊎◌, inl, inr}
-use Rattle.std.specs.Prelude.{is_some, is_none, ◌==◌, ◌&&◌, not, map, unwrap_or, if◌then◌else◌, slice_index}
+use Rattle.std.proofs.Common.{◌≡◌, ℕ, ◌*◌, ◌/◌, Bool, true, false, List, [], ◌∷◌, ◌++◌, Option, Some, None, refl, sym, ap, ◌∙◌, arith, ◌⊎◌, inl, inr}
+use Rattle.std.specs.Prelude.{is_some, is_none, ◌==◌, ◌&&◌, not, map, unwrap_or, if◌then◌else◌}
 use Rattle.std.specs.Option.{option_map}
 use Rattle.std.proofs.lemmas.Bool.{eqb-true, and_parts, false≢true}
-use Rattle.xk_base.specs.declared.errors.XousError.{XousError}
 use Rattle.xk_base.specs.declared.errors.XousError.TheVariants.{MemoryInUse, UnhandledSyscall, InvalidSyscall}
 use Rattle.xk_base.specs.declared.ids.ThreadId.{ThreadId}
 use Rattle.xk_base.specs.declared.ids.Vpn.{Vpn}
@@ -11,7 +10,7 @@ use Rattle.xk_base.specs.declared.records.What.{What}
 use Rattle.xk_base.specs.declared.records.What.TheVariants.{Call, Reply}
 use Rattle.xk_base.specs.declared.windows.Window.TheVariants.{Map}
 use Rattle.xk_base.specs.CallNumbers.{is_call_number}
-use Rattle.xk_base.specs.CallWords.{call_number, map_phys, map_virt, map_size, map_flags, is_refused_to_handler}
+use Rattle.xk_base.specs.CallWords.{call_number, map_phys, map_virt, map_size, map_flags}
 use Rattle.xk_base.specs.Circle.{same_thread, listed_ids}
 use Rattle.xk_base.specs.Counting.{listed_below, put_at}
 use Rattle.xk_base.specs.Replies.{range_words, refused_words}
@@ -20,9 +19,9 @@ use Rattle.ledger_model.specs.LeastRun.{least_run}
 use Rattle.ledger_model.specs.RunTests.{console_mapped}
 use Rattle.ledger_model.specs.Steps.{make_console}
 use Rattle.machine_model.specs.Calls.{call, call_table, call_at, later_call}
-use Rattle.machine_model.specs.Changes.{Outcome, Refused, Served, Change, Told, settled, call_settled, unless_refused, refused_or, answering}
+use Rattle.machine_model.specs.Changes.{Outcome, Refused, Served, Told, settled, call_settled, unless_refused, refused_or, answering}
 use Rattle.machine_model.specs.Instructions.{CallsKernel, following}
-use Rattle.machine_model.specs.Machine.{Machine, Thread, Ready}
+use Rattle.machine_model.specs.Machine.{Thread, Ready}
 use Rattle.machine_model.specs.MemoryCalls.{map_refusals, map_served, map_call}
 use Rattle.machine_model.specs.Step.{executed, after}
 use Rattle.machine_model.specs.Threads.{answer_to, with_answer, with_arguments, arguments_of, passed}

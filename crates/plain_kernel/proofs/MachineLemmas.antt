@@ -1,5 +1,5 @@
 -- The kernel's thread is the one that acts, and its turn never ends.
-use Rattle.std.proofs.Common.{◌≡◌, ℕ, zero, suc, ◌+◌, ◌%◌, ◌<◌, ◌≤◌, Bool, true, false, Option, Some, None, refl, sym, ap, subst, ◌∙◌, arith}
+use Rattle.std.proofs.Common.{◌≡◌, ℕ, ◌<◌, Bool, true, false, Some, None, refl, sym, ap, arith}
 use Rattle.std.specs.Prelude.{unwrap_or, is_some, ◌≢◌, ◌==◌, if◌then◌else◌}
 use Rattle.std.specs.Option.{option_map_or}
 use Rattle.std.proofs.Common.{lit<}
@@ -9,9 +9,8 @@ use Rattle.machine_model.specs.Machine.{Thread}
 use Rattle.machine_model.specs.Order.{is_ready}
 use Rattle.plain_kernel.specs.State.{the_thread}
 use Rattle.plain_kernel.specs.Start.{idle_thread}
-use Rattle.machine_model.specs.Machine.{Machine}
 use Rattle.machine_model.specs.Order.{actor, turn, next_ready, ready_at}
-use Rattle.xk_base.specs.Circle.{next_id, id_behind}
+use Rattle.xk_base.specs.Circle.{id_behind}
 use Rattle.xk_base.proofs.Circle.{next_id-Some}
 use Rattle.plain_kernel.specs.State.{machine_of, the_id}
 use Rattle.plain_kernel.specs.declared.kernel.Kernel.{Kernel}

@@ -1,22 +1,20 @@
 -- Where the console is mapped.
-use Rattle.std.proofs.Common.{◌≡◌, ◌≢◌, ℕ, ◌+◌, ◌<◌, ◌≤◌, Bool, true, false, List, [], ◌∷◌, nat_eq, nat_le, Option, Some, None, refl, sym, ap, subst, ◌∙◌, arith}
+use Rattle.std.proofs.Common.{◌≡◌, ℕ, ◌+◌, ◌<◌, Bool, true, false, nat_le, Option, Some, None, refl, sym, ap, ◌∙◌, arith}
 use Rattle.std.specs.Prelude.{is_some, ◌==◌, ◌&&◌, not, if◌then◌else◌}
 use Rattle.std.specs.Option.{option_map, option_and_then}
 use Rattle.xk_base.specs.RowMap.{row_map}
 use Rattle.plain_kernel.specs.Places.{place_number}
-use Rattle.std.proofs.lemmas.Bool.{cond-true, cond-false, eqb-true, eq-eqb, false≢true, le-leb, and_from, both_ways}
+use Rattle.std.proofs.lemmas.Bool.{eqb-true, eq-eqb, false≢true, le-leb}
 use Rattle.std.proofs.lemmas.Bool.Decides.{nat_tests}
-use Rattle.std.proofs.lemmas.Option.{none-some}
 use Rattle.xk_base.specs.declared.ids.Place.{Place}
 use Rattle.xk_base.specs.declared.ids.Vpn.{Vpn}
 use Rattle.xk_base.specs.declared.windows.Window.TheVariants.{Map}
-use Rattle.xk_base.specs.Counting.{least_below}
-use Rattle.xk_base.specs.Windows.{in_window, window_at}
+use Rattle.xk_base.specs.Windows.{in_window}
 use Rattle.xk_base.proofs.Counting.{least_below-Some, least_below-None}
 use Rattle.ledger_model.specs.Conditions.{is_console}
-use Rattle.ledger_model.specs.Ledger.{Ledger, Page}
+use Rattle.ledger_model.specs.Ledger.{Page}
 use Rattle.ledger_model.specs.LeastRun.{least_run, is_free_run, window_place}
-use Rattle.ledger_model.specs.Places.{run, is_user_place, first_place}
+use Rattle.ledger_model.specs.Places.{run, is_user_place}
 use Rattle.ledger_model.specs.Reach.{is_free, is_free_role}
 use Rattle.ledger_model.specs.RunTests.{console_mapped}
 use Rattle.ledger_model.specs.Steps.{make_console}

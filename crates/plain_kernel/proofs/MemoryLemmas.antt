@@ -1,5 +1,5 @@
 -- Memory as the process sees it, from the table of its pages.
-use Rattle.std.proofs.Common.{◌≡◌, ℕ, ◌+◌, ◌*◌, ◌/◌, ◌%◌, ◌<◌, ◌≤◌, Bool, true, false, Option, Some, None, refl, sym, ap, subst, ◌∙◌, arith}
+use Rattle.std.proofs.Common.{◌≡◌, ℕ, ◌+◌, ◌*◌, ◌/◌, ◌%◌, ◌<◌, Bool, true, false, Option, Some, None, refl, sym, ap, ◌∙◌, arith}
 use Rattle.std.specs.Prelude.{is_some, ◌==◌, if◌then◌else◌, not}
 use Rattle.std.specs.Option.{option_map, option_map_or, option_and_then}
 use Rattle.std.proofs.lemmas.Option.{none-some}
@@ -7,12 +7,11 @@ use Rattle.xk_base.specs.declared.ids.Place.{Place}
 use Rattle.xk_base.specs.declared.pages.Access.{Access}
 use Rattle.xk_base.specs.declared.pages.Access.TheVariants.{Load}
 use Rattle.xk_base.specs.declared.pages.Width.TheVariants.{Word}
-use Rattle.xk_base.specs.RowMap.{row_map}
-use Rattle.ledger_model.specs.Ledger.{Ledger, Page, Contents, PageName, Homed, loan_at, loan_of, contents_of, has_bytes}
+use Rattle.ledger_model.specs.Ledger.{Page, Contents, Homed, loan_at, loan_of, contents_of, has_bytes}
 use Rattle.ledger_model.specs.Reach.{reach, is_free, home_may}
 use Rattle.ledger_model.proofs.Reaching.{reach-home, reach-free, is_free-all}
 use Rattle.machine_model.specs.Instructions.{number_at}
-use Rattle.machine_model.specs.Views.{memory_of, contents_seen, page_of, byte_of}
+use Rattle.machine_model.specs.Views.{memory_of, contents_seen, byte_of}
 use Rattle.plain_kernel.specs.Access.{page_may, page_byte, is_console_page}
 use Rattle.plain_kernel.specs.State.{machine_of, ledger_of, page_in, the_pid, console_page, bytes_page, is_mapped_at, table_page}
 use Rattle.plain_kernel.specs.declared.kernel.Kernel.{Kernel}

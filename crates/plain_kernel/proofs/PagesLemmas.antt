@@ -1,22 +1,16 @@
 -- The table of pages, read and changed.
-use Rattle.std.proofs.Common.{◌≡◌, ◌≢◌, ℕ, ◌+◌, ◌*◌, ◌/◌, ◌%◌, ◌<◌, ◌≤◌, Bool, true, false, List, [], ◌∷◌, ◌++◌, take, drop, length, set, get_or, nat_eq, Option, Some, None, refl, sym, ap, subst, ◌∙◌, arith, ◌⊎◌, inl, inr}
-use Rattle.std.specs.Prelude.{is_some, ◌==◌, ◌&&◌, if◌then◌else◌, not, option_copied}
+use Rattle.std.proofs.Common.{◌≡◌, ◌≢◌, ℕ, ◌+◌, ◌<◌, Bool, true, false, List, [], ◌∷◌, ◌++◌, take, drop, length, set, get_or, nat_eq, Option, Some, None, refl, sym, ap, ◌∙◌, arith, inl, inr}
+use Rattle.std.specs.Prelude.{is_some, ◌==◌, ◌&&◌, if◌then◌else◌, option_copied}
 use Rattle.std.specs.Borrow.{Bor}
 use Rattle.std.specs.Option.{option_map, option_and_then}
-use Rattle.std.proofs.lemmas.Bool.{cases_eq, cases_Bool, cond-true, cond-false, eq-eqb, ne_eqb, false≢true}
+use Rattle.std.proofs.lemmas.Bool.{cases_eq, cond-true, cond-false, eq-eqb, ne_eqb}
 use Rattle.std.proofs.lemmas.Bool.Decides.{nat_tests}
-use Rattle.std.proofs.lemmas.Option.{none-some, same_Some}
 use Rattle.std.proofs.lemmas.List.{set-get_or, take-set, drop-set, take-append-drop}
-use Rattle.xk_base.specs.declared.ids.Place.{Place}
-use Rattle.xk_base.specs.declared.ids.Vpn.{Vpn}
-use Rattle.xk_base.specs.declared.pages.Access.TheVariants.{Store}
 use Rattle.xk_base.specs.Counting.{put_at}
 use Rattle.xk_base.specs.RowMap.{row_map}
 use Rattle.xk_base.proofs.RowMap.{row_map_set, row_map_read}
-use Rattle.ledger_model.specs.Ledger.{Ledger, Page, Homed}
+use Rattle.ledger_model.specs.Ledger.{Homed}
 use Rattle.ledger_model.specs.Steps.{write, written_page}
-use Rattle.machine_model.specs.Views.{page_of}
-use Rattle.plain_kernel.specs.Access.{page_may, is_console_page}
 use Rattle.plain_kernel.specs.Places.{place_number}
 use Rattle.plain_kernel.specs.State.{ledger_of, page_in, the_pid, console_page, bytes_page, is_mapped_at, table_page}
 use Rattle.plain_kernel.specs.declared.pages.Pages.{Pages}

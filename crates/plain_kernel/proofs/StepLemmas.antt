@@ -1,28 +1,21 @@
 -- The step of the machine is that of the instruction which the thread fetches.
-use Rattle.std.proofs.Common.{◌≡◌, ◌≢◌, ℕ, ◌+◌, ◌/◌, ◌%◌, ◌<◌, Bool, true, false, List, [], ◌∷◌, nat_eq, Option, Some, None, refl, sym, ap, subst, ◌∙◌, arith}
-use Rattle.std.specs.Prelude.{is_some, ◌==◌, ◌&&◌, not, if◌then◌else◌, MatchOption, IfSome}
-use Rattle.std.specs.Option.{option_map, option_map_or, option_and_then}
+use Rattle.std.proofs.Common.{◌≡◌, ◌≢◌, ℕ, ◌/◌, ◌%◌, Bool, true, false, Option, Some, None, refl, sym, ap, ◌∙◌}
+use Rattle.std.specs.Prelude.{◌==◌, ◌&&◌, not, if◌then◌else◌, MatchOption, IfSome}
+use Rattle.std.specs.Option.{option_map_or, option_and_then}
 use Rattle.std.proofs.lemmas.Bool.{cond-true, cond-false, ne_eqb}
 use Rattle.std.proofs.lemmas.Option.{none-some}
-use Rattle.xk_base.specs.declared.ids.ThreadId.{ThreadId}
 use Rattle.xk_base.specs.declared.pages.Access.TheVariants.{Fetch}
 use Rattle.xk_base.specs.declared.pages.Width.TheVariants.{Word}
-use Rattle.xk_base.specs.Circle.{same_thread}
-use Rattle.xk_base.specs.Counting.{put_at}
 use Rattle.rv32_words.specs.declared.insn.Insn.{Insn}
 use Rattle.rv32_words.specs.Reading.{insn_at}
 use Rattle.rv32_words.specs.Table.{Spells, IsInRange}
-use Rattle.ledger_model.specs.Ledger.{Ledger}
-use Rattle.machine_model.specs.Instructions.{Executed, Next, Stores, StoresToConsole, effect, effect_if_any, execute, execute_at, number_at}
-use Rattle.machine_model.specs.Machine.{Machine, Thread, Ready}
-use Rattle.machine_model.specs.Order.{actor}
+use Rattle.machine_model.specs.Instructions.{effect, effect_if_any, execute, execute_at, number_at}
 use Rattle.machine_model.specs.Step.{step, step_by, step_by_if, acted, executed}
 use Rattle.machine_model.specs.Threads.{thread_return}
-use Rattle.machine_model.specs.Views.{memory_of}
 use Rattle.plain_kernel.specs.Built.{step_built, built_by, insn_built}
 use Rattle.plain_kernel.specs.Execution.{the_memory, next_insn, as_step, step_of}
 use Rattle.plain_kernel.specs.Access.{page_may, page_byte, fetched}
-use Rattle.plain_kernel.specs.State.{machine_of, page_in, the_id, the_pid, the_thread}
+use Rattle.plain_kernel.specs.State.{machine_of, page_in, the_id, the_thread}
 use Rattle.plain_kernel.specs.declared.kernel.Kernel.{Kernel}
 use Rattle.plain_kernel.proofs.MachineLemmas.{the_actor}
 use Rattle.plain_kernel.proofs.MemoryLemmas.{may_at, word_at}

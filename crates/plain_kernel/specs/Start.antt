@@ -1,15 +1,13 @@
 -- The state in which a run starts.
-use Rattle.std.specs.Prelude.{ℕ, ◌+◌, ◌-◌, ◌==◌, Bool, true, false, List, [], ◌++◌, length, replicate, slice_range, slice_get, Option, Some, None, if◌then◌else◌, find}
+use Rattle.std.specs.Prelude.{ℕ, ◌+◌, ◌-◌, ◌==◌, false, List, [], ◌++◌, length, replicate, slice_range, slice_get, Option, Some, None, if◌then◌else◌, find}
 use Rattle.std.specs.Option.{option_and_then, option_map}
-use Rattle.xk_base.specs.declared.ids.Place.{Place}
-use Rattle.xk_base.specs.declared.ids.ThreadId.{ThreadId}
-use Rattle.xk_base.specs.Circle.{is_pid, is_thread_id}
+use Rattle.xk_base.specs.Circle.{is_pid}
 use Rattle.boot_plan.specs.declared.plans.BootPlan.{BootPlan}
 use Rattle.boot_plan.specs.declared.plans.ProcPlan.{ProcPlan}
 use Rattle.boot_plan.specs.declared.plans.PagePlan.{PagePlan}
 use Rattle.boot_plan.specs.Capacity.{capacity}
 use Rattle.ledger_model.specs.Ledger.{Ledger, Page, Bytes}
-use Rattle.machine_model.specs.Machine.{Machine, Thread, Ready, Idle, Process}
+use Rattle.machine_model.specs.Machine.{Machine, Thread, Ready, Idle}
 use Rattle.machine_model.specs.Threads.{thread_return, first_stack, fresh_registers}
 
 -- the process of a pid: the pids are 2, 3 and so on, in the order of the plan

@@ -3,3 +3,4 @@ pub mod HistoryLemmas
 pub mod ReadingLemmas
 pub mod ToldLemmas
 pub mod TopLemmas
+pub mod VerdictLaws

@@ -145,3 +145,32 @@ Asks file names old new =
 abbrev pub Notes : Option (List ℕ) → Option (List ℕ) → ℕ → ℕ → List ℕ → Type 0
 Notes before after faults_before faults_after text =
     Grows before after text ⊎ (Rose faults_before faults_after × GrowsByPrefix before after text)
+
+-- ---- the one status
+
+-- the image boots a machine, and its history over the event file ends in this way
+pub record RunsTo (file : Told) (names : Names) (ending : Ending) : Type 0 where
+  pub machine : Machine
+  pub image : Image file names.image machine
+  pub events : EventFile file names.events
+  pub ended : (run_of machine events.bytes).ending ≡ ending
+
+-- the image boots a machine, and the event file is longer than is built
+pub record HasLongEvents (file : Told) (names : Names) : Type 0 where
+  pub machine : Machine
+  pub image : Image file names.image machine
+  pub long : IsLong file names.events
+
+-- What the files alone say of a status. A fault outside and want of memory are no verdict.
+abbrev pub IsVerdict : Told → Names → Status → Type 0
+IsVerdict file names Done = RunsTo file names Played
+IsVerdict file names (StepLimit limit) = (limit ≡ DEFAULT_STEPS) × RunsTo file names LimitMet
+IsVerdict file names (ImageFault fault) = (image : List ℕ) × IsFile file names.image image × IsImageFault image 0 (Some fault)
+IsVerdict file names NotBuilt = ((image : List ℕ) × IsFile file names.image image × HasSeveral image) ⊎ (RunsTo file names Unbuilt ⊎ HasLongEvents file names)
+IsVerdict file names ReadFault = ⊥
+IsVerdict file names WriteFault = ⊥
+IsVerdict file names NoMemory = ⊥
+
+-- A call ends with a verdict of its files, or for want of memory with nothing written.
+abbrev pub IsComplete : Told → Names → Option (List ℕ) → Option (List ℕ) → Status → Type 0
+IsComplete file names before after status = IsVerdict file names status ⊎ ((status ≡ NoMemory) × (after ≡ before))

@@ -87,6 +87,12 @@ fn read_some<F: Read>(file: &mut Option<F>, into: &mut [u8]) -> Option<usize>
     }
 }
 
+/// Standard output over its writer.
+pub type StdSink<W> = WriterSink<W>;
+
+/// Standard error over its writer.
+pub type ErrSink<W> = WriterSink<W>;
+
 /// A stream that bytes are written to.
 #[derive(Drop)]
 pub struct WriterSink<W: Write + Drop> {

@@ -1,6 +1,6 @@
 //! The program over files and streams in memory, and each real adapter once.
 
-use crate::adapters::{FileHost, WriterSink};
+use crate::adapters::{ErrSink, FileHost, StdSink};
 use crate::status::{Ended, Status};
 use crate::top::xous_main;
 use kernel_args::ArgFault;
@@ -76,6 +76,16 @@ fn first_run(rt: HostRuntime) -> Result<(), Fail> {
     assert_eq!(rt; run.status, Status::Done);
     assert!(rt; run.out.as_slice().strip_prefix(FIRST_LINES) == Some(b"end 100 done\n".as_slice()));
     assert_eq!(rt; run.notes.as_slice(), b"".as_slice());
+    Ok(())
+}
+
+#[test]
+fn greatest_tick(rt: HostRuntime) -> Result<(), Fail> {
+    let run = trace(rt.alloc(), &FIRST_IMAGE, b"tick 4294967295\n", &[], &[])?;
+    assert_eq!(rt; run.status, Status::StepLimit(10_000_000));
+    let last = b"end 10000000 limit\n".as_slice();
+    assert!(rt; run.out.as_slice().strip_prefix(FIRST_LINES) == Some(last));
+    assert_eq!(rt; run.notes.as_slice(), b"step limit 10000000\n".as_slice());
     Ok(())
 }
 
@@ -189,8 +199,8 @@ fn real_streams(rt: HostRuntime) -> Result<(), Fail> {
     files.push((String::from_str(alloc, "i")?, FIRST_IMAGE.to_vec(alloc)?))?;
     files.push((String::from_str(alloc, "e")?, b"tick 100".to_vec(alloc)?))?;
     let mut host = MemHost::new(alloc, files, 4096, Vec::new(alloc), 100)?;
-    let mut out = WriterSink::new(OpenOptions::new().write(true).open(&rt, "/dev/full")?);
-    let mut notes = WriterSink::new(OpenOptions::new().write(true).open(&rt, "/dev/full")?);
+    let mut out = StdSink::new(OpenOptions::new().write(true).open(&rt, "/dev/full")?);
+    let mut notes = ErrSink::new(OpenOptions::new().write(true).open(&rt, "/dev/full")?);
     let words = words(alloc, &["trace", "i", "e"])?;
     let store = SureStore::new();
     let Ended { status, store: _ } = xous_main(

@@ -1,11 +1,11 @@
 //! The top call: words in, a status and a transcript out.
 
-ghost use Rattle.std.specs.Prelude.{◌≡◌, ◌≤◌, [], IfOk, IfErr, MatchOption};
+ghost use Rattle.std.specs.Prelude.{⊤, ◌≡◌, ◌≤◌, [], IfOk, IfErr, MatchOption};
 ghost use Rattle.xk_base.specs.Outside.{Rose};
 ghost use Rattle.xk_ports.specs.declared.host.FileSlot.TheVariants.{First, Second};
 ghost use Rattle.xousim.specs.Finish.{Finishes, Loads, LoadsNot, PlaysOn};
 ghost use Rattle.xousim.specs.History.{history_of};
-ghost use Rattle.xousim.specs.Outcome.{Asks, Ends, Image, Notes, Plays};
+ghost use Rattle.xousim.specs.Outcome.{Asks, Ends, Image, IsComplete, Notes, Plays};
 ghost use Rattle.xousim.specs.Reading.{AsksFor, IsTold};
 ghost use Rattle.plain_kernel.specs.State.{machine_of};
 ghost use Rattle.xousim.specs.Status.{note_of};
@@ -144,6 +144,9 @@ pub fn xous_main<H: Host, K: Sink, N: Sink, W: SwapStore>(
 ) -> Ended<W>
     ensures ends { MatchOption (command_of words.now) ((result.status ≡ Status.NotBuilt) × (K.written out.new ≡ K.written out.old)) (λ names. Ends (H.file host.old) names (K.written out.old) (K.written out.new) (Rose (H.faults host.old) (H.faults host.new)) (Rose (K.faults out.old) (K.faults out.new)) result.status) }
     ensures asked { MatchOption (command_of words.now) (H.asked host.new ≡ H.asked host.old) (λ names. Asks (H.file host.old) names (H.asked host.old) (H.asked host.new)) }
+
+    // Where no count rose, the status is the one verdict of the files (`one_verdict`).
+    ensures complete { MatchOption (command_of words.now) ⊤ (λ names. ¬ Rose (H.faults host.old) (H.faults host.new) → ¬ Rose (K.faults out.old) (K.faults out.new) → IsComplete (H.file host.old) names (K.written out.old) (K.written out.new) result.status) }
 
     // At the end of a run both files were read to their ends.
     ensures first { result.status ≡ Status.Done → IsTold (H.left host.new First) [] }

@@ -1,4 +1,4 @@
-use Rattle.std.proofs.Common.{◌≡◌, ◌+◌, ◌<◌, ℕ, length, sym, ap, subst, ◌∙◌, arith, rules, refl}
+use Rattle.std.proofs.Common.{◌≡◌, ◌<◌, subst, arith, rules}
 use Rattle.plain_kernel.proofs.ArgumentsLemmas.{IsPutSoFar, put_none, put_more, put_all}
 use Rattle.plain_kernel.proofs.calls.put_arguments.Goals as goal
 

@@ -1,4 +1,3 @@
-use Rattle.std.proofs.Common.{ℕ}
 use Rattle.plain_kernel.proofs.ArgumentsLemmas.{IsPutSoFar}
 use Rattle.plain_kernel.proofs.calls.put_arguments.Given as goal
 

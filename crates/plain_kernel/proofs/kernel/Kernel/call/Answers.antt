@@ -1,14 +1,11 @@
-use Rattle.std.proofs.Common.{◌≡◌, ◌+◌, ◌%◌, List, [], ◌∷◌, ◌++◌, ap, sym, subst, true, ◌∙◌, refl}
-use Rattle.xk_base.specs.declared.records.Rec.{Rec}
+use Rattle.std.proofs.Common.{◌≡◌, ◌+◌, ◌%◌, [], ◌∷◌, ◌++◌, ap, sym, subst, true, ◌∙◌, refl}
 use Rattle.xk_base.specs.declared.records.What.TheVariants.{Call, Reply}
-use Rattle.machine_model.specs.Instructions.{following}
 use Rattle.machine_model.specs.Threads.{arguments_of, with_arguments}
 use Rattle.machine_model.specs.Step.{record_of}
 use Rattle.xk_base.specs.Log.{LogState}
 use Rattle.plain_kernel.specs.Built.{maps_console}
-use Rattle.plain_kernel.specs.Mapped.{map_reply}
 use Rattle.plain_kernel.specs.Mapping.{MapsConsole}
-use Rattle.plain_kernel.specs.State.{ledger_of, the_id}
+use Rattle.plain_kernel.specs.State.{the_id}
 use Rattle.plain_kernel.specs.declared.kernel.Kernel.{Kernel}
 use Rattle.plain_kernel.proofs.CallLemmas.{does_call}
 use Rattle.plain_kernel.proofs.kernel.Kernel.call.Goals as goal

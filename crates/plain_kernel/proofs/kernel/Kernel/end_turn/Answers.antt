@@ -1,4 +1,4 @@
-use Rattle.std.proofs.Common.{sym, refl}
+use Rattle.std.proofs.Common.{sym}
 use Rattle.plain_kernel.proofs.MachineLemmas.{turn_stays}
 use Rattle.plain_kernel.proofs.kernel.Kernel.end_turn.Goals as goal
 

@@ -1,4 +1,4 @@
-use Rattle.std.proofs.Common.{◌≡◌, ◌+◌, ◌%◌, ap, sym, ◌∙◌, refl}
+use Rattle.std.proofs.Common.{◌≡◌, ◌+◌, ◌%◌, ap, ◌∙◌, refl}
 use Rattle.xk_base.specs.Registers.{with_reg}
 use Rattle.machine_model.specs.Instructions.{Next, jumps, following}
 use Rattle.plain_kernel.specs.Built.{is_trap}

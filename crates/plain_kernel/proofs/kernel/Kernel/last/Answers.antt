@@ -1,4 +1,3 @@
-use Rattle.std.proofs.Common.{sym, refl}
 use Rattle.plain_kernel.specs.State.{last_of}
 use Rattle.plain_kernel.proofs.kernel.Kernel.last.Goals as goal
 

@@ -1,8 +1,4 @@
-use Rattle.std.proofs.Common.{◌≡◌, ◌/◌, ◌%◌, sym, ap, ◌∙◌, false, true, Option, Some, None, refl}
-use Rattle.std.specs.Prelude.{◌==◌, if◌then◌else◌}
-use Rattle.xk_base.specs.declared.pages.Access.TheVariants.{Fetch}
-use Rattle.xk_base.specs.declared.pages.Width.TheVariants.{Word}
-use Rattle.rv32_words.specs.Reading.{insn_at}
+use Rattle.std.proofs.Common.{sym, ◌∙◌, Some, None}
 use Rattle.plain_kernel.proofs.StepLemmas.{next_from}
 use Rattle.plain_kernel.proofs.kernel.Kernel.next_insn.Goals as goal
 

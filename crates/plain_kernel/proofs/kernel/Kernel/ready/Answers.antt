@@ -1,4 +1,4 @@
-use Rattle.std.proofs.Common.{sym, refl}
+use Rattle.std.proofs.Common.{sym}
 use Rattle.plain_kernel.proofs.MachineLemmas.{is_ready_kernel}
 use Rattle.plain_kernel.proofs.kernel.Kernel.ready.Goals as goal
 

@@ -1,4 +1,4 @@
-use Rattle.std.proofs.Common.{◌≡◌, ◌<◌, ap, sym, subst, ◌∙◌, refl}
+use Rattle.std.proofs.Common.{◌<◌, ap, sym, subst, ◌∙◌, refl}
 use Rattle.machine_model.specs.Step.{Stepped}
 use Rattle.plain_kernel.proofs.MachineLemmas.{is_ready_kernel, the_steps}
 use Rattle.plain_kernel.proofs.StepLemmas.{step_is, built_is, not_built}

@@ -1,4 +1,4 @@
-use Rattle.std.proofs.Common.{sym, refl}
+use Rattle.std.proofs.Common.{sym}
 use Rattle.plain_kernel.proofs.MachineLemmas.{the_steps}
 use Rattle.plain_kernel.proofs.kernel.Kernel.steps.Goals as goal
 

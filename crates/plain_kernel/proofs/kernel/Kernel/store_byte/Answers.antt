@@ -1,4 +1,4 @@
-use Rattle.std.proofs.Common.{◌≡◌, ◌+◌, ◌/◌, ◌%◌, ap, sym, ◌∙◌, refl, [], ◌∷◌, List}
+use Rattle.std.proofs.Common.{◌+◌, ◌%◌, ap, ◌∙◌, refl}
 use Rattle.std.specs.Prelude.{map}
 use Rattle.xk_base.specs.declared.pages.Width.TheVariants.{Byte}
 use Rattle.machine_model.specs.Instructions.{Stores, StoresToConsole, stores, following}

@@ -1,4 +1,4 @@
-use Rattle.std.proofs.Common.{◌≡◌, ◌+◌, ◌%◌, ap, ◌∙◌, refl}
+use Rattle.std.proofs.Common.{◌+◌, ◌%◌, ap, ◌∙◌}
 use Rattle.xk_base.specs.Registers.{with_reg}
 use Rattle.machine_model.specs.Instructions.{following}
 use Rattle.plain_kernel.specs.State.{ledger_of}

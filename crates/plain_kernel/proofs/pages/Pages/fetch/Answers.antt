@@ -1,7 +1,6 @@
-use Rattle.std.proofs.Common.{◌≡◌, ◌/◌, ◌%◌, sym, ap, ◌∙◌, Option, Some, None}
+use Rattle.std.proofs.Common.{◌/◌, ◌%◌, sym, ap, ◌∙◌, Some, None}
 use Rattle.std.specs.Prelude.{option_copied}
 use Rattle.plain_kernel.specs.Access.{fetched}
-use Rattle.plain_kernel.specs.State.{page_in, table_page, bytes_page}
 use Rattle.plain_kernel.proofs.PagesLemmas.{page_console, page_table}
 use Rattle.plain_kernel.proofs.pages.Pages.fetch.Goals as goal
 

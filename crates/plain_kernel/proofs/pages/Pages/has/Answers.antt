@@ -1,5 +1,5 @@
-use Rattle.std.proofs.Common.{◌≡◌, sym, ap, ◌∙◌, true, false}
-use Rattle.std.specs.Prelude.{is_some, option_copied}
+use Rattle.std.proofs.Common.{sym, ap, ◌∙◌}
+use Rattle.std.specs.Prelude.{is_some}
 use Rattle.plain_kernel.proofs.PagesLemmas.{page_console, has_there, some_copied}
 use Rattle.plain_kernel.proofs.pages.Pages.has.Goals as goal
 

@@ -1,4 +1,4 @@
-use Rattle.std.proofs.Common.{◌≡◌, ◌<◌, ℕ, sym, ap, ◌∙◌, subst, true, false, arith}
+use Rattle.std.proofs.Common.{◌≡◌, ◌<◌, sym, ◌∙◌, subst, arith}
 use Rattle.plain_kernel.proofs.MappingLemmas.{IsFullBelow, least_free_found, least_free_none}
 use Rattle.plain_kernel.proofs.pages.Pages.least_free.Goals as goal
 

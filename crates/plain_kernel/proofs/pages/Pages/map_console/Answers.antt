@@ -1,4 +1,4 @@
-use Rattle.std.proofs.Common.{◌≡◌, sym, ap, ◌∙◌, true, false, Option, Some, None, refl, inl}
+use Rattle.std.proofs.Common.{◌≡◌, sym, ◌∙◌, None, refl, inl}
 use Rattle.plain_kernel.proofs.MappingLemmas.{console_is_mapped, console_unmapped, ledger_mapped, none_from}
 use Rattle.plain_kernel.proofs.pages.Pages.map_console.Goals as goal
 

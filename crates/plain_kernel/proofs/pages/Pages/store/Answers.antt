@@ -1,4 +1,4 @@
-use Rattle.std.proofs.Common.{◌≡◌, ◌+◌, ◌<◌, ◌/◌, ◌%◌, sym, ap, subst, get_or, ◌∙◌, length, List, [], ◌∷◌, Option, Some, None, refl, arith}
+use Rattle.std.proofs.Common.{◌≡◌, ◌<◌, ◌/◌, ◌%◌, sym, ap, subst, get_or, ◌∙◌, length, Some, None, refl, arith}
 use Rattle.xk_base.specs.declared.pages.Access.TheVariants.{Store}
 use Rattle.ledger_model.specs.Ledger.{Bytes}
 use Rattle.ledger_model.specs.Steps.{new_page}
@@ -6,7 +6,7 @@ use Rattle.std.proofs.Common.{false}
 use Rattle.std.specs.Option.{option_and_then}
 use Rattle.xk_base.specs.RowMap.{row_map}
 use Rattle.plain_kernel.specs.Access.{page_may, is_console_page}
-use Rattle.plain_kernel.specs.State.{page_in, table_page, bytes_page, is_mapped_at}
+use Rattle.plain_kernel.specs.State.{table_page, is_mapped_at}
 use Rattle.plain_kernel.proofs.PagesLemmas.{page_console, page_table, table_read, unwritten, set_byte, ledger_stored}
 use Rattle.plain_kernel.proofs.pages.Pages.store.Goals as goal
 
