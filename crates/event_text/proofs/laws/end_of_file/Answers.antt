@@ -1,0 +1,5 @@
+use Rattle.event_text.proofs.PlaysLemmas.{play_end}
+use Rattle.event_text.proofs.laws.end_of_file.Goals as goal
+
+pub returns : goal.returns
+returns c = play_end

@@ -1,0 +1,5 @@
+use Rattle.event_text.proofs.PlaysLemmas.{play_left}
+use Rattle.event_text.proofs.laws.events_in_order.Goals as goal
+
+pub returns : goal.returns
+returns c = play_left

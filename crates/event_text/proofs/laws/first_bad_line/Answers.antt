@@ -1,0 +1,5 @@
+use Rattle.event_text.proofs.PlaysLemmas.{play_bad}
+use Rattle.event_text.proofs.laws.first_bad_line.Goals as goal
+
+pub returns : goal.returns
+returns c = play_bad

@@ -1,0 +1,4 @@
+pub mod Lines
+pub mod EventFile
+pub mod Held
+pub mod Plays

@@ -1,0 +1,15 @@
+//! The events of an event file, read from pieces of its bytes. The reader takes no memory.
+#![tactic(auto)]
+
+mod event;
+mod laws;
+mod line;
+mod numbers;
+mod reader;
+#[cfg(test)]
+mod tests;
+mod words;
+
+pub use event::{Event, NextEvent};
+pub use laws::{bad_line_again, end_of_file, events_in_order, first_bad_line, no_blank_left};
+pub use reader::EventReader;

@@ -1,0 +1,4 @@
+pub mod AreaLaws
+pub mod OwnerLaws
+pub mod PageLaws
+pub mod WordLaws
