@@ -51,16 +51,16 @@ ram_when_good start size e =
 
 -- ---- what is spelled has no fault
 
-abbrev header_bytes : ℕ → ℕ → ℕ → List ℕ → List ℕ
+abbrev pub header_bytes : ℕ → ℕ → ℕ → List ℕ → List ℕ
 header_bytes words start size name = word words ++ (word 1 ++ (word start ++ (word size ++ name)))
 
 -- an image that begins with this header
-abbrev begun : ℕ → ℕ → ℕ → List ℕ → List ℕ → List ℕ
+abbrev pub begun : ℕ → ℕ → ℕ → List ℕ → List ℕ → List ℕ
 begun words start size name more =
     let contents = header_bytes words start size name in
     tag_bytes (record { name = codes "XArg"; check = check_number contents; contents = contents }) ++ more
 
-begun_header : (words start size : ℕ) (name more : List ℕ) → words < 2 ^ 32 → start < 2 ^ 32 → size < 2 ^ 32 → length name ≡ 4
+pub begun_header : (words start size : ℕ) (name more : List ℕ) → words < 2 ^ 32 → start < 2 ^ 32 → size < 2 ^ 32 → length name ≡ 4
     → HeaderIs (begun words start size name more) words start size name
 begun_header words start size (a ∷ b ∷ c ∷ d ∷ []) more w s z four = record {
   words_is = word_front words (word 1 ++ (word start ++ (word size ++ (a ∷ b ∷ c ∷ d ∷ more)))) w;

@@ -28,7 +28,7 @@ use Rattle.kernel_args.proofs.HeaderLaws.{header_of, header_is_good, BeginsWith,
 abbrev pub row_of : List ℕ → List ℕ
 row_of bytes = drop 28 (take (row_size bytes) bytes)
 
-process_is_sound : (p : ProcArgs) → IsProcess p → IsSoundProcess p
+pub process_is_sound : (p : ProcArgs) → IsProcess p → IsSoundProcess p
 process_is_sound p h = record {
   some = h.some;
   few = h.few;

@@ -10,3 +10,5 @@ pub mod HeaderLaws
 pub mod ImageLaws
 pub mod NameLaws
 pub mod ReadLaws
+pub mod WritingLaws
+pub mod WritableLaws

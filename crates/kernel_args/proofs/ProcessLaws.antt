@@ -26,7 +26,7 @@ pub spelled : (ss : List Section) → AllByRecursion IsSection ss → AllByRecur
 spelled [] fits = tt
 spelled (s ∷ ss) fits = (record { addr = fits.0.addr; size = fits.0.size }, spelled ss fits.1)
 
-with_flags : (ss : List Section) → AllByRecursion IsSpelled ss → list_any has_unknown_flag ss ≡ false → AllByRecursion IsSection ss
+pub with_flags : (ss : List Section) → AllByRecursion IsSpelled ss → list_any has_unknown_flag ss ≡ false → AllByRecursion IsSection ss
 with_flags [] fits none = tt
 with_flags (s ∷ ss) fits none =
     let p = or_parts (ltb 31 s.flags) (list_any has_unknown_flag ss) none in

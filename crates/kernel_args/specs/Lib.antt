@@ -5,3 +5,4 @@ pub mod Image
 pub mod Joined
 pub mod Reading
 pub mod Tags
+pub mod Writing

@@ -54,7 +54,7 @@ fn is_bad_total(bytes: &[u8]) -> bool
 
 /// Whether RAM isn't made of whole pages, is empty or above 64 MiB, or passes 0xF000_0000.
 #[tactic(auto, unfolding(crate::specs::Faults::is_bad_ram))]
-fn is_bad_ram(start: u32, size: u32) -> bool
+pub fn is_bad_ram(start: u32, size: u32) -> bool
     ensures { result ≡ is_bad_ram_of start size }
 {
     start % 4096 != 0

@@ -2,6 +2,7 @@
 //! the first fault that the image has, and written.
 #![tactic(auto)]
 
+mod appending;
 mod args;
 mod check_number;
 mod faults;
@@ -11,6 +12,7 @@ mod names;
 mod process;
 mod reading;
 mod tag;
+mod writing;
 
 pub use args::{Args, ProcArgs, ProcName, Section};
 pub use check_number::crc_x25;
@@ -20,6 +22,7 @@ pub use faults::{
 };
 pub use laws::spelled_once_or_faulty;
 pub use reading::read_args;
+pub use writing::{writable, write_args};
 
 #[cfg(test)]
 mod tests;

@@ -3,6 +3,7 @@ ghost use Rattle.std.specs.Prelude.{◌≤◌, length};
 use super::*;
 use std::process::Abort;
 use std::test::*;
+use xk_base::{NoMemory, Row};
 
 /// The row of tags of an image of one process, 52 bytes; a file has the sections' bytes behind it.
 const ONE_PROCESS: [u8; 52] = [
@@ -195,5 +196,102 @@ fn no_process(rt: HostRuntime) -> Result<(), Fail> {
     put(&rt, &mut image, 40, b"IniX");
     put(&rt, &mut image, 64, b"IniX");
     assert_eq!(rt; fault_in(rt.alloc(), &image)?, Some((NO_PROCESS, 132)));
+    Ok(())
+}
+
+fn args_of(words: u32, procs: Row<ProcArgs>, names: Row<ProcName>) -> Args {
+    Args {
+        words,
+        ram_start: 0x4000_0000,
+        ram_size: 0x0100_0000,
+        ram_name: [0x73, 0x72, 0x61, 0x6d],
+        procs,
+        names,
+    }
+}
+
+fn process_with(
+    alloc: std::alloc::Global,
+    load: u32,
+    sections: &[Section],
+) -> Result<ProcArgs, NoMemory> {
+    let mut row = Row::new(alloc);
+    for section in sections {
+        row.push(*section)?;
+    }
+    Ok(ProcArgs {
+        load,
+        entry: 0x1_0000,
+        sections: row,
+    })
+}
+
+fn name_of(alloc: std::alloc::Global, pid: u32, text: &[u8]) -> Result<ProcName, NoMemory> {
+    let mut name = Row::new(alloc);
+    for byte in text {
+        name.push(*byte)?;
+    }
+    Ok(ProcName { pid, name })
+}
+
+const CODE: Section = Section {
+    addr: 0x1_0000,
+    size: 36,
+    flags: 4,
+};
+
+#[test]
+fn one_process_is_written(rt: HostRuntime) -> Result<(), Fail> {
+    let mut procs = Row::new(rt.alloc());
+    procs.push(process_with(rt.alloc(), 52, &[CODE])?)?;
+    let args = args_of(13, procs, Row::new(rt.alloc()));
+    assert!(rt; writable(&args));
+    let row = write_args(rt.alloc(), &args)?;
+    assert_eq!(rt; row.as_slice(), ONE_PROCESS.as_slice());
+    Ok(())
+}
+
+#[test]
+fn sizes_that_can_be_written(rt: HostRuntime) -> Result<(), Fail> {
+    for (size, fits) in [(0x100_0000, false), (0xFF_FFFF, true)] {
+        let mut procs = Row::new(rt.alloc());
+        let section = Section { size, ..CODE };
+        procs.push(process_with(rt.alloc(), 52, &[section])?)?;
+        let args = args_of(13, procs, Row::new(rt.alloc()));
+        assert_eq!(rt; writable(&args), fits);
+    }
+    Ok(())
+}
+
+#[test]
+fn largest_row_is_read_back(rt: HostRuntime) -> Result<(), Fail> {
+    let mut procs = Row::new(rt.alloc());
+    let mut names = Row::new(rt.alloc());
+    for i in 0..32u32 {
+        procs.push(process_with(rt.alloc(), i, &[CODE; 32])?)?;
+        names.push(name_of(rt.alloc(), i + 2, b"process")?)?;
+    }
+    // 7 for the header, 2 + 2 + 64 for each process, 2 for the tag of names and 4 for each name
+    let args = args_of(2313, procs, names);
+    assert!(rt; writable(&args));
+    let row = write_args(rt.alloc(), &args)?;
+    assert_eq!(rt; row.as_slice().len(), 9252);
+    let again = read_args(rt.alloc(), row.as_slice())?;
+    assert_eq!(rt; again.words, 2313);
+    assert_eq!(rt; again.procs.as_slice().len(), 32);
+    assert_eq!(rt; again.names.as_slice().len(), 32);
+    let mut load = 0;
+    for process in again.procs.as_slice() {
+        assert_eq!(rt; process.load, load);
+        assert_eq!(rt; process.entry, 0x1_0000);
+        assert_eq!(rt; process.sections.as_slice(), [CODE; 32].as_slice());
+        load = process.load.wrapping_add(1);
+    }
+    let mut pid = 2;
+    for name in again.names.as_slice() {
+        assert_eq!(rt; name.pid, pid);
+        assert_eq!(rt; name.name.as_slice(), b"process".as_slice());
+        pid = name.pid.wrapping_add(1);
+    }
     Ok(())
 }

@@ -1,0 +1,55 @@
+use Rattle.std.proofs.Common.{◌≡◌, ◌<◌, ◌*◌, List, true, false, length, ap, sym, ◌∙◌, subst, arith}
+use Rattle.std.specs.Prelude.{All}
+use Rattle.std.specs.List.{flat_map}
+use Rattle.kernel_args.specs.declared.args.ProcArgs.{ProcArgs}
+use Rattle.kernel_args.specs.declared.args.ProcName.{ProcName}
+use Rattle.kernel_args.specs.Contents.{IsProcess}
+use Rattle.kernel_args.specs.Writing.{names_contents, process_row, names_row, HasPid}
+use Rattle.kernel_args.proofs.HeaderLaws.{ram_is_good, ram_when_good}
+use Rattle.kernel_args.proofs.ReadLaws.{none_left, some_left}
+use Rattle.kernel_args.proofs.WritableLaws.{refused, decided}
+use Rattle.kernel_args.proofs.writing.writable.Goals as goal
+use Rattle.kernel_args.proofs.writing.writable.Goals.{then-is_bad_ram-via-then-is_bad_ram, then-is_bad_ram-via-else-is_bad_ram+then-is_empty, then-is_bad_ram-via-else-is_bad_ram+else-is_empty+then-processes-gt32}
+
+pub returns-then-is_bad_ram : goal.returns-then-is_bad_ram
+returns-then-is_bad_ram c =
+    let args = c.args.args.now in
+    let count = ap (λ (l : List ProcArgs). length l) c.as_slice-processes.ensures in
+    elim c.then-is_bad_ram.branch [
+      | then-is_bad_ram-via-then-is_bad_ram w ↦
+          refused args (λ fit. let e : true ≡ false = sym w.if-is_bad_ram.true ∙ c.is_bad_ram.ensures ∙ ram_is_good args.ram_start args.ram_size fit.ram in absurd cc)
+      | then-is_bad_ram-via-else-is_bad_ram+then-is_empty w ↦
+          let none = none_left w.is_empty.result (length c.as_slice-processes.result.now) w.is_empty.ensures w.if-is_empty.true in
+          refused args (λ fit. let some = fit.some in omega arith)
+      | then-is_bad_ram-via-else-is_bad_ram+else-is_empty+then-processes-gt32 w ↦
+          let many = w.if-processes-gt32.true in
+          refused args (λ fit. let few = fit.few in omega arith)
+    ]
+
+pub returns-in_default : goal.returns-in_default
+returns-in_default c = refused c.args.args.now (λ fit. c.in_default.ensures (subst (λ (l : List ProcArgs). All IsProcess l) (sym c.as_slice-processes.ensures) fit.procs))
+
+pub returns-in_default-names_tag_size : goal.returns-in_default-names_tag_size
+returns-in_default-names_tag_size c =
+    let size = ap (λ (l : List ProcName). length (names_contents l)) c.as_slice.ensures in
+    refused c.args.args.now (λ fit. let short = fit.names in omega (arith, c.in_default-names_tag_size.ensures))
+
+pub overflow_add-result : goal.overflow_add-result
+overflow_add-result c = omega (arith, c.in-Some.ensures.2)
+
+pub overflow_add-result-2 : goal.overflow_add-result-2
+overflow_add-result-2 c = omega (arith, c.in-Some.ensures.2, c.in-Some-names_tag_size.ensures.3)
+
+pub returns : goal.returns
+returns c =
+    let args = c.args.args.now in
+    let count = ap (λ (l : List ProcArgs). length l) c.as_slice-processes.ensures in
+    let some = some_left c.is_empty.result (length c.as_slice-processes.result.now) c.is_empty.ensures c.if-is_empty.false in
+    let few = c.if-processes-gt32.false in
+    decided args c.in-Some.processes_size c.in-Some-names_tag_size.names_size (omega arith) (omega arith)
+    (ram_when_good args.ram_start args.ram_size (sym c.is_bad_ram.ensures ∙ c.if-is_bad_ram.false)) (omega arith) (omega arith)
+    (subst (λ (l : List ProcArgs). All IsProcess l) c.as_slice-processes.ensures c.in-Some.ensures.0)
+    (subst (λ (l : List ProcName). All HasPid l) c.as_slice.ensures c.in-Some-names_tag_size.ensures.0)
+    (subst (λ (l : List ProcName). length (names_contents l) < 4 * 65536) c.as_slice.ensures c.in-Some-names_tag_size.ensures.2)
+    (c.in-Some.ensures.1 ∙ ap (λ (l : List ProcArgs). length (flat_map process_row l)) c.as_slice-processes.ensures)
+    (c.in-Some-names_tag_size.ensures.1 ∙ ap (λ (l : List ProcName). length (names_row l)) c.as_slice.ensures)

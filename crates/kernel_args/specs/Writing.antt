@@ -1,0 +1,72 @@
+-- The row of tags that is written for arguments.
+use Rattle.std.specs.Prelude.{◌≡◌, ◌<◌, ℕ, ◌*◌, ◌-◌, ◌^◌, List, [], ◌∷◌, ◌++◌, length, map, replicate, None, codes, All}
+use Rattle.std.specs.List.{flat_map}
+use Rattle.kernel_args.specs.declared.args.Args.{Args}
+use Rattle.kernel_args.specs.declared.args.ProcArgs.{ProcArgs}
+use Rattle.kernel_args.specs.declared.args.ProcName.{ProcName}
+use Rattle.kernel_args.specs.CheckNumber.{check_number}
+use Rattle.kernel_args.specs.Tags.{Tag, tag_bytes}
+use Rattle.kernel_args.specs.Contents.{process_contents, Entry, padded, entry_bytes}
+use Rattle.kernel_args.specs.Image.{header_tag}
+use Rattle.kernel_args.specs.Faults.{args_fault}
+
+-- the tag with these contents and their check number
+abbrev pub right_tag : List ℕ → List ℕ → Tag
+right_tag name contents = record { name = name; check = check_number contents; contents = contents }
+
+abbrev pub process_tag : ProcArgs → Tag
+process_tag p = right_tag (codes "IniE") (process_contents p)
+
+-- a name, padded with zeros
+abbrev pub written_entry : ProcName → Entry
+written_entry n = record { pid = n.pid; name = n.name; padding = replicate (padded (length n.name) - length n.name) 0 }
+
+abbrev pub names_contents : List ProcName → List ℕ
+names_contents ns = flat_map (λ n. entry_bytes (written_entry n)) ns
+
+-- one `PNam` where there is a name
+abbrev pub names_tags : List ProcName → List Tag
+names_tags [] = []
+names_tags (n ∷ ns) = right_tag (codes "PNam") (names_contents (n ∷ ns)) ∷ []
+
+-- behind the header: the processes in order, then the names
+abbrev pub written_tags : Args → List Tag
+written_tags args = map process_tag args.procs ++ names_tags args.names
+
+unfoldable pub header_row : Args → List ℕ
+header_row args = tag_bytes (header_tag args)
+
+unfoldable pub process_row : ProcArgs → List ℕ
+process_row p = tag_bytes (process_tag p)
+
+unfoldable pub names_row : List ProcName → List ℕ
+names_row ns = flat_map tag_bytes (names_tags ns)
+
+unfoldable pub written : Args → List ℕ
+written args = flat_map tag_bytes (header_tag args ∷ written_tags args)
+
+-- a word holds the pid
+abbrev pub HasPid : ProcName → Type 0
+HasPid n = n.pid < 2 ^ 32
+
+-- each number of the process fits the field that it is written to
+pub record HasFittingNumbers (p : ProcArgs) : Type 0 where
+  pub load : p.load < 2 ^ 32
+  pub entry : p.entry < 2 ^ 32
+  pub addrs : All (λ s. s.addr < 2 ^ 32) p.sections
+  pub sizes : All (λ s. s.size < 2 ^ 24) p.sections
+
+-- Arguments can be written where each number fits the field that it is written to, the size of what is
+-- written is the one that the arguments say, the size of each tag fits its length field, a number of
+-- words in 16 bits, and what is written has no fault. Of the numbers only the size of a section can fail
+-- to fit, since the others have the 32 bits of a word.
+pub record IsWritable (args : Args) : Type 0 where
+  pub words_fit : args.words < 2 ^ 32
+  pub start_fits : args.ram_start < 2 ^ 32
+  pub size_fits : args.ram_size < 2 ^ 32
+  pub name_fits : length args.ram_name ≡ 4
+  pub procs_fit : All HasFittingNumbers args.procs
+  pub pids_fit : All HasPid args.names
+  pub lengths_fit : All (λ t. length t.contents < 4 * 65536) (written_tags args)
+  pub words : length (written args) ≡ 4 * args.words
+  pub no_fault : args_fault (written args) ≡ None

@@ -1,0 +1,97 @@
+//! Parts of an image are written.
+
+ghost use Rattle.std.specs.Prelude.{◌≡◌, ◌<◌, ◌*◌, ◌++◌, ◌^◌, length, IfOk, OnOk};
+ghost use Rattle.kernel_args.specs.Tags.{tag_bytes};
+ghost use Rattle.kernel_args.specs.Contents.{word, section_bytes, process_contents as process_contents_of, header_contents as header_contents_of, entry_bytes};
+ghost use Rattle.kernel_args.specs.Writing.{right_tag, written_entry, names_contents as names_contents_of};
+
+use crate::args::{Args, ProcArgs, ProcName, Section};
+use crate::check_number::crc_x25;
+use std::alloc::Global;
+use xk_base::{NoMemory, Row};
+
+fn append(out: &mut Row<u8>, bytes: &[u8]) -> Result<(), NoMemory>
+    ensures { OnOk result (out.new ≡ out.old ++ bytes.now) }
+{
+    for byte in bytes {
+        out.push(*byte)?;
+    }
+    Ok(())
+}
+
+fn append_word(out: &mut Row<u8>, n: u32) -> Result<(), NoMemory>
+    ensures { OnOk result (out.new ≡ out.old ++ word n) }
+{
+    append(out, &n.to_le_bytes())
+}
+
+fn append_section(out: &mut Row<u8>, section: Section) -> Result<(), NoMemory>
+    ensures { OnOk result (out.new ≡ out.old ++ section_bytes section) }
+{
+    append_word(out, section.addr)?;
+    append(out, &section.size.to_le_bytes()[..3])?;
+    out.push(section.flags)
+}
+
+/// The contents of an `XArg`.
+pub fn header_contents(alloc: Global, args: &Args) -> Result<Row<u8>, NoMemory>
+    ensures { IfOk result (λ row. row ≡ header_contents_of args.now) }
+{
+    let mut out = Row::new(alloc);
+    append_word(&mut out, args.words)?;
+    append_word(&mut out, 1)?;
+    append_word(&mut out, args.ram_start)?;
+    append_word(&mut out, args.ram_size)?;
+    append(&mut out, &args.ram_name)?;
+    Ok(out)
+}
+
+/// The contents of an `IniE`.
+pub fn process_contents(alloc: Global, process: &ProcArgs) -> Result<Row<u8>, NoMemory>
+    ensures { IfOk result (λ row. row ≡ process_contents_of process.now) }
+{
+    let mut out = Row::new(alloc);
+    append_word(&mut out, process.load)?;
+    append_word(&mut out, process.entry)?;
+    for section in process.sections.as_slice() {
+        append_section(&mut out, *section)?;
+    }
+    Ok(out)
+}
+
+fn append_name(out: &mut Row<u8>, name: &ProcName) -> Result<(), NoMemory>
+    requires { length name.now.name < 2 ^ 32 }
+    ensures { OnOk result (out.new ≡ out.old ++ entry_bytes (written_entry name.now)) }
+{
+    let bytes = name.name.as_slice();
+    append_word(out, name.pid)?;
+    append_word(out, bytes.len() as u32)?;
+    append(out, bytes)?;
+    for _ in 0..(4 - bytes.len() % 4) % 4 {
+        out.push(0)?;
+    }
+    Ok(())
+}
+
+/// The contents of a `PNam`.
+pub fn names_contents(alloc: Global, names: &[ProcName]) -> Result<Row<u8>, NoMemory>
+    requires { length (names_contents_of names.now) < 2 ^ 32 }
+    ensures { IfOk result (λ row. row ≡ names_contents_of names.now) }
+{
+    let mut out = Row::new(alloc);
+    for name in names {
+        append_name(&mut out, name)?;
+    }
+    Ok(out)
+}
+
+/// Appends the tag with these contents.
+pub fn append_tag(out: &mut Row<u8>, name: &[u8], contents: &[u8]) -> Result<(), NoMemory>
+    requires { length contents.now < 4 * 65536 }
+    ensures { OnOk result (out.new ≡ out.old ++ tag_bytes (right_tag name.now contents.now)) }
+{
+    append(out, name)?;
+    append(out, &crc_x25(contents).to_le_bytes())?;
+    append(out, &((contents.len() / 4) as u16).to_le_bytes())?;
+    append(out, contents)
+}

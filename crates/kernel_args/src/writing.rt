@@ -1,0 +1,164 @@
+//! Images are written.
+
+ghost use Rattle.std.specs.Prelude.{◌≡◌, ◌<◌, ◌≤◌, ◌+◌, ◌*◌, ◌++◌, ◌^◌, ℕ, List, length, map, IfOk, OnOk, MatchOption, IsTrue, ◌↔◌, All};
+ghost use Rattle.std.specs.List.{flat_map, AllByRecursion};
+ghost use Rattle.kernel_args.specs.Contents.{IsSection, IsProcess};
+ghost use Rattle.kernel_args.specs.Image.{Spells};
+ghost use Rattle.kernel_args.specs.Writing.{header_row, process_row, names_row, names_contents as names_contents_of, HasPid, IsWritable, written};
+
+use crate::appending::{append_tag, header_contents, names_contents, process_contents};
+use crate::args::{Args, ProcArgs, ProcName, Section};
+use crate::header::{HEADER_SIZE, is_bad_ram};
+use std::alloc::Global;
+use xk_base::{NoMemory, Row};
+
+/// The size above that of any contents in bytes: a length field has 16 bits and counts words.
+const CONTENTS_LIMIT: usize = 262_144;
+
+/// Whether the sizes of the sections have 24 bits and their flags are known.
+fn are_sections(sections: &[Section]) -> bool
+    ensures { IsTrue result ↔ All IsSection sections.now }
+{
+    for section in sections {
+        // read for its range, which the contract states
+        let _addr = section.addr;
+        if section.size >= 0x100_0000 || section.flags > 31 {
+            return false;
+        }
+    }
+    true
+}
+
+/// Whether it has one to 32 sections, which can be written.
+fn is_process(process: &ProcArgs) -> bool
+    ensures { IsTrue result ↔ IsProcess process.now }
+{
+    // read for their ranges, which the contract states
+    let (_load, _entry) = (process.load, process.entry);
+    let sections = process.sections.as_slice();
+    !sections.is_empty() && sections.len() <= 32 && are_sections(sections)
+}
+
+/// The size in bytes of the `IniE` of at most 32 processes, or None where one can't be written.
+fn processes_size(processes: &[ProcArgs]) -> Option<usize>
+    requires { length processes.now ≤ 32 }
+    ensures { MatchOption result (¬ All IsProcess processes.now)
+        (λ n. All IsProcess processes.now × (n ≡ length (flat_map process_row processes.now)) × (n ≤ 272 * 32)) }
+{
+    let mut size = 0;
+    for process in processes {
+        if !is_process(process) {
+            return None;
+        }
+        size += 16 + 8 * process.sections.as_slice().len();
+    }
+    Some(size)
+}
+
+/// The size in bytes of the contents of a `PNam`, or None where its length field doesn't hold it.
+fn names_size(names: &[ProcName]) -> Option<usize>
+    ensures { MatchOption result (4 * 65536 ≤ length (names_contents_of names.now))
+        (λ n. All HasPid names.now × (n ≡ length (names_contents_of names.now)) × (n < 4 * 65536)) }
+{
+    let mut size = 0;
+    for name in names {
+        // read for its range, which the contract states
+        let _pid = name.pid;
+        let len = name.name.as_slice().len();
+        if len >= CONTENTS_LIMIT {
+            return None;
+        }
+        size += 8 + (len + 3) / 4 * 4;
+        if size >= CONTENTS_LIMIT {
+            return None;
+        }
+    }
+    Some(size)
+}
+
+/// The size in bytes of the `PNam`, which is there where there is a name, or None where its length
+/// field doesn't hold it.
+fn names_tag_size(names: &[ProcName]) -> Option<usize>
+    ensures { MatchOption result (4 * 65536 ≤ length (names_contents_of names.now))
+        (λ n. All HasPid names.now × (n ≡ length (names_row names.now)) × (length (names_contents_of names.now) < 4 * 65536) × (n < 8 + 4 * 65536)) }
+{
+    let size = names_size(names)?;
+    if names.is_empty() {
+        Some(0)
+    } else {
+        Some(8 + size)
+    }
+}
+
+/// Whether the arguments can be written: each section's size is below 2^24, the row of tags has
+/// `args.words` words, each tag fits its length field, and the row has no fault.
+pub fn writable(args: &Args) -> bool
+    ensures { IsTrue result ↔ IsWritable args.now }
+{
+    let processes = args.procs.as_slice();
+    if is_bad_ram(args.ram_start, args.ram_size) || processes.is_empty() || processes.len() > 32 {
+        return false;
+    }
+    let Some(processes_size) = processes_size(processes) else {
+        return false;
+    };
+    let Some(names_size) = names_tag_size(args.names.as_slice()) else {
+        return false;
+    };
+    HEADER_SIZE + processes_size + names_size == args.words as usize * 4
+}
+
+fn append_header(alloc: Global, out: &mut Row<u8>, args: &Args) -> Result<(), NoMemory>
+    requires { length args.now.ram_name ≡ 4 }
+    ensures { OnOk result (out.new ≡ out.old ++ header_row args.now) }
+{
+    let contents = header_contents(alloc, args)?;
+    append_tag(out, b"XArg", contents.as_slice())
+}
+
+fn append_process(alloc: Global, out: &mut Row<u8>, process: &ProcArgs) -> Result<(), NoMemory>
+    requires { length process.now.sections ≤ 32 }
+    ensures { OnOk result (out.new ≡ out.old ++ process_row process.now) }
+{
+    let contents = process_contents(alloc, process)?;
+    append_tag(out, b"IniE", contents.as_slice())
+}
+
+fn append_processes(
+    alloc: Global,
+    out: &mut Row<u8>,
+    processes: &[ProcArgs],
+) -> Result<(), NoMemory>
+    requires { All (λ p. length p.sections ≤ 32) processes.now }
+    ensures { OnOk result (out.new ≡ out.old ++ flat_map process_row processes.now) }
+{
+    for process in processes {
+        append_process(alloc, out, process)?;
+    }
+    Ok(())
+}
+
+fn append_names(alloc: Global, out: &mut Row<u8>, names: &[ProcName]) -> Result<(), NoMemory>
+    requires { length (names_contents_of names.now) < 4 * 65536 }
+    ensures { OnOk result (out.new ≡ out.old ++ names_row names.now) }
+{
+    if names.is_empty() {
+        return Ok(());
+    }
+    let contents = names_contents(alloc, names)?;
+    append_tag(out, b"PNam", contents.as_slice())
+}
+
+/// The row of tags of arguments that can be written: the header, the processes in order, then the
+/// names where there are any. With any bytes after it, it spells the arguments.
+pub fn write_args(alloc: Global, args: &Args) -> Result<Row<u8>, NoMemory>
+    requires { IsWritable args.now }
+    ensures written { IfOk result (λ row. row ≡ written args.now) }
+    ensures read_back { IfOk result (λ row. (more : List ℕ) → Spells (row ++ more) args.now) }
+{
+    let mut out = Row::new(alloc);
+    append_header(alloc, &mut out, args)?;
+    append_processes(alloc, &mut out, args.procs.as_slice())?;
+    append_names(alloc, &mut out, args.names.as_slice())?;
+    Ok(out)
+}
