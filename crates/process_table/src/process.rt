@@ -46,6 +46,7 @@ impl Process {
         }
     }
 
+    /// Whether the process lives.
     pub fn is_alive(&self) -> bool
         ensures { result ≡ self.now.alive }
     {
@@ -59,6 +60,7 @@ impl Process {
         self.heap
     }
 
+    /// Sets the length of its heap in bytes.
     pub fn set_heap(&mut self, bytes: u32)
         ensures { self.new ≡ with_heap bytes self.old }
     {
