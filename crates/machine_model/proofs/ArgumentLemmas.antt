@@ -2,7 +2,7 @@
 use Rattle.std.proofs.Common.{◌≡◌, ℕ, ◌+◌, ◌-◌, ◌<◌, ◌≤◌, ◌⊎◌, inl, inr, List, ◌++◌, length, take, drop, get_or, refl, ap, ◌∙◌, arith, take_at, drop_at, length-take}
 use Rattle.std.proofs.lemmas.List.{get_or_append_left, get_or-append_right, get_or-take, get_or-drop}
 use Rattle.std.specs.Prelude.{slice_index}
-use Rattle.machine_model.specs.Threads.{arguments_of, with_arguments}
+use Rattle.xk_base.specs.Registers.{arguments_of, with_arguments}
 
 -- the first ten registers, which stand before the words
 front_size : (regs : List ℕ) → length regs ≡ 32 → length (take 10 regs) ≡ 10

@@ -8,7 +8,8 @@ use Rattle.xk_base.specs.Circle.{listed_ids}
 use Rattle.xk_base.specs.Replies.{refused_words}
 use Rattle.machine_model.specs.Machine.{Machine, Thread}
 use Rattle.machine_model.specs.Order.{turn}
-use Rattle.machine_model.specs.Threads.{Answers, no_answers, give_answers, with_arguments, change_thread, passed}
+use Rattle.machine_model.specs.Threads.{Answers, no_answers, give_answers, change_thread, passed}
+use Rattle.xk_base.specs.Registers.{with_arguments}
 
 -- an interrupt that is delivered to a process
 pub record Delivery : Type 0 where

@@ -7,30 +7,10 @@ use Rattle.xk_base.specs.declared.pages.Access.TheVariants.{Fetch, Load, Store}
 use Rattle.xk_base.specs.declared.pages.Width.{Width}
 use Rattle.xk_base.specs.declared.pages.Width.TheVariants.{Byte, Half, Word}
 use Rattle.xk_base.specs.Registers.{reg_at, with_reg}
+use Rattle.xk_base.specs.UserMemory.{Memory, size_of, number_at}
 use Rattle.rv32_words.specs.declared.insn.Insn.{Insn}
 use Rattle.rv32_words.specs.declared.insn.Insn.TheVariants.{Lui, Auipc, Jal, Jalr, Beq, Bne, Blt, Bge, Bltu, Bgeu, Lb, Lh, Lw, Lbu, Lhu, Sb, Sh, Sw, Addi, Slti, Sltiu, Xori, Ori, Andi, Slli, Srli, Srai, Add, Sub, Sll, Slt, Sltu, Xor, Srl, Sra, Or, And, Mul, Mulh, Mulhsu, Mulhu, Div, Divu, Rem, Remu, Fence, FenceI, Ecall, Ebreak}
 use Rattle.rv32_words.specs.Reading.{insn_at}
-
--- ---- memory
-
--- Memory as a process sees it, by the virtual address of a byte: which access it has there, whether that is the
--- console's page, and which byte stands there (0 in the console's page).
-pub record Memory : Type 0 where
-  pub may : Access → ℕ → Bool
-  pub console : ℕ → Bool
-  pub byte : ℕ → ℕ
-
--- how many bytes a load or a store moves
-abbrev pub size_of : Width → ℕ
-size_of Byte = 1
-size_of Half = 2
-size_of Word = 4
-
--- the number that stands at an address, its lowest byte first
-abbrev pub number_at : (ℕ → ℕ) → ℕ → Width → ℕ
-number_at byte a Byte = byte a
-number_at byte a Half = byte a + 256 * byte (a + 1)
-number_at byte a Word = byte a + 256 * byte (a + 1) + 65536 * byte (a + 2) + 16777216 * byte (a + 3)
 
 -- ---- what comes of an instruction
 

@@ -5,14 +5,14 @@ use Rattle.xk_base.specs.declared.ids.ThreadId.{ThreadId}
 use Rattle.xk_base.specs.declared.records.Rec.{Rec}
 use Rattle.xk_base.specs.declared.records.What.{What}
 use Rattle.xk_base.specs.declared.records.What.TheVariants.{Call, Byte, Fault, End}
-use Rattle.xk_base.specs.Registers.{reg_at}
+use Rattle.xk_base.specs.Registers.{reg_at, arguments_of}
 use Rattle.machine_model.specs.Calls.{call}
 use Rattle.machine_model.specs.Changes.{Told, settled, call_settled}
 use Rattle.machine_model.specs.Ends.{death, thread_ended, handler_ended}
 use Rattle.machine_model.specs.Instructions.{Executed, Next, Stores, StoresToConsole, CallsKernel, Traps, execute_at}
 use Rattle.machine_model.specs.Machine.{Machine, Thread}
 use Rattle.machine_model.specs.Order.{actor}
-use Rattle.machine_model.specs.Threads.{thread_return, handler_return, arguments_of, change_thread, with_registers}
+use Rattle.machine_model.specs.Threads.{thread_return, handler_return, change_thread, with_registers}
 use Rattle.machine_model.specs.Views.{memory_of, stored}
 
 -- the next state, and the records of the step in their order

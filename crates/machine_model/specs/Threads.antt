@@ -5,7 +5,7 @@ use Rattle.xk_base.specs.declared.ids.Pid.{Pid}
 use Rattle.xk_base.specs.declared.ids.ThreadId.{ThreadId}
 use Rattle.xk_base.specs.Circle.{same_thread}
 use Rattle.xk_base.specs.Counting.{put_at}
-use Rattle.xk_base.specs.Registers.{with_reg}
+use Rattle.xk_base.specs.Registers.{with_reg, with_arguments}
 use Rattle.xk_base.specs.Replies.{eight_words}
 use Rattle.machine_model.specs.Instructions.{following}
 use Rattle.machine_model.specs.Machine.{Machine, Thread, ThreadState, Ready, Idle, Claim}
@@ -27,14 +27,6 @@ first_stack = 0x8000_0000
 -- the end of the interrupt thread's stack page
 abbrev pub handler_stack : ℕ
 handler_stack = 0x7F00_1000
-
--- what a0 to a7 hold, which are x10 to x17
-abbrev pub arguments_of : List ℕ → List ℕ
-arguments_of regs = take 8 (drop 10 regs)
-
--- the registers with these eight words in a0 to a7
-abbrev pub with_arguments : List ℕ → List ℕ → List ℕ
-with_arguments words regs = take 10 regs ++ (words ++ drop 18 regs)
 
 -- registers that begin with these values of ra, which is x1, and sp, which is x2, and these arguments from a0 on, all
 -- else 0

@@ -10,7 +10,7 @@ use Rattle.xk_base.specs.declared.pages.Width.{Width}
 use Rattle.ledger_model.specs.Ledger.{Ledger, Contents, Console, Bytes, PageName, contents_of, has_bytes}
 use Rattle.ledger_model.specs.Reach.{reach}
 use Rattle.ledger_model.specs.Steps.{write}
-use Rattle.machine_model.specs.Instructions.{Memory, size_of}
+use Rattle.xk_base.specs.UserMemory.{Memory, size_of}
 use Rattle.machine_model.specs.Machine.{Machine}
 
 -- the place of the page of an address

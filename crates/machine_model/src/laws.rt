@@ -1,7 +1,7 @@
 //! Laws of the abstract machine. Each function's contract is the law, and its body is empty.
 
 ghost use Rattle.std.specs.Prelude.{ℕ, ◌≡◌, ◌+◌, ◌<◌, ◌≤◌, ◌⊎◌, true, false, List, length, Some, None, [], All};
-ghost use Rattle.xk_base.specs.Registers.{reg_at};
+ghost use Rattle.xk_base.specs.Registers.{reg_at, arguments_of, with_arguments};
 ghost use Rattle.xk_base.specs.declared.errors.XousError.{XousError};
 ghost use Rattle.xk_base.specs.declared.ids.ThreadId.{ThreadId};
 ghost use Rattle.xk_base.specs.Circle.{is_pid, is_thread_id};
@@ -10,7 +10,7 @@ ghost use Rattle.machine_model.specs.Machine.{Machine, Thread};
 ghost use Rattle.machine_model.specs.Instructions.{following};
 ghost use Rattle.machine_model.specs.Order.{ready_at, next_ready, actor};
 ghost use Rattle.machine_model.specs.Step.{step};
-ghost use Rattle.machine_model.specs.Threads.{change_thread, arguments_of, with_arguments};
+ghost use Rattle.machine_model.specs.Threads.{change_thread};
 
 /// The next ready thread is Ready.
 #[tactic(auto, using(crate::proofs::StepLaws::next_ready_passes))]

@@ -3,8 +3,7 @@ use Rattle.std.proofs.Common.{◌≡◌, ℕ, ◌+◌, ◌<◌, List, [], ◌∷
 use Rattle.std.specs.Prelude.{◌==◌}
 use Rattle.std.proofs.lemmas.Bool.{cond-false, ne_eqb}
 use Rattle.std.proofs.lemmas.List.{take_more_set, drop-set-lt, take_more, take-append-drop, take_all, length-set, drop-drop}
-use Rattle.xk_base.specs.Registers.{with_reg}
-use Rattle.machine_model.specs.Threads.{with_arguments}
+use Rattle.xk_base.specs.Registers.{with_reg, with_arguments}
 
 -- lists that agree from i on agree from i + 1 on
 drop_one : (xs ys : List ℕ) (i : ℕ) → drop i xs ≡ drop i ys → drop (i + 1) xs ≡ drop (i + 1) ys

@@ -24,7 +24,8 @@ use Rattle.machine_model.specs.Instructions.{CallsKernel, following}
 use Rattle.machine_model.specs.Machine.{Thread, Ready}
 use Rattle.machine_model.specs.MemoryCalls.{map_refusals, map_served, map_call}
 use Rattle.machine_model.specs.Step.{executed, after}
-use Rattle.machine_model.specs.Threads.{answer_to, with_answer, with_arguments, arguments_of, passed}
+use Rattle.machine_model.specs.Threads.{answer_to, with_answer, passed}
+use Rattle.xk_base.specs.Registers.{with_arguments, arguments_of}
 use Rattle.plain_kernel.specs.Built.{maps_console}
 use Rattle.plain_kernel.specs.Execution.{DoesExecute}
 use Rattle.plain_kernel.specs.Mapped.{map_reply}

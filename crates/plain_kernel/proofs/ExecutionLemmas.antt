@@ -13,7 +13,8 @@ use Rattle.rv32_words.specs.declared.insn.Insn.TheVariants.{Lui, Addi, Jal, Sb, 
 use Rattle.ledger_model.specs.Ledger.{Ledger, Homed}
 use Rattle.ledger_model.specs.Steps.{write}
 use Rattle.machine_model.specs.Changes.{Told}
-use Rattle.machine_model.specs.Instructions.{Memory, Executed, Next, Stores, StoresToConsole, Traps, stores, jumps, following, store_page_fault}
+use Rattle.machine_model.specs.Instructions.{Executed, Next, Stores, StoresToConsole, Traps, stores, jumps, following, store_page_fault}
+use Rattle.xk_base.specs.UserMemory.{Memory}
 use Rattle.xk_base.specs.Registers.{with_reg}
 use Rattle.machine_model.specs.Machine.{Machine, Thread, Ready}
 use Rattle.machine_model.specs.Step.{executed, record_of, console_told}

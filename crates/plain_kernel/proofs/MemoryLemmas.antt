@@ -10,7 +10,7 @@ use Rattle.xk_base.specs.declared.pages.Width.TheVariants.{Word}
 use Rattle.ledger_model.specs.Ledger.{Page, Contents, Homed, loan_at, loan_of, contents_of, has_bytes}
 use Rattle.ledger_model.specs.Reach.{reach, is_free, home_may}
 use Rattle.ledger_model.proofs.Reaching.{reach-home, reach-free, is_free-all}
-use Rattle.machine_model.specs.Instructions.{number_at}
+use Rattle.xk_base.specs.UserMemory.{number_at}
 use Rattle.machine_model.specs.Views.{memory_of, contents_seen, byte_of}
 use Rattle.plain_kernel.specs.Access.{page_may, page_byte, is_console_page}
 use Rattle.plain_kernel.specs.State.{machine_of, ledger_of, page_in, the_pid, console_page, bytes_page, is_mapped_at, table_page}

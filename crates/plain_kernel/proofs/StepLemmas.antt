@@ -9,7 +9,8 @@ use Rattle.xk_base.specs.declared.pages.Width.TheVariants.{Word}
 use Rattle.rv32_words.specs.declared.insn.Insn.{Insn}
 use Rattle.rv32_words.specs.Reading.{insn_at}
 use Rattle.rv32_words.specs.Table.{Spells, IsInRange}
-use Rattle.machine_model.specs.Instructions.{effect, effect_if_any, execute, execute_at, number_at}
+use Rattle.machine_model.specs.Instructions.{effect, effect_if_any, execute, execute_at}
+use Rattle.xk_base.specs.UserMemory.{number_at}
 use Rattle.machine_model.specs.Step.{step, step_by, step_by_if, acted, executed}
 use Rattle.machine_model.specs.Threads.{thread_return}
 use Rattle.plain_kernel.specs.Built.{step_built, built_by, insn_built}

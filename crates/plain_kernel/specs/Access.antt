@@ -5,7 +5,7 @@ use Rattle.xk_base.specs.declared.pages.Access.TheVariants.{Fetch}
 use Rattle.xk_base.specs.declared.pages.Width.TheVariants.{Word}
 use Rattle.ledger_model.specs.Ledger.{Page, has_bytes}
 use Rattle.ledger_model.specs.Reach.{owner_may}
-use Rattle.machine_model.specs.Instructions.{number_at}
+use Rattle.xk_base.specs.UserMemory.{number_at}
 use Rattle.machine_model.specs.Views.{byte_of}
 
 abbrev pub page_may : Option Page → Access → Bool

@@ -11,11 +11,12 @@ use Rattle.xk_base.specs.Flags.{flag_read, flag_write}
 use Rattle.rv32_words.specs.declared.insn.Insn.{Insn}
 use Rattle.rv32_words.specs.declared.insn.Insn.TheVariants.{Lui, Addi, Jal, Sb, Ecall}
 use Rattle.rv32_words.specs.Reading.{insn_at}
-use Rattle.machine_model.specs.Instructions.{Memory, Executed, Traps, effect, number_at}
+use Rattle.machine_model.specs.Instructions.{Executed, Traps, effect}
+use Rattle.xk_base.specs.UserMemory.{Memory, number_at}
 use Rattle.machine_model.specs.Machine.{Machine, Thread}
 use Rattle.machine_model.specs.Order.{actor}
 use Rattle.machine_model.specs.Step.{ends_thread, ends_handler}
-use Rattle.machine_model.specs.Threads.{arguments_of}
+use Rattle.xk_base.specs.Registers.{arguments_of}
 use Rattle.machine_model.specs.Views.{memory_of}
 
 abbrev pub is_trap : Executed → Bool

@@ -5,9 +5,11 @@ use Rattle.xk_base.specs.declared.pages.Width.TheVariants.{Word}
 use Rattle.rv32_words.specs.declared.insn.Insn.{Insn}
 use Rattle.rv32_words.specs.Reading.{insn_at}
 use Rattle.machine_model.specs.Changes.{Told}
-use Rattle.machine_model.specs.Instructions.{Memory, Executed, CallsKernel, effect, number_at}
+use Rattle.machine_model.specs.Instructions.{Executed, CallsKernel, effect}
+use Rattle.xk_base.specs.UserMemory.{Memory, number_at}
 use Rattle.machine_model.specs.Step.{Stepped, executed, record_of}
-use Rattle.machine_model.specs.Threads.{thread_return, arguments_of}
+use Rattle.machine_model.specs.Threads.{thread_return}
+use Rattle.xk_base.specs.Registers.{arguments_of}
 use Rattle.machine_model.specs.Views.{memory_of}
 use Rattle.plain_kernel.specs.Built.{is_trap, insn_built, maps_console}
 use Rattle.plain_kernel.specs.State.{machine_of, last_of, the_thread, the_pid}

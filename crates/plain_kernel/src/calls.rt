@@ -1,7 +1,7 @@
 //! The eight words of a system call and of its reply, in a0 to a7.
 
 ghost use Rattle.std.specs.Prelude.{◌≡◌, length};
-ghost use Rattle.machine_model.specs.Threads.{arguments_of, with_arguments};
+ghost use Rattle.xk_base.specs.Registers.{arguments_of, with_arguments};
 ghost use Rattle.plain_kernel.specs.Built.{maps_console};
 ghost use Rattle.plain_kernel.specs.Mapped.{IsMappable, map_reply};
 

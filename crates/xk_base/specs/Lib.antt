@@ -11,4 +11,5 @@ pub mod Outside
 pub mod Registers
 pub mod Replies
 pub mod RowMap
+pub mod UserMemory
 pub mod Windows

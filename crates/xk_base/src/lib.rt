@@ -10,6 +10,7 @@ mod pages;
 mod records;
 mod registers;
 mod rows;
+mod user_memory;
 mod windows;
 
 pub use errors::{Failed, NoMemory, XousError};
@@ -19,4 +20,5 @@ pub use pages::{Access, LoanKind, Right, Stored, Width};
 pub use records::{Log, Rec, What};
 pub use registers::Regs;
 pub use rows::Row;
+pub use user_memory::UserMemory;
 pub use windows::{Window, window_of};

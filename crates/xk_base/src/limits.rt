@@ -21,6 +21,9 @@ pub const CONNECTION_LIMIT: u32 = 32;
 /// Interrupt numbers are below this.
 pub const INTERRUPT_LIMIT: u8 = 32;
 
+/// Table frames of a process: the root, and four tables for each of the five windows.
+pub const TABLE_FRAMES: u32 = 21;
+
 /// Frames of RAM: 64 MiB in pages.
 pub const FRAME_LIMIT: u32 = 16_384;
 

@@ -1,6 +1,6 @@
 use Rattle.std.proofs.Common.{◌≡◌, ◌+◌, ◌%◌, [], ◌∷◌, ◌++◌, ap, sym, subst, true, ◌∙◌, refl}
 use Rattle.xk_base.specs.declared.records.What.TheVariants.{Call, Reply}
-use Rattle.machine_model.specs.Threads.{arguments_of, with_arguments}
+use Rattle.xk_base.specs.Registers.{arguments_of, with_arguments}
 use Rattle.machine_model.specs.Step.{record_of}
 use Rattle.xk_base.specs.Log.{LogState}
 use Rattle.plain_kernel.specs.Built.{maps_console}
