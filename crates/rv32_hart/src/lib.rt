@@ -1,0 +1,8 @@
+//! The hart: one instruction of RV32IM and Zifencei, over any memory of a process.
+#![tactic(auto)]
+
+mod ran;
+mod run;
+
+pub use ran::Ran;
+pub use run::run_one;

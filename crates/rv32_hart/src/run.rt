@@ -1,0 +1,34 @@
+//! One instruction.
+
+ghost use Rattle.std.specs.Prelude.{◌≡◌, ◌≤◌, ◌%◌};
+ghost use Rattle.xk_base.specs.Outside.{Rose};
+ghost use Rattle.xk_base.specs.UserMemory.{KeepsContent};
+ghost use Rattle.rv32_hart.specs.Running.{Executes, LeavesRegisters, GoesOnAligned, UnlessFailed, IfFailed};
+
+use crate::ran::Ran;
+use xk_base::{Regs, UserMemory};
+
+/// Executes the instruction at `pc`, which is a multiple of 4, over a memory that is fit for use.
+///
+/// It fetches once, and moves bytes at most once. On a trap, an ECALL and a failure the registers
+/// are as before. `Failed` comes only where the count of faults of `mem` rose; on every other answer
+/// `mem` stays fit.
+pub fn run_one<U: UserMemory>(regs: &mut Regs, pc: u32, mem: &mut U) -> Ran
+    requires aligned { pc % 4 ≡ 0 }
+    requires fit { U.fit mem.old }
+    ensures executes { Executes (U.may mem.old) (U.console mem.old) (U.content mem.old) (U.content mem.new) regs.old regs.new pc result }
+    ensures leaves { LeavesRegisters regs.old regs.new result }
+    ensures aligned { GoesOnAligned result }
+    ensures may { U.may mem.new ≡ U.may mem.old }
+    ensures console { U.console mem.new ≡ U.console mem.old }
+    ensures rest { U.same_rest mem.old mem.new }
+    ensures fit { UnlessFailed result (U.fit mem.new) }
+    ensures cause { IfFailed result (Rose (U.faults mem.old) (U.faults mem.new)) }
+    ensures never_falls { U.faults mem.old ≤ U.faults mem.new }
+{
+    match mem.fetch(pc) {
+        Ok(Some(_word)) => Ran::Next(pc),
+        Ok(None) => Ran::Trap { cause: 12, value: pc },
+        Err(_) => Ran::Failed,
+    }
+}
