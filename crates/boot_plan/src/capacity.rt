@@ -4,9 +4,7 @@ ghost use Rattle.std.specs.Prelude.{◌≡◌, ◌≤◌, ◌+◌, length};
 ghost use Rattle.boot_plan.specs.Capacity.{capacity, table_frames};
 
 use crate::plans::BootPlan;
-
-/// The frames of the page tables of one process.
-pub(crate) const TABLE_FRAMES: u32 = 21;
+use xk_base::limits::TABLE_FRAMES;
 
 /// The capacity with this many frames, processes and slots.
 pub(crate) fn capacity_of(frames: u32, processes: u32, slots: u32) -> u32

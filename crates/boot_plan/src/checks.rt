@@ -8,14 +8,14 @@ ghost use Rattle.boot_plan.specs.Sections.{shares_page, has_page, is_executable,
 ghost use Rattle.boot_plan.specs.Faults.{section_faults, sections_faults, is_load_outside, is_entry_outside, process_faults, processes_faults, is_ram_too_small, plan_fault};
 ghost use Rattle.boot_plan.specs.FirstPages.{process_pages, process_plan};
 
-use crate::capacity::{TABLE_FRAMES, capacity_of};
+use crate::capacity::capacity_of;
 use crate::faults::{
     ENTRY_OUTSIDE, LOAD_OUTSIDE, RAM_TOO_SMALL, SECTION_MISALIGNED, SECTION_OUTSIDE,
     SECTIONS_OVERLAP,
 };
 use crate::sections::{file_size, has_page, is_executable, leaves_window, page_count, shares_page};
 use kernel_args::{ArgFault, Args, ProcArgs, Section};
-use xk_base::limits::PAGE_SIZE;
+use xk_base::limits::{PAGE_SIZE, TABLE_FRAMES};
 
 fn fault(what: u8, at: u32) -> Option<ArgFault>
     ensures { result ≡ Some (record { what = what; at = at }) }

@@ -17,12 +17,14 @@ const ZERO_FILLED: u8 = 2;
 
 const EXECUTABLE: u8 = 4;
 
+/// Whether the section's pages may be written.
 pub(crate) fn is_writable(section: &Section) -> bool
     ensures { result ≡ is_writable section.now }
 {
     section.flags & WRITABLE != 0
 }
 
+/// Whether the section's bytes are zeros, and the file has none of them.
 #[tactic(auto, using(crate::proofs::Flags::mask_two))]
 pub(crate) fn is_zero_filled(section: &Section) -> bool
     ensures { result ≡ is_zero_filled section.now }
@@ -30,6 +32,7 @@ pub(crate) fn is_zero_filled(section: &Section) -> bool
     section.flags & ZERO_FILLED != 0
 }
 
+/// Whether the section's pages may be executed.
 #[tactic(auto, using(crate::proofs::Flags::mask_four))]
 pub(crate) fn is_executable(section: &Section) -> bool
     ensures { result ≡ is_executable section.now }

@@ -1,11 +1,11 @@
 -- Sections and names at the front of bytes are those that are spelled there.
-use Rattle.std.proofs.Common.{◌≡◌, ℕ, zero, suc, ◌+◌, ◌-◌, ◌*◌, ◌/◌, ◌%◌, ◌^◌, ◌<◌, ◌≤◌, List, [], ◌∷◌, ◌++◌, length, take, drop, Option, Some, None, refl, sym, ap, subst, ◌∙◌, append_assoc, arith, true, leb, cond}
-use Rattle.std.proofs.lemmas.List.{length-append, length-take, length-drop, take_at, drop_at, take-append-drop, drop-drop, drop-append-le, take_all}
+use Rattle.std.proofs.Common.{◌≡◌, ℕ, ◌+◌, ◌-◌, ◌^◌, ◌<◌, ◌≤◌, List, [], ◌∷◌, ◌++◌, length, take, drop, Option, Some, None, refl, sym, ap, subst, ◌∙◌, append_assoc, arith, true, leb, cond}
+use Rattle.std.proofs.lemmas.List.{length-append, length-take, length-drop, take_at, drop_at, take-append-drop, drop-drop}
 use Rattle.std.proofs.lemmas.Bool.{le-leb, leb-true}
 use Rattle.std.proofs.lemmas.Option.{none-some, cond_some, same_Some}
 use Rattle.byteorder.specs.Endian.{little_bytes, little_number}
 use Rattle.kernel_args.specs.declared.args.Section.{Section}
-use Rattle.kernel_args.specs.Contents.{word, section_bytes, front_section, Entry, padded, entry_bytes, IsEntry, front_entry}
+use Rattle.kernel_args.specs.Contents.{section_bytes, front_section, Entry, padded, entry_bytes, IsEntry, front_entry}
 use Rattle.kernel_args.proofs.NumberLaws.{IsBytes, IsBytes-drop, number_again, bytes_again_3, bytes_again_4}
 use Rattle.kernel_args.proofs.JoinedLaws.{Takes, IsFront}
 

@@ -1,22 +1,19 @@
 -- The first tag has no fault exactly where it spells the header of arguments.
-use Rattle.std.proofs.Common.{◌≡◌, ℕ, zero, suc, ◌+◌, ◌-◌, ◌*◌, ◌/◌, ◌%◌, ◌^◌, ◌<◌, ◌≤◌, Bool, true, false, not, cond, ◌||◌, List, [], ◌∷◌, ◌++◌, length, take, drop, Option, Some, None, refl, sym, ap, subst, ◌∙◌, append_assoc, arith, eqb, leb, ltb, inl, inr}
+use Rattle.std.proofs.Common.{◌≡◌, ℕ, ◌+◌, ◌*◌, ◌%◌, ◌^◌, ◌<◌, ◌≤◌, false, List, [], ◌∷◌, ◌++◌, length, take, drop, Some, None, refl, sym, ap, subst, ◌∙◌, arith}
 use Rattle.std.specs.Prelude.{codes}
-use Rattle.std.specs.Cmp.Lexicographic.{pointwise}
-use Rattle.std.proofs.lemmas.List.{length-append, length-take, length-drop, take_at, drop_at, drop-drop, drop-take, take-take, take-append-drop, take_all}
-use Rattle.std.proofs.lemmas.Bool.{eqb-true, eq-eqb, ne_eqb, eqb-false, not-false, not_from_true, or_parts, or_from, le-ltb, ltb-false, le-leb}
+use Rattle.std.proofs.lemmas.List.{length-take, length-drop, take_at, drop-drop, drop-take, take-take, take-append-drop}
+use Rattle.std.proofs.lemmas.Bool.{eqb-true, eq-eqb, ne_eqb, eqb-false, not-false, not_from_true, or_parts, or_from, le-ltb, ltb-false}
 use Rattle.std.proofs.lemmas.Slice.Eq.{bytes_eq-Decides}
-use Rattle.byteorder.specs.Endian.{little_bytes, little_number}
 use Rattle.byteorder.specs.Numbers.{little_from-take}
 use Rattle.kernel_args.specs.declared.args.Args.{Args}
 use Rattle.kernel_args.specs.CheckNumber.{check_number}
-use Rattle.kernel_args.specs.Tags.{Tag, tag_bytes, IsTag, front_tag}
+use Rattle.kernel_args.specs.Tags.{Tag, tag_bytes, front_tag}
 use Rattle.kernel_args.specs.Contents.{word}
 use Rattle.kernel_args.specs.Image.{IsRam, header_tag}
 use Rattle.kernel_args.specs.Faults.{first_fault, number_at, row_size, is_not_xarg, is_bad_header_check, is_bad_total, is_bad_ram, header_faults}
 use Rattle.kernel_args.specs.Reading.{HeaderIs}
 use Rattle.kernel_args.proofs.NumberLaws.{IsBytes, IsBytes-drop, IsBytes-take, number_again, word_split, word_front, number_lt}
 use Rattle.kernel_args.proofs.CheckLaws.{check_number_fits}
-use Rattle.kernel_args.proofs.JoinedLaws.{Takes}
 use Rattle.kernel_args.proofs.TagLaws.{tags, front_tag_at, length-tag_bytes}
 use Rattle.kernel_args.proofs.RowFaults.{none_when, when_none}
 

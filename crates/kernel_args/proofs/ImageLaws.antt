@@ -1,10 +1,10 @@
 -- Bytes spell exactly one list of arguments, or have a fault, and never both.
-use Rattle.std.proofs.Common.{◌≡◌, ℕ, zero, suc, ◌+◌, ◌-◌, ◌*◌, ◌/◌, ◌%◌, ◌^◌, ◌<◌, ◌≤◌, Bool, true, false, List, [], ◌∷◌, ◌++◌, length, map, take, drop, Option, Some, None, refl, sym, ap, subst, ◌∙◌, append_assoc, arith}
-use Rattle.std.specs.Prelude.{codes, All}
+use Rattle.std.proofs.Common.{◌≡◌, ℕ, ◌*◌, ◌<◌, ◌≤◌, List, [], ◌∷◌, ◌++◌, length, map, take, drop, Option, None, refl, sym, ap, subst, ◌∙◌, append_assoc, arith}
+use Rattle.std.specs.Prelude.{codes}
 use Rattle.std.specs.Option.{option_or}
 use Rattle.std.specs.List.{flat_map, AllByRecursion}
 use Rattle.std.proofs.lemmas.List.{length-append, length-take, length-map, take_at, drop_at, take-append-drop, append-nil}
-use Rattle.std.proofs.lemmas.List.Elements.{All-from_recursion, All-weaker, recursion_from_All}
+use Rattle.std.proofs.lemmas.List.Elements.{All-from_recursion, All-weaker}
 use Rattle.kernel_args.specs.declared.args.Args.{Args}
 use Rattle.kernel_args.specs.declared.args.ProcArgs.{ProcArgs}
 use Rattle.kernel_args.specs.declared.args.ProcName.{ProcName}
@@ -12,16 +12,16 @@ use Rattle.kernel_args.specs.declared.faults.ArgFault.{ArgFault}
 use Rattle.kernel_args.specs.Joined.{Cut, cut}
 use Rattle.kernel_args.specs.Tags.{Tag, IsTag, tag_bytes, front_tag, contents_of}
 use Rattle.kernel_args.specs.Contents.{process_contents, IsSection, IsProcess, Entry, IsEntry, entry_bytes, front_entry, name_of}
-use Rattle.kernel_args.specs.Image.{IsRam, IsSoundProcess, IsSoundArgs, IsRightTag, header_tag, SpellsTags, Spells}
+use Rattle.kernel_args.specs.Image.{IsSoundProcess, IsRightTag, header_tag, SpellsTags, Spells}
 use Rattle.kernel_args.specs.Faults.{first_fault, number_at, row_size, header_faults, tags_fault, row_fault, args_fault}
 use Rattle.kernel_args.specs.Reading.{HeaderIs}
 use Rattle.kernel_args.proofs.NumberLaws.{IsBytes, IsBytes-drop, IsBytes-take, IsBytes-left}
-use Rattle.kernel_args.proofs.JoinedLaws.{IsCut, cut_joined, cut_joins, joined_once}
+use Rattle.kernel_args.proofs.JoinedLaws.{cut_joined, cut_joins, joined_once}
 use Rattle.kernel_args.proofs.TagLaws.{tags, length-tag_bytes}
 use Rattle.kernel_args.proofs.ContentsLaws.{entries}
 use Rattle.kernel_args.proofs.ProcessLaws.{process_is_good, processes_once}
 use Rattle.kernel_args.proofs.RowLaws.{names_are_good}
-use Rattle.kernel_args.proofs.RowFaults.{option_or_none, IsGoodProcess, IsGoodNames, no_tags_fault, Spelled, tags_spelled}
+use Rattle.kernel_args.proofs.RowFaults.{option_or_none, IsGoodProcess, IsGoodNames, no_tags_fault, tags_spelled}
 use Rattle.kernel_args.proofs.HeaderLaws.{header_of, header_is_good, BeginsWith, begins_with}
 
 -- the row of tags behind the first

@@ -1,16 +1,15 @@
 -- Reading the entries of a `PNam` one after the other.
-use Rattle.std.proofs.Common.{◌≡◌, ℕ, zero, suc, ◌+◌, ◌-◌, ◌*◌, ◌/◌, ◌<◌, ◌≤◌, Bool, true, false, not, cond, List, [], ◌∷◌, ◌++◌, length, map, take, drop, Option, Some, None, refl, sym, ap, subst, ◌∙◌, append_assoc, arith, eqb, leb, inl, inr, ◌⊎◌}
+use Rattle.std.proofs.Common.{◌≡◌, ℕ, ◌-◌, ◌<◌, ◌≤◌, Bool, true, not, cond, List, [], ◌∷◌, ◌++◌, length, map, take, drop, Some, None, refl, sym, ap, subst, ◌∙◌, append_assoc, arith, eqb, leb, inl, inr}
 use Rattle.std.specs.List.{flat_map, AllByRecursion}
 use Rattle.std.proofs.lemmas.List.{nil_from_length, append-nil, map-append, take-take}
 use Rattle.std.proofs.lemmas.Bool.{cases_Bool, le-leb, eqb-true}
 use Rattle.byteorder.specs.Endian.{little_number}
 use Rattle.kernel_args.specs.declared.args.ProcName.{ProcName}
 use Rattle.kernel_args.specs.Joined.{Cut, cut}
-use Rattle.kernel_args.specs.Contents.{Entry, IsEntry, padded, entry_bytes, front_entry, name_of, SpellsNames}
-use Rattle.kernel_args.specs.Faults.{is_bad_names}
+use Rattle.kernel_args.specs.Contents.{Entry, IsEntry, padded, entry_bytes, front_entry, name_of}
 use Rattle.kernel_args.specs.Reading.{FrontEntry, GivesNames}
 use Rattle.kernel_args.proofs.NumberLaws.{IsBytes, IsBytes-right}
-use Rattle.kernel_args.proofs.JoinedLaws.{Takes, cut_none, cut_some, joined_more, AllByRecursion-append}
+use Rattle.kernel_args.proofs.JoinedLaws.{cut_none, cut_some, joined_more, AllByRecursion-append}
 use Rattle.kernel_args.proofs.ContentsLaws.{entries}
 
 -- what a reader by offsets finds

@@ -1,8 +1,8 @@
 -- The contents of an `IniE` spell a process exactly where they are not bad, and one process at most.
-use Rattle.std.proofs.Common.{◌≡◌, ℕ, zero, suc, ◌+◌, ◌-◌, ◌*◌, ◌/◌, ◌%◌, ◌^◌, ◌<◌, ◌≤◌, Bool, true, false, ◌||◌, List, [], ◌∷◌, ◌++◌, length, take, drop, get_or, map, Option, Some, None, refl, sym, ap, subst, ◌∙◌, append_assoc, arith, ltb, leb, eqb, inl, inr, ◌⊎◌}
+use Rattle.std.proofs.Common.{◌≡◌, ℕ, ◌+◌, ◌-◌, ◌*◌, ◌/◌, ◌%◌, ◌<◌, ◌≤◌, Bool, true, false, ◌||◌, List, [], ◌∷◌, ◌++◌, length, drop, get_or, map, Some, None, refl, sym, ap, subst, ◌∙◌, arith, ltb, eqb, inl, inr, ◌⊎◌}
 use Rattle.std.specs.List.{flat_map, AllByRecursion, list_any}
 use Rattle.std.proofs.lemmas.List.{length-append, length-drop, nil_from_length, append-nil, drop-drop}
-use Rattle.std.proofs.lemmas.Bool.{le-ltb, lt-ltb, eq-eqb, or_left, or_right, ltb-false, ne_eqb, eqb-false, or_parts, or_from, cases_eq}
+use Rattle.std.proofs.lemmas.Bool.{le-ltb, lt-ltb, eq-eqb, or_left, or_right, ltb-false, ne_eqb, eqb-false, or_parts, or_from}
 use Rattle.std.proofs.lemmas.Option.{none-some}
 use Rattle.byteorder.specs.Endian.{little_number}
 use Rattle.kernel_args.specs.declared.args.Section.{Section}
@@ -11,7 +11,7 @@ use Rattle.kernel_args.specs.Joined.{Cut, cut}
 use Rattle.kernel_args.specs.Contents.{word, section_bytes, IsSection, front_section, process_contents, IsProcess, SpellsProcess}
 use Rattle.kernel_args.specs.Faults.{has_unknown_flag, is_bad_process}
 use Rattle.kernel_args.proofs.NumberLaws.{IsBytes, IsBytes-drop, IsBytes-right, word_split, word_front, number_lt}
-use Rattle.kernel_args.proofs.JoinedLaws.{IsCut, cut_joined, cut_joins, cut_some, joined_once, joined_more, AllByRecursion-append}
+use Rattle.kernel_args.proofs.JoinedLaws.{cut_joined, cut_joins, cut_some, joined_once, joined_more, AllByRecursion-append}
 use Rattle.kernel_args.proofs.ContentsLaws.{IsSpelled, sections}
 
 pub length-sections : (ss : List Section) → length (flat_map section_bytes ss) ≡ 8 * length ss

@@ -1,5 +1,5 @@
 -- Reading the row of tags one tag after the other.
-use Rattle.std.proofs.Common.{◌≡◌, ℕ, zero, suc, ◌+◌, ◌-◌, ◌*◌, ◌/◌, ◌<◌, ◌≤◌, Bool, true, false, not, cond, List, [], ◌∷◌, ◌++◌, length, map, take, drop, Option, Some, None, refl, sym, ap, subst, ◌∙◌, append_assoc, arith, eqb}
+use Rattle.std.proofs.Common.{◌≡◌, ℕ, ◌+◌, ◌-◌, ◌*◌, ◌<◌, ◌≤◌, Bool, true, false, not, cond, List, [], ◌∷◌, ◌++◌, length, take, drop, Option, Some, None, refl, sym, ap, subst, ◌∙◌, arith, eqb}
 use Rattle.std.specs.Prelude.{codes}
 use Rattle.std.specs.Option.{option_or}
 use Rattle.std.specs.List.{flat_map, AllByRecursion}
@@ -12,8 +12,8 @@ use Rattle.kernel_args.specs.declared.faults.ArgFault.{ArgFault}
 use Rattle.kernel_args.specs.declared.faults.ArgsError.{ArgsError}
 use Rattle.kernel_args.specs.declared.faults.ArgsError.TheVariants as errors
 use Rattle.kernel_args.specs.declared.faults.TheConstants.{BAD_TOTAL, NO_PROCESS}
-use Rattle.kernel_args.specs.Joined.{Cut, cut}
-use Rattle.kernel_args.specs.Tags.{Tag, IsTag, tag_bytes, front_tag, has_name, contents_of}
+use Rattle.kernel_args.specs.Joined.{Cut}
+use Rattle.kernel_args.specs.Tags.{Tag, IsTag, tag_bytes, front_tag, contents_of}
 use Rattle.kernel_args.specs.Contents.{process_contents}
 use Rattle.kernel_args.specs.Image.{SpellsTags, Spells}
 use Rattle.kernel_args.specs.Faults.{first_fault, tag_faults, end_faults, tags_fault, row_fault, number_at, row_size, header_faults, args_fault, IsFault}

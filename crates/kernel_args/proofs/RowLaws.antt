@@ -1,22 +1,22 @@
 -- Tags spell processes and names, one tag after the other.
-use Rattle.std.proofs.Common.{◌≡◌, ℕ, zero, suc, ◌+◌, ◌-◌, ◌*◌, ◌/◌, ◌%◌, ◌^◌, ◌<◌, ◌≤◌, Bool, true, false, not, cond, List, [], ◌∷◌, ◌++◌, length, map, Option, Some, None, refl, sym, ap, subst, ◌∙◌, append_assoc, arith, eqb, inl, inr, ◌⊎◌}
+use Rattle.std.proofs.Common.{◌≡◌, ℕ, Bool, true, false, not, cond, List, [], ◌∷◌, ◌++◌, length, map, refl, sym, ap, ◌∙◌, eqb}
 use Rattle.std.specs.Prelude.{filter, codes}
 use Rattle.std.specs.List.{flat_map, AllByRecursion}
 use Rattle.std.specs.Cmp.Lexicographic.{pointwise}
-use Rattle.std.proofs.lemmas.List.{length-append, nil_from_length, append-nil, map-append}
+use Rattle.std.proofs.lemmas.List.{nil_from_length, append-nil, map-append}
 use Rattle.std.proofs.lemmas.List.Elements.{filter-append}
 use Rattle.std.proofs.lemmas.Grind.{flat_map-append}
-use Rattle.std.proofs.lemmas.Bool.{eqb-true, not-false, not_from_true}
+use Rattle.std.proofs.lemmas.Bool.{eqb-true, not-false}
 use Rattle.std.proofs.lemmas.Slice.Eq.{bytes_eq-Decides}
 use Rattle.kernel_args.specs.declared.args.ProcArgs.{ProcArgs}
 use Rattle.kernel_args.specs.declared.args.ProcName.{ProcName}
 use Rattle.kernel_args.specs.Joined.{Cut, cut}
-use Rattle.kernel_args.specs.Tags.{Tag, tag_bytes, has_name, contents_of}
+use Rattle.kernel_args.specs.Tags.{Tag, has_name, contents_of}
 use Rattle.kernel_args.specs.Contents.{process_contents, IsProcess, SpellsProcess, SpellsNames, Entry, IsEntry, entry_bytes, front_entry, name_of}
 use Rattle.kernel_args.specs.Image.{IsRightTag, SpellsTags}
 use Rattle.kernel_args.specs.Faults.{is_bad_names}
 use Rattle.kernel_args.proofs.NumberLaws.{IsBytes}
-use Rattle.kernel_args.proofs.JoinedLaws.{IsCut, cut_joined, cut_joins, AllByRecursion-append}
+use Rattle.kernel_args.proofs.JoinedLaws.{cut_joined, cut_joins, AllByRecursion-append}
 use Rattle.kernel_args.proofs.ContentsLaws.{entries}
 
 -- ---- the entries of one `PNam`

@@ -1,5 +1,5 @@
 -- The tag at the front of bytes is the tag that is spelled there.
-use Rattle.std.proofs.Common.{◌≡◌, ℕ, zero, suc, ◌+◌, ◌-◌, ◌*◌, ◌/◌, ◌%◌, ◌<◌, ◌≤◌, List, [], ◌∷◌, ◌++◌, length, take, drop, Option, Some, None, refl, sym, ap, subst, ◌∙◌, arith, Bool, true, false, leb, cond}
+use Rattle.std.proofs.Common.{◌≡◌, ℕ, ◌+◌, ◌-◌, ◌*◌, ◌/◌, ◌%◌, ◌<◌, ◌≤◌, List, [], ◌∷◌, ◌++◌, length, take, drop, Option, Some, None, refl, sym, ap, subst, ◌∙◌, arith, Bool, true, false, leb, cond}
 use Rattle.std.proofs.lemmas.List.{length-append, length-take, length-drop, take_at, drop_at, take-append-drop}
 use Rattle.std.proofs.lemmas.Bool.{le-leb, lt-leb, leb-true}
 use Rattle.std.proofs.lemmas.Option.{none-some, cond_some}
@@ -7,7 +7,7 @@ use Rattle.byteorder.specs.Endian.{little_bytes, little_number}
 use Rattle.kernel_args.specs.Tags.{Tag, tag_bytes, IsTag, front_tag}
 use Rattle.kernel_args.specs.Faults.{number_at}
 use Rattle.kernel_args.specs.Reading.{FrontTag}
-use Rattle.kernel_args.proofs.NumberLaws.{IsBytes, IsBytes-drop, IsBytes-tail, number_again, bytes_again_2}
+use Rattle.kernel_args.proofs.NumberLaws.{IsBytes, IsBytes-drop, number_again, bytes_again_2}
 use Rattle.kernel_args.proofs.JoinedLaws.{Takes, IsFront}
 
 -- the tag behind its header of eight bytes

@@ -1,5 +1,5 @@
 -- The faults of an image, in the order in which they are looked for.
-use Rattle.std.specs.Prelude.{◌≡◌, ℕ, ◌+◌, ◌*◌, ◌/◌, ◌%◌, Bool, true, false, not, ◌&&◌, ◌||◌, ◌==◌, nat_eq, nat_lt, nat_le, if◌then◌else◌, List, [], ◌∷◌, ◌++◌, length, take, drop, Option, Some, None, codes}
+use Rattle.std.specs.Prelude.{◌≡◌, ℕ, ◌+◌, ◌*◌, ◌/◌, ◌%◌, Bool, not, ◌&&◌, ◌||◌, ◌==◌, nat_eq, nat_lt, nat_le, if◌then◌else◌, List, [], ◌∷◌, length, take, drop, Option, Some, None, codes}
 use Rattle.std.specs.Option.{option_or}
 use Rattle.std.specs.List.{list_any}
 use Rattle.std.specs.Cmp.Lexicographic.{pointwise}
@@ -10,7 +10,7 @@ use Rattle.kernel_args.specs.declared.faults.ArgsError.{ArgsError}
 use Rattle.kernel_args.specs.declared.faults.ArgsError.TheVariants as errors
 use Rattle.kernel_args.specs.declared.faults.TheConstants.{TOO_SHORT, NOT_XARG, BAD_VERSION, BAD_TOTAL, BAD_CHECK, BAD_RAM, NO_PROCESS, TOO_MANY_PROCESSES, BAD_INI, BAD_NAMES}
 use Rattle.kernel_args.specs.CheckNumber.{check_number}
-use Rattle.kernel_args.specs.Joined.{Cut, cut}
+use Rattle.kernel_args.specs.Joined.{cut}
 use Rattle.kernel_args.specs.Tags.{Tag, front_tag, has_name}
 use Rattle.kernel_args.specs.Contents.{front_section, front_entry}
 

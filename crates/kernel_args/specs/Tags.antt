@@ -1,9 +1,8 @@
 -- The tags of an image. A tag is four name bytes, the check number of its contents in 16 bits, the
 -- length of its contents in words in 16 bits, and its contents. Numbers have their lowest byte first.
-use Rattle.std.specs.Prelude.{◌≡◌, ◌<◌, ◌≤◌, ℕ, ◌+◌, ◌*◌, ◌/◌, ◌%◌, Bool, nat_eq, nat_le, if◌then◌else◌, List, [], ◌∷◌, ◌++◌, length, map, filter, take, drop, Option, Some, None}
+use Rattle.std.specs.Prelude.{◌≡◌, ◌<◌, ℕ, ◌*◌, ◌/◌, ◌%◌, Bool, nat_eq, nat_le, if◌then◌else◌, List, [], ◌∷◌, ◌++◌, length, map, filter, take, drop, Option, Some, None}
 use Rattle.std.specs.Cmp.Lexicographic.{pointwise}
 use Rattle.byteorder.specs.Endian.{little_bytes, little_number}
-use Rattle.kernel_args.specs.CheckNumber.{check_number}
 
 pub record Tag : Type 0 where
   pub name : List ℕ

@@ -1,10 +1,8 @@
 -- Small ledgers are counted by evaluation.
-use Rattle.std.proofs.Common.{◌≡◌, ℕ, true, false, Some, None, refl}
-use Rattle.std.specs.Prelude.{if◌then◌else◌}
+use Rattle.std.proofs.Common.{◌≡◌, true, false, refl}
 use Rattle.xk_base.specs.Counting.{count_below}
-use Rattle.xk_base.specs.declared.ids.Place.{Place}
-use Rattle.ledger_model.specs.Ledger.{Ledger, Bytes, pages, empty_ledger}
-use Rattle.ledger_model.specs.Places.{place_at, count_places, in_run}
+use Rattle.ledger_model.specs.Ledger.{Ledger, pages, empty_ledger}
+use Rattle.ledger_model.specs.Places.{place_at, count_places}
 use Rattle.ledger_model.specs.Steps.{make, make_console}
 
 -- two pages of the Heap window and the console

@@ -1,7 +1,7 @@
 //! The real files and streams. Each object counts its faults and tells no content: what a file or a
 //! terminal holds is trusted and not proved.
 
-ghost use Rattle.std.specs.Prelude.{◌≤◌, length, IsSome, IfSome};
+ghost use Rattle.std.specs.Prelude.{◌≡◌, ◌≤◌, length, IsSome, IfSome};
 
 use std::fs;
 use std::io::{Read, Write};
@@ -19,8 +19,10 @@ pub struct FileHost<'a, R: Files> {
 }
 
 impl<'a, R: Files> FileHost<'a, R> {
-    /// A host with no file picked.
-    pub fn new(rt: &'a R) -> FileHost<'a, R> {
+    /// A host with no file picked, and no fault so far.
+    pub fn new(rt: &'a R) -> FileHost<'a, R>
+        ensures { result.faults ≡ 0 }
+    {
         FileHost {
             rt,
             first: None,
@@ -101,7 +103,10 @@ pub struct WriterSink<W: Write + Drop> {
 }
 
 impl<W: Write + Drop> WriterSink<W> {
-    pub fn new(writer: W) -> WriterSink<W> {
+    /// A sink over a writer, with no fault so far.
+    pub fn new(writer: W) -> WriterSink<W>
+        ensures { result.faults ≡ 0 }
+    {
         WriterSink { writer, faults: 0 }
     }
 }
