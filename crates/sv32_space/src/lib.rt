@@ -1,0 +1,7 @@
+//! The page tables of Sv32: the spellings of their entries, the walk, address spaces, and how entries and owners
+//! together stand for the ledger of pages.
+#![tactic(auto)]
+
+mod sides;
+
+pub use sides::{EntryKind, Side};
