@@ -1,1 +1,3 @@
 pub mod Entries
+pub mod Spellings
+pub mod Walk

@@ -2,6 +2,10 @@
 //! together stand for the ledger of pages.
 #![tactic(auto)]
 
+mod entries;
 mod sides;
+mod walking;
 
+pub use entries::{entry_of, kind_of};
 pub use sides::{EntryKind, Side};
+pub use walking::{Walked, walk};
