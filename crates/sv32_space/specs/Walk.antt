@@ -105,12 +105,16 @@ abbrev pub from_last_entry : Option ℕ → ℕ → Access → Walked
 from_last_entry None va access = PageFault
 from_last_entry (Some entry) va access = from_last_level entry va access
 
+-- from an entry that points to a table
+abbrev pub from_pointer : RamBytes → ℕ → ℕ → Access → Walked
+from_pointer ram entry va access = from_last_entry (entry_in_table ram (entry_ppn entry) (vpn_0 va)) va access
+
 -- from an entry of the root
 abbrev pub from_root : RamBytes → ℕ → ℕ → Access → Walked
 from_root ram entry va access =
     if is_valid entry then (
     if is_leaf entry then from_large_leaf entry va access else (
-    if is_pointer entry then from_last_entry (entry_in_table ram (entry_ppn entry) (vpn_0 va)) va access else PageFault)) else PageFault
+    if is_pointer entry then from_pointer ram entry va access else PageFault)) else PageFault
 
 abbrev pub from_root_entry : RamBytes → Option ℕ → ℕ → Access → Walked
 from_root_entry ram None va access = PageFault
