@@ -4,8 +4,10 @@
 
 mod entries;
 mod sides;
+mod spaces;
 mod walking;
 
 pub use entries::{entry_of, kind_of};
 pub use sides::{EntryKind, Side};
+pub use spaces::{TABLE_FRAMES, root_of};
 pub use walking::{Walked, walk};
