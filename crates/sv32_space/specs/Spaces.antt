@@ -42,7 +42,7 @@ root_word a first i None = 0
 root_word a first i (Some w) = bit_v + 1024 * ppn_of a (table_frame first w i)
 
 -- what stands at an index of the table in a frame: its entries are words of four bytes
-abbrev pub table_word : (ℕ → List ℕ) → ℕ → ℕ → ℕ
+unfoldable pub table_word : (ℕ → List ℕ) → ℕ → ℕ → ℕ
 table_word P f index = word_in (P f) (4 * index)
 
 -- the entry of a page, in the table for its part of the window

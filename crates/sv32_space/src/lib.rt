@@ -3,11 +3,12 @@
 #![tactic(auto)]
 
 mod entries;
+pub mod laws;
 mod sides;
 mod spaces;
 mod walking;
 
 pub use entries::{entry_of, kind_of};
 pub use sides::{EntryKind, Side};
-pub use spaces::{TABLE_FRAMES, root_of};
+pub use spaces::{TABLE_FRAMES, leaf, root_of, set_leaf};
 pub use walking::{Walked, walk};
