@@ -1,0 +1,4 @@
+pub mod EntryLaws
+pub mod SpaceLaws
+pub mod SpellingLaws
+pub mod WalkLaws

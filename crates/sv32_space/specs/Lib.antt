@@ -1,0 +1,5 @@
+pub mod Entries
+pub mod Spaces
+pub mod SpelledEntries
+pub mod Spellings
+pub mod Walk

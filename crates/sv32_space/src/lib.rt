@@ -1,0 +1,14 @@
+//! The page tables of Sv32: the spellings of their entries, the walk, address spaces, and how entries and owners
+//! together stand for the ledger of pages.
+#![tactic(auto)]
+
+mod entries;
+pub mod laws;
+mod sides;
+mod spaces;
+mod walking;
+
+pub use entries::{entry_of, kind_of};
+pub use sides::{EntryKind, Side};
+pub use spaces::{TABLE_FRAMES, leaf, root_of, set_leaf};
+pub use walking::{Walked, walk};

@@ -1,0 +1,135 @@
+//! The page walk of Sv32 in user mode.
+
+ghost use Rattle.std.specs.Prelude.{◌≡◌, ◌+◌, ◌*◌, ◌<◌, ◌^◌};
+ghost use Rattle.xk_base.specs.Fields.{field};
+ghost use Rattle.phys_pages.specs.Ram.{area, words, ppn_of};
+ghost use Rattle.sv32_space.specs.Walk.{entry_in_table, flag, is_valid, is_leaf, is_pointer, lets_through, is_aligned, from_last_level, from_large_leaf, from_pointer, from_root, walk_of, vpn_1};
+
+use phys_pages::Ram;
+use xk_base::{Access, Frame};
+
+/// Where a walk ends.
+#[derive(Clone, Copy, Debug, PartialEq, Eq)]
+pub enum Walked {
+    /// At this physical address, which has at most 34 bits.
+    Reaches(u64),
+    PageFault,
+}
+
+const V: u32 = 0;
+const R: u32 = 1;
+const W: u32 = 2;
+const X: u32 = 3;
+const U: u32 = 4;
+const A: u32 = 6;
+const D: u32 = 7;
+
+fn has_flag(entry: u32, k: u32) -> bool
+    requires { k < 32 }
+    ensures { result ≡ flag entry k }
+{
+    (entry >> k) % 2 == 1
+}
+
+fn valid(entry: u32) -> bool
+    ensures { result ≡ is_valid entry }
+{
+    has_flag(entry, V) && (has_flag(entry, R) || !has_flag(entry, W))
+}
+
+fn leaf(entry: u32) -> bool
+    ensures { result ≡ is_leaf entry }
+{
+    has_flag(entry, R) || has_flag(entry, X)
+}
+
+// Whether a leaf lets a process access its page.
+fn lets(entry: u32, access: Access) -> bool
+    ensures { result ≡ lets_through entry access }
+{
+    let is_allowed = match access {
+        Access::Fetch => has_flag(entry, X),
+        Access::Load => has_flag(entry, R),
+        Access::Store => has_flag(entry, W) && has_flag(entry, D),
+    };
+    has_flag(entry, U) && has_flag(entry, A) && is_allowed
+}
+
+// The entry at an index of the table in a page; `None` outside RAM.
+#[tactic(auto, using(phys_pages::proofs::WordLaws::word_places))]
+fn table_entry(ram: &Ram, ppn: u32, index: u32) -> Option<u32>
+    requires { index < 1024 }
+    ensures { result ≡ entry_in_table ram.now ppn index }
+{
+    match ram.frame_of(ppn) {
+        Some(_) => Some(ram.word(ppn * 4096 + 4 * index)),
+        None => None,
+    }
+}
+
+fn walk_last(entry: u32, va: u32, access: Access) -> Walked
+    ensures { result ≡ from_last_level entry va access }
+{
+    if valid(entry) && leaf(entry) && lets(entry, access) {
+        Walked::Reaches((entry / 1024) as u64 * 4096 + (va % 4096) as u64)
+    } else {
+        Walked::PageFault
+    }
+}
+
+fn walk_large(entry: u32, va: u32, access: Access) -> Walked
+    ensures { result ≡ from_large_leaf entry va access }
+{
+    if lets(entry, access) && entry / 1024 % 1024 == 0 {
+        Walked::Reaches((entry / 1024) as u64 * 4096 + (va % 0x40_0000) as u64)
+    } else {
+        Walked::PageFault
+    }
+}
+
+fn walk_pointer(ram: &Ram, entry: u32, va: u32, access: Access) -> Walked
+    ensures { result ≡ from_pointer ram.now entry va access }
+{
+    match table_entry(ram, entry / 1024, va / 4096 % 1024) {
+        Some(last) => walk_last(last, va, access),
+        None => Walked::PageFault,
+    }
+}
+
+fn walk_root(ram: &Ram, entry: u32, va: u32, access: Access) -> Walked
+    ensures { result ≡ from_root ram.now entry va access }
+{
+    if !valid(entry) {
+        return Walked::PageFault;
+    }
+    if leaf(entry) {
+        return walk_large(entry, va, access);
+    }
+    if has_flag(entry, U) || has_flag(entry, A) || has_flag(entry, D) {
+        return Walked::PageFault;
+    }
+    walk_pointer(ram, entry, va, access)
+}
+
+// The entry of a root table that a virtual address selects; `None` where the table isn't in RAM.
+#[tactic(auto, using(crate::proofs::WalkLaws::no_entry_outside))]
+fn root_entry(ram: &Ram, root: Frame, va: u32) -> Option<u32>
+    ensures { result ≡ entry_in_table ram.now (ppn_of (area ram.now) root.0) (vpn_1 va) }
+{
+    if root.0 >= ram.frames() {
+        return None;
+    }
+    table_entry(ram, ram.ppn_of(root), va / 0x40_0000)
+}
+
+/// Where a process with this root table reaches at a virtual address: the walk of Sv32 in user mode
+/// (RISC-V Privileged, 4.3.2) on the bytes of RAM. A table outside RAM is a page fault.
+#[tactic(auto, unfolding(crate::specs::Walk::walk_of))]
+pub fn walk(ram: &Ram, root: Frame, va: u32, access: Access) -> Walked
+    ensures { result ≡ walk_of ram.now root.0 va access }
+{
+    match root_entry(ram, root, va) {
+        Some(entry) => walk_root(ram, entry, va, access),
+        None => Walked::PageFault,
+    }
+}
