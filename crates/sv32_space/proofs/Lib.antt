@@ -1,0 +1,2 @@
+pub mod LoanAgreement
+pub mod PageAgreement

@@ -1,1 +1,6 @@
+pub mod Agreement
 pub mod Entries
+pub mod EntryLedger
+pub mod PageChanges
+pub mod PageSteps
+pub mod StandsFor

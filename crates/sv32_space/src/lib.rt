@@ -2,6 +2,7 @@
 //! together stand for the ledger of pages.
 #![tactic(auto)]
 
+pub mod agreement_laws;
 mod sides;
 
 pub use sides::{EntryKind, Side};
