@@ -1,2 +1,4 @@
+pub mod EntryLedgerLaws
 pub mod LoanAgreement
 pub mod PageAgreement
+pub mod PageLedger

@@ -3,6 +3,7 @@
 #![tactic(auto)]
 
 pub mod agreement_laws;
+pub mod ledger_laws;
 mod sides;
 
 pub use sides::{EntryKind, Side};
