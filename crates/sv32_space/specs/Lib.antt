@@ -1,5 +1,11 @@
+pub mod Agreement
 pub mod Entries
 pub mod Spaces
 pub mod SpelledEntries
 pub mod Spellings
 pub mod Walk
+pub mod EntryLedger
+pub mod PageChanges
+pub mod PageSteps
+pub mod StandsFor
+pub mod Tie

@@ -4,6 +4,8 @@
 
 mod entries;
 pub mod laws;
+pub mod agreement_laws;
+pub mod ledger_laws;
 mod sides;
 mod spaces;
 mod walking;

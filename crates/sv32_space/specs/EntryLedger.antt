@@ -1,0 +1,59 @@
+-- The ledger that entries, owners and the bytes of seats make. At a home the entry tells the right, the owner table the
+-- loan; at a holder's place an orphan stands where the owner table has no home for the seat. A page that is out is there
+-- like any other: its seat is a slot.
+use Rattle.std.specs.Prelude.{ℕ, false, is_none, List, Option, Some, None, if◌then◌else◌}
+use Rattle.std.specs.Option.{option_and_then, option_map}
+use Rattle.phys_pages.specs.declared.infos.LoanInfo.{LoanInfo}
+use Rattle.phys_pages.specs.declared.infos.PageInfo.{PageInfo}
+use Rattle.phys_pages.specs.declared.infos.Seat.{Seat}
+use Rattle.ledger_model.specs.Ledger.{Ledger, Console, Bytes, Page, PageLoan, Orphan}
+use Rattle.sv32_space.specs.declared.sides.Side.{Side}
+use Rattle.sv32_space.specs.declared.sides.Side.TheVariants.{Own, LentOut, LentIn, MutOut, MutIn}
+use Rattle.sv32_space.specs.Agreement.{Infos, loan_in, right_of_side}
+use Rattle.sv32_space.specs.Entries.{Entry, Entries, Free, At, OnConsole}
+
+-- what the page at each seat holds
+abbrev pub SeatBytes : Type 0
+SeatBytes = Seat → List ℕ
+
+abbrev pub page_loan : LoanInfo → PageLoan
+page_loan loan = record { holder = loan.holder; kind = loan.kind; number = loan.number }
+
+-- the page whose home has that side of it
+abbrev pub page_of_side : Side → Option PageInfo → List ℕ → Option Page
+page_of_side (Own right) info bytes = Some (record { right = right; contents = Bytes bytes; loan = None })
+page_of_side (LentOut right) info bytes = Some (record { right = right; contents = Bytes bytes; loan = option_map page_loan (loan_in info) })
+page_of_side LentIn info bytes = None
+page_of_side (MutOut x) info bytes =
+    Some (record { right = right_of_side (MutOut x); contents = Bytes bytes; loan = option_map page_loan (loan_in info) })
+page_of_side MutIn info bytes = None
+
+abbrev pub page_of_entry : Infos → SeatBytes → Entry → Option Page
+page_of_entry I B Free = None
+page_of_entry I B (At side s) = page_of_side side (I s) (B s)
+page_of_entry I B (OnConsole w) = Some (record { right = record { w = w; x = false }; contents = Console; loan = None })
+
+abbrev pub orphan_of_loan : List ℕ → LoanInfo → Orphan
+orphan_of_loan bytes loan = record { kind = loan.kind; bytes = bytes; number = loan.number }
+
+-- the orphan that a page on loan is, where it has no home
+abbrev pub orphan_of_info : List ℕ → PageInfo → Option Orphan
+orphan_of_info bytes info = if is_none info.home then option_map (orphan_of_loan bytes) info.loan else None
+
+abbrev pub orphan_of_side : Side → Option PageInfo → List ℕ → Option Orphan
+orphan_of_side (Own right) info bytes = None
+orphan_of_side (LentOut right) info bytes = None
+orphan_of_side LentIn info bytes = option_and_then (orphan_of_info bytes) info
+orphan_of_side (MutOut x) info bytes = None
+orphan_of_side MutIn info bytes = option_and_then (orphan_of_info bytes) info
+
+abbrev pub orphan_of_entry : Infos → SeatBytes → Entry → Option Orphan
+orphan_of_entry I B Free = None
+orphan_of_entry I B (At side s) = orphan_of_side side (I s) (B s)
+orphan_of_entry I B (OnConsole w) = None
+
+unfoldable pub ledger_of : Entries → Infos → SeatBytes → Ledger
+ledger_of E I B = record {
+  home = λ p. option_and_then (page_of_entry I B) (E p);
+  orphan = λ p. option_and_then (orphan_of_entry I B) (E p);
+}

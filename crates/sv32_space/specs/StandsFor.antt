@@ -1,0 +1,88 @@
+-- Stands for: what ties the entries of all address spaces, the bytes of frames and what the slots of the swap store hold to a
+-- ledger of `procs` processes. It says nothing of how a program keeps track of owners. Each page of the ledger but the
+-- console, and each orphan, has a seat: a frame or a slot. A page is named by its home, an orphan by its holder's place.
+use Rattle.std.specs.Prelude.{◌≡◌, ◌≢◌, ℕ, ◌*◌, ◌<◌, ◌≤◌, Bool, true, false, ◌||◌, is_some, IsTrue, List, Option, Some, None}
+use Rattle.std.specs.Option.{option_map}
+use Rattle.xk_base.specs.declared.ids.Frame.{Frame as FrameNumber}
+use Rattle.xk_base.specs.declared.ids.Place.{Place}
+use Rattle.xk_base.specs.declared.pages.Right.{Right}
+use Rattle.phys_pages.specs.declared.infos.Seat.{Seat}
+use Rattle.phys_pages.specs.declared.infos.Seat.TheVariants.{Frame, Slot}
+use Rattle.phys_pages.specs.Owners.{frame_seat}
+use Rattle.ledger_model.specs.Ledger.{Ledger, Console, Bytes, Page, PageLoan, Orphan, loan_at, is_counted}
+use Rattle.ledger_model.specs.Places.{is_process, is_user_place}
+use Rattle.ledger_model.specs.Reach.{is_free}
+use Rattle.sv32_space.specs.declared.sides.Side.{Side}
+use Rattle.sv32_space.specs.declared.sides.Side.TheVariants.{Own}
+use Rattle.sv32_space.specs.Agreement.{lender_side, holder_side}
+use Rattle.sv32_space.specs.Entries.{Entry, Entries, Free, At, OnConsole}
+
+-- the frames before the first that may have a page: 21 tables of each process, its root and four for each window
+abbrev pub table_frames : ℕ → ℕ
+table_frames procs = 21 * procs
+
+-- a place at which a page that has a seat has its name
+abbrev pub has_page : Ledger → Place → Bool
+has_page ledger p = is_counted (ledger.home p) || is_some (ledger.orphan p)
+
+-- the side that a home has of its page, by right and loan
+abbrev pub home_side : Right → Option PageLoan → Side
+home_side right None = Own right
+home_side right (Some loan) = lender_side loan.kind right
+
+-- Parts 2 and 3. The entry of each place is the one spelling of what the ledger has there: Own, LentOut or MutOut at a home,
+-- by its loan and right; LentIn or MutIn at a holder's place or an orphan's; Free elsewhere. A home and its holder's place
+-- name one seat. The console is Own at the console's page.
+pub record AreSpelled (procs : ℕ) (E : Entries) (ledger : Ledger) (seat : Place → Seat) : Type 0 where
+  pub home : (p : Place) (page : Page) (bytes : List ℕ) → ledger.home p ≡ Some page → page.contents ≡ Bytes bytes
+      → E p ≡ Some (At (home_side page.right page.loan) (seat p))
+  pub holder : (p : Place) (loan : PageLoan) → loan_at ledger p ≡ Some loan
+      → E loan.holder ≡ Some (At (holder_side loan.kind) (seat p))
+  pub orphan : (p : Place) (orphan : Orphan) → ledger.orphan p ≡ Some orphan
+      → E p ≡ Some (At (holder_side orphan.kind) (seat p))
+  pub free : (p : Place) → IsTrue (is_user_place procs p) → IsTrue (is_free procs ledger p) → E p ≡ Some Free
+  pub console : (p : Place) (page : Page) → ledger.home p ≡ Some page → page.contents ≡ Console
+      → E p ≡ Some (OnConsole page.right.w)
+  pub console_no_fetch : (p : Place) (page : Page) → ledger.home p ≡ Some page → page.contents ≡ Console
+      → page.right.x ≡ false
+  pub console_no_loan : (p : Place) (page : Page) → ledger.home p ≡ Some page → page.contents ≡ Console
+      → page.loan ≡ None
+
+-- the bytes that are told of a seat: those of a frame always, and those of a slot where the store tells what it holds
+abbrev pub told_bytes : (ℕ → List ℕ) → Option (ℕ → List ℕ) → Seat → Option (List ℕ)
+told_bytes pages held (Frame f) = Some (pages f.0)
+told_bytes pages held (Slot s) = option_map (λ slots. slots s.0) held
+
+-- Part 4. A page in a frame has that frame's bytes. A page that is out has the bytes of its slot.
+pub record AreBytes (told : Seat → Option (List ℕ)) (ledger : Ledger) (seat : Place → Seat) : Type 0 where
+  pub home : (p : Place) (page : Page) (bytes known : List ℕ) → ledger.home p ≡ Some page → page.contents ≡ Bytes bytes
+      → told (seat p) ≡ Some known → bytes ≡ known
+  pub orphan : (p : Place) (orphan : Orphan) (known : List ℕ) → ledger.orphan p ≡ Some orphan
+      → told (seat p) ≡ Some known → orphan.bytes ≡ known
+
+-- Part 5, its first two sentences. No two pages have one seat, and no page has a frame of a table; RAM has `frames` frames.
+pub record AreSeatsApart (procs frames : ℕ) (ledger : Ledger) (seat : Place → Seat) : Type 0 where
+  pub apart : (p q : Place) → IsTrue (has_page ledger p) → IsTrue (has_page ledger q) → seat p ≡ seat q → p ≡ q
+  pub no_table : (p : Place) (f : FrameNumber) → IsTrue (has_page ledger p) → seat p ≡ Frame f → table_frames procs ≤ f.0
+  pub in_ram : (p : Place) (f : FrameNumber) → IsTrue (has_page ledger p) → seat p ≡ Frame f → f.0 < frames
+
+-- Part 5, its last sentence. A frame outside the tables has no page.
+pub record HasFreeFrame (procs frames : ℕ) (ledger : Ledger) (seat : Place → Seat) : Type 0 where
+  pub frame : ℕ
+  pub no_table : table_frames procs ≤ frame
+  pub in_ram : frame < frames
+  pub free : (p : Place) → IsTrue (has_page ledger p) → seat p ≢ frame_seat frame
+
+-- All parts but the last sentence of part 5, which isn't claimed between the two halves of an exchange. Part 1 is `tables`:
+-- the root and the tables of each process are as they were made.
+pub record StandsAt (tables_made : ℕ → Type 0) (procs frames : ℕ) (E : Entries) (told : Seat → Option (List ℕ)) (ledger : Ledger) (seat : Place → Seat) : Type 0 where
+  pub tables : (pid : ℕ) → IsTrue (is_process procs pid) → tables_made pid
+  pub spelled : AreSpelled procs E ledger seat
+  pub bytes : AreBytes told ledger seat
+  pub apart : AreSeatsApart procs frames ledger seat
+
+-- The entries, the bytes of frames and the slots stand for the ledger.
+pub record StandsFor (tables_made : ℕ → Type 0) (procs frames : ℕ) (E : Entries) (told : Seat → Option (List ℕ)) (ledger : Ledger) : Type 0 where
+  pub seat : Place → Seat
+  pub stands : StandsAt tables_made procs frames E told ledger seat
+  pub room : HasFreeFrame procs frames ledger seat
