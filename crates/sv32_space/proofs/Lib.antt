@@ -1,3 +1,4 @@
+pub mod ClearLaws
 pub mod EntryLaws
 pub mod SpaceLaws
 pub mod SpellingLaws
