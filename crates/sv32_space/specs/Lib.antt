@@ -1,4 +1,5 @@
 pub mod Entries
+pub mod EntryReach
 pub mod Spaces
 pub mod SpelledEntries
 pub mod Spellings
