@@ -3,7 +3,7 @@
 #![tactic(auto)]
 
 mod entries;
-pub mod laws;
+pub mod space_laws;
 mod sides;
 mod spaces;
 mod walking;
@@ -12,3 +12,6 @@ pub use entries::{entry_of, kind_of};
 pub use sides::{EntryKind, Side};
 pub use spaces::{TABLE_FRAMES, leaf, new_space, root_of, set_leaf};
 pub use walking::{Walked, walk};
+
+#[cfg(test)]
+mod tests;
