@@ -181,10 +181,11 @@ pub leaf_is_entry : (ram : RamBytes) (q : Place) (word : ℕ) → IsMade ram q.p
 unfolding entries
 leaf_is_entry ram q word made window is =
     let there : (w : Window) × (window_at q.vpn.0 ≡ Some w) = window_there (window_at q.vpn.0) window in
-    let same : word ≡ leaf_word (pages ram) (root_at q.pid.0) there.0 q.vpn.0 = is there.0 there.1 in
-    (subst (λ n. IsSome (kind_at n)) (sym same) (made.space.spelled there.0 q.vpn.0 there.1),
-    λ procs process. entry_at_place procs (area ram) (pages ram) q there.0 (of_true (is_process procs q.pid.0) process) made.space.within there.1
-    ∙ ap (λ n. entry_spelled (area ram) n) (sym same))
+    let same : word ≡ leaf_word (pages ram) (root_at q.pid.0) there.0 q.vpn.0 = is there.0 there.1 in (
+      subst (λ n. IsSome (kind_at n)) (sym same) (made.space.spelled there.0 q.vpn.0 there.1),
+      λ procs process. entry_at_place procs (area ram) (pages ram) q there.0 (of_true (is_process procs q.pid.0) process) made.space.within there.1
+          ∙ ap (λ n. entry_spelled (area ram) n) (sym same),
+    )
 
 -- ---- an entry is written
 
@@ -204,8 +205,8 @@ is_write old new q v set w here = record {
   space = set.made.space;
   here = here;
   whole =
-  let table = table_within w (root_at q.pid.0) (q.vpn.0 / 1024) (mapped_page w q.vpn.0 here) in
-  length-pages old (table_frame (root_at q.pid.0) w (q.vpn.0 / 1024)) (omega (arith, table.1, set.made.space.within));
+      let table = table_within w (root_at q.pid.0) (q.vpn.0 / 1024) (mapped_page w q.vpn.0 here) in
+      length-pages old (table_frame (root_at q.pid.0) w (q.vpn.0 / 1024)) (omega (arith, table.1, set.made.space.within));
   fits = set.fits;
 }
 
@@ -230,7 +231,7 @@ set_made old new q v set pid made =
     record {
       process = made.process;
       space =
-      subst (λ a. IsSpace a (pages new) (root_at pid)) (sym set.area)
-      (subst (λ P. IsSpace (area old) P (root_at pid)) (sym (set.pages there.0 there.1))
-      (spaces_with_leaf (area old) (pages old) q.pid.0 there.0 q.vpn.0 v set.made.process (is_write old new q v set there.0 there.1) set.spelled pid made.process made.space));
+          subst (λ a. IsSpace a (pages new) (root_at pid)) (sym set.area)
+          (subst (λ P. IsSpace (area old) P (root_at pid)) (sym (set.pages there.0 there.1))
+          (spaces_with_leaf (area old) (pages old) q.pid.0 there.0 q.vpn.0 v set.made.process (is_write old new q v set there.0 there.1) set.spelled pid made.process made.space));
     }

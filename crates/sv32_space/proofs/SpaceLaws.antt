@@ -202,13 +202,13 @@ pub space_with_leaf : (a : Area) (P : ℕ → List ℕ) (first : ℕ) (w : Windo
 space_with_leaf a P first w vpn v write spelled = record {
   within = write.space.within;
   root = λ i low.
-  (let table = table_within w first (vpn / 1024) (mapped_page w vpn write.here) in
-  table_word_other P (table_frame first w (vpn / 1024)) (vpn % 1024) v first i write.whole (omega arith) (λ same index. omega (arith, table.0, same)))
-  ∙ write.space.root i low;
+      (let table = table_within w first (vpn / 1024) (mapped_page w vpn write.here) in
+      table_word_other P (table_frame first w (vpn / 1024)) (vpn % 1024) v first i write.whole (omega arith) (λ same index. omega (arith, table.0, same)))
+      ∙ write.space.root i low;
   outside = λ u x here none.
-  leaf_other a P first w vpn v write u x (mapped_entry u (x / 1024) here)
-  (λ same. none-some w (sym none ∙ ap (λ n. window_at n) same ∙ write.here))
-  ∙ write.space.outside u x here none;
+      leaf_other a P first w vpn v write u x (mapped_entry u (x / 1024) here)
+      (λ same. none-some w (sym none ∙ ap (λ n. window_at n) same ∙ write.here))
+      ∙ write.space.outside u x here none;
   spelled = at;
 }
   where

@@ -3,8 +3,8 @@
 #![tactic(auto)]
 
 mod entries;
-pub mod space_laws;
 mod sides;
+pub mod space_laws;
 mod spaces;
 mod walking;
 

@@ -24,11 +24,17 @@ pub enum Walked {
 }
 
 const V: u32 = 0;
+
 const R: u32 = 1;
+
 const W: u32 = 2;
+
 const X: u32 = 3;
+
 const U: u32 = 4;
+
 const A: u32 = 6;
+
 const D: u32 = 7;
 
 fn has_flag(entry: u32, k: u32) -> bool
