@@ -35,3 +35,6 @@ returns-clause-pages c = set_pages c.args.ram.now c.set_word.new.self c.args.at 
 
 pub returns-clause-made : goal.returns-clause-made
 returns-clause-made c = set_made c.args.ram.now c.set_word.new.self c.args.at c.args.word (is_set c)
+
+pub returns-clause-own : goal.returns-clause-own
+returns-clause-own c = set_made c.args.ram.now c.set_word.new.self c.args.at c.args.word (is_set c) c.args.at.pid.0 c.requires.made
