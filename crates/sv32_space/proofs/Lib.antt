@@ -1,4 +1,5 @@
 pub mod EntryLedgerLaws
 pub mod LoanAgreement
+pub mod LoanLedger
 pub mod PageAgreement
 pub mod PageLedger
