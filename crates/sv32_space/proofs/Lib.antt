@@ -3,3 +3,4 @@ pub mod LoanAgreement
 pub mod LoanLedger
 pub mod PageAgreement
 pub mod PageLedger
+pub mod Standing

@@ -5,5 +5,6 @@
 pub mod agreement_laws;
 pub mod ledger_laws;
 mod sides;
+pub mod standing_laws;
 
 pub use sides::{EntryKind, Side};
