@@ -3,4 +3,5 @@ pub mod Entries
 pub mod EntryLedger
 pub mod PageChanges
 pub mod PageSteps
+pub mod Small
 pub mod StandsFor

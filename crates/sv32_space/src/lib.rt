@@ -5,6 +5,7 @@
 pub mod agreement_laws;
 pub mod ledger_laws;
 mod sides;
+pub mod small;
 pub mod standing_laws;
 
 pub use sides::{EntryKind, Side};
