@@ -3,4 +3,5 @@ pub mod LoanAgreement
 pub mod LoanLedger
 pub mod PageAgreement
 pub mod PageLedger
+pub mod Runs
 pub mod Standing

@@ -4,6 +4,7 @@
 
 pub mod agreement_laws;
 pub mod ledger_laws;
+pub mod run_laws;
 mod sides;
 pub mod small;
 pub mod standing_laws;
