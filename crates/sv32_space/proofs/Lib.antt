@@ -5,4 +5,5 @@ pub mod NumberRuns
 pub mod PageAgreement
 pub mod PageLedger
 pub mod Runs
+pub mod SeatByteLaws
 pub mod Standing
