@@ -6,5 +6,10 @@ pub mod SpellingLaws
 pub mod WalkLaws
 pub mod EntryLedgerLaws
 pub mod LoanAgreement
+pub mod LoanLedger
+pub mod NumberRuns
 pub mod PageAgreement
 pub mod PageLedger
+pub mod Runs
+pub mod SeatByteLaws
+pub mod Standing

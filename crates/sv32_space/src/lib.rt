@@ -5,10 +5,13 @@
 mod entries;
 pub mod agreement_laws;
 pub mod ledger_laws;
+pub mod run_laws;
 mod sides;
 pub mod space_laws;
 mod spaces;
 mod walking;
+pub mod small;
+pub mod standing_laws;
 
 pub use entries::{entry_of, kind_of};
 pub use sides::{EntryKind, Side};
