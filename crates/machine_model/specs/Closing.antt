@@ -1,5 +1,5 @@
 -- How servers end, and what the servers of others see of the death of a process.
-use Rattle.std.specs.Prelude.{ℕ, Bool, false, not, ◌&&◌, ◌==◌, filter, is_some, map, List, if◌then◌else◌, Option, Some, None}
+use Rattle.std.specs.Prelude.{ℕ, Bool, false, not, ◌&&◌, ◌==◌, filter, is_some, map, if◌then◌else◌, Option, Some, None}
 use Rattle.std.specs.List.{list_any}
 use Rattle.std.specs.Option.{option_map}
 use Rattle.xk_base.specs.declared.errors.XousError.TheVariants.{ServerNotFound}

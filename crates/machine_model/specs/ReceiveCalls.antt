@@ -1,5 +1,5 @@
 -- ReceiveMessage and TryReceiveMessage. The caller is the thread of the cursor.
-use Rattle.std.specs.Prelude.{List, [], Option, Some, None}
+use Rattle.std.specs.Prelude.{Option, Some, None}
 use Rattle.std.specs.Option.{option_and_then}
 use Rattle.xk_base.specs.declared.ids.Serial.{Serial}
 use Rattle.xk_base.specs.declared.ids.Sid.{Sid}

@@ -5,7 +5,7 @@ use Rattle.xk_base.specs.declared.ids.Serial.{Serial}
 use Rattle.xk_base.specs.declared.ids.ThreadId.{ThreadId}
 use Rattle.xk_base.specs.Circle.{thread_ids}
 use Rattle.xk_base.specs.Counting.{least_below}
-use Rattle.machine_model.specs.Machine.{Machine, Thread, ThreadState, Receiving}
+use Rattle.machine_model.specs.Machine.{Machine, ThreadState, Receiving}
 
 abbrev pub is_receiving : Serial → ThreadState → Bool
 is_receiving serial (Receiving other) = other.0 == serial.0

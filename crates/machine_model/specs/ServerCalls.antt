@@ -1,6 +1,6 @@
 -- The calls that make, find and end servers. Each is its list of refusals in their order, then its change and its reply, and
 -- then the call from its words. The caller is the thread of the cursor.
-use Rattle.std.specs.Prelude.{ℕ, ◌+◌, ◌==◌, Bool, true, false, not, nat_eq, is_none, is_some, unwrap_or, List, [], ◌∷◌, Some}
+use Rattle.std.specs.Prelude.{ℕ, ◌+◌, ◌==◌, Bool, not, nat_eq, is_none, is_some, unwrap_or, List, [], ◌∷◌, Some}
 use Rattle.xk_base.specs.declared.errors.XousError.{XousError}
 use Rattle.xk_base.specs.declared.errors.XousError.TheVariants.{ServerExists, ServerNotFound, InvalidLimit}
 use Rattle.xk_base.specs.declared.ids.Serial.{Serial}
