@@ -22,6 +22,7 @@ pub mod Order
 pub mod ReceiveCalls
 pub mod Receivers
 pub mod ReturnCalls
+pub mod Rows
 pub mod SendCalls
 pub mod ServerCalls
 pub mod Servers

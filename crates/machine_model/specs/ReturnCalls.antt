@@ -13,7 +13,6 @@ use Rattle.xk_base.specs.declared.messages.Message.{Message}
 use Rattle.xk_base.specs.CallWords.{return_token, return_address, return_size, return_offset, return_valid, return_value1, return_value2}
 use Rattle.xk_base.specs.Counting.{least_below}
 use Rattle.xk_base.specs.Replies.{plain_words, returned_words, scalar1_words, scalar2_words}
-use Rattle.ledger_model.specs.Ledger.{Ledger}
 use Rattle.ledger_model.specs.Steps.{end_loan}
 use Rattle.machine_model.specs.Changes.{Change, Served, Call, answering, unless_refused}
 use Rattle.machine_model.specs.Machine.{Machine, Server}
@@ -36,29 +35,29 @@ unfoldable pub holder_of : Machine → (Message → Bool) → Option Serial
 holder_of m test =
     option_map serial_of (least_below m.next_serial (λ n. is_server_of m.cursor.pid (m.servers n) && holds test (m.servers n)))
 
--- the message that it holds
-abbrev pub held_at : Machine → (Message → Bool) → Option Serial → Option Message
-held_at m test holder =
-    option_and_then (λ serial. option_and_then (λ server. find test server.held) (m.servers serial.0)) holder
+abbrev pub held_at : Machine → (Message → Bool) → Serial → Option Message
+held_at m test serial = option_and_then (λ server. find test server.held) (m.servers serial.0)
 
--- the held message that passes the test
+-- the message that it holds
 abbrev pub held_by_caller : Machine → (Message → Bool) → Option Message
-held_by_caller m test = held_at m test (holder_of m test)
+held_by_caller m test = option_and_then (held_at m test) (holder_of m test)
 
 -- ---- the answer
+
+abbrev pub sender_of_message : Option Message → Option ThreadId
+sender_of_message message = option_and_then (λ held. held.sender) message
 
 -- a senderless message is answered to nobody
 abbrev pub sender_gets : List ℕ → Option ThreadId → Answers
 sender_gets words None = no_answers
 sender_gets words (Some who) = answer_to who words
 
--- The message leaves the held list, with this ledger after it. Its sender is answered these words, and the caller that the
--- call was served.
-abbrev pub given_back : Machine → Option Serial → Option Message → Ledger → List ℕ → Change
-given_back m holder message ledger words =
-    answering (both_answers (answer_to m.cursor plain_words) (sender_gets words (option_and_then (λ held. held.sender) message)))
-    (change_server (unwrap_or holder (serial_of 0)) (without_held (option_map_or (λ held. held.number) message (record { 0 = 0 })))
-    (record m { ledger = ledger }))
+-- The held message of that number which passes the test leaves its list. Its sender is answered these words, and the caller
+-- that the call was served.
+abbrev pub given_back : Machine → Number → (Message → Bool) → List ℕ → Change
+given_back m number test words =
+    answering (both_answers (answer_to m.cursor plain_words) (sender_gets words (sender_of_message (held_by_caller m test))))
+    (change_server (unwrap_or (holder_of m test) (serial_of 0)) (without_held number) m)
 
 -- ---- ReturnMemory
 
@@ -76,8 +75,8 @@ return_memory_refusals m number address size =
 -- its loan ends; a senderless message's pages go
 abbrev pub return_memory_served : Machine → Number → ℕ → ℕ → Change
 return_memory_served m number offset valid =
-    given_back m (holder_of m (is_lend_of number)) (held_by_caller m (is_lend_of number)) (end_loan number m.ledger)
-    (returned_words offset valid)
+    let left = given_back m number (is_lend_of number) (returned_words offset valid) in
+    record left { machine = record left.machine { ledger = end_loan number m.ledger } }
 
 unfoldable pub return_memory_call : Call
 return_memory_call m w =
@@ -92,8 +91,7 @@ return_scalar_refusals m number =
     ∷ []
 
 abbrev pub return_scalar_served : Machine → Number → List ℕ → Change
-return_scalar_served m number words =
-    given_back m (holder_of m (is_blocking_of number)) (held_by_caller m (is_blocking_of number)) m.ledger words
+return_scalar_served m number words = given_back m number (is_blocking_of number) words
 
 unfoldable pub return_scalar1_call : Call
 return_scalar1_call m w =

@@ -5,6 +5,7 @@
 mod laws;
 mod order;
 mod refusals;
+mod rows;
 
 pub use laws::{
     arguments_are_given, next_ready_is_ready, no_step_without_actor, none_ready_without_next,
@@ -13,3 +14,4 @@ pub use laws::{
 };
 pub use order::next_ready;
 pub use refusals::{first_refusal, refusal_words};
+pub use rows::pending_interrupts_are_a_set;
