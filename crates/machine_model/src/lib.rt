@@ -14,4 +14,7 @@ pub use laws::{
 };
 pub use order::next_ready;
 pub use refusals::{first_refusal, refusal_words};
-pub use rows::pending_interrupts_are_a_set;
+pub use rows::{
+    pending_interrupts_are_a_set, scalars_are_answered_once, senderless_message_is_forgotten,
+    stale_connection_leads_nowhere, waiting_thread_gets_the_message,
+};

@@ -1,15 +1,34 @@
 //! Worked rows of the machine: what is told of calls and events on small machines.
 
-ghost use Rattle.std.specs.Prelude.{◌≡◌, ◌∷◌, []};
-ghost use Rattle.xk_base.specs.declared.records.What.TheVariants.{Reply, Irq, Gone};
-ghost use Rattle.xk_base.specs.Replies.{eight_words};
-ghost use Rattle.machine_model.specs.Rows.{Calls, Raises, EndsHandler, Kills, pid_of, id_of, small_machine, told_all};
+ghost use Rattle.std.specs.Prelude.{◌≡◌};
+ghost use Rattle.machine_model.specs.Rows.{small_machine, told_all, pending_row, pending_told, scalar_row, scalar_told, waiting_row, waiting_told, stale_row, stale_told, senderless_row, senderless_told};
 
-/// An interrupt that is raised again while its handler runs is delivered once more.
+/// An interrupt that is raised while its handler runs is delivered once more, however often.
 #[tactic(auto, using(crate::proofs::RowLemmas::pending_is_a_set))]
 pub fn pending_interrupts_are_a_set()
-    ensures {
-        told_all (Calls (id_of 2 2) (5 ∷ 4 ∷ 65536 ∷ 9 ∷ []) ∷ Raises 4 ∷ Raises 4 ∷ Raises 4 ∷ EndsHandler (pid_of 2) ∷ EndsHandler (pid_of 2) ∷ []) (small_machine 1)
-        ≡ Reply (id_of 2 2) (eight_words (0 ∷ [])) ∷ Irq (pid_of 2) 4 ∷ Irq (pid_of 2) 4 ∷ []
-    }
+    ensures { told_all pending_row (small_machine 1) ≡ pending_told }
+{}
+
+/// A blocking scalar is answered once.
+#[tactic(auto, using(crate::proofs::RowLemmas::scalars_answered))]
+pub fn scalars_are_answered_once()
+    ensures { told_all scalar_row (small_machine 2) ≡ scalar_told }
+{}
+
+/// A thread that waits at a server gets a message in the step of its send.
+#[tactic(auto, using(crate::proofs::RowLemmas::waiting_got))]
+pub fn waiting_thread_gets_the_message()
+    ensures { told_all waiting_row (small_machine 2) ≡ waiting_told }
+{}
+
+/// A connection to a dead server leads to no other.
+#[tactic(auto, using(crate::proofs::RowLemmas::stale_connection))]
+pub fn stale_connection_leads_nowhere()
+    ensures { told_all stale_row (small_machine 3) ≡ stale_told }
+{}
+
+/// A message whose sender died is answered to nobody.
+#[tactic(auto, using(crate::proofs::RowLemmas::senderless_forgotten))]
+pub fn senderless_message_is_forgotten()
+    ensures { told_all senderless_row (small_machine 2) ≡ senderless_told }
 {}
