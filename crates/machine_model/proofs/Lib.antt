@@ -1,4 +1,6 @@
 pub mod ArgumentLemmas
+pub mod ClosingLemmas
+pub mod LoanSetLemmas
 pub mod OrderLemmas
 pub mod RefusalLemmas
 pub mod RowLemmas

@@ -2,11 +2,17 @@
 //! `specs/`. The functions here are laws of them, and a few plain functions that meet them.
 #![tactic(auto)]
 
+mod end_laws;
 mod laws;
 mod order;
 mod refusals;
 mod rows;
 
+pub use end_laws::{
+    dead_server_closes, every_number_has_its_call, kill_of_dead_does_nothing, loans_end_one_at_a_time,
+    no_loan_ends, one_loan_ends, one_loan_is_orphaned, pick_of_unready_does_nothing,
+    retry_ends_the_turn, unclaimed_interrupt_does_nothing,
+};
 pub use laws::{
     arguments_are_given, next_ready_is_ready, no_step_without_actor, none_ready_without_next,
     other_registers_stay, records_carry_their_step, refusal_changes_caller_alone,
