@@ -1,4 +1,4 @@
--- Worked rows: what is told of calls and events, one after another, on a small machine without pages.
+-- Worked rows: what is told of calls and events, one after another, on a small machine that begins without pages.
 use Rattle.std.specs.Prelude.{ℕ, ◌==◌, false, List, [], ◌∷◌, ◌++◌, map, if◌then◌else◌, Option, Some, None}
 use Rattle.xk_base.specs.declared.ids.Pid.{Pid}
 use Rattle.xk_base.specs.declared.ids.ThreadId.{ThreadId}
@@ -28,10 +28,10 @@ small_threads n id =
     then (if id.tid.0 == 1 then Some first_handler_thread else (if id.tid.0 == 2 then Some (first_thread 65536) else None))
     else None
 
--- n processes, each with its first thread, and nothing else
+-- n processes, each with its first thread, and room for 16 pages
 unfoldable pub small_machine : ℕ → Machine
 small_machine n = record {
-  capacity = 0;
+  capacity = 16;
   processes = n;
   ledger = empty_ledger;
   steps = 0;
@@ -71,6 +71,11 @@ done (Kills pid) m = told_of (killed pid m)
 unfoldable pub told_all : List Deed → Machine → List What
 told_all [] m = []
 told_all (deed ∷ deeds) m = (done deed m).told ++ told_all deeds (done deed m).machine
+
+-- the machine after them
+unfoldable pub after_all : List Deed → Machine → Machine
+after_all [] m = m
+after_all (deed ∷ deeds) m = after_all deeds (done deed m).machine
 
 -- ---- the rows. The identifier of the server is 1, 2, 3, 4. Pid 2 makes it where not said otherwise.
 
@@ -176,4 +181,29 @@ senderless_told =
     ∷ Reply (id_of 2 2) (eight_words (1 ∷ 25 ∷ []))
     ∷ Reply (id_of 2 2) (eight_words (0 ∷ []))
     ∷ Reply (id_of 2 2) (eight_words (1 ∷ 9 ∷ []))
+    ∷ []
+
+-- 2.2 waits. 3.2 makes a heap of one page and lends it; 2.2 gets it in that step, and returns it.
+abbrev pub lend_begin : List Deed
+lend_begin =
+    Calls (id_of 2 2) (14 ∷ 1 ∷ 2 ∷ 3 ∷ 4 ∷ [])
+    ∷ Calls (id_of 2 2) (15 ∷ 1 ∷ 2 ∷ 3 ∷ 4 ∷ [])
+    ∷ Calls (id_of 3 2) (17 ∷ 1 ∷ 2 ∷ 3 ∷ 4 ∷ [])
+    ∷ Calls (id_of 3 2) (10 ∷ 4096 ∷ [])
+    ∷ []
+
+abbrev pub lend_row : List Deed
+lend_row =
+    Calls (id_of 3 2) (16 ∷ 2 ∷ 2 ∷ 7 ∷ 0x2000_0000 ∷ 4096 ∷ 0 ∷ 0 ∷ [])
+    ∷ Calls (id_of 2 2) (20 ∷ 1 ∷ 0x4000_0000 ∷ 8192 ∷ [])
+    ∷ Calls (id_of 2 2) (20 ∷ 1 ∷ 0x4000_0000 ∷ 4096 ∷ 7 ∷ 9 ∷ [])
+    ∷ Calls (id_of 2 2) (20 ∷ 1 ∷ 0x4000_0000 ∷ 4096 ∷ 7 ∷ 9 ∷ [])
+    ∷ []
+
+abbrev pub lend_told : List What
+lend_told =
+    Reply (id_of 2 2) (9 ∷ 1 ∷ 2 ∷ 7 ∷ 0x4000_0000 ∷ 4096 ∷ 0 ∷ 0 ∷ [])
+    ∷ Reply (id_of 2 2) (eight_words (1 ∷ 2 ∷ []))
+    ∷ Reply (id_of 2 2) (eight_words (0 ∷ [])) ∷ Reply (id_of 3 2) (eight_words (18 ∷ 7 ∷ 9 ∷ []))
+    ∷ Reply (id_of 2 2) (eight_words (1 ∷ 25 ∷ []))
     ∷ []

@@ -22,7 +22,7 @@ use Rattle.ledger_model.specs.Ledger.{Ledger}
 use Rattle.ledger_model.specs.LeastRun.{least_run}
 use Rattle.ledger_model.specs.RunTests.{any_free, any_not_sent}
 use Rattle.ledger_model.specs.Steps.{lend, give}
-use Rattle.machine_model.specs.Changes.{Change, Served, Call, only, answering, unless_refused, unless_retried}
+use Rattle.machine_model.specs.Changes.{Change, Outcome, Served, Call, only, answering, unless_refused, unless_retried}
 use Rattle.machine_model.specs.Connections.{serial_at, own_connections}
 use Rattle.machine_model.specs.Machine.{Machine, Server, Waiting}
 use Rattle.machine_model.specs.MemoryCalls.{is_bad_range, caller_place}
@@ -58,7 +58,8 @@ sent_pages w = send_length w / PAGE_SIZE
 abbrev pub message_run : Machine → ℕ → Server → Option Vpn
 message_run m n server = least_run m.processes m.ledger server.pid MessageWindow n
 
-abbrev pub arrival : Machine → List ℕ → Option Vpn
+-- where the pages go at the receiver
+unfoldable pub arrival : Machine → List ℕ → Option Vpn
 arrival m w = option_and_then (message_run m (sent_pages w)) (server_at m (send_cid w))
 
 -- ---- refusals
@@ -79,10 +80,10 @@ send_refusals m w =
 abbrev pub is_full_for : Machine → List ℕ → Bool
 is_full_for m w = is_full (server_at m (send_cid w))
 
--- those after it
-abbrev pub arrival_refusals : Machine → List ℕ → List (Bool × XousError)
-arrival_refusals m w =
-    (sends_pages w && is_none (arrival m w), MemoryInUse)
+-- that after it
+abbrev pub arrival_refusals : List ℕ → Option Vpn → List (Bool × XousError)
+arrival_refusals w first =
+    (sends_pages w && is_none first, MemoryInUse)
     ∷ []
 
 -- ---- an accepted send
@@ -117,37 +118,38 @@ with_sent m kind from n to = record m {
   next_number = m.next_number + 1;
 }
 
--- where the message goes: the server's serial and process, and the first page there, which there are
+-- where the message goes: the server, which there is, and the place of its first page there
 abbrev pub sent_serial : Machine → List ℕ → Serial
 sent_serial m w = unwrap_or (serial_at (own_connections m) (send_cid w)) (serial_of 0)
 
-abbrev pub sent_place : Machine → List ℕ → Place
-sent_place m w = record {
-  pid = option_map_or (λ server. server.pid) (server_at m (send_cid w)) m.cursor.pid;
-  vpn = unwrap_or (arrival m w) (record { 0 = 0 });
-}
+abbrev pub sent_place : Machine → List ℕ → Vpn → Place
+sent_place m w first = record { pid = option_map_or (λ server. server.pid) (server_at m (send_cid w)) m.cursor.pid; vpn = first }
 
-abbrev pub sent : Machine → MsgKind → List ℕ → Change
-sent m kind w =
+-- the send is accepted, of this kind, with its first page there
+abbrev pub sent : Machine → MsgKind → List ℕ → Vpn → Change
+sent m kind w first =
     let serial = sent_serial m w in
-    let to = sent_place m w in
-    let paged = with_sent m kind (caller_place m (send_address w)) (sent_pages w) to in
-    let left = arrived (receiver m serial) serial (new_message m kind w to.vpn) (sender_left (is_answered kind) (new_number m) paged) in
+    let paged = with_sent m kind (caller_place m (send_address w)) (sent_pages w) (sent_place m w first) in
+    let left = arrived (receiver m serial) serial (new_message m kind w first) (sender_left (is_answered kind) (new_number m) paged) in
     record left { answers = both_answers left.answers (sender_answered (is_answered kind) m.cursor) }
 
--- of the kind that the words name, which there is
-abbrev pub send_served : Machine → List ℕ → Change
-send_served m w = sent m (unwrap_or (named_kind w) Scalar) w
+-- of the kind that the words name, and with the first page that is free, which there are
+abbrev pub send_served : Machine → List ℕ → Option Vpn → Change
+send_served m w first = sent m (unwrap_or (named_kind w) Scalar) w (unwrap_or first (record { 0 = 0 }))
 
 -- ---- the calls
+
+abbrev pub sent_to : Machine → List ℕ → Option Vpn → Outcome
+sent_to m w first = unless_refused (arrival_refusals w first) (Served (send_served m w first))
 
 -- to a full server SendMessage retries
 unfoldable pub send_call : Call
 send_call m w =
     unless_refused (send_refusals m w)
-    (unless_retried (is_full_for m w) (unless_refused (arrival_refusals m w) (Served (send_served m w))))
+    (unless_retried (is_full_for m w) (sent_to m w (arrival m w)))
 
 -- .. and TrySendMessage is refused
 unfoldable pub try_send_call : Call
 try_send_call m w =
-    unless_refused (send_refusals m w ++ (is_full_for m w, ServerQueueFull) ∷ arrival_refusals m w) (Served (send_served m w))
+    unless_refused (send_refusals m w ++ (is_full_for m w, ServerQueueFull) ∷ [])
+    (sent_to m w (arrival m w))
