@@ -1,5 +1,6 @@
 pub mod ArgumentLemmas
 pub mod ClosingLemmas
+pub mod LendRowLemmas
 pub mod LoanSetLemmas
 pub mod OrderLemmas
 pub mod RefusalLemmas

@@ -1,7 +1,7 @@
 //! Worked rows of the machine: what is told of calls and events on small machines.
 
 ghost use Rattle.std.specs.Prelude.{◌≡◌};
-ghost use Rattle.machine_model.specs.Rows.{small_machine, told_all, pending_row, pending_told, scalar_row, scalar_told, waiting_row, waiting_told, stale_row, stale_told, senderless_row, senderless_told};
+ghost use Rattle.machine_model.specs.Rows.{small_machine, told_all, pending_row, pending_told, scalar_row, scalar_told, waiting_row, waiting_told, stale_row, stale_told, senderless_row, senderless_told, after_all, lend_begin, lend_row, lend_told};
 
 /// An interrupt that is raised while its handler runs is delivered once more, however often.
 #[tactic(auto, using(crate::proofs::RowLemmas::pending_is_a_set))]
@@ -31,4 +31,10 @@ pub fn stale_connection_leads_nowhere()
 #[tactic(auto, using(crate::proofs::RowLemmas::senderless_forgotten))]
 pub fn senderless_message_is_forgotten()
     ensures { told_all senderless_row (small_machine 2) ≡ senderless_told }
+{}
+
+/// A lent page stands at the receiver's first free place, and is returned once, by its own range.
+#[tactic(auto, using(crate::proofs::LendRowLemmas::lent_and_returned))]
+pub fn page_is_lent_and_returned()
+    ensures { told_all lend_row (after_all lend_begin (small_machine 2)) ≡ lend_told }
 {}
