@@ -1,7 +1,7 @@
 //! Worked rows of the machine: what is told of calls and events on small machines.
 
 ghost use Rattle.std.specs.Prelude.{◌≡◌};
-ghost use Rattle.machine_model.specs.Rows.{small_machine, told_all, pending_row, pending_told, scalar_row, scalar_told, waiting_row, waiting_told, stale_row, stale_told, senderless_row, senderless_told, after_all, lend_begin, lend_row, lend_told};
+ghost use Rattle.machine_model.specs.Rows.{small_machine, told_all, pending_row, pending_told, scalar_row, scalar_told, waiting_row, waiting_told, stale_row, stale_told, senderless_row, senderless_told, after_all, lend_begin, lend_begin_told, lend_row, lend_told, orphan_row, orphan_told, refusal_row, refusal_told};
 
 /// An interrupt that is raised while its handler runs is delivered once more, however often.
 #[tactic(auto, using(crate::proofs::RowLemmas::pending_is_a_set))]
@@ -33,8 +33,26 @@ pub fn senderless_message_is_forgotten()
     ensures { told_all senderless_row (small_machine 2) ≡ senderless_told }
 {}
 
+/// What is told before a page is lent.
+#[tactic(auto, using(crate::proofs::LendRowLemmas::begun))]
+pub fn lend_begins()
+    ensures { told_all lend_begin (small_machine 2) ≡ lend_begin_told }
+{}
+
 /// A lent page stands at the receiver's first free place, and is returned once, by its own range.
 #[tactic(auto, using(crate::proofs::LendRowLemmas::lent_and_returned))]
 pub fn page_is_lent_and_returned()
     ensures { told_all lend_row (after_all lend_begin (small_machine 2)) ≡ lend_told }
+{}
+
+/// A page on loan is sent by neither side, also where it is an orphan; an orphan is returned once.
+#[tactic(auto, using(crate::proofs::LendRowLemmas::orphan_returned))]
+pub fn orphan_is_returned_once()
+    ensures { told_all orphan_row (after_all lend_begin (small_machine 2)) ≡ orphan_told }
+{}
+
+/// Sends are refused by the first test that holds.
+#[tactic(auto, using(crate::proofs::LendRowLemmas::sends_refused))]
+pub fn sends_are_refused_in_order()
+    ensures { told_all refusal_row (after_all lend_begin (small_machine 2)) ≡ refusal_told }
 {}
