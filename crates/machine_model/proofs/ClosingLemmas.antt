@@ -1,15 +1,12 @@
 -- Laws of closing servers, and of events that do nothing.
-use Rattle.std.proofs.Common.{◌≡◌, ℕ, ◌<◌, Bool, true, false, List, Option, Some, None, refl, sym, ap, ◌∙◌}
+use Rattle.std.proofs.Common.{◌≡◌, ℕ, Bool, true, false, Option, Some, None, refl, sym, ap, ◌∙◌}
 use Rattle.std.specs.Prelude.{◌==◌, ◌&&◌, is_some, if◌then◌else◌, map}
-use Rattle.std.specs.List.{list_any}
 use Rattle.std.proofs.lemmas.Bool.{eqb-true}
 use Rattle.std.proofs.lemmas.Option.{none-some}
-use Rattle.xk_base.specs.declared.ids.Number.{Number}
 use Rattle.xk_base.specs.declared.ids.Pid.{Pid}
 use Rattle.xk_base.specs.declared.ids.Serial.{Serial}
 use Rattle.xk_base.specs.declared.ids.ThreadId.{ThreadId}
 use Rattle.xk_base.specs.CallNumbers.{call_numbers}
-use Rattle.xk_base.specs.Counting.{least_below}
 use Rattle.xk_base.proofs.Counting.{least_below-None}
 use Rattle.machine_model.specs.Calls.{call_table}
 use Rattle.machine_model.specs.Changes.{Retried, call_settled, only}
@@ -17,7 +14,7 @@ use Rattle.machine_model.specs.Closing.{any_server, server_passes, closed, close
 use Rattle.machine_model.specs.Events.{picked, raised, raised_if, killed, killed_if, nothing}
 use Rattle.machine_model.specs.Machine.{Machine, Server}
 use Rattle.machine_model.specs.Order.{ready_at, turn}
-use Rattle.machine_model.specs.Threads.{Answers, no_answers}
+use Rattle.machine_model.specs.Threads.{no_answers}
 use Rattle.machine_model.proofs.LoanSetLemmas.{none_ends}
 
 -- ---- calls
@@ -73,6 +70,7 @@ dead_server_closes m serial e = λ i. record {
   where
     ledger : (close serial m).machine.ledger ≡ m.ledger
     ledger = none_ends (is_message_at (λ n. n == serial.0) m) (λ number. none_there m serial e _) m.ledger
+
     answers : (close serial m).answers ≡ no_answers
     answers = nobody_refused (is_sender_at (λ n. n == serial.0) m) (λ id. none_there m serial e _)
 

@@ -1,14 +1,13 @@
 -- What the invariant doesn't speak of: where the cursor stands.
 use Rattle.std.proofs.Common.{◌≡◌, true}
 use Rattle.std.specs.Prelude.{if◌then◌else◌, unwrap_or}
-use Rattle.std.specs.List.{All}
 use Rattle.std.proofs.lemmas.List.Elements.{All-weaker}
 use Rattle.xk_base.specs.declared.ids.ThreadId.{ThreadId}
 use Rattle.xk_base.specs.declared.messages.Message.{Message}
 use Rattle.machine_model.specs.Events.{picked}
 use Rattle.machine_model.specs.Kept.{PickKeepsMatched, TurnKeepsMatched}
 use Rattle.machine_model.specs.Machine.{Machine, Server}
-use Rattle.machine_model.specs.Matched.{Matched, IsLedgerMatched, IsLendMatched, AreLoansMatched, AreSendersMatched, IsServerAwaited, AreReceiversMatched, IsThreadAwaited, AreJoinersMatched, AreThreadsMatched, AreHeapsMatched, IsDead, AreKeysApart, AreNextAbove, AreLimitsKept, AreKeysMatched}
+use Rattle.machine_model.specs.Matched.{Matched, IsLedgerMatched, IsLendMatched, AreLoansMatched, AreSendersMatched, AreReceiversMatched, AreJoinersMatched, AreThreadsMatched, AreHeapsMatched, AreKeysApart, AreNextAbove, AreLimitsKept, AreKeysMatched}
 use Rattle.machine_model.specs.MessageCounts.{count_messages}
 use Rattle.machine_model.specs.Messages.{is_lend}
 use Rattle.machine_model.specs.Order.{ready_at, next_ready, turn}

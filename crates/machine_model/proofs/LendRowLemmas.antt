@@ -1,9 +1,8 @@
 -- The worked row of a lend. Where its page goes is found by a law, since the search for it goes through all places; the rest is
 -- evaluated.
-use Rattle.std.proofs.Common.{◌≡◌, ℕ, ◌+◌, ◌<◌, ◌≤◌, Bool, true, false, List, [], ◌∷◌, ◌++◌, Option, Some, None, refl, ap, ◌∙◌, arith}
+use Rattle.std.proofs.Common.{◌≡◌, ℕ, ◌+◌, true, List, [], ◌∷◌, ◌++◌, Some, refl, ap, ◌∙◌, arith}
 use Rattle.std.specs.Prelude.{◌&&◌, nat_le, drop}
 use Rattle.std.specs.Option.{option_map, option_and_then}
-use Rattle.xk_base.specs.declared.ids.Vpn.{Vpn}
 use Rattle.xk_base.specs.declared.records.What.{What}
 use Rattle.xk_base.specs.declared.windows.Window.TheVariants.{Message}
 use Rattle.xk_base.specs.CallWords.{send_cid}
@@ -28,7 +27,7 @@ use Rattle.machine_model.specs.MemoryCalls.{increase_call, update_call, map_call
 use Rattle.machine_model.specs.ReceiveCalls.{receive_call}
 use Rattle.machine_model.specs.Receivers.{receiver}
 use Rattle.machine_model.specs.ReturnCalls.{holder_of, return_memory_call}
-use Rattle.machine_model.specs.Rows.{Deed, Calls, id_of, small_machine, told_all, after_all, lend_begin, lend_begin_told, lend_row, lend_told, orphan_row, orphan_told, refusal_row, refusal_told}
+use Rattle.machine_model.specs.Rows.{Deed, id_of, small_machine, told_all, after_all, lend_begin, lend_begin_told, lend_row, lend_told, orphan_row, orphan_told, refusal_row, refusal_told}
 use Rattle.machine_model.specs.SendCalls.{send_call, try_send_call, sent_to, sent_pages, arrival, message_run}
 use Rattle.machine_model.specs.ServerCalls.{create_server_call, connect_call}
 use Rattle.machine_model.specs.Servers.{with_sid, live_servers, server_at}

@@ -1,9 +1,5 @@
 -- Worked rows, by evaluation.
-use Rattle.std.proofs.Common.{◌≡◌, ℕ, List, [], ◌∷◌, ◌++◌, refl}
-use Rattle.std.specs.Prelude.{map, take, replicate}
-use Rattle.xk_base.specs.declared.records.What.{What}
-use Rattle.xk_base.specs.declared.records.What.TheVariants.{Reply, Irq, Gone}
-use Rattle.xk_base.specs.Replies.{eight_words}
+use Rattle.std.proofs.Common.{◌≡◌, refl}
 use Rattle.xk_base.specs.Counting.{least_below, listed_below, count_below}
 use Rattle.xk_base.specs.Circle.{listed_ids, next_id}
 use Rattle.ledger_model.specs.LeastRun.{least_run, is_free_run}
@@ -13,14 +9,14 @@ use Rattle.machine_model.specs.Changes.{settled, call_settled}
 use Rattle.machine_model.specs.Closing.{any_server, closed, destroyed, servers_closed, senders_queued_gone, senders_held_gone}
 use Rattle.machine_model.specs.Ends.{death, forgotten, handler_ended}
 use Rattle.machine_model.specs.Events.{raised, killed}
-use Rattle.machine_model.specs.InterruptCalls.{claim_call, free_call}
+use Rattle.machine_model.specs.InterruptCalls.{claim_call}
 use Rattle.machine_model.specs.Interrupts.{delivered, lowest_pending}
 use Rattle.machine_model.specs.Order.{turn, next_ready}
 use Rattle.machine_model.specs.ReceiveCalls.{receive_call, try_receive_call}
 use Rattle.machine_model.specs.Receivers.{receiver}
-use Rattle.machine_model.specs.ReturnCalls.{holder_of, return_memory_call, return_scalar1_call, return_scalar2_call}
+use Rattle.machine_model.specs.ReturnCalls.{holder_of, return_scalar1_call, return_scalar2_call}
 use Rattle.machine_model.specs.Rows.{small_machine, told_all, pending_row, pending_told, scalar_row, scalar_told, waiting_row, waiting_told, stale_row, stale_told, senderless_row, senderless_told}
-use Rattle.machine_model.specs.SendCalls.{send_call, try_send_call, arrival}
+use Rattle.machine_model.specs.SendCalls.{send_call, arrival}
 use Rattle.machine_model.specs.ServerCalls.{create_server_call, connect_call, try_connect_call, destroy_call}
 use Rattle.machine_model.specs.Servers.{with_sid, live_servers}
 
