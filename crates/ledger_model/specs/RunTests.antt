@@ -1,5 +1,5 @@
 -- What is asked of the places of a run before their pages change.
-use Rattle.std.specs.Prelude.{ℕ, ◌+◌, Bool, true, false, not, ◌&&◌, nat_le, is_some, Option, Some, None}
+use Rattle.std.specs.Prelude.{ℕ, ◌+◌, Bool, true, false, not, ◌&&◌, ◌||◌, nat_le, is_some, Option, Some, None}
 use Rattle.std.specs.List.{list_any}
 use Rattle.xk_base.specs.declared.ids.Place.{Place}
 use Rattle.xk_base.specs.declared.pages.Right.{Right}
@@ -42,6 +42,16 @@ asks_more asked (Some page) = not (is_within asked page.right)
 -- a page of the run, at its home, has not what the right asks for
 unfoldable pub any_lacks : Right → Ledger → Place → ℕ → Bool
 any_lacks asked ledger first n = list_any (λ p. asks_more asked (ledger.home p)) (run first n)
+
+-- a page of the run is the console
+unfoldable pub any_console : Ledger → Place → ℕ → Bool
+any_console ledger first n = list_any (λ p. is_console (ledger.home p)) (run first n)
+
+-- a page of the run can't be sent: it is on loan on either side, or is the console, or is to be lent mutably and has no W
+abbrev pub any_not_sent : ℕ → Ledger → Place → ℕ → Bool → Bool
+any_not_sent procs ledger first n mutably =
+    any_on_loan procs ledger first n || any_console ledger first n
+    || (mutably && any_lacks (record { w = true; x = false }) ledger first n)
 
 -- a process has mapped the console
 unfoldable pub console_mapped : ℕ → Ledger → Bool

@@ -2,36 +2,51 @@
 use Rattle.std.specs.Prelude.{ℕ, Bool, not, ◌&&◌, ◌==◌, if◌then◌else◌, List, [], ◌∷◌}
 use Rattle.xk_base.specs.declared.errors.XousError.{XousError}
 use Rattle.xk_base.specs.declared.errors.XousError.TheVariants.{UnhandledSyscall, InvalidSyscall}
-use Rattle.xk_base.specs.CallNumbers.{map_memory, yield_turn, increase_heap, decrease_heap, update_memory_flags, create_thread, unmap_memory, terminate_process, join_thread, get_thread_id, get_process_id, is_call_number}
+use Rattle.xk_base.specs.CallNumbers.{map_memory, yield_turn, claim_interrupt, free_interrupt, increase_heap, decrease_heap, update_memory_flags, create_server_with_address, receive_message, send_message, connect, create_thread, unmap_memory, return_memory, terminate_process, try_send_message, try_connect, return_scalar1, return_scalar2, try_receive_message, join_thread, destroy_server, get_thread_id, get_process_id, is_call_number}
 use Rattle.xk_base.specs.CallWords.{call_number, is_refused_to_handler}
-use Rattle.machine_model.specs.Changes.{Served, Call, only, unless_refused}
+use Rattle.machine_model.specs.Changes.{Refused, Call, unless_refused}
+use Rattle.machine_model.specs.InterruptCalls.{claim_call, free_call}
 use Rattle.machine_model.specs.Machine.{Machine}
 use Rattle.machine_model.specs.MemoryCalls.{map_call, unmap_call, update_call, increase_call, decrease_call}
+use Rattle.machine_model.specs.ReceiveCalls.{receive_call, try_receive_call}
+use Rattle.machine_model.specs.ReturnCalls.{return_memory_call, return_scalar1_call, return_scalar2_call}
+use Rattle.machine_model.specs.SendCalls.{send_call, try_send_call}
+use Rattle.machine_model.specs.ServerCalls.{create_server_call, connect_call, try_connect_call, destroy_call}
 use Rattle.machine_model.specs.ThreadCalls.{yield_call, create_call, join_call, terminate_call, thread_id_call, process_id_call}
 
--- the calls on servers, messages and interrupts: not defined yet
-unfoldable pub later_call : Call
-later_call m w = Served (only m)
-
+-- one row for each number
 abbrev pub call_table : List (ℕ × Call)
 call_table =
     (map_memory, map_call)
     ∷ (yield_turn, yield_call)
+    ∷ (claim_interrupt, claim_call)
+    ∷ (free_interrupt, free_call)
     ∷ (increase_heap, increase_call)
     ∷ (decrease_heap, decrease_call)
     ∷ (update_memory_flags, update_call)
+    ∷ (create_server_with_address, create_server_call)
+    ∷ (receive_message, receive_call)
+    ∷ (send_message, send_call)
+    ∷ (connect, connect_call)
     ∷ (create_thread, create_call)
     ∷ (unmap_memory, unmap_call)
+    ∷ (return_memory, return_memory_call)
     ∷ (terminate_process, terminate_call)
+    ∷ (try_send_message, try_send_call)
+    ∷ (try_connect, try_connect_call)
+    ∷ (return_scalar1, return_scalar1_call)
+    ∷ (return_scalar2, return_scalar2_call)
+    ∷ (try_receive_message, try_receive_call)
     ∷ (join_thread, join_call)
+    ∷ (destroy_server, destroy_call)
     ∷ (get_thread_id, thread_id_call)
     ∷ (get_process_id, process_id_call)
     ∷ []
 
--- the call of a number in a table, and where it is not there the last
-abbrev pub call_at : ℕ → List (ℕ × Call) → Call → Call
-call_at number [] last = last
-call_at number (row ∷ rows) last = if number == row.0 then row.1 else call_at number rows last
+-- the call of a number in a table; a number that is not there is unhandled
+abbrev pub call_at : ℕ → List (ℕ × Call) → Call
+call_at number [] m w = Refused UnhandledSyscall
+call_at number (row ∷ rows) m w = if number == row.0 then row.1 m w else call_at number rows m w
 
 -- what any call is refused for, before its own list: its number is unknown; the interrupt thread makes a call that can wait
 abbrev pub any_refusals : Machine → List ℕ → List (Bool × XousError)
@@ -42,4 +57,4 @@ any_refusals m w =
 
 -- what comes of a call
 unfoldable pub call : Call
-call m w = unless_refused (any_refusals m w) (call_at (call_number w) call_table later_call m w)
+call m w = unless_refused (any_refusals m w) (call_at (call_number w) call_table m w)

@@ -1,5 +1,5 @@
 -- What happens in a step or an event, and the one place where it becomes the next state and its records.
-use Rattle.std.specs.Prelude.{ℕ, Bool, is_some, List, [], ◌∷◌, ◌++◌, map, unwrap_or, if◌then◌else◌, Option, Some, None}
+use Rattle.std.specs.Prelude.{ℕ, Bool, true, false, is_some, List, [], ◌∷◌, ◌++◌, map, unwrap_or, if◌then◌else◌, Option, Some, None}
 use Rattle.xk_base.specs.declared.errors.XousError.{XousError}
 use Rattle.xk_base.specs.declared.ids.Pid.{Pid}
 use Rattle.xk_base.specs.declared.records.What.{What}
@@ -98,6 +98,11 @@ refused_or (Some error) outcome = Refused error
 -- refused by the first test that holds, and else what follows
 abbrev pub unless_refused : List (Bool × XousError) → Outcome → Outcome
 unless_refused refusals outcome = refused_or (first_refusal refusals) outcome
+
+-- retried where the test holds, and else what follows
+abbrev pub unless_retried : Bool → Outcome → Outcome
+unless_retried true outcome = Retried
+unless_retried false outcome = outcome
 
 -- what comes of a call that the cursor's thread makes with these eight words
 abbrev pub Call : Type 0

@@ -8,15 +8,12 @@ use Rattle.xk_base.specs.Counting.{least_below, put_at}
 use Rattle.xk_base.specs.Replies.{scalar1_words}
 use Rattle.ledger_model.specs.Steps.{forget}
 use Rattle.machine_model.specs.Changes.{Change, only}
+use Rattle.machine_model.specs.Closing.{servers_closed, senders_queued_gone, senders_held_gone}
 use Rattle.machine_model.specs.Interrupts.{is_claim_of, delivered}
 use Rattle.machine_model.specs.Machine.{Machine, Process, Thread, ThreadState, Joining, Idle}
 use Rattle.machine_model.specs.Threads.{Answers, both_answers, thread_id, put_thread, change_thread, with_state}
 
 -- ---- processes
-
--- what servers and other processes' servers see of a death: nothing while there is no server
-abbrev pub servers_left : Pid → Machine → Change
-servers_left pid m = only m
 
 -- what a dead process leaves: no heap and no connection
 abbrev pub dead_process : Process
@@ -32,11 +29,13 @@ forgotten pid m = record m {
   pending = λ k. m.pending k && not (is_claim_of pid (m.claims k));
 }
 
--- the process dies
+-- The process dies, in this order: its servers close, and their senders are answered, those of the process itself too; the
+-- messages that its threads have queued at other servers are taken out; those that others hold become senderless; and the
+-- process is forgotten.
 unfoldable pub death : Pid → Machine → Change
 death pid m =
-    let servers = servers_left pid m in
-    record servers { machine = forgotten pid servers.machine; gone = Some pid }
+    let left = servers_closed pid m in
+    record left { machine = forgotten pid (senders_held_gone pid (senders_queued_gone pid left.machine)); gone = Some pid }
 
 -- ---- threads
 

@@ -2,10 +2,19 @@
 //! `specs/`. The functions here are laws of them, and a few plain functions that meet them.
 #![tactic(auto)]
 
+mod end_laws;
+mod kept_laws;
 mod laws;
 mod order;
 mod refusals;
+mod rows;
 
+pub use end_laws::{
+    dead_server_closes, every_number_has_its_call, kill_of_dead_does_nothing,
+    loans_end_one_at_a_time, no_loan_ends, one_loan_ends, one_loan_is_orphaned,
+    pick_of_unready_does_nothing, retry_ends_the_turn, unclaimed_interrupt_does_nothing,
+};
+pub use kept_laws::{pick_keeps_matched, turn_keeps_matched};
 pub use laws::{
     arguments_are_given, next_ready_is_ready, no_step_without_actor, none_ready_without_next,
     other_registers_stay, records_carry_their_step, refusal_changes_caller_alone,
@@ -13,3 +22,8 @@ pub use laws::{
 };
 pub use order::next_ready;
 pub use refusals::{first_refusal, refusal_words};
+pub use rows::{
+    lend_begins, orphan_is_returned_once, page_is_lent_and_returned, pending_interrupts_are_a_set,
+    scalars_are_answered_once, senderless_message_is_forgotten, sends_are_refused_in_order,
+    stale_connection_leads_nowhere, waiting_thread_gets_the_message,
+};

@@ -18,7 +18,7 @@ use Rattle.ledger_model.specs.Ledger.{Ledger}
 use Rattle.ledger_model.specs.LeastRun.{least_run}
 use Rattle.ledger_model.specs.RunTests.{console_mapped}
 use Rattle.ledger_model.specs.Steps.{make_console}
-use Rattle.machine_model.specs.Calls.{call, call_table, call_at, later_call}
+use Rattle.machine_model.specs.Calls.{call, call_table, call_at}
 use Rattle.machine_model.specs.Changes.{Outcome, Refused, Served, Told, settled, call_settled, unless_refused, refused_or, answering}
 use Rattle.machine_model.specs.Instructions.{CallsKernel, following}
 use Rattle.machine_model.specs.Machine.{Thread, Ready}
@@ -69,7 +69,7 @@ call_maps : (k : Kernel) (w : List ℕ) → call_number w ≡ 2
     (Served (map_served (machine_of k) (map_phys w) (map_virt w) (map_size w) (map_flags w)))
 unfolding call map_call machine_of
 call_maps k w e =
-    ap (λ n. unless_refused ((not (is_call_number n), UnhandledSyscall) ∷ (false, InvalidSyscall) ∷ []) (call_at n call_table later_call (machine_of k) w)) e
+    ap (λ n. unless_refused ((not (is_call_number n), UnhandledSyscall) ∷ (false, InvalidSyscall) ∷ []) (call_at n call_table (machine_of k) w)) e
 
 -- by its words it maps the console at the least free page
 abbrev map_outcome : Kernel → Outcome

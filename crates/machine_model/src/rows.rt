@@ -1,0 +1,58 @@
+//! Worked rows of the machine: what is told of calls and events on small machines.
+
+ghost use Rattle.std.specs.Prelude.{◌≡◌};
+ghost use Rattle.machine_model.specs.Rows.{small_machine, told_all, pending_row, pending_told, scalar_row, scalar_told, waiting_row, waiting_told, stale_row, stale_told, senderless_row, senderless_told, after_all, lend_begin, lend_begin_told, lend_row, lend_told, orphan_row, orphan_told, refusal_row, refusal_told};
+
+/// An interrupt that is raised while its handler runs is delivered once more, however often.
+#[tactic(auto, using(crate::proofs::RowLemmas::pending_is_a_set))]
+pub fn pending_interrupts_are_a_set()
+    ensures { told_all pending_row (small_machine 1) ≡ pending_told }
+{}
+
+/// A blocking scalar is answered once.
+#[tactic(auto, using(crate::proofs::RowLemmas::scalars_answered))]
+pub fn scalars_are_answered_once()
+    ensures { told_all scalar_row (small_machine 2) ≡ scalar_told }
+{}
+
+/// A thread that waits at a server gets a message in the step of its send.
+#[tactic(auto, using(crate::proofs::RowLemmas::waiting_got))]
+pub fn waiting_thread_gets_the_message()
+    ensures { told_all waiting_row (small_machine 2) ≡ waiting_told }
+{}
+
+/// A connection to a dead server leads to no other.
+#[tactic(auto, using(crate::proofs::RowLemmas::stale_connection))]
+pub fn stale_connection_leads_nowhere()
+    ensures { told_all stale_row (small_machine 3) ≡ stale_told }
+{}
+
+/// A message whose sender died is answered to nobody.
+#[tactic(auto, using(crate::proofs::RowLemmas::senderless_forgotten))]
+pub fn senderless_message_is_forgotten()
+    ensures { told_all senderless_row (small_machine 2) ≡ senderless_told }
+{}
+
+/// What is told before a page is lent.
+#[tactic(auto, using(crate::proofs::LendRowLemmas::begun))]
+pub fn lend_begins()
+    ensures { told_all lend_begin (small_machine 2) ≡ lend_begin_told }
+{}
+
+/// A lent page stands at the receiver's first free place, and is returned once, by its own range.
+#[tactic(auto, using(crate::proofs::LendRowLemmas::lent_and_returned))]
+pub fn page_is_lent_and_returned()
+    ensures { told_all lend_row (after_all lend_begin (small_machine 2)) ≡ lend_told }
+{}
+
+/// A page on loan is sent by neither side, also where it is an orphan; an orphan is returned once.
+#[tactic(auto, using(crate::proofs::LendRowLemmas::orphan_returned))]
+pub fn orphan_is_returned_once()
+    ensures { told_all orphan_row (after_all lend_begin (small_machine 2)) ≡ orphan_told }
+{}
+
+/// Sends are refused by the first test that holds.
+#[tactic(auto, using(crate::proofs::LendRowLemmas::sends_refused))]
+pub fn sends_are_refused_in_order()
+    ensures { told_all refusal_row (after_all lend_begin (small_machine 2)) ≡ refusal_told }
+{}
