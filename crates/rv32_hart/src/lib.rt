@@ -1,6 +1,7 @@
 //! The hart: one instruction of RV32IM and Zifencei, over any memory of a process.
 #![tactic(auto)]
 
+mod arithmetic;
 mod ran;
 mod run;
 
