@@ -1,6 +1,6 @@
 //! Arithmetic on words, which wraps (RISC-V Unprivileged ISA, 2.4, and chapter "M").
 
-ghost use Rattle.std.specs.Prelude.{◌≡◌, ◌<◌, ◌*◌, ◌/◌, ◌%◌, ◌^◌, ◌*ℤ◌, pos, nat_lt};
+ghost use Rattle.std.specs.Prelude.{◌≡◌, ◌*◌, ◌/◌, ◌%◌, ◌^◌, ◌*ℤ◌, pos, nat_lt};
 ghost use Rattle.machine_model.specs.Instructions.{as_word, signed, sum_of, difference_of, flag_of, signed_below, left_shift_of, right_shift_of, signed_right_shift_of, upper_half, signed_quotient, quotient, signed_remainder, remainder, sign_extended_byte, sign_extended_half};
 
 /// The sum of a word and an immediate.
@@ -130,16 +130,14 @@ pub fn remainder_unsigned(a: u32, b: u32) -> u32
 
 /// The low byte of a word, its sign extended.
 pub fn sign_extend_byte(a: u32) -> u32
-    requires { a < 256 }
     ensures { result ≡ sign_extended_byte a }
 {
-    i32::from((a as u8).cast_signed()).cast_unsigned()
+    i32::from(((a % 256) as u8).cast_signed()).cast_unsigned()
 }
 
 /// The low half of a word, its sign extended.
 pub fn sign_extend_half(a: u32) -> u32
-    requires { a < 65536 }
     ensures { result ≡ sign_extended_half a }
 {
-    i32::from((a as u16).cast_signed()).cast_unsigned()
+    i32::from(((a % 65536) as u16).cast_signed()).cast_unsigned()
 }

@@ -2,6 +2,7 @@
 #![tactic(auto)]
 
 mod arithmetic;
+mod operation;
 mod ran;
 mod run;
 

@@ -28,7 +28,10 @@ pub fn run_one<U: UserMemory>(regs: &mut Regs, pc: u32, mem: &mut U) -> Ran
 {
     match mem.fetch(pc) {
         Ok(Some(_word)) => Ran::Next(pc),
-        Ok(None) => Ran::Trap { cause: 12, value: pc },
+        Ok(None) => Ran::Trap {
+            cause: 12,
+            value: pc,
+        },
         Err(_) => Ran::Failed,
     }
 }
