@@ -3,6 +3,13 @@
 ghost use Rattle.std.specs.Prelude.{◌≡◌, ◌*◌, ◌/◌, ◌%◌, ◌^◌, ◌*ℤ◌, pos, nat_lt};
 ghost use Rattle.machine_model.specs.Instructions.{as_word, signed, sum_of, difference_of, flag_of, signed_below, left_shift_of, right_shift_of, signed_right_shift_of, upper_half, signed_quotient, quotient, signed_remainder, remainder, sign_extended_byte, sign_extended_half};
 
+/// An immediate as a word.
+pub fn word(imm: i32) -> u32
+    ensures { result ≡ as_word imm }
+{
+    imm.cast_unsigned()
+}
+
 /// The sum of a word and an immediate.
 pub fn add_immediate(a: u32, imm: i32) -> u32
     ensures { result ≡ sum_of a (as_word imm) }
@@ -67,7 +74,7 @@ fn signed_product(a: u32, b: u32) -> i64
 }
 
 /// MULHSU: the upper word of the product of a signed number and an unsigned one.
-pub fn multiply_high_signed_unsigned(a: u32, b: u32) -> u32
+pub fn multiply_high_mixed(a: u32, b: u32) -> u32
     ensures { result ≡ upper_half (signed a *ℤ pos b) }
 {
     let product = i64::from(a.cast_signed()) * i64::from(b);

@@ -2,6 +2,8 @@
 #![tactic(auto)]
 
 mod arithmetic;
+mod causes;
+mod jumps;
 mod operation;
 mod ran;
 mod run;

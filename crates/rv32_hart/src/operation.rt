@@ -8,10 +8,11 @@ ghost use Rattle.rv32_words.specs.Table.{IsInRange};
 ghost use Rattle.machine_model.specs.Instructions.{effect, as_word, address_of, sum_of};
 ghost use Rattle.rv32_hart.specs.Operations.{effect_of, WritesRegister};
 
+use self::Operation::{Branch, Break, Call, Fence, Jump, Load, Store, Write};
 use crate::arithmetic::{
-    add_immediate, divide, divide_unsigned, is_signed_below, multiply_high,
-    multiply_high_signed_unsigned, multiply_high_unsigned, remainder, remainder_unsigned,
-    set_less_than, set_less_than_unsigned, shift_left, shift_right, shift_right_signed,
+    add_immediate, divide, divide_unsigned, is_signed_below, multiply_high, multiply_high_mixed,
+    multiply_high_unsigned, remainder, remainder_unsigned, set_less_than, set_less_than_unsigned,
+    shift_left, shift_right, shift_right_signed, word,
 };
 use rv32_words::Insn;
 use xk_base::{Regs, Width};
@@ -37,168 +38,71 @@ pub enum Operation {
     Break,
 }
 
-/// The operation of an instruction that stands at `pc`. All its sources are read here, before
-/// anything is written.
-pub fn operation_of(insn: Insn, regs: &Regs, pc: u32) -> Operation
+/// The operation of an instruction that stands at `pc`, where the registers are `x`. All its sources
+/// are read here, before anything is written.
+pub fn operation_of(insn: Insn, x: &Regs, pc: u32) -> Operation
     requires { IsInRange insn }
-    ensures is { (mem : Memory) → effect_of mem regs.now pc result ≡ effect mem regs.now pc insn }
+    ensures is { (mem : Memory) → effect_of mem x.now pc result ≡ effect mem x.now pc insn }
     ensures register { WritesRegister result }
 {
     match insn {
-        Insn::Lui { rd, imm } => Operation::Write(rd, imm),
-        Insn::Auipc { rd, imm } => Operation::Write(rd, pc.wrapping_add(imm)),
-        Insn::Jal { rd, imm } => Operation::Jump(rd, add_immediate(pc, imm)),
-        Insn::Jalr { rd, rs1, imm } => Operation::Jump(rd, even(address(regs, rs1, imm))),
-        Insn::Beq { rs1, rs2, imm } => Operation::Branch(regs.get(rs1) == regs.get(rs2), imm),
-        Insn::Bne { rs1, rs2, imm } => Operation::Branch(regs.get(rs1) != regs.get(rs2), imm),
-        Insn::Blt { rs1, rs2, imm } => Operation::Branch(
-            is_signed_below(regs.get(rs1), regs.get(rs2)),
-            imm,
-        ),
-        Insn::Bge { rs1, rs2, imm } => Operation::Branch(
-            !is_signed_below(regs.get(rs1), regs.get(rs2)),
-            imm,
-        ),
-        Insn::Bltu { rs1, rs2, imm } => Operation::Branch(regs.get(rs1) < regs.get(rs2), imm),
-        Insn::Bgeu { rs1, rs2, imm } => Operation::Branch(regs.get(rs1) >= regs.get(rs2), imm),
-        Insn::Lb { rd, rs1, imm } => Operation::Load(
-            rd,
-            address(regs, rs1, imm),
-            Width::Byte,
-            true,
-        ),
-        Insn::Lh { rd, rs1, imm } => Operation::Load(
-            rd,
-            address(regs, rs1, imm),
-            Width::Half,
-            true,
-        ),
-        Insn::Lw { rd, rs1, imm } => Operation::Load(
-            rd,
-            address(regs, rs1, imm),
-            Width::Word,
-            false,
-        ),
-        Insn::Lbu { rd, rs1, imm } => Operation::Load(
-            rd,
-            address(regs, rs1, imm),
-            Width::Byte,
-            false,
-        ),
-        Insn::Lhu { rd, rs1, imm } => Operation::Load(
-            rd,
-            address(regs, rs1, imm),
-            Width::Half,
-            false,
-        ),
-        Insn::Sb { rs1, rs2, imm } => Operation::Store(
-            address(regs, rs1, imm),
-            Width::Byte,
-            regs.get(rs2),
-        ),
-        Insn::Sh { rs1, rs2, imm } => Operation::Store(
-            address(regs, rs1, imm),
-            Width::Half,
-            regs.get(rs2),
-        ),
-        Insn::Sw { rs1, rs2, imm } => Operation::Store(
-            address(regs, rs1, imm),
-            Width::Word,
-            regs.get(rs2),
-        ),
-        Insn::Addi { rd, rs1, imm } => Operation::Write(rd, add_immediate(regs.get(rs1), imm)),
-        Insn::Slti { rd, rs1, imm } => Operation::Write(
-            rd,
-            set_less_than(regs.get(rs1), imm.cast_unsigned()),
-        ),
-        Insn::Sltiu { rd, rs1, imm } => Operation::Write(
-            rd,
-            set_less_than_unsigned(regs.get(rs1), imm.cast_unsigned()),
-        ),
-        Insn::Xori { rd, rs1, imm } => Operation::Write(rd, regs.get(rs1) ^ imm.cast_unsigned()),
-        Insn::Ori { rd, rs1, imm } => Operation::Write(rd, regs.get(rs1) | imm.cast_unsigned()),
-        Insn::Andi { rd, rs1, imm } => Operation::Write(rd, regs.get(rs1) & imm.cast_unsigned()),
-        Insn::Slli { rd, rs1, shamt } => Operation::Write(
-            rd,
-            shift_left(regs.get(rs1), u32::from(shamt)),
-        ),
-        Insn::Srli { rd, rs1, shamt } => Operation::Write(
-            rd,
-            shift_right(regs.get(rs1), u32::from(shamt)),
-        ),
-        Insn::Srai { rd, rs1, shamt } => Operation::Write(
-            rd,
-            shift_right_signed(regs.get(rs1), u32::from(shamt)),
-        ),
-        Insn::Add { rd, rs1, rs2 } => Operation::Write(
-            rd,
-            regs.get(rs1).wrapping_add(regs.get(rs2)),
-        ),
-        Insn::Sub { rd, rs1, rs2 } => Operation::Write(
-            rd,
-            regs.get(rs1).wrapping_sub(regs.get(rs2)),
-        ),
-        Insn::Sll { rd, rs1, rs2 } => Operation::Write(
-            rd,
-            shift_left(regs.get(rs1), regs.get(rs2)),
-        ),
-        Insn::Slt { rd, rs1, rs2 } => Operation::Write(
-            rd,
-            set_less_than(regs.get(rs1), regs.get(rs2)),
-        ),
-        Insn::Sltu { rd, rs1, rs2 } => Operation::Write(
-            rd,
-            set_less_than_unsigned(regs.get(rs1), regs.get(rs2)),
-        ),
-        Insn::Xor { rd, rs1, rs2 } => Operation::Write(rd, regs.get(rs1) ^ regs.get(rs2)),
-        Insn::Srl { rd, rs1, rs2 } => Operation::Write(
-            rd,
-            shift_right(regs.get(rs1), regs.get(rs2)),
-        ),
-        Insn::Sra { rd, rs1, rs2 } => Operation::Write(
-            rd,
-            shift_right_signed(regs.get(rs1), regs.get(rs2)),
-        ),
-        Insn::Or { rd, rs1, rs2 } => Operation::Write(rd, regs.get(rs1) | regs.get(rs2)),
-        Insn::And { rd, rs1, rs2 } => Operation::Write(rd, regs.get(rs1) & regs.get(rs2)),
-        Insn::Mul { rd, rs1, rs2 } => Operation::Write(
-            rd,
-            regs.get(rs1).wrapping_mul(regs.get(rs2)),
-        ),
-        Insn::Mulh { rd, rs1, rs2 } => Operation::Write(
-            rd,
-            multiply_high(regs.get(rs1), regs.get(rs2)),
-        ),
-        Insn::Mulhsu { rd, rs1, rs2 } => Operation::Write(
-            rd,
-            multiply_high_signed_unsigned(regs.get(rs1), regs.get(rs2)),
-        ),
-        Insn::Mulhu { rd, rs1, rs2 } => Operation::Write(
-            rd,
-            multiply_high_unsigned(regs.get(rs1), regs.get(rs2)),
-        ),
-        Insn::Div { rd, rs1, rs2 } => Operation::Write(rd, divide(regs.get(rs1), regs.get(rs2))),
-        Insn::Divu { rd, rs1, rs2 } => Operation::Write(
-            rd,
-            divide_unsigned(regs.get(rs1), regs.get(rs2)),
-        ),
-        Insn::Rem { rd, rs1, rs2 } => Operation::Write(rd, remainder(regs.get(rs1), regs.get(rs2))),
-        Insn::Remu { rd, rs1, rs2 } => Operation::Write(
-            rd,
-            remainder_unsigned(regs.get(rs1), regs.get(rs2)),
-        ),
-        Insn::Fence { .. } | Insn::FenceI { .. } => Operation::Fence,
-        Insn::Ecall => Operation::Call,
-        Insn::Ebreak => Operation::Break,
+        Insn::Lui { rd, imm } => Write(rd, imm),
+        Insn::Auipc { rd, imm } => Write(rd, pc.wrapping_add(imm)),
+        Insn::Jal { rd, imm } => Jump(rd, add_immediate(pc, imm)),
+        Insn::Jalr { rd, rs1, imm } => Jump(rd, even(address(x, rs1, imm))),
+        Insn::Beq { rs1, rs2, imm } => Branch(x.get(rs1) == x.get(rs2), imm),
+        Insn::Bne { rs1, rs2, imm } => Branch(x.get(rs1) != x.get(rs2), imm),
+        Insn::Blt { rs1, rs2, imm } => Branch(is_signed_below(x.get(rs1), x.get(rs2)), imm),
+        Insn::Bge { rs1, rs2, imm } => Branch(!is_signed_below(x.get(rs1), x.get(rs2)), imm),
+        Insn::Bltu { rs1, rs2, imm } => Branch(x.get(rs1) < x.get(rs2), imm),
+        Insn::Bgeu { rs1, rs2, imm } => Branch(x.get(rs1) >= x.get(rs2), imm),
+        Insn::Lb { rd, rs1, imm } => Load(rd, address(x, rs1, imm), Width::Byte, true),
+        Insn::Lh { rd, rs1, imm } => Load(rd, address(x, rs1, imm), Width::Half, true),
+        Insn::Lw { rd, rs1, imm } => Load(rd, address(x, rs1, imm), Width::Word, false),
+        Insn::Lbu { rd, rs1, imm } => Load(rd, address(x, rs1, imm), Width::Byte, false),
+        Insn::Lhu { rd, rs1, imm } => Load(rd, address(x, rs1, imm), Width::Half, false),
+        Insn::Sb { rs1, rs2, imm } => Store(address(x, rs1, imm), Width::Byte, x.get(rs2)),
+        Insn::Sh { rs1, rs2, imm } => Store(address(x, rs1, imm), Width::Half, x.get(rs2)),
+        Insn::Sw { rs1, rs2, imm } => Store(address(x, rs1, imm), Width::Word, x.get(rs2)),
+        Insn::Addi { rd, rs1, imm } => Write(rd, add_immediate(x.get(rs1), imm)),
+        Insn::Slti { rd, rs1, imm } => Write(rd, set_less_than(x.get(rs1), word(imm))),
+        Insn::Sltiu { rd, rs1, imm } => Write(rd, set_less_than_unsigned(x.get(rs1), word(imm))),
+        Insn::Xori { rd, rs1, imm } => Write(rd, x.get(rs1) ^ word(imm)),
+        Insn::Ori { rd, rs1, imm } => Write(rd, x.get(rs1) | word(imm)),
+        Insn::Andi { rd, rs1, imm } => Write(rd, x.get(rs1) & word(imm)),
+        Insn::Slli { rd, rs1, shamt } => Write(rd, shift_left(x.get(rs1), shamt as u32)),
+        Insn::Srli { rd, rs1, shamt } => Write(rd, shift_right(x.get(rs1), shamt as u32)),
+        Insn::Srai { rd, rs1, shamt } => Write(rd, shift_right_signed(x.get(rs1), shamt as u32)),
+        Insn::Add { rd, rs1, rs2 } => Write(rd, x.get(rs1).wrapping_add(x.get(rs2))),
+        Insn::Sub { rd, rs1, rs2 } => Write(rd, x.get(rs1).wrapping_sub(x.get(rs2))),
+        Insn::Sll { rd, rs1, rs2 } => Write(rd, shift_left(x.get(rs1), x.get(rs2))),
+        Insn::Slt { rd, rs1, rs2 } => Write(rd, set_less_than(x.get(rs1), x.get(rs2))),
+        Insn::Sltu { rd, rs1, rs2 } => Write(rd, set_less_than_unsigned(x.get(rs1), x.get(rs2))),
+        Insn::Xor { rd, rs1, rs2 } => Write(rd, x.get(rs1) ^ x.get(rs2)),
+        Insn::Srl { rd, rs1, rs2 } => Write(rd, shift_right(x.get(rs1), x.get(rs2))),
+        Insn::Sra { rd, rs1, rs2 } => Write(rd, shift_right_signed(x.get(rs1), x.get(rs2))),
+        Insn::Or { rd, rs1, rs2 } => Write(rd, x.get(rs1) | x.get(rs2)),
+        Insn::And { rd, rs1, rs2 } => Write(rd, x.get(rs1) & x.get(rs2)),
+        Insn::Mul { rd, rs1, rs2 } => Write(rd, x.get(rs1).wrapping_mul(x.get(rs2))),
+        Insn::Mulh { rd, rs1, rs2 } => Write(rd, multiply_high(x.get(rs1), x.get(rs2))),
+        Insn::Mulhsu { rd, rs1, rs2 } => Write(rd, multiply_high_mixed(x.get(rs1), x.get(rs2))),
+        Insn::Mulhu { rd, rs1, rs2 } => Write(rd, multiply_high_unsigned(x.get(rs1), x.get(rs2))),
+        Insn::Div { rd, rs1, rs2 } => Write(rd, divide(x.get(rs1), x.get(rs2))),
+        Insn::Divu { rd, rs1, rs2 } => Write(rd, divide_unsigned(x.get(rs1), x.get(rs2))),
+        Insn::Rem { rd, rs1, rs2 } => Write(rd, remainder(x.get(rs1), x.get(rs2))),
+        Insn::Remu { rd, rs1, rs2 } => Write(rd, remainder_unsigned(x.get(rs1), x.get(rs2))),
+        Insn::Fence { .. } | Insn::FenceI { .. } => Fence,
+        Insn::Ecall => Call,
+        Insn::Ebreak => Break,
     }
 }
 
 /// The address of a load, a store or a JALR.
-fn address(regs: &Regs, rs1: u8, imm: i32) -> u32
+fn address(x: &Regs, rs1: u8, imm: i32) -> u32
     requires { IsRegister rs1 }
-    ensures { result ≡ address_of regs.now rs1 imm }
+    ensures { result ≡ address_of x.now rs1 imm }
 {
-    add_immediate(regs.get(rs1), imm)
+    add_immediate(x.get(rs1), imm)
 }
 
 /// The address with bit 0 cleared.
