@@ -1,6 +1,6 @@
 //! Jumps and branches.
 
-ghost use Rattle.std.specs.Prelude.{◌≡◌, ◌%◌};
+ghost use Rattle.std.specs.Prelude.{◌≡◌, ◌%◌, ℕ, List};
 ghost use Rattle.rv32_words.specs.Formats.{IsRegister};
 ghost use Rattle.machine_model.specs.Instructions.{following, branches, jumps};
 ghost use Rattle.rv32_hart.specs.Running.{IsExecutedAlone, LeavesRegisters, GoesOnAligned};
@@ -35,9 +35,9 @@ pub fn jump(regs: &mut Regs, pc: u32, rd: u8, target: u32) -> Ran
 }
 
 /// Branches by the offset in bytes, if the branch is taken, and else goes on.
-pub fn branch(regs: &Regs, pc: u32, taken: bool, offset: i32) -> Ran
+pub fn branch(pc: u32, taken: bool, offset: i32) -> Ran
     requires { pc % 4 ≡ 0 }
-    ensures executes { IsExecutedAlone (branches regs.now pc offset taken) regs.now regs.now result }
+    ensures executes { (regs : List ℕ) → IsExecutedAlone (branches regs pc offset taken) regs regs result }
     ensures aligned { GoesOnAligned result }
 {
     if !taken {

@@ -4,9 +4,11 @@
 mod arithmetic;
 mod causes;
 mod jumps;
+mod loads;
 mod operation;
 mod ran;
 mod run;
+mod stores;
 
 pub use ran::Ran;
 pub use run::run_one;
