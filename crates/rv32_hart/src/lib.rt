@@ -3,6 +3,7 @@
 
 mod arithmetic;
 mod causes;
+mod execute;
 mod jumps;
 mod loads;
 mod operation;
