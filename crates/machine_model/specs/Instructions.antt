@@ -108,10 +108,10 @@ remainder a b = if b == 0 then a else a % b
 
 -- the low byte or half of a word, its sign extended to 32 bits
 abbrev pub sign_extended_byte : ℕ → ℕ
-sign_extended_byte a = cast_unsigned w32 (cast_signed w8 a)
+sign_extended_byte a = cast_unsigned w32 (cast_signed w8 (a % 2 ^ 8))
 
 abbrev pub sign_extended_half : ℕ → ℕ
-sign_extended_half a = cast_unsigned w32 (cast_signed w16 a)
+sign_extended_half a = cast_unsigned w32 (cast_signed w16 (a % 2 ^ 16))
 
 -- ---- the kinds of instruction
 

@@ -38,13 +38,26 @@ pub record IsExecuted (x : Executed) (byte : ℕ → ℕ) (old new : List ℕ) (
   pub registers : new ≡ registers_after old x
   pub content : told ≡ Some (bytes_after byte x)
 
--- The instruction at the pc is executed, over what the process reaches and what it is told to stand there. Where memory
--- tells nothing, nothing is said; where it failed, nothing was done.
+-- the same of an instruction that neither looks at memory nor changes it
+pub record IsExecutedAlone (x : Executed) (old new : List ℕ) (ran : Ran) : Type 0 where
+  pub answer : ran ≡ ran_of x
+  pub registers : new ≡ registers_after old x
+  pub bytes : (byte : ℕ → ℕ) → bytes_after byte x ≡ byte
+
+-- what the process sees, where these bytes stand in memory
+abbrev pub seen : (Access → ℕ → Bool) → (ℕ → Bool) → (ℕ → ℕ) → Memory
+seen may console byte = record { may = may; console = console; byte = byte }
+
+-- An instruction with this effect over the bytes of memory is executed, between what was told of them before and what is
+-- told of them after. Where memory told nothing, nothing is said; where it failed, nothing was done.
+abbrev pub DoesExecute : ((ℕ → ℕ) → Executed) → Content → Content → List ℕ → List ℕ → Ran → Type 0
+DoesExecute effect None after old new answer = Unit {0}
+DoesExecute effect (Some byte) after old new Failed = after ≡ Some byte
+DoesExecute effect (Some byte) after old new answer = IsExecuted (effect byte) byte old new after answer
+
+-- the instruction at the pc is executed, over what the process reaches and what it is told to stand there
 abbrev pub Executes : (Access → ℕ → Bool) → (ℕ → Bool) → Content → Content → List ℕ → List ℕ → ℕ → Ran → Type 0
-Executes may console None content old new pc answer = Unit {0}
-Executes may console (Some byte) content old new pc Failed = content ≡ Some byte
-Executes may console (Some byte) content old new pc answer =
-    IsExecuted (execute_at old pc (record { may = may; console = console; byte = byte })) byte old new content answer
+Executes may console before after old new pc answer = DoesExecute (λ byte. execute_at old pc (seen may console byte)) before after old new answer
 
 -- on a trap, a call of the kernel and a failure the registers are as before, also where memory tells nothing
 abbrev pub LeavesRegisters : List ℕ → List ℕ → Ran → Type 0

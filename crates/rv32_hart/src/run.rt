@@ -2,11 +2,13 @@
 
 ghost use Rattle.std.specs.Prelude.{◌≡◌, ◌≤◌, ◌%◌};
 ghost use Rattle.xk_base.specs.Outside.{Rose};
-ghost use Rattle.xk_base.specs.UserMemory.{KeepsContent};
 ghost use Rattle.rv32_hart.specs.Running.{Executes, LeavesRegisters, GoesOnAligned, UnlessFailed, IfFailed};
 
+use crate::causes::{FETCH_PAGE_FAULT, ILLEGAL_INSTRUCTION};
+use crate::execute::execute;
 use crate::ran::Ran;
-use xk_base::{Regs, UserMemory};
+use rv32_words::decode;
+use xk_base::{Failed, Regs, UserMemory};
 
 /// Executes the instruction at `pc`, which is a multiple of 4, over a memory that is fit for use.
 ///
@@ -26,9 +28,21 @@ pub fn run_one<U: UserMemory>(regs: &mut Regs, pc: u32, mem: &mut U) -> Ran
     ensures cause { IfFailed result (Rose (U.faults mem.old) (U.faults mem.new)) }
     ensures never_falls { U.faults mem.old ≤ U.faults mem.new }
 {
-    match mem.fetch(pc) {
-        Ok(Some(_word)) => Ran::Next(pc),
-        Ok(None) => Ran::Trap { cause: 12, value: pc },
-        Err(_) => Ran::Failed,
+    let word = match mem.fetch(pc) {
+        Ok(Some(word)) => word,
+        Ok(None) => {
+            return Ran::Trap {
+                cause: FETCH_PAGE_FAULT,
+                value: pc,
+            };
+        }
+        Err(Failed) => return Ran::Failed,
+    };
+    match decode(word) {
+        Some(insn) => execute(insn, regs, pc, mem),
+        None => Ran::Trap {
+            cause: ILLEGAL_INSTRUCTION,
+            value: word,
+        },
     }
 }

@@ -1,0 +1,71 @@
+//! Instructions, each by its kind.
+
+ghost use Rattle.std.specs.Prelude.{◌≡◌, ◌≤◌, ◌%◌};
+ghost use Rattle.xk_base.specs.Outside.{Rose};
+ghost use Rattle.rv32_words.specs.Table.{IsInRange};
+ghost use Rattle.machine_model.specs.Instructions.{effect};
+ghost use Rattle.rv32_hart.specs.Operations.{effect_of, WritesRegister};
+ghost use Rattle.rv32_hart.specs.Running.{DoesExecute, seen, LeavesRegisters, GoesOnAligned, UnlessFailed, IfFailed};
+
+use crate::causes::BREAKPOINT;
+use crate::jumps::{branch, following, jump};
+use crate::loads::load;
+use crate::operation::{Operation, operation_of};
+use crate::ran::Ran;
+use crate::stores::store;
+use rv32_words::Insn;
+use xk_base::{Regs, UserMemory};
+
+/// Executes an instruction that stands at `pc`.
+pub fn execute<U: UserMemory>(insn: Insn, regs: &mut Regs, pc: u32, mem: &mut U) -> Ran
+    requires fields { IsInRange insn }
+    requires aligned { pc % 4 ≡ 0 }
+    requires fit { U.fit mem.old }
+    ensures executes { DoesExecute (λ byte. effect (seen (U.may mem.old) (U.console mem.old) byte) regs.old pc insn) (U.content mem.old) (U.content mem.new) regs.old regs.new result }
+    ensures leaves { LeavesRegisters regs.old regs.new result }
+    ensures aligned { GoesOnAligned result }
+    ensures may { U.may mem.new ≡ U.may mem.old }
+    ensures console { U.console mem.new ≡ U.console mem.old }
+    ensures rest { (before : U) → U.same_rest before mem.old → U.same_rest before mem.new }
+    ensures fit { UnlessFailed result (U.fit mem.new) }
+    ensures cause { IfFailed result (Rose (U.faults mem.old) (U.faults mem.new)) }
+    ensures never_falls { U.faults mem.old ≤ U.faults mem.new }
+{
+    let operation = operation_of(insn, regs, pc);
+    perform(operation, regs, pc, mem)
+}
+
+/// Does what an instruction that stands at `pc` does, with its sources read.
+fn perform<U: UserMemory>(operation: Operation, regs: &mut Regs, pc: u32, mem: &mut U) -> Ran
+    requires register { WritesRegister operation }
+    requires aligned { pc % 4 ≡ 0 }
+    requires fit { U.fit mem.old }
+    ensures executes { DoesExecute (λ byte. effect_of (seen (U.may mem.old) (U.console mem.old) byte) regs.old pc operation) (U.content mem.old) (U.content mem.new) regs.old regs.new result }
+    ensures leaves { LeavesRegisters regs.old regs.new result }
+    ensures aligned { GoesOnAligned result }
+    ensures may { U.may mem.new ≡ U.may mem.old }
+    ensures console { U.console mem.new ≡ U.console mem.old }
+    ensures rest { (before : U) → U.same_rest before mem.old → U.same_rest before mem.new }
+    ensures fit { UnlessFailed result (U.fit mem.new) }
+    ensures cause { IfFailed result (Rose (U.faults mem.old) (U.faults mem.new)) }
+    ensures never_falls { U.faults mem.old ≤ U.faults mem.new }
+{
+    match operation {
+        Operation::Write(rd, value) => {
+            regs.set(rd, value);
+            Ran::Next(following(pc))
+        }
+        Operation::Jump(rd, target) => jump(regs, pc, rd, target),
+        Operation::Branch(taken, offset) => branch(pc, taken, offset),
+        Operation::Load(rd, address, width, signed) => {
+            load(mem, regs, pc, rd, address, width, signed)
+        }
+        Operation::Store(address, width, value) => store(mem, pc, address, width, value),
+        Operation::Fence => Ran::Next(following(pc)),
+        Operation::Call => Ran::Ecall,
+        Operation::Break => Ran::Trap {
+            cause: BREAKPOINT,
+            value: pc,
+        },
+    }
+}

@@ -1,0 +1,46 @@
+//! Stores.
+
+ghost use Rattle.std.specs.Prelude.{◌≡◌, ◌≤◌, ◌%◌, ℕ, List};
+ghost use Rattle.xk_base.specs.Outside.{Rose};
+ghost use Rattle.machine_model.specs.Instructions.{stores};
+ghost use Rattle.rv32_hart.specs.Running.{DoesExecute, seen, GoesOnAligned, UnlessFailed, IfFailed};
+
+use crate::causes::{STORE_MISALIGNED, STORE_PAGE_FAULT};
+use crate::jumps::following;
+use crate::loads::is_aligned;
+use crate::ran::Ran;
+use xk_base::{Failed, Stored, UserMemory, Width};
+
+/// Stores the low bytes of the value at the address.
+pub fn store<U: UserMemory>(mem: &mut U, pc: u32, address: u32, width: Width, value: u32) -> Ran
+    requires aligned { pc % 4 ≡ 0 }
+    requires fit { U.fit mem.old }
+    ensures executes { (regs : List ℕ) → DoesExecute (λ byte. stores (seen (U.may mem.old) (U.console mem.old) byte) regs pc address width value) (U.content mem.old) (U.content mem.new) regs regs result }
+    ensures aligned { GoesOnAligned result }
+    ensures may { U.may mem.new ≡ U.may mem.old }
+    ensures console { U.console mem.new ≡ U.console mem.old }
+    ensures rest { (before : U) → U.same_rest before mem.old → U.same_rest before mem.new }
+    ensures fit { UnlessFailed result (U.fit mem.new) }
+    ensures cause { IfFailed result (Rose (U.faults mem.old) (U.faults mem.new)) }
+    ensures never_falls { U.faults mem.old ≤ U.faults mem.new }
+{
+    if !is_aligned(address, width) {
+        return Ran::Trap {
+            cause: STORE_MISALIGNED,
+            value: address,
+        };
+    }
+    match mem.store(address, width, value) {
+        Ok(Stored::Done) => Ran::Next(following(pc)),
+        Ok(Stored::Device(offset)) => Ran::Device {
+            offset,
+            value,
+            next: following(pc),
+        },
+        Ok(Stored::Fault) => Ran::Trap {
+            cause: STORE_PAGE_FAULT,
+            value: address,
+        },
+        Err(Failed) => Ran::Failed,
+    }
+}
