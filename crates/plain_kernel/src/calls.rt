@@ -4,8 +4,8 @@ ghost use Rattle.std.specs.Prelude.{◌≡◌};
 ghost use Rattle.plain_kernel.specs.Built.{maps_console};
 ghost use Rattle.plain_kernel.specs.Mapped.{IsMappable, map_reply};
 
-use xk_base::limits::{CONSOLE_ADDRESS, PAGE_SIZE};
 use xk_base::Vpn;
+use xk_base::limits::{CONSOLE_ADDRESS, PAGE_SIZE};
 
 /// Whether a call maps the console: MapMemory of its page at any address, to be read and written.
 pub fn maps_console(words: &[u32; 8]) -> bool
