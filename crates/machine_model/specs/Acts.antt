@@ -7,7 +7,7 @@ use Rattle.machine_model.specs.Changes.{Outcome, Refused, Retried, Served}
 use Rattle.machine_model.specs.Instructions.{Executed, Next, Stores, StoresToConsole, CallsKernel, Traps, execute_at}
 use Rattle.machine_model.specs.Machine.{Machine, Thread}
 use Rattle.machine_model.specs.Step.{ends_thread, ends_handler}
-use Rattle.machine_model.specs.Threads.{arguments_of}
+use Rattle.xk_base.specs.Registers.{arguments_of}
 use Rattle.machine_model.specs.Views.{memory_of}
 
 -- what comes of the thread's fetch, where it doesn't end and ends no handler

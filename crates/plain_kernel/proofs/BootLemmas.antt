@@ -13,9 +13,11 @@ use Rattle.boot_plan.specs.Capacity.{capacity}
 use Rattle.machine_model.specs.Machine.{Ready}
 use Rattle.machine_model.specs.Threads.{thread_return, first_stack, fresh_registers}
 use Rattle.plain_kernel.specs.Start.{process_of, first_page, planned_at, first_ledger, first_thread, thread_of, start}
-use Rattle.plain_kernel.specs.State.{machine_of, ledger_of, page_in, the_id, the_thread, threads_with}
+use Rattle.plain_kernel.specs.Process.{Begins}
+use Rattle.plain_kernel.specs.State.{machine_of, machine_with, ledger_of, page_in, the_id, the_thread, threads_with}
 use Rattle.plain_kernel.specs.declared.kernel.Kernel.{Kernel}
 use Rattle.plain_kernel.specs.declared.pages.Pages.{Pages}
+use Rattle.plain_kernel.specs.declared.process.PlainProcess.{PlainProcess}
 
 -- a list of one item
 pub only_item : {X : Type 0} (xs : List X) (x : X) → length xs ≡ 1 → x ≡ get_or xs 0 x → xs ≡ x ∷ []
@@ -36,6 +38,10 @@ one_pid process pid = elim (cases_eq pid 2) [
   where
     not_pid : pid ≢ 2 → is_pid 1 pid ≡ false
     not_pid ne = grind (arith, nat_tests)
+
+-- how many pages there may be at once
+abbrev capacity_of : BootPlan → ℕ
+capacity_of plan = capacity plan.frames (length plan.procs) plan.slots
 
 module _ (plan : BootPlan) (file : List ℕ) (process : ProcPlan) (one : plan.procs ≡ process ∷ []) where
   process_is : (pid : ℕ) → process_of plan pid ≡ (if pid == 2 then Some process else None)
@@ -64,15 +70,14 @@ module _ (plan : BootPlan) (file : List ℕ) (process : ProcPlan) (one : plan.pr
       by true = refl
       by false = refl
 
-  pub boots : (k : Kernel) → ledger_of k.pages ≡ first_ledger plan file → k.regs ≡ fresh_registers thread_return first_stack [] → k.pc ≡ process.entry
-      → k.steps ≡ 0 → k.capacity ≡ capacity plan.frames (length plan.procs) plan.slots → machine_of k ≡ start plan file
-  unfolding machine_of start
-  boots k ledger regs pc steps room =
+  start_with : (size : ℕ) (p : PlainProcess) → size ≡ capacity_of plan → Begins process file p → machine_with size 0 (Some p) ≡ start plan file
+  unfolding machine_with start
+  start_with size p room h =
       (λ i. record {
         capacity = room i;
         processes = sym (ap length one) i;
-        ledger = ledger i;
-        steps = steps i;
+        ledger = first_ledger_is p.pages h.pages i;
+        steps = 0;
         cursor = the_id;
         threads = λ id. (ap (λ t. threads_with t id) thread ∙ first_threads id) i;
         process = λ pid. record { alive = is_pid (sym (ap length one) i) pid; heap = 0; connections = [] };
@@ -83,5 +88,9 @@ module _ (plan : BootPlan) (file : List ℕ) (process : ProcPlan) (one : plan.pr
         next_serial = 1;
       })
     where
-      thread : the_thread k ≡ first_thread process
-      thread = λ i. record { pc = pc i; regs = regs i; state = Ready }
+      thread : the_thread p ≡ first_thread process
+      thread = λ i. record { pc = h.pc i; regs = h.regs i; state = Ready }
+
+  pub boots : (k : Kernel) (p : PlainProcess) → k.process ≡ Some p → k.steps ≡ 0 → k.capacity ≡ capacity_of plan → Begins process file p → machine_of k ≡ start plan file
+  unfolding machine_of
+  boots k p is steps room h = (λ i. machine_with k.capacity (steps i) (is i)) ∙ start_with k.capacity p room h

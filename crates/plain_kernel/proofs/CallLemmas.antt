@@ -27,13 +27,12 @@ use Rattle.machine_model.specs.Step.{executed, after}
 use Rattle.machine_model.specs.Threads.{answer_to, with_answer, passed}
 use Rattle.xk_base.specs.Registers.{with_arguments, arguments_of}
 use Rattle.plain_kernel.specs.Built.{maps_console}
-use Rattle.plain_kernel.specs.Execution.{DoesExecute}
 use Rattle.plain_kernel.specs.Mapped.{map_reply}
-use Rattle.plain_kernel.specs.Mapping.{MapsConsole}
-use Rattle.plain_kernel.specs.State.{machine_of, ledger_of, the_id, the_pid, the_thread, threads_with}
-use Rattle.plain_kernel.specs.declared.kernel.Kernel.{Kernel}
-use Rattle.plain_kernel.specs.declared.pages.Pages.{Pages}
-use Rattle.plain_kernel.proofs.ExecutionLemmas.{IsAfter, told_after, does_execute}
+use Rattle.plain_kernel.specs.Process.{IsCalled}
+use Rattle.plain_kernel.specs.State.{machine_with, ledger_of, the_id, the_pid, the_thread, threads_with}
+use Rattle.plain_kernel.specs.declared.process.Called.{Called}
+use Rattle.plain_kernel.specs.declared.process.PlainProcess.{PlainProcess}
+use Rattle.plain_kernel.proofs.ExecutionLemmas.{told_after, told_is}
 
 -- ---- what the call comes to
 
@@ -64,26 +63,26 @@ words_are w h =
     }
 
 -- by its number it is MapMemory
-call_maps : (k : Kernel) (w : List ℕ) → call_number w ≡ 2
-    → call (machine_of k) w ≡ unless_refused (map_refusals (machine_of k) (map_phys w) (map_virt w) (map_size w) (map_flags w))
-    (Served (map_served (machine_of k) (map_phys w) (map_virt w) (map_size w) (map_flags w)))
-unfolding call map_call machine_of
-call_maps k w e =
-    ap (λ n. unless_refused ((not (is_call_number n), UnhandledSyscall) ∷ (false, InvalidSyscall) ∷ []) (call_at n call_table (machine_of k) w)) e
+call_maps : (c s : ℕ) (p : PlainProcess) (w : List ℕ) → call_number w ≡ 2
+    → call (machine_with c s (Some p)) w ≡ unless_refused (map_refusals (machine_with c s (Some p)) (map_phys w) (map_virt w) (map_size w) (map_flags w))
+    (Served (map_served (machine_with c s (Some p)) (map_phys w) (map_virt w) (map_size w) (map_flags w)))
+unfolding call map_call machine_with
+call_maps c s p w e =
+    ap (λ n. unless_refused ((not (is_call_number n), UnhandledSyscall) ∷ (false, InvalidSyscall) ∷ []) (call_at n call_table (machine_with c s (Some p)) w)) e
 
 -- by its words it maps the console at the least free page
-abbrev map_outcome : Kernel → Outcome
-map_outcome k =
-    refused_or (if console_mapped 1 (ledger_of k.pages) then Some MemoryInUse else (
-    if is_none (least_run 1 (ledger_of k.pages) the_pid Map 1) then Some MemoryInUse else None))
-    (Served (map_served (machine_of k) 4026531840 0 4096 6))
+abbrev map_outcome : ℕ → ℕ → PlainProcess → Outcome
+map_outcome c s p =
+    refused_or (if console_mapped 1 (ledger_of p.pages) then Some MemoryInUse else (
+    if is_none (least_run 1 (ledger_of p.pages) the_pid Map 1) then Some MemoryInUse else None))
+    (Served (map_served (machine_with c s (Some p)) 4026531840 0 4096 6))
 
-call_is : (k : Kernel) (w : List ℕ) → AreMapWords w → call (machine_of k) w ≡ map_outcome k
-unfolding machine_of
-call_is k w h =
-    call_maps k w h.number
-    ∙ (λ i. unless_refused (map_refusals (machine_of k) (h.phys i) (h.virt i) (h.size i) (h.flags i))
-    (Served (map_served (machine_of k) (h.phys i) (h.virt i) (h.size i) (h.flags i))))
+call_is : (c s : ℕ) (p : PlainProcess) (w : List ℕ) → AreMapWords w → call (machine_with c s (Some p)) w ≡ map_outcome c s p
+unfolding machine_with
+call_is c s p w h =
+    call_maps c s p w h.number
+    ∙ (λ i. unless_refused (map_refusals (machine_with c s (Some p)) (h.phys i) (h.virt i) (h.size i) (h.flags i))
+    (Served (map_served (machine_with c s (Some p)) (h.phys i) (h.virt i) (h.size i) (h.flags i))))
 
 refused_either : (b c : Bool) (o : Outcome) → (b ≡ true) ⊎ (c ≡ true)
     → refused_or (if b then Some MemoryInUse else (if c then Some MemoryInUse else None)) o ≡ Refused MemoryInUse
@@ -92,14 +91,14 @@ refused_either false true o h = refl
 refused_either false false o (inl e) = absurd (false≢true e)
 refused_either false false o (inr e) = absurd (false≢true e)
 
-is_refused : (k : Kernel) → (console_mapped 1 (ledger_of k.pages) ≡ true) ⊎ (least_run 1 (ledger_of k.pages) the_pid Map 1 ≡ None) → map_outcome k ≡ Refused MemoryInUse
-is_refused k (inl e) = refused_either (console_mapped 1 (ledger_of k.pages)) (is_none (least_run 1 (ledger_of k.pages) the_pid Map 1)) (Served (map_served (machine_of k) 4026531840 0 4096 6)) (inl e)
-is_refused k (inr e) = refused_either (console_mapped 1 (ledger_of k.pages)) (is_none (least_run 1 (ledger_of k.pages) the_pid Map 1)) (Served (map_served (machine_of k) 4026531840 0 4096 6)) (inr (ap is_none e))
+is_refused : (c s : ℕ) (p : PlainProcess) → (console_mapped 1 (ledger_of p.pages) ≡ true) ⊎ (least_run 1 (ledger_of p.pages) the_pid Map 1 ≡ None) → map_outcome c s p ≡ Refused MemoryInUse
+is_refused c s p (inl e) = refused_either (console_mapped 1 (ledger_of p.pages)) (is_none (least_run 1 (ledger_of p.pages) the_pid Map 1)) (Served (map_served (machine_with c s (Some p)) 4026531840 0 4096 6)) (inl e)
+is_refused c s p (inr e) = refused_either (console_mapped 1 (ledger_of p.pages)) (is_none (least_run 1 (ledger_of p.pages) the_pid Map 1)) (Served (map_served (machine_with c s (Some p)) 4026531840 0 4096 6)) (inr (ap is_none e))
 
-is_served : (k : Kernel) (vpn : Vpn) → console_mapped 1 (ledger_of k.pages) ≡ false → least_run 1 (ledger_of k.pages) the_pid Map 1 ≡ Some vpn
-    → map_outcome k ≡ Served (map_served (machine_of k) 4026531840 0 4096 6)
-is_served k vpn e f = λ i.
-    refused_or (if e i then Some MemoryInUse else (if is_none (f i) then Some MemoryInUse else None)) (Served (map_served (machine_of k) 4026531840 0 4096 6))
+is_served : (c s : ℕ) (p : PlainProcess) (vpn : Vpn) → console_mapped 1 (ledger_of p.pages) ≡ false → least_run 1 (ledger_of p.pages) the_pid Map 1 ≡ Some vpn
+    → map_outcome c s p ≡ Served (map_served (machine_with c s (Some p)) 4026531840 0 4096 6)
+is_served c s p vpn e f = λ i.
+    refused_or (if e i then Some MemoryInUse else (if is_none (f i) then Some MemoryInUse else None)) (Served (map_served (machine_with c s (Some p)) 4026531840 0 4096 6))
 
 -- ---- what the caller is told
 
@@ -125,65 +124,79 @@ answered_at first passed w id = answered_by passed w (same_thread id the_id) (th
 -- ---- the step
 
 -- what the kernel tells of the call and of its reply
-abbrev pub call_told : Kernel → List ℕ → List What
-call_told k reply = Call the_id (arguments_of k.regs) ∷ Reply the_id reply ∷ []
+abbrev pub call_told : PlainProcess → List ℕ → List What
+call_told p reply = Call the_id (arguments_of p.regs) ∷ Reply the_id reply ∷ []
 
-called : (k : Kernel) (o : Outcome) → call (machine_of k) (arguments_of k.regs) ≡ o
-    → executed (machine_of k) (the_thread k) CallsKernel ≡ after (Call the_id (arguments_of k.regs)) (call_settled (machine_of k) o)
-unfolding machine_of
-called k o e = ap (λ p. after (Call the_id (arguments_of k.regs)) (call_settled (machine_of k) p)) e
+called : (c s : ℕ) (p : PlainProcess) (o : Outcome) → call (machine_with c s (Some p)) (arguments_of p.regs) ≡ o
+    → executed (machine_with c s (Some p)) (the_thread p) CallsKernel ≡ after (Call the_id (arguments_of p.regs)) (call_settled (machine_with c s (Some p)) o)
+unfolding machine_with
+called c s p o e = ap (λ x. after (Call the_id (arguments_of p.regs)) (call_settled (machine_with c s (Some p)) x)) e
 
-refused_told : (k : Kernel) → after (Call the_id (arguments_of k.regs)) (call_settled (machine_of k) (Refused MemoryInUse))
-    ≡ told_after k (ledger_of k.pages) (with_arguments (refused_words MemoryInUse) k.regs) (following k.pc) (call_told k (refused_words MemoryInUse))
-unfolding machine_of call_settled
-refused_told k = refl
+refused_told : (c s : ℕ) (p : PlainProcess) → after (Call the_id (arguments_of p.regs)) (call_settled (machine_with c s (Some p)) (Refused MemoryInUse))
+    ≡ told_after c s p (ledger_of p.pages) (with_arguments (refused_words MemoryInUse) p.regs) (following p.pc) (call_told p (refused_words MemoryInUse))
+unfolding machine_with call_settled
+refused_told c s p = refl
 
 -- the page of the answered address
 page_of_address : (v : ℕ) → 4096 * v / 4096 ≡ v
 page_of_address v = omega arith
 
 -- a served call, with that ledger and that reply
-abbrev served_with : Kernel → Ledger → List ℕ → Told
-served_with k l w = call_settled (machine_of k) (Served (answering (answer_to the_id w) (record (machine_of k) { ledger = l })))
+abbrev served_with : ℕ → ℕ → PlainProcess → Ledger → List ℕ → Told
+served_with c s p l w = call_settled (machine_with c s (Some p)) (Served (answering (answer_to the_id w) (record (machine_with c s (Some p)) { ledger = l })))
 
-settle : (k : Kernel) (l : Ledger) (w : List ℕ)
-    → after (Call the_id (arguments_of k.regs)) (served_with k l w) ≡ told_after k l (with_arguments w k.regs) (following k.pc) (call_told k w)
-unfolding machine_of call_settled settled
-settle k l w = λ i. record {
-  machine = record (machine_of k) { ledger = l; threads = λ id. answered_at (the_thread k) (passed (the_thread k)) w id i };
-  told = Call the_id (arguments_of k.regs) ∷ (map (λ id. Reply id (unwrap_or (answer_to the_id w id) [])) (answers_listed w i) ++ ([] ++ []));
+settle : (c s : ℕ) (p : PlainProcess) (l : Ledger) (w : List ℕ)
+    → after (Call the_id (arguments_of p.regs)) (served_with c s p l w) ≡ told_after c s p l (with_arguments w p.regs) (following p.pc) (call_told p w)
+unfolding machine_with call_settled settled
+settle c s p l w = λ i. record {
+  machine = record (machine_with c s (Some p)) { ledger = l; threads = λ id. answered_at (the_thread p) (passed (the_thread p)) w id i };
+  told = Call the_id (arguments_of p.regs) ∷ (map (λ id. Reply id (unwrap_or (answer_to the_id w id) [])) (answers_listed w i) ++ ([] ++ []));
 }
 
 -- what it is for the page that was found
-abbrev served_at : Kernel → ℕ → ℕ → Told
-served_at k address page =
-    served_with k (make_console (record { pid = the_pid; vpn = record { 0 = page } }) true (ledger_of k.pages)) (range_words address 4096)
+abbrev served_at : ℕ → ℕ → PlainProcess → ℕ → ℕ → Told
+served_at c s p address page =
+    served_with c s p (make_console (record { pid = the_pid; vpn = record { 0 = page } }) true (ledger_of p.pages)) (range_words address 4096)
 
-served_address : (k : Kernel) (o : Option Vpn) → least_run 1 (ledger_of k.pages) the_pid Map 1 ≡ o
-    → call_settled (machine_of k) (Served (map_served (machine_of k) 4026531840 0 4096 6))
-    ≡ served_at k (4096 * (unwrap_or {T = Vpn} o (record { 0 = 0 })).0) (4096 * (unwrap_or {T = Vpn} o (record { 0 = 0 })).0 / 4096)
-unfolding machine_of
-served_address k o e = ap (λ p. served_at k (4096 * (unwrap_or {T = Vpn} p (record { 0 = 0 })).0) (4096 * (unwrap_or {T = Vpn} p (record { 0 = 0 })).0 / 4096)) e
+served_address : (c s : ℕ) (p : PlainProcess) (o : Option Vpn) → least_run 1 (ledger_of p.pages) the_pid Map 1 ≡ o
+    → call_settled (machine_with c s (Some p)) (Served (map_served (machine_with c s (Some p)) 4026531840 0 4096 6))
+    ≡ served_at c s p (4096 * (unwrap_or {T = Vpn} o (record { 0 = 0 })).0) (4096 * (unwrap_or {T = Vpn} o (record { 0 = 0 })).0 / 4096)
+unfolding machine_with
+served_address c s p o e = ap (λ x. served_at c s p (4096 * (unwrap_or {T = Vpn} x (record { 0 = 0 })).0) (4096 * (unwrap_or {T = Vpn} x (record { 0 = 0 })).0 / 4096)) e
 
-served_told : (k : Kernel) (vpn : Vpn) → least_run 1 (ledger_of k.pages) the_pid Map 1 ≡ Some vpn
-    → after (Call the_id (arguments_of k.regs)) (call_settled (machine_of k) (Served (map_served (machine_of k) 4026531840 0 4096 6)))
-    ≡ told_after k (make_console (record { pid = the_pid; vpn = vpn }) true (ledger_of k.pages)) (with_arguments (range_words (4096 * vpn.0) 4096) k.regs) (following k.pc)
-    (call_told k (range_words (4096 * vpn.0) 4096))
-served_told k vpn e =
-    ap (after (Call the_id (arguments_of k.regs)))
-    (served_address k (Some vpn) e ∙ ap (served_at k (4096 * vpn.0)) (page_of_address vpn.0))
-    ∙ settle k (make_console (record { pid = the_pid; vpn = vpn }) true (ledger_of k.pages)) (range_words (4096 * vpn.0) 4096)
+served_told : (c s : ℕ) (p : PlainProcess) (vpn : Vpn) → least_run 1 (ledger_of p.pages) the_pid Map 1 ≡ Some vpn
+    → after (Call the_id (arguments_of p.regs)) (call_settled (machine_with c s (Some p)) (Served (map_served (machine_with c s (Some p)) 4026531840 0 4096 6)))
+    ≡ told_after c s p (make_console (record { pid = the_pid; vpn = vpn }) true (ledger_of p.pages)) (with_arguments (range_words (4096 * vpn.0) 4096) p.regs) (following p.pc)
+    (call_told p (range_words (4096 * vpn.0) 4096))
+served_told c s p vpn e =
+    ap (after (Call the_id (arguments_of p.regs)))
+    (served_address c s p (Some vpn) e ∙ ap (served_at c s p (4096 * vpn.0)) (page_of_address vpn.0))
+    ∙ settle c s p (make_console (record { pid = the_pid; vpn = vpn }) true (ledger_of p.pages)) (range_words (4096 * vpn.0) 4096)
 
--- the kernel does the step of the call
-pub does_call : (old new : Kernel) (mapped : Option Vpn) (pages : Pages) → maps_console (arguments_of old.regs) ≡ true → MapsConsole old.pages pages mapped
-    → IsAfter old new (ledger_of pages) (with_arguments (map_reply mapped) old.regs) (following old.pc) (call_told old (map_reply mapped)) → DoesExecute old new CallsKernel
-does_call old new None pages m h a =
-    does_execute old new CallsKernel (ledger_of pages) (with_arguments (refused_words MemoryInUse) old.regs) (following old.pc) (call_told old (refused_words MemoryInUse))
-    (called old (Refused MemoryInUse) (call_is old (arguments_of old.regs) (words_are (arguments_of old.regs) m) ∙ is_refused old h.0)
-    ∙ refused_told old
-    ∙ ap (λ l. told_after old l (with_arguments (refused_words MemoryInUse) old.regs) (following old.pc) (call_told old (refused_words MemoryInUse))) (sym h.1)) a
-does_call old new (Some vpn) pages m h a =
-    does_execute old new CallsKernel (ledger_of pages) (with_arguments (range_words (4096 * vpn.0) 4096) old.regs) (following old.pc) (call_told old (range_words (4096 * vpn.0) 4096))
-    (called old (Served (map_served (machine_of old) 4026531840 0 4096 6)) (call_is old (arguments_of old.regs) (words_are (arguments_of old.regs) m) ∙ is_served old vpn h.0 h.1)
-    ∙ served_told old vpn h.1
-    ∙ ap (λ l. told_after old l (with_arguments (range_words (4096 * vpn.0) 4096) old.regs) (following old.pc) (call_told old (range_words (4096 * vpn.0) 4096))) (sym h.2)) a
+-- the step of the call
+module _ (c s : ℕ) (p q : PlainProcess) (call : Called) where
+  abbrev answered : List ℕ → Told
+  answered reply = record { machine = machine_with c s (Some q); told = call_told p reply }
+
+  refusal : IsCalled p q call None → executed (machine_with c s (Some p)) (the_thread p) CallsKernel ≡ answered (refused_words MemoryInUse)
+  refusal h =
+      called c s p (Refused MemoryInUse) (call_is c s p (arguments_of p.regs) (words_are (arguments_of p.regs) h.built) ∙ is_refused c s p h.maps.0)
+      ∙ refused_told c s p
+      ∙ told_is c s p q (ledger_of p.pages) (with_arguments (refused_words MemoryInUse) p.regs) (following p.pc) (call_told p (refused_words MemoryInUse)) h.maps.1 h.regs h.pc
+
+  mapping : (vpn : Vpn) → IsCalled p q call (Some vpn) → executed (machine_with c s (Some p)) (the_thread p) CallsKernel ≡ answered (range_words (4096 * vpn.0) 4096)
+  mapping vpn h =
+      called c s p (Served (map_served (machine_with c s (Some p)) 4026531840 0 4096 6)) (call_is c s p (arguments_of p.regs) (words_are (arguments_of p.regs) h.built) ∙ is_served c s p vpn h.maps.0 h.maps.1)
+      ∙ served_told c s p vpn h.maps.1
+      ∙ told_is c s p q (make_console (record { pid = the_pid; vpn = vpn }) true (ledger_of p.pages)) (with_arguments (range_words (4096 * vpn.0) 4096) p.regs) (following p.pc)
+      (call_told p (range_words (4096 * vpn.0) 4096)) h.maps.2 h.regs h.pc
+
+  by_reply : (mapped : Option Vpn) → IsCalled p q call mapped → executed (machine_with c s (Some p)) (the_thread p) CallsKernel ≡ answered (map_reply mapped)
+  by_reply None h = refusal h
+  by_reply (Some vpn) h = mapping vpn h
+
+  pub calls : (mapped : Option Vpn) → IsCalled p q call mapped
+      → executed (machine_with c s (Some p)) (the_thread p) CallsKernel ≡ record { machine = machine_with c s (Some q); told = Call the_id call.words ∷ Reply the_id call.reply ∷ [] }
+  calls mapped h =
+      by_reply mapped h
+      ∙ (λ i. record { machine = machine_with c s (Some q); told = Call the_id (sym h.words i) ∷ Reply the_id (sym h.reply i) ∷ [] })

@@ -1,10 +1,12 @@
-pub mod ArgumentsLemmas
 pub mod BootLemmas
 pub mod CallLemmas
+pub mod ContentLemmas
+pub mod DeathLemmas
 pub mod ExecutionLemmas
 pub mod LoadingLemmas
 pub mod MachineLemmas
 pub mod MappingLemmas
 pub mod MemoryLemmas
 pub mod PagesLemmas
+pub mod RunLemmas
 pub mod StepLemmas

@@ -6,15 +6,14 @@ use Rattle.std.proofs.lemmas.Option.{none-some}
 use Rattle.xk_base.specs.declared.ids.Place.{Place}
 use Rattle.xk_base.specs.declared.pages.Access.{Access}
 use Rattle.xk_base.specs.declared.pages.Access.TheVariants.{Load}
-use Rattle.xk_base.specs.declared.pages.Width.TheVariants.{Word}
 use Rattle.ledger_model.specs.Ledger.{Page, Contents, Homed, loan_at, loan_of, contents_of, has_bytes}
 use Rattle.ledger_model.specs.Reach.{reach, is_free, home_may}
 use Rattle.ledger_model.proofs.Reaching.{reach-home, reach-free, is_free-all}
-use Rattle.xk_base.specs.UserMemory.{number_at}
 use Rattle.machine_model.specs.Views.{memory_of, contents_seen, byte_of}
 use Rattle.plain_kernel.specs.Access.{page_may, page_byte, is_console_page}
-use Rattle.plain_kernel.specs.State.{machine_of, ledger_of, page_in, the_pid, console_page, bytes_page, is_mapped_at, table_page}
-use Rattle.plain_kernel.specs.declared.kernel.Kernel.{Kernel}
+use Rattle.plain_kernel.specs.Memory.{memory_in}
+use Rattle.plain_kernel.specs.State.{machine_with, ledger_of, page_in, the_pid, console_page, bytes_page, is_mapped_at, table_page}
+use Rattle.plain_kernel.specs.declared.process.PlainProcess.{PlainProcess}
 use Rattle.plain_kernel.specs.declared.pages.Pages.{Pages}
 use Rattle.plain_kernel.specs.declared.pages.PlainPage.{PlainPage}
 
@@ -68,54 +67,44 @@ some_if : {A : Type 0} (b : Bool) (x : A) → is_some (if b then Some x else Non
 some_if true x = refl
 some_if false x = refl
 
-pub may_at : (k : Kernel) (a : Access) (va : ℕ) → (memory_of (machine_of k) the_pid).may a va ≡ page_may (page_in k.pages (va / 4096)) a
-unfolding memory_of machine_of
-may_at k a va =
-    ap is_some (reach_at k.pages (va / 4096) a) ∙ some_if (page_may (page_in k.pages (va / 4096)) a) (Homed (place_at (va / 4096)))
+pub may_at : (c s : ℕ) (p : PlainProcess) (a : Access) (va : ℕ) → (memory_of (machine_with c s (Some p)) the_pid).may a va ≡ page_may (page_in p.pages (va / 4096)) a
+unfolding memory_of machine_with
+may_at c s p a va =
+    ap is_some (reach_at p.pages (va / 4096) a) ∙ some_if (page_may (page_in p.pages (va / 4096)) a) (Homed (place_at (va / 4096)))
 
 seen_by : (pages : Pages) (p : Place) (o : Option Page) → (ledger_of pages).home p ≡ o
     → option_and_then (contents_of (ledger_of pages)) (if page_may o Load then Some (Homed p) else None) ≡ option_map (λ page. page.contents) o
 seen_by pages p None e = refl
 seen_by pages p (Some page) e = ap (option_map (λ (x : Page). x.contents)) e
 
-seen_at : (k : Kernel) (va : ℕ) → contents_seen (machine_of k) the_pid va ≡ option_map (λ page. page.contents) (page_in k.pages (va / 4096))
-unfolding machine_of
-seen_at k va =
-    ap (option_and_then (contents_of (ledger_of k.pages))) (reach_at k.pages (va / 4096) Load)
-    ∙ seen_by k.pages (place_at (va / 4096)) (page_in k.pages (va / 4096)) (home_at k.pages (va / 4096))
+seen_at : (c s : ℕ) (p : PlainProcess) (va : ℕ) → contents_seen (machine_with c s (Some p)) the_pid va ≡ option_map (λ page. page.contents) (page_in p.pages (va / 4096))
+unfolding machine_with
+seen_at c s p va =
+    ap (option_and_then (contents_of (ledger_of p.pages))) (reach_at p.pages (va / 4096) Load)
+    ∙ seen_by p.pages (place_at (va / 4096)) (page_in p.pages (va / 4096)) (home_at p.pages (va / 4096))
 
 console_by : (o : Option Page) → option_map_or (λ (c : Contents). not (has_bytes c)) (option_map (λ (page : Page). page.contents) o) false ≡ is_console_page o
 console_by None = refl
 console_by (Some page) = refl
 
-pub console_at : (k : Kernel) (va : ℕ) → (memory_of (machine_of k) the_pid).console va ≡ is_console_page (page_in k.pages (va / 4096))
+pub console_at : (c s : ℕ) (p : PlainProcess) (va : ℕ) → (memory_of (machine_with c s (Some p)) the_pid).console va ≡ is_console_page (page_in p.pages (va / 4096))
 unfolding memory_of
-console_at k va =
-    ap (λ o. option_map_or (λ (c : Contents). not (has_bytes c)) o false) (seen_at k va) ∙ console_by (page_in k.pages (va / 4096))
+console_at c s p va =
+    ap (λ o. option_map_or (λ (c : Contents). not (has_bytes c)) o false) (seen_at c s p va) ∙ console_by (page_in p.pages (va / 4096))
 
 byte_by : (o : Option Page) (n : ℕ) → option_map_or (byte_of n) (option_map (λ (page : Page). page.contents) o) 0 ≡ page_byte o n
 byte_by None n = refl
 byte_by (Some page) n = refl
 
-pub byte_at : (k : Kernel) (va : ℕ) → (memory_of (machine_of k) the_pid).byte va ≡ page_byte (page_in k.pages (va / 4096)) (va % 4096)
+pub byte_at : (c s : ℕ) (p : PlainProcess) (va : ℕ) → (memory_of (machine_with c s (Some p)) the_pid).byte va ≡ page_byte (page_in p.pages (va / 4096)) (va % 4096)
 unfolding memory_of
-byte_at k va =
-    ap (λ o. option_map_or (byte_of (va % 4096)) o 0) (seen_at k va) ∙ byte_by (page_in k.pages (va / 4096)) (va % 4096)
+byte_at c s p va =
+    ap (λ o. option_map_or (byte_of (va % 4096)) o 0) (seen_at c s p va) ∙ byte_by (page_in p.pages (va / 4096)) (va % 4096)
 
--- the bytes of an aligned word stand in one page
-near_at : (k : Kernel) (va i : ℕ) → va % 4 ≡ 0 → i < 4
-    → (memory_of (machine_of k) the_pid).byte (va + i) ≡ page_byte (page_in k.pages (va / 4096)) (va % 4096 + i)
-near_at k va i e l =
-    let page : (va + i) / 4096 ≡ va / 4096 = omega arith in
-    let offset : (va + i) % 4096 ≡ va % 4096 + i = omega arith in
-    byte_at k (va + i) ∙ ap (λ v. page_byte (page_in k.pages v) ((va + i) % 4096)) page
-    ∙ ap (page_byte (page_in k.pages (va / 4096))) offset
-
-pub word_at : (k : Kernel) (va : ℕ) → va % 4 ≡ 0
-    → number_at (memory_of (machine_of k) the_pid).byte va Word ≡ number_at (page_byte (page_in k.pages (va / 4096))) (va % 4096) Word
-word_at k va e =
-    let b0 = byte_at k va in
-    let b1 = near_at k va 1 e (omega arith) in
-    let b2 = near_at k va 2 e (omega arith) in
-    let b3 = near_at k va 3 e (omega arith) in
-    λ i. b0 i + 256 * b1 i + 65536 * b2 i + 16777216 * b3 i
+-- it is that of the pages
+pub memory_is : (c s : ℕ) (p : PlainProcess) → memory_of (machine_with c s (Some p)) the_pid ≡ memory_in p.pages
+memory_is c s p = λ i. record {
+  may = λ a va. may_at c s p a va i;
+  console = λ va. console_at c s p va i;
+  byte = λ va. byte_at c s p va i;
+}

@@ -1,16 +1,17 @@
 -- The table of pages, read and changed.
-use Rattle.std.proofs.Common.{◌≡◌, ◌≢◌, ℕ, ◌+◌, ◌<◌, Bool, true, false, List, [], ◌∷◌, ◌++◌, take, drop, length, set, get_or, nat_eq, Option, Some, None, refl, sym, ap, ◌∙◌, arith, inl, inr}
+use Rattle.std.proofs.Common.{◌≡◌, ◌≢◌, ℕ, ◌+◌, ◌-◌, ◌<◌, ◌≤◌, Bool, true, false, List, [], ◌∷◌, ◌++◌, take, drop, length, set, get_or, nat_eq, length-take, length-append, append_assoc, add-one, drop-cons, Option, Some, None, refl, sym, ap, ◌∙◌, arith, inl, inr}
 use Rattle.std.specs.Prelude.{is_some, ◌==◌, ◌&&◌, if◌then◌else◌, option_copied}
 use Rattle.std.specs.Borrow.{Bor}
 use Rattle.std.specs.Option.{option_map, option_and_then}
 use Rattle.std.proofs.lemmas.Bool.{cases_eq, cond-true, cond-false, eq-eqb, ne_eqb}
 use Rattle.std.proofs.lemmas.Bool.Decides.{nat_tests}
-use Rattle.std.proofs.lemmas.List.{set-get_or, take-set, drop-set, take-append-drop}
+use Rattle.std.proofs.lemmas.List.{set-get_or, set-append_right, take-set, drop-set, take-append-drop}
+use Rattle.std.proofs.Math.Seq.{set-append_seam}
 use Rattle.xk_base.specs.Counting.{put_at}
 use Rattle.xk_base.specs.RowMap.{row_map}
 use Rattle.xk_base.proofs.RowMap.{row_map_set, row_map_read}
-use Rattle.ledger_model.specs.Ledger.{Homed}
-use Rattle.ledger_model.specs.Steps.{write, written_page}
+use Rattle.ledger_model.specs.Ledger.{Homed, Page}
+use Rattle.ledger_model.specs.Steps.{write, written, written_page}
 use Rattle.plain_kernel.specs.Places.{place_number}
 use Rattle.plain_kernel.specs.State.{ledger_of, page_in, the_pid, console_page, bytes_page, is_mapped_at, table_page}
 use Rattle.plain_kernel.specs.declared.pages.Pages.{Pages}
@@ -72,34 +73,39 @@ page_elsewhere old new k x vpn h ne = λ i.
 
 -- ---- a store
 
-module _ (old new : Pages) (k : ℕ) (page changed : PlainPage) (vpn : ℕ) (offset value : ℕ)
+-- the page at a page number after these bytes were written into the page at another
+abbrev pub written_at : Pages → ℕ → ℕ → List ℕ → ℕ → Option Page
+written_at pages vpn offset bytes q = if q == vpn then option_map (written_page offset bytes) (page_in pages q) else page_in pages q
+
+-- pages that are so written are the ledger so written
+pub ledger_written : (old new : Pages) (vpn offset : ℕ) (bytes : List ℕ) → ((q : ℕ) → page_in new q ≡ written_at old vpn offset bytes q)
+    → ledger_of new ≡ write (Homed (record { pid = the_pid; vpn = record { 0 = vpn } })) offset bytes (ledger_of old)
+unfolding ledger_of write
+ledger_written old new vpn offset bytes h = λ i. record { home = λ place. homes (place.pid.0 == 2) place.vpn.0 i; orphan = λ place. None }
+  where
+    homes : (b : Bool) (q : ℕ) → (if b then page_in new q else None)
+        ≡ (if b && (q == vpn) then option_map (written_page offset bytes) (if b then page_in old q else None) else (if b then page_in old q else None))
+    homes true q = h q
+    homes false q = refl
+
+module _ (old new : Pages) (k : ℕ) (page changed : PlainPage) (vpn offset : ℕ) (bytes : List ℕ)
     (h : IsChangedAt old new k (Some changed)) (at : place_number vpn ≡ Some k) (free : is_mapped_at old.console vpn ≡ false)
-    (was : table_page old vpn ≡ Some page) (is : bytes_page changed ≡ written_page offset (value ∷ []) (bytes_page page)) where
-  stored_there : page_in new vpn ≡ option_map (written_page offset (value ∷ [])) (page_in old vpn)
+    (was : table_page old vpn ≡ Some page) (is : bytes_page changed ≡ written_page offset bytes (bytes_page page)) where
+  stored_there : page_in new vpn ≡ option_map (written_page offset bytes) (page_in old vpn)
   stored_there =
       page_table new vpn (Some changed) (ap (λ c. is_mapped_at c vpn) h.console ∙ free) (table_there old new k (Some changed) vpn h at)
       ∙ ap Some is
-      ∙ sym (ap (option_map (written_page offset (value ∷ []))) (page_table old vpn (Some page) free was))
+      ∙ sym (ap (option_map (written_page offset bytes)) (page_table old vpn (Some page) free was))
 
-  stored_at : (q : ℕ) → page_in new q ≡ (if q == vpn then option_map (written_page offset (value ∷ [])) (page_in old q) else page_in old q)
+  pub stored_at : (q : ℕ) → page_in new q ≡ written_at old vpn offset bytes q
   stored_at q = elim (cases_eq q vpn) [
     | inl same ↦
-        ap (page_in new) same ∙ stored_there ∙ ap (λ v. option_map (written_page offset (value ∷ [])) (page_in old v)) (sym same)
-        ∙ sym (cond-true (q == vpn) (option_map (written_page offset (value ∷ [])) (page_in old q)) (page_in old q) (eq-eqb q vpn same))
+        ap (page_in new) same ∙ stored_there ∙ ap (λ v. option_map (written_page offset bytes) (page_in old v)) (sym same)
+        ∙ sym (cond-true (q == vpn) (option_map (written_page offset bytes) (page_in old q)) (page_in old q) (eq-eqb q vpn same))
     | inr apart ↦
         page_elsewhere old new k (Some changed) q h (λ e. apart (one_place q vpn k e at))
-        ∙ sym (cond-false (q == vpn) (option_map (written_page offset (value ∷ [])) (page_in old q)) (page_in old q) (ne_eqb q vpn apart))
+        ∙ sym (cond-false (q == vpn) (option_map (written_page offset bytes) (page_in old q)) (page_in old q) (ne_eqb q vpn apart))
   ]
-
-  -- the ledger has that byte written
-  pub ledger_stored : ledger_of new ≡ write (Homed (record { pid = the_pid; vpn = record { 0 = vpn } })) offset (value ∷ []) (ledger_of old)
-  unfolding ledger_of write
-  ledger_stored = λ i. record { home = λ place. homes (place.pid.0 == 2) place.vpn.0 i; orphan = λ place. None }
-    where
-      homes : (b : Bool) (q : ℕ) → (if b then page_in new q else None)
-          ≡ (if b && (q == vpn) then option_map (written_page offset (value ∷ [])) (if b then page_in old q else None) else (if b then page_in old q else None))
-      homes true q = stored_at q
-      homes false q = refl
 
 -- the page of a page number, from the place where it was read
 pub table_read : (pages : Pages) (vpn k : ℕ) (o d : Option PlainPage) → Some k ≡ place_number vpn → k < length pages.table.items → get_or pages.table.items k d ≡ o → table_page pages vpn ≡ o
@@ -110,10 +116,35 @@ table_read pages vpn k o d at l e =
 pub unwritten : (old new : Pages) (k : ℕ) (x : Option PlainPage) → new.table.items ≡ set old.table.items k x → new.console ≡ old.console → x ≡ get_or old.table.items k x → ledger_of new ≡ ledger_of old
 unwritten old new k x t c e = ledger_same old new (t ∙ ap (set old.table.items k) e ∙ set-get_or old.table.items k x) c
 
--- a byte that is written into a list of them
-pub set_byte : (xs : List ℕ) (i v : ℕ) → i < length xs → set xs i v ≡ take i xs ++ (v ∷ drop (i + 1) xs)
+-- a byte after bytes that were written into a list
+pub write_more : (xs ys : List ℕ) (i v : ℕ) → i + length ys < length xs → set (written xs i ys) (i + length ys) v ≡ written xs i (ys ++ (v ∷ []))
+write_more xs ys i v l =
+    let front : length (take i xs) ≡ i = simp length-take (omega arith) in
+    let rest = drop (i + length ys) xs in
+    let inside : i + length ys - i ≡ length ys = omega arith in
+    let next : drop (i + length ys) xs ≡ get_or xs (i + length ys) 0 ∷ drop (i + length ys + 1) xs = rw add-one (drop-cons xs (i + length ys) 0 l) in
+    let far : i + length ys + 1 ≡ i + length (ys ++ v ∷ []) = simp length-append (omega arith) in
+    set-append_right (take i xs) (ys ++ rest) i (i + length ys) v front (omega arith)
+    ∙ (λ j. take i xs ++ set (ys ++ rest) (inside j) v)
+    ∙ (λ j. take i xs ++ set (ys ++ next j) (length ys) v)
+    ∙ ap (λ zs. take i xs ++ zs) (set-append_seam ys (get_or xs (i + length ys) 0) (drop (i + length ys + 1) xs) v)
+    ∙ ap (λ zs. take i xs ++ zs) (sym (append_assoc ys (v ∷ []) (drop (i + length ys + 1) xs)))
+    ∙ (λ j. take i xs ++ ((ys ++ v ∷ []) ++ drop (far j) xs))
+
+-- two bytes, and four
+set_byte : (xs : List ℕ) (i v : ℕ) → i < length xs → set xs i v ≡ written xs i (v ∷ [])
 set_byte xs i v l =
     sym (take-append-drop i (set xs i v)) ∙ ap (λ ys. ys ++ drop i (set xs i v)) (take-set xs i v) ∙ ap (λ ys. take i xs ++ ys) (drop-set xs i v l)
+
+pub put_two : (xs : List ℕ) (i a b : ℕ) → i + 2 ≤ length xs → set (set xs i a) (i + 1) b ≡ written xs i (a ∷ (b ∷ []))
+put_two xs i a b l = ap (λ ys. set ys (i + 1) b) (set_byte xs i a (omega arith)) ∙ write_more xs (a ∷ []) i b (omega arith)
+
+pub put_four : (xs : List ℕ) (i a b c d : ℕ) → i + 4 ≤ length xs
+    → set (set (set (set xs i a) (i + 1) b) (i + 2) c) (i + 3) d ≡ written xs i (a ∷ (b ∷ (c ∷ (d ∷ []))))
+put_four xs i a b c d l =
+    ap (λ ys. set (set ys (i + 2) c) (i + 3) d) (put_two xs i a b (omega arith))
+    ∙ ap (λ ys. set ys (i + 3) d) (write_more xs (a ∷ (b ∷ [])) i c (omega arith))
+    ∙ write_more xs (a ∷ (b ∷ (c ∷ []))) i d (omega arith)
 
 -- whether there is a page
 pub has_there : (pages : Pages) (vpn : ℕ) → is_mapped_at pages.console vpn ≡ false → is_some (page_in pages vpn) ≡ is_some (table_page pages vpn)

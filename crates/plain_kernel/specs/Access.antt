@@ -1,8 +1,7 @@
 -- What a page without a loan lets its process see and do, at an offset within the page.
 use Rattle.std.specs.Prelude.{ℕ, Bool, false, not, Option, Some, None, if◌then◌else◌}
 use Rattle.xk_base.specs.declared.pages.Access.{Access}
-use Rattle.xk_base.specs.declared.pages.Access.TheVariants.{Fetch}
-use Rattle.xk_base.specs.declared.pages.Width.TheVariants.{Word}
+use Rattle.xk_base.specs.declared.pages.Width.{Width}
 use Rattle.ledger_model.specs.Ledger.{Page, has_bytes}
 use Rattle.ledger_model.specs.Reach.{owner_may}
 use Rattle.xk_base.specs.UserMemory.{number_at}
@@ -20,6 +19,7 @@ abbrev pub is_console_page : Option Page → Bool
 is_console_page None = false
 is_console_page (Some page) = not (has_bytes page.contents)
 
--- the word that is fetched at an offset, where the page may be executed
-abbrev pub fetched : Option Page → ℕ → Option ℕ
-fetched page offset = if page_may page Fetch then Some (number_at (page_byte page) offset Word) else None
+-- the number of that width at an offset, where the process has the access to the page
+abbrev pub number_in : Access → Option Page → ℕ → Width → Option ℕ
+number_in access page offset width =
+    if page_may page access then Some (number_at (page_byte page) offset width) else None

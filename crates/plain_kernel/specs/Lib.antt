@@ -1,9 +1,10 @@
 pub mod Access
 pub mod Built
-pub mod Execution
 pub mod Mapped
 pub mod Mapping
+pub mod Memory
 pub mod Places
+pub mod Process
 pub mod Start
 pub mod State
 pub mod Storing

@@ -4,7 +4,7 @@ ghost use Rattle.std.specs.Prelude.{◌≡◌, vec_len};
 ghost use Rattle.plain_kernel.specs.Mapped.{IsMappable};
 
 use crate::places::place_of;
-use xk_base::{Right, Stored, Vpn};
+use xk_base::{Right, Stored, Vpn, Width};
 
 /// The first page of the Map window, and how many pages it has.
 const FIRST_MAP_PAGE: u32 = 0x6_0000;
@@ -21,21 +21,51 @@ pub struct PlainPage {
 
 impl PlainPage {
     ghost use Rattle.std.specs.Prelude.{◌<◌, ◌%◌, Some};
-    ghost use Rattle.plain_kernel.specs.Access.{fetched};
+    ghost use Rattle.xk_base.specs.UserMemory.{size_of, number_at};
+    ghost use Rattle.ledger_model.specs.Steps.{written};
+    ghost use Rattle.machine_model.specs.Views.{low_bytes};
+    ghost use Rattle.plain_kernel.specs.Access.{page_byte};
     ghost use Rattle.plain_kernel.specs.State.{bytes_page};
 
-    /// The word at an offset, where the page may be executed.
-    fn fetch(&self, offset: u32) -> Option<u32>
-        requires aligned { offset % 4 ≡ 0 }
+    /// The number of that width at an offset, lowest byte first.
+    pub fn number(&self, offset: u32, width: Width) -> u32
+        requires aligned { offset % size_of width ≡ 0 }
         requires within { offset < 4096 }
-        ensures { result ≡ fetched (Some (bytes_page self.now)) offset }
+        ensures { result ≡ number_at (page_byte (Some (bytes_page self.now))) offset width }
     {
-        if !self.right.x {
-            return None;
-        }
         let at = offset as usize;
         let bytes = &self.bytes;
-        Some(u32::from_le_bytes([bytes[at], bytes[at + 1], bytes[at + 2], bytes[at + 3]]))
+        match width {
+            Width::Byte => u32::from(bytes[at]),
+            Width::Half => u32::from(u16::from_le_bytes([bytes[at], bytes[at + 1]])),
+            Width::Word => {
+                u32::from_le_bytes([bytes[at], bytes[at + 1], bytes[at + 2], bytes[at + 3]])
+            }
+        }
+    }
+
+    /// Puts the low bytes of a value at an offset, lowest byte first.
+    pub fn put(&mut self, offset: u32, width: Width, value: u32)
+        requires aligned { offset % size_of width ≡ 0 }
+        requires within { offset < 4096 }
+        ensures right { self.new.right ≡ self.old.right }
+        ensures bytes { self.new.bytes.items ≡ written self.old.bytes.items offset (low_bytes width value) }
+    {
+        let at = offset as usize;
+        let [first, second, third, fourth] = value.to_le_bytes();
+        match width {
+            Width::Byte => self.bytes[at] = first,
+            Width::Half => {
+                self.bytes[at] = first;
+                self.bytes[at + 1] = second;
+            }
+            Width::Word => {
+                self.bytes[at] = first;
+                self.bytes[at + 1] = second;
+                self.bytes[at + 2] = third;
+                self.bytes[at + 3] = fourth;
+            }
+        }
     }
 }
 
@@ -49,10 +79,10 @@ pub struct Pages {
 }
 
 impl Pages {
-    ghost use Rattle.std.specs.Prelude.{◌<◌, ◌/◌, ◌%◌, option_copied};
-    ghost use Rattle.plain_kernel.specs.Access.{fetched};
+    ghost use Rattle.std.specs.Prelude.{◌/◌, ◌%◌, option_copied};
+    ghost use Rattle.xk_base.specs.UserMemory.{size_of};
+    ghost use Rattle.plain_kernel.specs.Access.{number_in};
     ghost use Rattle.plain_kernel.specs.State.{page_in, table_page, is_mapped_at};
-    ghost use Rattle.plain_kernel.specs.Storing.{DoesStore};
 
     /// The pages of a table, without the console.
     pub fn new(table: Vec<Option<PlainPage>>) -> Pages
@@ -86,28 +116,55 @@ impl Pages {
         }
     }
 
+    ghost use Rattle.xk_base.specs.declared.pages.Access.TheVariants.{Fetch, Load, Store};
+    ghost use Rattle.xk_base.specs.declared.pages.Width.TheVariants.{Word};
+    ghost use Rattle.plain_kernel.specs.Access.{page_may};
+    ghost use Rattle.plain_kernel.specs.Storing.{DoesStore};
+
     /// The word at an address, where the process may fetch it.
-    pub fn fetch(&self, address: u32) -> Option<u32>
-        requires { address % 4 ≡ 0 }
-        ensures { result ≡ fetched (page_in self.now (address / 4096)) (address % 4096) }
+    pub fn fetched(&self, va: u32) -> Option<u32>
+        requires { va % 4 ≡ 0 }
+        ensures { result ≡ number_in Fetch (page_in self.now (va / 4096)) (va % 4096) Word }
     {
-        let vpn = Vpn(address / 4096);
+        let vpn = Vpn(va / 4096);
         if self.is_console(vpn) {
             return None;
         }
         match self.page(vpn) {
-            Some(page) => page.fetch(address % 4096),
+            Some(page) => {
+                if !page.right.x {
+                    return None;
+                }
+                Some(page.number(va % 4096, Width::Word))
+            }
             None => None,
         }
     }
 
-    /// Stores a byte at an address, or says why not.
-    pub fn store(&mut self, address: u32, value: u8) -> Stored
-        ensures { DoesStore self.old self.new address value result }
+    /// The number of that width at an address, where the process may load it. A load from the
+    /// console gives 0.
+    pub fn loaded(&self, va: u32, width: Width) -> Option<u32>
+        requires { va % size_of width ≡ 0 }
+        ensures { result ≡ number_in Load (page_in self.now (va / 4096)) (va % 4096) width }
     {
-        let vpn = Vpn(address / 4096);
+        let vpn = Vpn(va / 4096);
         if self.is_console(vpn) {
-            return Stored::Device(address % 4096);
+            return Some(0);
+        }
+        match self.page(vpn) {
+            Some(page) => Some(page.number(va % 4096, width)),
+            None => None,
+        }
+    }
+
+    /// Stores the low bytes of a value at an address, or says why not.
+    pub fn stored(&mut self, va: u32, width: Width, value: u32) -> Stored
+        requires { va % size_of width ≡ 0 }
+        ensures { DoesStore self.old self.new va width value result }
+    {
+        let vpn = Vpn(va / 4096);
+        if self.is_console(vpn) {
+            return Stored::Device(va % 4096);
         }
         let Some(k) = place_of(vpn) else {
             return Stored::Fault;
@@ -117,10 +174,24 @@ impl Pages {
                 if !page.right.w {
                     return Stored::Fault;
                 }
-                page.bytes[(address % 4096) as usize] = value;
+                page.put(va % 4096, width, value);
                 Stored::Done
             }
             None => Stored::Fault,
+        }
+    }
+
+    /// Whether the process may store at an address.
+    pub fn may_store(&self, va: u32) -> bool
+        ensures { result ≡ page_may (page_in self.now (va / 4096)) Store }
+    {
+        let vpn = Vpn(va / 4096);
+        if self.is_console(vpn) {
+            return true;
+        }
+        match self.page(vpn) {
+            Some(page) => page.right.w,
+            None => false,
         }
     }
 
