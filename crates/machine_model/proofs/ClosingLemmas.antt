@@ -53,7 +53,7 @@ servers_stay m serial e n = go (n == serial.0) refl
     go false q = refl
     go true q = sym (ap m.servers (eqb-true n serial.0 q) ∙ e)
 
-nobody_refused : (test : ThreadId → Bool) → ((id : ThreadId) → test id ≡ false) → refused_server test ≡ no_answers
+pub nobody_refused : (test : ThreadId → Bool) → ((id : ThreadId) → test id ≡ false) → refused_server test ≡ no_answers
 nobody_refused test h = λ i id. if_none id i
   where
     if_none : (id : ThreadId) → refused_server test id ≡ None

@@ -1,5 +1,6 @@
 pub mod ArgumentLemmas
 pub mod ClosingLemmas
+pub mod DeathLemmas
 pub mod KeptLemmas
 pub mod LendRowLemmas
 pub mod LoanSetLemmas

@@ -1,6 +1,6 @@
 //! Laws of calls, of servers that end, and of events.
 
-ghost use Rattle.std.specs.Prelude.{ℕ, ◌≡◌, ◌||◌, Bool, false, None, map};
+ghost use Rattle.std.specs.Prelude.{ℕ, ◌≡◌, ◌||◌, Bool, false, None, Some, map};
 ghost use Rattle.xk_base.specs.CallNumbers.{call_numbers};
 ghost use Rattle.xk_base.specs.declared.ids.Number.{Number};
 ghost use Rattle.xk_base.specs.declared.ids.Pid.{Pid};
@@ -12,6 +12,7 @@ ghost use Rattle.ledger_model.specs.Steps.{end_loan, orphan_loan};
 ghost use Rattle.machine_model.specs.Calls.{call_table};
 ghost use Rattle.machine_model.specs.Changes.{Retried, call_settled, only};
 ghost use Rattle.machine_model.specs.Closing.{close};
+ghost use Rattle.machine_model.specs.Ends.{death, forgotten};
 ghost use Rattle.machine_model.specs.Events.{picked, raised, killed, nothing};
 ghost use Rattle.machine_model.specs.LoanSets.{end_loans, orphan_loans};
 ghost use Rattle.machine_model.specs.Machine.{Machine};
@@ -57,6 +58,13 @@ pub fn one_loan_is_orphaned()
 #[tactic(auto, using(crate::proofs::ClosingLemmas::dead_server_closes))]
 pub fn dead_server_closes()
     ensures { (m : Machine) (serial : Serial) → m.servers serial.0 ≡ None → close serial m ≡ only m }
+{}
+
+/// The death of a process where there is no server: it is forgotten, and nobody is answered.
+#[tactic(auto, using(crate::proofs::DeathLemmas::death_without_servers))]
+pub fn death_without_servers_forgets()
+    ensures { (m : Machine) → ((n : ℕ) → m.servers n ≡ None) → (pid : Pid)
+        → death pid m ≡ record (only (forgotten pid m)) { gone = Some pid } }
 {}
 
 /// A thread that isn't Ready can't be picked.

@@ -10,9 +10,10 @@ mod refusals;
 mod rows;
 
 pub use end_laws::{
-    dead_server_closes, every_number_has_its_call, kill_of_dead_does_nothing,
-    loans_end_one_at_a_time, no_loan_ends, one_loan_ends, one_loan_is_orphaned,
-    pick_of_unready_does_nothing, retry_ends_the_turn, unclaimed_interrupt_does_nothing,
+    dead_server_closes, death_without_servers_forgets, every_number_has_its_call,
+    kill_of_dead_does_nothing, loans_end_one_at_a_time, no_loan_ends, one_loan_ends,
+    one_loan_is_orphaned, pick_of_unready_does_nothing, retry_ends_the_turn,
+    unclaimed_interrupt_does_nothing,
 };
 pub use kept_laws::{pick_keeps_matched, turn_keeps_matched};
 pub use laws::{

@@ -13,6 +13,7 @@ use Rattle.ledger_model.specs.Ledger.{Ledger, Page, empty_ledger}
 use Rattle.ledger_model.specs.Steps.{forget}
 use Rattle.machine_model.specs.Changes.{Change, Told, settled, replies}
 use Rattle.machine_model.specs.Ends.{death, forgotten, thread_ended, has_threads, end_with_last_thread, joiners_answered, waits_for_end, dead_process}
+use Rattle.machine_model.proofs.DeathLemmas.{death_without_servers}
 use Rattle.machine_model.specs.Machine.{Machine, Process, Thread, Ready}
 use Rattle.machine_model.specs.Threads.{Answers, no_answers, both_answers, put_thread}
 use Rattle.plain_kernel.specs.Start.{idle_thread}
@@ -39,19 +40,26 @@ dead_or_none pid false e = λ i. record { alive = other_pid pid e i; heap = 0; c
 
 -- the machine without the threads that a process leaves
 module _ (c s : ℕ) (p : PlainProcess) (threads : ThreadId → Option Thread) (its : (id : ThreadId) → (if id.pid.0 == 2 then None else threads id) ≡ None) where
+  abbrev before_death : Machine
+  before_death = record (machine_with c s (Some p)) { threads = threads }
+
+  no_server : (n : ℕ) → before_death.servers n ≡ None
+  unfolding machine_with
+  no_server n = refl
+
+  its_forgotten : forgotten the_pid before_death ≡ machine_with c s None
+  unfolding forgotten machine_with
+  its_forgotten = λ i. record (machine_with c s None) {
+    ledger = forgets p.pages i;
+    threads = λ id. its id i;
+    process = λ pid. dead_or_none pid (nat_eq pid 2) refl i;
+  }
+
   -- the death of the only process, where there is no server
   dies : death the_pid (record (machine_with c s (Some p)) { threads = threads }) ≡ record { machine = machine_with c s None; answers = no_answers; delivery = None; gone = Some the_pid }
-  unfolding death forgotten machine_with
-  dies = λ i. record {
-    machine = record (machine_with c s None) {
-      ledger = forgets p.pages i;
-      threads = λ id. its id i;
-      process = λ pid. dead_or_none pid (nat_eq pid 2) refl i;
-    };
-    answers = no_answers;
-    delivery = None;
-    gone = Some the_pid;
-  }
+  dies =
+      death_without_servers before_death no_server the_pid
+      ∙ (λ i. record { machine = its_forgotten i; answers = no_answers; delivery = None; gone = Some the_pid })
 
 -- a death that answers nobody
 nobody : listed_ids 1 (λ id. is_some (no_answers id)) ≡ []
