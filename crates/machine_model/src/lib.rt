@@ -14,7 +14,10 @@ pub use end_laws::{
     loans_end_one_at_a_time, no_loan_ends, one_loan_ends, one_loan_is_orphaned,
     pick_of_unready_does_nothing, retry_ends_the_turn, unclaimed_interrupt_does_nothing,
 };
-pub use kept_laws::{pick_keeps_matched, small_machine_is_matched, turn_keeps_matched};
+pub use kept_laws::{
+    all_keep_matched, pick_keeps_matched, run_stays_matched, small_machine_is_matched,
+    turn_keeps_matched,
+};
 pub use laws::{
     arguments_are_given, next_ready_is_ready, no_step_without_actor, none_ready_without_next,
     other_registers_stay, records_carry_their_step, refusal_changes_caller_alone,
