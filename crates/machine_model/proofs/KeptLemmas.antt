@@ -7,7 +7,7 @@ use Rattle.xk_base.specs.declared.messages.Message.{Message}
 use Rattle.xk_base.specs.declared.pages.LoanKind.{LoanKind}
 use Rattle.machine_model.specs.Events.{picked}
 use Rattle.machine_model.specs.Kept.{StepKeepsMatched, PickKeepsMatched, IrqKeepsMatched, KillKeepsMatched, TurnKeepsMatched, AllKeepMatched}
-use Rattle.machine_model.specs.Moments.{Cause, ByStep, ByPick, ByIrq, ByKill, ByTurn, caused, Moment, IsRun, state_at}
+use Rattle.machine_model.specs.Moments.{ByStep, ByPick, ByIrq, ByKill, ByTurn, Moment, IsRun, state_at}
 use Rattle.machine_model.specs.Machine.{Machine, Server}
 use Rattle.machine_model.specs.Matched.{Matched, IsLedgerMatched, IsLendMatched, AreLoansMatched, AreSendersMatched, AreReceiversMatched, AreJoinersMatched, AreThreadsMatched, AreHeapsMatched, AreKeysApart, AreNextAbove, AreLimitsKept, AreKeysMatched}
 use Rattle.machine_model.specs.MessageCounts.{count_messages}

@@ -1,12 +1,11 @@
 -- The small machine of the worked rows is matched.
-use Rattle.std.proofs.Common.{◌≡◌, ℕ, ◌+◌, ◌≤◌, ◌<◌, Bool, true, false, ◌⊎◌, inl, inr, List, [], Option, Some, None, refl, sym, ap, ◌∙◌, arith}
-use Rattle.std.specs.Prelude.{◌%◌, ◌==◌, ◌&&◌, is_some, if◌then◌else◌}
+use Rattle.std.proofs.Common.{◌≡◌, ℕ, ◌+◌, ◌≤◌, ◌<◌, Bool, true, false, ◌⊎◌, inl, inr, Option, Some, None, refl, sym, ap, ◌∙◌, arith}
+use Rattle.std.specs.Prelude.{◌%◌, ◌==◌, is_some, if◌then◌else◌}
 use Rattle.std.specs.Option.{option_map_or}
 use Rattle.std.proofs.lemmas.Bool.{eqb-true, false≢true}
 use Rattle.std.proofs.lemmas.List.Elements.{All-nil}
 use Rattle.std.proofs.lemmas.Option.{none-some, same_Some}
 use Rattle.xk_base.specs.declared.ids.Number.{Number}
-use Rattle.xk_base.specs.declared.ids.Serial.{Serial}
 use Rattle.xk_base.specs.declared.ids.ThreadId.{ThreadId}
 use Rattle.xk_base.specs.Circle.{is_pid, is_tid, is_thread_id}
 use Rattle.xk_base.specs.Counting.{count_below, sum_below}
@@ -15,8 +14,8 @@ use Rattle.ledger_model.specs.Ledger.{empty_ledger, pages}
 use Rattle.ledger_model.specs.Loans.{loans}
 use Rattle.ledger_model.specs.Places.{count_places}
 use Rattle.ledger_model.proofs.Numbering.{count_places-none}
-use Rattle.machine_model.specs.Machine.{Machine, Thread, ThreadState, Ready, Receiving, Waiting, Joining, Idle}
-use Rattle.machine_model.specs.Matched.{Matched, IsLedgerMatched, AreLoansMatched, AreSendersMatched, AreReceiversMatched, AreJoinersMatched, AreThreadsMatched, AreHeapsMatched, IsDead, AreKeysMatched, AreKeysApart, AreNextAbove, AreLimitsKept, is_waiting_for}
+use Rattle.machine_model.specs.Machine.{Thread, ThreadState, Ready, Receiving, Waiting, Joining, Idle}
+use Rattle.machine_model.specs.Matched.{Matched, IsLedgerMatched, AreLoansMatched, AreSendersMatched, AreReceiversMatched, AreJoinersMatched, AreThreadsMatched, AreHeapsMatched, AreKeysMatched, AreKeysApart, AreNextAbove, AreLimitsKept, is_waiting_for}
 use Rattle.machine_model.specs.MessageCounts.{count_messages}
 use Rattle.machine_model.specs.Rows.{small_machine, small_threads}
 use Rattle.machine_model.specs.Servers.{live_servers}

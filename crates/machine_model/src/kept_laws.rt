@@ -24,10 +24,8 @@ pub fn all_keep_matched()
 
 /// Then every state of a run from a matched start is matched.
 pub fn run_stays_matched()
-    ensures {
-        AllKeepMatched → (start : Machine) (moments : List Moment) → Matched start → IsRun start moments
-        → (i : ℕ) → Matched (state_at start moments i)
-    }
+    ensures { AllKeepMatched → (start : Machine) (moments : List Moment) → Matched start → IsRun start moments
+        → (i : ℕ) → Matched (state_at start moments i) }
 {}
 
 /// The small machine from which the worked rows start is matched.
