@@ -1,9 +1,9 @@
 -- Worked rows of lent pages. The identifier of the server is 1, 2, 3, 4.
 use Rattle.std.specs.Prelude.{List, [], ◌∷◌}
 use Rattle.xk_base.specs.declared.records.What.{What}
-use Rattle.xk_base.specs.declared.records.What.TheVariants.{Reply, Retry, Irq, Gone}
+use Rattle.xk_base.specs.declared.records.What.TheVariants.{Reply, Gone}
 use Rattle.xk_base.specs.Replies.{eight_words}
-use Rattle.machine_model.specs.Rows.{Deed, Calls, Raises, EndsHandler, Kills, pid_of, id_of}
+use Rattle.machine_model.specs.Rows.{Deed, Calls, Kills, pid_of, id_of}
 
 -- 2.2 waits. 3.2 makes a heap of one page, and a second thread.
 abbrev pub lend_begin : List Deed
