@@ -1,15 +1,17 @@
 -- What the invariant doesn't speak of: where the cursor stands.
-use Rattle.std.proofs.Common.{◌≡◌, true}
+use Rattle.std.proofs.Common.{◌≡◌, ℕ, zero, suc, List, [], ◌∷◌, Some, subst, sym}
 use Rattle.std.specs.Prelude.{if◌then◌else◌, unwrap_or}
 use Rattle.std.proofs.lemmas.List.Elements.{All-weaker}
 use Rattle.xk_base.specs.declared.ids.ThreadId.{ThreadId}
 use Rattle.xk_base.specs.declared.messages.Message.{Message}
+use Rattle.xk_base.specs.declared.pages.LoanKind.{LoanKind}
 use Rattle.machine_model.specs.Events.{picked}
-use Rattle.machine_model.specs.Kept.{PickKeepsMatched, TurnKeepsMatched}
+use Rattle.machine_model.specs.Kept.{StepKeepsMatched, PickKeepsMatched, IrqKeepsMatched, KillKeepsMatched, TurnKeepsMatched, AllKeepMatched}
+use Rattle.machine_model.specs.Moments.{ByStep, ByPick, ByIrq, ByKill, ByTurn, Moment, IsRun, state_at}
 use Rattle.machine_model.specs.Machine.{Machine, Server}
 use Rattle.machine_model.specs.Matched.{Matched, IsLedgerMatched, IsLendMatched, AreLoansMatched, AreSendersMatched, AreReceiversMatched, AreJoinersMatched, AreThreadsMatched, AreHeapsMatched, AreKeysApart, AreNextAbove, AreLimitsKept, AreKeysMatched}
 use Rattle.machine_model.specs.MessageCounts.{count_messages}
-use Rattle.machine_model.specs.Messages.{is_lend}
+use Rattle.machine_model.specs.Messages.{loan_kind}
 use Rattle.machine_model.specs.Order.{ready_at, next_ready, turn}
 use Rattle.machine_model.specs.Servers.{messages_of, live_servers}
 
@@ -25,16 +27,17 @@ ledger_at c m h = record {
   orphans_live = h.orphans_live;
 }
 
-lend_at : (c : ThreadId) (m : Machine) (server : Server) (message : Message) → IsLendMatched m server message → IsLendMatched (at c m) server message
-lend_at c m server message h = record { count = h.count; loan = h.loan }
+lend_at : (c : ThreadId) (m : Machine) (server : Server) (message : Message) (kind : LoanKind)
+    → IsLendMatched m server message kind → IsLendMatched (at c m) server message kind
+lend_at c m server message kind h = record { count = h.count; loan = h.loan }
 
 loans_at : (c : ThreadId) (m : Machine) → AreLoansMatched m → AreLoansMatched (at c m)
 unfolding count_messages
 loans_at c m h = record {
   lends = λ n server e. All-weaker
-      (λ message. is_lend message.kind ≡ true → IsLendMatched m server message)
-      (λ message. is_lend message.kind ≡ true → IsLendMatched (at c m) server message)
-      (λ message f l. lend_at c m server message (f l)) (messages_of server) (h.lends n server e);
+      (λ message. (kind : LoanKind) → loan_kind message.kind ≡ Some kind → IsLendMatched m server message kind)
+      (λ message. (kind : LoanKind) → loan_kind message.kind ≡ Some kind → IsLendMatched (at c m) server message kind)
+      (λ message f kind l. lend_at c m server message kind (f kind l)) (messages_of server) (h.lends n server e);
   loans_sent = h.loans_sent;
   orphans_sent = h.orphans_sent;
 }
@@ -120,3 +123,20 @@ turn_keeps m h = matched_at (unwrap_or (next_ready m m.cursor) m.cursor) m h
 pub pick_keeps : PickKeepsMatched
 unfolding picked
 pick_keeps who m h = matched_at (if ready_at m who then who else m.cursor) m h
+
+-- ---- runs
+
+pub all_keep : StepKeepsMatched → IrqKeepsMatched → KillKeepsMatched → AllKeepMatched
+all_keep step irq kill ByStep m h = step m h
+all_keep step irq kill (ByPick who) m h = pick_keeps who m h
+all_keep step irq kill (ByIrq k) m h = irq k m h
+all_keep step irq kill (ByKill pid) m h = kill pid m h
+all_keep step irq kill ByTurn m h = turn_keeps m h
+
+pub run_keeps : AllKeepMatched → (start : Machine) (moments : List Moment) → Matched start → IsRun start moments
+    → (i : ℕ) → Matched (state_at start moments i)
+unfolding IsRun state_at
+run_keeps keep start moments h run zero = h
+run_keeps keep start [] h run (suc i) = h
+run_keeps keep start (moment ∷ moments) h run (suc i) =
+    run_keeps keep moment.machine moments (subst Matched (sym run.0) (keep moment.cause start h)) run.1 i

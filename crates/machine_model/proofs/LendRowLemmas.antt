@@ -27,7 +27,8 @@ use Rattle.machine_model.specs.MemoryCalls.{increase_call, update_call, map_call
 use Rattle.machine_model.specs.ReceiveCalls.{receive_call}
 use Rattle.machine_model.specs.Receivers.{receiver}
 use Rattle.machine_model.specs.ReturnCalls.{holder_of, return_memory_call}
-use Rattle.machine_model.specs.Rows.{Deed, id_of, small_machine, told_all, after_all, lend_begin, lend_begin_told, lend_row, lend_told, orphan_row, orphan_told, refusal_row, refusal_told}
+use Rattle.machine_model.specs.LendRows.{lend_begin, lend_begin_told, lend_row, lend_told, orphan_row, orphan_told, refusal_row, refusal_told}
+use Rattle.machine_model.specs.Rows.{Deed, id_of, small_machine, told_all, after_all}
 use Rattle.machine_model.specs.SendCalls.{send_call, try_send_call, sent_to, sent_pages, arrival, message_run}
 use Rattle.machine_model.specs.ServerCalls.{create_server_call, connect_call}
 use Rattle.machine_model.specs.Servers.{with_sid, live_servers, server_at}

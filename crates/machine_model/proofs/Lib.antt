@@ -7,4 +7,5 @@ pub mod LoanSetLemmas
 pub mod OrderLemmas
 pub mod RefusalLemmas
 pub mod RowLemmas
+pub mod SmallLemmas
 pub mod StepLaws

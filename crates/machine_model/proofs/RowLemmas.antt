@@ -2,8 +2,6 @@
 use Rattle.std.proofs.Common.{◌≡◌, refl}
 use Rattle.xk_base.specs.Counting.{least_below, listed_below, count_below}
 use Rattle.xk_base.specs.Circle.{listed_ids, next_id}
-use Rattle.ledger_model.specs.LeastRun.{least_run, is_free_run}
-use Rattle.ledger_model.specs.Places.{run}
 use Rattle.machine_model.specs.Calls.{call}
 use Rattle.machine_model.specs.Changes.{settled, call_settled}
 use Rattle.machine_model.specs.Closing.{any_server, closed, destroyed, servers_closed, senders_queued_gone, senders_held_gone}
@@ -15,27 +13,37 @@ use Rattle.machine_model.specs.Order.{turn, next_ready}
 use Rattle.machine_model.specs.ReceiveCalls.{receive_call, try_receive_call}
 use Rattle.machine_model.specs.Receivers.{receiver}
 use Rattle.machine_model.specs.ReturnCalls.{holder_of, return_scalar1_call, return_scalar2_call}
-use Rattle.machine_model.specs.Rows.{small_machine, told_all, pending_row, pending_told, scalar_row, scalar_told, waiting_row, waiting_told, stale_row, stale_told, senderless_row, senderless_told}
-use Rattle.machine_model.specs.SendCalls.{send_call, arrival}
+use Rattle.machine_model.specs.Rows.{small_machine, told_all}
+use Rattle.machine_model.specs.SendCalls.{send_call, try_send_call}
 use Rattle.machine_model.specs.ServerCalls.{create_server_call, connect_call, try_connect_call, destroy_call}
+use Rattle.machine_model.specs.ServerRows.{pending_row, pending_told, scalar_row, scalar_told, waiting_row, waiting_told, stale_row, stale_told, senderless_row, senderless_told, kill_row, kill_told, full_row, full_told}
 use Rattle.machine_model.specs.Servers.{with_sid, live_servers}
+use Rattle.machine_model.specs.ThreadCalls.{create_call, free_tid}
 
 pub pending_is_a_set : told_all pending_row (small_machine 1) ≡ pending_told
 unfolding told_all small_machine call claim_call call_settled settled raised handler_ended delivered lowest_pending least_below listed_below listed_ids
 pending_is_a_set = refl
 
 pub scalars_answered : told_all scalar_row (small_machine 2) ≡ scalar_told
-unfolding told_all small_machine call call_settled settled least_below listed_below listed_ids count_below with_sid live_servers create_server_call connect_call send_call receiver receive_call holder_of return_scalar1_call arrival least_run is_free_run run
+unfolding told_all small_machine call call_settled settled least_below listed_below listed_ids count_below with_sid live_servers create_server_call connect_call send_call receiver receive_call holder_of return_scalar1_call
 scalars_answered = refl
 
 pub waiting_got : told_all waiting_row (small_machine 2) ≡ waiting_told
-unfolding told_all small_machine call call_settled settled least_below listed_below listed_ids count_below with_sid live_servers create_server_call connect_call try_connect_call send_call receiver receive_call try_receive_call turn next_ready next_id arrival least_run is_free_run run
+unfolding told_all small_machine call call_settled settled least_below listed_below listed_ids count_below with_sid live_servers create_server_call connect_call try_connect_call send_call receiver receive_call try_receive_call turn next_ready next_id
 waiting_got = refl
 
 pub stale_connection : told_all stale_row (small_machine 3) ≡ stale_told
-unfolding told_all small_machine call call_settled settled least_below listed_below listed_ids count_below with_sid live_servers create_server_call connect_call send_call receiver killed death servers_closed closed any_server senders_queued_gone senders_held_gone forgotten arrival least_run is_free_run run
+unfolding told_all small_machine call call_settled settled least_below listed_below listed_ids count_below with_sid live_servers create_server_call connect_call send_call receiver killed death servers_closed closed any_server senders_queued_gone senders_held_gone forgotten
 stale_connection = refl
 
 pub senderless_forgotten : told_all senderless_row (small_machine 2) ≡ senderless_told
-unfolding told_all small_machine call call_settled settled least_below listed_below listed_ids count_below with_sid live_servers create_server_call connect_call send_call receiver receive_call try_receive_call holder_of return_scalar2_call destroy_call destroyed killed death servers_closed closed any_server senders_queued_gone senders_held_gone forgotten arrival least_run is_free_run run
+unfolding told_all small_machine call call_settled settled least_below listed_below listed_ids count_below with_sid live_servers create_server_call connect_call send_call receiver receive_call try_receive_call holder_of return_scalar2_call destroy_call destroyed killed death servers_closed closed any_server senders_queued_gone senders_held_gone forgotten
 senderless_forgotten = refl
+
+pub server_killed : told_all kill_row (small_machine 3) ≡ kill_told
+unfolding told_all small_machine call call_settled settled least_below listed_below listed_ids count_below with_sid live_servers create_server_call connect_call send_call receiver receive_call create_call free_tid killed death servers_closed closed any_server senders_queued_gone senders_held_gone forgotten
+server_killed = refl
+
+pub server_full : told_all full_row (small_machine 2) ≡ full_told
+unfolding told_all small_machine call call_settled settled least_below listed_below listed_ids count_below with_sid live_servers create_server_call connect_call send_call try_send_call receiver receive_call turn next_ready next_id
+server_full = refl

@@ -10,6 +10,7 @@ pub mod InterruptCalls
 pub mod Interrupts
 pub mod Isolation
 pub mod Kept
+pub mod LendRows
 pub mod LoanSets
 pub mod LoanSpan
 pub mod Machine
@@ -25,6 +26,7 @@ pub mod ReturnCalls
 pub mod Rows
 pub mod SendCalls
 pub mod ServerCalls
+pub mod ServerRows
 pub mod Servers
 pub mod Step
 pub mod ThreadCalls

@@ -10,6 +10,7 @@ use Rattle.xk_base.specs.declared.ids.Tid.{Tid}
 use Rattle.xk_base.specs.declared.ids.Pid.{Pid}
 use Rattle.xk_base.specs.declared.limits.TheConstants.{PAGE_SIZE, PROCESS_LIMIT, SERVER_LIMIT, MESSAGE_LIMIT, CONNECTION_LIMIT, INTERRUPT_LIMIT}
 use Rattle.xk_base.specs.declared.messages.Message.{Message}
+use Rattle.xk_base.specs.declared.pages.LoanKind.{LoanKind}
 use Rattle.xk_base.specs.declared.windows.Window.TheVariants.{Heap}
 use Rattle.xk_base.specs.Circle.{is_pid, is_thread_id}
 use Rattle.xk_base.specs.Windows.{first_page, in_window}
@@ -19,7 +20,7 @@ use Rattle.ledger_model.specs.Loans.{LoanRun, Stands, loans}
 use Rattle.machine_model.specs.Machine.{Machine, Thread, ThreadState, Server, Claim, Ready, Receiving, Waiting, Joining, Idle}
 use Rattle.machine_model.specs.MemoryCalls.{heap_limit}
 use Rattle.machine_model.specs.MessageCounts.{count_messages}
-use Rattle.machine_model.specs.Messages.{carries_pages, is_lend, is_answered, loan_kind, is_of_number, is_lend_of, is_sent_by}
+use Rattle.machine_model.specs.Messages.{carries_pages, is_answered, loan_kind, is_of_number, is_lend_of, is_sent_by}
 use Rattle.machine_model.specs.Servers.{same_sid, live_servers, messages_of, slots_used}
 use Rattle.machine_model.specs.Threads.{thread_id}
 
@@ -37,29 +38,29 @@ pub record IsLedgerMatched (m : Machine) : Type 0 where
 -- ---- 2. Each lend or mutable lend, queued or held, has its pages on loan.
 
 -- the loan of a lend at its server: from a lender's place, or of orphans
-abbrev pub lend_run : Server → Message → Option Place → LoanRun
-lend_run server message lender = record {
+abbrev pub lend_run : Server → Message → LoanKind → Option Place → LoanRun
+lend_run server message kind lender = record {
   lender = lender;
   holder = record { pid = server.pid; vpn = message.first };
   count = message.count;
-  kind = loan_kind message.kind;
+  kind = kind;
   number = message.number;
 }
 
 -- Exactly the pages of a lend are on loan by its number: from places of its sender's process to those at its server; and where
 -- it has no sender, they are orphans.
-abbrev pub IsOnLoan : Machine → Server → Message → Option ThreadId → Type 0
-IsOnLoan m server message None = Stands (loans m.ledger) (lend_run server message None)
-IsOnLoan m server message (Some sender) =
-    (lender : Place) × (lender.pid ≡ sender.pid) × Stands (loans m.ledger) (lend_run server message (Some lender))
+abbrev pub IsOnLoan : Machine → Server → Message → LoanKind → Option ThreadId → Type 0
+IsOnLoan m server message kind None = Stands (loans m.ledger) (lend_run server message kind None)
+IsOnLoan m server message kind (Some sender) =
+    (lender : Place) × (lender.pid ≡ sender.pid) × Stands (loans m.ledger) (lend_run server message kind (Some lender))
 
-pub record IsLendMatched (m : Machine) (server : Server) (message : Message) : Type 0 where
+pub record IsLendMatched (m : Machine) (server : Server) (message : Message) (kind : LoanKind) : Type 0 where
   pub count : 1 ≤ message.count
-  pub loan : IsOnLoan m server message message.sender
+  pub loan : IsOnLoan m server message kind message.sender
 
 pub record AreLoansMatched (m : Machine) : Type 0 where
   pub lends : (n : ℕ) (server : Server) → m.servers n ≡ Some server
-      → All (λ message. is_lend message.kind ≡ true → IsLendMatched m server message) (messages_of server)
+      → All (λ message. (kind : LoanKind) → loan_kind message.kind ≡ Some kind → IsLendMatched m server message kind) (messages_of server)
   -- each number of a loan or an orphan is that of exactly one such message
   pub loans_sent : (p : Place) (loan : PageLoan) → loan_at m.ledger p ≡ Some loan
       → count_messages m (is_lend_of loan.number) ≡ 1

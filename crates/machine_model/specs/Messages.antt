@@ -1,5 +1,5 @@
 -- Messages: what the kinds mean, what a send makes, and what a message does at its server.
-use Rattle.std.specs.Prelude.{ℕ, ◌*◌, ◌/◌, ◌==◌, Bool, true, false, not, List, [], ◌∷◌, ◌++◌, drop, filter, if◌then◌else◌, Option, Some, None}
+use Rattle.std.specs.Prelude.{ℕ, ◌*◌, ◌/◌, ◌==◌, Bool, true, false, not, ◌&&◌, is_some, List, [], ◌∷◌, ◌++◌, drop, filter, if◌then◌else◌, Option, Some, None}
 use Rattle.std.specs.Option.{option_map_or}
 use Rattle.xk_base.specs.declared.ids.Number.{Number}
 use Rattle.xk_base.specs.declared.ids.Pid.{Pid}
@@ -26,13 +26,17 @@ carries_pages Move = true
 carries_pages Scalar = false
 carries_pages BlockingScalar = false
 
+-- the kind of the loan that it makes: a mutable lend leaves its pages to the holder alone; any other makes none
+abbrev pub loan_kind : MsgKind → Option LoanKind
+loan_kind LendMut = Some Exclusive
+loan_kind Lend = Some Shared
+loan_kind Move = None
+loan_kind Scalar = None
+loan_kind BlockingScalar = None
+
 -- its pages are on loan until it is returned
 abbrev pub is_lend : MsgKind → Bool
-is_lend LendMut = true
-is_lend Lend = true
-is_lend Move = false
-is_lend Scalar = false
-is_lend BlockingScalar = false
+is_lend kind = is_some (loan_kind kind)
 
 -- it holds its sender until it is answered
 abbrev pub is_answered : MsgKind → Bool
@@ -42,14 +46,6 @@ is_answered Move = false
 is_answered Scalar = false
 is_answered BlockingScalar = true
 
--- the kind of the loan that it makes: a mutable lend leaves its pages to the holder alone
-abbrev pub loan_kind : MsgKind → LoanKind
-loan_kind LendMut = Exclusive
-loan_kind Lend = Shared
-loan_kind Move = Shared
-loan_kind Scalar = Shared
-loan_kind BlockingScalar = Shared
-
 -- ---- tests
 
 abbrev pub is_of_number : Number → Message → Bool
@@ -57,7 +53,7 @@ is_of_number number message = same_number message.number number
 
 -- a lend or mutable lend of that number
 abbrev pub is_lend_of : Number → Message → Bool
-is_lend_of number message = if is_of_number number message then is_lend message.kind else false
+is_lend_of number message = is_of_number number message && is_lend message.kind
 
 abbrev pub is_blocking_scalar : MsgKind → Bool
 is_blocking_scalar LendMut = false
@@ -66,8 +62,9 @@ is_blocking_scalar Move = false
 is_blocking_scalar Scalar = false
 is_blocking_scalar BlockingScalar = true
 
+-- a blocking scalar of that number
 abbrev pub is_blocking_of : Number → Message → Bool
-is_blocking_of number message = if is_of_number number message then is_blocking_scalar message.kind else false
+is_blocking_of number message = is_of_number number message && is_blocking_scalar message.kind
 
 -- the thread waits for the answer to the message
 abbrev pub is_sent_by : ThreadId → Message → Bool

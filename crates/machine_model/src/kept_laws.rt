@@ -1,6 +1,11 @@
 //! Laws of the machine's invariant.
 
-ghost use Rattle.machine_model.specs.Kept.{PickKeepsMatched, TurnKeepsMatched};
+ghost use Rattle.std.specs.Prelude.{ℕ, ◌≤◌, List};
+ghost use Rattle.machine_model.specs.Kept.{StepKeepsMatched, PickKeepsMatched, IrqKeepsMatched, KillKeepsMatched, TurnKeepsMatched, AllKeepMatched};
+ghost use Rattle.machine_model.specs.Machine.{Machine};
+ghost use Rattle.machine_model.specs.Moments.{Moment, IsRun, state_at};
+ghost use Rattle.machine_model.specs.Matched.{Matched};
+ghost use Rattle.machine_model.specs.Rows.{small_machine};
 
 /// The end of a turn keeps the machine matched.
 pub fn turn_keeps_matched()
@@ -10,4 +15,20 @@ pub fn turn_keeps_matched()
 /// A pick keeps the machine matched.
 pub fn pick_keeps_matched()
     ensures { PickKeepsMatched }
+{}
+
+/// Where steps, interrupts and kills keep the machine matched, all that leads from a state to the next does.
+pub fn all_keep_matched()
+    ensures { StepKeepsMatched → IrqKeepsMatched → KillKeepsMatched → AllKeepMatched }
+{}
+
+/// Then every state of a run from a matched start is matched.
+pub fn run_stays_matched()
+    ensures { AllKeepMatched → (start : Machine) (moments : List Moment) → Matched start → IsRun start moments
+        → (i : ℕ) → Matched (state_at start moments i) }
+{}
+
+/// The small machine from which the worked rows start is matched.
+pub fn small_machine_is_matched()
+    ensures { (n : ℕ) → n ≤ 32 → Matched (small_machine n) }
 {}

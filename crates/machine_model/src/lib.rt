@@ -15,7 +15,10 @@ pub use end_laws::{
     one_loan_is_orphaned, pick_of_unready_does_nothing, retry_ends_the_turn,
     unclaimed_interrupt_does_nothing,
 };
-pub use kept_laws::{pick_keeps_matched, turn_keeps_matched};
+pub use kept_laws::{
+    all_keep_matched, pick_keeps_matched, run_stays_matched, small_machine_is_matched,
+    turn_keeps_matched,
+};
 pub use laws::{
     arguments_are_given, next_ready_is_ready, no_step_without_actor, none_ready_without_next,
     other_registers_stay, records_carry_their_step, refusal_changes_caller_alone,
@@ -24,7 +27,8 @@ pub use laws::{
 pub use order::next_ready;
 pub use refusals::{first_refusal, refusal_words};
 pub use rows::{
-    lend_begins, orphan_is_returned_once, page_is_lent_and_returned, pending_interrupts_are_a_set,
+    full_server_takes_no_message, killed_server_answers_its_senders, lend_begins,
+    orphan_is_returned_once, page_is_lent_and_returned, pending_interrupts_are_a_set,
     scalars_are_answered_once, senderless_message_is_forgotten, sends_are_refused_in_order,
     stale_connection_leads_nowhere, waiting_thread_gets_the_message,
 };

@@ -1,7 +1,9 @@
 //! Worked rows of the machine: what is told of calls and events on small machines.
 
 ghost use Rattle.std.specs.Prelude.{◌≡◌};
-ghost use Rattle.machine_model.specs.Rows.{small_machine, told_all, pending_row, pending_told, scalar_row, scalar_told, waiting_row, waiting_told, stale_row, stale_told, senderless_row, senderless_told, after_all, lend_begin, lend_begin_told, lend_row, lend_told, orphan_row, orphan_told, refusal_row, refusal_told};
+ghost use Rattle.machine_model.specs.LendRows.{lend_begin, lend_begin_told, lend_row, lend_told, orphan_row, orphan_told, refusal_row, refusal_told};
+ghost use Rattle.machine_model.specs.Rows.{small_machine, told_all, after_all};
+ghost use Rattle.machine_model.specs.ServerRows.{pending_row, pending_told, scalar_row, scalar_told, waiting_row, waiting_told, stale_row, stale_told, senderless_row, senderless_told, kill_row, kill_told, full_row, full_told};
 
 /// An interrupt that is raised while its handler runs is delivered once more, however often.
 #[tactic(auto, using(crate::proofs::RowLemmas::pending_is_a_set))]
@@ -31,6 +33,18 @@ pub fn stale_connection_leads_nowhere()
 #[tactic(auto, using(crate::proofs::RowLemmas::senderless_forgotten))]
 pub fn senderless_message_is_forgotten()
     ensures { told_all senderless_row (small_machine 2) ≡ senderless_told }
+{}
+
+/// Who waits on a server of a dying process is answered in ascending order, then the process is gone.
+#[tactic(auto, using(crate::proofs::RowLemmas::server_killed))]
+pub fn killed_server_answers_its_senders()
+    ensures { told_all kill_row (small_machine 3) ≡ kill_told }
+{}
+
+/// A server takes 128 messages.
+#[tactic(auto, using(crate::proofs::RowLemmas::server_full))]
+pub fn full_server_takes_no_message()
+    ensures { told_all full_row (small_machine 2) ≡ full_told }
 {}
 
 /// What is told before a page is lent.
