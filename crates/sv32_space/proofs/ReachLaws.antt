@@ -1,5 +1,5 @@
 -- Where the walk of a made space ends.
-use Rattle.std.proofs.Common.{◌≡◌, ◌==◌, ◌+◌, ◌-◌, ◌*◌, ◌/◌, ◌%◌, ◌^◌, ◌<◌, ◌≤◌, ℕ, Bool, true, false, cond, not, ◌&&◌, ◌||◌, nat_le, List, Option, Some, None, IsSome, refl, sym, ap, subst, ◌∙◌, inl, inr, arith}
+use Rattle.std.proofs.Common.{◌≡◌, ◌==◌, ◌+◌, ◌*◌, ◌/◌, ◌%◌, ◌^◌, ◌<◌, ℕ, Bool, true, false, cond, ◌&&◌, nat_le, Option, Some, None, refl, sym, ap, ◌∙◌, inl, inr, arith}
 use Rattle.std.proofs.lemmas.Bool.{cases_Bool, eqb-true}
 use Rattle.std.proofs.lemmas.Option.{none-some, same_Some}
 use Rattle.xk_base.specs.Fields.{field, bits_of}
@@ -9,7 +9,7 @@ use Rattle.xk_base.specs.declared.pages.Access.{Access}
 use Rattle.xk_base.specs.declared.pages.Access.TheVariants.{Fetch, Load, Store}
 use Rattle.xk_base.specs.declared.windows.Window.{Window}
 use Rattle.xk_base.specs.Windows.{window_at}
-use Rattle.phys_pages.specs.Ram.{RamBytes, Area, IsPlaced, area, pages, words, ppn_of, frame_of}
+use Rattle.phys_pages.specs.Ram.{RamBytes, Area, IsPlaced, area, pages, ppn_of, frame_of}
 use Rattle.phys_pages.specs.declared.infos.Seat.TheVariants.{Frame, Slot}
 use Rattle.phys_pages.proofs.AreaLaws.{ppn_of-frame_of}
 use Rattle.ledger_model.specs.Places.{is_process}
@@ -20,9 +20,9 @@ use Rattle.sv32_space.specs.declared.sides.Side.TheVariants.{Own, LentOut, LentI
 use Rattle.sv32_space.specs.declared.sides.EntryKind.{EntryKind}
 use Rattle.sv32_space.specs.declared.sides.EntryKind.TheVariants.{Free as FreeKind, Here, Out}
 use Rattle.sv32_space.specs.declared.walking.Walked.{Walked}
-use Rattle.sv32_space.specs.declared.walking.Walked.TheVariants.{Reaches, PageFault}
+use Rattle.sv32_space.specs.declared.walking.Walked.TheVariants.{PageFault}
 use Rattle.sv32_space.specs.Spellings.{here_bits, out_bits, here_side, out_side, sides, kind_with, kind_at, right_of}
-use Rattle.sv32_space.specs.Walk.{flag, is_valid, is_leaf, lets_through, entry_ppn, vpn_0, vpn_1, page_offset, from_last_level, from_last_entry, from_root, from_root_entry, entry_in_table, walk_of}
+use Rattle.sv32_space.specs.Walk.{is_valid, is_leaf, lets_through, entry_ppn, vpn_0, vpn_1, page_offset, from_last_level, from_last_entry, from_root, from_root_entry, entry_in_table, walk_of}
 use Rattle.sv32_space.specs.Spaces.{root_at, table_frame, table_word, root_word, window_of_root_entry, leaf_word, IsSpace, IsMade}
 use Rattle.sv32_space.specs.EntryReach.{side_may, reaches_if, entry_reach}
 use Rattle.sv32_space.specs.Entries.{Entry, Free, At, OnConsole}

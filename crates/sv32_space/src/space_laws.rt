@@ -6,9 +6,11 @@ ghost use Rattle.xk_base.specs.Counting.{put_at};
 ghost use Rattle.xk_base.specs.declared.ids.Place.{Place};
 ghost use Rattle.phys_pages.specs.Ram.{Area, RamBytes, IsPlaced, area, pages};
 ghost use Rattle.ledger_model.specs.Places.{is_process, is_user_place};
+ghost use Rattle.sv32_space.specs.declared.sides.EntryKind.{EntryKind};
 ghost use Rattle.sv32_space.specs.Entries.{Entry};
 ghost use Rattle.sv32_space.specs.Spaces.{root_at, IsMade, IsTableFrame};
 ghost use Rattle.sv32_space.specs.SpelledEntries.{IsEntry, entries, entry_of_kind, kind_for};
+ghost use Rattle.sv32_space.specs.Spellings.{IsKind};
 
 /// A made space stays where the pages of its frames stay, as where a page of another frame is written.
 pub fn spaces_stand_in_tables()
@@ -34,8 +36,10 @@ pub fn entries_stand_in_windows()
     ensures { (procs : ℕ) (ram : RamBytes) (q : Place) → IsFalse (is_user_place procs q) → entries procs ram q ≡ None }
 {}
 
-/// The spelling of an entry is read as that entry.
-#[tactic(auto, using(crate::proofs::EntryLaws::entry_again))]
+/// An entry has one spelling: it is read from that, and from no other.
+#[tactic(auto, using(crate::proofs::KindLaws::entry_again, crate::proofs::KindLaws::kind_is, crate::proofs::KindLaws::entry_is))]
 pub fn entries_are_spelled()
-    ensures { (a : Area) (entry : Entry) → IsPlaced a → IsEntry a entry → entry_of_kind a (Some (kind_for a entry)) ≡ Some entry }
+    ensures again { (a : Area) (entry : Entry) → IsPlaced a → IsEntry a entry → entry_of_kind a (Some (kind_for a entry)) ≡ Some entry }
+    ensures only { (a : Area) (kind : EntryKind) (entry : Entry) → entry_of_kind a (Some kind) ≡ Some entry → kind ≡ kind_for a entry }
+    ensures fits { (a : Area) (kind : EntryKind) (entry : Entry) → IsKind kind → entry_of_kind a (Some kind) ≡ Some entry → IsEntry a entry }
 {}
