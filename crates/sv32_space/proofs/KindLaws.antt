@@ -14,12 +14,9 @@ use Rattle.sv32_space.specs.Entries.{Entry, Free, At, OnConsole}
 use Rattle.sv32_space.specs.Spellings.{right_of, IsKind}
 use Rattle.sv32_space.specs.SpelledEntries.{IsEntry, console_ppn, console_entry, entry_here, entry_of_kind, kind_for}
 
--- an entry is read from its spelling
-pub entry_again : (a : Area) (entry : Entry) → IsPlaced a → IsEntry a entry → entry_of_kind a (Some (kind_for a entry)) ≡ Some entry
-entry_again a Free placed is = refl
-entry_again a (At side (Frame f)) placed is = ap (λ frame. entry_here side (ppn_of a f.0) frame) (frame_of-ppn_of a f is)
-entry_again a (At side (Slot s)) placed is = refl
-entry_again a (OnConsole w) placed is =
+-- the console's page is no frame of RAM, which ends below it
+pub console_has_no_frame : (a : Area) → IsPlaced a → frame_of a console_ppn ≡ None
+console_has_no_frame a placed =
     let outside : (nat_le (a.start / 4096) console_ppn && nat_lt (console_ppn - a.start / 4096) a.frames) ≡ false =
     past (nat_le (a.start / 4096) console_ppn) (nat_lt (console_ppn - a.start / 4096) a.frames) (le-ltb (console_ppn - a.start / 4096) a.frames (omega (arith, placed.aligned, placed.below_device))) in
     rw outside refl
@@ -27,6 +24,13 @@ entry_again a (OnConsole w) placed is =
     past : (b c : Bool) → c ≡ false → (b && c) ≡ false
     past true c no' = no'
     past false c no' = refl
+
+-- an entry is read from its spelling
+pub entry_again : (a : Area) (entry : Entry) → IsPlaced a → IsEntry a entry → entry_of_kind a (Some (kind_for a entry)) ≡ Some entry
+entry_again a Free placed is = refl
+entry_again a (At side (Frame f)) placed is = ap (λ frame. entry_here side (ppn_of a f.0) frame) (frame_of-ppn_of a f is)
+entry_again a (At side (Slot s)) placed is = refl
+entry_again a (OnConsole w) placed is = ap (λ frame. entry_here (Own (right_of w false)) console_ppn frame) (console_has_no_frame a placed)
 
 cond_none : (b : Bool) (x y : Entry) → cond b None (Some x) ≡ Some y → (b ≡ false) × (x ≡ y)
 cond_none true x y found = absurd (none-some y found)
