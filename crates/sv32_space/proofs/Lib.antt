@@ -4,6 +4,7 @@ pub mod LoanLedger
 pub mod NumberRuns
 pub mod PageAgreement
 pub mod PageLedger
+pub mod Renaming
 pub mod Runs
 pub mod SeatByteLaws
 pub mod Standing

@@ -144,17 +144,35 @@ give_next from to i l apart = same_ledger (give from (i + 1) to l) (give (place_
 
 -- ---- steps on a run of no places
 
-pub run_none : (first : Place) (l : Ledger) (right : Right) (to : Place) (kind : LoanKind) (number : Number)
-    → (make first 0 right l ≡ l) × (remove (in_run first 0) l ≡ l) × (reduce (in_run first 0) right l ≡ l)
-    × (lend first 0 to kind number l ≡ l) × (give first 0 to l ≡ l) × (end_at (in_run first 0) l ≡ l)
-    × (forget_orphans (in_run first 0) l ≡ l) × (orphan_run first 0 to l ≡ l)
-unfolding make remove reduce lend give end_at forget_orphans orphan_run
-run_none first l right to kind number = (
-    same_ledger (make first 0 right l) l (λ p. rw (in_run-none first p) refl) (λ p. refl),
-    same_ledger (remove (in_run first 0) l) l (λ p. rw (in_run-none first p) refl) (λ p. refl),
-    same_ledger (reduce (in_run first 0) right l) l (λ p. rw (in_run-none first p) refl) (λ p. refl),
-    same_ledger (lend first 0 to kind number l) l (λ p. rw (in_run-none first p) refl) (λ p. refl),
-    same_ledger (give first 0 to l) l (λ p. rw (in_run-none to p, in_run-none first p) refl) (λ p. refl),
-    same_ledger (end_at (in_run first 0) l) l (λ p. rw (in_run-none first p) refl) (λ p. refl),
-    same_ledger (forget_orphans (in_run first 0) l) l (λ p. refl) (λ p. rw (in_run-none first p) refl),
-    same_ledger (orphan_run first 0 to l) l (λ p. rw (in_run-none first p) refl) (λ p. rw (in_run-none to p) refl))
+pub make_none : (first : Place) (right : Right) (l : Ledger) → make first 0 right l ≡ l
+unfolding make
+make_none first right l = same_ledger (make first 0 right l) l (λ p. rw (in_run-none first p) refl) (λ p. refl)
+
+pub remove_none : (first : Place) (l : Ledger) → remove (in_run first 0) l ≡ l
+unfolding remove
+remove_none first l = same_ledger (remove (in_run first 0) l) l (λ p. rw (in_run-none first p) refl) (λ p. refl)
+
+pub reduce_none : (first : Place) (right : Right) (l : Ledger) → reduce (in_run first 0) right l ≡ l
+unfolding reduce
+reduce_none first right l = same_ledger (reduce (in_run first 0) right l) l (λ p. rw (in_run-none first p) refl) (λ p. refl)
+
+pub give_none : (first to : Place) (l : Ledger) → give first 0 to l ≡ l
+unfolding give
+give_none first to l = same_ledger (give first 0 to l) l (λ p. rw (in_run-none to p, in_run-none first p) refl) (λ p. refl)
+
+pub lend_none : (first to : Place) (kind : LoanKind) (number : Number) (l : Ledger) → lend first 0 to kind number l ≡ l
+unfolding lend
+lend_none first to kind number l = same_ledger (lend first 0 to kind number l) l (λ p. rw (in_run-none first p) refl) (λ p. refl)
+
+pub end_none : (first : Place) (l : Ledger) → end_at (in_run first 0) l ≡ l
+unfolding end_at
+end_none first l = same_ledger (end_at (in_run first 0) l) l (λ p. rw (in_run-none first p) refl) (λ p. refl)
+
+pub forget_none : (first : Place) (l : Ledger) → forget_orphans (in_run first 0) l ≡ l
+unfolding forget_orphans
+forget_none first l = same_ledger (forget_orphans (in_run first 0) l) l (λ p. refl) (λ p. rw (in_run-none first p) refl)
+
+pub orphan_none : (first to : Place) (l : Ledger) → orphan_run first 0 to l ≡ l
+unfolding orphan_run
+orphan_none first to l = same_ledger (orphan_run first 0 to l) l (λ p. rw (in_run-none first p) refl) (λ p. rw (in_run-none to p) refl)
+

@@ -5,6 +5,7 @@
 pub mod agreement_laws;
 pub mod ledger_laws;
 pub mod run_laws;
+pub mod seat_laws;
 mod sides;
 pub mod small;
 pub mod standing_laws;
