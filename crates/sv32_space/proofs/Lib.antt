@@ -5,6 +5,7 @@ pub mod NumberRuns
 pub mod PageAgreement
 pub mod PageLedger
 pub mod Renaming
+pub mod Roles
 pub mod Runs
 pub mod SeatByteLaws
 pub mod Standing

@@ -105,7 +105,7 @@ writable_in Exclusive o s e k = ap (λ (x : Option Entry). (right_in x).w) e
 
 -- what the entries and owners say of a page on loan
 module _ (procs : ℕ) (E : Entries) (I : Infos) (B : SeatBytes) (home : Place) (s : Seat) (loan : LoanInfo) (agree : EntriesAgree procs E I) (here : I s ≡ Some (on_loan (Some home) loan)) where
-  lent_home : E home ≡ Some (At (lender_side loan.kind (right_in (E home))) s)
+  pub lent_home : E home ≡ Some (At (lender_side loan.kind (right_in (E home))) s)
   lent_home = agree.lender s home loan here
 
   lent_holder : E loan.holder ≡ Some (At (holder_side loan.kind) s)
@@ -117,7 +117,7 @@ module _ (procs : ℕ) (E : Entries) (I : Infos) (B : SeatBytes) (home : Place) 
       let k = sides_apart loan.kind loan.kind (right_in (E home)) in k cc
 
   -- its page, and that nothing stands at its holder's place
-  lent_page : (ledger_of E I B).home home ≡ Some (record { right = right_in (E home); contents = Bytes (B s); loan = Some (page_loan loan) })
+  pub lent_page : (ledger_of E I B).home home ≡ Some (record { right = right_in (E home); contents = Bytes (B s); loan = Some (page_loan loan) })
   lent_page = home_at E I B home (At (lender_side loan.kind (right_in (E home))) s) lent_home
       ∙ (page_of_lender loan.kind (right_in (E home)) (I s) (B s) (writable_in loan.kind (E home) s lent_home)
       ∙ ap (λ o. Some (record { right = right_in (E home); contents = Bytes (B s); loan = option_map page_loan (loan_in o) })) here)

@@ -29,6 +29,16 @@ freed-stays : (number : Number) (o : Option Page) → of_number number (loan_of 
 freed-stays number None e = refl
 freed-stays number (Some page) e = ap (λ k. Some (record page { loan = k })) (loan_without-None number page.loan e)
 
+-- the lender of a holder's place is the home of its page
+pub lender_at : (procs : ℕ) (l : Ledger) (p : Place) (x : PageLoan) → IsWellPlaced procs l → loan_at l p ≡ Some x
+    → lender_of procs l x.holder ≡ Some p
+unfolding lender_of
+lender_at procs l p x placed a =
+    let home : (page : Page) × (l.home p ≡ Some page) × (page.loan ≡ Some x) = loan_at-page l p x a in
+    first_place-only procs (λ q. is_held_at x.holder (loan_at l q)) p (placed.home_lies p home.0 home.1)
+    (is_held_at-Some x.holder (loan_at l p) x a refl)
+    (λ q t. let y : (b : PageLoan) × (loan_at l q ≡ Some b) × (b.holder ≡ x.holder) = is_held_at-true x.holder (loan_at l q) t in placed.holders_differ q p y.0 x y.1 a y.2)
+
 module _ (l : Ledger) (r : LoanRun) (h : Stands (loans l) r) where
   -- what the loan has at each place
   homes_of : (p : Place) → of_number r.number (loan_at l p) ≡ loan_of_run r p
@@ -83,15 +93,6 @@ module _ (l : Ledger) (r : LoanRun) (h : Stands (loans l) r) where
   -- ---- orphans
 
   module _ (procs : ℕ) (placed : IsWellPlaced procs l) (from : Place) (e : r.lender ≡ Some from) where
-    -- the lender of a holder's place is the home of its page
-    lender_at : (p : Place) (x : PageLoan) → loan_at l p ≡ Some x → lender_of procs l x.holder ≡ Some p
-    unfolding lender_of
-    lender_at p x a =
-        let home : (page : Page) × (l.home p ≡ Some page) × (page.loan ≡ Some x) = loan_at-page l p x a in
-        first_place-only procs (λ q. is_held_at x.holder (loan_at l q)) p (placed.home_lies p home.0 home.1)
-        (is_held_at-Some x.holder (loan_at l p) x a refl)
-        (λ q t. let y : (b : PageLoan) × (loan_at l q ≡ Some b) × (b.holder ≡ x.holder) = is_held_at-true x.holder (loan_at l q) t in placed.holders_differ q p y.0 x y.1 a y.2)
-
     from_page : (o : Option Page) (x : PageLoan) → loan_of o ≡ Some x → x.number ≡ r.number
         → option_and_then (orphan_from r.number) o ≡ option_and_then orphan_of_page o
     from_page None x a n = refl
@@ -138,7 +139,7 @@ module _ (l : Ledger) (r : LoanRun) (h : Stands (loans l) r) where
           let a : loan_at l (moved r.holder from q) ≡ Some (record { holder = moved from r.holder (moved r.holder from q); kind = r.kind; number = r.number }) = loan_home from (moved r.holder from q) e in_from in
           let back : moved from r.holder (moved r.holder from q) ≡ q = moved-back r.holder from q r.count t in
           let b : loan_at l (moved r.holder from q) ≡ Some (record { holder = q; kind = r.kind; number = r.number }) = a ∙ ap (λ x. Some (record { holder = x; kind = r.kind; number = r.number })) back in
-          let lender : lender_of procs l q ≡ Some (moved r.holder from q) = lender_at (moved r.holder from q) (record { holder = q; kind = r.kind; number = r.number }) b in
+          let lender : lender_of procs l q ≡ Some (moved r.holder from q) = lender_at procs l (moved r.holder from q) (record { holder = q; kind = r.kind; number = r.number }) placed b in
           let none : l.orphan q ≡ None = placed.holder_no_orphan (moved r.holder from q) (record { holder = q; kind = r.kind; number = r.number }) b in
           cond-true (in_run r.holder r.count q) (option_and_then orphan_of_page (l.home (moved r.holder from q))) (l.orphan q) t
           ∙ sym (orphan_loan_orphan procs r.number l q

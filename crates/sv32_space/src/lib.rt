@@ -4,6 +4,7 @@
 
 pub mod agreement_laws;
 pub mod ledger_laws;
+pub mod role_laws;
 pub mod run_laws;
 pub mod seat_laws;
 mod sides;
