@@ -8,4 +8,5 @@ pub mod Renaming
 pub mod Roles
 pub mod Runs
 pub mod SeatByteLaws
+pub mod SeatCounting
 pub mod Standing

@@ -27,12 +27,12 @@ use Rattle.sv32_space.specs.StandsFor.{home_side, has_page, table_frames, AreSpe
 use Rattle.sv32_space.proofs.EntryLedgerLaws.{home_at, orphan_at, page_of_holder, orphan_of_holder}
 
 -- the place that names the page of a seat: its home, or the holder's place of an orphan
-abbrev name_of : Option Place → Option LoanInfo → Place
+abbrev pub name_of : Option Place → Option LoanInfo → Place
 name_of (Some home) loan = home
 name_of None None = record { pid = record { 0 = 0 }; vpn = record { 0 = 0 } }
 name_of None (Some loan) = loan.holder
 
-abbrev name_in : Option PageInfo → Place
+abbrev pub name_in : Option PageInfo → Place
 name_in info = name_of (home_in info) (loan_in info)
 
 console_no_bytes : (bytes : List ℕ) → Console ≢ Bytes bytes

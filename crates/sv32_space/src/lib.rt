@@ -3,6 +3,7 @@
 #![tactic(auto)]
 
 pub mod agreement_laws;
+pub mod count_laws;
 pub mod ledger_laws;
 pub mod role_laws;
 pub mod run_laws;
