@@ -176,3 +176,21 @@ pub orphan_none : (first to : Place) (l : Ledger) → orphan_run first 0 to l �
 unfolding orphan_run
 orphan_none first to l = same_ledger (orphan_run first 0 to l) l (λ p. rw (in_run-none first p) refl) (λ p. rw (in_run-none to p) refl)
 
+-- ---- steps at places, joined
+
+pub remove_joined : (a b : Place → Bool) (l : Ledger) → remove a (remove b l) ≡ remove (λ p. a p || b p) l
+unfolding remove
+remove_joined a b l = same_ledger (remove a (remove b l)) (remove (λ p. a p || b p) l) (λ p. tests (a p) (b p) (l.home p)) (λ p. refl)
+  where
+    tests : (x y : Bool) (o : Option Page) → (if x then None else (if y then None else o)) ≡ (if x || y then None else o)
+    tests true y o = refl
+    tests false y o = refl
+
+-- where no page stands there is nothing to remove
+pub remove_nothing : (places : Place → Bool) (l : Ledger) → ((p : Place) → places p ≡ true → l.home p ≡ None) → remove places l ≡ l
+unfolding remove
+remove_nothing places l h = same_ledger (remove places l) l (λ p. tests (places p) (l.home p) (h p)) (λ p. refl)
+  where
+    tests : (x : Bool) (o : Option Page) → (x ≡ true → o ≡ None) → (if x then None else o) ≡ o
+    tests true o k = sym (k refl)
+    tests false o k = refl

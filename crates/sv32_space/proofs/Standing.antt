@@ -20,10 +20,10 @@ use Rattle.ledger_model.specs.Reach.{is_free}
 use Rattle.ledger_model.proofs.LedgerLaws.{cases_Option, IsFreeAt, is_free-true, lender_of-none}
 use Rattle.sv32_space.specs.declared.sides.Side.{Side}
 use Rattle.sv32_space.specs.declared.sides.Side.TheVariants.{Own, LentOut, LentIn, MutOut, MutIn}
-use Rattle.sv32_space.specs.Agreement.{Infos, EntriesAgree, Agrees, procs_of, owned_by, on_loan, lender_side, holder_side, loan_in, home_in, right_in, seat_in, loan_told, loan_to}
+use Rattle.sv32_space.specs.Agreement.{Infos, EntriesAgree, Agrees, table_frames, procs_of, owned_by, on_loan, lender_side, holder_side, loan_in, home_in, right_in, seat_in, loan_told, loan_to}
 use Rattle.sv32_space.specs.Entries.{Entry, Entries, Free, At, OnConsole}
 use Rattle.sv32_space.specs.EntryLedger.{SeatBytes, IsWellPlaced, ledger_of, page_loan, page_of_side, page_of_entry, orphan_of_info, orphan_of_side, orphan_of_entry}
-use Rattle.sv32_space.specs.StandsFor.{home_side, has_page, table_frames, AreSpelled, AreBytes, AreSeatsApart, HasFreeFrame, StandsAt, StandsFor}
+use Rattle.sv32_space.specs.StandsFor.{home_side, has_page, AreSpelled, AreBytes, AreSeatsApart, HasFreeFrame, StandsAt, StandsFor}
 use Rattle.sv32_space.proofs.EntryLedgerLaws.{home_at, orphan_at, page_of_holder, orphan_of_holder}
 
 -- the place that names the page of a seat: its home, or the holder's place of an orphan
@@ -388,7 +388,7 @@ pub stands_for : (is_made : ℕ → Type 0) (frames : ℕ) (E : Entries) (table 
     → HasSeat table (frame_seat f) → I (frame_seat f) ≡ None
     → StandsFor is_made (procs_of table) frames E told (ledger_of E I B)
 stands_for is_made frames E table I B told f agrees within holds seat empty =
-    let first : table.first ≡ 21 * procs_of table = agrees.first in
+    let first : table.first ≡ table_frames (procs_of table) = agrees.first in
     let last : table.first + table.frames ≡ frames = agrees.last in
     let low : table.first ≤ f = seat.0 in
     let high : f < table.first + table.frames = seat.1 in

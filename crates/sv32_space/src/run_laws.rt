@@ -5,7 +5,7 @@ ghost use Rattle.ledger_model.specs.Ledger.{Ledger};
 ghost use Rattle.ledger_model.specs.Loans.{LoanRun, Stands, loans};
 ghost use Rattle.ledger_model.specs.Places.{in_run, place_after};
 ghost use Rattle.ledger_model.specs.Steps.{end_loan, give, lend, make, orphan_loan, reduce, remove};
-ghost use Rattle.std.specs.Prelude.{Bool, IsFalse, IsTrue, None, Some, ℕ, ◌+◌, ◌≡◌};
+ghost use Rattle.std.specs.Prelude.{Bool, IsFalse, IsTrue, None, Some, ℕ, ◌+◌, ◌||◌, ◌≡◌};
 ghost use Rattle.sv32_space.specs.EntryLedger.{IsWellPlaced};
 ghost use Rattle.sv32_space.specs.PageSteps.{end_at, forget_orphans, orphan_run};
 ghost use Rattle.xk_base.specs.declared.ids.Number.{Number};
@@ -56,4 +56,11 @@ pub fn loan_ends_place_by_place()
     ensures orphaned { (procs : ℕ) (l : Ledger) (loan : LoanRun) (from : Place) → Stands (loans l) loan
         → IsWellPlaced procs l → loan.lender ≡ Some from
         → orphan_run from loan.count loan.holder l ≡ orphan_loan procs loan.number l }
+{}
+
+/// Pages that are removed at some places and then at others, and places at which there are none.
+pub fn removals_join()
+    ensures joined { (a b : Place → Bool) (l : Ledger) → remove a (remove b l) ≡ remove (λ p. a p || b p) l }
+    ensures nothing { (places : Place → Bool) (l : Ledger) → ((p : Place) → IsTrue (places p) → l.home p ≡ None)
+        → remove places l ≡ l }
 {}
