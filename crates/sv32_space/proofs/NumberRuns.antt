@@ -1,15 +1,15 @@
 -- The end of a loan and of an orphan, and the making of orphans, as steps over the places of the loan.
-use Rattle.std.proofs.Common.{◌≡◌, ◌≢◌, ℕ, if◌then◌else◌, Bool, true, false, Option, Some, None, refl, sym, ap, subst, ◌∙◌, ◌⊎◌, inl, inr, arith}
+use Rattle.std.proofs.Common.{◌≡◌, ◌≢◌, ℕ, if◌then◌else◌, true, false, Option, Some, None, refl, sym, ap, subst, ◌∙◌, inl, inr}
 use Rattle.std.specs.Option.{option_and_then, option_map, option_or}
 use Rattle.std.proofs.lemmas.Bool.{cases_Bool, cond-true, cond-false, both_ways}
 use Rattle.std.proofs.lemmas.Option.{none-some, same_Some}
 use Rattle.xk_base.specs.declared.ids.Number.{Number}
 use Rattle.xk_base.specs.declared.ids.Place.{Place}
 use Rattle.ledger_model.specs.Ledger.{Ledger, Page, PageLoan, Orphan, loan_at, loan_of}
-use Rattle.ledger_model.specs.Loans.{loans, LoanRun, Stands, of_number, orphan_of_number, loan_of_orphan, loan_of_run, orphan_loan_at, same_number}
-use Rattle.ledger_model.specs.Places.{in_run, moved, is_user_place}
+use Rattle.ledger_model.specs.Loans.{loans, LoanRun, Stands, of_number, orphan_of_number, loan_of_run, orphan_loan_at, same_number}
+use Rattle.ledger_model.specs.Places.{in_run, moved}
 use Rattle.ledger_model.specs.Reach.{is_held_at, lender_of}
-use Rattle.ledger_model.specs.Steps.{end_loan, freed, loan_without, orphan_without, orphan_loan, orphan_from, orphan_with, page_without, has_number}
+use Rattle.ledger_model.specs.Steps.{end_loan, freed, loan_without, orphan_without, orphan_loan, orphan_from, orphan_with, page_without}
 use Rattle.ledger_model.proofs.LedgerLaws.{same_ledger, same_number-at, loan_at-page, loan_at-home, is_held_at-true, is_held_at-Some}
 use Rattle.ledger_model.proofs.Numbering.{first_place-only}
 use Rattle.ledger_model.proofs.OfNumber.{of_number-at, loan_without-None, orphan_without-None, orphan_without-at, stands-home, stands-orphan, loan_of_run-outside, loan_of_run-None, orphan_of_run-lent, orphan_of_run-outside}
@@ -123,7 +123,7 @@ module _ (l : Ledger) (r : LoanRun) (h : Stands (loans l) r) where
       | inl t ↦
           let a : loan_at l s.home ≡ Some (record { holder = moved from r.holder s.home; kind = r.kind; number = r.number }) = loan_home from s.home e t in
           let b : s.loan ≡ record { holder = moved from r.holder s.home; kind = r.kind; number = r.number } =
-              same_Some s.loan (record { holder = moved from r.holder s.home; kind = r.kind; number = r.number }) (sym (loan_at-home l s.home s.page s.at ∙ s.lent) ∙ a) in
+          same_Some s.loan (record { holder = moved from r.holder s.home; kind = r.kind; number = r.number }) (sym (loan_at-home l s.home s.page s.at ∙ s.lent) ∙ a) in
           let c : moved from r.holder s.home ≡ q = sym (ap (λ (x : PageLoan). x.holder) b) ∙ s.held in
           both_ways (in_run r.holder r.count q) f (subst (λ x. in_run r.holder r.count x ≡ true) c (moved-in_run from r.holder s.home r.count t))
       | inr n ↦ none-some s.loan (sym (homes_of s.home ∙ loan_of_run-outside r from s.home e n)

@@ -1,10 +1,9 @@
 -- A page that moves to another seat is named by its home's entry and its holder's, and by no other.
-use Rattle.std.proofs.Common.{◌≡◌, ◌≢◌, ℕ, if◌then◌else◌, Bool, true, false, Option, Some, None, refl, sym, ap, subst, ◌∙◌, ◌⊎◌, inl, inr, arith}
+use Rattle.std.proofs.Common.{◌≡◌, ◌≢◌, ℕ, Option, Some, None, refl, sym, ap, ◌∙◌, inl, inr, arith}
 use Rattle.std.specs.Option.{option_map}
-use Rattle.std.proofs.lemmas.Bool.{cond-true, cond-false}
+use Rattle.std.proofs.lemmas.Bool.{cond-false}
 use Rattle.xk_base.specs.declared.ids.Place.{Place}
 use Rattle.phys_pages.specs.declared.infos.LoanInfo.{LoanInfo}
-use Rattle.phys_pages.specs.declared.infos.PageInfo.{PageInfo}
 use Rattle.phys_pages.specs.declared.infos.Seat.{Seat}
 use Rattle.phys_pages.specs.Owners.{seat_eq}
 use Rattle.phys_pages.proofs.OwnerLaws.{seat_tells}

@@ -1,16 +1,15 @@
 -- What the entries and owners tell of the role of a place.
-use Rattle.std.proofs.Common.{◌≡◌, ◌≢◌, ℕ, Bool, true, false, List, Option, Some, None, refl, sym, ap, subst, ◌∙◌, ◌⊎◌, inl, inr, arith}
-use Rattle.std.specs.Option.{option_and_then, option_map}
-use Rattle.std.proofs.lemmas.Option.{none-some, same_Some}
+use Rattle.std.proofs.Common.{◌≡◌, ◌≢◌, ℕ, false, Option, Some, None, refl, sym, ap, ◌∙◌}
+use Rattle.std.specs.Option.{option_and_then}
+use Rattle.std.proofs.lemmas.Option.{none-some}
 use Rattle.xk_base.specs.declared.ids.Place.{Place}
 use Rattle.xk_base.specs.declared.pages.LoanKind.{LoanKind}
 use Rattle.xk_base.specs.declared.pages.LoanKind.TheVariants.{Shared, Exclusive}
 use Rattle.phys_pages.specs.declared.infos.LoanInfo.{LoanInfo}
-use Rattle.phys_pages.specs.declared.infos.PageInfo.{PageInfo}
 use Rattle.phys_pages.specs.declared.infos.Seat.{Seat}
-use Rattle.ledger_model.specs.Ledger.{Ledger, Page, PageLoan, Orphan, loan_at, loan_of}
+use Rattle.ledger_model.specs.Ledger.{Page, loan_at, loan_of}
 use Rattle.ledger_model.specs.Reach.{FreePlace, HomePlace, HolderPlace, OrphanPlace, role_at, is_free, is_free_role}
-use Rattle.ledger_model.proofs.LedgerLaws.{cases_Option, lender_of-None, role_at-home, role_at-orphan, role_at-lender, role_at-free}
+use Rattle.ledger_model.proofs.LedgerLaws.{lender_of-None, role_at-home, role_at-orphan, role_at-lender, role_at-free}
 use Rattle.sv32_space.specs.declared.sides.Side.{Side}
 use Rattle.sv32_space.specs.declared.sides.Side.TheVariants.{Own, LentOut, LentIn, MutOut, MutIn}
 use Rattle.sv32_space.specs.Agreement.{Infos, EntriesAgree, on_loan, holder_side, home_in, seat_in, loan_to}

@@ -1,19 +1,18 @@
 -- Steps over a run of places, one page after another.
-use Rattle.std.proofs.Common.{◌≡◌, ◌≢◌, ℕ, ◌+◌, ◌-◌, ◌<◌, ◌≤◌, if◌then◌else◌, Bool, true, false, ◌&&◌, ◌||◌, Option, Some, None, refl, sym, ap, subst, ◌∙◌, ◌⊎◌, inl, inr, arith}
+use Rattle.std.proofs.Common.{◌≡◌, ℕ, ◌+◌, ◌-◌, ◌<◌, if◌then◌else◌, Bool, true, false, ◌&&◌, ◌||◌, Option, None, refl, sym, ap, subst, inl, inr, arith}
 use Rattle.std.specs.Prelude.{◌==◌, nat_le, nat_lt}
-use Rattle.std.specs.Option.{option_and_then, option_map}
 use Rattle.std.proofs.lemmas.Bool.{cases_Bool}
 use Rattle.std.proofs.lemmas.Bool.Decides.{nat_tests}
 use Rattle.xk_base.specs.declared.ids.Number.{Number}
 use Rattle.xk_base.specs.declared.ids.Place.{Place}
 use Rattle.xk_base.specs.declared.pages.LoanKind.{LoanKind}
 use Rattle.xk_base.specs.declared.pages.Right.{Right}
-use Rattle.ledger_model.specs.Ledger.{Ledger, Page, PageLoan, Orphan}
+use Rattle.ledger_model.specs.Ledger.{Ledger, Page}
 use Rattle.ledger_model.specs.Places.{in_run, moved, place_after}
-use Rattle.ledger_model.specs.Steps.{make, remove, reduce, lend, with_loan, give}
+use Rattle.ledger_model.specs.Steps.{make, remove, reduce, lend, give}
 use Rattle.ledger_model.proofs.LedgerLaws.{same_ledger}
 use Rattle.ledger_model.proofs.PlaceLaws.{place_from, in_run-none, in_run-index, moved-in_run}
-use Rattle.sv32_space.specs.PageSteps.{end_at, forget_orphans, orphan_run, orphan_of_page}
+use Rattle.sv32_space.specs.PageSteps.{end_at, forget_orphans, orphan_run}
 
 -- a place of a run of one more is one of the run or the next place
 next_test : (first : Place) (i : ℕ) (p : Place) → in_run first (i + 1) p ≡ (in_run first i p || in_run (place_after first i) 1 p)
@@ -115,7 +114,7 @@ orphan_next from to i l = same_ledger (orphan_run from (i + 1) to l) (orphan_run
         ≡ (orphan_run (place_after from i) 1 (place_after to i) (orphan_run from i to l)).orphan q
     orphans q = let t = next_test to i q in let n = next_apart to i q in let m = next_moved to from i q in
         let back : in_run (place_after to i) 1 q ≡ true → in_run from i (moved to from q) ≡ false =
-            λ h. next_apart from i (moved to from q) (subst (λ r. in_run (place_after from i) 1 r ≡ true) (next_moved to from i q h) (moved-in_run (place_after to i) (place_after from i) q 1 h)) in
+        λ h. next_apart from i (moved to from q) (subst (λ r. in_run (place_after from i) 1 r ≡ true) (next_moved to from i q h) (moved-in_run (place_after to i) (place_after from i) q 1 h)) in
         grind (arith, t)
 
 -- no place is in both runs

@@ -1,5 +1,5 @@
 -- The ledger of entries and owners, as the bytes of seats change.
-use Rattle.std.proofs.Common.{◌≡◌, ◌≢◌, ℕ, if◌then◌else◌, Bool, true, false, List, Option, Some, None, refl, sym, ap, subst, ◌∙◌, ◌⊎◌, inl, inr, arith}
+use Rattle.std.proofs.Common.{◌≡◌, ◌≢◌, ℕ, List, Option, Some, None, refl, sym, ap, subst, ◌∙◌, inl, inr, arith}
 use Rattle.std.specs.Option.{option_and_then, option_map}
 use Rattle.std.proofs.lemmas.Bool.{cond-true, cond-false}
 use Rattle.std.proofs.lemmas.Option.{none-some, same_Some}
@@ -7,9 +7,8 @@ use Rattle.xk_base.specs.declared.ids.Place.{Place}
 use Rattle.phys_pages.specs.declared.infos.LoanInfo.{LoanInfo}
 use Rattle.phys_pages.specs.declared.infos.PageInfo.{PageInfo}
 use Rattle.phys_pages.specs.declared.infos.Seat.{Seat}
-use Rattle.phys_pages.specs.Owners.{seat_eq}
 use Rattle.phys_pages.proofs.OwnerLaws.{seat_tells}
-use Rattle.ledger_model.specs.Ledger.{Ledger, Page, Orphan, Homed, Orphaned}
+use Rattle.ledger_model.specs.Ledger.{Homed, Orphaned}
 use Rattle.ledger_model.specs.Loans.{bare, bare_page, bare_orphan}
 use Rattle.ledger_model.specs.Places.{same_place}
 use Rattle.ledger_model.specs.Steps.{write, written, written_page}

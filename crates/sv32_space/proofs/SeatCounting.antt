@@ -1,27 +1,23 @@
 -- There are as many used seats as pages and orphans.
-use Rattle.std.proofs.Common.{◌≡◌, ◌≢◌, ℕ, zero, suc, ◌+◌, ◌-◌, ◌*◌, ◌<◌, ◌≤◌, if◌then◌else◌, Bool, true, false, not, ◌&&◌, ◌||◌, List, Option, Some, None, refl, sym, ap, subst, ◌∙◌, ◌⊎◌, inl, inr, arith}
+use Rattle.std.proofs.Common.{◌≡◌, ℕ, zero, suc, ◌+◌, ◌-◌, ◌*◌, ◌<◌, ◌≤◌, Bool, true, false, not, ◌&&◌, ◌||◌, Option, Some, None, refl, sym, ap, subst, ◌∙◌, inl, inr, arith}
 use Rattle.std.specs.Prelude.{is_some, nat_lt, ◌==◌}
-use Rattle.std.specs.Option.{option_and_then, option_map}
+use Rattle.std.specs.Option.{option_and_then}
 use Rattle.std.proofs.lemmas.Bool.{cases_Bool, cases_lt, cond-true, cond-false, and_from, eq-eqb, ne_eqb, lt-ltb, both_ways, false≢true}
 use Rattle.std.proofs.lemmas.Bool.Decides.{nat_tests}
-use Rattle.std.proofs.lemmas.Option.{none-some, same_Some}
 use Rattle.xk_base.specs.declared.ids.Place.{Place}
-use Rattle.xk_base.specs.declared.ids.Frame.{Frame as FrameNumber}
-use Rattle.xk_base.specs.declared.ids.Slot.{Slot as SlotNumber}
-use Rattle.xk_base.specs.declared.pages.LoanKind.{LoanKind}
 use Rattle.xk_base.specs.Counting.{count_below}
-use Rattle.xk_base.proofs.Counting.{count_below-one, count_below-le, count_below-same}
+use Rattle.xk_base.proofs.Counting.{count_below-one}
 use Rattle.phys_pages.specs.declared.infos.LoanInfo.{LoanInfo}
 use Rattle.phys_pages.specs.declared.infos.PageInfo.{PageInfo}
 use Rattle.phys_pages.specs.declared.infos.Seat.{Seat}
 use Rattle.phys_pages.specs.declared.infos.Seat.TheVariants.{Frame, Slot}
 use Rattle.phys_pages.specs.Owners.{Extent, HasSeat, frame_seat, slot_seat}
-use Rattle.ledger_model.specs.Ledger.{Ledger, Page, Orphan, is_counted, pages}
+use Rattle.ledger_model.specs.Ledger.{Ledger, is_counted, pages}
 use Rattle.ledger_model.specs.Places.{count_places, is_user_place, place_at}
 use Rattle.ledger_model.proofs.LedgerLaws.{cases_Option}
-use Rattle.ledger_model.proofs.Numbering.{number_of, number_of-place_at, number_of-bound, place_at-number_of, place_at-lies, count_places-split, count_places-same}
+use Rattle.ledger_model.proofs.Numbering.{number_of, number_of-place_at, number_of-bound, place_at-number_of, count_places-split, count_places-same}
 use Rattle.sv32_space.specs.declared.sides.Side.TheVariants.{Own}
-use Rattle.sv32_space.specs.Agreement.{Infos, EntriesAgree, owned_by, on_loan, lender_side, holder_side, right_in, seat_in, is_nobody}
+use Rattle.sv32_space.specs.Agreement.{Infos, EntriesAgree, lender_side, holder_side, right_in, seat_in, is_nobody}
 use Rattle.sv32_space.specs.Entries.{Entry, Entries, At}
 use Rattle.sv32_space.specs.EntryLedger.{SeatBytes, IsWellPlaced, ledger_of, orphan_of_loan, orphan_of_info, table_seat, used_seats}
 use Rattle.sv32_space.specs.StandsFor.{has_page}
@@ -48,13 +44,13 @@ count_into (suc m) n f g to low passes apart = elim (cases_Bool (f m)) [
       let without : ℕ → Bool = λ k. g k && not (k == to m) in
       let gone : (g (to m) && not (to m == to m)) ≡ false = rw (eq-eqb (to m) (to m) refl) (and_false (g (to m))) in
       let one : count_below n g ≡ count_below n (λ k. g k && not (k == to m)) + 1 =
-          count_below-one n (to m) g (λ k. g k && not (k == to m)) (low m last holds) (passes m last holds) gone
-          (λ j l ne. rw (ne_eqb j (to m) ne) (sym (and_true (g j)))) in
+      count_below-one n (to m) g (λ k. g k && not (k == to m)) (low m last holds) (passes m last holds) gone
+      (λ j l ne. rw (ne_eqb j (to m) ne) (sym (and_true (g j)))) in
       let before : count_below m f ≤ count_below n (λ k. g k && not (k == to m)) =
-          count_into m n f (λ k. g k && not (k == to m)) to (λ k l. low k (omega arith))
-          (λ k l t. and_from (g (to k)) (not (to k == to m)) (passes k (omega arith) t)
-          (rw (ne_eqb (to k) (to m) (λ same. let e : k ≡ m = apart k m (omega arith) last t holds same in omega arith)) refl))
-          (λ j k a b. apart j k (omega arith) (omega arith)) in
+      count_into m n f (λ k. g k && not (k == to m)) to (λ k l. low k (omega arith))
+      (λ k l t. and_from (g (to k)) (not (to k == to m)) (passes k (omega arith) t)
+      (rw (ne_eqb (to k) (to m) (λ same. let e : k ≡ m = apart k m (omega arith) last t holds same in omega arith)) refl))
+      (λ j k a b. apart j k (omega arith) (omega arith)) in
       rw holds (omega arith)
 ]
   where
@@ -126,7 +122,7 @@ module _ (procs : ℕ) (E : Entries) (I : Infos) (B : SeatBytes) (agree : Entrie
       by_parts None (Some loan) j =
           let e : E loan.holder ≡ Some (At (holder_side loan.kind) s) = agree.holder s None loan j in
           let o : ledger.orphan loan.holder ≡ Some (orphan_of_loan (B s) loan) =
-              orphan_at E I B loan.holder (At (holder_side loan.kind) s) e ∙ (orphan_of_holder loan.kind (I s) (B s) ∙ ap (option_and_then (orphan_of_info (B s))) j) in
+          orphan_at E I B loan.holder (At (holder_side loan.kind) s) e ∙ (orphan_of_holder loan.kind (I s) (B s) ∙ ap (option_and_then (orphan_of_info (B s))) j) in
           has_page_at s loan.holder (At (holder_side loan.kind) s) (ap name_in j) e refl
           (ap (λ x. is_counted (ledger.home loan.holder) || is_some x) o ∙ or_true (is_counted (ledger.home loan.holder)))
       by_parts (Some home) None j =
@@ -181,8 +177,8 @@ module _ (procs : ℕ) (E : Entries) (I : Infos) (B : SeatBytes) (agree : Entrie
         let i : (info : PageInfo) × (I (seat_in (E (place_at j))) ≡ Some info) = page_info procs E I B agree (place_at j) x in
         let o : (info : PageInfo) × (I (seat_in (E (place_at k))) ≡ Some info) = page_info procs E I B agree (place_at k) y in
         let seats : seat_in (E (place_at j)) ≡ seat_in (E (place_at k)) =
-            sym (table_seat-number table (seat_in (E (place_at j))) (within (seat_in (E (place_at j))) i.0 i.1))
-            ∙ (ap (table_seat table) same ∙ table_seat-number table (seat_in (E (place_at k))) (within (seat_in (E (place_at k))) o.0 o.1)) in
+        sym (table_seat-number table (seat_in (E (place_at j))) (within (seat_in (E (place_at j))) i.0 i.1))
+        ∙ (ap (table_seat table) same ∙ table_seat-number table (seat_in (E (place_at k))) (within (seat_in (E (place_at k))) o.0 o.1)) in
         sym (number_of-place_at j) ∙ (ap number_of (seats_differ procs E I B agree (place_at j) (place_at k) x y seats) ∙ number_of-place_at k))
 
     -- a used seat goes to the name of its page
@@ -196,7 +192,7 @@ module _ (procs : ℕ) (E : Entries) (I : Infos) (B : SeatBytes) (agree : Entrie
         (λ j k a b x y same.
         let u : SeatHasPage (table_seat table j) = at j x in let v : SeatHasPage (table_seat table k) = at k y in
         let names : name_in (I (table_seat table j)) ≡ name_in (I (table_seat table k)) =
-            sym (place_at-number_of procs (name_in (I (table_seat table j))) u.lies) ∙ (ap place_at same ∙ place_at-number_of procs (name_in (I (table_seat table k))) v.lies) in
+        sym (place_at-number_of procs (name_in (I (table_seat table j))) u.lies) ∙ (ap place_at same ∙ place_at-number_of procs (name_in (I (table_seat table k))) v.lies) in
         let seats : table_seat table j ≡ table_seat table k = sym u.seat ∙ (ap (λ p. seat_in (E p)) names ∙ v.seat) in
         sym (number-table_seat table j a) ∙ (ap (seat_number table) seats ∙ number-table_seat table k b))
       where

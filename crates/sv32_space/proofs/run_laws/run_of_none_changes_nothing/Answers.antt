@@ -1,10 +1,3 @@
-use Rattle.std.proofs.Common.{ℕ}
-use Rattle.xk_base.specs.declared.ids.Number.{Number}
-use Rattle.xk_base.specs.declared.ids.Place.{Place}
-use Rattle.xk_base.specs.declared.pages.LoanKind.{LoanKind}
-use Rattle.xk_base.specs.declared.pages.LoanKind.TheVariants.{Shared}
-use Rattle.xk_base.specs.declared.pages.Right.{Right}
-use Rattle.ledger_model.specs.Ledger.{Ledger}
 use Rattle.sv32_space.proofs.Runs.{make_none, remove_none, reduce_none, give_none, lend_none, end_none, orphan_none, forget_none}
 use Rattle.sv32_space.proofs.run_laws.run_of_none_changes_nothing.Goals as goal
 
