@@ -1,6 +1,6 @@
 -- Where entries and owners agree, they stand for the ledger that they make.
-use Rattle.std.proofs.Common.{◌≡◌, ◌≢◌, ℕ, ◌+◌, ◌*◌, ◌<◌, ◌≤◌, if◌then◌else◌, Bool, true, false, ◌||◌, List, Option, Some, None, refl, sym, ap, subst, ◌∙◌, ◌⊎◌, inl, inr, arith}
-use Rattle.std.specs.Prelude.{is_some, IsTrue}
+use Rattle.std.proofs.Common.{◌≡◌, ◌≢◌, ℕ, ◌+◌, ◌<◌, ◌≤◌, true, false, ◌||◌, List, Option, Some, None, refl, sym, ap, subst, ◌∙◌, ◌⊎◌, inl, inr, arith}
+use Rattle.std.specs.Prelude.{is_some}
 use Rattle.std.specs.Option.{option_and_then, option_map}
 use Rattle.std.proofs.lemmas.Bool.{both_ways, false≢true, cases_Bool}
 use Rattle.std.proofs.lemmas.Option.{none-some, same_Some}
@@ -12,27 +12,25 @@ use Rattle.xk_base.specs.declared.pages.Right.{Right}
 use Rattle.phys_pages.specs.declared.infos.LoanInfo.{LoanInfo}
 use Rattle.phys_pages.specs.declared.infos.PageInfo.{PageInfo}
 use Rattle.phys_pages.specs.declared.infos.Seat.{Seat}
-use Rattle.phys_pages.specs.declared.infos.Seat.TheVariants.{Frame, Slot}
+use Rattle.phys_pages.specs.declared.infos.Seat.TheVariants.{Frame}
 use Rattle.phys_pages.specs.Owners.{Extent, HasSeat, frame_seat}
-use Rattle.ledger_model.specs.Ledger.{Ledger, Contents, Console, Bytes, Page, PageLoan, Orphan, loan_at, loan_of, has_bytes, is_counted}
-use Rattle.ledger_model.specs.Places.{is_process, is_user_place}
-use Rattle.ledger_model.specs.Reach.{is_free}
+use Rattle.ledger_model.specs.Ledger.{Contents, Console, Bytes, Page, PageLoan, Orphan, loan_at, loan_of, has_bytes, is_counted}
+use Rattle.ledger_model.specs.Places.{is_user_place}
 use Rattle.ledger_model.proofs.LedgerLaws.{cases_Option, IsFreeAt, is_free-true, lender_of-none}
-use Rattle.sv32_space.specs.declared.sides.Side.{Side}
 use Rattle.sv32_space.specs.declared.sides.Side.TheVariants.{Own, LentOut, LentIn, MutOut, MutIn}
-use Rattle.sv32_space.specs.Agreement.{Infos, EntriesAgree, Agrees, procs_of, owned_by, on_loan, lender_side, holder_side, loan_in, home_in, right_in, seat_in, loan_told, loan_to}
+use Rattle.sv32_space.specs.Agreement.{Infos, EntriesAgree, Agrees, table_frames, procs_of, on_loan, lender_side, holder_side, loan_in, home_in, right_in, seat_in, loan_to}
 use Rattle.sv32_space.specs.Entries.{Entry, Entries, Free, At, OnConsole}
-use Rattle.sv32_space.specs.EntryLedger.{SeatBytes, IsWellPlaced, ledger_of, page_loan, page_of_side, page_of_entry, orphan_of_info, orphan_of_side, orphan_of_entry}
-use Rattle.sv32_space.specs.StandsFor.{home_side, has_page, table_frames, AreSpelled, AreBytes, AreSeatsApart, HasFreeFrame, StandsAt, StandsFor}
+use Rattle.sv32_space.specs.EntryLedger.{SeatBytes, IsWellPlaced, ledger_of, page_loan, page_of_entry, orphan_of_info, orphan_of_entry}
+use Rattle.sv32_space.specs.StandsFor.{home_side, has_page, AreSpelled, AreBytes, AreSeatsApart, HasFreeFrame, StandsAt, StandsFor}
 use Rattle.sv32_space.proofs.EntryLedgerLaws.{home_at, orphan_at, page_of_holder, orphan_of_holder}
 
 -- the place that names the page of a seat: its home, or the holder's place of an orphan
-abbrev name_of : Option Place → Option LoanInfo → Place
+abbrev pub name_of : Option Place → Option LoanInfo → Place
 name_of (Some home) loan = home
 name_of None None = record { pid = record { 0 = 0 }; vpn = record { 0 = 0 } }
 name_of None (Some loan) = loan.holder
 
-abbrev name_in : Option PageInfo → Place
+abbrev pub name_in : Option PageInfo → Place
 name_in info = name_of (home_in info) (loan_in info)
 
 console_no_bytes : (bytes : List ℕ) → Console ≢ Bytes bytes
@@ -388,7 +386,7 @@ pub stands_for : (is_made : ℕ → Type 0) (frames : ℕ) (E : Entries) (table 
     → HasSeat table (frame_seat f) → I (frame_seat f) ≡ None
     → StandsFor is_made (procs_of table) frames E told (ledger_of E I B)
 stands_for is_made frames E table I B told f agrees within holds seat empty =
-    let first : table.first ≡ 21 * procs_of table = agrees.first in
+    let first : table.first ≡ table_frames (procs_of table) = agrees.first in
     let last : table.first + table.frames ≡ frames = agrees.last in
     let low : table.first ≤ f = seat.0 in
     let high : f < table.first + table.frames = seat.1 in
