@@ -1,22 +1,20 @@
 -- The entries of all places, after a write.
-use Rattle.std.proofs.Common.{◌≡◌, ◌+◌, ◌-◌, ◌*◌, ◌/◌, ◌%◌, ◌^◌, ◌<◌, ◌≤◌, ℕ, Bool, true, false, cond, ◌&&◌, nat_le, nat_lt, List, Option, Some, None, IsTrue, IsFalse, IsSome, is_some, nat_eq, refl, sym, ap, subst, ◌∙◌, inl, inr, arith}
-use Rattle.std.proofs.lemmas.Bool.{cases_Bool, cases_eq, cond-false, ne_eqb, and_parts, and_from, leb-true, le-leb, le-ltb, ltb-true}
+use Rattle.std.proofs.Common.{◌≡◌, ◌+◌, ◌*◌, ◌/◌, ◌%◌, ◌^◌, ◌<◌, ◌≤◌, ℕ, Bool, true, false, cond, ◌&&◌, nat_le, nat_lt, List, Option, Some, None, IsTrue, IsFalse, IsSome, is_some, nat_eq, refl, sym, ap, subst, ◌∙◌, inl, inr, arith}
+use Rattle.std.proofs.lemmas.Bool.{cases_Bool, cases_eq, cond-false, ne_eqb, and_parts, and_from, leb-true, le-leb, ltb-true}
 use Rattle.std.proofs.lemmas.Option.{same_Some}
 use Rattle.xk_base.specs.declared.ids.Place.{Place}
 use Rattle.xk_base.specs.declared.windows.Window.{Window}
 use Rattle.xk_base.specs.Windows.{window_at}
 use Rattle.xk_base.specs.Counting.{put_at}
-use Rattle.phys_pages.specs.Ram.{RamBytes, Area, IsPlaced, area, pages, words, ppn_of}
-use Rattle.phys_pages.specs.declared.infos.Seat.TheVariants.{Frame, Slot}
-use Rattle.phys_pages.proofs.AreaLaws.{frame_of-ppn_of}
+use Rattle.phys_pages.specs.Ram.{RamBytes, Area, IsPlaced, area, pages, words}
 use Rattle.phys_pages.proofs.PageLaws.{length-pages}
 use Rattle.phys_pages.proofs.WordLaws.{words-in_frame}
 use Rattle.ledger_model.specs.Places.{same_place, is_process, is_user_place}
 use Rattle.ledger_model.proofs.PlaceLaws.{place_from, same_place-true, same_place-false}
-use Rattle.sv32_space.specs.Entries.{Entry, Free, At, OnConsole}
+use Rattle.sv32_space.specs.Entries.{Entry}
 use Rattle.sv32_space.specs.Spellings.{kind_at}
 use Rattle.sv32_space.specs.Spaces.{root_at, IsTableFrame, table_frame, table_word, leaf_word, leaf_address, IsSpace, IsMade}
-use Rattle.sv32_space.specs.SpelledEntries.{IsEntry, console_ppn, entry_here, entry_of_kind, kind_for, entry_spelled, entry_in_space, entries_of, entries}
+use Rattle.sv32_space.specs.SpelledEntries.{entry_spelled, entry_in_space, entries_of, entries}
 use Rattle.sv32_space.proofs.SpaceLaws.{with_leaf, IsWrite, leaf_written, leaf_other, leaf_elsewhere, leaf_stays, spaces_with_leaf, mapped_page, table_within, one_space}
 
 -- a process's space lies in RAM

@@ -1,5 +1,5 @@
 -- Where the walk of a made space ends.
-use Rattle.std.proofs.Common.{◌≡◌, ◌==◌, ◌+◌, ◌*◌, ◌/◌, ◌%◌, ◌^◌, ◌<◌, ℕ, Bool, true, false, cond, ◌&&◌, nat_le, Option, Some, None, refl, sym, ap, ◌∙◌, inl, inr, arith}
+use Rattle.std.proofs.Common.{◌≡◌, ◌==◌, ◌+◌, ◌*◌, ◌/◌, ◌%◌, ◌^◌, ◌<◌, ℕ, Bool, true, false, ◌&&◌, nat_le, Option, Some, None, refl, sym, ap, ◌∙◌, inl, inr, arith}
 use Rattle.std.proofs.lemmas.Bool.{cases_Bool, eqb-true}
 use Rattle.std.proofs.lemmas.Option.{none-some, same_Some}
 use Rattle.xk_base.specs.Fields.{field, bits_of}
@@ -11,9 +11,8 @@ use Rattle.xk_base.specs.declared.windows.Window.{Window}
 use Rattle.xk_base.specs.Windows.{window_at}
 use Rattle.phys_pages.specs.Ram.{RamBytes, Area, IsPlaced, area, pages, ppn_of, frame_of}
 use Rattle.phys_pages.specs.declared.infos.Seat.TheVariants.{Frame, Slot}
-use Rattle.phys_pages.proofs.AreaLaws.{ppn_of-frame_of, frame_of-ppn_of}
+use Rattle.phys_pages.proofs.AreaLaws.{frame_of-ppn_of}
 use Rattle.ledger_model.specs.Places.{is_process}
-use Rattle.ledger_model.specs.Reach.{owner_may}
 use Rattle.phys_pages.proofs.WordLaws.{words-in_frame}
 use Rattle.sv32_space.specs.declared.sides.Side.{Side}
 use Rattle.sv32_space.specs.declared.sides.Side.TheVariants.{Own, LentOut, LentIn, MutOut, MutIn}
@@ -26,7 +25,7 @@ use Rattle.sv32_space.specs.Walk.{is_valid, is_leaf, lets_through, entry_ppn, vp
 use Rattle.sv32_space.specs.Spaces.{root_at, table_frame, table_word, root_word, window_of_root_entry, leaf_word, IsSpace, IsMade}
 use Rattle.sv32_space.specs.EntryReach.{side_may, reaches_if, entry_reach}
 use Rattle.sv32_space.specs.Entries.{Entry, Free, At, OnConsole}
-use Rattle.sv32_space.specs.SpelledEntries.{console_ppn, console_entry, entry_here, entry_of_kind, kind_for, entry_spelled, entry_in_space, entries}
+use Rattle.sv32_space.specs.SpelledEntries.{console_ppn, entry_of_kind, kind_for, entry_spelled, entry_in_space, entries}
 use Rattle.sv32_space.proofs.KindLaws.{console_has_no_frame, kind_is}
 use Rattle.sv32_space.proofs.SpaceLaws.{window_of_page, mapped_entry, table_within}
 use Rattle.sv32_space.proofs.SpellingLaws.{among_found}
