@@ -86,7 +86,8 @@ const CONSTANT_SHIFTS: [(u32, [u32; 2]); 9] = [
     (0x41f0_d193, [0xffff_ffff, 0x0000_0000]), // srai x3,x1,31
 ];
 
-/// A program that ends with a call of the kernel. It uses the 64 bytes from address 448 on.
+/// A program that ends with a call of the kernel. It stores to the bytes from its own address plus 448
+/// on, and subtracts its own address, in x9, from what depends on it.
 const PROGRAM: [u32; 57] = [
     0x0000_0497, // auipc x9, 0
     0x1c04_8413, // addi x8, x9, 448
@@ -252,7 +253,8 @@ fn program(rt: HostRuntime) {
     }
 }
 
-/// Each trap with its cause and its value, and a store to the console.
+/// Each trap with its cause (RISC-V Privileged Architecture, 4.1.8) and its value, and a store to the
+/// console.
 #[test]
 fn traps(rt: HostRuntime) {
     let trap = |cause: u8, value: u32| Ran::Trap { cause, value };
