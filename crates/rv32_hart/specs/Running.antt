@@ -1,6 +1,6 @@
 -- What running the instruction at the pc comes to: what the table of instructions gives for the registers, the pc and the
 -- memory that the process sees.
-use Rattle.std.specs.Prelude.{◌≡◌, ℕ, ◌%◌, List, Bool, Option, Some, None}
+use Rattle.std.specs.Prelude.{◌≡◌, ℕ, ◌%◌, List, Bool, Some, None}
 use Rattle.xk_base.specs.declared.pages.Access.{Access}
 use Rattle.xk_base.specs.UserMemory.{Memory, Content, with_number}
 use Rattle.machine_model.specs.Instructions.{Executed, Next, Stores, StoresToConsole, CallsKernel, Traps, execute_at}

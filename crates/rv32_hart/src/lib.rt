@@ -13,3 +13,6 @@ mod stores;
 
 pub use ran::Ran;
 pub use run::run_one;
+
+#[cfg(test)]
+mod tests;
