@@ -13,11 +13,8 @@ ghost use Rattle.sv32_space.specs.SpelledEntries.{entries, entry_spelled};
 ghost use Rattle.sv32_space.specs.Spellings.{kind_at};
 
 use phys_pages::Ram;
-use xk_base::limits::PAGE_SIZE;
+use xk_base::limits::{PAGE_SIZE, TABLE_FRAMES};
 use xk_base::{Frame, Pid, Place, Vpn, Window, window_of};
-
-/// Frames of a space: its root table, and four last-level tables for each window.
-pub const TABLE_FRAMES: u32 = 21;
 
 /// The root table of a process, the first frame of its space.
 pub fn root_of(pid: Pid) -> Frame

@@ -19,6 +19,9 @@ const FIRST_IMAGE: [u8; 88] = [
     0x23, 0x80, 0xf5, 0x00, 0x6f, 0x00, 0x00, 0x00,
 ];
 
+/// Where the first word of its code stands in the image.
+const FIRST_WORD: usize = 52;
+
 /// The same with a tag `XKrn`, which is passed over, behind the first tag.
 const IMAGE_WITH_TAG: [u8; 100] = [
     0x58, 0x41, 0x72, 0x67, 0x9c, 0x92, 0x05, 0x00, 0x10, 0x00, 0x00, 0x00, 0x01, 0x00, 0x00, 0x00,
@@ -153,6 +156,24 @@ fn what_is_not_built(rt: HostRuntime) -> Result<(), Fail> {
     assert_eq!(rt; run.status, Status::NotBuilt);
     assert_eq!(rt; run.out.len(), 167);
     assert_eq!(rt; run.notes.as_slice(), b"not built\n".as_slice());
+    Ok(())
+}
+
+/// A trap ends the process, and so does the end of its thread.
+#[test]
+fn ends_of_the_process(rt: HostRuntime) -> Result<(), Fail> {
+    let rows: [(u32, &[u8]); 3] = [
+        (0x0010_0073, b"1 2.2 fault 3 00010000\n1 2 gone\nend 1 done\n"),
+        (0x0000_8067, b"2 2.2 end\n2 2 gone\nend 2 done\n"),
+        (0x0000_0000, b"1 2.2 fault 2 00000000\n1 2 gone\nend 1 done\n"),
+    ];
+    for (first_word, lines) in rows {
+        let mut image = FIRST_IMAGE;
+        image[FIRST_WORD..FIRST_WORD + 4].copy_from_slice(&first_word.to_le_bytes());
+        let run = trace(rt.alloc(), &image, b"tick 100", &[], &[])?;
+        assert_eq!(rt; run.status, Status::Done);
+        assert_eq!(rt; run.out.as_slice(), lines);
+    }
     Ok(())
 }
 
