@@ -1,20 +1,23 @@
 -- What the entries and owners tell of the role of a place.
-use Rattle.std.proofs.Common.{◌≡◌, ◌≢◌, ℕ, false, Option, Some, None, refl, sym, ap, ◌∙◌}
-use Rattle.std.specs.Option.{option_and_then}
+use Rattle.std.proofs.Common.{◌≡◌, ◌≢◌, ℕ, if◌then◌else◌, true, false, Option, Some, None, refl, sym, ap, ◌∙◌}
+use Rattle.std.specs.Option.{option_and_then, option_map}
 use Rattle.std.proofs.lemmas.Option.{none-some}
 use Rattle.xk_base.specs.declared.ids.Place.{Place}
+use Rattle.xk_base.specs.declared.pages.Access.{Access}
+use Rattle.xk_base.specs.declared.pages.Access.TheVariants.{Load, Store, Fetch}
+use Rattle.xk_base.specs.declared.pages.Right.{Right}
 use Rattle.xk_base.specs.declared.pages.LoanKind.{LoanKind}
 use Rattle.xk_base.specs.declared.pages.LoanKind.TheVariants.{Shared, Exclusive}
 use Rattle.phys_pages.specs.declared.infos.LoanInfo.{LoanInfo}
 use Rattle.phys_pages.specs.declared.infos.Seat.{Seat}
-use Rattle.ledger_model.specs.Ledger.{Page, loan_at, loan_of}
-use Rattle.ledger_model.specs.Reach.{FreePlace, HomePlace, HolderPlace, OrphanPlace, role_at, is_free, is_free_role}
+use Rattle.ledger_model.specs.Ledger.{Console, Bytes, Page, loan_at, loan_of}
+use Rattle.ledger_model.specs.Reach.{FreePlace, HomePlace, HolderPlace, OrphanPlace, role_at, lender_may, holder_may, home_may, may, page_at_role, reach, is_free, is_free_role}
 use Rattle.ledger_model.proofs.LedgerLaws.{lender_of-None, role_at-home, role_at-orphan, role_at-lender, role_at-free}
 use Rattle.sv32_space.specs.declared.sides.Side.{Side}
 use Rattle.sv32_space.specs.declared.sides.Side.TheVariants.{Own, LentOut, LentIn, MutOut, MutIn}
-use Rattle.sv32_space.specs.Agreement.{Infos, EntriesAgree, on_loan, holder_side, home_in, seat_in, loan_to}
+use Rattle.sv32_space.specs.Agreement.{Infos, EntriesAgree, on_loan, holder_side, home_in, loan_in, seat_in, loan_to}
 use Rattle.sv32_space.specs.Entries.{Entry, Entries, Free, At, OnConsole}
-use Rattle.sv32_space.specs.EntryLedger.{SeatBytes, IsWellPlaced, ledger_of, page_loan, page_of_entry, orphan_of_loan, orphan_of_info, orphan_of_entry, is_free_entry}
+use Rattle.sv32_space.specs.EntryLedger.{SeatBytes, IsWellPlaced, ledger_of, page_loan, page_of_entry, orphan_of_loan, orphan_of_info, orphan_of_entry, is_free_entry, entry_may}
 use Rattle.sv32_space.specs.StandsFor.{AreSpelled}
 use Rattle.sv32_space.proofs.EntryLedgerLaws.{home_at, orphan_at, page_of_holder, orphan_of_holder}
 use Rattle.sv32_space.proofs.LoanLedger.{lent_page}
@@ -87,3 +90,48 @@ module _ (procs : ℕ) (E : Entries) (I : Infos) (B : SeatBytes) (agree : Entrie
       by_entry (Some (At (MutOut x) s)) h = ap is_free_role (role_at-home procs (ledger_of E I B) p _ (home_at E I B p (At (MutOut x) s) h)) ∙ sym (ap is_free_entry h)
       by_entry (Some (At LentIn s)) h = held_not_free p Shared s (agree.lent_in p s h) ∙ sym (ap is_free_entry h)
       by_entry (Some (At MutIn s)) h = held_not_free p Exclusive s (agree.mut_in p s h) ∙ sym (ap is_free_entry h)
+
+  -- ---- the accesses of a place
+
+  mut_may : (right : Right) (access : Access) → lender_may Exclusive right access ≡ false
+  mut_may right Load = refl
+  mut_may right Store = refl
+  mut_may right Fetch = refl
+
+  held_may : (p : Place) (kind : LoanKind) (s : Seat) (access : Access) → I s ≡ Some (on_loan (home_in (I s)) (loan_to p kind (I s)))
+      → may (role_at procs (ledger_of E I B) p) access ≡ holder_may kind access
+  held_may p kind s access i = by_home (home_in (I s)) refl
+    where
+      by_home : (h : Option Place) → home_in (I s) ≡ h → may (role_at procs (ledger_of E I B) p) access ≡ holder_may kind access
+      by_home None e = ap (λ r. may r access) (role_of_orphan s (loan_to p kind (I s)) (i ∙ ap (λ h. Some (on_loan h (loan_to p kind (I s)))) e))
+      by_home (Some q) e = ap (λ r. may r access) (role_of_holder s q (loan_to p kind (I s)) (i ∙ ap (λ h. Some (on_loan h (loan_to p kind (I s)))) e))
+
+  -- the table of accesses allows at a place what its entry does
+  pub may_by_entry : (p : Place) (access : Access) → may (role_at procs (ledger_of E I B) p) access ≡ entry_may (E p) access
+  may_by_entry p access = by_entry (E p) refl
+    where
+      home_may_be : (e : Entry) (page : Page) → E p ≡ Some e → page_of_entry I B e ≡ Some page
+          → may (role_at procs (ledger_of E I B) p) access ≡ home_may page.right page.loan access
+      home_may_be e page h k = ap (λ r. may r access) (role_of_home p e page h k)
+
+      by_entry : (o : Option Entry) → E p ≡ o → may (role_at procs (ledger_of E I B) p) access ≡ entry_may (E p) access
+      by_entry None h = ap (λ r. may r access) (role_of_none p h) ∙ sym (ap (λ o. entry_may o access) h)
+      by_entry (Some Free) h = ap (λ r. may r access) (role_of_free p h) ∙ sym (ap (λ o. entry_may o access) h)
+      by_entry (Some (OnConsole w)) h =
+          home_may_be (OnConsole w) (record { right = record { w = w; x = false }; contents = Console; loan = None }) h refl ∙ sym (ap (λ o. entry_may o access) h)
+      by_entry (Some (At (Own r) s)) h =
+          home_may_be (At (Own r) s) (record { right = r; contents = Bytes (B s); loan = None }) h refl ∙ sym (ap (λ o. entry_may o access) h)
+      by_entry (Some (At (LentOut r) s)) h =
+          home_may_be (At (LentOut r) s) (record { right = r; contents = Bytes (B s); loan = option_map page_loan (loan_in (I s)) }) h refl
+          ∙ (ap (λ o. home_may r (option_map page_loan (loan_in o)) access) (agree.lent_out p r s h) ∙ sym (ap (λ o. entry_may o access) h))
+      by_entry (Some (At (MutOut x) s)) h =
+          home_may_be (At (MutOut x) s) (record { right = record { w = true; x = x }; contents = Bytes (B s); loan = option_map page_loan (loan_in (I s)) }) h refl
+          ∙ (ap (λ o. home_may (record { w = true; x = x }) (option_map page_loan (loan_in o)) access) (agree.mut_out p x s h)
+          ∙ (mut_may (record { w = true; x = x }) access ∙ sym (ap (λ o. entry_may o access) h)))
+      by_entry (Some (At LentIn s)) h = held_may p Shared s access (agree.lent_in p s h) ∙ sym (ap (λ o. entry_may o access) h)
+      by_entry (Some (At MutIn s)) h = held_may p Exclusive s access (agree.mut_in p s h) ∙ sym (ap (λ o. entry_may o access) h)
+
+  pub reach_by_entry : (p : Place) (access : Access)
+      → reach procs (ledger_of E I B) p access ≡ (if entry_may (E p) access then page_at_role p (role_at procs (ledger_of E I B) p) else None)
+  unfolding reach
+  reach_by_entry p access = ap (λ b. if b then page_at_role p (role_at procs (ledger_of E I B) p) else None) (may_by_entry p access)

@@ -1,14 +1,15 @@
 //! What entries and owners tell of the role of a place in their ledger.
 
 ghost use Rattle.ledger_model.specs.Ledger.{Page};
-ghost use Rattle.ledger_model.specs.Reach.{FreePlace, HolderPlace, HomePlace, OrphanPlace, is_free, role_at};
+ghost use Rattle.ledger_model.specs.Reach.{FreePlace, HolderPlace, HomePlace, OrphanPlace, is_free, page_at_role, reach, role_at};
 ghost use Rattle.phys_pages.specs.declared.infos.LoanInfo.{LoanInfo};
 ghost use Rattle.phys_pages.specs.declared.infos.Seat.{Seat};
-ghost use Rattle.std.specs.Prelude.{None, Some, ℕ, ◌≡◌};
+ghost use Rattle.std.specs.Prelude.{None, Some, if◌then◌else◌, ℕ, ◌≡◌};
 ghost use Rattle.sv32_space.specs.Agreement.{EntriesAgree, Infos, on_loan};
 ghost use Rattle.sv32_space.specs.Entries.{Entries, Entry, Free};
-ghost use Rattle.sv32_space.specs.EntryLedger.{SeatBytes, is_free_entry, ledger_of, orphan_of_loan, page_loan, page_of_entry};
+ghost use Rattle.sv32_space.specs.EntryLedger.{SeatBytes, entry_may, is_free_entry, ledger_of, orphan_of_loan, page_loan, page_of_entry};
 ghost use Rattle.xk_base.specs.declared.ids.Place.{Place};
+ghost use Rattle.xk_base.specs.declared.pages.Access.{Access};
 
 /// The role of each place, by its entry and what is said of the seat that it names.
 pub fn entry_tells_role()
@@ -28,4 +29,11 @@ pub fn entry_tells_role()
 pub fn free_place_has_a_free_entry()
     ensures { (procs : ℕ) (E : Entries) (I : Infos) (B : SeatBytes) (p : Place) → EntriesAgree procs E I
         → is_free procs (ledger_of E I B) p ≡ is_free_entry (E p) }
+{}
+
+/// A process reaches at a place exactly what its entry gives it.
+pub fn entry_tells_reach()
+    ensures { (procs : ℕ) (E : Entries) (I : Infos) (B : SeatBytes) (p : Place) (access : Access) → EntriesAgree procs E I
+        → reach procs (ledger_of E I B) p access
+        ≡ (if entry_may (E p) access then page_at_role p (role_at procs (ledger_of E I B) p) else None) }
 {}
