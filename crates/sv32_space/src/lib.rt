@@ -2,19 +2,19 @@
 //! together stand for the ledger of pages.
 #![tactic(auto)]
 
-mod entries;
 pub mod agreement_laws;
 pub mod count_laws;
+mod entries;
 pub mod ledger_laws;
 pub mod role_laws;
 pub mod run_laws;
 pub mod seat_laws;
 mod sides;
+pub mod small;
 pub mod space_laws;
 mod spaces;
-mod walking;
-pub mod small;
 pub mod standing_laws;
+mod walking;
 
 pub use entries::{entry_of, kind_of};
 pub use sides::{EntryKind, Side};
