@@ -97,6 +97,7 @@ impl Kernel {
     ghost use Rattle.xk_base.specs.declared.records.What.TheVariants.{Call, Reply, Gone};
 
     /// Does the next step, if it is built.
+    #[tactic(auto, using(crate::proofs::MachineLemmas::the_steps))]
     pub fn step(&mut self) -> Stepped
         requires { (machine_of self.old).steps < 4000000000 }
         ensures { DoesStep self.old self.new result }

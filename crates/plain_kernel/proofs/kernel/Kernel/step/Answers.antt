@@ -11,39 +11,24 @@ pub returns-in_default : goal.returns-in_default
 unfolding machine_of
 returns-in_default c = (acts_while_alive c.args.self.now ∙ ap is_some c.in_default.is, refl)
 
-pub die-requires : goal.die-requires
-die-requires c = subst (λ n. n < 4000000000) (the_steps c.args.self.now) c.requires
-
 pub returns-then-ends : goal.returns-then-ends
 returns-then-ends c =
     does_end c.args.self.now c.die.new.self c.in-Some.process c.in-Some.is (sym c.ends.ensures ∙ c.if-ends.true) (dies_so c.args.self.now c.die.new.self (Some c.in-Some.process) _ _ c.die.ensures)
-
-pub count-requires : goal.count-requires
-count-requires c = subst (λ n. n < 4000000000) (the_steps c.args.self.now) c.requires
 
 pub returns-in-Next : goal.returns-in-Next
 returns-in-Next c =
     does_next c.args.self.now c.count.new.self c.in-Some.process c.run.new.self c.in-Next.field-0 c.in-Some.is (sym c.ends.ensures ∙ c.if-ends.false)
     (subst (Runs c.in-Some.process c.run.new.self) c.in-Next.is c.run.ensures) (goes_so c.args.self.now c.count.new.self (Some c.run.new.self) _ _ c.count.ensures)
 
-pub tell_console-requires : goal.tell_console-requires
-tell_console-requires c = subst (λ n. n < 4000000000) (the_steps c.args.self.now) c.requires
-
 pub returns-in-Device : goal.returns-in-Device
 returns-in-Device c =
     does_console c.args.self.now c.tell_console.new.self c.in-Some.process c.run.new.self c.in-Device.offset c.in-Device.value c.in-Device.next c.in-Some.is
     (sym c.ends.ensures ∙ c.if-ends.false) (subst (Runs c.in-Some.process c.run.new.self) c.in-Device.is c.run.ensures) (goes_so c.args.self.now c.tell_console.new.self (Some c.run.new.self) _ _ c.tell_console.ensures)
 
-pub die-requires-in-Trap : goal.die-requires-in-Trap
-die-requires-in-Trap c = subst (λ n. n < 4000000000) (the_steps c.args.self.now) c.requires
-
 pub returns-in-Trap : goal.returns-in-Trap
 returns-in-Trap c =
     does_trap c.args.self.now c.die-in-Trap.new.self c.in-Some.process c.run.new.self c.in-Trap.cause c.in-Trap.value c.in-Some.is
     (sym c.ends.ensures ∙ c.if-ends.false) (subst (Runs c.in-Some.process c.run.new.self) c.in-Trap.is c.run.ensures) (dies_so c.args.self.now c.die-in-Trap.new.self (Some c.run.new.self) _ _ c.die-in-Trap.ensures)
-
-pub tell_call-requires : goal.tell_call-requires
-tell_call-requires c = subst (λ n. n < 4000000000) (the_steps c.args.self.now) c.requires
 
 pub returns-in-Some-call : goal.returns-in-Some-call
 returns-in-Some-call c =
