@@ -150,6 +150,11 @@ history_goes_on last event events limit m played =
 behind_behind : (first second : List Rec) (h : History) → behind first (behind second h) ≡ behind (first ++ second) h
 behind_behind first second h = rw append_assoc refl
 
+other_ending : (event : Event) (events : List Event) (limit : ℕ) (m : Machine) (e : Ending) → (history (event ∷ events) limit m).ending ≡ Played → e ≢ Played → (play event limit m).ending ≡ e → e ≡ Played
+other_ending event events limit m e played other is =
+    let stops : (play event limit m).ending ≢ Played = λ q. other (sym is ∙ q) in
+    sym is ∙ (sym (ap (λ (h : History). h.ending) (history_stops Played event events limit m stops)) ∙ played)
+
 -- events behind those that were played
 pub history_after : (last : Ending) (events more : List Event) (limit : ℕ) (m : Machine) → (history events limit m).ending ≡ Played
     → history_to last (events ++ more) limit m ≡ behind (history events limit m).records (history_to last more limit (history events limit m).machine)
@@ -171,11 +176,6 @@ history_after last (event ∷ events) more limit m played =
         ∙ (ap (behind (play event limit m).records) (later rest)
         ∙ (behind_behind (play event limit m).records (history events limit (play event limit m).machine).records (history_to last more limit (history events limit (play event limit m).machine).machine)
         ∙ ap (λ (h : History). behind h.records (history_to last more limit h.machine)) (sym whole)))
-    go LimitMet is later = let no : LimitMet ≡ Played = ended_so LimitMet (λ e. cc) is in cc
-    go Unbuilt is later = let no : Unbuilt ≡ Played = ended_so Unbuilt (λ e. cc) is in cc
-    go (BadLine line) is later = let no : BadLine line ≡ Played = ended_so (BadLine line) (λ e. cc) is in cc
-
-    ended_so : (e : Ending) → e ≢ Played → (play event limit m).ending ≡ e → e ≡ Played
-    ended_so e other is =
-        let stops : (play event limit m).ending ≢ Played = λ q. other (sym is ∙ q) in
-        sym is ∙ (sym (ap (λ (h : History). h.ending) (history_stops Played event events limit m stops)) ∙ played)
+    go LimitMet is later = let no : LimitMet ≡ Played = other_ending event events limit m LimitMet played (λ e. cc) is in cc
+    go Unbuilt is later = let no : Unbuilt ≡ Played = other_ending event events limit m Unbuilt played (λ e. cc) is in cc
+    go (BadLine line) is later = let no : BadLine line ≡ Played = other_ending event events limit m (BadLine line) played (λ e. cc) is in cc

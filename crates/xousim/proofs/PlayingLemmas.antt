@@ -1,5 +1,5 @@
 -- What was played so far, one answer of the reader further.
-use Rattle.std.proofs.Common.{◌≡◌, ◌≢◌, ℕ, Bool, true, false, List, [], ◌∷◌, ◌++◌, Option, Some, None, Result, Ok, Err, refl, sym, ap, ◌∙◌, subst, append_assoc, append-nil}
+use Rattle.std.proofs.Common.{◌≡◌, ◌≢◌, ℕ, Bool, true, false, List, [], ◌∷◌, ◌++◌, Option, Some, None, Result, Ok, Err, IsErr, refl, sym, ap, ◌∙◌, subst, append_assoc, append-nil}
 use Rattle.std.proofs.lemmas.Grind.{flat_map-append}
 use Rattle.xk_base.specs.declared.records.Rec.{Rec}
 use Rattle.xk_base.specs.declared.errors.Failed.{Failed}
@@ -19,7 +19,8 @@ use Rattle.event_text.proofs.WholeLemmas.{play_whole}
 use Rattle.xousim.specs.declared.ending.Ending.{Ending}
 use Rattle.xousim.specs.declared.ending.Ending.TheVariants.{Played, LimitMet, Unbuilt, BadLine}
 use Rattle.xousim.specs.History.{History, ended, behind, history, history_to, history_of, end_of, play}
-use Rattle.xousim.specs.Playing.{HasPlayed, EndsSo, FailsSo}
+use Rattle.xousim.specs.declared.playing.Advance.{Advance}
+use Rattle.xousim.specs.Playing.{HasPlayed, EndsSo, FailsSo, Advances, Goes}
 use Rattle.xousim.specs.Reading.{IsTold}
 use Rattle.xousim.specs.Writing.{Wrote}
 use Rattle.xousim.proofs.HistoryLemmas.{history_none, history_first, history_stops, history_goes_on, history_after, wrote_same, wrote_behind, wrote_ended, wrote_part}
@@ -56,13 +57,13 @@ played_none limit start out =
 took_bytes : (bytes : List ℕ) (calls : List Call) → (play_of calls).reader.finished ≡ false
     → play_of (takes bytes ∷ calls) ≡ record { reader = with_bytes (play_of calls).reader bytes; taken = (play_of calls).taken ++ bytes; answered = (play_of calls).answered }
 unfolding play_of
-took_bytes bytes calls open = ap (λ (f : Bool). after_bytes f bytes (play_of calls)) open
+took_bytes bytes calls unsaid = ap (λ (f : Bool). after_bytes f bytes (play_of calls)) unsaid
 
 -- the reader took more bytes
 pub played_bytes : (limit : ℕ) (start m : Machine) (begun out : Option (List ℕ)) (taken : List ℕ) (r : Reader) (bytes : List ℕ) → r.finished ≡ false
     → HasPlayed limit start begun taken r m out → HasPlayed limit start begun (taken ++ bytes) (with_bytes r bytes) m out
-played_bytes limit start m begun out taken r bytes open p =
-    let is = took_bytes bytes p.calls (ap (λ (x : Reader). x.finished) p.is_reader ∙ open) in
+played_bytes limit start m begun out taken r bytes unsaid p =
+    let is = took_bytes bytes p.calls (ap (λ (x : Reader). x.finished) p.is_reader ∙ unsaid) in
     let same : (play_of (takes bytes ∷ p.calls)).answered ≡ (play_of p.calls).answered = ap (λ (x : Play). x.answered) is in
     let H : List Event → History = λ events. history events limit start in
     let W : List Event → Type 0 = λ events. Grows begun out (text_of (H events).records) in
@@ -257,17 +258,32 @@ fails_event limit start m begun mid out taken r event failed found wrote p = λ 
 
 -- ---- more bytes of the same file
 
-pub ends_longer : (limit : ℕ) (start m : Machine) (begun out : Option (List ℕ)) (taken rest whole : List ℕ) (ending : Ending) → whole ≡ taken ++ rest
-    → EndsSo limit start begun taken false m out ending → EndsSo limit start begun whole false m out ending
-ends_longer limit start m begun out taken rest whole ending is p = λ more may.
-    let P : List ℕ → Type 0 = λ bytes. Wrote begun out (history_of (input_of bytes) limit start) (Ok ending) × (m ≡ (history_of (input_of bytes) limit start).machine) in
-    subst P (sym (append_assoc taken rest more) ∙ ap (λ (l : List ℕ). l ++ more) (sym is)) (p (rest ++ more) (λ f. cc))
+unsaid_end : (f : Bool) (more : List ℕ) → f ≡ false → f ≡ true → more ≡ []
+unsaid_end f more unsaid said = cc
 
-pub fails_longer : (limit : ℕ) (start : Machine) (begun out : Option (List ℕ)) (taken rest whole : List ℕ) (failed : Failed) → whole ≡ taken ++ rest
-    → FailsSo limit start begun taken false out failed → FailsSo limit start begun whole false out failed
-fails_longer limit start begun out taken rest whole failed is p = λ more may.
+pub ends_longer : (limit : ℕ) (start m : Machine) (begun out : Option (List ℕ)) (taken rest whole : List ℕ) (f : Bool) (ending : Ending) → whole ≡ taken ++ rest → f ≡ false
+    → EndsSo limit start begun taken f m out ending → EndsSo limit start begun whole false m out ending
+ends_longer limit start m begun out taken rest whole f ending is unsaid p = λ more may.
+    let P : List ℕ → Type 0 = λ bytes. Wrote begun out (history_of (input_of bytes) limit start) (Ok ending) × (m ≡ (history_of (input_of bytes) limit start).machine) in
+    subst P (sym (append_assoc taken rest more) ∙ ap (λ (l : List ℕ). l ++ more) (sym is)) (p (rest ++ more) (unsaid_end f (rest ++ more) unsaid))
+
+pub fails_longer : (limit : ℕ) (start : Machine) (begun out : Option (List ℕ)) (taken rest whole : List ℕ) (f : Bool) (failed : Failed) → whole ≡ taken ++ rest → f ≡ false
+    → FailsSo limit start begun taken f out failed → FailsSo limit start begun whole false out failed
+fails_longer limit start begun out taken rest whole f failed is unsaid p = λ more may.
     let P : List ℕ → Type 0 = λ bytes. Wrote begun out (history_of (input_of bytes) limit start) (Err failed) in
-    subst P (sym (append_assoc taken rest more) ∙ ap (λ (l : List ℕ). l ++ more) (sym is)) (p (rest ++ more) (λ f. cc))
+    subst P (sym (append_assoc taken rest more) ∙ ap (λ (l : List ℕ). l ++ more) (sym is)) (p (rest ++ more) (unsaid_end f (rest ++ more) unsaid))
+
+-- ---- answers that are faults
+
+pub advances_err : (limit : ℕ) (start : Machine) (begun : Option (List ℕ)) (taken : List ℕ) (finished : Bool) (r : Reader) (m : Machine) (out : Option (List ℕ)) (result : Result Advance Failed)
+    → IsErr result → ((failed : Failed) → FailsSo limit start begun taken finished out failed) → Advances limit start begun taken finished r m out result
+advances_err limit start begun taken finished r m out (Ok x) is fails = cc
+advances_err limit start begun taken finished r m out (Err failed) is fails = fails failed
+
+pub goes_err : (limit : ℕ) (start : Machine) (begun : Option (List ℕ)) (taken : List ℕ) (finished : Bool) (r : Reader) (m : Machine) (out : Option (List ℕ)) (result : Result (Option Ending) Failed)
+    → IsErr result → ((failed : Failed) → FailsSo limit start begun taken finished out failed) → Goes limit start begun taken finished r m out result
+goes_err limit start begun taken finished r m out (Ok x) is fails = cc
+goes_err limit start begun taken finished r m out (Err failed) is fails = fails failed
 
 -- ---- the whole lines
 

@@ -52,6 +52,7 @@ fn play_tick<K: Sink>(
 }
 
 /// Plays an event. Only ticks are built.
+#[tactic(auto, using(crate::proofs::HistoryLemmas::wrote_ended), unfolding(crate::specs::History::play))]
 fn play_event<K: Sink>(
     kernel: &mut Kernel,
     event: Event,
