@@ -1,6 +1,6 @@
 -- What was played so far, one answer of the reader further.
-use Rattle.std.proofs.Common.{◌≡◌, ◌≢◌, ℕ, Bool, true, false, List, [], ◌∷◌, ◌++◌, Option, Some, None, Result, Ok, Err, IsErr, refl, sym, ap, ◌∙◌, subst, append_assoc, append-nil}
-use Rattle.std.proofs.lemmas.Grind.{flat_map-append}
+use Rattle.std.proofs.Common.{◌≡◌, ◌≢◌, ◌≤◌, ◌+◌, ℕ, arith, take, drop, length, length-append, length-take, Bool, true, false, List, [], ◌∷◌, ◌++◌, Option, Some, None, Result, Ok, Err, IsErr, refl, sym, ap, ◌∙◌, subst, append_assoc, append-nil}
+use Rattle.std.proofs.lemmas.List.{take-append-drop}
 use Rattle.xk_base.specs.declared.records.Rec.{Rec}
 use Rattle.xk_base.specs.declared.errors.Failed.{Failed}
 use Rattle.xk_ports.specs.Told.{Grows, GrowsByPrefix, Consumes}
@@ -130,11 +130,11 @@ one_more : (limit : ℕ) (start m next : Machine) (begun mid out : Option (List 
     → (play event limit m).ending ≡ Played → (play event limit m).machine ≡ next → Grows mid out (text_of (play event limit m).records)
     → (h : History) → h ≡ history (answered ++ event ∷ []) limit start
     → (h.ending ≡ Played) × (h.machine ≡ next) × Grows begun out (text_of h.records)
-one_more limit start m next begun mid out answered event played there written ends to grown h is =
+one_more limit start m next begun mid out answered event played there written over to grown h is =
     let A : History = history answered limit start in
     let p : History = play event limit m in
     let last : history (event ∷ []) limit m ≡ behind p.records (ended Played p.machine) =
-    history_goes_on Played event [] limit m ends ∙ ap (behind p.records) (history_none Played limit p.machine) in
+    history_goes_on Played event [] limit m over ∙ ap (behind p.records) (history_none Played limit p.machine) in
     let whole : h ≡ behind A.records (behind p.records (ended Played p.machine)) =
     is
     ∙ (history_after Played answered (event ∷ []) limit start played
@@ -157,12 +157,12 @@ pub played_event : (limit : ℕ) (start m next : Machine) (begun mid out : Optio
     → HasPlayed limit start begun taken r m mid
     → (play event limit m).ending ≡ Played → (play event limit m).machine ≡ next → Grows mid out (text_of (play event limit m).records)
     → HasPlayed limit start begun taken (after_next r) next out
-played_event limit start m next begun mid out taken r event found p ends to grown =
+played_event limit start m next begun mid out taken r event found p over to grown =
     let is = asked_next p.calls in
     let more : (play_of (asks ∷ p.calls)).answered ≡ (play_of p.calls).answered ++ event ∷ [] =
     ap (λ (x : Play). x.answered) is
     ∙ ap (λ (events : List Event). (play_of p.calls).answered ++ events) (ap (λ (x : Reader). events_in (answer_of x)) p.is_reader ∙ events_one (answer_of r) event found) in
-    let all = one_more limit start m next begun mid out (play_of p.calls).answered event p.played p.there p.written ends to grown
+    let all = one_more limit start m next begun mid out (play_of p.calls).answered event p.played p.there p.written over to grown
     (history (play_of (asks ∷ p.calls)).answered limit start) (ap (λ (events : List Event). history events limit start) more) in
     record {
       calls = asks ∷ p.calls;
@@ -273,6 +273,20 @@ fails_longer limit start begun out taken rest whole f failed is unsaid p = λ mo
     let P : List ℕ → Type 0 = λ bytes. Wrote begun out (history_of (input_of bytes) limit start) (Err failed) in
     subst P (sym (append_assoc taken rest more) ∙ ap (λ (l : List ℕ). l ++ more) (sym is)) (p (rest ++ more) (unsaid_end f (rest ++ more) unsaid))
 
+-- the bytes taken, those fed and those left of a piece
+pub piece_cut : (taken done rest piece : List ℕ) (t : ℕ) → piece ≡ done ++ rest → taken ++ piece ≡ ((taken ++ done) ++ take t rest) ++ drop t rest
+piece_cut taken done rest piece t cut =
+    ap (λ (l : List ℕ). taken ++ l) cut
+    ∙ (sym (append_assoc taken done rest)
+    ∙ (ap (λ (l : List ℕ). (taken ++ done) ++ l) (sym (take-append-drop t rest))
+    ∙ sym (append_assoc (taken ++ done) (take t rest) (drop t rest))))
+
+pub piece_front : (done rest piece : List ℕ) (t : ℕ) → piece ≡ done ++ rest → piece ≡ (done ++ take t rest) ++ drop t rest
+piece_front done rest piece t cut = piece_cut [] done rest piece t cut
+
+pub fed_offset : (r fed : Reader) (t : ℕ) (rest : List ℕ) → fed ≡ with_bytes r (take t rest) → t ≤ length rest → fed.start + length fed.held ≡ r.start + length r.held + t
+fed_offset r fed t rest is within = rw (is, length-append) (omega (arith, length-take t rest))
+
 -- ---- answers that are faults
 
 pub advances_err : (limit : ℕ) (start : Machine) (begun : Option (List ℕ)) (taken : List ℕ) (finished : Bool) (r : Reader) (m : Machine) (out : Option (List ℕ)) (result : Result Advance Failed)
@@ -297,3 +311,17 @@ whole_lines_played limit start m begun out taken r waiting p =
     wrote_same begun out (history_of (input_of (whole_lines taken)) limit start) (history (play_of p.calls).answered limit start) (Ok Played)
     (ap (λ (i : Input). history_of i limit start) input)
     (p.played, p.written)
+
+-- ---- a whole file
+
+pub file_ends : (limit : ℕ) (start m : Machine) (begun out : Option (List ℕ)) (taken : List ℕ) (f : Bool) (ending : Ending) → EndsSo limit start begun taken f m out ending
+    → Wrote begun out (history_of (input_of taken) limit start) (Ok ending) × (m ≡ (history_of (input_of taken) limit start).machine)
+file_ends limit start m begun out taken f ending p =
+    let P : List ℕ → Type 0 = λ bytes. Wrote begun out (history_of (input_of bytes) limit start) (Ok ending) × (m ≡ (history_of (input_of bytes) limit start).machine) in
+    subst P (append-nil taken) (p [] (λ e. refl))
+
+pub file_fails : (limit : ℕ) (start : Machine) (begun out : Option (List ℕ)) (taken : List ℕ) (f : Bool) (failed : Failed) → FailsSo limit start begun taken f out failed
+    → Wrote begun out (history_of (input_of taken) limit start) (Err failed)
+file_fails limit start begun out taken f failed p =
+    let P : List ℕ → Type 0 = λ bytes. Wrote begun out (history_of (input_of bytes) limit start) (Err failed) in
+    subst P (append-nil taken) (p [] (λ e. refl))

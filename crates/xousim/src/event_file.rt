@@ -1,6 +1,6 @@
 //! The event file is read in pieces, and each event is played as soon as it is known.
 
-ghost use Rattle.std.specs.Prelude.{◌≡◌, ◌≤◌, ◌<◌, ◌+◌, ◌++◌, [], ℕ, false, List, Option, None, Ok, Err, length, IsTrue, OnOk, OnErr};
+ghost use Rattle.std.specs.Prelude.{◌≡◌, ◌≢◌, ◌≤◌, ◌+◌, ◌++◌, [], ℕ, false, List, Option, None, Some, Ok, Err, length, IsTrue, OnOk, OnErr};
 ghost use Rattle.event_text.specs.Held.{IsWaiting};
 ghost use Rattle.machine_model.specs.Machine.{Machine};
 ghost use Rattle.xk_base.specs.declared.limits.TheConstants.{EVENT_FILE_LIMIT};
@@ -43,6 +43,7 @@ fn play_piece<K: Sink>(
     ensures goes { (start : Machine) (begun : Option (List ℕ)) (taken : List ℕ) → HasPlayed limit start begun taken reader.old (machine_of kernel.old) (K.written out.old) → Goes limit start begun (taken ++ piece.now) false reader.new (machine_of kernel.new) (K.written out.new) result }
     ensures within { OnOk result ((machine_of kernel.new).steps ≤ limit) }
     ensures waits { result ≡ Ok None → IsWaiting reader.new × (reader.new.start + length reader.new.held ≤ EVENT_FILE_LIMIT) }
+    ensures unended { result ≢ Ok (Some Ending.Played) }
     ensures offset { result ≡ Ok None → reader.new.start + length reader.new.held ≡ reader.old.start + length reader.old.held + length piece.now }
     ensures cause { OnErr result (Rose (K.faults out.old) (K.faults out.new)) }
     ensures never_falls { K.faults out.old ≤ K.faults out.new }

@@ -1,6 +1,6 @@
 //! Events are played, and their records are written as they come.
 
-ghost use Rattle.std.specs.Prelude.{◌≡◌, ◌≤◌, ◌<◌, ◌+◌, ℕ, List, Option, None, Ok, length, OnOk, OnErr};
+ghost use Rattle.std.specs.Prelude.{◌≡◌, ◌≤◌, ◌<◌, ◌+◌, ℕ, true, List, Option, None, Some, Ok, length, OnOk, OnErr};
 ghost use Rattle.event_text.specs.Held.{IsWaiting};
 ghost use Rattle.machine_model.specs.Machine.{Machine};
 ghost use Rattle.xk_base.specs.declared.limits.TheConstants.{EVENT_FILE_LIMIT};
@@ -101,6 +101,7 @@ fn play_next<K: Sink>(
     ensures waits { result ≡ Ok Advance.Waits → IsWaiting reader.new × (reader.new.start + length reader.new.held ≤ EVENT_FILE_LIMIT) }
     ensures offset { reader.new.start + length reader.new.held ≡ reader.old.start + length reader.old.held }
     ensures finished { reader.new.finished ≡ reader.old.finished }
+    ensures end { result ≡ Ok (Advance.Ended Ending.Played) → reader.new.finished ≡ true }
 
     ensures cause { OnErr result (Rose (K.faults out.old) (K.faults out.new)) }
     ensures never_falls { K.faults out.old ≤ K.faults out.new }
@@ -131,6 +132,7 @@ pub fn play_known<K: Sink>(
     ensures waits { result ≡ Ok None → IsWaiting reader.new × (reader.new.start + length reader.new.held ≤ EVENT_FILE_LIMIT) }
     ensures offset { reader.new.start + length reader.new.held ≡ reader.old.start + length reader.old.held }
     ensures finished { reader.new.finished ≡ reader.old.finished }
+    ensures end { result ≡ Ok (Some Ending.Played) → reader.new.finished ≡ true }
     ensures cause { OnErr result (Rose (K.faults out.old) (K.faults out.new)) }
     ensures never_falls { K.faults out.old ≤ K.faults out.new }
 {

@@ -1,10 +1,15 @@
-use Rattle.std.proofs.Common.{◌≡◌, ◌∙◌, sym, ap, subst, List, Option, ℕ}
+use Rattle.std.proofs.Common.{◌≡◌, ◌∙◌, sym, ap, subst, List, Option, ℕ, Result, Ok}
 use Rattle.machine_model.specs.Machine.{Machine}
 use Rattle.event_text.specs.Held.{Reader}
 use Rattle.event_text.specs.Plays.{events_in}
 use Rattle.event_text.specs.declared.event.NextEvent.{NextEvent}
-use Rattle.event_text.proofs.PlaysLemmas.{next_finished}
+use Rattle.event_text.proofs.PlaysLemmas.{left_end, next_finished}
 use Rattle.plain_kernel.specs.State.{machine_of}
+use Rattle.xk_base.specs.declared.errors.Failed.{Failed}
+use Rattle.xousim.specs.declared.ending.Ending.{Ending}
+use Rattle.xousim.specs.declared.ending.Ending.TheVariants.{Played}
+use Rattle.xousim.specs.declared.playing.Advance.{Advance}
+use Rattle.xousim.specs.declared.playing.Advance.TheVariants.{Ended}
 use Rattle.xousim.specs.Playing.{HasPlayed}
 use Rattle.xousim.proofs.PlayingLemmas.{played_event, played_no_event, ends_bad, ends_whole, ends_event, fails_event, advances_err}
 use Rattle.xousim.proofs.playing.play_next.Goals as goal
@@ -37,6 +42,9 @@ returns-in-Played-clause-advances g c = λ start begun taken p.
 pub returns-in-Played-clause-finished : goal.returns-in-Played-clause-finished
 returns-in-Played-clause-finished g c = ap (λ (r : Reader). r.finished) c.next.ensures.after ∙ next_finished c.args.reader.now
 
+same_ending : (ending : Ending) → ◌≡◌ {A = Result Advance Failed} (Ok (Ended ending)) (Ok (Ended Played)) → ending ≡ Played
+same_ending ending e = cc
+
 pub returns-in_default : goal.returns-in_default
 returns-in_default g c = record {
   advances = λ start begun taken p.
@@ -46,12 +54,13 @@ returns-in_default g c = record {
       let mid = g.K.Sink.written c.args.out.now in
       let out = g.K.Sink.written c.play_event.new.out in
       ends_event c.args.limit start m next begun mid out taken r c.in-Event.event c.in_ok-ending-in-Event.ending (sym c.in-Event.ensures.answer)
-      (cc) c.in_ok-ending-in-Event.ensures.wrote c.in_ok-ending-in-Event.ensures.machine p;
+      c.in_default.not-Played c.in_ok-ending-in-Event.ensures.wrote c.in_ok-ending-in-Event.ensures.machine p;
   within = c.in_ok-ending-in-Event.ensures.within;
   fewer = λ e. cc;
   waits = λ e. cc;
   offset = c.next.ensures.offset;
   finished = ap (λ (r : Reader). r.finished) c.next.ensures.after ∙ next_finished c.args.reader.now;
+  end = λ e. absurd (c.in_default.not-Played (same_ending c.in_ok-ending-in-Event.ending e));
   cause = tt;
   never_falls = c.play_event.ensures.never_falls;
 }
@@ -80,3 +89,7 @@ returns-in-End-clause-advances g c = λ start begun taken p.
 
 pub returns-in-End-clause-finished : goal.returns-in-End-clause-finished
 returns-in-End-clause-finished g c = ap (λ (r : Reader). r.finished) c.next.ensures.after ∙ next_finished c.args.reader.now
+
+pub returns-in-End-clause-end : goal.returns-in-End-clause-end
+returns-in-End-clause-end g c = λ e.
+    ap (λ (r : Reader). r.finished) c.next.ensures.after ∙ (next_finished c.args.reader.now ∙ (left_end c.args.reader.now (sym c.in-End.ensures.answer)).0)
