@@ -57,9 +57,9 @@ fn play_events<H: Host, K: Sink>(
     ensures host { H.faults host.old ≤ H.faults host.new }
     ensures out { K.faults out.old ≤ K.faults out.new }
 {
-    if host.pick_file(FileSlot::Second, name).is_err() {
+    let Ok(()) = host.pick_file(FileSlot::Second, name) else {
         return Status::ReadFault;
-    }
+    };
     match play_file(kernel, host, DEFAULT_STEPS, out) {
         Ok(ending) => finish(ending, kernel.steps(), out),
         Err(RunFault::Read) => Status::ReadFault,

@@ -56,12 +56,13 @@ returns-in-Ok-Some-clause-runs g c =
     let out = g.K.Sink.written c.play_known.new.out in
     let P : Reader → Type 0 = λ r. HasPlayed c.args.limit start begun front.0 r m mid in
     let q : P c.finish.new.self = subst P (sym c.finish.ensures) (played_end c.args.limit start m begun mid front.0 c.pieces.reader front.2) in
-    let Q : Option Ending → Type 0 = λ o. Goes c.args.limit start begun front.0 c.finish.new.self.finished c.play_known.new.reader next out (Ok o) in (
+    let Q : Option Ending → Type 0 = λ o. Goes c.args.limit start begun front.0 c.finish.new.self.finished c.play_known.new.reader next out (Ok o) in
+    let ends = file_ends c.args.limit start next begun out front.0 c.finish.new.self.finished c.in-Ok-Some.ending (subst Q c.in-Ok-Some.field-0-is (c.in-Ok-Some.ensures.goes start begun front.0 q)) in (
       front.0,
       consumed_whole (g.H.Host.left c.args.host.now Second) (g.H.Host.left c.pieces.host Second) front.0 front.1
           (nothing_left (g.H.Host.left c.pieces.host Second) c.in-Ok.count c.in-Ok.ensures.end c.if-count-eq0.true),
-      file_ends c.args.limit start next begun out front.0 c.finish.new.self.finished c.in-Ok-Some.ending
-          (c.in-Ok-Some.ensures.goes start begun front.0 q),
+      ends.0,
+      ends.1,
     )
 
 pub returns-in-Err-clause-runs : goal.returns-in-Err-clause-runs
@@ -89,12 +90,13 @@ pieces-preserved g c =
     let next : Machine = machine_of c.play_piece.new.kernel in
     let out = g.K.Sink.written c.play_piece.new.out in
     let piece : List ℕ = take c.in-Ok.count c.read.new.into in
-    let waits = c.in-Ok-None-play_piece.ensures.waits refl in
+    let waits = c.in-Ok-None-play_piece.ensures.waits (ap (λ (o : Option Ending). Ok o) c.in-Ok-None-play_piece.field-0-is) in
+    let Q : Option Ending → Type 0 = λ o. Goes c.args.limit start begun (front.0 ++ piece) false c.play_piece.new.reader next out (Ok o) in
     record {
       front = (
         front.0 ++ piece,
         Consumes-append (g.H.Host.left c.args.host.now Second) (g.H.Host.left c.pieces.host Second) (g.H.Host.left c.read.new.self Second) front.0 piece front.1 c.in-Ok.ensures.taken,
-        c.in-Ok-None-play_piece.ensures.goes start begun front.0 front.2,
+        subst Q c.in-Ok-None-play_piece.field-0-is (c.in-Ok-None-play_piece.ensures.goes start begun front.0 front.2),
       );
       waits = waits.0;
       inside = waits.1;
@@ -114,8 +116,10 @@ returns-in-Ok-Some-play_piece-clause-runs g c =
     let piece : List ℕ = take c.in-Ok.count c.read.new.into in
     let used = Consumes-append (g.H.Host.left c.args.host.now Second) (g.H.Host.left c.pieces.host Second) (g.H.Host.left c.read.new.self Second) front.0 piece front.1 c.in-Ok.ensures.taken in
     let rest = consumed_rest (g.H.Host.left c.args.host.now Second) (g.H.Host.left c.read.new.self Second) (front.0 ++ piece) used in
-    let all = c.in-Ok-Some-play_piece.ensures.goes start begun front.0 front.2 rest.0 (λ e. cc) in
-    ((front.0 ++ piece) ++ rest.0, rest.1, all)
+    let Q : Option Ending → Type 0 = λ o. Goes c.args.limit start begun (front.0 ++ piece) false c.play_piece.new.reader (machine_of c.play_piece.new.kernel) (g.K.Sink.written c.play_piece.new.out) (Ok o) in
+    let all : Q (Some c.in-Ok-Some-play_piece.ending) = subst Q c.in-Ok-Some-play_piece.field-0-is (c.in-Ok-Some-play_piece.ensures.goes start begun front.0 front.2) in
+    let ends = all rest.0 (λ e. cc) in
+    ((front.0 ++ piece) ++ rest.0, rest.1, ends.0, ends.1)
 
 pub returns-in-Ok-Some-play_piece-clause-end : goal.returns-in-Ok-Some-play_piece-clause-end
 returns-in-Ok-Some-play_piece-clause-end g c = λ e. absurd (c.in-Ok-Some-play_piece.ensures.unended (cc))
