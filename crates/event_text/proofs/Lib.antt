@@ -1,3 +1,4 @@
 pub mod LinesLemmas
 pub mod HeldLemmas
 pub mod PlaysLemmas
+pub mod WholeLemmas

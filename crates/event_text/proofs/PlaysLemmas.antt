@@ -15,11 +15,11 @@ use Rattle.event_text.specs.Plays.{Call, takes, ends, asks, events_in, play_of, 
 use Rattle.event_text.proofs.HeldLemmas.{first_none, first_feed, first_other, one_line_none, last_feed, known_feed, first_lines}
 
 -- a byte that is no line feed joins the first line
-lines_other : (b : ℕ) (bytes : List ℕ) → (b == 10) ≡ false → lines_of (b ∷ bytes) ≡ onto_first b (lines_of bytes)
+pub lines_other : (b : ℕ) (bytes : List ℕ) → (b == 10) ≡ false → lines_of (b ∷ bytes) ≡ onto_first b (lines_of bytes)
 unfolding lines_of
 lines_other b bytes other = rw other refl
 
-lines_feed : (bytes : List ℕ) → lines_of (10 ∷ bytes) ≡ (10 ∷ []) ∷ lines_of bytes
+pub lines_feed : (bytes : List ℕ) → lines_of (10 ∷ bytes) ≡ (10 ∷ []) ∷ lines_of bytes
 unfolding lines_of
 lines_feed bytes = refl
 
@@ -38,7 +38,7 @@ lines_first (b ∷ bytes) more feed = go (λ h. lines_first bytes more h) (b == 
         rw (first_other b bytes e) (lines_other b (bytes ++ more) e ∙ ap (onto_first b) (shorter later))
 
 -- a first line without its line feed is all that is held
-first_all : (held : List ℕ) → has_feed (first_line held) ≡ false → (first_line held ≡ held) × (has_feed held ≡ false)
+pub first_all : (held : List ℕ) → has_feed (first_line held) ≡ false → (first_line held ≡ held) × (has_feed held ≡ false)
 first_all [] none = (first_none, refl)
 first_all (b ∷ bytes) none = go (λ h. first_all bytes h) (b == 10) refl
   where
@@ -78,7 +78,7 @@ begins b (a ∷ held) more none =
       is = lines_other b (a ∷ held ++ more) (other_first b (a ∷ held) none).0 ∙ ap (onto_first b) later.is;
     }
 
-lines_nothing : lines_of [] ≡ []
+pub lines_nothing : lines_of [] ≡ []
 unfolding lines_of
 lines_nothing = refl
 
@@ -120,10 +120,10 @@ line_over : (start : ℕ) (line : List ℕ) → is_over start line ≡ true → 
 unfolding line_at
 line_over start line over = rw over refl
 
-some_is : (a b : Line) → Some a ≡ Some b → a ≡ b
+pub some_is : (a b : Line) → Some a ≡ Some b → a ≡ b
 some_is a b e = cc
 
-input_first : (start number : ℕ) (line : List ℕ) (lines : List (List ℕ)) → input_from start number (line ∷ lines) ≡ after_line (line_at start line) number (input_from (start + length line) (number + 1) lines)
+pub input_first : (start number : ℕ) (line : List ℕ) (lines : List (List ℕ)) → input_from start number (line ∷ lines) ≡ after_line (line_at start line) number (input_from (start + length line) (number + 1) lines)
 unfolding input_from
 input_first start number line lines = refl
 
@@ -157,7 +157,7 @@ unfolding known_line
 known_last start b bytes = refl
 
 -- a line that isn't whole is known only where it is over
-known_begun : (start b : ℕ) (bytes : List ℕ) (l : Line) → has_feed (b ∷ bytes) ≡ false → known_line false start (b ∷ bytes) ≡ Some l → (is_over start (b ∷ bytes) ≡ true) × (l ≡ kind.Bad)
+pub known_begun : (start b : ℕ) (bytes : List ℕ) (l : Line) → has_feed (b ∷ bytes) ≡ false → known_line false start (b ∷ bytes) ≡ Some l → (is_over start (b ∷ bytes) ≡ true) × (l ≡ kind.Bad)
 unfolding known_line
 known_begun start b bytes l none known = go (is_over start (b ∷ bytes)) refl
   where
@@ -165,16 +165,16 @@ known_begun start b bytes l none known = go (is_over start (b ∷ bytes)) refl
     go true e = let k : Some kind.Bad ≡ Some l = rw (none, e) at known in (e, sym (some_is kind.Bad l k))
     go false e = let k : None ≡ Some l = rw (none, e) at known in cc
 
-known_nothing : (finished : Bool) (start : ℕ) → known_line finished start [] ≡ None
+pub known_nothing : (finished : Bool) (start : ℕ) → known_line finished start [] ≡ None
 unfolding known_line
 known_nothing finished start = refl
 
-front_is : (r : Reader) → front_of r ≡ known_line r.finished r.start (first_line r.held)
+pub front_is : (r : Reader) → front_of r ≡ known_line r.finished r.start (first_line r.held)
 unfolding front_of
 front_is r = refl
 
 -- what is known of the first line is what it asks for
-left_known : (r : Reader) (more : List ℕ) (l : Line) → (r.finished ≡ true → more ≡ []) → front_of r ≡ Some l → left_of r more ≡ after_line l (r.lines_done + 1) (left_of (past_line r) more)
+pub left_known : (r : Reader) (more : List ℕ) (l : Line) → (r.finished ≡ true → more ≡ []) → front_of r ≡ Some l → left_of r more ≡ after_line l (r.lines_done + 1) (left_of (past_line r) more)
 left_known r more l ended known = go (has_feed (first_line r.held)) refl
   where
     k : known_line r.finished r.start (first_line r.held) ≡ Some l
@@ -228,7 +228,7 @@ left_past : (r : Reader) (more : List ℕ) → (r.finished ≡ true → more ≡
 unfolding past_blanks
 left_past r more ended = left_past_by (lines_of r.held) r more ended
 
-next_finished : (r : Reader) → (after_next r).finished ≡ r.finished
+pub next_finished : (r : Reader) → (after_next r).finished ≡ r.finished
 next_finished r = go (front_of (past_blanks r)) refl
   where
     go : (l : Option Line) → front_of (past_blanks r) ≡ l → (past_event (front_of (past_blanks r)) (past_blanks r)).finished ≡ r.finished
@@ -271,7 +271,7 @@ pub left_new : (more : List ℕ) → left_of new_reader more ≡ input_of more
 unfolding left_of
 left_new more = refl
 
-with_more : (events more : List Event) (input : Input) → with_events (events ++ more) input ≡ with_events events (with_events more input)
+pub with_more : (events more : List Event) (input : Input) → with_events (events ++ more) input ≡ with_events events (with_events more input)
 with_more events more input = rw append_assoc refl
 
 -- what was answered and what is left are what the file asks for

@@ -1,13 +1,18 @@
 -- Lines, words and numbers of an event file. A file, a line and a word are lists of bytes.
 use Rattle.std.specs.Prelude.{ℕ, ◌+◌, ◌*◌, ◌-◌, ◌==◌, ◌&&◌, nat_le, nat_lt, Bool, true, false, List, [], ◌∷◌, length, take, filter, Option, Some, None, if◌then◌else◌, slice_index}
 use Rattle.std.specs.Char.{is_ascii_digit}
-use Rattle.std.specs.List.{list_all, onto_first, slice_split}
+use Rattle.std.specs.List.{list_all, list_any, onto_first, slice_split}
 
 -- The lines of a file, each with the line feed (10) that ends it. The last may lack it, and an empty rest after the last
 -- line feed is no line.
 unfoldable pub lines_of : List ℕ → List (List ℕ)
 lines_of [] = []
 lines_of (byte ∷ bytes) = if byte == 10 then (byte ∷ []) ∷ lines_of bytes else onto_first byte (lines_of bytes)
+
+-- The bytes up to and with the last line feed: the whole lines of a file of which more may come.
+unfoldable pub whole_lines : List ℕ → List ℕ
+whole_lines [] = []
+whole_lines (byte ∷ bytes) = if list_any (λ b. b == 10) (byte ∷ bytes) then byte ∷ whole_lines bytes else []
 
 -- whether the list ends with the byte
 abbrev pub is_last : ℕ → List ℕ → Bool

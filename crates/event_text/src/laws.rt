@@ -2,7 +2,8 @@
 //! then that line's number or the end.
 
 ghost use Rattle.event_text.specs.EventFile.{input_of};
-ghost use Rattle.event_text.specs.Held.{Reader, after_next, answer_of, front_of, past_blanks};
+ghost use Rattle.event_text.specs.Held.{IsWaiting, Reader, after_next, answer_of, front_of, past_blanks};
+ghost use Rattle.event_text.specs.Lines.{whole_lines};
 ghost use Rattle.event_text.specs.Plays.{Call, MayFollow, left_of, play_of, with_events};
 ghost use Rattle.event_text.specs.declared.event.Line.TheVariants as line;
 ghost use Rattle.event_text.specs.declared.event.NextEvent.TheVariants as answer;
@@ -28,6 +29,13 @@ pub fn end_of_file()
     ensures { (calls : List Call) → answer_of (play_of calls).reader ≡ answer.End
         → ((play_of calls).reader.finished ≡ true)
         × (input_of (play_of calls).taken ≡ record { events = (play_of calls).answered; bad = None }) }
+{}
+
+/// While a reader waits for bytes, its events answered are those of the whole lines that it took,
+/// and none of these is bad.
+pub fn whole_lines_answered()
+    ensures { (calls : List Call) → IsWaiting (play_of calls).reader
+        → input_of (whole_lines (play_of calls).taken) ≡ record { events = (play_of calls).answered; bad = None } }
 {}
 
 /// A bad line is answered again from then on.

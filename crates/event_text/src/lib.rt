@@ -11,5 +11,7 @@ mod tests;
 mod words;
 
 pub use event::{Event, NextEvent};
-pub use laws::{bad_line_again, end_of_file, events_in_order, first_bad_line, no_blank_left};
+pub use laws::{
+    bad_line_again, end_of_file, events_in_order, first_bad_line, no_blank_left, whole_lines_answered,
+};
 pub use reader::EventReader;

@@ -2,6 +2,7 @@
 
 ghost use Rattle.std.specs.Prelude.{◌≡◌, ◌+◌, ◌≤◌, ◌<◌, [], ◌∷◌, None, Some, ℕ, false, true, take, length};
 ghost use Rattle.xk_base.specs.declared.limits.TheConstants.{EVENT_FILE_LIMIT};
+ghost use Rattle.event_text.specs.declared.event.Event.{Event};
 ghost use Rattle.event_text.specs.declared.event.NextEvent.TheVariants as answer;
 ghost use Rattle.event_text.specs.Held.{new_reader, with_bytes, known_line, first_line, has_room, known_bad, IsWaiting, front_of, is_good, past_line, rest_answer, answer_of, after_next};
 
@@ -150,6 +151,8 @@ impl EventReader {
         ensures after { self.new ≡ after_next self.old }
         ensures more { result ≡ answer.More → IsWaiting self.new }
         ensures within { result ≡ answer.More → self.new.start + length self.new.held ≤ EVENT_FILE_LIMIT }
+        ensures offset { self.new.start + length self.new.held ≡ self.old.start + length self.old.held }
+        ensures fewer { (event : Event) → result ≡ answer.Event event → length self.new.held < length self.old.held }
         ensures bad { (n : ℕ) → result ≡ answer.Bad n → known_bad self.new ≡ Some n }
     {
         match self.front() {

@@ -14,10 +14,10 @@ use Rattle.machine_model.specs.Step.{step, step_by, step_by_if}
 use Rattle.xk_base.specs.declared.ids.ThreadId.{ThreadId}
 use Rattle.plain_kernel.specs.Built.{step_built}
 use Rattle.xousim.specs.declared.ending.Ending.{Ending}
-use Rattle.xousim.specs.declared.ending.Ending.TheVariants.{Played, LimitMet, Unbuilt}
-use Rattle.xousim.specs.History.{History, ended, behind, ticks, history_to, play, followed_by, go_on}
-use Rattle.xousim.specs.declared.events.Event.{Event}
-use Rattle.xousim.specs.declared.events.Event.TheVariants.{Tick}
+use Rattle.xousim.specs.declared.ending.Ending.TheVariants.{Played, LimitMet, Unbuilt, BadLine}
+use Rattle.xousim.specs.History.{History, ended, behind, ticks, history, history_to, history_of, end_of, play, followed_by, go_on}
+use Rattle.event_text.specs.declared.event.Event.{Event}
+use Rattle.event_text.specs.EventFile.{Input}
 use Rattle.xousim.specs.Writing.{Wrote}
 
 pub ticks_zero : (limit : ℕ) (m : Machine) → ticks 0 limit m ≡ ended Played (turn m)
@@ -102,15 +102,16 @@ wrote_front before after records h failed front = (
 
 -- ---- events in order
 
-pub go_on_played : (h : History) (next : Machine → History) → h.ending ≡ Played → followed_by h next ≡ behind h.records (next h.machine)
+go_on_played : (h : History) (next : Machine → History) → h.ending ≡ Played → followed_by h next ≡ behind h.records (next h.machine)
 go_on_played h next played = ap (λ (e : Ending). go_on e h next) played
 
 stopped : (h : History) (next : Machine → History) (ending : Ending) → ending ≢ Played → go_on ending h next ≡ h
 stopped h next Played other = absurd (other refl)
 stopped h next LimitMet other = refl
 stopped h next Unbuilt other = refl
+stopped h next (BadLine line) other = refl
 
-pub go_on_stopped : (h : History) (next : Machine → History) → h.ending ≢ Played → followed_by h next ≡ h
+go_on_stopped : (h : History) (next : Machine → History) → h.ending ≢ Played → followed_by h next ≡ h
 go_on_stopped h next other = stopped h next h.ending other
 
 part : (before after : Option (List ℕ)) (h : History) (next : Machine → History) (failed : Failed)
@@ -118,50 +119,63 @@ part : (before after : Option (List ℕ)) (h : History) (next : Machine → Hist
 part before after h next failed front Played = wrote_front before after h.records (next h.machine) failed front
 part before after h next failed front LimitMet = front
 part before after h next failed front Unbuilt = front
+part before after h next failed front (BadLine line) = front
 
 -- a part of the lines of an event that isn't the last is a part of the lines of all
 pub wrote_part : (before after : Option (List ℕ)) (h : History) (next : Machine → History) (failed : Failed)
     → GrowsByPrefix before after (text_of h.records) → Wrote before after (followed_by h next) (Err failed)
 wrote_part before after h next failed front = part before after h next failed front h.ending
 
-pub play_tick_is : (count limit : ℕ) (m : Machine) → play (Tick count) limit m ≡ ticks count limit m
-unfolding play
-play_tick_is count limit m = refl
-
-pub history_step : (last : Ending) (limit : ℕ) (events : List Event) (i : ℕ) (d : Event) (m : Machine) → i < length events
-    → history_to last (drop i events) limit m ≡ followed_by (play (get_or events i d) limit m) (history_to last (drop (i + 1) events) limit)
+pub history_none : (last : Ending) (limit : ℕ) (m : Machine) → history_to last [] limit m ≡ ended last m
 unfolding history_to
-history_step last limit events i d m inside = rw (add-one, drop-cons events i d inside) refl
+history_none last limit m = refl
 
-pub history_end : (last : Ending) (limit : ℕ) (events : List Event) (i : ℕ) (m : Machine) → length events ≤ i → history_to last (drop i events) limit m ≡ ended last m
+pub history_first : (last : Ending) (event : Event) (events : List Event) (limit : ℕ) (m : Machine)
+    → history_to last (event ∷ events) limit m ≡ followed_by (play event limit m) (history_to last events limit)
 unfolding history_to
-history_end last limit events i m past = rw (drop_all i events past) refl
+history_first last event events limit m = refl
 
 -- an event at which the history ends
-pub events_stop : (last : Ending) (limit : ℕ) (events : List Event) (i : ℕ) (d : Event) (m : Machine) → i < length events
-    → (play (get_or events i d) limit m).ending ≢ Played
-    → history_to last (drop i events) limit m ≡ play (get_or events i d) limit m
-events_stop last limit events i d m inside other =
-    history_step last limit events i d m inside ∙ go_on_stopped (play (get_or events i d) limit m) (history_to last (drop (i + 1) events) limit) other
+pub history_stops : (last : Ending) (event : Event) (events : List Event) (limit : ℕ) (m : Machine) → (play event limit m).ending ≢ Played
+    → history_to last (event ∷ events) limit m ≡ play event limit m
+history_stops last event events limit m other =
+    history_first last event events limit m ∙ go_on_stopped (play event limit m) (history_to last events limit) other
 
 -- an event that was played
-pub events_go_on : (last : Ending) (limit : ℕ) (events : List Event) (i : ℕ) (d : Event) (m : Machine) → i < length events
-    → (play (get_or events i d) limit m).ending ≡ Played
-    → history_to last (drop i events) limit m ≡ behind (play (get_or events i d) limit m).records (history_to last (drop (i + 1) events) limit (play (get_or events i d) limit m).machine)
-events_go_on last limit events i d m inside played =
-    history_step last limit events i d m inside ∙ go_on_played (play (get_or events i d) limit m) (history_to last (drop (i + 1) events) limit) played
+pub history_goes_on : (last : Ending) (event : Event) (events : List Event) (limit : ℕ) (m : Machine) → (play event limit m).ending ≡ Played
+    → history_to last (event ∷ events) limit m ≡ behind (play event limit m).records (history_to last events limit (play event limit m).machine)
+history_goes_on last event events limit m played =
+    history_first last event events limit m ∙ go_on_played (play event limit m) (history_to last events limit) played
 
--- what is written for the events behind one that was played completes what is written from it on
-pub wrote_go_on : (mid new after : Option (List ℕ)) (last : Ending) (limit : ℕ) (events : List Event) (i : ℕ) (d : Event) (m moved : Machine) (result : Result Ending Failed)
-    → i < length events → (play (get_or events i d) limit m).ending ≡ Played
-    → Grows mid new (text_of (play (get_or events i d) limit m).records)
-    → moved ≡ (play (get_or events i d) limit m).machine
-    → Wrote new after (history_to last (drop (i + 1) events) limit moved) result
-    → Wrote mid after (history_to last (drop i events) limit m) result
-wrote_go_on mid new after last limit events i d m moved result inside played grown there wrote =
-    let h : History = play (get_or events i d) limit m in
-    let rest : History = history_to last (drop (i + 1) events) limit h.machine in
-    let Q : Machine → Type 0 = λ mm. Wrote new after (history_to last (drop (i + 1) events) limit mm) result in
-    wrote_same mid after (history_to last (drop i events) limit m) (behind h.records rest) result
-    (events_go_on last limit events i d m inside played)
-    (wrote_behind mid new after h.records rest result grown (subst Q there wrote))
+behind_behind : (first second : List Rec) (h : History) → behind first (behind second h) ≡ behind (first ++ second) h
+behind_behind first second h = rw append_assoc refl
+
+other_ending : (event : Event) (events : List Event) (limit : ℕ) (m : Machine) (e : Ending) → (history (event ∷ events) limit m).ending ≡ Played → e ≢ Played → (play event limit m).ending ≡ e → e ≡ Played
+other_ending event events limit m e played other is =
+    let stops : (play event limit m).ending ≢ Played = λ q. other (sym is ∙ q) in
+    sym is ∙ (sym (ap (λ (h : History). h.ending) (history_stops Played event events limit m stops)) ∙ played)
+
+-- events behind those that were played
+pub history_after : (last : Ending) (events more : List Event) (limit : ℕ) (m : Machine) → (history events limit m).ending ≡ Played
+    → history_to last (events ++ more) limit m ≡ behind (history events limit m).records (history_to last more limit (history events limit m).machine)
+history_after last [] more limit m played = rw history_none refl
+history_after last (event ∷ events) more limit m played =
+    go (play event limit m).ending refl (λ h. history_after last events more limit (play event limit m).machine h)
+  where
+    p : History
+    p = play event limit m
+
+    go : (e : Ending) → (play event limit m).ending ≡ e
+        → ((history events limit (play event limit m).machine).ending ≡ Played
+        → history_to last (events ++ more) limit (play event limit m).machine ≡ behind (history events limit (play event limit m).machine).records (history_to last more limit (history events limit (play event limit m).machine).machine))
+        → history_to last (event ∷ events ++ more) limit m ≡ behind (history (event ∷ events) limit m).records (history_to last more limit (history (event ∷ events) limit m).machine)
+    go Played is later =
+        let whole : history (event ∷ events) limit m ≡ behind (play event limit m).records (history events limit (play event limit m).machine) = history_goes_on Played event events limit m is in
+        let rest : (history events limit (play event limit m).machine).ending ≡ Played = sym (ap (λ (h : History). h.ending) whole) ∙ played in
+        history_goes_on last event (events ++ more) limit m is
+        ∙ (ap (behind (play event limit m).records) (later rest)
+        ∙ (behind_behind (play event limit m).records (history events limit (play event limit m).machine).records (history_to last more limit (history events limit (play event limit m).machine).machine)
+        ∙ ap (λ (h : History). behind h.records (history_to last more limit h.machine)) (sym whole)))
+    go LimitMet is later = let no : LimitMet ≡ Played = other_ending event events limit m LimitMet played (λ e. cc) is in cc
+    go Unbuilt is later = let no : Unbuilt ≡ Played = other_ending event events limit m Unbuilt played (λ e. cc) is in cc
+    go (BadLine line) is later = let no : BadLine line ≡ Played = other_ending event events limit m (BadLine line) played (λ e. cc) is in cc

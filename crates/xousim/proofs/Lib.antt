@@ -1,5 +1,5 @@
-pub mod EventsLemmas
 pub mod HistoryLemmas
+pub mod PlayingLemmas
 pub mod ReadingLemmas
 pub mod ToldLemmas
 pub mod TopLemmas

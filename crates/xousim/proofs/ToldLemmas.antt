@@ -1,5 +1,5 @@
 -- Growing and consuming, one piece after another.
-use Rattle.std.proofs.Common.{◌≡◌, ◌<◌, ◌≤◌, ◌+◌, ℕ, suc, List, [], ◌∷◌, ◌++◌, length, take, drop, get_or, Option, Some, None, Result, Ok, Err, OnErr, refl, sym, ap, ◌∙◌, subst, arith, append_assoc, append-nil, drop-cons}
+use Rattle.std.proofs.Common.{◌≡◌, ◌↔◌, ◌<◌, ◌≤◌, ◌+◌, ℕ, suc, List, [], ◌∷◌, ◌++◌, length, take, drop, get_or, Option, Some, None, Result, Ok, Err, OnErr, refl, sym, ap, ◌∙◌, subst, arith, append_assoc, append-nil, drop-cons}
 use Rattle.std.proofs.lemmas.Option.{none-some, same_Some}
 use Rattle.std.proofs.lemmas.List.{take-append-drop}
 use Rattle.std.proofs.lemmas.Grind.{common_steps, flat_map-append}
@@ -37,6 +37,17 @@ consumed_front None new xs used = (xs, omega arith, tt)
 consumed_front (Some whole) None xs used = absurd (none-some whole (sym used))
 consumed_front (Some whole) (Some rest) xs used =
     let same : whole ≡ xs ++ rest = same_Some _ _ used in (whole, grind (arith, common_steps), refl)
+
+-- the whole is what was consumed and some rest
+pub consumed_rest : (old new : Option (List ℕ)) (xs : List ℕ) → Consumes old new xs → (rest : List ℕ) × IsTold old (xs ++ rest)
+consumed_rest None new xs used = ([], tt)
+consumed_rest (Some whole) None xs used = absurd (none-some whole (sym used))
+consumed_rest (Some whole) (Some rest) xs used = (rest, same_Some _ _ used)
+
+-- nothing is left where a read gave no byte
+pub nothing_left : (left : Option (List ℕ)) (count : ℕ) → ((bytes : List ℕ) → left ≡ Some bytes → ((count ≡ 0) ↔ (bytes ≡ []))) → count ≡ 0 → IsTold left []
+nothing_left None count end none = tt
+nothing_left (Some bytes) count end none = (end bytes refl).0 none
 
 -- a front of what comes after
 pub prefix_after : (old mid new : Option (List ℕ)) (xs ys zs : List ℕ) → Grows old mid xs → GrowsByPrefix mid new ys → GrowsByPrefix old new (xs ++ (ys ++ zs))

@@ -1,5 +1,5 @@
 -- The parts of a call, put together.
-use Rattle.std.proofs.Common.{◌≡◌, ◌<◌, ◌≤◌, ◌+◌, ◌-◌, ◌^◌, ◌⊎◌, inl, inr, min, ℕ, Bool, List, [], ◌∷◌, ◌++◌, length, Option, Some, None, Result, Ok, Err, IfOk, IfErr, refl, sym, ap, ◌∙◌, subst, arith, append_assoc, append-nil}
+use Rattle.std.proofs.Common.{◌≡◌, ◌<◌, ◌≤◌, ◌+◌, ◌-◌, ◌^◌, ◌⊎◌, inl, inr, min, ℕ, Bool, List, [], ◌∷◌, ◌++◌, length, Option, Some, None, true, false, Result, Ok, Err, IfOk, IfErr, refl, sym, ap, ◌∙◌, subst, arith, append_assoc, append-nil}
 use Rattle.xk_base.specs.declared.errors.Failed.{Failed}
 use Rattle.xk_base.specs.Outside.{Rose}
 use Rattle.xk_ports.specs.Host.{FileAsked}
@@ -11,18 +11,20 @@ use Rattle.kernel_args.specs.declared.faults.ArgFault.{ArgFault}
 use Rattle.machine_model.specs.Machine.{Machine}
 use Rattle.xk_base.specs.declared.limits.TheConstants.{DEFAULT_STEPS}
 use Rattle.xousim.specs.declared.ending.Ending.{Ending}
-use Rattle.xousim.specs.declared.ending.Ending.TheVariants.{Played, LimitMet, Unbuilt}
+use Rattle.xousim.specs.declared.ending.Ending.TheVariants.{Played, LimitMet, Unbuilt, BadLine}
 use Rattle.xousim.specs.declared.status.Status.{Status}
-use Rattle.xousim.specs.declared.status.Status.TheVariants.{Done, ReadFault, WriteFault, ImageFault, StepLimit, NoMemory, NotBuilt}
-use Rattle.xousim.specs.Events.{Input, input_of}
-use Rattle.xousim.specs.Finish.{Finishes, Loads, LoadsNot, PlaysOn}
-use Rattle.xousim.specs.History.{History, history_of}
-use Rattle.std.proofs.Common.{nat_lt, true}
+use Rattle.xousim.specs.declared.status.Status.TheVariants.{Done, ReadFault, WriteFault, ImageFault, EventFault, StepLimit, NoMemory, NotBuilt}
+use Rattle.xousim.specs.declared.event_file.RunFault.{RunFault}
+use Rattle.xousim.specs.declared.event_file.RunFault.TheVariants.{Read, Write}
+use Rattle.xousim.specs.Finish.{EndsBooted, Finishes}
+use Rattle.xousim.specs.History.{History}
+use Rattle.xousim.specs.Playing.{Runs}
+use Rattle.std.proofs.Common.{nat_lt}
 use Rattle.std.proofs.lemmas.Bool.Decides.{nat_tests}
 use Rattle.boot_plan.specs.ImageFault.{IsImageFault}
 use Rattle.boot_plan.specs.declared.faults.TheConstants.{TOO_LONG}
-use Rattle.xousim.specs.Outcome.{Boots, Told, Image, Refuses, RefusesBytes, EventFile, IsLong, Plays, Ends, Asks, transcript, last_line, run_of}
-use Rattle.xousim.specs.Reading.{IsFile, AsksFor}
+use Rattle.xousim.specs.Outcome.{Boots, Told, Image, Refuses, RefusesBytes, Plays, Ends, AsksImage, AsksBoth, transcript, last_line, run_of}
+use Rattle.xousim.specs.Reading.{IsFile, IsReadOf, IsTold, Asked, AsksFor}
 use Rattle.plain_kernel.specs.Start.{start}
 use Rattle.xousim.specs.Words.{Names}
 use Rattle.xousim.specs.Writing.{Wrote}
@@ -65,62 +67,35 @@ part_of_whole before after h part = (
   part.3,
 )
 
--- the last line completes what was played
-pub plays_on : (before mid after : Option (List ℕ)) (rose rose_later : Type 0) (h : History) (ending : Ending) (steps : ℕ) (status : Status)
-    → Wrote before mid h (Ok ending) → steps ≡ h.machine.steps → (rose_later → rose) → Finishes mid after rose_later ending steps status → PlaysOn before after rose h status
-plays_on before mid after rose rose_later h ending steps Done wrote counted later finished =
-    (wrote.0 ∙ finished.0, grows_whole before mid after h ending steps wrote.0 counted wrote.1 finished.1)
-plays_on before mid after rose rose_later h ending steps (StepLimit limit) wrote counted later finished =
-    (finished.0, wrote.0 ∙ finished.1, grows_whole before mid after h ending steps wrote.0 counted wrote.1 finished.2)
-plays_on before mid after rose rose_later h ending steps NotBuilt wrote counted later finished =
-    (wrote.0 ∙ finished.0, grows_whole before mid after h ending steps wrote.0 counted wrote.1 finished.1)
-plays_on before mid after rose rose_later h ending steps WriteFault wrote counted later finished =
-    (later finished.0, front_whole before mid after h ending steps wrote.0 counted wrote.1 finished.1)
-plays_on before mid after rose rose_later h ending steps ReadFault wrote counted later finished = finished
-plays_on before mid after rose rose_later h ending steps NoMemory wrote counted later finished = finished
-plays_on before mid after rose rose_later h ending steps (ImageFault fault) wrote counted later finished = finished
-
 -- ---- the event file
 
-pub plays_read : (file : Told) (name : List ℕ) (machine : Machine) (before after : Option (List ℕ)) (host_rose out_rose : Type 0) (events : EventFile file name) (status : Status)
-    → PlaysOn before after out_rose (run_of machine events.bytes) status
-    → Plays file name machine before after host_rose out_rose status
-plays_read file name machine before after host_rose out_rose events Done played = record { events = events; ended = played.0; written = played.1 }
-plays_read file name machine before after host_rose out_rose events (StepLimit limit) played = (played.0, record { events = events; ended = played.1; written = played.2 })
-plays_read file name machine before after host_rose out_rose events NotBuilt played = inl (record { events = events; ended = played.0; written = played.1 })
-plays_read file name machine before after host_rose out_rose events WriteFault played = (played.0, record { events = events; written = played.1 })
-plays_read file name machine before after host_rose out_rose events ReadFault played = absurd played
-plays_read file name machine before after host_rose out_rose events NoMemory played = absurd played
-plays_read file name machine before after host_rose out_rose events (ImageFault fault) played = absurd played
+-- the last line completes what was played
+pub plays_finished : (file : Told) (name : List ℕ) (left : Option (List ℕ)) (machine : Machine) (before mid after : Option (List ℕ)) (host_rose rose rose_later : Type 0) (events : List ℕ) (ending : Ending) (steps : ℕ) (status : Status)
+    → IsFile file name events → Wrote before mid (run_of machine events) (Ok ending) → steps ≡ (run_of machine events).machine.steps → (rose_later → rose)
+    → Finishes mid after rose_later ending steps status → Plays file name left machine before after host_rose rose status
+plays_finished file name left machine before mid after host_rose rose rose_later events ending steps Done is_file wrote counted later finished =
+    record { events = events; is_file = is_file; ended = wrote.0 ∙ finished.0; written = grows_whole before mid after (run_of machine events) ending steps wrote.0 counted wrote.1 finished.1 }
+plays_finished file name left machine before mid after host_rose rose rose_later events ending steps (EventFault line) is_file wrote counted later finished =
+    record { events = events; is_file = is_file; ended = wrote.0 ∙ finished.0; written = grows_whole before mid after (run_of machine events) ending steps wrote.0 counted wrote.1 finished.1 }
+plays_finished file name left machine before mid after host_rose rose rose_later events ending steps (StepLimit limit) is_file wrote counted later finished = (
+  finished.0,
+  record { events = events; is_file = is_file; ended = wrote.0 ∙ finished.1; written = grows_whole before mid after (run_of machine events) ending steps wrote.0 counted wrote.1 finished.2 },
+)
+plays_finished file name left machine before mid after host_rose rose rose_later events ending steps NotBuilt is_file wrote counted later finished =
+    record { events = events; is_file = is_file; ended = wrote.0 ∙ finished.0; written = grows_whole before mid after (run_of machine events) ending steps wrote.0 counted wrote.1 finished.1 }
+plays_finished file name left machine before mid after host_rose rose rose_later events ending steps WriteFault is_file wrote counted later finished = (
+  later finished.0,
+  record { events = events; is_file = is_file; written = front_whole before mid after (run_of machine events) ending steps wrote.0 counted wrote.1 finished.1 },
+)
+plays_finished file name left machine before mid after host_rose rose rose_later events ending steps ReadFault is_file wrote counted later finished = absurd finished
+plays_finished file name left machine before mid after host_rose rose rose_later events ending steps NoMemory is_file wrote counted later finished = absurd finished
+plays_finished file name left machine before mid after host_rose rose rose_later events ending steps (ImageFault fault) is_file wrote counted later finished = absurd finished
 
--- a loaded event file is played
-pub plays_loaded : (file : Told) (name : List ℕ) (machine : Machine) (before after : Option (List ℕ)) (host_rose out_rose : Type 0) (input : Input) (status : Status)
-    → Loads file name input → PlaysOn before after out_rose (history_of input DEFAULT_STEPS machine) status
-    → Plays file name machine before after host_rose out_rose status
-plays_loaded file name machine before after host_rose out_rose input status loaded played =
-    let P : Input → Type 0 = λ i. PlaysOn before after out_rose (history_of i DEFAULT_STEPS machine) status in
-    plays_read file name machine before after host_rose out_rose loaded.0 status (subst P loaded.1 played)
-
--- an event file that wasn't loaded
-pub plays_none : (file : Told) (name : List ℕ) (machine : Machine) (before after : Option (List ℕ)) (host_rose out_rose : Type 0) (status : Status)
-    → LoadsNot file name host_rose status → after ≡ before → Plays file name machine before after host_rose out_rose status
-plays_none file name machine before after host_rose out_rose NotBuilt refused same = inr (refused, same)
-plays_none file name machine before after host_rose out_rose ReadFault refused same = (refused, same)
-plays_none file name machine before after host_rose out_rose NoMemory refused same = same
-plays_none file name machine before after host_rose out_rose Done refused same = absurd refused
-plays_none file name machine before after host_rose out_rose WriteFault refused same = absurd refused
-plays_none file name machine before after host_rose out_rose (StepLimit limit) refused same = absurd refused
-plays_none file name machine before after host_rose out_rose (ImageFault fault) refused same = absurd refused
-
--- a refused load is never Done
-pub not_done : (file : Told) (name : List ℕ) (rose : Type 0) (status : Status) → LoadsNot file name rose status → status ≡ Done → ⊥
-not_done file name rose Done refused is = refused
-not_done file name rose ReadFault refused is = cc
-not_done file name rose WriteFault refused is = refused
-not_done file name rose NoMemory refused is = cc
-not_done file name rose NotBuilt refused is = cc
-not_done file name rose (StepLimit limit) refused is = refused
-not_done file name rose (ImageFault fault) refused is = refused
+-- a run whose records couldn't be written
+pub plays_written : (file : Told) (name : List ℕ) (left : Option (List ℕ)) (machine : Machine) (before after : Option (List ℕ)) (host_rose rose : Type 0) (events : List ℕ)
+    → IsFile file name events → GrowsByPrefix before after (text_of (run_of machine events).records) → rose → Plays file name left machine before after host_rose rose WriteFault
+plays_written file name left machine before after host_rose rose events is_file part risen =
+    (risen, record { events = events; is_file = is_file; written = part_of_whole before after (run_of machine events) part })
 
 -- ---- the image
 
@@ -130,6 +105,7 @@ refuses_file file name rose bytes NotBuilt read refused = (bytes, read, refused)
 refuses_file file name rose bytes NoMemory read refused = tt
 refuses_file file name rose bytes ReadFault read refused = absurd refused
 refuses_file file name rose bytes Done read refused = refused
+refuses_file file name rose bytes (EventFault line) read refused = refused
 refuses_file file name rose bytes (StepLimit limit) read refused = refused
 refuses_file file name rose bytes WriteFault read refused = refused
 
@@ -139,47 +115,44 @@ refused_not_done file name rose ReadFault refused is = cc
 refused_not_done file name rose WriteFault refused is = refused
 refused_not_done file name rose NoMemory refused is = cc
 refused_not_done file name rose NotBuilt refused is = cc
+refused_not_done file name rose (EventFault line) refused is = refused
 refused_not_done file name rose (StepLimit limit) refused is = refused
 refused_not_done file name rose (ImageFault fault) refused is = cc
 
 -- a fault that the host counted later in the call
-pub plays_later : (file : Told) (name : List ℕ) (machine : Machine) (before after : Option (List ℕ)) (mid_rose host_rose out_rose : Type 0) (status : Status)
-    → (mid_rose → host_rose) → Plays file name machine before after mid_rose out_rose status → Plays file name machine before after host_rose out_rose status
-plays_later file name machine before after mid_rose host_rose out_rose Done later played = played
-plays_later file name machine before after mid_rose host_rose out_rose (StepLimit limit) later played = played
-plays_later file name machine before after mid_rose host_rose out_rose NotBuilt later played = played
-plays_later file name machine before after mid_rose host_rose out_rose WriteFault later played = played
-plays_later file name machine before after mid_rose host_rose out_rose ReadFault later played = (later played.0, played.1)
-plays_later file name machine before after mid_rose host_rose out_rose NoMemory later played = played
-plays_later file name machine before after mid_rose host_rose out_rose (ImageFault fault) later played = played
+pub plays_later : (file : Told) (name : List ℕ) (left : Option (List ℕ)) (machine : Machine) (before after : Option (List ℕ)) (mid_rose host_rose out_rose : Type 0) (status : Status)
+    → (mid_rose → host_rose) → Plays file name left machine before after mid_rose out_rose status → Plays file name left machine before after host_rose out_rose status
+plays_later file name left machine before after mid_rose host_rose out_rose Done later played = played
+plays_later file name left machine before after mid_rose host_rose out_rose (EventFault line) later played = played
+plays_later file name left machine before after mid_rose host_rose out_rose (StepLimit limit) later played = played
+plays_later file name left machine before after mid_rose host_rose out_rose NotBuilt later played = played
+plays_later file name left machine before after mid_rose host_rose out_rose WriteFault later played = played
+plays_later file name left machine before after mid_rose host_rose out_rose ReadFault later played = (later played.0, played.1)
+plays_later file name left machine before after mid_rose host_rose out_rose NoMemory later played = played
+plays_later file name left machine before after mid_rose host_rose out_rose (ImageFault fault) later played = played
 
 -- both files were asked for
-pub asks_both : (file : Told) (names : Names) (old mid new : Option (List FileAsked)) (machine : Machine) → Image file names.image machine
-    → AsksFor old mid First names.image → AsksFor mid new Second names.events → Asks file names old new
-asks_both file names old mid new machine image first second =
-    inr (
-      machine,
-      image,
-      first.0,
-      second.0,
-      Grows-append old mid new (record { slot = First; name = names.image; picked = first.0 } ∷ []) (record { slot = Second; name = names.events; picked = second.0 } ∷ []) first.1 second.1,
-    )
+pub asks_both : (names : Names) (old mid new : Option (List FileAsked)) (picked : Bool)
+    → AsksFor old mid First names.image → Asked mid new Second names.events picked → AsksBoth names old new picked
+asks_both names old mid new picked first second = (
+  first.0,
+  Grows-append old mid new (record { slot = First; name = names.image; picked = first.0 } ∷ []) (record { slot = Second; name = names.events; picked = picked } ∷ []) first.1 second,
+)
 
 -- ---- whole calls
 
-pub ends_played : (file mid_file : Told) (names : Names) (machine : Machine) (before after : Option (List ℕ)) (mid_rose host_rose out_rose : Type 0) (status : Status)
-    → mid_file ≡ file → Image file names.image machine → (mid_rose → host_rose)
-    → Plays mid_file names.events machine before after mid_rose out_rose status → Ends file names before after host_rose out_rose status
-ends_played file mid_file names machine before after mid_rose host_rose out_rose status same image later played =
-    let P : Told → Type 0 = λ f. Plays f names.events machine before after host_rose out_rose status in
-    inr (machine, image, subst P same (plays_later mid_file names.events machine before after mid_rose host_rose out_rose status later played))
+pub ends_booted : (file mid_file : Told) (names : Names) (old mid new : Option (List FileAsked)) (left : Option (List ℕ)) (machine : Machine) (before after : Option (List ℕ)) (mid_rose host_rose out_rose : Type 0) (status : Status)
+    → mid_file ≡ file → Image file names.image machine → (mid_rose → host_rose) → AsksFor old mid First names.image
+    → EndsBooted mid_file names.events mid new left machine before after mid_rose out_rose status → Ends file names old new left before after host_rose out_rose status
+ends_booted file mid_file names old mid new left machine before after mid_rose host_rose out_rose status same image later first (inl unpicked) =
+    inr (machine, image, inl (unpicked.0, later unpicked.1, unpicked.2, asks_both names old mid new false first unpicked.3))
+ends_booted file mid_file names old mid new left machine before after mid_rose host_rose out_rose status same image later first (inr picked) =
+    let P : Told → Type 0 = λ f. Plays f names.events left machine before after host_rose out_rose status in
+    inr (machine, image, inr (subst P same (plays_later mid_file names.events left machine before after mid_rose host_rose out_rose status later picked.0), asks_both names old mid new true first picked.1))
 
-pub ends_refused : (file : Told) (names : Names) (before after : Option (List ℕ)) (host_rose out_rose : Type 0) (status : Status)
-    → Refuses file names.image host_rose status → after ≡ before → Ends file names before after host_rose out_rose status
-ends_refused file names before after host_rose out_rose status refused same = inl (refused, same)
-
-pub asks_first : (file : Told) (names : Names) (old new : Option (List FileAsked)) → AsksFor old new First names.image → Asks file names old new
-asks_first file names old new first = inl (first.0, first.1)
+pub ends_refused : (file : Told) (names : Names) (old new : Option (List FileAsked)) (left before after : Option (List ℕ)) (host_rose out_rose : Type 0) (status : Status)
+    → Refuses file names.image host_rose status → after ≡ before → AsksFor old new First names.image → Ends file names old new left before after host_rose out_rose status
+ends_refused file names old new left before after host_rose out_rose status refused same first = inl (refused, same, first)
 
 pub image_boots : (file : Told) (name bytes : List ℕ) (machine : Machine) → IsFile file name bytes → Boots bytes machine → Image file name machine
 image_boots file name bytes machine read boots = record { bytes = bytes; read = read; boots = boots }

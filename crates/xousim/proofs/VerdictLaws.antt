@@ -11,11 +11,12 @@ use Rattle.machine_model.specs.Machine.{Machine}
 use Rattle.plain_kernel.specs.Start.{start}
 use Rattle.xk_base.specs.declared.limits.TheConstants.{DEFAULT_STEPS}
 use Rattle.xk_base.specs.Outside.{Rose}
+use Rattle.xk_ports.specs.Host.{FileAsked}
 use Rattle.xousim.specs.declared.ending.Ending.{Ending}
-use Rattle.xousim.specs.declared.ending.Ending.TheVariants.{Played, LimitMet, Unbuilt}
+use Rattle.xousim.specs.declared.ending.Ending.TheVariants.{Played, LimitMet, Unbuilt, BadLine}
 use Rattle.xousim.specs.declared.status.Status.{Status}
-use Rattle.xousim.specs.declared.status.Status.TheVariants.{Done, ReadFault, WriteFault, ImageFault, StepLimit, NoMemory, NotBuilt}
-use Rattle.xousim.specs.Outcome.{Told, Image, Boots, HasSeveral, IsLong, EventFile, RunsTo, HasLongEvents, IsVerdict, IsComplete, Ends, Refuses, Plays, run_of}
+use Rattle.xousim.specs.declared.status.Status.TheVariants.{Done, ReadFault, WriteFault, ImageFault, EventFault, StepLimit, NoMemory, NotBuilt}
+use Rattle.xousim.specs.Outcome.{Told, Image, Boots, HasSeveral, Ran, RunsTo, IsVerdict, IsComplete, Ends, Refuses, Plays, run_of}
 use Rattle.xousim.specs.Reading.{IsFile}
 use Rattle.xousim.specs.Words.{Names}
 
@@ -43,8 +44,8 @@ images_agree file name one other a b =
 endings_agree : (file : List ℕ → Option (List ℕ)) (names : Names) (one other : Ending) → RunsTo (Some file) names one → RunsTo (Some file) names other → one ≡ other
 endings_agree file names one other a b =
     let machine : a.machine ≡ b.machine = images_agree file names.image a.machine b.machine a.image b.image in
-    let events : a.events.bytes ≡ b.events.bytes = same_bytes file names.events a.events.bytes b.events.bytes a.events.read b.events.read in
-    sym a.ended ∙ (ap (λ (m : Machine). (run_of m a.events.bytes).ending) machine
+    let events : a.events ≡ b.events = same_bytes file names.events a.events b.events a.is_file b.is_file in
+    sym a.ended ∙ (ap (λ (m : Machine). (run_of m a.events).ending) machine
     ∙ (ap (λ (bytes : List ℕ). (run_of b.machine bytes).ending) events ∙ b.ended))
 
 none_is_some : (fault : ArgFault) → None ≡ Some fault → ⊥
@@ -72,33 +73,7 @@ several_no_fault file name image other fault read several read_other faulty =
     let P : List ℕ → Type 0 = λ bytes. IsImageFault bytes 0 (Some fault) in
     none_is_some fault (one_fault image None (Some fault) several.sound.no_fault (subst P (same_bytes file name other image read_other read) faulty))
 
-short_not_long : (file : List ℕ → Option (List ℕ)) (name : List ℕ) → EventFile (Some file) name → IsLong (Some file) name → ⊥
-short_not_long file name short long =
-    let same : length short.bytes ≡ length long.bytes = ap (λ (bytes : List ℕ). length bytes) (same_bytes file name short.bytes long.bytes short.read long.read) in
-    absurd (omega (arith, same, short.short, long.long))
-
--- ---- each status against what isn't built
-
-unbuilt_no_run : (file : List ℕ → Option (List ℕ)) (names : Names) (ending : Ending) → ending ≢ Unbuilt
-    → RunsTo (Some file) names ending → IsVerdict (Some file) names NotBuilt → ⊥
-unbuilt_no_run file names ending other runs (inl several) = boots_not_several file names.image runs.machine several.0 runs.image several.1 several.2
-unbuilt_no_run file names ending other runs (inr (inl unbuilt)) = other (endings_agree file names ending Unbuilt runs unbuilt)
-unbuilt_no_run file names ending other runs (inr (inr long)) = short_not_long file names.events runs.events long.long
-
-unbuilt_no_fault : (file : List ℕ → Option (List ℕ)) (names : Names) (image : List ℕ) (fault : ArgFault)
-    → IsFile (Some file) names.image image → IsImageFault image 0 (Some fault) → IsVerdict (Some file) names NotBuilt → ⊥
-unbuilt_no_fault file names image fault read faulty (inl several) = several_no_fault file names.image several.0 image fault several.1 several.2 read faulty
-unbuilt_no_fault file names image fault read faulty (inr (inl unbuilt)) = boots_no_fault file names.image unbuilt.machine image fault unbuilt.image read faulty
-unbuilt_no_fault file names image fault read faulty (inr (inr long)) = boots_no_fault file names.image long.machine image fault long.image read faulty
-
-played_limit : Played ≡ LimitMet → ⊥
-played_limit e = cc
-
-played_unbuilt : Played ≢ Unbuilt
-played_unbuilt e = cc
-
-limit_unbuilt : LimitMet ≢ Unbuilt
-limit_unbuilt e = cc
+-- ---- each verdict is that of a run, of an image with a fault, or of one of several processes
 
 same_fault : (one other : ArgFault) → Some one ≡ Some other → ImageFault one ≡ ImageFault other
 same_fault one other e = ap (λ (f : ArgFault). ImageFault f) (same_Some one other e)
@@ -109,38 +84,58 @@ faults_agree file name image other one two read faulty read_other faulty_other =
     let P : List ℕ → Type 0 = λ bytes. IsImageFault bytes 0 (Some two) in
     same_fault one two (one_fault image (Some one) (Some two) faulty (subst P (same_bytes file name other image read_other read) faulty_other))
 
+-- the status of a history that ends so
+abbrev status_of : Ending → Status
+status_of Played = Done
+status_of LimitMet = StepLimit DEFAULT_STEPS
+status_of Unbuilt = NotBuilt
+status_of (BadLine line) = EventFault line
+
+abbrev OfRun : (List ℕ → Option (List ℕ)) → Names → Status → Type 0
+OfRun file names status = (ending : Ending) × RunsTo (Some file) names ending × (status ≡ status_of ending)
+
+abbrev OfFault : (List ℕ → Option (List ℕ)) → Names → Status → Type 0
+OfFault file names status = (fault : ArgFault) × (image : List ℕ) × IsFile (Some file) names.image image × IsImageFault image 0 (Some fault) × (status ≡ ImageFault fault)
+
+abbrev OfSeveral : (List ℕ → Option (List ℕ)) → Names → Status → Type 0
+OfSeveral file names status = (image : List ℕ) × IsFile (Some file) names.image image × HasSeveral image × (status ≡ NotBuilt)
+
+abbrev Sorts : (List ℕ → Option (List ℕ)) → Names → Status → Type 0
+Sorts file names status = OfRun file names status ⊎ (OfFault file names status ⊎ OfSeveral file names status)
+
+sorts : (file : List ℕ → Option (List ℕ)) (names : Names) (status : Status) → IsVerdict (Some file) names status → Sorts file names status
+sorts file names Done a = inl (Played, a, refl)
+sorts file names (EventFault line) a = inl (BadLine line, a, refl)
+sorts file names (StepLimit limit) a = inl (LimitMet, a.1, ap (λ (l : ℕ). StepLimit l) a.0)
+sorts file names (ImageFault fault) a = inr (inl (fault, a.0, a.1, a.2, refl))
+sorts file names NotBuilt (inl a) = inr (inr (a.0, a.1, a.2, refl))
+sorts file names NotBuilt (inr a) = inl (Unbuilt, a, refl)
+sorts file names ReadFault a = absurd a
+sorts file names WriteFault a = absurd a
+sorts file names NoMemory a = absurd a
+
+run_fault : (file : List ℕ → Option (List ℕ)) (names : Names) (one other : Status) → OfRun file names one → OfFault file names other → ⊥
+run_fault file names one other a b = boots_no_fault file names.image a.1.machine b.1 b.0 a.1.image b.2 b.3
+
+run_several : (file : List ℕ → Option (List ℕ)) (names : Names) (one other : Status) → OfRun file names one → OfSeveral file names other → ⊥
+run_several file names one other a b = boots_not_several file names.image a.1.machine b.0 a.1.image b.1 b.2
+
+fault_several : (file : List ℕ → Option (List ℕ)) (names : Names) (one other : Status) → OfFault file names one → OfSeveral file names other → ⊥
+fault_several file names one other a b = several_no_fault file names.image b.0 a.1 a.0 b.1 b.2 a.2 a.3
+
+agree : (file : List ℕ → Option (List ℕ)) (names : Names) (one other : Status) → Sorts file names one → Sorts file names other → one ≡ other
+agree file names one other (inl a) (inl b) = a.2 ∙ (ap status_of (endings_agree file names a.0 b.0 a.1 b.1) ∙ sym b.2)
+agree file names one other (inl a) (inr (inl b)) = absurd (run_fault file names one other a b)
+agree file names one other (inl a) (inr (inr b)) = absurd (run_several file names one other a b)
+agree file names one other (inr (inl a)) (inl b) = absurd (run_fault file names other one b a)
+agree file names one other (inr (inl a)) (inr (inl b)) = a.4 ∙ (faults_agree file names.image a.1 b.1 a.0 b.0 a.2 a.3 b.2 b.3 ∙ sym b.4)
+agree file names one other (inr (inl a)) (inr (inr b)) = absurd (fault_several file names one other a b)
+agree file names one other (inr (inr a)) (inl b) = absurd (run_several file names other one b a)
+agree file names one other (inr (inr a)) (inr (inl b)) = absurd (fault_several file names other one b a)
+agree file names one other (inr (inr a)) (inr (inr b)) = a.3 ∙ sym b.3
+
 pub one_verdict_of_files : (file : List ℕ → Option (List ℕ)) (names : Names) (one other : Status) → IsVerdict (Some file) names one → IsVerdict (Some file) names other → one ≡ other
-one_verdict_of_files file names Done Done a b = refl
-one_verdict_of_files file names Done (StepLimit n) a b = absurd (played_limit (endings_agree file names Played LimitMet a b.1))
-one_verdict_of_files file names Done (ImageFault f) a b = absurd (boots_no_fault file names.image a.machine b.0 f a.image b.1 b.2)
-one_verdict_of_files file names Done NotBuilt a b = absurd (unbuilt_no_run file names Played played_unbuilt a b)
-one_verdict_of_files file names Done ReadFault a b = absurd b
-one_verdict_of_files file names Done WriteFault a b = absurd b
-one_verdict_of_files file names Done NoMemory a b = absurd b
-one_verdict_of_files file names (StepLimit m) Done a b = absurd (played_limit (endings_agree file names Played LimitMet b a.1))
-one_verdict_of_files file names (StepLimit m) (StepLimit n) a b = ap (λ (l : ℕ). StepLimit l) (a.0 ∙ sym b.0)
-one_verdict_of_files file names (StepLimit m) (ImageFault f) a b = absurd (boots_no_fault file names.image a.1.machine b.0 f a.1.image b.1 b.2)
-one_verdict_of_files file names (StepLimit m) NotBuilt a b = absurd (unbuilt_no_run file names LimitMet limit_unbuilt a.1 b)
-one_verdict_of_files file names (StepLimit m) ReadFault a b = absurd b
-one_verdict_of_files file names (StepLimit m) WriteFault a b = absurd b
-one_verdict_of_files file names (StepLimit m) NoMemory a b = absurd b
-one_verdict_of_files file names (ImageFault e) Done a b = absurd (boots_no_fault file names.image b.machine a.0 e b.image a.1 a.2)
-one_verdict_of_files file names (ImageFault e) (StepLimit n) a b = absurd (boots_no_fault file names.image b.1.machine a.0 e b.1.image a.1 a.2)
-one_verdict_of_files file names (ImageFault e) (ImageFault f) a b = faults_agree file names.image a.0 b.0 e f a.1 a.2 b.1 b.2
-one_verdict_of_files file names (ImageFault e) NotBuilt a b = absurd (unbuilt_no_fault file names a.0 e a.1 a.2 b)
-one_verdict_of_files file names (ImageFault e) ReadFault a b = absurd b
-one_verdict_of_files file names (ImageFault e) WriteFault a b = absurd b
-one_verdict_of_files file names (ImageFault e) NoMemory a b = absurd b
-one_verdict_of_files file names NotBuilt Done a b = absurd (unbuilt_no_run file names Played played_unbuilt b a)
-one_verdict_of_files file names NotBuilt (StepLimit n) a b = absurd (unbuilt_no_run file names LimitMet limit_unbuilt b.1 a)
-one_verdict_of_files file names NotBuilt (ImageFault f) a b = absurd (unbuilt_no_fault file names b.0 f b.1 b.2 a)
-one_verdict_of_files file names NotBuilt NotBuilt a b = refl
-one_verdict_of_files file names NotBuilt ReadFault a b = absurd b
-one_verdict_of_files file names NotBuilt WriteFault a b = absurd b
-one_verdict_of_files file names NotBuilt NoMemory a b = absurd b
-one_verdict_of_files file names ReadFault other a b = absurd a
-one_verdict_of_files file names WriteFault other a b = absurd a
-one_verdict_of_files file names NoMemory other a b = absurd a
+one_verdict_of_files file names one other a b = agree file names one other (sorts file names one a) (sorts file names other b)
 
 -- ---- a call without a fault outside
 
@@ -151,31 +146,35 @@ refused_complete file names before after rose NotBuilt quiet refused same = inl 
 refused_complete file names before after rose NoMemory quiet refused same = inr (refl, same)
 refused_complete file names before after rose ReadFault quiet refused same = absurd (quiet refused)
 refused_complete file names before after rose Done quiet refused same = absurd refused
+refused_complete file names before after rose (EventFault line) quiet refused same = absurd refused
 refused_complete file names before after rose (StepLimit limit) quiet refused same = absurd refused
 refused_complete file names before after rose WriteFault quiet refused same = absurd refused
 
-played_complete : (file : Told) (names : Names) (machine : Machine) (before after : Option (List ℕ)) (host_rose out_rose : Type 0) (status : Status) → (¬ host_rose) → (¬ out_rose)
-    → Image file names.image machine → Plays file names.events machine before after host_rose out_rose status → IsComplete file names before after status
-played_complete file names machine before after host_rose out_rose Done quiet calm image played =
-    inl (record { machine = machine; image = image; events = played.events; ended = played.ended })
-played_complete file names machine before after host_rose out_rose (StepLimit limit) quiet calm image played =
-    inl (played.0, record { machine = machine; image = image; events = played.1.events; ended = played.1.ended })
-played_complete file names machine before after host_rose out_rose NotBuilt quiet calm image (inl played) =
-    inl (inr (inl (record { machine = machine; image = image; events = played.events; ended = played.ended })))
-played_complete file names machine before after host_rose out_rose NotBuilt quiet calm image (inr long) =
-    inl (inr (inr (record { machine = machine; image = image; long = long.0 })))
-played_complete file names machine before after host_rose out_rose WriteFault quiet calm image played = absurd (calm played.0)
-played_complete file names machine before after host_rose out_rose ReadFault quiet calm image played = absurd (quiet played.0)
-played_complete file names machine before after host_rose out_rose NoMemory quiet calm image played = inr (refl, played)
-played_complete file names machine before after host_rose out_rose (ImageFault fault) quiet calm image played = absurd played
+runs_to : (file : Told) (names : Names) (machine : Machine) (before after : Option (List ℕ)) (ending : Ending)
+    → Image file names.image machine → Ran file names.events machine before after ending → RunsTo file names ending
+runs_to file names machine before after ending image ran =
+    record { machine = machine; image = image; events = ran.events; is_file = ran.is_file; ended = ran.ended }
 
-pub ends_complete : (file : Told) (names : Names) (before after : Option (List ℕ)) (host_rose out_rose : Type 0) (status : Status)
-    → Ends file names before after host_rose out_rose status → (¬ host_rose) → (¬ out_rose) → IsComplete file names before after status
-ends_complete file names before after host_rose out_rose status (inl refused) quiet calm = refused_complete file names before after host_rose status quiet refused.0 refused.1
-ends_complete file names before after host_rose out_rose status (inr played) quiet calm = played_complete file names played.0 before after host_rose out_rose status quiet calm played.1 played.2
+played_complete : (file : Told) (names : Names) (left : Option (List ℕ)) (machine : Machine) (before after : Option (List ℕ)) (host_rose out_rose : Type 0) (status : Status) → (¬ host_rose) → (¬ out_rose)
+    → Image file names.image machine → Plays file names.events left machine before after host_rose out_rose status → IsComplete file names before after status
+played_complete file names left machine before after host_rose out_rose Done quiet calm image played = inl (runs_to file names machine before after Played image played)
+played_complete file names left machine before after host_rose out_rose (EventFault line) quiet calm image played = inl (runs_to file names machine before after (BadLine line) image played)
+played_complete file names left machine before after host_rose out_rose (StepLimit limit) quiet calm image played = inl (played.0, runs_to file names machine before after LimitMet image played.1)
+played_complete file names left machine before after host_rose out_rose NotBuilt quiet calm image played = inl (inr (runs_to file names machine before after Unbuilt image played))
+played_complete file names left machine before after host_rose out_rose WriteFault quiet calm image played = absurd (calm played.0)
+played_complete file names left machine before after host_rose out_rose ReadFault quiet calm image played = absurd (quiet played.0)
+played_complete file names left machine before after host_rose out_rose NoMemory quiet calm image played = absurd played
+played_complete file names left machine before after host_rose out_rose (ImageFault fault) quiet calm image played = absurd played
 
-pub ends_complete_if : (command : Option Names) (file : Told) (before after : Option (List ℕ)) (host_rose out_rose : Type 0) (status : Status) (none : Type 0)
-    → MatchOption command none (λ names. Ends file names before after host_rose out_rose status)
+pub ends_complete : (file : Told) (names : Names) (asked asked_after : Option (List FileAsked)) (left before after : Option (List ℕ)) (host_rose out_rose : Type 0) (status : Status)
+    → Ends file names asked asked_after left before after host_rose out_rose status → (¬ host_rose) → (¬ out_rose) → IsComplete file names before after status
+ends_complete file names asked asked_after left before after host_rose out_rose status (inl refused) quiet calm = refused_complete file names before after host_rose status quiet refused.0 refused.1
+ends_complete file names asked asked_after left before after host_rose out_rose status (inr (machine, image, inl unpicked)) quiet calm = absurd (quiet unpicked.1)
+ends_complete file names asked asked_after left before after host_rose out_rose status (inr (machine, image, inr played)) quiet calm =
+    played_complete file names left machine before after host_rose out_rose status quiet calm image played.0
+
+pub ends_complete_if : (command : Option Names) (file : Told) (asked asked_after : Option (List FileAsked)) (left before after : Option (List ℕ)) (host_rose out_rose : Type 0) (status : Status) (none : Type 0)
+    → MatchOption command none (λ names. Ends file names asked asked_after left before after host_rose out_rose status)
     → MatchOption command (Unit {0}) (λ names. (¬ host_rose) → (¬ out_rose) → IsComplete file names before after status)
-ends_complete_if None file before after host_rose out_rose status none ends = tt
-ends_complete_if (Some names) file before after host_rose out_rose status none ends = λ quiet calm. ends_complete file names before after host_rose out_rose status ends quiet calm
+ends_complete_if None file asked asked_after left before after host_rose out_rose status none ends = tt
+ends_complete_if (Some names) file asked asked_after left before after host_rose out_rose status none ends = λ quiet calm. ends_complete file names asked asked_after left before after host_rose out_rose status ends quiet calm

@@ -1,14 +1,14 @@
 -- What a list of events makes of a machine: its history up to the step limit.
-use Rattle.std.specs.Prelude.{ℕ, zero, suc, ◌==◌, Bool, true, false, List, [], ◌∷◌, ◌++◌, if◌then◌else◌, is_some}
+use Rattle.std.specs.Prelude.{ℕ, zero, suc, ◌==◌, List, [], ◌∷◌, ◌++◌, Option, Some, None, if◌then◌else◌, is_some}
+use Rattle.event_text.specs.declared.event.Event.{Event}
+use Rattle.event_text.specs.declared.event.Event.TheVariants.{Tick, Pick, Irq, Kill}
+use Rattle.event_text.specs.EventFile.{Input}
 use Rattle.xk_base.specs.declared.records.Rec.{Rec}
 use Rattle.machine_model.specs.Machine.{Machine}
 use Rattle.machine_model.specs.Order.{actor, turn}
 use Rattle.machine_model.specs.Step.{step}
 use Rattle.xousim.specs.declared.ending.Ending.{Ending}
-use Rattle.xousim.specs.declared.ending.Ending.TheVariants.{Played, LimitMet, Unbuilt}
-use Rattle.xousim.specs.declared.events.Event.{Event}
-use Rattle.xousim.specs.declared.events.Event.TheVariants.{Tick}
-use Rattle.xousim.specs.Events.{Input}
+use Rattle.xousim.specs.declared.ending.Ending.TheVariants.{Played, LimitMet, Unbuilt, BadLine}
 use Rattle.plain_kernel.specs.Built.{step_built}
 
 -- the records in order, the last state, and why it ended there
@@ -28,6 +28,7 @@ abbrev pub go_on : Ending → History → (Machine → History) → History
 go_on Played h next = behind h.records (next h.machine)
 go_on LimitMet h next = h
 go_on Unbuilt h next = h
+go_on (BadLine line) h next = h
 
 -- a history and what comes after it, where it didn't end early
 abbrev pub followed_by : History → (Machine → History) → History
@@ -42,8 +43,12 @@ ticks (suc n) limit m =
     if step_built m then behind (step m).records (ticks n limit (step m).machine) else ended Unbuilt m))
     else ended Played (turn m)
 
+-- `tick N`; no other event is built
 unfoldable pub play : Event → ℕ → Machine → History
 play (Tick n) limit m = ticks n limit m
+play (Pick pid tid) limit m = ended Unbuilt m
+play (Irq number) limit m = ended Unbuilt m
+play (Kill pid) limit m = ended Unbuilt m
 
 -- the events in order, and then this ending
 unfoldable pub history_to : Ending → List Event → ℕ → Machine → History
@@ -54,6 +59,11 @@ history_to last (event ∷ events) limit m = followed_by (play event limit m) (h
 abbrev pub history : List Event → ℕ → Machine → History
 history events limit m = history_to Played events limit m
 
--- an event file: its events in order; where a line of it isn't built the history ends there
+-- how a file ends: with all its lines, or at its first bad line
+abbrev pub end_of : Option ℕ → Ending
+end_of None = Played
+end_of (Some line) = BadLine line
+
+-- an event file: the events before its first bad line in order, and then that line, or the end where there is none
 abbrev pub history_of : Input → ℕ → Machine → History
-history_of input limit m = history_to (if input.whole then Played else Unbuilt) input.events limit m
+history_of input limit m = history_to (end_of input.bad) input.events limit m

@@ -1,8 +1,8 @@
 pub mod Adapters
-pub mod Events
 pub mod Finish
 pub mod History
 pub mod Outcome
+pub mod Playing
 pub mod Reading
 pub mod Status
 pub mod Words

@@ -1,11 +1,14 @@
 -- How a call of the program ends: what holds for each status. `names` are the files that the words name, `file`
--- is what the host has under each name where it tells it, and `before` and `after` are what `out` holds.
-use Rattle.std.specs.Prelude.{◌≡◌, ◌≤◌, ◌<◌, ◌⊎◌, ℕ, Bool, List, [], ◌∷◌, ◌++◌, length, Option, Some, None}
+-- is what the host has under each name where it tells it, `asked` and `asked_after` are the files that it was asked for,
+-- `left` is what is left of the event file after the call, and `before` and `after` are what `out` holds.
+use Rattle.std.specs.Prelude.{◌≡◌, ◌≤◌, ◌⊎◌, ℕ, Bool, true, false, List, [], ◌∷◌, ◌++◌, length, Option, Some, None}
 use Rattle.kernel_args.specs.declared.args.Args.{Args}
 use Rattle.kernel_args.specs.declared.faults.ArgFault.{ArgFault}
 use Rattle.kernel_args.specs.Image.{Spells}
 use Rattle.boot_plan.specs.FirstPages.{plan_of}
 use Rattle.boot_plan.specs.ImageFault.{IsImageFault}
+use Rattle.event_text.specs.EventFile.{input_of}
+use Rattle.event_text.specs.Lines.{whole_lines}
 use Rattle.machine_model.specs.Machine.{Machine}
 use Rattle.trace_text.specs.declared.lines.EndWord.TheVariants as words
 use Rattle.trace_text.specs.Lines.{text_of, end_line_of}
@@ -15,13 +18,11 @@ use Rattle.xk_ports.specs.declared.host.FileSlot.TheVariants.{First, Second}
 use Rattle.xk_ports.specs.Host.{FileAsked}
 use Rattle.xk_ports.specs.Told.{Grows, GrowsByPrefix}
 use Rattle.xousim.specs.declared.ending.Ending.{Ending}
-use Rattle.xousim.specs.declared.ending.Ending.TheVariants.{Played, LimitMet, Unbuilt}
+use Rattle.xousim.specs.declared.ending.Ending.TheVariants.{Played, LimitMet, Unbuilt, BadLine}
 use Rattle.xousim.specs.declared.status.Status.{Status}
-use Rattle.xousim.specs.declared.status.Status.TheVariants.{Done, ReadFault, WriteFault, ImageFault, StepLimit, NoMemory, NotBuilt}
-use Rattle.xousim.specs.declared.top.TheConstants.{EVENTS_LIMIT}
-use Rattle.xousim.specs.Events.{input_of}
+use Rattle.xousim.specs.declared.status.Status.TheVariants.{Done, ReadFault, WriteFault, ImageFault, EventFault, StepLimit, NoMemory, NotBuilt}
 use Rattle.xousim.specs.History.{History, history_of}
-use Rattle.xousim.specs.Reading.{IsFile}
+use Rattle.xousim.specs.Reading.{IsFile, IsReadOf}
 use Rattle.plain_kernel.specs.Start.{start}
 use Rattle.xousim.specs.Words.{Names}
 
@@ -63,6 +64,7 @@ Refuses file name host_rose NotBuilt = (image : List ℕ) × IsFile file name im
 Refuses file name host_rose ReadFault = host_rose
 Refuses file name host_rose NoMemory = Unit {0}
 Refuses file name host_rose Done = ⊥
+Refuses file name host_rose (EventFault line) = ⊥
 Refuses file name host_rose (StepLimit limit) = ⊥
 Refuses file name host_rose WriteFault = ⊥
 
@@ -73,6 +75,7 @@ RefusesBytes image NotBuilt = HasSeveral image
 RefusesBytes image NoMemory = Unit {0}
 RefusesBytes image ReadFault = ⊥
 RefusesBytes image Done = ⊥
+RefusesBytes image (EventFault line) = ⊥
 RefusesBytes image (StepLimit limit) = ⊥
 RefusesBytes image WriteFault = ⊥
 
@@ -82,64 +85,79 @@ RefusesBytes image WriteFault = ⊥
 abbrev pub run_of : Machine → List ℕ → History
 run_of machine events = history_of (input_of events) DEFAULT_STEPS machine
 
--- the last line; a history that ends at what isn't built has none
+-- the last line; a history that ends at a bad line or at what isn't built has none
 abbrev pub last_line : ℕ → Ending → List ℕ
 last_line steps Played = end_line_of steps words.Done
 last_line steps LimitMet = end_line_of steps words.Limit
 last_line steps Unbuilt = []
+last_line steps (BadLine line) = []
 
 -- the whole text of a history: the lines of its records and the last line
 abbrev pub transcript : History → List ℕ
 transcript h = text_of h.records ++ last_line h.machine.steps h.ending
 
--- the file of that name, no longer than is built, is read to its end
-pub record EventFile (file : Told) (name : List ℕ) : Type 0 where
-  pub bytes : List ℕ
-  pub read : IsFile file name bytes
-  pub short : length bytes ≤ EVENTS_LIMIT
-
 -- the history ended in this way, and exactly its transcript was written
 pub record Ran (file : Told) (name : List ℕ) (machine : Machine) (before after : Option (List ℕ)) (ending : Ending) : Type 0 where
-  pub events : EventFile file name
-  pub ended : (run_of machine events.bytes).ending ≡ ending
-  pub written : Grows before after (transcript (run_of machine events.bytes))
+  pub events : List ℕ
+  pub is_file : IsFile file name events
+  pub ended : (run_of machine events).ending ≡ ending
+  pub written : Grows before after (transcript (run_of machine events))
 
 -- a part from the front of the transcript was written
 pub record RanInPart (file : Told) (name : List ℕ) (machine : Machine) (before after : Option (List ℕ)) : Type 0 where
-  pub events : EventFile file name
-  pub written : GrowsByPrefix before after (transcript (run_of machine events.bytes))
+  pub events : List ℕ
+  pub is_file : IsFile file name events
+  pub written : GrowsByPrefix before after (transcript (run_of machine events))
 
--- the event file is longer than is built
-pub record IsLong (file : Told) (name : List ℕ) : Type 0 where
+-- Some bytes of the file were read. Their whole lines have no bad line, the history over them doesn't meet the limit nor
+-- what isn't built, and exactly the lines of its records were written.
+pub record RanWholeLines (file : Told) (name : List ℕ) (left : Option (List ℕ)) (machine : Machine) (before after : Option (List ℕ)) : Type 0 where
   pub bytes : List ℕ
-  pub read : IsFile file name bytes
-  pub long : EVENTS_LIMIT < length bytes
+  pub read : IsReadOf file name left bytes
+  pub ended : (run_of machine (whole_lines bytes)).ending ≡ Played
+  pub written : Grows before after (text_of (run_of machine (whole_lines bytes)).records)
 
--- What holds where the image boots the machine, by the status.
-abbrev pub Plays : Told → List ℕ → Machine → Option (List ℕ) → Option (List ℕ) → Type 0 → Type 0 → Status → Type 0
-Plays file name machine before after host_rose out_rose Done = Ran file name machine before after Played
-Plays file name machine before after host_rose out_rose (StepLimit limit) = (limit ≡ DEFAULT_STEPS) × Ran file name machine before after LimitMet
-Plays file name machine before after host_rose out_rose NotBuilt = Ran file name machine before after Unbuilt ⊎ (IsLong file name × (after ≡ before))
-Plays file name machine before after host_rose out_rose WriteFault = out_rose × RanInPart file name machine before after
-Plays file name machine before after host_rose out_rose ReadFault = host_rose × (after ≡ before)
-Plays file name machine before after host_rose out_rose NoMemory = after ≡ before
-Plays file name machine before after host_rose out_rose (ImageFault fault) = ⊥
+-- What holds where the image boots the machine and the event file was picked, by the status.
+abbrev pub Plays : Told → List ℕ → Option (List ℕ) → Machine → Option (List ℕ) → Option (List ℕ) → Type 0 → Type 0 → Status → Type 0
+Plays file name left machine before after host_rose out_rose Done = Ran file name machine before after Played
+Plays file name left machine before after host_rose out_rose (EventFault line) = Ran file name machine before after (BadLine line)
+Plays file name left machine before after host_rose out_rose (StepLimit limit) = (limit ≡ DEFAULT_STEPS) × Ran file name machine before after LimitMet
+Plays file name left machine before after host_rose out_rose NotBuilt = Ran file name machine before after Unbuilt
+Plays file name left machine before after host_rose out_rose WriteFault = out_rose × RanInPart file name machine before after
+Plays file name left machine before after host_rose out_rose ReadFault = host_rose × RanWholeLines file name left machine before after
+Plays file name left machine before after host_rose out_rose NoMemory = ⊥
+Plays file name left machine before after host_rose out_rose (ImageFault fault) = ⊥
 
 -- ---- a call
 
--- What holds of a call with words that name files. Either the image isn't booted, and nothing is written; or it boots a
--- machine, and the events are played on it.
-abbrev pub Ends : Told → Names → Option (List ℕ) → Option (List ℕ) → Type 0 → Type 0 → Status → Type 0
-Ends file names before after host_rose out_rose status =
-    (Refuses file names.image host_rose status × (after ≡ before))
-    ⊎ ((machine : Machine) × Image file names.image machine × Plays file names.events machine before after host_rose out_rose status)
+-- the image was asked for at the first slot, and nothing else
+abbrev pub AsksImage : Names → Option (List FileAsked) → Option (List FileAsked) → Type 0
+AsksImage names asked asked_after =
+    (first : Bool) × Grows asked asked_after (record { slot = First; name = names.image; picked = first } ∷ [])
 
--- The image is asked for at the first slot, and besides, only where it boots, the event file at the second.
-abbrev pub Asks : Told → Names → Option (List FileAsked) → Option (List FileAsked) → Type 0
-Asks file names old new =
-    ((first : Bool) × Grows old new (record { slot = First; name = names.image; picked = first } ∷ []))
-    ⊎ ((machine : Machine) × Image file names.image machine × (first : Bool) × (second : Bool)
-    × Grows old new (record { slot = First; name = names.image; picked = first } ∷ record { slot = Second; name = names.events; picked = second } ∷ []))
+-- the image was asked for at the first slot, and then the event file at the second, where it was picked or not
+abbrev pub AsksBoth : Names → Option (List FileAsked) → Option (List FileAsked) → Bool → Type 0
+AsksBoth names asked asked_after second =
+    (first : Bool) × Grows asked asked_after (record { slot = First; name = names.image; picked = first } ∷ record { slot = Second; name = names.events; picked = second } ∷ [])
+
+-- the image isn't booted, and nothing is written
+abbrev pub EndsUnbooted : Told → Names → Option (List FileAsked) → Option (List FileAsked) → Option (List ℕ) → Option (List ℕ) → Type 0 → Status → Type 0
+EndsUnbooted file names asked asked_after before after host_rose status =
+    Refuses file names.image host_rose status × (after ≡ before) × AsksImage names asked asked_after
+
+-- the event file isn't picked, and nothing is written
+abbrev pub EndsUnpicked : Names → Option (List FileAsked) → Option (List FileAsked) → Option (List ℕ) → Option (List ℕ) → Type 0 → Status → Type 0
+EndsUnpicked names asked asked_after before after host_rose status =
+    (status ≡ ReadFault) × host_rose × (after ≡ before) × AsksBoth names asked asked_after false
+
+-- What holds of a call with words that name files: the image isn't booted; or it boots a machine, and then the event
+-- file isn't picked, or it is and the events are played on the machine.
+abbrev pub Ends : Told → Names → Option (List FileAsked) → Option (List FileAsked) → Option (List ℕ) → Option (List ℕ) → Option (List ℕ) → Type 0 → Type 0 → Status → Type 0
+Ends file names asked asked_after left before after host_rose out_rose status =
+    EndsUnbooted file names asked asked_after before after host_rose status
+    ⊎ ((machine : Machine) × Image file names.image machine
+    × (EndsUnpicked names asked asked_after before after host_rose status
+    ⊎ (Plays file names.events left machine before after host_rose out_rose status × AsksBoth names asked asked_after true)))
 
 -- the notes got this text, or a part from its front where their count of faults rose
 abbrev pub Notes : Option (List ℕ) → Option (List ℕ) → ℕ → ℕ → List ℕ → Type 0
@@ -152,21 +170,17 @@ Notes before after faults_before faults_after text =
 pub record RunsTo (file : Told) (names : Names) (ending : Ending) : Type 0 where
   pub machine : Machine
   pub image : Image file names.image machine
-  pub events : EventFile file names.events
-  pub ended : (run_of machine events.bytes).ending ≡ ending
-
--- the image boots a machine, and the event file is longer than is built
-pub record HasLongEvents (file : Told) (names : Names) : Type 0 where
-  pub machine : Machine
-  pub image : Image file names.image machine
-  pub long : IsLong file names.events
+  pub events : List ℕ
+  pub is_file : IsFile file names.events events
+  pub ended : (run_of machine events).ending ≡ ending
 
 -- What the files alone say of a status. A fault outside and want of memory are no verdict.
 abbrev pub IsVerdict : Told → Names → Status → Type 0
 IsVerdict file names Done = RunsTo file names Played
+IsVerdict file names (EventFault line) = RunsTo file names (BadLine line)
 IsVerdict file names (StepLimit limit) = (limit ≡ DEFAULT_STEPS) × RunsTo file names LimitMet
 IsVerdict file names (ImageFault fault) = (image : List ℕ) × IsFile file names.image image × IsImageFault image 0 (Some fault)
-IsVerdict file names NotBuilt = ((image : List ℕ) × IsFile file names.image image × HasSeveral image) ⊎ (RunsTo file names Unbuilt ⊎ HasLongEvents file names)
+IsVerdict file names NotBuilt = ((image : List ℕ) × IsFile file names.image image × HasSeveral image) ⊎ RunsTo file names Unbuilt
 IsVerdict file names ReadFault = ⊥
 IsVerdict file names WriteFault = ⊥
 IsVerdict file names NoMemory = ⊥

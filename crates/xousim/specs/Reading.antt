@@ -2,7 +2,7 @@
 use Rattle.std.specs.Prelude.{◌≡◌, ◌<◌, ◌≤◌, ℕ, Bool, List, [], ◌∷◌, length, Option, Some, None}
 use Rattle.xk_ports.specs.declared.host.FileSlot.{FileSlot}
 use Rattle.xk_ports.specs.Host.{FileAsked}
-use Rattle.xk_ports.specs.Told.{Grows}
+use Rattle.xk_ports.specs.Told.{Grows, Consumes}
 use Rattle.xousim.specs.declared.reading.Content.{Content}
 use Rattle.xousim.specs.declared.reading.Content.TheVariants.{Whole, TooLong}
 
@@ -10,6 +10,11 @@ use Rattle.xousim.specs.declared.reading.Content.TheVariants.{Whole, TooLong}
 abbrev pub IsFile : Option (List ℕ → Option (List ℕ)) → List ℕ → List ℕ → Type 0
 IsFile None name bytes = Unit {0}
 IsFile (Some file) name bytes = file name ≡ Some bytes
+
+-- these bytes were read of the file of that name, where it is told, and the others are left
+abbrev pub IsReadOf : Option (List ℕ → Option (List ℕ)) → List ℕ → Option (List ℕ) → List ℕ → Type 0
+IsReadOf None name left bytes = Unit {0}
+IsReadOf (Some file) name left bytes = Consumes (file name) left bytes
 
 -- where it is told, this is the list
 abbrev pub IsTold : Option (List ℕ) → List ℕ → Type 0
@@ -32,5 +37,8 @@ IsRead left (Whole bytes) = IsTold left []
 IsRead left TooLong = Unit {0}
 
 -- one more file was asked for, by that name, and it was picked or not
+abbrev pub Asked : Option (List FileAsked) → Option (List FileAsked) → FileSlot → List ℕ → Bool → Type 0
+Asked old new which name picked = Grows old new (record { slot = which; name = name; picked = picked } ∷ [])
+
 abbrev pub AsksFor : Option (List FileAsked) → Option (List FileAsked) → FileSlot → List ℕ → Type 0
-AsksFor old new which name = (picked : Bool) × Grows old new (record { slot = which; name = name; picked = picked } ∷ [])
+AsksFor old new which name = (picked : Bool) × Asked old new which name picked

@@ -3,7 +3,7 @@ use Rattle.std.specs.Prelude.{ℕ, List, [], ◌++◌, codes, decimal, ◌==◌,
 use Rattle.kernel_args.specs.declared.faults.TheConstants.{TOO_SHORT, NOT_XARG, BAD_VERSION, BAD_TOTAL, BAD_CHECK, BAD_RAM, NO_PROCESS, TOO_MANY_PROCESSES, BAD_INI, BAD_NAMES}
 use Rattle.boot_plan.specs.declared.faults.TheConstants.{SECTION_OUTSIDE, SECTION_MISALIGNED, SECTIONS_OVERLAP, LOAD_OUTSIDE, ENTRY_OUTSIDE, RAM_TOO_SMALL}
 use Rattle.xousim.specs.declared.status.Status.{Status}
-use Rattle.xousim.specs.declared.status.Status.TheVariants.{Done, ReadFault, WriteFault, ImageFault, StepLimit, NoMemory, NotBuilt}
+use Rattle.xousim.specs.declared.status.Status.TheVariants.{Done, ReadFault, WriteFault, ImageFault, EventFault, StepLimit, NoMemory, NotBuilt}
 
 -- the number with which the program ends
 abbrev pub number_of : Status → ℕ
@@ -11,6 +11,7 @@ number_of Done = 0
 number_of ReadFault = 3
 number_of WriteFault = 4
 number_of (ImageFault fault) = 5
+number_of (EventFault line) = 6
 number_of (StepLimit limit) = 7
 number_of NoMemory = 9
 number_of NotBuilt = 10
@@ -41,6 +42,7 @@ note_of Done = []
 note_of ReadFault = codes "read fault\n"
 note_of WriteFault = codes "write fault\n"
 note_of (ImageFault fault) = codes "image fault " ++ fault_name fault.what ++ codes " at " ++ decimal fault.at ++ codes "\n"
+note_of (EventFault line) = codes "event fault at line " ++ decimal line ++ codes "\n"
 note_of (StepLimit limit) = codes "step limit " ++ decimal limit ++ codes "\n"
 note_of NoMemory = codes "no memory\n"
 note_of NotBuilt = codes "not built\n"

@@ -5,7 +5,7 @@
 mod adapters;
 mod booting;
 mod ending;
-mod events;
+mod event_file;
 mod notes;
 mod playing;
 mod reading;

@@ -84,6 +84,11 @@ fn note(status: Status) -> Note
         Status::ReadFault => put(&mut note, b"read fault\n"),
         Status::WriteFault => put(&mut note, b"write fault\n"),
         Status::ImageFault(fault) => put_fault(&mut note, fault),
+        Status::EventFault(line) => {
+            put(&mut note, b"event fault at line ");
+            put_number(&mut note, line);
+            put(&mut note, b"\n");
+        }
         Status::StepLimit(limit) => {
             put(&mut note, b"step limit ");
             put_number(&mut note, limit);

@@ -1,14 +1,18 @@
 //! Events are played, and their records are written as they come.
 
-ghost use Rattle.std.specs.Prelude.{◌≡◌, ◌≤◌, IfOk, OnOk, OnErr};
+ghost use Rattle.std.specs.Prelude.{◌≡◌, ◌≤◌, ◌<◌, ◌+◌, ℕ, true, List, Option, None, Some, Ok, length, OnOk, OnErr};
+ghost use Rattle.event_text.specs.Held.{IsWaiting};
+ghost use Rattle.machine_model.specs.Machine.{Machine};
+ghost use Rattle.xk_base.specs.declared.limits.TheConstants.{EVENT_FILE_LIMIT};
 ghost use Rattle.xk_base.specs.Outside.{Rose};
-ghost use Rattle.xousim.specs.History.{ticks, play, history_of, history_to};
+ghost use Rattle.xousim.specs.History.{ticks, play};
 ghost use Rattle.plain_kernel.specs.State.{machine_of};
+ghost use Rattle.xousim.specs.Playing.{Advances, Goes, HasPlayed};
 ghost use Rattle.xousim.specs.Writing.{Wrote};
 
 use crate::ending::Ending;
-use crate::events::{Event, Events};
 use crate::transcript::write_records;
+use event_text::{Event, EventReader, NextEvent};
 use plain_kernel::{Kernel, Stepped};
 use xk_base::Failed;
 use xk_ports::Sink;
@@ -47,7 +51,8 @@ fn play_tick<K: Sink>(
     Ok(Ending::Played)
 }
 
-/// Plays an event.
+/// Plays an event. Only ticks are built.
+#[tactic(auto, using(crate::proofs::HistoryLemmas::wrote_ended), unfolding(crate::specs::History::play))]
 fn play_event<K: Sink>(
     kernel: &mut Kernel,
     event: Event,
@@ -64,52 +69,78 @@ fn play_event<K: Sink>(
 {
     match event {
         Event::Tick(count) => play_tick(kernel, count, limit, out),
+        Event::Pick(_, _) | Event::Irq(_) | Event::Kill(_) => Ok(Ending::Unbuilt),
     }
 }
 
-/// Plays the events of a file in order.
-pub fn play_file<K: Sink>(
-    kernel: &mut Kernel,
-    events: &Events,
-    limit: u32,
-    out: &mut K,
-) -> Result<Ending, Failed>
-    requires limit { limit ≤ 4000000000 }
-    requires within { (machine_of kernel.old).steps ≤ limit }
-    ensures wrote { Wrote (K.written out.old) (K.written out.new) (history_of (record { events = events.now.events; whole = events.now.whole }) limit (machine_of kernel.old)) result }
-    ensures machine { OnOk result (machine_of kernel.new ≡ (history_of (record { events = events.now.events; whole = events.now.whole }) limit (machine_of kernel.old)).machine) }
-    ensures cause { OnErr result (Rose (K.faults out.old) (K.faults out.new)) }
-    ensures never_falls { K.faults out.old ≤ K.faults out.new }
-{
-    let last = if events.whole {
-        Ending::Played
-    } else {
-        Ending::Unbuilt
-    };
-    play_events(kernel, events.events.as_slice(), last, limit, out)
+/// What came of an answer of the reader.
+#[derive(Clone, Copy, Debug, PartialEq, Eq)]
+pub enum Advance {
+    /// An event was played.
+    Played,
+    /// No whole line is held: the reader waits for bytes.
+    Waits,
+    /// The history ended.
+    Ended(Ending),
 }
 
-/// Plays events in order, and answers `last` where they were played.
-fn play_events<K: Sink>(
+/// Asks for the next event, and plays it if there is one.
+fn play_next<K: Sink>(
     kernel: &mut Kernel,
-    events: &[Event],
-    last: Ending,
+    reader: &mut EventReader,
     limit: u32,
     out: &mut K,
-) -> Result<Ending, Failed>
+) -> Result<Advance, Failed>
     requires limit { limit ≤ 4000000000 }
     requires within { (machine_of kernel.old).steps ≤ limit }
-    ensures wrote { Wrote (K.written out.old) (K.written out.new) (history_to last events.now limit (machine_of kernel.old)) result }
-    ensures machine { OnOk result (machine_of kernel.new ≡ (history_to last events.now limit (machine_of kernel.old)).machine) }
+    ensures advances { (start : Machine) (begun : Option (List ℕ)) (taken : List ℕ) → HasPlayed limit start begun taken reader.old (machine_of kernel.old) (K.written out.old) → Advances limit start begun taken reader.old.finished reader.new (machine_of kernel.new) (K.written out.new) result }
+    ensures within { OnOk result ((machine_of kernel.new).steps ≤ limit) }
+
+    // Each event takes bytes that are held, and none are read.
+    ensures fewer { result ≡ Ok Advance.Played → length reader.new.held < length reader.old.held }
+    ensures waits { result ≡ Ok Advance.Waits → IsWaiting reader.new × (reader.new.start + length reader.new.held ≤ EVENT_FILE_LIMIT) }
+    ensures offset { reader.new.start + length reader.new.held ≡ reader.old.start + length reader.old.held }
+    ensures finished { reader.new.finished ≡ reader.old.finished }
+    ensures end { result ≡ Ok (Advance.Ended Ending.Played) → reader.new.finished ≡ true }
+
     ensures cause { OnErr result (Rose (K.faults out.old) (K.faults out.new)) }
     ensures never_falls { K.faults out.old ≤ K.faults out.new }
 {
-    'events: for event in events {
-        match play_event(kernel, *event, limit, out)? {
-            Ending::Played => {}
-            Ending::LimitMet => return Ok(Ending::LimitMet),
-            Ending::Unbuilt => return Ok(Ending::Unbuilt),
+    match reader.next() {
+        NextEvent::Event(event) => match play_event(kernel, event, limit, out)? {
+            Ending::Played => Ok(Advance::Played),
+            ending => Ok(Advance::Ended(ending)),
+        },
+        NextEvent::More => Ok(Advance::Waits),
+        NextEvent::Bad(line) => Ok(Advance::Ended(Ending::BadLine(line))),
+        NextEvent::End => Ok(Advance::Ended(Ending::Played)),
+    }
+}
+
+/// Plays all events that the reader knows, and answers how the history ended, or None where the
+/// reader waits for bytes.
+pub fn play_known<K: Sink>(
+    kernel: &mut Kernel,
+    reader: &mut EventReader,
+    limit: u32,
+    out: &mut K,
+) -> Result<Option<Ending>, Failed>
+    requires limit { limit ≤ 4000000000 }
+    requires within { (machine_of kernel.old).steps ≤ limit }
+    ensures goes { (start : Machine) (begun : Option (List ℕ)) (taken : List ℕ) → HasPlayed limit start begun taken reader.old (machine_of kernel.old) (K.written out.old) → Goes limit start begun taken reader.old.finished reader.new (machine_of kernel.new) (K.written out.new) result }
+    ensures within { OnOk result ((machine_of kernel.new).steps ≤ limit) }
+    ensures waits { result ≡ Ok None → IsWaiting reader.new × (reader.new.start + length reader.new.held ≤ EVENT_FILE_LIMIT) }
+    ensures offset { reader.new.start + length reader.new.held ≡ reader.old.start + length reader.old.held }
+    ensures finished { reader.new.finished ≡ reader.old.finished }
+    ensures end { result ≡ Ok (Some Ending.Played) → reader.new.finished ≡ true }
+    ensures cause { OnErr result (Rose (K.faults out.old) (K.faults out.new)) }
+    ensures never_falls { K.faults out.old ≤ K.faults out.new }
+{
+    'answers: loop {
+        match play_next(kernel, reader, limit, out)? {
+            Advance::Played => {}
+            Advance::Waits => return Ok(None),
+            Advance::Ended(ending) => return Ok(Some(ending)),
         }
     }
-    Ok(last)
 }

@@ -23,7 +23,7 @@ pub enum ReadError {
 }
 
 /// How many bytes are asked for at a time.
-const PIECE: usize = 4096;
+pub const PIECE: usize = 4096;
 
 /// Reads what is left at a slot to its end, or until more than `limit` bytes came.
 fn read_rest<H: Host>(

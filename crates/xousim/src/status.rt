@@ -16,6 +16,8 @@ pub enum Status {
     WriteFault,
     /// The image has this first fault.
     ImageFault(ArgFault),
+    /// The event file has this first bad line.
+    EventFault(u32),
     /// The run met this step limit.
     StepLimit(u32),
     /// There was no memory.
@@ -34,6 +36,7 @@ impl Status {
             Status::ReadFault => 3,
             Status::WriteFault => 4,
             Status::ImageFault(_) => 5,
+            Status::EventFault(_) => 6,
             Status::StepLimit(_) => 7,
             Status::NoMemory => 9,
             Status::NotBuilt => 10,

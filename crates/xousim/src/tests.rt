@@ -52,10 +52,11 @@ fn words(alloc: Global, texts: &[&str]) -> Result<Vec<String>, Fail> {
     Ok(words)
 }
 
-/// Runs `trace` over an image and an event file, where these calls of the host and of the output
-/// fail.
-fn trace(
+/// Runs `trace` over an image and an event file that come in pieces of this many bytes, where these
+/// calls of the host and of the output fail.
+fn trace_in_pieces(
     alloc: Global,
+    piece: usize,
     image: &[u8],
     events: &[u8],
     host_fails: &[u64],
@@ -64,7 +65,7 @@ fn trace(
     let mut files = Vec::new(alloc);
     files.push((String::from_str(alloc, "i")?, image.to_vec(alloc)?))?;
     files.push((String::from_str(alloc, "e")?, events.to_vec(alloc)?))?;
-    let mut host = MemHost::new(alloc, files, 7, host_fails.to_vec(alloc)?, 100)?;
+    let mut host = MemHost::new(alloc, files, piece.max(1), host_fails.to_vec(alloc)?, 100)?;
     let mut out = MemSink::new(alloc, 1000, out_fails.to_vec(alloc)?)?;
     let mut notes = MemSink::new(alloc, 100, Vec::new(alloc))?;
     let words = words(alloc, &["trace", "i", "e"])?;
@@ -82,6 +83,17 @@ fn trace(
         out: out.as_slice().to_vec(alloc)?,
         notes: notes.as_slice().to_vec(alloc)?,
     })
+}
+
+/// The same with pieces of 7 bytes.
+fn trace(
+    alloc: Global,
+    image: &[u8],
+    events: &[u8],
+    host_fails: &[u64],
+    out_fails: &[u64],
+) -> Result<Outcome, Fail> {
+    trace_in_pieces(alloc, 7, image, events, host_fails, out_fails)
 }
 
 #[test]
@@ -193,6 +205,23 @@ fn faults_outside(rt: HostRuntime) -> Result<(), Fail> {
     assert_eq!(rt; run.status, Status::WriteFault);
     assert_eq!(rt; run.out.as_slice(), b"".as_slice());
     assert_eq!(rt; run.notes.as_slice(), b"write fault\n".as_slice());
+    Ok(())
+}
+
+/// The events before a bad line are played, and so are those of the lines that were read before a
+/// read fault.
+#[test]
+fn faults_after_output(rt: HostRuntime) -> Result<(), Fail> {
+    let rest = b"8 2.2 byte 68\n".as_slice();
+    let run = trace(rt.alloc(), &FIRST_IMAGE, b"tick 6\ntick x\n", &[], &[])?;
+    assert_eq!(rt; run.status, Status::EventFault(2));
+    assert!(rt; FIRST_LINES.strip_prefix(run.out.as_slice()) == Some(rest));
+    assert_eq!(rt; run.notes.as_slice(), b"event fault at line 2\n".as_slice());
+    // Calls 2 to 90 read the image, 91 picks the event file, and 99 reads its eighth byte.
+    let events = b"tick 6\ntick 94\n";
+    let run = trace_in_pieces(rt.alloc(), 1, &FIRST_IMAGE, events, &[99], &[])?;
+    assert_eq!(rt; run.status.number(), 3);
+    assert!(rt; FIRST_LINES.strip_prefix(run.out.as_slice()) == Some(rest));
     Ok(())
 }
 

@@ -1,22 +1,19 @@
 //! The top call: words in, a status and a transcript out.
 
-ghost use Rattle.std.specs.Prelude.{⊤, ◌≡◌, ◌≤◌, [], IfOk, IfErr, MatchOption};
+ghost use Rattle.std.specs.Prelude.{⊤, ◌≡◌, ◌≤◌, [], MatchOption};
 ghost use Rattle.xk_base.specs.Outside.{Rose};
 ghost use Rattle.xk_ports.specs.declared.host.FileSlot.TheVariants.{First, Second};
-ghost use Rattle.xousim.specs.Finish.{Finishes, Loads, LoadsNot, PlaysOn};
-ghost use Rattle.xousim.specs.History.{history_of};
-ghost use Rattle.xousim.specs.Outcome.{Asks, Ends, Image, IsComplete, Notes, Plays};
-ghost use Rattle.xousim.specs.Reading.{AsksFor, IsTold};
+ghost use Rattle.xousim.specs.Finish.{EndsBooted, Finishes};
+ghost use Rattle.xousim.specs.Outcome.{Ends, IsComplete, Notes};
+ghost use Rattle.xousim.specs.Reading.{IsTold};
 ghost use Rattle.plain_kernel.specs.State.{machine_of};
 ghost use Rattle.xousim.specs.Status.{note_of};
 ghost use Rattle.xousim.specs.Words.{command_of};
 
 use crate::booting::boot_image;
 use crate::ending::Ending;
-use crate::events::{Events, read_events};
+use crate::event_file::{RunFault, play_file};
 use crate::notes::write_note;
-use crate::playing::play_file;
-use crate::reading::{Content, ReadError, read_file};
 use crate::status::{Ended, Status};
 use crate::transcript::write_end;
 use crate::words::{Files, read_words};
@@ -25,29 +22,6 @@ use std::alloc::Global;
 use trace_text::EndWord;
 use xk_base::limits::DEFAULT_STEPS;
 use xk_ports::{FileSlot, Host, Sink, SwapStore};
-
-/// Event files of more bytes aren't built.
-pub const EVENTS_LIMIT: u32 = 65_536;
-
-/// Reads the event file of that name, or says why not: `ReadFault`, `NotBuilt` or `NoMemory`.
-fn load_events<H: Host>(alloc: Global, host: &mut H, name: &str) -> Result<Events, Status>
-    ensures loaded { IfOk result (λ e. Loads (H.file host.old) name.now (record { events = e.events; whole = e.whole })) }
-    ensures end { IfOk result (λ e. IsTold (H.left host.new Second) []) }
-    ensures refused { IfErr result (LoadsNot (H.file host.old) name.now (Rose (H.faults host.old) (H.faults host.new))) }
-    ensures asked { AsksFor (H.asked host.old) (H.asked host.new) Second name.now }
-    ensures first { H.left host.new First ≡ H.left host.old First }
-    ensures never_falls { H.faults host.old ≤ H.faults host.new }
-{
-    match read_file(alloc, host, FileSlot::Second, name, EVENTS_LIMIT as usize) {
-        Ok(Content::Whole(bytes)) => match read_events(alloc, bytes.as_slice()) {
-            Ok(events) => Ok(events),
-            Err(_) => Err(Status::NoMemory),
-        },
-        Ok(Content::TooLong) => Err(Status::NotBuilt),
-        Err(ReadError::Fault) => Err(Status::ReadFault),
-        Err(ReadError::NoMemory) => Err(Status::NoMemory),
-    }
-}
 
 /// Writes the last line of a history that ended in this way, and gives the status.
 fn finish<K: Sink>(ending: Ending, steps: u32, out: &mut K) -> Status
@@ -63,63 +37,53 @@ fn finish<K: Sink>(ending: Ending, steps: u32, out: &mut K) -> Status
             Ok(()) => Status::StepLimit(DEFAULT_STEPS),
             Err(_) => Status::WriteFault,
         },
+        Ending::BadLine(line) => Status::EventFault(line),
         Ending::Unbuilt => Status::NotBuilt,
     }
 }
 
-/// Plays the events on a booted kernel, and writes the transcript.
-fn play<K: Sink>(kernel: &mut Kernel, events: &Events, out: &mut K) -> Status
-    requires { (machine_of kernel.old).steps ≤ DEFAULT_STEPS }
-    ensures played { PlaysOn (K.written out.old) (K.written out.new) (Rose (K.faults out.old) (K.faults out.new)) (history_of (record { events = events.now.events; whole = events.now.whole }) DEFAULT_STEPS (machine_of kernel.old)) result }
-    ensures never_falls { K.faults out.old ≤ K.faults out.new }
-{
-    match play_file(kernel, events, DEFAULT_STEPS, out) {
-        Ok(ending) => finish(ending, kernel.steps(), out),
-        Err(_) => Status::WriteFault,
-    }
-}
-
-/// Loads the event file and plays it on a booted kernel.
+/// Picks the event file of that name, plays its events on a booted kernel, and writes the
+/// transcript.
 fn play_events<H: Host, K: Sink>(
-    alloc: Global,
     kernel: &mut Kernel,
     host: &mut H,
     name: &str,
     out: &mut K,
 ) -> Status
     requires { (machine_of kernel.old).steps ≤ DEFAULT_STEPS }
-    ensures played { Plays (H.file host.old) name.now (machine_of kernel.old) (K.written out.old) (K.written out.new) (Rose (H.faults host.old) (H.faults host.new)) (Rose (K.faults out.old) (K.faults out.new)) result }
+    ensures played { EndsBooted (H.file host.old) name.now (H.asked host.old) (H.asked host.new) (H.left host.new Second) (machine_of kernel.old) (K.written out.old) (K.written out.new) (Rose (H.faults host.old) (H.faults host.new)) (Rose (K.faults out.old) (K.faults out.new)) result }
     ensures end { result ≡ Status.Done → IsTold (H.left host.new Second) [] }
-    ensures asked { AsksFor (H.asked host.old) (H.asked host.new) Second name.now }
     ensures first { H.left host.new First ≡ H.left host.old First }
     ensures host { H.faults host.old ≤ H.faults host.new }
     ensures out { K.faults out.old ≤ K.faults out.new }
 {
-    match load_events(alloc, host, name) {
-        Ok(events) => play(kernel, &events, out),
-        Err(status) => status,
+    let Ok(()) = host.pick_file(FileSlot::Second, name) else {
+        return Status::ReadFault;
+    };
+    match play_file(kernel, host, DEFAULT_STEPS, out) {
+        Ok(ending) => finish(ending, kernel.steps(), out),
+        Err(RunFault::Read) => Status::ReadFault,
+        Err(RunFault::Write) => Status::WriteFault,
     }
 }
 
 /// Runs the image over the events.
 fn run<H: Host, K: Sink>(alloc: Global, files: Files, host: &mut H, out: &mut K) -> Status
-    ensures ends { Ends (H.file host.old) (record { image = files.entry.image.now; events = files.entry.events.now }) (K.written out.old) (K.written out.new) (Rose (H.faults host.old) (H.faults host.new)) (Rose (K.faults out.old) (K.faults out.new)) result }
-    ensures asked { Asks (H.file host.old) (record { image = files.entry.image.now; events = files.entry.events.now }) (H.asked host.old) (H.asked host.new) }
+    ensures ends { Ends (H.file host.old) (record { image = files.entry.image.now; events = files.entry.events.now }) (H.asked host.old) (H.asked host.new) (H.left host.new Second) (K.written out.old) (K.written out.new) (Rose (H.faults host.old) (H.faults host.new)) (Rose (K.faults out.old) (K.faults out.new)) result }
     ensures first { result ≡ Status.Done → IsTold (H.left host.new First) [] }
     ensures second { result ≡ Status.Done → IsTold (H.left host.new Second) [] }
     ensures host { H.faults host.old ≤ H.faults host.new }
     ensures out { K.faults out.old ≤ K.faults out.new }
 {
     match boot_image(alloc, host, files.image) {
-        Ok(mut kernel) => play_events(alloc, &mut kernel, host, files.events, out),
+        Ok(mut kernel) => play_events(&mut kernel, host, files.events, out),
         Err(status) => status,
     }
 }
 
 /// Runs the files that the words name.
 fn run_words<H: Host, K: Sink>(alloc: Global, words: &[String], host: &mut H, out: &mut K) -> Status
-    ensures ends { MatchOption (command_of words.now) ((result ≡ Status.NotBuilt) × (K.written out.new ≡ K.written out.old)) (λ names. Ends (H.file host.old) names (K.written out.old) (K.written out.new) (Rose (H.faults host.old) (H.faults host.new)) (Rose (K.faults out.old) (K.faults out.new)) result) }
-    ensures asked { MatchOption (command_of words.now) (H.asked host.new ≡ H.asked host.old) (λ names. Asks (H.file host.old) names (H.asked host.old) (H.asked host.new)) }
+    ensures ends { MatchOption (command_of words.now) ((result ≡ Status.NotBuilt) × (K.written out.new ≡ K.written out.old) × (H.asked host.new ≡ H.asked host.old)) (λ names. Ends (H.file host.old) names (H.asked host.old) (H.asked host.new) (H.left host.new Second) (K.written out.old) (K.written out.new) (Rose (H.faults host.old) (H.faults host.new)) (Rose (K.faults out.old) (K.faults out.new)) result) }
     ensures first { result ≡ Status.Done → IsTold (H.left host.new First) [] }
     ensures second { result ≡ Status.Done → IsTold (H.left host.new Second) [] }
     ensures host { H.faults host.old ≤ H.faults host.new }
@@ -142,8 +106,7 @@ pub fn xous_main<H: Host, K: Sink, N: Sink, W: SwapStore>(
     notes: &mut N,
     store: W,
 ) -> Ended<W>
-    ensures ends { MatchOption (command_of words.now) ((result.status ≡ Status.NotBuilt) × (K.written out.new ≡ K.written out.old)) (λ names. Ends (H.file host.old) names (K.written out.old) (K.written out.new) (Rose (H.faults host.old) (H.faults host.new)) (Rose (K.faults out.old) (K.faults out.new)) result.status) }
-    ensures asked { MatchOption (command_of words.now) (H.asked host.new ≡ H.asked host.old) (λ names. Asks (H.file host.old) names (H.asked host.old) (H.asked host.new)) }
+    ensures ends { MatchOption (command_of words.now) ((result.status ≡ Status.NotBuilt) × (K.written out.new ≡ K.written out.old) × (H.asked host.new ≡ H.asked host.old)) (λ names. Ends (H.file host.old) names (H.asked host.old) (H.asked host.new) (H.left host.new Second) (K.written out.old) (K.written out.new) (Rose (H.faults host.old) (H.faults host.new)) (Rose (K.faults out.old) (K.faults out.new)) result.status) }
 
     // Where no count rose, the status is the one verdict of the files (`one_verdict`).
     ensures complete { MatchOption (command_of words.now) ⊤ (λ names. ¬ Rose (H.faults host.old) (H.faults host.new) → ¬ Rose (K.faults out.old) (K.faults out.new) → IsComplete (H.file host.old) names (K.written out.old) (K.written out.new) result.status) }

@@ -1,8 +1,8 @@
-use Rattle.std.proofs.Common.{◌≡◌, ◌∙◌, refl, sym, ap, Some, None}
+use Rattle.std.proofs.Common.{◌≡◌, ◌<◌, ◌∙◌, refl, sym, ap, Some, None, true, [], length}
 use Rattle.event_text.specs.declared.event.Line.TheVariants as line
 use Rattle.event_text.specs.declared.event.NextEvent.TheVariants as answer
-use Rattle.event_text.specs.Held.{Reader, front_of, rest_answer}
-use Rattle.event_text.proofs.HeldLemmas.{answer_here, after_here, answer_blank, after_blank, front_past, rest_more, bad_known}
+use Rattle.event_text.specs.Held.{Reader, front_of, is_good, rest_answer}
+use Rattle.event_text.proofs.HeldLemmas.{answer_here, after_here, answer_blank, after_blank, front_past, rest_more, bad_known, front_good, past_holds}
 use Rattle.event_text.proofs.reader.EventReader.next.Goals as goal
 
 pub returns-in-Some-Bad-clause-answer : goal.returns-in-Some-Bad-clause-answer
@@ -60,3 +60,11 @@ returns-in-Some-Bad-clause-bad c = λ n bad.
 pub returns-in-Some-Blank-clause-within : goal.returns-in-Some-Blank-clause-within
 returns-in-Some-Blank-clause-within c = λ more.
     c.rest.ensures.within (ap front_of c.pass_line-in-Some-Blank.ensures ∙ front_past c.args.self.now c.front.ensures.one_line)
+
+pub returns-in-Some-Asks-clause-fewer : goal.returns-in-Some-Asks-clause-fewer
+returns-in-Some-Asks-clause-fewer c = λ event found.
+    let known : front_of c.args.self.now ≡ Some (line.Asks c.in-Some-Asks.event) = cc in
+    let good : is_good (front_of c.args.self.now) ≡ true = rw known refl in
+    let within = front_good c.args.self.now c.front.ensures.one_line good in
+    let none : c.pass_line.new.self.held ≡ [] = ap (λ (r : Reader). r.held) c.pass_line.ensures ∙ past_holds c.args.self.now c.front.ensures.one_line in
+    rw none within.some

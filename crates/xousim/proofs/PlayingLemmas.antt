@@ -1,0 +1,327 @@
+-- What was played so far, one answer of the reader further.
+use Rattle.std.proofs.Common.{◌≡◌, ◌≢◌, ◌≤◌, ◌+◌, ℕ, arith, take, drop, length, length-append, length-take, Bool, true, false, List, [], ◌∷◌, ◌++◌, Option, Some, None, Result, Ok, Err, IsErr, refl, sym, ap, ◌∙◌, subst, append_assoc, append-nil}
+use Rattle.std.proofs.lemmas.List.{take-append-drop}
+use Rattle.xk_base.specs.declared.records.Rec.{Rec}
+use Rattle.xk_base.specs.declared.errors.Failed.{Failed}
+use Rattle.xk_ports.specs.Told.{Grows, GrowsByPrefix, Consumes}
+use Rattle.xk_ports.proofs.ToldLemmas.{Grows-append, Grows-none}
+use Rattle.trace_text.specs.Lines.{line_of, text_of}
+use Rattle.machine_model.specs.Machine.{Machine}
+use Rattle.event_text.specs.declared.event.Event.{Event}
+use Rattle.event_text.specs.declared.event.NextEvent.{NextEvent}
+use Rattle.event_text.specs.declared.event.NextEvent.TheVariants as answer
+use Rattle.event_text.specs.EventFile.{Input, input_of}
+use Rattle.event_text.specs.Held.{Reader, IsWaiting, new_reader, with_bytes, answer_of, after_next}
+use Rattle.event_text.specs.Lines.{whole_lines}
+use Rattle.event_text.specs.Plays.{Call, takes, ends, asks, Play, play_of, after_bytes, events_in, left_of, with_events, finished_reader, MayFollow}
+use Rattle.event_text.proofs.PlaysLemmas.{play_left, left_next, left_bad, left_end}
+use Rattle.event_text.proofs.WholeLemmas.{play_whole}
+use Rattle.xousim.specs.declared.ending.Ending.{Ending}
+use Rattle.xousim.specs.declared.ending.Ending.TheVariants.{Played, LimitMet, Unbuilt, BadLine}
+use Rattle.xousim.specs.History.{History, ended, behind, history, history_to, history_of, end_of, play}
+use Rattle.xousim.specs.declared.playing.Advance.{Advance}
+use Rattle.xousim.specs.Playing.{HasPlayed, EndsSo, FailsSo, Advances, Goes}
+use Rattle.xousim.specs.Reading.{IsTold}
+use Rattle.xousim.specs.Writing.{Wrote}
+use Rattle.xousim.proofs.HistoryLemmas.{history_none, history_first, history_stops, history_goes_on, history_after, wrote_same, wrote_behind, wrote_ended, wrote_part}
+
+-- ---- the start
+
+start_with : (limit : ℕ) (start : Machine) (out : Option (List ℕ)) (h : History) → h ≡ ended Played start
+    → (h.ending ≡ Played) × (h.machine ≡ start) × Grows out out (text_of h.records)
+start_with limit start out h is =
+    let P : History → Type 0 = λ x. (x.ending ≡ Played) × (x.machine ≡ start) × Grows out out (text_of x.records) in
+    subst P (sym is) (refl, refl, Grows-none out)
+
+new_is : (play_of []).reader ≡ new_reader
+unfolding play_of
+new_is = refl
+
+new_took : (play_of []).taken ≡ []
+unfolding play_of
+new_took = refl
+
+new_answered : (play_of []).answered ≡ []
+unfolding play_of
+new_answered = refl
+
+-- nothing was played yet
+pub played_none : (limit : ℕ) (start : Machine) (out : Option (List ℕ)) → HasPlayed limit start out [] new_reader start out
+played_none limit start out =
+    let is : history (play_of []).answered limit start ≡ ended Played start = ap (λ (events : List Event). history events limit start) new_answered ∙ history_none Played limit start in
+    let all = start_with limit start out (history (play_of []).answered limit start) is in
+    record { calls = []; is_reader = new_is; took = new_took; played = all.0; there = all.1; written = all.2 }
+
+-- ---- bytes, and the end
+
+took_bytes : (bytes : List ℕ) (calls : List Call) → (play_of calls).reader.finished ≡ false
+    → play_of (takes bytes ∷ calls) ≡ record { reader = with_bytes (play_of calls).reader bytes; taken = (play_of calls).taken ++ bytes; answered = (play_of calls).answered }
+unfolding play_of
+took_bytes bytes calls unsaid = ap (λ (f : Bool). after_bytes f bytes (play_of calls)) unsaid
+
+-- the reader took more bytes
+pub played_bytes : (limit : ℕ) (start m : Machine) (begun out : Option (List ℕ)) (taken : List ℕ) (r : Reader) (bytes : List ℕ) → r.finished ≡ false
+    → HasPlayed limit start begun taken r m out → HasPlayed limit start begun (taken ++ bytes) (with_bytes r bytes) m out
+played_bytes limit start m begun out taken r bytes unsaid p =
+    let is = took_bytes bytes p.calls (ap (λ (x : Reader). x.finished) p.is_reader ∙ unsaid) in
+    let same : (play_of (takes bytes ∷ p.calls)).answered ≡ (play_of p.calls).answered = ap (λ (x : Play). x.answered) is in
+    let H : List Event → History = λ events. history events limit start in
+    let W : List Event → Type 0 = λ events. Grows begun out (text_of (H events).records) in
+    record {
+      calls = takes bytes ∷ p.calls;
+      is_reader = ap (λ (x : Play). x.reader) is ∙ ap (λ (x : Reader). with_bytes x bytes) p.is_reader;
+      took = ap (λ (x : Play). x.taken) is ∙ ap (λ (l : List ℕ). l ++ bytes) p.took;
+      played = ap (λ (events : List Event). (H events).ending) same ∙ p.played;
+      there = ap (λ (events : List Event). (H events).machine) same ∙ p.there;
+      written = subst W (sym same) p.written;
+    }
+
+said_end : (calls : List Call) → play_of (ends ∷ calls) ≡ record { reader = finished_reader (play_of calls).reader; taken = (play_of calls).taken; answered = (play_of calls).answered }
+unfolding play_of
+said_end calls = refl
+
+-- the end was said
+pub played_end : (limit : ℕ) (start m : Machine) (begun out : Option (List ℕ)) (taken : List ℕ) (r : Reader)
+    → HasPlayed limit start begun taken r m out → HasPlayed limit start begun taken (finished_reader r) m out
+played_end limit start m begun out taken r p =
+    let is = said_end p.calls in
+    let same : (play_of (ends ∷ p.calls)).answered ≡ (play_of p.calls).answered = ap (λ (x : Play). x.answered) is in
+    let H : List Event → History = λ events. history events limit start in
+    let W : List Event → Type 0 = λ events. Grows begun out (text_of (H events).records) in
+    record {
+      calls = ends ∷ p.calls;
+      is_reader = ap (λ (x : Play). x.reader) is ∙ ap finished_reader p.is_reader;
+      took = ap (λ (x : Play). x.taken) is ∙ p.took;
+      played = ap (λ (events : List Event). (H events).ending) same ∙ p.played;
+      there = ap (λ (events : List Event). (H events).machine) same ∙ p.there;
+      written = subst W (sym same) p.written;
+    }
+
+-- ---- an answer
+
+asked_next : (calls : List Call)
+    → play_of (asks ∷ calls) ≡ record { reader = after_next (play_of calls).reader; taken = (play_of calls).taken; answered = (play_of calls).answered ++ events_in (answer_of (play_of calls).reader) }
+unfolding play_of
+asked_next calls = refl
+
+-- an answer without an event
+pub played_no_event : (limit : ℕ) (start m : Machine) (begun out : Option (List ℕ)) (taken : List ℕ) (r : Reader) → events_in (answer_of r) ≡ []
+    → HasPlayed limit start begun taken r m out → HasPlayed limit start begun taken (after_next r) m out
+played_no_event limit start m begun out taken r none p =
+    let is = asked_next p.calls in
+    let same : (play_of (asks ∷ p.calls)).answered ≡ (play_of p.calls).answered =
+    ap (λ (x : Play). x.answered) is
+    ∙ (ap (λ (events : List Event). (play_of p.calls).answered ++ events) (ap (λ (x : Reader). events_in (answer_of x)) p.is_reader ∙ none)
+    ∙ append-nil (play_of p.calls).answered) in
+    let H : List Event → History = λ events. history events limit start in
+    let W : List Event → Type 0 = λ events. Grows begun out (text_of (H events).records) in
+    record {
+      calls = asks ∷ p.calls;
+      is_reader = ap (λ (x : Play). x.reader) is ∙ ap after_next p.is_reader;
+      took = ap (λ (x : Play). x.taken) is ∙ p.took;
+      played = ap (λ (events : List Event). (H events).ending) same ∙ p.played;
+      there = ap (λ (events : List Event). (H events).machine) same ∙ p.there;
+      written = subst W (sym same) p.written;
+    }
+
+-- what is played behind a history that was played to its end
+one_more : (limit : ℕ) (start m next : Machine) (begun mid out : Option (List ℕ)) (answered : List Event) (event : Event)
+    → (history answered limit start).ending ≡ Played → (history answered limit start).machine ≡ m → Grows begun mid (text_of (history answered limit start).records)
+    → (play event limit m).ending ≡ Played → (play event limit m).machine ≡ next → Grows mid out (text_of (play event limit m).records)
+    → (h : History) → h ≡ history (answered ++ event ∷ []) limit start
+    → (h.ending ≡ Played) × (h.machine ≡ next) × Grows begun out (text_of h.records)
+one_more limit start m next begun mid out answered event played there written over to grown h is =
+    let A : History = history answered limit start in
+    let p : History = play event limit m in
+    let last : history (event ∷ []) limit m ≡ behind p.records (ended Played p.machine) =
+    history_goes_on Played event [] limit m over ∙ ap (behind p.records) (history_none Played limit p.machine) in
+    let whole : h ≡ behind A.records (behind p.records (ended Played p.machine)) =
+    is
+    ∙ (history_after Played answered (event ∷ []) limit start played
+    ∙ (ap (λ (x : Machine). behind A.records (history (event ∷ []) limit x)) there
+    ∙ ap (behind A.records) last)) in
+    let W : History → Type 0 = λ x. Wrote begun out x (Ok Played) in
+    let wrote : W h = subst W (sym whole)
+    (wrote_behind begun mid out A.records (behind p.records (ended Played p.machine)) (Ok Played) written
+    (wrote_behind mid out out p.records (ended Played p.machine) (Ok Played) grown (wrote_ended out Played p.machine))) in (
+      wrote.0,
+      ap (λ (x : History). x.machine) whole ∙ to,
+      wrote.1,
+    )
+
+events_one : (found : NextEvent) (event : Event) → found ≡ answer.Event event → events_in found ≡ event ∷ []
+events_one found event is = rw is refl
+
+-- an event that was played
+pub played_event : (limit : ℕ) (start m next : Machine) (begun mid out : Option (List ℕ)) (taken : List ℕ) (r : Reader) (event : Event) → answer_of r ≡ answer.Event event
+    → HasPlayed limit start begun taken r m mid
+    → (play event limit m).ending ≡ Played → (play event limit m).machine ≡ next → Grows mid out (text_of (play event limit m).records)
+    → HasPlayed limit start begun taken (after_next r) next out
+played_event limit start m next begun mid out taken r event found p over to grown =
+    let is = asked_next p.calls in
+    let more : (play_of (asks ∷ p.calls)).answered ≡ (play_of p.calls).answered ++ event ∷ [] =
+    ap (λ (x : Play). x.answered) is
+    ∙ ap (λ (events : List Event). (play_of p.calls).answered ++ events) (ap (λ (x : Reader). events_in (answer_of x)) p.is_reader ∙ events_one (answer_of r) event found) in
+    let all = one_more limit start m next begun mid out (play_of p.calls).answered event p.played p.there p.written over to grown
+    (history (play_of (asks ∷ p.calls)).answered limit start) (ap (λ (events : List Event). history events limit start) more) in
+    record {
+      calls = asks ∷ p.calls;
+      is_reader = ap (λ (x : Play). x.reader) is ∙ ap after_next p.is_reader;
+      took = ap (λ (x : Play). x.taken) is ∙ p.took;
+      played = all.0;
+      there = all.1;
+      written = all.2;
+    }
+
+-- ---- the rest
+
+-- the history of a file is what was played, and behind it the history of what the reader has left
+whole_is : (limit : ℕ) (start m : Machine) (begun out : Option (List ℕ)) (taken : List ℕ) (r : Reader) (more : List ℕ) → (r.finished ≡ true → more ≡ [])
+    → (p : HasPlayed limit start begun taken r m out)
+    → history_of (input_of (taken ++ more)) limit start ≡ behind (history (play_of p.calls).answered limit start).records (history_of (left_of r more) limit m)
+whole_is limit start m begun out taken r more may p =
+    let answered = (play_of p.calls).answered in
+    let follows : MayFollow (play_of p.calls) more = λ f. may (sym (ap (λ (x : Reader). x.finished) p.is_reader) ∙ f) in
+    let left : with_events answered (left_of r more) ≡ input_of (taken ++ more) =
+    ap (λ (x : Reader). with_events answered (left_of x more)) (sym p.is_reader)
+    ∙ (play_left p.calls more follows
+    ∙ ap (λ (l : List ℕ). input_of (l ++ more)) p.took) in
+    ap (λ (input : Input). history_of input limit start) (sym left)
+    ∙ (history_after (end_of (left_of r more).bad) answered (left_of r more).events limit start p.played
+    ∙ ap (λ (x : Machine). behind (history answered limit start).records (history_of (left_of r more) limit x)) p.there)
+
+-- whatever is written for the rest completes the whole
+completes : (limit : ℕ) (start m : Machine) (begun mid out : Option (List ℕ)) (taken : List ℕ) (r : Reader) (more : List ℕ) (result : Result Ending Failed) → (r.finished ≡ true → more ≡ [])
+    → HasPlayed limit start begun taken r m mid → (h : History) → history_of (left_of r more) limit m ≡ h → Wrote mid out h result
+    → Wrote begun out (history_of (input_of (taken ++ more)) limit start) result
+completes limit start m begun mid out taken r more result may p h is wrote =
+    let A : History = history (play_of p.calls).answered limit start in
+    wrote_same begun out (history_of (input_of (taken ++ more)) limit start) (behind A.records h) result
+    (whole_is limit start m begun mid taken r more may p ∙ ap (behind A.records) is)
+    (wrote_behind begun mid out A.records h result p.written wrote)
+
+ends_on : (limit : ℕ) (start m : Machine) (begun mid : Option (List ℕ)) (taken : List ℕ) (r : Reader) (more : List ℕ) → (r.finished ≡ true → more ≡ [])
+    → HasPlayed limit start begun taken r m mid → (h : History) → history_of (left_of r more) limit m ≡ h
+    → h.machine ≡ (history_of (input_of (taken ++ more)) limit start).machine
+ends_on limit start m begun mid taken r more may p h is =
+    sym (ap (λ (x : History). x.machine) is) ∙ sym (ap (λ (x : History). x.machine) (whole_is limit start m begun mid taken r more may p))
+
+-- a bad line ends the history
+pub ends_bad : (limit : ℕ) (start m : Machine) (begun out : Option (List ℕ)) (taken : List ℕ) (r : Reader) (line : ℕ) → answer_of r ≡ answer.Bad line
+    → HasPlayed limit start begun taken r m out → EndsSo limit start begun taken r.finished m out (BadLine line)
+ends_bad limit start m begun out taken r line bad p = λ more may.
+    let is : history_of (left_of r more) limit m ≡ ended (BadLine line) m =
+    ap (λ (input : Input). history_of input limit m) (left_bad r more line may bad) ∙ history_none (BadLine line) limit m in (
+      completes limit start m begun out out taken r more (Ok (BadLine line)) may p (ended (BadLine line) m) is (wrote_ended out (BadLine line) m),
+      ends_on limit start m begun out taken r more may p (ended (BadLine line) m) is,
+    )
+
+-- .. and so does the end of the file
+pub ends_whole : (limit : ℕ) (start m : Machine) (begun out : Option (List ℕ)) (taken : List ℕ) (r : Reader) → answer_of r ≡ answer.End
+    → HasPlayed limit start begun taken r m out → EndsSo limit start begun taken r.finished m out Played
+ends_whole limit start m begun out taken r end p = λ more may.
+    let both = left_end r end in
+    let left : left_of r more ≡ record { events = []; bad = None } = ap (left_of r) (may both.0) ∙ both.1 in
+    let is : history_of (left_of r more) limit m ≡ ended Played m =
+    ap (λ (input : Input). history_of input limit m) left ∙ history_none Played limit m in (
+      completes limit start m begun out out taken r more (Ok Played) may p (ended Played m) is (wrote_ended out Played m),
+      ends_on limit start m begun out taken r more may p (ended Played m) is,
+    )
+
+left_event : (r : Reader) (more : List ℕ) (event : Event) → (r.finished ≡ true → more ≡ []) → answer_of r ≡ answer.Event event
+    → left_of r more ≡ with_events (event ∷ []) (left_of (after_next r) more)
+left_event r more event may found =
+    sym (left_next r more may) ∙ ap (λ (events : List Event). with_events events (left_of (after_next r) more)) (events_one (answer_of r) event found)
+
+-- an event at which the history ends
+pub ends_event : (limit : ℕ) (start m next : Machine) (begun mid out : Option (List ℕ)) (taken : List ℕ) (r : Reader) (event : Event) (ending : Ending) → answer_of r ≡ answer.Event event
+    → ending ≢ Played → Wrote mid out (play event limit m) (Ok ending) → next ≡ (play event limit m).machine
+    → HasPlayed limit start begun taken r m mid → EndsSo limit start begun taken r.finished next out ending
+ends_event limit start m next begun mid out taken r event ending found other wrote to p = λ more may.
+    let rest : Input = left_of (after_next r) more in
+    let is : history_of (left_of r more) limit m ≡ play event limit m =
+    ap (λ (input : Input). history_of input limit m) (left_event r more event may found)
+    ∙ history_stops (end_of rest.bad) event rest.events limit m (λ e. other (sym wrote.0 ∙ e)) in (
+      completes limit start m begun mid out taken r more (Ok ending) may p (play event limit m) is wrote,
+      to ∙ ends_on limit start m begun mid taken r more may p (play event limit m) is,
+    )
+
+-- an event whose records couldn't be written
+pub fails_event : (limit : ℕ) (start m : Machine) (begun mid out : Option (List ℕ)) (taken : List ℕ) (r : Reader) (event : Event) (failed : Failed) → answer_of r ≡ answer.Event event
+    → Wrote mid out (play event limit m) (Err failed)
+    → HasPlayed limit start begun taken r m mid → FailsSo limit start begun taken r.finished out failed
+fails_event limit start m begun mid out taken r event failed found wrote p = λ more may.
+    let rest : Input = left_of (after_next r) more in
+    let is = ap (λ (input : Input). history_of input limit m) (left_event r more event may found) ∙ history_first (end_of rest.bad) event rest.events limit m in
+    completes limit start m begun mid out taken r more (Err failed) may p _ is
+    (wrote_part mid out (play event limit m) (history_to (end_of rest.bad) rest.events limit) failed wrote)
+
+-- ---- more bytes of the same file
+
+unsaid_end : (f : Bool) (more : List ℕ) → f ≡ false → f ≡ true → more ≡ []
+unsaid_end f more unsaid said = cc
+
+pub ends_longer : (limit : ℕ) (start m : Machine) (begun out : Option (List ℕ)) (taken rest whole : List ℕ) (f : Bool) (ending : Ending) → whole ≡ taken ++ rest → f ≡ false
+    → EndsSo limit start begun taken f m out ending → EndsSo limit start begun whole false m out ending
+ends_longer limit start m begun out taken rest whole f ending is unsaid p = λ more may.
+    let P : List ℕ → Type 0 = λ bytes. Wrote begun out (history_of (input_of bytes) limit start) (Ok ending) × (m ≡ (history_of (input_of bytes) limit start).machine) in
+    subst P (sym (append_assoc taken rest more) ∙ ap (λ (l : List ℕ). l ++ more) (sym is)) (p (rest ++ more) (unsaid_end f (rest ++ more) unsaid))
+
+pub fails_longer : (limit : ℕ) (start : Machine) (begun out : Option (List ℕ)) (taken rest whole : List ℕ) (f : Bool) (failed : Failed) → whole ≡ taken ++ rest → f ≡ false
+    → FailsSo limit start begun taken f out failed → FailsSo limit start begun whole false out failed
+fails_longer limit start begun out taken rest whole f failed is unsaid p = λ more may.
+    let P : List ℕ → Type 0 = λ bytes. Wrote begun out (history_of (input_of bytes) limit start) (Err failed) in
+    subst P (sym (append_assoc taken rest more) ∙ ap (λ (l : List ℕ). l ++ more) (sym is)) (p (rest ++ more) (unsaid_end f (rest ++ more) unsaid))
+
+-- the bytes taken, those fed and those left of a piece
+pub piece_cut : (taken done rest piece : List ℕ) (t : ℕ) → piece ≡ done ++ rest → taken ++ piece ≡ ((taken ++ done) ++ take t rest) ++ drop t rest
+piece_cut taken done rest piece t cut =
+    ap (λ (l : List ℕ). taken ++ l) cut
+    ∙ (sym (append_assoc taken done rest)
+    ∙ (ap (λ (l : List ℕ). (taken ++ done) ++ l) (sym (take-append-drop t rest))
+    ∙ sym (append_assoc (taken ++ done) (take t rest) (drop t rest))))
+
+pub piece_front : (done rest piece : List ℕ) (t : ℕ) → piece ≡ done ++ rest → piece ≡ (done ++ take t rest) ++ drop t rest
+piece_front done rest piece t cut = piece_cut [] done rest piece t cut
+
+pub fed_offset : (r fed : Reader) (t : ℕ) (rest : List ℕ) → fed ≡ with_bytes r (take t rest) → t ≤ length rest → fed.start + length fed.held ≡ r.start + length r.held + t
+fed_offset r fed t rest is within = rw (is, length-append) (omega (arith, length-take t rest))
+
+-- ---- answers that are faults
+
+pub advances_err : (limit : ℕ) (start : Machine) (begun : Option (List ℕ)) (taken : List ℕ) (finished : Bool) (r : Reader) (m : Machine) (out : Option (List ℕ)) (result : Result Advance Failed)
+    → IsErr result → ((failed : Failed) → FailsSo limit start begun taken finished out failed) → Advances limit start begun taken finished r m out result
+advances_err limit start begun taken finished r m out (Ok x) is fails = cc
+advances_err limit start begun taken finished r m out (Err failed) is fails = fails failed
+
+pub goes_err : (limit : ℕ) (start : Machine) (begun : Option (List ℕ)) (taken : List ℕ) (finished : Bool) (r : Reader) (m : Machine) (out : Option (List ℕ)) (result : Result (Option Ending) Failed)
+    → IsErr result → ((failed : Failed) → FailsSo limit start begun taken finished out failed) → Goes limit start begun taken finished r m out result
+goes_err limit start begun taken finished r m out (Ok x) is fails = cc
+goes_err limit start begun taken finished r m out (Err failed) is fails = fails failed
+
+-- ---- the whole lines
+
+-- what was played while the reader waits is the history of the whole lines that it took
+pub whole_lines_played : (limit : ℕ) (start m : Machine) (begun out : Option (List ℕ)) (taken : List ℕ) (r : Reader) → IsWaiting r
+    → HasPlayed limit start begun taken r m out → Wrote begun out (history_of (input_of (whole_lines taken)) limit start) (Ok Played)
+whole_lines_played limit start m begun out taken r waiting p =
+    let waits : IsWaiting (play_of p.calls).reader = subst (λ x. IsWaiting x) (sym p.is_reader) waiting in
+    let input : input_of (whole_lines taken) ≡ record { events = (play_of p.calls).answered; bad = None } =
+    ap (λ (l : List ℕ). input_of (whole_lines l)) (sym p.took) ∙ play_whole p.calls waits in
+    wrote_same begun out (history_of (input_of (whole_lines taken)) limit start) (history (play_of p.calls).answered limit start) (Ok Played)
+    (ap (λ (i : Input). history_of i limit start) input)
+    (p.played, p.written)
+
+-- ---- a whole file
+
+pub file_ends : (limit : ℕ) (start m : Machine) (begun out : Option (List ℕ)) (taken : List ℕ) (f : Bool) (ending : Ending) → EndsSo limit start begun taken f m out ending
+    → Wrote begun out (history_of (input_of taken) limit start) (Ok ending) × (m ≡ (history_of (input_of taken) limit start).machine)
+file_ends limit start m begun out taken f ending p =
+    let P : List ℕ → Type 0 = λ bytes. Wrote begun out (history_of (input_of bytes) limit start) (Ok ending) × (m ≡ (history_of (input_of bytes) limit start).machine) in
+    subst P (append-nil taken) (p [] (λ e. refl))
+
+pub file_fails : (limit : ℕ) (start : Machine) (begun out : Option (List ℕ)) (taken : List ℕ) (f : Bool) (failed : Failed) → FailsSo limit start begun taken f out failed
+    → Wrote begun out (history_of (input_of taken) limit start) (Err failed)
+file_fails limit start begun out taken f failed p =
+    let P : List ℕ → Type 0 = λ bytes. Wrote begun out (history_of (input_of bytes) limit start) (Err failed) in
+    subst P (append-nil taken) (p [] (λ e. refl))

@@ -1,0 +1,103 @@
+//! The event file is read in pieces, and each event is played as soon as it is known.
+
+ghost use Rattle.std.specs.Prelude.{◌≡◌, ◌≢◌, ◌≤◌, ◌+◌, ◌++◌, [], ℕ, false, List, Option, None, Some, Ok, Err, length, IsTrue, OnOk, OnErr};
+ghost use Rattle.event_text.specs.Held.{IsWaiting};
+ghost use Rattle.machine_model.specs.Machine.{Machine};
+ghost use Rattle.xk_base.specs.declared.limits.TheConstants.{EVENT_FILE_LIMIT};
+ghost use Rattle.xk_base.specs.Outside.{Rose};
+ghost use Rattle.xk_ports.specs.declared.host.FileSlot.TheVariants.{First, Second};
+ghost use Rattle.xousim.specs.Playing.{Goes, HasPlayed, Runs};
+ghost use Rattle.xousim.specs.Reading.{IsTold};
+ghost use Rattle.plain_kernel.specs.State.{machine_of};
+
+use crate::ending::Ending;
+use crate::playing::play_known;
+use crate::reading::PIECE;
+use event_text::EventReader;
+use plain_kernel::Kernel;
+use xk_base::Failed;
+use xk_ports::{FileSlot, Host, Sink};
+
+/// Why a run over an event file stopped early.
+#[derive(Clone, Copy, Debug, PartialEq, Eq)]
+pub enum RunFault {
+    /// The event file couldn't be read.
+    Read,
+    /// The output couldn't be written.
+    Write,
+}
+
+/// Feeds a piece of the event file to a reader that waits, plays the events that become known, and
+/// answers how the history ended, or None where the reader waits for the next piece.
+fn play_piece<K: Sink>(
+    kernel: &mut Kernel,
+    reader: &mut EventReader,
+    piece: &[u8],
+    limit: u32,
+    out: &mut K,
+) -> Result<Option<Ending>, Failed>
+    requires limit { limit ≤ 4000000000 }
+    requires within { (machine_of kernel.old).steps ≤ limit }
+    requires waits { IsWaiting reader.old }
+    requires inside { reader.old.start + length reader.old.held ≤ EVENT_FILE_LIMIT }
+    ensures goes { (start : Machine) (begun : Option (List ℕ)) (taken : List ℕ) → HasPlayed limit start begun taken reader.old (machine_of kernel.old) (K.written out.old) → Goes limit start begun (taken ++ piece.now) false reader.new (machine_of kernel.new) (K.written out.new) result }
+    ensures within { OnOk result ((machine_of kernel.new).steps ≤ limit) }
+    ensures waits { result ≡ Ok None → IsWaiting reader.new × (reader.new.start + length reader.new.held ≤ EVENT_FILE_LIMIT) }
+    ensures unended { result ≢ Ok (Some Ending.Played) }
+    ensures offset { result ≡ Ok None → reader.new.start + length reader.new.held ≡ reader.old.start + length reader.old.held + length piece.now }
+    ensures cause { OnErr result (Rose (K.faults out.old) (K.faults out.new)) }
+    ensures never_falls { K.faults out.old ≤ K.faults out.new }
+{
+    let mut rest = piece;
+    'rest: while !rest.is_empty() {
+        let taken = reader.feed(rest);
+        rest = &rest[taken..];
+        match play_known(kernel, reader, limit, out)? {
+            None => {}
+            Some(ending) => return Ok(Some(ending)),
+        }
+    }
+    Ok(None)
+}
+
+/// Reads the event file that was picked at the second slot, plays its events on a booted kernel,
+/// and writes their records. It takes no memory.
+pub fn play_file<H: Host, K: Sink>(
+    kernel: &mut Kernel,
+    host: &mut H,
+    limit: u32,
+    out: &mut K,
+) -> Result<Ending, RunFault>
+    requires picked { IsTrue (H.is_picked host.old Second) }
+    requires limit { limit ≤ 4000000000 }
+    requires within { (machine_of kernel.old).steps ≤ limit }
+    ensures runs { Runs (H.left host.old Second) (H.left host.new Second) limit (machine_of kernel.old) (machine_of kernel.new) (K.written out.old) (K.written out.new) result }
+    ensures end { result ≡ Ok Ending.Played → IsTold (H.left host.new Second) [] }
+    ensures read { result ≡ Err RunFault.Read → Rose (H.faults host.old) (H.faults host.new) }
+    ensures write { result ≡ Err RunFault.Write → Rose (K.faults out.old) (K.faults out.new) }
+    ensures asked { H.asked host.new ≡ H.asked host.old }
+    ensures first { H.left host.new First ≡ H.left host.old First }
+    ensures host { H.faults host.old ≤ H.faults host.new }
+    ensures out { K.faults out.old ≤ K.faults out.new }
+{
+    let mut reader = EventReader::new();
+    let mut piece = [0u8; PIECE];
+    'pieces: loop {
+        let Ok(count) = host.read(FileSlot::Second, &mut piece) else {
+            return Err(RunFault::Read);
+        };
+        if count == 0 {
+            reader.finish();
+            return match play_known(kernel, &mut reader, limit, out) {
+                Ok(Some(ending)) => Ok(ending),
+                Ok(None) => unreachable!(),
+                Err(_) => Err(RunFault::Write),
+            };
+        }
+        match play_piece(kernel, &mut reader, &piece[..count], limit, out) {
+            Ok(None) => {}
+            Ok(Some(ending)) => return Ok(ending),
+            Err(_) => return Err(RunFault::Write),
+        }
+    }
+}
