@@ -163,9 +163,15 @@ fn what_is_not_built(rt: HostRuntime) -> Result<(), Fail> {
 #[test]
 fn ends_of_the_process(rt: HostRuntime) -> Result<(), Fail> {
     let rows: [(u32, &[u8]); 3] = [
-        (0x0010_0073, b"1 2.2 fault 3 00010000\n1 2 gone\nend 1 done\n"),
+        (
+            0x0010_0073,
+            b"1 2.2 fault 3 00010000\n1 2 gone\nend 1 done\n",
+        ),
         (0x0000_8067, b"2 2.2 end\n2 2 gone\nend 2 done\n"),
-        (0x0000_0000, b"1 2.2 fault 2 00000000\n1 2 gone\nend 1 done\n"),
+        (
+            0x0000_0000,
+            b"1 2.2 fault 2 00000000\n1 2 gone\nend 1 done\n",
+        ),
     ];
     for (first_word, lines) in rows {
         let mut image = FIRST_IMAGE;
