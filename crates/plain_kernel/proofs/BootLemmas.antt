@@ -11,7 +11,6 @@ use Rattle.boot_plan.specs.declared.plans.BootPlan.{BootPlan}
 use Rattle.boot_plan.specs.declared.plans.ProcPlan.{ProcPlan}
 use Rattle.boot_plan.specs.Capacity.{capacity}
 use Rattle.machine_model.specs.Machine.{Ready}
-use Rattle.machine_model.specs.Threads.{thread_return, first_stack, fresh_registers}
 use Rattle.plain_kernel.specs.Start.{process_of, first_page, planned_at, first_ledger, first_thread, thread_of, start}
 use Rattle.plain_kernel.specs.Process.{Begins}
 use Rattle.plain_kernel.specs.State.{machine_of, machine_with, ledger_of, page_in, the_id, the_thread, threads_with}

@@ -1,6 +1,6 @@
 -- The bytes of the pages, and the pages from their bytes.
-use Rattle.std.proofs.Common.{◌≡◌, ◌≢◌, ℕ, zero, suc, ◌+◌, ◌-◌, ◌*◌, ◌/◌, ◌%◌, ◌^◌, ◌<◌, ◌≤◌, Bool, true, false, nat_le, nat_lt, List, [], ◌∷◌, ◌++◌, take, drop, length, get_or, Option, Some, None, refl, sym, ap, ◌∙◌, subst, arith, inl, inr, length-take, length-append, length-drop}
-use Rattle.std.specs.Prelude.{◌==◌, ◌&&◌, unwrap_or, if◌then◌else◌}
+use Rattle.std.proofs.Common.{◌≡◌, ℕ, zero, suc, ◌+◌, ◌-◌, ◌*◌, ◌/◌, ◌%◌, ◌<◌, ◌≤◌, Bool, true, false, List, ◌++◌, take, drop, length, get_or, Option, Some, None, refl, sym, ap, ◌∙◌, subst, arith, inl, inr, length-take, length-append, length-drop}
+use Rattle.std.specs.Prelude.{◌==◌, unwrap_or, if◌then◌else◌}
 use Rattle.std.specs.Int.{byte_at}
 use Rattle.std.specs.Option.{option_map}
 use Rattle.std.proofs.lemmas.Bool.{cases_eq, cases_lt, cond-true, cond-false, eq-eqb, ne_eqb, false≢true}
@@ -26,7 +26,7 @@ use Rattle.plain_kernel.specs.declared.pages.Pages.{Pages}
 use Rattle.plain_kernel.specs.declared.pages.PlainPage.{PlainPage}
 use Rattle.plain_kernel.specs.Storing.{DoesStore}
 use Rattle.plain_kernel.proofs.MemoryLemmas.{place_at}
-use Rattle.plain_kernel.proofs.PagesLemmas.{written_at, ledger_written, ledger_same}
+use Rattle.plain_kernel.proofs.PagesLemmas.{written_at, ledger_written}
 
 -- ---- the bytes of a store
 

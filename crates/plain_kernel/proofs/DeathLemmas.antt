@@ -1,21 +1,20 @@
 -- The death of the process, and the end of its thread, with which it dies.
-use Rattle.std.proofs.Common.{◌≡◌, ℕ, Bool, true, false, nat_eq, List, [], ◌∷◌, ◌++◌, Option, Some, None, refl, ap, ◌∙◌, arith}
+use Rattle.std.proofs.Common.{◌≡◌, ℕ, Bool, true, false, nat_eq, [], ◌∷◌, ◌++◌, Option, Some, None, refl, ap, ◌∙◌, arith}
 use Rattle.std.specs.Prelude.{is_some, ◌==◌, ◌&&◌, map, unwrap_or, if◌then◌else◌}
 use Rattle.std.specs.Option.{option_or}
 use Rattle.std.proofs.lemmas.Bool.Decides.{nat_tests}
-use Rattle.xk_base.specs.declared.ids.Place.{Place}
 use Rattle.xk_base.specs.declared.ids.ThreadId.{ThreadId}
 use Rattle.xk_base.specs.declared.records.What.TheVariants.{Reply, Gone}
 use Rattle.xk_base.specs.Circle.{is_pid, same_thread, listed_ids}
 use Rattle.xk_base.specs.Counting.{listed_below, least_below, put_at}
 use Rattle.xk_base.specs.Replies.{scalar1_words}
-use Rattle.ledger_model.specs.Ledger.{Ledger, Page, empty_ledger}
+use Rattle.ledger_model.specs.Ledger.{Page, empty_ledger}
 use Rattle.ledger_model.specs.Steps.{forget}
-use Rattle.machine_model.specs.Changes.{Change, Told, settled, replies}
+use Rattle.machine_model.specs.Changes.{Change, settled}
 use Rattle.machine_model.specs.Ends.{death, forgotten, thread_ended, has_threads, end_with_last_thread, joiners_answered, waits_for_end, dead_process}
 use Rattle.machine_model.proofs.DeathLemmas.{death_without_servers}
-use Rattle.machine_model.specs.Machine.{Machine, Process, Thread, Ready}
-use Rattle.machine_model.specs.Threads.{Answers, no_answers, both_answers, put_thread}
+use Rattle.machine_model.specs.Machine.{Machine, Thread}
+use Rattle.machine_model.specs.Threads.{no_answers, both_answers}
 use Rattle.plain_kernel.specs.Start.{idle_thread}
 use Rattle.plain_kernel.specs.State.{machine_with, ledger_of, page_in, the_id, the_pid, the_thread, threads_with}
 use Rattle.plain_kernel.specs.declared.pages.Pages.{Pages}

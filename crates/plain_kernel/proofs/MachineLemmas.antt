@@ -6,7 +6,7 @@ use Rattle.std.proofs.lemmas.Bool.{false≢true, ne_eqb}
 use Rattle.xk_base.specs.declared.ids.ThreadId.{ThreadId}
 use Rattle.xk_base.specs.Circle.{id_behind}
 use Rattle.xk_base.proofs.Circle.{next_id-Some, next_id-None}
-use Rattle.machine_model.specs.Machine.{Machine, Thread}
+use Rattle.machine_model.specs.Machine.{Thread}
 use Rattle.machine_model.specs.Order.{is_ready, actor, turn, next_ready, ready_at}
 use Rattle.plain_kernel.specs.Start.{idle_thread}
 use Rattle.plain_kernel.specs.State.{machine_of, machine_with, the_id, the_thread}

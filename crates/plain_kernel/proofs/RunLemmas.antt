@@ -1,7 +1,7 @@
 -- What an instruction makes of the process.
-use Rattle.std.proofs.Common.{◌≡◌, ℕ, ◌%◌, ◌<◌, ◌⊎◌, Bool, true, false, List, Option, Some, None, refl, sym, ap, ◌∙◌, subst, arith, inl, inr}
+use Rattle.std.proofs.Common.{◌≡◌, ℕ, ◌%◌, ◌⊎◌, Bool, true, false, List, Option, Some, None, refl, sym, ap, ◌∙◌, arith, inl, inr}
 use Rattle.std.specs.Prelude.{◌==◌, not, unwrap_or, if◌then◌else◌, ℤ}
-use Rattle.std.proofs.lemmas.Bool.{eqb-true, false≢true}
+use Rattle.std.proofs.lemmas.Bool.{eqb-true}
 use Rattle.xk_base.specs.declared.pages.Access.{Access}
 use Rattle.xk_base.specs.declared.pages.Access.TheVariants.{Fetch, Load, Store}
 use Rattle.xk_base.specs.declared.pages.Width.{Width}
@@ -13,12 +13,12 @@ use Rattle.rv32_words.specs.declared.insn.Insn.{Insn}
 use Rattle.rv32_words.specs.declared.insn.Insn.TheVariants.{Jal, Jalr, Beq, Bne, Blt, Bge, Bltu, Bgeu, Lb, Lh, Lw, Lbu, Lhu, Sb, Sh, Sw}
 use Rattle.rv32_words.specs.Reading.{insn_at}
 use Rattle.machine_model.specs.Instructions.{Executed, Next, Stores, StoresToConsole, CallsKernel, Traps, target_misaligned, load_misaligned, load_page_fault, store_misaligned, store_page_fault, fetch_page_fault, as_word, address_of, sign_extended_byte, sign_extended_half, writes, stores, jumps, branches, loads, effect, effect_if_any, execute, execute_at, sum_of, following}
-use Rattle.rv32_hart.specs.Running.{ran_of, registers_after, bytes_after, IsExecuted, Executes, IfFailed}
+use Rattle.rv32_hart.specs.Running.{ran_of, bytes_after, IsExecuted, Executes, IfFailed}
 use Rattle.rv32_hart.specs.declared.ran.Ran.{Ran}
 use Rattle.rv32_hart.specs.declared.ran.Ran.TheVariants.{Ecall, Trap, Device, Failed}
 use Rattle.rv32_hart.specs.declared.ran.Ran.TheVariants as ran
 use Rattle.plain_kernel.specs.Memory.{may_in, console_in, byte_in, memory_in, HaveSameRest}
-use Rattle.plain_kernel.specs.Process.{executed_by, ledger_after, pc_after, RunsTo, Runs}
+use Rattle.plain_kernel.specs.Process.{executed_by, ledger_after, pc_after, Runs}
 use Rattle.plain_kernel.specs.State.{ledger_of}
 use Rattle.plain_kernel.specs.declared.pages.Pages.{Pages}
 use Rattle.plain_kernel.specs.declared.process.PlainProcess.{PlainProcess}

@@ -19,7 +19,6 @@ use Rattle.plain_kernel.specs.Start.{first_page, planned_at}
 use Rattle.plain_kernel.specs.State.{ledger_of, page_in, the_pid}
 use Rattle.plain_kernel.specs.declared.process.Called.{Called}
 use Rattle.plain_kernel.specs.declared.process.PlainProcess.{PlainProcess}
-use Rattle.plain_kernel.specs.declared.pages.Pages.{Pages}
 
 -- its planned pages with the bytes of the file, and its first thread at the entry
 pub record Begins (plan : ProcPlan) (file : List ℕ) (process : PlainProcess) : Type 0 where

@@ -1,5 +1,5 @@
 use Rattle.std.proofs.Common.{◌≡◌, [], ◌∷◌, length, get_or, refl, sym, ap, subst, ◌∙◌, arith}
-use Rattle.boot_plan.specs.Lawful.{IsLawfulProcess, CanStart}
+use Rattle.boot_plan.specs.Lawful.{IsLawfulProcess}
 use Rattle.plain_kernel.proofs.BootLemmas.{only_item, boots}
 use Rattle.plain_kernel.proofs.kernel.Kernel.boot.Goals as goal
 

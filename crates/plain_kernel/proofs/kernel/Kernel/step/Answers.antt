@@ -1,9 +1,8 @@
-use Rattle.std.proofs.Common.{◌<◌, sym, subst, ap, ◌∙◌, refl, Some, false}
+use Rattle.std.proofs.Common.{sym, subst, ap, ◌∙◌, refl, Some}
 use Rattle.std.specs.Prelude.{is_some}
-use Rattle.rv32_hart.specs.declared.ran.Ran.{Ran}
 use Rattle.plain_kernel.specs.Process.{Runs, Calls}
 use Rattle.plain_kernel.specs.State.{machine_of}
-use Rattle.plain_kernel.proofs.MachineLemmas.{acts_while_alive, the_steps}
+use Rattle.plain_kernel.proofs.MachineLemmas.{acts_while_alive}
 use Rattle.plain_kernel.proofs.StepLemmas.{goes_so, dies_so, does_end, does_next, does_console, does_trap, does_call, does_not}
 use Rattle.plain_kernel.proofs.kernel.Kernel.step.Goals as goal
 

@@ -1,4 +1,4 @@
-use Rattle.std.proofs.Common.{◌≡◌, ◌/◌, ◌%◌, sym, ap, ◌∙◌, ℕ, Option, Some, None, refl}
+use Rattle.std.proofs.Common.{◌≡◌, ◌/◌, ◌%◌, sym, ap, ◌∙◌, ℕ, Some, None, refl}
 use Rattle.std.specs.Prelude.{option_copied}
 use Rattle.xk_base.specs.declared.pages.Access.TheVariants.{Load}
 use Rattle.xk_base.specs.declared.pages.Width.{Width}

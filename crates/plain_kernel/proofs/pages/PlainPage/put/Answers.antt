@@ -1,5 +1,4 @@
-use Rattle.std.proofs.Common.{◌≡◌, ◌+◌, ◌≤◌, ◌%◌, List, ℕ, [], ◌∷◌, length, get_or, ap, sym, subst, ◌∙◌, arith}
-use Rattle.xk_base.specs.declared.pages.Width.TheVariants.{Half, Word}
+use Rattle.std.proofs.Common.{◌≡◌, ◌%◌, List, ℕ, [], ◌∷◌, get_or, ap, sym, subst, ◌∙◌, arith}
 use Rattle.xk_base.specs.UserMemory.{size_of}
 use Rattle.ledger_model.specs.Steps.{written}
 use Rattle.machine_model.specs.Views.{low_bytes}
