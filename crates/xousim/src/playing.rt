@@ -75,7 +75,7 @@ fn play_event<K: Sink>(
 
 /// What came of an answer of the reader.
 #[derive(Clone, Copy, Debug, PartialEq, Eq)]
-pub enum Advance {
+enum Advance {
     /// An event was played.
     Played,
     /// No whole line is held: the reader waits for bytes.

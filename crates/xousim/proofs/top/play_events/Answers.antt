@@ -46,7 +46,7 @@ returns-in-Err-Read-clause-played g c =
     inr (
       (
         rose_after (faults c.args.host.now) (faults c.pick_file.new.self) (faults c.play_file.new.host) c.pick_file.ensures.never_falls rose,
-        record { bytes = runs.0; read = read_of_file file c.args.name.now before left runs.0 c.in-Ok.ensures.left runs.1; ended = runs.2; written = runs.3 },
+        record { bytes = runs.0; read = read_of_file file c.args.name.now before left runs.0 c.in-Ok.ensures.left runs.1; ended = runs.2.0; written = runs.2.1 },
       ),
       subst A (sym c.play_file.ensures.asked) c.in-Ok.ensures.asked,
     )
