@@ -28,6 +28,7 @@ pub mod SendCalls
 pub mod ServerCalls
 pub mod ServerRows
 pub mod Servers
+pub mod Start
 pub mod Step
 pub mod ThreadCalls
 pub mod Threads
