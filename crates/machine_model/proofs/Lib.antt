@@ -5,6 +5,7 @@ pub mod DeathLemmas
 pub mod KeptLemmas
 pub mod LendRowLemmas
 pub mod LoanSetLemmas
+pub mod MapRowLemmas
 pub mod OrderLemmas
 pub mod OrphanSetLemmas
 pub mod RefusalLemmas

@@ -14,6 +14,7 @@ pub mod LendRows
 pub mod LoanSets
 pub mod LoanSpan
 pub mod Machine
+pub mod MapRows
 pub mod Matched
 pub mod MemoryCalls
 pub mod MessageCounts

@@ -28,8 +28,9 @@ pub use laws::{
 pub use order::next_ready;
 pub use refusals::{first_refusal, refusal_words};
 pub use rows::{
-    full_server_takes_no_message, killed_server_answers_its_senders, lend_begins,
-    orphan_is_returned_once, page_is_lent_and_returned, pending_interrupts_are_a_set,
-    scalars_are_answered_once, senderless_message_is_forgotten, sends_are_refused_in_order,
-    stale_connection_leads_nowhere, waiting_thread_gets_the_message,
+    deaths_are_answered, full_server_takes_no_message, interrupts_are_claimed_once,
+    killed_server_answers_its_senders, lend_begins, map_window_ends, orphan_is_returned_once,
+    page_is_lent_and_returned, pending_interrupts_are_a_set, scalars_are_answered_once,
+    senderless_message_is_forgotten, sends_are_refused_in_order, stale_connection_leads_nowhere,
+    waiting_thread_gets_the_message,
 };
