@@ -1,11 +1,14 @@
 pub mod ArgumentLemmas
+pub mod CloseManyLemmas
 pub mod ClosingLemmas
 pub mod DeathLemmas
 pub mod KeptLemmas
 pub mod LendRowLemmas
 pub mod LoanSetLemmas
+pub mod MapRowLemmas
 pub mod OrderLemmas
+pub mod OrphanSetLemmas
 pub mod RefusalLemmas
 pub mod RowLemmas
-pub mod SmallLemmas
+pub mod StartLemmas
 pub mod StepLaws

@@ -7,7 +7,7 @@ use Rattle.machine_model.specs.Changes.{settled, call_settled}
 use Rattle.machine_model.specs.Closing.{any_server, closed, destroyed, servers_closed, senders_queued_gone, senders_held_gone}
 use Rattle.machine_model.specs.Ends.{death, forgotten, handler_ended}
 use Rattle.machine_model.specs.Events.{raised, killed}
-use Rattle.machine_model.specs.InterruptCalls.{claim_call}
+use Rattle.machine_model.specs.InterruptCalls.{claim_call, free_call}
 use Rattle.machine_model.specs.Interrupts.{delivered, lowest_pending}
 use Rattle.machine_model.specs.Order.{turn, next_ready}
 use Rattle.machine_model.specs.ReceiveCalls.{receive_call, try_receive_call}
@@ -16,7 +16,7 @@ use Rattle.machine_model.specs.ReturnCalls.{holder_of, return_scalar1_call, retu
 use Rattle.machine_model.specs.Rows.{small_machine, told_all}
 use Rattle.machine_model.specs.SendCalls.{send_call, try_send_call}
 use Rattle.machine_model.specs.ServerCalls.{create_server_call, connect_call, try_connect_call, destroy_call}
-use Rattle.machine_model.specs.ServerRows.{pending_row, pending_told, scalar_row, scalar_told, waiting_row, waiting_told, stale_row, stale_told, senderless_row, senderless_told, kill_row, kill_told, full_row, full_told}
+use Rattle.machine_model.specs.ServerRows.{pending_row, pending_told, scalar_row, scalar_told, waiting_row, waiting_told, stale_row, stale_told, senderless_row, senderless_told, kill_row, kill_told, full_row, full_told, interrupt_row, interrupt_told, death_row, death_told}
 use Rattle.machine_model.specs.Servers.{with_sid, live_servers}
 use Rattle.machine_model.specs.ThreadCalls.{create_call, free_tid}
 
@@ -47,3 +47,11 @@ server_killed = refl
 pub server_full : told_all full_row (small_machine 2) ≡ full_told
 unfolding told_all small_machine call call_settled settled least_below listed_below listed_ids count_below with_sid live_servers create_server_call connect_call send_call try_send_call receiver receive_call turn next_ready next_id
 server_full = refl
+
+pub interrupts_claimed : told_all interrupt_row (small_machine 2) ≡ interrupt_told
+unfolding told_all small_machine call claim_call free_call call_settled settled least_below listed_below listed_ids
+interrupts_claimed = refl
+
+pub deaths_answered : told_all death_row (small_machine 2) ≡ death_told
+unfolding told_all small_machine call call_settled settled least_below listed_below listed_ids count_below with_sid live_servers create_server_call connect_call send_call receiver receive_call create_call free_tid holder_of return_scalar1_call destroy_call destroyed killed death servers_closed closed any_server senders_queued_gone senders_held_gone forgotten
+deaths_answered = refl

@@ -1,10 +1,11 @@
 -- Isolation: what a step may change of memory, and of which memory a step knows nothing. The last are propositions.
-use Rattle.std.specs.Prelude.{◌≡◌, ℕ, ◌⊎◌, true, List, Some, None}
+use Rattle.std.specs.Prelude.{◌≡◌, ℕ, ◌⊎◌, true, List, Option, Some, None}
 use Rattle.xk_base.specs.declared.ids.Pid.{Pid}
 use Rattle.xk_base.specs.declared.ids.Place.{Place}
 use Rattle.xk_base.specs.declared.ids.ThreadId.{ThreadId}
-use Rattle.xk_base.specs.declared.pages.Access.TheVariants.{Load, Store}
-use Rattle.ledger_model.specs.Ledger.{Ledger, Console, Bytes, Page, PageLoan, Orphan, PageName, contents_of}
+use Rattle.xk_base.specs.declared.pages.Access.TheVariants.{Load}
+use Rattle.ledger_model.specs.Conditions.{CanWrite}
+use Rattle.ledger_model.specs.Ledger.{Ledger, Console, Bytes, Page, PageLoan, Orphan, PageName, Homed, Orphaned, contents_of}
 use Rattle.ledger_model.specs.Loans.{bare}
 use Rattle.ledger_model.specs.Reach.{reach}
 use Rattle.ledger_model.specs.Steps.{write, zero_page}
@@ -16,14 +17,13 @@ use Rattle.machine_model.specs.Step.{step}
 
 -- ---- an instruction
 
--- bytes of one page were written, which the process reaches by a store at that place
+-- bytes within one page were written, which the process reaches by a store at a place of its own
 pub record IsOneStore (pid : Pid) (m : Machine) (after : Ledger) : Type 0 where
-  pub place : Place
-  pub own : place.pid ≡ pid
   pub page : PageName
-  pub reached : reach m.processes m.ledger place Store ≡ Some page
   pub offset : ℕ
   pub bytes : List ℕ
+  pub store : CanWrite m.processes m.ledger page offset bytes
+  pub own : store.place.pid ≡ pid
   pub written : after ≡ write page offset bytes m.ledger
 
 -- an instruction leaves the ledger, or changes at most the bytes of one page at a place where its process may store
@@ -34,34 +34,38 @@ InstructionStoresOnePage =
 
 -- ---- a system call
 
--- a page that wasn't there: zeros, or the console
+-- zeros, or the console
 abbrev pub IsNewPage : Page → Type 0
 IsNewPage page = (page.contents ≡ Bytes zero_page) ⊎ (page.contents ≡ Console)
 
--- a page that stood at a home before with the same bytes: at the same, or at one that it left
-pub record IsOldPage (before after : Ledger) (place : Place) (page : Page) : Type 0 where
-  pub from : Place
+-- the page stood at a home before with the same bytes: at the same, or at one that it left
+pub record IsOldPage (before after : Ledger) (from place : Place) (page : Page) : Type 0 where
   pub old : Page
   pub stood : before.home from ≡ Some old
   pub same : page.contents ≡ old.contents
   pub moved : (from ≡ place) ⊎ (after.home from ≡ None)
 
--- the page that became an orphan has the same bytes
-pub record IsOrphaned (before : Ledger) (place : Place) (orphan : Orphan) : Type 0 where
-  pub home : Place
+-- the page that became the orphan was lent to its place, has the same bytes, and left its home
+pub record IsOrphaned (before after : Ledger) (home place : Place) (orphan : Orphan) : Type 0 where
   pub page : Page
   pub loan : PageLoan
   pub stood : before.home home ≡ Some page
   pub lent : page.loan ≡ Some loan
   pub held : loan.holder ≡ place
   pub same : page.contents ≡ Bytes orphan.bytes
+  pub left : after.home home ≡ None
 
--- no byte of any page is changed: pages are made as zeros, moved with their bytes, or go
+-- No byte of any page is changed: pages are made as zeros where none was, moved with their bytes, or go. Each page that stands
+-- after comes from one that stood before, unless it is new, and no two come from one.
 pub record ChangesNoByte (before after : Ledger) : Type 0 where
+  pub from : PageName → Option PageName
+  pub one_to_one : (a b old : PageName) → from a ≡ Some old → from b ≡ Some old → a ≡ b
   pub homes : (p : Place) (page : Page) → after.home p ≡ Some page
-      → ((before.home p ≡ None) × IsNewPage page) ⊎ IsOldPage before after p page
+      → ((from (Homed p) ≡ None) × (before.home p ≡ None) × IsNewPage page)
+      ⊎ ((home : Place) × (from (Homed p) ≡ Some (Homed home)) × IsOldPage before after home p page)
   pub orphans : (q : Place) (orphan : Orphan) → after.orphan q ≡ Some orphan
-      → (before.orphan q ≡ Some orphan) ⊎ IsOrphaned before q orphan
+      → ((from (Orphaned q) ≡ Some (Orphaned q)) × (before.orphan q ≡ Some orphan))
+      ⊎ ((home : Place) × (from (Orphaned q) ≡ Some (Homed home)) × IsOrphaned before after home q orphan)
 
 abbrev pub CallChangesNoByte : Type 0
 CallChangesNoByte =

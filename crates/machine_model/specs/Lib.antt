@@ -14,6 +14,7 @@ pub mod LendRows
 pub mod LoanSets
 pub mod LoanSpan
 pub mod Machine
+pub mod MapRows
 pub mod Matched
 pub mod MemoryCalls
 pub mod MessageCounts
@@ -28,6 +29,7 @@ pub mod SendCalls
 pub mod ServerCalls
 pub mod ServerRows
 pub mod Servers
+pub mod Start
 pub mod Step
 pub mod ThreadCalls
 pub mod Threads

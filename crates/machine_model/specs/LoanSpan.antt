@@ -1,6 +1,6 @@
 -- The span of a loan: the states of a run in which a loan or an orphan has its number. Numbers are not used twice, so that it
 -- is one stretch of the run. It is said here how it begins, what stays while it lasts, how it ends, and what stands after it.
-use Rattle.std.specs.Prelude.{◌≡◌, ℕ, ◌≤◌, ◌⊎◌, Bool, true, false, ◌&&◌, ◌||◌, ◌==◌, is_some, List, length, slice_get, if◌then◌else◌, Option, Some, None}
+use Rattle.std.specs.Prelude.{◌≡◌, ℕ, ◌<◌, ◌≤◌, ◌⊎◌, Bool, true, false, ◌&&◌, ◌||◌, ◌==◌, is_some, List, length, slice_get, if◌then◌else◌, Option, Some, None}
 use Rattle.std.specs.List.{list_any}
 use Rattle.std.specs.Option.{option_and_then, option_map, option_map_or}
 use Rattle.xk_base.specs.declared.ids.Number.{Number}
@@ -11,7 +11,7 @@ use Rattle.xk_base.specs.declared.pages.LoanKind.{LoanKind}
 use Rattle.xk_base.specs.declared.pages.LoanKind.TheVariants.{Shared, Exclusive}
 use Rattle.xk_base.specs.CallNumbers.{send_message, try_send_message, return_memory}
 use Rattle.xk_base.specs.CallWords.{call_number, return_token}
-use Rattle.ledger_model.specs.Ledger.{Ledger, Contents, Bytes, Page, Orphan, loan_at}
+use Rattle.ledger_model.specs.Ledger.{Ledger, Contents, Bytes, Page, PageLoan, Orphan, loan_at}
 use Rattle.ledger_model.specs.Loans.{bare_page, same_number}
 use Rattle.ledger_model.specs.Places.{first_place}
 use Rattle.ledger_model.specs.Reach.{Role, FreePlace, HomePlace, HolderPlace, OrphanPlace, role_at}
@@ -43,6 +43,9 @@ has_lender number m = is_some (first_place m.processes (λ p. has_number number 
 abbrev pub lent_page : Number → Machine → Place → Option Page
 lent_page number m home =
     option_and_then (λ page. if has_number number page.loan then Some page else None) (m.ledger.home home)
+
+abbrev pub contents : Page → Contents
+contents page = page.contents
 
 -- what its holder has at a place: a page on loan by the number, or an orphan
 pub record HeldPage : Type 0 where
@@ -82,6 +85,7 @@ pub record Opens (number : Number) (before : Machine) (moment : Moment) : Type 0
   pub lends : is_lend_call words ≡ true
   pub accepted : is_call_served before who words ≡ true
   pub number_taken : number ≡ new_number before
+  pub lent : has_lender number moment.machine ≡ true
   pub lender : (p : Place) (page : Page) → lent_page number moment.machine p ≡ Some page → p.pid ≡ who.pid
   pub pages : (p : Place) (page : Page) → lent_page number moment.machine p ≡ Some page
       → before.ledger.home p ≡ Some (record page { loan = None })
@@ -132,7 +136,8 @@ pub record IsLenderGone (number : Number) (before : Machine) (moment : Moment) :
 abbrev pub Closes : Number → Machine → Moment → Type 0
 Closes number before moment = IsReturned number before moment ⊎ (IsServerGone number before moment ⊎ IsLenderGone number before moment)
 
--- ---- the six parts, over the moments of a run from its start
+-- ---- The six parts, over the moments of a run from its start. Where the loan stands in the start already, its span has no state
+-- before it in the run: then its first state says what parts 2, 3 and 6 say of the one just before.
 
 pub record LoanSpan (start : Machine) (moments : List Moment) (number : Number) : Type 0 where
   -- it is one stretch
@@ -148,10 +153,17 @@ pub record LoanSpan (start : Machine) (moments : List Moment) (number : Number) 
       → has_lender number (state_at start moments i) ≡ true → has_lender number (state_at start moments j) ≡ true
       → option_map bare_page (lent_page number (state_at start moments i) p)
       ≡ option_map bare_page (lent_page number (state_at start moments j) p)
-  -- 3. under Shared the bytes are the same in all its states; part 1 says that they are those from just before it
+  -- 3. under Shared the bytes are the same in all its states
   pub shared : (i j : ℕ) (q : Place) (a b : HeldPage) → i ≤ length moments → j ≤ length moments
       → held_page number (state_at start moments i) q ≡ Some a → held_page number (state_at start moments j) q ≡ Some b
       → a.kind ≡ Shared → a.contents ≡ b.contents
+  -- .. and as just before it, where that state is one of the run
+  pub as_before : (i j : ℕ) (first : Moment) (p : Place) (lent : Page) (loan : PageLoan) → slice_get moments i ≡ Some first
+      → in_span number (state_at start moments i) ≡ false → lent_page number first.machine p ≡ Some lent
+      → lent.loan ≡ Some loan → loan.kind ≡ Shared
+      → i < j → j ≤ length moments → has_lender number (state_at start moments j) ≡ true
+      → option_map contents (lent_page number (state_at start moments j) p)
+      ≡ option_map contents ((state_at start moments i).ledger.home p)
   -- 4. under Exclusive they change only in an instruction step of a thread of the holder's process
   pub exclusive : (i : ℕ) (moment : Moment) (q : Place) (a b : HeldPage) → slice_get moments i ≡ Some moment
       → held_page number (state_at start moments i) q ≡ Some a → held_page number moment.machine q ≡ Some b
@@ -161,8 +173,13 @@ pub record LoanSpan (start : Machine) (moments : List Moment) (number : Number) 
       → in_span number (state_at start moments i) ≡ true → in_span number moment.machine ≡ false
       → Closes number (state_at start moments i) moment
   -- 6. Where it had a lender to the end, who lives in the first state after, each page stands at its home without a loan, with
-  -- the right from just before the span and the bytes of its last state.
-  pub gives_back : (i j : ℕ) (first last : Moment) (p : Place) (before lent : Page)
+  -- the right and the bytes of its last state
+  pub gives_back : (j : ℕ) (last : Moment) (p : Place) (lent : Page)
+      → slice_get moments j ≡ Some last → in_span number (state_at start moments j) ≡ true → in_span number last.machine ≡ false
+      → lent_page number (state_at start moments j) p ≡ Some lent → is_living last.machine p.pid ≡ true
+      → last.machine.ledger.home p ≡ Some (record lent { loan = None })
+  -- .. and that is the right from just before the span, where that state is one of the run
+  pub right_back : (i j : ℕ) (first last : Moment) (p : Place) (before lent : Page)
       → slice_get moments i ≡ Some first → in_span number (state_at start moments i) ≡ false → in_span number first.machine ≡ true
       → slice_get moments j ≡ Some last → in_span number (state_at start moments j) ≡ true → in_span number last.machine ≡ false
       → (state_at start moments i).ledger.home p ≡ Some before → lent_page number (state_at start moments j) p ≡ Some lent

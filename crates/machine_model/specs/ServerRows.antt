@@ -166,3 +166,56 @@ full_told =
     ∷ Reply (id_of 3 2) (eight_words (0 ∷ []))
     ∷ Reply (id_of 3 2) (eight_words (1 ∷ 15 ∷ []))
     ∷ []))
+
+-- 3.2 frees an interrupt that it hasn't claimed; claims one that isn't there, and one with a handler inside an instruction. 2.2
+-- claims interrupt 4, 3.2 can neither claim nor free it, and the interrupt thread can't wait for a message.
+abbrev pub interrupt_row : List Deed
+interrupt_row =
+    Calls (id_of 3 2) (6 ∷ 4 ∷ [])
+    ∷ Calls (id_of 3 2) (5 ∷ 32 ∷ 0x10000 ∷ 0 ∷ [])
+    ∷ Calls (id_of 3 2) (5 ∷ 4 ∷ 0x10002 ∷ 0 ∷ [])
+    ∷ Calls (id_of 2 2) (5 ∷ 4 ∷ 0x10000 ∷ 0 ∷ [])
+    ∷ Calls (id_of 3 2) (5 ∷ 4 ∷ 0x10000 ∷ 0 ∷ [])
+    ∷ Calls (id_of 3 2) (6 ∷ 4 ∷ [])
+    ∷ Calls (id_of 2 1) (15 ∷ 1 ∷ 2 ∷ 3 ∷ 4 ∷ [])
+    ∷ Calls (id_of 2 2) (6 ∷ 4 ∷ [])
+    ∷ []
+
+abbrev pub interrupt_told : List What
+interrupt_told =
+    Reply (id_of 3 2) (eight_words (1 ∷ 5 ∷ []))
+    ∷ Reply (id_of 3 2) (eight_words (1 ∷ 5 ∷ []))
+    ∷ Reply (id_of 3 2) (eight_words (1 ∷ 1 ∷ []))
+    ∷ Reply (id_of 2 2) (eight_words (0 ∷ []))
+    ∷ Reply (id_of 3 2) (eight_words (1 ∷ 6 ∷ []))
+    ∷ Reply (id_of 3 2) (eight_words (1 ∷ 5 ∷ []))
+    ∷ Reply (id_of 2 1) (eight_words (1 ∷ 18 ∷ []))
+    ∷ Reply (id_of 2 2) (eight_words (0 ∷ []))
+    ∷ []
+
+-- 2.2 holds a blocking scalar of 3.2, which dies: it is returned once. Then 2.3 waits at the server, and 2.2 destroys it.
+abbrev pub death_row : List Deed
+death_row =
+    Calls (id_of 2 2) (14 ∷ 1 ∷ 2 ∷ 3 ∷ 4 ∷ [])
+    ∷ Calls (id_of 2 2) (18 ∷ 65536 ∷ [])
+    ∷ Calls (id_of 3 2) (17 ∷ 1 ∷ 2 ∷ 3 ∷ 4 ∷ [])
+    ∷ Calls (id_of 3 2) (16 ∷ 2 ∷ 5 ∷ [])
+    ∷ Calls (id_of 2 2) (15 ∷ 1 ∷ 2 ∷ 3 ∷ 4 ∷ [])
+    ∷ Kills (pid_of 3)
+    ∷ Calls (id_of 2 2) (26 ∷ 1 ∷ 5 ∷ [])
+    ∷ Calls (id_of 2 2) (26 ∷ 1 ∷ 5 ∷ [])
+    ∷ Calls (id_of 2 3) (15 ∷ 1 ∷ 2 ∷ 3 ∷ 4 ∷ [])
+    ∷ Calls (id_of 2 2) (41 ∷ 1 ∷ 2 ∷ 3 ∷ 4 ∷ [])
+    ∷ []
+
+abbrev pub death_told : List What
+death_told =
+    Reply (id_of 2 2) (eight_words (19 ∷ 1 ∷ 2 ∷ 3 ∷ 4 ∷ 2 ∷ []))
+    ∷ Reply (id_of 2 2) (eight_words (10 ∷ 3 ∷ []))
+    ∷ Reply (id_of 3 2) (eight_words (7 ∷ 2 ∷ []))
+    ∷ Reply (id_of 2 2) (9 ∷ 1 ∷ 5 ∷ 0 ∷ 0 ∷ 0 ∷ 0 ∷ 0 ∷ [])
+    ∷ Gone (pid_of 3)
+    ∷ Reply (id_of 2 2) (eight_words (0 ∷ []))
+    ∷ Reply (id_of 2 2) (eight_words (1 ∷ 25 ∷ []))
+    ∷ Reply (id_of 2 2) (eight_words (0 ∷ [])) ∷ Reply (id_of 2 3) (eight_words (1 ∷ 9 ∷ []))
+    ∷ []

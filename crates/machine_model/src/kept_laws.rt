@@ -6,6 +6,7 @@ ghost use Rattle.machine_model.specs.Machine.{Machine};
 ghost use Rattle.machine_model.specs.Moments.{Moment, IsRun, state_at};
 ghost use Rattle.machine_model.specs.Matched.{Matched};
 ghost use Rattle.machine_model.specs.Rows.{small_machine};
+ghost use Rattle.machine_model.specs.Start.{IsStart};
 
 /// The end of a turn keeps the machine matched.
 pub fn turn_keeps_matched()
@@ -26,6 +27,11 @@ pub fn all_keep_matched()
 pub fn run_stays_matched()
     ensures { AllKeepMatched → (start : Machine) (moments : List Moment) → Matched start → IsRun start moments
         → (i : ℕ) → Matched (state_at start moments i) }
+{}
+
+/// The state in which a run starts is matched.
+pub fn start_is_matched()
+    ensures { (m : Machine) → IsStart m → Matched m }
 {}
 
 /// The small machine from which the worked rows start is matched.

@@ -10,14 +10,15 @@ mod refusals;
 mod rows;
 
 pub use end_laws::{
-    dead_server_closes, death_without_servers_forgets, every_number_has_its_call,
-    kill_of_dead_does_nothing, loans_end_one_at_a_time, no_loan_ends, one_loan_ends,
-    one_loan_is_orphaned, pick_of_unready_does_nothing, retry_ends_the_turn,
-    unclaimed_interrupt_does_nothing,
+    close_leaves_no_loan, dead_server_closes, death_without_servers_forgets,
+    each_number_means_its_call, every_number_has_its_call, kill_of_dead_does_nothing,
+    loans_are_orphaned_one_at_a_time, loans_end_one_at_a_time, no_loan_ends, no_loan_is_orphaned,
+    one_loan_ends, one_loan_is_orphaned, pick_of_unready_does_nothing, retry_ends_the_turn,
+    servers_close_one_at_a_time, unclaimed_interrupt_does_nothing,
 };
 pub use kept_laws::{
     all_keep_matched, pick_keeps_matched, run_stays_matched, small_machine_is_matched,
-    turn_keeps_matched,
+    start_is_matched, turn_keeps_matched,
 };
 pub use laws::{
     arguments_are_given, next_ready_is_ready, no_step_without_actor, none_ready_without_next,
@@ -27,8 +28,9 @@ pub use laws::{
 pub use order::next_ready;
 pub use refusals::{first_refusal, refusal_words};
 pub use rows::{
-    full_server_takes_no_message, killed_server_answers_its_senders, lend_begins,
-    orphan_is_returned_once, page_is_lent_and_returned, pending_interrupts_are_a_set,
-    scalars_are_answered_once, senderless_message_is_forgotten, sends_are_refused_in_order,
-    stale_connection_leads_nowhere, waiting_thread_gets_the_message,
+    deaths_are_answered, full_server_takes_no_message, interrupts_are_claimed_once,
+    killed_server_answers_its_senders, lend_begins, map_window_ends, orphan_is_returned_once,
+    page_is_lent_and_returned, pending_interrupts_are_a_set, scalars_are_answered_once,
+    senderless_message_is_forgotten, sends_are_refused_in_order, stale_connection_leads_nowhere,
+    waiting_thread_gets_the_message,
 };

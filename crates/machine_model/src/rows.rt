@@ -2,8 +2,9 @@
 
 ghost use Rattle.std.specs.Prelude.{◌≡◌};
 ghost use Rattle.machine_model.specs.LendRows.{lend_begin, lend_begin_told, lend_row, lend_told, orphan_row, orphan_told, refusal_row, refusal_told};
+ghost use Rattle.machine_model.specs.MapRows.{map_row, map_told};
 ghost use Rattle.machine_model.specs.Rows.{small_machine, told_all, after_all};
-ghost use Rattle.machine_model.specs.ServerRows.{pending_row, pending_told, scalar_row, scalar_told, waiting_row, waiting_told, stale_row, stale_told, senderless_row, senderless_told, kill_row, kill_told, full_row, full_told};
+ghost use Rattle.machine_model.specs.ServerRows.{pending_row, pending_told, scalar_row, scalar_told, waiting_row, waiting_told, stale_row, stale_told, senderless_row, senderless_told, kill_row, kill_told, full_row, full_told, interrupt_row, interrupt_told, death_row, death_told};
 
 /// An interrupt that is raised while its handler runs is delivered once more, however often.
 #[tactic(auto, using(crate::proofs::RowLemmas::pending_is_a_set))]
@@ -45,6 +46,24 @@ pub fn killed_server_answers_its_senders()
 #[tactic(auto, using(crate::proofs::RowLemmas::server_full))]
 pub fn full_server_takes_no_message()
     ensures { told_all full_row (small_machine 2) ≡ full_told }
+{}
+
+/// Interrupts are claimed once, and freed by who claimed them.
+#[tactic(auto, using(crate::proofs::RowLemmas::interrupts_claimed))]
+pub fn interrupts_are_claimed_once()
+    ensures { told_all interrupt_row (small_machine 2) ≡ interrupt_told }
+{}
+
+/// The scalar of a dead sender is returned once, and who waits at a destroyed server is answered.
+#[tactic(auto, using(crate::proofs::RowLemmas::deaths_answered))]
+pub fn deaths_are_answered()
+    ensures { told_all death_row (small_machine 2) ≡ death_told }
+{}
+
+/// Pages are mapped up to the end of the Map window.
+#[tactic(auto, using(crate::proofs::MapRowLemmas::map_ends))]
+pub fn map_window_ends()
+    ensures { told_all map_row (small_machine 1) ≡ map_told }
 {}
 
 /// What is told before a page is lent.
