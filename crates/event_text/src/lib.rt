@@ -12,6 +12,7 @@ mod words;
 
 pub use event::{Event, NextEvent};
 pub use laws::{
-    bad_line_again, end_of_file, events_in_order, first_bad_line, no_blank_left, whole_lines_answered,
+    bad_line_again, end_of_file, events_in_order, first_bad_line, no_blank_left,
+    whole_lines_answered,
 };
 pub use reader::EventReader;

@@ -72,12 +72,12 @@ module _ (m : Machine) (h : IsStart m) where
         | inl one ↦
             let given : HasThread m (thread_id id.pid 1) Idle = h.handler id.pid parts.0 in
             let alike : given.thread ≡ t = same_Some given.thread t
-                (sym given.there ∙ sym (λ i. m.threads (thread_id id.pid (one i))) ∙ e) in
+            (sym given.there ∙ sym (λ i. m.threads (thread_id id.pid (one i))) ∙ e) in
             record { process = parts.0; which = inl (one, sym (ap (λ u. u.state) alike) ∙ given.about); aligned = sym (ap (λ u. u.pc % 4) alike) ∙ given.aligned }
         | inr two ↦
             let given : HasThread m (thread_id id.pid 2) Ready = h.first id.pid parts.0 in
             let alike : given.thread ≡ t = same_Some given.thread t
-                (sym given.there ∙ sym (λ i. m.threads (thread_id id.pid (two i))) ∙ e) in
+            (sym given.there ∙ sym (λ i. m.threads (thread_id id.pid (two i))) ∙ e) in
             record { process = parts.0; which = inr (two, sym (ap (λ u. u.state) alike) ∙ given.about); aligned = sym (ap (λ u. u.pc % 4) alike) ∙ given.aligned }
       ]
 
@@ -307,9 +307,17 @@ small_is_start n few = record {
   no_heap = λ p page e. absurd (none-some page e);
   process = λ pid. refl;
   handler = λ pid living. record {
-    thread = first_handler_thread; there = ap (λ b. of_tids b true false) living; about = refl; aligned = refl };
+    thread = first_handler_thread;
+    there = ap (λ b. of_tids b true false) living;
+    about = refl;
+    aligned = refl;
+  };
   first = λ pid living. record {
-    thread = first_thread 65536; there = ap (λ b. of_tids b false true) living; about = refl; aligned = refl };
+    thread = first_thread 65536;
+    there = ap (λ b. of_tids b false true) living;
+    about = refl;
+    aligned = refl;
+  };
   no_other = small_thread n;
   servers = λ k. refl;
   claims = λ k. refl;

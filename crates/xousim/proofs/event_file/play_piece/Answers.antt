@@ -24,9 +24,9 @@ returns-in_err-play_known-clause-goes g c = λ start begun taken p.
     let unsaid : c.feed-taken.new.self.finished ≡ false = ap (λ (r : Reader). r.finished) c.feed-taken.ensures.held ∙ c.rest.invariant.waits.1 in
     goes_err c.args.limit start begun (taken ++ c.args.piece.now) false c.play_known.new.reader (machine_of c.play_known.new.kernel) out c.from_residual.result c.from_residual.ensures.0
     (λ failed.
-      fails_longer c.args.limit start begun out fed (drop t rest) (taken ++ c.args.piece.now) c.feed-taken.new.self.finished failed
-      (piece_cut taken front.0 rest c.args.piece.now t front.1) unsaid
-      (c.in_err-play_known.ensures.goes start begun fed q))
+    fails_longer c.args.limit start begun out fed (drop t rest) (taken ++ c.args.piece.now) c.feed-taken.new.self.finished failed
+    (piece_cut taken front.0 rest c.args.piece.now t front.1) unsaid
+    (c.in_err-play_known.ensures.goes start begun fed q))
 
 pub rest-preserved : goal.rest-preserved
 rest-preserved g c =

@@ -13,8 +13,8 @@ returns-in_err-play_next-clause-goes g c = λ start begun taken p.
     let out = g.K.Sink.written c.play_next.new.out in
     goes_err c.args.limit start begun taken c.args.reader.now.finished c.play_next.new.reader (machine_of c.play_next.new.kernel) out c.from_residual.result c.from_residual.ensures.0
     (λ failed.
-      let P : Bool → Type 0 = λ f. FailsSo c.args.limit start begun taken f out failed in
-      subst P c.answers.invariant.finished (c.in_err-play_next.ensures.advances start begun taken (c.answers.invariant.goes start begun taken p)))
+    let P : Bool → Type 0 = λ f. FailsSo c.args.limit start begun taken f out failed in
+    subst P c.answers.invariant.finished (c.in_err-play_next.ensures.advances start begun taken (c.answers.invariant.goes start begun taken p)))
 
 pub returns-in-Ended-clause-goes : goal.returns-in-Ended-clause-goes
 returns-in-Ended-clause-goes g c = λ start begun taken p.
