@@ -1,6 +1,7 @@
 pub mod ArgumentLemmas
 pub mod CloseManyLemmas
 pub mod ClosingLemmas
+pub mod CursorLemmas
 pub mod DeathLemmas
 pub mod KeptLemmas
 pub mod LendRowLemmas

@@ -1,9 +1,9 @@
 //! Laws of the machine's invariant.
 
 ghost use Rattle.std.specs.Prelude.{ℕ, ◌≤◌, List};
-ghost use Rattle.machine_model.specs.Kept.{StepKeepsMatched, PickKeepsMatched, IrqKeepsMatched, KillKeepsMatched, TurnKeepsMatched, AllKeepMatched};
+ghost use Rattle.machine_model.specs.Kept.{StepKeepsMatched, PickKeepsMatched, IrqKeepsMatched, KillKeepsMatched, TurnKeepsMatched, AllKeepMatched, KeepsCursor, AllKeepCursor};
 ghost use Rattle.machine_model.specs.Machine.{Machine};
-ghost use Rattle.machine_model.specs.Moments.{Moment, IsRun, state_at};
+ghost use Rattle.machine_model.specs.Moments.{ByStep, Moment, IsRun, state_at};
 ghost use Rattle.machine_model.specs.Matched.{Matched};
 ghost use Rattle.machine_model.specs.Rows.{small_machine};
 ghost use Rattle.machine_model.specs.Start.{IsStart};
@@ -37,4 +37,9 @@ pub fn start_is_matched()
 /// The small machine from which the worked rows start is matched.
 pub fn small_machine_is_matched()
     ensures { (n : ℕ) → n ≤ 32 → Matched (small_machine n) }
+{}
+
+/// Where steps keep the cursor, all that leads from a state to the next does.
+pub fn all_keep_cursor()
+    ensures { KeepsCursor ByStep → AllKeepCursor }
 {}
