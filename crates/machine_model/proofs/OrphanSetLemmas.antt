@@ -1,5 +1,5 @@
 -- The loans of many messages become orphans one at a time, where holders differ.
-use Rattle.std.proofs.Common.{◌≡◌, ℕ, Bool, true, false, Option, Some, None, refl, sym, ap, ◌∙◌, ◌⊎◌, inl, inr}
+use Rattle.std.proofs.Common.{◌≡◌, ℕ, Bool, true, false, Option, Some, None, refl, sym, ap, ◌∙◌, inl, inr}
 use Rattle.std.specs.Prelude.{◌||◌, if◌then◌else◌}
 use Rattle.std.specs.Option.{option_and_then, option_or}
 use Rattle.std.proofs.lemmas.Bool.{false≢true}
@@ -10,7 +10,7 @@ use Rattle.ledger_model.specs.Lawful.{IsLawful}
 use Rattle.ledger_model.specs.Ledger.{Ledger, Page, PageLoan, Orphan, loan_at, loan_of}
 use Rattle.ledger_model.specs.Loans.{same_number}
 use Rattle.ledger_model.specs.Reach.{lender_of, is_held_at}
-use Rattle.ledger_model.specs.Steps.{orphan_loan, orphan_with, orphan_from, page_without, has_number}
+use Rattle.ledger_model.specs.Steps.{orphan_loan, orphan_with, orphan_from, page_without}
 use Rattle.ledger_model.proofs.LedgerLaws.{same_ledger, cases_Option, loan_at-page, lender_of-loan, lender_of-none, lender_of-None, is_held_at-true, is_held_at-Some}
 use Rattle.ledger_model.proofs.Numbering.{first_place-only}
 use Rattle.machine_model.specs.LoanSets.{orphan_loans, orphan_of_page, page_but, is_lent_by}

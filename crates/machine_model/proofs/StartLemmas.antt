@@ -1,7 +1,7 @@
 -- The start of a run is matched; and the small machine of the worked rows is such a start.
 use Rattle.std.proofs.Common.{◌≡◌, ℕ, zero, suc, ◌+◌, ◌≤◌, ◌<◌, Bool, true, false, ◌⊎◌, inl, inr, Option, Some, None, refl, sym, ap, ◌∙◌, arith, subst}
 use Rattle.std.specs.Prelude.{◌%◌, ◌==◌, is_some, if◌then◌else◌, List, [], length}
-use Rattle.std.specs.List.{All, AllPairs}
+use Rattle.std.specs.List.{All}
 use Rattle.std.specs.Option.{option_map_or}
 use Rattle.std.proofs.lemmas.Bool.{eqb-true, false≢true, and_parts}
 use Rattle.std.proofs.lemmas.List.Elements.{All-nil}
