@@ -1,0 +1,7 @@
+//! Worked rows of lent pages, on small machines: what is told of calls, what then stands in memory, and who may reach it.
+//! The functions are laws of the abstract machine.
+#![tactic(auto)]
+
+mod rows;
+
+pub use rows::{read_only_page_is_lent};
