@@ -1,1 +1,4 @@
+pub mod AllOrNothing
+pub mod OwnServer
 pub mod ReadOnly
+pub mod TwoPages

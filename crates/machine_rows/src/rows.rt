@@ -2,10 +2,11 @@
 
 ghost use Rattle.std.specs.Prelude.{◌≡◌, ℕ, List};
 ghost use Rattle.xk_base.specs.declared.pages.Width.TheVariants.{Word};
-ghost use Rattle.machine_model.specs.Instructions.{stores, Traps, store_page_fault};
+ghost use Rattle.machine_model.specs.Instructions.{loads, stores, writes, following, Stores, Traps, store_page_fault};
 ghost use Rattle.machine_model.specs.Rows.{small_machine, told_all, after_all, pid_of};
 ghost use Rattle.machine_model.specs.Views.{memory_of};
 ghost use Rattle.machine_rows.specs.ReadOnly.{read_only_begin, read_only_begin_told, read_only_row, read_only_told, read_only_lent, read_only_returned};
+ghost use Rattle.machine_rows.specs.TwoPages.{two_pages_begin, two_pages_begin_told, two_pages_send, two_pages_send_told, two_pages_lent, first_written, both_written, two_pages_return, two_pages_return_told, two_pages_returned};
 
 /// Read-only page. `3.2` gives up W at the page of its heap and lends it. The server returns it, and gives back no more than
 /// was lent: a store there by `3.2` traps with cause 15, as it does during the loan.
@@ -15,4 +16,17 @@ pub fn read_only_page_is_lent()
     ensures lends { told_all read_only_row (after_all read_only_begin (small_machine 2)) ≡ read_only_told }
     ensures during { (regs : List ℕ) (pc value : ℕ) → stores (memory_of read_only_lent (pid_of 3)) regs pc 0x2000_0000 Word value ≡ Traps store_page_fault 0x2000_0000 }
     ensures after { (regs : List ℕ) (pc value : ℕ) → stores (memory_of read_only_returned (pid_of 3)) regs pc 0x2000_0000 Word value ≡ Traps store_page_fault 0x2000_0000 }
+{}
+
+/// Mutable lend of two pages. `3.2` lends both pages of its heap. `2.2` may store to both at its own addresses, stores a word in
+/// each and returns them with offset 7 and valid 9. `3.2` gets the two numbers, and loads the server's words.
+#[tactic(auto, using(crate::proofs::TwoPagesLemmas::begun, crate::proofs::TwoPagesLemmas::sent, crate::proofs::TwoPagesLemmas::first_stores, crate::proofs::TwoPagesLemmas::second_stores, crate::proofs::TwoPagesLemmas::returned, crate::proofs::TwoPagesLemmas::first_loads, crate::proofs::TwoPagesLemmas::second_loads))]
+pub fn two_pages_are_lent_mutably()
+    ensures begins { told_all two_pages_begin (small_machine 2) ≡ two_pages_begin_told }
+    ensures sends { told_all two_pages_send (after_all two_pages_begin (small_machine 2)) ≡ two_pages_send_told }
+    ensures first_store { (regs : List ℕ) (pc value : ℕ) → stores (memory_of two_pages_lent (pid_of 2)) regs pc 0x4000_0000 Word value ≡ Stores 0x4000_0000 Word value regs (following pc) }
+    ensures second_store { (regs : List ℕ) (pc value : ℕ) → stores (memory_of first_written (pid_of 2)) regs pc 0x4000_1000 Word value ≡ Stores 0x4000_1000 Word value regs (following pc) }
+    ensures returns { told_all two_pages_return both_written ≡ two_pages_return_told }
+    ensures first_load { (regs : List ℕ) (pc rd : ℕ) → loads (memory_of two_pages_returned (pid_of 3)) regs pc rd 0x2000_0000 Word (λ v. v) ≡ writes regs pc rd 0x1122_3344 }
+    ensures second_load { (regs : List ℕ) (pc rd : ℕ) → loads (memory_of two_pages_returned (pid_of 3)) regs pc rd 0x2000_1000 Word (λ v. v) ≡ writes regs pc rd 0x5566_7788 }
 {}
