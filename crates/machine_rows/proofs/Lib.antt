@@ -1,3 +1,4 @@
 pub mod Arrivals
+pub mod OwnServerLemmas
 pub mod ReadOnlyLemmas
 pub mod TwoPagesLemmas

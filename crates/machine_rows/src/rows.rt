@@ -2,9 +2,10 @@
 
 ghost use Rattle.std.specs.Prelude.{◌≡◌, ℕ, List};
 ghost use Rattle.xk_base.specs.declared.pages.Width.TheVariants.{Word};
-ghost use Rattle.machine_model.specs.Instructions.{loads, stores, writes, following, Stores, Traps, store_page_fault};
+ghost use Rattle.machine_model.specs.Instructions.{loads, stores, writes, following, Stores, Traps, store_page_fault, load_page_fault};
 ghost use Rattle.machine_model.specs.Rows.{small_machine, told_all, after_all, pid_of};
 ghost use Rattle.machine_model.specs.Views.{memory_of};
+ghost use Rattle.machine_rows.specs.OwnServer.{own_server_begin, own_server_begin_told, own_server_written, own_server_send, own_server_send_told, own_server_lent, own_server_return, own_server_return_told, own_server_returned};
 ghost use Rattle.machine_rows.specs.ReadOnly.{read_only_begin, read_only_begin_told, read_only_row, read_only_told, read_only_lent, read_only_returned};
 ghost use Rattle.machine_rows.specs.TwoPages.{two_pages_begin, two_pages_begin_told, two_pages_send, two_pages_send_told, two_pages_lent, first_written, both_written, two_pages_return, two_pages_return_told, two_pages_returned};
 
@@ -29,4 +30,18 @@ pub fn two_pages_are_lent_mutably()
     ensures returns { told_all two_pages_return both_written ≡ two_pages_return_told }
     ensures first_load { (regs : List ℕ) (pc rd : ℕ) → loads (memory_of two_pages_returned (pid_of 3)) regs pc rd 0x2000_0000 Word (λ v. v) ≡ writes regs pc rd 0x1122_3344 }
     ensures second_load { (regs : List ℕ) (pc rd : ℕ) → loads (memory_of two_pages_returned (pid_of 3)) regs pc rd 0x2000_1000 Word (λ v. v) ≡ writes regs pc rd 0x5566_7788 }
+{}
+
+/// Own server. `2.3` waits at a server of its own process, and `2.2` lends it the page of its heap. During the loan a load at the
+/// receiver's address and one at the lender's give the word that was stored before; after the return there is no page at the
+/// receiver's address, and a load there traps with cause 13.
+#[tactic(auto, using(crate::proofs::OwnServerLemmas::begun, crate::proofs::OwnServerLemmas::sent, crate::proofs::OwnServerLemmas::lender_loads, crate::proofs::OwnServerLemmas::holder_loads, crate::proofs::OwnServerLemmas::returned, crate::proofs::OwnServerLemmas::home_loads, crate::proofs::OwnServerLemmas::returned_traps))]
+pub fn page_is_lent_to_an_own_server()
+    ensures begins { told_all own_server_begin (small_machine 2) ≡ own_server_begin_told }
+    ensures sends { told_all own_server_send own_server_written ≡ own_server_send_told }
+    ensures at_lender { (regs : List ℕ) (pc rd : ℕ) → loads (memory_of own_server_lent (pid_of 2)) regs pc rd 0x2000_0000 Word (λ v. v) ≡ writes regs pc rd 0x1122_3344 }
+    ensures at_holder { (regs : List ℕ) (pc rd : ℕ) → loads (memory_of own_server_lent (pid_of 2)) regs pc rd 0x4000_0000 Word (λ v. v) ≡ writes regs pc rd 0x1122_3344 }
+    ensures returns { told_all own_server_return own_server_lent ≡ own_server_return_told }
+    ensures at_lender_after { (regs : List ℕ) (pc rd : ℕ) → loads (memory_of own_server_returned (pid_of 2)) regs pc rd 0x2000_0000 Word (λ v. v) ≡ writes regs pc rd 0x1122_3344 }
+    ensures at_holder_after { (regs : List ℕ) (pc rd : ℕ) → loads (memory_of own_server_returned (pid_of 2)) regs pc rd 0x4000_0000 Word (λ v. v) ≡ Traps load_page_fault 0x4000_0000 }
 {}
