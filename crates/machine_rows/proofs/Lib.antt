@@ -1,3 +1,4 @@
+pub mod AllOrNothingLemmas
 pub mod Arrivals
 pub mod OwnServerLemmas
 pub mod ReadOnlyLemmas

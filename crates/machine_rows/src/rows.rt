@@ -1,10 +1,12 @@
 //! Worked rows of lent pages.
 
-ghost use Rattle.std.specs.Prelude.{◌≡◌, ℕ, List};
+ghost use Rattle.std.specs.Prelude.{◌≡◌, ℕ, false, List};
 ghost use Rattle.xk_base.specs.declared.pages.Width.TheVariants.{Word};
+ghost use Rattle.ledger_model.specs.RunTests.{any_on_loan};
 ghost use Rattle.machine_model.specs.Instructions.{loads, stores, writes, following, Stores, Traps, store_page_fault, load_page_fault};
 ghost use Rattle.machine_model.specs.Rows.{small_machine, told_all, after_all, pid_of};
-ghost use Rattle.machine_model.specs.Views.{memory_of};
+ghost use Rattle.machine_model.specs.Views.{memory_of, page_of};
+ghost use Rattle.machine_rows.specs.AllOrNothing.{four_pages_begin, four_pages_begin_told, four_pages_refused, four_pages_refused_told, after_refusal, three_pages_row, three_pages_told};
 ghost use Rattle.machine_rows.specs.OwnServer.{own_server_begin, own_server_begin_told, own_server_written, own_server_send, own_server_send_told, own_server_lent, own_server_return, own_server_return_told, own_server_returned};
 ghost use Rattle.machine_rows.specs.ReadOnly.{read_only_begin, read_only_begin_told, read_only_row, read_only_told, read_only_lent, read_only_returned};
 ghost use Rattle.machine_rows.specs.TwoPages.{two_pages_begin, two_pages_begin_told, two_pages_send, two_pages_send_told, two_pages_lent, first_written, both_written, two_pages_return, two_pages_return_told, two_pages_returned};
@@ -44,4 +46,15 @@ pub fn page_is_lent_to_an_own_server()
     ensures returns { told_all own_server_return own_server_lent ≡ own_server_return_told }
     ensures at_lender_after { (regs : List ℕ) (pc rd : ℕ) → loads (memory_of own_server_returned (pid_of 2)) regs pc rd 0x2000_0000 Word (λ v. v) ≡ writes regs pc rd 0x1122_3344 }
     ensures at_holder_after { (regs : List ℕ) (pc rd : ℕ) → loads (memory_of own_server_returned (pid_of 2)) regs pc rd 0x4000_0000 Word (λ v. v) ≡ Traps load_page_fault 0x4000_0000 }
+{}
+
+/// All or nothing. `3.3` lends the last of four pages, and `2.2` holds it. `3.2` sends all four and is refused with
+/// ShareViolation, and none of the other three is on loan. They are then accepted as message 2, and stand behind the first at
+/// the receiver.
+#[tactic(auto, using(crate::proofs::AllOrNothingLemmas::begun, crate::proofs::AllOrNothingLemmas::refused, crate::proofs::AllOrNothingLemmas::none_lent, crate::proofs::AllOrNothingLemmas::three_sent))]
+pub fn all_pages_are_lent_or_none()
+    ensures begins { told_all four_pages_begin (small_machine 2) ≡ four_pages_begin_told }
+    ensures refused { told_all four_pages_refused (after_all four_pages_begin (small_machine 2)) ≡ four_pages_refused_told }
+    ensures none_lent { any_on_loan 2 after_refusal.ledger (page_of (pid_of 3) 0x2000_0000) 3 ≡ false }
+    ensures sends { told_all three_pages_row after_refusal ≡ three_pages_told }
 {}
