@@ -8,17 +8,20 @@ ghost use Rattle.machine_model.specs.Rows.{small_machine, told_all, after_all, p
 ghost use Rattle.machine_model.specs.Views.{memory_of, page_of};
 ghost use Rattle.machine_rows.specs.AllOrNothing.{four_pages_begin, four_pages_begin_told, four_pages_refused, four_pages_refused_told, after_refusal, three_pages_row, three_pages_told};
 ghost use Rattle.machine_rows.specs.OwnServer.{own_server_begin, own_server_begin_told, own_server_written, own_server_send, own_server_send_told, own_server_lent, own_server_return, own_server_return_told, own_server_returned};
-ghost use Rattle.machine_rows.specs.ReadOnly.{read_only_begin, read_only_begin_told, read_only_row, read_only_told, read_only_lent, read_only_returned};
+ghost use Rattle.machine_rows.specs.ReadOnly.{read_only_written, read_only_reduce, read_only_reduce_told, read_only_reduced, read_only_row, read_only_told, read_only_lent, read_only_returned};
 ghost use Rattle.machine_rows.specs.TwoPages.{two_pages_begin, two_pages_begin_told, two_pages_send, two_pages_send_told, two_pages_lent, first_written, both_written, two_pages_return, two_pages_return_told, two_pages_returned};
 
-/// Read-only page. `3.2` gives up W at the page of its heap and lends it. The server returns it, and gives back no more than
-/// was lent: a store there by `3.2` traps with cause 15, as it does during the loan.
-#[tactic(auto, using(crate::proofs::ReadOnlyLemmas::begun, crate::proofs::ReadOnlyLemmas::told, crate::proofs::ReadOnlyLemmas::lent_traps, crate::proofs::ReadOnlyLemmas::returned_traps))]
+/// Read-only page. `3.2` stores a word in the page of its heap, gives up W there and lends it, and the server loads the word.
+/// The return gives back the right that the page had: `3.2` loads the word, and a store there traps with cause 15, as it does
+/// during the loan. What is told before the store is that of the row of a lend in `machine_model`.
+#[tactic(auto, using(crate::proofs::ReadOnlyLemmas::reduced, crate::proofs::ReadOnlyLemmas::told, crate::proofs::ReadOnlyLemmas::lent_loads, crate::proofs::ReadOnlyLemmas::lent_traps, crate::proofs::ReadOnlyLemmas::returned_loads, crate::proofs::ReadOnlyLemmas::returned_traps))]
 pub fn read_only_page_is_lent()
-    ensures begins { told_all read_only_begin (small_machine 2) ≡ read_only_begin_told }
-    ensures lends { told_all read_only_row (after_all read_only_begin (small_machine 2)) ≡ read_only_told }
-    ensures during { (regs : List ℕ) (pc value : ℕ) → stores (memory_of read_only_lent (pid_of 3)) regs pc 0x2000_0000 Word value ≡ Traps store_page_fault 0x2000_0000 }
-    ensures after { (regs : List ℕ) (pc value : ℕ) → stores (memory_of read_only_returned (pid_of 3)) regs pc 0x2000_0000 Word value ≡ Traps store_page_fault 0x2000_0000 }
+    ensures reduces { told_all read_only_reduce read_only_written ≡ read_only_reduce_told }
+    ensures lends { told_all read_only_row read_only_reduced ≡ read_only_told }
+    ensures load_during { (regs : List ℕ) (pc rd : ℕ) → loads (memory_of read_only_lent (pid_of 2)) regs pc rd 0x4000_0000 Word (λ v. v) ≡ writes regs pc rd 0x1122_3344 }
+    ensures store_during { (regs : List ℕ) (pc value : ℕ) → stores (memory_of read_only_lent (pid_of 3)) regs pc 0x2000_0000 Word value ≡ Traps store_page_fault 0x2000_0000 }
+    ensures load_after { (regs : List ℕ) (pc rd : ℕ) → loads (memory_of read_only_returned (pid_of 3)) regs pc rd 0x2000_0000 Word (λ v. v) ≡ writes regs pc rd 0x1122_3344 }
+    ensures store_after { (regs : List ℕ) (pc value : ℕ) → stores (memory_of read_only_returned (pid_of 3)) regs pc 0x2000_0000 Word value ≡ Traps store_page_fault 0x2000_0000 }
 {}
 
 /// Mutable lend of two pages. `3.2` lends both pages of its heap. `2.2` may store to both at its own addresses, stores a word in
