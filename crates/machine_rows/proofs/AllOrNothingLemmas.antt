@@ -1,8 +1,6 @@
 -- The row of a send of which one page is on loan, by evaluation but for where the pages go.
 use Rattle.std.proofs.Common.{◌≡◌, ℕ, zero, suc, ◌+◌, ◌<◌, true, false, List, [], ◌∷◌, Some, refl, ap, ◌∙◌, arith}
 use Rattle.std.specs.Prelude.{nat_le, unwrap_or, drop}
-use Rattle.xk_base.specs.declared.ids.Vpn.{Vpn}
-use Rattle.xk_base.specs.declared.pages.Width.TheVariants.{Word}
 use Rattle.xk_base.specs.declared.windows.Window.TheVariants.{Message}
 use Rattle.xk_base.specs.CallWords.{send_cid}
 use Rattle.xk_base.specs.Circle.{listed_ids}
@@ -11,16 +9,15 @@ use Rattle.xk_base.specs.Replies.{eight_words}
 use Rattle.ledger_model.specs.Ledger.{pages}
 use Rattle.ledger_model.specs.LeastRun.{is_free_run, window_place}
 use Rattle.ledger_model.specs.Places.{run, count_places, first_place, place_at}
-use Rattle.ledger_model.specs.Reach.{is_free, role_at, lender_of, reach}
+use Rattle.ledger_model.specs.Reach.{is_free, role_at, lender_of}
 use Rattle.ledger_model.specs.RunTests.{any_free, any_on_loan, any_console, any_lacks}
-use Rattle.ledger_model.specs.Steps.{make, reduce, lend, end_loan}
+use Rattle.ledger_model.specs.Steps.{make, lend}
 use Rattle.machine_model.specs.Calls.{call}
-use Rattle.machine_model.specs.Changes.{Outcome, settled, call_settled}
+use Rattle.machine_model.specs.Changes.{settled, call_settled}
 use Rattle.machine_model.specs.Machine.{Machine, Server}
-use Rattle.machine_model.specs.MemoryCalls.{increase_call, update_call}
+use Rattle.machine_model.specs.MemoryCalls.{increase_call}
 use Rattle.machine_model.specs.ReceiveCalls.{receive_call}
 use Rattle.machine_model.specs.Receivers.{receiver}
-use Rattle.machine_model.specs.ReturnCalls.{holder_of, return_memory_call}
 use Rattle.machine_model.specs.Rows.{id_of, pid_of, small_machine, told_all, after_all}
 use Rattle.machine_model.specs.SendCalls.{send_call, sent_to, sent_pages, arrival}
 use Rattle.machine_model.specs.ServerCalls.{create_server_call, connect_call}

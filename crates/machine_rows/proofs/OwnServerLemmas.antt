@@ -1,7 +1,6 @@
 -- The row of a lend to an own server, by evaluation but for where its page goes.
 use Rattle.std.proofs.Common.{◌≡◌, ℕ, ◌+◌, true, List, [], ◌∷◌, Some, refl, ap, ◌∙◌, arith}
 use Rattle.std.specs.Prelude.{nat_le}
-use Rattle.xk_base.specs.declared.ids.Vpn.{Vpn}
 use Rattle.xk_base.specs.declared.pages.Width.TheVariants.{Word}
 use Rattle.xk_base.specs.declared.windows.Window.TheVariants.{Message}
 use Rattle.xk_base.specs.CallWords.{send_cid}
@@ -15,16 +14,16 @@ use Rattle.ledger_model.specs.Reach.{is_free, role_at, lender_of, reach}
 use Rattle.ledger_model.specs.RunTests.{any_free, any_on_loan, any_console, any_lacks}
 use Rattle.ledger_model.specs.Steps.{make, lend, end_loan, write, zero_page}
 use Rattle.machine_model.specs.Calls.{call}
-use Rattle.machine_model.specs.Changes.{Outcome, settled, call_settled}
+use Rattle.machine_model.specs.Changes.{settled, call_settled}
 use Rattle.machine_model.specs.Instructions.{loads, writes, Executed, Traps, load_page_fault}
 use Rattle.machine_model.specs.Machine.{Machine, Server}
-use Rattle.machine_model.specs.MemoryCalls.{increase_call, update_call}
+use Rattle.machine_model.specs.MemoryCalls.{increase_call}
 use Rattle.machine_model.specs.ReceiveCalls.{receive_call}
 use Rattle.machine_model.specs.Receivers.{receiver}
 use Rattle.machine_model.specs.ReturnCalls.{holder_of, return_memory_call}
 use Rattle.machine_model.specs.Rows.{id_of, pid_of, small_machine, told_all, after_all}
 use Rattle.machine_model.specs.SendCalls.{send_call, sent_to, sent_pages, arrival}
-use Rattle.machine_model.specs.ServerCalls.{create_server_call, connect_call}
+use Rattle.machine_model.specs.ServerCalls.{create_server_call}
 use Rattle.machine_model.specs.Servers.{with_sid, live_servers, server_at}
 use Rattle.machine_model.specs.ThreadCalls.{create_call, free_tid}
 use Rattle.machine_model.specs.Views.{memory_of, stored}

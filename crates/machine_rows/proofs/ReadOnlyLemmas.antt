@@ -1,7 +1,6 @@
 -- The row of a read-only page, by evaluation but for where its page goes.
 use Rattle.std.proofs.Common.{◌≡◌, ℕ, ◌+◌, true, List, [], ◌∷◌, Some, refl, ap, ◌∙◌, arith}
 use Rattle.std.specs.Prelude.{nat_le}
-use Rattle.xk_base.specs.declared.ids.Vpn.{Vpn}
 use Rattle.xk_base.specs.declared.pages.Width.TheVariants.{Word}
 use Rattle.xk_base.specs.declared.windows.Window.TheVariants.{Message}
 use Rattle.xk_base.specs.CallWords.{send_cid}
@@ -15,7 +14,7 @@ use Rattle.ledger_model.specs.Reach.{is_free, role_at, lender_of, reach}
 use Rattle.ledger_model.specs.RunTests.{any_free, any_on_loan, any_console, any_lacks}
 use Rattle.ledger_model.specs.Steps.{make, reduce, lend, end_loan, write, zero_page}
 use Rattle.machine_model.specs.Calls.{call}
-use Rattle.machine_model.specs.Changes.{Outcome, settled, call_settled}
+use Rattle.machine_model.specs.Changes.{settled, call_settled}
 use Rattle.machine_model.specs.Instructions.{loads, stores, writes, Executed, Traps, store_page_fault}
 use Rattle.machine_model.specs.Machine.{Machine, Server}
 use Rattle.machine_model.specs.MemoryCalls.{increase_call, update_call}

@@ -4,4 +4,7 @@
 
 mod rows;
 
-pub use rows::{all_pages_are_lent_or_none, page_is_lent_to_an_own_server, read_only_page_is_lent, two_pages_are_lent_mutably};
+pub use rows::{
+    all_pages_are_lent_or_none, page_is_lent_to_an_own_server, read_only_page_is_lent,
+    two_pages_are_lent_mutably,
+};
