@@ -1,0 +1,36 @@
+//! Laws of the moments that a history goes through. Whatever holds of each run holds so of each history.
+
+ghost use Rattle.std.specs.Prelude.{ℕ, ◌≡◌, List, length};
+ghost use Rattle.event_text.specs.declared.event.Event.{Event};
+ghost use Rattle.machine_model.specs.Kept.{AllKeepMatched};
+ghost use Rattle.machine_model.specs.Machine.{Machine};
+ghost use Rattle.machine_model.specs.Matched.{Matched};
+ghost use Rattle.machine_model.specs.Moments.{IsRun, state_at};
+ghost use Rattle.xk_kernel.specs.History.{history};
+ghost use Rattle.xk_kernel.specs.HistoryMoments.{moments_of};
+
+/// The moments of a history are a run from its start.
+#[tactic(auto, using(crate::proofs::MomentLemmas::history_is_run))]
+pub fn history_is_a_run()
+    ensures { (events : List Event) (limit : ℕ) (start : Machine) → IsRun start (moments_of events limit start) }
+{}
+
+/// The run ends in the history's last state.
+#[tactic(auto, using(crate::proofs::MomentLemmas::history_last))]
+pub fn run_ends_in_the_last_state()
+    ensures { (events : List Event) (limit : ℕ) (start : Machine)
+        → state_at start (moments_of events limit start) (length (moments_of events limit start)) ≡ (history events limit start).machine }
+{}
+
+/// Where all that leads from a state to the next keeps the machine matched, every moment of a history is matched.
+#[tactic(auto, using(crate::proofs::MomentLemmas::moments_matched))]
+pub fn moments_stay_matched()
+    ensures { AllKeepMatched → (events : List Event) (limit : ℕ) (start : Machine) → Matched start
+        → (i : ℕ) → Matched (state_at start (moments_of events limit start) i) }
+{}
+
+/// Then its last state is matched.
+#[tactic(auto, using(crate::proofs::MomentLemmas::history_matched))]
+pub fn history_stays_matched()
+    ensures { AllKeepMatched → (events : List Event) (limit : ℕ) (start : Machine) → Matched start → Matched (history events limit start).machine }
+{}
