@@ -2,9 +2,14 @@
 //! here are laws of them: each function's contract is the law, and its body is empty.
 #![tactic(auto)]
 
+mod interleavings;
 mod laws;
 mod moments;
 
+pub use interleavings::{
+    interleavings_are_played, interleavings_are_played_up_to_the_limit,
+    interleavings_within_the_limit_do_not_meet_it,
+};
 pub use laws::{
     events_are_played_in_order, events_without_steps_are_played, histories_follow_each_other,
     idle_tick_ends_the_turn, no_events_do_nothing, nothing_follows_the_limit,

@@ -23,14 +23,12 @@ pub fn run_ends_in_the_last_state()
 {}
 
 /// Where all that leads from a state to the next keeps the machine matched, every moment of a history is matched.
-#[tactic(auto, using(crate::proofs::MomentLemmas::moments_matched))]
 pub fn moments_stay_matched()
     ensures { AllKeepMatched → (events : List Event) (limit : ℕ) (start : Machine) → Matched start
         → (i : ℕ) → Matched (state_at start (moments_of events limit start) i) }
 {}
 
 /// Then its last state is matched.
-#[tactic(auto, using(crate::proofs::MomentLemmas::history_matched))]
 pub fn history_stays_matched()
     ensures { AllKeepMatched → (events : List Event) (limit : ℕ) (start : Machine) → Matched start → Matched (history events limit start).machine }
 {}
