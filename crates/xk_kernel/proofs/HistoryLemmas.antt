@@ -1,17 +1,15 @@
 -- One event, row by row, and lists of events.
-use Rattle.std.proofs.Common.{◌≡◌, ◌≢◌, ◌<◌, ◌==◌, ◌+◌, ◌-◌, ◌≤◌, ℕ, zero, suc, Bool, true, false, List, [], ◌∷◌, ◌++◌, Option, Some, None, is_some, refl, sym, ap, ◌∙◌, subst, arith, append_assoc, append-nil}
-use Rattle.std.specs.Prelude.{if◌then◌else◌}
+use Rattle.std.proofs.Common.{◌≡◌, ◌≢◌, ◌==◌, ◌-◌, ◌≤◌, ℕ, zero, suc, Bool, true, false, List, [], ◌∷◌, ◌++◌, is_some, refl, sym, ap, ◌∙◌, arith, append_assoc, append-nil}
 use Rattle.std.proofs.lemmas.Bool.Decides.{nat_tests}
 use Rattle.event_text.specs.declared.event.Event.{Event}
 use Rattle.event_text.specs.declared.event.Event.TheVariants.{Tick, Pick, Irq, Kill}
 use Rattle.xk_base.specs.declared.ids.Pid.{Pid}
 use Rattle.xk_base.specs.declared.ids.Tid.{Tid}
-use Rattle.xk_base.specs.declared.ids.ThreadId.{ThreadId}
 use Rattle.xk_base.specs.declared.records.Rec.{Rec}
 use Rattle.machine_model.specs.Events.{picked, raised, killed, nothing}
 use Rattle.machine_model.specs.Machine.{Machine}
-use Rattle.machine_model.specs.Order.{actor, turn, ready_at}
-use Rattle.machine_model.specs.Step.{Stepped, step, step_by, step_by_if}
+use Rattle.machine_model.specs.Order.{actor, ready_at}
+use Rattle.machine_model.specs.Step.{step}
 use Rattle.xk_kernel.specs.History.{History, reached, stopped, turned, behind, go_on, followed_by, ticks, play, history}
 
 -- ---- one event

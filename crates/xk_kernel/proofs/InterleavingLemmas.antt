@@ -1,6 +1,5 @@
 -- Any order of the threads' steps.
-use Rattle.std.proofs.Common.{◌≡◌, ◌≢◌, ◌<◌, ◌==◌, ◌+◌, ◌≤◌, ℕ, zero, suc, Bool, true, false, List, [], ◌∷◌, ◌++◌, length, Option, Some, None, is_some, refl, sym, ap, ◌∙◌, subst, arith, append_assoc, append-nil}
-use Rattle.std.specs.Prelude.{if◌then◌else◌}
+use Rattle.std.proofs.Common.{◌≡◌, ◌≢◌, ◌==◌, ◌+◌, ◌≤◌, ℕ, Bool, true, false, List, [], ◌∷◌, ◌++◌, length, Option, Some, is_some, refl, sym, ap, ◌∙◌, arith, append-nil}
 use Rattle.std.proofs.lemmas.Bool.{false≢true}
 use Rattle.std.proofs.lemmas.Bool.Decides.{nat_tests}
 use Rattle.event_text.specs.declared.event.Event.{Event}
@@ -11,7 +10,7 @@ use Rattle.machine_model.specs.Events.{picked, nothing}
 use Rattle.machine_model.specs.Machine.{Machine}
 use Rattle.machine_model.specs.Order.{actor, turn, ready_at}
 use Rattle.machine_model.specs.Step.{Stepped, step, step_by, step_by_if}
-use Rattle.xk_kernel.specs.History.{History, reached, stopped, turned, behind, go_on, followed_by, ticks, play, history}
+use Rattle.xk_kernel.specs.History.{History, reached, stopped, turned, behind, followed_by, play, history}
 use Rattle.xk_kernel.specs.Interleaving.{picks_and_ticks, after_step_of, AreReadyInTurn, steps_in_turn}
 use Rattle.xk_kernel.proofs.HistoryLemmas.{history_append, history_first, history_none, pick_plays, tick_met, tick_steps, tick_zero}
 

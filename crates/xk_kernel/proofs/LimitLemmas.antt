@@ -1,5 +1,5 @@
 -- The steps of a history and the limit.
-use Rattle.std.proofs.Common.{◌≡◌, ◌≢◌, ◌<◌, ◌==◌, ◌+◌, ◌≤◌, ℕ, zero, suc, Bool, true, false, List, [], ◌∷◌, ◌++◌, Option, Some, None, is_some, refl, sym, ap, ◌∙◌, subst, arith}
+use Rattle.std.proofs.Common.{◌≡◌, ◌≢◌, ◌==◌, ◌+◌, ◌≤◌, ℕ, zero, suc, Bool, true, false, List, [], ◌∷◌, Option, Some, None, is_some, refl, arith}
 use Rattle.std.specs.Prelude.{if◌then◌else◌, nat_eq}
 use Rattle.std.proofs.lemmas.Bool.{false≢true}
 use Rattle.std.proofs.lemmas.Bool.Decides.{nat_tests}
@@ -16,7 +16,7 @@ use Rattle.machine_model.specs.Interrupts.{delivered, delivered_lowest, handler_
 use Rattle.machine_model.specs.Machine.{Machine, Claim}
 use Rattle.machine_model.specs.Order.{actor, turn}
 use Rattle.machine_model.specs.Step.{step, step_by, step_by_if}
-use Rattle.xk_kernel.specs.History.{History, reached, stopped, turned, behind, go_on, followed_by, ticks, play, history}
+use Rattle.xk_kernel.specs.History.{reached, stopped, turned, behind, go_on, ticks, play, history}
 
 -- ---- what counts a step: a step alone
 

@@ -1,16 +1,15 @@
 -- The moments that a history goes through.
 use Rattle.std.proofs.Common.{◌≡◌, ◌==◌, ℕ, zero, suc, Bool, true, false, List, [], ◌∷◌, ◌++◌, length, is_some, refl, sym, ap, ◌∙◌, subst}
 use Rattle.std.specs.Prelude.{if◌then◌else◌}
-use Rattle.std.specs.Bool.{⊤}
 use Rattle.event_text.specs.declared.event.Event.{Event}
 use Rattle.event_text.specs.declared.event.Event.TheVariants.{Tick, Pick, Irq, Kill}
 use Rattle.machine_model.specs.Kept.{AllKeepMatched}
 use Rattle.machine_model.specs.Machine.{Machine}
 use Rattle.machine_model.specs.Matched.{Matched}
 use Rattle.machine_model.specs.Moments.{Cause, ByStep, ByPick, ByIrq, ByKill, ByTurn, Moment, IsRun, caused, state_at}
-use Rattle.machine_model.specs.Order.{actor, turn}
+use Rattle.machine_model.specs.Order.{actor}
 use Rattle.machine_model.specs.Step.{step}
-use Rattle.xk_kernel.specs.History.{History, reached, stopped, turned, behind, go_on, followed_by, ticks, play, history}
+use Rattle.xk_kernel.specs.History.{reached, stopped, turned, behind, go_on, followed_by, ticks, play, history}
 use Rattle.xk_kernel.specs.HistoryMoments.{moment_by, tick_moments, event_moments, moments_of}
 
 -- ---- runs, and their last states
