@@ -1,5 +1,6 @@
 -- One event, row by row, and lists of events.
-use Rattle.std.proofs.Common.{◌≡◌, ◌≢◌, ◌==◌, ◌-◌, ◌≤◌, ℕ, zero, suc, Bool, true, false, List, [], ◌∷◌, ◌++◌, is_some, refl, sym, ap, ◌∙◌, arith, append_assoc, append-nil}
+use Rattle.std.proofs.Common.{◌≡◌, ◌≢◌, ◌==◌, ◌-◌, ◌≤◌, ℕ, zero, suc, Bool, true, false, List, [], ◌∷◌, ◌++◌, is_some, refl, sym, ap, ◌∙◌, arith, append_assoc, append-nil, Some, None, Option}
+use Rattle.std.specs.Prelude.{if◌then◌else◌}
 use Rattle.std.proofs.lemmas.Bool.Decides.{nat_tests}
 use Rattle.event_text.specs.declared.event.Event.{Event}
 use Rattle.event_text.specs.declared.event.Event.TheVariants.{Tick, Pick, Irq, Kill}
@@ -8,17 +9,21 @@ use Rattle.xk_base.specs.declared.ids.Tid.{Tid}
 use Rattle.xk_base.specs.declared.records.Rec.{Rec}
 use Rattle.machine_model.specs.Events.{picked, raised, killed, nothing}
 use Rattle.machine_model.specs.Machine.{Machine}
-use Rattle.machine_model.specs.Order.{actor, ready_at}
+use Rattle.machine_model.specs.Order.{actor, turn, ready_at, next_ready}
+use Rattle.machine_model.proofs.StepLaws.{next_ready_passes, none_is_ready}
+use Rattle.xk_base.specs.Circle.{is_pid, is_thread_id}
+use Rattle.std.proofs.lemmas.Bool.{false≢true}
+use Rattle.xk_base.specs.declared.ids.ThreadId.{ThreadId}
 use Rattle.machine_model.specs.Step.{step}
-use Rattle.xk_kernel.specs.History.{History, reached, stopped, turned, behind, go_on, followed_by, ticks, play, history}
+use Rattle.xk_kernel.specs.History.{History, reached, stopped, behind, go_on, followed_by, ticks, play, history}
 
 -- ---- one event
 
-pub tick_zero : (limit : ℕ) (m : Machine) → play (Tick 0) limit m ≡ reached (turned m)
+pub tick_zero : (limit : ℕ) (m : Machine) → play (Tick 0) limit m ≡ reached (nothing (turn m))
 unfolding play ticks
 tick_zero limit m = refl
 
-pub tick_idle : (n limit : ℕ) (m : Machine) → is_some (actor m) ≡ false → play (Tick n) limit m ≡ reached (turned m)
+pub tick_idle : (n limit : ℕ) (m : Machine) → is_some (actor m) ≡ false → play (Tick n) limit m ≡ reached (nothing (turn m))
 unfolding play ticks
 tick_idle zero limit m idle = refl
 tick_idle (suc n) limit m idle = rw idle refl
@@ -60,6 +65,34 @@ pub pick_unready : (pid : Pid) (tid : Tid) (limit : ℕ) (m : Machine) → ready
     → play (Pick pid tid) limit m ≡ reached (nothing m)
 unfolding play picked
 pick_unready pid tid limit m unready = rw unready refl
+
+-- ---- a thread is Ready
+
+someone_by : (b : Bool) (m : Machine) → ready_at m m.cursor ≡ b
+    → is_some (if b then Some m.cursor else next_ready m m.cursor) ≡ true → (d : ThreadId) × (ready_at m d ≡ true)
+someone_by true m is some = (m.cursor, is)
+someone_by false m is some = go (next_ready m m.cursor) refl some
+  where
+    go : (o : Option ThreadId) → next_ready m m.cursor ≡ o → is_some o ≡ true → (d : ThreadId) × (ready_at m d ≡ true)
+    go None e none = absurd (false≢true none)
+    go (Some d) e here = (d, next_ready_passes m m.cursor d e)
+
+pub actor_is_ready : (m : Machine) → is_some (actor m) ≡ true → (d : ThreadId) × (ready_at m d ≡ true)
+unfolding actor
+actor_is_ready m some = someone_by (ready_at m m.cursor) m refl some
+
+pub ready_has_actor : (m : Machine) (d : ThreadId) → is_pid m.processes m.cursor.pid.0 ≡ true → is_thread_id m.processes d ≡ true
+    → ready_at m d ≡ true → is_some (actor m) ≡ true
+unfolding actor
+ready_has_actor m d cursor known ready = go (ready_at m m.cursor)
+  where
+    next : (o : Option ThreadId) → next_ready m m.cursor ≡ o → is_some o ≡ true
+    next None e = absurd (false≢true (sym (none_is_ready m m.cursor d cursor e known) ∙ ready))
+    next (Some who) e = refl
+
+    go : (b : Bool) → is_some (if b then Some m.cursor else next_ready m m.cursor) ≡ true
+    go true = refl
+    go false = next (next_ready m m.cursor) refl
 
 -- ---- events in order
 

@@ -10,7 +10,7 @@ use Rattle.machine_model.specs.Events.{picked, nothing}
 use Rattle.machine_model.specs.Machine.{Machine}
 use Rattle.machine_model.specs.Order.{actor, turn, ready_at}
 use Rattle.machine_model.specs.Step.{Stepped, step, step_by, step_by_if}
-use Rattle.xk_kernel.specs.History.{History, reached, stopped, turned, behind, followed_by, play, history}
+use Rattle.xk_kernel.specs.History.{History, reached, stopped, behind, followed_by, play, history}
 use Rattle.xk_kernel.specs.Interleaving.{picks_and_ticks, after_step_of, AreReadyInTurn, steps_in_turn}
 use Rattle.xk_kernel.proofs.HistoryLemmas.{history_append, history_first, history_none, pick_plays, tick_met, tick_steps, tick_zero}
 
@@ -54,14 +54,14 @@ pick_first who events limit m ready =
 
 -- its tick is one step and the end of the turn
 tick_one : (who : ThreadId) (limit : ℕ) (m : Machine) → ready_at m who ≡ true → m.steps ≢ limit
-    → play (Tick 1) limit (at who m) ≡ behind (step_by who m).records (reached (turned (step_by who m).machine))
+    → play (Tick 1) limit (at who m) ≡ behind (step_by who m).records (reached (nothing (turn (step_by who m).machine)))
 tick_one who limit m ready more =
     let one : 1 ≤ 1 = omega arith in
     tick_steps 1 limit (at who m) one (someone who m ready) more
     ∙ (ap (λ (s : Stepped). behind s.records (play (Tick 0) limit s.machine)) (step_at who m ready)
     ∙ ap (behind (step_by who m).records) (tick_zero limit (step_by who m).machine))
 
-plain : (records : List Rec) (m : Machine) (next : Machine → History) → followed_by (behind records (reached (turned m))) next ≡ behind records (next (turn m))
+plain : (records : List Rec) (m : Machine) (next : Machine → History) → followed_by (behind records (reached (nothing (turn m)))) next ≡ behind records (next (turn m))
 plain records m next = rw append-nil refl
 
 turn_of : (who : ThreadId) (later : List ThreadId) (limit : ℕ) (m : Machine) → ready_at m who ≡ true → m.steps ≢ limit

@@ -11,12 +11,12 @@ use Rattle.xk_base.specs.Counting.{put_at}
 use Rattle.machine_model.specs.Changes.{settled}
 use Rattle.machine_model.specs.Closing.{closed, servers_closed, senders_queued_gone, senders_held_gone}
 use Rattle.machine_model.specs.Ends.{death, forgotten}
-use Rattle.machine_model.specs.Events.{picked, raised, raised_if, killed, killed_if, with_handler_next}
+use Rattle.machine_model.specs.Events.{nothing, picked, raised, raised_if, killed, killed_if, with_handler_next}
 use Rattle.machine_model.specs.Interrupts.{delivered, delivered_lowest, handler_started, is_free_for_interrupt, lowest_pending}
 use Rattle.machine_model.specs.Machine.{Machine, Claim}
 use Rattle.machine_model.specs.Order.{actor, turn}
 use Rattle.machine_model.specs.Step.{step, step_by, step_by_if}
-use Rattle.xk_kernel.specs.History.{reached, stopped, turned, behind, go_on, ticks, play, history}
+use Rattle.xk_kernel.specs.History.{reached, stopped, behind, go_on, ticks, play, history}
 
 -- ---- what counts a step: a step alone
 
@@ -75,7 +75,7 @@ ticks_within (suc n) limit m within =
   where
     go : (a : Bool) → is_some (actor m) ≡ a → (b : Bool) → (m.steps == limit) ≡ b
         → ((step m).machine.steps ≤ limit → (ticks n limit (step m).machine).machine.steps ≤ limit)
-        → (if a then (if b then stopped m else behind (step m).records (ticks n limit (step m).machine)) else reached (turned m)).machine.steps ≤ limit
+        → (if a then (if b then stopped m else behind (step m).records (ticks n limit (step m).machine)) else reached (nothing (turn m))).machine.steps ≤ limit
     go false ready b test later = rw turn_steps within
     go true ready true test later = within
     go true ready false test later =
@@ -110,8 +110,8 @@ ticks_met (suc n) limit m met =
   where
     go : (a b : Bool) → (m.steps == limit) ≡ b
         → ((ticks n limit (step m).machine).met ≡ true → (ticks n limit (step m).machine).machine.steps ≡ limit)
-        → (if a then (if b then stopped m else behind (step m).records (ticks n limit (step m).machine)) else reached (turned m)).met ≡ true
-        → (if a then (if b then stopped m else behind (step m).records (ticks n limit (step m).machine)) else reached (turned m)).machine.steps ≡ limit
+        → (if a then (if b then stopped m else behind (step m).records (ticks n limit (step m).machine)) else reached (nothing (turn m))).met ≡ true
+        → (if a then (if b then stopped m else behind (step m).records (ticks n limit (step m).machine)) else reached (nothing (turn m))).machine.steps ≡ limit
     go false b test later is = absurd (false≢true is)
     go true true test later is = grind (arith, nat_tests)
     go true false test later is = later is

@@ -1,15 +1,16 @@
 -- The moments that a history goes through.
-use Rattle.std.proofs.Common.{◌≡◌, ◌==◌, ℕ, zero, suc, Bool, true, false, List, [], ◌∷◌, ◌++◌, length, is_some, refl, sym, ap, ◌∙◌, subst}
+use Rattle.std.proofs.Common.{◌≡◌, ◌==◌, ℕ, zero, suc, Bool, true, false, List, [], ◌∷◌, ◌++◌, length, is_some, refl, sym, ap, ◌∙◌, subst, append_assoc, append-nil}
 use Rattle.std.specs.Prelude.{if◌then◌else◌}
 use Rattle.event_text.specs.declared.event.Event.{Event}
 use Rattle.event_text.specs.declared.event.Event.TheVariants.{Tick, Pick, Irq, Kill}
+use Rattle.machine_model.specs.Events.{nothing}
 use Rattle.machine_model.specs.Kept.{AllKeepMatched}
 use Rattle.machine_model.specs.Machine.{Machine}
 use Rattle.machine_model.specs.Matched.{Matched}
 use Rattle.machine_model.specs.Moments.{Cause, ByStep, ByPick, ByIrq, ByKill, ByTurn, Moment, IsRun, caused, state_at}
-use Rattle.machine_model.specs.Order.{actor}
+use Rattle.machine_model.specs.Order.{actor, turn}
 use Rattle.machine_model.specs.Step.{step}
-use Rattle.xk_kernel.specs.History.{reached, stopped, turned, behind, go_on, followed_by, ticks, play, history}
+use Rattle.xk_kernel.specs.History.{reached, stopped, behind, go_on, followed_by, ticks, play, history}
 use Rattle.xk_kernel.specs.HistoryMoments.{moment_by, tick_moments, event_moments, moments_of}
 
 -- ---- runs, and their last states
@@ -72,7 +73,7 @@ ticks_lead (suc n) limit m = go (is_some (actor m)) (m.steps == limit) (ticks_le
   where
     go : (a b : Bool) → Leads (step m).machine (tick_moments n limit (step m).machine) (ticks n limit (step m).machine).machine
         → Leads m (if a then (if b then [] else moment_by ByStep m ∷ tick_moments n limit (step m).machine) else moment_by ByTurn m ∷ [])
-            (if a then (if b then stopped m else behind (step m).records (ticks n limit (step m).machine)) else reached (turned m)).machine
+            (if a then (if b then stopped m else behind (step m).records (ticks n limit (step m).machine)) else reached (nothing (turn m))).machine
     go false b later = leads_one ByTurn m
     go true true later = leads_none m
     go true false later = leads_behind ByStep m (ticks n limit (step m).machine).machine (tick_moments n limit (step m).machine) later
@@ -107,6 +108,35 @@ pub history_last : (events : List Event) (limit : ℕ) (start : Machine)
     → state_at start (moments_of events limit start) (length (moments_of events limit start)) ≡ (history events limit start).machine
 unfolding Leads
 history_last events limit start = last_is start (moments_of events limit start) ∙ (history_leads events limit start).1
+
+moments_go_on : (em before both after : List Moment) → both ≡ before ++ after → em ++ both ≡ (em ++ before) ++ after
+moments_go_on em before both after same = ap (λ (ms : List Moment). em ++ ms) same ∙ sym (append_assoc em before after)
+
+pub moments_append : (before after : List Event) (limit : ℕ) (m : Machine)
+    → moments_of (before ++ after) limit m
+        ≡ moments_of before limit m ++ (if (history before limit m).met then [] else moments_of after limit (history before limit m).machine)
+unfolding moments_of history
+moments_append [] after limit m = refl
+moments_append (event ∷ before) after limit m =
+    go (play event limit m).met refl (moments_append before after limit (play event limit m).machine)
+  where
+    go : (b : Bool) → (play event limit m).met ≡ b
+        → moments_of (before ++ after) limit (play event limit m).machine
+            ≡ moments_of before limit (play event limit m).machine
+              ++ (if (history before limit (play event limit m).machine).met then [] else moments_of after limit (history before limit (play event limit m).machine).machine)
+        → event_moments event limit m ++ (if b then [] else moments_of (before ++ after) limit (play event limit m).machine)
+            ≡ (event_moments event limit m ++ (if b then [] else moments_of before limit (play event limit m).machine))
+              ++ (if (go_on b (play event limit m) (history before limit)).met then [] else moments_of after limit (go_on b (play event limit m) (history before limit)).machine)
+    go true is later =
+        let ends : (if (play event limit m).met then [] else moments_of after limit (play event limit m).machine) ≡ [] =
+          ap (λ (b : Bool). if b then [] else moments_of after limit (play event limit m).machine) is in
+        sym (append-nil (event_moments event limit m ++ []))
+        ∙ ap (λ (ms : List Moment). (event_moments event limit m ++ []) ++ ms) (sym ends)
+    go false is later =
+        moments_go_on (event_moments event limit m) (moments_of before limit (play event limit m).machine)
+            (moments_of (before ++ after) limit (play event limit m).machine)
+            (if (history before limit (play event limit m).machine).met then [] else moments_of after limit (history before limit (play event limit m).machine).machine)
+            later
 
 -- ---- what each cause keeps, a history keeps
 

@@ -3,7 +3,7 @@ use Rattle.std.specs.Prelude.{ℕ, zero, suc, ◌==◌, Bool, true, false, List,
 use Rattle.event_text.specs.declared.event.Event.{Event}
 use Rattle.event_text.specs.declared.event.Event.TheVariants.{Tick, Pick, Irq, Kill}
 use Rattle.xk_base.specs.declared.records.Rec.{Rec}
-use Rattle.machine_model.specs.Events.{picked, raised, killed}
+use Rattle.machine_model.specs.Events.{picked, raised, killed, nothing}
 use Rattle.machine_model.specs.Machine.{Machine}
 use Rattle.machine_model.specs.Order.{actor, turn}
 use Rattle.machine_model.specs.Step.{Stepped, step}
@@ -23,10 +23,6 @@ reached done = record { records = done.records; machine = done.machine; met = fa
 abbrev pub stopped : Machine → History
 stopped m = record { records = []; machine = m; met = true }
 
--- the end of a turn has no record
-abbrev pub turned : Machine → Stepped
-turned m = record { machine = turn m; records = [] }
-
 -- the same history after some records
 abbrev pub behind : List Rec → History → History
 behind records h = record h { records = records ++ h.records }
@@ -39,15 +35,15 @@ go_on false h next = behind h.records (next h.machine)
 abbrev pub followed_by : History → (Machine → History) → History
 followed_by h next = go_on h.met h next
 
--- `tick N`: N steps, fewer where no thread is Ready; then the turn ends. Where a step is still to be done, a thread is Ready and
+-- `tick N`: N steps, fewer where no thread is Ready; then the turn ends, which has no record. Where a step is still to be done, a thread is Ready and
 -- the steps done equal the limit, the limit is met.
 unfoldable pub ticks : ℕ → ℕ → Machine → History
-ticks zero limit m = reached (turned m)
+ticks zero limit m = reached (nothing (turn m))
 ticks (suc n) limit m =
     if is_some (actor m) then (
     if m.steps == limit then stopped m else
     behind (step m).records (ticks n limit (step m).machine))
-    else reached (turned m)
+    else reached (nothing (turn m))
 
 -- one event
 unfoldable pub play : Event → ℕ → Machine → History
@@ -58,5 +54,5 @@ play (Kill pid) limit m = reached (killed pid m)
 
 -- the events in order
 unfoldable pub history : List Event → ℕ → Machine → History
-history [] limit m = reached (record { machine = m; records = [] })
+history [] limit m = reached (nothing m)
 history (event ∷ events) limit m = followed_by (play event limit m) (history events limit)

@@ -4,6 +4,7 @@ use Rattle.std.specs.Bool.{⊤}
 use Rattle.event_text.specs.declared.event.Event.{Event}
 use Rattle.event_text.specs.declared.event.Event.TheVariants.{Tick, Pick}
 use Rattle.xk_base.specs.declared.ids.ThreadId.{ThreadId}
+use Rattle.machine_model.specs.Events.{nothing}
 use Rattle.machine_model.specs.Machine.{Machine}
 use Rattle.machine_model.specs.Order.{ready_at, turn}
 use Rattle.machine_model.specs.Step.{Stepped, step_by}
@@ -24,7 +25,7 @@ AreReadyInTurn (who ∷ later) m = IsTrue (ready_at m who) × AreReadyInTurn lat
 
 -- a step of each of these threads in their order, each at the end of the turn before: the last state and all records
 unfoldable pub steps_in_turn : List ThreadId → Machine → Stepped
-steps_in_turn [] m = record { machine = m; records = [] }
+steps_in_turn [] m = nothing m
 steps_in_turn (who ∷ later) m = record {
   machine = (steps_in_turn later (after_step_of who m)).machine;
   records = (step_by who m).records ++ (steps_in_turn later (after_step_of who m)).records;

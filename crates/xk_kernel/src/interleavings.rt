@@ -18,7 +18,7 @@ pub fn interleavings_are_played()
 
 /// The limit isn't met where it allows as many steps more as there are threads in the list.
 #[tactic(auto, using(crate::proofs::InterleavingLemmas::unmet_within))]
-pub fn interleavings_within_the_limit_do_not_meet_it()
+pub fn limit_is_not_met_within()
     ensures { (threads : List ThreadId) (limit : ℕ) (m : Machine) → AreReadyInTurn threads m
         → m.steps + length threads ≤ limit → (history (picks_and_ticks threads) limit m).met ≡ false }
 {}

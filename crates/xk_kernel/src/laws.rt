@@ -4,13 +4,15 @@ ghost use Rattle.std.specs.Prelude.{ℕ, ◌≡◌, ◌≢◌, ◌-◌, ◌≤�
 ghost use Rattle.event_text.specs.declared.event.Event.{Event};
 ghost use Rattle.event_text.specs.declared.event.Event.TheVariants.{Tick, Pick, Irq, Kill};
 ghost use Rattle.xk_base.specs.declared.ids.Pid.{Pid};
+ghost use Rattle.xk_base.specs.declared.ids.ThreadId.{ThreadId};
 ghost use Rattle.xk_base.specs.declared.ids.Tid.{Tid};
+ghost use Rattle.xk_base.specs.Circle.{is_pid, is_thread_id};
 ghost use Rattle.xk_base.specs.declared.records.Rec.{Rec};
 ghost use Rattle.machine_model.specs.Events.{picked, raised, killed, nothing};
 ghost use Rattle.machine_model.specs.Machine.{Machine};
-ghost use Rattle.machine_model.specs.Order.{actor, ready_at};
+ghost use Rattle.machine_model.specs.Order.{actor, ready_at, turn};
 ghost use Rattle.machine_model.specs.Step.{step};
-ghost use Rattle.xk_kernel.specs.History.{play, history, reached, stopped, turned, behind, followed_by};
+ghost use Rattle.xk_kernel.specs.History.{play, history, reached, stopped, behind, followed_by};
 
 /// `pick P T`, `irq K` and `kill P` are what the machine makes of them. They meet no limit.
 #[tactic(auto, using(crate::proofs::HistoryLemmas::pick_plays, crate::proofs::HistoryLemmas::irq_plays, crate::proofs::HistoryLemmas::kill_plays))]
@@ -26,16 +28,24 @@ pub fn unready_thread_is_not_picked()
     ensures { (pid : Pid) (tid : Tid) (limit : ℕ) (m : Machine) → ready_at m (record { pid = pid; tid = tid }) ≡ false → play (Pick pid tid) limit m ≡ reached (nothing m) }
 {}
 
+/// There is who does the next step exactly where a thread is Ready; the cursor's process is one of the machine's.
+#[tactic(auto, using(crate::proofs::HistoryLemmas::actor_is_ready, crate::proofs::HistoryLemmas::ready_has_actor))]
+pub fn ready_thread_does_a_step()
+    ensures only { (m : Machine) → is_some (actor m) ≡ true → (d : ThreadId) × (ready_at m d ≡ true) }
+    ensures there { (m : Machine) (d : ThreadId) → is_pid m.processes m.cursor.pid.0 ≡ true → is_thread_id m.processes d ≡ true
+        → ready_at m d ≡ true → is_some (actor m) ≡ true }
+{}
+
 /// `tick 0` ends the turn.
 #[tactic(auto, using(crate::proofs::HistoryLemmas::tick_zero))]
 pub fn tick_zero_ends_the_turn()
-    ensures { (limit : ℕ) (m : Machine) → play (Tick 0) limit m ≡ reached (turned m) }
+    ensures { (limit : ℕ) (m : Machine) → play (Tick 0) limit m ≡ reached (nothing (turn m)) }
 {}
 
 /// Where no thread is Ready, `tick` ends the turn.
 #[tactic(auto, using(crate::proofs::HistoryLemmas::tick_idle))]
 pub fn idle_tick_ends_the_turn()
-    ensures { (n limit : ℕ) (m : Machine) → is_some (actor m) ≡ false → play (Tick n) limit m ≡ reached (turned m) }
+    ensures { (n limit : ℕ) (m : Machine) → is_some (actor m) ≡ false → play (Tick n) limit m ≡ reached (nothing (turn m)) }
 {}
 
 /// Where a step is still to be done, a thread is Ready and the steps equal the limit, the limit is met in that state.

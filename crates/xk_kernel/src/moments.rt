@@ -1,6 +1,6 @@
 //! Laws of the moments that a history goes through. Whatever holds of each run holds so of each history.
 
-ghost use Rattle.std.specs.Prelude.{ℕ, ◌≡◌, List, length};
+ghost use Rattle.std.specs.Prelude.{ℕ, ◌≡◌, List, [], ◌++◌, length, if◌then◌else◌};
 ghost use Rattle.event_text.specs.declared.event.Event.{Event};
 ghost use Rattle.machine_model.specs.Kept.{AllKeepMatched};
 ghost use Rattle.machine_model.specs.Machine.{Machine};
@@ -20,6 +20,14 @@ pub fn history_is_a_run()
 pub fn run_ends_in_the_last_state()
     ensures { (events : List Event) (limit : ℕ) (start : Machine)
         → state_at start (moments_of events limit start) (length (moments_of events limit start)) ≡ (history events limit start).machine }
+{}
+
+/// The moments of two lists of events are those of the first, and then, where it doesn't meet the limit, those of the second.
+#[tactic(auto, using(crate::proofs::MomentLemmas::moments_append))]
+pub fn moments_follow_each_other()
+    ensures { (before after : List Event) (limit : ℕ) (m : Machine)
+        → moments_of (before ++ after) limit m
+            ≡ moments_of before limit m ++ (if (history before limit m).met then [] else moments_of after limit (history before limit m).machine) }
 {}
 
 /// Where all that leads from a state to the next keeps the machine matched, every moment of a history is matched.
