@@ -116,7 +116,7 @@ unfolding history
 history_append [] after limit m = refl
 history_append (event ∷ before) after limit m =
     go_on_twice (play event limit m).met (play event limit m) (history (before ++ after) limit) (history before limit) (history after limit) refl
-        (history_append before after limit (play event limit m).machine)
+    (history_append before after limit (play event limit m).machine)
 
 pub history_none : (limit : ℕ) (m : Machine) → history [] limit m ≡ reached (nothing m)
 unfolding history
@@ -135,7 +135,6 @@ pub stays_met : (before after : List Event) (limit : ℕ) (m : Machine) → (his
     → history (before ++ after) limit m ≡ history before limit m
 stays_met before after limit m met =
     history_append before after limit m ∙ go_on_met (history before limit m) (history after limit) met
-
 
 front_go_on : (met : Bool) (h : History) (next : Machine → History) → (rest : List Rec) × ((go_on met h next).records ≡ h.records ++ rest)
 front_go_on true h next = ([], sym (append-nil h.records))

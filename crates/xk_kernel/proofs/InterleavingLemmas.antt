@@ -148,7 +148,7 @@ first_ready who later m ready = ready.0
 pub interleaving_met : (before : List ThreadId) (who : ThreadId) (later : List ThreadId) (limit : ℕ) (m : Machine)
     → AreReadyInTurn (before ++ (who ∷ later)) m → m.steps + length before ≡ limit
     → history (picks_and_ticks (before ++ (who ∷ later))) limit m
-        ≡ behind (steps_in_turn before m).records (stopped (picked who (steps_in_turn before m).machine).machine)
+    ≡ behind (steps_in_turn before m).records (stopped (picked who (steps_in_turn before m).machine).machine)
 interleaving_met before who later limit m ready met =
     let within : m.steps + length before ≤ limit = omega arith in
     let ends : (steps_in_turn before m).machine.steps ≡ limit = steps_of_turns before m ∙ met in

@@ -1,10 +1,12 @@
 -- The moments that a history goes through.
 use Rattle.std.proofs.Common.{◌≡◌, ◌==◌, ℕ, zero, suc, Bool, true, false, List, [], ◌∷◌, ◌++◌, length, is_some, refl, sym, ap, ◌∙◌, subst, append_assoc, append-nil}
 use Rattle.std.specs.Prelude.{if◌then◌else◌}
+use Rattle.std.specs.Bool.{IsTrue}
 use Rattle.event_text.specs.declared.event.Event.{Event}
 use Rattle.event_text.specs.declared.event.Event.TheVariants.{Tick, Pick, Irq, Kill}
+use Rattle.xk_base.specs.Circle.{is_thread_id}
 use Rattle.machine_model.specs.Events.{nothing}
-use Rattle.machine_model.specs.Kept.{AllKeepMatched}
+use Rattle.machine_model.specs.Kept.{AllKeepMatched, AllKeepCursor}
 use Rattle.machine_model.specs.Machine.{Machine}
 use Rattle.machine_model.specs.Matched.{Matched}
 use Rattle.machine_model.specs.Moments.{Cause, ByStep, ByPick, ByIrq, ByKill, ByTurn, Moment, IsRun, caused, state_at}
@@ -73,7 +75,7 @@ ticks_lead (suc n) limit m = go (is_some (actor m)) (m.steps == limit) (ticks_le
   where
     go : (a b : Bool) → Leads (step m).machine (tick_moments n limit (step m).machine) (ticks n limit (step m).machine).machine
         → Leads m (if a then (if b then [] else moment_by ByStep m ∷ tick_moments n limit (step m).machine) else moment_by ByTurn m ∷ [])
-            (if a then (if b then stopped m else behind (step m).records (ticks n limit (step m).machine)) else reached (nothing (turn m))).machine
+        (if a then (if b then stopped m else behind (step m).records (ticks n limit (step m).machine)) else reached (nothing (turn m))).machine
     go false b later = leads_one ByTurn m
     go true true later = leads_none m
     go true false later = leads_behind ByStep m (ticks n limit (step m).machine).machine (tick_moments n limit (step m).machine) later
@@ -90,13 +92,13 @@ unfolding moments_of history
 history_leads [] limit m = leads_none m
 history_leads (event ∷ events) limit m =
     leads_append m (play event limit m).machine (followed_by (play event limit m) (history events limit)).machine
-        (event_moments event limit m) (if (play event limit m).met then [] else moments_of events limit (play event limit m).machine)
-        (event_leads event limit m)
-        (go (play event limit m).met (history_leads events limit (play event limit m).machine))
+    (event_moments event limit m) (if (play event limit m).met then [] else moments_of events limit (play event limit m).machine)
+    (event_leads event limit m)
+    (go (play event limit m).met (history_leads events limit (play event limit m).machine))
   where
     go : (b : Bool) → Leads (play event limit m).machine (moments_of events limit (play event limit m).machine) (history events limit (play event limit m).machine).machine
         → Leads (play event limit m).machine (if b then [] else moments_of events limit (play event limit m).machine)
-            (go_on b (play event limit m) (history events limit)).machine
+        (go_on b (play event limit m) (history events limit)).machine
     go true later = leads_none (play event limit m).machine
     go false later = later
 
@@ -114,7 +116,7 @@ moments_go_on em before both after same = ap (λ (ms : List Moment). em ++ ms) s
 
 pub moments_append : (before after : List Event) (limit : ℕ) (m : Machine)
     → moments_of (before ++ after) limit m
-        ≡ moments_of before limit m ++ (if (history before limit m).met then [] else moments_of after limit (history before limit m).machine)
+    ≡ moments_of before limit m ++ (if (history before limit m).met then [] else moments_of after limit (history before limit m).machine)
 unfolding moments_of history
 moments_append [] after limit m = refl
 moments_append (event ∷ before) after limit m =
@@ -122,21 +124,21 @@ moments_append (event ∷ before) after limit m =
   where
     go : (b : Bool) → (play event limit m).met ≡ b
         → moments_of (before ++ after) limit (play event limit m).machine
-            ≡ moments_of before limit (play event limit m).machine
-              ++ (if (history before limit (play event limit m).machine).met then [] else moments_of after limit (history before limit (play event limit m).machine).machine)
+        ≡ moments_of before limit (play event limit m).machine
+        ++ (if (history before limit (play event limit m).machine).met then [] else moments_of after limit (history before limit (play event limit m).machine).machine)
         → event_moments event limit m ++ (if b then [] else moments_of (before ++ after) limit (play event limit m).machine)
-            ≡ (event_moments event limit m ++ (if b then [] else moments_of before limit (play event limit m).machine))
-              ++ (if (go_on b (play event limit m) (history before limit)).met then [] else moments_of after limit (go_on b (play event limit m) (history before limit)).machine)
+        ≡ (event_moments event limit m ++ (if b then [] else moments_of before limit (play event limit m).machine))
+        ++ (if (go_on b (play event limit m) (history before limit)).met then [] else moments_of after limit (go_on b (play event limit m) (history before limit)).machine)
     go true is later =
         let ends : (if (play event limit m).met then [] else moments_of after limit (play event limit m).machine) ≡ [] =
-          ap (λ (b : Bool). if b then [] else moments_of after limit (play event limit m).machine) is in
+        ap (λ (b : Bool). if b then [] else moments_of after limit (play event limit m).machine) is in
         sym (append-nil (event_moments event limit m ++ []))
         ∙ ap (λ (ms : List Moment). (event_moments event limit m ++ []) ++ ms) (sym ends)
     go false is later =
         moments_go_on (event_moments event limit m) (moments_of before limit (play event limit m).machine)
-            (moments_of (before ++ after) limit (play event limit m).machine)
-            (if (history before limit (play event limit m).machine).met then [] else moments_of after limit (history before limit (play event limit m).machine).machine)
-            later
+        (moments_of (before ++ after) limit (play event limit m).machine)
+        (if (history before limit (play event limit m).machine).met then [] else moments_of after limit (history before limit (play event limit m).machine).machine)
+        later
 
 -- ---- what each cause keeps, a history keeps
 
@@ -166,3 +168,15 @@ moments_matched keep events limit start h i = moments_keep Matched keep events l
 
 pub history_matched : AllKeepMatched → (events : List Event) (limit : ℕ) (start : Machine) → Matched start → Matched (history events limit start).machine
 history_matched keep events limit start h = history_keeps Matched keep events limit start h
+
+-- the cursor, with the invariant on which it rests
+cursor_kept : AllKeepMatched → AllKeepCursor → (cause : Cause) (m : Machine) → Matched m × IsTrue (is_thread_id m.processes m.cursor)
+    → Matched (caused cause m) × IsTrue (is_thread_id (caused cause m).processes (caused cause m).cursor)
+cursor_kept keep stands cause m h = (keep cause m h.0, stands cause m h.0 h.1)
+
+pub moments_cursor : AllKeepMatched → AllKeepCursor → (events : List Event) (limit : ℕ) (start : Machine) → Matched start
+    → IsTrue (is_thread_id start.processes start.cursor) → (i : ℕ)
+    → IsTrue (is_thread_id (state_at start (moments_of events limit start) i).processes (state_at start (moments_of events limit start) i).cursor)
+moments_cursor keep stands events limit start h c i =
+    let P : Machine → Type 0 = λ (m : Machine). Matched m × IsTrue (is_thread_id m.processes m.cursor) in
+    (moments_keep P (cursor_kept keep stands) events limit start (h, c) i).1

@@ -30,5 +30,5 @@ pub fn interleavings_are_played_up_to_the_limit()
     ensures { (before : List ThreadId) (who : ThreadId) (later : List ThreadId) (limit : ℕ) (m : Machine)
         → AreReadyInTurn (before ++ (who ∷ later)) m → m.steps + length before ≡ limit
         → history (picks_and_ticks (before ++ (who ∷ later))) limit m
-            ≡ behind (steps_in_turn before m).records (stopped (picked who (steps_in_turn before m).machine).machine) }
+        ≡ behind (steps_in_turn before m).records (stopped (picked who (steps_in_turn before m).machine).machine) }
 {}

@@ -1,8 +1,9 @@
 //! Laws of the moments that a history goes through. Whatever holds of each run holds so of each history.
 
-ghost use Rattle.std.specs.Prelude.{ℕ, ◌≡◌, List, [], ◌++◌, length, if◌then◌else◌};
+ghost use Rattle.std.specs.Prelude.{ℕ, ◌≡◌, List, [], ◌++◌, length, if◌then◌else◌, IsTrue};
 ghost use Rattle.event_text.specs.declared.event.Event.{Event};
-ghost use Rattle.machine_model.specs.Kept.{AllKeepMatched};
+ghost use Rattle.xk_base.specs.Circle.{is_thread_id};
+ghost use Rattle.machine_model.specs.Kept.{AllKeepCursor, AllKeepMatched};
 ghost use Rattle.machine_model.specs.Machine.{Machine};
 ghost use Rattle.machine_model.specs.Matched.{Matched};
 ghost use Rattle.machine_model.specs.Moments.{IsRun, state_at};
@@ -27,7 +28,7 @@ pub fn run_ends_in_the_last_state()
 pub fn moments_follow_each_other()
     ensures { (before after : List Event) (limit : ℕ) (m : Machine)
         → moments_of (before ++ after) limit m
-            ≡ moments_of before limit m ++ (if (history before limit m).met then [] else moments_of after limit (history before limit m).machine) }
+        ≡ moments_of before limit m ++ (if (history before limit m).met then [] else moments_of after limit (history before limit m).machine) }
 {}
 
 /// Where all that leads from a state to the next keeps the machine matched, every moment of a history is matched.
@@ -39,4 +40,11 @@ pub fn moments_stay_matched()
 /// Then its last state is matched.
 pub fn history_stays_matched()
     ensures { AllKeepMatched → (events : List Event) (limit : ℕ) (start : Machine) → Matched start → Matched (history events limit start).machine }
+{}
+
+/// Where it keeps the cursor too, the cursor is the id of a thread of the processes at every moment of a history.
+pub fn moments_keep_the_cursor()
+    ensures { AllKeepMatched → AllKeepCursor → (events : List Event) (limit : ℕ) (start : Machine) → Matched start
+        → IsTrue (is_thread_id start.processes start.cursor) → (i : ℕ)
+        → IsTrue (is_thread_id (state_at start (moments_of events limit start) i).processes (state_at start (moments_of events limit start) i).cursor) }
 {}
