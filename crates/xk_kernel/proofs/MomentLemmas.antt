@@ -7,6 +7,8 @@ use Rattle.event_text.specs.declared.event.Event.TheVariants.{Tick, Pick, Irq, K
 use Rattle.xk_base.specs.Circle.{is_thread_id}
 use Rattle.machine_model.specs.Events.{nothing}
 use Rattle.machine_model.specs.Kept.{AllKeepMatched, AllKeepCursor}
+use Rattle.machine_model.specs.LoanSpan.{LoanSpan, SpansHold}
+use Rattle.xk_base.specs.declared.ids.Number.{Number}
 use Rattle.machine_model.specs.Machine.{Machine}
 use Rattle.machine_model.specs.Matched.{Matched}
 use Rattle.machine_model.specs.Moments.{Cause, ByStep, ByPick, ByIrq, ByKill, ByTurn, Moment, IsRun, caused, state_at}
@@ -180,3 +182,7 @@ pub moments_cursor : AllKeepMatched → AllKeepCursor → (events : List Event) 
 moments_cursor keep stands events limit start h c i =
     let P : Machine → Type 0 = λ (m : Machine). Matched m × IsTrue (is_thread_id m.processes m.cursor) in
     (moments_keep P (cursor_kept keep stands) events limit start (h, c) i).1
+
+pub history_spans : SpansHold → (events : List Event) (limit : ℕ) (start : Machine) (number : Number) → Matched start
+    → LoanSpan start (moments_of events limit start) number
+history_spans spans events limit start number h = spans start (moments_of events limit start) number h (history_is_run events limit start)

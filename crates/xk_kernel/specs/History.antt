@@ -27,6 +27,7 @@ stopped m = record { records = []; machine = m; met = true }
 abbrev pub behind : List Rec → History → History
 behind records h = record h { records = records ++ h.records }
 
+-- .. by whether it was met
 abbrev pub go_on : Bool → History → (Machine → History) → History
 go_on true h next = h
 go_on false h next = behind h.records (next h.machine)
@@ -35,8 +36,8 @@ go_on false h next = behind h.records (next h.machine)
 abbrev pub followed_by : History → (Machine → History) → History
 followed_by h next = go_on h.met h next
 
--- `tick N`: N steps, fewer where no thread is Ready; then the turn ends, which has no record. Where a step is still to be done, a thread is Ready and
--- the steps done equal the limit, the limit is met.
+-- `tick N`: N steps, fewer where no thread is Ready; then the turn ends, which has no record. Where a step is still to be done, a
+-- thread is Ready and the steps done equal the limit, the limit is met.
 unfoldable pub ticks : ℕ → ℕ → Machine → History
 ticks zero limit m = reached (nothing (turn m))
 ticks (suc n) limit m =

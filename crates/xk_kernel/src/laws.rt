@@ -28,7 +28,8 @@ pub fn unready_thread_is_not_picked()
     ensures { (pid : Pid) (tid : Tid) (limit : ℕ) (m : Machine) → ready_at m (record { pid = pid; tid = tid }) ≡ false → play (Pick pid tid) limit m ≡ reached (nothing m) }
 {}
 
-/// There is who does the next step exactly where a thread is Ready; the cursor's process is one of the machine's.
+/// There is who does the next step only where a thread is Ready, and, as the cursor's process is one of the machine's, wherever
+/// one is.
 #[tactic(auto, using(crate::proofs::HistoryLemmas::actor_is_ready, crate::proofs::HistoryLemmas::ready_has_actor))]
 pub fn ready_thread_does_a_step()
     ensures only { (m : Machine) → is_some (actor m) ≡ true → (d : ThreadId) × (ready_at m d ≡ true) }

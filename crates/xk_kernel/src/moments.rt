@@ -2,8 +2,10 @@
 
 ghost use Rattle.std.specs.Prelude.{ℕ, ◌≡◌, List, [], ◌++◌, length, if◌then◌else◌, IsTrue};
 ghost use Rattle.event_text.specs.declared.event.Event.{Event};
+ghost use Rattle.xk_base.specs.declared.ids.Number.{Number};
 ghost use Rattle.xk_base.specs.Circle.{is_thread_id};
 ghost use Rattle.machine_model.specs.Kept.{AllKeepCursor, AllKeepMatched};
+ghost use Rattle.machine_model.specs.LoanSpan.{LoanSpan, SpansHold};
 ghost use Rattle.machine_model.specs.Machine.{Machine};
 ghost use Rattle.machine_model.specs.Matched.{Matched};
 ghost use Rattle.machine_model.specs.Moments.{IsRun, state_at};
@@ -47,4 +49,10 @@ pub fn moments_keep_the_cursor()
     ensures { AllKeepMatched → AllKeepCursor → (events : List Event) (limit : ℕ) (start : Machine) → Matched start
         → IsTrue (is_thread_id start.processes start.cursor) → (i : ℕ)
         → IsTrue (is_thread_id (state_at start (moments_of events limit start) i).processes (state_at start (moments_of events limit start) i).cursor) }
+{}
+
+/// Where the loans of every run have their spans, every number of a history has its span.
+pub fn loans_have_their_spans()
+    ensures { SpansHold → (events : List Event) (limit : ℕ) (start : Machine) (number : Number) → Matched start
+        → LoanSpan start (moments_of events limit start) number }
 {}
