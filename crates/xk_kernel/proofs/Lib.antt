@@ -1,0 +1,4 @@
+pub mod HistoryLemmas
+pub mod InterleavingLemmas
+pub mod LimitLemmas
+pub mod MomentLemmas

@@ -1,0 +1,6 @@
+use Rattle.xk_kernel.proofs.MomentLemmas.{history_matched}
+use Rattle.xk_kernel.proofs.moments.history_stays_matched.Goals as goal
+
+-- src/moments.rt
+pub returns : goal.returns
+returns c = history_matched

@@ -1,0 +1,35 @@
+-- The moments that a history goes through: each is a step, an event, or the end of a turn.
+use Rattle.std.specs.Prelude.{ℕ, zero, suc, ◌==◌, List, [], ◌∷◌, ◌++◌, if◌then◌else◌, is_some}
+use Rattle.event_text.specs.declared.event.Event.{Event}
+use Rattle.event_text.specs.declared.event.Event.TheVariants.{Tick, Pick, Irq, Kill}
+use Rattle.machine_model.specs.Machine.{Machine}
+use Rattle.machine_model.specs.Moments.{Cause, ByStep, ByPick, ByIrq, ByKill, ByTurn, Moment, caused}
+use Rattle.machine_model.specs.Order.{actor}
+use Rattle.machine_model.specs.Step.{step}
+use Rattle.xk_kernel.specs.History.{play}
+
+-- the moment that this cause leads to
+abbrev pub moment_by : Cause → Machine → Moment
+moment_by cause m = record { cause = cause; machine = caused cause m }
+
+-- those of `tick N`: its steps, and then the end of the turn, unless the limit is met
+unfoldable pub tick_moments : ℕ → ℕ → Machine → List Moment
+tick_moments zero limit m = moment_by ByTurn m ∷ []
+tick_moments (suc n) limit m =
+    if is_some (actor m) then (
+    if m.steps == limit then [] else
+    moment_by ByStep m ∷ tick_moments n limit (step m).machine)
+    else moment_by ByTurn m ∷ []
+
+-- those of one event
+unfoldable pub event_moments : Event → ℕ → Machine → List Moment
+event_moments (Tick n) limit m = tick_moments n limit m
+event_moments (Pick pid tid) limit m = moment_by (ByPick (record { pid = pid; tid = tid })) m ∷ []
+event_moments (Irq k) limit m = moment_by (ByIrq k) m ∷ []
+event_moments (Kill pid) limit m = moment_by (ByKill pid) m ∷ []
+
+-- those of the events in order, up to where the limit is met
+unfoldable pub moments_of : List Event → ℕ → Machine → List Moment
+moments_of [] limit m = []
+moments_of (event ∷ events) limit m =
+    event_moments event limit m ++ (if (play event limit m).met then [] else moments_of events limit (play event limit m).machine)

@@ -1,0 +1,3 @@
+pub mod History
+pub mod HistoryMoments
+pub mod Interleaving

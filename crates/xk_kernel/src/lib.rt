@@ -1,0 +1,22 @@
+//! The kernel's history: what a list of events makes of the abstract machine. The definitions stand in `specs/`. The functions
+//! here are laws of them: each function's contract is the law, and its body is empty.
+#![tactic(auto)]
+
+mod interleavings;
+mod laws;
+mod moments;
+
+pub use interleavings::{
+    interleavings_are_played, interleavings_are_played_up_to_the_limit, limit_is_not_met_within,
+};
+pub use laws::{
+    events_are_played_in_order, events_without_steps_are_played, histories_follow_each_other,
+    idle_tick_ends_the_turn, no_events_do_nothing, nothing_follows_the_limit,
+    ready_thread_does_a_step, records_are_only_added, steps_equal_the_limit_met,
+    steps_stay_within_the_limit, tick_does_one_step_after_another, tick_meets_the_limit,
+    tick_zero_ends_the_turn, unready_thread_is_not_picked,
+};
+pub use moments::{
+    history_is_a_run, history_stays_matched, loans_have_their_spans, moments_follow_each_other,
+    moments_keep_the_cursor, moments_stay_matched, run_ends_in_the_last_state,
+};

@@ -1,0 +1,58 @@
+//! Laws of the moments that a history goes through. Whatever holds of each run holds so of each history.
+
+ghost use Rattle.std.specs.Prelude.{ℕ, ◌≡◌, List, [], ◌++◌, length, if◌then◌else◌, IsTrue};
+ghost use Rattle.event_text.specs.declared.event.Event.{Event};
+ghost use Rattle.xk_base.specs.declared.ids.Number.{Number};
+ghost use Rattle.xk_base.specs.Circle.{is_thread_id};
+ghost use Rattle.machine_model.specs.Kept.{AllKeepCursor, AllKeepMatched};
+ghost use Rattle.machine_model.specs.LoanSpan.{LoanSpan, SpansHold};
+ghost use Rattle.machine_model.specs.Machine.{Machine};
+ghost use Rattle.machine_model.specs.Matched.{Matched};
+ghost use Rattle.machine_model.specs.Moments.{IsRun, state_at};
+ghost use Rattle.xk_kernel.specs.History.{history};
+ghost use Rattle.xk_kernel.specs.HistoryMoments.{moments_of};
+
+/// The moments of a history are a run from its start.
+#[tactic(auto, using(crate::proofs::MomentLemmas::history_is_run))]
+pub fn history_is_a_run()
+    ensures { (events : List Event) (limit : ℕ) (start : Machine) → IsRun start (moments_of events limit start) }
+{}
+
+/// The run ends in the history's last state.
+#[tactic(auto, using(crate::proofs::MomentLemmas::history_last))]
+pub fn run_ends_in_the_last_state()
+    ensures { (events : List Event) (limit : ℕ) (start : Machine)
+        → state_at start (moments_of events limit start) (length (moments_of events limit start)) ≡ (history events limit start).machine }
+{}
+
+/// The moments of two lists of events are those of the first, and then, where it doesn't meet the limit, those of the second.
+#[tactic(auto, using(crate::proofs::MomentLemmas::moments_append))]
+pub fn moments_follow_each_other()
+    ensures { (before after : List Event) (limit : ℕ) (m : Machine)
+        → moments_of (before ++ after) limit m
+        ≡ moments_of before limit m ++ (if (history before limit m).met then [] else moments_of after limit (history before limit m).machine) }
+{}
+
+/// Where all that leads from a state to the next keeps the machine matched, every moment of a history is matched.
+pub fn moments_stay_matched()
+    ensures { AllKeepMatched → (events : List Event) (limit : ℕ) (start : Machine) → Matched start
+        → (i : ℕ) → Matched (state_at start (moments_of events limit start) i) }
+{}
+
+/// Then its last state is matched.
+pub fn history_stays_matched()
+    ensures { AllKeepMatched → (events : List Event) (limit : ℕ) (start : Machine) → Matched start → Matched (history events limit start).machine }
+{}
+
+/// Where it keeps the cursor too, the cursor is the id of a thread of the processes at every moment of a history.
+pub fn moments_keep_the_cursor()
+    ensures { AllKeepMatched → AllKeepCursor → (events : List Event) (limit : ℕ) (start : Machine) → Matched start
+        → IsTrue (is_thread_id start.processes start.cursor) → (i : ℕ)
+        → IsTrue (is_thread_id (state_at start (moments_of events limit start) i).processes (state_at start (moments_of events limit start) i).cursor) }
+{}
+
+/// Where the loans of every run have their spans, every number of a history has its span.
+pub fn loans_have_their_spans()
+    ensures { SpansHold → (events : List Event) (limit : ℕ) (start : Machine) (number : Number) → Matched start
+        → LoanSpan start (moments_of events limit start) number }
+{}
