@@ -1,0 +1,2 @@
+pub mod LedgerChange
+pub mod LikeThreads
