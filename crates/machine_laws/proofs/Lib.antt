@@ -1,2 +1,4 @@
+pub mod ChangedThread
+pub mod InstructionEffects
 pub mod LedgerChange
 pub mod LikeThreads
