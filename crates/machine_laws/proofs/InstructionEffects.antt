@@ -32,7 +32,7 @@ is_store_whole (Traps cause value) = true
 abbrev pub IsSound : Executed → Type 0
 IsSound e = (pc_after e % 4 ≡ 0) × (is_store_whole e ≡ true)
 
-following_aligned : (pc : ℕ) → pc % 4 ≡ 0 → following pc % 4 ≡ 0
+pub following_aligned : (pc : ℕ) → pc % 4 ≡ 0 → following pc % 4 ≡ 0
 following_aligned pc al = omega arith
 
 next_sound : (pc : ℕ) → pc % 4 ≡ 0 → (following pc % 4 ≡ 0) × (true ≡ true)

@@ -27,7 +27,7 @@ pub record AreLike (m : Machine) (threads : ThreadId → Option Thread) : Type 0
 
 -- ---- one thread and its like
 
-old_of : (a b : Option Thread) → option_map state_of a ≡ option_map state_of b → (t : Thread) → a ≡ Some t
+pub old_of : (a b : Option Thread) → option_map state_of a ≡ option_map state_of b → (t : Thread) → a ≡ Some t
     → (u : Thread) × (b ≡ Some u) × (u.state ≡ t.state)
 old_of None b e t q = absurd (none-some t q)
 old_of (Some v) None e t q = absurd (none-some v.state (sym e))

@@ -17,3 +17,15 @@ pub fn execution_stays_aligned()
     ensures { (regs : List ℕ) (pc : ℕ) (mem : Memory) (after : List ℕ) (next : ℕ) → pc % 4 ≡ 0
         → execute_at regs pc mem ≡ Next after next → next % 4 ≡ 0 }
 {}
+
+/// The step of an instruction keeps the machine matched.
+pub fn instruction_keeps_matched()
+    ensures { (m : Machine) (who : ThreadId) → Matched m → actor m ≡ Some who → does_instruction m who ≡ true
+        → Matched (step m).machine }
+{}
+
+/// An instruction leaves the ledger, or changes at most the bytes of one page at a place where its
+/// process may store.
+pub fn instruction_stores_one_page()
+    ensures { InstructionStoresOnePage }
+{}

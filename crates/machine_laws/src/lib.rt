@@ -2,8 +2,12 @@
 //! contracts are the laws.
 #![tactic(auto)]
 
+mod call_laws;
 mod change_laws;
 mod instruction_laws;
 
+pub use call_laws::{refused_call_keeps_matched, retried_call_keeps_matched};
 pub use change_laws::{like_ledger_keeps_matched, like_threads_keep_matched};
-pub use instruction_laws::execution_stays_aligned;
+pub use instruction_laws::{
+    execution_stays_aligned, instruction_keeps_matched, instruction_stores_one_page,
+};
