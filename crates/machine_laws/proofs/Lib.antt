@@ -4,4 +4,6 @@ pub mod InstructionEffects
 pub mod InstructionSteps
 pub mod LedgerChange
 pub mod LikeThreads
+pub mod MemoryCallSteps
+pub mod RunRefusals
 pub mod StoredBytes
