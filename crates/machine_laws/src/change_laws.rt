@@ -1,7 +1,8 @@
 //! What the invariant needs of a change of the machine, in few words.
 
-ghost use Rattle.std.specs.Prelude.{ℕ, ◌≤◌, ◌<◌, ◌+◌, ◌/◌, ◌≡◌, ◌%◌, IsTrue, Option, Some};
+ghost use Rattle.std.specs.Prelude.{ℕ, ◌≤◌, ◌<◌, ◌+◌, ◌/◌, ◌≡◌, ◌%◌, IsFalse, IsTrue, Option, Some};
 ghost use Rattle.std.specs.Option.{option_map};
+ghost use Rattle.xk_base.specs.declared.ids.Pid.{Pid};
 ghost use Rattle.xk_base.specs.declared.ids.Place.{Place};
 ghost use Rattle.xk_base.specs.declared.ids.ThreadId.{ThreadId};
 ghost use Rattle.xk_base.specs.declared.limits.TheConstants.{PAGE_SIZE};
@@ -12,6 +13,7 @@ ghost use Rattle.ledger_model.specs.Ledger.{Ledger, Page};
 ghost use Rattle.ledger_model.specs.Loans.{loans};
 ghost use Rattle.machine_model.specs.Machine.{Machine, Thread};
 ghost use Rattle.machine_model.specs.Matched.{Matched, is_living};
+ghost use Rattle.machine_model.specs.MemoryCalls.{heap_limit};
 
 /// A matched machine stays matched where its threads keep their states and have aligned pcs,
 /// wherever its cursor goes and however many steps are counted.
@@ -30,4 +32,15 @@ pub fn like_ledger_keeps_matched()
         → ((p : Place) (page : Page) → ledger.home p ≡ Some page → IsTrue (in_window Heap p.vpn.0)
             → p.vpn.0 < first_page Heap + (m.process p.pid.0).heap / PAGE_SIZE)
         → Matched (record m { ledger = ledger }) }
+{}
+
+/// A matched machine stays matched with other lengths of heaps: whole pages up to 16 MiB, above what
+/// stands in the Heap window, and none of the dead.
+pub fn like_heaps_keep_matched()
+    ensures { (m : Machine) (heaps : ℕ → ℕ) → Matched m
+        → ((pid : Pid) → heaps pid.0 % PAGE_SIZE ≡ 0) → ((pid : Pid) → heaps pid.0 ≤ heap_limit)
+        → ((p : Place) (page : Page) → m.ledger.home p ≡ Some page → IsTrue (in_window Heap p.vpn.0)
+            → p.vpn.0 < first_page Heap + heaps p.pid.0 / PAGE_SIZE)
+        → ((pid : Pid) → IsFalse (is_living m pid) → heaps pid.0 ≡ 0)
+        → Matched (record m { process = λ q. record (m.process q) { heap = heaps q } }) }
 {}

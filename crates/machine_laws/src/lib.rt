@@ -8,7 +8,9 @@ mod instruction_laws;
 mod memory_laws;
 
 pub use call_laws::{refused_call_keeps_matched, retried_call_keeps_matched};
-pub use change_laws::{like_ledger_keeps_matched, like_threads_keep_matched};
+pub use change_laws::{
+    like_heaps_keep_matched, like_ledger_keeps_matched, like_threads_keep_matched,
+};
 pub use instruction_laws::{
     execution_stays_aligned, instruction_keeps_matched, instruction_stores_one_page,
 };
