@@ -1,0 +1,10 @@
+pub mod AnsweredCalls
+pub mod ChangedThread
+pub mod HeapChange
+pub mod InstructionEffects
+pub mod InstructionSteps
+pub mod LedgerChange
+pub mod LikeThreads
+pub mod MemoryCallSteps
+pub mod RunRefusals
+pub mod StoredBytes

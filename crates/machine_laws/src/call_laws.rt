@@ -1,0 +1,28 @@
+//! Calls that are refused or retried keep the invariant.
+
+ghost use Rattle.std.specs.Prelude.{ℕ, ◌≡◌, List, Some};
+ghost use Rattle.xk_base.specs.declared.errors.XousError.{XousError};
+ghost use Rattle.xk_base.specs.declared.ids.ThreadId.{ThreadId};
+ghost use Rattle.machine_model.specs.Acts.{call_by};
+ghost use Rattle.machine_model.specs.Calls.{call};
+ghost use Rattle.machine_model.specs.Changes.{Refused, Retried, call_settled};
+ghost use Rattle.machine_model.specs.Machine.{Machine};
+ghost use Rattle.machine_model.specs.Matched.{Matched};
+ghost use Rattle.machine_model.specs.Order.{actor};
+ghost use Rattle.machine_model.specs.Step.{step};
+
+/// A refused call keeps the machine matched, as what comes of the call and as a step.
+pub fn refused_call_keeps_matched()
+    ensures settled { (m : Machine) (error : XousError) → Matched m → Matched (call_settled m (Refused error)).machine }
+    ensures stepped { (m : Machine) (who : ThreadId) (words : List ℕ) (error : XousError) → Matched m → actor m ≡ Some who
+        → call_by m who ≡ Some words → call (record m { cursor = who }) words ≡ Refused error
+        → Matched (step m).machine }
+{}
+
+/// A retried call keeps the machine matched, as what comes of the call and as a step.
+pub fn retried_call_keeps_matched()
+    ensures settled { (m : Machine) → Matched m → Matched (call_settled m Retried).machine }
+    ensures stepped { (m : Machine) (who : ThreadId) (words : List ℕ) → Matched m → actor m ≡ Some who
+        → call_by m who ≡ Some words → call (record m { cursor = who }) words ≡ Retried
+        → Matched (step m).machine }
+{}

@@ -1,0 +1,31 @@
+//! Instructions keep the invariant.
+
+ghost use Rattle.std.specs.Prelude.{ℕ, ◌≡◌, ◌%◌, List};
+ghost use Rattle.std.specs.Prelude.{true};
+ghost use Rattle.xk_base.specs.declared.ids.ThreadId.{ThreadId};
+ghost use Rattle.xk_base.specs.UserMemory.{Memory};
+ghost use Rattle.machine_model.specs.Acts.{does_instruction};
+ghost use Rattle.machine_model.specs.Instructions.{Next, execute_at};
+ghost use Rattle.machine_model.specs.Isolation.{InstructionStoresOnePage};
+ghost use Rattle.machine_model.specs.Machine.{Machine};
+ghost use Rattle.machine_model.specs.Matched.{Matched};
+ghost use Rattle.machine_model.specs.Order.{actor};
+ghost use Rattle.machine_model.specs.Step.{step};
+
+/// From the address of an instruction, execution goes to the address of an instruction.
+pub fn execution_stays_aligned()
+    ensures { (regs : List ℕ) (pc : ℕ) (mem : Memory) (after : List ℕ) (next : ℕ) → pc % 4 ≡ 0
+        → execute_at regs pc mem ≡ Next after next → next % 4 ≡ 0 }
+{}
+
+/// The step of an instruction keeps the machine matched.
+pub fn instruction_keeps_matched()
+    ensures { (m : Machine) (who : ThreadId) → Matched m → actor m ≡ Some who → does_instruction m who ≡ true
+        → Matched (step m).machine }
+{}
+
+/// An instruction leaves the ledger, or changes at most the bytes of one page at a place where its
+/// process may store.
+pub fn instruction_stores_one_page()
+    ensures { InstructionStoresOnePage }
+{}
