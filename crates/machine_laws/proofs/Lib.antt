@@ -1,0 +1,3 @@
+pub mod ThreadMoves
+pub mod ThreadPut
+pub mod ThreadAnswers
