@@ -1,3 +1,10 @@
 pub mod ThreadMoves
 pub mod ThreadPut
 pub mod ThreadAnswers
+pub mod ThreadSteps
+pub mod ThreadCallLemmas
+pub mod ThreadCallSteps
+pub mod IrqClaims
+pub mod IrqSteps
+pub mod ThreadMaking
+pub mod ThreadMakingSteps
