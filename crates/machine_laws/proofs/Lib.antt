@@ -8,3 +8,4 @@ pub mod IrqClaims
 pub mod IrqSteps
 pub mod ThreadMaking
 pub mod ThreadMakingSteps
+pub mod IrqDelivery

@@ -32,6 +32,10 @@ is_none-None : {A : Type 0} → (o : Option A) → is_none o ≡ true → o ≡ 
 is_none-None None e = refl
 is_none-None (Some x) e = absurd (false≢true e)
 
+not_false : (b : Bool) → not b ≡ false → b ≡ true
+not_false true e = refl
+not_false false e = absurd (false≢true (sym e))
+
 module _ (m : Machine) (h : Matched m) (ready : ready_at m m.cursor ≡ true) (w : List ℕ) where
   r : IsReadyThread m m.cursor
   r = ready_thread m m.cursor ready
@@ -128,3 +132,74 @@ module _ (m : Machine) (h : Matched m) (ready : ready_at m m.cursor ≡ true) (w
 
   pub create_number_keeps : call_number w ≡ 18 → Keeps m (call m w)
   create_number_keeps e = call_keeps m h ready w 18 e (λ none. create_keeps)
+
+  -- ---- JoinThread
+
+  module _ (tid : ℕ) (low : 2 ≤ tid) (there : is_some (m.threads (thread_id m.cursor.pid tid)) ≡ true) (other : (tid == m.cursor.tid.0) ≡ false)
+      (above : (m.cursor.tid.0 == 1) ≡ false) where
+    abbrev joining : ThreadState
+    joining = Joining (record { 0 = tid })
+
+    abbrev after_join : ThreadId → Option Thread
+    after_join id =
+        option_map (with_answer None)
+        (put_at same_thread (put_at same_thread m.threads m.cursor (option_map (with_state joining) (m.threads m.cursor))) m.cursor
+            (option_map passed (put_at same_thread m.threads m.cursor (option_map (with_state joining) (m.threads m.cursor)) m.cursor)) id)
+
+    join_here : after_join m.cursor ≡ Some (passed (with_state joining r.thread))
+    join_here = rw (same_thread-self m.cursor, r.there) refl
+
+    answer_none : (o : Option Thread) → option_map (with_answer None) o ≡ o
+    answer_none None = refl
+    answer_none (Some t) = refl
+
+    join_others : (q : ThreadId) → same_thread q m.cursor ≡ false → after_join q ≡ m.threads q
+    join_others q e = rw e (answer_none (m.threads q))
+
+    stays : (q : ThreadId) → is_some (m.threads q) ≡ true → is_some (after_join q) ≡ true
+    stays q e = go (same_thread q m.cursor) refl
+      where
+        go : (b : Bool) → same_thread q m.cursor ≡ b → is_some (after_join q) ≡ true
+        go true s = ap (λ x. is_some (after_join x)) (alike q m.cursor s) ∙ ap is_some join_here
+        go false s = ap is_some (join_others q s) ∙ e
+
+    join_fit : IsFit m after_join m.cursor joining
+    join_fit = (above, record { live = stays (thread_id m.cursor.pid tid) there; other = other; above = low })
+
+    joined_matched : Matched (record m { threads = after_join })
+    joined_matched = ready_put_matched m h after_join m.cursor (passed (with_state joining r.thread)) r join_here join_others join_fit
+        (following-aligned r.thread.pc (h.threads.pcs m.cursor r.thread r.there))
+
+    joined_keeps : Keeps m (Served (join_served m tid))
+    unfolding call_settled settled
+    joined_keeps = record { matched = joined_matched; steps = refl }
+
+  join_served_keeps : (tid : ℕ) → (m.cursor.tid.0 == 1) ≡ false → first_refusal (join_refusals m tid) ≡ None → Keeps m (Served (join_served m tid))
+  join_served_keeps tid above none =
+      let fit : (not (has_thread m m.cursor.pid tid) || tid == m.cursor.tid.0) ≡ false =
+          one_passed (not (has_thread m m.cursor.pid tid) || tid == m.cursor.tid.0) InvalidThread none in
+      let parts : (not (has_thread m m.cursor.pid tid) ≡ false) × ((tid == m.cursor.tid.0) ≡ false) = or_parts _ _ fit in
+      let has : has_thread m m.cursor.pid tid ≡ true = not_false (has_thread m m.cursor.pid tid) parts.0 in
+      let outer : ((nat_le 2 tid && nat_le tid TID_LIMIT) ≡ true) × (is_some (m.threads (thread_id m.cursor.pid tid)) ≡ true) = and_parts _ _ has in
+      let inner : (nat_le 2 tid ≡ true) × (nat_le tid TID_LIMIT ≡ true) = and_parts _ _ outer.0 in
+      let low : nat_le 2 tid ≡ true = inner.0 in
+      joined_keeps tid (grind (arith, nat_tests)) outer.1 parts.1 above
+
+  not_handler : call_number w ≡ 36 → first_refusal (any_refusals m w) ≡ None → (m.cursor.tid.0 == 1) ≡ false
+  not_handler e none =
+      let fit : (not (is_call_number (call_number w)) ≡ false) × ((m.cursor.tid.0 == 1 && is_refused_to_handler w) ≡ false) =
+          two_passed (not (is_call_number (call_number w))) (m.cursor.tid.0 == 1 && is_refused_to_handler w) UnhandledSyscall InvalidSyscall none in
+      let refused : is_refused_to_handler w ≡ true = rw e refl in
+      go (m.cursor.tid.0 == 1) (is_refused_to_handler w) refused fit.1
+    where
+      go : (a b : Bool) → b ≡ true → (a && b) ≡ false → a ≡ false
+      go false b p q = refl
+      go true b p q = absurd (false≢true (sym q ∙ p))
+
+  join_keeps : (m.cursor.tid.0 == 1) ≡ false → Keeps m (join_call m w)
+  unfolding join_call
+  join_keeps above = unless_refused_keeps m h ready (join_refusals m (join_tid w)) (Served (join_served m (join_tid w)))
+      (join_served_keeps (join_tid w) above)
+
+  pub join_number_keeps : call_number w ≡ 36 → Keeps m (call m w)
+  join_number_keeps e = call_keeps m h ready w 36 e (λ none. join_keeps (not_handler e none))

@@ -2,7 +2,7 @@
 
 ghost use Rattle.std.specs.Prelude.{ℕ, ◌≤◌, ◌≡◌, true, List, Some};
 ghost use Rattle.xk_base.specs.declared.ids.ThreadId.{ThreadId};
-ghost use Rattle.xk_base.specs.CallNumbers.{yield_turn, get_thread_id, get_process_id, create_thread};
+ghost use Rattle.xk_base.specs.CallNumbers.{yield_turn, get_thread_id, get_process_id, create_thread, join_thread};
 ghost use Rattle.xk_base.specs.CallWords.{call_number};
 ghost use Rattle.machine_model.specs.Acts.{call_by};
 ghost use Rattle.machine_model.specs.Changes.{Served, call_settled, answering};
@@ -45,4 +45,10 @@ pub fn get_process_id_keeps_matched()
 pub fn create_thread_keeps_matched()
     ensures { (m : Machine) (who : ThreadId) (w : List ℕ) → Matched m → actor m ≡ Some who → call_by m who ≡ Some w
         → call_number w ≡ create_thread → Matched (step m).machine }
+{}
+
+/// The step of a JoinThread keeps the machine matched, served or refused.
+pub fn join_thread_keeps_matched()
+    ensures { (m : Machine) (who : ThreadId) (w : List ℕ) → Matched m → actor m ≡ Some who → call_by m who ≡ Some w
+        → call_number w ≡ join_thread → Matched (step m).machine }
 {}
