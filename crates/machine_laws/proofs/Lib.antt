@@ -9,3 +9,5 @@ pub mod IrqSteps
 pub mod ThreadMaking
 pub mod ThreadMakingSteps
 pub mod IrqDelivery
+pub mod EndThreads
+pub mod EndSteps

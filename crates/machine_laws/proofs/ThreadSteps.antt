@@ -67,10 +67,10 @@ module _ (m : Machine) (who : ThreadId) (w : List ℕ) where
   abbrev then_called : Machine
   then_called = (call_settled (turned_to who m) (call (turned_to who m) w)).machine
 
-  abbrev if_executes : Thread → Bool → Bool → Executed → Option (List ℕ)
+  abbrev pub if_executes : Thread → Bool → Bool → Executed → Option (List ℕ)
   if_executes t a b x = option_and_then (words_if_call t) (if a then None else (if b then None else Some x))
 
-  abbrev then_acted : Thread → Bool → Bool → Executed → Told
+  abbrev pub then_acted : Thread → Bool → Bool → Executed → Told
   then_acted t a b x =
       if a then after (End who) (settled (thread_ended who (reg_at t.regs 10) (turned_to who m))) else (
       if b then after (End who) (settled (handler_ended who.pid (turned_to who m))) else
