@@ -110,7 +110,7 @@ module _ (m : Machine) (h : Matched m) (pid : Pid) where
 
 -- ---- an interrupt comes
 
-settled_unanswered : (change : Change) → change.answers ≡ no_answers → (settled change).machine ≡ change.machine
+pub settled_unanswered : (change : Change) → change.answers ≡ no_answers → (settled change).machine ≡ change.machine
 unfolding settled
 settled_unanswered change e = ap (λ a. give_answers a change.machine) e ∙ unanswered change.machine
 

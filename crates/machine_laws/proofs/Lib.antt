@@ -11,3 +11,4 @@ pub mod ThreadMakingSteps
 pub mod IrqDelivery
 pub mod EndThreads
 pub mod EndSteps
+pub mod IrqHandlers
