@@ -135,7 +135,7 @@ answered_matched m answers h ready =
     matched_with m.cursor m.steps
     (λ id. option_map (with_answer (answers id)) (put_at same_thread m.threads m.cursor (option_map passed (m.threads m.cursor)) id)) m
     (like_answered m (put_at same_thread m.threads m.cursor (option_map passed (m.threads m.cursor))) answers
-        (like_changed m m.cursor passed h (λ t e. record { state = refl; pc = following_aligned t.pc (h.threads.pcs m.cursor t e) })) ready)
+    (like_changed m m.cursor passed h (λ t e. record { state = refl; pc = following_aligned t.pc (h.threads.pcs m.cursor t e) })) ready)
     (omega arith) h
 
 -- ---- the caller is Ready

@@ -120,7 +120,6 @@ module _ (heaps : ℕ → ℕ) (m : Machine) (may : MayHeaps m heaps) where
     };
   }
 
-
   pub matched_heaps : Matched m → Matched (on_heaps heaps m)
   matched_heaps h = record {
     ledger = ledger_as h.ledger;

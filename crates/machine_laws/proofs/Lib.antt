@@ -8,3 +8,17 @@ pub mod LikeThreads
 pub mod MemoryCallSteps
 pub mod RunRefusals
 pub mod StoredBytes
+pub mod ThreadMoves
+pub mod ThreadPut
+pub mod ThreadAnswers
+pub mod ThreadSteps
+pub mod ThreadCallLemmas
+pub mod ThreadCallSteps
+pub mod IrqClaims
+pub mod IrqSteps
+pub mod ThreadMaking
+pub mod ThreadMakingSteps
+pub mod IrqDelivery
+pub mod EndThreads
+pub mod EndSteps
+pub mod IrqHandlers

@@ -73,7 +73,7 @@ unmap_served_matched : (m : Machine) (address size : ℕ) → Matched m → read
 unmap_served_matched m address size h r e =
     ledger_served m (remove (in_run (caller_place m address) (size / PAGE_SIZE)) m.ledger) plain_words h r
     (like_removed m (in_run (caller_place m address) (size / PAGE_SIZE)) h
-        (can_remove m.processes m.ledger (caller_place m address) (size / PAGE_SIZE) (unmap_loan m address size e)))
+    (can_remove m.processes m.ledger (caller_place m address) (size / PAGE_SIZE) (unmap_loan m address size e)))
 
 pub unmap_matched : (m : Machine) (w : List ℕ) → Matched m → ready_at m m.cursor ≡ true → Matched (call_settled m (unmap_call m w)).machine
 unfolding unmap_call
@@ -121,7 +121,7 @@ update_served_matched m address size flags h r e =
     let allowed = update_allowed m address size flags e in
     ledger_served m (reduce (in_run (caller_place m address) (size / PAGE_SIZE)) (right_of flags) m.ledger) plain_words h r
     (like_reduced m (in_run (caller_place m address) (size / PAGE_SIZE)) (right_of flags) h
-        (can_reduce m.processes m.ledger (caller_place m address) (size / PAGE_SIZE) (right_of flags) allowed.0 allowed.1))
+    (can_reduce m.processes m.ledger (caller_place m address) (size / PAGE_SIZE) (right_of flags) allowed.0 allowed.1))
 
 pub update_matched : (m : Machine) (w : List ℕ) → Matched m → ready_at m m.cursor ≡ true → Matched (call_settled m (update_call m w)).machine
 unfolding update_call

@@ -5,7 +5,10 @@
 mod call_laws;
 mod change_laws;
 mod instruction_laws;
+mod irq_laws;
 mod memory_laws;
+mod thread_end_laws;
+mod thread_laws;
 
 pub use call_laws::{refused_call_keeps_matched, retried_call_keeps_matched};
 pub use change_laws::{
@@ -14,4 +17,13 @@ pub use change_laws::{
 pub use instruction_laws::{
     execution_stays_aligned, instruction_keeps_matched, instruction_stores_one_page,
 };
+pub use irq_laws::{
+    claim_interrupt_keeps_matched, free_interrupt_keeps_matched, irq_keeps_matched,
+};
 pub use memory_laws::{unmap_keeps_matched, update_keeps_matched};
+pub use thread_end_laws::{end_of_handler_keeps_matched, end_of_thread_keeps_matched};
+pub use thread_laws::{
+    answered_call_keeps_matched, count_of_steps_keeps_matched, create_thread_keeps_matched,
+    get_process_id_keeps_matched, get_thread_id_keeps_matched, join_thread_keeps_matched,
+    yield_keeps_matched,
+};
