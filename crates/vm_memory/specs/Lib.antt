@@ -1,0 +1,7 @@
+pub mod Access
+pub mod Bytes
+pub mod Here
+pub mod Lending
+pub mod Memory
+pub mod Sound
+pub mod Tie
