@@ -4,5 +4,7 @@ pub mod SpellingLaws
 pub mod WalkLaws
 pub mod EntryLedgerLaws
 pub mod LoanAgreement
+pub mod LoanLedger
 pub mod PageAgreement
 pub mod PageLedger
+pub mod Standing

@@ -17,7 +17,7 @@ use Rattle.sv32_space.specs.declared.sides.Side.{Side}
 use Rattle.sv32_space.specs.declared.sides.Side.TheVariants.{Own, LentOut, LentIn, MutOut, MutIn}
 use Rattle.sv32_space.specs.Agreement.{Infos, EntriesAgree, owned_by}
 use Rattle.sv32_space.specs.Entries.{Entry, Entries, Free, At, OnConsole}
-use Rattle.sv32_space.specs.EntryLedger.{SeatBytes, ledger_of, page_of_entry, orphan_of_entry}
+use Rattle.sv32_space.specs.EntryLedger.{SeatBytes, ledger_of, page_of_side, page_of_entry, orphan_of_side, orphan_of_entry}
 use Rattle.sv32_space.specs.PageChanges.{with_entry, with_info, with_bytes, given_entries, renamed, renamed_entry, moved_infos}
 use Rattle.sv32_space.specs.PageSteps.{place_page}
 use Rattle.sv32_space.proofs.EntryLedgerLaws.{in_one-at, in_one-apart, moved-first, home_at, orphan_at, Stays, home_stays, orphan_stays, names_free, names_owned}
@@ -262,3 +262,48 @@ reduce_console_ledger E I B place w right here x = same_ledger (ledger_of F I B)
       | inl k ↦ let a = orphan_at F I B p (OnConsole right.w) (entry_put E place p (OnConsole right.w) k.1) in let b = orphan_at E I B place (OnConsole w) here in grind (arith, k.0)
       | inr k ↦ orphan_stays E F I I B B p (entry_kept E place p (OnConsole right.w) k.1) (λ side t e. record { info = refl; bytes = refl })
     ]
+
+-- ---- a page moves to another seat
+
+-- what is said of the seats that entries name now is what was said of those that they named, and so are the bytes
+record StaysNamed (from to : Seat) (I J : Infos) (B C : SeatBytes) (t : Seat) : Type 0 where
+  info : J (if seat_eq t from then to else t) ≡ I t
+  bytes : B (if seat_eq t from then to else t) ≡ C t
+
+renamed_page : (from to : Seat) (o : Option Entry) (I J : Infos) (B C : SeatBytes)
+    → ((side : Side) (t : Seat) → o ≡ Some (At side t) → StaysNamed from to I J B C t)
+    → option_and_then (page_of_entry J B) (option_map (renamed_entry from to) o) ≡ option_and_then (page_of_entry I C) o
+renamed_page from to None I J B C h = refl
+renamed_page from to (Some Free) I J B C h = refl
+renamed_page from to (Some (At side t)) I J B C h = let k : StaysNamed from to I J B C t = h side t refl in
+    ap (λ o. page_of_side side o (B (if seat_eq t from then to else t))) k.info ∙ ap (page_of_side side (I t)) k.bytes
+renamed_page from to (Some (OnConsole w)) I J B C h = refl
+
+renamed_orphan : (from to : Seat) (o : Option Entry) (I J : Infos) (B C : SeatBytes)
+    → ((side : Side) (t : Seat) → o ≡ Some (At side t) → StaysNamed from to I J B C t)
+    → option_and_then (orphan_of_entry J B) (option_map (renamed_entry from to) o) ≡ option_and_then (orphan_of_entry I C) o
+renamed_orphan from to None I J B C h = refl
+renamed_orphan from to (Some Free) I J B C h = refl
+renamed_orphan from to (Some (At side t)) I J B C h = let k : StaysNamed from to I J B C t = h side t refl in
+    ap (λ o. orphan_of_side side o (B (if seat_eq t from then to else t))) k.info ∙ ap (orphan_of_side side (I t)) k.bytes
+renamed_orphan from to (Some (OnConsole w)) I J B C h = refl
+
+pub move_ledger : (procs : ℕ) (E : Entries) (I : Infos) (B : SeatBytes) (from to : Seat) (info : PageInfo)
+    → EntriesAgree procs E I → I from ≡ Some info → I to ≡ None
+    → ledger_of (renamed from to E) (moved_infos I from to info) B ≡ ledger_of E I (with_bytes B from (B to))
+unfolding ledger_of
+move_ledger procs E I B from to info agree here free =
+    same_ledger (ledger_of (renamed from to E) J B) (ledger_of E I C)
+    (λ p. renamed_page from to (E p) I J B C (named p)) (λ p. renamed_orphan from to (E p) I J B C (named p))
+  where
+    J : Infos
+    J = moved_infos I from to info
+
+    C : SeatBytes
+    C = with_bytes B from (B to)
+
+    named : (p : Place) (side : Side) (t : Seat) → E p ≡ Some (At side t) → StaysNamed from to I J B C t
+    named p side t e =
+        let ne : t ≢ to = λ same. names_free procs E I agree p side t e (ap I same ∙ free) in
+        let x = seat_tells t from in let y = seat_tells t to in let z = seat_tells to to in
+        record { info = grind (arith, x, y, z); bytes = grind (arith, x, y, z) }

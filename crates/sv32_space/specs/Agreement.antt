@@ -17,7 +17,7 @@ use Rattle.xk_base.specs.declared.pages.Right.{Right}
 use Rattle.phys_pages.specs.declared.infos.LoanInfo.{LoanInfo}
 use Rattle.phys_pages.specs.declared.infos.PageInfo.{PageInfo}
 use Rattle.phys_pages.specs.declared.infos.Seat.{Seat}
-use Rattle.phys_pages.specs.Owners.{Extent}
+use Rattle.phys_pages.specs.Owners.{Extent, frame_seat}
 use Rattle.ledger_model.specs.Places.{is_process, is_user_place}
 use Rattle.sv32_space.specs.declared.sides.Side.{Side}
 use Rattle.sv32_space.specs.declared.sides.Side.TheVariants.{Own, LentOut, LentIn, MutOut, MutIn}
@@ -67,6 +67,16 @@ right_of_entry (OnConsole w) = record { w = w; x = false }
 abbrev pub right_in : Option Entry → Right
 right_in None = record { w = false; x = false }
 right_in (Some entry) = right_of_entry entry
+
+-- the seat that an entry names
+abbrev pub seat_of_entry : Entry → Seat
+seat_of_entry Free = frame_seat 0
+seat_of_entry (At side seat) = seat
+seat_of_entry (OnConsole w) = frame_seat 0
+
+abbrev pub seat_in : Option Entry → Seat
+seat_in None = frame_seat 0
+seat_in (Some entry) = seat_of_entry entry
 
 abbrev pub home_in : Option PageInfo → Option Place
 home_in None = None

@@ -7,5 +7,6 @@ pub mod Walk
 pub mod EntryLedger
 pub mod PageChanges
 pub mod PageSteps
+pub mod Small
 pub mod StandsFor
 pub mod Tie

@@ -9,6 +9,8 @@ pub mod ledger_laws;
 mod sides;
 mod spaces;
 mod walking;
+pub mod small;
+pub mod standing_laws;
 
 pub use entries::{entry_of, kind_of};
 pub use sides::{EntryKind, Side};

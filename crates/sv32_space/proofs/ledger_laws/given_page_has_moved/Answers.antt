@@ -1,0 +1,5 @@
+use Rattle.sv32_space.proofs.PageLedger.{give_ledger}
+use Rattle.sv32_space.proofs.ledger_laws.given_page_has_moved.Goals as goal
+
+pub returns : goal.returns
+returns c = give_ledger

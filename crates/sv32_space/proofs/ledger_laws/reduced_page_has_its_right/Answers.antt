@@ -1,0 +1,5 @@
+use Rattle.sv32_space.proofs.PageLedger.{reduce_ledger}
+use Rattle.sv32_space.proofs.ledger_laws.reduced_page_has_its_right.Goals as goal
+
+pub returns : goal.returns
+returns c = reduce_ledger

@@ -1,0 +1,5 @@
+use Rattle.sv32_space.proofs.PageLedger.{remove_ledger}
+use Rattle.sv32_space.proofs.ledger_laws.removed_page_is_gone.Goals as goal
+
+pub returns : goal.returns
+returns c = remove_ledger
