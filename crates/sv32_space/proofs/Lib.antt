@@ -1,4 +1,6 @@
+pub mod ClearLaws
 pub mod EntryLaws
+pub mod ReachLaws
 pub mod SpaceLaws
 pub mod SpellingLaws
 pub mod WalkLaws

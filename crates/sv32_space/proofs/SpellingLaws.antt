@@ -123,7 +123,7 @@ kind_at_spelling (Out side slot) fits =
     rw (ne_eqb (out_bits side + 1024 * slot) 0 (λ same. omega arith), low_of (out_bits side) slot low.1, number_of (out_bits side) slot low.1 fits, (out_again side).0, (out_again side).1) refl
 
 -- a side that is found has the bits
-among_found : (bits : Side → ℕ) (low : ℕ) (list : List Side) (side : Side) → side_among bits low list ≡ Some side → bits side ≡ low
+pub among_found : (bits : Side → ℕ) (low : ℕ) (list : List Side) (side : Side) → side_among bits low list ≡ Some side → bits side ≡ low
 among_found bits low [] side found = absurd (cc)
 among_found bits low (first ∷ rest) side found = elim (cases_Bool (low == bits first)) [
   | inl here ↦

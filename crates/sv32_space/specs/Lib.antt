@@ -1,5 +1,6 @@
 pub mod Agreement
 pub mod Entries
+pub mod EntryReach
 pub mod Spaces
 pub mod SpelledEntries
 pub mod Spellings

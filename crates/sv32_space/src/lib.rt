@@ -14,5 +14,5 @@ pub mod standing_laws;
 
 pub use entries::{entry_of, kind_of};
 pub use sides::{EntryKind, Side};
-pub use spaces::{TABLE_FRAMES, leaf, root_of, set_leaf};
+pub use spaces::{TABLE_FRAMES, leaf, new_space, root_of, set_leaf};
 pub use walking::{Walked, walk};

@@ -1,18 +1,20 @@
 //! Address spaces: their frames, and the entries of their pages.
 
-ghost use Rattle.std.specs.Prelude.{◌≡◌, ℕ, ◌+◌, ◌-◌, ◌*◌, ◌/◌, ◌%◌, ◌<◌, ◌≤◌, Some, IsSome, IsTrue, nat_eq};
+ghost use Rattle.std.specs.Prelude.{◌≡◌, ℕ, ◌+◌, ◌-◌, ◌*◌, ◌/◌, ◌%◌, ◌<◌, ◌≤◌, ◌≢◌, ◌⊎◌, true, Some, IsSome, IsTrue, nat_eq, slice_index};
+ghost use Rattle.xk_base.specs.declared.ids.Place.{Place};
 ghost use Rattle.xk_base.specs.declared.windows.Window.{Window};
 ghost use Rattle.xk_base.specs.Counting.{put_at};
 ghost use Rattle.xk_base.specs.Windows.{window_at};
 ghost use Rattle.phys_pages.specs.Ram.{area, pages, words, IsInside, IsPlaced};
-ghost use Rattle.ledger_model.specs.Places.{is_process, same_place};
-ghost use Rattle.sv32_space.specs.Spaces.{root_at, window_order, first_root_entry, table_frame, leaf_word, leaf_address, IsTableFrame, IsMade};
+ghost use Rattle.ledger_model.specs.Places.{is_process, is_user_place, same_place};
+ghost use Rattle.sv32_space.specs.Entries.{Free};
+ghost use Rattle.sv32_space.specs.Spaces.{root_at, window_order, first_root_entry, table_frame, table_word, root_word, window_of_root_entry, leaf_word, leaf_address, IsTableFrame, IsMade};
 ghost use Rattle.sv32_space.specs.SpelledEntries.{entries, entry_spelled};
 ghost use Rattle.sv32_space.specs.Spellings.{kind_at};
 
 use phys_pages::Ram;
 use xk_base::limits::PAGE_SIZE;
-use xk_base::{Frame, Pid, Place, Window, window_of};
+use xk_base::{Frame, Pid, Place, Vpn, Window, window_of};
 
 /// Frames of a space: its root table, and four last-level tables for each window.
 pub const TABLE_FRAMES: u32 = 21;
@@ -100,4 +102,71 @@ pub fn set_leaf(ram: &mut Ram, at: Place, word: u32)
 {
     let pa = address_of(ram, at);
     ram.set_word(pa, word);
+}
+
+// Fills a frame with zeros.
+#[tactic(auto, using(phys_pages::proofs::PageLaws::page_writes, phys_pages::proofs::PageLaws::zeroed))]
+fn clear_frame(ram: &mut Ram, f: Frame)
+    requires { f.0 < (area ram.old).frames }
+    ensures zero { (i : ℕ) → slice_index (pages ram.new f.0) i ≡ 0 }
+    ensures others { (g : ℕ) → g ≢ f.0 → pages ram.new g ≡ pages ram.old g }
+    ensures area { area ram.new ≡ area ram.old }
+{
+    ram.page_mut(f).fill(0);
+}
+
+// Empties the last-level tables of the space from `first` on.
+fn clear_tables(ram: &mut Ram, first: Frame)
+    requires { first.0 + 21 ≤ (area ram.old).frames }
+    ensures zero { (f i : ℕ) → first.0 < f → f < first.0 + 21 → slice_index (pages ram.new f) i ≡ 0 }
+    ensures others { (g : ℕ) → (g ≤ first.0) ⊎ (first.0 + 21 ≤ g) → pages ram.new g ≡ pages ram.old g }
+    ensures area { area ram.new ≡ area ram.old }
+{
+    let _frames = ram.frames();
+    for f in first.0 + 1..first.0 + TABLE_FRAMES {
+        clear_frame(ram, Frame(f));
+    }
+}
+
+// The word of entry `i` of the root of the space from `first` on.
+#[tactic(auto, using(crate::proofs::SpaceLaws::mapped_entry, crate::proofs::SpaceLaws::table_within))]
+fn root_entry(ram: &Ram, first: Frame, i: u32) -> u32
+    requires within { first.0 + 21 ≤ (area ram.now).frames }
+    requires entry { i < 1024 }
+    ensures { result ≡ root_word (area ram.now) first.0 i (window_of_root_entry i) }
+{
+    let _frames = ram.frames();
+    match window_of(Vpn(i * 1024 + 1023)) {
+        Some(window) => ram.ppn_of(table_in(first, window, i)) * 1024 + 1,
+        None => 0,
+    }
+}
+
+// Writes the root table of the space from `first` on.
+fn write_root(ram: &mut Ram, first: Frame)
+    requires { first.0 + 21 ≤ (area ram.old).frames }
+    ensures root { (i : ℕ) → i < 1024 → table_word (pages ram.new) first.0 i ≡ root_word (area ram.new) first.0 i (window_of_root_entry i) }
+    ensures others { (g : ℕ) → g ≢ first.0 → pages ram.new g ≡ pages ram.old g }
+    ensures area { area ram.new ≡ area ram.old }
+{
+    let table = ram.ppn_of(first) * PAGE_SIZE;
+    for i in 0..1024 {
+        ram.set_word(table + 4 * i, root_entry(ram, first, i));
+    }
+}
+
+/// Makes the 21 frames from `first` on an empty space: all its entries are free.
+pub fn new_space(ram: &mut Ram, first: Frame)
+    requires { first.0 + 21 ≤ (area ram.old).frames }
+    ensures made { (pid : ℕ) → 2 ≤ pid → root_at pid ≡ first.0 → IsMade ram.new pid }
+    ensures free { (procs : ℕ) (q : Place) → root_at q.pid.0 ≡ first.0 → is_user_place procs q ≡ true → entries procs ram.new q ≡ Some Free }
+    ensures pages { (f : ℕ) → ¬ IsTableFrame first.0 f → pages ram.new f ≡ pages ram.old f }
+    // the spaces of other processes stay, with their entries
+    ensures others { (pid : ℕ) → (root_at pid + 21 ≤ first.0) ⊎ (first.0 + 21 ≤ root_at pid) → IsMade ram.old pid → IsMade ram.new pid }
+    ensures entries { (procs : ℕ) (q : Place) → (root_at q.pid.0 + 21 ≤ first.0) ⊎ (first.0 + 21 ≤ root_at q.pid.0)
+        → entries procs ram.new q ≡ entries procs ram.old q }
+    ensures area { area ram.new ≡ area ram.old }
+{
+    clear_tables(ram, first);
+    write_root(ram, first);
 }

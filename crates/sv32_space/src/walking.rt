@@ -1,8 +1,15 @@
 //! The page walk of Sv32 in user mode.
 
-ghost use Rattle.std.specs.Prelude.{◌≡◌, ◌+◌, ◌*◌, ◌<◌, ◌^◌};
+ghost use Rattle.std.specs.Prelude.{◌≡◌, ℕ, ◌+◌, ◌*◌, ◌/◌, ◌%◌, ◌<◌, ◌^◌, Some, None};
 ghost use Rattle.xk_base.specs.Fields.{field};
 ghost use Rattle.phys_pages.specs.Ram.{area, words, ppn_of};
+ghost use Rattle.xk_base.specs.declared.ids.Place.{Place};
+ghost use Rattle.xk_base.specs.Windows.{window_at};
+ghost use Rattle.sv32_space.specs.declared.walking.Walked.TheVariants.{PageFault};
+ghost use Rattle.sv32_space.specs.Entries.{Entry};
+ghost use Rattle.sv32_space.specs.EntryReach.{entry_reach};
+ghost use Rattle.sv32_space.specs.Spaces.{root_at, IsMade};
+ghost use Rattle.sv32_space.specs.SpelledEntries.{entries};
 ghost use Rattle.sv32_space.specs.Walk.{entry_in_table, flag, is_valid, is_leaf, is_pointer, lets_through, is_aligned, from_last_level, from_large_leaf, from_pointer, from_root, walk_of, vpn_1};
 
 use phys_pages::Ram;
@@ -122,14 +129,27 @@ fn root_entry(ram: &Ram, root: Frame, va: u32) -> Option<u32>
     table_entry(ram, ram.ppn_of(root), va / 0x40_0000)
 }
 
-/// Where a process with this root table reaches at a virtual address: the walk of Sv32 in user mode
-/// (RISC-V Privileged, 4.3.2) on the bytes of RAM. A table outside RAM is a page fault.
 #[tactic(auto, unfolding(crate::specs::Walk::walk_of))]
-pub fn walk(ram: &Ram, root: Frame, va: u32, access: Access) -> Walked
+fn walk_tables(ram: &Ram, root: Frame, va: u32, access: Access) -> Walked
     ensures { result ≡ walk_of ram.now root.0 va access }
 {
     match root_entry(ram, root, va) {
         Some(entry) => walk_root(ram, entry, va, access),
         None => Walked::PageFault,
     }
+}
+
+/// Where a process with this root table reaches at a virtual address: the walk of Sv32 in user mode
+/// (RISC-V Privileged, 4.3.2) on the bytes of RAM. A table outside RAM is a page fault.
+#[tactic(auto, using(crate::proofs::ReachLaws::walk_by_entry, crate::proofs::ReachLaws::walk_outside))]
+pub fn walk(ram: &Ram, root: Frame, va: u32, access: Access) -> Walked
+    ensures is { result ≡ walk_of ram.now root.0 va access }
+    // in a made space it leads where the entry of the place says ..
+    ensures entry { (procs : ℕ) (q : Place) (entry : Entry) → IsMade ram.now q.pid.0 → root_at q.pid.0 ≡ root.0 → q.vpn.0 ≡ va / 4096
+        → entries procs ram.now q ≡ Some entry → result ≡ entry_reach (area ram.now) entry (va % 4096) access }
+    // .. and nowhere outside the windows
+    ensures outside { (pid : ℕ) → IsMade ram.now pid → root_at pid ≡ root.0 → window_at (va / 4096) ≡ None → result ≡ PageFault }
+{
+    let _frames = ram.frames();
+    walk_tables(ram, root, va, access)
 }

@@ -1,0 +1,7 @@
+use Rattle.std.proofs.Common.{◌≡◌, ℕ, ◌+◌, ◌<◌, ◌≤◌, ◌⊎◌}
+use Rattle.phys_pages.specs.Ram.{area}
+use Rattle.sv32_space.proofs.ClearLaws.{AreCleared}
+use Rattle.sv32_space.proofs.spaces.clear_tables.Given as goal
+
+abbrev pub invariant-loop-f : goal.invariant-loop-f
+invariant-loop-f l = AreCleared l.initial.ram l.ram l.fn.first.0 l.f

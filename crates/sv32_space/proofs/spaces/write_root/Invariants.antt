@@ -1,0 +1,5 @@
+use Rattle.sv32_space.proofs.ClearLaws.{IsRootBelow}
+use Rattle.sv32_space.proofs.spaces.write_root.Given as goal
+
+abbrev pub invariant-loop-i : goal.invariant-loop-i
+invariant-loop-i l = IsRootBelow l.initial.ram l.ram l.first.0 l.i
