@@ -1,5 +1,6 @@
 pub mod Access
 pub mod Bytes
+pub mod EntryAccess
 pub mod Here
 pub mod Lending
 pub mod Memory
