@@ -1,5 +1,6 @@
 //! The memory of the machine.
 
+mod access;
 mod pages;
 mod readers;
 

@@ -15,6 +15,8 @@ ghost use Rattle.xk_base.specs.Outside.{Rose};
 ghost use Rattle.xk_base.specs.declared.pages.Access.TheVariants.{Load, Store};
 
 use crate::memory::Memory;
+use crate::memory::access::Target;
+use xk_base::limits::PAGE_SIZE;
 use xk_base::{Access, Failed, Place};
 use xk_ports::SwapStore;
 
@@ -38,7 +40,13 @@ impl<W: SwapStore> Memory<W> {
         ensures size { size self.new ≡ size self.old }
         ensures store { KeepsStore W.is_honest W.held W.slot_count W.asked W.faults (store_of self.old) (store_of self.new) }
     {
-        Ok(false)
+        if !self.has_place(at) {
+            return Ok(false);
+        }
+        match self.find(at.pid, at.vpn.0 * PAGE_SIZE, access) {
+            Target::Page(_) => Ok(true),
+            Target::Console | Target::Nothing => Ok(false),
+        }
     }
 
     /// The 4096 bytes of a page.
@@ -50,7 +58,7 @@ impl<W: SwapStore> Memory<W> {
         ensures value { contents_reached (processes self.now) (ledger W.held self.now) at Load ≡ Some (Bytes result.now) }
         ensures len { length result.now ≡ 4096 }
     {
-        self.ram.page(xk_base::Frame(0))
+        self.ram.page(self.frame(at))
     }
 
     /// The 4096 bytes of a page, to be written: what is written is what the page then holds, and all
@@ -72,6 +80,7 @@ impl<W: SwapStore> Memory<W> {
         ensures usable { (bytes : List ℕ) → IsUsable (with_bytes_at self.old at bytes) }
         ensures means { (bytes : List ℕ) → MeansBytes W.is_honest W.held self.old → MeansBytes W.is_honest W.held (with_bytes_at self.old at bytes) }
     {
-        self.ram.page_mut(xk_base::Frame(0))
+        let f = self.frame(at);
+        self.ram.page_mut(f)
     }
 }
