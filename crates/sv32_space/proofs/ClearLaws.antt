@@ -99,7 +99,7 @@ pub record IsEmptySpace (new : RamBytes) (first : ℕ) : Type 0 where
   pub root : (i : ℕ) → i < 1024 → table_word (pages new) first i ≡ root_word (area new) first i (window_of_root_entry i)
   pub zero : (f i : ℕ) → first < f → f < first + 21 → slice_index (pages new f) i ≡ 0
 
-empty_leaf : (new : RamBytes) (first : ℕ) → IsEmptySpace new first → (w : Window) (vpn : ℕ) → IsMapped w (vpn / 1024) → leaf_word (pages new) first w vpn ≡ 0
+pub empty_leaf : (new : RamBytes) (first : ℕ) → IsEmptySpace new first → (w : Window) (vpn : ℕ) → IsMapped w (vpn / 1024) → leaf_word (pages new) first w vpn ≡ 0
 unfolding table_word
 empty_leaf new first empty w vpn mapped =
     let table = table_within w first (vpn / 1024) mapped in
@@ -118,7 +118,7 @@ empty_space new first empty = record {
 }
 
 pub empty_made : (new : RamBytes) (first : ℕ) → IsEmptySpace new first → (pid : ℕ) → 2 ≤ pid → root_at pid ≡ first → IsMade new pid
-empty_made new first empty pid low is = (low, subst (λ f. IsSpace (area new) (pages new) f) (sym is) (empty_space new first empty))
+empty_made new first empty pid low is = record { process = low; space = subst (λ f. IsSpace (area new) (pages new) f) (sym is) (empty_space new first empty) }
 
 free_spelled : (new : RamBytes) → entry_spelled (area new) 0 ≡ Some Free
 unfolding kind_at

@@ -1,20 +1,22 @@
 -- The entries of all places, after a write.
-use Rattle.std.proofs.Common.{◌≡◌, ◌+◌, ◌-◌, ◌*◌, ◌/◌, ◌%◌, ◌^◌, ◌<◌, ◌≤◌, ℕ, Bool, true, false, cond, ◌&&◌, nat_le, nat_lt, List, length, Option, Some, None, IsTrue, IsSome, nat_eq, refl, sym, ap, subst, ◌∙◌, inl, inr, arith}
-use Rattle.std.proofs.lemmas.Bool.{cases_Bool, cases_eq, and_parts, and_from, leb-true, le-leb, ltb-true}
+use Rattle.std.proofs.Common.{◌≡◌, ◌+◌, ◌-◌, ◌*◌, ◌/◌, ◌%◌, ◌^◌, ◌<◌, ◌≤◌, ℕ, Bool, true, false, cond, ◌&&◌, nat_le, nat_lt, List, length, Option, Some, None, IsTrue, IsFalse, IsSome, is_some, nat_eq, refl, sym, ap, subst, ◌∙◌, inl, inr, arith}
+use Rattle.std.proofs.lemmas.Bool.{cases_Bool, cases_eq, cond-false, ne_eqb, and_parts, and_from, leb-true, le-leb, le-ltb, ltb-true}
 use Rattle.std.proofs.lemmas.Option.{same_Some}
 use Rattle.xk_base.specs.declared.ids.Place.{Place}
 use Rattle.xk_base.specs.declared.windows.Window.{Window}
 use Rattle.xk_base.specs.Windows.{window_at}
 use Rattle.xk_base.specs.Counting.{put_at}
-use Rattle.phys_pages.specs.Ram.{RamBytes, Area, IsPlaced, area, pages, words}
+use Rattle.phys_pages.specs.Ram.{RamBytes, Area, IsPlaced, area, pages, words, ppn_of}
+use Rattle.phys_pages.specs.declared.infos.Seat.TheVariants.{Frame, Slot}
+use Rattle.phys_pages.proofs.AreaLaws.{frame_of-ppn_of}
 use Rattle.phys_pages.proofs.PageLaws.{length-pages}
 use Rattle.phys_pages.proofs.WordLaws.{words-in_frame}
-use Rattle.ledger_model.specs.Places.{same_place, is_process}
+use Rattle.ledger_model.specs.Places.{same_place, is_process, is_user_place}
 use Rattle.ledger_model.proofs.PlaceLaws.{place_from, same_place-true, same_place-false}
-use Rattle.sv32_space.specs.Entries.{Entry, Free}
+use Rattle.sv32_space.specs.Entries.{Entry, Free, At, OnConsole}
 use Rattle.sv32_space.specs.Spellings.{kind_at}
 use Rattle.sv32_space.specs.Spaces.{root_at, IsTableFrame, table_frame, table_word, leaf_word, leaf_address, IsSpace, IsMade}
-use Rattle.sv32_space.specs.SpelledEntries.{entry_spelled, entry_in_space, entries_of, entries}
+use Rattle.sv32_space.specs.SpelledEntries.{IsEntry, console_ppn, entry_here, entry_of_kind, kind_for, entry_spelled, entry_in_space, entries_of, entries}
 use Rattle.sv32_space.proofs.SpaceLaws.{with_leaf, IsWrite, leaf_written, leaf_other, leaf_elsewhere, leaf_stays, spaces_with_leaf, mapped_page, table_within, one_space}
 
 -- a process's space lies in RAM
@@ -65,6 +67,47 @@ entries_stay procs old new same_area same =
           entry_stays procs (area old) (pages old) (pages new) q (λ f low table. same f (omega (arith, table.1, bounds.1, low)))
       | inr none ↦ rw none refl
     ]
+
+-- as where a page behind all tables is written
+pub entries_after_page : (procs : ℕ) (old new : RamBytes) (f : ℕ) (page : List ℕ) → area new ≡ area old → pages new ≡ put_at nat_eq (pages old) f page
+    → 21 * procs ≤ f → entries procs new ≡ entries procs old
+entries_after_page procs old new f page same_area now behind =
+    entries_stay procs old new same_area
+    (λ g low. ap (λ P. P g) now ∙ cond-false (nat_eq g f) page (pages old g) (ne_eqb g f (λ same. omega arith)))
+
+-- there is no entry but at a user place
+pub no_entry_elsewhere : (procs : ℕ) (ram : RamBytes) (q : Place) → IsFalse (is_user_place procs q) → entries procs ram q ≡ None
+unfolding entries
+no_entry_elsewhere procs ram q none = by_window (window_at q.vpn.0) none
+  where
+    by_window : (window : Option Window) → IsFalse (is_process procs q.pid.0 && is_some window)
+        → (cond (lies procs (area ram) q.pid.0) (entry_in_space (area ram) (pages ram) (root_at q.pid.0) q.vpn.0 window) None) ≡ None
+    by_window None outside = cond_same (lies procs (area ram) q.pid.0)
+      where
+        cond_same : (b : Bool) → cond {A = Option Entry} b None None ≡ None
+        cond_same true = refl
+        cond_same false = refl
+    by_window (Some w) other = elim (cases_Bool (is_process procs q.pid.0)) [
+      | inl process ↦ let given = rw process at other in absurd (false_not_true given)
+      | inr other' ↦ rw other' refl
+    ]
+      where
+        false_not_true : IsFalse true → ⊥
+        false_not_true t = cc
+
+-- an entry is read from its spelling
+pub entry_again : (a : Area) (entry : Entry) → IsPlaced a → IsEntry a entry → entry_of_kind a (Some (kind_for a entry)) ≡ Some entry
+entry_again a Free placed is = refl
+entry_again a (At side (Frame f)) placed is = ap (λ frame. entry_here side (ppn_of a f.0) frame) (frame_of-ppn_of a f is)
+entry_again a (At side (Slot s)) placed is = refl
+entry_again a (OnConsole w) placed is =
+    let outside : (nat_le (a.start / 4096) console_ppn && nat_lt (console_ppn - a.start / 4096) a.frames) ≡ false =
+    past (nat_le (a.start / 4096) console_ppn) (nat_lt (console_ppn - a.start / 4096) a.frames) (le-ltb (console_ppn - a.start / 4096) a.frames (omega (arith, placed.aligned, placed.below_device))) in
+    rw outside refl
+  where
+    past : (b c : Bool) → c ≡ false → (b && c) ≡ false
+    past true c no' = no'
+    past false c no' = refl
 
 -- after the entry of a place was written the entries are as before, but for that one
 pub entries_with_leaf : (procs : ℕ) (a : Area) (P : ℕ → List ℕ) (p : Place) (w : Window) (v : ℕ) → is_process procs p.pid.0 ≡ true
@@ -128,7 +171,7 @@ unfolding table_word
 leaf_read ram q pa word placed made address there w here =
     let table = table_within w (root_at q.pid.0) (q.vpn.0 / 1024) (mapped_page w q.vpn.0 here) in
     let stands : words ram (leaf_address (area ram) w q) ≡ Some (leaf_word (pages ram) (root_at q.pid.0) w q.vpn.0) =
-    words-in_frame ram (table_frame (root_at q.pid.0) w (q.vpn.0 / 1024)) (4 * (q.vpn.0 % 1024)) placed (omega (arith, table.1, made.1.within)) (omega arith) (omega arith) in
+    words-in_frame ram (table_frame (root_at q.pid.0) w (q.vpn.0 / 1024)) (4 * (q.vpn.0 % 1024)) placed (omega (arith, table.1, made.space.within)) (omega arith) (omega arith) in
     same_Some word (leaf_word (pages ram) (root_at q.pid.0) w q.vpn.0) (sym there ∙ ap (λ n. words ram n) (address w here) ∙ stands)
 
 -- it is a spelling, and the place's entry
@@ -138,10 +181,11 @@ pub leaf_is_entry : (ram : RamBytes) (q : Place) (word : ℕ) → IsMade ram q.p
 unfolding entries
 leaf_is_entry ram q word made window is =
     let there : (w : Window) × (window_at q.vpn.0 ≡ Some w) = window_there (window_at q.vpn.0) window in
-    let same : word ≡ leaf_word (pages ram) (root_at q.pid.0) there.0 q.vpn.0 = is there.0 there.1 in
-    (subst (λ n. IsSome (kind_at n)) (sym same) (made.1.spelled there.0 q.vpn.0 there.1),
-    λ procs process. entry_at_place procs (area ram) (pages ram) q there.0 (of_true (is_process procs q.pid.0) process) made.1.within there.1
-    ∙ ap (λ n. entry_spelled (area ram) n) (sym same))
+    let same : word ≡ leaf_word (pages ram) (root_at q.pid.0) there.0 q.vpn.0 = is there.0 there.1 in (
+      subst (λ n. IsSome (kind_at n)) (sym same) (made.space.spelled there.0 q.vpn.0 there.1),
+      λ procs process. entry_at_place procs (area ram) (pages ram) q there.0 (of_true (is_process procs q.pid.0) process) made.space.within there.1
+          ∙ ap (λ n. entry_spelled (area ram) n) (sym same),
+    )
 
 -- ---- an entry is written
 
@@ -158,11 +202,11 @@ pub record IsSet (old new : RamBytes) (q : Place) (v : ℕ) : Type 0 where
 pub is_write : (old new : RamBytes) (q : Place) (v : ℕ) → IsSet old new q v → (w : Window) → window_at q.vpn.0 ≡ Some w
     → IsWrite (area old) (pages old) (root_at q.pid.0) w q.vpn.0 v
 is_write old new q v set w here = record {
-  space = set.made.1;
+  space = set.made.space;
   here = here;
   whole =
-  let table = table_within w (root_at q.pid.0) (q.vpn.0 / 1024) (mapped_page w q.vpn.0 here) in
-  length-pages old (table_frame (root_at q.pid.0) w (q.vpn.0 / 1024)) (omega (arith, table.1, set.made.1.within));
+      let table = table_within w (root_at q.pid.0) (q.vpn.0 / 1024) (mapped_page w q.vpn.0 here) in
+      length-pages old (table_frame (root_at q.pid.0) w (q.vpn.0 / 1024)) (omega (arith, table.1, set.made.space.within));
   fits = set.fits;
 }
 
@@ -184,7 +228,10 @@ set_pages old new q v set f outside =
 pub set_made : (old new : RamBytes) (q : Place) (v : ℕ) → IsSet old new q v → (pid : ℕ) → IsMade old pid → IsMade new pid
 set_made old new q v set pid made =
     let there : (w : Window) × (window_at q.vpn.0 ≡ Some w) = window_there (window_at q.vpn.0) set.window in
-    (made.0,
-    subst (λ a. IsSpace a (pages new) (root_at pid)) (sym set.area)
-    (subst (λ P. IsSpace (area old) P (root_at pid)) (sym (set.pages there.0 there.1))
-    (spaces_with_leaf (area old) (pages old) q.pid.0 there.0 q.vpn.0 v set.made.0 (is_write old new q v set there.0 there.1) set.spelled pid made.0 made.1)))
+    record {
+      process = made.process;
+      space =
+          subst (λ a. IsSpace a (pages new) (root_at pid)) (sym set.area)
+          (subst (λ P. IsSpace (area old) P (root_at pid)) (sym (set.pages there.0 there.1))
+          (spaces_with_leaf (area old) (pages old) q.pid.0 there.0 q.vpn.0 v set.made.process (is_write old new q v set there.0 there.1) set.spelled pid made.process made.space));
+    }

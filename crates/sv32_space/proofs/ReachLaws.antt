@@ -323,7 +323,7 @@ walk_by_entry procs ram q entry va access placed fits made page found =
     let there : (w : Window) × (window_at q.vpn.0 ≡ Some w) × (entry_spelled (area ram) (leaf_word (pages ram) (root_at q.pid.0) w q.vpn.0) ≡ Some entry) =
     entry_word procs ram q entry found in
     let word : ℕ = leaf_word (pages ram) (root_at q.pid.0) there.0 q.vpn.0 in
-    walk_in_window ram (root_at q.pid.0) va there.0 access placed fits made.1 (ap (λ n. window_at n) (sym page) ∙ there.1)
+    walk_in_window ram (root_at q.pid.0) va there.0 access placed fits made.space (ap (λ n. window_at n) (sym page) ∙ there.1)
     ∙ ap (λ n. from_last_level (leaf_word (pages ram) (root_at q.pid.0) there.0 n) va access) (sym page)
     ∙ of_word word (kind_at word) refl there.2
   where

@@ -1,6 +1,6 @@
 -- Where tables and entries of address spaces stand.
-use Rattle.std.proofs.Common.{◌≡◌, ◌==◌, ◌+◌, ◌-◌, ◌*◌, ◌/◌, ◌%◌, ◌^◌, ◌<◌, ◌≤◌, ℕ, Bool, true, false, cond, ◌&&◌, nat_le, nat_lt, List, length, Option, Some, None, IsSome, nat_eq, refl, sym, ap, subst, ◌∙◌, inl, inr, ◌⊎◌, arith}
-use Rattle.std.proofs.lemmas.Bool.{cases_Bool, cases_eq, cases_order, eq-eqb, ne_eqb, and_parts}
+use Rattle.std.proofs.Common.{◌≡◌, ◌==◌, ◌+◌, ◌-◌, ◌*◌, ◌/◌, ◌%◌, ◌^◌, ◌<◌, ◌≤◌, ℕ, Bool, true, false, cond, ◌&&◌, nat_le, nat_lt, List, length, Option, Some, None, IsSome, IsTrue, nat_eq, refl, sym, ap, subst, ◌∙◌, inl, inr, ◌⊎◌, arith}
+use Rattle.std.proofs.lemmas.Bool.{cases_Bool, cases_eq, cases_order, cond-false, eq-eqb, ne_eqb, and_parts, ltb-true}
 use Rattle.std.proofs.lemmas.Bool.Decides.{nat_tests}
 use Rattle.std.proofs.lemmas.Option.{none-some, same_Some}
 use Rattle.xk_base.specs.declared.windows.Window.{Window}
@@ -9,6 +9,7 @@ use Rattle.xk_base.specs.Windows.{first_page, last_page, window_at}
 use Rattle.xk_base.specs.Counting.{put_at}
 use Rattle.phys_pages.specs.Ram.{RamBytes, Area, IsPlaced, IsInside, area, pages, words, word_in, with_word, ppn_of, frame_at}
 use Rattle.phys_pages.proofs.WordLaws.{word_in-with_word, word_in-other}
+use Rattle.ledger_model.specs.Places.{is_process}
 use Rattle.sv32_space.specs.Spellings.{kind_at}
 use Rattle.sv32_space.specs.Spaces.{root_at, IsTableFrame, window_order, first_root_entry, window_of_root_entry, table_frame, root_word, table_word, leaf_word, IsSpace, IsMade}
 
@@ -201,13 +202,13 @@ pub space_with_leaf : (a : Area) (P : ℕ → List ℕ) (first : ℕ) (w : Windo
 space_with_leaf a P first w vpn v write spelled = record {
   within = write.space.within;
   root = λ i low.
-  (let table = table_within w first (vpn / 1024) (mapped_page w vpn write.here) in
-  table_word_other P (table_frame first w (vpn / 1024)) (vpn % 1024) v first i write.whole (omega arith) (λ same index. omega (arith, table.0, same)))
-  ∙ write.space.root i low;
+      (let table = table_within w first (vpn / 1024) (mapped_page w vpn write.here) in
+      table_word_other P (table_frame first w (vpn / 1024)) (vpn % 1024) v first i write.whole (omega arith) (λ same index. omega (arith, table.0, same)))
+      ∙ write.space.root i low;
   outside = λ u x here none.
-  leaf_other a P first w vpn v write u x (mapped_entry u (x / 1024) here)
-  (λ same. none-some w (sym none ∙ ap (λ n. window_at n) same ∙ write.here))
-  ∙ write.space.outside u x here none;
+      leaf_other a P first w vpn v write u x (mapped_entry u (x / 1024) here)
+      (λ same. none-some w (sym none ∙ ap (λ n. window_at n) same ∙ write.here))
+      ∙ write.space.outside u x here none;
   spelled = at;
 }
   where
@@ -244,7 +245,7 @@ spaces_with_leaf a P p w vpn v low write spelled q low' space = elim (cases_eq p
 pub made_stays : (old new : RamBytes) (pid : ℕ) → area new ≡ area old → ((f : ℕ) → IsTableFrame (root_at pid) f → pages new f ≡ pages old f)
     → IsMade old pid → IsMade new pid
 made_stays old new pid same_area same made =
-    (made.0, subst (λ a. IsSpace a (pages new) (root_at pid)) (sym same_area) (space_stays (area old) (pages old) (pages new) (root_at pid) same made.1))
+    record { process = made.process; space = subst (λ a. IsSpace a (pages new) (root_at pid)) (sym same_area) (space_stays (area old) (pages old) (pages new) (root_at pid) same made.space) }
 
 -- what is computed for a page of a window is its table
 pub table_of_page : (w : Window) (first v : ℕ) → window_at v ≡ Some w
@@ -253,3 +254,12 @@ table_of_page w first v here =
     let mapped = mapped_page w v here in
     let within = table_within w first (v / 1024) mapped in
     (mapped.0, mapped.1, (omega (arith, within.0), within.1))
+
+-- the space of one of so many processes stays where a page behind all tables is written
+pub made_after_page : (old new : RamBytes) (procs f : ℕ) (page : List ℕ) → area new ≡ area old → pages new ≡ put_at nat_eq (pages old) f page → 21 * procs ≤ f
+    → (pid : ℕ) → IsTrue (is_process procs pid) → IsMade old pid → IsMade new pid
+made_after_page old new procs f page same_area now behind pid process made =
+    let parts : (nat_le 2 pid ≡ true) × (nat_lt pid (procs + 2) ≡ true) = and_parts (nat_le 2 pid) (nat_lt pid (procs + 2)) process in
+    let high : pid < procs + 2 = ltb-true pid (procs + 2) parts.1 in
+    made_stays old new pid same_area
+    (λ g there. ap (λ P. P g) now ∙ cond-false (nat_eq g f) page (pages old g) (ne_eqb g f (λ same. omega (arith, there, same, high, made.process)))) made

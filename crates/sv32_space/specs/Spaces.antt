@@ -60,8 +60,9 @@ pub record IsSpace (a : Area) (P : ℕ → List ℕ) (first : ℕ) : Type 0 wher
   pub spelled : (w : Window) (vpn : ℕ) → window_at vpn ≡ Some w → IsSome (kind_at (leaf_word P first w vpn))
 
 -- the space of the process is made
-abbrev pub IsMade : RamBytes → ℕ → Type 0
-IsMade ram pid = (2 ≤ pid) × IsSpace (area ram) (pages ram) (root_at pid)
+pub record IsMade (ram : RamBytes) (pid : ℕ) : Type 0 where
+  pub process : 2 ≤ pid
+  pub space : IsSpace (area ram) (pages ram) (root_at pid)
 
 -- the physical address of the entry of a place in the window
 abbrev pub leaf_address : Area → Window → Place → ℕ

@@ -1,5 +1,5 @@
 -- The entries of all places, as the bytes of the last-level tables spell them.
-use Rattle.std.specs.Prelude.{ℕ, ◌+◌, ◌==◌, ◌&&◌, nat_le, false, if◌then◌else◌, List, Option, Some, None}
+use Rattle.std.specs.Prelude.{ℕ, ◌+◌, ◌^◌, ◌<◌, ◌==◌, ◌&&◌, nat_le, false, if◌then◌else◌, List, Option, Some, None}
 use Rattle.xk_base.specs.declared.ids.Frame.{Frame as FrameNumber}
 use Rattle.xk_base.specs.declared.ids.Place.{Place}
 use Rattle.xk_base.specs.declared.windows.Window.{Window}
@@ -41,6 +41,13 @@ entry_of_kind a (Some (Out side slot)) = Some (At side (Slot (record { 0 = slot 
 -- the entry that a word spells; none where it spells none, or names neither a frame of RAM nor the console
 abbrev pub entry_spelled : Area → ℕ → Option Entry
 entry_spelled a word = entry_of_kind a (kind_at word)
+
+-- an entry of this RAM: it names a frame of RAM, or a slot whose number fits its bits
+abbrev pub IsEntry : Area → Entry → Type 0
+IsEntry a Free = Unit {0}
+IsEntry a (At side (Frame f)) = f.0 < a.frames
+IsEntry a (At side (Slot s)) = s.0 < 2 ^ 22
+IsEntry a (OnConsole w) = Unit {0}
 
 -- how an entry is spelled
 abbrev pub kind_for : Area → Entry → EntryKind

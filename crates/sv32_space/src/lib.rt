@@ -3,10 +3,10 @@
 #![tactic(auto)]
 
 mod entries;
-pub mod laws;
 pub mod agreement_laws;
 pub mod ledger_laws;
 mod sides;
+pub mod space_laws;
 mod spaces;
 mod walking;
 pub mod small;
@@ -16,3 +16,6 @@ pub use entries::{entry_of, kind_of};
 pub use sides::{EntryKind, Side};
 pub use spaces::{TABLE_FRAMES, leaf, new_space, root_of, set_leaf};
 pub use walking::{Walked, walk};
+
+#[cfg(test)]
+mod tests;

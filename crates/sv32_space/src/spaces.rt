@@ -8,7 +8,7 @@ ghost use Rattle.xk_base.specs.Windows.{window_at};
 ghost use Rattle.phys_pages.specs.Ram.{area, pages, words, IsInside, IsPlaced};
 ghost use Rattle.ledger_model.specs.Places.{is_process, is_user_place, same_place};
 ghost use Rattle.sv32_space.specs.Entries.{Free};
-ghost use Rattle.sv32_space.specs.Spaces.{root_at, window_order, first_root_entry, table_frame, table_word, root_word, window_of_root_entry, leaf_word, leaf_address, IsTableFrame, IsMade};
+ghost use Rattle.sv32_space.specs.Spaces.{root_at, window_order, first_root_entry, table_frame, table_word, root_word, window_of_root_entry, leaf_word, leaf_address, IsSpace, IsTableFrame, IsMade};
 ghost use Rattle.sv32_space.specs.SpelledEntries.{entries, entry_spelled};
 ghost use Rattle.sv32_space.specs.Spellings.{kind_at};
 
@@ -158,6 +158,8 @@ fn write_root(ram: &mut Ram, first: Frame)
 /// Makes the 21 frames from `first` on an empty space: all its entries are free.
 pub fn new_space(ram: &mut Ram, first: Frame)
     requires { first.0 + 21 ≤ (area ram.old).frames }
+    ensures space { IsSpace (area ram.new) (pages ram.new) first.0 }
+    ensures empty { (w : Window) (vpn : ℕ) → window_at vpn ≡ Some w → leaf_word (pages ram.new) first.0 w vpn ≡ 0 }
     ensures made { (pid : ℕ) → 2 ≤ pid → root_at pid ≡ first.0 → IsMade ram.new pid }
     ensures free { (procs : ℕ) (q : Place) → root_at q.pid.0 ≡ first.0 → is_user_place procs q ≡ true → entries procs ram.new q ≡ Some Free }
     ensures pages { (f : ℕ) → ¬ IsTableFrame first.0 f → pages ram.new f ≡ pages ram.old f }

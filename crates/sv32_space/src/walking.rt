@@ -24,11 +24,17 @@ pub enum Walked {
 }
 
 const V: u32 = 0;
+
 const R: u32 = 1;
+
 const W: u32 = 2;
+
 const X: u32 = 3;
+
 const U: u32 = 4;
+
 const A: u32 = 6;
+
 const D: u32 = 7;
 
 fn has_flag(entry: u32, k: u32) -> bool
@@ -38,20 +44,20 @@ fn has_flag(entry: u32, k: u32) -> bool
     (entry >> k) % 2 == 1
 }
 
-fn valid(entry: u32) -> bool
+fn valid_entry(entry: u32) -> bool
     ensures { result ≡ is_valid entry }
 {
     has_flag(entry, V) && (has_flag(entry, R) || !has_flag(entry, W))
 }
 
-fn leaf(entry: u32) -> bool
+fn leaf_entry(entry: u32) -> bool
     ensures { result ≡ is_leaf entry }
 {
     has_flag(entry, R) || has_flag(entry, X)
 }
 
 // Whether a leaf lets a process access its page.
-fn lets(entry: u32, access: Access) -> bool
+fn lets_in(entry: u32, access: Access) -> bool
     ensures { result ≡ lets_through entry access }
 {
     let is_allowed = match access {
@@ -77,7 +83,7 @@ fn table_entry(ram: &Ram, ppn: u32, index: u32) -> Option<u32>
 fn walk_last(entry: u32, va: u32, access: Access) -> Walked
     ensures { result ≡ from_last_level entry va access }
 {
-    if valid(entry) && leaf(entry) && lets(entry, access) {
+    if valid_entry(entry) && leaf_entry(entry) && lets_in(entry, access) {
         Walked::Reaches((entry / 1024) as u64 * 4096 + (va % 4096) as u64)
     } else {
         Walked::PageFault
@@ -87,7 +93,7 @@ fn walk_last(entry: u32, va: u32, access: Access) -> Walked
 fn walk_large(entry: u32, va: u32, access: Access) -> Walked
     ensures { result ≡ from_large_leaf entry va access }
 {
-    if lets(entry, access) && entry / 1024 % 1024 == 0 {
+    if lets_in(entry, access) && entry / 1024 % 1024 == 0 {
         Walked::Reaches((entry / 1024) as u64 * 4096 + (va % 0x40_0000) as u64)
     } else {
         Walked::PageFault
@@ -106,10 +112,10 @@ fn walk_pointer(ram: &Ram, entry: u32, va: u32, access: Access) -> Walked
 fn walk_root(ram: &Ram, entry: u32, va: u32, access: Access) -> Walked
     ensures { result ≡ from_root ram.now entry va access }
 {
-    if !valid(entry) {
+    if !valid_entry(entry) {
         return Walked::PageFault;
     }
-    if leaf(entry) {
+    if leaf_entry(entry) {
         return walk_large(entry, va, access);
     }
     if has_flag(entry, U) || has_flag(entry, A) || has_flag(entry, D) {

@@ -1,6 +1,7 @@
 use Rattle.std.proofs.Common.{◌≡◌, ◌+◌, ◌<◌, ◌≤◌, ℕ, slice_index, subst, ap, sym, ◌∙◌, arith}
 use Rattle.phys_pages.specs.Ram.{area, pages}
-use Rattle.sv32_space.proofs.ClearLaws.{IsEmptySpace, beside, empty_made, empty_free, made_beside, entry_beside}
+use Rattle.sv32_space.proofs.ClearLaws.{IsEmptySpace, beside, empty_space, empty_leaf, empty_made, empty_free, made_beside, entry_beside}
+use Rattle.sv32_space.proofs.SpaceLaws.{mapped_page}
 use Rattle.sv32_space.proofs.spaces.new_space.Goals as goal
 
 same_area : (c : goal.After-write_root) → area c.write_root.new.ram ≡ area c.args.ram.now
@@ -17,6 +18,12 @@ pub returns-clause-pages : goal.returns-clause-pages
 returns-clause-pages c = λ f outside.
     c.write_root.ensures.others f (λ same. outside (omega (arith, same), omega (arith, same)))
     ∙ c.clear_tables.ensures.others f (beside c.args.first.0 f outside)
+
+pub returns-clause-space : goal.returns-clause-space
+returns-clause-space c = empty_space c.write_root.new.ram c.args.first.0 (is_empty c)
+
+pub returns-clause-empty : goal.returns-clause-empty
+returns-clause-empty c = λ w vpn here. empty_leaf c.write_root.new.ram c.args.first.0 (is_empty c) w vpn (mapped_page w vpn here)
 
 pub returns-clause-made : goal.returns-clause-made
 returns-clause-made c = empty_made c.write_root.new.ram c.args.first.0 (is_empty c)
