@@ -1,12 +1,15 @@
 -- The ledger that entries, owners and the bytes of seats make. At a home the entry tells the right, the owner table the
 -- loan; at a holder's place an orphan stands where the owner table has no home for the seat. A page that is out is there
 -- like any other: its seat is a slot.
-use Rattle.std.specs.Prelude.{ℕ, false, is_none, List, Option, Some, None, if◌then◌else◌}
+use Rattle.std.specs.Prelude.{◌≡◌, ℕ, true, false, is_none, IsTrue, List, Option, Some, None, if◌then◌else◌}
 use Rattle.std.specs.Option.{option_and_then, option_map}
+use Rattle.xk_base.specs.declared.ids.Place.{Place}
+use Rattle.xk_base.specs.declared.pages.LoanKind.TheVariants.{Exclusive}
 use Rattle.phys_pages.specs.declared.infos.LoanInfo.{LoanInfo}
 use Rattle.phys_pages.specs.declared.infos.PageInfo.{PageInfo}
 use Rattle.phys_pages.specs.declared.infos.Seat.{Seat}
-use Rattle.ledger_model.specs.Ledger.{Ledger, Console, Bytes, Page, PageLoan, Orphan}
+use Rattle.ledger_model.specs.Ledger.{Ledger, Console, Bytes, Page, PageLoan, Orphan, loan_at}
+use Rattle.ledger_model.specs.Places.{is_user_place}
 use Rattle.sv32_space.specs.declared.sides.Side.{Side}
 use Rattle.sv32_space.specs.declared.sides.Side.TheVariants.{Own, LentOut, LentIn, MutOut, MutIn}
 use Rattle.sv32_space.specs.Agreement.{Infos, loan_in, right_of_side}
@@ -57,3 +60,19 @@ ledger_of E I B = record {
   home = λ p. option_and_then (page_of_entry I B) (E p);
   orphan = λ p. option_and_then (orphan_of_entry I B) (E p);
 }
+
+-- What of a lawful ledger holds of every ledger that agreeing entries and owners make, by the names of `IsLawful`.
+pub record IsWellPlaced (procs : ℕ) (ledger : Ledger) : Type 0 where
+  pub home_lies : (p : Place) (page : Page) → ledger.home p ≡ Some page → IsTrue (is_user_place procs p)
+  pub holder_lies : (p : Place) (loan : PageLoan) → loan_at ledger p ≡ Some loan → IsTrue (is_user_place procs loan.holder)
+  pub orphan_lies : (p : Place) (orphan : Orphan) → ledger.orphan p ≡ Some orphan → IsTrue (is_user_place procs p)
+  pub holders_differ : (p q : Place) (a b : PageLoan) → loan_at ledger p ≡ Some a → loan_at ledger q ≡ Some b
+      → a.holder ≡ b.holder → p ≡ q
+  pub holder_no_home : (p : Place) (loan : PageLoan) → loan_at ledger p ≡ Some loan → ledger.home loan.holder ≡ None
+  pub holder_no_orphan : (p : Place) (loan : PageLoan) → loan_at ledger p ≡ Some loan → ledger.orphan loan.holder ≡ None
+  pub orphan_no_home : (p : Place) (orphan : Orphan) → ledger.orphan p ≡ Some orphan → ledger.home p ≡ None
+  pub console_no_loan : (p : Place) (page : Page) → ledger.home p ≡ Some page → page.contents ≡ Console → page.loan ≡ None
+  pub console_no_fetch : (p : Place) (page : Page) → ledger.home p ≡ Some page → page.contents ≡ Console
+      → page.right.x ≡ false
+  pub exclusive_writable : (p : Place) (page : Page) (loan : PageLoan) → ledger.home p ≡ Some page
+      → page.loan ≡ Some loan → loan.kind ≡ Exclusive → page.right.w ≡ true

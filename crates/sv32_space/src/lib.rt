@@ -5,6 +5,7 @@
 mod entries;
 pub mod agreement_laws;
 pub mod ledger_laws;
+pub mod run_laws;
 mod sides;
 pub mod space_laws;
 mod spaces;
