@@ -1,3 +1,5 @@
 pub mod BareLaws
 pub mod EntryRoles
+pub mod SeatWrites
 pub mod SoundMemory
+pub mod WalkTargets

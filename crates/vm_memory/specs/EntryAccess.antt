@@ -56,6 +56,11 @@ entry_target (Some Free) access = Nothing
 entry_target (Some (At side seat)) access = seat_target (side_may side access) seat
 entry_target (Some (OnConsole w)) access = if owner_may (record { w = w; x = false }) access then Console else Nothing
 
+abbrev pub is_page_target : Target → Bool
+is_page_target (Page f) = true
+is_page_target Console = false
+is_page_target Nothing = false
+
 -- what `at` tells of a side, by what the owner table says of the seat
 abbrev pub side_here : Side → Option PageInfo → Here
 side_here (Own right) info = here.Own right false None

@@ -2,7 +2,7 @@
 use Rattle.std.specs.Prelude.{◌≡◌, ℕ, ◌+◌, ◌≤◌, None}
 use Rattle.boot_plan.specs.Capacity.{table_frames}
 use Rattle.phys_pages.specs.Owners.{OwnerTable, extent, infos, frame_seat, HasSeat}
-use Rattle.phys_pages.specs.Ram.{area}
+use Rattle.phys_pages.specs.Ram.{IsPlaced, area}
 use Rattle.ledger_model.specs.Lawful.{IsLawful}
 use Rattle.ledger_model.specs.Ledger.{pages}
 use Rattle.sv32_space.specs.Tie.{agrees}
@@ -25,6 +25,7 @@ pub record IsSound {W : Type 0} (slot_count : W → ℕ) (m : Memory W) : Type 0
   pub few : processes m ≤ 32
   pub few_slots : m.slots ≤ 16384
   pub tables : table_frames (processes m) + 2 ≤ (area m.ram).frames
+  pub placed : IsPlaced (area m.ram)
   -- the store has the slots
   pub store : m.slots ≤ slot_count m.store
   -- the ledger is lawful, but for the bytes of pages

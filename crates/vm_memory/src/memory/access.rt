@@ -6,7 +6,7 @@ ghost use Rattle.ledger_model.specs.Places.{is_process, is_user_place};
 ghost use Rattle.phys_pages.specs.Ram.{area};
 ghost use Rattle.sv32_space.specs.SpelledEntries.{entries, entry_of_kind};
 ghost use Rattle.vm_memory.specs.Bytes.{is_near};
-ghost use Rattle.vm_memory.specs.EntryAccess.{entry_target, page_of, side_here};
+ghost use Rattle.vm_memory.specs.EntryAccess.{entry_target, is_page_target, page_of, side_here};
 ghost use Rattle.vm_memory.specs.Here.{here_at};
 ghost use Rattle.vm_memory.specs.Lending.{frame_named};
 ghost use Rattle.vm_memory.specs.Memory.{ledger, processes, ram_of};
@@ -16,6 +16,7 @@ ghost use Rattle.xk_base.specs.Windows.{window_at};
 use crate::memory::{Here, Memory};
 use phys_pages::{PageInfo, Seat};
 use sv32_space::{EntryKind, Side, Walked, kind_of, leaf, root_of, walk};
+use xk_base::limits::PAGE_SIZE;
 use xk_base::{Access, Frame, LoanKind, Number, Pid, Place, Right, Slot, window_of};
 use xk_ports::SwapStore;
 
@@ -27,9 +28,17 @@ pub(crate) enum Target {
     Nothing,
 }
 
+impl Target {
+    fn is_page(&self) -> bool
+        ensures { result ≡ is_page_target self.now }
+    {
+        matches!(self, Target::Page(_))
+    }
+}
+
 // What `at` tells of a side of a page.
 fn here(side: Side, info: Option<&PageInfo>) -> Here
-    ensures { result ≡ side_here side (option_copied info) }
+    ensures { result ≡ side_here side (option_copied info.entry) }
 {
     let home = info.and_then(|info| info.home);
     let loan = info.and_then(|info| info.loan);
@@ -76,7 +85,7 @@ impl<W: SwapStore> Memory<W> {
     }
 
     // Whether a page may stand there: in a window of a process.
-    pub(crate) fn has_place(&self, at: Place) -> bool
+    fn has_place(&self, at: Place) -> bool
         requires sound { IsSound W.slot_count self.now }
         ensures { result ≡ is_user_place (processes self.now) at }
     {
@@ -126,6 +135,14 @@ impl<W: SwapStore> Memory<W> {
                 None => Target::Console,
             },
         }
+    }
+
+    // Whether an access leads to a page at that place.
+    pub(crate) fn leads_to_page(&self, at: Place, access: Access) -> bool
+        requires sound { IsSound W.slot_count self.now }
+        ensures { result ≡ is_page_target (entry_target (entries (processes self.now) (ram_of self.now) at) access) }
+    {
+        self.has_place(at) && self.find(at.pid, at.vpn.0 * PAGE_SIZE, access).is_page()
     }
 
     /// What the ledger has at a place. It takes any place; `Nothing` comes exactly where it is no

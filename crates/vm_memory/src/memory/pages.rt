@@ -15,8 +15,6 @@ ghost use Rattle.xk_base.specs.Outside.{Rose};
 ghost use Rattle.xk_base.specs.declared.pages.Access.TheVariants.{Load, Store};
 
 use crate::memory::Memory;
-use crate::memory::access::Target;
-use xk_base::limits::PAGE_SIZE;
 use xk_base::{Access, Failed, Place};
 use xk_ports::SwapStore;
 
@@ -40,13 +38,7 @@ impl<W: SwapStore> Memory<W> {
         ensures size { size self.new ≡ size self.old }
         ensures store { KeepsStore W.is_honest W.held W.slot_count W.asked W.faults (store_of self.old) (store_of self.new) }
     {
-        if !self.has_place(at) {
-            return Ok(false);
-        }
-        match self.find(at.pid, at.vpn.0 * PAGE_SIZE, access) {
-            Target::Page(_) => Ok(true),
-            Target::Console | Target::Nothing => Ok(false),
-        }
+        Ok(self.leads_to_page(at, access))
     }
 
     /// The 4096 bytes of a page.
