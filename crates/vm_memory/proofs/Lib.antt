@@ -1,5 +1,6 @@
 pub mod BareLaws
 pub mod EntryRoles
+pub mod Reached
 pub mod SeatWrites
 pub mod SoundMemory
 pub mod WalkTargets

@@ -66,15 +66,13 @@ side_no_orphan (MutOut x) info home bytes e = refl
 side_no_orphan MutIn info home bytes e = homed_no_orphan info home bytes e
 
 module _ (procs : ℕ) (E : Entries) (I : Infos) (agree : EntriesAgree procs E I) (B : SeatBytes) (s : Seat) (offset : ℕ) (bytes : List ℕ) where
-  C : SeatBytes
+  abbrev C : SeatBytes
   C = with_bytes B s (written (B s) offset bytes)
 
   C-here : C s ≡ written (B s) offset bytes
-  unfolding C
   C-here = seat_put B s (written (B s) offset bytes)
 
   C-kept : (t : Seat) → t ≢ s → C t ≡ B t
-  unfolding C
   C-kept t ne = seat_kept B s t (written (B s) offset bytes) ne
 
   -- an entry that names a seat is that of its page's home, or shows no page
@@ -91,26 +89,26 @@ module _ (procs : ℕ) (E : Entries) (I : Infos) (agree : EntriesAgree procs E I
     homed_home : (q : Place) (o : Option Entry) → E q ≡ o
         → option_and_then (page_of_entry I C) o
         ≡ (if same_place q home then option_map (written_page offset bytes) (option_and_then (page_of_entry I B) o) else option_and_then (page_of_entry I B) o)
-    homed_home q None e = elim (same_place_tells q home) [ inl k ↦ rw k.1 refl | inr k ↦ rw k.1 refl ]
-    homed_home q (Some Free) e = elim (same_place_tells q home) [ inl k ↦ rw k.1 refl | inr k ↦ rw k.1 refl ]
+    homed_home q None e = elim (same_place_tells q home) [ inl k ↦ rw k.0 refl | inr k ↦ rw k.0 refl ]
+    homed_home q (Some Free) e = elim (same_place_tells q home) [ inl k ↦ rw k.0 refl | inr k ↦ rw k.0 refl ]
     homed_home q (Some (OnConsole w)) e = elim (same_place_tells q home) [
-      | inl k ↦ absurd (clash (sym e ∙ (ap E k.0 ∙ named)))
-      | inr k ↦ rw k.1 refl
+      | inl k ↦ absurd (clash (sym e ∙ (ap E k.1 ∙ named)))
+      | inr k ↦ rw k.0 refl
     ]
       where
         clash : Some (OnConsole w) ≡ Some (At side_there s) → ⊥
         clash h = cc
     homed_home q (Some (At side t)) e = elim (same_place_tells q home) [
       | inl k ↦
-          let same : t ≡ s = same_seat (sym e ∙ (ap E k.0 ∙ named)) in
-          rw k.1 (ap (λ u. page_of_side side (I u) (C u)) same
+          let same : t ≡ s = same_seat (sym e ∙ (ap E k.1 ∙ named)) in
+          rw k.0 (ap (λ u. page_of_side side (I u) (C u)) same
           ∙ (ap (page_of_side side (I s)) C-here ∙ page_written side (I s) (B s) offset bytes)
           ∙ ap (λ u. option_map (written_page offset bytes) (page_of_side side (I u) (B u))) (sym same))
-      | inr k ↦ rw k.1 (elim (seat_tells t s) [
+      | inr k ↦ rw k.0 (elim (seat_tells t s) [
         | inr apart ↦ ap (page_of_side side (I t)) (C-kept t apart.0)
         | inl same ↦ elim (owner_tells side q (e ∙ ap (λ u. Some (At side u)) same.0)) [
           | inl none ↦ ap (λ u. page_of_side side (I u) (C t)) same.0 ∙ (none (C t) ∙ sym (ap (λ u. page_of_side side (I u) (B t)) same.0 ∙ none (B t)))
-          | inr owner ↦ absurd (k.0 (same_Some q home (sym owner ∙ is_home)))
+          | inr owner ↦ absurd (k.1 (same_Some q home (sym owner ∙ is_home)))
         ]
       ])
     ]
@@ -155,18 +153,18 @@ module _ (procs : ℕ) (E : Entries) (I : Infos) (agree : EntriesAgree procs E I
     lone_orphan : (q : Place) (o : Option Entry) → E q ≡ o
         → option_and_then (orphan_of_entry I C) o
         ≡ (if same_place q p then option_map (written_orphan offset bytes) (option_and_then (orphan_of_entry I B) o) else option_and_then (orphan_of_entry I B) o)
-    lone_orphan q None e = elim (same_place_tells q p) [ inl k ↦ rw k.1 refl | inr k ↦ rw k.1 refl ]
-    lone_orphan q (Some Free) e = elim (same_place_tells q p) [ inl k ↦ rw k.1 refl | inr k ↦ rw k.1 refl ]
-    lone_orphan q (Some (OnConsole w)) e = elim (same_place_tells q p) [ inl k ↦ rw k.1 refl | inr k ↦ rw k.1 refl ]
+    lone_orphan q None e = elim (same_place_tells q p) [ inl k ↦ rw k.0 refl | inr k ↦ rw k.0 refl ]
+    lone_orphan q (Some Free) e = elim (same_place_tells q p) [ inl k ↦ rw k.0 refl | inr k ↦ rw k.0 refl ]
+    lone_orphan q (Some (OnConsole w)) e = elim (same_place_tells q p) [ inl k ↦ rw k.0 refl | inr k ↦ rw k.0 refl ]
     lone_orphan q (Some (At side t)) e = elim (same_place_tells q p) [
       | inl k ↦
-          let same : t ≡ s = same_seat (sym e ∙ (ap E k.0 ∙ named)) in
-          rw k.1 (ap (λ u. orphan_of_side side (I u) (C u)) same
+          let same : t ≡ s = same_seat (sym e ∙ (ap E k.1 ∙ named)) in
+          rw k.0 (ap (λ u. orphan_of_side side (I u) (C u)) same
           ∙ (ap (orphan_of_side side (I s)) C-here ∙ orphan_written side (I s) (B s) offset bytes)
           ∙ ap (λ u. option_map (written_orphan offset bytes) (orphan_of_side side (I u) (B u))) (sym same))
-      | inr k ↦ rw k.1 (elim (seat_tells t s) [
+      | inr k ↦ rw k.0 (elim (seat_tells t s) [
         | inr apart ↦ ap (orphan_of_side side (I t)) (C-kept t apart.0)
-        | inl same ↦ absurd (k.0 (names_orphan procs E I agree q loan side s orphaned (e ∙ ap (λ u. Some (At side u)) same.0)
+        | inl same ↦ absurd (k.1 (names_orphan procs E I agree q loan side s orphaned (e ∙ ap (λ u. Some (At side u)) same.0)
             ∙ sym (names_orphan procs E I agree p loan side_there s orphaned named)))
       ])
     ]
