@@ -1,5 +1,6 @@
 pub mod BareLaws
 pub mod EntryRoles
+pub mod HereLaws
 pub mod PageWrites
 pub mod Reached
 pub mod SeatWrites
