@@ -6,3 +6,6 @@ pub mod Lending
 pub mod Memory
 pub mod Sound
 pub mod Tie
+pub mod UserRest
+pub mod UserStores
+pub mod UserView

@@ -3,6 +3,9 @@
 mod access;
 mod pages;
 mod readers;
+mod user;
+
+pub use user::User;
 
 use phys_pages::{LoanInfo, Owners, Ram};
 use thiserror::Error;
