@@ -1,8 +1,12 @@
 pub mod BareLaws
+pub mod ByteWrites
 pub mod EntryRoles
 pub mod HereLaws
 pub mod PageWrites
 pub mod Reached
 pub mod SeatWrites
 pub mod SoundMemory
+pub mod StoreLaws
+pub mod UserLaws
+pub mod UserStoring
 pub mod WalkTargets

@@ -41,3 +41,10 @@ rest_over is_honest held slot_count asked faults pid a b c x y = record {
     still name unseen =
         subst (λ l. IsUnseen (processes b) l pid name) (sym x.rights)
         (subst (λ n. IsUnseen n (bare (ledger held a)) pid name) (sym (ap (λ (s : Size). s.procs) x.sizes)) unseen)
+
+-- .. also where the process is told by two numbers that are the same
+pub pid_rest_over : {W P : Type 0} (is_honest : W → Bool) (held : W → Held) (slot_count : W → ℕ) (asked : W → P) (faults : W → ℕ) (pid other : Pid) (a b c : Memory W)
+    → other ≡ pid → KeepsRest is_honest held slot_count asked faults pid a b → KeepsRest is_honest held slot_count asked faults other b c
+    → KeepsRest is_honest held slot_count asked faults pid a c
+pid_rest_over is_honest held slot_count asked faults pid other a b c same x y =
+    rest_over is_honest held slot_count asked faults pid a b c x (subst (λ p. KeepsRest is_honest held slot_count asked faults p b c) same y)

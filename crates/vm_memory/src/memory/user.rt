@@ -100,10 +100,7 @@ impl<W: SwapStore> Memory<W> {
         requires sound { IsSound W.slot_count self.now }
         ensures { result ≡ (user_view W.held self.now pid).may Store va }
     {
-        match self.find(pid, va, Access::Store) {
-            Target::Page(_) | Target::Console => true,
-            Target::Nothing => false,
-        }
+        self.find(pid, va, Access::Store).is_given()
     }
 }
 
@@ -112,7 +109,8 @@ impl<W: SwapStore> UserMemory for User<'_, W> {
     ghost use Rattle.vm_memory.specs.Memory.{IsUsable};
     ghost use Rattle.vm_memory.specs.Sound.{IsSound};
     ghost use Rattle.vm_memory.specs.UserView.{user_content, user_view, KeepsRest};
-    ghost use Rattle.vm_memory.specs.UserRest.{rest_over};
+    ghost use Rattle.std.proofs.Common.{◌∙◌};
+    ghost use Rattle.vm_memory.specs.UserRest.{pid_rest_over};
 
     ghost may = { λ u. (user_view W.held u.mem.now u.pid).may };
 
@@ -128,7 +126,7 @@ impl<W: SwapStore> UserMemory for User<'_, W> {
 
     ghost bounded = { λ u. W.bounded u.mem.now.store };
 
-    ghost rest_over = { λ a b c x y. (y.0 ∙ x.0, y.1 ∙ x.1, rest_over W.is_honest W.held W.slot_count W.asked W.faults a.pid a.mem.now b.mem.now c.mem.now x.2 (keeps_at b c a.pid x.1 y.2)) };
+    ghost rest_over = { λ a b c x y. (y.0 ∙ x.0, y.1 ∙ x.1, pid_rest_over W.is_honest W.held W.slot_count W.asked W.faults a.pid b.pid a.mem.now b.mem.now c.mem.now x.1 x.2 y.2) };
 
     fn fetch(&mut self, va: u32) -> Result<Option<u32>, Failed> {
         Ok(self.mem.number_at(self.pid, va, Width::Word, Access::Fetch))
