@@ -7,6 +7,7 @@ pub mod Reached
 pub mod SeatWrites
 pub mod SoundMemory
 pub mod StoreLaws
+pub mod UserKeeps
 pub mod UserLaws
 pub mod UserStoring
 pub mod WalkTargets

@@ -1,10 +1,12 @@
 pub mod Access
 pub mod Bytes
 pub mod EntryAccess
+pub mod FirstLedger
 pub mod Here
 pub mod Lending
 pub mod Memory
 pub mod Sound
+pub mod Starting
 pub mod Tie
 pub mod UserRest
 pub mod UserStores

@@ -1,6 +1,7 @@
 //! The memory of the machine.
 
 mod access;
+mod boot;
 mod pages;
 mod readers;
 mod user;
