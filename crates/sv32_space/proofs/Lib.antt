@@ -10,5 +10,9 @@ pub mod LoanLedger
 pub mod NumberRuns
 pub mod PageAgreement
 pub mod PageLedger
+pub mod Renaming
+pub mod Roles
 pub mod Runs
+pub mod SeatByteLaws
+pub mod SeatCounting
 pub mod Standing
