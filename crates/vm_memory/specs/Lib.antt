@@ -1,8 +1,12 @@
 pub mod Access
 pub mod Bytes
+pub mod Changing
 pub mod EntryAccess
 pub mod Here
 pub mod Lending
+pub mod Making
 pub mod Memory
+pub mod Removing
+pub mod RunTests
 pub mod Sound
 pub mod Tie

@@ -1,8 +1,12 @@
 //! The memory of the machine.
 
 mod access;
+mod changes;
+mod making;
 mod pages;
 mod readers;
+mod removing;
+mod run_tests;
 
 use phys_pages::{LoanInfo, Owners, Ram};
 use thiserror::Error;
