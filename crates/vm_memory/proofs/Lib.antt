@@ -1,6 +1,11 @@
 pub mod BareLaws
+pub mod Changed
+pub mod Counts
 pub mod EntryRoles
 pub mod Reached
+pub mod RightSteps
+pub mod RunLaws
 pub mod SeatWrites
 pub mod SoundMemory
+pub mod Steps
 pub mod WalkTargets

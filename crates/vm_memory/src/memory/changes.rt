@@ -49,6 +49,7 @@ fn own_right(side: Side) -> Option<Right>
 }
 
 // Fills a frame with zeros.
+#[tactic(auto, using(phys_pages::proofs::PageLaws::page_writes, crate::proofs::Steps::cleared))]
 fn clear(ram: &mut Ram, f: Frame)
     requires { f.0 < (area ram.old).frames }
     ensures pages { pages ram.new ≡ put_at nat_eq (pages ram.old) f.0 zero_page }
