@@ -164,7 +164,7 @@ and_last true b e = e
 and_last false b e = refl
 
 -- a place of a run of one
-in_one : (at p : Place) → in_run at 1 p ≡ true → p ≡ at
+pub in_one : (at p : Place) → in_run at 1 p ≡ true → p ≡ at
 in_one at p e =
     let there : IsInRun at 1 p = in_run-true at 1 p e in
     place_from p at there.pid (omega (arith, there.from, there.to))

@@ -2,6 +2,9 @@ pub mod BareLaws
 pub mod Changed
 pub mod Counts
 pub mod EntryRoles
+pub mod FreeRuns
+pub mod Loops
+pub mod Nowhere
 pub mod Reached
 pub mod RightSteps
 pub mod RunLaws

@@ -49,7 +49,7 @@ no_fetch asked w e = by_x asked.x (and_parts (not asked.w || w) (not asked.x || 
     by_x true h = absurd (both_ways false refl h)
 
 -- no page there, no change of right
-reduce_nothing : (at : Place) (right : Right) (l : Ledger) → l.home at ≡ None → l ≡ reduce (in_run at 1) right l
+pub reduce_nothing : (at : Place) (right : Right) (l : Ledger) → l.home at ≡ None → l ≡ reduce (in_run at 1) right l
 unfolding reduce
 reduce_nothing at right l none = same_ledger l (reduce (in_run at 1) right l) homes (λ p. refl)
   where
