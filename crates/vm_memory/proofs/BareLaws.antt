@@ -122,7 +122,7 @@ name-bare p (HomePlace page) = refl
 name-bare p (HolderPlace home loan) = refl
 name-bare p (OrphanPlace orphan) = refl
 
-reach-bare : (procs : ℕ) (l : Ledger) (p : Place) (access : Access) → reach procs (bare l) p access ≡ reach procs l p access
+pub reach-bare : (procs : ℕ) (l : Ledger) (p : Place) (access : Access) → reach procs (bare l) p access ≡ reach procs l p access
 unfolding reach
 reach-bare procs l p access =
     ap (λ r. if may r access then page_at_role p r else None) (role-bare procs l p)

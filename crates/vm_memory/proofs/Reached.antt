@@ -70,14 +70,13 @@ outside_not_near m p side ppn e outside = ap names_frame (e ∙ ap (entry_here s
   | inr f ↦ rw f refl
 ]
 
-pub free_not_near : {W : Type 0} (m : Memory W) (p : Place) → entries (processes m) m.ram p ≡ Some Free → is_near m p ≡ false
+-- nor does one that isn't of a page in RAM at all
+pub other_not_near : {W : Type 0} (m : Memory W) (p : Place) (k : EntryKind) → entries (processes m) m.ram p ≡ entry_of_kind (area m.ram) (Some k)
+    → ((side : Side) (ppn : ℕ) → k ≡ Here side ppn → ⊥) → is_near m p ≡ false
 unfolding is_near
-free_not_near m p e = ap names_frame e
-
-pub out_not_near : {W : Type 0} (m : Memory W) (p : Place) (side : Side) (slot : ℕ)
-    → entries (processes m) m.ram p ≡ entry_of_kind (area m.ram) (Some (Out side slot)) → is_near m p ≡ false
-unfolding is_near
-out_not_near m p side slot e = ap names_frame e
+other_not_near m p FreeKind e not_here = ap names_frame e
+other_not_near m p (Here side ppn) e not_here = absurd (not_here side ppn refl)
+other_not_near m p (Out side slot) e not_here = ap names_frame e
 
 module _ {W : Type 0} (slot_count : W → ℕ) (held : W → Held) (m : Memory W) (sound : IsSound slot_count m) where
   abbrev E : Entries
@@ -179,6 +178,12 @@ module _ {W : Type 0} (slot_count : W → ℕ) (held : W → Held) (m : Memory W
       by_entry (Some (At side (Slot s))) h = absurd (false≢true h)
       by_entry (Some (OnConsole w)) h = absurd (false≢true (sym (on_console_if (owner_may (record { w = w; x = false }) access)) ∙ h))
 
+  -- a page is reached where its entry's side gives the access
+  pub seat_given : (p : Place) (side : Side) (s : Seat) (access : Access) → E p ≡ Some (At side s)
+      → reaches_bytes (processes m) (ledger held m) p access ≡ true → side_may side access ≡ true
+  seat_given p side s access e may =
+      sym (bytes_if (side_may side access) (B s)) ∙ (sym (ap (λ x. option_map_or has_bytes x false) (seat_contents p side s access e)) ∙ may)
+
   -- the bytes of a near place are those of the frame that its entry names
   pub near_contents : (p : Place) (access : Access) → is_near m p ≡ true → reaches_bytes (processes m) (ledger held m) p access ≡ true
       → contents_reached (processes m) (ledger held m) p access ≡ Some (Bytes (pages m.ram (frame_named (E p))))
@@ -192,7 +197,5 @@ module _ {W : Type 0} (slot_count : W → ℕ) (held : W → Held) (m : Memory W
       by_entry (Some (At side (Slot s))) e near may = absurd (false≢true near)
       by_entry (Some (OnConsole w)) e near may = absurd (false≢true near)
       by_entry (Some (At side (Frame f))) e near may =
-          let c : contents_reached (processes m) (ledger held m) p access ≡ (if side_may side access then Some (Bytes (B (Frame f))) else None) =
-          seat_contents p side (Frame f) access e in
-          let given : side_may side access ≡ true = sym (bytes_if (side_may side access) (B (Frame f))) ∙ (sym (ap (λ x. option_map_or has_bytes x false) c) ∙ may) in
-          c ∙ ap (λ b. if b then Some (Bytes (B (Frame f))) else None) given
+          seat_contents p side (Frame f) access e
+          ∙ ap (λ b. if b then Some (Bytes (B (Frame f))) else None) (seat_given p side (Frame f) access e may)

@@ -61,6 +61,11 @@ is_page_target (Page f) = true
 is_page_target Console = false
 is_page_target Nothing = false
 
+abbrev pub is_given_target : Target → Bool
+is_given_target (Page f) = true
+is_given_target Console = true
+is_given_target Nothing = false
+
 -- what `at` tells of a side, by what the owner table says of the seat
 abbrev pub side_here : Side → Option PageInfo → Here
 side_here (Own right) info = here.Own right false None

@@ -10,3 +10,6 @@ pub mod Removing
 pub mod RunTests
 pub mod Sound
 pub mod Tie
+pub mod UserRest
+pub mod UserStores
+pub mod UserView

@@ -3,4 +3,4 @@
 
 mod memory;
 
-pub use memory::{BootError, BootFault, Here, Memory};
+pub use memory::{BootError, BootFault, Here, Memory, User};

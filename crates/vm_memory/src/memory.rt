@@ -7,6 +7,9 @@ mod pages;
 mod readers;
 mod removing;
 mod run_tests;
+mod user;
+
+pub use user::User;
 
 use phys_pages::{LoanInfo, Owners, Ram};
 use thiserror::Error;

@@ -6,7 +6,7 @@ ghost use Rattle.ledger_model.specs.Places.{is_process, is_user_place};
 ghost use Rattle.phys_pages.specs.Ram.{area};
 ghost use Rattle.sv32_space.specs.SpelledEntries.{entries, entry_of_kind};
 ghost use Rattle.vm_memory.specs.Bytes.{is_near};
-ghost use Rattle.vm_memory.specs.EntryAccess.{entry_target, is_page_target, page_of, side_here};
+ghost use Rattle.vm_memory.specs.EntryAccess.{entry_target, is_given_target, is_page_target, page_of, side_here};
 ghost use Rattle.vm_memory.specs.Here.{here_at};
 ghost use Rattle.vm_memory.specs.Lending.{frame_named};
 ghost use Rattle.vm_memory.specs.Memory.{ledger, processes, ram_of};
@@ -33,6 +33,13 @@ impl Target {
         ensures { result ≡ is_page_target self.now }
     {
         matches!(self, Target::Page(_))
+    }
+
+    // Whether the process has the access.
+    pub(crate) fn is_given(&self) -> bool
+        ensures { result ≡ is_given_target self.now }
+    {
+        !matches!(self, Target::Nothing)
     }
 }
 
