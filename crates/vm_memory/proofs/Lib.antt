@@ -1,8 +1,11 @@
 pub mod BareLaws
 pub mod ByteWrites
+pub mod CallLaws
 pub mod Changed
+pub mod ConsoleRuns
 pub mod Counts
 pub mod EntryRoles
+pub mod Forgetting
 pub mod FreeRuns
 pub mod HereLaws
 pub mod Loops

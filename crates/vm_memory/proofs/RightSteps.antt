@@ -61,6 +61,17 @@ reduce_nothing at right l none = same_ledger l (reduce (in_run at 1) right l) ho
       | inr f ↦ sym (cond-false (in_run at 1 p) (option_map (with_right right) (l.home p)) (l.home p) f)
     ]
 
+-- whether a page is the console doesn't depend on bytes
+pub console_told : (I : Infos) (C D : SeatBytes) (o : Option Entry) → is_console (option_and_then (page_of_entry I C) o) ≡ is_console (option_and_then (page_of_entry I D) o)
+console_told I C D None = refl
+console_told I C D (Some Free) = refl
+console_told I C D (Some (At (Own r) s)) = refl
+console_told I C D (Some (At (LentOut r) s)) = refl
+console_told I C D (Some (At LentIn s)) = refl
+console_told I C D (Some (At (MutOut x) s)) = refl
+console_told I C D (Some (At MutIn s)) = refl
+console_told I C D (Some (OnConsole w)) = refl
+
 module _ {W : Type 0} (slot_count : W → ℕ) (held : W → Held) (m : Memory W) (sound : IsSound slot_count m) (at : Place) where
   abbrev E : Entries
   E = entries (processes m) m.ram
@@ -132,22 +143,12 @@ module _ {W : Type 0} (slot_count : W → ℕ) (held : W → Held) (m : Memory W
 
   -- ---- the console comes
 
-  console_told : (C D : SeatBytes) (o : Option Entry) → is_console (option_and_then (page_of_entry I C) o) ≡ is_console (option_and_then (page_of_entry I D) o)
-  console_told C D None = refl
-  console_told C D (Some Free) = refl
-  console_told C D (Some (At (Own r) s)) = refl
-  console_told C D (Some (At (LentOut r) s)) = refl
-  console_told C D (Some (At LentIn s)) = refl
-  console_told C D (Some (At (MutOut x) s)) = refl
-  console_told C D (Some (At MutIn s)) = refl
-  console_told C D (Some (OnConsole w)) = refl
-
   blank_can : CanMakeConsole (processes m) (ledger held m) at → CanMakeConsole (processes m) (ledger_of E I no_bytes) at
   unfolding ledger ledger_of
   blank_can can = record {
     lies = can.lies;
     free = free_by_entry (processes m) E I no_bytes sound.agree.entries at ∙ (sym (free_by_entry (processes m) E I B sound.agree.entries at) ∙ can.free);
-    first = λ p. console_told no_bytes B (E p) ∙ can.first p;
+    first = λ p. console_told I no_bytes B (E p) ∙ can.first p;
   }
 
   pub console_made_step : (new_ram : RamBytes) (w : Bool) (kind : EntryKind) → CanMakeConsole (processes m) (ledger held m) at
