@@ -1,5 +1,5 @@
 -- The entries of all places, after a write.
-use Rattle.std.proofs.Common.{◌≡◌, ◌+◌, ◌-◌, ◌*◌, ◌/◌, ◌%◌, ◌^◌, ◌<◌, ◌≤◌, ℕ, Bool, true, false, cond, ◌&&◌, nat_le, nat_lt, List, length, Option, Some, None, IsTrue, IsFalse, IsSome, is_some, nat_eq, refl, sym, ap, subst, ◌∙◌, inl, inr, arith}
+use Rattle.std.proofs.Common.{◌≡◌, ◌+◌, ◌-◌, ◌*◌, ◌/◌, ◌%◌, ◌^◌, ◌<◌, ◌≤◌, ℕ, Bool, true, false, cond, ◌&&◌, nat_le, nat_lt, List, Option, Some, None, IsTrue, IsFalse, IsSome, is_some, nat_eq, refl, sym, ap, subst, ◌∙◌, inl, inr, arith}
 use Rattle.std.proofs.lemmas.Bool.{cases_Bool, cases_eq, cond-false, ne_eqb, and_parts, and_from, leb-true, le-leb, le-ltb, ltb-true}
 use Rattle.std.proofs.lemmas.Option.{same_Some}
 use Rattle.xk_base.specs.declared.ids.Place.{Place}
@@ -94,20 +94,6 @@ no_entry_elsewhere procs ram q none = by_window (window_at q.vpn.0) none
       where
         false_not_true : IsFalse true → ⊥
         false_not_true t = cc
-
--- an entry is read from its spelling
-pub entry_again : (a : Area) (entry : Entry) → IsPlaced a → IsEntry a entry → entry_of_kind a (Some (kind_for a entry)) ≡ Some entry
-entry_again a Free placed is = refl
-entry_again a (At side (Frame f)) placed is = ap (λ frame. entry_here side (ppn_of a f.0) frame) (frame_of-ppn_of a f is)
-entry_again a (At side (Slot s)) placed is = refl
-entry_again a (OnConsole w) placed is =
-    let outside : (nat_le (a.start / 4096) console_ppn && nat_lt (console_ppn - a.start / 4096) a.frames) ≡ false =
-    past (nat_le (a.start / 4096) console_ppn) (nat_lt (console_ppn - a.start / 4096) a.frames) (le-ltb (console_ppn - a.start / 4096) a.frames (omega (arith, placed.aligned, placed.below_device))) in
-    rw outside refl
-  where
-    past : (b c : Bool) → c ≡ false → (b && c) ≡ false
-    past true c no' = no'
-    past false c no' = refl
 
 -- after the entry of a place was written the entries are as before, but for that one
 pub entries_with_leaf : (procs : ℕ) (a : Area) (P : ℕ → List ℕ) (p : Place) (w : Window) (v : ℕ) → is_process procs p.pid.0 ≡ true

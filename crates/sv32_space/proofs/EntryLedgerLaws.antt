@@ -1,6 +1,5 @@
 -- What the ledger of entries and owners has at a place, and that it stays where the entry, and what is said of its seat, stays.
-use Rattle.std.proofs.Common.{◌≡◌, ◌≢◌, ℕ, ◌+◌, ◌-◌, ◌<◌, ◌≤◌, Bool, true, false, List, Option, Some, None, refl, sym, ap, subst, ◌∙◌, ◌⊎◌, inl, inr, arith}
-use Rattle.std.specs.Prelude.{nat_le, nat_lt, ◌==◌, ◌&&◌}
+use Rattle.std.proofs.Common.{◌≡◌, ◌≢◌, ℕ, ◌+◌, ◌<◌, ◌≤◌, true, false, List, Option, Some, None, refl, sym, ap, ◌∙◌, arith}
 use Rattle.std.specs.Option.{option_and_then, option_map}
 use Rattle.std.proofs.lemmas.Bool.{false_from_ne_true}
 use Rattle.xk_base.specs.declared.ids.Place.{Place}
@@ -10,9 +9,9 @@ use Rattle.xk_base.specs.declared.pages.Right.{Right}
 use Rattle.phys_pages.specs.declared.infos.LoanInfo.{LoanInfo}
 use Rattle.phys_pages.specs.declared.infos.PageInfo.{PageInfo}
 use Rattle.phys_pages.specs.declared.infos.Seat.{Seat}
-use Rattle.ledger_model.specs.Ledger.{Ledger, Bytes, Page, PageLoan, Orphan}
-use Rattle.ledger_model.specs.Places.{same_place, in_run, moved}
-use Rattle.ledger_model.proofs.PlaceLaws.{place_from, in_run-true, in_run-from, IsInRun, same_place_tells}
+use Rattle.ledger_model.specs.Ledger.{Bytes}
+use Rattle.ledger_model.specs.Places.{in_run, moved}
+use Rattle.ledger_model.proofs.PlaceLaws.{place_from, in_run-true, in_run-from, IsInRun}
 use Rattle.sv32_space.specs.declared.sides.Side.{Side}
 use Rattle.sv32_space.specs.declared.sides.Side.TheVariants.{Own, LentOut, LentIn, MutOut, MutIn}
 use Rattle.sv32_space.specs.Agreement.{Infos, EntriesAgree, owned_by, on_loan, lender_side, holder_side, loan_in}

@@ -1,5 +1,6 @@
 pub mod ClearLaws
 pub mod EntryLaws
+pub mod KindLaws
 pub mod ReachLaws
 pub mod SpaceLaws
 pub mod SpellingLaws
@@ -10,5 +11,9 @@ pub mod LoanLedger
 pub mod NumberRuns
 pub mod PageAgreement
 pub mod PageLedger
+pub mod Renaming
+pub mod Roles
 pub mod Runs
+pub mod SeatByteLaws
+pub mod SeatCounting
 pub mod Standing

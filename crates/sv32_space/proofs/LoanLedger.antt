@@ -1,5 +1,5 @@
 -- What changes of loans do to the ledger of entries and owners.
-use Rattle.std.proofs.Common.{◌≡◌, ◌≢◌, ℕ, if◌then◌else◌, Bool, true, false, List, Option, Some, None, refl, sym, ap, subst, ◌∙◌, ◌⊎◌, inl, inr, arith}
+use Rattle.std.proofs.Common.{◌≡◌, ◌≢◌, ℕ, true, Option, Some, None, refl, sym, ap, subst, ◌∙◌, inl, inr, arith}
 use Rattle.std.specs.Option.{option_and_then, option_map}
 use Rattle.xk_base.specs.declared.ids.Place.{Place}
 use Rattle.xk_base.specs.declared.pages.LoanKind.{LoanKind}
@@ -8,18 +8,18 @@ use Rattle.xk_base.specs.declared.pages.Right.{Right}
 use Rattle.phys_pages.specs.declared.infos.LoanInfo.{LoanInfo}
 use Rattle.phys_pages.specs.declared.infos.PageInfo.{PageInfo}
 use Rattle.phys_pages.specs.declared.infos.Seat.{Seat}
-use Rattle.ledger_model.specs.Ledger.{Ledger, Console, Bytes, Page, PageLoan, Orphan}
-use Rattle.ledger_model.specs.Places.{same_place, in_run, moved}
-use Rattle.ledger_model.specs.Steps.{lend, with_loan}
+use Rattle.ledger_model.specs.Ledger.{Bytes}
+use Rattle.ledger_model.specs.Places.{in_run, moved}
+use Rattle.ledger_model.specs.Steps.{lend}
 use Rattle.ledger_model.proofs.LedgerLaws.{same_ledger}
 use Rattle.ledger_model.proofs.PlaceLaws.{same_place_tells}
 use Rattle.sv32_space.specs.declared.sides.Side.{Side}
-use Rattle.sv32_space.specs.declared.sides.Side.TheVariants.{Own, LentOut, LentIn, MutOut, MutIn}
+use Rattle.sv32_space.specs.declared.sides.Side.TheVariants.{Own}
 use Rattle.sv32_space.specs.Agreement.{Infos, EntriesAgree, owned_by, on_loan, lender_side, holder_side, loan_in, right_in}
-use Rattle.sv32_space.specs.Entries.{Entry, Entries, Free, At, OnConsole}
-use Rattle.sv32_space.specs.EntryLedger.{SeatBytes, ledger_of, page_loan, page_of_side, page_of_entry, orphan_of_info, orphan_of_side, orphan_of_entry}
+use Rattle.sv32_space.specs.Entries.{Entry, Entries, Free, At}
+use Rattle.sv32_space.specs.EntryLedger.{SeatBytes, ledger_of, page_loan, orphan_of_info}
 use Rattle.sv32_space.specs.PageChanges.{with_entry, with_info, lent_entries, ended_entries}
-use Rattle.sv32_space.specs.PageSteps.{end_at, without_loan, forget_orphans, orphan_run, orphan_of_page}
+use Rattle.sv32_space.specs.PageSteps.{end_at, forget_orphans, orphan_run}
 use Rattle.sv32_space.proofs.EntryLedgerLaws.{in_one-at, in_one-apart, moved-first, home_at, orphan_at, Stays, home_stays, orphan_stays, names_owned, names_lent, names_orphan, page_of_lender, page_of_holder, orphan_of_lender, orphan_of_holder}
 use Rattle.sv32_space.proofs.PageLedger.{entry_put, entry_kept, seat_put, seat_kept}
 
@@ -105,7 +105,7 @@ writable_in Exclusive o s e k = ap (λ (x : Option Entry). (right_in x).w) e
 
 -- what the entries and owners say of a page on loan
 module _ (procs : ℕ) (E : Entries) (I : Infos) (B : SeatBytes) (home : Place) (s : Seat) (loan : LoanInfo) (agree : EntriesAgree procs E I) (here : I s ≡ Some (on_loan (Some home) loan)) where
-  lent_home : E home ≡ Some (At (lender_side loan.kind (right_in (E home))) s)
+  pub lent_home : E home ≡ Some (At (lender_side loan.kind (right_in (E home))) s)
   lent_home = agree.lender s home loan here
 
   lent_holder : E loan.holder ≡ Some (At (holder_side loan.kind) s)
@@ -117,7 +117,7 @@ module _ (procs : ℕ) (E : Entries) (I : Infos) (B : SeatBytes) (home : Place) 
       let k = sides_apart loan.kind loan.kind (right_in (E home)) in k cc
 
   -- its page, and that nothing stands at its holder's place
-  lent_page : (ledger_of E I B).home home ≡ Some (record { right = right_in (E home); contents = Bytes (B s); loan = Some (page_loan loan) })
+  pub lent_page : (ledger_of E I B).home home ≡ Some (record { right = right_in (E home); contents = Bytes (B s); loan = Some (page_loan loan) })
   lent_page = home_at E I B home (At (lender_side loan.kind (right_in (E home))) s) lent_home
       ∙ (page_of_lender loan.kind (right_in (E home)) (I s) (B s) (writable_in loan.kind (E home) s lent_home)
       ∙ ap (λ o. Some (record { right = right_in (E home); contents = Bytes (B s); loan = option_map page_loan (loan_in o) })) here)

@@ -1,15 +1,15 @@
 -- The end of a loan and of an orphan, and the making of orphans, as steps over the places of the loan.
-use Rattle.std.proofs.Common.{◌≡◌, ◌≢◌, ℕ, if◌then◌else◌, Bool, true, false, Option, Some, None, refl, sym, ap, subst, ◌∙◌, ◌⊎◌, inl, inr, arith}
+use Rattle.std.proofs.Common.{◌≡◌, ◌≢◌, ℕ, if◌then◌else◌, true, false, Option, Some, None, refl, sym, ap, subst, ◌∙◌, inl, inr}
 use Rattle.std.specs.Option.{option_and_then, option_map, option_or}
 use Rattle.std.proofs.lemmas.Bool.{cases_Bool, cond-true, cond-false, both_ways}
 use Rattle.std.proofs.lemmas.Option.{none-some, same_Some}
 use Rattle.xk_base.specs.declared.ids.Number.{Number}
 use Rattle.xk_base.specs.declared.ids.Place.{Place}
 use Rattle.ledger_model.specs.Ledger.{Ledger, Page, PageLoan, Orphan, loan_at, loan_of}
-use Rattle.ledger_model.specs.Loans.{loans, LoanRun, Stands, of_number, orphan_of_number, loan_of_orphan, loan_of_run, orphan_loan_at, same_number}
-use Rattle.ledger_model.specs.Places.{in_run, moved, is_user_place}
+use Rattle.ledger_model.specs.Loans.{loans, LoanRun, Stands, of_number, orphan_of_number, loan_of_run, orphan_loan_at, same_number}
+use Rattle.ledger_model.specs.Places.{in_run, moved}
 use Rattle.ledger_model.specs.Reach.{is_held_at, lender_of}
-use Rattle.ledger_model.specs.Steps.{end_loan, freed, loan_without, orphan_without, orphan_loan, orphan_from, orphan_with, page_without, has_number}
+use Rattle.ledger_model.specs.Steps.{end_loan, freed, loan_without, orphan_without, orphan_loan, orphan_from, orphan_with, page_without}
 use Rattle.ledger_model.proofs.LedgerLaws.{same_ledger, same_number-at, loan_at-page, loan_at-home, is_held_at-true, is_held_at-Some}
 use Rattle.ledger_model.proofs.Numbering.{first_place-only}
 use Rattle.ledger_model.proofs.OfNumber.{of_number-at, loan_without-None, orphan_without-None, orphan_without-at, stands-home, stands-orphan, loan_of_run-outside, loan_of_run-None, orphan_of_run-lent, orphan_of_run-outside}
@@ -28,6 +28,16 @@ freed-at number (Some page) x e n = ap (λ k. Some (record page { loan = k }))
 freed-stays : (number : Number) (o : Option Page) → of_number number (loan_of o) ≡ None → option_map (freed number) o ≡ o
 freed-stays number None e = refl
 freed-stays number (Some page) e = ap (λ k. Some (record page { loan = k })) (loan_without-None number page.loan e)
+
+-- the lender of a holder's place is the home of its page
+pub lender_at : (procs : ℕ) (l : Ledger) (p : Place) (x : PageLoan) → IsWellPlaced procs l → loan_at l p ≡ Some x
+    → lender_of procs l x.holder ≡ Some p
+unfolding lender_of
+lender_at procs l p x placed a =
+    let home : (page : Page) × (l.home p ≡ Some page) × (page.loan ≡ Some x) = loan_at-page l p x a in
+    first_place-only procs (λ q. is_held_at x.holder (loan_at l q)) p (placed.home_lies p home.0 home.1)
+    (is_held_at-Some x.holder (loan_at l p) x a refl)
+    (λ q t. let y : (b : PageLoan) × (loan_at l q ≡ Some b) × (b.holder ≡ x.holder) = is_held_at-true x.holder (loan_at l q) t in placed.holders_differ q p y.0 x y.1 a y.2)
 
 module _ (l : Ledger) (r : LoanRun) (h : Stands (loans l) r) where
   -- what the loan has at each place
@@ -83,15 +93,6 @@ module _ (l : Ledger) (r : LoanRun) (h : Stands (loans l) r) where
   -- ---- orphans
 
   module _ (procs : ℕ) (placed : IsWellPlaced procs l) (from : Place) (e : r.lender ≡ Some from) where
-    -- the lender of a holder's place is the home of its page
-    lender_at : (p : Place) (x : PageLoan) → loan_at l p ≡ Some x → lender_of procs l x.holder ≡ Some p
-    unfolding lender_of
-    lender_at p x a =
-        let home : (page : Page) × (l.home p ≡ Some page) × (page.loan ≡ Some x) = loan_at-page l p x a in
-        first_place-only procs (λ q. is_held_at x.holder (loan_at l q)) p (placed.home_lies p home.0 home.1)
-        (is_held_at-Some x.holder (loan_at l p) x a refl)
-        (λ q t. let y : (b : PageLoan) × (loan_at l q ≡ Some b) × (b.holder ≡ x.holder) = is_held_at-true x.holder (loan_at l q) t in placed.holders_differ q p y.0 x y.1 a y.2)
-
     from_page : (o : Option Page) (x : PageLoan) → loan_of o ≡ Some x → x.number ≡ r.number
         → option_and_then (orphan_from r.number) o ≡ option_and_then orphan_of_page o
     from_page None x a n = refl
@@ -122,7 +123,7 @@ module _ (l : Ledger) (r : LoanRun) (h : Stands (loans l) r) where
       | inl t ↦
           let a : loan_at l s.home ≡ Some (record { holder = moved from r.holder s.home; kind = r.kind; number = r.number }) = loan_home from s.home e t in
           let b : s.loan ≡ record { holder = moved from r.holder s.home; kind = r.kind; number = r.number } =
-              same_Some s.loan (record { holder = moved from r.holder s.home; kind = r.kind; number = r.number }) (sym (loan_at-home l s.home s.page s.at ∙ s.lent) ∙ a) in
+          same_Some s.loan (record { holder = moved from r.holder s.home; kind = r.kind; number = r.number }) (sym (loan_at-home l s.home s.page s.at ∙ s.lent) ∙ a) in
           let c : moved from r.holder s.home ≡ q = sym (ap (λ (x : PageLoan). x.holder) b) ∙ s.held in
           both_ways (in_run r.holder r.count q) f (subst (λ x. in_run r.holder r.count x ≡ true) c (moved-in_run from r.holder s.home r.count t))
       | inr n ↦ none-some s.loan (sym (homes_of s.home ∙ loan_of_run-outside r from s.home e n)
@@ -138,7 +139,7 @@ module _ (l : Ledger) (r : LoanRun) (h : Stands (loans l) r) where
           let a : loan_at l (moved r.holder from q) ≡ Some (record { holder = moved from r.holder (moved r.holder from q); kind = r.kind; number = r.number }) = loan_home from (moved r.holder from q) e in_from in
           let back : moved from r.holder (moved r.holder from q) ≡ q = moved-back r.holder from q r.count t in
           let b : loan_at l (moved r.holder from q) ≡ Some (record { holder = q; kind = r.kind; number = r.number }) = a ∙ ap (λ x. Some (record { holder = x; kind = r.kind; number = r.number })) back in
-          let lender : lender_of procs l q ≡ Some (moved r.holder from q) = lender_at (moved r.holder from q) (record { holder = q; kind = r.kind; number = r.number }) b in
+          let lender : lender_of procs l q ≡ Some (moved r.holder from q) = lender_at procs l (moved r.holder from q) (record { holder = q; kind = r.kind; number = r.number }) placed b in
           let none : l.orphan q ≡ None = placed.holder_no_orphan (moved r.holder from q) (record { holder = q; kind = r.kind; number = r.number }) b in
           cond-true (in_run r.holder r.count q) (option_and_then orphan_of_page (l.home (moved r.holder from q))) (l.orphan q) t
           ∙ sym (orphan_loan_orphan procs r.number l q

@@ -1,23 +1,20 @@
 -- Changes of pages without a loan keep the agreement of entries and owners.
-use Rattle.std.proofs.Common.{◌≡◌, ◌≢◌, ℕ, Bool, true, false, Option, Some, None, refl, sym, ap, subst, ◌∙◌, ◌⊎◌, inl, inr, arith}
+use Rattle.std.proofs.Common.{◌≡◌, ℕ, Bool, Option, Some, None, refl, ap, arith}
 use Rattle.std.specs.Prelude.{is_some, cond}
 use Rattle.std.specs.Option.{option_map}
 use Rattle.std.proofs.lemmas.Option.{none-some, same_Some}
 use Rattle.phys_pages.specs.Owners.{seat_eq}
 use Rattle.xk_base.specs.declared.ids.Place.{Place}
-use Rattle.xk_base.specs.declared.pages.LoanKind.{LoanKind}
-use Rattle.xk_base.specs.declared.pages.LoanKind.TheVariants.{Shared, Exclusive}
 use Rattle.xk_base.specs.declared.pages.Right.{Right}
-use Rattle.phys_pages.specs.declared.infos.LoanInfo.{LoanInfo}
 use Rattle.phys_pages.specs.declared.infos.PageInfo.{PageInfo}
 use Rattle.phys_pages.specs.declared.infos.Seat.{Seat}
 use Rattle.phys_pages.proofs.OwnerLaws.{seat_tells}
 use Rattle.ledger_model.proofs.PlaceLaws.{same_place_tells}
 use Rattle.sv32_space.specs.declared.sides.Side.{Side}
 use Rattle.sv32_space.specs.declared.sides.Side.TheVariants.{Own, LentOut, LentIn, MutOut, MutIn}
-use Rattle.sv32_space.specs.Agreement.{Infos, EntriesAgree, owned_by, on_loan, lender_side, holder_side, right_in}
+use Rattle.sv32_space.specs.Agreement.{Infos, EntriesAgree, owned_by, lender_side, holder_side, right_in}
 use Rattle.sv32_space.specs.Entries.{Entry, Entries, Free, At, OnConsole}
-use Rattle.sv32_space.specs.PageChanges.{with_entry, with_info, lent_entries, ended_entries, given_entries, renamed, renamed_entry, moved_infos}
+use Rattle.sv32_space.specs.PageChanges.{with_entry, with_info, given_entries, renamed, renamed_entry, moved_infos}
 
 -- a page comes to a free place and a free seat
 pub make_agrees : (procs : ℕ) (E : Entries) (I : Infos) (home : Place) (right : Right) (s : Seat) → EntriesAgree procs E I

@@ -1,20 +1,19 @@
 -- What changes of pages without a loan do to the ledger of entries and owners.
-use Rattle.std.proofs.Common.{◌≡◌, ◌≢◌, ℕ, if◌then◌else◌, Bool, true, false, List, Option, Some, None, refl, sym, ap, subst, ◌∙◌, ◌⊎◌, inl, inr, arith}
+use Rattle.std.proofs.Common.{◌≡◌, ◌≢◌, ℕ, if◌then◌else◌, Bool, false, List, Option, Some, None, refl, ap, subst, ◌∙◌, inl, inr, arith}
 use Rattle.std.specs.Option.{option_and_then, option_map}
-use Rattle.std.proofs.lemmas.Bool.{cond-true, cond-false}
 use Rattle.xk_base.specs.declared.ids.Place.{Place}
 use Rattle.xk_base.specs.declared.pages.Right.{Right}
 use Rattle.phys_pages.specs.declared.infos.PageInfo.{PageInfo}
 use Rattle.phys_pages.specs.declared.infos.Seat.{Seat}
 use Rattle.phys_pages.specs.Owners.{seat_eq}
 use Rattle.phys_pages.proofs.OwnerLaws.{seat_tells}
-use Rattle.ledger_model.specs.Ledger.{Ledger, Console, Bytes, Page, Orphan}
-use Rattle.ledger_model.specs.Places.{same_place, in_run, moved}
-use Rattle.ledger_model.specs.Steps.{make, make_console, new_page, zero_page, remove, reduce, with_right, give}
+use Rattle.ledger_model.specs.Ledger.{Bytes}
+use Rattle.ledger_model.specs.Places.{in_run, moved}
+use Rattle.ledger_model.specs.Steps.{make, make_console, new_page, zero_page, remove, reduce, give}
 use Rattle.ledger_model.proofs.LedgerLaws.{same_ledger}
 use Rattle.ledger_model.proofs.PlaceLaws.{same_place_tells}
 use Rattle.sv32_space.specs.declared.sides.Side.{Side}
-use Rattle.sv32_space.specs.declared.sides.Side.TheVariants.{Own, LentOut, LentIn, MutOut, MutIn}
+use Rattle.sv32_space.specs.declared.sides.Side.TheVariants.{Own}
 use Rattle.sv32_space.specs.Agreement.{Infos, EntriesAgree, owned_by}
 use Rattle.sv32_space.specs.Entries.{Entry, Entries, Free, At, OnConsole}
 use Rattle.sv32_space.specs.EntryLedger.{SeatBytes, ledger_of, page_of_side, page_of_entry, orphan_of_side, orphan_of_entry}

@@ -1,5 +1,5 @@
 -- Where the walk of a made space ends.
-use Rattle.std.proofs.Common.{◌≡◌, ◌==◌, ◌+◌, ◌-◌, ◌*◌, ◌/◌, ◌%◌, ◌^◌, ◌<◌, ◌≤◌, ℕ, Bool, true, false, cond, not, ◌&&◌, ◌||◌, nat_le, List, Option, Some, None, IsSome, refl, sym, ap, subst, ◌∙◌, inl, inr, arith}
+use Rattle.std.proofs.Common.{◌≡◌, ◌==◌, ◌+◌, ◌*◌, ◌/◌, ◌%◌, ◌^◌, ◌<◌, ℕ, Bool, true, false, cond, ◌&&◌, nat_le, Option, Some, None, refl, sym, ap, ◌∙◌, inl, inr, arith}
 use Rattle.std.proofs.lemmas.Bool.{cases_Bool, eqb-true}
 use Rattle.std.proofs.lemmas.Option.{none-some, same_Some}
 use Rattle.xk_base.specs.Fields.{field, bits_of}
@@ -9,9 +9,9 @@ use Rattle.xk_base.specs.declared.pages.Access.{Access}
 use Rattle.xk_base.specs.declared.pages.Access.TheVariants.{Fetch, Load, Store}
 use Rattle.xk_base.specs.declared.windows.Window.{Window}
 use Rattle.xk_base.specs.Windows.{window_at}
-use Rattle.phys_pages.specs.Ram.{RamBytes, Area, IsPlaced, area, pages, words, ppn_of, frame_of}
+use Rattle.phys_pages.specs.Ram.{RamBytes, Area, IsPlaced, area, pages, ppn_of, frame_of}
 use Rattle.phys_pages.specs.declared.infos.Seat.TheVariants.{Frame, Slot}
-use Rattle.phys_pages.proofs.AreaLaws.{ppn_of-frame_of}
+use Rattle.phys_pages.proofs.AreaLaws.{ppn_of-frame_of, frame_of-ppn_of}
 use Rattle.ledger_model.specs.Places.{is_process}
 use Rattle.ledger_model.specs.Reach.{owner_may}
 use Rattle.phys_pages.proofs.WordLaws.{words-in_frame}
@@ -20,13 +20,14 @@ use Rattle.sv32_space.specs.declared.sides.Side.TheVariants.{Own, LentOut, LentI
 use Rattle.sv32_space.specs.declared.sides.EntryKind.{EntryKind}
 use Rattle.sv32_space.specs.declared.sides.EntryKind.TheVariants.{Free as FreeKind, Here, Out}
 use Rattle.sv32_space.specs.declared.walking.Walked.{Walked}
-use Rattle.sv32_space.specs.declared.walking.Walked.TheVariants.{Reaches, PageFault}
+use Rattle.sv32_space.specs.declared.walking.Walked.TheVariants.{PageFault}
 use Rattle.sv32_space.specs.Spellings.{here_bits, out_bits, here_side, out_side, sides, kind_with, kind_at, right_of}
-use Rattle.sv32_space.specs.Walk.{flag, is_valid, is_leaf, lets_through, entry_ppn, vpn_0, vpn_1, page_offset, from_last_level, from_last_entry, from_root, from_root_entry, entry_in_table, walk_of}
+use Rattle.sv32_space.specs.Walk.{is_valid, is_leaf, lets_through, entry_ppn, vpn_0, vpn_1, page_offset, from_last_level, from_last_entry, from_root, from_root_entry, entry_in_table, walk_of}
 use Rattle.sv32_space.specs.Spaces.{root_at, table_frame, table_word, root_word, window_of_root_entry, leaf_word, IsSpace, IsMade}
 use Rattle.sv32_space.specs.EntryReach.{side_may, reaches_if, entry_reach}
 use Rattle.sv32_space.specs.Entries.{Entry, Free, At, OnConsole}
-use Rattle.sv32_space.specs.SpelledEntries.{console_ppn, console_entry, entry_here, entry_of_kind, entry_spelled, entry_in_space, entries}
+use Rattle.sv32_space.specs.SpelledEntries.{console_ppn, console_entry, entry_here, entry_of_kind, kind_for, entry_spelled, entry_in_space, entries}
+use Rattle.sv32_space.proofs.KindLaws.{console_has_no_frame, kind_is}
 use Rattle.sv32_space.proofs.SpaceLaws.{window_of_page, mapped_entry, table_within}
 use Rattle.sv32_space.proofs.SpellingLaws.{among_found}
 
@@ -268,38 +269,17 @@ walk_in_window ram first va w access placed fits space here =
 
 -- ---- by the entry of the place
 
-cond_none : (b : Bool) (x y : Entry) → cond b None (Some x) ≡ Some y → (b ≡ false) × (x ≡ y)
-cond_none true x y found = absurd (none-some y found)
-cond_none false x y found = (refl, same_Some x y found)
+-- an entry leads where its spelling does
+spelling_leads : (a : Area) (entry : Entry) (offset : ℕ) (access : Access) → kind_reach (kind_for a entry) offset access ≡ entry_reach a entry offset access
+spelling_leads a Free offset access = refl
+spelling_leads a (At side (Frame f)) offset access = refl
+spelling_leads a (At side (Slot s)) offset access = refl
+spelling_leads a (OnConsole w) offset access = refl
 
--- an entry that the word spells leads where the word's kind does
 entry_leads : (a : Area) (kind : EntryKind) (entry : Entry) (offset : ℕ) (access : Access) → entry_of_kind a (Some kind) ≡ Some entry
     → kind_reach kind offset access ≡ entry_reach a entry offset access
-entry_leads a FreeKind entry offset access is = ap (λ e. entry_reach a e offset access) (same_Some Free entry is)
-entry_leads a (Here side ppn) entry offset access is = by_frame (frame_of a ppn) refl is
-  where
-    console : (side : Side) → (ppn ≡ console_ppn) → console_entry side ≡ Some entry → reaches_if (side_may side access) ppn offset ≡ entry_reach a entry offset access
-    console (Own right) page found =
-        let parts = cond_none right.x (OnConsole right.w) entry found in
-        ap (λ n. reaches_if (owner_may right access) n offset) page
-        ∙ ap (λ x. reaches_if (owner_may (right_of right.w x) access) console_ppn offset) parts.0
-        ∙ ap (λ e. entry_reach a e offset access) parts.1
-    console (LentOut right) page found = absurd (none-some entry found)
-    console LentIn page found = absurd (none-some entry found)
-    console (MutOut x) page found = absurd (none-some entry found)
-    console MutIn page found = absurd (none-some entry found)
-
-    by_frame : (frame : Option FrameNumber) → frame_of a ppn ≡ frame → entry_here side ppn frame ≡ Some entry
-        → reaches_if (side_may side access) ppn offset ≡ entry_reach a entry offset access
-    by_frame (Some f) there found =
-        let number : ppn_of a f.0 ≡ ppn = (ppn_of-frame_of a ppn f there).0 in
-        ap (λ n. reaches_if (side_may side access) n offset) (sym number)
-        ∙ ap (λ e. entry_reach a e offset access) (same_Some (At side (Frame f)) entry found)
-    by_frame None there found = elim (cases_Bool (ppn == console_ppn)) [
-      | inl page ↦ let given = rw page at found in console side (eqb-true ppn console_ppn page) given
-      | inr other ↦ let given = rw other at found in absurd (none-some entry given)
-    ]
-entry_leads a (Out side slot) entry offset access is = ap (λ e. entry_reach a e offset access) (same_Some (At side (Slot (record { 0 = slot }))) entry is)
+entry_leads a kind entry offset access is =
+    ap (λ k. kind_reach k offset access) (kind_is a kind entry is) ∙ spelling_leads a entry offset access
 
 -- the entry of a place of a made space, with its word
 entry_word : (procs : ℕ) (ram : RamBytes) (q : Place) (entry : Entry) → entries procs ram q ≡ Some entry
@@ -337,3 +317,16 @@ walk_by_entry procs ram q entry va access placed fits made page found =
       where
         offset : page_offset va ≡ va % 4096
         offset = omega arith
+
+-- ---- the addresses that are reached
+
+pub address_in_frame : (a : Area) (f : FrameNumber) (offset : ℕ) → f.0 < a.frames → offset < 4096
+    → frame_of a ((ppn_of a f.0 * 4096 + offset) / 4096) ≡ Some f
+address_in_frame a f offset within low =
+    let number : (ppn_of a f.0 * 4096 + offset) / 4096 ≡ ppn_of a f.0 = omega arith in
+    ap (λ n. frame_of a n) number ∙ frame_of-ppn_of a f within
+
+pub address_in_console : (a : Area) (offset : ℕ) → IsPlaced a → offset < 4096 → frame_of a ((console_ppn * 4096 + offset) / 4096) ≡ None
+address_in_console a offset placed low =
+    let number : (console_ppn * 4096 + offset) / 4096 ≡ console_ppn = omega arith in
+    ap (λ n. frame_of a n) number ∙ console_has_no_frame a placed

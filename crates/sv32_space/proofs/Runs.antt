@@ -1,19 +1,18 @@
 -- Steps over a run of places, one page after another.
-use Rattle.std.proofs.Common.{◌≡◌, ◌≢◌, ℕ, ◌+◌, ◌-◌, ◌<◌, ◌≤◌, if◌then◌else◌, Bool, true, false, ◌&&◌, ◌||◌, Option, Some, None, refl, sym, ap, subst, ◌∙◌, ◌⊎◌, inl, inr, arith}
+use Rattle.std.proofs.Common.{◌≡◌, ℕ, ◌+◌, ◌-◌, ◌<◌, if◌then◌else◌, Bool, true, false, ◌&&◌, ◌||◌, Option, None, refl, sym, ap, subst, inl, inr, arith}
 use Rattle.std.specs.Prelude.{◌==◌, nat_le, nat_lt}
-use Rattle.std.specs.Option.{option_and_then, option_map}
 use Rattle.std.proofs.lemmas.Bool.{cases_Bool}
 use Rattle.std.proofs.lemmas.Bool.Decides.{nat_tests}
 use Rattle.xk_base.specs.declared.ids.Number.{Number}
 use Rattle.xk_base.specs.declared.ids.Place.{Place}
 use Rattle.xk_base.specs.declared.pages.LoanKind.{LoanKind}
 use Rattle.xk_base.specs.declared.pages.Right.{Right}
-use Rattle.ledger_model.specs.Ledger.{Ledger, Page, PageLoan, Orphan}
+use Rattle.ledger_model.specs.Ledger.{Ledger, Page}
 use Rattle.ledger_model.specs.Places.{in_run, moved, place_after}
-use Rattle.ledger_model.specs.Steps.{make, remove, reduce, lend, with_loan, give}
+use Rattle.ledger_model.specs.Steps.{make, remove, reduce, lend, give}
 use Rattle.ledger_model.proofs.LedgerLaws.{same_ledger}
 use Rattle.ledger_model.proofs.PlaceLaws.{place_from, in_run-none, in_run-index, moved-in_run}
-use Rattle.sv32_space.specs.PageSteps.{end_at, forget_orphans, orphan_run, orphan_of_page}
+use Rattle.sv32_space.specs.PageSteps.{end_at, forget_orphans, orphan_run}
 
 -- a place of a run of one more is one of the run or the next place
 next_test : (first : Place) (i : ℕ) (p : Place) → in_run first (i + 1) p ≡ (in_run first i p || in_run (place_after first i) 1 p)
@@ -115,7 +114,7 @@ orphan_next from to i l = same_ledger (orphan_run from (i + 1) to l) (orphan_run
         ≡ (orphan_run (place_after from i) 1 (place_after to i) (orphan_run from i to l)).orphan q
     orphans q = let t = next_test to i q in let n = next_apart to i q in let m = next_moved to from i q in
         let back : in_run (place_after to i) 1 q ≡ true → in_run from i (moved to from q) ≡ false =
-            λ h. next_apart from i (moved to from q) (subst (λ r. in_run (place_after from i) 1 r ≡ true) (next_moved to from i q h) (moved-in_run (place_after to i) (place_after from i) q 1 h)) in
+        λ h. next_apart from i (moved to from q) (subst (λ r. in_run (place_after from i) 1 r ≡ true) (next_moved to from i q h) (moved-in_run (place_after to i) (place_after from i) q 1 h)) in
         grind (arith, t)
 
 -- no place is in both runs
@@ -144,17 +143,53 @@ give_next from to i l apart = same_ledger (give from (i + 1) to l) (give (place_
 
 -- ---- steps on a run of no places
 
-pub run_none : (first : Place) (l : Ledger) (right : Right) (to : Place) (kind : LoanKind) (number : Number)
-    → (make first 0 right l ≡ l) × (remove (in_run first 0) l ≡ l) × (reduce (in_run first 0) right l ≡ l)
-    × (lend first 0 to kind number l ≡ l) × (give first 0 to l ≡ l) × (end_at (in_run first 0) l ≡ l)
-    × (forget_orphans (in_run first 0) l ≡ l) × (orphan_run first 0 to l ≡ l)
-unfolding make remove reduce lend give end_at forget_orphans orphan_run
-run_none first l right to kind number = (
-    same_ledger (make first 0 right l) l (λ p. rw (in_run-none first p) refl) (λ p. refl),
-    same_ledger (remove (in_run first 0) l) l (λ p. rw (in_run-none first p) refl) (λ p. refl),
-    same_ledger (reduce (in_run first 0) right l) l (λ p. rw (in_run-none first p) refl) (λ p. refl),
-    same_ledger (lend first 0 to kind number l) l (λ p. rw (in_run-none first p) refl) (λ p. refl),
-    same_ledger (give first 0 to l) l (λ p. rw (in_run-none to p, in_run-none first p) refl) (λ p. refl),
-    same_ledger (end_at (in_run first 0) l) l (λ p. rw (in_run-none first p) refl) (λ p. refl),
-    same_ledger (forget_orphans (in_run first 0) l) l (λ p. refl) (λ p. rw (in_run-none first p) refl),
-    same_ledger (orphan_run first 0 to l) l (λ p. rw (in_run-none first p) refl) (λ p. rw (in_run-none to p) refl))
+pub make_none : (first : Place) (right : Right) (l : Ledger) → make first 0 right l ≡ l
+unfolding make
+make_none first right l = same_ledger (make first 0 right l) l (λ p. rw (in_run-none first p) refl) (λ p. refl)
+
+pub remove_none : (first : Place) (l : Ledger) → remove (in_run first 0) l ≡ l
+unfolding remove
+remove_none first l = same_ledger (remove (in_run first 0) l) l (λ p. rw (in_run-none first p) refl) (λ p. refl)
+
+pub reduce_none : (first : Place) (right : Right) (l : Ledger) → reduce (in_run first 0) right l ≡ l
+unfolding reduce
+reduce_none first right l = same_ledger (reduce (in_run first 0) right l) l (λ p. rw (in_run-none first p) refl) (λ p. refl)
+
+pub give_none : (first to : Place) (l : Ledger) → give first 0 to l ≡ l
+unfolding give
+give_none first to l = same_ledger (give first 0 to l) l (λ p. rw (in_run-none to p, in_run-none first p) refl) (λ p. refl)
+
+pub lend_none : (first to : Place) (kind : LoanKind) (number : Number) (l : Ledger) → lend first 0 to kind number l ≡ l
+unfolding lend
+lend_none first to kind number l = same_ledger (lend first 0 to kind number l) l (λ p. rw (in_run-none first p) refl) (λ p. refl)
+
+pub end_none : (first : Place) (l : Ledger) → end_at (in_run first 0) l ≡ l
+unfolding end_at
+end_none first l = same_ledger (end_at (in_run first 0) l) l (λ p. rw (in_run-none first p) refl) (λ p. refl)
+
+pub forget_none : (first : Place) (l : Ledger) → forget_orphans (in_run first 0) l ≡ l
+unfolding forget_orphans
+forget_none first l = same_ledger (forget_orphans (in_run first 0) l) l (λ p. refl) (λ p. rw (in_run-none first p) refl)
+
+pub orphan_none : (first to : Place) (l : Ledger) → orphan_run first 0 to l ≡ l
+unfolding orphan_run
+orphan_none first to l = same_ledger (orphan_run first 0 to l) l (λ p. rw (in_run-none first p) refl) (λ p. rw (in_run-none to p) refl)
+
+-- ---- steps at places, joined
+
+pub remove_joined : (a b : Place → Bool) (l : Ledger) → remove a (remove b l) ≡ remove (λ p. a p || b p) l
+unfolding remove
+remove_joined a b l = same_ledger (remove a (remove b l)) (remove (λ p. a p || b p) l) (λ p. tests (a p) (b p) (l.home p)) (λ p. refl)
+  where
+    tests : (x y : Bool) (o : Option Page) → (if x then None else (if y then None else o)) ≡ (if x || y then None else o)
+    tests true y o = refl
+    tests false y o = refl
+
+-- where no page stands there is nothing to remove
+pub remove_nothing : (places : Place → Bool) (l : Ledger) → ((p : Place) → places p ≡ true → l.home p ≡ None) → remove places l ≡ l
+unfolding remove
+remove_nothing places l h = same_ledger (remove places l) l (λ p. tests (places p) (l.home p) (h p)) (λ p. refl)
+  where
+    tests : (x : Bool) (o : Option Page) → (x ≡ true → o ≡ None) → (if x then None else o) ≡ o
+    tests true o k = sym (k refl)
+    tests false o k = refl

@@ -1,17 +1,17 @@
 -- Where tables and entries of address spaces stand.
-use Rattle.std.proofs.Common.{◌≡◌, ◌==◌, ◌+◌, ◌-◌, ◌*◌, ◌/◌, ◌%◌, ◌^◌, ◌<◌, ◌≤◌, ℕ, Bool, true, false, cond, ◌&&◌, nat_le, nat_lt, List, length, Option, Some, None, IsSome, IsTrue, nat_eq, refl, sym, ap, subst, ◌∙◌, inl, inr, ◌⊎◌, arith}
-use Rattle.std.proofs.lemmas.Bool.{cases_Bool, cases_eq, cases_order, cond-false, eq-eqb, ne_eqb, and_parts, ltb-true}
+use Rattle.std.proofs.Common.{◌≡◌, ◌+◌, ◌*◌, ◌/◌, ◌%◌, ◌^◌, ◌<◌, ◌≤◌, ℕ, true, nat_le, nat_lt, List, length, Some, IsSome, IsTrue, nat_eq, refl, sym, ap, subst, ◌∙◌, inl, inr, ◌⊎◌, arith}
+use Rattle.std.proofs.lemmas.Bool.{cases_eq, cases_order, cond-false, eq-eqb, ne_eqb, and_parts, ltb-true}
 use Rattle.std.proofs.lemmas.Bool.Decides.{nat_tests}
 use Rattle.std.proofs.lemmas.Option.{none-some, same_Some}
 use Rattle.xk_base.specs.declared.windows.Window.{Window}
 use Rattle.xk_base.specs.declared.windows.Window.TheVariants.{Image, Heap, Message, Map, Stack}
 use Rattle.xk_base.specs.Windows.{first_page, last_page, window_at}
 use Rattle.xk_base.specs.Counting.{put_at}
-use Rattle.phys_pages.specs.Ram.{RamBytes, Area, IsPlaced, IsInside, area, pages, words, word_in, with_word, ppn_of, frame_at}
+use Rattle.phys_pages.specs.Ram.{RamBytes, Area, area, pages, word_in, with_word, ppn_of, frame_at}
 use Rattle.phys_pages.proofs.WordLaws.{word_in-with_word, word_in-other}
 use Rattle.ledger_model.specs.Places.{is_process}
 use Rattle.sv32_space.specs.Spellings.{kind_at}
-use Rattle.sv32_space.specs.Spaces.{root_at, IsTableFrame, window_order, first_root_entry, window_of_root_entry, table_frame, root_word, table_word, leaf_word, IsSpace, IsMade}
+use Rattle.sv32_space.specs.Spaces.{root_at, IsTableFrame, first_root_entry, window_of_root_entry, table_frame, table_word, leaf_word, IsSpace, IsMade}
 
 -- ---- windows and tables
 

@@ -1,6 +1,6 @@
 -- Where entries and owners agree, they stand for the ledger that they make.
-use Rattle.std.proofs.Common.{◌≡◌, ◌≢◌, ℕ, ◌+◌, ◌*◌, ◌<◌, ◌≤◌, if◌then◌else◌, Bool, true, false, ◌||◌, List, Option, Some, None, refl, sym, ap, subst, ◌∙◌, ◌⊎◌, inl, inr, arith}
-use Rattle.std.specs.Prelude.{is_some, IsTrue}
+use Rattle.std.proofs.Common.{◌≡◌, ◌≢◌, ℕ, ◌+◌, ◌<◌, ◌≤◌, true, false, ◌||◌, List, Option, Some, None, refl, sym, ap, subst, ◌∙◌, ◌⊎◌, inl, inr, arith}
+use Rattle.std.specs.Prelude.{is_some}
 use Rattle.std.specs.Option.{option_and_then, option_map}
 use Rattle.std.proofs.lemmas.Bool.{both_ways, false≢true, cases_Bool}
 use Rattle.std.proofs.lemmas.Option.{none-some, same_Some}
@@ -12,27 +12,25 @@ use Rattle.xk_base.specs.declared.pages.Right.{Right}
 use Rattle.phys_pages.specs.declared.infos.LoanInfo.{LoanInfo}
 use Rattle.phys_pages.specs.declared.infos.PageInfo.{PageInfo}
 use Rattle.phys_pages.specs.declared.infos.Seat.{Seat}
-use Rattle.phys_pages.specs.declared.infos.Seat.TheVariants.{Frame, Slot}
+use Rattle.phys_pages.specs.declared.infos.Seat.TheVariants.{Frame}
 use Rattle.phys_pages.specs.Owners.{Extent, HasSeat, frame_seat}
-use Rattle.ledger_model.specs.Ledger.{Ledger, Contents, Console, Bytes, Page, PageLoan, Orphan, loan_at, loan_of, has_bytes, is_counted}
-use Rattle.ledger_model.specs.Places.{is_process, is_user_place}
-use Rattle.ledger_model.specs.Reach.{is_free}
+use Rattle.ledger_model.specs.Ledger.{Contents, Console, Bytes, Page, PageLoan, Orphan, loan_at, loan_of, has_bytes, is_counted}
+use Rattle.ledger_model.specs.Places.{is_user_place}
 use Rattle.ledger_model.proofs.LedgerLaws.{cases_Option, IsFreeAt, is_free-true, lender_of-none}
-use Rattle.sv32_space.specs.declared.sides.Side.{Side}
 use Rattle.sv32_space.specs.declared.sides.Side.TheVariants.{Own, LentOut, LentIn, MutOut, MutIn}
-use Rattle.sv32_space.specs.Agreement.{Infos, EntriesAgree, Agrees, procs_of, owned_by, on_loan, lender_side, holder_side, loan_in, home_in, right_in, seat_in, loan_told, loan_to}
+use Rattle.sv32_space.specs.Agreement.{Infos, EntriesAgree, Agrees, table_frames, procs_of, on_loan, lender_side, holder_side, loan_in, home_in, right_in, seat_in, loan_to}
 use Rattle.sv32_space.specs.Entries.{Entry, Entries, Free, At, OnConsole}
-use Rattle.sv32_space.specs.EntryLedger.{SeatBytes, ledger_of, page_loan, page_of_side, page_of_entry, orphan_of_info, orphan_of_side, orphan_of_entry}
-use Rattle.sv32_space.specs.StandsFor.{home_side, has_page, table_frames, AreSpelled, AreBytes, AreSeatsApart, HasFreeFrame, StandsAt, StandsFor}
-use Rattle.sv32_space.proofs.EntryLedgerLaws.{home_at, orphan_at}
+use Rattle.sv32_space.specs.EntryLedger.{SeatBytes, IsWellPlaced, ledger_of, page_loan, page_of_entry, orphan_of_info, orphan_of_entry}
+use Rattle.sv32_space.specs.StandsFor.{home_side, has_page, AreSpelled, AreBytes, AreSeatsApart, HasFreeFrame, StandsAt, StandsFor}
+use Rattle.sv32_space.proofs.EntryLedgerLaws.{home_at, orphan_at, page_of_holder, orphan_of_holder}
 
 -- the place that names the page of a seat: its home, or the holder's place of an orphan
-abbrev name_of : Option Place → Option LoanInfo → Place
+abbrev pub name_of : Option Place → Option LoanInfo → Place
 name_of (Some home) loan = home
 name_of None None = record { pid = record { 0 = 0 }; vpn = record { 0 = 0 } }
 name_of None (Some loan) = loan.holder
 
-abbrev name_in : Option PageInfo → Place
+abbrev pub name_in : Option PageInfo → Place
 name_in info = name_of (home_in info) (loan_in info)
 
 console_no_bytes : (bytes : List ℕ) → Console ≢ Bytes bytes
@@ -298,6 +296,77 @@ module _ (procs : ℕ) (E : Entries) (I : Infos) (B : SeatBytes) (agree : Entrie
     free = λ p h e. let i : (info : PageInfo) × (I (seat_in (E p)) ≡ Some info) = page_info p h in none-some i.0 (sym empty ∙ (ap I (sym e) ∙ i.1));
   }
 
+  -- ---- what of a lawful ledger follows
+
+  home_entry : (p : Place) (page : Page) → (ledger_of E I B).home p ≡ Some page → (e : Entry) × (E p ≡ Some e)
+  unfolding ledger_of
+  home_entry p page h = elim (cases_Option (E p)) [
+    | inl none ↦ absurd (none-some page (sym (ap (option_and_then (page_of_entry I B)) none) ∙ h))
+    | inr some ↦ some
+  ]
+
+  orphan_entry : (p : Place) (orphan : Orphan) → (ledger_of E I B).orphan p ≡ Some orphan → (e : Entry) × (E p ≡ Some e)
+  unfolding ledger_of
+  orphan_entry p orphan h = elim (cases_Option (E p)) [
+    | inl none ↦ absurd (none-some orphan (sym (ap (option_and_then (orphan_of_entry I B)) none) ∙ h))
+    | inr some ↦ some
+  ]
+
+  same_holder : (p q : Place) (a b : PageLoan) → loan_at (ledger_of E I B) p ≡ Some a → loan_at (ledger_of E I B) q ≡ Some b
+      → a.holder ≡ b.holder → p ≡ q
+  same_holder p q a b x y same =
+      let u : E a.holder ≡ Some (At (holder_side a.kind) (seat_in (E p))) = loan_held p a x in
+      let v : E b.holder ≡ Some (At (holder_side b.kind) (seat_in (E q))) = loan_held q b y in
+      let seat : seat_in (E p) ≡ seat_in (E q) = sym (ap seat_in u) ∙ (ap (λ r. seat_in (E r)) same ∙ ap seat_in v) in
+      let s : (l : LoanInfo) × (I (seat_in (E p)) ≡ Some (on_loan (Some p) l)) × (page_loan l ≡ a) = loan_tells p a x in
+      let t : (l : LoanInfo) × (I (seat_in (E q)) ≡ Some (on_loan (Some q) l)) × (page_loan l ≡ b) = loan_tells q b y in
+      same_Some p q (sym (ap home_in s.1) ∙ (ap (λ r. home_in (I r)) seat ∙ ap home_in t.1))
+
+  holder_no_home : (p : Place) (loan : PageLoan) → loan_at (ledger_of E I B) p ≡ Some loan → (ledger_of E I B).home loan.holder ≡ None
+  holder_no_home p loan h = home_at E I B loan.holder (At (holder_side loan.kind) (seat_in (E p))) (loan_held p loan h)
+      ∙ page_of_holder loan.kind (I (seat_in (E p))) (B (seat_in (E p)))
+
+  holder_no_orphan : (p : Place) (loan : PageLoan) → loan_at (ledger_of E I B) p ≡ Some loan → (ledger_of E I B).orphan loan.holder ≡ None
+  holder_no_orphan p loan h =
+      let t : (l : LoanInfo) × (I (seat_in (E p)) ≡ Some (on_loan (Some p) l)) × (page_loan l ≡ loan) = loan_tells p loan h in
+      orphan_at E I B loan.holder (At (holder_side loan.kind) (seat_in (E p))) (loan_held p loan h)
+      ∙ (orphan_of_holder loan.kind (I (seat_in (E p))) (B (seat_in (E p))) ∙ ap (option_and_then (orphan_of_info (B (seat_in (E p))))) t.1)
+
+  -- a page on Exclusive loan stands at an entry whose former right has w
+  exclusive_right : (page : Page) (loan : PageLoan) (o : Option Entry) → option_and_then (page_of_entry I B) o ≡ Some page
+      → (s : Seat) → o ≡ Some (At (MutOut page.right.x) s) → page.right.w ≡ true
+  exclusive_right page loan o h s e =
+      sym (ap (λ (x : Page). x.right.w) (same_Some (record { right = record { w = true; x = page.right.x }; contents = Bytes (B s); loan = option_map page_loan (loan_in (I s)) }) page
+      (sym (ap (option_and_then (page_of_entry I B)) e) ∙ h)))
+
+  exclusive_writable : (p : Place) (page : Page) (loan : PageLoan) → (ledger_of E I B).home p ≡ Some page → page.loan ≡ Some loan
+      → loan.kind ≡ Exclusive → page.right.w ≡ true
+  unfolding ledger_of
+  exclusive_writable p page loan h e k = elim (has_bytes_or_console page.contents) [
+    | inl b ↦
+        let t : HomeTells p page b.0 = home_tells p page b.0 (E p) refl h b.1 in
+        exclusive_right page loan (E p) h (seat_in (E p))
+        (t.entry ∙ (ap (λ o. Some (At (home_side page.right o) (seat_in (E p)))) e ∙ ap (λ q. Some (At (lender_side q page.right) (seat_in (E p)))) k))
+    | inr c ↦ let t : ConsoleTells p page = console_tells p page (E p) refl h c in absurd (none-some loan (sym t.no_loan ∙ e))
+  ]
+
+  pub well_placed : IsWellPlaced procs (ledger_of E I B)
+  unfolding ledger_of
+  well_placed = record {
+    home_lies = λ p page h. let e : (e : Entry) × (E p ≡ Some e) = home_entry p page h in entry_lies p e.0 e.1;
+    holder_lies = λ p loan h. entry_lies loan.holder (At (holder_side loan.kind) (seat_in (E p))) (loan_held p loan h);
+    orphan_lies = λ p orphan h. let e : (e : Entry) × (E p ≡ Some e) = orphan_entry p orphan h in entry_lies p e.0 e.1;
+    holders_differ = same_holder;
+    holder_no_home = holder_no_home;
+    holder_no_orphan = holder_no_orphan;
+    orphan_no_home = λ p orphan h.
+        let t : OrphanTells p orphan = orphan_tells p orphan (E p) refl h in
+        home_at E I B p (At (holder_side orphan.kind) (seat_in (E p))) t.entry ∙ page_of_holder orphan.kind (I (seat_in (E p))) (B (seat_in (E p)));
+    console_no_loan = λ p page h c. let t : ConsoleTells p page = console_tells p page (E p) refl h c in t.no_loan;
+    console_no_fetch = λ p page h c. let t : ConsoleTells p page = console_tells p page (E p) refl h c in t.no_fetch;
+    exclusive_writable = exclusive_writable;
+  }
+
 -- ---- the whole
 
 pub stands_at : (is_made : ℕ → Type 0) (frames : ℕ) (E : Entries) (table : Extent) (I : Infos) (B : SeatBytes) (told : Seat → Option (List ℕ))
@@ -317,7 +386,7 @@ pub stands_for : (is_made : ℕ → Type 0) (frames : ℕ) (E : Entries) (table 
     → HasSeat table (frame_seat f) → I (frame_seat f) ≡ None
     → StandsFor is_made (procs_of table) frames E told (ledger_of E I B)
 stands_for is_made frames E table I B told f agrees within holds seat empty =
-    let first : table.first ≡ 21 * procs_of table = agrees.first in
+    let first : table.first ≡ table_frames (procs_of table) = agrees.first in
     let last : table.first + table.frames ≡ frames = agrees.last in
     let low : table.first ≤ f = seat.0 in
     let high : f < table.first + table.frames = seat.1 in

@@ -1,9 +1,9 @@
 -- Where a walk ends.
-use Rattle.std.proofs.Common.{◌≡◌, ◌==◌, ◌+◌, ◌-◌, ◌*◌, ◌/◌, ◌%◌, ◌^◌, ◌<◌, ◌≤◌, ℕ, Bool, true, false, cond, ◌&&◌, nat_le, nat_lt, Option, Some, None, refl, sym, ap, ◌∙◌, inl, inr, arith}
-use Rattle.std.proofs.lemmas.Bool.{cases_Bool, le-ltb, and_parts}
+use Rattle.std.proofs.Common.{◌≡◌, ◌+◌, ◌-◌, ◌*◌, ◌/◌, ◌<◌, ◌≤◌, ℕ, Bool, true, false, cond, ◌&&◌, nat_le, Some, None, refl, sym, ap, ◌∙◌, arith}
+use Rattle.std.proofs.lemmas.Bool.{le-ltb}
 use Rattle.xk_base.specs.declared.ids.Frame.{Frame}
 use Rattle.xk_base.specs.declared.pages.Access.{Access}
-use Rattle.phys_pages.specs.Ram.{RamBytes, Area, IsPlaced, area, words, ppn_of, frame_of}
+use Rattle.phys_pages.specs.Ram.{RamBytes, Area, IsPlaced, area, ppn_of, frame_of}
 use Rattle.phys_pages.proofs.WordLaws.{words-outside}
 use Rattle.sv32_space.specs.Walk.{entry_in_table, entry_ppn, vpn_0, from_last_level, from_last_entry, from_pointer}
 

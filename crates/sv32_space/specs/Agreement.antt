@@ -10,7 +10,6 @@
 use Rattle.std.specs.Prelude.{◌≡◌, ℕ, ◌+◌, ◌*◌, ◌/◌, Bool, true, false, ◌&&◌, is_some, is_none, IsTrue, Option, Some, None}
 use Rattle.xk_base.specs.declared.ids.Number.{Number}
 use Rattle.xk_base.specs.declared.ids.Place.{Place}
-use Rattle.xk_base.specs.declared.ids.Pid.{Pid}
 use Rattle.xk_base.specs.declared.pages.LoanKind.{LoanKind}
 use Rattle.xk_base.specs.declared.pages.LoanKind.TheVariants.{Shared, Exclusive}
 use Rattle.xk_base.specs.declared.pages.Right.{Right}
@@ -135,14 +134,18 @@ pub record EntriesAgree (procs : ℕ) (E : Entries) (I : Infos) : Type 0 where
   pub mut_in : (q : Place) (s : Seat) → E q ≡ Some (At MutIn s)
       → I s ≡ Some (on_loan (home_in (I s)) (loan_to q Exclusive (I s)))
 
--- how many processes there are, as a table of owners tells it: it begins after the 21 table frames of each
+-- how many frames the tables of so many processes have: of each its root, and four for each window
+abbrev pub table_frames : ℕ → ℕ
+table_frames procs = 21 * procs
+
+-- how many processes there are, as a table of owners tells it, which begins after the frames of their tables
 abbrev pub procs_of : Extent → ℕ
 procs_of table = table.first / 21
 
--- Entries and owners agree. The owner table covers the frames of RAM, which has so many, from the first after the table
--- frames of n processes on; the spaces of the pids 2 to n + 1 are made; and their entries agree with the owners.
+-- Entries and owners agree, with n processes. The owner table covers the frames of RAM, which are `frames`, from the first
+-- after the tables on; the spaces of the pids 2 to n + 1 are made; and their entries agree with the owners.
 pub record Agrees (is_made : ℕ → Type 0) (frames : ℕ) (E : Entries) (table : Extent) (I : Infos) : Type 0 where
-  pub first : table.first ≡ 21 * procs_of table
+  pub first : table.first ≡ table_frames (procs_of table)
   pub last : table.first + table.frames ≡ frames
   pub made : (pid : ℕ) → IsTrue (is_process (procs_of table) pid) → is_made pid
   pub entries : EntriesAgree (procs_of table) E I

@@ -1,6 +1,6 @@
 -- What upper crates see of page tables: a function from places to entries. An entry is free, or one side of the page at a
 -- seat, which is a frame of RAM or a slot of the swap store, or it maps the console's page.
-use Rattle.std.specs.Prelude.{ℕ, Bool, Option}
+use Rattle.std.specs.Prelude.{Bool, Option}
 use Rattle.xk_base.specs.declared.ids.Place.{Place}
 use Rattle.phys_pages.specs.declared.infos.Seat.{Seat}
 use Rattle.sv32_space.specs.declared.sides.Side.{Side}

@@ -1,10 +1,12 @@
 -- The ledger that entries, owners and the bytes of seats make. At a home the entry tells the right, the owner table the
 -- loan; at a holder's place an orphan stands where the owner table has no home for the seat. A page that is out is there
 -- like any other: its seat is a slot.
-use Rattle.std.specs.Prelude.{◌≡◌, ℕ, true, false, is_none, IsTrue, List, Option, Some, None, if◌then◌else◌}
+use Rattle.std.specs.Prelude.{◌≡◌, ℕ, ◌+◌, ◌-◌, Bool, true, false, nat_lt, is_none, is_some, IsTrue, List, Option, Some, None, if◌then◌else◌}
 use Rattle.std.specs.Option.{option_and_then, option_map}
 use Rattle.xk_base.specs.declared.ids.Place.{Place}
 use Rattle.xk_base.specs.declared.pages.LoanKind.TheVariants.{Exclusive}
+use Rattle.xk_base.specs.Counting.{count_below}
+use Rattle.phys_pages.specs.Owners.{Extent, frame_seat, slot_seat}
 use Rattle.phys_pages.specs.declared.infos.LoanInfo.{LoanInfo}
 use Rattle.phys_pages.specs.declared.infos.PageInfo.{PageInfo}
 use Rattle.phys_pages.specs.declared.infos.Seat.{Seat}
@@ -60,6 +62,21 @@ ledger_of E I B = record {
   home = λ p. option_and_then (page_of_entry I B) (E p);
   orphan = λ p. option_and_then (orphan_of_entry I B) (E p);
 }
+
+-- an entry at which nothing stands; where there is no entry, nothing stands either
+abbrev pub is_free_entry : Option Entry → Bool
+is_free_entry None = true
+is_free_entry (Some Free) = true
+is_free_entry (Some (At side s)) = false
+is_free_entry (Some (OnConsole w)) = false
+
+-- the k-th seat of a table: its frames in their order, then its slots
+abbrev pub table_seat : Extent → ℕ → Seat
+table_seat table k = if nat_lt k table.frames then frame_seat (table.first + k) else slot_seat (k - table.frames)
+
+-- how many seats of a table are used
+unfoldable pub used_seats : Extent → Infos → ℕ
+used_seats table I = count_below (table.frames + table.slots) (λ k. is_some (I (table_seat table k)))
 
 -- What of a lawful ledger holds of every ledger that agreeing entries and owners make, by the names of `IsLawful`.
 pub record IsWellPlaced (procs : ℕ) (ledger : Ledger) : Type 0 where

@@ -1,5 +1,5 @@
 -- Where an entry of a made space leads. A side gives the accesses that Reach gives at a place of its kind.
-use Rattle.std.specs.Prelude.{ℕ, ◌+◌, ◌*◌, Bool, true, false, if◌then◌else◌, Option, Some, None}
+use Rattle.std.specs.Prelude.{ℕ, ◌+◌, ◌*◌, Bool, true, false, if◌then◌else◌}
 use Rattle.xk_base.specs.declared.pages.Access.{Access}
 use Rattle.xk_base.specs.declared.pages.LoanKind.TheVariants.{Shared, Exclusive}
 use Rattle.phys_pages.specs.declared.infos.Seat.TheVariants.{Frame, Slot}

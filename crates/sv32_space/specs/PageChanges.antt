@@ -1,6 +1,6 @@
 -- The changes of one page in entries and owners, as the kernel's calls write them. Each is at most two entries and at most
 -- two seats; all others stay.
-use Rattle.std.specs.Prelude.{ℕ, Bool, List, Option, Some, None, if◌then◌else◌}
+use Rattle.std.specs.Prelude.{ℕ, List, Option, Some, None, if◌then◌else◌}
 use Rattle.std.specs.Option.{option_map}
 use Rattle.xk_base.specs.Counting.{put_at}
 use Rattle.xk_base.specs.declared.ids.Place.{Place}
@@ -11,7 +11,7 @@ use Rattle.phys_pages.specs.declared.infos.Seat.{Seat}
 use Rattle.phys_pages.specs.Owners.{seat_eq}
 use Rattle.ledger_model.specs.Places.{same_place}
 use Rattle.sv32_space.specs.declared.sides.Side.TheVariants.{Own}
-use Rattle.sv32_space.specs.Agreement.{Infos, lender_side, holder_side, on_loan}
+use Rattle.sv32_space.specs.Agreement.{Infos, lender_side, holder_side}
 use Rattle.sv32_space.specs.Entries.{Entry, Entries, Free, At, OnConsole}
 
 -- one entry, and what is said of one seat

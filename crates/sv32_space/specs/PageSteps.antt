@@ -1,6 +1,6 @@
 -- Ledger steps by the places of their pages. Where a step of a loan goes page by page, what is done so far is such a step:
 -- the first i pages of the run have changed. `make`, `remove`, `reduce`, `lend` and `give` are by places already.
-use Rattle.std.specs.Prelude.{ℕ, Bool, List, Option, Some, None, if◌then◌else◌}
+use Rattle.std.specs.Prelude.{ℕ, Bool, Option, Some, None, if◌then◌else◌}
 use Rattle.std.specs.Option.{option_and_then, option_map}
 use Rattle.xk_base.specs.declared.ids.Place.{Place}
 use Rattle.ledger_model.specs.Ledger.{Ledger, Page, Orphan}

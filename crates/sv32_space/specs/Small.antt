@@ -1,5 +1,5 @@
 -- Small tables: entries and owners as lists, for a plain program beside the definitions.
-use Rattle.std.specs.Prelude.{ℕ, false, List, Option, Some, None}
+use Rattle.std.specs.Prelude.{List, Option, Some, None}
 use Rattle.std.specs.List.{find}
 use Rattle.std.specs.Option.{option_map}
 use Rattle.phys_pages.specs.declared.infos.Seat.{Seat}

@@ -1,7 +1,6 @@
 -- The entries of all places, as the bytes of the last-level tables spell them.
 use Rattle.std.specs.Prelude.{ℕ, ◌+◌, ◌^◌, ◌<◌, ◌==◌, ◌&&◌, nat_le, false, if◌then◌else◌, List, Option, Some, None}
 use Rattle.xk_base.specs.declared.ids.Frame.{Frame as FrameNumber}
-use Rattle.xk_base.specs.declared.ids.Place.{Place}
 use Rattle.xk_base.specs.declared.windows.Window.{Window}
 use Rattle.xk_base.specs.Windows.{window_at}
 use Rattle.phys_pages.specs.declared.infos.Seat.TheVariants.{Frame, Slot}

@@ -1,7 +1,7 @@
 -- Stands for: what ties the entries of all address spaces, the bytes of frames and what the slots of the swap store hold to a
 -- ledger of `procs` processes. It says nothing of how a program keeps track of owners. Each page of the ledger but the
 -- console, and each orphan, has a seat: a frame or a slot. A page is named by its home, an orphan by its holder's place.
-use Rattle.std.specs.Prelude.{◌≡◌, ◌≢◌, ℕ, ◌*◌, ◌<◌, ◌≤◌, Bool, true, false, ◌||◌, is_some, IsTrue, List, Option, Some, None}
+use Rattle.std.specs.Prelude.{◌≡◌, ◌≢◌, ℕ, ◌<◌, ◌≤◌, Bool, false, ◌||◌, is_some, IsTrue, List, Option, Some, None}
 use Rattle.std.specs.Option.{option_map}
 use Rattle.xk_base.specs.declared.ids.Frame.{Frame as FrameNumber}
 use Rattle.xk_base.specs.declared.ids.Place.{Place}
@@ -14,12 +14,8 @@ use Rattle.ledger_model.specs.Places.{is_process, is_user_place}
 use Rattle.ledger_model.specs.Reach.{is_free}
 use Rattle.sv32_space.specs.declared.sides.Side.{Side}
 use Rattle.sv32_space.specs.declared.sides.Side.TheVariants.{Own}
-use Rattle.sv32_space.specs.Agreement.{lender_side, holder_side}
-use Rattle.sv32_space.specs.Entries.{Entry, Entries, Free, At, OnConsole}
-
--- the frames before the first that may have a page: 21 tables of each process, its root and four for each window
-abbrev pub table_frames : ℕ → ℕ
-table_frames procs = 21 * procs
+use Rattle.sv32_space.specs.Agreement.{table_frames, lender_side, holder_side}
+use Rattle.sv32_space.specs.Entries.{Entries, Free, At, OnConsole}
 
 -- a place at which a page that has a seat has its name
 abbrev pub has_page : Ledger → Place → Bool

@@ -1,7 +1,7 @@
 -- The walk of Sv32 in user mode (RISC-V Privileged, 4.3.1 and 4.3.2 "Virtual Address Translation Process"), on the bytes
 -- of RAM. SUM and MXR don't matter: the first speaks of supervisor mode, and the second is 0. Of the two schemes that
--- the manual permits in step 7, A and D are left to software.
-use Rattle.std.specs.Prelude.{ℕ, ◌+◌, ◌*◌, ◌^◌, ◌==◌, Bool, true, not, ◌&&◌, ◌||◌, if◌then◌else◌, Option, Some, None}
+-- the manual permits in step 7, this is the one with page faults: A and D are left to software.
+use Rattle.std.specs.Prelude.{ℕ, ◌+◌, ◌*◌, ◌^◌, ◌==◌, Bool, not, ◌&&◌, ◌||◌, if◌then◌else◌, Option, Some, None}
 use Rattle.xk_base.specs.Fields.{field, bits_of}
 use Rattle.xk_base.specs.declared.pages.Access.{Access}
 use Rattle.xk_base.specs.declared.pages.Access.TheVariants.{Fetch, Load, Store}

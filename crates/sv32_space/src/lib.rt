@@ -4,8 +4,11 @@
 
 mod entries;
 pub mod agreement_laws;
+pub mod count_laws;
 pub mod ledger_laws;
+pub mod role_laws;
 pub mod run_laws;
+pub mod seat_laws;
 mod sides;
 pub mod space_laws;
 mod spaces;

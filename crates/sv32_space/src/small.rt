@@ -74,7 +74,10 @@ fn is_same_seat(s: Seat, t: Seat) -> bool
 fn entry_at(entries: &[PlacedEntry], place: Place) -> Option<PlacedEntry>
     ensures { result ≡ find (λ e. same_place e.place place) entries.now }
 {
-    entries.iter().copied().find(|e| is_same_place(e.place, place))
+    entries
+        .iter()
+        .copied()
+        .find(|e| is_same_place(e.place, place))
 }
 
 fn row_of(infos: &[SeatInfo], seat: Seat) -> Option<SeatInfo>
@@ -109,12 +112,15 @@ fn held(info: Option<PageInfo>, seat: Seat) -> LedgerPlace
     ensures orphan { (B : SeatBytes) → orphan_told B result ≡ orphan_of_side Side.LentIn info (B seat) }
 {
     match info {
-        Some(PageInfo { home: None, loan: Some(loan) }) => LedgerPlace::Orphan {
-            kind: loan.kind,
-            seat,
-            number: loan.number,
+        None => LedgerPlace::Nothing,
+        Some(info) => match (info.home, info.loan) {
+            (None, Some(loan)) => LedgerPlace::Orphan {
+                kind: loan.kind,
+                seat,
+                number: loan.number,
+            },
+            (_, _) => LedgerPlace::Nothing,
         },
-        _ => LedgerPlace::Nothing,
     }
 }
 
@@ -236,7 +242,10 @@ mod tests {
             said(left, None, Some(orphaned)),
         ];
         let wanted = [
-            (place(2, 0x10), home(Right { w: false, x: true }, Some(own), None)),
+            (
+                place(2, 0x10),
+                home(Right { w: false, x: true }, Some(own), None),
+            ),
             (place(2, 0x2_0000), home(right, Some(lent), Some(shared))),
             (
                 place(2, 0x2_0001),

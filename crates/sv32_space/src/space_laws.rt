@@ -1,14 +1,17 @@
 //! Spaces and entries stand in table frames alone, and every entry has a spelling. Each function does nothing; its
 //! contract is the law.
 
-ghost use Rattle.std.specs.Prelude.{◌≡◌, ℕ, ◌*◌, ◌<◌, ◌≤◌, List, Some, None, IsTrue, IsFalse, nat_eq};
+ghost use Rattle.std.specs.Prelude.{◌≡◌, ℕ, ◌+◌, ◌*◌, ◌/◌, ◌<◌, ◌≤◌, List, Some, None, IsTrue, IsFalse, nat_eq};
 ghost use Rattle.xk_base.specs.Counting.{put_at};
+ghost use Rattle.xk_base.specs.declared.ids.Frame.{Frame};
 ghost use Rattle.xk_base.specs.declared.ids.Place.{Place};
-ghost use Rattle.phys_pages.specs.Ram.{Area, RamBytes, IsPlaced, area, pages};
+ghost use Rattle.phys_pages.specs.Ram.{Area, RamBytes, IsPlaced, area, pages, frame_of, ppn_of};
 ghost use Rattle.ledger_model.specs.Places.{is_process, is_user_place};
+ghost use Rattle.sv32_space.specs.declared.sides.EntryKind.{EntryKind};
 ghost use Rattle.sv32_space.specs.Entries.{Entry};
 ghost use Rattle.sv32_space.specs.Spaces.{root_at, IsMade, IsTableFrame};
-ghost use Rattle.sv32_space.specs.SpelledEntries.{IsEntry, entries, entry_of_kind, kind_for};
+ghost use Rattle.sv32_space.specs.SpelledEntries.{IsEntry, console_ppn, entries, entry_of_kind, kind_for};
+ghost use Rattle.sv32_space.specs.Spellings.{IsKind};
 
 /// A made space stays where the pages of its frames stay, as where a page of another frame is written.
 pub fn spaces_stand_in_tables()
@@ -34,8 +37,20 @@ pub fn entries_stand_in_windows()
     ensures { (procs : ℕ) (ram : RamBytes) (q : Place) → IsFalse (is_user_place procs q) → entries procs ram q ≡ None }
 {}
 
-/// The spelling of an entry is read as that entry.
-#[tactic(auto, using(crate::proofs::EntryLaws::entry_again))]
+/// An entry has one spelling: it is read from that, and from no other.
+#[tactic(auto, using(crate::proofs::KindLaws::entry_again, crate::proofs::KindLaws::kind_is, crate::proofs::KindLaws::entry_is))]
 pub fn entries_are_spelled()
-    ensures { (a : Area) (entry : Entry) → IsPlaced a → IsEntry a entry → entry_of_kind a (Some (kind_for a entry)) ≡ Some entry }
+    ensures again { (a : Area) (entry : Entry) → IsPlaced a → IsEntry a entry → entry_of_kind a (Some (kind_for a entry)) ≡ Some entry }
+    ensures only { (a : Area) (kind : EntryKind) (entry : Entry) → entry_of_kind a (Some kind) ≡ Some entry → kind ≡ kind_for a entry }
+    ensures fits { (a : Area) (kind : EntryKind) (entry : Entry) → IsKind kind → entry_of_kind a (Some kind) ≡ Some entry → IsEntry a entry }
+{}
+
+/// An address that a walk reaches in a frame is of that frame, and one in the console's page of none. `walk` reaches the
+/// byte at an offset of a page with a physical page number at 4096 times this number plus the offset.
+#[tactic(auto, using(crate::proofs::ReachLaws::address_in_frame, crate::proofs::ReachLaws::address_in_console))]
+pub fn addresses_are_of_frames()
+    ensures frame { (a : Area) (f : Frame) (offset : ℕ) → f.0 < a.frames → offset < 4096
+        → frame_of a ((ppn_of a f.0 * 4096 + offset) / 4096) ≡ Some f }
+    ensures console { (a : Area) (offset : ℕ) → IsPlaced a → offset < 4096
+        → frame_of a ((console_ppn * 4096 + offset) / 4096) ≡ None }
 {}

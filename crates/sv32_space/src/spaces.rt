@@ -97,6 +97,7 @@ pub fn set_leaf(ram: &mut Ram, at: Place, word: u32)
     ensures entries { (procs : ℕ) → IsTrue (is_process procs at.pid.0)
         → entries procs ram.new ≡ put_at same_place (entries procs ram.old) at (entry_spelled (area ram.old) word) }
     ensures pages { (f : ℕ) → ¬ IsTableFrame (root_at at.pid.0) f → pages ram.new f ≡ pages ram.old f }
+    ensures own { IsMade ram.new at.pid.0 }
     ensures made { (pid : ℕ) → IsMade ram.old pid → IsMade ram.new pid }
     ensures area { area ram.new ≡ area ram.old }
 {

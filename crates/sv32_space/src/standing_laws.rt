@@ -4,9 +4,9 @@ ghost use Rattle.phys_pages.specs.Owners.{Extent, HasSeat, frame_seat};
 ghost use Rattle.phys_pages.specs.declared.infos.PageInfo.{PageInfo};
 ghost use Rattle.phys_pages.specs.declared.infos.Seat.{Seat};
 ghost use Rattle.std.specs.Prelude.{Bool, IsTrue, List, None, Option, Some, ℕ, ◌≡◌};
-ghost use Rattle.sv32_space.specs.Agreement.{Agrees, Infos, procs_of, seat_in};
+ghost use Rattle.sv32_space.specs.Agreement.{Agrees, EntriesAgree, Infos, procs_of, seat_in};
 ghost use Rattle.sv32_space.specs.Entries.{Entries};
-ghost use Rattle.sv32_space.specs.EntryLedger.{SeatBytes, ledger_of};
+ghost use Rattle.sv32_space.specs.EntryLedger.{IsWellPlaced, SeatBytes, ledger_of};
 ghost use Rattle.sv32_space.specs.StandsFor.{StandsAt, StandsFor};
 
 /// Where entries and owners agree, they stand for their ledger, and where a frame is free besides, with room.
@@ -22,4 +22,9 @@ pub fn agreeing_entries_stand()
         → ((s : Seat) (known : List ℕ) → told s ≡ Some known → B s ≡ known)
         → HasSeat table (frame_seat f) → I (frame_seat f) ≡ None
         → StandsFor (λ pid. IsTrue (made pid)) (procs_of table) frames E told (ledger_of E I B) }
+{}
+
+/// What of a lawful ledger holds where entries and owners agree.
+pub fn agreeing_entries_are_well_placed()
+    ensures { (procs : ℕ) (E : Entries) (I : Infos) (B : SeatBytes) → EntriesAgree procs E I → IsWellPlaced procs (ledger_of E I B) }
 {}

@@ -2,8 +2,12 @@
 
 mod access;
 mod boot;
+mod changes;
+mod making;
 mod pages;
 mod readers;
+mod removing;
+mod run_tests;
 mod user;
 
 pub use user::User;

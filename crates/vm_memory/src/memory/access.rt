@@ -92,7 +92,7 @@ impl<W: SwapStore> Memory<W> {
     }
 
     // Whether a page may stand there: in a window of a process.
-    fn has_place(&self, at: Place) -> bool
+    pub(crate) fn has_place(&self, at: Place) -> bool
         requires sound { IsSound W.slot_count self.now }
         ensures { result ≡ is_user_place (processes self.now) at }
     {
@@ -100,7 +100,7 @@ impl<W: SwapStore> Memory<W> {
     }
 
     // What the entry of a place says.
-    fn kind(&self, at: Place) -> EntryKind
+    pub(crate) fn kind(&self, at: Place) -> EntryKind
         requires sound { IsSound W.slot_count self.now }
         requires place { is_user_place (processes self.now) at ≡ true }
         ensures { entries (processes self.now) (ram_of self.now) at ≡ entry_of_kind (area (ram_of self.now)) (Some result) }

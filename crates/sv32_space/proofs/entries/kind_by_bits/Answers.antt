@@ -1,6 +1,5 @@
-use Rattle.std.proofs.Common.{◌≡◌, ◌%◌, Option, Some, None, ap, sym, ◌∙◌, ne_eqb, refl}
-use Rattle.sv32_space.specs.declared.sides.Side.{Side}
-use Rattle.sv32_space.specs.Spellings.{kind_with, here_side, out_side}
+use Rattle.std.proofs.Common.{◌%◌, Some, None, sym, ◌∙◌, refl}
+use Rattle.sv32_space.specs.Spellings.{out_side}
 use Rattle.sv32_space.proofs.SpellingLaws.{kind_by_parts}
 use Rattle.sv32_space.proofs.entries.kind_by_bits.Goals as goal
 

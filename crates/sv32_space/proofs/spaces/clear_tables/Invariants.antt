@@ -1,5 +1,3 @@
-use Rattle.std.proofs.Common.{◌≡◌, ℕ, ◌+◌, ◌<◌, ◌≤◌, ◌⊎◌}
-use Rattle.phys_pages.specs.Ram.{area}
 use Rattle.sv32_space.proofs.ClearLaws.{AreCleared}
 use Rattle.sv32_space.proofs.spaces.clear_tables.Given as goal
 

@@ -1,5 +1,5 @@
-use Rattle.std.proofs.Common.{◌≡◌, ◌+◌, ◌<◌, ◌≤◌, ℕ, slice_index, subst, ap, sym, ◌∙◌, arith}
-use Rattle.phys_pages.specs.Ram.{area, pages}
+use Rattle.std.proofs.Common.{◌≡◌, ◌+◌, ◌≤◌, slice_index, subst, ap, sym, ◌∙◌, arith}
+use Rattle.phys_pages.specs.Ram.{area}
 use Rattle.sv32_space.proofs.ClearLaws.{IsEmptySpace, beside, empty_space, empty_leaf, empty_made, empty_free, made_beside, entry_beside}
 use Rattle.sv32_space.proofs.SpaceLaws.{mapped_page}
 use Rattle.sv32_space.proofs.spaces.new_space.Goals as goal

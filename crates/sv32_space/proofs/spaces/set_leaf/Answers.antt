@@ -1,4 +1,4 @@
-use Rattle.std.proofs.Common.{◌≡◌, ◌+◌, ◌-◌, ◌*◌, ◌/◌, ◌%◌, ℕ, List, Some, nat_eq, ap, arith, ◌∙◌}
+use Rattle.std.proofs.Common.{◌≡◌, ◌/◌, ◌%◌, ℕ, List, Some, nat_eq, ap, arith, ◌∙◌}
 use Rattle.xk_base.specs.declared.windows.Window.{Window}
 use Rattle.xk_base.specs.Counting.{put_at}
 use Rattle.xk_base.specs.Windows.{window_at}
@@ -35,3 +35,6 @@ returns-clause-pages c = set_pages c.args.ram.now c.set_word.new.self c.args.at 
 
 pub returns-clause-made : goal.returns-clause-made
 returns-clause-made c = set_made c.args.ram.now c.set_word.new.self c.args.at c.args.word (is_set c)
+
+pub returns-clause-own : goal.returns-clause-own
+returns-clause-own c = set_made c.args.ram.now c.set_word.new.self c.args.at c.args.word (is_set c) c.args.at.pid.0 c.requires.made
