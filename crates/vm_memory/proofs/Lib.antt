@@ -1,4 +1,5 @@
 pub mod BareLaws
+pub mod BootLaws
 pub mod ByteWrites
 pub mod CallLaws
 pub mod Changed
@@ -13,11 +14,15 @@ pub mod HereLaws
 pub mod Loops
 pub mod Nowhere
 pub mod PageWrites
+pub mod PageFill
+pub mod PlacedPages
+pub mod ProcessPlaced
 pub mod Reached
 pub mod RightSteps
 pub mod RunLaws
 pub mod SeatWrites
 pub mod SoundMemory
+pub mod SpacesMade
 pub mod Steps
 pub mod StoreLaws
 pub mod UserKeeps
