@@ -1,5 +1,5 @@
 -- A page that is filled from a file.
-use Rattle.std.proofs.Common.{◌≡◌, ℕ, ◌+◌, ◌-◌, ◌<◌, ◌≤◌, if◌then◌else◌, nat_lt, List, ◌++◌, take, drop, length, get_or, slice_range, replicate, refl, sym, ap, ◌∙◌, inl, inr, arith, length-take, length-append, length-drop}
+use Rattle.std.proofs.Common.{◌≡◌, ℕ, ◌+◌, ◌-◌, ◌<◌, ◌≤◌, if◌then◌else◌, nat_lt, Bool, true, false, List, ◌++◌, take, drop, length, get_or, slice_range, replicate, refl, sym, ap, ◌∙◌, inl, inr, arith, length-take, length-append, length-drop}
 use Rattle.std.specs.Prelude.{slice_index, map}
 use Rattle.std.specs.List.{range_with_len}
 use Rattle.std.proofs.lemmas.Bool.{cases_lt, cond-true, cond-false}
@@ -48,3 +48,9 @@ module _ (file : List ℕ) (plan : PagePlan) (short : plan.len ≤ 4096) (within
     where
       size : length (front ++ replicate (4096 - plan.len) 0) ≡ 4096
       size = simp (length-append, length-replicate) (omega (arith, front_size))
+
+  -- .. as they are written
+  pub filled_from : (xs ys : List ℕ) (n : ℕ) → xs ≡ front → ys ≡ replicate n 0 → length ys ≡ 4096 - plan.len → xs ++ ys ≡ page_bytes file plan
+  filled_from xs ys n a b size =
+      let count : n ≡ 4096 - plan.len = sym (length-replicate {A = ℕ} n 0) ∙ (ap length (sym b) ∙ size) in
+      (λ i. a i ++ (b ∙ ap (λ k. replicate k 0) count) i) ∙ filled_page

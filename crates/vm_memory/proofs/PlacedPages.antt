@@ -41,7 +41,7 @@ length-page_bytes file plan = length-map-range_with_len (page_byte file plan) 0 
 
 zeros_whole : length zero_page ≡ 4096
 unfolding zero_page
-zeros_whole = length-replicate 4096 0
+zeros_whole = length-replicate {A = ℕ} 4096 0
 
 -- a new page of zeros that is written whole
 write_made : (at : Place) (right : Right) (bytes : List ℕ) (l : Ledger) → length bytes ≡ 4096

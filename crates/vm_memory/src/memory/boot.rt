@@ -43,8 +43,9 @@ fn fill(page: &mut [u8], file: &[u8], plan: &PagePlan)
 {
     let len = plan.len as usize;
     let from = plan.from as usize;
-    page[..len].copy_from_slice(&file[from..from + len]);
-    page[len..].fill(0);
+    let (front, rest) = page.split_at_mut(len);
+    front.copy_from_slice(&file[from..from + len]);
+    rest.fill(0);
 }
 
 // RAM and an owner table without a page, for the processes of a plan.
