@@ -113,14 +113,14 @@ module _ (procs : ℕ) (E : Entries) (free : (q : Place) → is_user_place procs
 pub record IsEmpty {W : Type 0} (slot_count : W → ℕ) (m : Memory W) (procs frames : ℕ) : Type 0 where
   pub extent : extent m.owners ≡ record { first = 21 * procs; frames = frames - 21 * procs; slots = 0 }
   pub infos : infos m.owners ≡ no_infos
-  pub frames : (area m.ram).frames ≡ frames
+  pub counted : (area m.ram).frames ≡ frames
   pub placed : IsPlaced (area m.ram)
   pub made : (pid : ℕ) → is_process procs pid ≡ true → IsMade m.ram pid
   pub free : (q : Place) → is_user_place procs q ≡ true → entries procs m.ram q ≡ Some Free
   pub some : 1 ≤ procs
   pub few : procs ≤ 32
   pub tables : table_frames procs + 2 ≤ frames
-  pub procs : m.procs ≡ procs
+  pub made_for : m.procs ≡ procs
   pub slots : m.slots ≡ 0
   pub pages : m.pages ≡ 0
 
@@ -173,15 +173,15 @@ module _ {W : Type 0} (slot_count : W → ℕ) (held : W → Held) (m : Memory W
   empty_sound = record {
     agree = record {
       first = omega (arith, first_m, same_procs);
-      last = omega (arith, first_m, frames_m, e.frames, e.tables);
+      last = omega (arith, first_m, frames_m, e.counted, e.tables);
       made = subst (λ k. (pid : ℕ) → is_process k pid ≡ true → IsMade m.ram pid) (sym same_procs) e.made;
       entries = agree_m;
     };
-    procs = e.procs ∙ sym same_procs;
+    procs = e.made_for ∙ sym same_procs;
     slots = e.slots ∙ sym slots_m;
     few = omega (arith, e.few, same_procs);
     few_slots = omega (arith, e.slots);
-    tables = omega (arith, e.tables, e.frames, same_procs);
+    tables = omega (arith, e.tables, e.counted, same_procs);
     placed = e.placed;
     store = omega (arith, e.slots);
     lawful = subst (λ l. IsLawful (processes m) (capacity_of m) l) (sym blank_m) (empty_lawful (processes m) (capacity_of m));

@@ -25,14 +25,14 @@ empty g c =
       extent = c.in-Ok.ensures.extent
           ∙ ap (λ s. record { first = 21 * length c.as_slice.result.now; frames = c.args.plan.now.frames - 21 * length c.as_slice.result.now; slots = s }) c.requires.no_slots;
       infos = c.in-Ok.ensures.infos;
-      frames = ap (λ (a : Area). a.frames) (c.make_spaces.ensures.area ∙ c.in-Ok.ensures.area);
+      counted = ap (λ (a : Area). a.frames) (c.make_spaces.ensures.area ∙ c.in-Ok.ensures.area);
       placed = c.frames-frames.ensures.placed;
       made = c.make_spaces.ensures.made;
       free = c.make_spaces.ensures.free;
       some = omega (arith, c.requires.some);
       few = omega (arith, c.requires.few);
       tables = omega (arith, c.requires.tables);
-      procs = refl;
+      made_for = refl;
       slots = c.requires.no_slots;
       pages = refl;
     }
