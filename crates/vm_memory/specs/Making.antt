@@ -1,0 +1,69 @@
+-- Where new pages go, and what `make` and `make_console` answer and do. A test of several places is made of all of them
+-- before the next test.
+use Rattle.std.specs.Prelude.{◌≡◌, ℕ, ◌+◌, ◌≤◌, Bool, true, false, not, nat_lt, if◌then◌else◌, Option, Some, None, Result, Ok, Err}
+use Rattle.xk_base.specs.declared.errors.XousError.{XousError}
+use Rattle.xk_base.specs.declared.errors.XousError.TheVariants.{BadAddress, MemoryInUse, OutOfMemory}
+use Rattle.xk_base.specs.declared.ids.Pid.{Pid}
+use Rattle.xk_base.specs.declared.ids.Place.{Place}
+use Rattle.xk_base.specs.declared.ids.Vpn.{Vpn}
+use Rattle.xk_base.specs.declared.pages.Right.{Right}
+use Rattle.xk_base.specs.declared.windows.Window.{Window}
+use Rattle.xk_base.specs.declared.windows.Window.TheVariants.{Map}
+use Rattle.ledger_model.specs.Ledger.{Ledger, pages}
+use Rattle.ledger_model.specs.LeastRun.{least_run}
+use Rattle.ledger_model.specs.Loans.{bare}
+use Rattle.ledger_model.specs.RunTests.{fits_window, any_used, console_mapped}
+use Rattle.ledger_model.specs.Steps.{make, make_console}
+
+abbrev pub place_of : Pid → Vpn → Place
+place_of pid vpn = record { pid = pid; vpn = vpn }
+
+-- ---- the place of a run of n pages in a window of a process
+
+-- a run that a search found
+abbrev pub run_found : Option Vpn → Result Vpn XousError
+run_found None = Err MemoryInUse
+run_found (Some first) = Ok first
+
+-- at the named page, where the run lies in the window and all its places are free; where none is named, the least free run
+abbrev pub run_place : ℕ → Ledger → Pid → Window → Option Vpn → ℕ → Result Vpn XousError
+run_place procs ledger pid window None n = run_found (least_run procs ledger pid window n)
+run_place procs ledger pid window (Some first) n =
+    if not (fits_window window first.0 n) then Err BadAddress else (
+    if any_used procs ledger (place_of pid first) n then Err MemoryInUse else Ok first)
+
+-- ---- make
+
+-- .. and the capacity holds for n pages more
+abbrev pub if_room : Bool → Result Vpn XousError → Result Vpn XousError
+if_room over (Ok first) = if over then Err OutOfMemory else Ok first
+if_room over (Err error) = Err error
+
+abbrev pub make_answer : ℕ → ℕ → Ledger → Pid → Window → Option Vpn → ℕ → Result Vpn XousError
+make_answer procs capacity ledger pid window at n =
+    if_room (nat_lt capacity (pages procs ledger + n)) (run_place procs ledger pid window at n)
+
+-- n pages of zeros at the place that was answered; nothing on a refusal
+abbrev pub after_make : Pid → ℕ → Right → Result Vpn XousError → Ledger → Ledger
+after_make pid n right (Ok first) ledger = make (place_of pid first) n right ledger
+after_make pid n right (Err error) ledger = ledger
+
+-- What `make` leaves where it answers Failed: the call would have been served, and the first pages of its run may be made.
+-- All else is as before.
+pub record HasMadeFirst (answer : Result Vpn XousError) (pid : Pid) (n : ℕ) (right : Right) (old new : Ledger) : Type 0 where
+  pub first : Vpn
+  pub count : ℕ
+  pub served : answer ≡ Ok first
+  pub few : count ≤ n
+  pub rights : bare new ≡ bare (make (place_of pid first) count right old)
+
+-- ---- the console
+
+-- one process has the console, at one place of its Map window
+abbrev pub console_answer : ℕ → Ledger → Pid → Option Vpn → Result Vpn XousError
+console_answer procs ledger pid at =
+    if console_mapped procs ledger then Err MemoryInUse else run_place procs ledger pid Map at 1
+
+abbrev pub after_console : Pid → Bool → Result Vpn XousError → Ledger → Ledger
+after_console pid w (Ok first) ledger = make_console (place_of pid first) w ledger
+after_console pid w (Err error) ledger = ledger

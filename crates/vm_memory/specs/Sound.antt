@@ -1,0 +1,39 @@
+-- The soundness of a memory, which each call needs and keeps.
+use Rattle.std.specs.Prelude.{◌≡◌, ℕ, ◌+◌, ◌≤◌, None}
+use Rattle.boot_plan.specs.Capacity.{table_frames}
+use Rattle.phys_pages.specs.Owners.{OwnerTable, extent, infos, frame_seat, HasSeat}
+use Rattle.phys_pages.specs.Ram.{IsPlaced, area}
+use Rattle.ledger_model.specs.Lawful.{IsLawful}
+use Rattle.ledger_model.specs.Ledger.{pages}
+use Rattle.sv32_space.specs.Tie.{agrees}
+use Rattle.vm_memory.specs.declared.memory.Memory.{Memory}
+use Rattle.vm_memory.specs.Bytes.{used_frames, used_slots}
+use Rattle.vm_memory.specs.Memory.{processes, capacity_of, blank_ledger, IsUsable}
+
+-- a frame of the table has no page: the exchange frame
+pub record HasExchangeFrame (owners : OwnerTable) : Type 0 where
+  pub frame : ℕ
+  pub within : HasSeat (extent owners) (frame_seat frame)
+  pub free : infos owners (frame_seat frame) ≡ None
+
+pub record IsSound {W : Type 0} (slot_count : W → ℕ) (m : Memory W) : Type 0 where
+  -- entries and owners agree
+  pub agree : agrees m.ram m.owners
+  -- the counts are those of the owner table, and the limits hold
+  pub procs : m.procs ≡ processes m
+  pub slots : m.slots ≡ (extent m.owners).slots
+  pub few : processes m ≤ 32
+  pub few_slots : m.slots ≤ 16384
+  pub tables : table_frames (processes m) + 2 ≤ (area m.ram).frames
+  pub placed : IsPlaced (area m.ram)
+  -- the store has the slots
+  pub store : m.slots ≤ slot_count m.store
+  -- the ledger is lawful, but for the bytes of pages
+  pub lawful : IsLawful (processes m) (capacity_of m) (blank_ledger m)
+  -- its pages are counted, and each has one seat
+  pub pages : m.pages ≡ pages (processes m) (blank_ledger m)
+  pub seats : used_frames m.owners + used_slots m.owners ≡ m.pages
+  -- until a call answers Failed there is an exchange frame
+  pub room : IsUsable m → HasExchangeFrame m.owners
+  -- This part goes when pages can be out: until then the store isn't used.
+  pub no_slots : m.slots ≡ 0

@@ -1,0 +1,6 @@
+//! The memory of the machine: a lawful ledger of pages and loans, in the bytes of RAM.
+#![tactic(auto)]
+
+mod memory;
+
+pub use memory::{BootError, BootFault, Here, Memory, User};

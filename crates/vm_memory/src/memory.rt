@@ -1,0 +1,72 @@
+//! The memory of the machine.
+
+mod access;
+mod boot;
+mod changes;
+mod making;
+mod pages;
+mod readers;
+mod removing;
+mod run_tests;
+mod user;
+
+pub use user::User;
+
+use phys_pages::{LoanInfo, Owners, Ram};
+use thiserror::Error;
+use xk_base::{LoanKind, Number, Place, Right};
+use xk_ports::SwapStore;
+
+/// The pages of all processes, with their rights and loans. Rights stand in the entries of the
+/// page tables, which are bytes of RAM; a page's home and loan stand in the owner table beside its
+/// seat, which is a frame of RAM or a slot of the store.
+pub struct Memory<W: SwapStore> {
+    ram: Ram,
+    owners: Owners,
+    store: W,
+    // A call has answered `Failed`.
+    failed: bool,
+    // Processes that it was made for; their pids are 2 and up.
+    procs: u32,
+    // Slots of the store that it uses, from 0 on.
+    slots: u32,
+    // Pages and orphans, the console not counted.
+    pages: u32,
+}
+
+/// Why a memory isn't made.
+#[derive(Clone, Copy, Debug, PartialEq, Eq, Error)]
+pub enum BootError {
+    /// There was no memory.
+    #[error("no memory for the machine")]
+    NoMemory,
+    /// The store failed; it has counted it.
+    #[error("the store failed")]
+    SwapFault,
+}
+
+/// A boot that failed hands the store back.
+#[derive(Debug, Drop)]
+pub struct BootFault<W> {
+    pub why: BootError,
+    pub store: W,
+}
+
+/// What the ledger has at a place.
+#[derive(Clone, Copy, Debug, PartialEq, Eq)]
+pub enum Here {
+    /// It is no home, holder place or orphan's place.
+    Nothing,
+    /// The home of a page, with its right, whether it is the console, and its loan.
+    Own {
+        right: Right,
+        console: bool,
+        loan: Option<LoanInfo>,
+    },
+    /// The place of a page on loan to the process; without a lender it is an orphan.
+    Lent {
+        kind: LoanKind,
+        lender: Option<Place>,
+        number: Number,
+    },
+}

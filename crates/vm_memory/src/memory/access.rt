@@ -1,0 +1,178 @@
+//! What stands at a place, by its entry, and where an access leads.
+
+ghost use Rattle.std.specs.Option.{option_copied};
+ghost use Rattle.std.specs.Prelude.{◌≡◌, ℕ, ◌<◌, Some, true, IsSome};
+ghost use Rattle.ledger_model.specs.Places.{is_process, is_user_place};
+ghost use Rattle.phys_pages.specs.Ram.{area};
+ghost use Rattle.sv32_space.specs.SpelledEntries.{entries, entry_of_kind};
+ghost use Rattle.vm_memory.specs.Bytes.{is_near};
+ghost use Rattle.vm_memory.specs.EntryAccess.{entry_target, is_given_target, is_page_target, page_of, side_here};
+ghost use Rattle.vm_memory.specs.Here.{here_at};
+ghost use Rattle.vm_memory.specs.Lending.{frame_named};
+ghost use Rattle.vm_memory.specs.Memory.{ledger, processes, ram_of};
+ghost use Rattle.vm_memory.specs.Sound.{IsSound};
+ghost use Rattle.xk_base.specs.Windows.{window_at};
+
+use crate::memory::{Here, Memory};
+use phys_pages::{PageInfo, Seat};
+use sv32_space::{EntryKind, Side, Walked, kind_of, leaf, root_of, walk};
+use xk_base::limits::PAGE_SIZE;
+use xk_base::{Access, Frame, LoanKind, Number, Pid, Place, Right, Slot, window_of};
+use xk_ports::SwapStore;
+
+/// Where an access leads.
+#[derive(Clone, Copy, Debug, PartialEq, Eq)]
+pub(crate) enum Target {
+    Page(Frame),
+    Console,
+    Nothing,
+}
+
+impl Target {
+    fn is_page(&self) -> bool
+        ensures { result ≡ is_page_target self.now }
+    {
+        matches!(self, Target::Page(_))
+    }
+
+    // Whether the process has the access.
+    pub(crate) fn is_given(&self) -> bool
+        ensures { result ≡ is_given_target self.now }
+    {
+        !matches!(self, Target::Nothing)
+    }
+}
+
+// What `at` tells of a side of a page.
+fn here(side: Side, info: Option<&PageInfo>) -> Here
+    ensures { result ≡ side_here side (option_copied info.entry) }
+{
+    let home = info.and_then(|info| info.home);
+    let loan = info.and_then(|info| info.loan);
+    let number = match loan {
+        Some(loan) => loan.number,
+        None => Number(0),
+    };
+    match side {
+        Side::Own(right) => Here::Own {
+            right,
+            console: false,
+            loan: None,
+        },
+        Side::LentOut(right) => Here::Own {
+            right,
+            console: false,
+            loan,
+        },
+        Side::LentIn => Here::Lent {
+            kind: LoanKind::Shared,
+            lender: home,
+            number,
+        },
+        Side::MutOut { x } => Here::Own {
+            right: Right { w: true, x },
+            console: false,
+            loan,
+        },
+        Side::MutIn => Here::Lent {
+            kind: LoanKind::Exclusive,
+            lender: home,
+            number,
+        },
+    }
+}
+
+impl<W: SwapStore> Memory<W> {
+    // Whether it is one of the processes that the memory was made for.
+    fn has_process(&self, pid: Pid) -> bool
+        requires sound { IsSound W.slot_count self.now }
+        ensures { result ≡ is_process (processes self.now) pid.0 }
+    {
+        2 <= pid.0 && (pid.0 as u32) < self.procs + 2
+    }
+
+    // Whether a page may stand there: in a window of a process.
+    pub(crate) fn has_place(&self, at: Place) -> bool
+        requires sound { IsSound W.slot_count self.now }
+        ensures { result ≡ is_user_place (processes self.now) at }
+    {
+        self.has_process(at.pid) && window_of(at.vpn).is_some()
+    }
+
+    // What the entry of a place says.
+    pub(crate) fn kind(&self, at: Place) -> EntryKind
+        requires sound { IsSound W.slot_count self.now }
+        requires place { is_user_place (processes self.now) at ≡ true }
+        ensures { entries (processes self.now) (ram_of self.now) at ≡ entry_of_kind (area (ram_of self.now)) (Some result) }
+    {
+        match kind_of(leaf(&self.ram, at)) {
+            Some(kind) => kind,
+            None => unreachable!(),
+        }
+    }
+
+    // The frame of a near place.
+    pub(crate) fn frame(&self, at: Place) -> Frame
+        requires sound { IsSound W.slot_count self.now }
+        requires near { is_near self.now at ≡ true }
+        ensures named { result.0 ≡ frame_named (entries (processes self.now) (ram_of self.now) at) }
+        ensures inside { result.0 < (area (ram_of self.now)).frames }
+    {
+        match self.kind(at) {
+            EntryKind::Here { side: _, ppn } => match self.ram.frame_of(ppn) {
+                Some(f) => f,
+                None => unreachable!(),
+            },
+            _ => unreachable!(),
+        }
+    }
+
+    // Where an access at a virtual address leads, by the walk of Sv32 in the process's page tables.
+    pub(crate) fn find(&self, pid: Pid, va: u32, access: Access) -> Target
+        requires sound { IsSound W.slot_count self.now }
+        ensures { result ≡ entry_target (entries (processes self.now) (ram_of self.now) (page_of pid va)) access }
+    {
+        if !self.has_process(pid) {
+            return Target::Nothing;
+        }
+        match walk(&self.ram, root_of(pid), va, access) {
+            Walked::PageFault => Target::Nothing,
+            Walked::Reaches(pa) => match self.ram.frame_of((pa / 4096) as u32) {
+                Some(f) => Target::Page(f),
+                None => Target::Console,
+            },
+        }
+    }
+
+    // Whether an access leads to a page at that place.
+    pub(crate) fn leads_to_page(&self, at: Place, access: Access) -> bool
+        requires sound { IsSound W.slot_count self.now }
+        ensures { result ≡ is_page_target (entry_target (entries (processes self.now) (ram_of self.now) at) access) }
+    {
+        self.has_place(at) && self.find(at.pid, at.vpn.0 * PAGE_SIZE, access).is_page()
+    }
+
+    /// What the ledger has at a place. It takes any place; `Nothing` comes exactly where it is no
+    /// home, holder place or orphan's place.
+    pub fn at(&self, place: Place) -> Here
+        requires sound { IsSound W.slot_count self.now }
+        ensures { result ≡ here_at (processes self.now) (ledger W.held self.now) place }
+    {
+        if !self.has_place(place) {
+            return Here::Nothing;
+        }
+        match self.kind(place) {
+            EntryKind::Free => Here::Nothing,
+            EntryKind::Here { side, ppn } => match (self.ram.frame_of(ppn), side) {
+                (Some(f), _) => here(side, self.owners.info(Seat::Frame(f))),
+                (None, Side::Own(right)) => Here::Own {
+                    right,
+                    console: true,
+                    loan: None,
+                },
+                (None, _) => unreachable!(),
+            },
+            EntryKind::Out { side, slot } => here(side, self.owners.info(Seat::Slot(Slot(slot)))),
+        }
+    }
+}

@@ -1,0 +1,219 @@
+//! The changes of one page: it comes, goes, or gets another right, in its entry and in the owner table.
+
+ghost use Rattle.std.specs.Prelude.{◌≡◌, ◌≢◌, ℕ, ◌+◌, ◌*◌, ◌<◌, ◌≤◌, Some, None, true, false, nat_eq, IsSome, IsTrue};
+ghost use Rattle.xk_base.specs.Counting.{put_at};
+ghost use Rattle.xk_base.specs.Windows.{window_at};
+ghost use Rattle.ledger_model.specs.Conditions.{CanMakeConsole};
+ghost use Rattle.ledger_model.specs.Places.{in_run, is_process, is_user_place, same_place};
+ghost use Rattle.ledger_model.specs.Reach.{is_free, role_at};
+ghost use Rattle.ledger_model.specs.RunTests.{asks_more, is_on_loan};
+ghost use Rattle.ledger_model.specs.Steps.{make, make_console, reduce, remove, zero_page};
+ghost use Rattle.phys_pages.specs.Owners.{AreFramesUsed, infos, seat_eq};
+ghost use Rattle.phys_pages.specs.Ram.{area, pages};
+ghost use Rattle.sv32_space.specs.Agreement.{owned_by};
+ghost use Rattle.sv32_space.specs.Entries.{At, Free, OnConsole};
+ghost use Rattle.sv32_space.specs.Spaces.{IsMade};
+ghost use Rattle.sv32_space.specs.SpelledEntries.{IsEntry, entries, entry_of_kind};
+ghost use Rattle.sv32_space.specs.Spellings.{IsKind};
+ghost use Rattle.vm_memory.specs.Changing.{IsFreeFrame, KeepsRest, own_right, owned_in};
+ghost use Rattle.vm_memory.specs.Memory.{capacity_of, ledger, processes, ram_of};
+ghost use Rattle.vm_memory.specs.Sound.{HasExchangeFrame, IsSound};
+
+use crate::memory::Memory;
+use phys_pages::{PageInfo, Ram, Seat};
+use sv32_space::{EntryKind, Side, entry_of, set_leaf};
+use xk_base::limits::{CONSOLE_ADDRESS, PAGE_SIZE};
+use xk_base::{Frame, Place, Right, Slot};
+use xk_ports::SwapStore;
+
+/// What of its own, not on loan, a process has at a place.
+#[derive(Clone, Copy, Debug, PartialEq, Eq)]
+pub(crate) enum Owned {
+    Nothing,
+    Page(Right, Seat),
+    /// The console, and whether it may be stored to.
+    Console(bool),
+}
+
+// The right of a page's owner; `None` where it is on loan.
+fn own_right(side: Side) -> Option<Right>
+    ensures { result ≡ own_right side }
+{
+    match side {
+        Side::Own(right) => Some(right),
+        Side::LentOut(_) => None,
+        Side::LentIn => None,
+        Side::MutOut { x: _ } => None,
+        Side::MutIn => None,
+    }
+}
+
+// Fills a frame with zeros.
+#[tactic(auto, using(phys_pages::proofs::PageLaws::page_writes, crate::proofs::Steps::cleared))]
+fn clear(ram: &mut Ram, f: Frame)
+    requires { f.0 < (area ram.old).frames }
+    ensures pages { pages ram.new ≡ put_at nat_eq (pages ram.old) f.0 zero_page }
+    ensures area { area ram.new ≡ area ram.old }
+{
+    ram.page_mut(f).fill(0);
+}
+
+// Writes the entry of a place.
+fn write_entry(ram: &mut Ram, at: Place, kind: EntryKind)
+    requires made { IsMade ram.old at.pid.0 }
+    requires window { IsSome (window_at at.vpn.0) }
+    requires kind { IsKind kind }
+    ensures entries { (procs : ℕ) → is_process procs at.pid.0 ≡ true
+        → entries procs ram.new ≡ put_at same_place (entries procs ram.old) at (entry_of_kind (area ram.old) (Some kind)) }
+    ensures pages { (procs f : ℕ) → is_process procs at.pid.0 ≡ true → 21 * procs ≤ f → pages ram.new f ≡ pages ram.old f }
+    ensures made { (pid : ℕ) → IsMade ram.old pid → IsMade ram.new pid }
+    ensures area { area ram.new ≡ area ram.old }
+{
+    set_leaf(ram, at, entry_of(kind));
+}
+
+// How the entry of a side of the page at a seat is spelled.
+fn seat_kind(ram: &Ram, side: Side, seat: Seat) -> EntryKind
+    requires { IsEntry (area ram.now) (At side seat) }
+    ensures kind { IsKind result }
+    ensures entry { entry_of_kind (area ram.now) (Some result) ≡ Some (At side seat) }
+{
+    match seat {
+        Seat::Frame(f) => EntryKind::Here {
+            side,
+            ppn: ram.ppn_of(f),
+        },
+        Seat::Slot(s) => EntryKind::Out { side, slot: s.0 },
+    }
+}
+
+// How the console's entry is spelled.
+fn console_kind(ram: &Ram, w: bool) -> EntryKind
+    ensures kind { IsKind result }
+    ensures entry { entry_of_kind (area ram.now) (Some result) ≡ Some (OnConsole w) }
+{
+    let _frames = ram.frames();
+    EntryKind::Here {
+        side: Side::Own(Right { w, x: false }),
+        ppn: CONSOLE_ADDRESS / PAGE_SIZE,
+    }
+}
+
+impl<W: SwapStore> Memory<W> {
+    // What of its own the process has at a place.
+    fn owned(&self, at: Place) -> Owned
+        requires sound { IsSound W.slot_count self.now }
+        ensures { result ≡ owned_in (entries (processes self.now) (ram_of self.now) at) }
+    {
+        if !self.has_place(at) {
+            return Owned::Nothing;
+        }
+        match self.kind(at) {
+            EntryKind::Free => Owned::Nothing,
+            EntryKind::Here { side, ppn } => match (own_right(side), self.ram.frame_of(ppn)) {
+                (None, _) => Owned::Nothing,
+                (Some(right), Some(f)) => Owned::Page(right, Seat::Frame(f)),
+                (Some(right), None) => Owned::Console(right.w),
+            },
+            EntryKind::Out { side, slot } => match own_right(side) {
+                None => Owned::Nothing,
+                Some(right) => Owned::Page(right, Seat::Slot(Slot(slot))),
+            },
+        }
+    }
+
+    // The first free frame from one on.
+    pub(crate) fn free_frame_from(&self, from: Frame) -> Frame
+        requires sound { IsSound W.slot_count self.now }
+        requires room { HasExchangeFrame self.now.owners }
+        requires low { 21 * processes self.now ≤ from.0 }
+        requires used { AreFramesUsed self.now.owners from.0 }
+        ensures free { IsFreeFrame self.now.owners result.0 }
+        ensures used { AreFramesUsed self.now.owners result.0 }
+        ensures low { from.0 ≤ result.0 }
+    {
+        for k in from.0..self.ram.frames() {
+            if self.owners.info(Seat::Frame(Frame(k))).is_none() {
+                return Frame(k);
+            }
+        }
+        unreachable!()
+    }
+
+    // A page of zeros comes to a free place, in a free frame.
+    pub(crate) fn place_page(&mut self, at: Place, right: Right, f: Frame)
+        requires sound { IsSound W.slot_count self.old }
+        requires place { is_user_place (processes self.old) at ≡ true }
+        requires free { is_free (processes self.old) (ledger W.held self.old) at ≡ true }
+        requires room { self.old.pages + 1 ≤ capacity_of self.old }
+        requires frame { IsFreeFrame self.old.owners f.0 }
+        ensures sound { IsSound W.slot_count self.new }
+        ensures ledger { ledger W.held self.new ≡ make at 1 right (ledger W.held self.old) }
+        ensures owners { infos self.new.owners ≡ put_at seat_eq (infos self.old.owners) (Seat.Frame f) (Some (owned_by at)) }
+        ensures pages { self.new.pages ≡ self.old.pages + 1 }
+        ensures rest { KeepsRest self.old self.new }
+    {
+        clear(&mut self.ram, f);
+        let kind = seat_kind(&self.ram, Side::Own(right), Seat::Frame(f));
+        write_entry(&mut self.ram, at, kind);
+        let info = PageInfo {
+            home: Some(at),
+            loan: None,
+        };
+        self.owners.set(Seat::Frame(f), Some(info));
+        self.pages += 1;
+    }
+
+    // The console comes to a free place.
+    pub(crate) fn place_console(&mut self, at: Place, w: bool)
+        requires sound { IsSound W.slot_count self.old }
+        requires can { CanMakeConsole (processes self.old) (ledger W.held self.old) at }
+        ensures sound { IsSound W.slot_count self.new }
+        ensures ledger { ledger W.held self.new ≡ make_console at w (ledger W.held self.old) }
+        ensures rest { KeepsRest self.old self.new }
+    {
+        let kind = console_kind(&self.ram, w);
+        write_entry(&mut self.ram, at, kind);
+    }
+
+    // The page of a place goes, if there is one.
+    pub(crate) fn drop_page(&mut self, at: Place)
+        requires sound { IsSound W.slot_count self.old }
+        requires not_lent { is_on_loan (role_at (processes self.old) (ledger W.held self.old) at) ≡ false }
+        ensures sound { IsSound W.slot_count self.new }
+        ensures ledger { ledger W.held self.new ≡ remove (in_run at 1) (ledger W.held self.old) }
+        ensures rest { KeepsRest self.old self.new }
+    {
+        match self.owned(at) {
+            Owned::Nothing => {}
+            Owned::Page(_, seat) => {
+                write_entry(&mut self.ram, at, EntryKind::Free);
+                self.owners.set(seat, None);
+                self.pages -= 1;
+            }
+            Owned::Console(_) => write_entry(&mut self.ram, at, EntryKind::Free),
+        }
+    }
+
+    // The page of a place gets another right, if there is one.
+    pub(crate) fn set_right(&mut self, at: Place, right: Right)
+        requires sound { IsSound W.slot_count self.old }
+        requires not_lent { is_on_loan (role_at (processes self.old) (ledger W.held self.old) at) ≡ false }
+        requires within { asks_more right ((ledger W.held self.old).home at) ≡ false }
+        ensures sound { IsSound W.slot_count self.new }
+        ensures ledger { ledger W.held self.new ≡ reduce (in_run at 1) right (ledger W.held self.old) }
+        ensures rest { KeepsRest self.old self.new }
+    {
+        match self.owned(at) {
+            Owned::Nothing => {}
+            Owned::Page(_, seat) => {
+                let kind = seat_kind(&self.ram, Side::Own(right), seat);
+                write_entry(&mut self.ram, at, kind);
+            }
+            Owned::Console(_) => {
+                let kind = console_kind(&self.ram, right.w);
+                write_entry(&mut self.ram, at, kind);
+            }
+        }
+    }
+}

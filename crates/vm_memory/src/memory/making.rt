@@ -1,0 +1,146 @@
+//! Pages are made.
+
+ghost use Rattle.std.specs.Prelude.{◌≡◌, ℕ, ◌+◌, ◌<◌, ◌≤◌, true, IfOk, OnOk, OnErr};
+ghost use Rattle.ledger_model.specs.Conditions.{CanMake};
+ghost use Rattle.ledger_model.specs.Ledger.{pages};
+ghost use Rattle.ledger_model.specs.Loans.{bare};
+ghost use Rattle.ledger_model.specs.Places.{is_process};
+ghost use Rattle.ledger_model.specs.Steps.{make};
+ghost use Rattle.vm_memory.specs.Bytes.{KeepsStore, MeansBytes, MeansBytesOver};
+ghost use Rattle.vm_memory.specs.Changing.{KeepsRest};
+ghost use Rattle.vm_memory.specs.Making.{HasMadeFirst, after_console, after_make, console_answer, make_answer, run_place};
+ghost use Rattle.vm_memory.specs.Memory.{IsUsable, capacity_of, frames_for_pages, has_failed, ledger, processes, size, store_of};
+ghost use Rattle.vm_memory.specs.Sound.{IsSound};
+ghost use Rattle.vm_memory.specs.Tie.{IsTied};
+ghost use Rattle.xk_base.specs.Outside.{Rose};
+
+use crate::memory::Memory;
+use crate::memory::run_tests::{RunTest, fits};
+use xk_base::{Failed, Frame, Pid, Place, Right, Vpn, Window, XousError};
+use xk_ports::SwapStore;
+
+impl<W: SwapStore> Memory<W> {
+    // Where n pages of a process go: at the named page, or at the least free run.
+    fn find_run(&self, pid: Pid, window: Window, at: Option<Vpn>, n: u32) -> Result<Vpn, XousError>
+        requires sound { IsSound W.slot_count self.now }
+        requires some { 1 ≤ n }
+        ensures { result ≡ run_place (processes self.now) (ledger W.held self.now) pid window at n }
+    {
+        let Some(first) = at else {
+            return self.free_run(pid, window, n).ok_or(XousError::MemoryInUse);
+        };
+        if !fits(window, first, n) {
+            return Err(XousError::BadAddress);
+        }
+        if self.any(Place { pid, vpn: first }, n, RunTest::Used) {
+            return Err(XousError::MemoryInUse);
+        }
+        Ok(first)
+    }
+
+    // .. and the capacity must hold.
+    fn find_room(&self, pid: Pid, window: Window, at: Option<Vpn>, n: u32) -> Result<Vpn, XousError>
+        requires sound { IsSound W.slot_count self.now }
+        requires some { 1 ≤ n }
+        ensures { result ≡ make_answer (processes self.now) (capacity_of self.now) (ledger W.held self.now) pid window at n }
+    {
+        let first = self.find_run(pid, window, at, n)?;
+        if self.pages() as u64 + n as u64 > self.cap() as u64 {
+            return Err(XousError::OutOfMemory);
+        }
+        Ok(first)
+    }
+
+    // Makes the pages of a free run, one after another; the search for frames goes on from the last.
+    fn make_pages(&mut self, first: Place, n: u32, right: Right)
+        requires sound { IsSound W.slot_count self.old }
+        requires usable { IsUsable self.old }
+        requires can { CanMake (processes self.old) (capacity_of self.old) (ledger W.held self.old) first n }
+        ensures sound { IsSound W.slot_count self.new }
+        ensures ledger { ledger W.held self.new ≡ make first n right (ledger W.held self.old) }
+        ensures rest { KeepsRest self.old self.new }
+    {
+        let mut hand = Frame(21 * self.procs);
+        for i in 0..n {
+            let f = self.free_frame_from(hand);
+            let at = Place {
+                pid: first.pid,
+                vpn: Vpn(first.vpn.0 + i),
+            };
+            self.place_page(at, right, f);
+            hand = Frame(f.0 + 1);
+        }
+    }
+
+    /// Makes n pages of zeros, with that right and without a loan, in a window of a process: from
+    /// the named page on, or at the least free run. It refuses with `BadAddress` where the run
+    /// leaves the window, then with `MemoryInUse` where a place is used or no run is free, then with
+    /// `OutOfMemory` past `cap`; nothing changes then. It takes time by n and one pass over the
+    /// frames. `Failed`, of the store, may leave the first pages of the run.
+    pub fn make(
+        &mut self,
+        pid: Pid,
+        window: Window,
+        at: Option<Vpn>,
+        n: u32,
+        right: Right,
+    ) -> Result<Result<Vpn, XousError>, Failed>
+        requires sound { IsSound W.slot_count self.old }
+        requires usable { IsUsable self.old }
+        requires process { is_process (processes self.old) pid.0 ≡ true }
+        requires some { 1 ≤ n }
+        ensures sound { IsSound W.slot_count self.new }
+        ensures answer { IfOk result (λ answer. answer
+            ≡ make_answer (processes self.old) (capacity_of self.old) (ledger W.held self.old) pid window at n) }
+        ensures rights { IfOk result (λ answer. bare (ledger W.held self.new) ≡ bare (after_make pid n right answer (ledger W.held self.old))) }
+        ensures whole { MeansBytesOver W.is_honest W.held self.old self.new
+            → IfOk result (λ answer. ledger W.held self.new ≡ after_make pid n right answer (ledger W.held self.old)) }
+        ensures usable { OnOk result (IsUsable self.new) }
+        ensures failed { OnErr result (has_failed self.new ≡ true) }
+        ensures partial { OnErr result (HasMadeFirst
+            (make_answer (processes self.old) (capacity_of self.old) (ledger W.held self.old) pid window at n)
+            pid n right (ledger W.held self.old) (ledger W.held self.new)) }
+        ensures cause { OnErr result (Rose (W.faults (store_of self.old)) (W.faults (store_of self.new))) }
+        ensures full { OnErr result (frames_for_pages self.old < pages (processes self.old) (ledger W.held self.old) + n) }
+        ensures tie { IsTied W.held self.new }
+        ensures size { size self.new ≡ size self.old }
+        ensures store { KeepsStore W.is_honest W.held W.slot_count W.asked W.faults (store_of self.old) (store_of self.new) }
+    {
+        match self.find_room(pid, window, at, n) {
+            Err(error) => Ok(Err(error)),
+            Ok(first) => {
+                self.make_pages(Place { pid, vpn: first }, n, right);
+                Ok(Ok(first))
+            }
+        }
+    }
+
+    /// Maps the console's page, to be loaded from and, with `w`, stored to, in the Map window of a
+    /// process: at the named page, or at the least free one. It refuses with `MemoryInUse` where the
+    /// console is mapped, then with `BadAddress` where the page isn't in the window, and
+    /// `MemoryInUse` where it is used or none is free; nothing changes then.
+    pub fn make_console(&mut self, pid: Pid, at: Option<Vpn>, w: bool) -> Result<Vpn, XousError>
+        requires sound { IsSound W.slot_count self.old }
+        requires usable { IsUsable self.old }
+        requires process { is_process (processes self.old) pid.0 ≡ true }
+        ensures sound { IsSound W.slot_count self.new }
+        ensures answer { result ≡ console_answer (processes self.old) (ledger W.held self.old) pid at }
+        ensures ledger { ledger W.held self.new ≡ after_console pid w result (ledger W.held self.old) }
+        ensures usable { IsUsable self.new }
+        ensures tie { IsTied W.held self.new }
+        ensures size { size self.new ≡ size self.old }
+        ensures store { store_of self.new ≡ store_of self.old }
+        ensures means { MeansBytes W.is_honest W.held self.old → MeansBytes W.is_honest W.held self.new }
+    {
+        if self.console_mapped() {
+            return Err(XousError::MemoryInUse);
+        }
+        match self.find_run(pid, Window::Map, at, 1) {
+            Err(error) => Err(error),
+            Ok(first) => {
+                self.place_console(Place { pid, vpn: first }, w);
+                Ok(first)
+            }
+        }
+    }
+}

@@ -1,0 +1,61 @@
+//! What a memory tells without a change.
+
+ghost use Rattle.std.specs.Prelude.{◌≡◌, ℕ};
+ghost use Rattle.ledger_model.specs.Ledger.{pages};
+ghost use Rattle.ledger_model.specs.Loans.{IsFresh, loans};
+ghost use Rattle.vm_memory.specs.Here.{here_at};
+ghost use Rattle.vm_memory.specs.Memory.{capacity_of, ledger, processes, ram_of, store_of};
+ghost use Rattle.vm_memory.specs.Sound.{IsSound};
+ghost use Rattle.vm_memory.specs.Tie.{IsTied};
+ghost use Rattle.xk_base.specs.declared.ids.Number.{Number};
+
+use crate::memory::{Here, Memory};
+use phys_pages::Ram;
+use xk_base::Place;
+use xk_ports::SwapStore;
+
+impl<W: SwapStore> Memory<W> {
+    /// The RAM. Its bytes, with what the store's slots hold, stand for the ledger.
+    pub fn ram(&self) -> &Ram
+        requires sound { IsSound W.slot_count self.now }
+        ensures bytes { result.now ≡ ram_of self.now }
+        ensures tie { IsTied W.held self.now }
+    {
+        &self.ram
+    }
+
+    /// How many pages and orphans there are, the console not counted.
+    pub fn pages(&self) -> u32
+        requires sound { IsSound W.slot_count self.now }
+        ensures { result ≡ pages (processes self.now) (ledger W.held self.now) }
+    {
+        self.pages
+    }
+
+    /// How many pages there may be: one for each frame outside the page tables but the one that is
+    /// always free, and one for each slot.
+    pub fn cap(&self) -> u32
+        requires sound { IsSound W.slot_count self.now }
+        ensures { result ≡ capacity_of self.now }
+    {
+        self.ram.frames() - 21 * self.procs - 1 + self.slots
+    }
+
+    /// Hands the store back. No loan may stand.
+    pub fn close(self) -> W
+        requires sound { IsSound W.slot_count self }
+        requires no_loan { (number : Number) → IsFresh (loans (ledger W.held self)) number }
+        ensures { result ≡ store_of self }
+    {
+        let Memory {
+            ram: _,
+            owners: _,
+            store,
+            failed: _,
+            procs: _,
+            slots: _,
+            pages: _,
+        } = self;
+        store
+    }
+}

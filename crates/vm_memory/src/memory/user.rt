@@ -1,0 +1,146 @@
+//! The memory of one process, as its instructions see it.
+
+ghost use Rattle.std.specs.Prelude.{◌≡◌, ◌+◌, ◌%◌, ◌<◌, ◌≤◌, ℕ, true, length, slice_index, Some};
+ghost use Rattle.ledger_model.specs.Steps.{written};
+ghost use Rattle.sv32_space.specs.SpelledEntries.{entries};
+ghost use Rattle.vm_memory.specs.EntryAccess.{entry_may, entry_target, page_of};
+ghost use Rattle.vm_memory.specs.Memory.{processes, ram_of};
+ghost use Rattle.vm_memory.specs.Sound.{IsSound};
+ghost use Rattle.vm_memory.specs.UserStores.{DoesStore, low_bytes};
+ghost use Rattle.vm_memory.specs.UserView.{user_view};
+ghost use Rattle.xk_base.specs.UserMemory.{GivesNumber, number_at, size_of};
+ghost use Rattle.xk_base.specs.declared.pages.Access.TheVariants.{Store};
+
+use crate::memory::Memory;
+use crate::memory::access::Target;
+use xk_base::limits::PAGE_SIZE;
+use xk_base::{Access, Failed, Pid, Stored, UserMemory, Width};
+use xk_ports::SwapStore;
+
+/// A process's memory by virtual addresses. It is fit for use exactly where the memory hasn't
+/// answered `Failed`. A process that the memory wasn't made for reaches nothing.
+pub struct User<'a, W: SwapStore> {
+    pub mem: &'a mut Memory<W>,
+    pub pid: Pid,
+}
+
+// The number of that width at an offset of a page, lowest byte first.
+fn number(page: &[u8], offset: u32, width: Width) -> u32
+    requires whole { length page.now ≡ 4096 }
+    requires aligned { offset % size_of width ≡ 0 }
+    requires within { offset < 4096 }
+    ensures { result ≡ number_at (λ i. slice_index page.now i) offset width }
+{
+    let at = offset as usize;
+    match width {
+        Width::Byte => u32::from(page[at]),
+        Width::Half => u32::from(u16::from_le_bytes([page[at], page[at + 1]])),
+        Width::Word => u32::from_le_bytes([page[at], page[at + 1], page[at + 2], page[at + 3]]),
+    }
+}
+
+// Puts the low bytes of a value at an offset of a page, lowest byte first.
+fn put(page: &mut [u8], offset: u32, width: Width, value: u32)
+    requires whole { length page.old ≡ 4096 }
+    requires aligned { offset % size_of width ≡ 0 }
+    requires within { offset < 4096 }
+    ensures { page.new ≡ written page.old offset (low_bytes width value) }
+{
+    let at = offset as usize;
+    let [first, second, third, fourth] = value.to_le_bytes();
+    match width {
+        Width::Byte => page[at] = first,
+        Width::Half => {
+            page[at] = first;
+            page[at + 1] = second;
+        }
+        Width::Word => {
+            page[at] = first;
+            page[at + 1] = second;
+            page[at + 2] = third;
+            page[at + 3] = fourth;
+        }
+    }
+}
+
+impl<W: SwapStore> Memory<W> {
+    // The number of that width at an address, where the process has the access; 0 in the console's
+    // page.
+    fn number_at(&self, pid: Pid, va: u32, width: Width, access: Access) -> Option<u32>
+        requires sound { IsSound W.slot_count self.now }
+        requires aligned { va % size_of width ≡ 0 }
+        ensures { GivesNumber ((user_view W.held self.now pid).may access va) (Some ((user_view W.held self.now pid).byte)) va width result }
+    {
+        match self.find(pid, va, access) {
+            Target::Page(f) => Some(number(self.ram.page(f), va % PAGE_SIZE, width)),
+            Target::Console => Some(0),
+            Target::Nothing => None,
+        }
+    }
+
+    // Stores the low bytes of a value at an address, where the process may store there and it isn't
+    // the console's page.
+    fn put_at(&mut self, pid: Pid, va: u32, width: Width, value: u32) -> Stored
+        requires sound { IsSound W.slot_count self.old }
+        requires aligned { va % size_of width ≡ 0 }
+        ensures { DoesStore self.old self.new pid va width value result }
+    {
+        match self.find(pid, va, Access::Store) {
+            Target::Page(f) => {
+                put(self.ram.page_mut(f), va % PAGE_SIZE, width, value);
+                Stored::Done
+            }
+            Target::Console => Stored::Device(va % PAGE_SIZE),
+            Target::Nothing => Stored::Fault,
+        }
+    }
+
+    // Whether the process may store at an address.
+    fn may_store(&self, pid: Pid, va: u32) -> bool
+        requires sound { IsSound W.slot_count self.now }
+        ensures { result ≡ (user_view W.held self.now pid).may Store va }
+    {
+        self.find(pid, va, Access::Store).is_given()
+    }
+}
+
+impl<W: SwapStore> UserMemory for User<'_, W> {
+    ghost use Rattle.std.specs.Prelude.{◌≡◌};
+    ghost use Rattle.vm_memory.specs.Memory.{IsUsable};
+    ghost use Rattle.vm_memory.specs.Sound.{IsSound};
+    ghost use Rattle.vm_memory.specs.UserView.{user_content, user_view, KeepsRest};
+    ghost use Rattle.std.proofs.Common.{◌∙◌};
+    ghost use Rattle.vm_memory.specs.UserRest.{pid_rest_over};
+
+    ghost may = { λ u. (user_view W.held u.mem.now u.pid).may };
+
+    ghost console = { λ u. (user_view W.held u.mem.now u.pid).console };
+
+    ghost content = { λ u. user_content W.is_honest W.held u.mem.now u.pid };
+
+    ghost fit = { λ u. IsSound W.slot_count u.mem.now × IsUsable u.mem.now };
+
+    ghost faults = { λ u. W.faults u.mem.now.store };
+
+    ghost same_rest = { λ a b. (b.mem.ghost_name ≡ a.mem.ghost_name) × (b.pid ≡ a.pid) × KeepsRest W.is_honest W.held W.slot_count W.asked W.faults a.pid a.mem.now b.mem.now };
+
+    ghost bounded = { λ u. W.bounded u.mem.now.store };
+
+    ghost rest_over = { λ a b c x y. (y.0 ∙ x.0, y.1 ∙ x.1, pid_rest_over W.is_honest W.held W.slot_count W.asked W.faults a.pid b.pid a.mem.now b.mem.now c.mem.now x.1 x.2 y.2) };
+
+    fn fetch(&mut self, va: u32) -> Result<Option<u32>, Failed> {
+        Ok(self.mem.number_at(self.pid, va, Width::Word, Access::Fetch))
+    }
+
+    fn load(&mut self, va: u32, width: Width) -> Result<Option<u32>, Failed> {
+        Ok(self.mem.number_at(self.pid, va, width, Access::Load))
+    }
+
+    fn store(&mut self, va: u32, width: Width, value: u32) -> Result<Stored, Failed> {
+        Ok(self.mem.put_at(self.pid, va, width, value))
+    }
+
+    fn can_store(&self, va: u32, _width: Width) -> bool {
+        self.mem.may_store(self.pid, va)
+    }
+}
