@@ -60,7 +60,7 @@ console_contents (Bytes bytes) e = absurd (both_ways false refl e)
 
 module _ {W : Type 0} (slot_count : W → ℕ) (held : W → Held) (m : Memory W) (sound : IsSound slot_count m) where
   -- the console lies in a Map window
-  console_in_map : (p : Place) → is_console ((ledger held m).home p) ≡ true → is_place_in (processes m) Map p ≡ true
+  pub console_in_map : (p : Place) → is_console ((ledger held m).home p) ≡ true → is_place_in (processes m) Map p ≡ true
   unfolding ledger blank_ledger ledger_of
   console_in_map p t =
       let told : is_console ((blank_ledger m).home p) ≡ true =

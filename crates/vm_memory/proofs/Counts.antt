@@ -31,13 +31,14 @@ count_join a (suc b) f =
 fails_somewhere : (n : ℕ) (f : ℕ → Bool) → count_below n f < n → (k : ℕ) × (k < n) × (f k ≡ false)
 unfolding count_below
 fails_somewhere zero f h = absurd (omega arith)
-fails_somewhere (suc n) f h = by_last (f n) refl h
+fails_somewhere (suc n) f h = by_last (f n) refl h (λ few. fails_somewhere n f few)
   where
-    by_last : (b : Bool) → f n ≡ b → count_below n f + (if b then 1 else 0) < suc n → (k : ℕ) × (k < suc n) × (f k ≡ false)
-    by_last false e g = (n, omega arith, e)
-    by_last true e g =
-        let before : (k : ℕ) × (k < n) × (f k ≡ false) = fails_somewhere n f (omega arith) in
-        (before.0, omega (arith, before.1), before.2)
+    by_last : (b : Bool) → f n ≡ b → count_below n f + (if b then 1 else 0) < suc n
+        → (count_below n f < n → (k : ℕ) × (k < n) × (f k ≡ false)) → (k : ℕ) × (k < suc n) × (f k ≡ false)
+    by_last false e g before = (n, omega arith, e)
+    by_last true e g before =
+        let found : (k : ℕ) × (k < n) × (f k ≡ false) = before (omega arith) in
+        (found.0, omega (arith, found.1), found.2)
 
 frame_there : (t : Extent) (k : ℕ) → k < t.frames → table_seat t k ≡ frame_seat (t.first + k)
 frame_there t k l = cond-true (nat_lt k t.frames) (frame_seat (t.first + k)) (slot_seat (k - t.frames)) (lt-ltb k t.frames l)

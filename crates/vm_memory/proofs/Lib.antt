@@ -1,3 +1,4 @@
+pub mod Answering
 pub mod BareLaws
 pub mod ByteWrites
 pub mod CallLaws
