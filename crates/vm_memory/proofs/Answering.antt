@@ -1,5 +1,5 @@
 -- What an answer of `make` or `make_console` tells of its run.
-use Rattle.std.proofs.Common.{◌≡◌, ℕ, ◌+◌, ◌<◌, ◌≤◌, if◌then◌else◌, Bool, true, false, not, ◌&&◌, Option, Some, None, refl, sym, ap, subst, ◌∙◌, inl, inr, arith}
+use Rattle.std.proofs.Common.{◌≡◌, ℕ, ◌+◌, ◌-◌, ◌<◌, ◌≤◌, if◌then◌else◌, Bool, true, false, not, ◌&&◌, Option, Some, None, refl, sym, ap, subst, ◌∙◌, inl, inr, arith}
 use Rattle.std.specs.Prelude.{is_some, nat_le, nat_lt, Result, Ok, Err}
 use Rattle.std.proofs.lemmas.Bool.{and_from, and_parts, both_ways, false_from_ne_true, leb-true, le-leb, ltb-false}
 use Rattle.std.proofs.lemmas.Option.{none-some, same_Some}
@@ -91,13 +91,13 @@ can_answered procs capacity l pid window at n first process e =
     let run : IsRunPlace procs l pid window n first = run_answered procs l pid window at n first parts.1 in
     record {
       lies = λ p there.
-          let at : (i : ℕ) × (i < n) × (p ≡ place_after (place_of pid first) i) = in_run-index (place_of pid first) n p there in
-          subst (λ q. is_user_place procs q ≡ true) (sym at.2)
-          (is_place_in-user procs window (place_after (place_of pid first) at.0)
-          (place_in procs pid window (first.0 + at.0) process (omega (arith, run.low)) (omega (arith, run.high, at.1))));
+          let up : (p.vpn.0 - first.0 < n) × (p ≡ place_after (place_of pid first) (p.vpn.0 - first.0)) = in_run-index (place_of pid first) n p there in
+          subst (λ q. is_user_place procs q ≡ true) (sym up.1)
+          (is_place_in-user procs window (place_after (place_of pid first) (p.vpn.0 - first.0))
+          (place_in procs pid window (first.0 + (p.vpn.0 - first.0)) process (omega (arith, run.low)) (omega (arith, run.high, up.0))));
       free = λ p there.
-          let at : (i : ℕ) × (i < n) × (p ≡ place_after (place_of pid first) i) = in_run-index (place_of pid first) n p there in
-          subst (λ q. is_free procs l q ≡ true) (sym at.2) (run.free at.0 at.1);
+          let up : (p.vpn.0 - first.0 < n) × (p ≡ place_after (place_of pid first) (p.vpn.0 - first.0)) = in_run-index (place_of pid first) n p there in
+          subst (λ q. is_free procs l q ≡ true) (sym up.1) (run.free (p.vpn.0 - first.0) up.0);
       room = ltb-false capacity (pages procs l + n) parts.0;
     }
 
