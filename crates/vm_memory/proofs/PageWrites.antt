@@ -125,7 +125,7 @@ near_entry m p near = by_entry (entries (processes m) m.ram p) refl near
     by_entry (Some (At side (Slot s))) e h = absurd (false≢true h)
     by_entry (Some (OnConsole w)) e h = absurd (false≢true h)
 
-whole_page : (old page : List ℕ) → length old ≡ 4096 → length page ≡ 4096 → page ≡ written old 0 page
+pub whole_page : (old page : List ℕ) → length old ≡ 4096 → length page ≡ 4096 → page ≡ written old 0 page
 whole_page old page a b =
     let rest : drop (0 + length page) old ≡ [] = drop_all (0 + length page) old (omega arith) in
     sym (ap (λ r. page ++ r) rest ∙ append-nil page)

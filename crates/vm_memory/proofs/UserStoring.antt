@@ -136,7 +136,7 @@ module _ {W : Type 0} (slot_count : W → ℕ) (held : W → Held) (m : Memory W
   abbrev U : SeenMemory
   U = seen_memory (processes m) (ledger held n) pid
 
-  t : IsPageTarget (E (page_of pid va)) Store f
+  pub t : IsPageTarget (E (page_of pid va)) Store f
   t = page_target (E (page_of pid va)) Store f target
 
   load : side_may t.side Load ≡ true

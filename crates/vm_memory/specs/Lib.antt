@@ -2,6 +2,7 @@ pub mod Access
 pub mod Bytes
 pub mod Changing
 pub mod EntryAccess
+pub mod FirstLedger
 pub mod Here
 pub mod Lending
 pub mod Making
@@ -9,6 +10,7 @@ pub mod Memory
 pub mod Removing
 pub mod RunTests
 pub mod Sound
+pub mod Starting
 pub mod Tie
 pub mod UserRest
 pub mod UserStores

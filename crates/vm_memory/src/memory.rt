@@ -1,6 +1,7 @@
 //! The memory of the machine.
 
 mod access;
+mod boot;
 mod changes;
 mod making;
 mod pages;

@@ -150,6 +150,7 @@ impl<W: SwapStore> Memory<W> {
         ensures sound { IsSound W.slot_count self.new }
         ensures ledger { ledger W.held self.new ≡ make at 1 right (ledger W.held self.old) }
         ensures owners { infos self.new.owners ≡ put_at seat_eq (infos self.old.owners) (Seat.Frame f) (Some (owned_by at)) }
+        ensures pages { self.new.pages ≡ self.old.pages + 1 }
         ensures rest { KeepsRest self.old self.new }
     {
         clear(&mut self.ram, f);

@@ -1,0 +1,35 @@
+use Rattle.std.proofs.Common.{ap, subst, sym, ◌∙◌, ◌≡◌, List, ℕ, length, Some}
+use Rattle.phys_pages.specs.Ram.{with_page}
+use Rattle.ledger_model.specs.Ledger.{Bytes}
+use Rattle.ledger_model.specs.Steps.{new_page}
+use Rattle.sv32_space.specs.PageSteps.{place_page}
+use Rattle.vm_memory.specs.FirstLedger.{page_bytes}
+use Rattle.vm_memory.specs.Memory.{ledger}
+use Rattle.vm_memory.proofs.PlacedPages.{made_frame, filled_sound, filled_size, filled_ledger, length-page_bytes}
+use Rattle.vm_memory.proofs.memory.Memory.place_first.Goals as goal
+
+pub page_mut-requires : goal.page_mut-requires
+page_mut-requires g c =
+    let there = made_frame g.W.SwapStore.slot_count g.W.SwapStore.held c.args.self.now c.place_page.new.self c.place_page.ensures.sound c.args.at c.args.page.now.right c.args.f
+    c.place_page.ensures.ledger c.place_page.ensures.owners in
+    there.inside
+
+whole : (g : _) (c : goal.After-fill g) → length c.fill.new.page ≡ 4096
+whole g c = ap length c.fill.ensures ∙ length-page_bytes c.args.file.now c.args.page.now
+
+pub returns-clause-sound : goal.returns-clause-sound
+returns-clause-sound g c = filled_sound g.W.SwapStore.slot_count g.W.SwapStore.held c.args.self.now c.place_page.new.self c.place_page.ensures.sound c.args.at c.args.page.now.right c.args.f
+    c.place_page.ensures.ledger c.place_page.ensures.owners c.fill.new.page (whole g c)
+
+pub returns-clause-ledger : goal.returns-clause-ledger
+returns-clause-ledger g c = filled_ledger g.W.SwapStore.slot_count g.W.SwapStore.held c.args.self.now c.place_page.new.self c.place_page.ensures.sound c.args.at c.args.page.now.right c.args.f
+    c.place_page.ensures.ledger c.place_page.ensures.owners c.fill.new.page (whole g c)
+    ∙ ap (λ b. place_page c.args.at (new_page c.args.page.now.right (Bytes b)) (ledger g.W.SwapStore.held c.args.self.now)) c.fill.ensures
+
+pub returns-clause-rest : goal.returns-clause-rest
+returns-clause-rest g c = record {
+  size = filled_size g.W.SwapStore.slot_count g.W.SwapStore.held c.args.self.now c.place_page.new.self c.place_page.ensures.sound c.args.at c.args.page.now.right c.args.f
+      c.place_page.ensures.ledger c.place_page.ensures.owners c.fill.new.page (whole g c) ∙ c.place_page.ensures.rest.size;
+  store = c.place_page.ensures.rest.store;
+  failed = c.place_page.ensures.rest.failed;
+}

@@ -1,0 +1,5 @@
+use Rattle.vm_memory.proofs.ProcessPlaced.{ArePlaced}
+use Rattle.vm_memory.proofs.memory.Memory.place_process.Given as goal
+
+abbrev pub invariant-pages : goal.invariant-pages
+invariant-pages g l = ArePlaced g.W.SwapStore.slot_count g.W.SwapStore.held l.file l.pid l.plan l.k l.fn.self l.self

@@ -1,0 +1,190 @@
+//! A memory with its first pages.
+
+ghost use Rattle.std.specs.Prelude.{◌≡◌, ◌≢◌, ℕ, ◌+◌, ◌-◌, ◌*◌, ◌%◌, ◌<◌, ◌≤◌, true, length, All, AllPairs, IfOk, IfErr, Some};
+ghost use Rattle.boot_plan.specs.Capacity.{page_frames, table_frames};
+ghost use Rattle.boot_plan.specs.FirstPages.{planned_pages};
+ghost use Rattle.boot_plan.specs.Lawful.{IsLawfulPage, IsLawfulPlan};
+ghost use Rattle.boot_plan.specs.declared.plans.PagePlan.{PagePlan};
+ghost use Rattle.ledger_model.specs.Ledger.{empty_ledger};
+ghost use Rattle.ledger_model.specs.Loans.{bare};
+ghost use Rattle.ledger_model.specs.Places.{is_process, is_user_place};
+ghost use Rattle.ledger_model.specs.Reach.{is_free};
+ghost use Rattle.phys_pages.specs.Owners.{extent, infos, no_infos, seat_eq};
+ghost use Rattle.phys_pages.specs.Ram.{area, pages};
+ghost use Rattle.sv32_space.specs.Agreement.{owned_by};
+ghost use Rattle.sv32_space.specs.Entries.{Free};
+ghost use Rattle.sv32_space.specs.PageSteps.{place_page};
+ghost use Rattle.sv32_space.specs.Spaces.{IsMade};
+ghost use Rattle.sv32_space.specs.SpelledEntries.{entries};
+ghost use Rattle.vm_memory.specs.Bytes.{KeepsStore, MeansBytes};
+ghost use Rattle.vm_memory.specs.Changing.{IsFreeFrame, KeepsRest};
+ghost use Rattle.vm_memory.specs.FirstLedger.{first_ledger, first_page, page_bytes};
+ghost use Rattle.vm_memory.specs.Memory.{IsUsable, capacity_of, ledger, processes, size, store_of};
+ghost use Rattle.vm_memory.specs.Sound.{IsSound};
+ghost use Rattle.vm_memory.specs.Starting.{AreFreeFrom, HasNoPage, IsUnlent, place_pages};
+ghost use Rattle.vm_memory.specs.Tie.{IsTied};
+ghost use Rattle.xk_base.specs.Counting.{put_at};
+ghost use Rattle.xk_base.specs.Outside.{Rose};
+ghost use Rattle.xk_base.specs.declared.ids.Place.{Place};
+
+use crate::memory::{BootError, BootFault, Memory};
+use boot_plan::{BootPlan, PagePlan};
+use phys_pages::{Owners, Ram, Seat};
+use std::alloc::Global;
+use sv32_space::{TABLE_FRAMES, new_space};
+use xk_base::{Frame, NoMemory, Pid, Place};
+use xk_ports::SwapStore;
+
+// Fills a page with its bytes of the file, then zeros.
+fn fill(page: &mut [u8], file: &[u8], plan: &PagePlan)
+    requires whole { length page.old ≡ 4096 }
+    requires lawful { IsLawfulPage (length file.now) plan.now }
+    ensures { page.new ≡ page_bytes file.now plan.now }
+{
+    let len = plan.len as usize;
+    let from = plan.from as usize;
+    page[..len].copy_from_slice(&file[from..from + len]);
+    page[len..].fill(0);
+}
+
+// RAM and an owner table without a page, for the processes of a plan.
+fn empty_parts(alloc: Global, plan: &BootPlan, procs: u32) -> Result<(Ram, Owners), NoMemory>
+    requires tables { table_frames procs + 2 ≤ plan.now.frames }
+    requires frames { plan.now.frames ≤ 16384 }
+    requires start { plan.now.ram_start % 4096 ≡ 0 }
+    requires below { plan.now.ram_start + 4096 * plan.now.frames ≤ 0xF000_0000 }
+    requires slots { plan.now.slots ≤ 16384 }
+    ensures area { IfOk result (λ parts. area parts.0 ≡ record { start = plan.now.ram_start; frames = plan.now.frames }) }
+    ensures extent { IfOk result (λ parts. extent parts.1 ≡ record { first = 21 * procs; frames = plan.now.frames - 21 * procs; slots = plan.now.slots }) }
+    ensures infos { IfOk result (λ parts. infos parts.1 ≡ no_infos) }
+{
+    let ram = Ram::new(alloc, plan.ram_start, plan.frames)?;
+    let first = TABLE_FRAMES * procs;
+    let owners = Owners::new(alloc, Frame(first), plan.frames - first, plan.slots)?;
+    Ok((ram, owners))
+}
+
+// Makes the spaces of the processes, with all entries free.
+fn make_spaces(ram: &mut Ram, procs: u32)
+    requires few { procs ≤ 32 }
+    requires within { 21 * procs ≤ (area ram.old).frames }
+    ensures made { (pid : ℕ) → is_process procs pid ≡ true → IsMade ram.new pid }
+    ensures free { (q : Place) → is_user_place procs q ≡ true → entries procs ram.new q ≡ Some Free }
+    ensures area { area ram.new ≡ area ram.old }
+{
+    'spaces: for k in 0..procs {
+        new_space(ram, Frame(TABLE_FRAMES * k));
+    }
+}
+
+impl<W: SwapStore> Memory<W> {
+    // A memory without a page.
+    fn without_pages(alloc: Global, plan: &BootPlan, store: W) -> Result<Memory<W>, BootFault<W>>
+        requires some { 1 ≤ length plan.now.procs }
+        requires few { length plan.now.procs ≤ 32 }
+        requires tables { table_frames (length plan.now.procs) + 2 ≤ plan.now.frames }
+        requires frames { plan.now.frames ≤ 16384 }
+        requires start { plan.now.ram_start % 4096 ≡ 0 }
+        requires below { plan.now.ram_start + 4096 * plan.now.frames ≤ 0xF000_0000 }
+        requires no_slots { plan.now.slots ≡ 0 }
+        ensures sound { IfOk result (λ m. IsSound W.slot_count m) }
+        ensures usable { IfOk result (λ m. IsUsable m) }
+        ensures free { IfOk result (λ m. AreFreeFrom m.owners 0) }
+        ensures ledger { IfOk result (λ m. ledger W.held m ≡ empty_ledger) }
+        ensures size { IfOk result (λ m. size m ≡ record { procs = length plan.now.procs; area = record { start = plan.now.ram_start; frames = plan.now.frames }; slots = plan.now.slots }) }
+        ensures none { IfOk result (λ m. m.pages ≡ 0) }
+        ensures store { IfOk result (λ m. store_of m ≡ store) }
+        ensures fault { IfErr result (λ fault. (fault.why ≡ BootError.NoMemory) × (fault.store ≡ store)) }
+    {
+        let procs = plan.procs.as_slice().len() as u32;
+        match empty_parts(alloc, plan, procs) {
+            Ok((mut ram, owners)) => {
+                make_spaces(&mut ram, procs);
+                let _frames = ram.frames();
+                Ok(Memory {
+                    ram,
+                    owners,
+                    store,
+                    failed: false,
+                    procs,
+                    slots: plan.slots,
+                    pages: 0,
+                })
+            }
+            Err(NoMemory) => Err(BootFault {
+                why: BootError::NoMemory,
+                store,
+            }),
+        }
+    }
+
+    // Puts a page of the plan at its free home, in a free frame.
+    fn place_first(&mut self, at: Place, f: Frame, page: &PagePlan, file: &[u8])
+        requires sound { IsSound W.slot_count self.old }
+        requires place { is_user_place (processes self.old) at ≡ true }
+        requires free { is_free (processes self.old) (ledger W.held self.old) at ≡ true }
+        requires room { self.old.pages + 1 ≤ capacity_of self.old }
+        requires frame { IsFreeFrame self.old.owners f.0 }
+        requires page { IsLawfulPage (length file.now) page.now }
+        ensures sound { IsSound W.slot_count self.new }
+        ensures ledger { ledger W.held self.new ≡ place_page at (first_page file.now page.now) (ledger W.held self.old) }
+        ensures owners { infos self.new.owners ≡ put_at seat_eq (infos self.old.owners) (Seat.Frame f) (Some (owned_by at)) }
+        ensures pages { self.new.pages ≡ self.old.pages + 1 }
+        ensures rest { KeepsRest self.old self.new }
+    {
+        self.place_page(at, page.right, f);
+        fill(self.ram.page_mut(f), file, page);
+    }
+
+    // Puts the pages of a process at their homes, in the next frames.
+    fn place_process(&mut self, pid: Pid, plan: &[PagePlan], file: &[u8])
+        requires sound { IsSound W.slot_count self.old }
+        requires process { is_process (processes self.old) pid.0 ≡ true }
+        requires unlent { IsUnlent (ledger W.held self.old) }
+        requires free { HasNoPage pid.0 (ledger W.held self.old) }
+        requires frames { AreFreeFrom self.old.owners self.old.pages }
+        requires room { self.old.pages + length plan.now ≤ capacity_of self.old }
+        requires lawful { All (IsLawfulPage (length file.now)) plan.now }
+        requires different { AllPairs (λ (a b : PagePlan). a.vpn.0 ≢ b.vpn.0) plan.now }
+        ensures sound { IsSound W.slot_count self.new }
+        ensures ledger { ledger W.held self.new ≡ place_pages file.now pid plan.now (ledger W.held self.old) }
+        ensures frames { AreFreeFrom self.new.owners self.new.pages }
+        ensures pages { self.new.pages ≡ self.old.pages + length plan.now }
+        ensures rest { KeepsRest self.old self.new }
+    {
+        'pages: for k in 0..plan.len() {
+            let page = plan[k];
+            let at = Place { pid, vpn: page.vpn };
+            let f = Frame(TABLE_FRAMES * self.procs + self.pages);
+            self.place_first(at, f, &page, file);
+        }
+    }
+
+    /// A memory with the first pages of a plan, with their bytes from the file that it was made for.
+    /// All memory is taken here. Want of it hands the store back.
+    pub fn boot(alloc: Global, plan: &BootPlan, file: &[u8], store: W) -> Result<Memory<W>, BootFault<W>>
+        requires lawful { IsLawfulPlan (length file.now) plan.now }
+        requires slots { plan.now.slots ≤ W.slot_count store }
+        // This one goes when pages can be out.
+        requires no_slots { plan.now.slots ≡ 0 }
+        ensures sound { IfOk result (λ m. IsSound W.slot_count m) }
+        ensures usable { IfOk result (λ m. IsUsable m) }
+        ensures rights { IfOk result (λ m. bare (ledger W.held m) ≡ bare (first_ledger plan.now file.now)) }
+        ensures whole { IfOk result (λ m. MeansBytes W.is_honest W.held m → ledger W.held m ≡ first_ledger plan.now file.now) }
+        ensures tie { IfOk result (λ m. IsTied W.held m) }
+        ensures size { IfOk result (λ m. size m ≡ record { procs = length plan.now.procs; area = record { start = plan.now.ram_start; frames = plan.now.frames }; slots = plan.now.slots }) }
+        ensures store { IfOk result (λ m. KeepsStore W.is_honest W.held W.slot_count W.asked W.faults store (store_of m)) }
+        ensures back { IfErr result (λ fault. KeepsStore W.is_honest W.held W.slot_count W.asked W.faults store fault.store) }
+        // A swap fault comes only where the store's count rose and the pages don't fit in frames.
+        ensures cause { IfErr result (λ fault. fault.why ≡ BootError.SwapFault → Rose (W.faults store) (W.faults fault.store)) }
+        ensures out { IfErr result (λ fault. fault.why ≡ BootError.SwapFault → page_frames plan.now.frames (length plan.now.procs) < planned_pages plan.now) }
+    {
+        let mut memory = Memory::without_pages(alloc, plan, store)?;
+        let processes = plan.procs.as_slice();
+        'processes: for k in 0..processes.len() {
+            let process = &processes[k];
+            memory.place_process(Pid(k as u8 + 2), process.pages.as_slice(), file);
+        }
+        Ok(memory)
+    }
+}
