@@ -76,8 +76,8 @@ module _ (procs : ℕ) (l : Ledger) (pid : Pid) (window : Window) (n start k : �
       least_run-search procs l pid window n start f e a b (omega arith) (omega arith)
       (is_free_run-from procs l (record { pid = pid; vpn = record { 0 = f + start } }) n
       (λ i low. subst (λ q. is_free procs l q ≡ true)
-          (place_from (window_place pid window (start + i)) (place_after (record { pid = pid; vpn = record { 0 = f + start } }) i) refl (omega (arith, base)))
-          (free_next here (start + i) (omega arith) (omega arith))))
+      (place_from (window_place pid window (start + i)) (place_after (record { pid = pid; vpn = record { 0 = f + start } }) i) refl (omega (arith, base)))
+      (free_next here (start + i) (omega arith) (omega arith))))
       before
 
   -- NONE: at the window's end there is none

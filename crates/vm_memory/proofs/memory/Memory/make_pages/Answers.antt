@@ -19,9 +19,12 @@ loop-i-init g c =
     }
 
 pub overflow_add-at : goal.overflow_add-at
-overflow_add-at g c = omega (arith, user_bound (processes c.loop-i.self) (place_after c.args.first c.loop-i.i)
-    (next_lies g.W.SwapStore.slot_count g.W.SwapStore.held c.args.self.now c.loop-i.self c.loop-i.invariant.sound c.loop-i.invariant.rest c.args.first c.args.n c.loop-i.i
-    c.loop-i-test.true c.args.right c.requires.can c.loop-i.invariant.ledger))
+overflow_add-at g c = omega (
+  arith,
+  user_bound (processes c.loop-i.self) (place_after c.args.first c.loop-i.i)
+      (next_lies g.W.SwapStore.slot_count g.W.SwapStore.held c.args.self.now c.loop-i.self c.loop-i.invariant.sound c.loop-i.invariant.rest c.args.first c.args.n c.loop-i.i
+      c.loop-i-test.true c.args.right c.requires.can c.loop-i.invariant.ledger),
+)
 
 pub place_page-requires-clause-place : goal.place_page-requires-clause-place
 place_page-requires-clause-place g c =
