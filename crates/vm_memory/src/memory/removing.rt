@@ -1,6 +1,6 @@
 //! Pages are removed and reduced.
 
-ghost use Rattle.std.specs.Prelude.{◌≡◌, ℕ, ◌+◌, ◌≤◌, true, false};
+ghost use Rattle.std.specs.Prelude.{OnErr, ◌≡◌, ℕ, ◌+◌, ◌≤◌, true, false};
 ghost use Rattle.ledger_model.specs.LeastRun.{window_pages, window_place};
 ghost use Rattle.ledger_model.specs.Places.{in_run, is_process, place_after};
 ghost use Rattle.ledger_model.specs.Reach.{role_at};
@@ -94,6 +94,7 @@ impl<W: SwapStore> Memory<W> {
         ensures sound { IsSound W.slot_count self.new }
         ensures answer { result ≡ remove_answer (processes self.old) (ledger W.held self.old) first n }
         ensures ledger { ledger W.held self.new ≡ after_remove result first n (ledger W.held self.old) }
+        ensures refused { OnErr result (self.new ≡ self.old) }
         ensures usable { IsUsable self.new }
         ensures tie { IsTied W.held self.new }
         ensures size { size self.new ≡ size self.old }
@@ -119,6 +120,7 @@ impl<W: SwapStore> Memory<W> {
         ensures sound { IsSound W.slot_count self.new }
         ensures answer { result ≡ clear_answer (processes self.old) (ledger W.held self.old) first n }
         ensures ledger { ledger W.held self.new ≡ after_remove result first n (ledger W.held self.old) }
+        ensures refused { OnErr result (self.new ≡ self.old) }
         ensures usable { IsUsable self.new }
         ensures tie { IsTied W.held self.new }
         ensures size { size self.new ≡ size self.old }
@@ -143,6 +145,7 @@ impl<W: SwapStore> Memory<W> {
         ensures sound { IsSound W.slot_count self.new }
         ensures answer { result ≡ reduce_answer (processes self.old) (ledger W.held self.old) first n right }
         ensures ledger { ledger W.held self.new ≡ after_reduce result first n right (ledger W.held self.old) }
+        ensures refused { OnErr result (self.new ≡ self.old) }
         ensures usable { IsUsable self.new }
         ensures tie { IsTied W.held self.new }
         ensures size { size self.new ≡ size self.old }
