@@ -7,7 +7,11 @@ use Rattle.std.proofs.lemmas.Bool.{cases_Bool, and_from, and_parts, both_ways, f
 use Rattle.xk_base.specs.Windows.{first_page, in_window, last_page}
 use Rattle.xk_base.specs.declared.ids.Pid.{Pid}
 use Rattle.xk_base.specs.declared.ids.Place.{Place}
+use Rattle.xk_base.specs.declared.ids.Vpn.{Vpn}
 use Rattle.xk_base.specs.declared.windows.Window.TheVariants.{Map}
+use Rattle.std.proofs.lemmas.Bool.Decides.{nat_tests}
+use Rattle.vm_memory.specs.declared.memory.Here.{Here}
+use Rattle.vm_memory.specs.Here.{here_at}
 use Rattle.phys_pages.specs.Owners.{infos}
 use Rattle.ledger_model.specs.Conditions.{is_console}
 use Rattle.ledger_model.specs.LeastRun.{window_pages, window_place}
@@ -22,11 +26,11 @@ use Rattle.sv32_space.specs.SpelledEntries.{entries}
 use Rattle.sv32_space.specs.Tie.{Held, bytes_at}
 use Rattle.vm_memory.specs.declared.memory.Memory.{Memory}
 use Rattle.vm_memory.specs.Memory.{blank_ledger, ledger, processes}
-use Rattle.vm_memory.specs.RunTests.{has_console}
+use Rattle.vm_memory.specs.RunTests.{has_console, is_console_here}
 use Rattle.vm_memory.specs.Sound.{IsSound}
 use Rattle.vm_memory.proofs.Changed.{no_bytes}
 use Rattle.vm_memory.proofs.RightSteps.{console_told}
-use Rattle.vm_memory.proofs.RunLaws.{each_fails, none_passes, some_passes}
+use Rattle.vm_memory.proofs.RunLaws.{console_here, each_fails, none_passes, some_passes}
 
 -- ---- one process
 
@@ -36,7 +40,20 @@ console_found l pid i low t = some_passes (λ p. is_console (l.home p)) (window_
 pub console_missed : (l : Ledger) (pid : Pid) → ((i : ℕ) → i < 4096 → is_console (l.home (place_after (window_place pid Map 0) i)) ≡ false) → has_console l pid ≡ false
 console_missed l pid h = none_passes (λ p. is_console (l.home p)) (window_place pid Map 0) (window_pages Map) h
 
+-- what was told of the i-th place
+pub console_looked : (procs : ℕ) (l : Ledger) (pid : Pid) (first : Vpn) (i : ℕ) (here : Here) (told b : Bool) → first.0 ≡ first_page Map
+    → here ≡ here_at procs l (place_after (record { pid = pid; vpn = first }) i) → told ≡ is_console_here here → told ≡ b
+    → is_console (l.home (place_after (window_place pid Map 0) i)) ≡ b
+console_looked procs l pid first i here told b at seen said e =
+    let same : place_after (record { pid = pid; vpn = first }) i ≡ place_after (window_place pid Map 0) i =
+    place_from (place_after (record { pid = pid; vpn = first }) i) (place_after (window_place pid Map 0) i) refl (omega (arith, at)) in
+    sym (ap (λ p. is_console (l.home p)) same)
+    ∙ (sym (console_here procs l (place_after (record { pid = pid; vpn = first }) i)) ∙ (sym (ap is_console_here seen) ∙ (sym said ∙ e)))
+
 -- ---- all processes
+
+pub pid_there : (procs k : ℕ) → k < procs → is_process procs (2 + k) ≡ true
+pid_there procs k low = grind (arith, nat_tests)
 
 map_place : (pid : Pid) (procs i : ℕ) → is_process procs pid.0 ≡ true → i < window_pages Map → is_user_place procs (place_after (window_place pid Map 0) i) ≡ true
 map_place pid procs i process low =
@@ -60,7 +77,7 @@ console_contents (Bytes bytes) e = absurd (both_ways false refl e)
 
 module _ {W : Type 0} (slot_count : W → ℕ) (held : W → Held) (m : Memory W) (sound : IsSound slot_count m) where
   -- the console lies in a Map window
-  console_in_map : (p : Place) → is_console ((ledger held m).home p) ≡ true → is_place_in (processes m) Map p ≡ true
+  pub console_in_map : (p : Place) → is_console ((ledger held m).home p) ≡ true → is_place_in (processes m) Map p ≡ true
   unfolding ledger blank_ledger ledger_of
   console_in_map p t =
       let told : is_console ((blank_ledger m).home p) ≡ true =

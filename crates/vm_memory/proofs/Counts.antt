@@ -61,7 +61,7 @@ seats_count procs E owners agree =
     let slots : count_below t.slots (λ k. is_some (infos owners (table_seat t (t.frames + k)))) ≡ used_slots owners =
     count_below-same t.slots _ _ (λ k l. ap (λ s. is_some (infos owners s)) (slot_there t k)) in
     let joined : count_below (t.frames + t.slots) (λ k. is_some (infos owners (table_seat t k)))
-        ≡ count_below t.frames (λ k. is_some (infos owners (table_seat t k))) + count_below t.slots (λ k. is_some (infos owners (table_seat t (t.frames + k)))) =
+    ≡ count_below t.frames (λ k. is_some (infos owners (table_seat t k))) + count_below t.slots (λ k. is_some (infos owners (table_seat t (t.frames + k)))) =
     count_join t.frames t.slots (λ k. is_some (infos owners (table_seat t k))) in
     sym (joined ∙ (λ i. frames i + slots i))
     ∙ used_seats_are_pages procs E (infos owners) (λ s. zero_page) agree (extent owners) (infos-within owners)
@@ -78,5 +78,5 @@ frame_left owners few =
     record {
       frame = (extent owners).first + left.0;
       within = (omega arith, omega (arith, left.1));
-      free = none_there (infos owners (frame_seat ((extent owners).first + left.0))) left.2
+      free = none_there (infos owners (frame_seat ((extent owners).first + left.0))) left.2;
     }

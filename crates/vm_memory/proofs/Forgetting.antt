@@ -18,6 +18,15 @@ use Rattle.ledger_model.specs.RunTests.{any_on_loan, is_on_loan}
 use Rattle.ledger_model.specs.Steps.{forget, remove}
 use Rattle.ledger_model.proofs.LedgerLaws.{cases_Option, lender_of-loan, loan_at-page, role_at-free, role_at-home, same_ledger}
 use Rattle.ledger_model.proofs.Removing.{remove_home, remove_orphan}
+use Rattle.std.specs.Option.{option_and_then}
+use Rattle.phys_pages.specs.Owners.{infos}
+use Rattle.sv32_space.specs.Entries.{Entry}
+use Rattle.sv32_space.specs.EntryLedger.{ledger_of, page_of_entry}
+use Rattle.sv32_space.specs.SpelledEntries.{entries}
+use Rattle.sv32_space.specs.Tie.{Held, bytes_at}
+use Rattle.vm_memory.specs.declared.memory.Memory.{Memory}
+use Rattle.vm_memory.specs.Memory.{ledger, processes}
+use Rattle.vm_memory.specs.Sound.{IsSound}
 use Rattle.vm_memory.specs.Removing.{HasNoLoan}
 use Rattle.vm_memory.proofs.RunLaws.{none_passes}
 
@@ -153,3 +162,13 @@ module _ (procs : ℕ) (l : Ledger) (pid : Pid) (lies : (p : Place) (page : Page
   pub all_windows : l5 ≡ forget pid l
   unfolding forget
   all_windows = same_ledger l5 (forget pid l) homes orphans
+
+-- each page of a memory has its home at a user place
+pub homes_lie : {W : Type 0} (slot_count : W → ℕ) (held : W → Held) (m : Memory W) → IsSound slot_count m → (p : Place) (page : Page)
+    → (ledger held m).home p ≡ Some page → is_user_place (processes m) p ≡ true
+unfolding ledger ledger_of
+homes_lie slot_count held m sound p page e = by_entry (entries (processes m) m.ram p) refl
+  where
+    by_entry : (o : Option Entry) → entries (processes m) m.ram p ≡ o → is_user_place (processes m) p ≡ true
+    by_entry None h = absurd (none-some page (sym (ap (option_and_then (page_of_entry (infos m.owners) (bytes_at m.ram (held m.store)))) h) ∙ e))
+    by_entry (Some entry) h = sym (sound.agree.entries.spelled p) ∙ ap is_some h

@@ -14,6 +14,10 @@ use Rattle.ledger_model.specs.Places.{place_after}
 use Rattle.ledger_model.specs.Reach.{is_free}
 use Rattle.ledger_model.proofs.LeastRuns.{fits_at, is_free_run-false, is_free_run-from, least_run-search, least_run-search_end}
 use Rattle.ledger_model.proofs.PlaceLaws.{place_from}
+use Rattle.vm_memory.specs.declared.memory.Here.{Here}
+use Rattle.vm_memory.specs.Here.{here_at}
+use Rattle.vm_memory.specs.RunTests.{is_nothing}
+use Rattle.vm_memory.proofs.RunLaws.{free_here}
 
 and_last : (a b : Bool) → b ≡ false → (a && b) ≡ false
 and_last true b e = e
@@ -22,6 +26,23 @@ and_last false b e = refl
 and_first : (a b : Bool) → a ≡ false → (a && b) ≡ false
 and_first true b e = absurd (both_ways true e refl)
 and_first false b e = refl
+
+-- what was told of the k-th place
+pub looked : (procs : ℕ) (l : Ledger) (pid : Pid) (window : Window) (first : Vpn) (k : ℕ) (here : Here) (told b : Bool) → first.0 ≡ first_page window
+    → here ≡ here_at procs l (place_after (record { pid = pid; vpn = first }) k) → told ≡ is_nothing here → told ≡ b
+    → is_free procs l (window_place pid window k) ≡ b
+looked procs l pid window first k here told b at seen said e =
+    let same : place_after (record { pid = pid; vpn = first }) k ≡ window_place pid window k =
+    place_from (place_after (record { pid = pid; vpn = first }) k) (window_place pid window k) refl (ap (λ x. x + k) at) in
+    sym (ap (is_free procs l) same)
+    ∙ (sym (free_here procs l (place_after (record { pid = pid; vpn = first }) k)) ∙ (sym (ap is_nothing seen) ∙ (sym said ∙ e)))
+
+-- no run that begins before `start` will do; the places from there on are free, but too few so far
+pub record IsSearched (procs : ℕ) (l : Ledger) (pid : Pid) (window : Window) (n start k : ℕ) : Type 0 where
+  pub before : (j : ℕ) → j < start → fits_at procs l pid window n j ≡ false
+  pub free : (j : ℕ) → start ≤ j → j < k → is_free procs l (window_place pid window j) ≡ true
+  pub from : start ≤ k
+  pub few : k < start + n
 
 module _ (procs : ℕ) (l : Ledger) (pid : Pid) (window : Window) (n start k : ℕ)
     (before : (j : ℕ) → j < start → fits_at procs l pid window n j ≡ false)
@@ -55,8 +76,8 @@ module _ (procs : ℕ) (l : Ledger) (pid : Pid) (window : Window) (n start k : �
       least_run-search procs l pid window n start f e a b (omega arith) (omega arith)
       (is_free_run-from procs l (record { pid = pid; vpn = record { 0 = f + start } }) n
       (λ i low. subst (λ q. is_free procs l q ≡ true)
-          (place_from (window_place pid window (start + i)) (place_after (record { pid = pid; vpn = record { 0 = f + start } }) i) refl (omega (arith, base)))
-          (free_next here (start + i) (omega arith) (omega arith))))
+      (place_from (window_place pid window (start + i)) (place_after (record { pid = pid; vpn = record { 0 = f + start } }) i) refl (omega (arith, base)))
+      (free_next here (start + i) (omega arith) (omega arith))))
       before
 
   -- NONE: at the window's end there is none
@@ -73,3 +94,22 @@ module _ (procs : ℕ) (l : Ledger) (pid : Pid) (window : Window) (n start k : �
     where
       too_long : (x y : ℕ) → y < x → nat_le x y ≡ false
       too_long x y h = grind (arith, nat_tests)
+
+-- the search goes on
+pub searched_used : (procs : ℕ) (l : Ledger) (pid : Pid) (window : Window) (n start k : ℕ) → 1 ≤ n → IsSearched procs l pid window n start k
+    → is_free procs l (window_place pid window k) ≡ false → IsSearched procs l pid window n (k + 1) (k + 1)
+searched_used procs l pid window n start k some h used = record {
+  before = used_next procs l pid window n start k h.before h.free h.from h.few used;
+  free = λ j low high. absurd (omega (arith, low, high));
+  from = omega arith;
+  few = omega (arith, some);
+}
+
+pub searched_free : (procs : ℕ) (l : Ledger) (pid : Pid) (window : Window) (n start k : ℕ) → IsSearched procs l pid window n start k
+    → is_free procs l (window_place pid window k) ≡ true → k + 1 - start ≢ n → IsSearched procs l pid window n start (k + 1)
+searched_free procs l pid window n start k h here apart = record {
+  before = h.before;
+  free = free_next procs l pid window n start k h.before h.free h.from h.few here;
+  from = omega (arith, h.from);
+  few = omega (arith, h.from, h.few, apart);
+}

@@ -1,3 +1,4 @@
+pub mod Answering
 pub mod BareLaws
 pub mod BootLaws
 pub mod ByteWrites

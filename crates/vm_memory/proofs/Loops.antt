@@ -1,7 +1,7 @@
 -- Runs that are made, removed and reduced page by page: what holds after the first i pages.
 use Rattle.std.proofs.Common.{◌≡◌, ◌≢◌, ℕ, ◌+◌, ◌*◌, ◌<◌, ◌≤◌, ◌^◌, Bool, true, false, ◌&&◌, Option, Some, None, refl, sym, ap, subst, ◌∙◌, inl, inr, arith}
 use Rattle.std.specs.Prelude.{is_some, IsTrue}
-use Rattle.std.proofs.lemmas.Bool.{and_parts, both_ways, cond-true, cond-false}
+use Rattle.std.proofs.lemmas.Bool.{and_parts, both_ways, cases_lt, cond-true, cond-false}
 use Rattle.std.proofs.lemmas.Bool.Decides.{nat_tests}
 use Rattle.boot_plan.specs.Capacity.{capacity}
 use Rattle.xk_base.specs.Counting.{put_at}
@@ -30,6 +30,7 @@ use Rattle.vm_memory.specs.declared.memory.Memory.{Memory}
 use Rattle.vm_memory.specs.Changing.{IsFreeFrame, KeepsRest}
 use Rattle.vm_memory.specs.Memory.{Size, size, blank_ledger, capacity_of, ledger, processes}
 use Rattle.vm_memory.specs.Sound.{IsSound}
+use Rattle.vm_memory.proofs.Nowhere.{no_user}
 use Rattle.vm_memory.proofs.RunLaws.{free_ahead, lent_ahead, lent_ahead_reduced, within_ahead}
 use Rattle.vm_memory.proofs.SoundMemory.{pages-ledger}
 
@@ -105,13 +106,29 @@ module _ {W : Type 0} (slot_count : W → ℕ) (held : W → Held) (m0 m : Memor
         → ledger held m2 ≡ reduce (in_run first (i + 1)) right (ledger held m0)
     next_reduced m2 e = e ∙ (ap (reduce (in_run (place_after first i) 1) right) so_far ∙ sym (reduce_next first i right L0))
 
+-- a user place has a page number of 32 bits
+pub user_bound : (procs : ℕ) (p : Place) → is_user_place procs p ≡ true → p.vpn.0 < 2 ^ 32
+user_bound procs p user = elim (cases_lt p.vpn.0 (2 ^ 32)) [
+  | inl low ↦ low
+  | inr past ↦ absurd (both_ways (is_user_place procs p) (no_user procs p past) user)
+]
+
+-- two sound memories of one size have one first frame
+pub first_same : {W : Type 0} (slot_count : W → ℕ) (old new : Memory W) → IsSound slot_count old → IsSound slot_count new → size new ≡ size old
+    → (extent new.owners).first ≡ (extent old.owners).first
+first_same slot_count old new a b e =
+    let procs : processes new ≡ processes old = ap (λ (s : Size). s.procs) e in
+    let first : (extent old.owners).first ≡ 21 * processes old = a.agree.first in
+    let second : (extent new.owners).first ≡ 21 * processes new = b.agree.first in
+    second ∙ (ap (λ k. 21 * k) procs ∙ sym first)
+
 -- the frames below the next one are used
-pub next_used : (old new : OwnerTable) (f : FrameNumber) (info : PageInfo) → extent new ≡ extent old
+pub next_used : (old new : OwnerTable) (f : FrameNumber) (info : PageInfo) → (extent new).first ≡ (extent old).first
     → infos new ≡ put_at seat_eq (infos old) (Frame f) (Some info) → AreFramesUsed old f.0 → AreFramesUsed new (f.0 + 1)
 next_used old new f info table told used k from to = elim (seat_tells (frame_seat k) (Frame f)) [
   | inl same ↦ ap (λ J. is_some (J (frame_seat k))) told ∙ ap is_some (cond-true (seat_eq (frame_seat k) (Frame f)) (Some info) (infos old (frame_seat k)) same.1)
   | inr apart ↦ ap (λ J. is_some (J (frame_seat k))) told ∙ (ap is_some (cond-false (seat_eq (frame_seat k) (Frame f)) (Some info) (infos old (frame_seat k)) apart.1)
-      ∙ used k (subst (λ t. t.first ≤ k) table from) (before (λ e. apart.0 (ap frame_seat e))))
+      ∙ used k (subst (λ t. t ≤ k) table from) (before (λ e. apart.0 (ap frame_seat e))))
 ]
   where
     before : (k ≡ f.0 → ⊥) → k < f.0

@@ -26,7 +26,7 @@ use Rattle.vm_memory.proofs.RightSteps.{reduce_nothing}
 no_window : (v : ℕ) → 2 ^ 32 ≤ v → window_at v ≡ None
 no_window v past = grind (arith, nat_tests)
 
-no_user : (procs : ℕ) (p : Place) → 2 ^ 32 ≤ p.vpn.0 → is_user_place procs p ≡ false
+pub no_user : (procs : ℕ) (p : Place) → 2 ^ 32 ≤ p.vpn.0 → is_user_place procs p ≡ false
 no_user procs p past = ap (λ o. is_process procs p.pid.0 && is_some o) (no_window p.vpn.0 past) ∙ never (is_process procs p.pid.0)
   where
     never : (b : Bool) → (b && false) ≡ false

@@ -1,5 +1,5 @@
 -- Runs of places: what is asked of them, and how a step over a run leaves the places ahead.
-use Rattle.std.proofs.Common.{◌≡◌, ◌≢◌, ℕ, zero, suc, ◌+◌, ◌<◌, ◌≤◌, Bool, true, false, not, ◌&&◌, ◌||◌, List, Option, Some, None, refl, sym, ap, subst, ◌∙◌, inl, inr, arith}
+use Rattle.std.proofs.Common.{◌≡◌, ◌≢◌, ℕ, zero, suc, ◌+◌, ◌-◌, ◌<◌, ◌≤◌, Bool, true, false, not, ◌&&◌, ◌||◌, List, Option, Some, None, refl, sym, ap, subst, ◌∙◌, inl, inr, arith}
 use Rattle.std.specs.Prelude.{is_some, nat_le, nat_lt, ◌==◌}
 use Rattle.std.specs.List.{list_any}
 use Rattle.std.specs.Option.{option_map}
@@ -31,9 +31,9 @@ first_zero p = place_from (place_after p 0) p refl (omega arith)
 next_place : (p : Place) (i : ℕ) → place_after (place_after p 1) i ≡ place_after p (suc i)
 next_place p i = place_from (place_after (place_after p 1) i) (place_after p (suc i)) refl (omega arith)
 
-or_none : (a b : Bool) → (a || b) ≡ false → (a ≡ false) × (b ≡ false)
-or_none true b e = absurd (both_ways true e refl)
-or_none false b e = (refl, e)
+or_false : (a b : Bool) → a ≡ false → b ≡ false → (a || b) ≡ false
+or_false true b e f = absurd (both_ways true e refl)
+or_false false b e f = f
 
 pub some_passes : (test : Place → Bool) (first : Place) (n i : ℕ) → i < n → test (place_after first i) ≡ true → list_any test (run first n) ≡ true
 unfolding run
@@ -51,14 +51,9 @@ each_fails test first n e i l =
 pub none_passes : (test : Place → Bool) (first : Place) (n : ℕ) → ((i : ℕ) → i < n → test (place_after first i) ≡ false) → list_any test (run first n) ≡ false
 unfolding run
 none_passes test first zero h = refl
-none_passes test first (suc n) h = by_first (test first) (subst (λ p. test p ≡ false) (first_zero first) (h 0 (omega arith)))
-  where
-    rest : list_any test (run (place_after first 1) n) ≡ false
-    rest = none_passes test (place_after first 1) n (λ i l. subst (λ p. test p ≡ false) (sym (next_place first i)) (h (suc i) (omega arith)))
-
-    by_first : (b : Bool) → b ≡ false → (b || list_any test (run (place_after first 1) n)) ≡ false
-    by_first true e = absurd (both_ways true e refl)
-    by_first false e = rest
+none_passes test first (suc n) h =
+    or_false (test first) (list_any test (run (place_after first 1) n)) (subst (λ p. test p ≡ false) (first_zero first) (h 0 (omega arith)))
+    (none_passes test (place_after first 1) n (λ i l. subst (λ p. test p ≡ false) (sym (next_place first i)) (h (suc i) (omega arith))))
 
 -- ---- what is told of a place
 
@@ -195,9 +190,9 @@ lent_by_role procs l p h = elim (cases_Option (l.home p)) [
 in_run_not_lent : (procs : ℕ) (l : Ledger) (first : Place) (n i : ℕ) → any_on_loan procs l first n ≡ false → i ≤ n
     → (p : Place) → in_run first i p ≡ true → is_lent (l.home p) ≡ false
 in_run_not_lent procs l first n i free few p there =
-    let at : (k : ℕ) × (k < i) × (p ≡ place_after first k) = in_run-index first i p there in
-    subst (λ q. is_lent (l.home q) ≡ false) (sym at.2)
-    (lent_by_role procs l (place_after first at.0) (each_not_lent procs l first n free at.0 (omega (arith, at.1))))
+    let at : (p.vpn.0 - first.vpn.0 < i) × (p ≡ place_after first (p.vpn.0 - first.vpn.0)) = in_run-index first i p there in
+    subst (λ q. is_lent (l.home q) ≡ false) (sym at.1)
+    (lent_by_role procs l (place_after first (p.vpn.0 - first.vpn.0)) (each_not_lent procs l first n free (p.vpn.0 - first.vpn.0) (omega (arith, at.0, few))))
 
 pub free_ahead : (procs capacity : ℕ) (l : Ledger) (first : Place) (i : ℕ) (right : Right) → CanMake procs capacity l first i
     → is_free procs l (place_after first i) ≡ true → is_free procs (make first i right l) (place_after first i) ≡ true

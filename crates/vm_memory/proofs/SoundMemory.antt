@@ -50,8 +50,11 @@ sound-tied slot_count held m sound = by_failed m.failed sound.room
         → MatchBool failed
         (stands_without_room m.ram (processes m) (held m.store) (ledger held m))
         (stands_for m.ram (processes m) (held m.store) (ledger held m))
-    by_failed true room = (_, stands_at (IsMade m.ram) (area m.ram).frames (entries (processes m) m.ram) (extent m.owners) (infos m.owners) (bytes_at m.ram (held m.store))
-        (told_bytes (page_of_frame m.ram) (held m.store)) sound.agree (infos-within m.owners) (holds_told m.ram (held m.store)))
+    by_failed true room = (
+      _,
+      stands_at (IsMade m.ram) (area m.ram).frames (entries (processes m) m.ram) (extent m.owners) (infos m.owners) (bytes_at m.ram (held m.store))
+          (told_bytes (page_of_frame m.ram) (held m.store)) sound.agree (infos-within m.owners) (holds_told m.ram (held m.store)),
+    )
     by_failed false room = let free : HasExchangeFrame m.owners = room refl in
         entries_stand (IsMade m.ram) (area m.ram).frames (entries (processes m) m.ram) (extent m.owners) (infos m.owners) (bytes_at m.ram (held m.store))
         (told_bytes (page_of_frame m.ram) (held m.store)) free.frame sound.agree (infos-within m.owners) (holds_told m.ram (held m.store)) free.within free.free

@@ -44,17 +44,17 @@ module _ {W P : Type 0} (is_honest : W → Bool) (held : W → Held) (slot_count
   rest_put : (k : Memory W) → PutsBytes m k pid va width value → KeepsRest is_honest held slot_count asked faults pid m k
   unfolding none_out
   rest_put k h = subst (λ x. KeepsRest is_honest held slot_count asked faults pid m x) (sym h.put) (record {
-      rights = stored_rights slot_count held m sound pid va width value aligned h.frame h.target;
-      sizes = stored_size slot_count held m sound pid va width value aligned h.frame h.target;
-      means = λ means. means;
-      whole = λ means name. stored_sizes slot_count held m sound pid va width value aligned h.frame h.target name;
-      unseen = λ means name unseen. stored_unseen slot_count held m sound pid va width value aligned h.frame h.target name unseen;
-      sound = λ s. stored_sound slot_count held m sound pid va width value aligned h.frame h.target;
-      tie = λ s. sound-tied slot_count held _ (stored_sound slot_count held m sound pid va width value aligned h.frame h.target);
-      out = λ none usable. usable;
-      none = λ none. none;
-      store = record { honest = refl; told = refl; slots = refl; preparations = refl; never_falls = omega arith };
-    })
+    rights = stored_rights slot_count held m sound pid va width value aligned h.frame h.target;
+    sizes = stored_size slot_count held m sound pid va width value aligned h.frame h.target;
+    means = λ means. means;
+    whole = λ means name. stored_sizes slot_count held m sound pid va width value aligned h.frame h.target name;
+    unseen = λ means name unseen. stored_unseen slot_count held m sound pid va width value aligned h.frame h.target name unseen;
+    sound = λ s. stored_sound slot_count held m sound pid va width value aligned h.frame h.target;
+    tie = λ s. sound-tied slot_count held _ (stored_sound slot_count held m sound pid va width value aligned h.frame h.target);
+    out = λ none usable. usable;
+    none = λ none. none;
+    store = record { honest = refl; told = refl; slots = refl; preparations = refl; never_falls = omega arith };
+  })
 
   pub rest_stored : (k : Memory W) (stored : Stored) → DoesStore m k pid va width value stored → KeepsRest is_honest held slot_count asked faults pid m k
   rest_stored k Done h = rest_put k h
@@ -97,10 +97,10 @@ module _ {W P : Type 0} (is_honest : W → Bool) (held : W → Held) (slot_count
   pub stores_told : (k : Memory W) (stored : Stored) → DoesStore m k pid va width value stored
       → StoresAsTold ((user_view held m pid).may Store va) ((user_view held m pid).console va) (user_content is_honest held m pid) (user_content is_honest held k pid) va width value stored
   stores_told k Done h = (
-      store_given slot_count held m sound pid va width value aligned h.frame h.target,
-      store_no_console slot_count held m sound pid va width value aligned h.frame h.target,
-      content_put k h,
-    )
+    store_given slot_count held m sound pid va width value aligned h.frame h.target,
+    store_no_console slot_count held m sound pid va width value aligned h.frame h.target,
+    content_put k h,
+  )
   stores_told k (Device offset) h =
       let t : IsDeviceTarget (entries (processes m) m.ram (page_of pid va)) Store = device_target (entries (processes m) m.ram (page_of pid va)) Store h.0 in (
         may_by slot_count held m sound pid va Store ∙ ap (λ o. entry_may o Store) t.entry ∙ t.given,

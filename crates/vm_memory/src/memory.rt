@@ -10,10 +10,9 @@ mod removing;
 mod run_tests;
 mod user;
 
-pub use user::User;
-
 use phys_pages::{LoanInfo, Owners, Ram};
 use thiserror::Error;
+pub use user::User;
 use xk_base::{LoanKind, Number, Place, Right};
 use xk_ports::SwapStore;
 

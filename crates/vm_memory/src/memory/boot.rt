@@ -163,7 +163,12 @@ impl<W: SwapStore> Memory<W> {
 
     /// A memory with the first pages of a plan, with their bytes from the file that it was made for.
     /// All memory is taken here. Want of it hands the store back.
-    pub fn boot(alloc: Global, plan: &BootPlan, file: &[u8], store: W) -> Result<Memory<W>, BootFault<W>>
+    pub fn boot(
+        alloc: Global,
+        plan: &BootPlan,
+        file: &[u8],
+        store: W,
+    ) -> Result<Memory<W>, BootFault<W>>
         requires lawful { IsLawfulPlan (length file.now) plan.now }
         requires slots { plan.now.slots ≤ W.slot_count store }
         // This one goes when pages can be out.

@@ -95,6 +95,7 @@ impl<W: SwapStore> Memory<W> {
         ensures rights { IfOk result (λ answer. bare (ledger W.held self.new) ≡ bare (after_make pid n right answer (ledger W.held self.old))) }
         ensures whole { MeansBytesOver W.is_honest W.held self.old self.new
             → IfOk result (λ answer. ledger W.held self.new ≡ after_make pid n right answer (ledger W.held self.old)) }
+        ensures refused { IfOk result (λ answer. OnErr answer (self.new ≡ self.old)) }
         ensures usable { OnOk result (IsUsable self.new) }
         ensures failed { OnErr result (has_failed self.new ≡ true) }
         ensures partial { OnErr result (HasMadeFirst
@@ -126,6 +127,7 @@ impl<W: SwapStore> Memory<W> {
         ensures sound { IsSound W.slot_count self.new }
         ensures answer { result ≡ console_answer (processes self.old) (ledger W.held self.old) pid at }
         ensures ledger { ledger W.held self.new ≡ after_console pid w result (ledger W.held self.old) }
+        ensures refused { OnErr result (self.new ≡ self.old) }
         ensures usable { IsUsable self.new }
         ensures tie { IsTied W.held self.new }
         ensures size { size self.new ≡ size self.old }

@@ -1,9 +1,10 @@
 //! Pages are removed and reduced.
 
-ghost use Rattle.std.specs.Prelude.{◌≡◌, ℕ, ◌+◌, ◌≤◌, true, false};
+ghost use Rattle.std.specs.Prelude.{OnErr, ◌≡◌, ℕ, ◌+◌, ◌≤◌, true, false};
 ghost use Rattle.ledger_model.specs.LeastRun.{window_pages, window_place};
-ghost use Rattle.ledger_model.specs.Places.{in_run, is_process};
-ghost use Rattle.ledger_model.specs.RunTests.{any_lacks, any_on_loan};
+ghost use Rattle.ledger_model.specs.Places.{in_run, is_process, place_after};
+ghost use Rattle.ledger_model.specs.Reach.{role_at};
+ghost use Rattle.ledger_model.specs.RunTests.{any_lacks, any_on_loan, asks_more, is_on_loan};
 ghost use Rattle.ledger_model.specs.Steps.{forget, reduce, remove};
 ghost use Rattle.vm_memory.specs.Bytes.{MeansBytes};
 ghost use Rattle.vm_memory.specs.Changing.{KeepsRest};
@@ -18,6 +19,44 @@ use xk_base::{Pid, Place, Right, Vpn, Window, XousError};
 use xk_ports::SwapStore;
 
 impl<W: SwapStore> Memory<W> {
+    // Removes the page `i` pages above a place, if there is one.
+    fn drop_above(&mut self, first: Place, i: u32)
+        requires sound { IsSound W.slot_count self.old }
+        requires not_lent { is_on_loan (role_at (processes self.old) (ledger W.held self.old) (place_after first i)) ≡ false }
+        ensures sound { IsSound W.slot_count self.new }
+        ensures ledger { ledger W.held self.new ≡ remove (in_run (place_after first i) 1) (ledger W.held self.old) }
+        ensures rest { KeepsRest self.old self.new }
+    {
+        match first.vpn.0.checked_add(i) {
+            Some(vpn) => self.drop_page(Place {
+                pid: first.pid,
+                vpn: Vpn(vpn),
+            }),
+            None => {}
+        }
+    }
+
+    // Gives the page `i` pages above a place another right, if there is one.
+    fn set_right_above(&mut self, first: Place, i: u32, right: Right)
+        requires sound { IsSound W.slot_count self.old }
+        requires not_lent { is_on_loan (role_at (processes self.old) (ledger W.held self.old) (place_after first i)) ≡ false }
+        requires within { asks_more right ((ledger W.held self.old).home (place_after first i)) ≡ false }
+        ensures sound { IsSound W.slot_count self.new }
+        ensures ledger { ledger W.held self.new ≡ reduce (in_run (place_after first i) 1) right (ledger W.held self.old) }
+        ensures rest { KeepsRest self.old self.new }
+    {
+        match first.vpn.0.checked_add(i) {
+            Some(vpn) => {
+                let at = Place {
+                    pid: first.pid,
+                    vpn: Vpn(vpn),
+                };
+                self.set_right(at, right);
+            }
+            None => {}
+        }
+    }
+
     // Removes the pages of a run of which none is on loan; places without a page are passed over.
     fn drop_pages(&mut self, first: Place, n: u32)
         requires sound { IsSound W.slot_count self.old }
@@ -27,12 +66,7 @@ impl<W: SwapStore> Memory<W> {
         ensures rest { KeepsRest self.old self.new }
     {
         for i in 0..n {
-            if let Some(vpn) = first.vpn.0.checked_add(i) {
-                self.drop_page(Place {
-                    pid: first.pid,
-                    vpn: Vpn(vpn),
-                });
-            }
+            self.drop_above(first, i);
         }
     }
 
@@ -46,13 +80,7 @@ impl<W: SwapStore> Memory<W> {
         ensures rest { KeepsRest self.old self.new }
     {
         for i in 0..n {
-            if let Some(vpn) = first.vpn.0.checked_add(i) {
-                let at = Place {
-                    pid: first.pid,
-                    vpn: Vpn(vpn),
-                };
-                self.set_right(at, right);
-            }
+            self.set_right_above(first, i, right);
         }
     }
 
@@ -66,6 +94,7 @@ impl<W: SwapStore> Memory<W> {
         ensures sound { IsSound W.slot_count self.new }
         ensures answer { result ≡ remove_answer (processes self.old) (ledger W.held self.old) first n }
         ensures ledger { ledger W.held self.new ≡ after_remove result first n (ledger W.held self.old) }
+        ensures refused { OnErr result (self.new ≡ self.old) }
         ensures usable { IsUsable self.new }
         ensures tie { IsTied W.held self.new }
         ensures size { size self.new ≡ size self.old }
@@ -91,6 +120,7 @@ impl<W: SwapStore> Memory<W> {
         ensures sound { IsSound W.slot_count self.new }
         ensures answer { result ≡ clear_answer (processes self.old) (ledger W.held self.old) first n }
         ensures ledger { ledger W.held self.new ≡ after_remove result first n (ledger W.held self.old) }
+        ensures refused { OnErr result (self.new ≡ self.old) }
         ensures usable { IsUsable self.new }
         ensures tie { IsTied W.held self.new }
         ensures size { size self.new ≡ size self.old }
@@ -115,6 +145,7 @@ impl<W: SwapStore> Memory<W> {
         ensures sound { IsSound W.slot_count self.new }
         ensures answer { result ≡ reduce_answer (processes self.old) (ledger W.held self.old) first n right }
         ensures ledger { ledger W.held self.new ≡ after_reduce result first n right (ledger W.held self.old) }
+        ensures refused { OnErr result (self.new ≡ self.old) }
         ensures usable { IsUsable self.new }
         ensures tie { IsTied W.held self.new }
         ensures size { size self.new ≡ size self.old }

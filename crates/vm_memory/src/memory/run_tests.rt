@@ -32,8 +32,16 @@ fn is_nothing(here: Here) -> bool
 {
     match here {
         Here::Nothing => true,
-        Here::Own { right: _, console: _, loan: _ } => false,
-        Here::Lent { kind: _, lender: _, number: _ } => false,
+        Here::Own {
+            right: _,
+            console: _,
+            loan: _,
+        } => false,
+        Here::Lent {
+            kind: _,
+            lender: _,
+            number: _,
+        } => false,
     }
 }
 
@@ -42,8 +50,16 @@ fn is_on_loan(here: Here) -> bool
 {
     match here {
         Here::Nothing => false,
-        Here::Own { right: _, console: _, loan } => loan.is_some(),
-        Here::Lent { kind: _, lender: _, number: _ } => true,
+        Here::Own {
+            right: _,
+            console: _,
+            loan,
+        } => loan.is_some(),
+        Here::Lent {
+            kind: _,
+            lender: _,
+            number: _,
+        } => true,
     }
 }
 
@@ -52,8 +68,16 @@ fn is_console(here: Here) -> bool
 {
     match here {
         Here::Nothing => false,
-        Here::Own { right: _, console, loan: _ } => console,
-        Here::Lent { kind: _, lender: _, number: _ } => false,
+        Here::Own {
+            right: _,
+            console,
+            loan: _,
+        } => console,
+        Here::Lent {
+            kind: _,
+            lender: _,
+            number: _,
+        } => false,
     }
 }
 
@@ -69,8 +93,16 @@ fn lacks(asked: Right, here: Here) -> bool
 {
     match here {
         Here::Nothing => false,
-        Here::Own { right, console: _, loan: _ } => !is_within(asked, right),
-        Here::Lent { kind: _, lender: _, number: _ } => false,
+        Here::Own {
+            right,
+            console: _,
+            loan: _,
+        } => !is_within(asked, right),
+        Here::Lent {
+            kind: _,
+            lender: _,
+            number: _,
+        } => false,
     }
 }
 

@@ -15,8 +15,12 @@ returns-clause-console g c = console_stored g.W.SwapStore.is_honest g.W.SwapStor
     c.args.self.now.pid c.args.va c.args.width c.args.value c.requires.aligned c.put_at.new.self c.put_at.result c.put_at.ensures
 
 pub returns-clause-rest : goal.returns-clause-rest
-returns-clause-rest g c = (refl, refl, rest_stored g.W.SwapStore.is_honest g.W.SwapStore.held g.W.SwapStore.slot_count g.W.SwapStore.asked g.W.SwapStore.faults c.args.self.now.mem.now c.requires.fit.0
-    c.args.self.now.pid c.args.va c.args.width c.args.value c.requires.aligned c.put_at.new.self c.put_at.result c.put_at.ensures)
+returns-clause-rest g c = (
+  refl,
+  refl,
+  rest_stored g.W.SwapStore.is_honest g.W.SwapStore.held g.W.SwapStore.slot_count g.W.SwapStore.asked g.W.SwapStore.faults c.args.self.now.mem.now c.requires.fit.0
+      c.args.self.now.pid c.args.va c.args.width c.args.value c.requires.aligned c.put_at.new.self c.put_at.result c.put_at.ensures,
+)
 
 pub returns-clause-fit : goal.returns-clause-fit
 returns-clause-fit g c = fit_stored g.W.SwapStore.is_honest g.W.SwapStore.held g.W.SwapStore.slot_count g.W.SwapStore.asked g.W.SwapStore.faults c.args.self.now.mem.now c.requires.fit.0

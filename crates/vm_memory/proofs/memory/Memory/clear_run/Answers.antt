@@ -1,0 +1,12 @@
+use Rattle.vm_memory.proofs.CallLaws.{sound-means}
+use Rattle.vm_memory.proofs.SoundMemory.{sound-tied}
+use Rattle.vm_memory.proofs.memory.Memory.clear_run.Goals as goal
+
+pub returns-then-any-clause-tie : goal.returns-then-any-clause-tie
+returns-then-any-clause-tie g c = sound-tied g.W.SwapStore.slot_count g.W.SwapStore.held c.args.self.now c.requires.sound
+
+pub returns-clause-tie : goal.returns-clause-tie
+returns-clause-tie g c = sound-tied g.W.SwapStore.slot_count g.W.SwapStore.held c.drop_pages.new.self c.drop_pages.ensures.sound
+
+pub returns-clause-means : goal.returns-clause-means
+returns-clause-means g c = λ before. sound-means g.W.SwapStore.slot_count g.W.SwapStore.is_honest g.W.SwapStore.held c.drop_pages.new.self c.drop_pages.ensures.sound

@@ -1,0 +1,23 @@
+use Rattle.std.proofs.Common.{ap, ◌∙◌}
+use Rattle.ledger_model.specs.Steps.{remove}
+use Rattle.vm_memory.specs.Memory.{ledger, processes}
+use Rattle.xk_base.specs.declared.windows.Window.TheVariants.{Image, Heap, Message, Map, Stack}
+use Rattle.vm_memory.proofs.Forgetting.{all_windows, homes_lie, in_place}
+use Rattle.vm_memory.proofs.CallLaws.{sound-means}
+use Rattle.vm_memory.proofs.SoundMemory.{sound-tied}
+use Rattle.vm_memory.proofs.memory.Memory.forget_process.Goals as goal
+
+pub returns-clause-tie : goal.returns-clause-tie
+returns-clause-tie g c = sound-tied g.W.SwapStore.slot_count g.W.SwapStore.held c.drop_window-5.new.self c.drop_window-5.ensures.sound
+
+pub returns-clause-means : goal.returns-clause-means
+returns-clause-means g c = λ before. sound-means g.W.SwapStore.slot_count g.W.SwapStore.is_honest g.W.SwapStore.held c.drop_window-5.new.self c.drop_window-5.ensures.sound
+
+pub returns-clause-ledger : goal.returns-clause-ledger
+returns-clause-ledger g c =
+    c.drop_window-5.ensures.ledger ∙ (ap (remove (in_place c.args.pid Stack)) (
+    c.drop_window-4.ensures.ledger ∙ ap (remove (in_place c.args.pid Map)) (
+    c.drop_window-3.ensures.ledger ∙ ap (remove (in_place c.args.pid Message)) (
+    c.drop_window-2.ensures.ledger ∙ ap (remove (in_place c.args.pid Heap)) c.drop_window.ensures.ledger)))
+    ∙ all_windows (processes c.args.self.now) (ledger g.W.SwapStore.held c.args.self.now) c.args.pid
+    (homes_lie g.W.SwapStore.slot_count g.W.SwapStore.held c.args.self.now c.requires.sound))

@@ -1,0 +1,56 @@
+use Rattle.std.proofs.Common.{arith, refl, sym, ap, ◌∙◌, ◌≡◌, ◌*◌, ◌≤◌, ◌<◌, ℕ}
+use Rattle.phys_pages.specs.Owners.{extent}
+use Rattle.sv32_space.specs.Agreement.{owned_by}
+use Rattle.ledger_model.specs.Places.{place_after}
+use Rattle.sv32_space.proofs.Runs.{make_none}
+use Rattle.vm_memory.specs.Memory.{Size, ledger, processes}
+use Rattle.vm_memory.proofs.Loops.{first_same, next_free, next_lies, next_made, next_room, next_used, rest_then, user_bound}
+use Rattle.vm_memory.proofs.memory.Memory.make_pages.Goals as goal
+
+pub loop-i-init : goal.loop-i-init
+loop-i-init g c =
+    let first : (extent c.args.self.now.owners).first ≡ 21 * processes c.args.self.now = c.requires.sound.agree.first in
+    record {
+      sound = c.requires.sound;
+      ledger = sym (make_none c.args.first c.args.right (ledger g.W.SwapStore.held c.args.self.now));
+      rest = record { size = refl; store = refl; failed = refl };
+      low = omega (arith, c.requires.sound.procs);
+      used = λ k from to. absurd (omega (arith, from, to, first, c.requires.sound.procs));
+    }
+
+pub overflow_add-at : goal.overflow_add-at
+overflow_add-at g c = omega (
+  arith,
+  user_bound (processes c.loop-i.self) (place_after c.args.first c.loop-i.i)
+      (next_lies g.W.SwapStore.slot_count g.W.SwapStore.held c.args.self.now c.loop-i.self c.loop-i.invariant.sound c.loop-i.invariant.rest c.args.first c.args.n c.loop-i.i
+      c.loop-i-test.true c.args.right c.requires.can c.loop-i.invariant.ledger),
+)
+
+pub place_page-requires-clause-place : goal.place_page-requires-clause-place
+place_page-requires-clause-place g c =
+    next_lies g.W.SwapStore.slot_count g.W.SwapStore.held c.args.self.now c.loop-i.self c.loop-i.invariant.sound c.loop-i.invariant.rest c.args.first c.args.n c.loop-i.i
+    c.loop-i-test.true c.args.right c.requires.can c.loop-i.invariant.ledger
+
+pub place_page-requires-clause-free : goal.place_page-requires-clause-free
+place_page-requires-clause-free g c =
+    next_free g.W.SwapStore.slot_count g.W.SwapStore.held c.args.self.now c.loop-i.self c.loop-i.invariant.sound c.loop-i.invariant.rest c.args.first c.args.n c.loop-i.i
+    c.loop-i-test.true c.args.right c.requires.can c.loop-i.invariant.ledger
+
+pub place_page-requires-clause-room : goal.place_page-requires-clause-room
+place_page-requires-clause-room g c =
+    next_room g.W.SwapStore.slot_count g.W.SwapStore.held c.args.self.now c.loop-i.self c.loop-i.invariant.sound c.loop-i.invariant.rest c.args.first c.args.n c.loop-i.i
+    c.loop-i-test.true c.args.right c.requires.can c.loop-i.invariant.ledger
+
+pub loop-i-preserved : goal.loop-i-preserved
+loop-i-preserved g c =
+    let same : processes c.place_page.new.self ≡ processes c.loop-i.self = ap (λ (s : Size). s.procs) c.place_page.ensures.rest.size in
+    record {
+      sound = c.place_page.ensures.sound;
+      ledger = next_made g.W.SwapStore.slot_count g.W.SwapStore.held c.args.self.now c.loop-i.self c.loop-i.invariant.sound c.loop-i.invariant.rest c.args.first c.args.n c.loop-i.i
+          c.loop-i-test.true c.args.right c.requires.can c.loop-i.invariant.ledger c.place_page.new.self c.place_page.ensures.ledger;
+      rest = rest_then c.args.self.now c.loop-i.self c.place_page.new.self c.loop-i.invariant.rest c.place_page.ensures.rest;
+      low = omega (arith, same, c.loop-i.invariant.low, c.free_frame_from-f.ensures.low);
+      used = next_used c.loop-i.self.owners c.place_page.new.self.owners c.free_frame_from-f.result (owned_by (place_after c.args.first c.loop-i.i))
+          (first_same g.W.SwapStore.slot_count c.loop-i.self c.place_page.new.self c.loop-i.invariant.sound c.place_page.ensures.sound c.place_page.ensures.rest.size)
+          c.place_page.ensures.owners c.free_frame_from-f.ensures.used;
+    }
