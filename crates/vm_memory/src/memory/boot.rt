@@ -31,7 +31,8 @@ use crate::memory::{BootError, BootFault, Memory};
 use boot_plan::{BootPlan, PagePlan};
 use phys_pages::{Owners, Ram, Seat};
 use std::alloc::Global;
-use sv32_space::{TABLE_FRAMES, new_space};
+use sv32_space::new_space;
+use xk_base::limits::TABLE_FRAMES;
 use xk_base::{Frame, NoMemory, Pid, Place};
 use xk_ports::SwapStore;
 
