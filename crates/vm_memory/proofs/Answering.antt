@@ -1,11 +1,11 @@
 -- What an answer of `make` or `make_console` tells of its run.
-use Rattle.std.proofs.Common.{◌≡◌, ℕ, ◌+◌, ◌-◌, ◌<◌, ◌≤◌, if◌then◌else◌, Bool, true, false, not, ◌&&◌, Option, Some, None, refl, sym, ap, subst, ◌∙◌, inl, inr, arith}
+use Rattle.std.proofs.Common.{◌≡◌, ℕ, ◌+◌, ◌-◌, ◌<◌, ◌≤◌, if◌then◌else◌, Bool, true, false, not, Option, Some, None, refl, sym, ap, subst, ◌∙◌, inl, inr, arith}
 use Rattle.std.specs.Prelude.{is_some, nat_le, nat_lt, Result, Ok, Err}
 use Rattle.std.proofs.lemmas.Bool.{and_from, and_parts, both_ways, false_from_ne_true, leb-true, le-leb, ltb-false}
 use Rattle.std.proofs.lemmas.Option.{none-some, same_Some}
 use Rattle.xk_base.specs.Windows.{first_page, in_window, last_page}
 use Rattle.xk_base.specs.declared.errors.XousError.{XousError}
-use Rattle.xk_base.specs.declared.errors.XousError.TheVariants.{BadAddress, MemoryInUse, OutOfMemory}
+use Rattle.xk_base.specs.declared.errors.XousError.TheVariants.{BadAddress, MemoryInUse}
 use Rattle.xk_base.specs.declared.ids.Pid.{Pid}
 use Rattle.xk_base.specs.declared.ids.Place.{Place}
 use Rattle.xk_base.specs.declared.ids.Vpn.{Vpn}
@@ -14,7 +14,7 @@ use Rattle.xk_base.specs.declared.windows.Window.TheVariants.{Map}
 use Rattle.ledger_model.specs.Conditions.{CanMake, CanMakeConsole, is_console}
 use Rattle.ledger_model.specs.LeastRun.{IsLeastRun, least_run}
 use Rattle.ledger_model.specs.Ledger.{Ledger, pages}
-use Rattle.ledger_model.specs.Places.{first_place, in_run, is_place_in, is_process, is_user_place, place_after}
+use Rattle.ledger_model.specs.Places.{first_place, is_place_in, is_process, is_user_place, place_after}
 use Rattle.ledger_model.specs.Reach.{is_free}
 use Rattle.ledger_model.specs.RunTests.{any_used, console_mapped, fits_window}
 use Rattle.ledger_model.proofs.LeastRuns.{is_free_run-each, least_run-Some}

@@ -1,6 +1,5 @@
 -- What ledgers that are equal but for their bytes have in common.
 use Rattle.std.proofs.Common.{◌≡◌, ℕ, Bool, List, Option, Some, None, refl, sym, ap, ◌∙◌, if◌then◌else◌}
-use Rattle.std.specs.Prelude.{is_some}
 use Rattle.std.specs.Option.{option_and_then, option_map}
 use Rattle.xk_base.specs.declared.ids.Place.{Place}
 use Rattle.xk_base.specs.declared.pages.Access.{Access}
@@ -9,13 +8,12 @@ use Rattle.ledger_model.specs.Loans.{bare, bare_page, bare_orphan, bare_contents
 use Rattle.ledger_model.specs.Places.{first_place}
 use Rattle.ledger_model.specs.Reach.{is_held_at, lender_of, Role, FreePlace, HomePlace, HolderPlace, OrphanPlace, holder_role, home_or, orphan_or_holder, lent_role, role_at, may, page_at_role, reach}
 use Rattle.ledger_model.proofs.LedgerLaws.{same_ledger}
-use Rattle.sv32_space.specs.declared.sides.Side.{Side}
 use Rattle.sv32_space.specs.declared.sides.Side.TheVariants.{Own, LentOut, LentIn, MutOut, MutIn}
 use Rattle.phys_pages.specs.declared.infos.LoanInfo.{LoanInfo}
 use Rattle.phys_pages.specs.declared.infos.PageInfo.{PageInfo}
 use Rattle.sv32_space.specs.Agreement.{Infos}
 use Rattle.sv32_space.specs.Entries.{Entry, Entries, Free, At, OnConsole}
-use Rattle.sv32_space.specs.EntryLedger.{SeatBytes, ledger_of, page_of_side, page_of_entry, orphan_of_loan, orphan_of_info, orphan_of_side, orphan_of_entry}
+use Rattle.sv32_space.specs.EntryLedger.{SeatBytes, ledger_of, page_of_entry, orphan_of_loan, orphan_of_info, orphan_of_entry}
 
 -- ---- the ledgers of the same entries and owners
 

@@ -1,20 +1,16 @@
 -- The processes of a plan, as their pages are placed one after the other.
-use Rattle.std.proofs.Common.{◌≡◌, ℕ, ◌+◌, ◌-◌, ◌*◌, ◌<◌, ◌≤◌, Bool, true, false, List, [], ◌∷◌, ◌++◌, take, drop, length, get_or, sum_by, Option, Some, None, refl, sym, ap, subst, ◌∙◌, inl, inr, arith, length-take, length-append}
-use Rattle.std.specs.Prelude.{All, nat_le, nat_lt}
+use Rattle.std.proofs.Common.{◌≡◌, ℕ, ◌+◌, ◌<◌, ◌≤◌, true, List, [], ◌∷◌, ◌++◌, take, drop, length, get_or, sum_by, refl, sym, ap, subst, ◌∙◌, arith, length-take}
+use Rattle.std.specs.Prelude.{nat_le, nat_lt}
 use Rattle.std.proofs.lemmas.Bool.{and_from, le-leb, lt-ltb}
 use Rattle.std.proofs.lemmas.List.{take_more, take-append-drop}
 use Rattle.std.proofs.lemmas.List.Sums.{sum_by-append, sum_by-cons}
-use Rattle.xk_base.specs.declared.ids.Pid.{Pid}
-use Rattle.xk_base.specs.declared.ids.Place.{Place}
-use Rattle.boot_plan.specs.FirstPages.{planned_pages}
-use Rattle.boot_plan.specs.declared.plans.BootPlan.{BootPlan}
 use Rattle.boot_plan.specs.declared.plans.ProcPlan.{ProcPlan}
 use Rattle.ledger_model.specs.Ledger.{Ledger, empty_ledger}
 use Rattle.ledger_model.specs.Places.{is_process}
 use Rattle.sv32_space.specs.Tie.{Held}
 use Rattle.vm_memory.specs.declared.memory.Memory.{Memory}
 use Rattle.vm_memory.specs.Changing.{KeepsRest}
-use Rattle.vm_memory.specs.Memory.{Size, size, processes, capacity_of, ledger}
+use Rattle.vm_memory.specs.Memory.{Size, processes, capacity_of, ledger}
 use Rattle.vm_memory.specs.Sound.{IsSound}
 use Rattle.vm_memory.specs.Starting.{AreFreeFrom, HasNoPage, IsUnlent, place_pages, place_processes}
 use Rattle.vm_memory.proofs.FirstPages.{processes_unlent, processes_more, processes_home_other}

@@ -1,5 +1,5 @@
 -- Bytes that are set one after the other are a write of all of them.
-use Rattle.std.proofs.Common.{◌≡◌, ℕ, ◌+◌, ◌-◌, ◌<◌, ◌≤◌, List, [], ◌∷◌, ◌++◌, take, drop, length, set, get_or, length-take, length-append, append_assoc, add-one, drop-cons, refl, sym, ap, ◌∙◌, arith}
+use Rattle.std.proofs.Common.{◌≡◌, ℕ, ◌+◌, ◌-◌, ◌<◌, ◌≤◌, List, [], ◌∷◌, ◌++◌, take, drop, length, set, get_or, length-take, length-append, append_assoc, add-one, drop-cons, sym, ap, ◌∙◌, arith}
 use Rattle.std.proofs.lemmas.List.{set-append_right, take-set, drop-set, take-append-drop}
 use Rattle.std.proofs.Math.Seq.{set-append_seam}
 use Rattle.ledger_model.specs.Steps.{written}

@@ -1,12 +1,12 @@
 -- What the calls say of a memory that stays sound.
-use Rattle.std.proofs.Common.{◌≡◌, ℕ, ◌+◌, ◌<◌, ◌≤◌, Bool, true, false, ◌&&◌, ◌||◌, ◌==◌, Option, Some, None, refl, sym, ap, ◌∙◌, arith}
+use Rattle.std.proofs.Common.{◌≡◌, ℕ, Bool, true, ◌==◌, sym, ap, ◌∙◌, arith}
 use Rattle.std.specs.Prelude.{is_some}
 use Rattle.std.proofs.lemmas.Bool.{or_right}
 use Rattle.xk_base.specs.Counting.{count_below}
 use Rattle.phys_pages.specs.Owners.{extent, infos, slot_seat}
 use Rattle.sv32_space.specs.Tie.{Held}
 use Rattle.vm_memory.specs.declared.memory.Memory.{Memory}
-use Rattle.vm_memory.specs.Bytes.{KeepsStore, MeansBytes, is_known, none_out, used_slots}
+use Rattle.vm_memory.specs.Bytes.{KeepsStore, MeansBytes, is_known, none_out}
 use Rattle.vm_memory.specs.Sound.{IsSound}
 
 -- a table without slots has no page out

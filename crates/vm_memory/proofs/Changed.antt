@@ -1,11 +1,9 @@
 -- A memory after a change of one page: it is sound, and its ledger has made the step.
-use Rattle.std.proofs.Common.{◌≡◌, ◌≢◌, ℕ, ◌+◌, ◌-◌, ◌*◌, ◌<◌, ◌≤◌, Bool, true, false, ◌&&◌, ◌==◌, if◌then◌else◌, List, Option, Some, None, refl, sym, ap, subst, ◌∙◌, inl, inr, arith}
-use Rattle.std.specs.Prelude.{is_some, is_none, nat_eq}
-use Rattle.std.specs.Option.{option_and_then}
+use Rattle.std.proofs.Common.{◌≡◌, ◌≢◌, ℕ, ◌+◌, ◌*◌, ◌≤◌, Bool, true, false, ◌&&◌, Option, Some, None, refl, sym, ap, subst, ◌∙◌, inl, inr, arith}
+use Rattle.std.specs.Prelude.{is_some}
 use Rattle.std.proofs.lemmas.Bool.{cases_Bool, and_from, both_ways, cond-true, cond-false}
 use Rattle.std.proofs.lemmas.Option.{none-some, same_Some}
 use Rattle.boot_plan.specs.Capacity.{table_frames, capacity}
-use Rattle.xk_base.specs.Counting.{put_at}
 use Rattle.xk_base.specs.declared.ids.Frame.{Frame as FrameNumber}
 use Rattle.xk_base.specs.declared.ids.Place.{Place}
 use Rattle.xk_base.specs.declared.pages.Right.{Right}
@@ -18,10 +16,9 @@ use Rattle.phys_pages.proofs.OwnerLaws.{infos-within, seat_tells}
 use Rattle.ledger_model.specs.Conditions.{CanMake, CanRemove, CanReduce, CanMakeConsole, is_lent, is_within}
 use Rattle.ledger_model.specs.Lawful.{IsLawful}
 use Rattle.ledger_model.specs.Ledger.{Ledger, Page, Bytes, Console, is_counted, pages}
-use Rattle.ledger_model.specs.Places.{in_run, is_process, is_user_place, count_places, same_place}
+use Rattle.ledger_model.specs.Places.{in_run, is_process, is_user_place, count_places}
 use Rattle.ledger_model.specs.Reach.{is_free}
 use Rattle.ledger_model.specs.Steps.{make, make_console, reduce, remove, zero_page}
-use Rattle.ledger_model.proofs.LedgerLaws.{cases_Option}
 use Rattle.ledger_model.proofs.Making.{make_lawful, make_pages, make_console_lawful, make_console_pages}
 use Rattle.ledger_model.proofs.Numbering.{count_places-one, count_places-none}
 use Rattle.ledger_model.proofs.PlaceLaws.{IsInRun, in_run-true, place_from}
@@ -33,7 +30,7 @@ use Rattle.sv32_space.specs.EntryLedger.{SeatBytes, is_free_entry, ledger_of}
 use Rattle.sv32_space.specs.PageChanges.{with_bytes, with_entry, with_info}
 use Rattle.sv32_space.specs.Spaces.{IsMade}
 use Rattle.sv32_space.specs.SpelledEntries.{entries}
-use Rattle.sv32_space.specs.Tie.{Held, agrees, bytes_at, ledger_in}
+use Rattle.sv32_space.specs.Tie.{Held, agrees, bytes_at}
 use Rattle.sv32_space.proofs.EntryLedgerLaws.{home_at, in_one-at}
 use Rattle.sv32_space.proofs.PageAgreement.{make_agrees, remove_agrees, reduce_agrees, map_console_agrees, unmap_console_agrees, reduce_console_agrees}
 use Rattle.sv32_space.proofs.PageLedger.{make_ledger, remove_ledger, reduce_ledger, map_console_ledger, unmap_console_ledger, reduce_console_ledger}
@@ -41,7 +38,7 @@ use Rattle.sv32_space.proofs.Roles.{free_by_entry}
 use Rattle.sv32_space.proofs.SeatByteLaws.{used_bytes}
 use Rattle.vm_memory.specs.declared.memory.Memory.{Memory}
 use Rattle.vm_memory.specs.Bytes.{used_frames, used_slots}
-use Rattle.vm_memory.specs.Memory.{blank_ledger, capacity_of, ledger, processes, IsUsable}
+use Rattle.vm_memory.specs.Memory.{blank_ledger, capacity_of, ledger, processes}
 use Rattle.vm_memory.specs.Sound.{HasExchangeFrame, IsSound}
 use Rattle.vm_memory.proofs.Counts.{seats_count, frame_left}
 

@@ -1,9 +1,7 @@
 -- Where the console is looked for: in the Map windows of the processes.
-use Rattle.std.proofs.Common.{◌≡◌, ◌≢◌, ℕ, zero, suc, ◌+◌, ◌-◌, ◌<◌, ◌≤◌, Bool, true, false, not, ◌&&◌, ◌||◌, ◌==◌, Option, Some, None, refl, sym, ap, subst, ◌∙◌, inl, inr, arith}
+use Rattle.std.proofs.Common.{◌≡◌, ℕ, ◌+◌, ◌-◌, ◌<◌, ◌≤◌, Bool, true, false, not, Option, Some, None, refl, sym, ap, subst, ◌∙◌, inl, inr, arith}
 use Rattle.std.specs.Prelude.{is_some, nat_le, nat_lt}
-use Rattle.std.specs.List.{list_any}
-use Rattle.std.specs.Option.{option_and_then}
-use Rattle.std.proofs.lemmas.Bool.{cases_Bool, and_from, and_parts, both_ways, false_from_ne_true, leb-true, le-leb, lt-ltb, ltb-true}
+use Rattle.std.proofs.lemmas.Bool.{and_from, and_parts, both_ways, false_from_ne_true, leb-true, le-leb, ltb-true}
 use Rattle.xk_base.specs.Windows.{first_page, in_window, last_page}
 use Rattle.xk_base.specs.declared.ids.Pid.{Pid}
 use Rattle.xk_base.specs.declared.ids.Place.{Place}
@@ -16,7 +14,7 @@ use Rattle.phys_pages.specs.Owners.{infos}
 use Rattle.ledger_model.specs.Conditions.{is_console}
 use Rattle.ledger_model.specs.LeastRun.{window_pages, window_place}
 use Rattle.ledger_model.specs.Ledger.{Ledger, Page, Contents, Console, Bytes, has_bytes}
-use Rattle.ledger_model.specs.Places.{first_place, is_place_in, is_process, is_user_place, place_after, run}
+use Rattle.ledger_model.specs.Places.{first_place, is_place_in, is_process, is_user_place, place_after}
 use Rattle.ledger_model.specs.RunTests.{console_mapped}
 use Rattle.ledger_model.proofs.LedgerLaws.{cases_Option}
 use Rattle.ledger_model.proofs.Numbering.{first_place-none, first_place-None, is_place_in-user}

@@ -1,12 +1,11 @@
 -- As many seats are used as there are pages, so that a frame is free while the capacity holds.
-use Rattle.std.proofs.Common.{◌≡◌, ℕ, zero, suc, ◌+◌, ◌-◌, ◌*◌, ◌<◌, ◌≤◌, Bool, true, false, if◌then◌else◌, Option, Some, None, refl, sym, ap, subst, ◌∙◌, inl, inr, arith}
+use Rattle.std.proofs.Common.{◌≡◌, ℕ, zero, suc, ◌+◌, ◌-◌, ◌<◌, ◌≤◌, Bool, true, false, if◌then◌else◌, Option, Some, None, refl, sym, ap, ◌∙◌, arith}
 use Rattle.std.specs.Prelude.{is_some, nat_lt}
-use Rattle.std.proofs.lemmas.Bool.{cases_Bool, cond-true, cond-false, lt-ltb, le-ltb}
+use Rattle.std.proofs.lemmas.Bool.{cond-true, cond-false, lt-ltb, le-ltb}
 use Rattle.xk_base.specs.Counting.{count_below}
 use Rattle.xk_base.proofs.Counting.{count_below-same}
 use Rattle.phys_pages.specs.declared.infos.PageInfo.{PageInfo}
-use Rattle.phys_pages.specs.declared.infos.Seat.{Seat}
-use Rattle.phys_pages.specs.Owners.{OwnerTable, Extent, extent, infos, frame_seat, slot_seat, HasSeat}
+use Rattle.phys_pages.specs.Owners.{OwnerTable, Extent, extent, infos, frame_seat, slot_seat}
 use Rattle.phys_pages.proofs.OwnerLaws.{infos-within}
 use Rattle.ledger_model.specs.Ledger.{pages}
 use Rattle.ledger_model.specs.Steps.{zero_page}

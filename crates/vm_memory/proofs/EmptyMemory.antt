@@ -1,36 +1,35 @@
 -- A memory without a page is sound.
-use Rattle.std.proofs.Common.{◌≡◌, ◌≢◌, ℕ, ◌+◌, ◌-◌, ◌*◌, ◌/◌, ◌<◌, ◌≤◌, Bool, true, false, List, Option, Some, None, refl, sym, ap, subst, ◌∙◌, ◌⊎◌, inl, inr, arith}
-use Rattle.std.specs.Prelude.{is_some, IsTrue}
+use Rattle.std.proofs.Common.{◌≡◌, ℕ, ◌+◌, ◌-◌, ◌*◌, ◌/◌, ◌≤◌, true, false, Some, None, refl, sym, ap, subst, ◌∙◌, inl, inr, arith}
+use Rattle.std.specs.Prelude.{is_some}
 use Rattle.std.specs.Option.{option_and_then}
-use Rattle.std.proofs.lemmas.Bool.{cases_Bool, true≢false, false≢true}
+use Rattle.std.proofs.lemmas.Bool.{cases_Bool}
 use Rattle.std.proofs.lemmas.Option.{none-some}
 use Rattle.xk_base.specs.Counting.{count_below}
 use Rattle.xk_base.proofs.Counting.{count_below-none}
 use Rattle.xk_base.specs.declared.ids.Place.{Place}
 use Rattle.boot_plan.specs.Capacity.{table_frames}
-use Rattle.phys_pages.specs.declared.infos.PageInfo.{PageInfo}
 use Rattle.phys_pages.specs.declared.infos.Seat.{Seat}
-use Rattle.phys_pages.specs.Owners.{Extent, OwnerTable, extent, infos, no_infos, frame_seat, HasSeat}
-use Rattle.phys_pages.specs.Ram.{Area, IsPlaced, RamBytes, area}
+use Rattle.phys_pages.specs.Owners.{Extent, extent, infos, no_infos, frame_seat}
+use Rattle.phys_pages.specs.Ram.{IsPlaced, area}
 use Rattle.ledger_model.specs.Lawful.{IsLawful}
-use Rattle.ledger_model.specs.Ledger.{Ledger, empty_ledger, pages}
+use Rattle.ledger_model.specs.Ledger.{empty_ledger, pages}
 use Rattle.ledger_model.specs.Loans.{loans}
 use Rattle.ledger_model.specs.Places.{count_places, is_process, is_user_place}
 use Rattle.ledger_model.specs.Steps.{zero_page}
 use Rattle.ledger_model.proofs.LedgerLaws.{same_ledger}
 use Rattle.sv32_space.specs.declared.sides.Side.{Side}
 use Rattle.sv32_space.specs.declared.sides.Side.TheVariants.{Own, LentOut, LentIn, MutOut, MutIn}
-use Rattle.sv32_space.specs.Agreement.{Agrees, EntriesAgree, Infos, procs_of}
-use Rattle.sv32_space.specs.Entries.{Entry, Entries, Free, At, OnConsole}
+use Rattle.sv32_space.specs.Agreement.{EntriesAgree, procs_of}
+use Rattle.sv32_space.specs.Entries.{Entries, Free, At}
 use Rattle.sv32_space.specs.EntryLedger.{SeatBytes, ledger_of, page_of_entry, orphan_of_entry}
 use Rattle.sv32_space.specs.Spaces.{IsMade}
 use Rattle.sv32_space.specs.SpelledEntries.{entries}
-use Rattle.sv32_space.specs.Tie.{Held, agrees, bytes_at, ledger_in}
+use Rattle.sv32_space.specs.Tie.{Held, bytes_at}
 use Rattle.sv32_space.proofs.EntryLaws.{no_entry_elsewhere}
 use Rattle.vm_memory.specs.declared.memory.Memory.{Memory}
 use Rattle.vm_memory.specs.Bytes.{used_frames, used_slots}
-use Rattle.vm_memory.specs.Memory.{Size, size, processes, capacity_of, ledger, blank_ledger}
-use Rattle.vm_memory.specs.Sound.{IsSound, HasExchangeFrame}
+use Rattle.vm_memory.specs.Memory.{processes, capacity_of, ledger, blank_ledger}
+use Rattle.vm_memory.specs.Sound.{IsSound}
 use Rattle.vm_memory.specs.Starting.{AreFreeFrom}
 
 -- ---- an empty ledger is lawful

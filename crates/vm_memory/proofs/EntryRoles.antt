@@ -1,6 +1,5 @@
 -- What a place is, and what its process reaches there, by the entry of the place.
-use Rattle.std.proofs.Common.{◌≡◌, ◌≢◌, ℕ, if◌then◌else◌, Bool, true, false, List, Option, Some, None, refl, sym, ap, subst, ◌∙◌, arith}
-use Rattle.std.specs.Prelude.{is_some}
+use Rattle.std.proofs.Common.{◌≡◌, ℕ, if◌then◌else◌, Bool, true, false, List, Option, Some, None, refl, sym, ap, ◌∙◌}
 use Rattle.std.specs.Option.{option_and_then, option_map}
 use Rattle.std.proofs.lemmas.Bool.{true≢false}
 use Rattle.xk_base.specs.declared.ids.Place.{Place}
@@ -11,9 +10,9 @@ use Rattle.xk_base.specs.declared.pages.Right.{Right}
 use Rattle.phys_pages.specs.declared.infos.LoanInfo.{LoanInfo}
 use Rattle.phys_pages.specs.declared.infos.PageInfo.{PageInfo}
 use Rattle.phys_pages.specs.declared.infos.Seat.{Seat}
-use Rattle.ledger_model.specs.Ledger.{Ledger, Contents, Console, Bytes, Page, PageLoan, Orphan, PageName, Homed, Orphaned, contents_of, loan_at, loan_of}
+use Rattle.ledger_model.specs.Ledger.{Ledger, Console, Bytes, Page, Orphan, Homed, contents_of, loan_at, loan_of}
 use Rattle.ledger_model.specs.Lawful.{IsLawful}
-use Rattle.ledger_model.specs.Reach.{Role, FreePlace, HomePlace, HolderPlace, OrphanPlace, lender_of, may, holder_may, page_at_role, role_at, reach}
+use Rattle.ledger_model.specs.Reach.{Role, FreePlace, HomePlace, HolderPlace, OrphanPlace, may, holder_may, page_at_role, role_at, reach}
 use Rattle.ledger_model.specs.Steps.{zero_page}
 use Rattle.ledger_model.proofs.LedgerLaws.{lender_of-holder, lender_of-None, role_at-home, role_at-orphan, role_at-lender, role_at-free, reach-role}
 use Rattle.sv32_space.specs.declared.sides.Side.{Side}

@@ -1,5 +1,5 @@
 -- Pages placed one after the other are the pages of the plan.
-use Rattle.std.proofs.Common.{◌≡◌, ◌≢◌, ℕ, zero, suc, ◌+◌, ◌-◌, ◌<◌, ◌≤◌, ◌==◌, if◌then◌else◌, Bool, true, false, nat_le, List, [], ◌∷◌, ◌++◌, length, get_or, Option, Some, None, refl, sym, ap, subst, ◌∙◌, inl, inr, arith}
+use Rattle.std.proofs.Common.{◌≡◌, ◌≢◌, ℕ, zero, suc, ◌+◌, ◌-◌, ◌<◌, ◌≤◌, ◌==◌, if◌then◌else◌, Bool, true, false, nat_le, List, [], ◌∷◌, ◌++◌, length, get_or, Option, Some, None, refl, sym, ap, ◌∙◌, inl, inr, arith}
 use Rattle.std.specs.Prelude.{find, slice_get, All, AllPairs}
 use Rattle.std.specs.Option.{option_and_then, option_map, option_or}
 use Rattle.std.proofs.lemmas.Bool.{cases_eq, cases_lt, cond-true, cond-false, eq-eqb, ne_eqb}
@@ -11,15 +11,15 @@ use Rattle.boot_plan.specs.Lawful.{IsLawfulProcess}
 use Rattle.boot_plan.specs.declared.plans.BootPlan.{BootPlan}
 use Rattle.boot_plan.specs.declared.plans.PagePlan.{PagePlan}
 use Rattle.boot_plan.specs.declared.plans.ProcPlan.{ProcPlan}
-use Rattle.ledger_model.specs.Ledger.{Ledger, Page, loan_at, loan_of, empty_ledger}
+use Rattle.ledger_model.specs.Ledger.{Ledger, Page, loan_of, empty_ledger}
 use Rattle.ledger_model.specs.Places.{same_place}
 use Rattle.ledger_model.specs.Reach.{is_free}
 use Rattle.ledger_model.proofs.LedgerLaws.{same_ledger}
 use Rattle.ledger_model.proofs.PlaceLaws.{same_place_tells}
 use Rattle.ledger_model.proofs.Reaching.{is_free-all}
 use Rattle.sv32_space.specs.PageSteps.{place_page}
-use Rattle.vm_memory.specs.FirstLedger.{first_ledger, first_page, planned_page, process_of}
-use Rattle.vm_memory.specs.Starting.{IsUnlent, HasNoPage, place_pages, place_processes}
+use Rattle.vm_memory.specs.FirstLedger.{first_ledger, first_page, planned_page}
+use Rattle.vm_memory.specs.Starting.{IsUnlent, place_pages, place_processes}
 
 -- ---- one page
 

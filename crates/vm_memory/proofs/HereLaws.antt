@@ -1,8 +1,7 @@
 -- What `at` tells is what the ledger has at the place.
-use Rattle.std.proofs.Common.{◌≡◌, ℕ, ◌<◌, ◌≤◌, ◌==◌, if◌then◌else◌, Bool, true, false, List, Option, Some, None, refl, sym, ap, subst, ◌∙◌, inl, inr, arith}
+use Rattle.std.proofs.Common.{◌≡◌, ℕ, ◌==◌, if◌then◌else◌, Bool, true, false, List, Option, Some, None, refl, sym, ap, ◌∙◌, inl, inr}
 use Rattle.std.specs.Prelude.{is_some}
-use Rattle.std.proofs.lemmas.Bool.{cases_Bool, true≢false, false≢true}
-use Rattle.std.proofs.lemmas.Option.{none-some}
+use Rattle.std.proofs.lemmas.Bool.{true≢false}
 use Rattle.xk_base.specs.declared.ids.Frame.{Frame as FrameNumber}
 use Rattle.xk_base.specs.declared.ids.Place.{Place}
 use Rattle.xk_base.specs.declared.pages.LoanKind.{LoanKind}
@@ -10,12 +9,11 @@ use Rattle.xk_base.specs.declared.pages.LoanKind.TheVariants.{Shared, Exclusive}
 use Rattle.xk_base.specs.declared.pages.Right.{Right}
 use Rattle.phys_pages.specs.declared.infos.PageInfo.{PageInfo}
 use Rattle.phys_pages.specs.declared.infos.Seat.{Seat}
-use Rattle.phys_pages.specs.declared.infos.Seat.TheVariants.{Frame, Slot}
+use Rattle.phys_pages.specs.declared.infos.Seat.TheVariants.{Frame}
 use Rattle.phys_pages.specs.Owners.{HasSeat, extent, infos}
 use Rattle.phys_pages.specs.Ram.{area, frame_of}
 use Rattle.phys_pages.proofs.OwnerLaws.{infos-within}
 use Rattle.ledger_model.specs.Places.{is_user_place}
-use Rattle.ledger_model.specs.Reach.{role_at}
 use Rattle.ledger_model.proofs.LedgerLaws.{cases_Option}
 use Rattle.sv32_space.specs.declared.sides.Side.{Side}
 use Rattle.sv32_space.specs.declared.sides.Side.TheVariants.{Own, LentOut, LentIn, MutOut, MutIn}
@@ -23,10 +21,9 @@ use Rattle.sv32_space.specs.declared.sides.EntryKind.TheVariants.{Here as HereKi
 use Rattle.sv32_space.specs.Agreement.{Infos, home_in, loan_in, number_of}
 use Rattle.sv32_space.specs.Entries.{Entry, Entries, Free, At, OnConsole}
 use Rattle.sv32_space.specs.EntryLedger.{SeatBytes}
-use Rattle.sv32_space.specs.SpelledEntries.{console_ppn, console_entry, entry_here, entry_of_kind, entries}
+use Rattle.sv32_space.specs.SpelledEntries.{console_ppn, entry_here, entry_of_kind, entries}
 use Rattle.sv32_space.specs.Tie.{Held, bytes_at}
 use Rattle.sv32_space.proofs.EntryLedgerLaws.{names_free}
-use Rattle.vm_memory.specs.declared.memory.Here.{Here}
 use Rattle.vm_memory.specs.declared.memory.Here.TheVariants as here
 use Rattle.vm_memory.specs.declared.memory.Memory.{Memory}
 use Rattle.vm_memory.specs.EntryAccess.{side_here}

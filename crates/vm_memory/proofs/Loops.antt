@@ -1,34 +1,29 @@
 -- Runs that are made, removed and reduced page by page: what holds after the first i pages.
-use Rattle.std.proofs.Common.{◌≡◌, ◌≢◌, ℕ, ◌+◌, ◌*◌, ◌<◌, ◌≤◌, ◌^◌, Bool, true, false, ◌&&◌, Option, Some, None, refl, sym, ap, subst, ◌∙◌, inl, inr, arith}
-use Rattle.std.specs.Prelude.{is_some, IsTrue}
-use Rattle.std.proofs.lemmas.Bool.{and_parts, both_ways, cases_lt, cond-true, cond-false}
-use Rattle.std.proofs.lemmas.Bool.Decides.{nat_tests}
+use Rattle.std.proofs.Common.{◌≡◌, ℕ, ◌+◌, ◌*◌, ◌<◌, ◌≤◌, ◌^◌, true, false, Some, sym, ap, subst, ◌∙◌, inl, inr, arith}
+use Rattle.std.specs.Prelude.{is_some}
+use Rattle.std.proofs.lemmas.Bool.{both_ways, cases_lt, cond-true, cond-false}
 use Rattle.boot_plan.specs.Capacity.{capacity}
 use Rattle.xk_base.specs.Counting.{put_at}
-use Rattle.xk_base.specs.Windows.{window_at}
 use Rattle.xk_base.specs.declared.ids.Frame.{Frame as FrameNumber}
 use Rattle.xk_base.specs.declared.ids.Place.{Place}
 use Rattle.xk_base.specs.declared.pages.Right.{Right}
-use Rattle.xk_base.specs.declared.windows.Window.{Window}
 use Rattle.phys_pages.specs.declared.infos.PageInfo.{PageInfo}
-use Rattle.phys_pages.specs.declared.infos.Seat.{Seat}
-use Rattle.phys_pages.specs.declared.infos.Seat.TheVariants.{Frame, Slot}
+use Rattle.phys_pages.specs.declared.infos.Seat.TheVariants.{Frame}
 use Rattle.phys_pages.specs.Owners.{OwnerTable, AreFramesUsed, extent, frame_seat, infos, seat_eq}
 use Rattle.phys_pages.proofs.OwnerLaws.{seat_tells}
 use Rattle.ledger_model.specs.Conditions.{CanMake}
 use Rattle.ledger_model.specs.Ledger.{Ledger, pages}
-use Rattle.ledger_model.specs.Places.{in_run, is_process, is_user_place, place_after}
+use Rattle.ledger_model.specs.Places.{in_run, is_user_place, place_after}
 use Rattle.ledger_model.specs.Reach.{is_free, role_at}
 use Rattle.ledger_model.specs.RunTests.{any_lacks, any_on_loan, asks_more, is_on_loan}
 use Rattle.ledger_model.specs.Steps.{make, reduce, remove}
 use Rattle.ledger_model.proofs.Making.{make_pages}
 use Rattle.ledger_model.proofs.PlaceLaws.{IsInRun, in_run-after, in_run-from, in_run-true}
-use Rattle.sv32_space.specs.Agreement.{owned_by}
 use Rattle.sv32_space.specs.Tie.{Held}
 use Rattle.sv32_space.proofs.Runs.{make_next, remove_next, reduce_next}
 use Rattle.vm_memory.specs.declared.memory.Memory.{Memory}
-use Rattle.vm_memory.specs.Changing.{IsFreeFrame, KeepsRest}
-use Rattle.vm_memory.specs.Memory.{Size, size, blank_ledger, capacity_of, ledger, processes}
+use Rattle.vm_memory.specs.Changing.{KeepsRest}
+use Rattle.vm_memory.specs.Memory.{Size, size, capacity_of, ledger, processes}
 use Rattle.vm_memory.specs.Sound.{IsSound}
 use Rattle.vm_memory.proofs.Nowhere.{no_user}
 use Rattle.vm_memory.proofs.RunLaws.{free_ahead, lent_ahead, lent_ahead_reduced, within_ahead}

@@ -1,5 +1,5 @@
 -- Places past the address space.
-use Rattle.std.proofs.Common.{◌≡◌, ℕ, ◌+◌, ◌<◌, ◌≤◌, ◌^◌, Bool, true, false, ◌&&◌, Option, Some, None, refl, sym, ap, ◌∙◌, arith}
+use Rattle.std.proofs.Common.{◌≡◌, ℕ, ◌≤◌, ◌^◌, Bool, true, false, ◌&&◌, None, refl, sym, ap, ◌∙◌, arith}
 use Rattle.std.specs.Prelude.{is_some}
 use Rattle.std.specs.Option.{option_and_then}
 use Rattle.std.proofs.lemmas.Bool.Decides.{nat_tests}
@@ -7,7 +7,7 @@ use Rattle.xk_base.specs.Windows.{window_at}
 use Rattle.xk_base.specs.declared.ids.Place.{Place}
 use Rattle.xk_base.specs.declared.pages.Right.{Right}
 use Rattle.phys_pages.specs.Owners.{infos}
-use Rattle.ledger_model.specs.Places.{in_run, is_process, is_user_place, place_after}
+use Rattle.ledger_model.specs.Places.{in_run, is_process, is_user_place}
 use Rattle.ledger_model.specs.Steps.{reduce, remove}
 use Rattle.sv32_space.specs.EntryLedger.{ledger_of, page_of_entry}
 use Rattle.sv32_space.specs.SpelledEntries.{entries}

@@ -1,5 +1,5 @@
 -- A page that is filled from a file.
-use Rattle.std.proofs.Common.{◌≡◌, ℕ, ◌+◌, ◌-◌, ◌<◌, ◌≤◌, if◌then◌else◌, nat_lt, Bool, true, false, List, ◌++◌, take, drop, length, get_or, slice_range, replicate, refl, sym, ap, ◌∙◌, inl, inr, arith, length-take, length-append, length-drop}
+use Rattle.std.proofs.Common.{◌≡◌, ℕ, ◌+◌, ◌-◌, ◌<◌, ◌≤◌, nat_lt, true, false, List, ◌++◌, take, drop, length, get_or, slice_range, replicate, sym, ap, ◌∙◌, inl, inr, arith, length-take, length-append, length-drop}
 use Rattle.std.specs.Prelude.{slice_index, map}
 use Rattle.std.specs.List.{range_with_len}
 use Rattle.std.proofs.lemmas.Bool.{cases_lt, cond-true, cond-false}

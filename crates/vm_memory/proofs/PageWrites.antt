@@ -1,6 +1,5 @@
 -- A page of a memory is written. Nothing else of the memory changes.
-use Rattle.std.proofs.Common.{◌≡◌, ℕ, ◌+◌, ◌*◌, ◌<◌, ◌≤◌, if◌then◌else◌, Bool, true, false, List, [], ◌++◌, length, take, drop, nat_eq, Option, Some, None, refl, sym, ap, subst, ◌∙◌, arith}
-use Rattle.std.specs.Prelude.{IsTrue}
+use Rattle.std.proofs.Common.{◌≡◌, ℕ, ◌+◌, ◌*◌, ◌≤◌, if◌then◌else◌, true, List, [], ◌++◌, length, drop, nat_eq, Option, Some, None, refl, sym, ap, subst, ◌∙◌, arith}
 use Rattle.std.proofs.lemmas.Bool.{false≢true}
 use Rattle.std.proofs.lemmas.List.{drop_all, append-nil}
 use Rattle.xk_base.specs.Counting.{put_at}
@@ -14,27 +13,24 @@ use Rattle.phys_pages.specs.Ram.{RamBytes, Area, IsPlaced, area, pages as page_o
 use Rattle.phys_pages.proofs.PageLaws.{length-pages, pages-with_page, area-with_page}
 use Rattle.boot_plan.specs.Capacity.{capacity, table_frames}
 use Rattle.ledger_model.specs.Lawful.{IsLawful}
-use Rattle.ledger_model.specs.Ledger.{Ledger, PageName, pages}
-use Rattle.ledger_model.specs.Places.{is_process}
+use Rattle.ledger_model.specs.Ledger.{pages}
 use Rattle.ledger_model.specs.Reach.{reach}
 use Rattle.ledger_model.specs.Steps.{zero_page, write, written}
 use Rattle.sv32_space.specs.declared.sides.Side.{Side}
 use Rattle.sv32_space.specs.Agreement.{Infos, EntriesAgree}
 use Rattle.sv32_space.specs.Entries.{Entry, Entries, Free, At, OnConsole}
 use Rattle.sv32_space.specs.EntryLedger.{SeatBytes, ledger_of}
-use Rattle.sv32_space.specs.EntryReach.{side_may}
 use Rattle.sv32_space.specs.PageChanges.{with_bytes}
-use Rattle.sv32_space.specs.Spaces.{IsMade}
 use Rattle.sv32_space.specs.SpelledEntries.{entries}
 use Rattle.sv32_space.specs.Tie.{Held, agrees, bytes_at}
 use Rattle.sv32_space.proofs.EntryLaws.{entries_after_page}
 use Rattle.sv32_space.proofs.SpaceLaws.{made_after_page}
 use Rattle.vm_memory.specs.declared.memory.Memory.{Memory}
 use Rattle.vm_memory.specs.Access.{reaches_bytes, write_page}
-use Rattle.vm_memory.specs.Bytes.{names_frame, is_near, means_bytes}
+use Rattle.vm_memory.specs.Bytes.{names_frame, is_near}
 use Rattle.vm_memory.specs.EntryAccess.{side_name}
 use Rattle.vm_memory.specs.Lending.{frame_named, with_bytes_at}
-use Rattle.vm_memory.specs.Memory.{Size, size, processes, capacity_of, ledger, blank_ledger}
+use Rattle.vm_memory.specs.Memory.{size, processes, capacity_of, ledger, blank_ledger}
 use Rattle.vm_memory.specs.Sound.{IsSound}
 use Rattle.vm_memory.proofs.Reached.{reach_by, seat_given}
 use Rattle.vm_memory.proofs.SeatWrites.{write-seat}

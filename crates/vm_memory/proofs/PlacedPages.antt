@@ -1,20 +1,19 @@
 -- A page of the plan is a page of zeros that is filled.
-use Rattle.std.proofs.Common.{◌≡◌, ◌≢◌, ℕ, ◌+◌, ◌*◌, ◌<◌, ◌≤◌, if◌then◌else◌, Bool, true, false, nat_eq, List, length, Option, Some, None, refl, sym, ap, subst, ◌∙◌, inl, inr, arith}
+use Rattle.std.proofs.Common.{◌≡◌, ℕ, if◌then◌else◌, nat_eq, List, length, Some, refl, sym, ap, ◌∙◌, inl, inr}
 use Rattle.std.specs.Option.{option_map}
 use Rattle.std.proofs.lemmas.List.{length-replicate}
 use Rattle.std.proofs.lemmas.List.FromFn.{length-map-range_with_len}
-use Rattle.std.proofs.lemmas.Bool.{cond-true, cond-false}
 use Rattle.xk_base.specs.Counting.{put_at}
 use Rattle.xk_base.specs.declared.ids.Frame.{Frame as FrameNumber}
 use Rattle.xk_base.specs.declared.ids.Place.{Place}
 use Rattle.xk_base.specs.declared.pages.Right.{Right}
 use Rattle.boot_plan.specs.Content.{page_byte}
 use Rattle.boot_plan.specs.declared.plans.PagePlan.{PagePlan}
-use Rattle.phys_pages.specs.declared.infos.Seat.TheVariants.{Frame, Slot}
-use Rattle.phys_pages.specs.Owners.{extent, infos, seat_eq}
+use Rattle.phys_pages.specs.declared.infos.Seat.TheVariants.{Frame}
+use Rattle.phys_pages.specs.Owners.{infos, seat_eq}
 use Rattle.phys_pages.specs.Ram.{area, pages, with_page}
 use Rattle.phys_pages.proofs.PageLaws.{length-pages, pages-with_page, area-with_page}
-use Rattle.ledger_model.specs.Ledger.{Ledger, Bytes, Homed, Page}
+use Rattle.ledger_model.specs.Ledger.{Ledger, Bytes, Homed}
 use Rattle.ledger_model.specs.Places.{in_run, same_place}
 use Rattle.ledger_model.specs.Steps.{make, new_page, write, written_page, zero_page}
 use Rattle.ledger_model.proofs.LedgerLaws.{same_ledger}
@@ -28,8 +27,7 @@ use Rattle.sv32_space.specs.Tie.{Held}
 use Rattle.sv32_space.proofs.EntryLedgerLaws.{in_one-at, in_one-apart}
 use Rattle.sv32_space.proofs.PageLedger.{seat_put}
 use Rattle.vm_memory.specs.declared.memory.Memory.{Memory}
-use Rattle.vm_memory.specs.Changing.{KeepsRest}
-use Rattle.vm_memory.specs.FirstLedger.{first_page, page_bytes}
+use Rattle.vm_memory.specs.FirstLedger.{page_bytes}
 use Rattle.vm_memory.specs.Memory.{size, processes, ledger}
 use Rattle.vm_memory.specs.Sound.{IsSound}
 use Rattle.vm_memory.proofs.PageWrites.{sound_after, size_after, whole_page, written_after}

@@ -1,7 +1,7 @@
 -- The pages of a process, as they are placed one after the other.
-use Rattle.std.proofs.Common.{◌≡◌, ◌≢◌, ℕ, ◌+◌, ◌-◌, ◌*◌, ◌<◌, ◌≤◌, Bool, true, false, List, [], ◌∷◌, ◌++◌, take, length, get_or, Option, Some, None, refl, sym, ap, subst, ◌∙◌, inl, inr, arith, length-take}
-use Rattle.std.specs.Prelude.{IsSome, IsTrue, All, AllPairs, is_some}
-use Rattle.std.proofs.lemmas.Bool.{and_from, cond-false}
+use Rattle.std.proofs.Common.{◌≡◌, ◌≢◌, ℕ, ◌+◌, ◌*◌, ◌<◌, ◌≤◌, true, List, take, length, get_or, Some, None, refl, sym, ap, subst, ◌∙◌, arith, length-take}
+use Rattle.std.specs.Prelude.{All, AllPairs, is_some}
+use Rattle.std.proofs.lemmas.Bool.{and_from}
 use Rattle.std.proofs.lemmas.List.{take_more, get_or-take, get_or_default}
 use Rattle.xk_base.specs.Counting.{put_at}
 use Rattle.xk_base.specs.declared.ids.Frame.{Frame as FrameNumber}
@@ -10,11 +10,10 @@ use Rattle.xk_base.specs.declared.ids.Place.{Place}
 use Rattle.xk_base.specs.Windows.{window_at}
 use Rattle.boot_plan.specs.Lawful.{IsLawfulPage}
 use Rattle.boot_plan.specs.declared.plans.PagePlan.{PagePlan}
-use Rattle.phys_pages.specs.declared.infos.PageInfo.{PageInfo}
 use Rattle.phys_pages.specs.declared.infos.Seat.{Seat}
 use Rattle.phys_pages.specs.declared.infos.Seat.TheVariants.{Frame, Slot}
-use Rattle.phys_pages.specs.Owners.{Extent, OwnerTable, extent, infos, frame_seat, seat_eq}
-use Rattle.phys_pages.specs.Ram.{Area, area}
+use Rattle.phys_pages.specs.Owners.{extent, infos, frame_seat, seat_eq}
+use Rattle.phys_pages.specs.Ram.{area}
 use Rattle.ledger_model.specs.Ledger.{Ledger}
 use Rattle.ledger_model.specs.Places.{is_process, is_user_place}
 use Rattle.ledger_model.specs.Reach.{is_free}

@@ -1,18 +1,16 @@
 -- What is reached in a sound memory, by the entry of the place.
-use Rattle.std.proofs.Common.{◌≡◌, ◌≢◌, ℕ, ◌<◌, if◌then◌else◌, Bool, true, false, ◌&&◌, ◌==◌, List, Option, Some, None, refl, sym, ap, subst, ◌∙◌, inl, inr, arith}
-use Rattle.std.specs.Prelude.{is_some, IsTrue}
-use Rattle.std.specs.Option.{option_and_then, option_map, option_map_or}
-use Rattle.std.proofs.lemmas.Bool.{cases_Bool, true≢false, false≢true}
-use Rattle.std.proofs.lemmas.Option.{none-some}
+use Rattle.std.proofs.Common.{◌≡◌, ℕ, ◌<◌, if◌then◌else◌, Bool, true, false, ◌==◌, List, Option, Some, None, refl, sym, ap, subst, ◌∙◌, inl, inr, arith}
+use Rattle.std.specs.Prelude.{is_some}
+use Rattle.std.specs.Option.{option_and_then, option_map_or}
+use Rattle.std.proofs.lemmas.Bool.{cases_Bool, false≢true}
 use Rattle.xk_base.specs.declared.ids.Place.{Place}
 use Rattle.xk_base.specs.declared.pages.Access.{Access}
 use Rattle.phys_pages.specs.declared.infos.Seat.{Seat}
 use Rattle.phys_pages.specs.declared.infos.Seat.TheVariants.{Frame, Slot}
-use Rattle.phys_pages.specs.declared.infos.PageInfo.{PageInfo}
-use Rattle.phys_pages.specs.Owners.{extent, infos}
+use Rattle.phys_pages.specs.Owners.{infos}
 use Rattle.phys_pages.specs.Ram.{area, frame_of, pages}
 use Rattle.phys_pages.proofs.OwnerLaws.{infos-within}
-use Rattle.ledger_model.specs.Ledger.{Ledger, Contents, Console, Bytes, PageName, Homed, contents_of, has_bytes}
+use Rattle.ledger_model.specs.Ledger.{Contents, Console, Bytes, PageName, Homed, contents_of, has_bytes}
 use Rattle.ledger_model.specs.Places.{is_user_place}
 use Rattle.ledger_model.specs.Reach.{owner_may, reach}
 use Rattle.ledger_model.proofs.LedgerLaws.{cases_Option}

@@ -1,6 +1,5 @@
 -- What the calls on one page's right, and on the console, write, as steps of the memory.
-use Rattle.std.proofs.Common.{◌≡◌, ◌≢◌, ℕ, ◌+◌, ◌*◌, ◌<◌, ◌≤◌, Bool, true, false, not, ◌&&◌, ◌||◌, List, Option, Some, None, refl, sym, ap, subst, ◌∙◌, inl, inr, arith}
-use Rattle.std.specs.Prelude.{is_some, IsFalse}
+use Rattle.std.proofs.Common.{◌≡◌, ℕ, Bool, true, false, not, ◌||◌, Option, Some, None, refl, sym, ap, ◌∙◌, inl, inr}
 use Rattle.std.specs.Option.{option_and_then, option_map}
 use Rattle.std.proofs.lemmas.Bool.{cases_Bool, and_parts, both_ways, cond-true, cond-false, not-false}
 use Rattle.xk_base.specs.Counting.{put_at}
@@ -9,11 +8,11 @@ use Rattle.xk_base.specs.declared.pages.Right.{Right}
 use Rattle.xk_base.specs.declared.windows.Window.TheVariants.{Map}
 use Rattle.phys_pages.specs.declared.infos.Seat.{Seat}
 use Rattle.phys_pages.specs.Owners.{infos}
-use Rattle.phys_pages.specs.Ram.{RamBytes, area, pages}
+use Rattle.phys_pages.specs.Ram.{RamBytes, area}
 use Rattle.ledger_model.specs.Conditions.{CanMakeConsole, is_console, is_within}
-use Rattle.ledger_model.specs.Ledger.{Ledger, Page, Bytes, Console}
+use Rattle.ledger_model.specs.Ledger.{Ledger, Bytes, Console}
 use Rattle.ledger_model.specs.Places.{in_run, is_process, is_user_place, same_place}
-use Rattle.ledger_model.specs.Reach.{is_free, role_at}
+use Rattle.ledger_model.specs.Reach.{role_at}
 use Rattle.ledger_model.specs.RunTests.{asks_more, is_on_loan}
 use Rattle.ledger_model.specs.Steps.{make_console, reduce, with_right}
 use Rattle.ledger_model.proofs.LedgerLaws.{same_ledger}
@@ -22,18 +21,17 @@ use Rattle.sv32_space.specs.declared.sides.EntryKind.{EntryKind}
 use Rattle.sv32_space.specs.declared.sides.Side.TheVariants.{Own, LentOut, LentIn, MutOut, MutIn}
 use Rattle.sv32_space.specs.Agreement.{Infos}
 use Rattle.sv32_space.specs.Entries.{Entry, Entries, Free, At, OnConsole}
-use Rattle.sv32_space.specs.EntryLedger.{SeatBytes, is_free_entry, ledger_of, page_of_entry}
+use Rattle.sv32_space.specs.EntryLedger.{SeatBytes, ledger_of, page_of_entry}
 use Rattle.sv32_space.specs.SpelledEntries.{entries, entry_of_kind}
 use Rattle.sv32_space.specs.Tie.{Held, bytes_at}
 use Rattle.sv32_space.proofs.EntryLedgerLaws.{home_at}
 use Rattle.sv32_space.proofs.Roles.{free_by_entry}
 use Rattle.vm_memory.specs.declared.memory.Memory.{Memory}
-use Rattle.vm_memory.specs.declared.memory.changes.Owned.{Owned}
 use Rattle.vm_memory.specs.declared.memory.changes.Owned.TheVariants as owned
 use Rattle.vm_memory.specs.Changing.{owned_in}
-use Rattle.vm_memory.specs.Memory.{capacity_of, ledger, processes}
+use Rattle.vm_memory.specs.Memory.{ledger, processes}
 use Rattle.vm_memory.specs.Sound.{IsSound}
-use Rattle.vm_memory.proofs.Changed.{IsChanged, IsStep, no_bytes, in_one, free_entry, reduced_there, console_reduced, console_made}
+use Rattle.vm_memory.proofs.Changed.{IsStep, no_bytes, in_one, free_entry, reduced_there, console_reduced, console_made}
 use Rattle.vm_memory.proofs.Steps.{IsWritten, entry_user, nothing_there, user_process}
 
 -- a right that isn't asked for more is within the page's

@@ -1,13 +1,13 @@
 -- Runs of places: what is asked of them, and how a step over a run leaves the places ahead.
-use Rattle.std.proofs.Common.{◌≡◌, ◌≢◌, ℕ, zero, suc, ◌+◌, ◌-◌, ◌<◌, ◌≤◌, Bool, true, false, not, ◌&&◌, ◌||◌, List, Option, Some, None, refl, sym, ap, subst, ◌∙◌, inl, inr, arith}
-use Rattle.std.specs.Prelude.{is_some, nat_le, nat_lt, ◌==◌}
+use Rattle.std.proofs.Common.{◌≡◌, ℕ, zero, suc, ◌+◌, ◌-◌, ◌<◌, ◌≤◌, Bool, true, false, not, ◌||◌, Option, Some, None, refl, sym, ap, subst, ◌∙◌, inl, inr, arith}
+use Rattle.std.specs.Prelude.{is_some}
 use Rattle.std.specs.List.{list_any}
 use Rattle.std.specs.Option.{option_map}
 use Rattle.std.proofs.lemmas.Bool.{both_ways, cond-false, or_left, or_right, false_from_ne_true}
 use Rattle.xk_base.specs.declared.ids.Place.{Place}
 use Rattle.xk_base.specs.declared.pages.Right.{Right}
-use Rattle.ledger_model.specs.Conditions.{CanMake, CanRemove, is_console, is_lent, is_within}
-use Rattle.ledger_model.specs.Ledger.{Ledger, Page, PageLoan, Orphan, has_bytes, loan_at}
+use Rattle.ledger_model.specs.Conditions.{CanMake, is_console, is_lent}
+use Rattle.ledger_model.specs.Ledger.{Ledger, Page, PageLoan, Orphan, loan_at}
 use Rattle.ledger_model.specs.Loans.{Loans, loans}
 use Rattle.ledger_model.specs.Places.{first_place, in_run, place_after, run}
 use Rattle.ledger_model.specs.Reach.{Role, FreePlace, HomePlace, HolderPlace, OrphanPlace, holder_role, home_or, is_free, is_free_role, is_held_at, lender_of, lent_role, orphan_or_holder, role_at}

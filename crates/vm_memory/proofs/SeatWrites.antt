@@ -1,7 +1,6 @@
 -- Bytes written at a seat are a write to its page.
-use Rattle.std.proofs.Common.{◌≡◌, ◌≢◌, ℕ, if◌then◌else◌, Bool, true, false, List, Option, Some, None, refl, sym, ap, subst, ◌∙◌, ◌⊎◌, inl, inr, arith}
+use Rattle.std.proofs.Common.{◌≡◌, ◌≢◌, ℕ, if◌then◌else◌, List, Option, Some, None, refl, sym, ap, ◌∙◌, ◌⊎◌, inl, inr, arith}
 use Rattle.std.specs.Option.{option_and_then, option_map}
-use Rattle.std.proofs.lemmas.Bool.{cond-true, cond-false}
 use Rattle.std.proofs.lemmas.Option.{none-some, same_Some}
 use Rattle.xk_base.specs.declared.ids.Place.{Place}
 use Rattle.xk_base.specs.declared.pages.LoanKind.{LoanKind}
@@ -10,7 +9,7 @@ use Rattle.phys_pages.specs.declared.infos.LoanInfo.{LoanInfo}
 use Rattle.phys_pages.specs.declared.infos.PageInfo.{PageInfo}
 use Rattle.phys_pages.specs.declared.infos.Seat.{Seat}
 use Rattle.phys_pages.proofs.OwnerLaws.{seat_tells}
-use Rattle.ledger_model.specs.Ledger.{Ledger, Page, Orphan, PageName, Homed, Orphaned}
+use Rattle.ledger_model.specs.Ledger.{Homed, Orphaned}
 use Rattle.ledger_model.specs.Places.{same_place}
 use Rattle.ledger_model.specs.Steps.{write, written, written_page, written_orphan}
 use Rattle.ledger_model.proofs.LedgerLaws.{same_ledger}
@@ -19,7 +18,7 @@ use Rattle.sv32_space.specs.declared.sides.Side.{Side}
 use Rattle.sv32_space.specs.declared.sides.Side.TheVariants.{Own, LentOut, LentIn, MutOut, MutIn}
 use Rattle.sv32_space.specs.Agreement.{Infos, EntriesAgree, on_loan, home_in, loan_to, lender_side, right_in}
 use Rattle.sv32_space.specs.Entries.{Entry, Entries, Free, At, OnConsole}
-use Rattle.sv32_space.specs.EntryLedger.{SeatBytes, ledger_of, page_of_side, page_of_entry, orphan_of_loan, orphan_of_info, orphan_of_side, orphan_of_entry}
+use Rattle.sv32_space.specs.EntryLedger.{SeatBytes, ledger_of, page_of_side, page_of_entry, orphan_of_info, orphan_of_side, orphan_of_entry}
 use Rattle.sv32_space.specs.PageChanges.{with_bytes}
 use Rattle.sv32_space.proofs.EntryLedgerLaws.{names_orphan}
 use Rattle.sv32_space.proofs.PageLedger.{seat_put, seat_kept}

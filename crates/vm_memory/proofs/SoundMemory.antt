@@ -1,20 +1,19 @@
 -- What follows from the soundness of a memory.
-use Rattle.std.proofs.Common.{◌≡◌, ℕ, ◌+◌, ◌≤◌, Bool, true, false, List, Option, Some, None, refl, sym, ap, subst, ◌∙◌, arith}
+use Rattle.std.proofs.Common.{◌≡◌, ℕ, Bool, true, false, List, Some, None, refl}
 use Rattle.std.specs.Prelude.{MatchBool}
 use Rattle.phys_pages.specs.declared.infos.Seat.{Seat}
 use Rattle.phys_pages.specs.declared.infos.Seat.TheVariants.{Frame, Slot}
-use Rattle.phys_pages.specs.Owners.{extent, infos, frame_seat}
+use Rattle.phys_pages.specs.Owners.{extent, infos}
 use Rattle.phys_pages.specs.Ram.{RamBytes, area, pages as page_of_frame}
 use Rattle.phys_pages.proofs.OwnerLaws.{infos-within}
-use Rattle.ledger_model.specs.Ledger.{Ledger, pages}
+use Rattle.ledger_model.specs.Ledger.{pages}
 use Rattle.ledger_model.specs.Loans.{bare}
 use Rattle.ledger_model.specs.Steps.{zero_page}
 use Rattle.ledger_model.proofs.Writing.{bare-pages}
-use Rattle.sv32_space.specs.Agreement.{procs_of}
 use Rattle.sv32_space.specs.Spaces.{IsMade}
 use Rattle.sv32_space.specs.SpelledEntries.{entries}
 use Rattle.sv32_space.specs.StandsFor.{told_bytes}
-use Rattle.sv32_space.specs.Tie.{Held, slot_bytes, bytes_at, ledger_in, stands_for}
+use Rattle.sv32_space.specs.Tie.{Held, slot_bytes, bytes_at, stands_for}
 use Rattle.sv32_space.proofs.Standing.{stands_at, stands_for as entries_stand}
 use Rattle.std.proofs.lemmas.Option.{none-some, same_Some}
 use Rattle.vm_memory.specs.declared.memory.Memory.{Memory}

@@ -1,10 +1,9 @@
 -- What the calls on one page write, as steps of the memory.
-use Rattle.std.proofs.Common.{◌≡◌, ◌≢◌, ℕ, ◌+◌, ◌-◌, ◌*◌, ◌^◌, ◌<◌, ◌≤◌, Bool, true, false, not, ◌&&◌, ◌||◌, List, replicate, length, Option, Some, None, refl, sym, ap, subst, ◌∙◌, inl, inr, arith}
+use Rattle.std.proofs.Common.{◌≡◌, ℕ, ◌+◌, ◌-◌, ◌*◌, ◌<◌, ◌≤◌, Bool, true, false, List, replicate, length, Option, Some, None, refl, sym, ap, ◌∙◌, arith}
 use Rattle.std.specs.Prelude.{is_some, nat_eq}
 use Rattle.std.specs.Option.{option_and_then}
 use Rattle.std.proofs.lemmas.Bool.{and_parts, both_ways, cond-true, cond-false, ne_eqb, eq-eqb}
 use Rattle.std.proofs.lemmas.List.{length-replicate}
-use Rattle.std.proofs.lemmas.Option.{none-some}
 use Rattle.xk_base.specs.Counting.{put_at}
 use Rattle.xk_base.specs.Windows.{window_at}
 use Rattle.xk_base.specs.declared.ids.Frame.{Frame as FrameNumber}
@@ -12,30 +11,24 @@ use Rattle.xk_base.specs.declared.ids.Place.{Place}
 use Rattle.xk_base.specs.declared.pages.Right.{Right}
 use Rattle.phys_pages.specs.declared.infos.Seat.{Seat}
 use Rattle.phys_pages.specs.declared.infos.Seat.TheVariants.{Frame, Slot}
-use Rattle.phys_pages.specs.Owners.{OwnerTable, Extent, extent, infos, HasSeat, seat_eq}
-use Rattle.phys_pages.specs.Ram.{RamBytes, Area, area, pages, with_page}
+use Rattle.phys_pages.specs.Owners.{OwnerTable, extent, infos, HasSeat, seat_eq}
+use Rattle.phys_pages.specs.Ram.{RamBytes, area, pages, with_page}
 use Rattle.phys_pages.proofs.OwnerLaws.{infos-within}
 use Rattle.phys_pages.proofs.PageLaws.{pages-with_page}
-use Rattle.ledger_model.specs.Conditions.{CanMakeConsole, is_console, is_within}
-use Rattle.ledger_model.specs.Ledger.{Ledger, Page, Bytes, Console}
 use Rattle.ledger_model.specs.Places.{in_run, is_process, is_user_place, same_place}
-use Rattle.ledger_model.specs.Reach.{Role, is_free, role_at}
-use Rattle.ledger_model.specs.RunTests.{asks_more, is_on_loan}
-use Rattle.ledger_model.specs.Steps.{make, make_console, reduce, remove, zero_page}
-use Rattle.ledger_model.proofs.Numbering.{is_place_in-user}
-use Rattle.xk_base.specs.declared.windows.Window.TheVariants.{Map}
+use Rattle.ledger_model.specs.Reach.{is_free, role_at}
+use Rattle.ledger_model.specs.RunTests.{is_on_loan}
+use Rattle.ledger_model.specs.Steps.{make, remove, zero_page}
 use Rattle.sv32_space.specs.declared.sides.EntryKind.{EntryKind}
 use Rattle.sv32_space.specs.declared.sides.EntryKind.TheVariants.{Free as FreeKind}
 use Rattle.sv32_space.specs.declared.sides.Side.TheVariants.{Own, LentOut, LentIn, MutOut, MutIn}
 use Rattle.sv32_space.specs.Agreement.{Infos, owned_by}
 use Rattle.sv32_space.specs.Entries.{Entry, Entries, Free, At, OnConsole}
-use Rattle.sv32_space.specs.EntryLedger.{SeatBytes, is_free_entry, ledger_of, page_of_entry}
+use Rattle.sv32_space.specs.EntryLedger.{SeatBytes, ledger_of, page_of_entry}
 use Rattle.sv32_space.specs.Spaces.{IsMade}
 use Rattle.sv32_space.specs.SpelledEntries.{IsEntry, entries, entry_of_kind}
 use Rattle.sv32_space.specs.Tie.{Held, bytes_at}
 use Rattle.sv32_space.proofs.EntryLaws.{entries_after_page}
-use Rattle.sv32_space.proofs.EntryLedgerLaws.{home_at}
-use Rattle.sv32_space.proofs.Roles.{free_by_entry}
 use Rattle.sv32_space.proofs.Runs.{remove_nothing}
 use Rattle.sv32_space.proofs.SpaceLaws.{made_after_page}
 use Rattle.vm_memory.specs.declared.memory.Memory.{Memory}
@@ -44,7 +37,7 @@ use Rattle.vm_memory.specs.declared.memory.changes.Owned.TheVariants as owned
 use Rattle.vm_memory.specs.Changing.{IsFreeFrame, owned_in}
 use Rattle.vm_memory.specs.Memory.{blank_ledger, capacity_of, ledger, processes}
 use Rattle.vm_memory.specs.Sound.{IsSound}
-use Rattle.vm_memory.proofs.Changed.{IsChanged, IsStep, no_bytes, in_one, free_entry, made_there, gone_there, some_page, reduced_there, console_gone, console_reduced, console_made}
+use Rattle.vm_memory.proofs.Changed.{IsStep, in_one, free_entry, made_there, gone_there, some_page, console_gone}
 use Rattle.vm_memory.proofs.EntryRoles.{entry_role, role-entry}
 
 -- the zeroed page of a frame

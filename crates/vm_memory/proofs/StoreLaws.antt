@@ -1,12 +1,11 @@
 -- What a store changes of what a process sees, and what it keeps.
-use Rattle.std.proofs.Common.{◌≡◌, ◌≢◌, ℕ, zero, suc, ◌+◌, ◌-◌, ◌*◌, ◌/◌, ◌%◌, ◌^◌, ◌<◌, ◌≤◌, if◌then◌else◌, Bool, true, false, List, [], ◌∷◌, ◌++◌, length, take, drop, get_or, Option, Some, None, refl, sym, ap, subst, ◌∙◌, inl, inr, arith, length-append, length-take, length-drop}
-use Rattle.std.specs.Prelude.{is_some, slice_index, IsTrue}
+use Rattle.std.proofs.Common.{◌≡◌, ◌≢◌, ℕ, zero, suc, ◌+◌, ◌-◌, ◌/◌, ◌%◌, ◌<◌, ◌≤◌, true, false, List, ◌++◌, length, take, drop, get_or, refl, sym, ap, subst, ◌∙◌, inl, inr, arith, length-append, length-take, length-drop}
+use Rattle.std.specs.Prelude.{slice_index}
 use Rattle.std.specs.Int.{byte_at}
-use Rattle.std.specs.Option.{option_and_then, option_map, option_map_or}
-use Rattle.std.proofs.lemmas.Bool.{cases_eq, cases_lt, cond-true, cond-false, false≢true}
+use Rattle.std.proofs.lemmas.Bool.{cases_lt, cond-true, cond-false}
 use Rattle.std.proofs.lemmas.Bool.Decides.{nat_tests}
 use Rattle.std.proofs.lemmas.List.{get_or_append_left, get_or-append_right, get_or-take, get_or-drop}
-use Rattle.xk_base.specs.UserMemory.{Memory as SeenMemory, StoresAsTold, StoresNumber, KeepsContent, byte_of_number, is_moved, size_of, with_number}
+use Rattle.xk_base.specs.UserMemory.{byte_of_number, is_moved, size_of, with_number}
 use Rattle.xk_base.specs.declared.pages.Width.{Width}
 use Rattle.xk_base.specs.declared.pages.Width.TheVariants.{Byte, Half, Word}
 use Rattle.ledger_model.specs.Steps.{written}

@@ -1,6 +1,5 @@
 -- What accesses keep, and what a store leaves, as a process's memory promises it.
-use Rattle.std.proofs.Common.{◌≡◌, ℕ, ◌%◌, ◌≤◌, if◌then◌else◌, Bool, true, false, ◌||◌, Option, Some, None, refl, sym, ap, subst, ◌∙◌, arith}
-use Rattle.std.specs.Prelude.{IsTrue}
+use Rattle.std.proofs.Common.{◌≡◌, ℕ, ◌%◌, if◌then◌else◌, Bool, true, false, Some, None, refl, sym, ap, subst, ◌∙◌, arith}
 use Rattle.xk_base.specs.UserMemory.{Content, StoresAsTold, StoresNumber, KeepsContent, size_of, with_number}
 use Rattle.xk_base.specs.declared.ids.Pid.{Pid}
 use Rattle.xk_base.specs.declared.pages.Access.TheVariants.{Store}
@@ -10,9 +9,9 @@ use Rattle.xk_base.specs.declared.pages.Width.{Width}
 use Rattle.sv32_space.specs.SpelledEntries.{entries}
 use Rattle.sv32_space.specs.Tie.{Held}
 use Rattle.vm_memory.specs.declared.memory.Memory.{Memory}
-use Rattle.vm_memory.specs.Bytes.{KeepsStore, means_bytes, none_out}
+use Rattle.vm_memory.specs.Bytes.{means_bytes, none_out}
 use Rattle.vm_memory.specs.EntryAccess.{entry_may, page_of}
-use Rattle.vm_memory.specs.Memory.{IsUsable, processes, ledger}
+use Rattle.vm_memory.specs.Memory.{IsUsable, processes}
 use Rattle.vm_memory.specs.Sound.{IsSound}
 use Rattle.vm_memory.specs.UserStores.{DoesStore, PutsBytes}
 use Rattle.vm_memory.specs.UserView.{KeepsRest, user_view, user_content}

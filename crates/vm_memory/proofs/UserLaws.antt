@@ -1,13 +1,11 @@
 -- What a process sees of a sound memory, by the entries of its places.
-use Rattle.std.proofs.Common.{◌≡◌, ◌≢◌, ℕ, ◌+◌, ◌*◌, ◌/◌, ◌%◌, ◌<◌, ◌≤◌, if◌then◌else◌, Bool, true, false, not, List, Option, Some, None, refl, sym, ap, subst, ◌∙◌, inl, inr, arith}
+use Rattle.std.proofs.Common.{◌≡◌, ℕ, ◌+◌, ◌*◌, ◌/◌, ◌%◌, ◌<◌, if◌then◌else◌, Bool, true, false, not, Option, Some, None, refl, sym, ap, ◌∙◌, arith}
 use Rattle.std.specs.Prelude.{is_some, slice_index}
 use Rattle.std.specs.Option.{option_and_then, option_map_or}
 use Rattle.std.proofs.lemmas.Bool.{false≢true}
-use Rattle.std.proofs.lemmas.Option.{none-some}
 use Rattle.xk_base.specs.UserMemory.{Memory as SeenMemory, number_at, size_of}
 use Rattle.xk_base.specs.declared.ids.Frame.{Frame as FrameNumber}
 use Rattle.xk_base.specs.declared.ids.Pid.{Pid}
-use Rattle.xk_base.specs.declared.ids.Place.{Place}
 use Rattle.xk_base.specs.declared.pages.Access.{Access}
 use Rattle.xk_base.specs.declared.pages.Access.TheVariants.{Fetch, Load, Store}
 use Rattle.xk_base.specs.declared.pages.Width.{Width}
@@ -16,11 +14,10 @@ use Rattle.phys_pages.specs.declared.infos.Seat.{Seat}
 use Rattle.phys_pages.specs.declared.infos.Seat.TheVariants.{Frame, Slot}
 use Rattle.phys_pages.specs.Owners.{infos}
 use Rattle.phys_pages.specs.Ram.{pages}
-use Rattle.ledger_model.specs.Ledger.{Contents, Console, Bytes, PageName, contents_of, has_bytes}
-use Rattle.ledger_model.specs.Reach.{owner_may, reach}
+use Rattle.ledger_model.specs.Ledger.{Contents, Console, Bytes, contents_of, has_bytes}
+use Rattle.ledger_model.specs.Reach.{owner_may}
 use Rattle.sv32_space.specs.declared.sides.Side.{Side}
 use Rattle.sv32_space.specs.declared.sides.Side.TheVariants.{Own, LentOut, LentIn, MutOut, MutIn}
-use Rattle.sv32_space.specs.Agreement.{Infos}
 use Rattle.sv32_space.specs.Entries.{Entry, Entries, Free, At, OnConsole}
 use Rattle.sv32_space.specs.EntryLedger.{SeatBytes}
 use Rattle.sv32_space.specs.EntryReach.{side_may}
@@ -29,7 +26,6 @@ use Rattle.sv32_space.specs.Tie.{Held, bytes_at}
 use Rattle.vm_memory.specs.declared.memory.Memory.{Memory}
 use Rattle.vm_memory.specs.declared.memory.access.Target.{Target}
 use Rattle.vm_memory.specs.declared.memory.access.Target.TheVariants.{Page, Nothing, Console as OnDevice}
-use Rattle.vm_memory.specs.Access.{contents_reached}
 use Rattle.vm_memory.specs.EntryAccess.{entry_may, entry_name, entry_target, is_given_target, page_of}
 use Rattle.vm_memory.specs.Memory.{processes, ledger}
 use Rattle.vm_memory.specs.Sound.{IsSound}

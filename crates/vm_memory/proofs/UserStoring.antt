@@ -1,30 +1,25 @@
 -- What a store leaves of a sound memory.
-use Rattle.std.proofs.Common.{◌≡◌, ◌≢◌, ℕ, ◌+◌, ◌*◌, ◌/◌, ◌%◌, ◌<◌, ◌≤◌, if◌then◌else◌, Bool, true, false, List, length, nat_eq, Option, Some, None, refl, sym, ap, subst, ◌∙◌, inl, inr, arith}
-use Rattle.std.specs.Prelude.{slice_index, IsTrue}
-use Rattle.std.specs.Option.{option_and_then, option_map, option_map_or}
+use Rattle.std.proofs.Common.{◌≡◌, ◌≢◌, ℕ, ◌+◌, ◌/◌, ◌%◌, ◌≤◌, if◌then◌else◌, Bool, true, false, List, length, nat_eq, Option, Some, None, refl, sym, ap, ◌∙◌, inl, inr, arith}
+use Rattle.std.specs.Prelude.{slice_index}
+use Rattle.std.specs.Option.{option_and_then, option_map}
 use Rattle.std.proofs.lemmas.Bool.{cases_eq, cond-true, cond-false, eq-eqb, ne_eqb, false≢true}
-use Rattle.std.proofs.lemmas.Option.{none-some}
 use Rattle.xk_base.specs.Counting.{put_at}
-use Rattle.xk_base.specs.UserMemory.{Memory as SeenMemory, StoresAsTold, StoresNumber, KeepsContent, size_of, with_number}
+use Rattle.xk_base.specs.UserMemory.{Memory as SeenMemory, size_of, with_number}
 use Rattle.xk_base.specs.declared.ids.Frame.{Frame as FrameNumber}
 use Rattle.xk_base.specs.declared.ids.Pid.{Pid}
 use Rattle.xk_base.specs.declared.ids.Place.{Place}
 use Rattle.xk_base.specs.declared.pages.Access.{Access}
-use Rattle.xk_base.specs.declared.pages.Access.TheVariants.{Fetch, Load, Store}
-use Rattle.xk_base.specs.declared.pages.LoanKind.TheVariants.{Shared, Exclusive}
-use Rattle.xk_base.specs.declared.pages.Stored.{Stored}
-use Rattle.xk_base.specs.declared.pages.Stored.TheVariants.{Done, Device, Fault}
+use Rattle.xk_base.specs.declared.pages.Access.TheVariants.{Load, Store}
 use Rattle.xk_base.specs.declared.pages.Width.{Width}
 use Rattle.phys_pages.specs.declared.infos.Seat.{Seat}
 use Rattle.phys_pages.specs.declared.infos.Seat.TheVariants.{Frame, Slot}
 use Rattle.phys_pages.specs.declared.infos.PageInfo.{PageInfo}
-use Rattle.phys_pages.specs.Owners.{infos, seat_eq}
+use Rattle.phys_pages.specs.Owners.{infos}
 use Rattle.phys_pages.specs.Ram.{area, pages, with_page}
 use Rattle.phys_pages.proofs.OwnerLaws.{seat_tells}
 use Rattle.phys_pages.proofs.PageLaws.{length-pages, pages-with_page, area-with_page}
-use Rattle.ledger_model.specs.Ledger.{Ledger, Contents, Console, Bytes, Page, Orphan, PageName, Homed, Orphaned, contents_of}
+use Rattle.ledger_model.specs.Ledger.{Bytes, Page, Orphan, PageName, Homed, Orphaned, contents_of}
 use Rattle.ledger_model.specs.Loans.{bare}
-use Rattle.ledger_model.specs.Reach.{owner_may, reach}
 use Rattle.ledger_model.specs.Steps.{written, write}
 use Rattle.ledger_model.proofs.Reaching.{write_others}
 use Rattle.ledger_model.proofs.Writing.{write_bare}
@@ -32,9 +27,8 @@ use Rattle.sv32_space.specs.declared.sides.Side.{Side}
 use Rattle.sv32_space.specs.declared.sides.Side.TheVariants.{Own, LentOut, LentIn, MutOut, MutIn}
 use Rattle.sv32_space.specs.Agreement.{Infos, EntriesAgree}
 use Rattle.sv32_space.specs.Entries.{Entry, Entries, Free, At, OnConsole}
-use Rattle.sv32_space.specs.EntryLedger.{SeatBytes, ledger_of, page_of_side, page_of_entry, orphan_of_loan, orphan_of_info, orphan_of_side, orphan_of_entry}
+use Rattle.sv32_space.specs.EntryLedger.{SeatBytes, ledger_of, page_of_entry, orphan_of_loan, orphan_of_info, orphan_of_entry}
 use Rattle.sv32_space.specs.EntryReach.{side_may}
-use Rattle.sv32_space.specs.PageChanges.{with_bytes}
 use Rattle.sv32_space.specs.SpelledEntries.{entries}
 use Rattle.sv32_space.specs.Tie.{Held, bytes_at}
 use Rattle.sv32_space.proofs.EntryLedgerLaws.{names_owned}

@@ -1,20 +1,17 @@
 -- Where the walk leads, by the entry of the place.
-use Rattle.std.proofs.Common.{◌≡◌, ◌≢◌, ℕ, ◌+◌, ◌-◌, ◌*◌, ◌/◌, ◌%◌, ◌^◌, ◌<◌, ◌≤◌, if◌then◌else◌, Bool, true, false, ◌&&◌, nat_le, nat_lt, List, Option, Some, None, refl, sym, ap, subst, ◌∙◌, inl, inr, arith}
+use Rattle.std.proofs.Common.{◌≡◌, ℕ, ◌+◌, ◌-◌, ◌*◌, ◌/◌, ◌%◌, ◌^◌, ◌<◌, ◌≤◌, if◌then◌else◌, Bool, true, false, ◌&&◌, nat_le, nat_lt, Option, Some, None, refl, sym, ap, ◌∙◌, inl, inr, arith}
 use Rattle.std.specs.Prelude.{is_some}
-use Rattle.std.proofs.lemmas.Bool.{cases_Bool, true≢false}
+use Rattle.std.proofs.lemmas.Bool.{true≢false}
 use Rattle.std.proofs.lemmas.Bool.Decides.{nat_tests}
-use Rattle.std.proofs.lemmas.Option.{none-some}
 use Rattle.xk_base.specs.declared.ids.Frame.{Frame as FrameNumber}
 use Rattle.xk_base.specs.declared.ids.Pid.{Pid}
 use Rattle.xk_base.specs.declared.ids.Place.{Place}
 use Rattle.xk_base.specs.declared.pages.Access.{Access}
 use Rattle.xk_base.specs.declared.windows.Window.{Window}
 use Rattle.xk_base.specs.Windows.{window_at}
-use Rattle.phys_pages.specs.declared.infos.PageInfo.{PageInfo}
-use Rattle.phys_pages.specs.declared.infos.Seat.{Seat}
 use Rattle.phys_pages.specs.declared.infos.Seat.TheVariants.{Frame, Slot}
-use Rattle.phys_pages.specs.Owners.{HasSeat, extent, infos}
-use Rattle.phys_pages.specs.Ram.{Area, IsPlaced, RamBytes, area, ppn_of, frame_of}
+use Rattle.phys_pages.specs.Owners.{extent, infos}
+use Rattle.phys_pages.specs.Ram.{Area, IsPlaced, area, ppn_of, frame_of}
 use Rattle.phys_pages.proofs.AreaLaws.{frame_of-ppn_of}
 use Rattle.phys_pages.proofs.OwnerLaws.{infos-within}
 use Rattle.ledger_model.specs.Places.{is_process, is_user_place}

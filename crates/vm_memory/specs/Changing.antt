@@ -9,7 +9,7 @@ use Rattle.sv32_space.specs.Entries.{Entry, Free, At, OnConsole}
 use Rattle.vm_memory.specs.declared.memory.Memory.{Memory}
 use Rattle.vm_memory.specs.declared.memory.changes.Owned.{Owned}
 use Rattle.vm_memory.specs.declared.memory.changes.Owned.TheVariants.{Nothing, Page, Console}
-use Rattle.vm_memory.specs.Memory.{Size, size, store_of}
+use Rattle.vm_memory.specs.Memory.{size}
 
 -- how large it is, its store, and whether a call has failed stay
 pub record KeepsRest {W : Type 0} (old new : Memory W) : Type 0 where

@@ -2,7 +2,6 @@
 use Rattle.std.specs.Prelude.{ℕ, ◌-◌, ◌==◌, nat_le, List, map, Option, None, find, slice_get, if◌then◌else◌}
 use Rattle.std.specs.List.{range_with_len}
 use Rattle.std.specs.Option.{option_and_then, option_map}
-use Rattle.xk_base.specs.declared.ids.Place.{Place}
 use Rattle.boot_plan.specs.Content.{page_byte}
 use Rattle.boot_plan.specs.declared.plans.BootPlan.{BootPlan}
 use Rattle.boot_plan.specs.declared.plans.PagePlan.{PagePlan}

@@ -1,5 +1,5 @@
 -- What the ledger has at a place, as `at` tells it.
-use Rattle.std.specs.Prelude.{ℕ, not, Option, Some, None}
+use Rattle.std.specs.Prelude.{ℕ, not, Some, None}
 use Rattle.std.specs.Option.{option_map}
 use Rattle.xk_base.specs.declared.ids.Place.{Place}
 use Rattle.phys_pages.specs.declared.infos.LoanInfo.{LoanInfo}

@@ -1,6 +1,6 @@
 -- Where new pages go, and what `make` and `make_console` answer and do. A test of several places is made of all of them
 -- before the next test.
-use Rattle.std.specs.Prelude.{◌≡◌, ℕ, ◌+◌, ◌≤◌, Bool, true, false, not, nat_lt, if◌then◌else◌, Option, Some, None, Result, Ok, Err}
+use Rattle.std.specs.Prelude.{◌≡◌, ℕ, ◌+◌, ◌≤◌, Bool, not, nat_lt, if◌then◌else◌, Option, Some, None, Result, Ok, Err}
 use Rattle.xk_base.specs.declared.errors.XousError.{XousError}
 use Rattle.xk_base.specs.declared.errors.XousError.TheVariants.{BadAddress, MemoryInUse, OutOfMemory}
 use Rattle.xk_base.specs.declared.ids.Pid.{Pid}

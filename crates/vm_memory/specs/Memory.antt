@@ -1,6 +1,5 @@
 -- What a memory shows: the ledger that its bytes make, how large it is, and its store.
-use Rattle.std.specs.Prelude.{◌≡◌, ℕ, ◌≤◌, Bool, false}
-use Rattle.xk_base.specs.declared.ids.Place.{Place}
+use Rattle.std.specs.Prelude.{◌≡◌, ℕ, Bool, false}
 use Rattle.boot_plan.specs.Capacity.{page_frames, capacity}
 use Rattle.phys_pages.specs.Owners.{extent, infos}
 use Rattle.phys_pages.specs.Ram.{RamBytes, Area, area}

@@ -1,6 +1,6 @@
 -- What the calls that remove and reduce pages answer and do. Each test is made of all places of the run before the next,
 -- and on a refusal nothing changes.
-use Rattle.std.specs.Prelude.{◌≡◌, ◌≢◌, ℕ, IsFalse, if◌then◌else◌, Option, Some, None, Result, Ok, Err}
+use Rattle.std.specs.Prelude.{◌≡◌, ◌≢◌, ℕ, IsFalse, if◌then◌else◌, Some, None, Result, Ok, Err}
 use Rattle.xk_base.specs.declared.errors.XousError.{XousError}
 use Rattle.xk_base.specs.declared.errors.XousError.TheVariants.{BadAddress, ShareViolation, AccessDenied}
 use Rattle.xk_base.specs.declared.ids.Pid.{Pid}

@@ -1,13 +1,13 @@
 -- What is kept over two changes.
-use Rattle.std.specs.Prelude.{◌≡◌, ℕ, ◌≤◌, Bool, IsTrue}
+use Rattle.std.specs.Prelude.{◌≡◌, ℕ, Bool}
 use Rattle.std.proofs.Common.{◌∙◌, sym, ap, subst, arith}
 use Rattle.xk_base.specs.declared.ids.Pid.{Pid}
-use Rattle.ledger_model.specs.Ledger.{Ledger, PageName}
+use Rattle.ledger_model.specs.Ledger.{PageName}
 use Rattle.ledger_model.specs.Loans.{bare}
 use Rattle.sv32_space.specs.Tie.{Held}
 use Rattle.vm_memory.specs.declared.memory.Memory.{Memory}
 use Rattle.vm_memory.specs.Bytes.{KeepsStore}
-use Rattle.vm_memory.specs.Memory.{Size, size, processes, ledger, store_of}
+use Rattle.vm_memory.specs.Memory.{Size, processes, ledger, store_of}
 use Rattle.vm_memory.specs.UserView.{KeepsRest, IsUnseen}
 
 store_over : {W P : Type 0} (is_honest : W → Bool) (held : W → Held) (slot_count : W → ℕ) (asked : W → P) (faults : W → ℕ) (a b c : W)

@@ -1,13 +1,9 @@
 -- Memory as the instructions of a process see it, and what is kept besides.
-use Rattle.std.specs.Prelude.{◌≡◌, ◌≢◌, ℕ, ◌/◌, ◌%◌, Bool, true, false, not, is_some, slice_index, IsTrue, List, length, Option, Some, None, if◌then◌else◌}
-use Rattle.std.specs.Option.{option_and_then, option_map, option_map_or}
+use Rattle.std.specs.Prelude.{◌≡◌, ◌≢◌, ℕ, ◌%◌, Bool, true, false, not, is_some, slice_index, length, Option, Some, None, if◌then◌else◌}
+use Rattle.std.specs.Option.{option_map_or}
 use Rattle.xk_base.specs.UserMemory.{Memory as SeenMemory, Content}
 use Rattle.xk_base.specs.declared.ids.Pid.{Pid}
-use Rattle.xk_base.specs.declared.ids.Place.{Place}
-use Rattle.xk_base.specs.declared.pages.Access.TheVariants.{Load, Store}
-use Rattle.xk_base.specs.declared.pages.Stored.{Stored}
-use Rattle.xk_base.specs.declared.pages.Stored.TheVariants.{Done, Device, Fault}
-use Rattle.xk_base.specs.declared.pages.Width.{Width}
+use Rattle.xk_base.specs.declared.pages.Access.TheVariants.{Load}
 use Rattle.ledger_model.specs.Ledger.{Ledger, Contents, Console, Bytes, PageName, contents_of, has_bytes}
 use Rattle.ledger_model.specs.Loans.{bare}
 use Rattle.ledger_model.specs.Reach.{reach}
@@ -16,7 +12,7 @@ use Rattle.vm_memory.specs.declared.memory.Memory.{Memory}
 use Rattle.vm_memory.specs.Access.{contents_reached}
 use Rattle.vm_memory.specs.Bytes.{KeepsStore, means_bytes, none_out, MeansBytes}
 use Rattle.vm_memory.specs.EntryAccess.{page_of}
-use Rattle.vm_memory.specs.Memory.{IsUsable, Size, size, processes, ledger, store_of}
+use Rattle.vm_memory.specs.Memory.{IsUsable, size, processes, ledger, store_of}
 use Rattle.vm_memory.specs.Sound.{IsSound}
 use Rattle.vm_memory.specs.Tie.{IsTied}
 

@@ -1,4 +1,4 @@
-use Rattle.std.proofs.Common.{◌≡◌, ◌≢◌, ℕ, ◌+◌, ◌<◌, ◌≤◌, List, length, take, get_or, sum_by, refl, sym, ap, subst, ◌∙◌, arith}
+use Rattle.std.proofs.Common.{◌≡◌, ◌≢◌, ◌+◌, ◌≤◌, List, length, get_or, sum_by, sym, ap, subst, ◌∙◌, arith}
 use Rattle.std.specs.Prelude.{All, AllPairs}
 use Rattle.std.proofs.lemmas.List.{take_all}
 use Rattle.boot_plan.specs.Capacity.{capacity}
@@ -7,13 +7,11 @@ use Rattle.boot_plan.specs.declared.plans.PagePlan.{PagePlan}
 use Rattle.boot_plan.specs.declared.plans.ProcPlan.{ProcPlan}
 use Rattle.ledger_model.specs.Ledger.{empty_ledger}
 use Rattle.ledger_model.specs.Loans.{bare}
-use Rattle.vm_memory.specs.FirstLedger.{first_ledger}
-use Rattle.vm_memory.specs.Memory.{Size, processes, capacity_of, ledger}
+use Rattle.vm_memory.specs.Memory.{Size, capacity_of, ledger}
 use Rattle.vm_memory.specs.Starting.{place_pages, place_processes}
 use Rattle.vm_memory.proofs.BootLaws.{next_unlent, next_has_none, next_process_room, next_booted}
 use Rattle.vm_memory.proofs.FirstPages.{first_is}
 use Rattle.vm_memory.proofs.SoundMemory.{sound-tied}
-use Rattle.vm_memory.proofs.memory.Memory.boot.Given as given
 use Rattle.vm_memory.proofs.memory.Memory.boot.Goals as goal
 
 -- as many processes as the plan has

@@ -1,4 +1,4 @@
-use Rattle.std.proofs.Common.{rules, sym, ap, ◌∙◌, Some}
+use Rattle.std.proofs.Common.{sym, ap, ◌∙◌, Some}
 use Rattle.ledger_model.specs.Ledger.{Bytes}
 use Rattle.phys_pages.specs.Ram.{pages}
 use Rattle.xk_base.specs.declared.pages.Access.TheVariants.{Load}

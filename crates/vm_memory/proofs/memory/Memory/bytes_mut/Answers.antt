@@ -1,10 +1,9 @@
 use Rattle.std.proofs.Common.{◌≡◌, List, ℕ, length, Some, refl, sym, ap, ◌∙◌}
 use Rattle.ledger_model.specs.Ledger.{Bytes}
 use Rattle.phys_pages.specs.Ram.{pages, with_page}
-use Rattle.sv32_space.specs.Entries.{Entry, At}
 use Rattle.xk_base.specs.declared.pages.Access.TheVariants.{Store}
 use Rattle.vm_memory.specs.Bytes.{none_out}
-use Rattle.vm_memory.specs.Lending.{frame_named, with_bytes_at}
+use Rattle.vm_memory.specs.Lending.{with_bytes_at}
 use Rattle.vm_memory.proofs.PageWrites.{near_entry, lent_sound, lent_ledger, lent_size}
 use Rattle.vm_memory.proofs.Reached.{near_contents}
 use Rattle.vm_memory.proofs.SoundMemory.{sound-tied}

@@ -1,5 +1,4 @@
 use Rattle.std.proofs.Common.{◌≡◌, ◌+◌, ◌<◌, ℕ, false}
-use Rattle.xk_base.specs.declared.ids.Pid.{Pid}
 use Rattle.vm_memory.specs.Memory.{ledger}
 use Rattle.vm_memory.specs.RunTests.{has_console}
 use Rattle.vm_memory.proofs.memory.Memory.console_mapped.Given as goal

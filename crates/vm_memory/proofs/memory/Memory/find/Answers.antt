@@ -1,4 +1,4 @@
-use Rattle.std.proofs.Common.{rules, arith, ◌≡◌, ◌∙◌, sym, ap}
+use Rattle.std.proofs.Common.{arith, ◌∙◌, sym, ap}
 use Rattle.sv32_space.specs.Walk.{walk_of}
 use Rattle.vm_memory.proofs.WalkTargets.{walk-fault, walk-page, walk-console, walk-bound}
 use Rattle.vm_memory.proofs.memory.Memory.find.Goals as goal

@@ -1,7 +1,7 @@
 use Rattle.std.proofs.Common.{ap, ◌∙◌}
 use Rattle.ledger_model.specs.Steps.{remove}
 use Rattle.vm_memory.specs.Memory.{ledger, processes}
-use Rattle.xk_base.specs.declared.windows.Window.TheVariants.{Image, Heap, Message, Map, Stack}
+use Rattle.xk_base.specs.declared.windows.Window.TheVariants.{Heap, Message, Map, Stack}
 use Rattle.vm_memory.proofs.Forgetting.{all_windows, homes_lie, in_place}
 use Rattle.vm_memory.proofs.CallLaws.{sound-means}
 use Rattle.vm_memory.proofs.SoundMemory.{sound-tied}

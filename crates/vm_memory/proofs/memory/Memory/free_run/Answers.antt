@@ -1,4 +1,4 @@
-use Rattle.std.proofs.Common.{arith, refl, sym, subst, ◌∙◌, ◌+◌}
+use Rattle.std.proofs.Common.{sym, subst, ◌+◌}
 use Rattle.vm_memory.specs.Memory.{ledger, processes}
 use Rattle.vm_memory.proofs.FreeRuns.{IsSearched, looked, run_there, none_there, searched_used, searched_free}
 use Rattle.vm_memory.proofs.memory.Memory.free_run.Goals as goal

@@ -1,4 +1,4 @@
-use Rattle.std.proofs.Common.{arith, below_more, sym, ◌∙◌}
+use Rattle.std.proofs.Common.{arith, below_more, sym}
 use Rattle.vm_memory.specs.Memory.{ledger, processes}
 use Rattle.vm_memory.proofs.ConsoleRuns.{console_found, console_looked, console_missed}
 use Rattle.vm_memory.proofs.memory.Memory.has_console.Goals as goal

@@ -1,4 +1,4 @@
-use Rattle.std.proofs.Common.{arith, refl, sym, ap, ◌∙◌, ◌≡◌, ◌*◌, ◌≤◌, ◌<◌, ℕ}
+use Rattle.std.proofs.Common.{arith, refl, sym, ap, ◌≡◌, ◌*◌}
 use Rattle.phys_pages.specs.Owners.{extent}
 use Rattle.sv32_space.specs.Agreement.{owned_by}
 use Rattle.ledger_model.specs.Places.{place_after}

@@ -1,9 +1,7 @@
-use Rattle.std.proofs.Common.{ap, subst, sym, ◌∙◌, ◌≡◌, List, ℕ, length, Some}
-use Rattle.phys_pages.specs.Ram.{with_page}
+use Rattle.std.proofs.Common.{ap, ◌∙◌, length}
 use Rattle.ledger_model.specs.Ledger.{Bytes}
 use Rattle.ledger_model.specs.Steps.{new_page}
 use Rattle.sv32_space.specs.PageSteps.{place_page}
-use Rattle.vm_memory.specs.FirstLedger.{page_bytes}
 use Rattle.vm_memory.specs.Memory.{ledger}
 use Rattle.vm_memory.proofs.PlacedPages.{made_frame, filled_sound, filled_size, filled_ledger, length-page_bytes}
 use Rattle.vm_memory.proofs.memory.Memory.place_first.Goals as goal

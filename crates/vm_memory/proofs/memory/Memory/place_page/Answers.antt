@@ -1,4 +1,3 @@
-use Rattle.std.proofs.Common.{sym, ◌∙◌}
 use Rattle.vm_memory.specs.Memory.{processes}
 use Rattle.vm_memory.proofs.Steps.{cleared_made, placed_step, user_process}
 use Rattle.vm_memory.proofs.memory.Memory.place_page.Goals as goal

@@ -1,4 +1,4 @@
-use Rattle.std.proofs.Common.{rules, sym, ◌∙◌}
+use Rattle.std.proofs.Common.{sym, ◌∙◌}
 use Rattle.vm_memory.proofs.Reached.{page_reached, reached_near}
 use Rattle.vm_memory.proofs.SoundMemory.{sound-tied}
 use Rattle.vm_memory.proofs.memory.Memory.reach.Goals as goal

@@ -1,5 +1,4 @@
-use Rattle.std.proofs.Common.{◌≡◌, ℕ, ◌-◌, ◌*◌, ◌≤◌, false, length, refl, sym, ap, ◌∙◌, arith}
-use Rattle.phys_pages.specs.Owners.{Extent}
+use Rattle.std.proofs.Common.{◌≡◌, ◌-◌, ◌*◌, false, length, refl, ap, ◌∙◌, arith}
 use Rattle.phys_pages.specs.Ram.{Area}
 use Rattle.vm_memory.specs.declared.memory.Memory.{Memory}
 use Rattle.vm_memory.proofs.EmptyMemory.{IsEmpty, empty_sound, empty_has_none}
