@@ -1,5 +1,6 @@
 pub mod AnsweredCalls
 pub mod ChangedThread
+pub mod HeapCalls
 pub mod HeapChange
 pub mod InstructionEffects
 pub mod InstructionSteps

@@ -46,7 +46,7 @@ ledger_served m ledger words h r like =
 
 -- ---- UnmapMemory
 
-removed_stood : (b : Bool) (o : Option Page) (page : Page) → (if b then None else o) ≡ Some page → o ≡ Some page
+pub removed_stood : (b : Bool) (o : Option Page) (page : Page) → (if b then None else o) ≡ Some page → o ≡ Some page
 removed_stood true o page e = absurd (none-some page e)
 removed_stood false o page e = e
 

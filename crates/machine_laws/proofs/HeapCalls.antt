@@ -1,0 +1,132 @@
+-- The calls on the heap keep the machine matched.
+use Rattle.std.proofs.Common.{◌≡◌, ◌≢◌, ℕ, ◌+◌, ◌-◌, ◌/◌, ◌<◌, ◌≤◌, Bool, true, false, List, [], ◌∷◌, Option, Some, None, refl, sym, ap, ◌∙◌, inl, inr, arith, subst}
+use Rattle.std.specs.Prelude.{◌%◌, ◌==◌, ◌&&◌, if◌then◌else◌, nat_le, nat_lt, not}
+use Rattle.std.specs.Option.{option_map_or}
+use Rattle.std.proofs.lemmas.Bool.{false≢true, and_from, and_parts, cases_lt, eqb-true, le-leb, leb-true, ltb-false}
+use Rattle.std.proofs.lemmas.Option.{none-some}
+use Rattle.xk_base.specs.declared.errors.XousError.{XousError}
+use Rattle.xk_base.specs.declared.errors.XousError.TheVariants.{BadAlignment, InvalidLimit, OutOfMemory, ShareViolation}
+use Rattle.xk_base.specs.declared.ids.Pid.{Pid}
+use Rattle.xk_base.specs.declared.ids.Place.{Place}
+use Rattle.xk_base.specs.declared.ids.ThreadId.{ThreadId}
+use Rattle.xk_base.specs.declared.limits.TheConstants.{PAGE_SIZE}
+use Rattle.xk_base.specs.declared.windows.Window.TheVariants.{Heap, Message}
+use Rattle.xk_base.specs.declared.pages.Right.{Right}
+use Rattle.xk_base.specs.CallWords.{heap_bytes}
+use Rattle.xk_base.specs.Replies.{plain_words, range_words}
+use Rattle.xk_base.specs.Windows.{first_page, last_page, in_window}
+use Rattle.ledger_model.specs.Conditions.{CanMake}
+use Rattle.ledger_model.specs.Ledger.{Ledger, Bytes, Orphan, Page, PageLoan, loan_at, pages}
+use Rattle.ledger_model.specs.Places.{in_run, is_place_in, is_process}
+use Rattle.ledger_model.specs.Reach.{is_free}
+use Rattle.ledger_model.specs.RunTests.{any_on_loan}
+use Rattle.ledger_model.specs.Steps.{make, new_page, remove, zero_page}
+use Rattle.ledger_model.proofs.Making.{make_lawful, make_loans}
+use Rattle.ledger_model.proofs.Numbering.{is_place_in-user}
+use Rattle.ledger_model.proofs.PlaceLaws.{IsInRun, in_run-from, in_run-true}
+use Rattle.ledger_model.proofs.Reaching.{is_free-all}
+use Rattle.machine_model.specs.Changes.{Served, call_settled, first_refusal}
+use Rattle.machine_model.specs.Machine.{Machine, Thread}
+use Rattle.machine_model.specs.Matched.{Matched, is_living}
+use Rattle.machine_model.specs.MemoryCalls.{are_too_many, caller_place, decrease_call, decrease_refusals, decrease_served, heap_limit, heap_of, heap_start, increase_call, increase_refusals, increase_served, is_aligned}
+use Rattle.machine_model.specs.Order.{is_ready, ready_at}
+use Rattle.machine_laws.proofs.HeapChange.{MayHeap, heap_at, heap_served, matched_heaps, on_heaps, one_heap}
+use Rattle.machine_laws.proofs.LedgerChange.{IsLikeLedger, MayStand, on_ledger, matched_on}
+use Rattle.machine_laws.proofs.MemoryCallSteps.{call_matched, like_removed, removed_stood}
+use Rattle.machine_laws.proofs.RunRefusals.{can_remove, none_holds, not_false}
+
+-- ---- the caller's process
+
+there_lives : (m : Machine) (who : ThreadId) → Matched m → (o : Option Thread) → m.threads who ≡ o
+    → option_map_or (λ t. is_ready t.state) o false ≡ true → (b : Bool) → is_living m who.pid ≡ b → b ≡ true
+there_lives m who h None q r b e = absurd (false≢true r)
+there_lives m who h (Some t) q r true e = refl
+there_lives m who h (Some t) q r false e = absurd (none-some t (sym ((h.keys.dead who.pid e).no_thread who.tid) ∙ q))
+
+-- a process with a Ready thread is alive
+pub caller_lives : (m : Machine) (who : ThreadId) → Matched m → ready_at m who ≡ true → is_living m who.pid ≡ true
+caller_lives m who h r = there_lives m who h (m.threads who) refl r (is_living m who.pid) refl
+
+-- ---- addresses of the heap
+
+start_page : (h : ℕ) → (536870912 + h) / 4096 ≡ 131072 + h / 4096
+start_page h = omega arith
+
+aligned_less : (h b : ℕ) → h % 4096 ≡ 0 → b % 4096 ≡ 0 → b ≤ h → (h - b) % 4096 ≡ 0
+aligned_less h b eh eb le = omega arith
+
+pages_less : (h b : ℕ) → h % 4096 ≡ 0 → b % 4096 ≡ 0 → b ≤ h → (h - b) / 4096 + b / 4096 ≡ h / 4096
+pages_less h b eh eb le = omega arith
+
+-- ---- DecreaseHeap
+
+module _ (m : Machine) (h : Matched m) (r : ready_at m m.cursor ≡ true) (bytes : ℕ) (al : bytes % 4096 ≡ 0) (le : bytes ≤ heap_of m)
+    (loan : any_on_loan m.processes m.ledger (caller_place m (heap_start + (heap_of m - bytes))) (bytes / PAGE_SIZE) ≡ false) where
+
+  abbrev freed_run : Place → Bool
+  freed_run p = in_run (caller_place m (heap_start + (heap_of m - bytes))) (bytes / PAGE_SIZE) p
+
+  abbrev freed_ledger : Ledger
+  freed_ledger = remove (in_run (caller_place m (heap_start + (heap_of m - bytes))) (bytes / PAGE_SIZE)) m.ledger
+
+  freed_matched : Matched (on_ledger freed_ledger m)
+  freed_matched =
+      matched_on freed_ledger m
+      (like_removed m (in_run (caller_place m (heap_start + (heap_of m - bytes))) (bytes / PAGE_SIZE)) h
+          (can_remove m.processes m.ledger (caller_place m (heap_start + (heap_of m - bytes))) (bytes / PAGE_SIZE) loan)) h
+
+  whole_now : heap_of m % 4096 ≡ 0
+  whole_now = h.heaps.whole m.cursor.pid
+
+  within_now : heap_of m ≤ 16777216
+  within_now = h.heaps.within m.cursor.pid
+
+
+  kept_below : (p : Place) (page : Page) → (b : Bool) → freed_run p ≡ b → (if b then None else m.ledger.home p) ≡ Some page
+      → p.pid.0 ≡ m.cursor.pid.0 → in_window Heap p.vpn.0 ≡ true → p.vpn.0 < 131072 + (heap_of m - bytes) / 4096
+  kept_below p page true q e same inside = absurd (none-some page e)
+  kept_below p page false q e same inside =
+      let low : p.vpn.0 < 131072 + heap_of m / 4096 =
+      subst (λ k. p.vpn.0 < 131072 + (m.process k).heap / 4096) same (h.heaps.below p page e inside) in
+      elim (cases_lt p.vpn.0 (131072 + (heap_of m - bytes) / 4096)) [
+        | inl lt ↦ lt
+        | inr ge ↦
+            let at : (536870912 + (heap_of m - bytes)) / 4096 ≡ 131072 + (heap_of m - bytes) / 4096 = start_page (heap_of m - bytes) in
+            let sum : (heap_of m - bytes) / 4096 + bytes / 4096 ≡ heap_of m / 4096 = pages_less (heap_of m) bytes whole_now al le in
+            let run : IsInRun (caller_place m (heap_start + (heap_of m - bytes))) (bytes / PAGE_SIZE) p =
+            record { pid = same; from = omega arith; to = omega arith } in
+            absurd (false≢true (sym q ∙ in_run-from (caller_place m (heap_start + (heap_of m - bytes))) (bytes / PAGE_SIZE) p run))
+      ]
+
+  freed_heap : MayHeap (on_ledger freed_ledger m) m.cursor.pid (heap_of m - bytes)
+  unfolding remove
+  freed_heap = record {
+    whole = aligned_less (heap_of m) bytes whole_now al le;
+    within = let now : heap_of m ≤ 16777216 = within_now in omega arith;
+    lives = caller_lives m m.cursor h r;
+    below = λ p page e same inside. kept_below p page (freed_run p) refl e same inside;
+  }
+
+  decreased_matched : Matched (call_settled m (Served (decrease_served m bytes))).machine
+  decreased_matched =
+      heap_served m (heap_of m - bytes) freed_ledger plain_words r
+      (matched_heaps (heap_at (on_ledger freed_ledger m) m.cursor.pid (heap_of m - bytes)) (on_ledger freed_ledger m)
+          (one_heap (on_ledger freed_ledger m) m.cursor.pid (heap_of m - bytes) freed_matched freed_heap) freed_matched)
+
+decrease_served_matched : (m : Machine) (bytes : ℕ) → Matched m → ready_at m m.cursor ≡ true
+    → first_refusal (decrease_refusals m bytes) ≡ None → Matched (call_settled m (Served (decrease_served m bytes))).machine
+decrease_served_matched m bytes h r e =
+    let loan = any_on_loan m.processes m.ledger (caller_place m (heap_start + (heap_of m - bytes))) (bytes / PAGE_SIZE) in
+    let third = (loan, ShareViolation) ∷ [] in
+    let second = (nat_lt (heap_of m) bytes, InvalidLimit) ∷ third in
+    let e1 = none_holds (not (is_aligned bytes)) BadAlignment second e in
+    let e2 = none_holds (nat_lt (heap_of m) bytes) InvalidLimit third e1.1 in
+    let e3 = none_holds loan ShareViolation [] e2.1 in
+    decreased_matched m h r bytes (eqb-true (bytes % PAGE_SIZE) 0 (not_false (is_aligned bytes) e1.0))
+    (ltb-false (heap_of m) bytes e2.0) e3.0
+
+pub decrease_matched : (m : Machine) (w : List ℕ) → Matched m → ready_at m m.cursor ≡ true → Matched (call_settled m (decrease_call m w)).machine
+unfolding decrease_call
+decrease_matched m w h r =
+    call_matched m (decrease_served m (heap_bytes w)) (first_refusal (decrease_refusals m (heap_bytes w))) h
+    (decrease_served_matched m (heap_bytes w) h r)
