@@ -1,8 +1,8 @@
 -- The calls on the heap keep the machine matched.
 use Rattle.std.proofs.Common.{◌≡◌, ◌≢◌, ℕ, ◌+◌, ◌-◌, ◌/◌, ◌<◌, ◌≤◌, Bool, true, false, List, [], ◌∷◌, Option, Some, None, refl, sym, ap, ◌∙◌, inl, inr, arith, subst}
-use Rattle.std.specs.Prelude.{◌%◌, ◌==◌, ◌&&◌, if◌then◌else◌, nat_le, nat_lt, not}
+use Rattle.std.specs.Prelude.{◌%◌, ◌==◌, ◌&&◌, if◌then◌else◌, nat_eq, nat_le, nat_lt, not}
 use Rattle.std.specs.Option.{option_map_or}
-use Rattle.std.proofs.lemmas.Bool.{false≢true, and_from, and_parts, cases_lt, eqb-true, le-leb, leb-true, ltb-false}
+use Rattle.std.proofs.lemmas.Bool.{false≢true, and_from, and_parts, cases_lt, cond-true, eq-eqb, eqb-true, le-leb, leb-true, lt-leb, ltb-false}
 use Rattle.std.proofs.lemmas.Option.{none-some}
 use Rattle.xk_base.specs.declared.errors.XousError.{XousError}
 use Rattle.xk_base.specs.declared.errors.XousError.TheVariants.{BadAlignment, InvalidLimit, OutOfMemory, ShareViolation}
@@ -32,6 +32,7 @@ use Rattle.machine_model.specs.MemoryCalls.{are_too_many, caller_place, decrease
 use Rattle.machine_model.specs.Order.{is_ready, ready_at}
 use Rattle.machine_laws.proofs.HeapChange.{MayHeap, heap_at, heap_served, matched_heaps, on_heaps, one_heap}
 use Rattle.machine_laws.proofs.LedgerChange.{IsLikeLedger, MayStand, on_ledger, matched_on}
+use Rattle.machine_laws.proofs.MadePages.{free_outside, like_made}
 use Rattle.machine_laws.proofs.MemoryCallSteps.{call_matched, like_removed, removed_stood}
 use Rattle.machine_laws.proofs.RunRefusals.{can_remove, none_holds, not_false}
 
@@ -130,3 +131,129 @@ unfolding decrease_call
 decrease_matched m w h r =
     call_matched m (decrease_served m (heap_bytes w)) (first_refusal (decrease_refusals m (heap_bytes w))) h
     (decrease_served_matched m (heap_bytes w) h r)
+
+-- ---- IncreaseHeap
+
+heap_at_own : (m : Machine) (pid : Pid) (heap q : ℕ) → q ≡ pid.0 → heap_at m pid heap q ≡ heap
+heap_at_own m pid heap q same = cond-true (nat_eq q pid.0) heap (m.process q).heap (eq-eqb q pid.0 same)
+
+aligned_more : (h b : ℕ) → h % 4096 ≡ 0 → b % 4096 ≡ 0 → (h + b) % 4096 ≡ 0
+aligned_more h b eh eb = omega arith
+
+pages_more : (h b : ℕ) → h % 4096 ≡ 0 → b % 4096 ≡ 0 → (h + b) / 4096 ≡ h / 4096 + b / 4096
+pages_more h b eh eb = omega arith
+
+most_pages : (s : ℕ) → s ≤ 16777216 → s / 4096 ≤ 4096
+most_pages s le = omega arith
+
+-- a page number of the heap is in its window alone
+heap_window : (v : ℕ) → 131072 ≤ v → v < 135168 → (in_window Heap v ≡ true) × (in_window Message v ≡ false)
+heap_window v low high =
+    (and_from (nat_le 131072 v) (nat_le v 135167) (le-leb 131072 v low) (le-leb v 135167 (omega arith)),
+    ap (λ b. b && nat_le v 266239) (lt-leb 262144 v (omega arith)))
+
+module _ (m : Machine) (h : Matched m) (r : ready_at m m.cursor ≡ true) (bytes : ℕ) (al : bytes % 4096 ≡ 0)
+    (le : heap_of m + bytes ≤ 16777216) (room : pages m.processes m.ledger + bytes / PAGE_SIZE ≤ m.capacity) where
+
+  heap_whole : heap_of m % 4096 ≡ 0
+  heap_whole = h.heaps.whole m.cursor.pid
+
+  -- what a place of the new run is
+  record IsNew (p : Place) : Type 0 where
+    own : p.pid.0 ≡ m.cursor.pid.0
+    from : 131072 + heap_of m / 4096 ≤ p.vpn.0
+    to : p.vpn.0 < 131072 + (heap_of m + bytes) / 4096
+    inside : in_window Heap p.vpn.0 ≡ true
+    outside : in_window Message p.vpn.0 ≡ false
+
+  new_place : (p : Place) → in_run (caller_place m (heap_start + heap_of m)) (bytes / PAGE_SIZE) p ≡ true → IsNew p
+  new_place p e =
+      let run = in_run-true (caller_place m (heap_start + heap_of m)) (bytes / PAGE_SIZE) p e in
+      let low : (536870912 + heap_of m) / 4096 ≤ p.vpn.0 = run.from in
+      let high : p.vpn.0 < (536870912 + heap_of m) / 4096 + bytes / 4096 = run.to in
+      let at : (536870912 + heap_of m) / 4096 ≡ 131072 + heap_of m / 4096 = start_page (heap_of m) in
+      let sum : (heap_of m + bytes) / 4096 ≡ heap_of m / 4096 + bytes / 4096 = pages_more (heap_of m) bytes heap_whole al in
+      let most : (heap_of m + bytes) / 4096 ≤ 4096 = most_pages (heap_of m + bytes) le in
+      let from : 131072 + heap_of m / 4096 ≤ p.vpn.0 = omega arith in
+      let to : p.vpn.0 < 131072 + (heap_of m + bytes) / 4096 = omega arith in
+      let window = heap_window p.vpn.0 (omega arith) (omega arith) in
+      record { own = run.pid; from = from; to = to; inside = window.0; outside = window.1 }
+
+  alive_now : is_living m m.cursor.pid ≡ true
+  alive_now = caller_lives m m.cursor h r
+
+  new_lives : (p : Place) → IsNew p → is_living m p.pid ≡ true
+  new_lives p new = ap (λ k. (m.process k).alive) new.own ∙ alive_now
+
+  -- no page has its home there, since those of the heap stand below
+  new_no_home : (p : Place) → IsNew p → (o : Option Page) → m.ledger.home p ≡ o → o ≡ None
+  new_no_home p new None e = refl
+  new_no_home p new (Some page) e =
+      let low : p.vpn.0 < 131072 + heap_of m / 4096 =
+      subst (λ k. p.vpn.0 < 131072 + (m.process k).heap / 4096) new.own (h.heaps.below p page e new.inside) in
+      let from : 131072 + heap_of m / 4096 ≤ p.vpn.0 = new.from in
+      absurd (omega arith)
+
+  new_lies : (p : Place) → IsNew p → is_place_in m.processes Heap p ≡ true
+  new_lies p new =
+      and_from (is_process m.processes p.pid.0) (in_window Heap p.vpn.0)
+      (ap (is_process m.processes) new.own ∙ h.keys.limits.pids m.cursor.pid alive_now) new.inside
+
+  can_grow : CanMake m.processes m.capacity m.ledger (caller_place m (heap_start + heap_of m)) (bytes / PAGE_SIZE)
+  can_grow = record {
+    lies = λ p e. is_place_in-user m.processes Heap p (new_lies p (new_place p e));
+    free = λ p e. let new = new_place p e in
+        free_outside m p h (new_no_home p new (m.ledger.home p) refl) new.outside;
+    room = room;
+  }
+
+  grown_heap : MayHeap m m.cursor.pid (heap_of m + bytes)
+  grown_heap = record {
+    whole = aligned_more (heap_of m) bytes heap_whole al;
+    within = le;
+    lives = alive_now;
+    below = λ p page e same inside.
+        let low : p.vpn.0 < 131072 + heap_of m / 4096 =
+        subst (λ k. p.vpn.0 < 131072 + (m.process k).heap / 4096) same (h.heaps.below p page e inside) in
+        let sum : (heap_of m + bytes) / 4096 ≡ heap_of m / 4096 + bytes / 4096 = pages_more (heap_of m) bytes heap_whole al in
+        omega arith;
+  }
+
+  abbrev grown : Machine
+  grown = on_heaps (heap_at m m.cursor.pid (heap_of m + bytes)) m
+
+  grown_matched : Matched grown
+  grown_matched = matched_heaps (heap_at m m.cursor.pid (heap_of m + bytes)) m (one_heap m m.cursor.pid (heap_of m + bytes) h grown_heap) h
+
+  new_stands : (p : Place) → IsNew p → MayStand grown p
+  new_stands p new = record {
+    lives = new_lives p new;
+    below = λ inside.
+        subst (λ heap. p.vpn.0 < 131072 + heap / 4096) (sym (heap_at_own m m.cursor.pid (heap_of m + bytes) p.pid.0 new.own)) new.to;
+  }
+
+  increased_matched : Matched (call_settled m (Served (increase_served m bytes))).machine
+  increased_matched =
+      heap_served m (heap_of m + bytes)
+      (make (caller_place m (heap_start + heap_of m)) (bytes / PAGE_SIZE) (record { w = true; x = false }) m.ledger)
+      (range_words (heap_start + heap_of m) bytes) r
+      (matched_on (make (caller_place m (heap_start + heap_of m)) (bytes / PAGE_SIZE) (record { w = true; x = false }) m.ledger) grown
+          (like_made grown (caller_place m (heap_start + heap_of m)) (bytes / PAGE_SIZE) (record { w = true; x = false }) grown_matched can_grow
+              (λ p e. new_stands p (new_place p e))) grown_matched)
+
+increase_served_matched : (m : Machine) (bytes : ℕ) → Matched m → ready_at m m.cursor ≡ true
+    → first_refusal (increase_refusals m bytes) ≡ None → Matched (call_settled m (Served (increase_served m bytes))).machine
+increase_served_matched m bytes h r e =
+    let third = (are_too_many m (bytes / PAGE_SIZE), OutOfMemory) ∷ [] in
+    let second = (nat_lt heap_limit (heap_of m + bytes), InvalidLimit) ∷ third in
+    let e1 = none_holds (not (is_aligned bytes)) BadAlignment second e in
+    let e2 = none_holds (nat_lt heap_limit (heap_of m + bytes)) InvalidLimit third e1.1 in
+    let e3 = none_holds (are_too_many m (bytes / PAGE_SIZE)) OutOfMemory [] e2.1 in
+    increased_matched m h r bytes (eqb-true (bytes % PAGE_SIZE) 0 (not_false (is_aligned bytes) e1.0))
+    (ltb-false heap_limit (heap_of m + bytes) e2.0) (ltb-false m.capacity (pages m.processes m.ledger + bytes / PAGE_SIZE) e3.0)
+
+pub increase_matched : (m : Machine) (w : List ℕ) → Matched m → ready_at m m.cursor ≡ true → Matched (call_settled m (increase_call m w)).machine
+unfolding increase_call
+increase_matched m w h r =
+    call_matched m (increase_served m (heap_bytes w)) (first_refusal (increase_refusals m (heap_bytes w))) h
+    (increase_served_matched m (heap_bytes w) h r)

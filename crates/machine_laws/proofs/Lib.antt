@@ -6,6 +6,7 @@ pub mod InstructionEffects
 pub mod InstructionSteps
 pub mod LedgerChange
 pub mod LikeThreads
+pub mod MadePages
 pub mod MemoryCallSteps
 pub mod RunRefusals
 pub mod StoredBytes
