@@ -7,6 +7,7 @@ pub mod InstructionSteps
 pub mod LedgerChange
 pub mod LikeThreads
 pub mod MadePages
+pub mod MapCalls
 pub mod MemoryCallSteps
 pub mod RunRefusals
 pub mod StoredBytes

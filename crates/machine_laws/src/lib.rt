@@ -15,5 +15,5 @@ pub use instruction_laws::{
     execution_stays_aligned, instruction_keeps_matched, instruction_stores_one_page,
 };
 pub use memory_laws::{
-    decrease_keeps_matched, increase_keeps_matched, unmap_keeps_matched, update_keeps_matched,
+    decrease_keeps_matched, increase_keeps_matched, map_keeps_matched, unmap_keeps_matched, update_keeps_matched,
 };

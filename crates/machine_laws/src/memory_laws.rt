@@ -4,7 +4,7 @@ ghost use Rattle.std.specs.Prelude.{ℕ, ◌≡◌, true, List};
 ghost use Rattle.machine_model.specs.Changes.{call_settled};
 ghost use Rattle.machine_model.specs.Machine.{Machine};
 ghost use Rattle.machine_model.specs.Matched.{Matched};
-ghost use Rattle.machine_model.specs.MemoryCalls.{decrease_call, increase_call, unmap_call, update_call};
+ghost use Rattle.machine_model.specs.MemoryCalls.{decrease_call, increase_call, map_call, unmap_call, update_call};
 ghost use Rattle.machine_model.specs.Order.{ready_at};
 
 /// What comes of UnmapMemory keeps the machine matched, where the caller is Ready.
@@ -29,4 +29,10 @@ pub fn decrease_keeps_matched()
 pub fn increase_keeps_matched()
     ensures { (m : Machine) (words : List ℕ) → Matched m → ready_at m m.cursor ≡ true
         → Matched (call_settled m (increase_call m words)).machine }
+{}
+
+/// What comes of MapMemory keeps the machine matched, where the caller is Ready.
+pub fn map_keeps_matched()
+    ensures { (m : Machine) (words : List ℕ) → Matched m → ready_at m m.cursor ≡ true
+        → Matched (call_settled m (map_call m words)).machine }
 {}
