@@ -1,4 +1,5 @@
 pub mod AnsweredCalls
+pub mod CallSteps
 pub mod ChangedThread
 pub mod HeapCalls
 pub mod HeapChange
