@@ -70,35 +70,35 @@ module _ (m : Machine) (who : ThreadId) (words : List ℕ) (h : Matched m) (e : 
   map_step c =
       step_kept m who words (map_call n words) h e q (at_number (call_number words) map_memory n words c) (map_matched n words there ready)
       (no_step (call_settled n (map_call n words)).machine.steps
-          (counts_none n (first_refusal (map_refusals n (map_phys words) (map_virt words) (map_size words) (map_flags words)))
-              (map_served n (map_phys words) (map_virt words) (map_size words) (map_flags words)) refl))
+      (counts_none n (first_refusal (map_refusals n (map_phys words) (map_virt words) (map_size words) (map_flags words)))
+      (map_served n (map_phys words) (map_virt words) (map_size words) (map_flags words)) refl))
 
   pub unmap_step : call_number words ≡ unmap_memory → Matched (step m).machine
   unfolding unmap_call
   unmap_step c =
       step_kept m who words (unmap_call n words) h e q (at_number (call_number words) unmap_memory n words c) (unmap_matched n words there ready)
       (no_step (call_settled n (unmap_call n words)).machine.steps
-          (counts_none n (first_refusal (unmap_refusals n (range_address words) (range_size words)))
-              (unmap_served n (range_address words) (range_size words)) refl))
+      (counts_none n (first_refusal (unmap_refusals n (range_address words) (range_size words)))
+      (unmap_served n (range_address words) (range_size words)) refl))
 
   pub update_step : call_number words ≡ update_memory_flags → Matched (step m).machine
   unfolding update_call
   update_step c =
       step_kept m who words (update_call n words) h e q (at_number (call_number words) update_memory_flags n words c) (update_matched n words there ready)
       (no_step (call_settled n (update_call n words)).machine.steps
-          (counts_none n (first_refusal (update_refusals n (range_address words) (range_size words) (range_flags words)))
-              (update_served n (range_address words) (range_size words) (range_flags words)) refl))
+      (counts_none n (first_refusal (update_refusals n (range_address words) (range_size words) (range_flags words)))
+      (update_served n (range_address words) (range_size words) (range_flags words)) refl))
 
   pub increase_step : call_number words ≡ increase_heap → Matched (step m).machine
   unfolding increase_call
   increase_step c =
       step_kept m who words (increase_call n words) h e q (at_number (call_number words) increase_heap n words c) (increase_matched n words there ready)
       (no_step (call_settled n (increase_call n words)).machine.steps
-          (counts_none n (first_refusal (increase_refusals n (heap_bytes words))) (increase_served n (heap_bytes words)) refl))
+      (counts_none n (first_refusal (increase_refusals n (heap_bytes words))) (increase_served n (heap_bytes words)) refl))
 
   pub decrease_step : call_number words ≡ decrease_heap → Matched (step m).machine
   unfolding decrease_call
   decrease_step c =
       step_kept m who words (decrease_call n words) h e q (at_number (call_number words) decrease_heap n words c) (decrease_matched n words there ready)
       (no_step (call_settled n (decrease_call n words)).machine.steps
-          (counts_none n (first_refusal (decrease_refusals n (heap_bytes words))) (decrease_served n (heap_bytes words)) refl))
+      (counts_none n (first_refusal (decrease_refusals n (heap_bytes words))) (decrease_served n (heap_bytes words)) refl))

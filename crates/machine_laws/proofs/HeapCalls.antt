@@ -1,39 +1,34 @@
 -- The calls on the heap keep the machine matched.
-use Rattle.std.proofs.Common.{◌≡◌, ◌≢◌, ℕ, ◌+◌, ◌-◌, ◌/◌, ◌<◌, ◌≤◌, Bool, true, false, List, [], ◌∷◌, Option, Some, None, refl, sym, ap, ◌∙◌, inl, inr, arith, subst}
-use Rattle.std.specs.Prelude.{◌%◌, ◌==◌, ◌&&◌, if◌then◌else◌, nat_eq, nat_le, nat_lt, not}
+use Rattle.std.proofs.Common.{◌≡◌, ℕ, ◌+◌, ◌-◌, ◌/◌, ◌<◌, ◌≤◌, Bool, true, false, List, [], ◌∷◌, Option, Some, None, refl, sym, ap, ◌∙◌, inl, inr, arith, subst}
+use Rattle.std.specs.Prelude.{◌%◌, ◌&&◌, if◌then◌else◌, nat_eq, nat_le, nat_lt, not}
 use Rattle.std.specs.Option.{option_map_or}
-use Rattle.std.proofs.lemmas.Bool.{false≢true, and_from, and_parts, cases_lt, cond-true, eq-eqb, eqb-true, le-leb, leb-true, lt-leb, ltb-false}
+use Rattle.std.proofs.lemmas.Bool.{false≢true, and_from, cases_lt, cond-true, eq-eqb, eqb-true, le-leb, lt-leb, ltb-false}
 use Rattle.std.proofs.lemmas.Option.{none-some}
-use Rattle.xk_base.specs.declared.errors.XousError.{XousError}
 use Rattle.xk_base.specs.declared.errors.XousError.TheVariants.{BadAlignment, InvalidLimit, OutOfMemory, ShareViolation}
 use Rattle.xk_base.specs.declared.ids.Pid.{Pid}
 use Rattle.xk_base.specs.declared.ids.Place.{Place}
 use Rattle.xk_base.specs.declared.ids.ThreadId.{ThreadId}
 use Rattle.xk_base.specs.declared.limits.TheConstants.{PAGE_SIZE}
 use Rattle.xk_base.specs.declared.windows.Window.TheVariants.{Heap, Message}
-use Rattle.xk_base.specs.declared.pages.Right.{Right}
 use Rattle.xk_base.specs.CallWords.{heap_bytes}
 use Rattle.xk_base.specs.Replies.{plain_words, range_words}
-use Rattle.xk_base.specs.Windows.{first_page, last_page, in_window}
+use Rattle.xk_base.specs.Windows.{in_window}
 use Rattle.ledger_model.specs.Conditions.{CanMake}
-use Rattle.ledger_model.specs.Ledger.{Ledger, Bytes, Orphan, Page, PageLoan, loan_at, pages}
+use Rattle.ledger_model.specs.Ledger.{Ledger, Page, pages}
 use Rattle.ledger_model.specs.Places.{in_run, is_place_in, is_process}
-use Rattle.ledger_model.specs.Reach.{is_free}
 use Rattle.ledger_model.specs.RunTests.{any_on_loan}
-use Rattle.ledger_model.specs.Steps.{make, new_page, remove, zero_page}
-use Rattle.ledger_model.proofs.Making.{make_lawful, make_loans}
+use Rattle.ledger_model.specs.Steps.{make, remove}
 use Rattle.ledger_model.proofs.Numbering.{is_place_in-user}
 use Rattle.ledger_model.proofs.PlaceLaws.{IsInRun, in_run-from, in_run-true}
-use Rattle.ledger_model.proofs.Reaching.{is_free-all}
 use Rattle.machine_model.specs.Changes.{Served, call_settled, first_refusal}
 use Rattle.machine_model.specs.Machine.{Machine, Thread}
 use Rattle.machine_model.specs.Matched.{Matched, is_living}
 use Rattle.machine_model.specs.MemoryCalls.{are_too_many, caller_place, decrease_call, decrease_refusals, decrease_served, heap_limit, heap_of, heap_start, increase_call, increase_refusals, increase_served, is_aligned}
 use Rattle.machine_model.specs.Order.{is_ready, ready_at}
 use Rattle.machine_laws.proofs.HeapChange.{MayHeap, heap_at, heap_served, matched_heaps, on_heaps, one_heap}
-use Rattle.machine_laws.proofs.LedgerChange.{IsLikeLedger, MayStand, on_ledger, matched_on}
+use Rattle.machine_laws.proofs.LedgerChange.{MayStand, on_ledger, matched_on}
 use Rattle.machine_laws.proofs.MadePages.{free_outside, like_made}
-use Rattle.machine_laws.proofs.MemoryCallSteps.{call_matched, like_removed, removed_stood}
+use Rattle.machine_laws.proofs.MemoryCallSteps.{call_matched, like_removed}
 use Rattle.machine_laws.proofs.RunRefusals.{can_remove, none_holds, not_false}
 
 -- ---- the caller's process
@@ -63,7 +58,6 @@ pages_less h b eh eb le = omega arith
 
 module _ (m : Machine) (h : Matched m) (r : ready_at m m.cursor ≡ true) (bytes : ℕ) (al : bytes % 4096 ≡ 0) (le : bytes ≤ heap_of m)
     (loan : any_on_loan m.processes m.ledger (caller_place m (heap_start + (heap_of m - bytes))) (bytes / PAGE_SIZE) ≡ false) where
-
   abbrev freed_run : Place → Bool
   freed_run p = in_run (caller_place m (heap_start + (heap_of m - bytes))) (bytes / PAGE_SIZE) p
 
@@ -74,14 +68,13 @@ module _ (m : Machine) (h : Matched m) (r : ready_at m m.cursor ≡ true) (bytes
   freed_matched =
       matched_on freed_ledger m
       (like_removed m (in_run (caller_place m (heap_start + (heap_of m - bytes))) (bytes / PAGE_SIZE)) h
-          (can_remove m.processes m.ledger (caller_place m (heap_start + (heap_of m - bytes))) (bytes / PAGE_SIZE) loan)) h
+      (can_remove m.processes m.ledger (caller_place m (heap_start + (heap_of m - bytes))) (bytes / PAGE_SIZE) loan)) h
 
   whole_now : heap_of m % 4096 ≡ 0
   whole_now = h.heaps.whole m.cursor.pid
 
   within_now : heap_of m ≤ 16777216
   within_now = h.heaps.within m.cursor.pid
-
 
   kept_below : (p : Place) (page : Page) → (b : Bool) → freed_run p ≡ b → (if b then None else m.ledger.home p) ≡ Some page
       → p.pid.0 ≡ m.cursor.pid.0 → in_window Heap p.vpn.0 ≡ true → p.vpn.0 < 131072 + (heap_of m - bytes) / 4096
@@ -112,7 +105,7 @@ module _ (m : Machine) (h : Matched m) (r : ready_at m m.cursor ≡ true) (bytes
   decreased_matched =
       heap_served m (heap_of m - bytes) freed_ledger plain_words r
       (matched_heaps (heap_at (on_ledger freed_ledger m) m.cursor.pid (heap_of m - bytes)) (on_ledger freed_ledger m)
-          (one_heap (on_ledger freed_ledger m) m.cursor.pid (heap_of m - bytes) freed_matched freed_heap) freed_matched)
+      (one_heap (on_ledger freed_ledger m) m.cursor.pid (heap_of m - bytes) freed_matched freed_heap) freed_matched)
 
 decrease_served_matched : (m : Machine) (bytes : ℕ) → Matched m → ready_at m m.cursor ≡ true
     → first_refusal (decrease_refusals m bytes) ≡ None → Matched (call_settled m (Served (decrease_served m bytes))).machine
@@ -148,13 +141,13 @@ most_pages s le = omega arith
 
 -- a page number of the heap is in its window alone
 heap_window : (v : ℕ) → 131072 ≤ v → v < 135168 → (in_window Heap v ≡ true) × (in_window Message v ≡ false)
-heap_window v low high =
-    (and_from (nat_le 131072 v) (nat_le v 135167) (le-leb 131072 v low) (le-leb v 135167 (omega arith)),
-    ap (λ b. b && nat_le v 266239) (lt-leb 262144 v (omega arith)))
+heap_window v low high = (
+  and_from (nat_le 131072 v) (nat_le v 135167) (le-leb 131072 v low) (le-leb v 135167 (omega arith)),
+  ap (λ b. b && nat_le v 266239) (lt-leb 262144 v (omega arith)),
+)
 
 module _ (m : Machine) (h : Matched m) (r : ready_at m m.cursor ≡ true) (bytes : ℕ) (al : bytes % 4096 ≡ 0)
     (le : heap_of m + bytes ≤ 16777216) (room : pages m.processes m.ledger + bytes / PAGE_SIZE ≤ m.capacity) where
-
   heap_whole : heap_of m % 4096 ≡ 0
   heap_whole = h.heaps.whole m.cursor.pid
 
@@ -238,8 +231,8 @@ module _ (m : Machine) (h : Matched m) (r : ready_at m m.cursor ≡ true) (bytes
       (make (caller_place m (heap_start + heap_of m)) (bytes / PAGE_SIZE) (record { w = true; x = false }) m.ledger)
       (range_words (heap_start + heap_of m) bytes) r
       (matched_on (make (caller_place m (heap_start + heap_of m)) (bytes / PAGE_SIZE) (record { w = true; x = false }) m.ledger) grown
-          (like_made grown (caller_place m (heap_start + heap_of m)) (bytes / PAGE_SIZE) (record { w = true; x = false }) grown_matched can_grow
-              (λ p e. new_stands p (new_place p e))) grown_matched)
+      (like_made grown (caller_place m (heap_start + heap_of m)) (bytes / PAGE_SIZE) (record { w = true; x = false }) grown_matched can_grow
+      (λ p e. new_stands p (new_place p e))) grown_matched)
 
 increase_served_matched : (m : Machine) (bytes : ℕ) → Matched m → ready_at m m.cursor ≡ true
     → first_refusal (increase_refusals m bytes) ≡ None → Matched (call_settled m (Served (increase_served m bytes))).machine

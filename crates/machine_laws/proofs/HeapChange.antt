@@ -1,5 +1,5 @@
 -- Other lengths of heaps: the machine that has them stays matched.
-use Rattle.std.proofs.Common.{◌≡◌, ℕ, ◌+◌, ◌/◌, ◌<◌, ◌≤◌, Bool, true, false, List, Option, Some, None, refl, sym, ap, ◌∙◌, subst}
+use Rattle.std.proofs.Common.{◌≡◌, ℕ, ◌+◌, ◌/◌, ◌<◌, ◌≤◌, Bool, true, false, List, Some, refl, sym, ap, ◌∙◌, subst}
 use Rattle.std.specs.Prelude.{◌%◌, if◌then◌else◌, IsTrue, IsFalse, nat_eq}
 use Rattle.std.proofs.lemmas.Bool.{false≢true, eqb-true}
 use Rattle.std.proofs.lemmas.List.Elements.{All-weaker}
@@ -119,7 +119,6 @@ module _ (heaps : ℕ → ℕ) (m : Machine) (may : MayHeaps m heaps) where
       no_heap = may.none pid e;
     };
   }
-
 
   pub matched_heaps : Matched m → Matched (on_heaps heaps m)
   matched_heaps h = record {

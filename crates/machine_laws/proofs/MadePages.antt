@@ -1,14 +1,14 @@
 -- New pages at free places of a living process, outside the Message window: the ledger that has them may stand in the place of the
 -- machine's.
-use Rattle.std.proofs.Common.{◌≡◌, ◌≢◌, ℕ, ◌+◌, ◌≤◌, Bool, true, false, Option, Some, None, refl, sym, ap, ◌∙◌, subst}
-use Rattle.std.specs.Prelude.{◌&&◌, if◌then◌else◌}
+use Rattle.std.proofs.Common.{◌≡◌, ◌≢◌, ℕ, Bool, true, false, Option, Some, None, refl, sym, ap, ◌∙◌}
+use Rattle.std.specs.Prelude.{if◌then◌else◌}
 use Rattle.std.proofs.lemmas.Bool.{false≢true, and_parts}
 use Rattle.xk_base.specs.declared.ids.Place.{Place}
 use Rattle.xk_base.specs.declared.pages.Right.{Right}
 use Rattle.xk_base.specs.declared.windows.Window.TheVariants.{Message}
 use Rattle.xk_base.specs.Windows.{in_window}
 use Rattle.ledger_model.specs.Conditions.{CanMake}
-use Rattle.ledger_model.specs.Ledger.{Ledger, Bytes, Orphan, Page, PageLoan, loan_at}
+use Rattle.ledger_model.specs.Ledger.{Bytes, Orphan, Page, PageLoan, loan_at}
 use Rattle.ledger_model.specs.Places.{in_run, is_place_in, is_process}
 use Rattle.ledger_model.specs.Reach.{is_free}
 use Rattle.ledger_model.specs.Steps.{make, new_page, zero_page}
@@ -34,7 +34,7 @@ free_outside m p h home out = is_free-all m.processes m.ledger p home (no_orphan
     no_holder : (q : Place) (loan : PageLoan) → loan_at m.ledger q ≡ Some loan → loan.holder ≢ p
     no_holder q loan e same =
         absurd (false≢true (sym out ∙ (ap (λ (x : Place). in_window Message x.vpn.0) (sym same)
-            ∙ in_its_window m.processes loan.holder (h.ledger.lawful.holder_lies q loan e))))
+        ∙ in_its_window m.processes loan.holder (h.ledger.lawful.holder_lies q loan e))))
 
 pub like_made : (m : Machine) (first : Place) (n : ℕ) (right : Right) → Matched m → CanMake m.processes m.capacity m.ledger first n
     → ((p : Place) → in_run first n p ≡ true → MayStand m p) → IsLikeLedger m (make first n right m.ledger)

@@ -11,18 +11,18 @@ use Rattle.xk_base.specs.declared.windows.Window.TheVariants.{Heap, Map}
 use Rattle.xk_base.specs.CallWords.{map_phys, map_virt, map_size, map_flags}
 use Rattle.xk_base.specs.Flags.{flag_execute, has_flag, right_of}
 use Rattle.xk_base.specs.Replies.{range_words}
-use Rattle.xk_base.specs.Windows.{first_page, last_page, in_window}
-use Rattle.ledger_model.specs.Conditions.{CanMake, CanMakeConsole, is_console}
-use Rattle.ledger_model.specs.Ledger.{Ledger, Console, Page, pages}
-use Rattle.ledger_model.specs.LeastRun.{IsLeastRun, least_run}
-use Rattle.ledger_model.specs.Places.{first_place, in_run, is_place_in, is_process, place_after, same_place}
+use Rattle.xk_base.specs.Windows.{in_window}
+use Rattle.ledger_model.specs.Conditions.{CanMakeConsole, is_console}
+use Rattle.ledger_model.specs.Ledger.{Console, Page, pages}
+use Rattle.ledger_model.specs.LeastRun.{least_run}
+use Rattle.ledger_model.specs.Places.{first_place, in_run, is_place_in, is_process, same_place}
 use Rattle.ledger_model.specs.Reach.{is_free}
 use Rattle.ledger_model.specs.RunTests.{any_used, console_mapped, fits_window}
 use Rattle.ledger_model.specs.Steps.{make_console, new_page}
 use Rattle.ledger_model.proofs.LeastRuns.{is_free_run-each, least_run-Some}
 use Rattle.ledger_model.proofs.Making.{make_console_lawful, make_console_loans}
 use Rattle.ledger_model.proofs.Numbering.{first_place-none, is_place_in-user}
-use Rattle.ledger_model.proofs.PlaceLaws.{IsInRun, in_run-from, in_run-index, in_run-true, place_from, same_place-true}
+use Rattle.ledger_model.proofs.PlaceLaws.{in_run-from, in_run-index, in_run-true, place_from, same_place-true}
 use Rattle.machine_model.specs.Changes.{Served, call_settled, first_refusal}
 use Rattle.machine_model.specs.Machine.{Machine}
 use Rattle.machine_model.specs.Matched.{Matched, is_living}
@@ -82,9 +82,10 @@ map_run m virt n false o e fits used found =
 -- ---- the pages
 
 map_window : (v : ℕ) → 393216 ≤ v → v < 397312 → (in_window Map v ≡ true) × (in_window Heap v ≡ false)
-map_window v low high =
-    (and_from (nat_le 393216 v) (nat_le v 397311) (le-leb 393216 v low) (le-leb v 397311 (omega arith)),
-    ap (λ b. b && nat_le v 135167) (le-leb 131072 v (omega arith)) ∙ lt-leb v 135167 (omega arith))
+map_window v low high = (
+  and_from (nat_le 393216 v) (nat_le v 397311) (le-leb 393216 v low) (le-leb v 397311 (omega arith)),
+  ap (λ b. b && nat_le v 135167) (le-leb 131072 v (omega arith)) ∙ lt-leb v 135167 (omega arith),
+)
 
 module _ (m : Machine) (h : Matched m) (r : ready_at m m.cursor ≡ true) (n : ℕ) (first : Place) (run : IsFreeRun m n first) where
   alive_now : is_living m m.cursor.pid ≡ true
@@ -228,7 +229,7 @@ map_served_matched m phys virt size flags h r e =
     ledger_served m (mapped_ledger (phys == CONSOLE_ADDRESS) first (size / PAGE_SIZE) (right_of flags) m.ledger)
     (range_words (map_address m virt size) size) h r
     (like_mapped m h r (size / PAGE_SIZE) first run (phys == CONSOLE_ADDRESS) (right_of flags)
-        (console_one (phys == CONSOLE_ADDRESS) (has_flag flags flag_execute) first size can.one) can.none can.room)
+    (console_one (phys == CONSOLE_ADDRESS) (has_flag flags flag_execute) first size can.one) can.none can.room)
 
 pub map_matched : (m : Machine) (w : List ℕ) → Matched m → ready_at m m.cursor ≡ true → Matched (call_settled m (map_call m w)).machine
 unfolding map_call

@@ -1,13 +1,11 @@
 -- The calls on memory that make no page keep the machine matched.
-use Rattle.std.proofs.Common.{◌≡◌, ℕ, Bool, true, false, List, [], ◌∷◌, Option, Some, None, refl, sym, ap, ◌∙◌}
+use Rattle.std.proofs.Common.{◌≡◌, ℕ, Bool, true, false, List, [], ◌∷◌, Option, Some, None, refl}
 use Rattle.std.specs.Prelude.{◌/◌, if◌then◌else◌}
-use Rattle.std.specs.Option.{option_map, option_map_or}
-use Rattle.std.proofs.lemmas.Bool.{false≢true}
+use Rattle.std.specs.Option.{option_map}
 use Rattle.std.proofs.lemmas.Option.{none-some}
 use Rattle.xk_base.specs.declared.errors.XousError.{XousError}
 use Rattle.xk_base.specs.declared.errors.XousError.TheVariants.{BadAlignment, BadAddress, InvalidSyscall, ShareViolation, AccessDenied}
 use Rattle.xk_base.specs.declared.ids.Place.{Place}
-use Rattle.xk_base.specs.declared.ids.ThreadId.{ThreadId}
 use Rattle.xk_base.specs.declared.limits.TheConstants.{PAGE_SIZE}
 use Rattle.xk_base.specs.declared.pages.Right.{Right}
 use Rattle.xk_base.specs.CallWords.{range_address, range_size, range_flags}
@@ -20,10 +18,10 @@ use Rattle.ledger_model.specs.RunTests.{any_free, any_lacks, any_on_loan}
 use Rattle.ledger_model.specs.Steps.{remove, reduce, with_right}
 use Rattle.ledger_model.proofs.Removing.{remove_lawful, remove_loans, reduce_lawful, reduce_loans}
 use Rattle.machine_model.specs.Changes.{Change, Served, call_settled, settled, first_refusal, refused_or}
-use Rattle.machine_model.specs.Machine.{Machine, Thread}
-use Rattle.machine_model.specs.Matched.{Matched, is_living}
+use Rattle.machine_model.specs.Machine.{Machine}
+use Rattle.machine_model.specs.Matched.{Matched}
 use Rattle.machine_model.specs.MemoryCalls.{are_bad_flags, caller_place, is_bad_range, unmap_call, unmap_refusals, unmap_served, update_call, update_refusals, update_served, with_ledger}
-use Rattle.machine_model.specs.Order.{is_ready, ready_at}
+use Rattle.machine_model.specs.Order.{ready_at}
 use Rattle.machine_model.specs.Threads.{answer_to}
 use Rattle.machine_laws.proofs.AnsweredCalls.{answered_matched, caller_ready, refused_matched}
 use Rattle.machine_laws.proofs.LedgerChange.{IsLikeLedger, on_ledger, matched_on, stands_now}
@@ -73,7 +71,7 @@ unmap_served_matched : (m : Machine) (address size : ℕ) → Matched m → read
 unmap_served_matched m address size h r e =
     ledger_served m (remove (in_run (caller_place m address) (size / PAGE_SIZE)) m.ledger) plain_words h r
     (like_removed m (in_run (caller_place m address) (size / PAGE_SIZE)) h
-        (can_remove m.processes m.ledger (caller_place m address) (size / PAGE_SIZE) (unmap_loan m address size e)))
+    (can_remove m.processes m.ledger (caller_place m address) (size / PAGE_SIZE) (unmap_loan m address size e)))
 
 pub unmap_matched : (m : Machine) (w : List ℕ) → Matched m → ready_at m m.cursor ≡ true → Matched (call_settled m (unmap_call m w)).machine
 unfolding unmap_call
@@ -121,7 +119,7 @@ update_served_matched m address size flags h r e =
     let allowed = update_allowed m address size flags e in
     ledger_served m (reduce (in_run (caller_place m address) (size / PAGE_SIZE)) (right_of flags) m.ledger) plain_words h r
     (like_reduced m (in_run (caller_place m address) (size / PAGE_SIZE)) (right_of flags) h
-        (can_reduce m.processes m.ledger (caller_place m address) (size / PAGE_SIZE) (right_of flags) allowed.0 allowed.1))
+    (can_reduce m.processes m.ledger (caller_place m address) (size / PAGE_SIZE) (right_of flags) allowed.0 allowed.1))
 
 pub update_matched : (m : Machine) (w : List ℕ) → Matched m → ready_at m m.cursor ≡ true → Matched (call_settled m (update_call m w)).machine
 unfolding update_call

@@ -30,7 +30,7 @@ pub fn like_ledger_keeps_matched()
     ensures { (m : Machine) (ledger : Ledger) → Matched m → IsLawful m.processes m.capacity ledger → loans ledger ≡ loans m.ledger
         → ((p : Place) (page : Page) → ledger.home p ≡ Some page → IsTrue (is_living m p.pid))
         → ((p : Place) (page : Page) → ledger.home p ≡ Some page → IsTrue (in_window Heap p.vpn.0)
-            → p.vpn.0 < first_page Heap + (m.process p.pid.0).heap / PAGE_SIZE)
+        → p.vpn.0 < first_page Heap + (m.process p.pid.0).heap / PAGE_SIZE)
         → Matched (record m { ledger = ledger }) }
 {}
 
@@ -40,7 +40,7 @@ pub fn like_heaps_keep_matched()
     ensures { (m : Machine) (heaps : ℕ → ℕ) → Matched m
         → ((pid : Pid) → heaps pid.0 % PAGE_SIZE ≡ 0) → ((pid : Pid) → heaps pid.0 ≤ heap_limit)
         → ((p : Place) (page : Page) → m.ledger.home p ≡ Some page → IsTrue (in_window Heap p.vpn.0)
-            → p.vpn.0 < first_page Heap + heaps p.pid.0 / PAGE_SIZE)
+        → p.vpn.0 < first_page Heap + heaps p.pid.0 / PAGE_SIZE)
         → ((pid : Pid) → IsFalse (is_living m pid) → heaps pid.0 ≡ 0)
         → Matched (record m { process = λ q. record (m.process q) { heap = heaps q } }) }
 {}
