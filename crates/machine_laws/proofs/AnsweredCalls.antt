@@ -11,9 +11,9 @@ use Rattle.xk_base.specs.Circle.{same_thread}
 use Rattle.xk_base.specs.Counting.{put_at}
 use Rattle.xk_base.specs.Registers.{reg_at, arguments_of}
 use Rattle.xk_base.proofs.Circle.{next_id-passes}
-use Rattle.machine_model.specs.Acts.{call_by, executes, is_call, words_if_call}
+use Rattle.machine_model.specs.Acts.{call_by, executes, words_if_call}
 use Rattle.machine_model.specs.Calls.{call}
-use Rattle.machine_model.specs.Changes.{Told, Outcome, Refused, Retried, call_settled, settled, with_refusal}
+use Rattle.machine_model.specs.Changes.{Told, Refused, Retried, call_settled, settled, with_refusal}
 use Rattle.machine_model.specs.Ends.{thread_ended, handler_ended}
 use Rattle.machine_model.specs.Instructions.{Executed, Next, Stores, StoresToConsole, CallsKernel, Traps, execute_at}
 use Rattle.machine_model.specs.Machine.{Machine, Thread, ThreadState, Ready, Receiving, Waiting, Joining, Idle}
@@ -23,7 +23,7 @@ use Rattle.machine_model.specs.Step.{step, acted_if_there, executed, ends_thread
 use Rattle.machine_model.specs.Threads.{Answers, answer_to, change_thread, give_answers, passed, with_answer}
 use Rattle.machine_model.specs.Views.{memory_of}
 use Rattle.machine_model.proofs.KeptLemmas.{turn_keeps}
-use Rattle.machine_laws.proofs.ChangedThread.{IsLike, like_changed, same_thread-same}
+use Rattle.machine_laws.proofs.ChangedThread.{like_changed, same_thread-same}
 use Rattle.machine_laws.proofs.InstructionEffects.{following_aligned}
 use Rattle.machine_laws.proofs.InstructionSteps.{turned_to, counted, step_of}
 use Rattle.machine_laws.proofs.LikeThreads.{AreLike, state_of, old_of, matched_with}

@@ -1,7 +1,7 @@
 -- What every instruction keeps: the pc afterwards is the address of an instruction, and what it stores lies at an address that is a
 -- multiple of its width.
-use Rattle.std.proofs.Common.{◌≡◌, ℕ, ◌+◌, ◌-◌, Bool, true, false, List, Option, Some, None, refl, arith}
-use Rattle.std.specs.Prelude.{◌%◌, ◌^◌, ◌==◌, ℤ, not, nat_lt, if◌then◌else◌}
+use Rattle.std.proofs.Common.{◌≡◌, ℕ, ◌-◌, Bool, true, false, List, Option, Some, None, refl, arith}
+use Rattle.std.specs.Prelude.{◌%◌, ◌==◌, ℤ, not, nat_lt, if◌then◌else◌}
 use Rattle.std.proofs.lemmas.Bool.{eqb-true}
 use Rattle.xk_base.specs.declared.pages.Access.TheVariants.{Fetch, Load, Store}
 use Rattle.xk_base.specs.declared.pages.Width.{Width}

@@ -1,16 +1,15 @@
 -- The step of an instruction keeps the machine matched, and stores to one page at most.
-use Rattle.std.proofs.Common.{◌≡◌, ℕ, ◌+◌, ◌≤◌, Bool, true, false, ◌⊎◌, inl, inr, List, Option, Some, None, refl, sym, ap, ◌∙◌, subst, arith}
+use Rattle.std.proofs.Common.{◌≡◌, ℕ, ◌+◌, Bool, true, false, ◌⊎◌, inl, inr, List, Option, Some, None, refl, sym, ap, subst, arith}
 use Rattle.std.specs.Prelude.{◌%◌, if◌then◌else◌}
 use Rattle.std.specs.Option.{option_and_then, option_map, option_map_or}
 use Rattle.std.proofs.lemmas.Bool.{false≢true, eqb-true}
-use Rattle.xk_base.specs.declared.ids.Pid.{Pid}
 use Rattle.xk_base.specs.declared.ids.ThreadId.{ThreadId}
 use Rattle.xk_base.specs.declared.pages.Access.TheVariants.{Store}
 use Rattle.xk_base.specs.declared.pages.Width.{Width}
 use Rattle.xk_base.specs.Circle.{same_thread}
 use Rattle.xk_base.specs.Counting.{put_at}
 use Rattle.xk_base.specs.UserMemory.{size_of}
-use Rattle.ledger_model.specs.Ledger.{Ledger, PageName}
+use Rattle.ledger_model.specs.Ledger.{PageName}
 use Rattle.machine_model.specs.Acts.{does_instruction, executes, is_instruction}
 use Rattle.machine_model.specs.Changes.{Told, settled}
 use Rattle.machine_model.specs.Ends.{thread_ended, handler_ended}
@@ -19,13 +18,13 @@ use Rattle.machine_model.specs.Isolation.{InstructionStoresOnePage, IsOneStore}
 use Rattle.machine_model.specs.Machine.{Machine, Thread}
 use Rattle.machine_model.specs.Matched.{Matched}
 use Rattle.machine_model.specs.Order.{actor}
-use Rattle.machine_model.specs.Step.{step, step_by, step_by_if, acted, acted_if_there, executed, ends_thread, ends_handler, after}
+use Rattle.machine_model.specs.Step.{step, step_by, step_by_if, acted_if_there, executed, ends_thread, ends_handler, after}
 use Rattle.machine_model.specs.Threads.{with_registers}
-use Rattle.machine_model.specs.Views.{memory_of, page_of, page_reached, stored, low_bytes, write_to}
+use Rattle.machine_model.specs.Views.{memory_of, page_reached, stored, low_bytes, write_to}
 use Rattle.xk_base.specs.declared.records.What.TheVariants.{End}
 use Rattle.xk_base.specs.Registers.{reg_at}
-use Rattle.machine_laws.proofs.ChangedThread.{IsLike, like_changed}
-use Rattle.machine_laws.proofs.InstructionEffects.{IsSound, pc_after, is_store_whole, execute_at_sound}
+use Rattle.machine_laws.proofs.ChangedThread.{like_changed}
+use Rattle.machine_laws.proofs.InstructionEffects.{IsSound, execute_at_sound}
 use Rattle.machine_laws.proofs.LedgerChange.{on_ledger, matched_on}
 use Rattle.machine_laws.proofs.LikeThreads.{matched_with}
 use Rattle.machine_laws.proofs.StoredBytes.{may_store, like_written}

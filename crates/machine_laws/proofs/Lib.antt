@@ -1,10 +1,14 @@
 pub mod AnsweredCalls
+pub mod CallSteps
 pub mod ChangedThread
+pub mod HeapCalls
 pub mod HeapChange
 pub mod InstructionEffects
 pub mod InstructionSteps
 pub mod LedgerChange
 pub mod LikeThreads
+pub mod MadePages
+pub mod MapCalls
 pub mod MemoryCallSteps
 pub mod RunRefusals
 pub mod StoredBytes

@@ -1,7 +1,7 @@
 -- Threads that are in the states in which they were: the machine that has these in the place of its own stays matched, wherever its
 -- cursor goes and whatever steps are counted.
-use Rattle.std.proofs.Common.{◌≡◌, ℕ, ◌+◌, ◌≤◌, Bool, true, false, ◌⊎◌, inl, inr, Option, Some, None, refl, sym, ap, ◌∙◌, subst, arith}
-use Rattle.std.specs.Prelude.{◌%◌, if◌then◌else◌, is_some, IsTrue}
+use Rattle.std.proofs.Common.{◌≡◌, ℕ, ◌+◌, ◌≤◌, false, ◌⊎◌, Option, Some, None, refl, sym, ap, ◌∙◌, subst, arith}
+use Rattle.std.specs.Prelude.{◌%◌, if◌then◌else◌, is_some}
 use Rattle.std.specs.Option.{option_map, option_map_or}
 use Rattle.std.proofs.lemmas.List.Elements.{All-weaker}
 use Rattle.std.proofs.lemmas.Option.{none-some, same_Some}
@@ -11,9 +11,9 @@ use Rattle.xk_base.specs.declared.ids.ThreadId.{ThreadId}
 use Rattle.xk_base.specs.declared.messages.Message.{Message}
 use Rattle.xk_base.specs.declared.pages.LoanKind.{LoanKind}
 use Rattle.machine_model.specs.Machine.{Machine, Server, Thread, ThreadState, Ready, Idle}
-use Rattle.machine_model.specs.Matched.{Matched, IsLedgerMatched, IsLendMatched, AreLoansMatched, AreSendersMatched, AreReceiversMatched, AreJoinersMatched, AreThreadsMatched, AreHeapsMatched, AreKeysApart, AreNextAbove, AreLimitsKept, AreKeysMatched, is_living, is_waiting_for, waits_for}
+use Rattle.machine_model.specs.Matched.{Matched, IsLedgerMatched, IsLendMatched, AreLoansMatched, AreSendersMatched, AreReceiversMatched, AreJoinersMatched, AreThreadsMatched, AreHeapsMatched, AreKeysApart, AreNextAbove, AreLimitsKept, AreKeysMatched, is_waiting_for, waits_for}
 use Rattle.machine_model.specs.MessageCounts.{count_messages}
-use Rattle.machine_model.specs.Messages.{loan_kind, is_of_number, is_sent_by}
+use Rattle.machine_model.specs.Messages.{loan_kind}
 use Rattle.machine_model.specs.Servers.{messages_of, live_servers}
 use Rattle.machine_model.specs.Threads.{thread_id}
 

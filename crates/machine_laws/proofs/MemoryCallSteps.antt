@@ -1,13 +1,11 @@
 -- The calls on memory that make no page keep the machine matched.
-use Rattle.std.proofs.Common.{◌≡◌, ℕ, Bool, true, false, List, [], ◌∷◌, Option, Some, None, refl, sym, ap, ◌∙◌}
+use Rattle.std.proofs.Common.{◌≡◌, ℕ, Bool, true, false, List, [], ◌∷◌, Option, Some, None, refl}
 use Rattle.std.specs.Prelude.{◌/◌, if◌then◌else◌}
-use Rattle.std.specs.Option.{option_map, option_map_or}
-use Rattle.std.proofs.lemmas.Bool.{false≢true}
+use Rattle.std.specs.Option.{option_map}
 use Rattle.std.proofs.lemmas.Option.{none-some}
 use Rattle.xk_base.specs.declared.errors.XousError.{XousError}
 use Rattle.xk_base.specs.declared.errors.XousError.TheVariants.{BadAlignment, BadAddress, InvalidSyscall, ShareViolation, AccessDenied}
 use Rattle.xk_base.specs.declared.ids.Place.{Place}
-use Rattle.xk_base.specs.declared.ids.ThreadId.{ThreadId}
 use Rattle.xk_base.specs.declared.limits.TheConstants.{PAGE_SIZE}
 use Rattle.xk_base.specs.declared.pages.Right.{Right}
 use Rattle.xk_base.specs.CallWords.{range_address, range_size, range_flags}
@@ -20,10 +18,10 @@ use Rattle.ledger_model.specs.RunTests.{any_free, any_lacks, any_on_loan}
 use Rattle.ledger_model.specs.Steps.{remove, reduce, with_right}
 use Rattle.ledger_model.proofs.Removing.{remove_lawful, remove_loans, reduce_lawful, reduce_loans}
 use Rattle.machine_model.specs.Changes.{Change, Served, call_settled, settled, first_refusal, refused_or}
-use Rattle.machine_model.specs.Machine.{Machine, Thread}
-use Rattle.machine_model.specs.Matched.{Matched, is_living}
+use Rattle.machine_model.specs.Machine.{Machine}
+use Rattle.machine_model.specs.Matched.{Matched}
 use Rattle.machine_model.specs.MemoryCalls.{are_bad_flags, caller_place, is_bad_range, unmap_call, unmap_refusals, unmap_served, update_call, update_refusals, update_served, with_ledger}
-use Rattle.machine_model.specs.Order.{is_ready, ready_at}
+use Rattle.machine_model.specs.Order.{ready_at}
 use Rattle.machine_model.specs.Threads.{answer_to}
 use Rattle.machine_laws.proofs.AnsweredCalls.{answered_matched, caller_ready, refused_matched}
 use Rattle.machine_laws.proofs.LedgerChange.{IsLikeLedger, on_ledger, matched_on, stands_now}
@@ -46,7 +44,7 @@ ledger_served m ledger words h r like =
 
 -- ---- UnmapMemory
 
-removed_stood : (b : Bool) (o : Option Page) (page : Page) → (if b then None else o) ≡ Some page → o ≡ Some page
+pub removed_stood : (b : Bool) (o : Option Page) (page : Page) → (if b then None else o) ≡ Some page → o ≡ Some page
 removed_stood true o page e = absurd (none-some page e)
 removed_stood false o page e = e
 

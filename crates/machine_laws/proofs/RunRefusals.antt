@@ -1,8 +1,8 @@
 -- What the refusals of a call leave true where none of them holds.
-use Rattle.std.proofs.Common.{◌≡◌, ℕ, ◌<◌, Bool, true, false, List, [], ◌∷◌, length, get_or, Option, Some, None, refl, sym, ap, ◌∙◌, subst, arith}
-use Rattle.std.specs.Prelude.{◌-◌, is_some, not}
+use Rattle.std.proofs.Common.{◌≡◌, ℕ, ◌<◌, Bool, true, false, List, ◌∷◌, length, get_or, Option, Some, None, refl, sym, ap, ◌∙◌, arith}
+use Rattle.std.specs.Prelude.{◌-◌, not}
 use Rattle.std.specs.List.{list_any}
-use Rattle.std.proofs.lemmas.Bool.{false≢true, or_parts}
+use Rattle.std.proofs.lemmas.Bool.{false≢true}
 use Rattle.std.proofs.lemmas.List.Folds.{list_any_at}
 use Rattle.std.proofs.lemmas.Option.{none-some}
 use Rattle.xk_base.specs.declared.errors.XousError.{XousError}
@@ -11,7 +11,7 @@ use Rattle.xk_base.specs.declared.pages.Right.{Right}
 use Rattle.ledger_model.specs.Conditions.{CanReduce, CanRemove, is_lent, is_within}
 use Rattle.ledger_model.specs.Ledger.{Ledger, Page}
 use Rattle.ledger_model.specs.Places.{in_run, place_after, run}
-use Rattle.ledger_model.specs.Reach.{HomePlace, is_free, role_at}
+use Rattle.ledger_model.specs.Reach.{is_free, role_at}
 use Rattle.ledger_model.specs.RunTests.{any_lacks, any_on_loan, any_used, asks_more, is_on_loan}
 use Rattle.ledger_model.proofs.LedgerLaws.{role_at-home}
 use Rattle.ledger_model.proofs.PlaceLaws.{in_run-index, length-run, run-at}

@@ -1,11 +1,12 @@
 //! Calls that are refused or retried keep the invariant.
 
-ghost use Rattle.std.specs.Prelude.{ℕ, ◌≡◌, List, Some};
+ghost use Rattle.std.specs.Prelude.{ℕ, ◌≡◌, ◌≤◌, ◌+◌, List, Some};
 ghost use Rattle.xk_base.specs.declared.errors.XousError.{XousError};
 ghost use Rattle.xk_base.specs.declared.ids.ThreadId.{ThreadId};
+ghost use Rattle.xk_base.specs.CallWords.{call_number};
 ghost use Rattle.machine_model.specs.Acts.{call_by};
-ghost use Rattle.machine_model.specs.Calls.{call};
-ghost use Rattle.machine_model.specs.Changes.{Refused, Retried, call_settled};
+ghost use Rattle.machine_model.specs.Calls.{call, call_at, call_table};
+ghost use Rattle.machine_model.specs.Changes.{Outcome, Refused, Retried, call_settled};
 ghost use Rattle.machine_model.specs.Machine.{Machine};
 ghost use Rattle.machine_model.specs.Matched.{Matched};
 ghost use Rattle.machine_model.specs.Order.{actor};
@@ -24,5 +25,15 @@ pub fn retried_call_keeps_matched()
     ensures settled { (m : Machine) → Matched m → Matched (call_settled m Retried).machine }
     ensures stepped { (m : Machine) (who : ThreadId) (words : List ℕ) → Matched m → actor m ≡ Some who
         → call_by m who ≡ Some words → call (record m { cursor = who }) words ≡ Retried
+        → Matched (step m).machine }
+{}
+
+/// The step of a call that any may make keeps the machine matched where what comes of the call of its
+/// number is matched.
+pub fn call_step_keeps_matched()
+    ensures { (m : Machine) (who : ThreadId) (words : List ℕ) (outcome : Outcome) → Matched m → actor m ≡ Some who
+        → call_by m who ≡ Some words → call_at (call_number words) call_table (record m { cursor = who }) words ≡ outcome
+        → Matched (call_settled (record m { cursor = who }) outcome).machine
+        → (call_settled (record m { cursor = who }) outcome).machine.steps ≤ m.steps + 1
         → Matched (step m).machine }
 {}

@@ -10,7 +10,9 @@ mod memory_laws;
 mod thread_end_laws;
 mod thread_laws;
 
-pub use call_laws::{refused_call_keeps_matched, retried_call_keeps_matched};
+pub use call_laws::{
+    call_step_keeps_matched, refused_call_keeps_matched, retried_call_keeps_matched,
+};
 pub use change_laws::{
     like_heaps_keep_matched, like_ledger_keeps_matched, like_threads_keep_matched,
 };
@@ -26,4 +28,7 @@ pub use thread_laws::{
     answered_call_keeps_matched, count_of_steps_keeps_matched, create_thread_keeps_matched,
     get_process_id_keeps_matched, get_thread_id_keeps_matched, join_thread_keeps_matched,
     yield_keeps_matched,
+pub use memory_laws::{
+    decrease_keeps_matched, increase_keeps_matched, map_keeps_matched, memory_calls_keep_matched,
+    unmap_keeps_matched, update_keeps_matched,
 };

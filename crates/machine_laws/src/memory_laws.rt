@@ -1,11 +1,16 @@
 //! The calls on memory keep the invariant.
 
-ghost use Rattle.std.specs.Prelude.{ℕ, ◌≡◌, true, List};
+ghost use Rattle.std.specs.Prelude.{ℕ, ◌≡◌, true, List, Some};
+ghost use Rattle.xk_base.specs.declared.ids.ThreadId.{ThreadId};
+ghost use Rattle.xk_base.specs.CallNumbers.{map_memory, increase_heap, decrease_heap, update_memory_flags, unmap_memory};
+ghost use Rattle.xk_base.specs.CallWords.{call_number};
+ghost use Rattle.machine_model.specs.Acts.{call_by};
 ghost use Rattle.machine_model.specs.Changes.{call_settled};
 ghost use Rattle.machine_model.specs.Machine.{Machine};
 ghost use Rattle.machine_model.specs.Matched.{Matched};
-ghost use Rattle.machine_model.specs.MemoryCalls.{unmap_call, update_call};
-ghost use Rattle.machine_model.specs.Order.{ready_at};
+ghost use Rattle.machine_model.specs.MemoryCalls.{decrease_call, increase_call, map_call, unmap_call, update_call};
+ghost use Rattle.machine_model.specs.Order.{actor, ready_at};
+ghost use Rattle.machine_model.specs.Step.{step};
 
 /// What comes of UnmapMemory keeps the machine matched, where the caller is Ready.
 pub fn unmap_keeps_matched()
@@ -17,4 +22,36 @@ pub fn unmap_keeps_matched()
 pub fn update_keeps_matched()
     ensures { (m : Machine) (words : List ℕ) → Matched m → ready_at m m.cursor ≡ true
         → Matched (call_settled m (update_call m words)).machine }
+{}
+
+/// What comes of DecreaseHeap keeps the machine matched, where the caller is Ready.
+pub fn decrease_keeps_matched()
+    ensures { (m : Machine) (words : List ℕ) → Matched m → ready_at m m.cursor ≡ true
+        → Matched (call_settled m (decrease_call m words)).machine }
+{}
+
+/// What comes of IncreaseHeap keeps the machine matched, where the caller is Ready.
+pub fn increase_keeps_matched()
+    ensures { (m : Machine) (words : List ℕ) → Matched m → ready_at m m.cursor ≡ true
+        → Matched (call_settled m (increase_call m words)).machine }
+{}
+
+/// What comes of MapMemory keeps the machine matched, where the caller is Ready.
+pub fn map_keeps_matched()
+    ensures { (m : Machine) (words : List ℕ) → Matched m → ready_at m m.cursor ≡ true
+        → Matched (call_settled m (map_call m words)).machine }
+{}
+
+/// The step of a call on memory keeps the machine matched.
+pub fn memory_calls_keep_matched()
+    ensures map { (m : Machine) (who : ThreadId) (words : List ℕ) → Matched m → actor m ≡ Some who → call_by m who ≡ Some words
+        → call_number words ≡ map_memory → Matched (step m).machine }
+    ensures unmap { (m : Machine) (who : ThreadId) (words : List ℕ) → Matched m → actor m ≡ Some who → call_by m who ≡ Some words
+        → call_number words ≡ unmap_memory → Matched (step m).machine }
+    ensures update { (m : Machine) (who : ThreadId) (words : List ℕ) → Matched m → actor m ≡ Some who → call_by m who ≡ Some words
+        → call_number words ≡ update_memory_flags → Matched (step m).machine }
+    ensures increase { (m : Machine) (who : ThreadId) (words : List ℕ) → Matched m → actor m ≡ Some who → call_by m who ≡ Some words
+        → call_number words ≡ increase_heap → Matched (step m).machine }
+    ensures decrease { (m : Machine) (who : ThreadId) (words : List ℕ) → Matched m → actor m ≡ Some who → call_by m who ≡ Some words
+        → call_number words ≡ decrease_heap → Matched (step m).machine }
 {}
