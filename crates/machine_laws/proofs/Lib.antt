@@ -12,3 +12,5 @@ pub mod IrqDelivery
 pub mod EndThreads
 pub mod EndSteps
 pub mod IrqHandlers
+pub mod DeathForgets
+pub mod DeathWithoutServers

@@ -2,10 +2,12 @@
 //! contracts are the laws.
 #![tactic(auto)]
 
+mod death_laws;
 mod irq_laws;
 mod thread_end_laws;
 mod thread_laws;
 
+pub use death_laws::kill_without_servers_keeps_matched;
 pub use irq_laws::{
     claim_interrupt_keeps_matched, free_interrupt_keeps_matched, irq_keeps_matched,
 };
