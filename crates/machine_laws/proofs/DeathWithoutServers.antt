@@ -33,7 +33,7 @@ no_wait : (b : Bool) (n : ℕ) → n ≡ 0 → n ≡ (if b then 1 else 0) → b 
 no_wait false n e f = refl
 no_wait true n e f = absurd (omega arith)
 
-no_loan : (o : Option Page) → ((page : Page) (loan : PageLoan) → o ≡ Some page → page.loan ≡ Some loan → is_lent o ≡ false) → is_lent o ≡ false
+pub no_loan : (o : Option Page) → ((page : Page) (loan : PageLoan) → o ≡ Some page → page.loan ≡ Some loan → is_lent o ≡ false) → is_lent o ≡ false
 no_loan None h = refl
 no_loan (Some page) h = go page.loan refl
   where

@@ -14,3 +14,6 @@ pub mod EndSteps
 pub mod IrqHandlers
 pub mod DeathForgets
 pub mod DeathWithoutServers
+pub mod DeathMessages
+pub mod DeathLoans
+pub mod DeathPlain
