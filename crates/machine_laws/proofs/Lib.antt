@@ -17,3 +17,4 @@ pub mod DeathWithoutServers
 pub mod DeathMessages
 pub mod DeathLoans
 pub mod DeathPlain
+pub mod DeathSteps
