@@ -26,3 +26,9 @@ pub mod IrqDelivery
 pub mod EndThreads
 pub mod EndSteps
 pub mod IrqHandlers
+pub mod DeathForgets
+pub mod DeathWithoutServers
+pub mod DeathMessages
+pub mod DeathLoans
+pub mod DeathPlain
+pub mod DeathSteps

@@ -59,7 +59,7 @@ step_keeps m who t e there h = subst Matched (sym (step_of_thread m who t e ther
 
 -- ---- calls
 
-memory_turned : (m : Machine) (who : ThreadId) → memory_of m who.pid ≡ memory_of (turned_to who m) who.pid
+pub memory_turned : (m : Machine) (who : ThreadId) → memory_of m who.pid ≡ memory_of (turned_to who m) who.pid
 unfolding memory_of
 memory_turned m who = refl
 

@@ -5,6 +5,7 @@
 mod call_laws;
 mod change_laws;
 mod instruction_laws;
+mod death_laws;
 mod irq_laws;
 mod memory_laws;
 mod thread_end_laws;
@@ -18,6 +19,10 @@ pub use change_laws::{
 };
 pub use instruction_laws::{
     execution_stays_aligned, instruction_keeps_matched, instruction_stores_one_page,
+pub use death_laws::{
+    kill_of_serverless_keeps_matched, kill_without_servers_keeps_matched,
+    last_end_of_serverless_keeps_matched, terminate_of_serverless_keeps_matched,
+    trap_of_serverless_keeps_matched,
 };
 pub use irq_laws::{
     claim_interrupt_keeps_matched, free_interrupt_keeps_matched, irq_keeps_matched,

@@ -1,0 +1,6 @@
+use Rattle.machine_laws.proofs.DeathSteps.{plain_last_thread}
+use Rattle.machine_laws.proofs.death_laws.last_end_of_serverless_keeps_matched.Goals as goal
+
+-- src/death_laws.rt
+pub returns : goal.returns
+returns c = plain_last_thread
