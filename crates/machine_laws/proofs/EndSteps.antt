@@ -1,17 +1,16 @@
 -- The steps in which a thread ends, and in which an interrupt handler does.
-use Rattle.std.proofs.Common.{[], ◌≡◌, ℕ, ◌≤◌, ◌<◌, Bool, true, false, Option, Some, None, refl, sym, ap, ◌∙◌, arith, subst}
-use Rattle.std.specs.Prelude.{◌==◌, ◌&&◌, nat_lt, if◌then◌else◌}
-use Rattle.std.specs.Option.{option_map_or}
-use Rattle.std.proofs.lemmas.Bool.{eqb-true, false≢true, and_parts, and_left}
+use Rattle.std.proofs.Common.{[], ◌≡◌, ◌≤◌, true, Some, None, sym, arith, subst}
+use Rattle.std.specs.Prelude.{◌==◌, nat_lt}
+use Rattle.std.proofs.lemmas.Bool.{and_parts}
 use Rattle.std.proofs.lemmas.Bool.Decides.{nat_tests}
 use Rattle.xk_base.specs.declared.ids.ThreadId.{ThreadId}
 use Rattle.xk_base.specs.Registers.{reg_at}
 use Rattle.machine_model.specs.Changes.{settled}
-use Rattle.machine_model.specs.Ends.{thread_ended, handler_ended, has_threads}
+use Rattle.machine_model.specs.Ends.{thread_ended, has_threads}
 use Rattle.machine_model.specs.Machine.{Machine, Thread}
 use Rattle.machine_model.specs.Matched.{Matched}
 use Rattle.machine_model.specs.Order.{actor}
-use Rattle.machine_model.specs.Step.{step, acted, ends_thread, ends_handler}
+use Rattle.machine_model.specs.Step.{step, ends_thread, ends_handler}
 use Rattle.machine_model.specs.Threads.{put_thread, thread_return}
 use Rattle.machine_model.proofs.KeptLemmas.{matched_at}
 use Rattle.machine_laws.proofs.EndThreads.{thread_end_keeps}

@@ -1,8 +1,8 @@
 -- The end of a thread whose process has others keeps the machine matched: it goes, and who joined it is answered.
-use Rattle.std.proofs.Common.{◌≡◌, ℕ, ◌+◌, ◌≤◌, ◌<◌, Bool, true, false, ◌⊎◌, inl, inr, List, Option, Some, None, refl, sym, ap, ◌∙◌, arith, subst}
+use Rattle.std.proofs.Common.{◌≡◌, ℕ, ◌+◌, ◌≤◌, Bool, true, false, ◌⊎◌, inl, Option, Some, None, refl, sym, ap, ◌∙◌, arith, subst}
 use Rattle.std.specs.Prelude.{◌%◌, ◌==◌, ◌&&◌, nat_le, is_some, if◌then◌else◌}
-use Rattle.std.specs.Option.{option_map, option_map_or, option_or}
-use Rattle.std.proofs.lemmas.Bool.{eq-eqb, eqb-true, false≢true, and_from, and_left, and_parts}
+use Rattle.std.specs.Option.{option_map, option_or}
+use Rattle.std.proofs.lemmas.Bool.{eqb-true, false≢true, and_from, and_left, and_parts}
 use Rattle.std.proofs.lemmas.Bool.Decides.{nat_tests}
 use Rattle.std.proofs.lemmas.Option.{none-some, same_Some}
 use Rattle.xk_base.specs.declared.ids.Number.{Number}
@@ -21,7 +21,7 @@ use Rattle.machine_model.specs.Ends.{is_joining, waits_for_end, joiners_answered
 use Rattle.machine_model.specs.Machine.{Machine, Thread, ThreadState, Ready, Receiving, Waiting, Joining, Idle}
 use Rattle.machine_model.specs.Matched.{Matched, AreJoinersMatched, IsServerAwaited, IsThreadAwaited, is_living, is_waiting_for}
 use Rattle.machine_model.specs.Order.{is_ready, ready_at}
-use Rattle.machine_model.specs.Threads.{thread_id, put_thread, both_answers, no_answers, with_answer, give_answers}
+use Rattle.machine_model.specs.Threads.{thread_id, put_thread, both_answers, with_answer}
 use Rattle.machine_laws.proofs.ThreadAnswers.{IsReadyThread, ready_thread}
 use Rattle.machine_laws.proofs.ThreadMoves.{KeepsThreads, matched_moved, same_claims, dead_has_none}
 use Rattle.machine_laws.proofs.ThreadPut.{alike, waits_at}

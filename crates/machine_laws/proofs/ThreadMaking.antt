@@ -1,31 +1,29 @@
 -- CreateThread and JoinThread keep the machine matched.
-use Rattle.std.proofs.Common.{◌≡◌, ℕ, ◌+◌, ◌≤◌, ◌<◌, Bool, true, false, List, [], ◌∷◌, Option, Some, None, refl, sym, ap, ◌∙◌, arith, subst}
-use Rattle.std.specs.Prelude.{◌%◌, ◌==◌, ◌&&◌, ◌||◌, not, nat_le, is_some, is_none, unwrap_or, if◌then◌else◌}
-use Rattle.std.specs.Option.{option_map, option_map_or}
-use Rattle.std.proofs.lemmas.Bool.{eq-eqb, eqb-true, false≢true, and_from, and_parts, or_parts}
+use Rattle.std.proofs.Common.{◌≡◌, ℕ, ◌+◌, ◌≤◌, ◌<◌, Bool, true, false, List, Option, Some, None, refl, sym, ap, ◌∙◌, arith}
+use Rattle.std.specs.Prelude.{◌%◌, ◌==◌, ◌&&◌, ◌||◌, not, nat_le, is_some, is_none, unwrap_or}
+use Rattle.std.specs.Option.{option_map}
+use Rattle.std.proofs.lemmas.Bool.{false≢true, and_from, and_parts, or_parts}
 use Rattle.std.proofs.lemmas.Bool.Decides.{nat_tests}
-use Rattle.std.proofs.lemmas.Option.{none-some, same_Some}
+use Rattle.std.proofs.lemmas.Option.{none-some}
 use Rattle.xk_base.specs.declared.errors.XousError.TheVariants.{BadAlignment, ThreadNotAvailable, InvalidThread, UnhandledSyscall, InvalidSyscall}
-use Rattle.xk_base.specs.declared.ids.Number.{Number}
 use Rattle.xk_base.specs.declared.ids.ThreadId.{ThreadId}
 use Rattle.xk_base.specs.declared.limits.TheConstants.{TID_LIMIT}
 use Rattle.xk_base.specs.CallNumbers.{is_call_number}
 use Rattle.xk_base.specs.CallWords.{call_number, is_refused_to_handler, thread_entry, thread_sp, thread_arguments, join_tid}
 use Rattle.xk_base.specs.Circle.{same_thread, is_pid, is_tid, is_thread_id}
-use Rattle.xk_base.specs.Counting.{put_at, least_below}
+use Rattle.xk_base.specs.Counting.{put_at}
 use Rattle.xk_base.specs.Replies.{thread_words}
 use Rattle.xk_base.proofs.Counting.{least_below-bound, least_below-passes}
 use Rattle.machine_model.specs.Calls.{call, any_refusals}
-use Rattle.machine_model.specs.Changes.{Served, call_settled, settled, answering, only, first_refusal}
+use Rattle.machine_model.specs.Changes.{Served, call_settled, settled, answering, first_refusal}
 use Rattle.machine_model.specs.Machine.{Machine, Thread, ThreadState, Joining}
-use Rattle.machine_model.specs.Matched.{Matched, IsThreadAwaited, is_living}
-use Rattle.machine_model.specs.Order.{is_ready, ready_at}
+use Rattle.machine_model.specs.Matched.{Matched, is_living}
+use Rattle.machine_model.specs.Order.{ready_at}
 use Rattle.machine_model.specs.ThreadCalls.{free_tid, create_call, create_refusals, create_served, has_thread, join_call, join_refusals, join_served}
-use Rattle.machine_model.specs.Threads.{answer_to, thread_id, put_thread, change_thread, give_answers, no_answers, with_answer, with_state, passed, new_thread}
+use Rattle.machine_model.specs.Threads.{answer_to, thread_id, put_thread, with_answer, with_state, passed, new_thread}
 use Rattle.machine_laws.proofs.ThreadAnswers.{IsReadyThread, ready_thread, ready_put_matched, following-aligned, same_thread-self, thread_living}
 use Rattle.machine_laws.proofs.ThreadMoves.{matched_moved, same_claims}
 use Rattle.machine_laws.proofs.ThreadPut.{IsPut, IsFit, alike, waits_at, put_keeps}
-use Rattle.machine_laws.proofs.ThreadSteps.{Settles}
 use Rattle.machine_laws.proofs.ThreadCallLemmas.{Keeps, answered_keeps, unless_refused_keeps, one_passed, two_passed, call_keeps}
 
 is_none-None : {A : Type 0} → (o : Option A) → is_none o ≡ true → o ≡ None

@@ -4,8 +4,8 @@
 
 mod call_laws;
 mod change_laws;
-mod instruction_laws;
 mod death_laws;
+mod instruction_laws;
 mod irq_laws;
 mod memory_laws;
 mod thread_end_laws;
@@ -17,23 +17,24 @@ pub use call_laws::{
 pub use change_laws::{
     like_heaps_keep_matched, like_ledger_keeps_matched, like_threads_keep_matched,
 };
-pub use instruction_laws::{
-    execution_stays_aligned, instruction_keeps_matched, instruction_stores_one_page,
 pub use death_laws::{
     kill_of_serverless_keeps_matched, kill_without_servers_keeps_matched,
     last_end_of_serverless_keeps_matched, terminate_of_serverless_keeps_matched,
     trap_of_serverless_keeps_matched,
 };
+pub use instruction_laws::{
+    execution_stays_aligned, instruction_keeps_matched, instruction_stores_one_page,
+};
 pub use irq_laws::{
     claim_interrupt_keeps_matched, free_interrupt_keeps_matched, irq_keeps_matched,
 };
-pub use memory_laws::{unmap_keeps_matched, update_keeps_matched};
+pub use memory_laws::{
+    decrease_keeps_matched, increase_keeps_matched, map_keeps_matched, memory_calls_keep_matched,
+    unmap_keeps_matched, update_keeps_matched,
+};
 pub use thread_end_laws::{end_of_handler_keeps_matched, end_of_thread_keeps_matched};
 pub use thread_laws::{
     answered_call_keeps_matched, count_of_steps_keeps_matched, create_thread_keeps_matched,
     get_process_id_keeps_matched, get_thread_id_keeps_matched, join_thread_keeps_matched,
     yield_keeps_matched,
-pub use memory_laws::{
-    decrease_keeps_matched, increase_keeps_matched, map_keeps_matched, memory_calls_keep_matched,
-    unmap_keeps_matched, update_keeps_matched,
 };
