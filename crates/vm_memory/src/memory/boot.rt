@@ -74,7 +74,7 @@ fn make_spaces(ram: &mut Ram, procs: u32)
     ensures area { area ram.new ≡ area ram.old }
 {
     'spaces: for k in 0..procs {
-        new_space(ram, Frame(TABLE_FRAMES * k));
+        new_space(ram, Frame(TABLE_FRAMES * (k / 2)));
     }
 }
 
