@@ -11,4 +11,5 @@ pub mod MadePages
 pub mod MapCalls
 pub mod MemoryCallSteps
 pub mod RunRefusals
+pub mod StepCases
 pub mod StoredBytes

@@ -6,6 +6,7 @@ mod call_laws;
 mod change_laws;
 mod instruction_laws;
 mod memory_laws;
+mod step_laws;
 
 pub use call_laws::{
     call_step_keeps_matched, refused_call_keeps_matched, retried_call_keeps_matched,
@@ -20,3 +21,4 @@ pub use memory_laws::{
     decrease_keeps_matched, increase_keeps_matched, map_keeps_matched, memory_calls_keep_matched,
     unmap_keeps_matched, update_keeps_matched,
 };
+pub use step_laws::step_keeps_matched_by_cases;
