@@ -12,12 +12,13 @@ use Rattle.machine_model.specs.Ends.{death, handler_ended, thread_ended}
 use Rattle.machine_model.specs.Instructions.{Executed, Next, Stores, StoresToConsole, CallsKernel, Traps, execute_at}
 use Rattle.machine_model.specs.Kept.{StepKeepsMatched}
 use Rattle.machine_model.specs.Machine.{Machine, Thread}
-use Rattle.machine_model.specs.Matched.{Matched}
+use Rattle.machine_model.specs.Matched.{Matched, is_living}
 use Rattle.machine_model.specs.Order.{actor, ready_at}
 use Rattle.machine_model.specs.Step.{step, acted_if_there, executed, ends_thread, ends_handler, after}
 use Rattle.machine_model.specs.Views.{memory_of}
 use Rattle.machine_model.proofs.StepLaws.{no_step}
 use Rattle.machine_laws.proofs.AnsweredCalls.{actor_ready, call_step, counted_matched}
+use Rattle.machine_laws.proofs.HeapCalls.{caller_lives}
 use Rattle.machine_laws.proofs.InstructionEffects.{IsSound, execute_at_sound}
 use Rattle.machine_laws.proofs.InstructionSteps.{counted, executed_kept, step_of, turned_to}
 use Rattle.machine_laws.proofs.LikeThreads.{matched_with}
@@ -30,7 +31,7 @@ abbrev pub CallsKeep : Type 0
 CallsKeep = (m : Machine) (who : ThreadId) (words : List ℕ) → Matched m → actor m ≡ Some who → call_by m who ≡ Some words → Matched (step m).machine
 
 abbrev pub DeathsKeep : Type 0
-DeathsKeep = (m : Machine) (pid : Pid) → Matched m → KeepsAsTold m (settled (death pid m))
+DeathsKeep = (m : Machine) (pid : Pid) → Matched m → is_living m pid ≡ true → KeepsAsTold m (settled (death pid m))
 
 abbrev pub ThreadEndsKeep : Type 0
 ThreadEndsKeep =
@@ -77,12 +78,12 @@ module _ (calls : CallsKeep) (deaths : DeathsKeep) (ends : ThreadEndsKeep) (hand
     executed_case CallsKernel q b c sound =
         let by : call_by m who ≡ Some (arguments_of t.regs) = is_call_by b c q in
         subst Matched (call_step m who (arguments_of t.regs) acts by) (calls m who (arguments_of t.regs) h acts by)
-    executed_case (Traps cause value) q b c sound = told_matched n (settled (death who.pid n)) (deaths n who.pid there)
+    executed_case (Traps cause value) q b c sound = told_matched n (settled (death who.pid n)) (deaths n who.pid there (caller_lives n who there (actor_ready m who acts)))
 
     acted_case : (b c : Bool) → ends_thread who t.pc ≡ b → ends_handler who t.pc ≡ c
         → Matched (counted m (if b then after (End who) (settled (thread_ended who (reg_at t.regs 10) n)) else (
-            if c then after (End who) (settled (handler_ended who.pid n)) else
-            executed n t (execute_at t.regs t.pc (memory_of m who.pid)))))
+        if c then after (End who) (settled (handler_ended who.pid n)) else
+        executed n t (execute_at t.regs t.pc (memory_of m who.pid)))))
     acted_case true c eb ec =
         told_matched n (settled (thread_ended who (reg_at t.regs 10) n))
         (ends n who (reg_at t.regs 10) t there (actor_ready m who acts) q eb)
