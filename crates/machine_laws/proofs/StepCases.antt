@@ -1,6 +1,6 @@
 -- A step is an instruction, a call, a trap or an end: where each of the others keeps the machine matched, every step does.
-use Rattle.std.proofs.Common.{◌≡◌, ℕ, ◌+◌, ◌≤◌, Bool, true, false, List, [], Option, Some, None, refl, sym, ap, ◌∙◌, subst, arith}
-use Rattle.std.specs.Prelude.{if◌then◌else◌, nat_lt}
+use Rattle.std.proofs.Common.{◌≡◌, ℕ, ◌+◌, Bool, true, false, List, Option, Some, None, refl, sym, ap, ◌∙◌, subst, arith}
+use Rattle.std.specs.Prelude.{if◌then◌else◌}
 use Rattle.std.specs.Option.{option_and_then}
 use Rattle.xk_base.specs.declared.ids.Pid.{Pid}
 use Rattle.xk_base.specs.declared.ids.ThreadId.{ThreadId}

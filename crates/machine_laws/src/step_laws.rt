@@ -1,7 +1,6 @@
 //! Steps keep the invariant where calls, deaths and ends do.
 
 ghost use Rattle.std.specs.Prelude.{ℕ, ◌≡◌, true, List, Some};
-ghost use Rattle.std.specs.Option.{option_map_or};
 ghost use Rattle.xk_base.specs.declared.ids.Pid.{Pid};
 ghost use Rattle.xk_base.specs.declared.ids.ThreadId.{ThreadId};
 ghost use Rattle.machine_model.specs.Acts.{call_by};
