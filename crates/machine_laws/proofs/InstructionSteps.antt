@@ -46,9 +46,9 @@ step_of m who e = ap (λ a. (step_by_if a m).machine) e
 -- ---- what an instruction leaves
 
 -- What is to be shown of a step by an instruction.
-record IsKept (m : Machine) (who : ThreadId) (after : Machine) : Type 0 where
-  matched : Matched after
-  ledger : (after.ledger ≡ m.ledger) ⊎ IsOneStore who.pid m after.ledger
+pub record IsKept (m : Machine) (who : ThreadId) (after : Machine) : Type 0 where
+  pub matched : Matched after
+  pub ledger : (after.ledger ≡ m.ledger) ⊎ IsOneStore who.pid m after.ledger
 
 module _ (m : Machine) (who : ThreadId) (h : Matched m) where
   next_matched : (regs : List ℕ) (pc : ℕ) → pc % 4 ≡ 0
@@ -81,7 +81,7 @@ module _ (m : Machine) (who : ThreadId) (h : Matched m) where
   })
 
 module _ (m : Machine) (who : ThreadId) (h : Matched m) (t : Thread) where
-  executed_kept : (e : Executed) → IsSound e → is_instruction e ≡ true → IsKept m who (counted m (executed (turned_to who m) t e))
+  pub executed_kept : (e : Executed) → IsSound e → is_instruction e ≡ true → IsKept m who (counted m (executed (turned_to who m) t e))
   unfolding stored
   executed_kept (Next regs pc) sound i = record { matched = next_matched m who h regs pc sound.0; ledger = inl refl }
   executed_kept (StoresToConsole offset value regs pc) sound i = record { matched = next_matched m who h regs pc sound.0; ledger = inl refl }

@@ -8,6 +8,7 @@ mod death_laws;
 mod instruction_laws;
 mod irq_laws;
 mod memory_laws;
+mod step_laws;
 mod thread_end_laws;
 mod thread_laws;
 
@@ -32,6 +33,7 @@ pub use memory_laws::{
     decrease_keeps_matched, increase_keeps_matched, map_keeps_matched, memory_calls_keep_matched,
     unmap_keeps_matched, update_keeps_matched,
 };
+pub use step_laws::step_keeps_matched_by_cases;
 pub use thread_end_laws::{end_of_handler_keeps_matched, end_of_thread_keeps_matched};
 pub use thread_laws::{
     answered_call_keeps_matched, count_of_steps_keeps_matched, create_thread_keeps_matched,
