@@ -69,3 +69,6 @@ pub enum Here {
         number: Number,
     },
 }
+
+#[cfg(test)]
+mod tests;
