@@ -1,33 +1,29 @@
 -- To forget a process keeps the machine matched, where it has no server, none of its threads is Waiting, and nothing is lent by it
 -- or held at its places.
-use Rattle.std.proofs.Common.{◌≡◌, ℕ, ◌+◌, ◌≤◌, ◌<◌, Bool, true, false, ◌⊎◌, inl, inr, List, [], length, Option, Some, None, refl, sym, ap, ◌∙◌, arith, subst, AllPairs}
-use Rattle.std.specs.Prelude.{◌%◌, ◌/◌, ◌==◌, ◌&&◌, not, nat_eq, is_some, if◌then◌else◌}
+use Rattle.std.proofs.Common.{◌≡◌, ℕ, ◌≤◌, ◌<◌, Bool, true, false, ◌⊎◌, [], length, Option, Some, None, refl, sym, ap, ◌∙◌, arith, subst, AllPairs}
+use Rattle.std.specs.Prelude.{◌%◌, ◌==◌, ◌&&◌, not, nat_eq, is_some, if◌then◌else◌}
 use Rattle.std.specs.List.{All}
-use Rattle.std.specs.Option.{option_map_or}
-use Rattle.std.proofs.lemmas.Bool.{eq-eqb, eqb-true, false≢true, and_parts, and_from}
-use Rattle.std.proofs.lemmas.Option.{none-some, same_Some}
+use Rattle.std.proofs.lemmas.Bool.{eq-eqb, eqb-true, false≢true}
+use Rattle.std.proofs.lemmas.Option.{none-some}
 use Rattle.std.proofs.lemmas.List.Elements.{All-weaker, All-nil}
 use Rattle.xk_base.specs.declared.ids.Number.{Number}
 use Rattle.xk_base.specs.declared.ids.Pid.{Pid}
 use Rattle.xk_base.specs.declared.ids.Place.{Place}
 use Rattle.xk_base.specs.declared.ids.Serial.{Serial}
 use Rattle.xk_base.specs.declared.ids.ThreadId.{ThreadId}
-use Rattle.xk_base.specs.declared.limits.TheConstants.{INTERRUPT_LIMIT, PAGE_SIZE, CONNECTION_LIMIT}
+use Rattle.xk_base.specs.declared.limits.TheConstants.{PAGE_SIZE, CONNECTION_LIMIT}
 use Rattle.xk_base.specs.declared.messages.Message.{Message}
 use Rattle.xk_base.specs.declared.pages.LoanKind.{LoanKind}
-use Rattle.xk_base.specs.declared.windows.Window.TheVariants.{Heap}
-use Rattle.xk_base.specs.Circle.{is_thread_id, is_pid}
 use Rattle.xk_base.specs.Counting.{put_at}
-use Rattle.xk_base.specs.Windows.{first_page, in_window}
 use Rattle.ledger_model.specs.Conditions.{CanForget}
-use Rattle.ledger_model.specs.Ledger.{Ledger, Page, PageLoan, Orphan, loan_at, loan_of}
+use Rattle.ledger_model.specs.Ledger.{Page, PageLoan, Orphan, loan_at, loan_of}
 use Rattle.ledger_model.specs.Loans.{Stands, loans}
 use Rattle.ledger_model.specs.Steps.{forget}
 use Rattle.ledger_model.proofs.Removing.{forget_lawful, forget_loans}
 use Rattle.machine_model.specs.Ends.{forgotten, dead_process}
 use Rattle.machine_model.specs.Interrupts.{is_claim_of}
-use Rattle.machine_model.specs.Machine.{Machine, Process, Thread, Server, Claim, Ready, Receiving, Joining, Idle}
-use Rattle.machine_model.specs.Matched.{Matched, IsLedgerMatched, IsLendMatched, IsOnLoan, IsDead, AreLoansMatched, AreSendersMatched, AreReceiversMatched, AreJoinersMatched, AreThreadsMatched, AreHeapsMatched, AreKeysMatched, AreKeysApart, AreNextAbove, AreLimitsKept, is_living, lend_run}
+use Rattle.machine_model.specs.Machine.{Machine, Process, Thread, Server, Claim, Ready, Idle}
+use Rattle.machine_model.specs.Matched.{Matched, IsLedgerMatched, IsLendMatched, IsOnLoan, IsDead, AreLoansMatched, AreSendersMatched, AreReceiversMatched, AreJoinersMatched, AreThreadsMatched, AreHeapsMatched, AreKeysApart, AreNextAbove, AreLimitsKept, is_living, lend_run}
 use Rattle.machine_model.specs.MemoryCalls.{heap_limit}
 use Rattle.machine_model.specs.MessageCounts.{count_messages}
 use Rattle.machine_model.specs.Messages.{loan_kind, is_lend_of}

@@ -1,8 +1,8 @@
 -- A process that has no server and of which no thread is Waiting lends nothing, and holds nothing at its places.
-use Rattle.std.proofs.Common.{◌≡◌, ℕ, zero, suc, ◌+◌, ◌≤◌, ◌<◌, Bool, true, false, List, [], ◌∷◌, Option, Some, None, refl, sym, ap, ◌∙◌, arith, subst}
+use Rattle.std.proofs.Common.{◌≡◌, ℕ, zero, suc, ◌+◌, ◌≤◌, Bool, true, false, List, [], ◌∷◌, Option, Some, None, refl, sym, ap, ◌∙◌, arith}
 use Rattle.std.specs.Prelude.{◌==◌, ◌&&◌, is_some, is_none, nat_le, nat_lt, if◌then◌else◌}
 use Rattle.std.specs.List.{All}
-use Rattle.std.specs.Option.{option_map, option_map_or, option_and_then}
+use Rattle.std.specs.Option.{option_map, option_map_or}
 use Rattle.std.proofs.lemmas.Bool.{eq-eqb, eqb-true, false≢true, and_parts}
 use Rattle.std.proofs.lemmas.Option.{none-some, same_Some}
 use Rattle.std.proofs.lemmas.List.Elements.{All-head, All-tail}
@@ -13,14 +13,14 @@ use Rattle.xk_base.specs.declared.ids.ThreadId.{ThreadId}
 use Rattle.xk_base.specs.declared.messages.Message.{Message}
 use Rattle.xk_base.specs.declared.pages.LoanKind.{LoanKind}
 use Rattle.xk_base.specs.Counting.{sum_below}
-use Rattle.ledger_model.specs.Conditions.{CanForget, is_lent}
-use Rattle.ledger_model.specs.Ledger.{Ledger, Page, PageLoan, Orphan, loan_at}
-use Rattle.ledger_model.specs.Loans.{LoanRun, Stands, loans, of_number, orphan_of_number, loan_of_run, orphan_of_run, lent_from, same_number, loan_of_orphan, OrphanLoan}
+use Rattle.ledger_model.specs.Conditions.{is_lent}
+use Rattle.ledger_model.specs.Ledger.{Page, PageLoan, Orphan, loan_at}
+use Rattle.ledger_model.specs.Loans.{LoanRun, Stands, loans, of_number, orphan_of_number, same_number, loan_of_orphan, OrphanLoan}
 use Rattle.ledger_model.specs.Places.{in_run, moved}
 use Rattle.machine_model.specs.Machine.{Machine, Server}
 use Rattle.machine_model.specs.Matched.{Matched, IsLendMatched, IsOnLoan, lend_run, waits_for}
 use Rattle.machine_model.specs.MessageCounts.{count_in, count_at, count_messages}
-use Rattle.machine_model.specs.Messages.{loan_kind, is_lend, is_lend_of, is_of_number, is_sent_from}
+use Rattle.machine_model.specs.Messages.{loan_kind, is_lend, is_lend_of, is_sent_from}
 use Rattle.machine_model.specs.Servers.{is_server_of, messages_of}
 use Rattle.machine_laws.proofs.DeathForgets.{IsForgettable}
 use Rattle.machine_laws.proofs.DeathMessages.{NoneFrom, none_from, none_at, sent_by}
@@ -80,17 +80,17 @@ module _ (m : Machine) (h : Matched m) (pid : Pid) (serverless : (n : ℕ) → i
   unfolding count_messages
   lent_by number e =
       let term : (k : ℕ) × (1 ≤ count_at (is_lend_of number) (m.servers k)) =
-          some_term m.next_serial (λ n. count_at (is_lend_of number) (m.servers n)) (omega arith) in
+      some_term m.next_serial (λ n. count_at (is_lend_of number) (m.servers n)) (omega arith) in
       go term.0 (m.servers term.0) refl term.1
     where
       go : (k : ℕ) (o : Option Server) → m.servers k ≡ o → 1 ≤ count_at (is_lend_of number) o → IsLentBy number
       go k None q l = absurd (omega arith)
       go k (Some server) q l =
           let found : Found (λ message. (kind : LoanKind) → loan_kind message.kind ≡ Some kind → IsLendMatched m server message kind) (is_lend_of number) pid =
-              found_in (λ message. (kind : LoanKind) → loan_kind message.kind ≡ Some kind → IsLendMatched m server message kind) (is_lend_of number) pid
-              (messages_of server) l (h.loans.lends k server q) (none_sent k server q) in
+          found_in (λ message. (kind : LoanKind) → loan_kind message.kind ≡ Some kind → IsLendMatched m server message kind) (is_lend_of number) pid
+          (messages_of server) l (h.loans.lends k server q) (none_sent k server q) in
           let parts : (same_number found.message.number number ≡ true) × (is_lend found.message.kind ≡ true) =
-              and_parts (same_number found.message.number number) (is_lend found.message.kind) found.passes in
+          and_parts (same_number found.message.number number) (is_lend found.message.kind) found.passes in
           let kind : (kind : LoanKind) × (loan_kind found.message.kind ≡ Some kind) = some_kind (loan_kind found.message.kind) parts.1 in
           record {
             server = server;
@@ -110,9 +110,10 @@ module _ (m : Machine) (h : Matched m) (pid : Pid) (serverless : (n : ℕ) → i
   loan_in_run r from p loan false q e = absurd (none-some loan e)
   loan_in_run r from p loan true q e =
       let parts : ((p.pid.0 == from.pid.0) ≡ true) × ((nat_le from.vpn.0 p.vpn.0 && nat_lt p.vpn.0 (from.vpn.0 + r.count)) ≡ true) =
-          and_parts (p.pid.0 == from.pid.0) (nat_le from.vpn.0 p.vpn.0 && nat_lt p.vpn.0 (from.vpn.0 + r.count)) q in
-      (eqb-true p.pid.0 from.pid.0 parts.0,
-          sym (ap (λ (x : PageLoan). x.holder.pid.0) (same_Some (record { holder = moved from r.holder p; kind = r.kind; number = r.number }) loan e)))
+      and_parts (p.pid.0 == from.pid.0) (nat_le from.vpn.0 p.vpn.0 && nat_lt p.vpn.0 (from.vpn.0 + r.count)) q in (
+        eqb-true p.pid.0 from.pid.0 parts.0,
+        sym (ap (λ (x : PageLoan). x.holder.pid.0) (same_Some (record { holder = moved from r.holder p; kind = r.kind; number = r.number }) loan e)),
+      )
 
   abbrev Apart : Place → PageLoan → Type 0
   Apart p loan = ((p.pid.0 == pid.0) ≡ false) × ((loan.holder.pid.0 == pid.0) ≡ false)
@@ -134,7 +135,7 @@ module _ (m : Machine) (h : Matched m) (pid : Pid) (serverless : (n : ℕ) → i
       go by (Some sender) s u =
           let run : LoanRun = lend_run by.server by.message by.kind (Some s.0) in
           let places : (p.pid.0 ≡ s.0.pid.0) × (loan.holder.pid.0 ≡ by.server.pid.0) =
-              loan_in_run run s.0 p loan (in_run s.0 run.count p) refl (sym (s.2.homes p) ∙ home_of_run p loan by.message.number by.same e) in
+          loan_in_run run s.0 p loan (in_run s.0 run.count p) refl (sym (s.2.homes p) ∙ home_of_run p loan by.message.number by.same e) in
           (ap (λ n. n == pid.0) (places.0 ∙ ap (λ (q : Pid). q.0) s.1) ∙ u, ap (λ n. n == pid.0) places.1 ∙ by.elsewhere)
 
   orphan_there : (p : Place) (orphan : Orphan) (number : Number) → number.0 ≡ orphan.number.0 → m.ledger.orphan p ≡ Some orphan
@@ -150,7 +151,7 @@ module _ (m : Machine) (h : Matched m) (pid : Pid) (serverless : (n : ℕ) → i
   orphan_in_run r p loan true q e =
       let both : (is_none r.lender ≡ true) × (in_run r.holder r.count p ≡ true) = and_parts (is_none r.lender) (in_run r.holder r.count p) q in
       let parts : ((p.pid.0 == r.holder.pid.0) ≡ true) × ((nat_le r.holder.vpn.0 p.vpn.0 && nat_lt p.vpn.0 (r.holder.vpn.0 + r.count)) ≡ true) =
-          and_parts (p.pid.0 == r.holder.pid.0) (nat_le r.holder.vpn.0 p.vpn.0 && nat_lt p.vpn.0 (r.holder.vpn.0 + r.count)) both.1 in
+      and_parts (p.pid.0 == r.holder.pid.0) (nat_le r.holder.vpn.0 p.vpn.0 && nat_lt p.vpn.0 (r.holder.vpn.0 + r.count)) both.1 in
       eqb-true p.pid.0 r.holder.pid.0 parts.0
 
   orphan_apart : (p : Place) (orphan : Orphan) → m.ledger.orphan p ≡ Some orphan → (p.pid.0 == pid.0) ≡ false
@@ -163,8 +164,8 @@ module _ (m : Machine) (h : Matched m) (pid : Pid) (serverless : (n : ℕ) → i
       of_run by lender s =
           let run : LoanRun = lend_run by.server by.message by.kind lender in
           ap (λ n. n == pid.0)
-              (orphan_in_run run p (loan_of_orphan orphan) (is_none run.lender && in_run run.holder run.count p) refl
-                  (sym (s.orphans p) ∙ orphan_there p orphan by.message.number by.same e))
+          (orphan_in_run run p (loan_of_orphan orphan) (is_none run.lender && in_run run.holder run.count p) refl
+          (sym (s.orphans p) ∙ orphan_there p orphan by.message.number by.same e))
           ∙ by.elsewhere
 
       go : (by : IsLentBy orphan.number) (o : Option ThreadId) → IsOnLoan m by.server by.message by.kind o → (p.pid.0 == pid.0) ≡ false

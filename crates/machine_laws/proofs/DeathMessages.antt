@@ -1,6 +1,6 @@
 -- Messages that come from no thread of a process.
-use Rattle.std.proofs.Common.{◌≡◌, ℕ, zero, suc, ◌+◌, ◌≤◌, ◌<◌, Bool, true, false, List, [], ◌∷◌, ◌++◌, map, filter, cond, Option, Some, None, refl, sym, ap, ◌∙◌, arith, subst}
-use Rattle.std.specs.Prelude.{◌==◌, ◌&&◌, ◌||◌, not, if◌then◌else◌}
+use Rattle.std.proofs.Common.{◌≡◌, ℕ, ◌+◌, ◌≤◌, Bool, true, false, List, [], ◌∷◌, ◌++◌, map, filter, cond, Option, Some, None, refl, sym, ap, ◌∙◌, arith}
+use Rattle.std.specs.Prelude.{◌==◌, ◌&&◌, not, if◌then◌else◌}
 use Rattle.std.specs.Bool.{⊤}
 use Rattle.std.specs.List.{list_any}
 use Rattle.std.specs.Option.{option_map_or}
@@ -36,9 +36,10 @@ module _ (pid : Pid) where
   pub none_from : (xs : List Message) → ((who : ThreadId) (number : Number) → (who.pid.0 == pid.0) ≡ true → count_in (sent_by who number) xs ≡ 0) → NoneFrom xs
   unfolding count_in
   none_from [] h = tt
-  none_from (x ∷ xs) h =
-      (from_whom x.sender refl,
-          none_from xs (λ who number e. (zero_parts (sent_by who number x) (count_in (sent_by who number) xs) (h who number e)).1))
+  none_from (x ∷ xs) h = (
+    from_whom x.sender refl,
+    none_from xs (λ who number e. (zero_parts (sent_by who number x) (count_in (sent_by who number) xs) (h who number e)).1),
+  )
     where
       from_whom : (o : Option ThreadId) → x.sender ≡ o → option_map_or (λ (who : ThreadId). who.pid.0 == pid.0) o false ≡ false
       from_whom None e = refl
@@ -48,8 +49,8 @@ module _ (pid : Pid) where
           go false q = refl
           go true q =
               let counts : sent_by who x.number x ≡ true =
-                  and_from (same_number x.number x.number) (is_sent_by who x) (eq-eqb x.number.0 x.number.0 refl)
-                  (ap (λ o. option_map_or (same_thread who) o false) e ∙ same_thread-self who) in
+              and_from (same_number x.number x.number) (is_sent_by who x) (eq-eqb x.number.0 x.number.0 refl)
+              (ap (λ o. option_map_or (same_thread who) o false) e ∙ same_thread-self who) in
               absurd (false≢true (sym ((zero_parts (sent_by who x.number x) (count_in (sent_by who x.number) xs) (h who x.number q)).0) ∙ counts))
 
   pub none_left : (xs ys : List Message) → NoneFrom (xs ++ ys) → NoneFrom xs
@@ -85,6 +86,6 @@ pub none_at : (m : Machine) → Matched m → (test : Message → Bool) → coun
 unfolding count_messages
 none_at m h test e n server there =
     let term : count_at test (m.servers n) ≤ sum_below m.next_serial (λ k. count_at test (m.servers k)) =
-        sum_below-term m.next_serial n (λ k. count_at test (m.servers k)) (h.keys.above.servers n server there) in
+    sum_below-term m.next_serial n (λ k. count_at test (m.servers k)) (h.keys.above.servers n server there) in
     let same : count_at test (m.servers n) ≡ count_in test (messages_of server) = ap (count_at test) there in
     omega arith

@@ -1,6 +1,6 @@
 -- The death of a process that has no server and of which no thread is Waiting keeps the machine matched: it is forgotten, and nobody
 -- is answered.
-use Rattle.std.proofs.Common.{◌≡◌, ℕ, Bool, true, false, List, Option, Some, None, refl, sym, ap, ◌∙◌, subst}
+use Rattle.std.proofs.Common.{◌≡◌, ℕ, Bool, true, false, Option, Some, None, refl, sym, ap, ◌∙◌, subst}
 use Rattle.std.specs.Prelude.{◌==◌, ◌&&◌, is_some, if◌then◌else◌}
 use Rattle.std.specs.List.{list_any}
 use Rattle.std.specs.Option.{option_map}
@@ -8,7 +8,6 @@ use Rattle.std.proofs.lemmas.Bool.{and_left}
 use Rattle.xk_base.specs.declared.ids.Number.{Number}
 use Rattle.xk_base.specs.declared.ids.Pid.{Pid}
 use Rattle.xk_base.specs.declared.ids.ThreadId.{ThreadId}
-use Rattle.xk_base.specs.declared.messages.Message.{Message}
 use Rattle.xk_base.proofs.Counting.{least_below-None}
 use Rattle.machine_model.specs.Changes.{settled, only}
 use Rattle.machine_model.specs.Closing.{any_server, server_passes, closed, is_message_at, is_sender_at, is_queued_from, is_held_from, servers_closed, senders_queued_gone, senders_held_gone, without_queued_from, with_senderless_from}

@@ -1,9 +1,9 @@
 -- The steps in which a process dies: TerminateProcess, a fatal trap, and the end of its last thread above tid 1. Where its death keeps
 -- the machine matched, they do.
 use Rattle.std.proofs.Common.{◌≡◌, ℕ, Bool, true, false, List, [], Option, Some, None, refl, sym, ap, ◌∙◌, subst}
-use Rattle.std.specs.Prelude.{◌==◌, ◌&&◌, if◌then◌else◌}
+use Rattle.std.specs.Prelude.{◌==◌, if◌then◌else◌}
 use Rattle.std.specs.Option.{option_map, option_or}
-use Rattle.std.proofs.lemmas.Bool.{and_left, eq-eqb, false≢true}
+use Rattle.std.proofs.lemmas.Bool.{and_left, eq-eqb}
 use Rattle.std.proofs.lemmas.Option.{none-some, same_Some}
 use Rattle.xk_base.specs.declared.ids.Number.{Number}
 use Rattle.xk_base.specs.declared.ids.Pid.{Pid}
@@ -16,15 +16,15 @@ use Rattle.xk_base.specs.Registers.{reg_at}
 use Rattle.xk_base.specs.Replies.{scalar1_words}
 use Rattle.machine_model.specs.Acts.{call_by, executes}
 use Rattle.machine_model.specs.Calls.{call}
-use Rattle.machine_model.specs.Changes.{Change, Served, call_settled, settled}
+use Rattle.machine_model.specs.Changes.{Change, call_settled, settled}
 use Rattle.machine_model.specs.Closing.{any_server, closed, servers_closed, senders_queued_gone, senders_held_gone}
 use Rattle.machine_model.specs.Ends.{death, forgotten, thread_ended, has_threads, end_with_last_thread, joiners_answered, waits_for_end}
 use Rattle.machine_model.specs.Instructions.{Executed, Traps, execute_at}
 use Rattle.machine_model.specs.Machine.{Machine, Thread}
 use Rattle.machine_model.specs.Matched.{Matched, waits_for}
-use Rattle.machine_model.specs.Order.{ready_at, actor}
+use Rattle.machine_model.specs.Order.{actor}
 use Rattle.machine_model.specs.Servers.{is_server_of}
-use Rattle.machine_model.specs.Step.{step, acted, executed, ends_thread, ends_handler}
+use Rattle.machine_model.specs.Step.{step, executed, ends_thread, ends_handler}
 use Rattle.machine_model.specs.ThreadCalls.{terminate_call}
 use Rattle.machine_model.specs.Threads.{Answers, put_thread, change_thread, passed, give_answers, both_answers, with_answer}
 use Rattle.machine_model.specs.Views.{memory_of}
@@ -67,7 +67,7 @@ terminate_step : (m : Machine) (who : ThreadId) (w : List ℕ) → Matched m →
     → call_number w ≡ terminate_process → DeathKeeps who.pid (turned_to who m) → Matched (step m).machine
 terminate_step m who w h e c number d =
     let k : Keeps (turned_to who m) (call (turned_to who m) w) =
-        call_keeps (turned_to who m) (matched_at who m h) (actor_ready m who e) w 22 number (λ none. terminate_keeps (turned_to who m) w d) in
+    call_keeps (turned_to who m) (matched_at who m h) (actor_ready m who e) w 22 number (λ none. terminate_keeps (turned_to who m) w d) in
     call_step_keeps m who w e c (record { matched = k.matched; steps = k.steps })
 
 -- ---- a trap
@@ -77,7 +77,7 @@ trap_step : (m : Machine) (who : ThreadId) (t : Thread) (cause value : ℕ) → 
 trap_step m who t cause value h e there x d =
     step_keeps m who t e there
     (subst (Settles m) (sym (go (ends_thread who t.pc) (ends_handler who t.pc) (execute_at t.regs t.pc (memory_of (turned_to who m) who.pid))
-        (ap (λ y. if_fetched (ends_thread who t.pc) (ends_handler who t.pc) (execute_at t.regs t.pc y)) (sym (memory_turned m who)) ∙ x)))
+    (ap (λ y. if_fetched (ends_thread who t.pc) (ends_handler who t.pc) (execute_at t.regs t.pc y)) (sym (memory_turned m who)) ∙ x)))
     (record { matched = d.matched; steps = d.steps }))
   where
     if_fetched : Bool → Bool → Executed → Option Executed
@@ -139,9 +139,9 @@ last_thread_step : (m : Machine) (who : ThreadId) (t : Thread) → Matched m →
 unfolding has_threads
 last_thread_step m who t h e there ends last d =
     let k : Settles (turned_to who m) (settled (thread_ended who (reg_at t.regs 10) (turned_to who m))).machine =
-        last_keeps (turned_to who m) who (reg_at t.regs 10) last d in
+    last_keeps (turned_to who m) who (reg_at t.regs 10) last d in
     step_keeps m who t e there (subst (λ b. Settles m (then_acted m who [] t b (ends_handler who t.pc) (execute_at t.regs t.pc (memory_of (turned_to who m) who.pid))).machine)
-        (sym ends) (record { matched = k.matched; steps = k.steps }))
+    (sym ends) (record { matched = k.matched; steps = k.steps }))
 
 -- ---- of a process that has no server and of which no thread is Waiting
 

@@ -1,17 +1,16 @@
 -- The steps in which a thread ends, and in which an interrupt handler does.
-use Rattle.std.proofs.Common.{[], ◌≡◌, ℕ, ◌≤◌, ◌<◌, Bool, true, false, Option, Some, None, refl, sym, ap, ◌∙◌, arith, subst}
-use Rattle.std.specs.Prelude.{◌==◌, ◌&&◌, nat_lt, if◌then◌else◌}
-use Rattle.std.specs.Option.{option_map_or}
-use Rattle.std.proofs.lemmas.Bool.{eqb-true, false≢true, and_parts, and_left}
+use Rattle.std.proofs.Common.{[], ◌≡◌, ◌≤◌, true, Some, None, sym, arith, subst}
+use Rattle.std.specs.Prelude.{◌==◌, nat_lt}
+use Rattle.std.proofs.lemmas.Bool.{and_parts}
 use Rattle.std.proofs.lemmas.Bool.Decides.{nat_tests}
 use Rattle.xk_base.specs.declared.ids.ThreadId.{ThreadId}
 use Rattle.xk_base.specs.Registers.{reg_at}
 use Rattle.machine_model.specs.Changes.{settled}
-use Rattle.machine_model.specs.Ends.{thread_ended, handler_ended, has_threads}
+use Rattle.machine_model.specs.Ends.{thread_ended, has_threads}
 use Rattle.machine_model.specs.Machine.{Machine, Thread}
 use Rattle.machine_model.specs.Matched.{Matched}
 use Rattle.machine_model.specs.Order.{actor}
-use Rattle.machine_model.specs.Step.{step, acted, ends_thread, ends_handler}
+use Rattle.machine_model.specs.Step.{step, ends_thread, ends_handler}
 use Rattle.machine_model.specs.Threads.{put_thread, thread_return}
 use Rattle.machine_model.proofs.KeptLemmas.{matched_at}
 use Rattle.machine_laws.proofs.EndThreads.{thread_end_keeps}
@@ -28,6 +27,6 @@ thread_end_step m who t h e there ends others =
     let above : nat_lt 1 who.tid.0 ≡ true = parts.0 in
     let low : 2 ≤ who.tid.0 = grind (arith, nat_tests) in
     let k : Settles (turned_to who m) (settled (thread_ended who (reg_at t.regs 10) (turned_to who m))).machine =
-        thread_end_keeps (turned_to who m) (matched_at who m h) who (reg_at t.regs 10) (actor_ready m who e) low others in
+    thread_end_keeps (turned_to who m) (matched_at who m h) who (reg_at t.regs 10) (actor_ready m who e) low others in
     step_keeps m who t e there (subst (λ b. Settles m (then_acted m who [] t b (ends_handler who t.pc) (execute_at t.regs t.pc (memory_of (turned_to who m) who.pid))).machine)
-        (sym ends) (record { matched = k.matched; steps = k.steps }))
+    (sym ends) (record { matched = k.matched; steps = k.steps }))

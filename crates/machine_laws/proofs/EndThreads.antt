@@ -1,8 +1,8 @@
 -- The end of a thread whose process has others keeps the machine matched: it goes, and who joined it is answered.
-use Rattle.std.proofs.Common.{◌≡◌, ℕ, ◌+◌, ◌≤◌, ◌<◌, Bool, true, false, ◌⊎◌, inl, inr, List, Option, Some, None, refl, sym, ap, ◌∙◌, arith, subst}
+use Rattle.std.proofs.Common.{◌≡◌, ℕ, ◌+◌, ◌≤◌, Bool, true, false, ◌⊎◌, inl, Option, Some, None, refl, sym, ap, ◌∙◌, arith, subst}
 use Rattle.std.specs.Prelude.{◌%◌, ◌==◌, ◌&&◌, nat_le, is_some, if◌then◌else◌}
-use Rattle.std.specs.Option.{option_map, option_map_or, option_or}
-use Rattle.std.proofs.lemmas.Bool.{eq-eqb, eqb-true, false≢true, and_from, and_left, and_parts}
+use Rattle.std.specs.Option.{option_map, option_or}
+use Rattle.std.proofs.lemmas.Bool.{eqb-true, false≢true, and_from, and_left, and_parts}
 use Rattle.std.proofs.lemmas.Bool.Decides.{nat_tests}
 use Rattle.std.proofs.lemmas.Option.{none-some, same_Some}
 use Rattle.xk_base.specs.declared.ids.Number.{Number}
@@ -21,7 +21,7 @@ use Rattle.machine_model.specs.Ends.{is_joining, waits_for_end, joiners_answered
 use Rattle.machine_model.specs.Machine.{Machine, Thread, ThreadState, Ready, Receiving, Waiting, Joining, Idle}
 use Rattle.machine_model.specs.Matched.{Matched, AreJoinersMatched, IsServerAwaited, IsThreadAwaited, is_living, is_waiting_for}
 use Rattle.machine_model.specs.Order.{is_ready, ready_at}
-use Rattle.machine_model.specs.Threads.{thread_id, put_thread, both_answers, no_answers, with_answer, give_answers}
+use Rattle.machine_model.specs.Threads.{thread_id, put_thread, both_answers, with_answer}
 use Rattle.machine_laws.proofs.ThreadAnswers.{IsReadyThread, ready_thread}
 use Rattle.machine_laws.proofs.ThreadMoves.{KeepsThreads, matched_moved, same_claims, dead_has_none}
 use Rattle.machine_laws.proofs.ThreadPut.{alike, waits_at}
@@ -126,7 +126,7 @@ module _ (m : Machine) (h : Matched m) (who : ThreadId) (a0 : ℕ) (ready : read
           other true q there w =
               let parts : ((id.pid.0 == who.pid.0) ≡ true) × ((tid.0 == who.tid.0) ≡ true) = and_parts (id.pid.0 == who.pid.0) (tid.0 == who.tid.0) q in
               absurd (false≢true (sym w ∙ ap (waits_for_end who id) there
-                  ∙ and_from (id.pid.0 == who.pid.0) (is_joining who.tid t.state) parts.0 (ap (is_joining who.tid) s ∙ parts.1)))
+              ∙ and_from (id.pid.0 == who.pid.0) (is_joining who.tid t.state) parts.0 (ap (is_joining who.tid) s ∙ parts.1)))
 
   abbrev HasHandler : Pid → Type 0
   HasHandler pid = (u : Thread) × (new (thread_id pid 1) ≡ Some u) × ((u.state ≡ Ready) ⊎ (u.state ≡ Idle))
@@ -194,11 +194,11 @@ module _ (m : Machine) (h : Matched m) (who : ThreadId) (a0 : ℕ) (ready : read
         go None e q = absurd (false≢true q)
         go (Some tid) e q =
             let parts : (nat_le 2 tid ≡ true) × (is_some (put_at same_thread m.threads who None (thread_id who.pid tid)) ≡ true) =
-                and_parts (nat_le 2 tid) (is_some (put_at same_thread m.threads who None (thread_id who.pid tid)))
-                (least_below-passes (TID_LIMIT + 1) there_without tid e) in
+            and_parts (nat_le 2 tid) (is_some (put_at same_thread m.threads who None (thread_id who.pid tid)))
+            (least_below-passes (TID_LIMIT + 1) there_without tid e) in
             let high : nat_le 2 tid ≡ true = parts.0 in
             let found : (same_thread (thread_id who.pid tid) who ≡ false) × (is_some (m.threads (thread_id who.pid tid)) ≡ true) =
-                is_there (same_thread (thread_id who.pid tid) who) (m.threads (thread_id who.pid tid)) parts.1 in
+            is_there (same_thread (thread_id who.pid tid) who) (m.threads (thread_id who.pid tid)) parts.1 in
             (tid, grind (arith, nat_tests), stays (thread_id who.pid tid) found.0 found.1)
 
     above : (pid : Pid) → is_living m pid ≡ true → HasThreadAbove pid

@@ -1,7 +1,7 @@
 -- ClaimInterrupt and FreeInterrupt keep the machine matched.
-use Rattle.std.proofs.Common.{◌≡◌, ℕ, ◌≤◌, ◌<◌, Bool, true, false, List, [], ◌∷◌, Option, Some, None, refl, sym, ap, ◌∙◌, arith, subst}
+use Rattle.std.proofs.Common.{◌≡◌, ℕ, ◌≤◌, ◌<◌, Bool, true, false, List, Option, Some, None, refl, sym, ap, ◌∙◌, arith, subst}
 use Rattle.std.specs.Prelude.{◌%◌, ◌==◌, not, nat_lt, nat_eq, is_some, if◌then◌else◌}
-use Rattle.std.proofs.lemmas.Bool.{eq-eqb, eqb-true, false≢true}
+use Rattle.std.proofs.lemmas.Bool.{eqb-true, false≢true}
 use Rattle.std.proofs.lemmas.Bool.Decides.{nat_tests}
 use Rattle.std.proofs.lemmas.Option.{none-some, same_Some}
 use Rattle.xk_base.specs.declared.errors.XousError.TheVariants.{BadAlignment, InterruptNotFound, InterruptInUse}
@@ -87,7 +87,7 @@ module _ (m : Machine) (h : Matched m) (ready : ready_at m m.cursor ≡ true) (w
   claim_served_keeps : (k handler argument : ℕ) → first_refusal (claim_refusals m k handler) ≡ None → Keeps m (Served (claim_served m k handler argument))
   claim_served_keeps k handler argument none =
       let fit : (not (nat_lt k INTERRUPT_LIMIT) ≡ false) × (not (handler % 4 == 0) ≡ false) × (is_some (m.claims k) ≡ false) =
-          three_passed (not (nat_lt k INTERRUPT_LIMIT)) (not (handler % 4 == 0)) (is_some (m.claims k)) InterruptNotFound BadAlignment InterruptInUse none in
+      three_passed (not (nat_lt k INTERRUPT_LIMIT)) (not (handler % 4 == 0)) (is_some (m.claims k)) InterruptNotFound BadAlignment InterruptInUse none in
       let low : not (nat_lt k INTERRUPT_LIMIT) ≡ false = fit.0 in
       let even : not (handler % 4 == 0) ≡ false = fit.1 in
       let few : k < INTERRUPT_LIMIT = grind (arith, nat_tests) in

@@ -1,29 +1,24 @@
 -- Interrupts that are raised and delivered, and handlers that end, keep the machine matched.
-use Rattle.std.proofs.Common.{◌≡◌, ℕ, ◌+◌, ◌≤◌, ◌<◌, Bool, true, false, ◌⊎◌, inl, inr, List, [], ◌∷◌, Option, Some, None, refl, sym, ap, ◌∙◌, arith, subst}
-use Rattle.std.specs.Prelude.{◌%◌, ◌==◌, ◌&&◌, nat_eq, is_some, if◌then◌else◌}
+use Rattle.std.proofs.Common.{◌≡◌, ℕ, ◌≤◌, Bool, true, false, Option, Some, None, refl, sym, ap, ◌∙◌, arith, subst}
+use Rattle.std.specs.Prelude.{nat_eq, is_some, if◌then◌else◌}
 use Rattle.std.specs.Option.{option_map, option_map_or}
-use Rattle.std.proofs.lemmas.Bool.{eq-eqb, eqb-true, false≢true, and_from, and_parts}
-use Rattle.std.proofs.lemmas.Option.{none-some, same_Some}
+use Rattle.std.proofs.lemmas.Bool.{eqb-true, false≢true}
 use Rattle.xk_base.specs.declared.ids.Number.{Number}
 use Rattle.xk_base.specs.declared.ids.Pid.{Pid}
 use Rattle.xk_base.specs.declared.ids.ThreadId.{ThreadId}
-use Rattle.xk_base.specs.declared.limits.TheConstants.{INTERRUPT_LIMIT}
-use Rattle.xk_base.specs.Circle.{same_thread, is_pid, is_tid, is_thread_id}
-use Rattle.xk_base.specs.Counting.{put_at, least_below}
-use Rattle.xk_base.proofs.Counting.{least_below-passes}
-use Rattle.machine_model.specs.Changes.{Change, Delivery, settled, only}
-use Rattle.machine_model.specs.Ends.{handler_ended}
-use Rattle.machine_model.specs.Events.{raised, raised_if, pended, with_handler_next, cursor_after, at_event}
+use Rattle.xk_base.specs.Circle.{same_thread}
+use Rattle.xk_base.specs.Counting.{put_at}
+use Rattle.machine_model.specs.Changes.{Change, settled}
+use Rattle.machine_model.specs.Events.{raised, raised_if, pended, cursor_after}
 use Rattle.machine_model.specs.Interrupts.{is_idle, is_free_for_interrupt, lowest_pending, handler_started, delivered_lowest, delivered}
 use Rattle.machine_model.specs.Kept.{IrqKeepsMatched}
 use Rattle.machine_model.specs.Machine.{Machine, Thread, ThreadState, Claim, Ready, Receiving, Waiting, Joining, Idle}
-use Rattle.machine_model.specs.Matched.{Matched, is_living, is_waiting_for}
-use Rattle.machine_model.specs.Threads.{thread_id, put_thread, change_thread, give_answers, no_answers, with_answer, with_state, handler_thread}
+use Rattle.machine_model.specs.Matched.{Matched, is_waiting_for}
+use Rattle.machine_model.specs.Threads.{thread_id, give_answers, no_answers, with_answer, handler_thread}
 use Rattle.machine_model.proofs.KeptLemmas.{matched_at}
-use Rattle.machine_laws.proofs.ThreadAnswers.{IsReadyThread, ready_thread, ready_put, same_thread-self, thread_living}
-use Rattle.machine_laws.proofs.ThreadMoves.{KeepsThreads, KeepsClaims, matched_moved, same_threads, same_claims, claim_living}
-use Rattle.machine_laws.proofs.ThreadPut.{IsPut, IsFit, waits_at, put_keeps}
-use Rattle.machine_laws.proofs.ThreadSteps.{Settles}
+use Rattle.machine_laws.proofs.ThreadAnswers.{same_thread-self, thread_living}
+use Rattle.machine_laws.proofs.ThreadMoves.{KeepsClaims, matched_moved, claim_living}
+use Rattle.machine_laws.proofs.ThreadPut.{IsPut, waits_at, put_keeps}
 use Rattle.machine_laws.proofs.IrqClaims.{claims_matched}
 
 -- giving no answers changes nothing

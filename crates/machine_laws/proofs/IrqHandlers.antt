@@ -1,8 +1,8 @@
 -- The end of an interrupt handler keeps the machine matched.
-use Rattle.std.proofs.Common.{◌≡◌, ℕ, [], Bool, true, false, Option, Some, None, refl, sym, ap, ◌∙◌, subst, arith}
-use Rattle.std.specs.Prelude.{◌==◌, ◌&&◌, nat_lt, if◌then◌else◌}
+use Rattle.std.proofs.Common.{◌≡◌, [], true, false, Option, Some, refl, sym, ap, ◌∙◌, subst}
+use Rattle.std.specs.Prelude.{◌==◌, nat_lt}
 use Rattle.std.specs.Option.{option_map}
-use Rattle.std.proofs.lemmas.Bool.{eqb-true, false≢true, and_parts, and_left}
+use Rattle.std.proofs.lemmas.Bool.{eqb-true, and_parts, and_left}
 use Rattle.xk_base.specs.declared.ids.Pid.{Pid}
 use Rattle.xk_base.specs.declared.ids.ThreadId.{ThreadId}
 use Rattle.xk_base.specs.Circle.{same_thread}
@@ -55,8 +55,8 @@ handler_end_step m who t h e there ends =
     let same : who ≡ thread_id who.pid 1 = same_ids who (thread_id who.pid 1) refl first in
     let here : ready_at (turned_to who m) (thread_id who.pid 1) ≡ true = sym (ap (ready_at (turned_to who m)) same) ∙ actor_ready m who e in
     let k : Settles (turned_to who m) (settled (handler_ended who.pid (turned_to who m))).machine =
-        handler_end_keeps (turned_to who m) (matched_at who m h) who.pid here in
+    handler_end_keeps (turned_to who m) (matched_at who m h) who.pid here in
     let low : ends_thread who t.pc ≡ false = and_left (nat_lt 1 who.tid.0) _ (ap (λ n. nat_lt 1 n) first) in
     step_keeps m who t e there (subst (λ b. Settles m (then_acted m who [] t b (ends_handler who t.pc) (execute_at t.regs t.pc (memory_of (turned_to who m) who.pid))).machine)
-        (sym low) (subst (λ b. Settles m (then_acted m who [] t false b (execute_at t.regs t.pc (memory_of (turned_to who m) who.pid))).machine)
-            (sym ends) (record { matched = k.matched; steps = k.steps })))
+    (sym low) (subst (λ b. Settles m (then_acted m who [] t false b (execute_at t.regs t.pc (memory_of (turned_to who m) who.pid))).machine)
+    (sym ends) (record { matched = k.matched; steps = k.steps })))

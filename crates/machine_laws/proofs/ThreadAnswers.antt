@@ -1,8 +1,7 @@
 -- One thread, Ready before, is put into the state that it is in after its step; and a caller is answered.
-use Rattle.std.proofs.Common.{◌≡◌, ℕ, ◌+◌, ◌≤◌, Bool, true, false, ◌⊎◌, inl, inr, List, Option, Some, None, refl, sym, ap, ◌∙◌, arith, subst}
-use Rattle.std.specs.Prelude.{◌%◌, ◌==◌, ◌^◌, if◌then◌else◌}
+use Rattle.std.proofs.Common.{◌≡◌, ℕ, ◌≤◌, Bool, true, false, List, Option, Some, None, refl, sym, ap, ◌∙◌, arith}
+use Rattle.std.specs.Prelude.{◌%◌, ◌==◌}
 use Rattle.std.specs.Option.{option_map, option_map_or}
-use Rattle.std.specs.Bool.{⊤}
 use Rattle.std.proofs.lemmas.Bool.{eq-eqb, false≢true, and_from}
 use Rattle.std.proofs.lemmas.Option.{none-some}
 use Rattle.xk_base.specs.declared.ids.Number.{Number}
@@ -15,9 +14,9 @@ use Rattle.machine_model.specs.Instructions.{following}
 use Rattle.machine_model.specs.Machine.{Machine, Thread, ThreadState, Ready, Receiving, Waiting, Joining, Idle}
 use Rattle.machine_model.specs.Matched.{Matched, is_living, is_waiting_for}
 use Rattle.machine_model.specs.Order.{is_ready, ready_at}
-use Rattle.machine_model.specs.Threads.{answer_to, put_thread, change_thread, give_answers, passed, with_answer}
+use Rattle.machine_model.specs.Threads.{answer_to, change_thread, give_answers, passed, with_answer}
 use Rattle.machine_laws.proofs.ThreadMoves.{KeepsThreads, matched_moved, same_claims, dead_has_none}
-use Rattle.machine_laws.proofs.ThreadPut.{IsPut, IsFit, waits_at, put_keeps}
+use Rattle.machine_laws.proofs.ThreadPut.{IsFit, waits_at, put_keeps}
 
 pub same_thread-self : (id : ThreadId) → same_thread id id ≡ true
 same_thread-self id = and_from (id.pid.0 == id.pid.0) (id.tid.0 == id.tid.0) (eq-eqb id.pid.0 id.pid.0 refl) (eq-eqb id.tid.0 id.tid.0 refl)

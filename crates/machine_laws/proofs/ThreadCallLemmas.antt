@@ -1,29 +1,21 @@
 -- The calls on threads and on interrupts keep the machine matched, refused or served.
-use Rattle.std.proofs.Common.{◌≡◌, ℕ, ◌+◌, ◌≤◌, ◌<◌, Bool, true, false, ◌⊎◌, inl, inr, List, [], ◌∷◌, Option, Some, None, refl, sym, ap, ◌∙◌, arith, subst}
-use Rattle.std.specs.Prelude.{◌%◌, ◌==◌, ◌&&◌, ◌||◌, not, nat_le, nat_lt, nat_eq, is_some, is_none, unwrap_or, if◌then◌else◌}
-use Rattle.std.specs.Option.{option_map, option_map_or}
-use Rattle.std.proofs.lemmas.Bool.{eq-eqb, eqb-true, false≢true, and_from, and_parts, or_parts}
-use Rattle.std.proofs.lemmas.Bool.Decides.{nat_tests}
-use Rattle.std.proofs.lemmas.Option.{none-some, same_Some}
+use Rattle.std.proofs.Common.{◌≡◌, ℕ, Bool, true, false, List, [], ◌∷◌, Option, Some, None, refl, sym, subst}
+use Rattle.std.specs.Option.{option_map}
+use Rattle.std.proofs.lemmas.Option.{none-some}
 use Rattle.xk_base.specs.declared.errors.XousError.{XousError}
-use Rattle.xk_base.specs.declared.ids.Number.{Number}
-use Rattle.xk_base.specs.declared.ids.ThreadId.{ThreadId}
-use Rattle.xk_base.specs.CallWords.{call_number, interrupt_number, interrupt_handler, interrupt_argument}
+use Rattle.xk_base.specs.CallWords.{call_number}
 use Rattle.xk_base.specs.Circle.{same_thread}
 use Rattle.xk_base.specs.Counting.{put_at}
-use Rattle.xk_base.specs.Replies.{plain_words, thread_words, scalar1_words, refused_words}
+use Rattle.xk_base.specs.Replies.{plain_words, thread_words, scalar1_words}
 use Rattle.machine_model.specs.Calls.{call, call_at, call_table, any_refusals}
-use Rattle.machine_model.specs.Changes.{Outcome, Refused, Retried, Served, call_settled, settled, answering, with_refusal, first_refusal, refused_or, unless_refused}
-use Rattle.machine_model.specs.InterruptCalls.{claim_call, claim_served, claim_refusals, free_call, free_served, free_refusals}
-use Rattle.machine_model.specs.Interrupts.{is_claim_of}
-use Rattle.machine_model.specs.Machine.{Machine, Thread, ThreadState, Claim, Ready}
-use Rattle.machine_model.specs.Matched.{Matched, is_living}
+use Rattle.machine_model.specs.Changes.{Outcome, Refused, Served, call_settled, settled, answering, with_refusal, first_refusal, refused_or, unless_refused}
+use Rattle.machine_model.specs.Machine.{Machine}
+use Rattle.machine_model.specs.Matched.{Matched}
 use Rattle.machine_model.specs.Order.{ready_at, turn}
 use Rattle.machine_model.specs.ThreadCalls.{yield_call, thread_id_call, process_id_call}
 use Rattle.machine_model.specs.Threads.{answer_to, change_thread}
 use Rattle.machine_model.proofs.KeptLemmas.{turn_keeps}
-use Rattle.machine_laws.proofs.ThreadAnswers.{IsReadyThread, ready_thread, ready_put_matched, answered_matched, following-aligned, same_thread-self, thread_living}
-use Rattle.machine_laws.proofs.ThreadMoves.{KeepsClaims, matched_moved, same_threads, same_claims}
+use Rattle.machine_laws.proofs.ThreadAnswers.{IsReadyThread, ready_thread, ready_put_matched, answered_matched, following-aligned, same_thread-self}
 use Rattle.machine_laws.proofs.ThreadPut.{IsFit}
 use Rattle.machine_laws.proofs.ThreadSteps.{Settles}
 

@@ -1,5 +1,5 @@
 -- The steps of calls on threads and interrupts.
-use Rattle.std.proofs.Common.{◌≡◌, ℕ, true, List, Some, refl}
+use Rattle.std.proofs.Common.{◌≡◌, ℕ, true, List, Some}
 use Rattle.xk_base.specs.declared.ids.ThreadId.{ThreadId}
 use Rattle.xk_base.specs.CallWords.{call_number}
 use Rattle.xk_base.specs.CallNumbers.{yield_turn, get_thread_id, get_process_id}

@@ -1,31 +1,29 @@
 -- CreateThread and JoinThread keep the machine matched.
-use Rattle.std.proofs.Common.{◌≡◌, ℕ, ◌+◌, ◌≤◌, ◌<◌, Bool, true, false, List, [], ◌∷◌, Option, Some, None, refl, sym, ap, ◌∙◌, arith, subst}
-use Rattle.std.specs.Prelude.{◌%◌, ◌==◌, ◌&&◌, ◌||◌, not, nat_le, is_some, is_none, unwrap_or, if◌then◌else◌}
-use Rattle.std.specs.Option.{option_map, option_map_or}
-use Rattle.std.proofs.lemmas.Bool.{eq-eqb, eqb-true, false≢true, and_from, and_parts, or_parts}
+use Rattle.std.proofs.Common.{◌≡◌, ℕ, ◌+◌, ◌≤◌, ◌<◌, Bool, true, false, List, Option, Some, None, refl, sym, ap, ◌∙◌, arith}
+use Rattle.std.specs.Prelude.{◌%◌, ◌==◌, ◌&&◌, ◌||◌, not, nat_le, is_some, is_none, unwrap_or}
+use Rattle.std.specs.Option.{option_map}
+use Rattle.std.proofs.lemmas.Bool.{false≢true, and_from, and_parts, or_parts}
 use Rattle.std.proofs.lemmas.Bool.Decides.{nat_tests}
-use Rattle.std.proofs.lemmas.Option.{none-some, same_Some}
+use Rattle.std.proofs.lemmas.Option.{none-some}
 use Rattle.xk_base.specs.declared.errors.XousError.TheVariants.{BadAlignment, ThreadNotAvailable, InvalidThread, UnhandledSyscall, InvalidSyscall}
-use Rattle.xk_base.specs.declared.ids.Number.{Number}
 use Rattle.xk_base.specs.declared.ids.ThreadId.{ThreadId}
 use Rattle.xk_base.specs.declared.limits.TheConstants.{TID_LIMIT}
 use Rattle.xk_base.specs.CallNumbers.{is_call_number}
 use Rattle.xk_base.specs.CallWords.{call_number, is_refused_to_handler, thread_entry, thread_sp, thread_arguments, join_tid}
 use Rattle.xk_base.specs.Circle.{same_thread, is_pid, is_tid, is_thread_id}
-use Rattle.xk_base.specs.Counting.{put_at, least_below}
+use Rattle.xk_base.specs.Counting.{put_at}
 use Rattle.xk_base.specs.Replies.{thread_words}
 use Rattle.xk_base.proofs.Counting.{least_below-bound, least_below-passes}
 use Rattle.machine_model.specs.Calls.{call, any_refusals}
-use Rattle.machine_model.specs.Changes.{Served, call_settled, settled, answering, only, first_refusal}
+use Rattle.machine_model.specs.Changes.{Served, call_settled, settled, answering, first_refusal}
 use Rattle.machine_model.specs.Machine.{Machine, Thread, ThreadState, Joining}
-use Rattle.machine_model.specs.Matched.{Matched, IsThreadAwaited, is_living}
-use Rattle.machine_model.specs.Order.{is_ready, ready_at}
+use Rattle.machine_model.specs.Matched.{Matched, is_living}
+use Rattle.machine_model.specs.Order.{ready_at}
 use Rattle.machine_model.specs.ThreadCalls.{free_tid, create_call, create_refusals, create_served, has_thread, join_call, join_refusals, join_served}
-use Rattle.machine_model.specs.Threads.{answer_to, thread_id, put_thread, change_thread, give_answers, no_answers, with_answer, with_state, passed, new_thread}
+use Rattle.machine_model.specs.Threads.{answer_to, thread_id, put_thread, with_answer, with_state, passed, new_thread}
 use Rattle.machine_laws.proofs.ThreadAnswers.{IsReadyThread, ready_thread, ready_put_matched, following-aligned, same_thread-self, thread_living}
 use Rattle.machine_laws.proofs.ThreadMoves.{matched_moved, same_claims}
 use Rattle.machine_laws.proofs.ThreadPut.{IsPut, IsFit, alike, waits_at, put_keeps}
-use Rattle.machine_laws.proofs.ThreadSteps.{Settles}
 use Rattle.machine_laws.proofs.ThreadCallLemmas.{Keeps, answered_keeps, unless_refused_keeps, one_passed, two_passed, call_keeps}
 
 is_none-None : {A : Type 0} → (o : Option A) → is_none o ≡ true → o ≡ None
@@ -57,7 +55,7 @@ module _ (m : Machine) (h : Matched m) (ready : ready_at m m.cursor ≡ true) (w
   unfolding free_tid
   free_is_free tid e =
       let test : ((nat_le 2 tid) && is_none (m.threads (thread_id m.cursor.pid tid))) ≡ true =
-          least_below-passes (TID_LIMIT + 1) (λ n. nat_le 2 n && is_none (m.threads (thread_id m.cursor.pid n))) tid e in
+      least_below-passes (TID_LIMIT + 1) (λ n. nat_le 2 n && is_none (m.threads (thread_id m.cursor.pid n))) tid e in
       let parts : (nat_le 2 tid ≡ true) × (is_none (m.threads (thread_id m.cursor.pid tid)) ≡ true) = and_parts _ _ test in
       let above : nat_le 2 tid ≡ true = parts.0 in
       record {
@@ -113,14 +111,14 @@ module _ (m : Machine) (h : Matched m) (ready : ready_at m m.cursor ≡ true) (w
       → Keeps m (Served (create_served m entry sp arguments))
   create_served_keeps entry sp arguments none =
       let fit : (not (entry % 4 == 0) ≡ false) × (is_none (free_tid m m.cursor.pid) ≡ false) =
-          two_passed (not (entry % 4 == 0)) (is_none (free_tid m m.cursor.pid)) BadAlignment ThreadNotAvailable none in
+      two_passed (not (entry % 4 == 0)) (is_none (free_tid m m.cursor.pid)) BadAlignment ThreadNotAvailable none in
       let even : not (entry % 4 == 0) ≡ false = fit.0 in
       let aligned : entry % 4 ≡ 0 = grind (arith, nat_tests) in
       go (free_tid m m.cursor.pid) refl fit.1 aligned
     where
       go : (o : Option ℕ) → free_tid m m.cursor.pid ≡ o → is_none o ≡ false → entry % 4 ≡ 0
           → Keeps m (Served (answering (answer_to m.cursor (thread_words (unwrap_or o 0)))
-              (put_thread (thread_id m.cursor.pid (unwrap_or o 0)) (Some (new_thread entry sp arguments)) m)))
+          (put_thread (thread_id m.cursor.pid (unwrap_or o 0)) (Some (new_thread entry sp arguments)) m)))
       go None q n a = absurd (false≢true (sym n))
       go (Some tid) q n a = created_keeps tid entry sp arguments (free_is_free tid q) a (thread_words tid)
 
@@ -144,7 +142,7 @@ module _ (m : Machine) (h : Matched m) (ready : ready_at m m.cursor ≡ true) (w
     after_join id =
         option_map (with_answer None)
         (put_at same_thread (put_at same_thread m.threads m.cursor (option_map (with_state joining) (m.threads m.cursor))) m.cursor
-            (option_map passed (put_at same_thread m.threads m.cursor (option_map (with_state joining) (m.threads m.cursor)) m.cursor)) id)
+        (option_map passed (put_at same_thread m.threads m.cursor (option_map (with_state joining) (m.threads m.cursor)) m.cursor)) id)
 
     join_here : after_join m.cursor ≡ Some (passed (with_state joining r.thread))
     join_here = rw (same_thread-self m.cursor, r.there) refl
@@ -177,7 +175,7 @@ module _ (m : Machine) (h : Matched m) (ready : ready_at m m.cursor ≡ true) (w
   join_served_keeps : (tid : ℕ) → (m.cursor.tid.0 == 1) ≡ false → first_refusal (join_refusals m tid) ≡ None → Keeps m (Served (join_served m tid))
   join_served_keeps tid above none =
       let fit : (not (has_thread m m.cursor.pid tid) || tid == m.cursor.tid.0) ≡ false =
-          one_passed (not (has_thread m m.cursor.pid tid) || tid == m.cursor.tid.0) InvalidThread none in
+      one_passed (not (has_thread m m.cursor.pid tid) || tid == m.cursor.tid.0) InvalidThread none in
       let parts : (not (has_thread m m.cursor.pid tid) ≡ false) × ((tid == m.cursor.tid.0) ≡ false) = or_parts _ _ fit in
       let has : has_thread m m.cursor.pid tid ≡ true = not_false (has_thread m m.cursor.pid tid) parts.0 in
       let outer : ((nat_le 2 tid && nat_le tid TID_LIMIT) ≡ true) × (is_some (m.threads (thread_id m.cursor.pid tid)) ≡ true) = and_parts _ _ has in
@@ -188,7 +186,7 @@ module _ (m : Machine) (h : Matched m) (ready : ready_at m m.cursor ≡ true) (w
   not_handler : call_number w ≡ 36 → first_refusal (any_refusals m w) ≡ None → (m.cursor.tid.0 == 1) ≡ false
   not_handler e none =
       let fit : (not (is_call_number (call_number w)) ≡ false) × ((m.cursor.tid.0 == 1 && is_refused_to_handler w) ≡ false) =
-          two_passed (not (is_call_number (call_number w))) (m.cursor.tid.0 == 1 && is_refused_to_handler w) UnhandledSyscall InvalidSyscall none in
+      two_passed (not (is_call_number (call_number w))) (m.cursor.tid.0 == 1 && is_refused_to_handler w) UnhandledSyscall InvalidSyscall none in
       let refused : is_refused_to_handler w ≡ true = rw e refl in
       go (m.cursor.tid.0 == 1) (is_refused_to_handler w) refused fit.1
     where

@@ -1,8 +1,7 @@
 -- A machine whose threads, claims, pending interrupts, cursor and count of steps changed, and nothing else: what the invariant asks
 -- of the change.
-use Rattle.std.proofs.Common.{◌≡◌, ℕ, ◌+◌, ◌≤◌, ◌<◌, Bool, true, false, ◌⊎◌, inl, inr, Option, Some, None, refl, sym, ap, ◌∙◌, arith, subst, IsTrue, IsFalse}
-use Rattle.std.specs.Prelude.{◌%◌, ◌==◌, is_some, if◌then◌else◌}
-use Rattle.std.specs.Option.{option_map_or}
+use Rattle.std.proofs.Common.{◌≡◌, ℕ, ◌+◌, ◌≤◌, ◌<◌, Bool, true, false, ◌⊎◌, Option, Some, None, refl, sym, ap, ◌∙◌, arith}
+use Rattle.std.specs.Prelude.{◌%◌, ◌==◌, is_some}
 use Rattle.std.proofs.lemmas.Bool.{eqb-true, eq-eqb, false≢true}
 use Rattle.std.proofs.lemmas.List.Elements.{All-weaker}
 use Rattle.xk_base.specs.declared.ids.Number.{Number}
@@ -14,9 +13,9 @@ use Rattle.xk_base.specs.declared.messages.Message.{Message}
 use Rattle.xk_base.specs.declared.pages.LoanKind.{LoanKind}
 use Rattle.xk_base.specs.Circle.{is_thread_id}
 use Rattle.machine_model.specs.Machine.{Machine, Thread, Server, Claim, Ready, Idle, Receiving}
-use Rattle.machine_model.specs.Matched.{Matched, IsLedgerMatched, IsLendMatched, IsDead, AreLoansMatched, AreSendersMatched, AreReceiversMatched, AreJoinersMatched, AreThreadsMatched, AreHeapsMatched, AreKeysMatched, AreKeysApart, AreNextAbove, AreLimitsKept, IsServerAwaited, IsThreadAwaited, is_living, waits_for}
+use Rattle.machine_model.specs.Matched.{Matched, IsLedgerMatched, IsLendMatched, IsDead, AreLoansMatched, AreSendersMatched, AreReceiversMatched, AreJoinersMatched, AreThreadsMatched, AreHeapsMatched, AreKeysMatched, AreKeysApart, AreNextAbove, AreLimitsKept, IsServerAwaited, is_living, waits_for}
 use Rattle.machine_model.specs.MessageCounts.{count_messages}
-use Rattle.machine_model.specs.Messages.{loan_kind, is_of_number, is_sent_by}
+use Rattle.machine_model.specs.Messages.{loan_kind}
 use Rattle.machine_model.specs.Servers.{messages_of, live_servers}
 use Rattle.machine_model.specs.Threads.{thread_id}
 

@@ -1,10 +1,10 @@
 -- A machine with one thread put: it wasn't Waiting before, and isn't after.
-use Rattle.std.proofs.Common.{◌≡◌, ℕ, ◌≤◌, Bool, true, false, ◌⊎◌, inl, inr, Option, Some, None, refl, sym, ap, ◌∙◌, arith, subst, IsTrue, IsFalse}
+use Rattle.std.proofs.Common.{◌≡◌, ℕ, ◌≤◌, Bool, true, false, ◌⊎◌, inl, inr, Option, Some, None, refl, sym, ap, ◌∙◌, subst}
 use Rattle.std.specs.Prelude.{◌%◌, ◌==◌, is_some, if◌then◌else◌}
 use Rattle.std.specs.Bool.{⊤}
 use Rattle.std.specs.Option.{option_map_or}
 use Rattle.std.proofs.lemmas.Bool.{eqb-true, eq-eqb, false≢true, and_parts}
-use Rattle.std.proofs.lemmas.Option.{none-some, same_Some}
+use Rattle.std.proofs.lemmas.Option.{same_Some}
 use Rattle.xk_base.specs.declared.ids.Number.{Number}
 use Rattle.xk_base.specs.declared.ids.Pid.{Pid}
 use Rattle.xk_base.specs.declared.ids.Serial.{Serial}
@@ -13,7 +13,7 @@ use Rattle.xk_base.specs.declared.ids.Tid.{Tid}
 use Rattle.xk_base.specs.Circle.{is_thread_id, same_thread}
 use Rattle.xk_base.proofs.Circle.{same_ids}
 use Rattle.machine_model.specs.Machine.{Machine, Thread, ThreadState, Ready, Receiving, Waiting, Joining, Idle}
-use Rattle.machine_model.specs.Matched.{Matched, AreJoinersMatched, IsServerAwaited, IsThreadAwaited, is_living, is_waiting_for, waits_for}
+use Rattle.machine_model.specs.Matched.{Matched, AreJoinersMatched, IsServerAwaited, IsThreadAwaited, is_living, is_waiting_for}
 use Rattle.machine_model.specs.Threads.{thread_id}
 use Rattle.machine_laws.proofs.ThreadMoves.{KeepsThreads, dead_has_none}
 

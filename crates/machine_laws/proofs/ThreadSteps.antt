@@ -4,7 +4,7 @@ use Rattle.std.specs.Prelude.{if◌then◌else◌}
 use Rattle.std.specs.Option.{option_and_then}
 use Rattle.std.proofs.lemmas.Option.{none-some, same_Some}
 use Rattle.xk_base.specs.declared.ids.ThreadId.{ThreadId}
-use Rattle.xk_base.specs.declared.records.What.TheVariants.{Call, End}
+use Rattle.xk_base.specs.declared.records.What.TheVariants.{End}
 use Rattle.xk_base.specs.Registers.{arguments_of, reg_at}
 use Rattle.machine_model.specs.Acts.{call_by, executes, words_if_call}
 use Rattle.machine_model.specs.Calls.{call}

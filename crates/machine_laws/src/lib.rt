@@ -17,6 +17,7 @@ pub use irq_laws::{
 };
 pub use thread_end_laws::{end_of_handler_keeps_matched, end_of_thread_keeps_matched};
 pub use thread_laws::{
-    answered_call_keeps_matched, count_of_steps_keeps_matched, create_thread_keeps_matched, get_process_id_keeps_matched,
-    get_thread_id_keeps_matched, join_thread_keeps_matched, yield_keeps_matched,
+    answered_call_keeps_matched, count_of_steps_keeps_matched, create_thread_keeps_matched,
+    get_process_id_keeps_matched, get_thread_id_keeps_matched, join_thread_keeps_matched,
+    yield_keeps_matched,
 };
