@@ -8,9 +8,9 @@ mod thread_end_laws;
 mod thread_laws;
 
 pub use death_laws::{
-    kill_of_serverless_keeps_matched, kill_without_servers_keeps_matched,
-    last_end_of_serverless_keeps_matched, terminate_of_serverless_keeps_matched,
-    trap_of_serverless_keeps_matched,
+    kill_without_messages_keeps_matched, kill_without_servers_keeps_matched,
+    last_end_without_messages_keeps_matched, terminate_without_messages_keeps_matched,
+    trap_without_messages_keeps_matched,
 };
 pub use irq_laws::{
     claim_interrupt_keeps_matched, free_interrupt_keeps_matched, irq_keeps_matched,
