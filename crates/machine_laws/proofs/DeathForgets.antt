@@ -14,7 +14,7 @@ use Rattle.xk_base.specs.declared.ids.ThreadId.{ThreadId}
 use Rattle.xk_base.specs.declared.limits.TheConstants.{PAGE_SIZE, CONNECTION_LIMIT}
 use Rattle.xk_base.specs.declared.messages.Message.{Message}
 use Rattle.xk_base.specs.declared.pages.LoanKind.{LoanKind}
-use Rattle.xk_base.specs.Counting.{put_at, sum_below}
+use Rattle.xk_base.specs.Counting.{put_at}
 use Rattle.xk_base.proofs.Counting.{sum_below-same, count_below-le}
 use Rattle.ledger_model.specs.Conditions.{CanForget}
 use Rattle.ledger_model.specs.Ledger.{Page, PageLoan, Orphan, loan_at, loan_of}

@@ -21,7 +21,7 @@ use Rattle.machine_model.specs.Machine.{Machine, Server}
 use Rattle.machine_model.specs.Matched.{Matched, IsLendMatched, IsOnLoan, lend_run, waits_for}
 use Rattle.machine_model.specs.MessageCounts.{count_in, count_at, count_messages}
 use Rattle.machine_model.specs.Messages.{loan_kind, is_lend, is_lend_of, is_sent_from}
-use Rattle.machine_model.specs.Servers.{is_server_of, messages_of}
+use Rattle.machine_model.specs.Servers.{messages_of}
 use Rattle.machine_laws.proofs.DeathForgets.{IsForgettable}
 use Rattle.machine_laws.proofs.DeathMessages.{NoneFrom, none_from, none_at, sent_by}
 use Rattle.machine_laws.proofs.ThreadPut.{waits_at}

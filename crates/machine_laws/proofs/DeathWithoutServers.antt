@@ -1,25 +1,15 @@
 -- The death of a process keeps the machine matched, where there is no server.
-use Rattle.std.proofs.Common.{◌≡◌, ℕ, zero, suc, ◌+◌, Bool, true, false, Option, Some, None, refl, sym, ap, ◌∙◌, arith, subst}
-use Rattle.std.specs.Prelude.{◌&&◌, is_some, if◌then◌else◌}
+use Rattle.std.proofs.Common.{◌≡◌, ℕ, zero, suc, ◌+◌, Bool, refl, sym, ap, ◌∙◌}
 use Rattle.std.proofs.lemmas.Option.{none-some}
 use Rattle.xk_base.specs.declared.ids.Pid.{Pid}
-use Rattle.xk_base.specs.declared.ids.Place.{Place}
 use Rattle.xk_base.specs.declared.messages.Message.{Message}
 use Rattle.xk_base.specs.Counting.{sum_below}
-use Rattle.ledger_model.specs.Conditions.{is_lent}
-use Rattle.ledger_model.specs.Ledger.{Page, PageLoan, loan_at}
-use Rattle.machine_model.specs.Changes.{settled, only}
-use Rattle.machine_model.specs.Ends.{death, forgotten}
-use Rattle.machine_model.specs.Events.{killed, killed_if}
+use Rattle.machine_model.specs.Events.{killed}
 use Rattle.machine_model.specs.Machine.{Machine}
 use Rattle.machine_model.specs.Matched.{Matched}
 use Rattle.machine_model.specs.MessageCounts.{count_messages, count_at}
-use Rattle.machine_model.specs.Messages.{is_lend_of, is_of_number, is_sent_by}
-use Rattle.machine_model.proofs.DeathLemmas.{HasNoServer, death_without_servers}
+use Rattle.machine_model.proofs.DeathLemmas.{HasNoServer}
 use Rattle.machine_laws.proofs.DeathPlain.{plain_kill_keeps}
-use Rattle.machine_laws.proofs.IrqDelivery.{settled_unanswered}
-use Rattle.machine_laws.proofs.ThreadPut.{waits_at}
-use Rattle.machine_laws.proofs.ThreadSteps.{Settles}
 
 sum_of_none : (n : ℕ) (f : ℕ → ℕ) → ((k : ℕ) → f k ≡ 0) → sum_below n f ≡ 0
 unfolding sum_below
