@@ -1,6 +1,6 @@
--- To forget a process keeps the machine matched, where it has no server, none of its threads is Waiting, and nothing is lent by it
--- or held at its places.
-use Rattle.std.proofs.Common.{◌≡◌, ℕ, ◌≤◌, ◌<◌, Bool, true, false, ◌⊎◌, [], length, Option, Some, None, refl, sym, ap, ◌∙◌, arith, subst, AllPairs}
+-- To forget a process, and its servers, keeps the machine matched, where these have no message, none of its threads is Waiting, and
+-- nothing is lent by it or held at its places.
+use Rattle.std.proofs.Common.{le_trans, ◌≡◌, ℕ, ◌≤◌, ◌<◌, Bool, true, false, ◌⊎◌, [], length, Option, Some, None, refl, sym, ap, ◌∙◌, arith, subst, AllPairs}
 use Rattle.std.specs.Prelude.{◌%◌, ◌==◌, ◌&&◌, not, nat_eq, is_some, if◌then◌else◌}
 use Rattle.std.specs.List.{All}
 use Rattle.std.proofs.lemmas.Bool.{eq-eqb, eqb-true, false≢true}
@@ -15,6 +15,7 @@ use Rattle.xk_base.specs.declared.limits.TheConstants.{PAGE_SIZE, CONNECTION_LIM
 use Rattle.xk_base.specs.declared.messages.Message.{Message}
 use Rattle.xk_base.specs.declared.pages.LoanKind.{LoanKind}
 use Rattle.xk_base.specs.Counting.{put_at}
+use Rattle.xk_base.proofs.Counting.{sum_below-same, count_below-le}
 use Rattle.ledger_model.specs.Conditions.{CanForget}
 use Rattle.ledger_model.specs.Ledger.{Page, PageLoan, Orphan, loan_at, loan_of}
 use Rattle.ledger_model.specs.Loans.{Stands, loans}
@@ -25,9 +26,9 @@ use Rattle.machine_model.specs.Interrupts.{is_claim_of}
 use Rattle.machine_model.specs.Machine.{Machine, Process, Thread, Server, Claim, Ready, Idle}
 use Rattle.machine_model.specs.Matched.{Matched, IsLedgerMatched, IsLendMatched, IsOnLoan, IsDead, AreLoansMatched, AreSendersMatched, AreReceiversMatched, AreJoinersMatched, AreThreadsMatched, AreHeapsMatched, AreKeysApart, AreNextAbove, AreLimitsKept, is_living, lend_run}
 use Rattle.machine_model.specs.MemoryCalls.{heap_limit}
-use Rattle.machine_model.specs.MessageCounts.{count_messages}
-use Rattle.machine_model.specs.Messages.{loan_kind, is_lend_of}
-use Rattle.machine_model.specs.Servers.{messages_of, live_servers}
+use Rattle.machine_model.specs.MessageCounts.{count_messages, count_at, count_in}
+use Rattle.machine_model.specs.Messages.{loan_kind, is_lend_of, is_of_number, is_sent_by}
+use Rattle.machine_model.specs.Servers.{is_server_of, messages_of, live_servers}
 use Rattle.machine_model.specs.Threads.{thread_id}
 use Rattle.machine_laws.proofs.ThreadPut.{waits_at}
 
@@ -35,11 +36,11 @@ pub record IsForgettable (m : Machine) (pid : Pid) : Type 0 where
   pub can : CanForget m.ledger pid
   pub holders : (p : Place) (loan : PageLoan) → loan_at m.ledger p ≡ Some loan → (loan.holder.pid.0 == pid.0) ≡ false
   pub orphans : (p : Place) (orphan : Orphan) → m.ledger.orphan p ≡ Some orphan → (p.pid.0 == pid.0) ≡ false
-  pub servers : (n : ℕ) (server : Server) → m.servers n ≡ Some server → (server.pid.0 == pid.0) ≡ false
+  pub servers : (n : ℕ) (server : Server) → m.servers n ≡ Some server → (server.pid.0 == pid.0) ≡ true → messages_of server ≡ []
   pub waits : (id : ThreadId) (number : Number) → (id.pid.0 == pid.0) ≡ true → waits_at number (m.threads id) ≡ false
 
 -- what is left where a test takes away
-left_if : {A : Type 0} → (b : Bool) (o : Option A) (x : A) → (if b then None else o) ≡ Some x → (b ≡ false) × (o ≡ Some x)
+pub left_if : {A : Type 0} → (b : Bool) (o : Option A) (x : A) → (if b then None else o) ≡ Some x → (b ≡ false) × (o ≡ Some x)
 left_if true o x e = absurd (none-some x e)
 left_if false o x e = (refl, e)
 
@@ -50,6 +51,7 @@ module _ (m : Machine) (h : Matched m) (pid : Pid) (f : IsForgettable m pid) whe
   abbrev next : Machine
   next = record m {
     ledger = forget pid m.ledger;
+    servers = λ n. if is_server_of pid (m.servers n) then None else m.servers n;
     threads = λ id. if id.pid.0 == pid.0 then None else m.threads id;
     process = put_at nat_eq m.process pid.0 dead_process;
     claims = λ k. if is_claim_of pid (m.claims k) then None else m.claims k;
@@ -67,6 +69,30 @@ module _ (m : Machine) (h : Matched m) (pid : Pid) (f : IsForgettable m pid) whe
       go : (b : Bool) → is_of q ≡ b → (if b then dead_process else m.process q.0).alive ≡ true → (is_of q ≡ false) × (is_living m q ≡ true)
       go true e l = absurd (false≢true l)
       go false e l = (e, l)
+
+  -- ---- servers
+
+  server_left : (n : ℕ) (server : Server) → next.servers n ≡ Some server → (is_of server.pid ≡ false) × (m.servers n ≡ Some server)
+  server_left n server e =
+      let left : (is_server_of pid (m.servers n) ≡ false) × (m.servers n ≡ Some server) =
+      left_if (is_server_of pid (m.servers n)) (m.servers n) server e in
+      (sym (ap (is_server_of pid) left.1) ∙ left.0, left.1)
+
+  server_stays : (n : ℕ) (server : Server) → m.servers n ≡ Some server → is_of server.pid ≡ false → next.servers n ≡ Some server
+  server_stays n server e q =
+      ap (λ o. if is_server_of pid o then None else o) e ∙ ap (λ b. if b then None else Some server) q
+
+  count_stays : (test : Message → Bool) (n : ℕ) → count_at test (next.servers n) ≡ count_at test (m.servers n)
+  unfolding count_in
+  count_stays test n = go (m.servers n) refl
+    where
+      go : (o : Option Server) → m.servers n ≡ o → count_at test (if is_server_of pid o then None else o) ≡ count_at test o
+      go None e = refl
+      go (Some server) e = by_pid (server.pid.0 == pid.0) refl
+        where
+          by_pid : (b : Bool) → (server.pid.0 == pid.0) ≡ b → count_at test (if b then None else Some server) ≡ count_at test (Some server)
+          by_pid true q = sym (ap (count_in test) (f.servers n server e q))
+          by_pid false q = refl
 
   -- ---- the ledger
 
@@ -114,14 +140,15 @@ module _ (m : Machine) (h : Matched m) (pid : Pid) (f : IsForgettable m pid) whe
 
   same_count : (test : Message → Bool) → count_messages next test ≡ count_messages m test
   unfolding count_messages
-  same_count test = refl
+  same_count test =
+      sum_below-same m.next_serial (λ n. count_at test (next.servers n)) (λ n. count_at test (m.servers n)) (λ n l. count_stays test n)
 
   loans_forgot : AreLoansMatched next
   loans_forgot = record {
     lends = λ n server e. All-weaker
         (λ message. (kind : LoanKind) → loan_kind message.kind ≡ Some kind → IsLendMatched m server message kind)
         (λ message. (kind : LoanKind) → loan_kind message.kind ≡ Some kind → IsLendMatched next server message kind)
-        (λ message g kind l. lend_forgot server message kind (g kind l)) (messages_of server) (h.loans.lends n server e);
+        (λ message g kind l. lend_forgot server message kind (g kind l)) (messages_of server) (h.loans.lends n server (server_left n server e).1);
     loans_sent = λ p loan e. same_count (is_lend_of loan.number) ∙ h.loans.loans_sent p loan (loan_left p loan e);
     orphans_sent = λ p orphan e. same_count (is_lend_of orphan.number) ∙ h.loans.orphans_sent p orphan (sym (orphan_left p) ∙ e);
   }
@@ -136,12 +163,12 @@ module _ (m : Machine) (h : Matched m) (pid : Pid) (f : IsForgettable m pid) whe
       go false e = refl
 
   senders_forgot : AreSendersMatched next
-  unfolding count_messages
   senders_forgot = record {
-    senders = λ who number. h.senders.senders who number ∙ ap (λ b. if b then 1 else 0) (waits_forgot who number);
-    queued = h.senders.queued;
-    held = h.senders.held;
-    sized = h.senders.sized;
+    senders = λ who number. same_count (λ message. is_of_number number message && is_sent_by who message)
+        ∙ h.senders.senders who number ∙ ap (λ b. if b then 1 else 0) (waits_forgot who number);
+    queued = λ n server e. h.senders.queued n server (server_left n server e).1;
+    held = λ n server e. h.senders.held n server (server_left n server e).1;
+    sized = λ n server e. h.senders.sized n server (server_left n server e).1;
   }
 
   -- ---- threads
@@ -153,7 +180,12 @@ module _ (m : Machine) (h : Matched m) (pid : Pid) (f : IsForgettable m pid) whe
   receivers_forgot id t serial e s =
       let left : (is_of id.pid ≡ false) × (m.threads id ≡ Some t) = thread_left id t e in
       let w = h.receivers id t serial left.1 s in
-      record { server = w.server; live = w.live; own = w.own; empty = w.empty }
+      record {
+        server = w.server;
+        live = server_stays serial.0 w.server w.live (ap is_of w.own ∙ left.0);
+        own = w.own;
+        empty = w.empty;
+      }
 
   joiners_forgot : AreJoinersMatched next
   joiners_forgot id t tid e s =
@@ -203,31 +235,38 @@ module _ (m : Machine) (h : Matched m) (pid : Pid) (f : IsForgettable m pid) whe
   no_pairs i j d l below = absurd (omega arith)
 
   apart_forgot : AreKeysApart next
-  unfolding count_messages
   apart_forgot = record {
-    sids = h.keys.apart.sids;
-    numbers = h.keys.apart.numbers;
+    sids = λ a b s t e g same. h.keys.apart.sids a b s t (server_left a s e).1 (server_left b t g).1 same;
+    numbers = λ number. subst (λ k. k ≤ 1) (sym (same_count (is_of_number number))) (h.keys.apart.numbers number);
     connections = λ q. by_process (λ x. AllPairs (λ a b. (a.0 == b.0) ≡ false) x.connections) q no_pairs (h.keys.apart.connections q);
   }
 
   above_forgot : AreNextAbove next
   above_forgot = record {
-    numbers = h.keys.above.numbers;
-    servers = h.keys.above.servers;
+    numbers = λ n server e. h.keys.above.numbers n server (server_left n server e).1;
+    servers = λ n server e. h.keys.above.servers n server (server_left n server e).1;
     connections = λ q. by_process (λ x. All (λ serial. serial.0 < m.next_serial) x.connections) q (All-nil (λ serial. serial.0 < m.next_serial))
         (h.keys.above.connections q);
     number_steps = h.keys.above.number_steps;
     serial_steps = h.keys.above.serial_steps;
   }
 
-  limits_forgot : AreLimitsKept next
+  still_there : (b : Bool) (o : Option Server) → is_some (if b then None else o) ≡ true → is_some o ≡ true
+  still_there true o e = absurd (false≢true e)
+  still_there false o e = e
+
+  fewer_servers : live_servers next ≤ live_servers m
   unfolding live_servers
+  fewer_servers = count_below-le m.next_serial (λ n. is_some (next.servers n)) (λ n. is_some (m.servers n))
+      (λ n l e. still_there (is_server_of pid (m.servers n)) (m.servers n) e)
+
+  limits_forgot : AreLimitsKept next
   limits_forgot = record {
     processes = h.keys.limits.processes;
     pids = λ q l. h.keys.limits.pids q (lived q l).1;
     threads = λ id t e. h.keys.limits.threads id t (thread_left id t e).1;
-    servers = h.keys.limits.servers;
-    slots = h.keys.limits.slots;
+    servers = le_trans fewer_servers h.keys.limits.servers;
+    slots = λ n server e. h.keys.limits.slots n server (server_left n server e).1;
     connections = λ q. by_process (λ x. length x.connections ≤ CONNECTION_LIMIT) q (omega arith) (h.keys.limits.connections q);
     claims = λ k claim e. h.keys.limits.claims k claim (claim_left k claim e).1;
   }
@@ -263,7 +302,7 @@ module _ (m : Machine) (h : Matched m) (pid : Pid) (f : IsForgettable m pid) whe
       record {
         no_thread = λ tid. rw self refl;
         no_page = λ p e. home_taken p (eq-eqb p.pid.0 pid.0 (ap (λ (q : Pid). q.0) e));
-        no_server = f.servers;
+        no_server = λ n server e. (server_left n server e).0;
         no_connection = ap (λ b. (if b then dead_process else m.process pid.0).connections) self;
         no_claim = claim_other;
         no_heap = ap (λ b. (if b then dead_process else m.process pid.0).heap) self;
@@ -273,7 +312,7 @@ module _ (m : Machine) (h : Matched m) (pid : Pid) (f : IsForgettable m pid) whe
   dead_before q e d = record {
     no_thread = λ tid. none_if (q.0 == pid.0) (m.threads (record { pid = q; tid = tid })) (d.no_thread tid);
     no_page = λ p s. home_none p (d.no_page p s);
-    no_server = d.no_server;
+    no_server = λ n server e. d.no_server n server (server_left n server e).1;
     no_connection = rw e d.no_connection;
     no_claim = λ k claim n. d.no_claim k claim (claim_left k claim n).1;
     no_heap = rw e d.no_heap;
@@ -286,7 +325,7 @@ module _ (m : Machine) (h : Matched m) (pid : Pid) (f : IsForgettable m pid) whe
       go true e l = let same : q.0 ≡ pid.0 = eqb-true q.0 pid.0 e in subst (IsDead next) (λ i. record { 0 = sym same i }) dead_itself
       go false e l = dead_before q e (h.keys.dead q l)
 
-  pub forgotten_matched : Matched (forgotten pid m)
+  pub forgotten_matched : Matched (forgotten pid (record m { servers = λ n. if is_server_of pid (m.servers n) then None else m.servers n }))
   unfolding forgotten
   forgotten_matched = record {
     ledger = ledger_forgot;

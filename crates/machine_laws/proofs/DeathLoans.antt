@@ -1,4 +1,4 @@
--- A process that has no server and of which no thread is Waiting lends nothing, and holds nothing at its places.
+-- A process whose servers have no message and of which no thread is Waiting lends nothing, and holds nothing at its places.
 use Rattle.std.proofs.Common.{◌≡◌, ℕ, zero, suc, ◌+◌, ◌≤◌, Bool, true, false, List, [], ◌∷◌, Option, Some, None, refl, sym, ap, ◌∙◌, arith}
 use Rattle.std.specs.Prelude.{◌==◌, ◌&&◌, is_some, is_none, nat_le, nat_lt, if◌then◌else◌}
 use Rattle.std.specs.List.{All}
@@ -21,10 +21,9 @@ use Rattle.machine_model.specs.Machine.{Machine, Server}
 use Rattle.machine_model.specs.Matched.{Matched, IsLendMatched, IsOnLoan, lend_run, waits_for}
 use Rattle.machine_model.specs.MessageCounts.{count_in, count_at, count_messages}
 use Rattle.machine_model.specs.Messages.{loan_kind, is_lend, is_lend_of, is_sent_from}
-use Rattle.machine_model.specs.Servers.{is_server_of, messages_of}
+use Rattle.machine_model.specs.Servers.{messages_of}
 use Rattle.machine_laws.proofs.DeathForgets.{IsForgettable}
 use Rattle.machine_laws.proofs.DeathMessages.{NoneFrom, none_from, none_at, sent_by}
-use Rattle.machine_laws.proofs.DeathWithoutServers.{no_loan}
 use Rattle.machine_laws.proofs.ThreadPut.{waits_at}
 
 some_term : (n : ℕ) (f : ℕ → ℕ) → 1 ≤ sum_below n f → (k : ℕ) × (1 ≤ f k)
@@ -52,19 +51,36 @@ found_in P test pid (x ∷ xs) l all none = go (λ below. found_in P test pid xs
     go rest true e l = record { message = x; passes = e; about = All-head P x xs all; unsent = none.0 }
     go rest false e l = rest (omega arith)
 
+no_loan : (o : Option Page) → ((page : Page) (loan : PageLoan) → o ≡ Some page → page.loan ≡ Some loan → is_lent o ≡ false) → is_lent o ≡ false
+no_loan None h = refl
+no_loan (Some page) h = go page.loan refl
+  where
+    go : (l : Option PageLoan) → page.loan ≡ l → is_some l ≡ false
+    go None e = refl
+    go (Some loan) e = sym (ap is_some e) ∙ h page loan refl e
+
 some_kind : (o : Option LoanKind) → is_some o ≡ true → (kind : LoanKind) × (o ≡ Some kind)
 some_kind None e = absurd (false≢true e)
 some_kind (Some kind) e = (kind, refl)
 
-module _ (m : Machine) (h : Matched m) (pid : Pid) (serverless : (n : ℕ) → is_server_of pid (m.servers n) ≡ false)
+module _ (m : Machine) (h : Matched m) (pid : Pid) (idle : (n : ℕ) (server : Server) → m.servers n ≡ Some server → (server.pid.0 == pid.0) ≡ true → messages_of server ≡ [])
     (unwaiting : (id : ThreadId) (number : Number) → (id.pid.0 == pid.0) ≡ true → waits_for m id number ≡ 0) where
   pub none_sent : (n : ℕ) (server : Server) → m.servers n ≡ Some server → NoneFrom pid (messages_of server)
   none_sent n server e =
       none_from pid (messages_of server)
       (λ who number q. none_at m h (sent_by who number) (h.senders.senders who number ∙ unwaiting who number q) n server e)
 
-  pub other_server : (n : ℕ) (server : Server) → m.servers n ≡ Some server → (server.pid.0 == pid.0) ≡ false
-  other_server n server e = sym (ap (is_server_of pid) e) ∙ serverless n
+  -- a server that has a message isn't the process's
+  other_server : (n : ℕ) (server : Server) (test : Message → Bool) → m.servers n ≡ Some server → 1 ≤ count_in test (messages_of server)
+      → (server.pid.0 == pid.0) ≡ false
+  unfolding count_in
+  other_server n server test e l = go (server.pid.0 == pid.0) refl
+    where
+      go : (b : Bool) → (server.pid.0 == pid.0) ≡ b → b ≡ false
+      go false q = refl
+      go true q =
+          let none : count_in test (messages_of server) ≡ 0 = ap (count_in test) (idle n server e q) in
+          absurd (omega arith)
 
   -- the lend of a number that is on loan
   record IsLentBy (number : Number) : Type 0 where
@@ -98,7 +114,7 @@ module _ (m : Machine) (h : Matched m) (pid : Pid) (serverless : (n : ℕ) → i
             kind = kind.0;
             same = eqb-true found.message.number.0 number.0 parts.0;
             lend = found.about kind.0 kind.1;
-            elsewhere = other_server k server q;
+            elsewhere = other_server k server (is_lend_of number) q l;
             unsent = found.unsent;
           }
 
@@ -188,6 +204,6 @@ module _ (m : Machine) (h : Matched m) (pid : Pid) (serverless : (n : ℕ) → i
     can = record { not_lent = own_not_lent };
     holders = λ p loan e. (apart p loan e).1;
     orphans = orphan_apart;
-    servers = other_server;
+    servers = idle;
     waits = λ id number e. no_wait (waits_at number (m.threads id)) (waits_for m id number) refl (unwaiting id number e);
   }

@@ -20,10 +20,10 @@ use Rattle.machine_model.specs.Changes.{Change, call_settled, settled}
 use Rattle.machine_model.specs.Closing.{any_server, closed, servers_closed, senders_queued_gone, senders_held_gone}
 use Rattle.machine_model.specs.Ends.{death, forgotten, thread_ended, has_threads, end_with_last_thread, joiners_answered, waits_for_end}
 use Rattle.machine_model.specs.Instructions.{Executed, Traps, execute_at}
-use Rattle.machine_model.specs.Machine.{Machine, Thread}
+use Rattle.machine_model.specs.Machine.{Server, Machine, Thread}
 use Rattle.machine_model.specs.Matched.{Matched, waits_for}
 use Rattle.machine_model.specs.Order.{actor}
-use Rattle.machine_model.specs.Servers.{is_server_of}
+use Rattle.machine_model.specs.Servers.{messages_of}
 use Rattle.machine_model.specs.Step.{step, executed, ends_thread, ends_handler}
 use Rattle.machine_model.specs.ThreadCalls.{terminate_call}
 use Rattle.machine_model.specs.Threads.{Answers, put_thread, change_thread, passed, give_answers, both_answers, with_answer}
@@ -143,12 +143,12 @@ last_thread_step m who t h e there ends last d =
     step_keeps m who t e there (subst (λ b. Settles m (then_acted m who [] t b (ends_handler who t.pc) (execute_at t.regs t.pc (memory_of (turned_to who m) who.pid))).machine)
     (sym ends) (record { matched = k.matched; steps = k.steps }))
 
--- ---- of a process that has no server and of which no thread is Waiting
+-- ---- of a process whose servers have no message and of which no thread is Waiting
 
-module _ (m : Machine) (h : Matched m) (who : ThreadId) (e : actor m ≡ Some who) (serverless : (n : ℕ) → is_server_of who.pid (m.servers n) ≡ false)
+module _ (m : Machine) (h : Matched m) (who : ThreadId) (e : actor m ≡ Some who) (idle : (n : ℕ) (server : Server) → m.servers n ≡ Some server → (server.pid.0 == who.pid.0) ≡ true → messages_of server ≡ [])
     (unwaiting : (id : ThreadId) (number : Number) → (id.pid.0 == who.pid.0) ≡ true → waits_for m id number ≡ 0) where
   dies : DeathKeeps who.pid (turned_to who m)
-  dies = plain_death_keeps (turned_to who m) (matched_at who m h) who.pid serverless unwaiting
+  dies = plain_death_keeps (turned_to who m) (matched_at who m h) who.pid idle unwaiting
 
   pub plain_terminate : (w : List ℕ) → call_by m who ≡ Some w → call_number w ≡ terminate_process → Matched (step m).machine
   plain_terminate w c number = terminate_step m who w h e c number dies

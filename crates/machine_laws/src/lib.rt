@@ -19,9 +19,9 @@ pub use change_laws::{
     like_heaps_keep_matched, like_ledger_keeps_matched, like_threads_keep_matched,
 };
 pub use death_laws::{
-    kill_of_serverless_keeps_matched, kill_without_servers_keeps_matched,
-    last_end_of_serverless_keeps_matched, terminate_of_serverless_keeps_matched,
-    trap_of_serverless_keeps_matched,
+    kill_without_messages_keeps_matched, kill_without_servers_keeps_matched,
+    last_end_without_messages_keeps_matched, terminate_without_messages_keeps_matched,
+    trap_without_messages_keeps_matched,
 };
 pub use instruction_laws::{
     execution_stays_aligned, instruction_keeps_matched, instruction_stores_one_page,

@@ -1,5 +1,5 @@
 use Rattle.machine_laws.proofs.DeathSteps.{plain_trap}
-use Rattle.machine_laws.proofs.death_laws.trap_of_serverless_keeps_matched.Goals as goal
+use Rattle.machine_laws.proofs.death_laws.trap_without_messages_keeps_matched.Goals as goal
 
 -- src/death_laws.rt
 pub returns : goal.returns
