@@ -8,6 +8,8 @@ mod pages;
 mod readers;
 mod removing;
 mod run_tests;
+#[cfg(test)]
+mod tests;
 mod user;
 
 use phys_pages::{LoanInfo, Owners, Ram};
@@ -69,6 +71,3 @@ pub enum Here {
         number: Number,
     },
 }
-
-#[cfg(test)]
-mod tests;
