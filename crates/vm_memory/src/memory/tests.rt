@@ -7,6 +7,7 @@ ghost use Rattle.vm_memory.specs.Memory.{IsUsable, processes};
 ghost use Rattle.vm_memory.specs.Sound.{IsSound};
 
 mod first_pages;
+mod first_run;
 mod user;
 mod windows;
 

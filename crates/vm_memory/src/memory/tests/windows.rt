@@ -35,6 +35,8 @@ fn heap_script<W: SwapStore>(rt: &impl Abort, memory: &mut Memory<W>)
     assert_eq!(rt; memory.remove_run(at(0x2_0000), 2), Ok(()));
     let removed = memory.remove_run(at(0x2_0000), 2);
     assert_eq!(rt; removed, Err(XousError::BadAddress));
+    assert_eq!(rt; memory.clear_run(at(0x2_0000), 2), Ok(()));
+    assert_eq!(rt; memory.free_run(PID, Window::Heap, 2), first);
     assert_eq!(rt; memory.pages(), 2);
 }
 
