@@ -9,6 +9,7 @@ pub mod Counts
 pub mod EmptyMemory
 pub mod EntryRoles
 pub mod Forgetting
+pub mod FirstLoans
 pub mod FirstPages
 pub mod FreeRuns
 pub mod HereLaws

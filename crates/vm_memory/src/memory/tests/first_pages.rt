@@ -2,7 +2,7 @@
 
 ghost use Rattle.vm_memory.specs.Sound.{IsSound};
 
-use super::{PID, WRITE, at, booted, end};
+use super::{PID, WRITE, at, booted};
 use crate::memory::{Here, Memory};
 use phys_pages::Ram;
 use std::process::Abort;
@@ -55,7 +55,8 @@ fn boot_places_the_plan(rt: HostRuntime) {
     match booted(rt.alloc(), SureStore::new()) {
         Ok(memory) => {
             first_pages(&rt, &memory);
-            let _ = end(memory);
+            let store = memory.close();
+            assert!(rt; store.preparations().is_empty());
         }
         Err(_) => assert!(rt; false),
     }
