@@ -28,6 +28,7 @@ pub fn execute<U: UserMemory>(insn: Insn, regs: &mut Regs, pc: u32, mem: &mut U)
     ensures console { U.console mem.new ≡ U.console mem.old }
     ensures rest { (before : U) → U.same_rest before mem.old → U.same_rest before mem.new }
     ensures fit { UnlessFailed result (U.fit mem.new) }
+    ensures unfit { IfFailed result (¬ U.fit mem.new) }
     ensures cause { IfFailed result (Rose (U.faults mem.old) (U.faults mem.new)) }
     ensures never_falls { U.faults mem.old ≤ U.faults mem.new }
 {
@@ -47,6 +48,7 @@ fn perform<U: UserMemory>(operation: Operation, regs: &mut Regs, pc: u32, mem: &
     ensures console { U.console mem.new ≡ U.console mem.old }
     ensures rest { (before : U) → U.same_rest before mem.old → U.same_rest before mem.new }
     ensures fit { UnlessFailed result (U.fit mem.new) }
+    ensures unfit { IfFailed result (¬ U.fit mem.new) }
     ensures cause { IfFailed result (Rose (U.faults mem.old) (U.faults mem.new)) }
     ensures never_falls { U.faults mem.old ≤ U.faults mem.new }
 {

@@ -57,6 +57,7 @@ pub fn load<U: UserMemory>(
     ensures console { U.console mem.new ≡ U.console mem.old }
     ensures rest { (before : U) → U.same_rest before mem.old → U.same_rest before mem.new }
     ensures fit { UnlessFailed result (U.fit mem.new) }
+    ensures unfit { IfFailed result (¬ U.fit mem.new) }
     ensures cause { IfFailed result (Rose (U.faults mem.old) (U.faults mem.new)) }
     ensures never_falls { U.faults mem.old ≤ U.faults mem.new }
 {

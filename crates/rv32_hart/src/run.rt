@@ -13,8 +13,8 @@ use xk_base::{Failed, Regs, UserMemory};
 /// Executes the instruction at `pc`, which is a multiple of 4, over a memory that is fit for use.
 ///
 /// It fetches once, and moves bytes at most once. On a trap, an ECALL and a failure the registers
-/// are as before. `Failed` comes only where the count of faults of `mem` rose; on every other answer
-/// `mem` stays fit.
+/// are as before. `Failed` comes only where the count of faults of `mem` rose, and `mem` isn't fit
+/// then; on every other answer it stays fit.
 pub fn run_one<U: UserMemory>(regs: &mut Regs, pc: u32, mem: &mut U) -> Ran
     requires aligned { pc % 4 ≡ 0 }
     requires fit { U.fit mem.old }
@@ -25,6 +25,7 @@ pub fn run_one<U: UserMemory>(regs: &mut Regs, pc: u32, mem: &mut U) -> Ran
     ensures console { U.console mem.new ≡ U.console mem.old }
     ensures rest { U.same_rest mem.old mem.new }
     ensures fit { UnlessFailed result (U.fit mem.new) }
+    ensures unfit { IfFailed result (¬ U.fit mem.new) }
     ensures cause { IfFailed result (Rose (U.faults mem.old) (U.faults mem.new)) }
     ensures never_falls { U.faults mem.old ≤ U.faults mem.new }
 {

@@ -21,6 +21,7 @@ pub fn store<U: UserMemory>(mem: &mut U, pc: u32, address: u32, width: Width, va
     ensures console { U.console mem.new ≡ U.console mem.old }
     ensures rest { (before : U) → U.same_rest before mem.old → U.same_rest before mem.new }
     ensures fit { UnlessFailed result (U.fit mem.new) }
+    ensures unfit { IfFailed result (¬ U.fit mem.new) }
     ensures cause { IfFailed result (Rose (U.faults mem.old) (U.faults mem.new)) }
     ensures never_falls { U.faults mem.old ≤ U.faults mem.new }
 {

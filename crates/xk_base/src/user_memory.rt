@@ -13,7 +13,7 @@ use crate::pages::{Stored, Width};
 /// The memory of a process by virtual addresses, as its instructions see it.
 ///
 /// It may have to bring a page from outside; where that fails, it counts a fault and answers
-/// `Failed`, and it needn't be fit for use from then on. Addresses are aligned to the width of the
+/// `Failed`, and it isn't fit for use from then on. Addresses are aligned to the width of the
 /// access: the hart traps before it asks for any other.
 pub trait UserMemory {
     /// Which access the process has at an address.
@@ -44,6 +44,7 @@ pub trait UserMemory {
         ensures console { console self.new ≡ console self.old }
         ensures rest { same_rest self.old self.new }
         ensures fit { IfOk result (λ _. fit self.new) }
+        ensures unfit { OnErr result (¬ fit self.new) }
         ensures cause { OnErr result (Rose (faults self.old) (faults self.new)) }
         ensures never_falls { faults self.old ≤ faults self.new };
 
@@ -58,6 +59,7 @@ pub trait UserMemory {
         ensures console { console self.new ≡ console self.old }
         ensures rest { same_rest self.old self.new }
         ensures fit { IfOk result (λ _. fit self.new) }
+        ensures unfit { OnErr result (¬ fit self.new) }
         ensures cause { OnErr result (Rose (faults self.old) (faults self.new)) }
         ensures never_falls { faults self.old ≤ faults self.new };
 
@@ -72,6 +74,7 @@ pub trait UserMemory {
         ensures console { console self.new ≡ console self.old }
         ensures rest { same_rest self.old self.new }
         ensures fit { IfOk result (λ _. fit self.new) }
+        ensures unfit { OnErr result (¬ fit self.new) }
         ensures cause { OnErr result (Rose (faults self.old) (faults self.new)) }
         ensures never_falls { faults self.old ≤ faults self.new };
 
