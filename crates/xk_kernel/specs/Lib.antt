@@ -1,3 +1,11 @@
 pub mod History
 pub mod HistoryMoments
 pub mod Interleaving
+pub mod Built
+pub mod Calling
+pub mod Running
+pub mod Sound
+pub mod Start
+pub mod State
+pub mod Stepping
+pub mod Telling

@@ -1,14 +1,17 @@
-//! The kernel's history: what a list of events makes of the abstract machine. The definitions stand in `specs/`. The functions
-//! here are laws of them: each function's contract is the law, and its body is empty.
+//! The kernel: it boots a plan, takes events and does the steps of the abstract machine, over pages in a modelled RAM. Beside
+//! it stands its history: what a list of events makes of the machine. The definitions stand in `specs/`; the functions of
+//! `interleavings`, `laws` and `moments` are laws of them: each function's contract is the law, and its body is empty.
 #![tactic(auto)]
 
 mod interleavings;
+mod kernel;
 mod laws;
 mod moments;
 
 pub use interleavings::{
     interleavings_are_played, interleavings_are_played_up_to_the_limit, limit_is_not_met_within,
 };
+pub use kernel::{Kernel, Stepped, SwapFault};
 pub use laws::{
     events_are_played_in_order, events_without_steps_are_played, histories_follow_each_other,
     idle_tick_ends_the_turn, no_events_do_nothing, nothing_follows_the_limit,

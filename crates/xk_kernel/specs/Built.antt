@@ -1,0 +1,26 @@
+-- Which steps and events are built. Any other is named as not built, and isn't done.
+use Rattle.std.specs.Prelude.{ℕ, Bool, true, false, not, ◌&&◌, List}
+use Rattle.std.specs.Option.{option_map_or}
+use Rattle.event_text.specs.declared.event.Event.{Event}
+use Rattle.event_text.specs.declared.event.Event.TheVariants.{Tick, Pick, Irq, Kill}
+use Rattle.machine_laws.specs.WithoutServers.{is_plain_call}
+use Rattle.machine_model.specs.Acts.{call_by}
+use Rattle.machine_model.specs.Machine.{Machine, Thread}
+use Rattle.machine_model.specs.Order.{actor}
+use Rattle.machine_model.specs.Step.{ends_handler}
+use Rattle.xk_base.specs.declared.ids.ThreadId.{ThreadId}
+
+-- a thread above tid 1, whose system call, if it makes one, is on memory, threads or its process, or has no number of the table
+abbrev pub thread_built : Machine → ThreadId → Thread → Bool
+thread_built m who t = not (ends_handler who t.pc) && option_map_or is_plain_call (call_by m who) true
+
+-- there is a next step, and it is built
+unfoldable pub step_built : Machine → Bool
+step_built m = option_map_or (λ who. option_map_or (thread_built m who) (m.threads who) false) (actor m) false
+
+-- every event is, but for an interrupt
+abbrev pub event_built : Event → Bool
+event_built (Tick n) = true
+event_built (Pick pid tid) = true
+event_built (Irq k) = false
+event_built (Kill pid) = true

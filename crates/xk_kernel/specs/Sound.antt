@@ -1,0 +1,42 @@
+-- The soundness of a kernel, which each call needs and keeps.
+use Rattle.std.specs.Prelude.{◌≡◌, ℕ, ◌≤◌, Bool, IsTrue, None}
+use Rattle.machine_model.specs.Matched.{Matched}
+use Rattle.process_table.specs.ProcessesOf.{process_count as processes_made}
+use Rattle.server_table.specs.ServersOf.{servers_of}
+use Rattle.sv32_space.specs.Tie.{Held}
+use Rattle.thread_table.specs.ThreadsOf.{process_count as processes_threaded}
+use Rattle.vm_memory.specs.Bytes.{KeepsStore}
+use Rattle.vm_memory.specs.Memory.{IsUsable as IsMemoryUsable, ledger, processes, size, store_of}
+use Rattle.vm_memory.specs.Sound.{IsSound as IsMemorySound}
+use Rattle.vm_memory.specs.Starting.{IsUnlent}
+use Rattle.xk_base.specs.Circle.{is_thread_id}
+use Rattle.xk_base.specs.declared.limits.TheConstants.{RECORD_LIMIT}
+use Rattle.xk_kernel.specs.State.{machine_of}
+use Rattle.xk_kernel.specs.declared.kernel.Kernel.{Kernel}
+
+-- no call has answered SwapFault
+abbrev pub IsUsable : {W : Type 0} → Kernel W → Type 0
+IsUsable k = IsMemoryUsable k.mem
+
+-- the parts are sound, and were made for one number of processes
+pub record IsWhole {W : Type 0} (slot_count : W → ℕ) (held : W → Held) (k : Kernel W) : Type 0 where
+  pub mem : IsMemorySound slot_count k.mem
+  pub threads : processes_threaded k.threads ≡ processes k.mem
+  pub procs : processes_made k.procs ≡ processes k.mem
+  pub cursor : IsTrue (is_thread_id (processes k.mem) k.cursor)
+  pub room : RECORD_LIMIT ≤ k.log.room
+  -- These two go when servers and messages are built.
+  pub unlent : IsUnlent (ledger held k.mem)
+  pub no_servers : (n : ℕ) → (servers_of k.servers).live n ≡ None
+
+-- .. and until a call answers SwapFault the machine is matched
+pub record IsSound {W : Type 0} (slot_count : W → ℕ) (held : W → Held) (k : Kernel W) : Type 0 where
+  pub whole : IsWhole slot_count held k
+  pub matched : IsUsable k → Matched (machine_of held k)
+
+-- what every call keeps: how large the memory is, and of the store that it is honest and tells where it did, its slots and the
+-- preparations that it was asked for; its count doesn't fall. The room of the log stays too.
+pub record Keeps {W P : Type 0} (is_honest : W → Bool) (held : W → Held) (slot_count : W → ℕ) (asked : W → P) (faults : W → ℕ) (old new : Kernel W) : Type 0 where
+  pub size : size new.mem ≡ size old.mem
+  pub store : KeepsStore is_honest held slot_count asked faults (store_of old.mem) (store_of new.mem)
+  pub room : new.log.room ≡ old.log.room

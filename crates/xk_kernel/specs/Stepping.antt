@@ -1,0 +1,40 @@
+-- What the calls of a kernel do to the machine that it stands for.
+use Rattle.std.specs.Prelude.{◌≡◌, ◌+◌, true, false, is_some, List}
+use Rattle.event_text.specs.declared.event.Event.{Event}
+use Rattle.event_text.specs.declared.event.Event.TheVariants.{Tick, Pick, Irq, Kill}
+use Rattle.machine_model.specs.Events.{picked, raised, killed, nothing}
+use Rattle.machine_model.specs.Machine.{Machine}
+use Rattle.machine_model.specs.Order.{actor}
+use Rattle.machine_model.specs.Step.{Stepped as StepTaken, step}
+use Rattle.sv32_space.specs.Tie.{Held}
+use Rattle.xk_base.specs.declared.records.Rec.{Rec}
+use Rattle.xk_kernel.specs.Built.{step_built}
+use Rattle.xk_kernel.specs.State.{machine_of}
+use Rattle.xk_kernel.specs.declared.kernel.Kernel.{Kernel}
+use Rattle.xk_kernel.specs.declared.kernel.Stepped.{Stepped}
+use Rattle.xk_kernel.specs.declared.kernel.Stepped.TheVariants.{Did, Idle, NotBuilt}
+
+-- the records of the last step or event
+abbrev pub last_of : {W : Type 0} → Kernel W → List Rec
+last_of k = k.log.records
+
+-- the next state is this one, and exactly these records tell of it
+pub record Becomes {W : Type 0} (held : W → Held) (new : Kernel W) (taken : StepTaken) : Type 0 where
+  pub machine : machine_of held new ≡ taken.machine
+  pub records : last_of new ≡ taken.records
+
+-- A step is that of the machine; where no thread is ready there is none, and one that isn't built isn't done.
+abbrev pub DoesStep : {W : Type 0} → (W → Held) → Kernel W → Kernel W → Stepped → Type 0
+DoesStep held old new Did =
+    (is_some (actor (machine_of held old)) ≡ true) × (step_built (machine_of held old) ≡ true) × Becomes held new (step (machine_of held old))
+DoesStep held old new Idle = (is_some (actor (machine_of held old)) ≡ false) × (machine_of held new ≡ machine_of held old)
+DoesStep held old new NotBuilt =
+    (is_some (actor (machine_of held old)) ≡ true) × (step_built (machine_of held old) ≡ false)
+    × (machine_of held new ≡ machine_of held old) × (last_of new ≡ last_of old)
+
+-- what an event does beside the steps of a tick
+abbrev pub event_done : Event → Machine → StepTaken
+event_done (Tick n) m = nothing m
+event_done (Pick pid tid) m = picked (record { pid = pid; tid = tid }) m
+event_done (Irq k) m = raised k m
+event_done (Kill pid) m = killed pid m

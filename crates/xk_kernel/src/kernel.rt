@@ -1,0 +1,53 @@
+//! The kernel.
+
+mod boot;
+mod calls;
+mod deaths;
+mod events;
+mod memory_calls;
+mod readers;
+mod running;
+mod stepping;
+mod thread_calls;
+mod threads;
+
+use irq_claims::Claims;
+use process_table::Processes;
+use server_table::Servers;
+use thread_table::Threads;
+use vm_memory::Memory;
+use xk_base::{Log, ThreadId};
+use xk_ports::SwapStore;
+
+/// What a step did.
+#[derive(Clone, Copy, Debug, PartialEq, Eq)]
+pub enum Stepped {
+    /// The step was done.
+    Did,
+    /// No thread is ready.
+    Idle,
+    /// The next step isn't built; nothing was done.
+    NotBuilt,
+}
+
+/// The store failed as a page was brought in or put out; it has counted it. The kernel is closed
+/// then, and answers no other call.
+#[derive(Clone, Copy, Debug, PartialEq, Eq)]
+pub struct SwapFault;
+
+/// The processes of a boot image with their threads and their memory, whose turn it is, and the
+/// records of the last step or event. All memory of a run is taken at boot.
+pub struct Kernel<W: SwapStore> {
+    mem: Memory<W>,
+    threads: Threads,
+    procs: Processes,
+    servers: Servers,
+    claims: Claims,
+    log: Log,
+    // Whose turn it is.
+    cursor: ThreadId,
+    // The number that the next accepted message gets.
+    next: u32,
+    // Steps done.
+    steps: u32,
+}

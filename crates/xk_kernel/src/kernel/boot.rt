@@ -1,0 +1,131 @@
+//! A kernel is booted.
+
+ghost use Rattle.std.specs.Prelude.{◌≡◌, ◌+◌, ◌≤◌, [], All, IfErr, IfOk, length};
+ghost use Rattle.std.specs.Option.{option_map};
+ghost use Rattle.std.specs.Prelude.{◌==◌, if◌then◌else◌, None};
+ghost use Rattle.boot_plan.specs.Lawful.{CanStart, IsLawfulPlan};
+ghost use Rattle.vm_memory.specs.Bytes.{KeepsStore};
+ghost use Rattle.vm_memory.specs.Memory.{size, store_of};
+ghost use Rattle.vm_memory.specs.Tie.{IsTied};
+ghost use Rattle.xk_kernel.specs.Sound.{IsSound, IsUsable};
+ghost use Rattle.thread_table.specs.ThreadsOf.{process_count, threads_of};
+ghost use Rattle.xk_base.specs.Circle.{IsPid};
+ghost use Rattle.xk_base.specs.declared.ids.ThreadId.{ThreadId as Id};
+ghost use Rattle.xk_base.specs.declared.ids.Tid.{Tid as TidNumber};
+ghost use Rattle.xk_kernel.specs.Start.{first_threads, start};
+ghost use Rattle.xk_kernel.specs.State.{machine_of, thread_of};
+ghost use Rattle.xk_kernel.specs.Stepping.{last_of};
+
+use crate::kernel::Kernel;
+use boot_plan::BootPlan;
+use irq_claims::Claims;
+use process_table::Processes;
+use server_table::Servers;
+use std::alloc::Global;
+use thread_table::{Thread, ThreadState, Threads};
+use vm_memory::{BootError, BootFault, Memory};
+use xk_base::limits::RECORD_LIMIT;
+use xk_base::{Log, NoMemory, Pid, Regs, ThreadId, Tid};
+use xk_ports::SwapStore;
+
+/// The address at which a thread ends: a fetch there by a thread above tid 1 ends it.
+pub(super) const THREAD_RETURN: u32 = 0xFF80_3000;
+
+/// The end of the stack pages with which a process begins.
+const FIRST_STACK: u32 = 0x8000_0000;
+
+// The threads at their start, the processes, an empty table of servers, and the log.
+type Tables = (Threads, Processes, Servers, Log);
+
+// Starts the interrupt thread, which is idle, and the first thread of a process.
+fn start_process(threads: &mut Threads, pid: Pid, entry: u32)
+    requires pid { IsPid (process_count threads.old) pid.0 }
+    requires none { (tid : TidNumber) → threads_of threads.old (record { pid = pid; tid = tid }) ≡ None }
+    ensures after { (id : Id) → option_map thread_of (threads_of threads.new id) ≡ (if id.pid.0 == pid.0 then first_threads entry id.tid.0 else option_map thread_of (threads_of threads.old id)) }
+    ensures count { process_count threads.new ≡ process_count threads.old }
+{
+    let idle = Thread {
+        pc: 0,
+        regs: Regs::new(),
+        state: ThreadState::Idle,
+    };
+    threads.start(ThreadId { pid, tid: Tid(1) }, idle);
+    let mut regs = Regs::new();
+    regs.set(1, THREAD_RETURN);
+    regs.set(2, FIRST_STACK);
+    let first = Thread {
+        pc: entry,
+        regs,
+        state: ThreadState::Ready,
+    };
+    threads.start(ThreadId { pid, tid: Tid(2) }, first);
+}
+
+// The tables of a kernel at its start.
+fn tables(alloc: Global, plan: &BootPlan) -> Result<Tables, NoMemory>
+    requires few { length plan.now.procs ≤ 32 }
+    requires can_start { All CanStart plan.now.procs }
+{
+    let processes = plan.procs.as_slice();
+    let count = processes.len() as u32;
+    let mut threads = Threads::new(alloc, count)?;
+    let procs = Processes::new(alloc, count)?;
+    let servers = Servers::new(alloc)?;
+    let log = Log::new(alloc, RECORD_LIMIT as usize)?;
+    for k in 0..processes.len() {
+        start_process(&mut threads, Pid(k as u8 + 2), processes[k].entry);
+    }
+    Ok((threads, procs, servers, log))
+}
+
+impl<W: SwapStore> Kernel<W> {
+    /// Boots the processes of a plan with the bytes of its file. All memory of the run is taken
+    /// here; want of it hands the store back.
+    pub fn boot(
+        alloc: Global,
+        plan: &BootPlan,
+        file: &[u8],
+        store: W,
+    ) -> Result<Kernel<W>, BootFault<W>>
+        requires lawful { IsLawfulPlan (length file.now) plan.now }
+        requires can_start { All CanStart plan.now.procs }
+        requires slots { plan.now.slots ≤ W.slot_count store }
+        // This one goes when pages can be out.
+        requires no_slots { plan.now.slots ≡ 0 }
+        ensures sound { IfOk result (λ k. IsSound W.slot_count W.held k) }
+        ensures usable { IfOk result (λ k. IsUsable k) }
+        ensures start { IfOk result (λ k. machine_of W.held k ≡ start plan.now file.now) }
+        ensures records { IfOk result (λ k. last_of k ≡ []) }
+        ensures tie { IfOk result (λ k. IsTied W.held k.mem) }
+        ensures size { IfOk result (λ k. size k.mem ≡ record { procs = length plan.now.procs; area = record { start = plan.now.ram_start; frames = plan.now.frames }; slots = plan.now.slots }) }
+        ensures store { IfOk result (λ k. KeepsStore W.is_honest W.held W.slot_count W.asked W.faults store (store_of k.mem)) }
+        ensures back { IfErr result (λ fault. KeepsStore W.is_honest W.held W.slot_count W.asked W.faults store fault.store) }
+        // Until pages can be out, want of memory is all that can come.
+        ensures want { IfErr result (λ fault. fault.why ≡ BootError.NoMemory) }
+    {
+        let (threads, procs, servers, log) = match tables(alloc, plan) {
+            Ok(tables) => tables,
+            Err(NoMemory) => {
+                return Err(BootFault {
+                    why: BootError::NoMemory,
+                    store,
+                });
+            }
+        };
+        let mem = Memory::boot(alloc, plan, file, store)?;
+        Ok(Kernel {
+            mem,
+            threads,
+            procs,
+            servers,
+            claims: Claims::new(),
+            log,
+            cursor: ThreadId {
+                pid: Pid(2),
+                tid: Tid(2),
+            },
+            next: 1,
+            steps: 0,
+        })
+    }
+}

@@ -1,0 +1,137 @@
+//! System calls.
+
+ghost use Rattle.std.specs.Prelude.{ℕ, List, ◌≡◌, ◌+◌, ◌≤◌, true, length, IsOk, OnErr, OnOk, IfOk};
+ghost use Rattle.machine_laws.specs.WithoutServers.{is_plain_call};
+ghost use Rattle.machine_model.specs.Calls.{call, call_at, call_table};
+ghost use Rattle.machine_model.specs.Changes.{call_settled};
+ghost use Rattle.machine_model.specs.Order.{ready_at};
+ghost use Rattle.machine_model.specs.Step.{after};
+ghost use Rattle.syscall_codec.specs.Calls.{Asks};
+ghost use Rattle.xk_base.specs.CallWords.{call_number};
+ghost use Rattle.xk_base.specs.declared.records.What.TheVariants.{Call as Called};
+ghost use Rattle.xk_kernel.specs.Calling.{outcome_of};
+ghost use Rattle.xk_kernel.specs.Sound.{IsUsable, IsWhole, Keeps};
+ghost use Rattle.xk_kernel.specs.State.{machine_of};
+ghost use Rattle.xk_kernel.specs.Telling.{Tells};
+
+use crate::kernel::{Kernel, SwapFault};
+use syscall_codec::{Call, Reply, can_wait, read_call, reply_words};
+use xk_base::{What, XousError};
+use xk_ports::SwapStore;
+
+/// What came of a system call that was served.
+#[derive(Clone, Copy, Debug, PartialEq, Eq)]
+pub enum Served {
+    /// The caller is answered.
+    Answered(Reply),
+    /// The caller waits.
+    Waits,
+    /// The caller's process died.
+    Died,
+}
+
+/// Whether the call with these words is built: it is on memory, threads or the caller's process, or
+/// no call has its number.
+pub fn is_built(words: &[u32; 8]) -> bool
+    ensures { result ≡ is_plain_call words.now }
+{
+    match read_call(*words) {
+        Ok(
+            Call::MapMemory { .. }
+            | Call::Yield
+            | Call::IncreaseHeap { .. }
+            | Call::DecreaseHeap { .. }
+            | Call::UpdateMemoryFlags { .. }
+            | Call::CreateThread { .. }
+            | Call::UnmapMemory { .. }
+            | Call::TerminateProcess { .. }
+            | Call::JoinThread { .. }
+            | Call::GetThreadId
+            | Call::GetProcessId,
+        )
+        | Err(_) => true,
+        Ok(_) => false,
+    }
+}
+
+impl<W: SwapStore> Kernel<W> {
+    // The thread whose turn it is makes the call with these words, which is built.
+    pub(super) fn call(&mut self, words: [u32; 8]) -> Result<(), SwapFault>
+        requires whole { IsWhole W.slot_count W.held self.old }
+        requires usable { IsUsable self.old }
+        requires built { is_plain_call words ≡ true }
+        requires ready { ready_at (machine_of W.held self.old) self.old.cursor ≡ true }
+        requires room { length self.old.log.records + 2 ≤ self.old.log.room }
+        ensures whole { IsWhole W.slot_count W.held self.new }
+        ensures usable { OnOk result (IsUsable self.new) }
+        ensures tells { OnOk result (Tells W.held self.old self.new (after (Called self.old.cursor words) (call_settled (machine_of W.held self.old) (call (machine_of W.held self.old) words)))) }
+        ensures keeps { Keeps W.is_honest W.held W.slot_count W.asked W.faults self.old self.new }
+        ensures sure { IsOk result }
+    {
+        let who = self.cursor;
+        self.log.push(What::Call(who, words));
+        let outcome = match read_call(words) {
+            Ok(call) => self.serve(call)?,
+            Err(error) => Err(error),
+        };
+        self.pass(who);
+        match outcome {
+            Ok(Served::Answered(reply)) => self.answer(who, reply_words(&reply)),
+            Ok(Served::Waits) => {}
+            Ok(Served::Died) => self.log.push(What::Gone(who.pid)),
+            Err(error) => self.answer(who, reply_words(&Reply::Refused(error))),
+        }
+        Ok(())
+    }
+
+    // What comes of the call, before its caller is past it and has its answer.
+    fn serve(&mut self, call: Call) -> Result<Result<Served, XousError>, SwapFault>
+        requires whole { IsWhole W.slot_count W.held self.old }
+        requires usable { IsUsable self.old }
+        requires ready { ready_at (machine_of W.held self.old) self.old.cursor ≡ true }
+        requires built { (words : List ℕ) → Asks words call → is_plain_call words ≡ true }
+        ensures whole { IsWhole W.slot_count W.held self.new }
+        ensures usable { OnOk result (IsUsable self.new) }
+        ensures outcome { IfOk result (λ served. (words : List ℕ) → Asks words call → outcome_of self.old.cursor (machine_of W.held self.new) served ≡ call (machine_of W.held self.old) words) }
+        ensures refused { IfOk result (λ served. OnErr served (self.new ≡ self.old)) }
+        ensures log { self.new.log ≡ self.old.log }
+        ensures keeps { Keeps W.is_honest W.held W.slot_count W.asked W.faults self.old self.new }
+        ensures sure { IsOk result }
+    {
+        if self.cursor.tid.0 == 1 && can_wait(&call) {
+            return Ok(Err(XousError::InvalidSyscall));
+        }
+        match call {
+            Call::MapMemory {
+                phys,
+                virt,
+                size,
+                flags,
+            } => self.map_memory(phys, virt, size, flags),
+            Call::UnmapMemory { address, size } => Ok(self.unmap_memory(address, size)),
+            Call::UpdateMemoryFlags {
+                address,
+                size,
+                flags,
+            } => Ok(self.update_memory_flags(address, size, flags)),
+            Call::IncreaseHeap { bytes } => self.increase_heap(bytes),
+            Call::DecreaseHeap { bytes } => Ok(self.decrease_heap(bytes)),
+            Call::Yield => {
+                self.turn();
+                Ok(Ok(Served::Answered(Reply::Plain)))
+            }
+            Call::CreateThread { entry, sp, args } => Ok(self.create_thread(entry, sp, args)),
+            Call::JoinThread { tid } => Ok(self.join_thread(tid)),
+            Call::TerminateProcess { .. } => {
+                self.forget(self.cursor.pid);
+                Ok(Ok(Served::Died))
+            }
+            Call::GetThreadId => Ok(Ok(Served::Answered(Reply::Thread(self.cursor.tid)))),
+            Call::GetProcessId => {
+                let pid = self.cursor.pid.0 as u32;
+                Ok(Ok(Served::Answered(Reply::Scalar1(pid))))
+            }
+            _ => unreachable!(),
+        }
+    }
+}

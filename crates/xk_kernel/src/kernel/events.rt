@@ -1,0 +1,68 @@
+//! The events beside the steps of a tick.
+
+ghost use Rattle.std.specs.Prelude.{◌≡◌, true};
+ghost use Rattle.vm_memory.specs.Tie.{IsTied};
+ghost use Rattle.xk_kernel.specs.Built.{event_built};
+ghost use Rattle.xk_kernel.specs.Sound.{IsSound, IsUsable, IsWhole, Keeps};
+ghost use Rattle.machine_model.specs.Events.{picked};
+ghost use Rattle.xk_kernel.specs.State.{machine_of};
+ghost use Rattle.xk_kernel.specs.Stepping.{Becomes, event_done};
+
+use crate::kernel::Kernel;
+use event_text::Event;
+use thread_table::ThreadState;
+use xk_base::{ThreadId, What};
+use xk_ports::SwapStore;
+
+impl<W: SwapStore> Kernel<W> {
+    /// Whether the event is built: all are, but for an interrupt.
+    pub fn event_built(&self, e: Event) -> bool
+        ensures { result ≡ event_built e }
+    {
+        match e {
+            Event::Tick(_) | Event::Pick(_, _) | Event::Kill(_) => true,
+            Event::Irq(_) => false,
+        }
+    }
+
+    // The cursor goes to that thread, where it is Ready.
+    fn pick(&mut self, who: ThreadId)
+        requires whole { IsWhole W.slot_count W.held self.old }
+        ensures whole { IsWhole W.slot_count W.held self.new }
+        ensures machine { machine_of W.held self.new ≡ (picked who (machine_of W.held self.old)).machine }
+        ensures mem { self.new.mem ≡ self.old.mem }
+        ensures log { self.new.log ≡ self.old.log }
+    {
+        if let Some(thread) = self.threads.get(who)
+            && thread.state == ThreadState::Ready
+        {
+            self.cursor = who;
+        }
+    }
+
+    /// Does the whole of `pick` and `kill`, and nothing for `tick`, whose steps are done one by one.
+    /// Its records are the last ones then.
+    pub fn event_start(&mut self, e: Event)
+        requires sound { IsSound W.slot_count W.held self.old }
+        requires usable { IsUsable self.old }
+        requires built { event_built e ≡ true }
+        ensures sound { IsSound W.slot_count W.held self.new }
+        ensures usable { IsUsable self.new }
+        ensures does { Becomes W.held self.new (event_done e (machine_of W.held self.old)) }
+        ensures tie { IsTied W.held self.new.mem }
+        ensures keeps { Keeps W.is_honest W.held W.slot_count W.asked W.faults self.old self.new }
+    {
+        self.log.clear(self.steps);
+        match e {
+            Event::Tick(_) => {}
+            Event::Pick(pid, tid) => self.pick(ThreadId { pid, tid }),
+            Event::Kill(pid) => {
+                if self.procs.alive(pid) {
+                    self.forget(pid);
+                    self.log.push(What::Gone(pid));
+                }
+            }
+            Event::Irq(_) => unreachable!(),
+        }
+    }
+}

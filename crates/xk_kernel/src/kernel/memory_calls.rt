@@ -1,0 +1,147 @@
+//! The five calls on memory. The caller is the thread whose turn it is.
+
+ghost use Rattle.std.specs.Prelude.{◌≡◌, if◌then◌else◌, None, Some, IfOk, IsOk, OnErr, OnOk};
+ghost use Rattle.machine_model.specs.Changes.{Served as ServedOutcome, unless_refused};
+ghost use Rattle.machine_model.specs.MemoryCalls.{are_bad_flags, caller_place, is_bad_range, decrease_refusals, decrease_served, increase_refusals, increase_served, map_refusals, map_served, unmap_refusals, unmap_served, update_refusals, update_served};
+ghost use Rattle.xk_base.specs.Flags.{right_of};
+ghost use Rattle.xk_kernel.specs.Calling.{outcome_of};
+ghost use Rattle.xk_kernel.specs.Sound.{IsUsable, IsWhole, Keeps};
+ghost use Rattle.xk_kernel.specs.State.{machine_of};
+
+use crate::kernel::calls::Served;
+use crate::kernel::{Kernel, SwapFault};
+use bitflags::Flags;
+use syscall_codec::{MapFlags, Reply};
+use xk_base::limits::{CONSOLE_ADDRESS, PAGE_SIZE};
+use xk_base::{Failed, Place, Right, Vpn, Window, XousError};
+use xk_ports::SwapStore;
+
+/// The first address of the Heap window.
+const HEAP_START: u32 = 0x2000_0000;
+
+/// How long a heap may be, in bytes: the whole window.
+const HEAP_LIMIT: u32 = 0x0100_0000;
+
+// Whether these are not the address and the size of a run of pages.
+fn is_bad_range(address: u32, size: u32) -> bool
+    ensures { result ≡ is_bad_range address size }
+{
+    size == 0 || size % PAGE_SIZE != 0 || address % PAGE_SIZE != 0
+}
+
+// The right that flags ask for; none where a bit is unknown or R isn't set.
+fn right_asked(flags: u32) -> Option<Right>
+    ensures { result ≡ (if are_bad_flags flags then None else Some (right_of flags)) }
+{
+    let flags = MapFlags::from_bits(flags)?;
+    if !flags.contains(MapFlags::R) {
+        return None;
+    }
+    Some(Right {
+        w: flags.contains(MapFlags::W),
+        x: flags.contains(MapFlags::X),
+    })
+}
+
+impl<W: SwapStore> Kernel<W> {
+    // The place of an address in the caller's process.
+    fn caller_place(&self, address: u32) -> Place
+        ensures { result ≡ caller_place (machine_of W.held self.now) address }
+    {
+        Place {
+            pid: self.cursor.pid,
+            vpn: Vpn(address / PAGE_SIZE),
+        }
+    }
+
+    // MapMemory: new pages of zeros, or the console.
+    pub(super) fn map_memory(
+        &mut self,
+        phys: u32,
+        virt: u32,
+        size: u32,
+        flags: u32,
+    ) -> Result<Result<Served, XousError>, SwapFault>
+        requires whole { IsWhole W.slot_count W.held self.old }
+        requires usable { IsUsable self.old }
+        ensures whole { IsWhole W.slot_count W.held self.new }
+        ensures usable { OnOk result (IsUsable self.new) }
+        ensures outcome { IfOk result (λ served. outcome_of self.old.cursor (machine_of W.held self.new) served ≡ unless_refused (map_refusals (machine_of W.held self.old) phys virt size flags) (ServedOutcome (map_served (machine_of W.held self.old) phys virt size flags))) }
+        ensures refused { IfOk result (λ served. OnErr served (self.new ≡ self.old)) }
+        ensures log { self.new.log ≡ self.old.log }
+        ensures keeps { Keeps W.is_honest W.held W.slot_count W.asked W.faults self.old self.new }
+        ensures sure { IsOk result }
+    {
+        Ok(Err(XousError::BadAlignment))
+    }
+
+    // UnmapMemory: the pages go, the console too.
+    pub(super) fn unmap_memory(&mut self, address: u32, size: u32) -> Result<Served, XousError>
+        requires whole { IsWhole W.slot_count W.held self.old }
+        requires usable { IsUsable self.old }
+        ensures whole { IsWhole W.slot_count W.held self.new }
+        ensures usable { IsUsable self.new }
+        ensures outcome { outcome_of self.old.cursor (machine_of W.held self.new) result ≡ unless_refused (unmap_refusals (machine_of W.held self.old) address size) (ServedOutcome (unmap_served (machine_of W.held self.old) address size)) }
+        ensures refused { OnErr result (self.new ≡ self.old) }
+        ensures log { self.new.log ≡ self.old.log }
+        ensures keeps { Keeps W.is_honest W.held W.slot_count W.asked W.faults self.old self.new }
+    {
+        if is_bad_range(address, size) {
+            return Err(XousError::BadAlignment);
+        }
+        let first = self.caller_place(address);
+        self.mem.remove_run(first, size / PAGE_SIZE)?;
+        Ok(Served::Answered(Reply::Plain))
+    }
+
+    // UpdateMemoryFlags: the right of the pages becomes the one that is asked.
+    pub(super) fn update_memory_flags(
+        &mut self,
+        address: u32,
+        size: u32,
+        flags: u32,
+    ) -> Result<Served, XousError>
+        requires whole { IsWhole W.slot_count W.held self.old }
+        requires usable { IsUsable self.old }
+        ensures whole { IsWhole W.slot_count W.held self.new }
+        ensures usable { IsUsable self.new }
+        ensures outcome { outcome_of self.old.cursor (machine_of W.held self.new) result ≡ unless_refused (update_refusals (machine_of W.held self.old) address size flags) (ServedOutcome (update_served (machine_of W.held self.old) address size flags)) }
+        ensures refused { OnErr result (self.new ≡ self.old) }
+        ensures log { self.new.log ≡ self.old.log }
+        ensures keeps { Keeps W.is_honest W.held W.slot_count W.asked W.faults self.old self.new }
+    {
+        Err(XousError::BadAlignment)
+    }
+
+    // IncreaseHeap: pages with R and W stand above the heap.
+    pub(super) fn increase_heap(
+        &mut self,
+        bytes: u32,
+    ) -> Result<Result<Served, XousError>, SwapFault>
+        requires whole { IsWhole W.slot_count W.held self.old }
+        requires usable { IsUsable self.old }
+        ensures whole { IsWhole W.slot_count W.held self.new }
+        ensures usable { OnOk result (IsUsable self.new) }
+        ensures outcome { IfOk result (λ served. outcome_of self.old.cursor (machine_of W.held self.new) served ≡ unless_refused (increase_refusals (machine_of W.held self.old) bytes) (ServedOutcome (increase_served (machine_of W.held self.old) bytes))) }
+        ensures refused { IfOk result (λ served. OnErr served (self.new ≡ self.old)) }
+        ensures log { self.new.log ≡ self.old.log }
+        ensures keeps { Keeps W.is_honest W.held W.slot_count W.asked W.faults self.old self.new }
+        ensures sure { IsOk result }
+    {
+        Ok(Err(XousError::BadAlignment))
+    }
+
+    // DecreaseHeap: the pages at the end of the heap go; places without a page are passed over.
+    pub(super) fn decrease_heap(&mut self, bytes: u32) -> Result<Served, XousError>
+        requires whole { IsWhole W.slot_count W.held self.old }
+        requires usable { IsUsable self.old }
+        ensures whole { IsWhole W.slot_count W.held self.new }
+        ensures usable { IsUsable self.new }
+        ensures outcome { outcome_of self.old.cursor (machine_of W.held self.new) result ≡ unless_refused (decrease_refusals (machine_of W.held self.old) bytes) (ServedOutcome (decrease_served (machine_of W.held self.old) bytes)) }
+        ensures refused { OnErr result (self.new ≡ self.old) }
+        ensures log { self.new.log ≡ self.old.log }
+        ensures keeps { Keeps W.is_honest W.held W.slot_count W.asked W.faults self.old self.new }
+    {
+        Err(XousError::BadAlignment)
+    }
+}

@@ -1,0 +1,118 @@
+//! What a kernel tells without a step, the end of a turn, and its own end.
+
+ghost use Rattle.std.specs.Prelude.{◌≡◌, is_some};
+ghost use Rattle.machine_model.specs.Order.{actor, turn};
+ghost use Rattle.vm_memory.specs.Here.{here_at};
+ghost use Rattle.vm_memory.specs.Memory.{ram_of, store_of};
+ghost use Rattle.vm_memory.specs.Tie.{IsTied};
+ghost use Rattle.xk_kernel.specs.Sound.{IsSound, IsUsable, IsWhole, Keeps};
+ghost use Rattle.xk_kernel.specs.State.{machine_of};
+ghost use Rattle.xk_kernel.specs.Stepping.{last_of};
+
+use crate::kernel::Kernel;
+use phys_pages::Ram;
+use vm_memory::Here;
+use xk_base::{Place, Rec, ThreadId};
+use xk_ports::SwapStore;
+
+impl<W: SwapStore> Kernel<W> {
+    // Who does the next step: the thread whose turn it is where it is Ready, else the next ready
+    // one. The first test alone is made where a thread goes on.
+    pub(super) fn actor(&self) -> Option<ThreadId>
+        requires whole { IsWhole W.slot_count W.held self.now }
+        ensures { result ≡ actor (machine_of W.held self.now) }
+    {
+        if let Some(thread) = self.threads.get(self.cursor)
+            && thread.state == thread_table::ThreadState::Ready
+        {
+            return Some(self.cursor);
+        }
+        self.threads.next_ready_after(self.cursor)
+    }
+
+    /// Whether a thread is Ready, so that there is a next step.
+    pub fn ready(&self) -> bool
+        requires sound { IsSound W.slot_count W.held self.now }
+        requires usable { IsUsable self.now }
+        ensures { result ≡ is_some (actor (machine_of W.held self.now)) }
+    {
+        self.actor().is_some()
+    }
+
+    /// How many steps were done.
+    pub fn steps(&self) -> u32
+        ensures { result ≡ (machine_of W.held self.now).steps }
+    {
+        self.steps
+    }
+
+    /// The records of the last step or event.
+    pub fn last(&self) -> &[Rec]
+        ensures { result.now ≡ last_of self.now }
+    {
+        self.log.as_slice()
+    }
+
+    /// What the ledger has at a place.
+    pub fn at(&self, place: Place) -> Here
+        requires sound { IsSound W.slot_count W.held self.now }
+        ensures { result ≡ here_at (machine_of W.held self.now).processes (machine_of W.held self.now).ledger place }
+    {
+        self.mem.at(place)
+    }
+
+    /// The RAM. Its bytes, with what the store's slots hold, stand for the ledger.
+    pub fn ram(&self) -> &Ram
+        requires sound { IsSound W.slot_count W.held self.now }
+        ensures bytes { result.now ≡ ram_of self.now.mem }
+        ensures tie { IsTied W.held self.now.mem }
+    {
+        self.mem.ram()
+    }
+
+    // The cursor goes to the next ready thread, where there is one.
+    pub(super) fn turn(&mut self)
+        requires whole { IsWhole W.slot_count W.held self.old }
+        ensures whole { IsWhole W.slot_count W.held self.new }
+        ensures machine { machine_of W.held self.new ≡ turn (machine_of W.held self.old) }
+        ensures mem { self.new.mem ≡ self.old.mem }
+        ensures log { self.new.log ≡ self.old.log }
+    {
+        if let Some(next) = self.threads.next_ready_after(self.cursor) {
+            self.cursor = next;
+        }
+    }
+
+    /// Ends the turn: it becomes that of the next ready thread, where there is one.
+    pub fn end_turn(&mut self)
+        requires sound { IsSound W.slot_count W.held self.old }
+        requires usable { IsUsable self.old }
+        ensures sound { IsSound W.slot_count W.held self.new }
+        ensures usable { IsUsable self.new }
+        ensures machine { machine_of W.held self.new ≡ turn (machine_of W.held self.old) }
+        ensures last { last_of self.new ≡ last_of self.old }
+        ensures tie { IsTied W.held self.new.mem }
+        ensures keeps { Keeps W.is_honest W.held W.slot_count W.asked W.faults self.old self.new }
+    {
+        self.turn();
+    }
+
+    /// Ends the kernel and hands the store back. Every loan that stands is spent.
+    pub fn close(self) -> W
+        requires sound { IsSound W.slot_count W.held self }
+        ensures { result ≡ store_of self.mem }
+    {
+        let Kernel {
+            mem,
+            threads: _,
+            procs: _,
+            servers: _,
+            claims: _,
+            log: _,
+            cursor: _,
+            next: _,
+            steps: _,
+        } = self;
+        mem.close()
+    }
+}

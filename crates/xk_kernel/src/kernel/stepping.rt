@@ -1,0 +1,114 @@
+//! One step.
+
+ghost use Rattle.std.specs.Prelude.{◌≡◌, ◌<◌, ◌⊎◌, false, IfOk, IsOk, OnErr, OnOk, Some, length, ◌+◌, ◌≤◌};
+ghost use Rattle.machine_model.specs.Step.{console_told, record_of};
+ghost use Rattle.vm_memory.specs.Memory.{processes};
+ghost use Rattle.xk_base.specs.Circle.{is_thread_id};
+ghost use Rattle.xk_kernel.specs.Telling.{log_with};
+ghost use Rattle.std.specs.Prelude.{IsTrue, [], map};
+ghost use Rattle.ledger_model.specs.Ledger.{pages};
+ghost use Rattle.machine_model.specs.Order.{actor};
+ghost use Rattle.machine_model.specs.Step.{step};
+ghost use Rattle.vm_memory.specs.Bytes.{none_out};
+ghost use Rattle.vm_memory.specs.Memory.{frames_for_pages, store_of};
+ghost use Rattle.vm_memory.specs.Tie.{IsTied};
+ghost use Rattle.xk_base.specs.Outside.{Rose};
+ghost use Rattle.xk_kernel.specs.Sound.{IsSound, IsUsable, IsWhole, Keeps};
+ghost use Rattle.xk_kernel.specs.State.{machine_of};
+ghost use Rattle.xk_kernel.specs.Stepping.{DoesStep};
+
+use crate::kernel::boot::THREAD_RETURN;
+use crate::kernel::calls::is_built;
+use crate::kernel::{Kernel, Stepped, SwapFault};
+use rv32_hart::Ran;
+use xk_base::{ThreadId, What};
+use xk_ports::SwapStore;
+
+/// The address at which an interrupt handler ends.
+const HANDLER_RETURN: u32 = 0xFF80_2000;
+
+/// The register a0.
+const A0: u8 = 10;
+
+impl<W: SwapStore> Kernel<W> {
+    /// Does the next step: one instruction, one whole system call, one end of a thread or one fatal
+    /// trap. `Idle` comes exactly where no thread is Ready, `NotBuilt` exactly where the next step
+    /// isn't built. A step of a thread that goes on searches nothing, and no step takes memory.
+    pub fn step(&mut self) -> Result<Stepped, SwapFault>
+        requires sound { IsSound W.slot_count W.held self.old }
+        requires usable { IsUsable self.old }
+        requires few { (machine_of W.held self.old).steps < 4000000000 }
+        ensures sound { IsSound W.slot_count W.held self.new }
+        ensures usable { OnOk result (IsUsable self.new) }
+        ensures does { IfOk result (DoesStep W.held self.old self.new) }
+        ensures cause { OnErr result (Rose (W.faults (store_of self.old.mem)) (W.faults (store_of self.new.mem))) }
+        ensures full { OnErr result ((none_out self.old.mem ≡ false) ⊎ (frames_for_pages self.old.mem < pages (machine_of W.held self.old).processes (step (machine_of W.held self.old)).machine.ledger)) }
+        // Until pages can be out the store isn't used.
+        ensures sure { IsOk result }
+        ensures tie { IsTied W.held self.new.mem }
+        ensures keeps { Keeps W.is_honest W.held W.slot_count W.asked W.faults self.old self.new }
+    {
+        let Some(who) = self.actor() else {
+            return Ok(Stepped::Idle);
+        };
+        self.step_of(who)
+    }
+
+    // The step of the thread, whose it is.
+    fn step_of(&mut self, who: ThreadId) -> Result<Stepped, SwapFault>
+        requires sound { IsSound W.slot_count W.held self.old }
+        requires usable { IsUsable self.old }
+        requires few { (machine_of W.held self.old).steps < 4000000000 }
+        requires who { actor (machine_of W.held self.old) ≡ Some who }
+        ensures sound { IsSound W.slot_count W.held self.new }
+        ensures usable { OnOk result (IsUsable self.new) }
+        ensures does { IfOk result (DoesStep W.held self.old self.new) }
+        ensures sure { IsOk result }
+        ensures keeps { Keeps W.is_honest W.held W.slot_count W.asked W.faults self.old self.new }
+    {
+        let thread = self.thread(who);
+        if who.tid.0 > 1 && thread.pc == THREAD_RETURN {
+            self.begin(who);
+            self.end_thread(thread.regs.get(A0));
+        } else if who.tid.0 == 1 && thread.pc == HANDLER_RETURN {
+            return Ok(Stepped::NotBuilt);
+        } else {
+            match self.run(who) {
+                Ran::Next(_) => self.begin(who),
+                Ran::Device { offset, value, .. } => self.tell_console(who, offset, value),
+                Ran::Trap { cause, value } => {
+                    self.begin(who);
+                    self.die(What::Fault(who, cause, value));
+                }
+                Ran::Ecall => {
+                    let words = thread.regs.arguments();
+                    if !is_built(&words) {
+                        return Ok(Stepped::NotBuilt);
+                    }
+                    self.begin(who);
+                    self.call(words)?;
+                }
+                Ran::Failed => return Err(SwapFault),
+            }
+        }
+        self.count();
+        Ok(Stepped::Did)
+    }
+
+    // A step of the thread begins, which stored the low byte of a value at an offset of the console's
+    // page.
+    fn tell_console(&mut self, who: ThreadId, offset: u32, value: u32)
+        requires whole { IsWhole W.slot_count W.held self.old }
+        requires id { IsTrue (is_thread_id (processes self.old.mem) who) }
+        requires few { self.old.steps < 4000000000 }
+        ensures whole { IsWhole W.slot_count W.held self.new }
+        ensures machine { machine_of W.held self.new ≡ record (machine_of W.held self.old) { cursor = who } }
+        ensures mem { self.new.mem ≡ self.old.mem }
+        ensures log { self.new.log ≡ record self.old.log { step = self.old.steps + 1; records = map (record_of (self.old.steps + 1)) (console_told who offset value) } }
+    {
+        self.begin(who);
+        if offset == 0 {
+            self.log.push(What::Byte(who, (value % 256) as u8));
+        }
+    }
+}

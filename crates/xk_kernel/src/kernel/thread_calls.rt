@@ -1,0 +1,91 @@
+//! The calls that make a thread and wait for one. The caller is the thread whose turn it is.
+
+ghost use Rattle.std.specs.Prelude.{◌≡◌, true, OnErr};
+ghost use Rattle.machine_model.specs.Changes.{Served as ServedOutcome, unless_refused};
+ghost use Rattle.machine_model.specs.Order.{ready_at};
+ghost use Rattle.machine_model.specs.ThreadCalls.{create_refusals, create_served, join_refusals, join_served};
+ghost use Rattle.machine_model.specs.Threads.{new_thread};
+ghost use Rattle.xk_kernel.specs.Calling.{outcome_of};
+ghost use Rattle.xk_kernel.specs.Sound.{IsWhole};
+ghost use Rattle.xk_kernel.specs.State.{machine_of, thread_of};
+
+use crate::kernel::Kernel;
+use crate::kernel::boot::THREAD_RETURN;
+use crate::kernel::calls::Served;
+use syscall_codec::Reply;
+use thread_table::{Thread, ThreadState};
+use xk_base::limits::TID_LIMIT;
+use xk_base::{Regs, ThreadId, Tid, XousError};
+use xk_ports::SwapStore;
+
+// A thread that begins at an address.
+fn new_thread(entry: u32, sp: u32, args: [u32; 4]) -> Thread
+    ensures { thread_of result ≡ new_thread entry sp args }
+{
+    let mut regs = Regs::new();
+    regs.set(1, THREAD_RETURN);
+    regs.set(2, sp);
+    let [a0, a1, a2, a3] = args;
+    regs.set_arguments([a0, a1, a2, a3, 0, 0, 0, 0]);
+    Thread {
+        pc: entry,
+        regs,
+        state: ThreadState::Ready,
+    }
+}
+
+impl<W: SwapStore> Kernel<W> {
+    // CreateThread: a new thread has the least free tid.
+    pub(super) fn create_thread(
+        &mut self,
+        entry: u32,
+        sp: u32,
+        args: [u32; 4],
+    ) -> Result<Served, XousError>
+        requires whole { IsWhole W.slot_count W.held self.old }
+        ensures whole { IsWhole W.slot_count W.held self.new }
+        ensures outcome { outcome_of self.old.cursor (machine_of W.held self.new) result ≡ unless_refused (create_refusals (machine_of W.held self.old) entry) (ServedOutcome (create_served (machine_of W.held self.old) entry sp args)) }
+        ensures refused { OnErr result (self.new ≡ self.old) }
+        ensures mem { self.new.mem ≡ self.old.mem }
+        ensures log { self.new.log ≡ self.old.log }
+    {
+        if entry % 4 != 0 {
+            return Err(XousError::BadAlignment);
+        }
+        let pid = self.cursor.pid;
+        let Some(tid) = self.threads.free_tid(pid) else {
+            return Err(XousError::ThreadNotAvailable);
+        };
+        self.threads
+            .start(ThreadId { pid, tid }, new_thread(entry, sp, args));
+        Ok(Served::Answered(Reply::Thread(tid)))
+    }
+
+    // JoinThread: the caller waits for the end of that thread.
+    pub(super) fn join_thread(&mut self, tid: u32) -> Result<Served, XousError>
+        requires whole { IsWhole W.slot_count W.held self.old }
+        requires ready { ready_at (machine_of W.held self.old) self.old.cursor ≡ true }
+        ensures whole { IsWhole W.slot_count W.held self.new }
+        ensures outcome { outcome_of self.old.cursor (machine_of W.held self.new) result ≡ unless_refused (join_refusals (machine_of W.held self.old) tid) (ServedOutcome (join_served (machine_of W.held self.old) tid)) }
+        ensures refused { OnErr result (self.new ≡ self.old) }
+        ensures mem { self.new.mem ≡ self.old.mem }
+        ensures log { self.new.log ≡ self.old.log }
+    {
+        let who = self.cursor;
+        if tid < 2 || tid > TID_LIMIT as u32 || tid == who.tid.0 as u32 {
+            return Err(XousError::InvalidThread);
+        }
+        let awaited = Tid(tid as u8);
+        let id = ThreadId {
+            pid: who.pid,
+            tid: awaited,
+        };
+        if self.threads.get(id).is_none() {
+            return Err(XousError::InvalidThread);
+        }
+        let mut thread = self.thread(who);
+        thread.state = ThreadState::Joining(awaited);
+        self.put(who, thread);
+        Ok(Served::Waits)
+    }
+}

@@ -1,0 +1,97 @@
+//! One thread of the kernel is read, changed and answered; a step begins and is counted.
+
+ghost use Rattle.std.specs.Prelude.{◌≡◌, ◌+◌, ◌<◌, [], ◌∷◌, length, IsSome, IsTrue, Some};
+ghost use Rattle.machine_model.specs.Threads.{answer_to, change_thread, give_answers, passed, put_thread};
+ghost use Rattle.vm_memory.specs.Memory.{processes};
+ghost use Rattle.xk_base.specs.Circle.{is_thread_id};
+ghost use Rattle.xk_base.specs.declared.records.What.TheVariants.{Reply};
+ghost use Rattle.xk_kernel.specs.Sound.{IsWhole};
+ghost use Rattle.xk_kernel.specs.State.{machine_of, thread_of};
+ghost use Rattle.xk_kernel.specs.Telling.{Tells};
+
+use crate::kernel::Kernel;
+use thread_table::{Thread, ThreadState};
+use xk_base::{ThreadId, What};
+use xk_ports::SwapStore;
+
+impl<W: SwapStore> Kernel<W> {
+    // The thread of that id, which there is.
+    pub(super) fn thread(&self, id: ThreadId) -> Thread
+        requires there { IsSome ((machine_of W.held self.now).threads id) }
+        ensures { (machine_of W.held self.now).threads id ≡ Some (thread_of result) }
+    {
+        match self.threads.get(id) {
+            Some(thread) => *thread,
+            None => unreachable!(),
+        }
+    }
+
+    // Puts this in place of the thread of that id.
+    pub(super) fn put(&mut self, id: ThreadId, thread: Thread)
+        requires whole { IsWhole W.slot_count W.held self.old }
+        requires there { IsSome ((machine_of W.held self.old).threads id) }
+        ensures whole { IsWhole W.slot_count W.held self.new }
+        ensures machine { machine_of W.held self.new ≡ put_thread id (Some (thread_of thread)) (machine_of W.held self.old) }
+        ensures mem { self.new.mem ≡ self.old.mem }
+        ensures log { self.new.log ≡ self.old.log }
+    {
+        self.threads.set(id, thread);
+    }
+
+    // The thread is answered: it has the words in a0 to a7, and is Ready. Its pc stays.
+    pub(super) fn answer(&mut self, id: ThreadId, words: [u32; 8])
+        requires whole { IsWhole W.slot_count W.held self.old }
+        requires there { IsSome ((machine_of W.held self.old).threads id) }
+        requires room { length self.old.log.records < self.old.log.room }
+        ensures whole { IsWhole W.slot_count W.held self.new }
+        ensures tells { Tells W.held self.old self.new (record { machine = give_answers (answer_to id words) (machine_of W.held self.old); told = Reply id words ∷ [] }) }
+        ensures mem { self.new.mem ≡ self.old.mem }
+    {
+        let mut thread = self.thread(id);
+        thread.regs.set_arguments(words);
+        thread.state = ThreadState::Ready;
+        self.put(id, thread);
+        self.log.push(What::Reply(id, words));
+    }
+
+    // The thread goes past the instruction at its pc, where it is still there.
+    pub(super) fn pass(&mut self, id: ThreadId)
+        requires whole { IsWhole W.slot_count W.held self.old }
+        ensures whole { IsWhole W.slot_count W.held self.new }
+        ensures machine { machine_of W.held self.new ≡ change_thread id passed (machine_of W.held self.old) }
+        ensures mem { self.new.mem ≡ self.old.mem }
+        ensures log { self.new.log ≡ self.old.log }
+    {
+        if let Some(thread) = self.threads.get(id) {
+            let mut thread = *thread;
+            thread.pc = thread.pc.wrapping_add(4);
+            self.put(id, thread);
+        }
+    }
+
+    // A step of the thread begins: it is its turn, and there is no record of the step so far.
+    pub(super) fn begin(&mut self, who: ThreadId)
+        requires whole { IsWhole W.slot_count W.held self.old }
+        requires id { IsTrue (is_thread_id (processes self.old.mem) who) }
+        requires few { self.old.steps < 4000000000 }
+        ensures whole { IsWhole W.slot_count W.held self.new }
+        ensures machine { machine_of W.held self.new ≡ record (machine_of W.held self.old) { cursor = who } }
+        ensures mem { self.new.mem ≡ self.old.mem }
+        ensures log { self.new.log ≡ record self.old.log { step = self.old.steps + 1; records = [] } }
+    {
+        self.cursor = who;
+        self.log.clear(self.steps + 1);
+    }
+
+    // A step that was done is counted.
+    pub(super) fn count(&mut self)
+        requires whole { IsWhole W.slot_count W.held self.old }
+        requires few { self.old.steps < 4000000000 }
+        ensures whole { IsWhole W.slot_count W.held self.new }
+        ensures machine { machine_of W.held self.new ≡ record (machine_of W.held self.old) { steps = (machine_of W.held self.old).steps + 1 } }
+        ensures mem { self.new.mem ≡ self.old.mem }
+        ensures log { self.new.log ≡ self.old.log }
+    {
+        self.steps += 1;
+    }
+}
