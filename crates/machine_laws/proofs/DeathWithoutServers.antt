@@ -17,7 +17,7 @@ sum_of_none zero f e = refl
 sum_of_none (suc n) f e = λ i. sum_of_none n f e i + e n i
 
 module _ (m : Machine) (h : Matched m) (none : HasNoServer m) where
-  no_messages : (test : Message → Bool) → count_messages m test ≡ 0
+  pub no_messages : (test : Message → Bool) → count_messages m test ≡ 0
   unfolding count_messages
   no_messages test = sum_of_none m.next_serial (λ n. count_at test (m.servers n)) (λ n. ap (count_at test) (none n))
 

@@ -22,8 +22,11 @@ pub mod LikeThreads
 pub mod MadePages
 pub mod MapCalls
 pub mod MemoryCallSteps
+pub mod PlainServers
+pub mod PlainSteps
 pub mod RunRefusals
 pub mod StepCases
+pub mod StepKinds
 pub mod StoredBytes
 pub mod ThreadAnswers
 pub mod ThreadCallLemmas

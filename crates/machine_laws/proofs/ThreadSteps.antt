@@ -37,7 +37,7 @@ step_of_actor : (m : Machine) (who : ThreadId) → actor m ≡ Some who
 unfolding step step_by
 step_of_actor m who e = ap (λ a. (step_by_if a m).machine) e
 
-step_of_thread : (m : Machine) (who : ThreadId) (t : Thread) → actor m ≡ Some who → m.threads who ≡ Some t
+pub step_of_thread : (m : Machine) (who : ThreadId) (t : Thread) → actor m ≡ Some who → m.threads who ≡ Some t
     → (step m).machine ≡ record (acted (turned_to who m) t).machine { steps = m.steps + 1 }
 step_of_thread m who t e there =
     step_of_actor m who e ∙ ap (λ o. record (acted_if_there (turned_to who m) o).machine { steps = m.steps + 1 }) there

@@ -8,6 +8,7 @@ mod death_laws;
 mod instruction_laws;
 mod irq_laws;
 mod memory_laws;
+mod plain_laws;
 mod step_laws;
 mod thread_end_laws;
 mod thread_laws;
@@ -33,6 +34,7 @@ pub use memory_laws::{
     decrease_keeps_matched, increase_keeps_matched, map_keeps_matched, memory_calls_keep_matched,
     unmap_keeps_matched, update_keeps_matched,
 };
+pub use plain_laws::{kill_leaves_no_servers, no_loans_without_servers, plain_step_keeps_matched};
 pub use step_laws::step_keeps_matched_by_cases;
 pub use thread_end_laws::{end_of_handler_keeps_matched, end_of_thread_keeps_matched};
 pub use thread_laws::{
