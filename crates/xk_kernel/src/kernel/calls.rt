@@ -2,12 +2,11 @@
 
 ghost use Rattle.std.specs.Prelude.{ℕ, List, ◌≡◌, ◌+◌, ◌≤◌, true, length, IsOk, OnErr, OnOk, IfOk};
 ghost use Rattle.machine_laws.specs.WithoutServers.{is_plain_call};
-ghost use Rattle.machine_model.specs.Calls.{call, call_at, call_table};
+ghost use Rattle.machine_model.specs.Calls.{call};
 ghost use Rattle.machine_model.specs.Changes.{call_settled};
 ghost use Rattle.machine_model.specs.Order.{ready_at};
 ghost use Rattle.machine_model.specs.Step.{after};
 ghost use Rattle.syscall_codec.specs.Calls.{Asks};
-ghost use Rattle.xk_base.specs.CallWords.{call_number};
 ghost use Rattle.xk_base.specs.declared.records.What.TheVariants.{Call as Called};
 ghost use Rattle.xk_kernel.specs.Calling.{outcome_of};
 ghost use Rattle.xk_kernel.specs.Sound.{IsUsable, IsWhole, Keeps};
@@ -71,7 +70,7 @@ impl<W: SwapStore> Kernel<W> {
         let who = self.cursor;
         self.log.push(What::Call(who, words));
         let outcome = match read_call(words) {
-            Ok(call) => self.serve(call)?,
+            Ok(asked) => self.serve(asked)?,
             Err(error) => Err(error),
         };
         self.pass(who);
@@ -85,23 +84,23 @@ impl<W: SwapStore> Kernel<W> {
     }
 
     // What comes of the call, before its caller is past it and has its answer.
-    fn serve(&mut self, call: Call) -> Result<Result<Served, XousError>, SwapFault>
+    fn serve(&mut self, asked: Call) -> Result<Result<Served, XousError>, SwapFault>
         requires whole { IsWhole W.slot_count W.held self.old }
         requires usable { IsUsable self.old }
         requires ready { ready_at (machine_of W.held self.old) self.old.cursor ≡ true }
-        requires built { (words : List ℕ) → Asks words call → is_plain_call words ≡ true }
+        requires built { (words : List ℕ) → Asks words asked → is_plain_call words ≡ true }
         ensures whole { IsWhole W.slot_count W.held self.new }
         ensures usable { OnOk result (IsUsable self.new) }
-        ensures outcome { IfOk result (λ served. (words : List ℕ) → Asks words call → outcome_of self.old.cursor (machine_of W.held self.new) served ≡ call (machine_of W.held self.old) words) }
+        ensures outcome { IfOk result (λ served. (words : List ℕ) → Asks words asked → outcome_of self.old.cursor (machine_of W.held self.new) served ≡ call (machine_of W.held self.old) words) }
         ensures refused { IfOk result (λ served. OnErr served (self.new ≡ self.old)) }
         ensures log { self.new.log ≡ self.old.log }
         ensures keeps { Keeps W.is_honest W.held W.slot_count W.asked W.faults self.old self.new }
         ensures sure { IsOk result }
     {
-        if self.cursor.tid.0 == 1 && can_wait(&call) {
+        if self.cursor.tid.0 == 1 && can_wait(&asked) {
             return Ok(Err(XousError::InvalidSyscall));
         }
-        match call {
+        match asked {
             Call::MapMemory {
                 phys,
                 virt,
