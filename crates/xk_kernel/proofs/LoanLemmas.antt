@@ -1,5 +1,5 @@
 -- Where nothing is lent, no number is in use.
-use Rattle.std.proofs.Common.{◌≡◌, None, ap, ◌∙◌}
+use Rattle.std.proofs.Common.{ap}
 use Rattle.std.specs.Option.{option_map}
 use Rattle.xk_base.specs.declared.ids.Number.{Number}
 use Rattle.ledger_model.specs.Ledger.{Ledger}

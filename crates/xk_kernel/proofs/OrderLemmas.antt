@@ -1,11 +1,11 @@
 -- The order of the threads in the table is that of the machine.
-use Rattle.std.proofs.Common.{◌≡◌, ℕ, Bool, true, false, Option, Some, None, IsSome, refl, sym, ap, subst, ◌∙◌}
+use Rattle.std.proofs.Common.{◌≡◌, ℕ, true, false, Option, Some, None, IsSome, refl, sym, ap, subst, ◌∙◌}
 use Rattle.std.specs.Prelude.{if◌then◌else◌, unwrap_or, IsTrue}
 use Rattle.std.specs.Option.{option_map, option_map_or}
 use Rattle.std.proofs.lemmas.Bool.{false≢true}
-use Rattle.xk_base.specs.Circle.{is_pid, is_thread_id}
+use Rattle.xk_base.specs.Circle.{is_thread_id}
 use Rattle.xk_base.specs.declared.ids.ThreadId.{ThreadId}
-use Rattle.xk_base.proofs.Circle.{next_id-same, next_id-valid, next_id-passes, is_pid-bounds}
+use Rattle.xk_base.proofs.Circle.{next_id-same, next_id-valid}
 use Rattle.machine_model.specs.Machine.{Machine, Thread}
 use Rattle.machine_model.specs.Order.{actor, is_ready, next_ready, ready_at, turn}
 use Rattle.machine_model.specs.Events.{picked}

@@ -1,8 +1,7 @@
 -- What the log tells after records were pushed.
-use Rattle.std.proofs.Common.{◌≡◌, ◌+◌, ℕ, List, [], ◌∷◌, ◌++◌, length, map, refl, ap, sym, ◌∙◌, append-nil, append_assoc, length-append}
+use Rattle.std.proofs.Common.{◌≡◌, ◌+◌, List, [], ◌∷◌, ◌++◌, length, map, refl, ap, ◌∙◌, append-nil, append_assoc, length-append}
 use Rattle.std.proofs.lemmas.List.{length-map, map-append}
 use Rattle.xk_base.specs.Log.{LogState}
-use Rattle.xk_base.specs.declared.records.Rec.{Rec}
 use Rattle.xk_base.specs.declared.records.What.{What}
 use Rattle.machine_model.specs.Step.{record_of}
 use Rattle.xk_kernel.specs.Telling.{log_with}

@@ -1,8 +1,7 @@
 -- The threads of the table and those of the machine that it stands for.
-use Rattle.std.proofs.Common.{◌≡◌, Bool, true, false, List, ℕ, Option, Some, None, IsSome, is_some, refl, sym, ap, subst, ◌∙◌}
+use Rattle.std.proofs.Common.{◌≡◌, Bor, Bool, true, false, List, ℕ, Option, Some, None, IsSome, is_some, refl, sym, ap, subst, ◌∙◌}
 use Rattle.std.specs.Prelude.{if◌then◌else◌, IsTrue}
 use Rattle.std.specs.Option.{option_map, option_copied}
-use Rattle.std.proofs.Common.{Bor}
 use Rattle.std.proofs.lemmas.Bool.{false≢true}
 use Rattle.xk_base.specs.Circle.{is_thread_id, same_thread}
 use Rattle.xk_base.specs.Counting.{put_at}

@@ -1,7 +1,6 @@
 use Rattle.std.proofs.Common.{Some, [], ◌∷◌, ap, ◌∙◌}
 use Rattle.machine_model.specs.Machine.{Ready}
 use Rattle.machine_model.specs.Threads.{put_thread}
-use Rattle.xk_base.specs.Log.{LogState}
 use Rattle.xk_base.specs.declared.records.What.TheVariants.{Reply}
 use Rattle.xk_kernel.specs.State.{machine_of, thread_of}
 use Rattle.xk_kernel.proofs.ThreadLemmas.{answer_there, machine_of_log}
@@ -17,10 +16,10 @@ returns-clause-tells g c =
     let t = c.thread-thread.result in
     record {
       machine =
-        machine_of_log held c.put.new.self c.push.new.self
-        ∙ c.put.ensures.machine
-        ∙ ap (λ regs. put_thread c.args.id (Some (record { pc = t.pc; regs = regs; state = Ready })) m) c.set_arguments.ensures.are
-        ∙ answer_there m c.args.id c.args.words (thread_of t) c.thread-thread.ensures;
+          machine_of_log held c.put.new.self c.push.new.self
+          ∙ c.put.ensures.machine
+          ∙ ap (λ regs. put_thread c.args.id (Some (record { pc = t.pc; regs = regs; state = Ready })) m) c.set_arguments.ensures.are
+          ∙ answer_there m c.args.id c.args.words (thread_of t) c.thread-thread.ensures;
       log = told_one old.log c.put.new.self.log c.push.new.self (Reply c.args.id c.args.words) c.put.ensures.log c.push.ensures;
     }
 

@@ -1,4 +1,4 @@
-use Rattle.std.proofs.Common.{Some, ap, sym, ◌∙◌}
+use Rattle.std.proofs.Common.{ap, sym, ◌∙◌}
 use Rattle.thread_table.specs.States.{is_ready_state}
 use Rattle.xk_kernel.specs.State.{machine_of}
 use Rattle.xk_kernel.proofs.OrderLemmas.{ready_found, ready_missing, unready}
@@ -11,9 +11,9 @@ returns-in-Ready g c =
     let k = c.args.self.now in
     let t = c.in-Some.thread in
     sym (
-      ready_found (machine_of g.W.SwapStore.held k) c.args.id t.now
-      (thread_lent g.W.SwapStore.held k c.args.id c.get.result t c.get.ensures c.in-Some.is)
-      ∙ ap is_ready_state c.in-Ready.is
+    ready_found (machine_of g.W.SwapStore.held k) c.args.id t.now
+    (thread_lent g.W.SwapStore.held k c.args.id c.get.result t c.get.ensures c.in-Some.is)
+    ∙ ap is_ready_state c.in-Ready.is
     )
 
 pub returns-in_default : goal.returns-in_default
@@ -21,15 +21,15 @@ returns-in_default g c =
     let k = c.args.self.now in
     let t = c.in-Some.thread in
     sym (
-      ready_found (machine_of g.W.SwapStore.held k) c.args.id t.now
-      (thread_lent g.W.SwapStore.held k c.args.id c.get.result t c.get.ensures c.in-Some.is)
-      ∙ unready t.now.state c.in_default.not-Ready
+    ready_found (machine_of g.W.SwapStore.held k) c.args.id t.now
+    (thread_lent g.W.SwapStore.held k c.args.id c.get.result t c.get.ensures c.in-Some.is)
+    ∙ unready t.now.state c.in_default.not-Ready
     )
 
 pub returns-in-None : goal.returns-in-None
 returns-in-None g c =
     let k = c.args.self.now in
     sym (
-      ready_missing (machine_of g.W.SwapStore.held k) c.args.id
-      (not_lent g.W.SwapStore.held k c.args.id c.get.result c.get.ensures c.in-None.is)
+    ready_missing (machine_of g.W.SwapStore.held k) c.args.id
+    (not_lent g.W.SwapStore.held k c.args.id c.get.result c.get.ensures c.in-None.is)
     )
