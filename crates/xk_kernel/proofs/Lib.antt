@@ -4,3 +4,5 @@ pub mod LimitLemmas
 pub mod MomentLemmas
 pub mod LedgerBytesLemmas
 pub mod StoreLemmas
+pub mod SeenPages
+pub mod StoredLemmas

@@ -7,7 +7,7 @@ use Rattle.rv32_hart.specs.Running.{ran_of}
 use Rattle.xk_kernel.specs.Sound.{IsUsable, IsWhole, Keeps}
 use Rattle.xk_kernel.specs.State.{machine_of}
 use Rattle.xk_kernel.proofs.StoreLemmas.{stores_lawfully}
-use Rattle.xk_kernel.proofs.LedgerBytesLemmas.{written_by_bytes}
+use Rattle.xk_kernel.proofs.StoredLemmas.{ledger_by_bytes}
 use Rattle.xk_kernel.proofs.kernel.Kernel.run.Goals as goal
 
 -- src/kernel/running.rt:39:13
