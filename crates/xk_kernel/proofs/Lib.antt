@@ -6,3 +6,5 @@ pub mod LedgerBytesLemmas
 pub mod StoreLemmas
 pub mod SeenPages
 pub mod StoredLemmas
+pub mod MemoryPart
+pub mod RunLemmas
