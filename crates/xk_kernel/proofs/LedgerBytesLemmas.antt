@@ -1,24 +1,23 @@
 -- A ledger from its rights and from the bytes that a process sees of it.
 use Rattle.std.proofs.Common.{◌≡◌, ◌≢◌, ℕ, ◌+◌, ◌*◌, ◌/◌, ◌%◌, ◌<◌, ◌≤◌, ◌⊎◌, Bool, true, false, List, length, Option, Some, None, refl, sym, ap, subst, ◌∙◌, inl, inr, arith}
-use Rattle.std.specs.Prelude.{is_some, slice_index, unwrap_or, if◌then◌else◌}
+use Rattle.std.specs.Prelude.{slice_index, unwrap_or, if◌then◌else◌}
 use Rattle.std.specs.Option.{option_and_then, option_map, option_map_or}
-use Rattle.std.proofs.lemmas.Bool.{cases_eq, false≢true}
+use Rattle.std.proofs.lemmas.Bool.{false≢true}
 use Rattle.std.proofs.lemmas.List.{ext_get_or}
 use Rattle.std.proofs.lemmas.Option.{none-some, same_Some}
 use Rattle.xk_base.specs.declared.ids.Pid.{Pid}
 use Rattle.xk_base.specs.declared.ids.Place.{Place}
-use Rattle.xk_base.specs.declared.pages.Access.{Access}
 use Rattle.xk_base.specs.declared.pages.Access.TheVariants.{Load, Store}
 use Rattle.xk_base.specs.declared.pages.LoanKind.{LoanKind}
 use Rattle.xk_base.specs.declared.pages.LoanKind.TheVariants.{Shared, Exclusive}
 use Rattle.xk_base.specs.declared.pages.Right.{Right}
 use Rattle.xk_base.specs.declared.pages.Width.{Width}
-use Rattle.xk_base.specs.UserMemory.{Memory as SeenMemory, size_of, with_number}
+use Rattle.xk_base.specs.UserMemory.{size_of, with_number}
 use Rattle.ledger_model.specs.Ledger.{Ledger, Contents, Console, Bytes, Page, PageLoan, Orphan, PageName, Homed, Orphaned, contents_of, has_bytes}
 use Rattle.ledger_model.specs.Loans.{bare, bare_page, bare_orphan}
 use Rattle.ledger_model.specs.Reach.{Role, FreePlace, HomePlace, HolderPlace, OrphanPlace, home_may, holder_may, may, page_at_role, role_at, reach}
 use Rattle.ledger_model.specs.Steps.{write, written}
-use Rattle.ledger_model.proofs.LedgerLaws.{cases_Option, same_ledger}
+use Rattle.ledger_model.proofs.LedgerLaws.{same_ledger}
 use Rattle.ledger_model.proofs.PlaceLaws.{same_place_tells}
 use Rattle.ledger_model.proofs.Reaching.{reached_contents, write_changed, write_others}
 use Rattle.ledger_model.proofs.Writing.{write_bare}
@@ -166,7 +165,6 @@ pub record IsTold (procs : ℕ) (l : Ledger) (pid : Pid) : Type 0 where
 
 module _ (procs : ℕ) (l m : Ledger) (pid : Pid) (rights : bare m ≡ bare l) (old : IsTold procs l pid) (new : IsTold procs m pid)
     (unseen : (name : PageName) → IsUnseen procs (bare l) pid name → contents_of m name ≡ contents_of l name) where
-
   -- the bytes tell the contents of a page that is seen
   contents_by : (name : PageName) (a : ℕ) (c d : Contents) → IsSeenAt procs l pid name a c → IsWholeContents d → has_bytes c ≡ has_bytes d
       → ((x : ℕ) → x / 4096 ≡ a / 4096 → seen_byte procs m pid x ≡ byte_of (x % 4096) d) → contents_of m name ≡ Some d
@@ -177,12 +175,12 @@ module _ (procs : ℕ) (l m : Ledger) (pid : Pid) (rights : bare m ≡ bare l) (
       (new.whole a now.0 (seen_contents procs m pid name a now.0 now.1)) whole
       (same_Some (has_bytes now.0) (has_bytes c) kind ∙ bytes)
       (λ i low.
-          let page : (4096 * (a / 4096) + i) / 4096 ≡ a / 4096 = omega arith in
-          let offset : (4096 * (a / 4096) + i) % 4096 ≡ i = omega arith in
-          ap (λ j. byte_of j now.0) (sym offset)
-          ∙ sym (byte_seen procs m pid name (4096 * (a / 4096) + i) now.0 (seen_near procs m pid name a (4096 * (a / 4096) + i) now.0 page now.1))
-          ∙ h (4096 * (a / 4096) + i) page
-          ∙ ap (λ j. byte_of j d) offset))
+      let page : (4096 * (a / 4096) + i) / 4096 ≡ a / 4096 = omega arith in
+      let offset : (4096 * (a / 4096) + i) % 4096 ≡ i = omega arith in
+      ap (λ j. byte_of j now.0) (sym offset)
+      ∙ sym (byte_seen procs m pid name (4096 * (a / 4096) + i) now.0 (seen_near procs m pid name a (4096 * (a / 4096) + i) now.0 page now.1))
+      ∙ h (4096 * (a / 4096) + i) page
+      ∙ ap (λ j. byte_of j d) offset))
 
   -- a page whose bytes are seen as before holds what it held
   contents_kept : (name : PageName) (a : ℕ) → reach procs l (page_of pid a) Load ≡ Some name

@@ -1,10 +1,10 @@
 pub mod HistoryLemmas
 pub mod InterleavingLemmas
-pub mod LimitLemmas
-pub mod MomentLemmas
+pub mod LedgerAfterLemmas
 pub mod LedgerBytesLemmas
-pub mod StoreLemmas
-pub mod SeenPages
-pub mod StoredLemmas
-pub mod MemoryPart
+pub mod LimitLemmas
+pub mod MemoryPartLemmas
+pub mod MomentLemmas
 pub mod RunLemmas
+pub mod SeenPageLemmas
+pub mod StoreLemmas

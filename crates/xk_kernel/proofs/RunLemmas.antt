@@ -1,5 +1,5 @@
 -- What running an instruction makes of the machine.
-use Rattle.std.proofs.Common.{◌≡◌, ℕ, ◌⊎◌, Bool, true, false, List, Option, Some, None, refl, sym, ap, subst, ◌∙◌, inl, inr}
+use Rattle.std.proofs.Common.{◌≡◌, ℕ, ◌⊎◌, Bool, true, List, Option, Some, None, refl, sym, ap, subst, ◌∙◌, inl, inr}
 use Rattle.std.proofs.lemmas.Bool.{cond-true}
 use Rattle.std.proofs.lemmas.Option.{same_Some}
 use Rattle.std.specs.Prelude.{unwrap_or, if◌then◌else◌}
@@ -11,14 +11,14 @@ use Rattle.machine_model.specs.Instructions.{Executed, Next, Stores, StoresToCon
 use Rattle.machine_model.specs.Machine.{Machine, Thread}
 use Rattle.machine_model.specs.Threads.{put_thread, with_registers}
 use Rattle.machine_model.specs.Views.{memory_of, stored}
-use Rattle.rv32_hart.specs.Running.{ran_of, registers_after, bytes_after, DoesExecute, Executes, IsExecuted, IfFailed, seen}
+use Rattle.rv32_hart.specs.Running.{ran_of, registers_after, DoesExecute, Executes, IsExecuted, IfFailed, seen}
 use Rattle.rv32_hart.specs.declared.ran.Ran.{Ran}
 use Rattle.rv32_hart.specs.declared.ran.Ran.TheVariants.{Ecall, Trap, Device, Failed}
 use Rattle.rv32_hart.specs.declared.ran.Ran.TheVariants as ran
 use Rattle.sv32_space.specs.Tie.{Held}
 use Rattle.vm_memory.specs.declared.memory.Memory.{Memory}
 use Rattle.vm_memory.specs.Bytes.{means_bytes}
-use Rattle.vm_memory.specs.Memory.{IsUsable, ledger, processes}
+use Rattle.vm_memory.specs.Memory.{IsUsable}
 use Rattle.vm_memory.specs.Sound.{IsSound}
 use Rattle.vm_memory.specs.UserView.{KeepsRest, user_content, user_view}
 use Rattle.vm_memory.proofs.CallLaws.{sound-means, sound-none_out}
@@ -26,8 +26,8 @@ use Rattle.xk_kernel.specs.Running.{machine_after}
 use Rattle.xk_kernel.specs.Sound.{IsWhole}
 use Rattle.xk_kernel.specs.State.{machine_of}
 use Rattle.xk_kernel.specs.declared.kernel.Kernel.{Kernel}
-use Rattle.xk_kernel.proofs.MemoryPart.{memory_machine, memory_seen, with_memory}
-use Rattle.xk_kernel.proofs.StoredLemmas.{ledger_after, ledger_by_bytes}
+use Rattle.xk_kernel.proofs.MemoryPartLemmas.{memory_machine, memory_seen, with_memory}
+use Rattle.xk_kernel.proofs.LedgerAfterLemmas.{ledger_after, ledger_by_bytes}
 use Rattle.xk_kernel.proofs.StoreLemmas.{stores_lawfully}
 
 -- ---- the machine afterwards

@@ -10,7 +10,7 @@ use Rattle.xk_base.specs.UserMemory.{Memory, size_of, number_at}
 use Rattle.rv32_words.specs.declared.insn.Insn.{Insn}
 use Rattle.rv32_words.specs.declared.insn.Insn.TheVariants.{Jal, Jalr, Beq, Bne, Blt, Bge, Bltu, Bgeu, Lb, Lh, Lw, Lbu, Lhu, Sb, Sh, Sw}
 use Rattle.rv32_words.specs.Reading.{insn_at}
-use Rattle.machine_model.specs.Instructions.{Executed, Next, Stores, StoresToConsole, CallsKernel, Traps, target_misaligned, load_misaligned, load_page_fault, store_misaligned, store_page_fault, fetch_page_fault, as_word, address_of, sign_extended_byte, sign_extended_half, writes, stores, jumps, branches, loads, effect, effect_if_any, execute, execute_at, sum_of, following}
+use Rattle.machine_model.specs.Instructions.{Executed, Next, Stores, StoresToConsole, Traps, target_misaligned, load_misaligned, load_page_fault, store_misaligned, store_page_fault, fetch_page_fault, as_word, address_of, sign_extended_byte, sign_extended_half, writes, stores, jumps, branches, loads, effect, effect_if_any, execute, execute_at, sum_of, following}
 
 -- the process may store there, it isn't the console, and the address is aligned
 abbrev pub StoresLawfully : Memory → Executed → Type 0

@@ -1,11 +1,10 @@
 use Rattle.std.proofs.Common.{◌≡◌, refl, ◌∙◌}
 use Rattle.machine_model.specs.Instructions.{execute_at}
-use Rattle.machine_model.specs.Machine.{Thread as ModelThread}
 use Rattle.machine_model.specs.Views.{memory_of}
 use Rattle.rv32_hart.specs.Running.{ran_of}
 use Rattle.xk_kernel.specs.Running.{machine_after}
 use Rattle.xk_kernel.specs.State.{machine_of, thread_of}
-use Rattle.xk_kernel.proofs.MemoryPart.{keeps_with, there_with, whole_with, with_memory}
+use Rattle.xk_kernel.proofs.MemoryPartLemmas.{keeps_with, there_with, whole_with, with_memory}
 use Rattle.xk_kernel.proofs.RunLemmas.{HasRun, has_run, machine_goes_on, machine_stays, of_thread, stays_usable}
 use Rattle.xk_kernel.proofs.kernel.Kernel.run.Goals as goal
 

@@ -6,10 +6,9 @@ use Rattle.std.proofs.lemmas.Bool.{false≢true}
 use Rattle.xk_base.specs.declared.ids.Pid.{Pid}
 use Rattle.xk_base.specs.declared.pages.Access.TheVariants.{Load, Store}
 use Rattle.xk_base.specs.declared.pages.Width.{Width}
-use Rattle.xk_base.specs.UserMemory.{Memory as SeenMemory, size_of, with_number}
+use Rattle.xk_base.specs.UserMemory.{size_of, with_number}
 use Rattle.ledger_model.specs.Ledger.{Ledger, Contents, Console, Bytes, PageName, contents_of, has_bytes}
 use Rattle.ledger_model.specs.Reach.{reach}
-use Rattle.ledger_model.proofs.LedgerLaws.{cases_Option}
 use Rattle.ledger_model.proofs.Reaching.{reached_contents}
 use Rattle.machine_model.specs.Instructions.{Executed, Next, Stores, StoresToConsole, CallsKernel, Traps}
 use Rattle.machine_model.specs.Views.{low_bytes, write_to}
@@ -22,7 +21,7 @@ use Rattle.vm_memory.specs.Sound.{IsSound}
 use Rattle.vm_memory.specs.UserView.{KeepsRest, contents_seen, seen_memory, user_view}
 use Rattle.vm_memory.proofs.CallLaws.{sound-means}
 use Rattle.xk_kernel.proofs.LedgerBytesLemmas.{IsSeenAt, IsTold, same_by_bytes, written_by_bytes, stored_is_loaded}
-use Rattle.xk_kernel.proofs.SeenPages.{told}
+use Rattle.xk_kernel.proofs.SeenPageLemmas.{told}
 use Rattle.xk_kernel.proofs.StoreLemmas.{StoresLawfully}
 
 -- ---- the page of a store

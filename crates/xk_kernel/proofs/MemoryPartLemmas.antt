@@ -4,18 +4,15 @@ use Rattle.std.specs.Option.{option_map}
 use Rattle.std.proofs.lemmas.Option.{none-some}
 use Rattle.boot_plan.specs.Capacity.{capacity}
 use Rattle.xk_base.specs.declared.ids.Pid.{Pid}
-use Rattle.xk_base.specs.declared.ids.Place.{Place}
 use Rattle.xk_base.specs.declared.ids.ThreadId.{ThreadId}
 use Rattle.xk_base.specs.Circle.{is_thread_id}
-use Rattle.ledger_model.specs.Ledger.{Ledger, Orphan, PageLoan, loan_at}
+use Rattle.ledger_model.specs.Ledger.{Ledger, Orphan}
 use Rattle.ledger_model.specs.Loans.{Loans, bare, bare_orphan, loans}
 use Rattle.ledger_model.proofs.Writing.{bare-loans}
-use Rattle.machine_model.specs.Machine.{Machine}
 use Rattle.machine_model.specs.Views.{memory_of}
 use Rattle.sv32_space.specs.Tie.{Held}
 use Rattle.vm_memory.specs.declared.memory.Memory.{Memory}
 use Rattle.vm_memory.specs.Memory.{Size, size, processes, capacity_of, ledger}
-use Rattle.vm_memory.specs.Sound.{IsSound}
 use Rattle.vm_memory.specs.Starting.{IsUnlent}
 use Rattle.vm_memory.specs.UserView.{KeepsRest, seen_memory, user_view}
 use Rattle.xk_kernel.specs.Sound.{IsWhole, Keeps}
