@@ -64,25 +64,21 @@ ledger_from l m e c = same_ledger l m
 
 -- ---- names
 
+abbrev place_in : PageName → Place
+place_in (Homed p) = p
+place_in (Orphaned p) = p
+
 pub name_tells : (a b : PageName) → (a ≡ b) ⊎ (a ≢ b)
 name_tells (Homed p) (Homed q) = elim (same_place_tells p q) [
   | inl same ↦ inl (ap Homed same.1)
-  | inr apart ↦ inr (λ e. apart.1 (ap (place_in p) e))
+  | inr apart ↦ inr (λ e. apart.1 (ap place_in e))
 ]
-  where
-    place_in : Place → PageName → Place
-    place_in other (Homed p) = p
-    place_in other (Orphaned p) = p
 name_tells (Homed p) (Orphaned q) = inr (λ e. cc)
 name_tells (Orphaned p) (Homed q) = inr (λ e. cc)
 name_tells (Orphaned p) (Orphaned q) = elim (same_place_tells p q) [
   | inl same ↦ inl (ap Orphaned same.1)
-  | inr apart ↦ inr (λ e. apart.1 (ap (place_in p) e))
+  | inr apart ↦ inr (λ e. apart.1 (ap place_in e))
 ]
-  where
-    place_in : Place → PageName → Place
-    place_in other (Homed p) = p
-    place_in other (Orphaned p) = p
 
 -- ---- a page that a store reaches is loaded there
 

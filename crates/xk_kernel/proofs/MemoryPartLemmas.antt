@@ -34,6 +34,7 @@ unlent_stays l m e h = record {
 
 -- ---- the machine
 
+-- the kernel with that memory, and nothing else changed
 abbrev pub with_memory : {W : Type 0} → Memory W → Kernel W → Kernel W
 with_memory mem k = record k { mem = mem }
 
