@@ -1,8 +1,14 @@
 pub mod HistoryLemmas
 pub mod InterleavingLemmas
+pub mod LedgerAfterLemmas
+pub mod LedgerBytesLemmas
 pub mod LimitLemmas
 pub mod LoanLemmas
+pub mod MemoryPartLemmas
 pub mod MomentLemmas
 pub mod OrderLemmas
+pub mod RunLemmas
+pub mod SeenPageLemmas
+pub mod StoreLemmas
 pub mod TellingLemmas
 pub mod ThreadLemmas
