@@ -1,3 +1,5 @@
+pub mod BootLemmas
+pub mod FirstLedgerLemmas
 pub mod HistoryLemmas
 pub mod InterleavingLemmas
 pub mod LimitLemmas
