@@ -1,6 +1,6 @@
 -- The kernel that is booted is sound, and stands for the machine at the start.
 use Rattle.std.proofs.Common.{◌≡◌, ◌⊎◌, ℕ, ◌≤◌, Bool, true, false, List, [], length, get_or, Option, Some, None, refl, sym, ap, subst, ◌∙◌, arith, inl, inr}
-use Rattle.std.specs.Prelude.{◌==◌, ◌<◌, ◌%◌, if◌then◌else◌, IsTrue}
+use Rattle.std.specs.Prelude.{◌==◌, ◌<◌, if◌then◌else◌, IsTrue}
 use Rattle.std.specs.List.{All}
 use Rattle.std.specs.Option.{option_and_then, option_map, option_map_or}
 use Rattle.std.proofs.lemmas.Bool.{cases_Bool, cond-false, eqb-true}
@@ -10,12 +10,11 @@ use Rattle.boot_plan.specs.Capacity.{capacity}
 use Rattle.boot_plan.specs.Lawful.{CanStart}
 use Rattle.boot_plan.specs.declared.plans.BootPlan.{BootPlan}
 use Rattle.boot_plan.specs.declared.plans.ProcPlan.{ProcPlan}
-use Rattle.irq_claims.specs.ClaimMap.{ClaimMap, no_claims}
+use Rattle.irq_claims.specs.ClaimMap.{no_claims}
 use Rattle.irq_claims.specs.ClaimsOf.{claims_of}
 use Rattle.ledger_model.specs.Lawful.{IsLawful}
-use Rattle.ledger_model.specs.Ledger.{Ledger}
 use Rattle.ledger_model.specs.Loans.{bare}
-use Rattle.machine_model.specs.Machine.{Machine, Process, Thread, Idle, Ready}
+use Rattle.machine_model.specs.Machine.{Thread, Idle, Ready}
 use Rattle.machine_model.specs.Matched.{Matched}
 use Rattle.machine_model.specs.Start.{HasThread, IsStart}
 use Rattle.machine_model.specs.Threads.{first_handler_thread, first_thread, thread_id}
@@ -37,7 +36,7 @@ use Rattle.xk_base.specs.declared.ids.Pid.{Pid}
 use Rattle.xk_base.specs.declared.ids.ThreadId.{ThreadId}
 use Rattle.xk_base.specs.declared.limits.TheConstants.{RECORD_LIMIT}
 use Rattle.xk_kernel.proofs.FirstLedgerLemmas.{IsPlanned, first_lawful, first_no_heap, first_unlent, pid_of_planned, planned_of_pid}
-use Rattle.xk_kernel.specs.Sound.{IsSound, IsUsable}
+use Rattle.xk_kernel.specs.Sound.{IsSound}
 use Rattle.xk_kernel.specs.Start.{first_threads, start, threads_at_start}
 use Rattle.xk_kernel.specs.State.{machine_of, process_of, server_of, thread_of, claim_of}
 use Rattle.xk_kernel.specs.declared.kernel.Kernel.{Kernel}
@@ -61,9 +60,6 @@ first_tids entry tid t e = elim (cases_Bool (tid == 1)) [
 module _ (plan : BootPlan) (file : List ℕ) (can : All CanStart plan.procs) where
   abbrev room : ℕ
   room = capacity plan.frames (length plan.procs) plan.slots
-
-  entries_at : ℕ → ProcPlan → Option Thread
-  entries_at tid process = first_threads process.entry tid
 
   handler_there : (pid : Pid) → IsTrue (is_pid (length plan.procs) pid.0) → HasThread (start plan file) (thread_id pid 1) Idle
   unfolding start

@@ -1,9 +1,9 @@
 -- The ledger at the start: it is lawful, nothing is on loan, and no page lies in the Heap window.
-use Rattle.std.proofs.Common.{◌≡◌, ◌≢◌, ◌⊎◌, ℕ, ◌+◌, ◌-◌, ◌<◌, ◌≤◌, Bool, true, false, List, [], ◌∷◌, length, get_or, Option, Some, None, refl, sym, ap, subst, ◌∙◌, arith, inl, inr}
-use Rattle.std.specs.Prelude.{◌==◌, if◌then◌else◌, nat_le, nat_lt, find, map, slice_get, IsTrue, IsFalse}
+use Rattle.std.proofs.Common.{◌≡◌, ◌≢◌, ◌⊎◌, ℕ, ◌+◌, ◌-◌, ◌<◌, ◌≤◌, true, List, [], ◌∷◌, length, get_or, Option, Some, None, refl, sym, ap, subst, ◌∙◌, arith, inl, inr}
+use Rattle.std.specs.Prelude.{◌==◌, nat_le, nat_lt, find, slice_get, IsTrue, IsFalse}
 use Rattle.std.specs.List.{All, range_with_len}
 use Rattle.std.specs.Option.{option_and_then, option_map}
-use Rattle.std.proofs.lemmas.Bool.{cases_Bool, both_ways, cond-true, cond-false, eqb-true}
+use Rattle.std.proofs.lemmas.Bool.{cases_Bool, cond-true, cond-false, eqb-true}
 use Rattle.std.proofs.lemmas.Bool.Decides.{nat_tests}
 use Rattle.std.proofs.lemmas.List.Elements.{All-head, All-map, All-tail}
 use Rattle.std.proofs.lemmas.List.FromFn.{length-map-range_with_len}
@@ -13,9 +13,9 @@ use Rattle.boot_plan.specs.Lawful.{CanStart}
 use Rattle.boot_plan.specs.declared.plans.BootPlan.{BootPlan}
 use Rattle.boot_plan.specs.declared.plans.PagePlan.{PagePlan}
 use Rattle.boot_plan.specs.declared.plans.ProcPlan.{ProcPlan}
-use Rattle.ledger_model.specs.Lawful.{IsLawful, IsOneRun, IsPage}
-use Rattle.ledger_model.specs.Ledger.{Bytes, Console, Contents, Ledger, Page, PageLoan, loan_of, pages}
-use Rattle.ledger_model.specs.Loans.{Loans, Stands, LoanRun, IsFresh, bare, bare_contents, bare_page, loans}
+use Rattle.ledger_model.specs.Lawful.{IsLawful, IsPage}
+use Rattle.ledger_model.specs.Ledger.{Ledger, Page, loan_of, pages}
+use Rattle.ledger_model.specs.Loans.{Loans, Stands, LoanRun, IsFresh, bare, bare_page, loans}
 use Rattle.ledger_model.proofs.Narrower.{ComesFrom, lawful_narrower}
 use Rattle.ledger_model.proofs.Writing.{bare-loans, bare-pages}
 use Rattle.vm_memory.specs.FirstLedger.{first_ledger, first_page, page_bytes, planned_page, process_of}

@@ -1,8 +1,7 @@
 //! A kernel is booted.
 
-ghost use Rattle.std.specs.Prelude.{◌≡◌, ◌+◌, ◌≤◌, [], All, IfErr, IfOk, length};
+ghost use Rattle.std.specs.Prelude.{◌≡◌, ◌≤◌, ◌==◌, if◌then◌else◌, [], All, None, IfErr, IfOk, length};
 ghost use Rattle.std.specs.Option.{option_map};
-ghost use Rattle.std.specs.Prelude.{◌==◌, if◌then◌else◌, None};
 ghost use Rattle.boot_plan.specs.Lawful.{CanStart, IsLawfulPlan};
 ghost use Rattle.vm_memory.specs.Bytes.{KeepsStore};
 ghost use Rattle.vm_memory.specs.Memory.{size, store_of};
