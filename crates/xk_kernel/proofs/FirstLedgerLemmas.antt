@@ -15,7 +15,7 @@ use Rattle.boot_plan.specs.declared.plans.PagePlan.{PagePlan}
 use Rattle.boot_plan.specs.declared.plans.ProcPlan.{ProcPlan}
 use Rattle.ledger_model.specs.Lawful.{IsLawful, IsPage}
 use Rattle.ledger_model.specs.Ledger.{Ledger, Page, loan_of, pages}
-use Rattle.ledger_model.specs.Loans.{Loans, Stands, LoanRun, IsFresh, bare, bare_page, loans}
+use Rattle.ledger_model.specs.Loans.{Loans, Stands, LoanRun, IsFresh, bare, bare_page}
 use Rattle.ledger_model.proofs.Narrower.{ComesFrom, lawful_narrower}
 use Rattle.ledger_model.proofs.Writing.{bare-loans, bare-pages}
 use Rattle.vm_memory.specs.FirstLedger.{first_ledger, first_page, page_bytes, planned_page, process_of}

@@ -1,5 +1,4 @@
 use Rattle.std.proofs.Common.{◌≡◌, ℕ, List, ap, ◌∙◌}
-use Rattle.machine_model.specs.Machine.{Ready, Idle}
 use Rattle.machine_model.specs.Threads.{first_handler_thread, first_stack, first_thread, thread_return}
 use Rattle.thread_table.specs.ThreadsOf.{threads_of}
 use Rattle.thread_table.specs.declared.thread.Thread.{Thread as TableThread}
