@@ -1,3 +1,5 @@
+pub mod BootLemmas
+pub mod FirstLedgerLemmas
 pub mod HistoryLemmas
 pub mod InterleavingLemmas
 pub mod LedgerAfterLemmas
@@ -9,6 +11,7 @@ pub mod MomentLemmas
 pub mod OrderLemmas
 pub mod RunLemmas
 pub mod SeenPageLemmas
+pub mod StartLemmas
 pub mod StoreLemmas
 pub mod TellingLemmas
 pub mod ThreadLemmas
