@@ -5,3 +5,5 @@ pub mod MomentLemmas
 pub mod CreateLemmas
 pub mod ThreadTableLemmas
 pub mod TidLemmas
+pub mod JoinLemmas
+pub mod DeathOfLemmas
