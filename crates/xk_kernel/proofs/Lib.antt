@@ -7,3 +7,7 @@ pub mod ThreadTableLemmas
 pub mod TidLemmas
 pub mod JoinLemmas
 pub mod DeathOfLemmas
+pub mod LogLemmas
+pub mod ReplyLemmas
+pub mod DyingLemmas
+pub mod JoiningLemmas
