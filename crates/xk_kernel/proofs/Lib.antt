@@ -11,3 +11,5 @@ pub mod LogLemmas
 pub mod ReplyLemmas
 pub mod DyingLemmas
 pub mod JoiningLemmas
+pub mod JoinerLemmas
+pub mod AnsweringLemmas
