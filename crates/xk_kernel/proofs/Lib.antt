@@ -13,3 +13,4 @@ pub mod DyingLemmas
 pub mod JoiningLemmas
 pub mod JoinerLemmas
 pub mod AnsweringLemmas
+pub mod EndingLemmas
