@@ -104,22 +104,28 @@ module _ {W : Type 0} (slot_count : W → ℕ) (held : W → Held) (old : Kernel
       few = let f : length new.log.records ≤ length old.log.records + k = h.few in omega arith;
     }
 
-    pub answered_one : (next : Kernel W) → joins_now ≡ true → IsWhole slot_count held next
-        → Tells held new next (record { machine = give_answers (answer_to its_id (scalar1_words a0)) (machine_of held new); told = Reply its_id (scalar1_words a0) ∷ [] })
-        → next.mem ≡ new.mem → HasAnswered slot_count held old next who a0 (k + 1)
-    answered_one next e whole tells mem = record {
-      whole = whole;
-      machine = tells.machine ∙ ap (give_answers (answer_to its_id (scalar1_words a0))) h.machine ∙ one_more m who a0 k (sym now_is ∙ e);
-      log =
-          log_with-next (replies_until (first_place who + k) (joiners_answered m who a0)) (Reply its_id (scalar1_words a0) ∷ []) old.log new.log next.log h.log tells.log
-          ∙ sym (ap (λ told. log_with told old.log) (one_told m who a0 high k low (sym now_is ∙ e)));
-      mem = mem ∙ h.mem;
-      few =
-          let f : length new.log.records ≤ length old.log.records + k = h.few in
-          let one : length next.log.records ≡ length new.log.records + 1 =
+    -- what an answer with these words tells
+    abbrev answered_so : Kernel W → List ℕ → Type 0
+    answered_so next words =
+        Tells held new next (record { machine = give_answers (answer_to its_id words) (machine_of held new); told = Reply its_id words ∷ [] })
+
+    pub answered_one : (next : Kernel W) (words : List ℕ) → joins_now ≡ true → words ≡ scalar1_words a0 → IsWhole slot_count held next
+        → answered_so next words → next.mem ≡ new.mem → HasAnswered slot_count held old next who a0 (k + 1)
+    answered_one next words e are whole told mem =
+        let tells : answered_so next (scalar1_words a0) = subst (answered_so next) are told in
+        record {
+          whole = whole;
+          machine = tells.machine ∙ ap (give_answers (answer_to its_id (scalar1_words a0))) h.machine ∙ one_more m who a0 k (sym now_is ∙ e);
+          log =
+              log_with-next (replies_until (first_place who + k) (joiners_answered m who a0)) (Reply its_id (scalar1_words a0) ∷ []) old.log new.log next.log h.log tells.log
+              ∙ sym (ap (λ told. log_with told old.log) (one_told m who a0 high k low (sym now_is ∙ e)));
+          mem = mem ∙ h.mem;
+          few =
+              let f : length new.log.records ≤ length old.log.records + k = h.few in
+              let one : length next.log.records ≡ length new.log.records + 1 =
               ap (λ (l : LogState). length l.records) tells.log ∙ length-append new.log.records (map (record_of new.log.step) (Reply its_id (scalar1_words a0) ∷ [])) in
-          omega arith;
-    }
+              omega arith;
+        }
 
   last_place : (n pid : ℕ) → is_pid n pid ≡ true → (pid - 2) * 31 + 31 ≤ n * 31
   last_place n pid h = let b : (2 ≤ pid) × (pid < n + 2) = is_pid-bounds n pid h in omega (arith, b.0, b.1)

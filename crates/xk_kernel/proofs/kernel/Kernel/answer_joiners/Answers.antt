@@ -18,7 +18,7 @@ loop-k-preserved g c =
       | then-is_joining w ↦
           subst (λ x. HasAnswered g.W.SwapStore.slot_count g.W.SwapStore.held c.args.self.now x c.args.who c.args.a0 (c.loop-k.k + 1)) (sym w.self-is)
           (answered_one g.W.SwapStore.slot_count g.W.SwapStore.held c.args.self.now c.args.who c.args.a0 c.loop-k.k c.loop-k.self c.loop-k.invariant high c.loop-k-test.true
-          w.answer.new.self (sym c.is_joining.ensures ∙ w.if-is_joining.true) w.answer.ensures.whole ? w.answer.ensures.mem)
+          w.answer.new.self w.reply_words.result (sym c.is_joining.ensures ∙ w.if-is_joining.true) w.reply_words.ensures w.answer.ensures.whole w.answer.ensures.tells w.answer.ensures.mem)
       | else-is_joining w ↦
           subst (λ x. HasAnswered g.W.SwapStore.slot_count g.W.SwapStore.held c.args.self.now x c.args.who c.args.a0 (c.loop-k.k + 1)) (sym w.self-is)
           (answered_not g.W.SwapStore.slot_count g.W.SwapStore.held c.args.self.now c.args.who c.args.a0 c.loop-k.k c.loop-k.self c.loop-k.invariant high c.loop-k-test.true
