@@ -10,7 +10,6 @@ use Rattle.machine_model.specs.Machine.{Machine, Thread}
 use Rattle.machine_model.specs.Step.{record_of}
 use Rattle.machine_model.specs.Threads.{answer_to, give_answers, thread_id, with_answer}
 use Rattle.sv32_space.specs.Tie.{Held}
-use Rattle.thread_table.proofs.Places.{thread_map_valid}
 use Rattle.thread_table.specs.ThreadsOf.{process_count, threads_of}
 use Rattle.thread_table.specs.declared.thread.Thread.{Thread as TableThread}
 use Rattle.vm_memory.specs.Memory.{processes}
@@ -27,21 +26,15 @@ use Rattle.xk_kernel.specs.Telling.{Tells, log_with}
 use Rattle.xk_kernel.specs.declared.kernel.Kernel.{Kernel}
 use Rattle.xk_kernel.proofs.JoinerLemmas.{HasThreadIds, all_at_last, all_told_last, first_place, joiners_until, none_at_first, none_more, none_told, none_told_first, not_yet, one_more, one_told}
 use Rattle.xk_kernel.proofs.LogLemmas.{log_with-next}
+use Rattle.xk_kernel.proofs.TellingLemmas.{told_length, told_nothing}
+use Rattle.xk_kernel.proofs.ThreadLemmas.{is_id}
 use Rattle.xk_kernel.proofs.ReplyLemmas.{replies_until, unanswered}
 
 -- ---- the ids of the table
 
-there_where : (o : Option TableThread) (t : Thread) → option_map thread_of o ≡ Some t → IsSome o
-there_where None t e = absurd (none-some t e)
-there_where (Some x) t e = refl
-
 pub thread_ids_known : {W : Type 0} (slot_count : W → ℕ) (held : W → Held) (k : Kernel W) → IsWhole slot_count held k → HasThreadIds (machine_of held k)
-unfolding machine_of process_count threads_of
-thread_ids_known slot_count held k whole = record {
-  known = λ id t e.
-  subst (λ n. is_thread_id n id ≡ true) whole.threads
-  (thread_map_valid k.threads.procs k.threads.by_place.items id (there_where (threads_of k.threads id) t e));
-}
+unfolding machine_of
+thread_ids_known slot_count held k whole = record { known = λ id t e. is_id held k (processes k.mem) id whole.threads (ap is_some e) }
 
 -- ---- the loop over the tids
 
@@ -70,8 +63,7 @@ module _ {W : Type 0} (slot_count : W → ℕ) (held : W → Held) (old : Kernel
     whole = whole;
     machine = none_at_first m who a0 (thread_ids_known slot_count held old whole);
     log =
-        sym (ap (λ told. log_with told old.log) (none_told_first m who a0 high)
-        ∙ ap (λ records. record old.log { records = records }) (append-nil old.log.records));
+        sym (ap (λ told. log_with told old.log) (none_told_first m who a0 high) ∙ told_nothing old.log);
     mem = refl;
     few = omega arith;
   }
@@ -122,8 +114,7 @@ module _ {W : Type 0} (slot_count : W → ℕ) (held : W → Held) (old : Kernel
           mem = mem ∙ h.mem;
           few =
               let f : length new.log.records ≤ length old.log.records + k = h.few in
-              let one : length next.log.records ≡ length new.log.records + 1 =
-              ap (λ (l : LogState). length l.records) tells.log ∙ length-append new.log.records (map (record_of new.log.step) (Reply its_id (scalar1_words a0) ∷ [])) in
+              let one : length next.log.records ≡ length new.log.records + 1 = told_length new.log next.log (Reply its_id (scalar1_words a0) ∷ []) tells.log in
               omega arith;
         }
 

@@ -20,7 +20,7 @@ use Rattle.thread_table.specs.declared.table.Threads.{Threads}
 use Rattle.thread_table.specs.declared.thread.Thread.{Thread as TableThread}
 use Rattle.xk_kernel.specs.State.{machine_of, thread_of}
 use Rattle.xk_kernel.specs.declared.kernel.Kernel.{Kernel}
-use Rattle.xk_kernel.proofs.ThreadTableLemmas.{machine_put}
+use Rattle.xk_kernel.proofs.ThreadLemmas.{machine_put}
 use Rattle.xk_kernel.proofs.TidLemmas.{free_is}
 
 module _ (m : Machine) (entry sp : ℕ) (arguments : List ℕ) (aligned : (entry % 4 == 0) ≡ true) where

@@ -17,6 +17,7 @@ use Rattle.xk_kernel.specs.State.{machine_of, server_of}
 use Rattle.xk_kernel.specs.Telling.{Tells, log_with}
 use Rattle.xk_kernel.specs.declared.kernel.Kernel.{Kernel}
 use Rattle.xk_kernel.proofs.LogLemmas.{log_with-next}
+use Rattle.xk_kernel.proofs.ThreadLemmas.{machine_of_log}
 use Rattle.xk_kernel.proofs.ReplyLemmas.{nobody_answered, nobody_told}
 
 -- a change that answers nobody, of which only the death is told
@@ -35,18 +36,13 @@ module _ {W : Type 0} (held : W → Held) where
   unfolding machine_of
   machine_has_no_server k none = λ n. ap (option_map server_of) (none n)
 
-  -- the log isn't part of the machine
-  pub log_apart : (k : Kernel W) (log : LogState) → machine_of held (record k { log = log }) ≡ machine_of held k
-  unfolding machine_of
-  log_apart k log = refl
-
   pub dies : (old new : Kernel W) (first last : LogState) (cause : What) (pid : Pid) → HasNoServer (machine_of held old)
       → first ≡ log_with (cause ∷ []) old.log → machine_of held new ≡ forgotten pid (machine_of held (record old { log = first })) → new.log ≡ first
       → last ≡ log_with (Gone pid ∷ []) new.log
       → Tells held old (record new { log = last }) (after cause (settled (death pid (machine_of held old))))
   dies old new first last cause pid none pushed forgot same gone = record {
     machine =
-        log_apart new last ∙ forgot ∙ ap (forgotten pid) (log_apart old first)
+        machine_of_log held new last ∙ forgot ∙ ap (forgotten pid) (machine_of_log held old first)
         ∙ sym (ap (λ (t : Told). t.machine) (settled_death (machine_of held old) none pid));
     log =
         log_with-next (cause ∷ []) (Gone pid ∷ []) old.log new.log last (same ∙ pushed) gone

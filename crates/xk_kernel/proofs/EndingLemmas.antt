@@ -28,10 +28,9 @@ use Rattle.xk_base.specs.declared.records.What.TheVariants.{End, Gone}
 use Rattle.xk_kernel.specs.State.{machine_of, thread_of}
 use Rattle.xk_kernel.specs.Telling.{Tells, log_with}
 use Rattle.xk_kernel.specs.declared.kernel.Kernel.{Kernel}
-use Rattle.xk_kernel.proofs.DyingLemmas.{log_apart}
 use Rattle.xk_kernel.proofs.LogLemmas.{log_with-next}
 use Rattle.xk_kernel.proofs.ReplyLemmas.{both_with_none}
-use Rattle.xk_kernel.proofs.ThreadTableLemmas.{machine_put}
+use Rattle.xk_kernel.proofs.ThreadLemmas.{in_table, machine_of_log, machine_put}
 
 -- ---- answers, and what they leave
 
@@ -129,7 +128,7 @@ module _ {W : Type 0} (held : W → Held) (old : Kernel W) (first : LogState) (t
 
   module _ (new : Kernel W) (h : HasEnded new) where
     left_is : machine_of held left ≡ put_thread who None m
-    left_is = machine_put held (record old { log = first }) threads who None h.ended ∙ ap (put_thread who None) (log_apart held old first)
+    left_is = machine_put held (record old { log = first }) threads who None h.ended ∙ ap (put_thread who None) (machine_of_log held old first)
 
     abbrev answered : Told
     answered = settled (answering (joiners_answered m who a0) (put_thread who None m))
@@ -175,7 +174,7 @@ module _ {W : Type 0} (held : W → Held) (old : Kernel W) (first : LogState) (t
     end_with_process dead last alone none forgot same gone =
         let e : settled (thread_ended who a0 m) ≡ last_told m who a0 = ended_last m who a0 (threads_left ∙ alone) none in
         record {
-          machine = log_apart held dead last ∙ forgot ∙ ap (forgotten who.pid) machine_is ∙ forgets ∙ sym (ap (λ (t : Told). t.machine) e);
+          machine = machine_of_log held dead last ∙ forgot ∙ ap (forgotten who.pid) machine_is ∙ forgets ∙ sym (ap (λ (t : Told). t.machine) e);
           log =
               log_with-next (End who ∷ answered.told) (Gone who.pid ∷ []) old.log dead.log last (same ∙ log_is) gone
               ∙ ap (λ told. log_with told old.log) gone_told
@@ -184,10 +183,9 @@ module _ {W : Type 0} (held : W → Held) (old : Kernel W) (first : LogState) (t
 
 -- ---- the thread whose turn it is
 
-some_where : (o : Option TableThread) → option_map_or (λ t. is_ready t.state) (option_map thread_of o) false ≡ true → IsSome o
+some_where : (o : Option Thread) → option_map_or (λ t. is_ready t.state) o false ≡ true → IsSome o
 some_where None e = absurd (false≢true e)
 some_where (Some t) e = refl
 
 pub ready_is_there : {W : Type 0} (held : W → Held) (k : Kernel W) (id : ThreadId) → ready_at (machine_of held k) id ≡ true → IsSome (threads_of k.threads id)
-unfolding machine_of
-ready_is_there held k id e = some_where (threads_of k.threads id) e
+ready_is_there held k id e = in_table held k id (some_where ((machine_of held k).threads id) e)

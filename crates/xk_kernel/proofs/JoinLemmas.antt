@@ -16,6 +16,7 @@ use Rattle.thread_table.specs.declared.thread.Thread.{Thread as TableThread}
 use Rattle.thread_table.specs.declared.thread.ThreadState.TheVariants as table
 use Rattle.xk_kernel.specs.State.{machine_of, thread_of}
 use Rattle.xk_kernel.specs.declared.kernel.Kernel.{Kernel}
+use Rattle.xk_kernel.proofs.TidLemmas.{is_some_mapped}
 
 -- ---- the row by its one test
 
@@ -52,10 +53,6 @@ third_fails : (a b c : Bool) → c ≡ false → (a && b && c) ≡ false
 third_fails true true c e = e
 third_fails true false c e = refl
 third_fails false b c e = refl
-
-is_some_mapped : (o : Option TableThread) → is_some (option_map thread_of o) ≡ is_some o
-is_some_mapped None = refl
-is_some_mapped (Some t) = refl
 
 -- ---- the row of the kernel's machine
 

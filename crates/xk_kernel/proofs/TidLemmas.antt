@@ -60,7 +60,7 @@ is_none_mapped : (o : Option TableThread) → is_none (option_map thread_of o) �
 is_none_mapped None = refl
 is_none_mapped (Some t) = refl
 
-is_some_mapped : (o : Option TableThread) → is_some (option_map thread_of o) ≡ is_some o
+pub is_some_mapped : (o : Option TableThread) → is_some (option_map thread_of o) ≡ is_some o
 is_some_mapped None = refl
 is_some_mapped (Some t) = refl
 

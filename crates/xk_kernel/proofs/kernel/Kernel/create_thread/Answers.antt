@@ -1,5 +1,4 @@
-use Rattle.std.proofs.Common.{◌≡◌, Some, None, sym, ◌∙◌, arith}
-use Rattle.thread_table.specs.ThreadMap.{free_tid}
+use Rattle.std.proofs.Common.{sym, ◌∙◌, arith}
 use Rattle.thread_table.specs.ThreadsOf.{threads_of}
 use Rattle.xk_kernel.proofs.CreateLemmas.{create_finds_none, create_starts}
 use Rattle.xk_kernel.proofs.TidLemmas.{IsFreeTid, found_is_free}

@@ -1,7 +1,7 @@
 use Rattle.std.proofs.Common.{ap, sym, ◌∙◌, subst, IsTrue}
 use Rattle.vm_memory.specs.Memory.{Size, ledger}
 use Rattle.xk_base.specs.Circle.{is_thread_id}
-use Rattle.xk_kernel.proofs.DeathOfLemmas.{forget_unlent, machine_forgotten, unlent_has_no_loan}
+use Rattle.xk_kernel.proofs.DeathOfLemmas.{forget_unlent, machine_forgotten}
 use Rattle.xk_kernel.proofs.kernel.Kernel.forget.Goals as goal
 
 pub returns-clause-whole : goal.returns-clause-whole

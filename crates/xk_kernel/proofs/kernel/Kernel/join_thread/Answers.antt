@@ -14,7 +14,7 @@ returns-then-tid-lt2-clause-outcome g c =
     ]
 
 pub returns-then-is_none-clause-outcome : goal.returns-then-is_none-clause-outcome
-returns-then-is_none-clause-outcome g c = 
+returns-then-is_none-clause-outcome g c =
     join_absent g.W.SwapStore.held c.args.self.now c.args.tid
     (sym (ap is_some c.get.ensures) ∙ is_some_copied c.get.result ∙ c.if-is_none.ensures)
 
