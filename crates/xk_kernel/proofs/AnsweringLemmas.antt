@@ -1,27 +1,21 @@
 -- The kernel answers those who joined a thread.
-use Rattle.std.proofs.Common.{◌≡◌, ℕ, ◌+◌, ◌-◌, ◌*◌, ◌<◌, ◌≤◌, Bool, true, false, List, [], ◌∷◌, ◌++◌, length, Option, Some, None, refl, sym, ap, ◌∙◌, arith, length-append, append-nil, IsTrue, subst}
-use Rattle.std.specs.Prelude.{◌==◌, ◌&&◌, IsSome, is_some, map}
+use Rattle.std.proofs.Common.{◌≡◌, ℕ, ◌+◌, ◌-◌, ◌*◌, ◌<◌, ◌≤◌, Bool, true, false, List, [], ◌∷◌, length, Option, Some, None, refl, sym, ap, ◌∙◌, arith, append-nil, IsTrue, subst}
+use Rattle.std.specs.Prelude.{◌&&◌, IsSome, is_some}
 use Rattle.std.specs.Option.{option_map, option_map_or}
 use Rattle.std.proofs.lemmas.Bool.{eq-eqb, false≢true}
-use Rattle.std.proofs.lemmas.Option.{none-some}
 use Rattle.machine_model.specs.Changes.{answering, replies, settled}
 use Rattle.machine_model.specs.Ends.{is_joining, joiners_answered, waits_for_end}
 use Rattle.machine_model.specs.Machine.{Machine, Thread}
-use Rattle.machine_model.specs.Step.{record_of}
 use Rattle.machine_model.specs.Threads.{answer_to, give_answers, thread_id, with_answer}
 use Rattle.sv32_space.specs.Tie.{Held}
-use Rattle.thread_table.specs.ThreadsOf.{process_count, threads_of}
-use Rattle.thread_table.specs.declared.thread.Thread.{Thread as TableThread}
 use Rattle.vm_memory.specs.Memory.{processes}
 use Rattle.xk_base.proofs.Circle.{is_pid-bounds}
-use Rattle.xk_base.specs.Circle.{is_pid, is_thread_id, thread_ids}
-use Rattle.xk_base.specs.Log.{LogState}
+use Rattle.xk_base.specs.Circle.{is_pid, thread_ids}
 use Rattle.xk_base.specs.Replies.{scalar1_words}
 use Rattle.xk_base.specs.declared.ids.ThreadId.{ThreadId}
-use Rattle.xk_base.specs.declared.records.What.{What}
 use Rattle.xk_base.specs.declared.records.What.TheVariants.{Reply}
 use Rattle.xk_kernel.specs.Sound.{IsWhole}
-use Rattle.xk_kernel.specs.State.{machine_of, thread_of}
+use Rattle.xk_kernel.specs.State.{machine_of}
 use Rattle.xk_kernel.specs.Telling.{Tells, log_with}
 use Rattle.xk_kernel.specs.declared.kernel.Kernel.{Kernel}
 use Rattle.xk_kernel.proofs.JoinerLemmas.{HasThreadIds, all_at_last, all_told_last, first_place, joiners_until, none_at_first, none_more, none_told, none_told_first, not_yet, one_more, one_told}

@@ -1,6 +1,6 @@
 -- A process is forgotten: what each part lets go is what the machine does.
-use Rattle.std.proofs.Common.{◌≡◌, ℕ, Bool, true, false, nat_eq, Option, Some, None, refl, sym, ap, ◌∙◌, subst}
-use Rattle.std.specs.Prelude.{◌==◌, ◌&&◌, ◌≢◌, not, IsFalse, if◌then◌else◌}
+use Rattle.std.proofs.Common.{◌≡◌, Bool, true, false, nat_eq, Option, Some, None, refl, sym, ap, ◌∙◌, subst}
+use Rattle.std.specs.Prelude.{◌==◌, ◌&&◌, not, if◌then◌else◌}
 use Rattle.std.specs.Option.{option_map, option_map_or}
 use Rattle.std.proofs.lemmas.Option.{none-some}
 use Rattle.boot_plan.specs.Capacity.{capacity}
@@ -9,11 +9,10 @@ use Rattle.irq_claims.specs.ClaimsOf.{claims_of}
 use Rattle.irq_claims.specs.declared.claims.Claim.{Claim as TableClaim}
 use Rattle.irq_claims.specs.declared.claims.Claims.{Claims}
 use Rattle.ledger_model.specs.Conditions.{is_lent}
-use Rattle.ledger_model.specs.Ledger.{Ledger, Page, PageLoan, loan_at, loan_of}
+use Rattle.ledger_model.specs.Ledger.{Ledger, Page, PageLoan, loan_of}
 use Rattle.ledger_model.specs.Steps.{forget}
 use Rattle.machine_model.specs.Ends.{dead_process, forgotten}
 use Rattle.machine_model.specs.Interrupts.{is_claim_of}
-use Rattle.machine_model.specs.Machine.{Machine}
 use Rattle.process_table.specs.ProcessMap.{change}
 use Rattle.process_table.specs.ProcessesOf.{processes_of}
 use Rattle.process_table.specs.State.{ProcessState, dead_process as dead_state}
@@ -23,12 +22,11 @@ use Rattle.thread_table.specs.ThreadMap.{without_process}
 use Rattle.thread_table.specs.ThreadsOf.{threads_of}
 use Rattle.thread_table.specs.declared.table.Threads.{Threads}
 use Rattle.thread_table.specs.declared.thread.Thread.{Thread as TableThread}
-use Rattle.vm_memory.specs.Memory.{Size, capacity_of, ledger, processes, size}
+use Rattle.vm_memory.specs.Memory.{Size, ledger, processes, size}
 use Rattle.vm_memory.specs.Removing.{HasNoLoan}
 use Rattle.vm_memory.specs.Starting.{IsUnlent}
 use Rattle.vm_memory.specs.declared.memory.Memory.{Memory}
 use Rattle.xk_base.specs.declared.ids.Pid.{Pid}
-use Rattle.xk_base.specs.declared.ids.Place.{Place}
 use Rattle.xk_kernel.specs.State.{machine_of, thread_of, process_of, claim_of}
 use Rattle.xk_kernel.specs.declared.kernel.Kernel.{Kernel}
 

@@ -1,11 +1,10 @@
 -- A process dies where there is no server.
-use Rattle.std.proofs.Common.{◌≡◌, ℕ, [], ◌∷◌, ◌++◌, List, Option, Some, None, refl, sym, ap, ◌∙◌}
+use Rattle.std.proofs.Common.{◌≡◌, ℕ, [], ◌∷◌, ◌++◌, Some, None, sym, ap, ◌∙◌}
 use Rattle.std.specs.Option.{option_map}
-use Rattle.machine_model.specs.Changes.{Change, Told, only, settled}
+use Rattle.machine_model.specs.Changes.{Told, only, settled}
 use Rattle.machine_model.specs.Ends.{death, forgotten}
 use Rattle.machine_model.specs.Machine.{Machine}
 use Rattle.machine_model.specs.Step.{after}
-use Rattle.machine_model.specs.Threads.{no_answers}
 use Rattle.machine_model.proofs.DeathLemmas.{HasNoServer, death_without_servers}
 use Rattle.server_table.specs.ServersOf.{servers_of}
 use Rattle.sv32_space.specs.Tie.{Held}

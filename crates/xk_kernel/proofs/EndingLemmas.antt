@@ -1,31 +1,29 @@
 -- A thread ends: its joiners are answered, and with the last thread its process dies.
-use Rattle.std.proofs.Common.{◌≡◌, ℕ, ◌≤◌, Bool, true, false, List, [], ◌∷◌, ◌++◌, Option, Some, None, refl, sym, ap, ◌∙◌, arith, append-nil, IsTrue, subst}
+use Rattle.std.proofs.Common.{◌≡◌, ℕ, Bool, true, false, List, [], ◌∷◌, ◌++◌, Option, Some, None, refl, sym, ap, ◌∙◌, append-nil}
 use Rattle.std.specs.Prelude.{◌==◌, ◌&&◌, nat_le, IsSome, is_some, if◌then◌else◌}
 use Rattle.std.specs.Option.{option_map, option_map_or}
-use Rattle.std.proofs.lemmas.Bool.{false≢true, and_parts}
+use Rattle.std.proofs.lemmas.Bool.{false≢true}
 use Rattle.machine_laws.proofs.ThreadAnswers.{IsReadyThread, ready_thread}
-use Rattle.machine_model.specs.Changes.{Change, Told, answering, only, replies, settled}
+use Rattle.machine_model.specs.Changes.{Change, Told, answering, replies, settled}
 use Rattle.machine_model.specs.Ends.{end_with_last_thread, forgotten, has_threads, is_joining, joiners_answered, thread_ended, waits_for_end}
-use Rattle.machine_model.specs.Machine.{Machine, Thread, ThreadState}
+use Rattle.machine_model.specs.Machine.{Machine, Thread}
 use Rattle.machine_model.specs.Order.{is_ready, ready_at}
 use Rattle.machine_model.specs.Step.{after}
-use Rattle.machine_model.specs.Threads.{Answers, both_answers, give_answers, no_answers, put_thread, thread_id, with_answer}
+use Rattle.machine_model.specs.Threads.{Answers, both_answers, give_answers, put_thread, thread_id, with_answer}
 use Rattle.machine_model.proofs.DeathLemmas.{HasNoServer, death_without_servers}
 use Rattle.sv32_space.specs.Tie.{Held}
 use Rattle.thread_table.proofs.Places.{same_thread-true}
 use Rattle.thread_table.specs.ThreadsOf.{threads_of}
 use Rattle.thread_table.specs.declared.table.Threads.{Threads}
-use Rattle.thread_table.specs.declared.thread.Thread.{Thread as TableThread}
 use Rattle.xk_base.proofs.Counting.{least_below-same}
 use Rattle.xk_base.specs.Circle.{same_thread}
-use Rattle.xk_base.specs.Counting.{least_below, put_at}
+use Rattle.xk_base.specs.Counting.{put_at}
 use Rattle.xk_base.specs.Log.{LogState}
 use Rattle.xk_base.specs.Replies.{scalar1_words}
 use Rattle.xk_base.specs.declared.ids.Pid.{Pid}
 use Rattle.xk_base.specs.declared.ids.ThreadId.{ThreadId}
-use Rattle.xk_base.specs.declared.records.What.{What}
 use Rattle.xk_base.specs.declared.records.What.TheVariants.{End, Gone}
-use Rattle.xk_kernel.specs.State.{machine_of, thread_of}
+use Rattle.xk_kernel.specs.State.{machine_of}
 use Rattle.xk_kernel.specs.Telling.{Tells, log_with}
 use Rattle.xk_kernel.specs.declared.kernel.Kernel.{Kernel}
 use Rattle.xk_kernel.proofs.LogLemmas.{log_with-next}

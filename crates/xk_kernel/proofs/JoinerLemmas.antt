@@ -1,10 +1,10 @@
 -- Those who joined a thread are answered one after the other, in ascending order.
-use Rattle.std.proofs.Common.{◌≡◌, ℕ, zero, suc, ◌+◌, ◌-◌, ◌*◌, ◌/◌, ◌%◌, ◌<◌, ◌≤◌, Bool, true, false, List, [], ◌∷◌, ◌++◌, length, Option, Some, None, refl, sym, ap, ◌∙◌, arith, ◌⊎◌, inl, inr, length-append, append-nil, IsTrue, subst}
-use Rattle.std.specs.Prelude.{◌==◌, ◌&&◌, ◌≢◌, nat_le, nat_lt, IsSome, is_some, map, if◌then◌else◌}
-use Rattle.std.specs.Option.{option_map, option_map_or}
+use Rattle.std.proofs.Common.{◌≡◌, ℕ, ◌+◌, ◌-◌, ◌*◌, ◌/◌, ◌<◌, ◌≤◌, Bool, true, false, List, [], ◌∷◌, ◌++◌, Option, Some, None, refl, sym, ap, ◌∙◌, arith, ◌⊎◌, inl, inr}
+use Rattle.std.specs.Prelude.{◌==◌, ◌&&◌, ◌≢◌, nat_le, nat_lt, if◌then◌else◌}
+use Rattle.std.specs.Option.{option_map}
 use Rattle.std.proofs.lemmas.Bool.{eq-eqb, ne_eqb, eqb-true, false≢true, and_parts}
 use Rattle.std.proofs.lemmas.Bool.Decides.{nat_tests}
-use Rattle.machine_model.specs.Changes.{answering, replies, settled}
+use Rattle.machine_model.specs.Changes.{replies}
 use Rattle.machine_model.specs.Ends.{is_joining, joiners_answered, waits_for_end}
 use Rattle.machine_model.specs.Machine.{Machine, Thread}
 use Rattle.machine_model.specs.Threads.{Answers, answer_to, give_answers, no_answers, thread_id, with_answer}
@@ -12,9 +12,8 @@ use Rattle.xk_base.proofs.Circle.{same_ids}
 use Rattle.xk_base.specs.Circle.{id_at, is_thread_id, same_thread, thread_ids}
 use Rattle.xk_base.specs.Replies.{scalar1_words}
 use Rattle.xk_base.specs.declared.ids.ThreadId.{ThreadId}
-use Rattle.xk_base.specs.declared.records.What.{What}
 use Rattle.xk_base.specs.declared.records.What.TheVariants.{Reply}
-use Rattle.xk_kernel.proofs.ReplyLemmas.{nobody_answered, replies-all, replies-are, replies-more, replies-none, replies-skip, replies_until, same_answers, unanswered}
+use Rattle.xk_kernel.proofs.ReplyLemmas.{nobody_answered, replies-all, replies-are, replies-more, replies-none, replies-skip, replies_until, same_answers}
 
 -- the threads of the machine have tids from 1 on
 pub record HasThreadIds (m : Machine) : Type 0 where

@@ -1,5 +1,5 @@
 -- The tids of a process, counted from 2 in the table and from 0 in the machine.
-use Rattle.std.proofs.Common.{◌≡◌, ℕ, zero, suc, ◌+◌, ◌-◌, ◌<◌, ◌≤◌, Bool, true, false, Option, Some, None, refl, sym, ap, ◌∙◌, arith, inl, inr, subst}
+use Rattle.std.proofs.Common.{◌≡◌, ℕ, ◌+◌, ◌-◌, ◌<◌, ◌≤◌, Bool, true, false, Option, Some, None, refl, sym, ap, ◌∙◌, arith, inl, inr, subst}
 use Rattle.std.specs.Prelude.{◌&&◌, ◌≢◌, nat_le, is_none, is_some}
 use Rattle.std.specs.Option.{option_map}
 use Rattle.std.proofs.lemmas.Bool.{cases_lt}
@@ -7,10 +7,9 @@ use Rattle.std.proofs.lemmas.Bool.Decides.{nat_tests}
 use Rattle.xk_base.specs.declared.ids.Pid.{Pid}
 use Rattle.xk_base.specs.declared.ids.ThreadId.{ThreadId}
 use Rattle.xk_base.specs.declared.ids.Tid.{Tid}
-use Rattle.xk_base.specs.Counting.{count_below, least_below}
+use Rattle.xk_base.specs.Counting.{least_below}
 use Rattle.xk_base.proofs.Counting.{least_below-same, least_below-Some, least_below-None, least_below-none, least_below-passes, least_below-first, least_below-bound, count_below-none, none_from_count_below}
 use Rattle.machine_model.specs.Ends.{has_threads}
-use Rattle.machine_model.specs.Machine.{Machine, Thread}
 use Rattle.machine_model.specs.ThreadCalls.{free_tid}
 use Rattle.machine_model.specs.Threads.{thread_id}
 use Rattle.sv32_space.specs.Tie.{Held}

@@ -1,4 +1,4 @@
-use Rattle.std.proofs.Common.{sym, ap, ◌∙◌, arith}
+use Rattle.std.proofs.Common.{sym, ap, ◌∙◌}
 use Rattle.std.specs.Prelude.{is_some}
 use Rattle.thread_table.proofs.Counts.{is_some_copied}
 use Rattle.xk_kernel.proofs.JoinLemmas.{join_low, join_high, join_itself, join_absent, join_waits}
