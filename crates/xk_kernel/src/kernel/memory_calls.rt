@@ -2,7 +2,9 @@
 
 ghost use Rattle.std.specs.Prelude.{◌≡◌, if◌then◌else◌, None, Some, IfOk, IsOk, OnErr, OnOk};
 ghost use Rattle.machine_model.specs.Changes.{Served as ServedOutcome, unless_refused};
-ghost use Rattle.machine_model.specs.MemoryCalls.{are_bad_flags, caller_place, is_bad_range, decrease_refusals, decrease_served, increase_refusals, increase_served, map_refusals, map_served, unmap_refusals, unmap_served, update_refusals, update_served};
+ghost use Rattle.machine_model.specs.Matched.{AreHeapsMatched};
+ghost use Rattle.machine_model.specs.MemoryCalls.{are_bad_flags, is_bad_range, decrease_refusals, decrease_served, increase_refusals, increase_served, map_refusals, map_served, unmap_refusals, unmap_served, update_refusals, update_served};
+ghost use Rattle.machine_model.specs.Views.{page_of};
 ghost use Rattle.xk_base.specs.Flags.{right_of};
 ghost use Rattle.xk_kernel.specs.Calling.{outcome_of};
 ghost use Rattle.xk_kernel.specs.Sound.{IsUsable, IsWhole, Keeps};
@@ -46,7 +48,7 @@ fn right_asked(flags: u32) -> Option<Right>
 impl<W: SwapStore> Kernel<W> {
     // The place of an address in the caller's process.
     fn caller_place(&self, address: u32) -> Place
-        ensures { result ≡ caller_place (machine_of W.held self.now) address }
+        ensures { result ≡ page_of self.now.cursor.pid address }
     {
         Place {
             pid: self.cursor.pid,
@@ -90,8 +92,10 @@ impl<W: SwapStore> Kernel<W> {
             return Err(XousError::BadAlignment);
         }
         let first = self.caller_place(address);
-        self.mem.remove_run(first, size / PAGE_SIZE)?;
-        Ok(Served::Answered(Reply::Plain))
+        match self.mem.remove_run(first, size / PAGE_SIZE) {
+            Ok(()) => Ok(Served::Answered(Reply::Plain)),
+            Err(error) => Err(error),
+        }
     }
 
     // UpdateMemoryFlags: the right of the pages becomes the one that is asked.
@@ -110,7 +114,17 @@ impl<W: SwapStore> Kernel<W> {
         ensures log { self.new.log ≡ self.old.log }
         ensures keeps { Keeps W.is_honest W.held W.slot_count W.asked W.faults self.old self.new }
     {
-        Err(XousError::BadAlignment)
+        if is_bad_range(address, size) {
+            return Err(XousError::BadAlignment);
+        }
+        let Some(right) = right_asked(flags) else {
+            return Err(XousError::InvalidSyscall);
+        };
+        let first = self.caller_place(address);
+        match self.mem.reduce_run(first, size / PAGE_SIZE, right) {
+            Ok(()) => Ok(Served::Answered(Reply::Plain)),
+            Err(error) => Err(error),
+        }
     }
 
     // IncreaseHeap: pages with R and W stand above the heap.
@@ -120,6 +134,7 @@ impl<W: SwapStore> Kernel<W> {
     ) -> Result<Result<Served, XousError>, SwapFault>
         requires whole { IsWhole W.slot_count W.held self.old }
         requires usable { IsUsable self.old }
+        requires matched { AreHeapsMatched (machine_of W.held self.old) }
         ensures whole { IsWhole W.slot_count W.held self.new }
         ensures usable { OnOk result (IsUsable self.new) }
         ensures outcome { IfOk result (λ served. outcome_of self.old.cursor (machine_of W.held self.new) served ≡ unless_refused (increase_refusals (machine_of W.held self.old) bytes) (ServedOutcome (increase_served (machine_of W.held self.old) bytes))) }
@@ -135,6 +150,7 @@ impl<W: SwapStore> Kernel<W> {
     pub(super) fn decrease_heap(&mut self, bytes: u32) -> Result<Served, XousError>
         requires whole { IsWhole W.slot_count W.held self.old }
         requires usable { IsUsable self.old }
+        requires matched { AreHeapsMatched (machine_of W.held self.old) }
         ensures whole { IsWhole W.slot_count W.held self.new }
         ensures usable { IsUsable self.new }
         ensures outcome { outcome_of self.old.cursor (machine_of W.held self.new) result ≡ unless_refused (decrease_refusals (machine_of W.held self.old) bytes) (ServedOutcome (decrease_served (machine_of W.held self.old) bytes)) }
@@ -142,6 +158,20 @@ impl<W: SwapStore> Kernel<W> {
         ensures log { self.new.log ≡ self.old.log }
         ensures keeps { Keeps W.is_honest W.held W.slot_count W.asked W.faults self.old self.new }
     {
-        Err(XousError::BadAlignment)
+        if bytes % PAGE_SIZE != 0 {
+            return Err(XousError::BadAlignment);
+        }
+        let heap = self.procs.heap(self.cursor.pid);
+        if bytes > heap {
+            return Err(XousError::InvalidLimit);
+        }
+        let first = self.caller_place(HEAP_START + (heap - bytes));
+        match self.mem.clear_run(first, bytes / PAGE_SIZE) {
+            Ok(()) => {
+                self.procs.set_heap(self.cursor.pid, heap - bytes);
+                Ok(Served::Answered(Reply::Plain))
+            }
+            Err(error) => Err(error),
+        }
     }
 }
