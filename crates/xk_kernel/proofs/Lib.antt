@@ -3,3 +3,4 @@ pub mod InterleavingLemmas
 pub mod LimitLemmas
 pub mod MomentLemmas
 pub mod MemoryCallLemmas
+pub mod HeapLemmas
