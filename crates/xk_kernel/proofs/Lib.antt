@@ -4,3 +4,4 @@ pub mod LimitLemmas
 pub mod MomentLemmas
 pub mod MemoryCallLemmas
 pub mod HeapLemmas
+pub mod MapLemmas

@@ -1,14 +1,16 @@
 -- A kernel whose memory alone changed: the machine that it stands for, and that it is whole; and the calls that remove and reduce
 -- pages.
 use Rattle.std.proofs.Common.{◌≡◌, ℕ, ◌+◌, ◌/◌, ◌<◌, ◌≤◌, if◌then◌else◌, Bool, true, false, List, [], ◌∷◌, Option, Some, None, refl, sym, ap, subst, ◌∙◌}
-use Rattle.std.specs.Prelude.{Result, Ok, Err}
+use Rattle.std.specs.Prelude.{◌&&◌, Result, Ok, Err}
 use Rattle.std.specs.Option.{option_map}
-use Rattle.std.proofs.lemmas.Bool.{false≢true, and_parts}
+use Rattle.std.proofs.lemmas.Bool.{false≢true, and_from, and_parts, or_right}
 use Rattle.std.proofs.lemmas.Option.{none-some, same_Some}
 use Rattle.xk_base.specs.Circle.{is_pid, is_tid}
 use Rattle.xk_base.specs.declared.errors.XousError.{XousError}
 use Rattle.xk_base.specs.declared.errors.XousError.TheVariants.{BadAlignment, BadAddress, ShareViolation, AccessDenied, InvalidSyscall}
+use Rattle.xk_base.specs.declared.ids.Pid.{Pid}
 use Rattle.xk_base.specs.declared.ids.Place.{Place}
+use Rattle.xk_base.specs.declared.ids.Vpn.{Vpn}
 use Rattle.xk_base.specs.declared.limits.TheConstants.{PAGE_SIZE}
 use Rattle.xk_base.specs.declared.pages.Right.{Right}
 use Rattle.xk_base.specs.Circle.{is_thread_id}
@@ -25,10 +27,13 @@ use Rattle.machine_model.specs.Views.{page_of}
 use Rattle.sv32_space.specs.Tie.{Held}
 use Rattle.syscall_codec.specs.declared.replies.Reply.TheVariants.{Plain}
 use Rattle.vm_memory.specs.declared.memory.Memory.{Memory}
+use Rattle.vm_memory.specs.Bytes.{MeansBytesOver, is_known, none_out}
+use Rattle.vm_memory.specs.Making.{after_console, after_make, place_of}
 use Rattle.vm_memory.specs.Memory.{ledger, processes, size}
 use Rattle.vm_memory.specs.Removing.{after_reduce, after_remove, reduce_answer, remove_answer}
 use Rattle.vm_memory.specs.Sound.{IsSound as IsMemorySound}
 use Rattle.vm_memory.specs.Starting.{IsUnlent}
+use Rattle.vm_memory.proofs.CallLaws.{sound-none_out}
 use Rattle.xk_kernel.specs.Calling.{outcome_of}
 use Rattle.xk_kernel.specs.Sound.{IsWhole}
 use Rattle.xk_kernel.specs.State.{machine_of}
@@ -108,12 +113,33 @@ remove_unlent r first n old new e h = subst IsUnlent (sym e) (go r)
     go (Ok done) = removed_unlent (in_run first n) old h
     go (Err error) = h
 
+pub make_unlent : (pid : Pid) (n : ℕ) (right : Right) (r : Result Vpn XousError) (old new : Ledger) → new ≡ after_make pid n right r old → IsUnlent old → IsUnlent new
+make_unlent pid n right r old new e h = subst IsUnlent (sym e) (go r)
+  where
+    go : (r : Result Vpn XousError) → IsUnlent (after_make pid n right r old)
+    go (Ok first) = made_unlent (place_of pid first) n right old h
+    go (Err error) = h
+
+pub make_console_unlent : (pid : Pid) (w : Bool) (r : Result Vpn XousError) (old new : Ledger) → new ≡ after_console pid w r old → IsUnlent old → IsUnlent new
+make_console_unlent pid w r old new e h = subst IsUnlent (sym e) (go r)
+  where
+    go : (r : Result Vpn XousError) → IsUnlent (after_console pid w r old)
+    go (Ok first) = console_unlent (place_of pid first) w old h
+    go (Err error) = h
+
 pub reduce_unlent : (r : Result (Unit {0}) XousError) (first : Place) (n : ℕ) (right : Right) (old new : Ledger) → new ≡ after_reduce r first n right old → IsUnlent old → IsUnlent new
 reduce_unlent r first n right old new e h = subst IsUnlent (sym e) (go r)
   where
     go : (r : Result (Unit {0}) XousError) → IsUnlent (after_reduce r first n right old)
     go (Ok done) = reduced_unlent (in_run first n) right old h
     go (Err error) = h
+
+-- no page is out, so that the ledger's bytes mean something
+pub means_over : {W : Type 0} (slot_count : W → ℕ) (honest : W → Bool) (held : W → Held) (old new : Memory W) → IsMemorySound slot_count old
+    → IsMemorySound slot_count new → MeansBytesOver honest held old new
+means_over slot_count honest held old new a b =
+    or_right (is_known honest held old) (none_out old && none_out new)
+    (and_from (none_out old) (none_out new) (sound-none_out slot_count old a) (sound-none_out slot_count new b))
 
 -- ---- the caller
 

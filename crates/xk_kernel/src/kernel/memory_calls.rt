@@ -1,6 +1,6 @@
 //! The five calls on memory. The caller is the thread whose turn it is.
 
-ghost use Rattle.std.specs.Prelude.{◌≡◌, if◌then◌else◌, None, Some, IfOk, IsOk, OnErr, OnOk};
+ghost use Rattle.std.specs.Prelude.{◌≡◌, ◌==◌, ◌/◌, if◌then◌else◌, None, Some, IfOk, IsOk, OnErr, OnOk};
 ghost use Rattle.machine_model.specs.Changes.{Served as ServedOutcome, unless_refused};
 ghost use Rattle.machine_model.specs.Matched.{AreHeapsMatched};
 ghost use Rattle.machine_model.specs.MemoryCalls.{are_bad_flags, is_bad_range, decrease_refusals, decrease_served, increase_refusals, increase_served, map_refusals, map_served, unmap_refusals, unmap_served, update_refusals, update_served};
@@ -24,6 +24,9 @@ const HEAP_START: u32 = 0x2000_0000;
 /// How long a heap may be, in bytes: the whole window.
 const HEAP_LIMIT: u32 = 0x0100_0000;
 
+/// The right to a page of a heap.
+const HEAP_RIGHT: Right = Right { w: true, x: false };
+
 // Whether these are not the address and the size of a run of pages.
 fn is_bad_range(address: u32, size: u32) -> bool
     ensures { result ≡ is_bad_range address size }
@@ -43,6 +46,16 @@ fn right_asked(flags: u32) -> Option<Right>
         w: flags.contains(MapFlags::W),
         x: flags.contains(MapFlags::X),
     })
+}
+
+// The page that MapMemory asks for; none where it leaves the choice.
+fn page_asked(virt: u32) -> Option<Vpn>
+    ensures { result ≡ (if virt == 0 then None else Some (record { 0 = virt / PAGE_SIZE })) }
+{
+    if virt == 0 {
+        return None;
+    }
+    Some(Vpn(virt / PAGE_SIZE))
 }
 
 impl<W: SwapStore> Kernel<W> {
@@ -74,7 +87,30 @@ impl<W: SwapStore> Kernel<W> {
         ensures keeps { Keeps W.is_honest W.held W.slot_count W.asked W.faults self.old self.new }
         ensures sure { IsOk result }
     {
-        Ok(Err(XousError::BadAlignment))
+        if is_bad_range(virt, size) {
+            return Ok(Err(XousError::BadAlignment));
+        }
+        let Some(right) = right_asked(flags) else {
+            return Ok(Err(XousError::InvalidSyscall));
+        };
+        let at = page_asked(virt);
+        if phys == CONSOLE_ADDRESS {
+            if size != PAGE_SIZE || right.x {
+                return Ok(Err(XousError::BadAddress));
+            }
+            return match self.mem.make_console(self.cursor.pid, at, right.w) {
+                Ok(first) => Ok(Ok(Served::Answered(Reply::Range(PAGE_SIZE * first.0, size)))),
+                Err(error) => Ok(Err(error)),
+            };
+        }
+        if phys != 0 {
+            return Ok(Err(XousError::BadAddress));
+        }
+        match self.mem.make(self.cursor.pid, Window::Map, at, size / PAGE_SIZE, right) {
+            Ok(Ok(first)) => Ok(Ok(Served::Answered(Reply::Range(PAGE_SIZE * first.0, size)))),
+            Ok(Err(error)) => Ok(Err(error)),
+            Err(_) => Err(SwapFault),
+        }
     }
 
     // UnmapMemory: the pages go, the console too.
@@ -143,7 +179,28 @@ impl<W: SwapStore> Kernel<W> {
         ensures keeps { Keeps W.is_honest W.held W.slot_count W.asked W.faults self.old self.new }
         ensures sure { IsOk result }
     {
-        Ok(Err(XousError::BadAlignment))
+        if bytes % PAGE_SIZE != 0 {
+            return Ok(Err(XousError::BadAlignment));
+        }
+        let pid = self.cursor.pid;
+        let heap = self.procs.heap(pid);
+        if bytes > HEAP_LIMIT - heap {
+            return Ok(Err(XousError::InvalidLimit));
+        }
+        let address = HEAP_START + heap;
+        if bytes == 0 {
+            return Ok(Ok(Served::Answered(Reply::Range(address, bytes))));
+        }
+        let first = Vpn(address / PAGE_SIZE);
+        let n = bytes / PAGE_SIZE;
+        match self.mem.make(pid, Window::Heap, Some(first), n, HEAP_RIGHT) {
+            Ok(Ok(_)) => {
+                self.procs.set_heap(pid, heap + bytes);
+                Ok(Ok(Served::Answered(Reply::Range(address, bytes))))
+            }
+            Ok(Err(error)) => Ok(Err(error)),
+            Err(_) => Err(SwapFault),
+        }
     }
 
     // DecreaseHeap: the pages at the end of the heap go; places without a page are passed over.
