@@ -5,3 +5,4 @@ pub mod MomentLemmas
 pub mod MemoryCallLemmas
 pub mod HeapLemmas
 pub mod MapLemmas
+pub mod HeapGrowth

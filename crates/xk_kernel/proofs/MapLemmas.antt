@@ -120,20 +120,6 @@ console_told false false false false false false true true over least v o e f g 
 console_told false false true false false false true false over least v o e f g = refl
 console_told false false false false false false true false over least v o e f g = refl
 
-wide_told : (bad unknown zero wide mapped b fits used none over : Bool) (o : Outcome) → bad ≡ false → unknown ≡ false → wide ≡ true
-    → Refused BadAddress ≡ unless_refused (refusals_by bad unknown zero true wide mapped b fits used none over) o
-wide_told true unknown zero wide mapped b fits used none over o e f g = absurd (false≢true (sym e))
-wide_told false true zero wide mapped b fits used none over o e f g = absurd (false≢true (sym f))
-wide_told false false zero false mapped b fits used none over o e f g = absurd (false≢true g)
-wide_told false false true true mapped b fits used none over o e f g = refl
-wide_told false false false true mapped b fits used none over o e f g = refl
-
-elsewhere_told : (bad unknown wide mapped b fits used none over : Bool) (o : Outcome) → bad ≡ false → unknown ≡ false
-    → Refused BadAddress ≡ unless_refused (refusals_by bad unknown false false wide mapped b fits used none over) o
-elsewhere_told true unknown wide mapped b fits used none over o e f = absurd (false≢true (sym e))
-elsewhere_told false true wide mapped b fits used none over o e f = absurd (false≢true (sym f))
-elsewhere_told false false wide mapped b fits used none over o e f = refl
-
 -- ---- the call
 
 page_of_start : (v : ℕ) → v ≡ 4096 * v / 4096
@@ -228,12 +214,6 @@ module _ {W : Type 0} (held : W → Held) (k : Kernel W) (phys virt bytes flags 
   -- ---- the console
 
   module _ (other : (phys == CONSOLE_ADDRESS) ≡ true) where
-    pub console_wide : wide ≡ true → Refused BadAddress ≡ row
-    unfolding row_by
-    console_wide w =
-        wide_told (is_bad_range virt bytes) (are_bad_flags flags) (phys == 0) wide mapped (virt == 0) fits used (is_none least) (are_too_many m (bytes / 4096)) served range asked.0 w
-        ∙ sym (row_is (phys == 0) true refl other)
-
     module _ (one : bytes ≡ 4096) (narrow : wide ≡ false) where
       abbrev console : Result Vpn XousError
       console = console_answer (processes k.mem) (ledger held k.mem) k.cursor.pid at
@@ -271,14 +251,6 @@ module _ {W : Type 0} (held : W → Held) (k : Kernel W) (phys virt bytes flags 
           (e ∙ ap (λ (r : Right). make_console (place_of k.cursor.pid first) r.w (ledger held k.mem)) asked.1))
           ∙ served_is true first other (not_mapped mapped (run_by (virt == 0) fits used least (record { 0 = virt / 4096 })) first (a ∙ console_run))
           ∙ ap (λ r. told r served) a ∙ console_row
-
-  -- ---- neither
-
-  pub map_elsewhere : (phys == 0) ≡ false → (phys == CONSOLE_ADDRESS) ≡ false → Refused BadAddress ≡ row
-  unfolding row_by
-  map_elsewhere zero other =
-      elsewhere_told (is_bad_range virt bytes) (are_bad_flags flags) wide mapped (virt == 0) fits used (is_none least) (are_too_many m (bytes / 4096)) served range asked.0
-      ∙ sym (row_is false false zero other)
 
 -- one page that isn't to be executed
 pub narrow : (bytes flags : ℕ) (right : Right) → bytes ≡ 4096 → right ≡ right_of flags → right.x ≡ false
