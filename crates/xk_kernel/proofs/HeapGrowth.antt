@@ -1,19 +1,18 @@
 -- IncreaseHeap: the pages above the heap are free, so that the capacity alone refuses it.
-use Rattle.std.proofs.Common.{◌≡◌, ◌≢◌, ℕ, ◌+◌, ◌-◌, ◌/◌, ◌<◌, ◌≤◌, if◌then◌else◌, Bool, true, false, not, List, [], ◌∷◌, Option, Some, None, refl, sym, ap, subst, ◌∙◌, arith, get_or, length, nat_eq, nat_le, nat_lt}
-use Rattle.std.specs.Prelude.{◌%◌, ◌==◌, ◌&&◌, Result, Ok, Err}
+use Rattle.std.proofs.Common.{◌≡◌, ℕ, ◌+◌, ◌/◌, ◌<◌, ◌≤◌, if◌then◌else◌, Bool, true, false, not, Option, Some, None, refl, sym, ap, subst, ◌∙◌, arith, length, nat_eq, nat_le, nat_lt}
+use Rattle.std.specs.Prelude.{◌%◌, Result, Ok, Err}
 use Rattle.std.proofs.lemmas.Bool.{false≢true, and_from, eqb-true, le-leb, lt-ltb}
 use Rattle.std.proofs.lemmas.List.Folds.{list_any_none}
 use Rattle.std.proofs.lemmas.Option.{none-some}
 use Rattle.xk_base.specs.declared.errors.XousError.{XousError}
 use Rattle.xk_base.specs.declared.errors.XousError.TheVariants.{BadAlignment, BadAddress, InvalidLimit, MemoryInUse, OutOfMemory}
-use Rattle.xk_base.specs.declared.ids.Pid.{Pid}
 use Rattle.xk_base.specs.declared.ids.Place.{Place}
 use Rattle.xk_base.specs.declared.ids.Vpn.{Vpn}
 use Rattle.xk_base.specs.declared.limits.TheConstants.{PAGE_SIZE}
 use Rattle.xk_base.specs.declared.pages.Right.{Right}
 use Rattle.xk_base.specs.declared.windows.Window.TheVariants.{Heap}
 use Rattle.xk_base.specs.Windows.{in_window}
-use Rattle.ledger_model.specs.Ledger.{Bytes, Ledger, Page, PageLoan, loan_at, pages}
+use Rattle.ledger_model.specs.Ledger.{Bytes, Ledger, Page, pages}
 use Rattle.ledger_model.specs.Places.{in_run, place_after, run}
 use Rattle.ledger_model.specs.Reach.{is_free}
 use Rattle.ledger_model.specs.RunTests.{any_used, fits_window}
@@ -21,7 +20,7 @@ use Rattle.ledger_model.specs.Steps.{make, new_page, zero_page}
 use Rattle.ledger_model.proofs.PlaceLaws.{IsInRun, in_run-true, length-run, run-at}
 use Rattle.ledger_model.proofs.Reaching.{is_free-all}
 use Rattle.machine_model.specs.Changes.{Outcome, Refused, Served, unless_refused}
-use Rattle.machine_model.specs.Machine.{Machine, Process}
+use Rattle.machine_model.specs.Machine.{Machine}
 use Rattle.machine_model.specs.Matched.{AreHeapsMatched}
 use Rattle.machine_model.specs.MemoryCalls.{are_too_many, heap_limit, heap_of, increase_refusals, increase_served, is_aligned}
 use Rattle.machine_model.specs.Views.{page_of}
@@ -34,8 +33,6 @@ use Rattle.syscall_codec.specs.declared.replies.Reply.TheVariants.{Range}
 use Rattle.vm_memory.specs.declared.memory.Memory.{Memory}
 use Rattle.vm_memory.specs.Making.{if_room, make_answer, place_of, run_place}
 use Rattle.vm_memory.specs.Memory.{capacity_of, ledger, processes, size}
-use Rattle.vm_memory.specs.Sound.{IsSound as IsMemorySound}
-use Rattle.vm_memory.specs.Starting.{IsUnlent}
 use Rattle.vm_memory.proofs.SoundMemory.{pages-ledger}
 use Rattle.xk_kernel.specs.Calling.{outcome_of}
 use Rattle.xk_kernel.specs.Sound.{IsWhole}
@@ -73,9 +70,9 @@ none_used : (procs : ℕ) (l : Ledger) (first : Place) (n : ℕ) → ((i : ℕ) 
 unfolding any_used
 none_used procs l first n free =
     list_any_none (λ p. not (is_free procs l p)) (run first n) (λ i d low.
-        let size : length (run first n) ≡ n = length-run first n in
-        let inside : i < n = omega (arith, low, size) in
-        ap (λ p. not (is_free procs l p)) (run-at first n i d inside) ∙ ap not (free i inside))
+    let size : length (run first n) ≡ n = length-run first n in
+    let inside : i < n = omega (arith, low, size) in
+    ap (λ p. not (is_free procs l p)) (run-at first n i d inside) ∙ ap not (free i inside))
 
 module _ {W : Type 0} (slot_count : W → ℕ) (held : W → Held) (k : Kernel W) (whole : IsWhole slot_count held k) (heaps : AreHeapsMatched (machine_of held k))
     (bytes : ℕ) (al : bytes % 4096 ≡ 0) (heap : ℕ) (told : heap ≡ heap_of (machine_of held k)) where

@@ -1,43 +1,34 @@
 -- The calls on the heap: the memory and the length of the caller's heap change.
-use Rattle.std.proofs.Common.{◌≡◌, ◌≢◌, ℕ, ◌+◌, ◌-◌, ◌/◌, ◌<◌, ◌≤◌, if◌then◌else◌, Bool, true, false, not, List, [], ◌∷◌, Option, Some, None, refl, sym, ap, subst, ◌∙◌, arith, get_or, length, nat_eq, nat_le, nat_lt}
-use Rattle.std.specs.Prelude.{◌%◌, ◌==◌, ◌&&◌, Result, Ok, Err, slice_get}
+use Rattle.std.proofs.Common.{◌≡◌, ◌≢◌, ℕ, ◌+◌, ◌-◌, ◌/◌, ◌<◌, ◌≤◌, if◌then◌else◌, Bool, true, false, not, [], ◌∷◌, Option, Some, None, refl, sym, ap, ◌∙◌, arith, get_or, length, nat_eq, nat_le, nat_lt}
+use Rattle.std.specs.Prelude.{◌%◌, Result, Ok, Err, slice_get}
 use Rattle.std.specs.Option.{option_map}
-use Rattle.std.proofs.lemmas.Bool.{false≢true, and_from, and_parts, cond-false, eq-eqb, le-leb, leb-true, lt-ltb, ltb-true}
+use Rattle.std.proofs.lemmas.Bool.{false≢true, and_parts, cond-false, eq-eqb, leb-true, lt-ltb, ltb-true}
 use Rattle.std.proofs.lemmas.Bool.Decides.{nat_tests}
-use Rattle.std.proofs.lemmas.Option.{none-some, same_Some, slice_get-get_or}
+use Rattle.std.proofs.lemmas.Option.{none-some, slice_get-get_or}
 use Rattle.xk_base.specs.declared.errors.XousError.{XousError}
-use Rattle.xk_base.specs.declared.errors.XousError.TheVariants.{BadAlignment, BadAddress, InvalidLimit, MemoryInUse, OutOfMemory, ShareViolation}
-use Rattle.xk_base.specs.declared.ids.Pid.{Pid}
+use Rattle.xk_base.specs.declared.errors.XousError.TheVariants.{BadAlignment, InvalidLimit, ShareViolation}
 use Rattle.xk_base.specs.declared.ids.Place.{Place}
-use Rattle.xk_base.specs.declared.ids.Vpn.{Vpn}
 use Rattle.xk_base.specs.declared.limits.TheConstants.{PAGE_SIZE}
-use Rattle.xk_base.specs.declared.pages.Right.{Right}
-use Rattle.xk_base.specs.declared.windows.Window.TheVariants.{Heap}
 use Rattle.xk_base.specs.Circle.{IsPid, is_pid, is_tid, is_thread_id}
 use Rattle.xk_base.specs.Counting.{put_at}
-use Rattle.xk_base.specs.Replies.{plain_words, range_words}
-use Rattle.xk_base.specs.Windows.{in_window}
 use Rattle.boot_plan.specs.Capacity.{capacity}
-use Rattle.ledger_model.specs.Ledger.{Ledger, Page, PageLoan, loan_at, pages}
-use Rattle.ledger_model.specs.Places.{in_run, place_after}
-use Rattle.ledger_model.specs.Reach.{is_free}
-use Rattle.ledger_model.specs.RunTests.{any_on_loan, any_used, fits_window}
-use Rattle.ledger_model.specs.Steps.{make, remove}
-use Rattle.ledger_model.proofs.Reaching.{is_free-all}
+use Rattle.ledger_model.specs.Ledger.{Ledger}
+use Rattle.ledger_model.specs.Places.{in_run}
+use Rattle.ledger_model.specs.RunTests.{any_on_loan}
+use Rattle.ledger_model.specs.Steps.{remove}
 use Rattle.machine_model.specs.Changes.{Outcome, Refused, Served, unless_refused}
-use Rattle.machine_model.specs.Machine.{Machine, Process}
+use Rattle.machine_model.specs.Machine.{Machine}
 use Rattle.machine_model.specs.Matched.{AreHeapsMatched}
-use Rattle.machine_model.specs.MemoryCalls.{are_too_many, caller_place, decrease_refusals, decrease_served, heap_limit, heap_of, heap_start, increase_refusals, increase_served, is_aligned, with_heap}
+use Rattle.machine_model.specs.MemoryCalls.{caller_place, decrease_refusals, decrease_served, heap_of, heap_start, is_aligned}
 use Rattle.machine_model.specs.Views.{page_of}
 use Rattle.process_table.specs.ProcessesOf.{process_count, processes_of}
 use Rattle.process_table.specs.ProcessMap.{change, heap_of as heap_in}
 use Rattle.process_table.specs.State.{ProcessState, new_process, with_heap as heap_set}
 use Rattle.process_table.specs.declared.table.Processes.{Processes}
 use Rattle.sv32_space.specs.Tie.{Held}
-use Rattle.syscall_codec.specs.declared.replies.Reply.TheVariants.{Plain, Range}
+use Rattle.syscall_codec.specs.declared.replies.Reply.TheVariants.{Plain}
 use Rattle.vm_memory.specs.declared.memory.Memory.{Memory}
-use Rattle.vm_memory.specs.Making.{if_room, make_answer, place_of, run_place}
-use Rattle.vm_memory.specs.Memory.{capacity_of, ledger, processes, size}
+use Rattle.vm_memory.specs.Memory.{ledger, processes, size}
 use Rattle.vm_memory.specs.Removing.{clear_answer}
 use Rattle.vm_memory.specs.Sound.{IsSound as IsMemorySound}
 use Rattle.vm_memory.specs.Starting.{IsUnlent}
@@ -55,8 +46,7 @@ unfolding processes_of process_count
 process_there t pid e =
     let parts = and_parts (nat_le 2 pid) (nat_lt pid (length t.by_pid.items + 2)) e in
     let low : 2 ≤ pid = leb-true 2 pid parts.0 in
-    let high : pid < length t.by_pid.items + 2 = ltb-true pid (length t.by_pid.items + 2) parts.1 in
-    (
+    let high : pid < length t.by_pid.items + 2 = ltb-true pid (length t.by_pid.items + 2) parts.1 in (
       get_or t.by_pid.items (pid - 2) new_process,
       cond-false (nat_lt pid 2) None (slice_get t.by_pid.items (pid - 2)) (grind (arith, nat_tests))
           ∙ slice_get-get_or t.by_pid.items (pid - 2) new_process (omega arith),

@@ -1,8 +1,7 @@
 -- MapMemory: where its pages go, and what the answers of the memory are to its caller.
-use Rattle.std.proofs.Common.{◌≡◌, ℕ, ◌+◌, ◌*◌, ◌/◌, ◌<◌, ◌≤◌, if◌then◌else◌, Bool, true, false, not, List, [], ◌∷◌, Option, Some, None, refl, sym, ap, subst, ◌∙◌, arith, nat_lt}
+use Rattle.std.proofs.Common.{◌≡◌, ℕ, ◌+◌, ◌*◌, ◌/◌, ◌≤◌, if◌then◌else◌, Bool, true, false, not, List, [], ◌∷◌, Option, Some, None, refl, sym, ap, ◌∙◌, arith, nat_lt}
 use Rattle.std.specs.Prelude.{◌%◌, ◌==◌, ◌&&◌, ◌||◌, Result, Ok, Err, is_none, unwrap_or}
-use Rattle.std.proofs.lemmas.Bool.{false≢true, eq-eqb, eqb-true, eqb-false, ltb-false}
-use Rattle.std.proofs.lemmas.Option.{same_Some}
+use Rattle.std.proofs.lemmas.Bool.{false≢true, eq-eqb, eqb-true, eqb-false}
 use Rattle.xk_base.specs.declared.errors.XousError.{XousError}
 use Rattle.xk_base.specs.declared.errors.XousError.TheVariants.{BadAlignment, BadAddress, OutOfMemory, MemoryInUse, InvalidSyscall}
 use Rattle.xk_base.specs.declared.ids.Pid.{Pid}
@@ -10,7 +9,6 @@ use Rattle.xk_base.specs.declared.ids.Place.{Place}
 use Rattle.xk_base.specs.declared.ids.Vpn.{Vpn}
 use Rattle.xk_base.specs.declared.limits.TheConstants.{PAGE_SIZE, CONSOLE_ADDRESS}
 use Rattle.xk_base.specs.declared.pages.Right.{Right}
-use Rattle.xk_base.specs.declared.windows.Window.{Window}
 use Rattle.xk_base.specs.declared.windows.Window.TheVariants.{Map}
 use Rattle.xk_base.specs.Flags.{flag_execute, has_flag, right_of}
 use Rattle.xk_base.specs.Replies.{range_words}
@@ -20,7 +18,7 @@ use Rattle.ledger_model.specs.RunTests.{any_used, console_mapped, fits_window}
 use Rattle.ledger_model.specs.Steps.{make, make_console}
 use Rattle.machine_model.specs.Changes.{Outcome, Refused, Served, unless_refused}
 use Rattle.machine_model.specs.Machine.{Machine}
-use Rattle.machine_model.specs.MemoryCalls.{are_bad_flags, are_too_many, caller_place, is_bad_range, map_address, map_refusals, map_served, mapped_ledger, with_ledger}
+use Rattle.machine_model.specs.MemoryCalls.{are_bad_flags, are_too_many, caller_place, is_bad_range, map_refusals, map_served, mapped_ledger, with_ledger}
 use Rattle.sv32_space.specs.Tie.{Held}
 use Rattle.syscall_codec.specs.declared.replies.Reply.TheVariants.{Range}
 use Rattle.vm_memory.specs.declared.memory.Memory.{Memory}
@@ -31,7 +29,7 @@ use Rattle.xk_kernel.specs.Calling.{outcome_of}
 use Rattle.xk_kernel.specs.State.{machine_of}
 use Rattle.xk_kernel.specs.declared.kernel.Kernel.{Kernel}
 use Rattle.xk_kernel.specs.declared.kernel.calls.Served.TheVariants.{Answered}
-use Rattle.xk_kernel.proofs.MemoryCallLemmas.{machine_with_mem, on_ledger, with_mem}
+use Rattle.xk_kernel.proofs.MemoryCallLemmas.{machine_with_mem, with_mem}
 
 -- ---- ranges
 

@@ -1,6 +1,6 @@
 -- A kernel whose memory alone changed: the machine that it stands for, and that it is whole; and the calls that remove and reduce
 -- pages.
-use Rattle.std.proofs.Common.{◌≡◌, ℕ, ◌+◌, ◌/◌, ◌<◌, ◌≤◌, if◌then◌else◌, Bool, true, false, List, [], ◌∷◌, Option, Some, None, refl, sym, ap, subst, ◌∙◌}
+use Rattle.std.proofs.Common.{◌≡◌, ℕ, ◌/◌, if◌then◌else◌, Bool, true, false, [], ◌∷◌, Option, Some, None, refl, sym, ap, subst, ◌∙◌}
 use Rattle.std.specs.Prelude.{◌&&◌, Result, Ok, Err}
 use Rattle.std.specs.Option.{option_map}
 use Rattle.std.proofs.lemmas.Bool.{false≢true, and_from, and_parts, or_right}
@@ -16,11 +16,11 @@ use Rattle.xk_base.specs.declared.pages.Right.{Right}
 use Rattle.xk_base.specs.Circle.{is_thread_id}
 use Rattle.xk_base.specs.Flags.{right_of}
 use Rattle.boot_plan.specs.Capacity.{capacity}
-use Rattle.ledger_model.specs.Ledger.{Ledger, Page, PageLoan, loan_of}
+use Rattle.ledger_model.specs.Ledger.{Ledger, Page, loan_of}
 use Rattle.ledger_model.specs.Places.{in_run, is_process, same_place}
 use Rattle.ledger_model.specs.RunTests.{any_free, any_lacks, any_on_loan}
-use Rattle.ledger_model.specs.Steps.{make, make_console, new_page, zero_page, reduce, remove, with_right}
-use Rattle.machine_model.specs.Changes.{Outcome, Served, unless_refused}
+use Rattle.ledger_model.specs.Steps.{make, make_console, new_page, reduce, remove, with_right}
+use Rattle.machine_model.specs.Changes.{Served, unless_refused}
 use Rattle.machine_model.specs.Machine.{Machine}
 use Rattle.machine_model.specs.MemoryCalls.{are_bad_flags, caller_place, is_bad_range, unmap_refusals, unmap_served, update_refusals, update_served}
 use Rattle.machine_model.specs.Views.{page_of}

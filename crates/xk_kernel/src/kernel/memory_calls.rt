@@ -106,7 +106,10 @@ impl<W: SwapStore> Kernel<W> {
         if phys != 0 {
             return Ok(Err(XousError::BadAddress));
         }
-        match self.mem.make(self.cursor.pid, Window::Map, at, size / PAGE_SIZE, right) {
+        match self
+            .mem
+            .make(self.cursor.pid, Window::Map, at, size / PAGE_SIZE, right)
+        {
             Ok(Ok(first)) => Ok(Ok(Served::Answered(Reply::Range(PAGE_SIZE * first.0, size)))),
             Ok(Err(error)) => Ok(Err(error)),
             Err(_) => Err(SwapFault),

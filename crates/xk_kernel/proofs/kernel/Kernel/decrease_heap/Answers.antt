@@ -1,5 +1,4 @@
-use Rattle.std.proofs.Common.{◌≤◌, ◌/◌, ◌-◌, ◌+◌, arith}
-use Rattle.std.specs.Prelude.{Ok}
+use Rattle.std.proofs.Common.{◌≤◌, ◌/◌, arith}
 use Rattle.vm_memory.specs.Memory.{ledger}
 use Rattle.xk_kernel.proofs.HeapLemmas.{decrease_done, decrease_lent, decrease_too_many, heap_told, heap_within, whole_with_parts}
 use Rattle.xk_kernel.proofs.MemoryCallLemmas.{remove_unlent}

@@ -1,5 +1,4 @@
-use Rattle.std.proofs.Common.{◌≡◌, ◌≤◌, ◌<◌, ◌+◌, ◌-◌, ◌/◌, arith, sym, ◌∙◌}
-use Rattle.std.specs.Prelude.{Ok, Err}
+use Rattle.std.proofs.Common.{◌≤◌, ◌<◌, ◌-◌, ◌/◌, arith}
 use Rattle.vm_memory.specs.Memory.{ledger}
 use Rattle.xk_kernel.proofs.HeapGrowth.{heap_right, increase_by_none, increase_done, increase_past, increase_refused}
 use Rattle.xk_kernel.proofs.HeapLemmas.{heap_told, heap_within, whole_with_parts}
