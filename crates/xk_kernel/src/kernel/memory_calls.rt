@@ -112,7 +112,7 @@ impl<W: SwapStore> Kernel<W> {
         {
             Ok(Ok(first)) => Ok(Ok(Served::Answered(Reply::Range(PAGE_SIZE * first.0, size)))),
             Ok(Err(error)) => Ok(Err(error)),
-            Err(_) => Err(SwapFault),
+            Err(Failed) => Err(SwapFault),
         }
     }
 
@@ -202,7 +202,7 @@ impl<W: SwapStore> Kernel<W> {
                 Ok(Ok(Served::Answered(Reply::Range(address, bytes))))
             }
             Ok(Err(error)) => Ok(Err(error)),
-            Err(_) => Err(SwapFault),
+            Err(Failed) => Err(SwapFault),
         }
     }
 
