@@ -5,6 +5,8 @@ pub mod DeathOfLemmas
 pub mod DyingLemmas
 pub mod EndingLemmas
 pub mod FirstLedgerLemmas
+pub mod HeapGrowth
+pub mod HeapLemmas
 pub mod HistoryLemmas
 pub mod InterleavingLemmas
 pub mod JoinLemmas
@@ -15,6 +17,8 @@ pub mod LedgerBytesLemmas
 pub mod LimitLemmas
 pub mod LoanLemmas
 pub mod LogLemmas
+pub mod MapLemmas
+pub mod MemoryCallLemmas
 pub mod MemoryPartLemmas
 pub mod MomentLemmas
 pub mod OrderLemmas
