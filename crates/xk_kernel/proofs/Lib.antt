@@ -1,3 +1,4 @@
+pub mod CallTableLemmas
 pub mod HistoryLemmas
 pub mod InterleavingLemmas
 pub mod LimitLemmas
