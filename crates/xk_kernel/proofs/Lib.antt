@@ -3,3 +3,4 @@ pub mod HistoryLemmas
 pub mod InterleavingLemmas
 pub mod LimitLemmas
 pub mod MomentLemmas
+pub mod SettleLemmas

@@ -71,10 +71,7 @@ impl<W: SwapStore> Kernel<W> {
     {
         let who = self.cursor;
         self.log.push(What::Call(who, words));
-        let outcome = match read_call(words) {
-            Ok(asked) => self.serve(asked)?,
-            Err(error) => Err(error),
-        };
+        let outcome = self.outcome(words)?;
         self.pass(who);
         match outcome {
             Ok(Served::Answered(reply)) => self.answer(who, reply_words(&reply)),
@@ -85,7 +82,28 @@ impl<W: SwapStore> Kernel<W> {
         Ok(())
     }
 
-    // What comes of the call, before its caller is past it and has its answer.
+    // What comes of a call with these words, before its caller is past it and has its answer.
+    fn outcome(&mut self, words: [u32; 8]) -> Result<Result<Served, XousError>, SwapFault>
+        requires whole { IsWhole W.slot_count W.held self.old }
+        requires usable { IsUsable self.old }
+        requires ready { ready_at (machine_of W.held self.old) self.old.cursor ≡ true }
+        requires matched { Matched (machine_of W.held self.old) }
+        requires built { is_plain_call words ≡ true }
+        ensures whole { IsWhole W.slot_count W.held self.new }
+        ensures usable { OnOk result (IsUsable self.new) }
+        ensures outcome { IfOk result (λ served. outcome_of self.old.cursor (machine_of W.held self.new) served ≡ call (machine_of W.held self.old) words) }
+        ensures refused { IfOk result (λ served. OnErr served (self.new ≡ self.old)) }
+        ensures log { self.new.log ≡ self.old.log }
+        ensures keeps { Keeps W.is_honest W.held W.slot_count W.asked W.faults self.old self.new }
+        ensures sure { IsOk result }
+    {
+        match read_call(words) {
+            Ok(asked) => self.serve(asked),
+            Err(error) => Ok(Err(error)),
+        }
+    }
+
+    // What comes of the call that is asked for.
     fn serve(&mut self, asked: Call) -> Result<Result<Served, XousError>, SwapFault>
         requires whole { IsWhole W.slot_count W.held self.old }
         requires usable { IsUsable self.old }
