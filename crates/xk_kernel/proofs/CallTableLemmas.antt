@@ -1,9 +1,10 @@
 -- What comes of each plain call, by the words that ask for it.
 use Rattle.std.proofs.Common.{◌≡◌, ℕ, Bool, true, false, List, ◌∷◌, [], None, Some, refl, sym, ap, ◌∙◌}
-use Rattle.std.specs.Prelude.{◌==◌, ◌&&◌, ◌||◌, ◌≢◌, not, if◌then◌else◌, Option}
+use Rattle.std.specs.Prelude.{◌==◌, ◌&&◌, ◌||◌, ◌≢◌, not, if◌then◌else◌, Option, Result, Ok, Err}
 use Rattle.std.specs.List.{list_any}
 use Rattle.std.proofs.lemmas.Bool.{false≢true, ne_eqb}
 use Rattle.std.proofs.Math.Bool.{and-false}
+use Rattle.machine_laws.proofs.PlainServers.{outside_refused}
 use Rattle.machine_laws.specs.WithoutServers.{is_plain_call, plain_numbers}
 use Rattle.machine_model.specs.Calls.{any_refusals, call, call_at, call_table}
 use Rattle.machine_model.specs.Changes.{Change, Outcome, Refused, Served, answering, refused_or, unless_refused}
@@ -20,6 +21,7 @@ use Rattle.syscall_codec.specs.declared.calls.Call.TheVariants.{MapMemory, Yield
 use Rattle.xk_base.specs.CallNumbers.{is_call_number}
 use Rattle.xk_base.specs.CallWords.{call_number, heap_bytes, is_refused_to_handler, join_tid, map_flags, map_phys, map_size, map_virt, range_address, range_flags, range_size, thread_arguments, thread_entry, thread_sp}
 use Rattle.xk_base.specs.Replies.{plain_words, scalar1_words, thread_words}
+use Rattle.xk_base.specs.declared.errors.XousError.{XousError}
 use Rattle.xk_base.specs.declared.errors.XousError.TheVariants.{InvalidSyscall, UnhandledSyscall}
 
 -- the caller is the interrupt thread, and the call can make it wait
@@ -225,3 +227,13 @@ none_left (JoinThread a) none plain = none.join a refl
 none_left (DestroyServer a) none plain = false≢true plain
 none_left GetThreadId none plain = none.thread_id refl
 none_left GetProcessId none plain = none.process_id refl
+
+-- ---- no call has the number
+
+abbrev error_of : Result Call XousError → XousError
+error_of (Ok asked) = UnhandledSyscall
+error_of (Err error) = error
+
+pub unhandled : (m : Machine) (w : List ℕ) (error : XousError) → ◌≡◌ {A = Result Call XousError} (Err error) (Err UnhandledSyscall) → is_call_number (call_number w) ≡ false
+    → Refused error ≡ call m w
+unhandled m w error e outside = ap (λ r. Refused (error_of r)) e ∙ sym (outside_refused m w outside)

@@ -1,4 +1,5 @@
 pub mod CallTableLemmas
+pub mod CallerLemmas
 pub mod HistoryLemmas
 pub mod InterleavingLemmas
 pub mod LimitLemmas

@@ -4,7 +4,7 @@ use Rattle.std.specs.Prelude.{◌==◌, ◌||◌, ◌≢◌, ◌&&◌, not, is_s
 use Rattle.std.specs.Option.{option_map, option_map_or}
 use Rattle.std.specs.List.{list_any}
 use Rattle.std.proofs.lemmas.Bool.{false≢true, cases_lt}
-use Rattle.std.proofs.lemmas.List.{append_assoc}
+use Rattle.std.proofs.lemmas.List.{append-nil, append_assoc}
 use Rattle.machine_laws.proofs.PlainServers.{plain_cases}
 use Rattle.machine_laws.proofs.ThreadAnswers.{same_thread-self, IsReadyThread, ready_thread}
 use Rattle.machine_laws.proofs.ThreadPut.{alike}
@@ -163,6 +163,10 @@ pub ready_there : (m : Machine) (who : ThreadId) → ready_at m who ≡ true →
 ready_there m who ready = ap is_some (ready_thread m who ready).there
 
 -- ---- the log tells it all
+
+-- a log of one record, with nothing besides
+pub unlogged : (first : What) (log : LogState) → log_with (first ∷ []) log ≡ log_with [] (log_with (first ∷ []) log)
+unlogged first log = ap (λ records. record log { records = records }) (sym (append-nil _))
 
 pub told_so : {W : Type 0} (held : W → Held) (old new : Kernel W) (first : What) (done : Told) (machine : Machine) (told : List What)
     → done ≡ record { machine = machine; told = told } → machine_of held new ≡ machine → new.log ≡ log_with told (log_with (first ∷ []) old.log)
