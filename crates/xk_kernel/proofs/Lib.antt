@@ -1,3 +1,4 @@
+pub mod ActLemmas
 pub mod CallTableLemmas
 pub mod CallerLemmas
 pub mod HistoryLemmas
