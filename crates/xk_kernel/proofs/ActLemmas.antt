@@ -5,6 +5,7 @@ use Rattle.std.specs.Option.{option_and_then, option_map_or}
 use Rattle.std.proofs.lemmas.Bool.{false≢true, and_parts}
 use Rattle.std.proofs.lemmas.Bool.Decides.{nat_tests}
 use Rattle.machine_laws.specs.WithoutServers.{HasNoServers, is_plain_call}
+use Rattle.machine_laws.proofs.AnsweredCalls.{actor_ready}
 use Rattle.machine_laws.proofs.PlainSteps.{plain_step_keeps_matched}
 use Rattle.machine_model.specs.Acts.{call_by, executes, is_call, words_if_call}
 use Rattle.machine_model.specs.Calls.{call}
@@ -13,7 +14,7 @@ use Rattle.machine_model.specs.Ends.{death, handler_ended, thread_ended}
 use Rattle.machine_model.specs.Instructions.{CallsKernel, Executed, Next, Stores, StoresToConsole, Traps, execute_at}
 use Rattle.machine_model.specs.Machine.{Machine, Thread}
 use Rattle.machine_model.specs.Matched.{Matched}
-use Rattle.machine_model.specs.Order.{actor}
+use Rattle.machine_model.specs.Order.{actor, ready_at}
 use Rattle.machine_model.specs.Step.{acted_if_there, after, console_told, ends_handler, ends_thread, executed, record_of, step}
 use Rattle.machine_model.specs.Threads.{handler_return, thread_return}
 use Rattle.machine_model.specs.Views.{memory_of, stored}
@@ -22,6 +23,7 @@ use Rattle.rv32_hart.specs.declared.ran.Ran.{Ran}
 use Rattle.rv32_hart.specs.declared.ran.Ran.TheVariants.{Device, Ecall, Failed, Trap}
 use Rattle.rv32_hart.specs.declared.ran.Ran.TheVariants as ran
 use Rattle.sv32_space.specs.Tie.{Held}
+use Rattle.xk_base.specs.Circle.{is_thread_id}
 use Rattle.xk_base.specs.Registers.{arguments_of, reg_at}
 use Rattle.xk_base.specs.declared.ids.ThreadId.{ThreadId}
 use Rattle.xk_base.specs.declared.records.What.{What}
@@ -100,6 +102,10 @@ never_fails (Traps cause value) e = cc
 
 -- ---- what the thread does, and whether it is built
 
+-- no thread ends where a handler does
+apart : (tid pc : ℕ) → (nat_lt 1 tid && (pc == thread_return)) ≡ true → ((tid == 1) && (pc == handler_return)) ≡ false
+apart tid pc e = grind (arith, nat_tests)
+
 module _ (m : Machine) (who : ThreadId) (t : Thread) (there : m.threads who ≡ Some t) where
   -- what its instruction comes to
   abbrev pub fetched : Executed
@@ -140,9 +146,6 @@ module _ (m : Machine) (who : ThreadId) (t : Thread) (there : m.threads who ≡ 
       where
         no_handler : ends_handler who t.pc ≡ false
         no_handler = apart who.tid.0 t.pc e
-
-        apart : (tid pc : ℕ) → (nat_lt 1 tid && (pc == thread_return)) ≡ true → ((tid == 1) && (pc == handler_return)) ≡ false
-        apart tid pc e = grind (arith, nat_tests)
 
     pub unbuilt_handler : ends_handler who t.pc ≡ true → step_built m ≡ false
     unbuilt_handler e = built_is ∙ ap (λ b. built_by (ends_thread who t.pc) b fetched) e
@@ -193,3 +196,37 @@ module _ {W : Type 0} (held : W → Held) (old mid new : Kernel W) (who : Thread
             tells.log
             ∙ (λ i. record (log i) { records = (log i).records ++ map (record_of (log i).step) (same i).told });
       }
+
+  -- an instruction counts no step
+  pub run_steps : (x : Executed) → machine_of held mid ≡ machine_after who (machine_of held old) x → mid.steps ≡ old.steps
+  unfolding machine_of stored
+  run_steps x e = ap (λ (m : Machine). m.steps) e ∙ steps_after x
+    where
+      steps_after : (x : Executed) → (machine_after who (machine_of held old) x).steps ≡ old.steps
+      steps_after (Next regs pc) = refl
+      steps_after (Stores address width value regs pc) = refl
+      steps_after (StoresToConsole offset value regs pc) = refl
+      steps_after CallsKernel = refl
+      steps_after (Traps cause value) = refl
+
+  -- what an instruction did that goes on, between the run and the step's beginning
+  pub run_done : (x : Executed) (told : List What) → told_by who (machine_of held old) ≡ record { machine = at who (machine_after who (machine_of held old) x); told = told }
+      → machine_of held mid ≡ machine_after who (machine_of held old) x → mid.log ≡ old.log
+      → machine_of held new ≡ at who (machine_of held mid)
+      → new.log ≡ record mid.log { step = mid.steps + 1; records = map (record_of (mid.steps + 1)) told }
+      → IsDone held old new (told_by who (machine_of held old))
+  run_done x told is machine log begun told_log = record {
+    machine = begun ∙ ap (at who) machine ∙ sym (ap (λ (t : Told). t.machine) is);
+    log =
+        told_log
+        ∙ (λ i. record (log i) { step = run_steps x machine i + 1; records = map (record_of (run_steps x machine i + 1)) told })
+        ∙ sym (ap (λ (t : Told). record old.log { step = old.steps + 1; records = map (record_of (old.steps + 1)) t.told }) is);
+  }
+
+  -- the thread of a begun step is Ready
+  pub begun_ready : actor (machine_of held old) ≡ Some who → machine_of held mid ≡ at who (machine_of held old) → ready_at (machine_of held mid) mid.cursor ≡ true
+  begun_ready acts e = (λ i. ready_at (e i) (cursor_at e i)) ∙ actor_ready (machine_of held old) who acts
+
+-- the thread that acts is one of the processes'
+pub actor_known : (m : Machine) (who : ThreadId) (t : Thread) → Matched m → m.threads who ≡ Some t → is_thread_id m.processes who ≡ true
+actor_known m who t h there = h.keys.limits.threads who t there
