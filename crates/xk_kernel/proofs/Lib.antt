@@ -6,3 +6,4 @@ pub mod InterleavingLemmas
 pub mod LimitLemmas
 pub mod MomentLemmas
 pub mod SettleLemmas
+pub mod StepOfLemmas
