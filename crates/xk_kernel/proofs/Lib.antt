@@ -1,5 +1,8 @@
+pub mod ActLemmas
 pub mod AnsweringLemmas
 pub mod BootLemmas
+pub mod CallTableLemmas
+pub mod CallerLemmas
 pub mod CreateLemmas
 pub mod DeathOfLemmas
 pub mod DyingLemmas
@@ -25,7 +28,9 @@ pub mod OrderLemmas
 pub mod ReplyLemmas
 pub mod RunLemmas
 pub mod SeenPageLemmas
+pub mod SettleLemmas
 pub mod StartLemmas
+pub mod StepOfLemmas
 pub mod StoreLemmas
 pub mod TellingLemmas
 pub mod ThreadLemmas
