@@ -1,4 +1,17 @@
+pub mod BootLemmas
+pub mod FirstLedgerLemmas
 pub mod HistoryLemmas
 pub mod InterleavingLemmas
+pub mod LedgerAfterLemmas
+pub mod LedgerBytesLemmas
 pub mod LimitLemmas
+pub mod LoanLemmas
+pub mod MemoryPartLemmas
 pub mod MomentLemmas
+pub mod OrderLemmas
+pub mod RunLemmas
+pub mod SeenPageLemmas
+pub mod StartLemmas
+pub mod StoreLemmas
+pub mod TellingLemmas
+pub mod ThreadLemmas
