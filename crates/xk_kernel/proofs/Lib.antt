@@ -1,6 +1,7 @@
 pub mod ActLemmas
 pub mod CallTableLemmas
 pub mod CallerLemmas
+pub mod EventLemmas
 pub mod HistoryLemmas
 pub mod InterleavingLemmas
 pub mod LimitLemmas
