@@ -61,6 +61,7 @@ module _ (m : Machine) (who : ThreadId) (t : Thread) where
       offset_of : Ran → ℕ
       offset_of (Device o v p) = o
       offset_of _ = 0
+
       value_of : Ran → ℕ
       value_of (Device o v p) = v
       value_of _ = 0
@@ -80,6 +81,7 @@ module _ (m : Machine) (who : ThreadId) (t : Thread) where
       cause_of : Ran → ℕ
       cause_of (Trap c v) = c
       cause_of _ = 0
+
       value_of : Ran → ℕ
       value_of (Trap c v) = v
       value_of _ = 0

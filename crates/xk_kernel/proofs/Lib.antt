@@ -7,6 +7,7 @@ pub mod CreateLemmas
 pub mod DeathOfLemmas
 pub mod DyingLemmas
 pub mod EndingLemmas
+pub mod EventLemmas
 pub mod FirstLedgerLemmas
 pub mod HeapGrowth
 pub mod HeapLemmas

@@ -92,24 +92,24 @@ pub returns-in-MapMemory-clause-outcome : goal.returns-in-MapMemory-clause-outco
 unfolding machine_of
 returns-in-MapMemory-clause-outcome g c =
     IfOk-weaker c.map_memory.result _ _ (λ served e words asks.
-      e ∙ map_is (machine_of g.W.SwapStore.held c.args.self.now) words
-      (elim c.else-self-eq1.branch [
+    e ∙ map_is (machine_of g.W.SwapStore.held c.args.self.now) words
+    (elim c.else-self-eq1.branch [
       | else-self-eq1-via-then-self-eq1+else-can_wait w ↦ free_by_call (machine_of g.W.SwapStore.held c.args.self.now) words (sym (w.can_wait.ensures words asks) ∙ w.if-can_wait.false)
       | else-self-eq1-via-else-self-eq1 w ↦ free_by_tid (machine_of g.W.SwapStore.held c.args.self.now) words w.if-self-eq1.false
     ])
-      c.in-MapMemory.phys c.in-MapMemory.virt c.in-MapMemory.size c.in-MapMemory.flags (subst (Asks words) c.in-MapMemory.is asks))
+    c.in-MapMemory.phys c.in-MapMemory.virt c.in-MapMemory.size c.in-MapMemory.flags (subst (Asks words) c.in-MapMemory.is asks))
     c.map_memory.ensures.outcome
 
 pub returns-in-IncreaseHeap-clause-outcome : goal.returns-in-IncreaseHeap-clause-outcome
 unfolding machine_of
 returns-in-IncreaseHeap-clause-outcome g c =
     IfOk-weaker c.increase_heap.result _ _ (λ served e words asks.
-      e ∙ increase_is (machine_of g.W.SwapStore.held c.args.self.now) words
-      (elim c.else-self-eq1.branch [
+    e ∙ increase_is (machine_of g.W.SwapStore.held c.args.self.now) words
+    (elim c.else-self-eq1.branch [
       | else-self-eq1-via-then-self-eq1+else-can_wait w ↦ free_by_call (machine_of g.W.SwapStore.held c.args.self.now) words (sym (w.can_wait.ensures words asks) ∙ w.if-can_wait.false)
       | else-self-eq1-via-else-self-eq1 w ↦ free_by_tid (machine_of g.W.SwapStore.held c.args.self.now) words w.if-self-eq1.false
     ])
-      c.in-IncreaseHeap.bytes (subst (Asks words) c.in-IncreaseHeap.is asks))
+    c.in-IncreaseHeap.bytes (subst (Asks words) c.in-IncreaseHeap.is asks))
     c.increase_heap.ensures.outcome
 
 pub returns-in-Yield-clause-outcome : goal.returns-in-Yield-clause-outcome
