@@ -1,13 +1,13 @@
 -- What comes of each plain call, by the words that ask for it.
 use Rattle.std.proofs.Common.{◌≡◌, ℕ, Bool, true, false, List, ◌∷◌, [], None, Some, refl, sym, ap, ◌∙◌}
-use Rattle.std.specs.Prelude.{◌==◌, ◌&&◌, ◌||◌, ◌≢◌, not, if◌then◌else◌, Option, Result, Ok, Err}
+use Rattle.std.specs.Prelude.{◌==◌, ◌&&◌, ◌||◌, ◌≢◌, not, if◌then◌else◌, Result, Ok, Err}
 use Rattle.std.specs.List.{list_any}
 use Rattle.std.proofs.lemmas.Bool.{false≢true, ne_eqb}
 use Rattle.std.proofs.Math.Bool.{and-false}
 use Rattle.machine_laws.proofs.PlainServers.{outside_refused}
 use Rattle.machine_laws.specs.WithoutServers.{is_plain_call, plain_numbers}
-use Rattle.machine_model.specs.Calls.{any_refusals, call, call_at, call_table}
-use Rattle.machine_model.specs.Changes.{Change, Outcome, Refused, Served, answering, refused_or, unless_refused}
+use Rattle.machine_model.specs.Calls.{call, call_at, call_table}
+use Rattle.machine_model.specs.Changes.{Refused, Served, answering, refused_or, unless_refused}
 use Rattle.machine_model.specs.Ends.{forgotten}
 use Rattle.machine_model.specs.Machine.{Machine}
 use Rattle.machine_model.specs.MemoryCalls.{decrease_call, decrease_refusals, decrease_served, increase_call, increase_refusals, increase_served, map_call, map_refusals, map_served, unmap_call, unmap_refusals, unmap_served, update_call, update_refusals, update_served}
@@ -19,7 +19,7 @@ use Rattle.syscall_codec.specs.Calls.{Asks}
 use Rattle.syscall_codec.specs.declared.calls.Call.{Call}
 use Rattle.syscall_codec.specs.declared.calls.Call.TheVariants.{MapMemory, Yield, ClaimInterrupt, FreeInterrupt, IncreaseHeap, DecreaseHeap, UpdateMemoryFlags, CreateServerWithAddress, ReceiveMessage, SendMessage, Connect, CreateThread, UnmapMemory, ReturnMemory, TerminateProcess, TrySendMessage, TryConnect, ReturnScalar1, ReturnScalar2, TryReceiveMessage, JoinThread, DestroyServer, GetThreadId, GetProcessId}
 use Rattle.xk_base.specs.CallNumbers.{is_call_number}
-use Rattle.xk_base.specs.CallWords.{call_number, heap_bytes, is_refused_to_handler, join_tid, map_flags, map_phys, map_size, map_virt, range_address, range_flags, range_size, thread_arguments, thread_entry, thread_sp}
+use Rattle.xk_base.specs.CallWords.{call_number, is_refused_to_handler}
 use Rattle.xk_base.specs.Replies.{plain_words, scalar1_words, thread_words}
 use Rattle.xk_base.specs.declared.errors.XousError.{XousError}
 use Rattle.xk_base.specs.declared.errors.XousError.TheVariants.{InvalidSyscall, UnhandledSyscall}

@@ -1,22 +1,21 @@
 -- A plain call leaves its caller there, unless the caller's process dies.
-use Rattle.std.proofs.Common.{◌≡◌, ℕ, Bool, true, false, List, [], ◌∷◌, Option, Some, None, refl, sym, ap, subst, ◌∙◌}
-use Rattle.std.specs.Prelude.{◌==◌, is_some, if◌then◌else◌}
+use Rattle.std.proofs.Common.{◌≡◌, ℕ, Bool, true, false, List, Option, Some, None, refl, sym, subst}
+use Rattle.std.specs.Prelude.{is_some, if◌then◌else◌}
 use Rattle.std.specs.Bool.{⊤}
 use Rattle.std.specs.Option.{option_map}
 use Rattle.std.proofs.lemmas.Option.{none-some}
 use Rattle.machine_laws.proofs.PlainServers.{outside_refused, plain_cases}
 use Rattle.machine_laws.specs.WithoutServers.{is_plain_call}
 use Rattle.machine_model.specs.Calls.{any_refusals, call, call_at, call_table}
-use Rattle.machine_model.specs.Changes.{Change, Outcome, Refused, Retried, Served, answering, first_refusal, only, refused_or, unless_refused}
+use Rattle.machine_model.specs.Changes.{Change, Outcome, Refused, Retried, Served, first_refusal, refused_or, unless_refused}
 use Rattle.machine_model.specs.Ends.{death}
 use Rattle.machine_model.specs.Machine.{Joining, Machine, Thread}
 use Rattle.machine_model.specs.MemoryCalls.{decrease_call, decrease_refusals, decrease_served, increase_call, increase_refusals, increase_served, map_call, map_refusals, map_served, unmap_call, unmap_refusals, unmap_served, update_call, update_refusals, update_served}
 use Rattle.machine_model.specs.Order.{turn}
 use Rattle.machine_model.specs.ThreadCalls.{create_call, create_refusals, create_served, join_call, join_refusals, join_served, process_id_call, terminate_call, thread_id_call, yield_call}
-use Rattle.machine_model.specs.Threads.{answer_to, thread_id, with_state}
+use Rattle.machine_model.specs.Threads.{with_state}
 use Rattle.xk_base.specs.Circle.{same_thread}
 use Rattle.xk_base.specs.CallWords.{call_number, heap_bytes, join_tid, map_flags, map_phys, map_size, map_virt, range_address, range_flags, range_size, thread_arguments, thread_entry, thread_sp}
-use Rattle.xk_base.specs.Replies.{plain_words, scalar1_words, thread_words}
 use Rattle.xk_base.specs.declared.errors.XousError.{XousError}
 
 -- what comes of the call leaves its caller, where no process dies

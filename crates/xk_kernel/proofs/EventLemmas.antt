@@ -1,11 +1,10 @@
 -- What a pick and a kill do, and that a kernel stays sound.
 use Rattle.std.proofs.Common.{◌≡◌, ℕ, ◌≤◌, Bool, true, false, [], ◌∷◌, ◌++◌, map, Option, Some, None, refl, sym, ap, subst, ◌∙◌}
 use Rattle.std.specs.Prelude.{IsTrue}
-use Rattle.event_text.specs.declared.event.Event.{Event}
 use Rattle.machine_laws.proofs.PlainSteps.{kill_leaves_no_servers}
 use Rattle.machine_model.proofs.DeathLemmas.{death_without_servers}
 use Rattle.machine_model.proofs.KeptLemmas.{pick_keeps}
-use Rattle.machine_model.specs.Changes.{Change, Told, settled}
+use Rattle.machine_model.specs.Changes.{Change, settled}
 use Rattle.machine_model.specs.Ends.{forgotten}
 use Rattle.machine_model.specs.Events.{at_event, killed, killed_if, nothing, picked}
 use Rattle.machine_model.specs.Machine.{Machine}

@@ -1,31 +1,21 @@
 -- What an outcome of a call leaves and tells, once its caller is past it and has its answer.
-use Rattle.std.proofs.Common.{◌≡◌, ℕ, ◌+◌, ◌<◌, Bool, true, false, ◌⊎◌, inl, inr, List, [], ◌∷◌, ◌++◌, map, zero, suc, None, Some, refl, sym, ap, subst, ◌∙◌, arith}
-use Rattle.std.specs.Prelude.{◌==◌, ◌||◌, ◌≢◌, ◌&&◌, not, is_some, unwrap_or, if◌then◌else◌, Option}
-use Rattle.std.specs.Option.{option_map, option_map_or}
-use Rattle.std.specs.List.{list_any}
-use Rattle.std.proofs.lemmas.Bool.{false≢true, cases_lt}
+use Rattle.std.proofs.Common.{◌≡◌, ℕ, ◌<◌, Bool, true, false, inl, inr, List, [], ◌∷◌, ◌++◌, map, zero, suc, None, Some, refl, sym, ap, ◌∙◌, arith}
+use Rattle.std.specs.Prelude.{◌≢◌, is_some, unwrap_or, if◌then◌else◌, Option}
+use Rattle.std.specs.Option.{option_map}
+use Rattle.std.proofs.lemmas.Bool.{cases_lt}
 use Rattle.std.proofs.lemmas.List.{append-nil, append_assoc}
-use Rattle.machine_laws.proofs.PlainServers.{plain_cases}
 use Rattle.machine_laws.proofs.ThreadAnswers.{same_thread-self, IsReadyThread, ready_thread}
 use Rattle.machine_laws.proofs.ThreadPut.{alike}
-use Rattle.machine_laws.specs.WithoutServers.{is_plain_call}
-use Rattle.machine_model.specs.Calls.{any_refusals, call, call_at, call_table}
-use Rattle.machine_model.specs.Changes.{Change, Outcome, Refused, Retried, Served, Told, answering, call_settled, first_refusal, only, refused_or, replies, settled, unless_refused, with_refusal}
-use Rattle.machine_model.specs.Ends.{death}
-use Rattle.machine_model.specs.Machine.{Machine, Ready, Thread}
-use Rattle.machine_model.specs.MemoryCalls.{decrease_call, decrease_refusals, decrease_served, increase_call, increase_refusals, increase_served, map_call, map_refusals, map_served, unmap_call, unmap_refusals, unmap_served, update_call, update_refusals, update_served}
-use Rattle.machine_model.specs.Order.{ready_at, turn}
+use Rattle.machine_model.specs.Changes.{Outcome, Refused, Served, Told, answering, call_settled, only, replies, settled, with_refusal}
+use Rattle.machine_model.specs.Machine.{Machine, Thread}
+use Rattle.machine_model.specs.Order.{ready_at}
 use Rattle.machine_model.specs.Step.{after}
-use Rattle.machine_model.specs.ThreadCalls.{create_call, create_refusals, create_served, join_call, join_refusals, join_served, process_id_call, terminate_call, thread_id_call, yield_call}
-use Rattle.machine_model.specs.Threads.{answer_to, change_thread, give_answers, no_answers, passed, put_thread, with_answer}
+use Rattle.machine_model.specs.Threads.{answer_to, change_thread, give_answers, no_answers, passed, with_answer}
 use Rattle.sv32_space.specs.Tie.{Held}
 use Rattle.xk_base.proofs.Circle.{id_at-place_of, place_of-bound, place_of-id_at}
 use Rattle.xk_base.specs.Circle.{id_at, is_thread_id, listed_ids, place_of, same_thread, thread_ids}
-use Rattle.xk_base.specs.Counting.{listed_below, put_at}
-use Rattle.xk_base.specs.CallNumbers.{is_call_number}
-use Rattle.xk_base.specs.CallWords.{call_number}
+use Rattle.xk_base.specs.Counting.{listed_below}
 use Rattle.xk_base.specs.Log.{LogState}
-use Rattle.xk_base.specs.Registers.{with_arguments}
 use Rattle.xk_base.specs.Replies.{refused_words}
 use Rattle.xk_base.specs.declared.errors.XousError.{XousError}
 use Rattle.xk_base.specs.declared.ids.Pid.{Pid}

@@ -1,5 +1,5 @@
 -- A step that was done is counted, and is that of the machine.
-use Rattle.std.proofs.Common.{◌≡◌, ℕ, ◌+◌, true, false, map, Some, refl, sym, ap, subst, ◌∙◌}
+use Rattle.std.proofs.Common.{◌≡◌, ℕ, ◌+◌, true, false, map, Some, sym, ap, subst, ◌∙◌}
 use Rattle.std.specs.Prelude.{is_some}
 use Rattle.std.specs.Option.{option_map}
 use Rattle.machine_laws.specs.WithoutServers.{HasNoServers}
@@ -10,7 +10,6 @@ use Rattle.machine_model.specs.Step.{Stepped, record_of, step, step_by, step_by_
 use Rattle.sv32_space.specs.Tie.{Held}
 use Rattle.xk_base.specs.declared.ids.ThreadId.{ThreadId}
 use Rattle.xk_kernel.specs.Acting.{Acts, IsDone, told_by}
-use Rattle.xk_kernel.specs.Built.{step_built}
 use Rattle.xk_kernel.specs.Sound.{IsSound, IsUsable, IsWhole}
 use Rattle.xk_kernel.specs.State.{machine_of, server_of}
 use Rattle.xk_kernel.specs.Stepping.{Becomes, DoesStep}

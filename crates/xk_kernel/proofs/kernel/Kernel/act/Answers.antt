@@ -1,5 +1,5 @@
 -- The thread ends, or its instruction is executed: what the kernel became and told is what the machine makes of it.
-use Rattle.std.proofs.Common.{◌≡◌, ◌+◌, ◌<◌, Some, true, false, [], refl, sym, ap, subst, ◌∙◌}
+use Rattle.std.proofs.Common.{◌≡◌, ◌+◌, ◌<◌, true, false, [], refl, sym, ap, subst, ◌∙◌}
 use Rattle.machine_laws.proofs.AnsweredCalls.{actor_ready}
 use Rattle.machine_laws.specs.WithoutServers.{is_plain_call}
 use Rattle.machine_model.proofs.KeptLemmas.{matched_at}

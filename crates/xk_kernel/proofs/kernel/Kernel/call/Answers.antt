@@ -1,5 +1,5 @@
 -- Each outcome of a call leaves and tells what the machine makes of it.
-use Rattle.std.proofs.Common.{◌≡◌, [], ◌∷◌, refl, sym, ap, subst, ◌∙◌, Ok, Err, Some, OnErr}
+use Rattle.std.proofs.Common.{◌≡◌, [], ◌∷◌, refl, ap, subst, ◌∙◌, Ok, Some, OnErr}
 use Rattle.machine_model.specs.Calls.{call}
 use Rattle.machine_model.specs.Changes.{Refused, Served, answering, call_settled, only}
 use Rattle.machine_model.specs.Threads.{answer_to, change_thread, give_answers, passed}

@@ -1,5 +1,5 @@
 -- The event does what the machine makes of it.
-use Rattle.std.proofs.Common.{[], ◌∷◌, refl, sym, ap, subst, ◌∙◌}
+use Rattle.std.proofs.Common.{[], ◌∷◌, sym, ap, subst, ◌∙◌}
 use Rattle.machine_model.specs.Events.{killed, nothing, picked}
 use Rattle.vm_memory.proofs.SoundMemory.{sound-tied}
 use Rattle.xk_base.specs.declared.records.What.TheVariants.{Gone}

@@ -1,5 +1,5 @@
 -- What the thread did is the step of the machine, once it is counted.
-use Rattle.std.proofs.Common.{◌+◌, ◌<◌, subst, arith}
+use Rattle.std.proofs.Common.{◌<◌, subst, arith}
 use Rattle.xk_kernel.specs.Acting.{Acts}
 use Rattle.xk_kernel.specs.State.{machine_of}
 use Rattle.xk_kernel.proofs.StepOfLemmas.{did, did_sound, did_not, left_sound}
