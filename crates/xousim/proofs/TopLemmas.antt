@@ -25,7 +25,7 @@ use Rattle.boot_plan.specs.ImageFault.{IsImageFault}
 use Rattle.boot_plan.specs.declared.faults.TheConstants.{TOO_LONG}
 use Rattle.xousim.specs.Outcome.{Boots, Told, Image, Refuses, RefusesBytes, Plays, Ends, AsksImage, AsksBoth, transcript, last_line, run_of}
 use Rattle.xousim.specs.Reading.{IsFile, IsReadOf, IsTold, Asked, AsksFor}
-use Rattle.plain_kernel.specs.Start.{start}
+use Rattle.xk_kernel.specs.Start.{start}
 use Rattle.xousim.specs.Words.{Names}
 use Rattle.xousim.specs.Writing.{Wrote}
 use Rattle.xousim.proofs.ToldLemmas.{prefix_after}
@@ -101,7 +101,7 @@ plays_written file name left machine before after host_rose rose events is_file 
 
 pub refuses_file : (file : Told) (name : List ℕ) (rose : Type 0) (bytes : List ℕ) (status : Status) → IsFile file name bytes → RefusesBytes bytes status → Refuses file name rose status
 refuses_file file name rose bytes (ImageFault fault) read refused = (bytes, read, refused)
-refuses_file file name rose bytes NotBuilt read refused = (bytes, read, refused)
+refuses_file file name rose bytes NotBuilt read refused = refused
 refuses_file file name rose bytes NoMemory read refused = tt
 refuses_file file name rose bytes ReadFault read refused = absurd refused
 refuses_file file name rose bytes Done read refused = refused
@@ -114,7 +114,7 @@ refused_not_done file name rose Done refused is = refused
 refused_not_done file name rose ReadFault refused is = cc
 refused_not_done file name rose WriteFault refused is = refused
 refused_not_done file name rose NoMemory refused is = cc
-refused_not_done file name rose NotBuilt refused is = cc
+refused_not_done file name rose NotBuilt refused is = refused
 refused_not_done file name rose (EventFault line) refused is = refused
 refused_not_done file name rose (StepLimit limit) refused is = refused
 refused_not_done file name rose (ImageFault fault) refused is = cc
