@@ -1,8 +1,7 @@
 -- The cases of a tick, and what is written for each.
-use Rattle.std.proofs.Common.{◌≡◌, ◌≢◌, ◌<◌, ◌==◌, ◌+◌, ◌-◌, ℕ, zero, suc, Bool, true, false, List, [], ◌∷◌, ◌++◌, Option, Some, None, Result, Ok, Err, IsErr, OnOk, is_some, refl, sym, ap, ◌∙◌, subst, arith, append_assoc, append-nil, add-one, drop-cons, drop, length, get_or, ◌≤◌, ◌⊎◌, inl, inr}
+use Rattle.std.proofs.Common.{◌≡◌, ◌≢◌, ◌<◌, ◌==◌, ◌+◌, ℕ, zero, suc, Bool, true, false, List, [], ◌∷◌, ◌++◌, Option, Some, None, Result, Ok, Err, IsErr, OnOk, is_some, refl, sym, ap, ◌∙◌, subst, arith, append_assoc, ◌≤◌, ◌⊎◌, inl, inr}
 use Rattle.std.proofs.lemmas.Bool.Decides.{nat_tests}
-use Rattle.std.proofs.lemmas.List.{drop_all}
-use Rattle.std.proofs.lemmas.Grind.{common_steps, flat_map-append}
+use Rattle.std.proofs.lemmas.Grind.{flat_map-append}
 use Rattle.xk_base.specs.declared.records.Rec.{Rec}
 use Rattle.xk_base.specs.declared.errors.Failed.{Failed}
 use Rattle.xk_ports.specs.Told.{Grows, GrowsByPrefix}
@@ -15,7 +14,7 @@ use Rattle.xk_base.specs.declared.ids.ThreadId.{ThreadId}
 use Rattle.xk_kernel.specs.Built.{event_built, step_built}
 use Rattle.xousim.specs.declared.ending.Ending.{Ending}
 use Rattle.xousim.specs.declared.ending.Ending.TheVariants.{Played, LimitMet, Unbuilt, BadLine}
-use Rattle.xousim.specs.History.{History, at_once, ended, behind, ticks, history, history_to, history_of, end_of, play, played, followed_by, go_on}
+use Rattle.xousim.specs.History.{History, at_once, ended, behind, ticks, history, history_to, play, played, followed_by, go_on}
 use Rattle.xk_kernel.specs.Stepping.{event_done}
 use Rattle.machine_model.specs.Changes.{settled}
 use Rattle.machine_model.specs.Closing.{closed, servers_closed, senders_queued_gone, senders_held_gone}
@@ -25,7 +24,6 @@ use Rattle.event_text.specs.declared.event.Event.TheVariants.{Tick, Pick, Irq, K
 use Rattle.xk_base.specs.declared.ids.Pid.{Pid}
 use Rattle.xk_base.specs.declared.ids.Tid.{Tid}
 use Rattle.event_text.specs.declared.event.Event.{Event}
-use Rattle.event_text.specs.EventFile.{Input}
 use Rattle.xousim.specs.Writing.{Wrote}
 
 pub ticks_zero : (limit : ℕ) (m : Machine) → ticks 0 limit m ≡ ended Played (turn m)

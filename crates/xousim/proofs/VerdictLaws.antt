@@ -10,7 +10,6 @@ use Rattle.boot_plan.proofs.ImageFaultLaws.{image_fault_once}
 use Rattle.machine_model.specs.Machine.{Machine}
 use Rattle.xk_kernel.specs.Start.{start}
 use Rattle.xk_base.specs.declared.limits.TheConstants.{DEFAULT_STEPS}
-use Rattle.xk_base.specs.Outside.{Rose}
 use Rattle.xk_ports.specs.Host.{FileAsked}
 use Rattle.xousim.specs.declared.ending.Ending.{Ending}
 use Rattle.xousim.specs.declared.ending.Ending.TheVariants.{Played, LimitMet, Unbuilt, BadLine}

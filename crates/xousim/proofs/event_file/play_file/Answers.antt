@@ -1,11 +1,11 @@
-use Rattle.std.proofs.Common.{◌≡◌, ◌∙◌, ◌≤◌, ◌+◌, ◌++◌, subst, sym, ap, refl, true, false, List, [], length, Option, Some, None, ℕ, Result, Ok, take, arith}
+use Rattle.std.proofs.Common.{◌≡◌, ◌∙◌, ◌≤◌, ◌+◌, ◌++◌, subst, sym, ap, refl, false, List, [], length, Option, Some, ℕ, Ok, take, arith}
 use Rattle.machine_model.specs.Machine.{Machine}
 use Rattle.event_text.specs.Held.{Reader, IsWaiting, new_reader}
 use Rattle.event_text.proofs.HeldLemmas.{front_empty}
 use Rattle.xk_kernel.specs.State.{machine_of}
 use Rattle.xk_base.specs.declared.limits.TheConstants.{EVENT_FILE_LIMIT}
 use Rattle.xk_ports.specs.Told.{Consumes}
-use Rattle.xk_ports.specs.declared.host.FileSlot.TheVariants.{First, Second}
+use Rattle.xk_ports.specs.declared.host.FileSlot.TheVariants.{Second}
 use Rattle.xousim.specs.declared.ending.Ending.{Ending}
 use Rattle.xousim.specs.Playing.{Goes, HasPlayed}
 use Rattle.xousim.proofs.KeptLemmas.{kept_after, kept_same}

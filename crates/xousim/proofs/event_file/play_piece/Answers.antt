@@ -1,12 +1,11 @@
-use Rattle.std.proofs.Common.{◌≡◌, ◌∙◌, ◌+◌, ◌++◌, ◌-◌, subst, sym, ap, Bool, false, List, Option, None, ℕ, Result, Ok, take, drop, length, arith, append_assoc}
+use Rattle.std.proofs.Common.{◌≡◌, ◌∙◌, ◌++◌, ◌-◌, subst, sym, ap, false, List, Option, ℕ, Ok, take, drop, length, arith, append_assoc, append-nil, [], refl}
 use Rattle.std.proofs.lemmas.Grind.{common_steps}
-use Rattle.xk_base.specs.declared.errors.Failed.{Failed}
 use Rattle.machine_model.specs.Machine.{Machine}
 use Rattle.event_text.specs.Held.{Reader}
 use Rattle.xk_kernel.specs.State.{machine_of}
 use Rattle.xousim.specs.declared.ending.Ending.{Ending}
-use Rattle.xousim.specs.Playing.{EndsSo, FailsSo, Goes, HasPlayed}
-use Rattle.xousim.proofs.KeptLemmas.{kept_after}
+use Rattle.xousim.specs.Playing.{Goes, HasPlayed}
+use Rattle.xousim.proofs.KeptLemmas.{kept_after, kept_same}
 use Rattle.xousim.proofs.PlayingLemmas.{played_bytes, piece_cut, piece_front, fed_offset, ends_longer, fails_longer, goes_err}
 use Rattle.xousim.proofs.event_file.play_piece.Goals as goal
 
@@ -28,6 +27,28 @@ returns-in_err-play_known-clause-goes g c = λ start begun taken p.
     fails_longer c.args.limit start begun out fed (drop t rest) (taken ++ c.args.piece.now) c.feed-taken.new.self.finished failed
     (piece_cut taken front.0 rest c.args.piece.now t front.1) unsaid
     (c.in_err-play_known.ensures.goes start begun fed q))
+
+pub rest-init : goal.rest-init
+rest-init g c =
+    let m : Machine = machine_of g.W.SwapStore.held c.args.kernel.now in
+    let out = g.K.Sink.written c.args.out.now in
+    record {
+      front = (
+        [],
+        refl,
+        λ start begun taken p.
+            let P : List ℕ → Type 0 = λ l. HasPlayed c.args.limit start begun l c.args.reader.now m out in
+            subst P (sym (append-nil taken)) p,
+      );
+      waits = c.requires.waits;
+      inside = c.requires.inside;
+      offset = refl;
+      sound = c.requires.sound;
+      usable = c.requires.usable;
+      keeps = kept_same c.args.kernel.now;
+      within = c.requires.within;
+      later = omega arith;
+    }
 
 pub rest-preserved : goal.rest-preserved
 rest-preserved g c =

@@ -1,7 +1,6 @@
-use Rattle.std.proofs.Common.{◌≡◌, ◌∙◌, sym, ap, subst, true, List, Result, Err}
+use Rattle.std.proofs.Common.{◌≡◌, ◌∙◌, subst, true, List, Err}
 use Rattle.machine_model.specs.Machine.{Machine}
 use Rattle.trace_text.specs.Lines.{text_of}
-use Rattle.xk_base.specs.declared.errors.Failed.{Failed}
 use Rattle.xk_base.specs.declared.records.Rec.{Rec}
 use Rattle.xk_kernel.specs.Built.{event_built}
 use Rattle.xk_kernel.specs.State.{machine_of}

@@ -1,8 +1,8 @@
-use Rattle.std.proofs.Common.{◌≡◌, ◌∙◌, ◌≤◌}
+use Rattle.std.proofs.Common.{◌≡◌}
 use Rattle.machine_model.specs.Machine.{Machine}
 use Rattle.xk_kernel.specs.State.{machine_of}
-use Rattle.xousim.specs.History.{History, at_once, play}
-use Rattle.xousim.proofs.HistoryLemmas.{at_once_steps, play_other, wrote_same, ok_machine, ok_within}
+use Rattle.xousim.specs.History.{at_once, play}
+use Rattle.xousim.proofs.HistoryLemmas.{play_other, wrote_same, ok_machine, ok_within}
 use Rattle.xousim.proofs.playing.play_event.Goals as goal
 
 pub returns-in-Tick-clause-wrote : goal.returns-in-Tick-clause-wrote

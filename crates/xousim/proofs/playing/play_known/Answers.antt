@@ -1,7 +1,5 @@
-use Rattle.std.proofs.Common.{◌≡◌, subst, sym, Bool, List, Option, ℕ, Result, Ok}
-use Rattle.xk_base.specs.declared.errors.Failed.{Failed}
+use Rattle.std.proofs.Common.{subst, Bool, Ok}
 use Rattle.machine_model.specs.Machine.{Machine}
-use Rattle.event_text.specs.Held.{Reader}
 use Rattle.xk_kernel.specs.State.{machine_of}
 use Rattle.xousim.specs.declared.playing.Advance.{Advance}
 use Rattle.xousim.specs.Playing.{Advances, EndsSo, FailsSo}

@@ -1,4 +1,4 @@
-use Rattle.std.proofs.Common.{◌≡◌, ◌∙◌, sym, ap, subst, List, Option, ℕ, Result, Ok}
+use Rattle.std.proofs.Common.{◌≡◌, ◌∙◌, sym, ap, subst, Result, Ok}
 use Rattle.machine_model.specs.Machine.{Machine}
 use Rattle.event_text.specs.Held.{Reader}
 use Rattle.event_text.specs.Plays.{events_in}

@@ -1,12 +1,10 @@
-use Rattle.std.proofs.Common.{◌≡◌, ◌≢◌, ◌<◌, ◌≤◌, ◌+◌, ◌-◌, ℕ, suc, true, false, is_some, sym, ap, ◌∙◌, subst, arith, List, Option, Result, Ok, Err}
-use Rattle.xk_base.specs.declared.errors.Failed.{Failed}
+use Rattle.std.proofs.Common.{◌≡◌, ◌≢◌, ◌+◌, ◌-◌, ℕ, suc, sym, ap, ◌∙◌, subst, arith, List, Ok, Err}
 use Rattle.xk_base.specs.declared.records.Rec.{Rec}
 use Rattle.xk_ports.specs.Told.{Grows, GrowsByPrefix}
 use Rattle.trace_text.specs.Lines.{text_of}
 use Rattle.machine_model.specs.Machine.{Machine}
-use Rattle.machine_model.specs.Order.{actor, turn}
+use Rattle.machine_model.specs.Order.{turn}
 use Rattle.machine_model.specs.Step.{step}
-use Rattle.xousim.specs.declared.ending.Ending.{Ending}
 use Rattle.xousim.specs.declared.ending.Ending.TheVariants.{Played, LimitMet, Unbuilt}
 use Rattle.xousim.specs.History.{History, behind, ticks}
 use Rattle.xk_kernel.specs.State.{machine_of}

@@ -1,11 +1,10 @@
-use Rattle.std.proofs.Common.{◌≡◌, ◌∙◌, subst, sym, ap, inl, inr, true, List, Option, ℕ, Result, Ok, Err}
+use Rattle.std.proofs.Common.{◌∙◌, subst, sym, ap, inr, true, List, Option, Err}
 use Rattle.machine_model.specs.Machine.{Machine}
 use Rattle.xk_kernel.specs.State.{machine_of}
 use Rattle.xk_base.specs.declared.limits.TheConstants.{DEFAULT_STEPS}
 use Rattle.xk_base.specs.Outside.{Rose}
 use Rattle.xk_ports.specs.Host.{FileAsked}
 use Rattle.xk_ports.specs.declared.host.FileSlot.TheVariants.{Second}
-use Rattle.xousim.specs.declared.ending.Ending.{Ending}
 use Rattle.xousim.specs.declared.event_file.RunFault.{RunFault}
 use Rattle.xousim.specs.Playing.{Runs}
 use Rattle.xousim.specs.Reading.{Asked}
