@@ -1,18 +1,23 @@
 //! A kernel is booted.
 
-ghost use Rattle.std.specs.Prelude.{◌≡◌, ◌+◌, ◌≤◌, [], All, IfErr, IfOk, length};
+ghost use Rattle.std.specs.Prelude.{◌≡◌, ◌≤◌, ◌==◌, if◌then◌else◌, [], All, None, IfErr, IfOk, length};
 ghost use Rattle.std.specs.Option.{option_map};
-ghost use Rattle.std.specs.Prelude.{◌==◌, if◌then◌else◌, None};
 ghost use Rattle.boot_plan.specs.Lawful.{CanStart, IsLawfulPlan};
 ghost use Rattle.vm_memory.specs.Bytes.{KeepsStore};
 ghost use Rattle.vm_memory.specs.Memory.{size, store_of};
 ghost use Rattle.vm_memory.specs.Tie.{IsTied};
 ghost use Rattle.xk_kernel.specs.Sound.{IsSound, IsUsable};
+ghost use Rattle.process_table.specs.ProcessMap.{new_processes};
+ghost use Rattle.process_table.specs.ProcessesOf.{process_count as processes_made, processes_of};
+ghost use Rattle.server_table.specs.ServersOf.{servers_of};
+ghost use Rattle.server_table.specs.ServerState.{no_servers};
+ghost use Rattle.thread_table.specs.ThreadMap.{no_threads};
 ghost use Rattle.thread_table.specs.ThreadsOf.{process_count, threads_of};
+ghost use Rattle.xk_base.specs.declared.limits.TheConstants.{RECORD_LIMIT};
 ghost use Rattle.xk_base.specs.Circle.{IsPid};
 ghost use Rattle.xk_base.specs.declared.ids.ThreadId.{ThreadId as Id};
 ghost use Rattle.xk_base.specs.declared.ids.Tid.{Tid as TidNumber};
-ghost use Rattle.xk_kernel.specs.Start.{first_threads, start};
+ghost use Rattle.xk_kernel.specs.Start.{first_threads, start, threads_at_start};
 ghost use Rattle.xk_kernel.specs.State.{machine_of, thread_of};
 ghost use Rattle.xk_kernel.specs.Stepping.{last_of};
 
@@ -61,20 +66,36 @@ fn start_process(threads: &mut Threads, pid: Pid, entry: u32)
     threads.start(ThreadId { pid, tid: Tid(2) }, first);
 }
 
+// Starts the threads of all processes of a plan, where there is none yet.
+fn start_processes(threads: &mut Threads, plan: &BootPlan)
+    requires few { length plan.now.procs ≤ 32 }
+    requires count { process_count threads.old ≡ length plan.now.procs }
+    requires empty { threads_of threads.old ≡ no_threads }
+    ensures after { (id : Id) → option_map thread_of (threads_of threads.new id) ≡ threads_at_start plan.now id }
+    ensures count { process_count threads.new ≡ length plan.now.procs }
+{
+    let processes = plan.procs.as_slice();
+    'processes: for k in 0..processes.len() {
+        start_process(threads, Pid(k as u8 + 2), processes[k].entry);
+    }
+}
+
 // The tables of a kernel at its start.
 fn tables(alloc: Global, plan: &BootPlan) -> Result<Tables, NoMemory>
     requires few { length plan.now.procs ≤ 32 }
-    requires can_start { All CanStart plan.now.procs }
+    ensures threads { IfOk result (λ t. (id : Id) → option_map thread_of (threads_of t.0 id) ≡ threads_at_start plan.now id) }
+    ensures threaded { IfOk result (λ t. process_count t.0 ≡ length plan.now.procs) }
+    ensures procs { IfOk result (λ t. processes_of t.1 ≡ new_processes (length plan.now.procs)) }
+    ensures made { IfOk result (λ t. processes_made t.1 ≡ length plan.now.procs) }
+    ensures servers { IfOk result (λ t. servers_of t.2 ≡ no_servers) }
+    ensures log { IfOk result (λ t. t.3 ≡ record { step = 0; records = []; room = RECORD_LIMIT }) }
 {
-    let processes = plan.procs.as_slice();
-    let count = processes.len() as u32;
+    let count = plan.procs.as_slice().len() as u32;
     let mut threads = Threads::new(alloc, count)?;
     let procs = Processes::new(alloc, count)?;
     let servers = Servers::new(alloc)?;
     let log = Log::new(alloc, RECORD_LIMIT as usize)?;
-    for k in 0..processes.len() {
-        start_process(&mut threads, Pid(k as u8 + 2), processes[k].entry);
-    }
+    start_processes(&mut threads, plan);
     Ok((threads, procs, servers, log))
 }
 

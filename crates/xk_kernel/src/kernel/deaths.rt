@@ -81,7 +81,10 @@ impl<W: SwapStore> Kernel<W> {
         ensures { result ≡ option_map_or (λ t. is_joining tid t.state) ((machine_of W.held self.now).threads id) false }
     {
         match self.threads.get(id) {
-            Some(thread) => thread.state == ThreadState::Joining(tid),
+            Some(thread) => match thread.state {
+                ThreadState::Joining(awaited) => awaited == tid,
+                _ => false,
+            },
             None => false,
         }
     }

@@ -10,7 +10,6 @@ ghost use Rattle.xk_kernel.specs.Stepping.{Becomes, event_done};
 
 use crate::kernel::Kernel;
 use event_text::Event;
-use thread_table::ThreadState;
 use xk_base::{ThreadId, What};
 use xk_ports::SwapStore;
 
@@ -33,9 +32,7 @@ impl<W: SwapStore> Kernel<W> {
         ensures mem { self.new.mem ≡ self.old.mem }
         ensures log { self.new.log ≡ self.old.log }
     {
-        if let Some(thread) = self.threads.get(who)
-            && thread.state == ThreadState::Ready
-        {
+        if self.is_ready_at(who) {
             self.cursor = who;
         }
     }

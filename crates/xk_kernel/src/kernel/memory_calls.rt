@@ -1,8 +1,10 @@
 //! The five calls on memory. The caller is the thread whose turn it is.
 
-ghost use Rattle.std.specs.Prelude.{◌≡◌, if◌then◌else◌, None, Some, IfOk, IsOk, OnErr, OnOk};
+ghost use Rattle.std.specs.Prelude.{◌≡◌, ◌==◌, ◌/◌, if◌then◌else◌, None, Some, IfOk, IsOk, OnErr, OnOk};
 ghost use Rattle.machine_model.specs.Changes.{Served as ServedOutcome, unless_refused};
-ghost use Rattle.machine_model.specs.MemoryCalls.{are_bad_flags, caller_place, is_bad_range, decrease_refusals, decrease_served, increase_refusals, increase_served, map_refusals, map_served, unmap_refusals, unmap_served, update_refusals, update_served};
+ghost use Rattle.machine_model.specs.Matched.{AreHeapsMatched};
+ghost use Rattle.machine_model.specs.MemoryCalls.{are_bad_flags, is_bad_range, decrease_refusals, decrease_served, increase_refusals, increase_served, map_refusals, map_served, unmap_refusals, unmap_served, update_refusals, update_served};
+ghost use Rattle.machine_model.specs.Views.{page_of};
 ghost use Rattle.xk_base.specs.Flags.{right_of};
 ghost use Rattle.xk_kernel.specs.Calling.{outcome_of};
 ghost use Rattle.xk_kernel.specs.Sound.{IsUsable, IsWhole, Keeps};
@@ -21,6 +23,9 @@ const HEAP_START: u32 = 0x2000_0000;
 
 /// How long a heap may be, in bytes: the whole window.
 const HEAP_LIMIT: u32 = 0x0100_0000;
+
+/// The right to a page of a heap.
+const HEAP_RIGHT: Right = Right { w: true, x: false };
 
 // Whether these are not the address and the size of a run of pages.
 fn is_bad_range(address: u32, size: u32) -> bool
@@ -43,10 +48,20 @@ fn right_asked(flags: u32) -> Option<Right>
     })
 }
 
+// The page that MapMemory asks for; none where it leaves the choice.
+fn page_asked(virt: u32) -> Option<Vpn>
+    ensures { result ≡ (if virt == 0 then None else Some (record { 0 = virt / PAGE_SIZE })) }
+{
+    if virt == 0 {
+        return None;
+    }
+    Some(Vpn(virt / PAGE_SIZE))
+}
+
 impl<W: SwapStore> Kernel<W> {
     // The place of an address in the caller's process.
     fn caller_place(&self, address: u32) -> Place
-        ensures { result ≡ caller_place (machine_of W.held self.now) address }
+        ensures { result ≡ page_of self.now.cursor.pid address }
     {
         Place {
             pid: self.cursor.pid,
@@ -72,7 +87,33 @@ impl<W: SwapStore> Kernel<W> {
         ensures keeps { Keeps W.is_honest W.held W.slot_count W.asked W.faults self.old self.new }
         ensures sure { IsOk result }
     {
-        Ok(Err(XousError::BadAlignment))
+        if is_bad_range(virt, size) {
+            return Ok(Err(XousError::BadAlignment));
+        }
+        let Some(right) = right_asked(flags) else {
+            return Ok(Err(XousError::InvalidSyscall));
+        };
+        let at = page_asked(virt);
+        if phys == CONSOLE_ADDRESS {
+            if size != PAGE_SIZE || right.x {
+                return Ok(Err(XousError::BadAddress));
+            }
+            return match self.mem.make_console(self.cursor.pid, at, right.w) {
+                Ok(first) => Ok(Ok(Served::Answered(Reply::Range(PAGE_SIZE * first.0, size)))),
+                Err(error) => Ok(Err(error)),
+            };
+        }
+        if phys != 0 {
+            return Ok(Err(XousError::BadAddress));
+        }
+        match self
+            .mem
+            .make(self.cursor.pid, Window::Map, at, size / PAGE_SIZE, right)
+        {
+            Ok(Ok(first)) => Ok(Ok(Served::Answered(Reply::Range(PAGE_SIZE * first.0, size)))),
+            Ok(Err(error)) => Ok(Err(error)),
+            Err(Failed) => Err(SwapFault),
+        }
     }
 
     // UnmapMemory: the pages go, the console too.
@@ -90,8 +131,10 @@ impl<W: SwapStore> Kernel<W> {
             return Err(XousError::BadAlignment);
         }
         let first = self.caller_place(address);
-        self.mem.remove_run(first, size / PAGE_SIZE)?;
-        Ok(Served::Answered(Reply::Plain))
+        match self.mem.remove_run(first, size / PAGE_SIZE) {
+            Ok(()) => Ok(Served::Answered(Reply::Plain)),
+            Err(error) => Err(error),
+        }
     }
 
     // UpdateMemoryFlags: the right of the pages becomes the one that is asked.
@@ -110,7 +153,17 @@ impl<W: SwapStore> Kernel<W> {
         ensures log { self.new.log ≡ self.old.log }
         ensures keeps { Keeps W.is_honest W.held W.slot_count W.asked W.faults self.old self.new }
     {
-        Err(XousError::BadAlignment)
+        if is_bad_range(address, size) {
+            return Err(XousError::BadAlignment);
+        }
+        let Some(right) = right_asked(flags) else {
+            return Err(XousError::InvalidSyscall);
+        };
+        let first = self.caller_place(address);
+        match self.mem.reduce_run(first, size / PAGE_SIZE, right) {
+            Ok(()) => Ok(Served::Answered(Reply::Plain)),
+            Err(error) => Err(error),
+        }
     }
 
     // IncreaseHeap: pages with R and W stand above the heap.
@@ -120,6 +173,7 @@ impl<W: SwapStore> Kernel<W> {
     ) -> Result<Result<Served, XousError>, SwapFault>
         requires whole { IsWhole W.slot_count W.held self.old }
         requires usable { IsUsable self.old }
+        requires matched { AreHeapsMatched (machine_of W.held self.old) }
         ensures whole { IsWhole W.slot_count W.held self.new }
         ensures usable { OnOk result (IsUsable self.new) }
         ensures outcome { IfOk result (λ served. outcome_of self.old.cursor (machine_of W.held self.new) served ≡ unless_refused (increase_refusals (machine_of W.held self.old) bytes) (ServedOutcome (increase_served (machine_of W.held self.old) bytes))) }
@@ -128,13 +182,35 @@ impl<W: SwapStore> Kernel<W> {
         ensures keeps { Keeps W.is_honest W.held W.slot_count W.asked W.faults self.old self.new }
         ensures sure { IsOk result }
     {
-        Ok(Err(XousError::BadAlignment))
+        if bytes % PAGE_SIZE != 0 {
+            return Ok(Err(XousError::BadAlignment));
+        }
+        let pid = self.cursor.pid;
+        let heap = self.procs.heap(pid);
+        if bytes > HEAP_LIMIT - heap {
+            return Ok(Err(XousError::InvalidLimit));
+        }
+        let address = HEAP_START + heap;
+        if bytes == 0 {
+            return Ok(Ok(Served::Answered(Reply::Range(address, bytes))));
+        }
+        let first = Vpn(address / PAGE_SIZE);
+        let n = bytes / PAGE_SIZE;
+        match self.mem.make(pid, Window::Heap, Some(first), n, HEAP_RIGHT) {
+            Ok(Ok(_)) => {
+                self.procs.set_heap(pid, heap + bytes);
+                Ok(Ok(Served::Answered(Reply::Range(address, bytes))))
+            }
+            Ok(Err(error)) => Ok(Err(error)),
+            Err(Failed) => Err(SwapFault),
+        }
     }
 
     // DecreaseHeap: the pages at the end of the heap go; places without a page are passed over.
     pub(super) fn decrease_heap(&mut self, bytes: u32) -> Result<Served, XousError>
         requires whole { IsWhole W.slot_count W.held self.old }
         requires usable { IsUsable self.old }
+        requires matched { AreHeapsMatched (machine_of W.held self.old) }
         ensures whole { IsWhole W.slot_count W.held self.new }
         ensures usable { IsUsable self.new }
         ensures outcome { outcome_of self.old.cursor (machine_of W.held self.new) result ≡ unless_refused (decrease_refusals (machine_of W.held self.old) bytes) (ServedOutcome (decrease_served (machine_of W.held self.old) bytes)) }
@@ -142,6 +218,20 @@ impl<W: SwapStore> Kernel<W> {
         ensures log { self.new.log ≡ self.old.log }
         ensures keeps { Keeps W.is_honest W.held W.slot_count W.asked W.faults self.old self.new }
     {
-        Err(XousError::BadAlignment)
+        if bytes % PAGE_SIZE != 0 {
+            return Err(XousError::BadAlignment);
+        }
+        let heap = self.procs.heap(self.cursor.pid);
+        if bytes > heap {
+            return Err(XousError::InvalidLimit);
+        }
+        let first = self.caller_place(HEAP_START + (heap - bytes));
+        match self.mem.clear_run(first, bytes / PAGE_SIZE) {
+            Ok(()) => {
+                self.procs.set_heap(self.cursor.pid, heap - bytes);
+                Ok(Served::Answered(Reply::Plain))
+            }
+            Err(error) => Err(error),
+        }
     }
 }

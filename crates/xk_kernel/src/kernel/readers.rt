@@ -1,7 +1,7 @@
 //! What a kernel tells without a step, the end of a turn, and its own end.
 
 ghost use Rattle.std.specs.Prelude.{◌≡◌, is_some};
-ghost use Rattle.machine_model.specs.Order.{actor, turn};
+ghost use Rattle.machine_model.specs.Order.{actor, ready_at, turn};
 ghost use Rattle.vm_memory.specs.Here.{here_at};
 ghost use Rattle.vm_memory.specs.Memory.{ram_of, store_of};
 ghost use Rattle.vm_memory.specs.Tie.{IsTied};
@@ -11,20 +11,29 @@ ghost use Rattle.xk_kernel.specs.Stepping.{last_of};
 
 use crate::kernel::Kernel;
 use phys_pages::Ram;
+use thread_table::ThreadState;
 use vm_memory::Here;
 use xk_base::{Place, Rec, ThreadId};
 use xk_ports::SwapStore;
 
 impl<W: SwapStore> Kernel<W> {
+    // Whether there is a thread of that id, and it is Ready.
+    pub(super) fn is_ready_at(&self, id: ThreadId) -> bool
+        ensures { result ≡ ready_at (machine_of W.held self.now) id }
+    {
+        match self.threads.get(id) {
+            Some(thread) => matches!(thread.state, ThreadState::Ready),
+            None => false,
+        }
+    }
+
     // Who does the next step: the thread whose turn it is where it is Ready, else the next ready
     // one. The first test alone is made where a thread goes on.
     pub(super) fn actor(&self) -> Option<ThreadId>
         requires whole { IsWhole W.slot_count W.held self.now }
         ensures { result ≡ actor (machine_of W.held self.now) }
     {
-        if let Some(thread) = self.threads.get(self.cursor)
-            && thread.state == thread_table::ThreadState::Ready
-        {
+        if self.is_ready_at(self.cursor) {
             return Some(self.cursor);
         }
         self.threads.next_ready_after(self.cursor)

@@ -1,0 +1,7 @@
+use Rattle.xk_kernel.specs.State.{machine_of}
+use Rattle.xk_kernel.proofs.kernel.Kernel.at.Goals as goal
+
+-- src/kernel/readers.rt
+pub returns : goal.returns
+unfolding machine_of
+returns g c = c.at.ensures

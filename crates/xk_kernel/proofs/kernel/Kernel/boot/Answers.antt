@@ -1,0 +1,45 @@
+use Rattle.std.proofs.Common.{◌≡◌, refl, ap, arith}
+use Rattle.xk_base.specs.Log.{LogState}
+use Rattle.xk_base.specs.declared.limits.TheConstants.{RECORD_LIMIT}
+use Rattle.vm_memory.proofs.CallLaws.{sound-means}
+use Rattle.xk_kernel.proofs.BootLemmas.{IsBooted, booted_machine, booted_sound, first_turn}
+use Rattle.xk_kernel.specs.declared.kernel.Kernel.{Kernel}
+use Rattle.xk_kernel.proofs.kernel.Kernel.boot.Given.{Over}
+use Rattle.xk_kernel.proofs.kernel.Kernel.boot.Goals as goal
+
+abbrev kernel : (g : Over) → goal.After-new g → Kernel g.row.W.Denot
+kernel g c = record {
+  mem = c.in_ok-mem.mem;
+  threads = c.in-Ok.tables.0;
+  procs = c.in-Ok.tables.1;
+  servers = c.in-Ok.tables.2;
+  claims = c.new.result;
+  log = c.in-Ok.tables.3;
+  cursor = first_turn;
+  next = 1;
+  steps = 0;
+}
+
+booted : (g : Over) (c : goal.After-new g) → IsBooted g.W.SwapStore.held c.args.plan.now c.args.file.now (kernel g c)
+booted g c = record {
+  size = c.in_ok-mem.ensures.size;
+  ledger = c.in_ok-mem.ensures.whole (sound-means g.W.SwapStore.slot_count g.W.SwapStore.is_honest g.W.SwapStore.held c.in_ok-mem.mem c.in_ok-mem.ensures.sound);
+  threads = c.in-Ok.ensures.threads;
+  procs = c.in-Ok.ensures.procs;
+  servers = c.in-Ok.ensures.servers;
+  claims = c.new.ensures;
+  cursor = refl;
+  next = refl;
+  steps = refl;
+}
+
+-- src/kernel/boot.rt
+pub returns-clause-sound : goal.returns-clause-sound
+returns-clause-sound g c =
+    let room : c.in-Ok.tables.3.room ≡ RECORD_LIMIT = ap (λ (l : LogState). l.room) c.in-Ok.ensures.log in
+    booted_sound g.W.SwapStore.slot_count g.W.SwapStore.held c.args.plan.now c.args.file.now (kernel g c) (booted g c)
+    (λ i. (c.type_inv.file i).fits) c.requires.can_start c.requires.lawful.few c.in_ok-mem.ensures.sound c.requires.lawful.some
+    c.in-Ok.ensures.threaded c.in-Ok.ensures.made (omega arith)
+
+pub returns-clause-start : goal.returns-clause-start
+returns-clause-start g c = booted_machine g.W.SwapStore.held c.args.plan.now c.args.file.now (kernel g c) (booted g c)

@@ -1,0 +1,23 @@
+use Rattle.std.proofs.Common.{sym, ◌∙◌}
+use Rattle.xk_kernel.proofs.DyingLemmas.{machine_has_no_server}
+use Rattle.xk_kernel.proofs.EndingLemmas.{end_with_others, end_with_process, ready_is_there}
+use Rattle.xk_kernel.proofs.TidLemmas.{none_live, some_live}
+use Rattle.xk_kernel.proofs.kernel.Kernel.end_thread.Goals as goal
+
+pub end-requires : goal.end-requires
+end-requires g c = ready_is_there g.W.SwapStore.held c.args.self.now c.args.self.now.cursor c.requires.ready
+
+pub returns-then-live-eq0-clause-tells : goal.returns-then-live-eq0-clause-tells
+returns-then-live-eq0-clause-tells g c =
+    end_with_process g.W.SwapStore.held c.args.self.now c.push.new.self c.end.new.self c.args.self.now.cursor c.args.a0 c.answer_joiners.new.self
+    (record { ready = c.requires.ready; pushed = c.push.ensures; ended = c.end.ensures.after; tells = c.answer_joiners.ensures.tells })
+    c.forget.new.self c.push-then-live-eq0.new.self
+    (none_live g.W.SwapStore.held c.answer_joiners.new.self c.args.self.now.cursor.pid (sym c.live.ensures ∙ c.if-live-eq0.true))
+    (machine_has_no_server g.W.SwapStore.held c.args.self.now c.requires.whole.no_servers)
+    c.forget.ensures.machine c.forget.ensures.log c.push-then-live-eq0.ensures
+
+pub returns-else-live-eq0-clause-tells : goal.returns-else-live-eq0-clause-tells
+returns-else-live-eq0-clause-tells g c =
+    end_with_others g.W.SwapStore.held c.args.self.now c.push.new.self c.end.new.self c.args.self.now.cursor c.args.a0 c.answer_joiners.new.self
+    (record { ready = c.requires.ready; pushed = c.push.ensures; ended = c.end.ensures.after; tells = c.answer_joiners.ensures.tells })
+    (some_live g.W.SwapStore.held c.answer_joiners.new.self c.args.self.now.cursor.pid (λ e. c.if-live-eq0.false (c.live.ensures ∙ e)))

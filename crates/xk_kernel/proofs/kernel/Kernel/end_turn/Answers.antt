@@ -1,0 +1,17 @@
+use Rattle.std.proofs.Common.{subst, sym}
+use Rattle.machine_model.proofs.KeptLemmas.{turn_keeps}
+use Rattle.machine_model.specs.Matched.{Matched}
+use Rattle.vm_memory.proofs.SoundMemory.{sound-tied}
+use Rattle.xk_kernel.specs.State.{machine_of}
+use Rattle.xk_kernel.proofs.kernel.Kernel.end_turn.Goals as goal
+
+-- src/kernel/readers.rt
+pub returns-clause-sound : goal.returns-clause-sound
+returns-clause-sound g c = record {
+  whole = c.turn.ensures.whole;
+  matched = λ usable. subst Matched (sym c.turn.ensures.machine)
+      (turn_keeps (machine_of g.W.SwapStore.held c.args.self.now) (c.requires.sound.matched c.requires.usable));
+}
+
+pub returns-clause-tie : goal.returns-clause-tie
+returns-clause-tie g c = sound-tied g.W.SwapStore.slot_count g.W.SwapStore.held c.turn.new.self.mem c.turn.ensures.whole.mem

@@ -1,0 +1,37 @@
+use Rattle.std.proofs.Common.{◌≤◌, ◌<◌, ◌-◌, ◌/◌, arith}
+use Rattle.vm_memory.specs.Memory.{ledger}
+use Rattle.xk_kernel.proofs.HeapGrowth.{heap_right, increase_by_none, increase_done, increase_past, increase_refused}
+use Rattle.xk_kernel.proofs.HeapLemmas.{heap_told, heap_within, whole_with_parts}
+use Rattle.xk_kernel.proofs.MemoryCallLemmas.{make_unlent, means_over}
+use Rattle.xk_kernel.proofs.kernel.Kernel.increase_heap.Goals as goal
+
+pub overflow_sub-heap : goal.overflow_sub-heap
+overflow_sub-heap g c = (heap_within g.W.SwapStore.slot_count g.W.SwapStore.held c.args.self.now c.requires.whole c.heap-heap.result (heap_told g.W.SwapStore.slot_count g.W.SwapStore.held c.args.self.now c.requires.whole c.heap-heap.result c.heap-heap.ensures) c.requires.matched)
+
+pub returns-then-bytes-heap-clause-outcome : goal.returns-then-bytes-heap-clause-outcome
+returns-then-bytes-heap-clause-outcome g c =
+    increase_past g.W.SwapStore.slot_count g.W.SwapStore.held c.args.self.now c.requires.whole c.requires.matched c.args.bytes c.if-bytes-ne0.false c.heap-heap.result (heap_told g.W.SwapStore.slot_count g.W.SwapStore.held c.args.self.now c.requires.whole c.heap-heap.result c.heap-heap.ensures)
+    (let over : 16777216 - c.heap-heap.result < c.args.bytes = c.if-bytes-heap.true in omega (arith, over))
+
+pub overflow_add-address : goal.overflow_add-address
+overflow_add-address g c = let within : c.heap-heap.result ≤ 16777216 = (heap_within g.W.SwapStore.slot_count g.W.SwapStore.held c.args.self.now c.requires.whole c.heap-heap.result (heap_told g.W.SwapStore.slot_count g.W.SwapStore.held c.args.self.now c.requires.whole c.heap-heap.result c.heap-heap.ensures) c.requires.matched) in omega (arith, within)
+
+pub returns-then-bytes-eq0-clause-outcome : goal.returns-then-bytes-eq0-clause-outcome
+returns-then-bytes-eq0-clause-outcome g c = increase_by_none g.W.SwapStore.slot_count g.W.SwapStore.held c.args.self.now c.requires.whole c.requires.matched c.args.bytes c.if-bytes-ne0.false c.heap-heap.result (heap_told g.W.SwapStore.slot_count g.W.SwapStore.held c.args.self.now c.requires.whole c.heap-heap.result c.heap-heap.ensures) (let within : c.heap-heap.result ≤ 16777216 = (heap_within g.W.SwapStore.slot_count g.W.SwapStore.held c.args.self.now c.requires.whole c.heap-heap.result (heap_told g.W.SwapStore.slot_count g.W.SwapStore.held c.args.self.now c.requires.whole c.heap-heap.result c.heap-heap.ensures) c.requires.matched) in let room : c.args.bytes ≤ 16777216 - c.heap-heap.result = c.if-bytes-heap.false in omega (arith, within, room)) c.if-bytes-eq0.true
+
+pub returns-in-Ok-Ok-clause-whole : goal.returns-in-Ok-Ok-clause-whole
+returns-in-Ok-Ok-clause-whole g c =
+    whole_with_parts g.W.SwapStore.slot_count g.W.SwapStore.held c.args.self.now c.requires.whole c.make.new.self c.set_heap.new.self c.make.ensures.size c.make.ensures.sound
+    (make_unlent c.args.self.now.cursor.pid (c.args.bytes / 4096) heap_right c.in-Ok-Ok.field-0 (ledger g.W.SwapStore.held c.args.self.now.mem)
+    (ledger g.W.SwapStore.held c.make.new.self) (c.in-Ok-Ok.ensures.whole (means_over g.W.SwapStore.slot_count g.W.SwapStore.is_honest g.W.SwapStore.held c.args.self.now.mem c.make.new.self c.requires.whole.mem c.make.ensures.sound)) c.requires.whole.unlent)
+    c.set_heap.ensures.count
+
+pub returns-in-Ok-Ok-clause-outcome : goal.returns-in-Ok-Ok-clause-outcome
+returns-in-Ok-Ok-clause-outcome g c =
+    increase_done g.W.SwapStore.slot_count g.W.SwapStore.held c.args.self.now c.requires.whole c.requires.matched c.args.bytes c.if-bytes-ne0.false c.heap-heap.result (heap_told g.W.SwapStore.slot_count g.W.SwapStore.held c.args.self.now c.requires.whole c.heap-heap.result c.heap-heap.ensures) (let within : c.heap-heap.result ≤ 16777216 = (heap_within g.W.SwapStore.slot_count g.W.SwapStore.held c.args.self.now c.requires.whole c.heap-heap.result (heap_told g.W.SwapStore.slot_count g.W.SwapStore.held c.args.self.now c.requires.whole c.heap-heap.result c.heap-heap.ensures) c.requires.matched) in let room : c.args.bytes ≤ 16777216 - c.heap-heap.result = c.if-bytes-heap.false in omega (arith, within, room)) c.make.new.self c.set_heap.new.self c.in-Ok-Ok.field-0-0 c.make.ensures.size
+    (rw c.in-Ok-Ok.field-0-is at c.in-Ok-Ok.ensures.answer)
+    (rw c.in-Ok-Ok.field-0-is at c.in-Ok-Ok.ensures.whole (means_over g.W.SwapStore.slot_count g.W.SwapStore.is_honest g.W.SwapStore.held c.args.self.now.mem c.make.new.self c.requires.whole.mem c.make.ensures.sound)) c.set_heap.ensures.after
+
+pub returns-in-Ok-Err-clause-outcome : goal.returns-in-Ok-Err-clause-outcome
+returns-in-Ok-Err-clause-outcome g c =
+    increase_refused g.W.SwapStore.slot_count g.W.SwapStore.held c.args.self.now c.requires.whole c.requires.matched c.args.bytes c.if-bytes-ne0.false c.heap-heap.result (heap_told g.W.SwapStore.slot_count g.W.SwapStore.held c.args.self.now c.requires.whole c.heap-heap.result c.heap-heap.ensures) (let within : c.heap-heap.result ≤ 16777216 = (heap_within g.W.SwapStore.slot_count g.W.SwapStore.held c.args.self.now c.requires.whole c.heap-heap.result (heap_told g.W.SwapStore.slot_count g.W.SwapStore.held c.args.self.now c.requires.whole c.heap-heap.result c.heap-heap.ensures) c.requires.matched) in let room : c.args.bytes ≤ 16777216 - c.heap-heap.result = c.if-bytes-heap.false in omega (arith, within, room)) c.in-Ok-Err.error (rw c.in-Ok-Err.field-0-is at c.in-Ok-Err.ensures.answer)

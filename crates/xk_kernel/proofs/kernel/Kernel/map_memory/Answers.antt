@@ -1,0 +1,64 @@
+use Rattle.std.proofs.Common.{◌≤◌, ◌/◌, arith, sym, ◌∙◌}
+use Rattle.std.proofs.lemmas.Bool.{eq-eqb, ne_eqb}
+use Rattle.machine_model.specs.MemoryCalls.{are_bad_flags}
+use Rattle.xk_base.specs.Flags.{right_of}
+use Rattle.vm_memory.specs.Memory.{capacity_of, ledger, processes}
+use Rattle.xk_kernel.proofs.MapLemmas.{console_done, console_low, console_refused, made_low, map_done, map_refused, narrow}
+use Rattle.xk_kernel.proofs.MemoryCallLemmas.{make_console_unlent, make_unlent, means_over, right_told, whole_with_mem}
+use Rattle.xk_kernel.proofs.kernel.Kernel.map_memory.Goals as goal
+
+pub overflow_mul-result : goal.overflow_mul-result
+overflow_mul-result g c =
+    let low : c.in-Ok.first.0 ≤ 397312 =
+    console_low (processes c.args.self.now.mem) (ledger g.W.SwapStore.held c.args.self.now.mem) c.args.self.now.cursor.pid c.page_asked-at.result c.in-Ok.first c.in-Ok.ensures.answer in
+    omega (arith, low)
+
+pub returns-in-Ok-clause-whole : goal.returns-in-Ok-clause-whole
+returns-in-Ok-clause-whole g c =
+    whole_with_mem g.W.SwapStore.slot_count g.W.SwapStore.held c.args.self.now c.make_console.new.self c.requires.whole c.make_console.ensures.size c.make_console.ensures.sound
+    (make_console_unlent c.args.self.now.cursor.pid c.in-Some.right.w c.make_console.result (ledger g.W.SwapStore.held c.args.self.now.mem)
+    (ledger g.W.SwapStore.held c.make_console.new.self) c.make_console.ensures.ledger c.requires.whole.unlent)
+
+pub returns-in-Ok-clause-outcome : goal.returns-in-Ok-clause-outcome
+returns-in-Ok-clause-outcome g c =
+    let asked = (right_told (are_bad_flags c.args.flags) (right_of c.args.flags) c.in-Some.right (sym c.in-Some.is ∙ c.right_asked.ensures)) in
+    console_done g.W.SwapStore.held c.args.self.now c.args.phys c.args.virt c.args.size c.args.flags c.in-Some.right (sym c.is_bad_range.ensures ∙ c.if-is_bad_range.false) asked
+    (eq-eqb c.args.phys 4026531840 c.if-phys-eq-CONSOLE_ADDRESS.true) c.if-size-ne-PAGE_SIZE.false
+    (narrow c.args.size c.args.flags c.in-Some.right c.if-size-ne-PAGE_SIZE.false asked.1 c.if-right.false)
+    c.make_console.new.self c.in-Ok.first c.make_console.ensures.size
+    (rw c.page_asked-at.ensures at c.in-Ok.ensures.answer) c.in-Ok.ensures.ledger
+
+pub returns-in-Err-clause-outcome : goal.returns-in-Err-clause-outcome
+returns-in-Err-clause-outcome g c =
+    let asked = (right_told (are_bad_flags c.args.flags) (right_of c.args.flags) c.in-Some.right (sym c.in-Some.is ∙ c.right_asked.ensures)) in
+    console_refused g.W.SwapStore.held c.args.self.now c.args.phys c.args.virt c.args.size c.args.flags c.in-Some.right (sym c.is_bad_range.ensures ∙ c.if-is_bad_range.false) asked
+    (eq-eqb c.args.phys 4026531840 c.if-phys-eq-CONSOLE_ADDRESS.true) c.if-size-ne-PAGE_SIZE.false
+    (narrow c.args.size c.args.flags c.in-Some.right c.if-size-ne-PAGE_SIZE.false asked.1 c.if-right.false)
+    c.in-Err.error (rw c.page_asked-at.ensures at c.in-Err.ensures.answer)
+
+pub overflow_mul-result-in-Ok-Ok : goal.overflow_mul-result-in-Ok-Ok
+overflow_mul-result-in-Ok-Ok g c =
+    let low : c.in-Ok-Ok.first.0 ≤ 397312 =
+    made_low (processes c.args.self.now.mem) (capacity_of c.args.self.now.mem) (ledger g.W.SwapStore.held c.args.self.now.mem) c.args.self.now.cursor.pid c.page_asked-at.result
+    (c.args.size / 4096) c.in-Ok-Ok.first (rw c.in-Ok-Ok.field-0-is at c.in-Ok-Ok.ensures.answer) in
+    omega (arith, low)
+
+pub returns-in-Ok-Ok-clause-whole : goal.returns-in-Ok-Ok-clause-whole
+returns-in-Ok-Ok-clause-whole g c =
+    whole_with_mem g.W.SwapStore.slot_count g.W.SwapStore.held c.args.self.now c.make.new.self c.requires.whole c.make.ensures.size c.make.ensures.sound
+    (make_unlent c.args.self.now.cursor.pid (c.args.size / 4096) c.in-Some.right c.in-Ok-Ok.field-0 (ledger g.W.SwapStore.held c.args.self.now.mem)
+    (ledger g.W.SwapStore.held c.make.new.self) (c.in-Ok-Ok.ensures.whole (means_over g.W.SwapStore.slot_count g.W.SwapStore.is_honest g.W.SwapStore.held c.args.self.now.mem c.make.new.self c.requires.whole.mem c.make.ensures.sound)) c.requires.whole.unlent)
+
+pub returns-in-Ok-Ok-clause-outcome : goal.returns-in-Ok-Ok-clause-outcome
+returns-in-Ok-Ok-clause-outcome g c =
+    map_done g.W.SwapStore.held c.args.self.now c.args.phys c.args.virt c.args.size c.args.flags c.in-Some.right (sym c.is_bad_range.ensures ∙ c.if-is_bad_range.false) (right_told (are_bad_flags c.args.flags) (right_of c.args.flags) c.in-Some.right (sym c.in-Some.is ∙ c.right_asked.ensures))
+    (eq-eqb c.args.phys 0 c.if-phys-ne0.false) (ne_eqb c.args.phys 4026531840 c.if-phys-eq-CONSOLE_ADDRESS.false)
+    c.make.new.self c.in-Ok-Ok.first c.make.ensures.size
+    (rw (c.page_asked-at.ensures, c.in-Ok-Ok.field-0-is) at c.in-Ok-Ok.ensures.answer)
+    (rw c.in-Ok-Ok.field-0-is at c.in-Ok-Ok.ensures.whole (means_over g.W.SwapStore.slot_count g.W.SwapStore.is_honest g.W.SwapStore.held c.args.self.now.mem c.make.new.self c.requires.whole.mem c.make.ensures.sound))
+
+pub returns-in-Ok-Err-clause-outcome : goal.returns-in-Ok-Err-clause-outcome
+returns-in-Ok-Err-clause-outcome g c =
+    map_refused g.W.SwapStore.held c.args.self.now c.args.phys c.args.virt c.args.size c.args.flags c.in-Some.right (sym c.is_bad_range.ensures ∙ c.if-is_bad_range.false) (right_told (are_bad_flags c.args.flags) (right_of c.args.flags) c.in-Some.right (sym c.in-Some.is ∙ c.right_asked.ensures))
+    (eq-eqb c.args.phys 0 c.if-phys-ne0.false) (ne_eqb c.args.phys 4026531840 c.if-phys-eq-CONSOLE_ADDRESS.false)
+    c.in-Ok-Err.error (rw (c.page_asked-at.ensures, c.in-Ok-Err.field-0-is) at c.in-Ok-Err.ensures.answer)

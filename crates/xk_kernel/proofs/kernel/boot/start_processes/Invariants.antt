@@ -1,0 +1,5 @@
+use Rattle.xk_kernel.proofs.StartLemmas.{AreStarted}
+use Rattle.xk_kernel.proofs.kernel.boot.start_processes.Given as goal
+
+abbrev pub invariant-processes : goal.invariant-processes
+invariant-processes l = AreStarted l.plan l.threads l.k
