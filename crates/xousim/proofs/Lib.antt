@@ -1,4 +1,5 @@
 pub mod HistoryLemmas
+pub mod KernelHistoryLemmas
 pub mod KeptLemmas
 pub mod PlayingLemmas
 pub mod ReadingLemmas

@@ -10,6 +10,7 @@ use Rattle.machine_model.specs.Step.{Stepped, step}
 use Rattle.xousim.specs.declared.ending.Ending.{Ending}
 use Rattle.xousim.specs.declared.ending.Ending.TheVariants.{Played, LimitMet, Unbuilt, BadLine}
 use Rattle.xk_kernel.specs.Built.{event_built, step_built}
+use Rattle.xk_kernel.specs.History as kernel
 use Rattle.xk_kernel.specs.Stepping.{event_done}
 
 -- the records in order, the last state, and why it ended there
@@ -76,3 +77,7 @@ end_of (Some line) = BadLine line
 -- an event file: the events before its first bad line in order, and then that line, or the end where there is none
 abbrev pub history_of : Input → ℕ → Machine → History
 history_of input limit m = history_to (end_of input.bad) input.events limit m
+
+-- the kernel's history of the same events, which knows no ending but the limit
+abbrev pub of_kernel : kernel.History → History
+of_kernel h = record { records = h.records; machine = h.machine; ending = if h.met then LimitMet else Played }
