@@ -1,8 +1,7 @@
 -- The cases of a tick, and what is written for each.
-use Rattle.std.proofs.Common.{◌≡◌, ◌≢◌, ◌<◌, ◌==◌, ◌+◌, ◌-◌, ℕ, zero, suc, Bool, true, false, List, [], ◌∷◌, ◌++◌, Option, Some, None, Result, Ok, Err, IsErr, is_some, refl, sym, ap, ◌∙◌, subst, arith, append_assoc, append-nil, add-one, drop-cons, drop, length, get_or, ◌≤◌}
+use Rattle.std.proofs.Common.{◌≡◌, ◌≢◌, ◌<◌, ◌==◌, ◌+◌, ℕ, zero, suc, Bool, true, false, List, [], ◌∷◌, ◌++◌, Option, Some, None, Result, Ok, Err, IsErr, OnOk, is_some, refl, sym, ap, ◌∙◌, subst, arith, append_assoc, ◌≤◌, ◌⊎◌, inl, inr}
 use Rattle.std.proofs.lemmas.Bool.Decides.{nat_tests}
-use Rattle.std.proofs.lemmas.List.{drop_all}
-use Rattle.std.proofs.lemmas.Grind.{common_steps, flat_map-append}
+use Rattle.std.proofs.lemmas.Grind.{flat_map-append}
 use Rattle.xk_base.specs.declared.records.Rec.{Rec}
 use Rattle.xk_base.specs.declared.errors.Failed.{Failed}
 use Rattle.xk_ports.specs.Told.{Grows, GrowsByPrefix}
@@ -12,12 +11,19 @@ use Rattle.machine_model.specs.Machine.{Machine}
 use Rattle.machine_model.specs.Order.{actor, turn}
 use Rattle.machine_model.specs.Step.{step, step_by, step_by_if}
 use Rattle.xk_base.specs.declared.ids.ThreadId.{ThreadId}
-use Rattle.plain_kernel.specs.Built.{step_built}
+use Rattle.xk_kernel.specs.Built.{event_built, step_built}
 use Rattle.xousim.specs.declared.ending.Ending.{Ending}
 use Rattle.xousim.specs.declared.ending.Ending.TheVariants.{Played, LimitMet, Unbuilt, BadLine}
-use Rattle.xousim.specs.History.{History, ended, behind, ticks, history, history_to, history_of, end_of, play, followed_by, go_on}
+use Rattle.xousim.specs.History.{History, at_once, ended, behind, ticks, history, history_to, play, played, followed_by, go_on}
+use Rattle.xk_kernel.specs.Stepping.{event_done}
+use Rattle.machine_model.specs.Changes.{settled}
+use Rattle.machine_model.specs.Closing.{closed, servers_closed, senders_queued_gone, senders_held_gone}
+use Rattle.machine_model.specs.Ends.{death, forgotten}
+use Rattle.machine_model.specs.Events.{killed, killed_if, picked}
+use Rattle.event_text.specs.declared.event.Event.TheVariants.{Tick, Pick, Irq, Kill}
+use Rattle.xk_base.specs.declared.ids.Pid.{Pid}
+use Rattle.xk_base.specs.declared.ids.Tid.{Tid}
 use Rattle.event_text.specs.declared.event.Event.{Event}
-use Rattle.event_text.specs.EventFile.{Input}
 use Rattle.xousim.specs.Writing.{Wrote}
 
 pub ticks_zero : (limit : ℕ) (m : Machine) → ticks 0 limit m ≡ ended Played (turn m)
@@ -179,3 +185,41 @@ history_after last (event ∷ events) more limit m played =
     go LimitMet is later = let no : LimitMet ≡ Played = other_ending event events limit m LimitMet played (λ e. cc) is in cc
     go Unbuilt is later = let no : Unbuilt ≡ Played = other_ending event events limit m Unbuilt played (λ e. cc) is in cc
     go (BadLine line) is later = let no : BadLine line ≡ Played = other_ending event events limit m (BadLine line) played (λ e. cc) is in cc
+
+-- ---- an event without steps
+
+pub at_once_built : (event : Event) (m : Machine) → event_built event ≡ true → at_once event m ≡ played (event_done event m)
+at_once_built event m built = rw built refl
+
+killed_steps : (pid : Pid) (m : Machine) → (killed pid m).machine.steps ≡ m.steps
+unfolding killed settled death servers_closed closed senders_queued_gone senders_held_gone forgotten
+killed_steps pid m = go (m.process pid.0).alive
+  where
+    go : (b : Bool) → (killed_if b pid m).machine.steps ≡ m.steps
+    go true = refl
+    go false = refl
+
+-- it is no step
+pub at_once_steps : (event : Event) (m : Machine) → (at_once event m).machine.steps ≡ m.steps
+unfolding picked
+at_once_steps (Tick n) m = refl
+at_once_steps (Pick pid tid) m = refl
+at_once_steps (Irq k) m = refl
+at_once_steps (Kill pid) m = killed_steps pid m
+
+pub play_other : (event : Event) (limit : ℕ) (m : Machine)
+    → (((pid : Pid) × (tid : Tid) × (event ≡ Pick pid tid)) ⊎ (((k : ℕ) × (event ≡ Irq k)) ⊎ ((pid : Pid) × (event ≡ Kill pid))))
+    → play event limit m ≡ at_once event m
+unfolding play
+play_other event limit m (inl (pid, tid, is)) = rw is refl
+play_other event limit m (inr (inl (k, is))) = rw is refl
+play_other event limit m (inr (inr (pid, is))) = rw is refl
+
+pub ok_machine : (result : Result Ending Failed) (m : Machine) (g h : History) → g ≡ h → OnOk result (m ≡ h.machine) → OnOk result (m ≡ g.machine)
+ok_machine (Ok ending) m g h same is = is ∙ sym (ap (λ (x : History). x.machine) same)
+ok_machine (Err failed) m g h same is = tt
+
+pub ok_within : (result : Result Ending Failed) (event : Event) (m next : Machine) (limit : ℕ) → m.steps ≤ limit → OnOk result (next ≡ (at_once event m).machine)
+    → OnOk result (next.steps ≤ limit)
+ok_within (Ok ending) event m next limit within is = rw (is, at_once_steps event m) within
+ok_within (Err failed) event m next limit within is = tt

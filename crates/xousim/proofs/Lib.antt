@@ -1,4 +1,6 @@
 pub mod HistoryLemmas
+pub mod KernelHistoryLemmas
+pub mod KeptLemmas
 pub mod PlayingLemmas
 pub mod ReadingLemmas
 pub mod ToldLemmas

@@ -1,11 +1,10 @@
 -- What was played so far, one answer of the reader further.
-use Rattle.std.proofs.Common.{◌≡◌, ◌≢◌, ◌≤◌, ◌+◌, ℕ, arith, take, drop, length, length-append, length-take, Bool, true, false, List, [], ◌∷◌, ◌++◌, Option, Some, None, Result, Ok, Err, IsErr, refl, sym, ap, ◌∙◌, subst, append_assoc, append-nil}
+use Rattle.std.proofs.Common.{◌≡◌, ◌≢◌, ◌≤◌, ◌+◌, ℕ, arith, take, drop, length, length-append, length-take, Bool, true, false, List, [], ◌∷◌, ◌++◌, Option, None, Result, Ok, Err, IsErr, refl, sym, ap, ◌∙◌, subst, append_assoc, append-nil}
 use Rattle.std.proofs.lemmas.List.{take-append-drop}
-use Rattle.xk_base.specs.declared.records.Rec.{Rec}
 use Rattle.xk_base.specs.declared.errors.Failed.{Failed}
-use Rattle.xk_ports.specs.Told.{Grows, GrowsByPrefix, Consumes}
-use Rattle.xk_ports.proofs.ToldLemmas.{Grows-append, Grows-none}
-use Rattle.trace_text.specs.Lines.{line_of, text_of}
+use Rattle.xk_ports.specs.Told.{Grows}
+use Rattle.xk_ports.proofs.ToldLemmas.{Grows-none}
+use Rattle.trace_text.specs.Lines.{text_of}
 use Rattle.machine_model.specs.Machine.{Machine}
 use Rattle.event_text.specs.declared.event.Event.{Event}
 use Rattle.event_text.specs.declared.event.NextEvent.{NextEvent}
@@ -17,11 +16,10 @@ use Rattle.event_text.specs.Plays.{Call, takes, ends, asks, Play, play_of, after
 use Rattle.event_text.proofs.PlaysLemmas.{play_left, left_next, left_bad, left_end}
 use Rattle.event_text.proofs.WholeLemmas.{play_whole}
 use Rattle.xousim.specs.declared.ending.Ending.{Ending}
-use Rattle.xousim.specs.declared.ending.Ending.TheVariants.{Played, LimitMet, Unbuilt, BadLine}
+use Rattle.xousim.specs.declared.ending.Ending.TheVariants.{Played, BadLine}
 use Rattle.xousim.specs.History.{History, ended, behind, history, history_to, history_of, end_of, play}
 use Rattle.xousim.specs.declared.playing.Advance.{Advance}
 use Rattle.xousim.specs.Playing.{HasPlayed, EndsSo, FailsSo, Advances, Goes}
-use Rattle.xousim.specs.Reading.{IsTold}
 use Rattle.xousim.specs.Writing.{Wrote}
 use Rattle.xousim.proofs.HistoryLemmas.{history_none, history_first, history_stops, history_goes_on, history_after, wrote_same, wrote_behind, wrote_ended, wrote_part}
 

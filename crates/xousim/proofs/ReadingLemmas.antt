@@ -1,5 +1,5 @@
 -- What was left at a slot is what the file has.
-use Rattle.std.proofs.Common.{◌≡◌, ℕ, List, length, Option, Some, None, Result, Ok, Err, IfOk, IsSome, ap, sym, ◌∙◌, subst, refl}
+use Rattle.std.proofs.Common.{◌≡◌, ℕ, List, Option, Some, None, Result, Ok, Err, IfOk, IsSome, ap, sym, ◌∙◌, refl}
 use Rattle.xk_ports.specs.Host.{IsLeftOf}
 use Rattle.xk_ports.specs.Told.{Consumes}
 use Rattle.xousim.specs.Reading.{IsTold, IsFile, IsReadOf, IsContent, IsContentOf}

@@ -1,11 +1,10 @@
 -- Growing and consuming, one piece after another.
-use Rattle.std.proofs.Common.{◌≡◌, ◌↔◌, ◌<◌, ◌≤◌, ◌+◌, ℕ, suc, List, [], ◌∷◌, ◌++◌, length, take, drop, get_or, Option, Some, None, Result, Ok, Err, OnErr, refl, sym, ap, ◌∙◌, subst, arith, append_assoc, append-nil, drop-cons}
+use Rattle.std.proofs.Common.{◌≡◌, ◌↔◌, ◌<◌, ◌≤◌, ℕ, suc, List, [], ◌++◌, length, take, drop, get_or, Option, Some, None, Result, Ok, Err, OnErr, refl, sym, ap, ◌∙◌, arith, append_assoc, append-nil, drop-cons}
 use Rattle.std.proofs.lemmas.Option.{none-some, same_Some}
 use Rattle.std.proofs.lemmas.List.{take-append-drop}
 use Rattle.std.proofs.lemmas.Grind.{common_steps, flat_map-append}
-use Rattle.std.specs.List.{flat_map}
 use Rattle.xk_ports.specs.Told.{Grows, GrowsByPrefix, Consumes}
-use Rattle.xk_ports.proofs.ToldLemmas.{Grows-append, Grows-none}
+use Rattle.xk_ports.proofs.ToldLemmas.{Grows-append}
 use Rattle.xousim.specs.Reading.{IsTold}
 use Rattle.xk_base.specs.declared.records.Rec.{Rec}
 use Rattle.trace_text.specs.Lines.{line_of, text_of}

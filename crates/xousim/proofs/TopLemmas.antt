@@ -1,34 +1,26 @@
 -- The parts of a call, put together.
-use Rattle.std.proofs.Common.{◌≡◌, ◌<◌, ◌≤◌, ◌+◌, ◌-◌, ◌^◌, ◌⊎◌, inl, inr, min, ℕ, Bool, List, [], ◌∷◌, ◌++◌, length, Option, Some, None, true, false, Result, Ok, Err, IfOk, IfErr, refl, sym, ap, ◌∙◌, subst, arith, append_assoc, append-nil}
-use Rattle.xk_base.specs.declared.errors.Failed.{Failed}
+use Rattle.std.proofs.Common.{◌≡◌, ◌<◌, ◌≤◌, inl, inr, ℕ, Bool, List, [], ◌∷◌, ◌++◌, length, Option, Some, true, false, Result, Ok, Err, IfOk, IfErr, refl, sym, ap, ◌∙◌, subst, arith, append_assoc}
 use Rattle.xk_base.specs.Outside.{Rose}
 use Rattle.xk_ports.specs.Host.{FileAsked}
 use Rattle.xk_ports.specs.Told.{Grows, GrowsByPrefix}
 use Rattle.xk_ports.specs.declared.host.FileSlot.TheVariants.{First, Second}
 use Rattle.xk_ports.proofs.ToldLemmas.{Grows-append}
 use Rattle.trace_text.specs.Lines.{text_of}
-use Rattle.kernel_args.specs.declared.faults.ArgFault.{ArgFault}
 use Rattle.machine_model.specs.Machine.{Machine}
-use Rattle.xk_base.specs.declared.limits.TheConstants.{DEFAULT_STEPS}
 use Rattle.xousim.specs.declared.ending.Ending.{Ending}
-use Rattle.xousim.specs.declared.ending.Ending.TheVariants.{Played, LimitMet, Unbuilt, BadLine}
 use Rattle.xousim.specs.declared.status.Status.{Status}
 use Rattle.xousim.specs.declared.status.Status.TheVariants.{Done, ReadFault, WriteFault, ImageFault, EventFault, StepLimit, NoMemory, NotBuilt}
-use Rattle.xousim.specs.declared.event_file.RunFault.{RunFault}
-use Rattle.xousim.specs.declared.event_file.RunFault.TheVariants.{Read, Write}
 use Rattle.xousim.specs.Finish.{EndsBooted, Finishes}
 use Rattle.xousim.specs.History.{History}
-use Rattle.xousim.specs.Playing.{Runs}
 use Rattle.std.proofs.Common.{nat_lt}
 use Rattle.std.proofs.lemmas.Bool.Decides.{nat_tests}
 use Rattle.boot_plan.specs.ImageFault.{IsImageFault}
 use Rattle.boot_plan.specs.declared.faults.TheConstants.{TOO_LONG}
-use Rattle.xousim.specs.Outcome.{Boots, Told, Image, Refuses, RefusesBytes, Plays, Ends, AsksImage, AsksBoth, transcript, last_line, run_of}
-use Rattle.xousim.specs.Reading.{IsFile, IsReadOf, IsTold, Asked, AsksFor}
-use Rattle.plain_kernel.specs.Start.{start}
+use Rattle.xousim.specs.Outcome.{Boots, Told, Image, Refuses, RefusesBytes, Plays, Ends, AsksBoth, transcript, last_line, run_of}
+use Rattle.xousim.specs.Reading.{IsFile, Asked, AsksFor}
+use Rattle.xk_kernel.specs.Start.{start}
 use Rattle.xousim.specs.Words.{Names}
 use Rattle.xousim.specs.Writing.{Wrote}
-use Rattle.xousim.proofs.ToldLemmas.{prefix_after}
 
 -- a count that rose later rose
 pub rose_after : (old mid new : ℕ) → old ≤ mid → Rose mid new → Rose old new
@@ -101,7 +93,7 @@ plays_written file name left machine before after host_rose rose events is_file 
 
 pub refuses_file : (file : Told) (name : List ℕ) (rose : Type 0) (bytes : List ℕ) (status : Status) → IsFile file name bytes → RefusesBytes bytes status → Refuses file name rose status
 refuses_file file name rose bytes (ImageFault fault) read refused = (bytes, read, refused)
-refuses_file file name rose bytes NotBuilt read refused = (bytes, read, refused)
+refuses_file file name rose bytes NotBuilt read refused = refused
 refuses_file file name rose bytes NoMemory read refused = tt
 refuses_file file name rose bytes ReadFault read refused = absurd refused
 refuses_file file name rose bytes Done read refused = refused
@@ -114,7 +106,7 @@ refused_not_done file name rose Done refused is = refused
 refused_not_done file name rose ReadFault refused is = cc
 refused_not_done file name rose WriteFault refused is = refused
 refused_not_done file name rose NoMemory refused is = cc
-refused_not_done file name rose NotBuilt refused is = cc
+refused_not_done file name rose NotBuilt refused is = refused
 refused_not_done file name rose (EventFault line) refused is = refused
 refused_not_done file name rose (StepLimit limit) refused is = refused
 refused_not_done file name rose (ImageFault fault) refused is = cc

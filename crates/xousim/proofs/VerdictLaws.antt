@@ -1,5 +1,5 @@
 -- The files decide the status.
-use Rattle.std.proofs.Common.{◌≡◌, ◌≢◌, ◌≤◌, ◌<◌, ◌⊎◌, inl, inr, ℕ, List, length, Option, Some, None, MatchOption, refl, sym, ap, ◌∙◌, subst, arith}
+use Rattle.std.proofs.Common.{◌≡◌, ◌⊎◌, inl, inr, ℕ, List, Option, Some, None, MatchOption, refl, sym, ap, ◌∙◌, subst}
 use Rattle.std.proofs.lemmas.Option.{same_Some}
 use Rattle.kernel_args.specs.declared.args.Args.{Args}
 use Rattle.kernel_args.specs.declared.faults.ArgFault.{ArgFault}
@@ -8,15 +8,14 @@ use Rattle.boot_plan.specs.FirstPages.{plan_of}
 use Rattle.boot_plan.specs.ImageFault.{IsImageFault}
 use Rattle.boot_plan.proofs.ImageFaultLaws.{image_fault_once}
 use Rattle.machine_model.specs.Machine.{Machine}
-use Rattle.plain_kernel.specs.Start.{start}
+use Rattle.xk_kernel.specs.Start.{start}
 use Rattle.xk_base.specs.declared.limits.TheConstants.{DEFAULT_STEPS}
-use Rattle.xk_base.specs.Outside.{Rose}
 use Rattle.xk_ports.specs.Host.{FileAsked}
 use Rattle.xousim.specs.declared.ending.Ending.{Ending}
 use Rattle.xousim.specs.declared.ending.Ending.TheVariants.{Played, LimitMet, Unbuilt, BadLine}
 use Rattle.xousim.specs.declared.status.Status.{Status}
 use Rattle.xousim.specs.declared.status.Status.TheVariants.{Done, ReadFault, WriteFault, ImageFault, EventFault, StepLimit, NoMemory, NotBuilt}
-use Rattle.xousim.specs.Outcome.{Told, Image, Boots, HasSeveral, Ran, RunsTo, IsVerdict, IsComplete, Ends, Refuses, Plays, run_of}
+use Rattle.xousim.specs.Outcome.{Told, Image, Boots, Ran, RunsTo, IsVerdict, IsComplete, Ends, Refuses, Plays, run_of}
 use Rattle.xousim.specs.Reading.{IsFile}
 use Rattle.xousim.specs.Words.{Names}
 
@@ -51,29 +50,14 @@ endings_agree file names one other a b =
 none_is_some : (fault : ArgFault) → None ≡ Some fault → ⊥
 none_is_some fault e = cc
 
--- an image that boots has no fault and one process
+-- an image that boots has no fault
 boots_no_fault : (file : List ℕ → Option (List ℕ)) (name : List ℕ) (machine : Machine) (image : List ℕ) (fault : ArgFault)
     → Image (Some file) name machine → IsFile (Some file) name image → IsImageFault image 0 (Some fault) → ⊥
 boots_no_fault file name machine image fault boots read faulty =
     let P : List ℕ → Type 0 = λ bytes. IsImageFault bytes 0 (Some fault) in
     none_is_some fault (one_fault boots.bytes None (Some fault) boots.boots.sound.no_fault (subst P (same_bytes file name image boots.bytes read boots.read) faulty))
 
-boots_not_several : (file : List ℕ → Option (List ℕ)) (name : List ℕ) (machine : Machine) (image : List ℕ)
-    → Image (Some file) name machine → IsFile (Some file) name image → HasSeveral image → ⊥
-boots_not_several file name machine image boots read several =
-    let P : List ℕ → Type 0 = λ bytes. HasSeveral bytes in
-    let there : HasSeveral boots.bytes = subst P (same_bytes file name image boots.bytes read boots.read) several in
-    let same : boots.boots.args ≡ there.args = spelled_once boots.bytes boots.boots.args there.args boots.boots.sound.spelled there.sound.spelled in
-    let counted : length boots.boots.args.procs ≡ length there.args.procs = ap (λ (args : Args). length args.procs) same in
-    absurd (omega (arith, counted, boots.boots.one, there.several))
-
-several_no_fault : (file : List ℕ → Option (List ℕ)) (name image other : List ℕ) (fault : ArgFault)
-    → IsFile (Some file) name image → HasSeveral image → IsFile (Some file) name other → IsImageFault other 0 (Some fault) → ⊥
-several_no_fault file name image other fault read several read_other faulty =
-    let P : List ℕ → Type 0 = λ bytes. IsImageFault bytes 0 (Some fault) in
-    none_is_some fault (one_fault image None (Some fault) several.sound.no_fault (subst P (same_bytes file name other image read_other read) faulty))
-
--- ---- each verdict is that of a run, of an image with a fault, or of one of several processes
+-- ---- each verdict is that of a run or of an image with a fault
 
 same_fault : (one other : ArgFault) → Some one ≡ Some other → ImageFault one ≡ ImageFault other
 same_fault one other e = ap (λ (f : ArgFault). ImageFault f) (same_Some one other e)
@@ -97,19 +81,15 @@ OfRun file names status = (ending : Ending) × RunsTo (Some file) names ending �
 abbrev OfFault : (List ℕ → Option (List ℕ)) → Names → Status → Type 0
 OfFault file names status = (fault : ArgFault) × (image : List ℕ) × IsFile (Some file) names.image image × IsImageFault image 0 (Some fault) × (status ≡ ImageFault fault)
 
-abbrev OfSeveral : (List ℕ → Option (List ℕ)) → Names → Status → Type 0
-OfSeveral file names status = (image : List ℕ) × IsFile (Some file) names.image image × HasSeveral image × (status ≡ NotBuilt)
-
 abbrev Sorts : (List ℕ → Option (List ℕ)) → Names → Status → Type 0
-Sorts file names status = OfRun file names status ⊎ (OfFault file names status ⊎ OfSeveral file names status)
+Sorts file names status = OfRun file names status ⊎ OfFault file names status
 
 sorts : (file : List ℕ → Option (List ℕ)) (names : Names) (status : Status) → IsVerdict (Some file) names status → Sorts file names status
 sorts file names Done a = inl (Played, a, refl)
 sorts file names (EventFault line) a = inl (BadLine line, a, refl)
 sorts file names (StepLimit limit) a = inl (LimitMet, a.1, ap (λ (l : ℕ). StepLimit l) a.0)
-sorts file names (ImageFault fault) a = inr (inl (fault, a.0, a.1, a.2, refl))
-sorts file names NotBuilt (inl a) = inr (inr (a.0, a.1, a.2, refl))
-sorts file names NotBuilt (inr a) = inl (Unbuilt, a, refl)
+sorts file names (ImageFault fault) a = inr (fault, a.0, a.1, a.2, refl)
+sorts file names NotBuilt a = inl (Unbuilt, a, refl)
 sorts file names ReadFault a = absurd a
 sorts file names WriteFault a = absurd a
 sorts file names NoMemory a = absurd a
@@ -117,22 +97,11 @@ sorts file names NoMemory a = absurd a
 run_fault : (file : List ℕ → Option (List ℕ)) (names : Names) (one other : Status) → OfRun file names one → OfFault file names other → ⊥
 run_fault file names one other a b = boots_no_fault file names.image a.1.machine b.1 b.0 a.1.image b.2 b.3
 
-run_several : (file : List ℕ → Option (List ℕ)) (names : Names) (one other : Status) → OfRun file names one → OfSeveral file names other → ⊥
-run_several file names one other a b = boots_not_several file names.image a.1.machine b.0 a.1.image b.1 b.2
-
-fault_several : (file : List ℕ → Option (List ℕ)) (names : Names) (one other : Status) → OfFault file names one → OfSeveral file names other → ⊥
-fault_several file names one other a b = several_no_fault file names.image b.0 a.1 a.0 b.1 b.2 a.2 a.3
-
 agree : (file : List ℕ → Option (List ℕ)) (names : Names) (one other : Status) → Sorts file names one → Sorts file names other → one ≡ other
 agree file names one other (inl a) (inl b) = a.2 ∙ (ap status_of (endings_agree file names a.0 b.0 a.1 b.1) ∙ sym b.2)
-agree file names one other (inl a) (inr (inl b)) = absurd (run_fault file names one other a b)
-agree file names one other (inl a) (inr (inr b)) = absurd (run_several file names one other a b)
-agree file names one other (inr (inl a)) (inl b) = absurd (run_fault file names other one b a)
-agree file names one other (inr (inl a)) (inr (inl b)) = a.4 ∙ (faults_agree file names.image a.1 b.1 a.0 b.0 a.2 a.3 b.2 b.3 ∙ sym b.4)
-agree file names one other (inr (inl a)) (inr (inr b)) = absurd (fault_several file names one other a b)
-agree file names one other (inr (inr a)) (inl b) = absurd (run_several file names other one b a)
-agree file names one other (inr (inr a)) (inr (inl b)) = absurd (fault_several file names other one b a)
-agree file names one other (inr (inr a)) (inr (inr b)) = a.3 ∙ sym b.3
+agree file names one other (inl a) (inr b) = absurd (run_fault file names one other a b)
+agree file names one other (inr a) (inl b) = absurd (run_fault file names other one b a)
+agree file names one other (inr a) (inr b) = a.4 ∙ (faults_agree file names.image a.1 b.1 a.0 b.0 a.2 a.3 b.2 b.3 ∙ sym b.4)
 
 pub one_verdict_of_files : (file : List ℕ → Option (List ℕ)) (names : Names) (one other : Status) → IsVerdict (Some file) names one → IsVerdict (Some file) names other → one ≡ other
 one_verdict_of_files file names one other a b = agree file names one other (sorts file names one a) (sorts file names other b)
@@ -142,7 +111,7 @@ one_verdict_of_files file names one other a b = agree file names one other (sort
 refused_complete : (file : Told) (names : Names) (before after : Option (List ℕ)) (rose : Type 0) (status : Status) → (¬ rose)
     → Refuses file names.image rose status → after ≡ before → IsComplete file names before after status
 refused_complete file names before after rose (ImageFault fault) quiet refused same = inl refused
-refused_complete file names before after rose NotBuilt quiet refused same = inl (inl refused)
+refused_complete file names before after rose NotBuilt quiet refused same = absurd refused
 refused_complete file names before after rose NoMemory quiet refused same = inr (refl, same)
 refused_complete file names before after rose ReadFault quiet refused same = absurd (quiet refused)
 refused_complete file names before after rose Done quiet refused same = absurd refused
@@ -160,7 +129,7 @@ played_complete : (file : Told) (names : Names) (left : Option (List ℕ)) (mach
 played_complete file names left machine before after host_rose out_rose Done quiet calm image played = inl (runs_to file names machine before after Played image played)
 played_complete file names left machine before after host_rose out_rose (EventFault line) quiet calm image played = inl (runs_to file names machine before after (BadLine line) image played)
 played_complete file names left machine before after host_rose out_rose (StepLimit limit) quiet calm image played = inl (played.0, runs_to file names machine before after LimitMet image played.1)
-played_complete file names left machine before after host_rose out_rose NotBuilt quiet calm image played = inl (inr (runs_to file names machine before after Unbuilt image played))
+played_complete file names left machine before after host_rose out_rose NotBuilt quiet calm image played = inl (runs_to file names machine before after Unbuilt image played)
 played_complete file names left machine before after host_rose out_rose WriteFault quiet calm image played = absurd (calm played.0)
 played_complete file names left machine before after host_rose out_rose ReadFault quiet calm image played = absurd (quiet played.0)
 played_complete file names left machine before after host_rose out_rose NoMemory quiet calm image played = absurd played

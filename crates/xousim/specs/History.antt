@@ -6,10 +6,12 @@ use Rattle.event_text.specs.EventFile.{Input}
 use Rattle.xk_base.specs.declared.records.Rec.{Rec}
 use Rattle.machine_model.specs.Machine.{Machine}
 use Rattle.machine_model.specs.Order.{actor, turn}
-use Rattle.machine_model.specs.Step.{step}
+use Rattle.machine_model.specs.Step.{Stepped, step}
 use Rattle.xousim.specs.declared.ending.Ending.{Ending}
 use Rattle.xousim.specs.declared.ending.Ending.TheVariants.{Played, LimitMet, Unbuilt, BadLine}
-use Rattle.plain_kernel.specs.Built.{step_built}
+use Rattle.xk_kernel.specs.Built.{event_built, step_built}
+use Rattle.xk_kernel.specs.History as kernel
+use Rattle.xk_kernel.specs.Stepping.{event_done}
 
 -- the records in order, the last state, and why it ended there
 pub record History : Type 0 where
@@ -43,12 +45,20 @@ ticks (suc n) limit m =
     if step_built m then behind (step m).records (ticks n limit (step m).machine) else ended Unbuilt m))
     else ended Played (turn m)
 
--- `tick N`; no other event is built
+-- an event without steps was done, and its records tell of it
+abbrev pub played : Stepped → History
+played done = record { records = done.records; machine = done.machine; ending = Played }
+
+-- an event without steps, where it is built
+abbrev pub at_once : Event → Machine → History
+at_once event m = if event_built event then played (event_done event m) else ended Unbuilt m
+
+-- one event
 unfoldable pub play : Event → ℕ → Machine → History
 play (Tick n) limit m = ticks n limit m
-play (Pick pid tid) limit m = ended Unbuilt m
-play (Irq number) limit m = ended Unbuilt m
-play (Kill pid) limit m = ended Unbuilt m
+play (Pick pid tid) limit m = at_once (Pick pid tid) m
+play (Irq number) limit m = at_once (Irq number) m
+play (Kill pid) limit m = at_once (Kill pid) m
 
 -- the events in order, and then this ending
 unfoldable pub history_to : Ending → List Event → ℕ → Machine → History
@@ -67,3 +77,7 @@ end_of (Some line) = BadLine line
 -- an event file: the events before its first bad line in order, and then that line, or the end where there is none
 abbrev pub history_of : Input → ℕ → Machine → History
 history_of input limit m = history_to (end_of input.bad) input.events limit m
+
+-- the kernel's history of the same events, which knows no ending but the limit
+abbrev pub of_kernel : kernel.History → History
+of_kernel h = record { records = h.records; machine = h.machine; ending = if h.met then LimitMet else Played }

@@ -1,9 +1,8 @@
 -- How a call of the program ends: what holds for each status. `names` are the files that the words name, `file`
 -- is what the host has under each name where it tells it, `asked` and `asked_after` are the files that it was asked for,
 -- `left` is what is left of the event file after the call, and `before` and `after` are what `out` holds.
-use Rattle.std.specs.Prelude.{◌≡◌, ◌≤◌, ◌⊎◌, ℕ, Bool, true, false, List, [], ◌∷◌, ◌++◌, length, Option, Some, None}
+use Rattle.std.specs.Prelude.{◌≡◌, ◌⊎◌, ℕ, Bool, true, false, List, [], ◌∷◌, ◌++◌, Option, Some, None}
 use Rattle.kernel_args.specs.declared.args.Args.{Args}
-use Rattle.kernel_args.specs.declared.faults.ArgFault.{ArgFault}
 use Rattle.kernel_args.specs.Image.{Spells}
 use Rattle.boot_plan.specs.FirstPages.{plan_of}
 use Rattle.boot_plan.specs.ImageFault.{IsImageFault}
@@ -23,8 +22,8 @@ use Rattle.xousim.specs.declared.status.Status.{Status}
 use Rattle.xousim.specs.declared.status.Status.TheVariants.{Done, ReadFault, WriteFault, ImageFault, EventFault, StepLimit, NoMemory, NotBuilt}
 use Rattle.xousim.specs.History.{History, history_of}
 use Rattle.xousim.specs.Reading.{IsFile, IsReadOf}
-use Rattle.plain_kernel.specs.Start.{start}
 use Rattle.xousim.specs.Words.{Names}
+use Rattle.xk_kernel.specs.Start.{start}
 
 -- the files of the host by their names, where they are told
 abbrev pub Told : Type 0
@@ -37,18 +36,11 @@ pub record IsSoundImage (image : List ℕ) (args : Args) : Type 0 where
   pub spelled : Spells image args
   pub no_fault : IsImageFault image 0 None
 
--- an image of one process boots this machine
+-- the image boots this machine, the start of its plan without slots
 pub record Boots (image : List ℕ) (machine : Machine) : Type 0 where
   pub args : Args
   pub sound : IsSoundImage image args
-  pub one : length args.procs ≡ 1
   pub start : machine ≡ start (plan_of args 0) image
-
--- an image of several processes isn't built
-pub record HasSeveral (image : List ℕ) : Type 0 where
-  pub args : Args
-  pub sound : IsSoundImage image args
-  pub several : 2 ≤ length args.procs
 
 -- the file of that name is an image that boots this machine
 pub record Image (file : Told) (name : List ℕ) (machine : Machine) : Type 0 where
@@ -56,11 +48,11 @@ pub record Image (file : Told) (name : List ℕ) (machine : Machine) : Type 0 wh
   pub read : IsFile file name bytes
   pub boots : Boots bytes machine
 
--- What holds where the image isn't booted, by the status: it has this first fault; it isn't built; it couldn't be read,
--- and the host's count of faults rose; there was no memory.
+-- What holds where the image isn't booted, by the status: it has this first fault; it couldn't be read, and the
+-- host's count of faults rose; there was no memory.
 abbrev pub Refuses : Told → List ℕ → Type 0 → Status → Type 0
 Refuses file name host_rose (ImageFault fault) = (image : List ℕ) × IsFile file name image × IsImageFault image 0 (Some fault)
-Refuses file name host_rose NotBuilt = (image : List ℕ) × IsFile file name image × HasSeveral image
+Refuses file name host_rose NotBuilt = ⊥
 Refuses file name host_rose ReadFault = host_rose
 Refuses file name host_rose NoMemory = Unit {0}
 Refuses file name host_rose Done = ⊥
@@ -71,7 +63,7 @@ Refuses file name host_rose WriteFault = ⊥
 -- the same of bytes that were read
 abbrev pub RefusesBytes : List ℕ → Status → Type 0
 RefusesBytes image (ImageFault fault) = IsImageFault image 0 (Some fault)
-RefusesBytes image NotBuilt = HasSeveral image
+RefusesBytes image NotBuilt = ⊥
 RefusesBytes image NoMemory = Unit {0}
 RefusesBytes image ReadFault = ⊥
 RefusesBytes image Done = ⊥
@@ -180,7 +172,7 @@ IsVerdict file names Done = RunsTo file names Played
 IsVerdict file names (EventFault line) = RunsTo file names (BadLine line)
 IsVerdict file names (StepLimit limit) = (limit ≡ DEFAULT_STEPS) × RunsTo file names LimitMet
 IsVerdict file names (ImageFault fault) = (image : List ℕ) × IsFile file names.image image × IsImageFault image 0 (Some fault)
-IsVerdict file names NotBuilt = ((image : List ℕ) × IsFile file names.image image × HasSeveral image) ⊎ RunsTo file names Unbuilt
+IsVerdict file names NotBuilt = RunsTo file names Unbuilt
 IsVerdict file names ReadFault = ⊥
 IsVerdict file names WriteFault = ⊥
 IsVerdict file names NoMemory = ⊥

@@ -1,26 +1,36 @@
 //! An image is read and booted.
 
-ghost use Rattle.std.specs.Prelude.{◌≡◌, ◌≤◌, [], length, IfOk, IfErr};
+ghost use Rattle.std.specs.Prelude.{◌≡◌, ◌≤◌, [], All, length, IfOk, IfErr};
+ghost use Rattle.boot_plan.specs.FirstPages.{plan_of};
+ghost use Rattle.boot_plan.specs.Lawful.{CanStart, IsLawfulPlan};
+ghost use Rattle.kernel_args.specs.declared.args.Args.{Args};
+ghost use Rattle.vm_memory.specs.Bytes.{KeepsStore};
+ghost use Rattle.vm_memory.specs.Memory.{store_of};
 ghost use Rattle.xk_base.specs.Outside.{Rose};
+ghost use Rattle.xk_kernel.specs.Sound.{IsSound, IsUsable};
+ghost use Rattle.xk_kernel.specs.State.{machine_of};
 ghost use Rattle.xk_ports.specs.Host.{other_slot};
 ghost use Rattle.xk_ports.specs.declared.host.FileSlot.TheVariants.{First, Second};
-ghost use Rattle.xousim.specs.Outcome.{Boots, Image, Refuses, RefusesBytes};
+ghost use Rattle.xousim.specs.Outcome.{Boots, Image, IsSoundImage, Refuses, RefusesBytes};
 ghost use Rattle.xousim.specs.Reading.{AsksFor, IsTold};
-ghost use Rattle.plain_kernel.specs.State.{machine_of};
 
 use crate::reading::{Content, ReadError, read_file};
-use crate::status::Status;
-use boot_plan::{PlanError, TOO_LONG, plan};
+use crate::status::{Ended, Status};
+use boot_plan::{BootPlan, PlanError, TOO_LONG, plan};
 use kernel_args::{ArgFault, ArgsError, read_args};
-use plain_kernel::Kernel;
 use std::alloc::Global;
+use vm_memory::BootFault;
 use xk_base::limits::IMAGE_LIMIT;
-use xk_ports::{FileSlot, Host};
+use xk_kernel::Kernel;
+use xk_ports::{FileSlot, Host, SwapStore};
 
-/// Boots the image of these bytes, or says why not: `ImageFault`, `NotBuilt` or `NoMemory`.
-fn boot_bytes(alloc: Global, bytes: &[u8]) -> Result<Kernel, Status>
+/// Plans the first pages of the image of these bytes, for a run without slots, or says why not:
+/// `ImageFault` or `NoMemory`.
+fn plan_bytes(alloc: Global, bytes: &[u8]) -> Result<BootPlan, Status>
     requires { length bytes.now ≤ 67108864 }
-    ensures booted { IfOk result (λ kernel. Boots bytes.now (machine_of kernel)) }
+    ensures planned { IfOk result (λ plan. (args : Args) × IsSoundImage bytes.now args × (plan ≡ plan_of args 0)) }
+    ensures lawful { IfOk result (IsLawfulPlan (length bytes.now)) }
+    ensures can_start { IfOk result (λ plan. All CanStart plan.procs) }
     ensures refused { IfErr result (RefusesBytes bytes.now) }
 {
     let args = match read_args(alloc, bytes) {
@@ -28,36 +38,62 @@ fn boot_bytes(alloc: Global, bytes: &[u8]) -> Result<Kernel, Status>
         Err(ArgsError::Fault(fault)) => return Err(Status::ImageFault(fault)),
         Err(ArgsError::NoMemory) => return Err(Status::NoMemory),
     };
-    let plan = match plan(alloc, &args, bytes.len() as u32, 0) {
-        Ok(plan) => plan,
-        Err(PlanError::Fault(fault)) => return Err(Status::ImageFault(fault)),
-        Err(PlanError::NoMemory) => return Err(Status::NoMemory),
-    };
-    if plan.procs.as_slice().len() != 1 {
-        return Err(Status::NotBuilt);
-    }
-    match Kernel::boot(alloc, &plan, bytes) {
-        Ok(kernel) => Ok(kernel),
-        Err(_) => Err(Status::NoMemory),
+    match plan(alloc, &args, bytes.len() as u32, 0) {
+        Ok(plan) => Ok(plan),
+        Err(PlanError::Fault(fault)) => Err(Status::ImageFault(fault)),
+        Err(PlanError::NoMemory) => Err(Status::NoMemory),
     }
 }
 
-/// Reads the image of that name and boots it, or says why not.
-pub fn boot_image<H: Host>(alloc: Global, host: &mut H, name: &str) -> Result<Kernel, Status>
-    ensures booted { IfOk result (λ kernel. Image (H.file host.old) name.now (machine_of kernel)) }
+/// Boots the image of these bytes, or says why not, and hands the store back then.
+fn boot_bytes<W: SwapStore>(alloc: Global, bytes: &[u8], store: W) -> Result<Kernel<W>, Ended<W>>
+    requires { length bytes.now ≤ 67108864 }
+    ensures booted { IfOk result (λ kernel. Boots bytes.now (machine_of W.held kernel)) }
+    ensures sound { IfOk result (λ kernel. IsSound W.slot_count W.held kernel) }
+    ensures usable { IfOk result (λ kernel. IsUsable kernel) }
+    ensures store { IfOk result (λ kernel. KeepsStore W.is_honest W.held W.slot_count W.asked W.faults store (store_of kernel.mem)) }
+    ensures refused { IfErr result (λ ended. RefusesBytes bytes.now ended.status) }
+    ensures back { IfErr result (λ ended. KeepsStore W.is_honest W.held W.slot_count W.asked W.faults store ended.store) }
+{
+    let plan = match plan_bytes(alloc, bytes) {
+        Ok(plan) => plan,
+        Err(status) => return Err(Ended { status, store }),
+    };
+    match Kernel::boot(alloc, &plan, bytes, store) {
+        Ok(kernel) => Ok(kernel),
+        Err(BootFault { why: _, store }) => Err(Ended {
+            status: Status::NoMemory,
+            store,
+        }),
+    }
+}
+
+/// Reads the image of that name and boots it, or says why not, and hands the store back then.
+pub fn boot_image<H: Host, W: SwapStore>(
+    alloc: Global,
+    host: &mut H,
+    name: &str,
+    store: W,
+) -> Result<Kernel<W>, Ended<W>>
+    ensures booted { IfOk result (λ kernel. Image (H.file host.old) name.now (machine_of W.held kernel)) }
+    ensures sound { IfOk result (λ kernel. IsSound W.slot_count W.held kernel) }
+    ensures usable { IfOk result (λ kernel. IsUsable kernel) }
+    ensures store { IfOk result (λ kernel. KeepsStore W.is_honest W.held W.slot_count W.asked W.faults store (store_of kernel.mem)) }
     ensures end { IfOk result (λ kernel. IsTold (H.left host.new First) []) }
-    ensures refused { IfErr result (Refuses (H.file host.old) name.now (Rose (H.faults host.old) (H.faults host.new))) }
+    ensures refused { IfErr result (λ ended. Refuses (H.file host.old) name.now (Rose (H.faults host.old) (H.faults host.new)) ended.status) }
+    ensures back { IfErr result (λ ended. KeepsStore W.is_honest W.held W.slot_count W.asked W.faults store ended.store) }
     ensures asked { AsksFor (H.asked host.old) (H.asked host.new) First name.now }
     ensures file { H.file host.new ≡ H.file host.old }
     ensures never_falls { H.faults host.old ≤ H.faults host.new }
 {
-    match read_file(alloc, host, FileSlot::First, name, IMAGE_LIMIT as usize) {
-        Ok(Content::Whole(bytes)) => boot_bytes(alloc, bytes.as_slice()),
-        Ok(Content::TooLong) => Err(Status::ImageFault(ArgFault {
+    let status = match read_file(alloc, host, FileSlot::First, name, IMAGE_LIMIT as usize) {
+        Ok(Content::Whole(bytes)) => return boot_bytes(alloc, bytes.as_slice(), store),
+        Ok(Content::TooLong) => Status::ImageFault(ArgFault {
             what: TOO_LONG,
             at: 0,
-        })),
-        Err(ReadError::Fault) => Err(Status::ReadFault),
-        Err(ReadError::NoMemory) => Err(Status::NoMemory),
-    }
+        }),
+        Err(ReadError::Fault) => Status::ReadFault,
+        Err(ReadError::NoMemory) => Status::NoMemory,
+    };
+    Err(Ended { status, store })
 }

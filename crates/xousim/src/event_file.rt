@@ -5,18 +5,19 @@ ghost use Rattle.event_text.specs.Held.{IsWaiting};
 ghost use Rattle.machine_model.specs.Machine.{Machine};
 ghost use Rattle.xk_base.specs.declared.limits.TheConstants.{EVENT_FILE_LIMIT};
 ghost use Rattle.xk_base.specs.Outside.{Rose};
+ghost use Rattle.xk_kernel.specs.Sound.{IsSound, IsUsable, Keeps};
+ghost use Rattle.xk_kernel.specs.State.{machine_of};
 ghost use Rattle.xk_ports.specs.declared.host.FileSlot.TheVariants.{First, Second};
 ghost use Rattle.xousim.specs.Playing.{Goes, HasPlayed, Runs};
 ghost use Rattle.xousim.specs.Reading.{IsTold};
-ghost use Rattle.plain_kernel.specs.State.{machine_of};
 
 use crate::ending::Ending;
 use crate::playing::play_known;
 use crate::reading::PIECE;
 use event_text::EventReader;
-use plain_kernel::Kernel;
 use xk_base::Failed;
-use xk_ports::{FileSlot, Host, Sink};
+use xk_kernel::Kernel;
+use xk_ports::{FileSlot, Host, Sink, SwapStore};
 
 /// Why a run over an event file stopped early.
 #[derive(Clone, Copy, Debug, PartialEq, Eq)]
@@ -29,19 +30,24 @@ pub enum RunFault {
 
 /// Feeds a piece of the event file to a reader that waits, plays the events that become known, and
 /// answers how the history ended, or None where the reader waits for the next piece.
-fn play_piece<K: Sink>(
-    kernel: &mut Kernel,
+fn play_piece<K: Sink, W: SwapStore>(
+    kernel: &mut Kernel<W>,
     reader: &mut EventReader,
     piece: &[u8],
     limit: u32,
     out: &mut K,
 ) -> Result<Option<Ending>, Failed>
+    requires sound { IsSound W.slot_count W.held kernel.old }
+    requires usable { IsUsable kernel.old }
     requires limit { limit ≤ 4000000000 }
-    requires within { (machine_of kernel.old).steps ≤ limit }
+    requires within { (machine_of W.held kernel.old).steps ≤ limit }
     requires waits { IsWaiting reader.old }
     requires inside { reader.old.start + length reader.old.held ≤ EVENT_FILE_LIMIT }
-    ensures goes { (start : Machine) (begun : Option (List ℕ)) (taken : List ℕ) → HasPlayed limit start begun taken reader.old (machine_of kernel.old) (K.written out.old) → Goes limit start begun (taken ++ piece.now) false reader.new (machine_of kernel.new) (K.written out.new) result }
-    ensures within { OnOk result ((machine_of kernel.new).steps ≤ limit) }
+    ensures goes { (start : Machine) (begun : Option (List ℕ)) (taken : List ℕ) → HasPlayed limit start begun taken reader.old (machine_of W.held kernel.old) (K.written out.old) → Goes limit start begun (taken ++ piece.now) false reader.new (machine_of W.held kernel.new) (K.written out.new) result }
+    ensures sound { IsSound W.slot_count W.held kernel.new }
+    ensures usable { IsUsable kernel.new }
+    ensures keeps { Keeps W.is_honest W.held W.slot_count W.asked W.faults kernel.old kernel.new }
+    ensures within { OnOk result ((machine_of W.held kernel.new).steps ≤ limit) }
     ensures waits { result ≡ Ok None → IsWaiting reader.new × (reader.new.start + length reader.new.held ≤ EVENT_FILE_LIMIT) }
     ensures unended { result ≢ Ok (Some Ending.Played) }
     ensures offset { result ≡ Ok None → reader.new.start + length reader.new.held ≡ reader.old.start + length reader.old.held + length piece.now }
@@ -62,16 +68,21 @@ fn play_piece<K: Sink>(
 
 /// Reads the event file that was picked at the second slot, plays its events on a booted kernel,
 /// and writes their records. It takes no memory.
-pub fn play_file<H: Host, K: Sink>(
-    kernel: &mut Kernel,
+pub fn play_file<H: Host, K: Sink, W: SwapStore>(
+    kernel: &mut Kernel<W>,
     host: &mut H,
     limit: u32,
     out: &mut K,
 ) -> Result<Ending, RunFault>
     requires picked { IsTrue (H.is_picked host.old Second) }
+    requires sound { IsSound W.slot_count W.held kernel.old }
+    requires usable { IsUsable kernel.old }
     requires limit { limit ≤ 4000000000 }
-    requires within { (machine_of kernel.old).steps ≤ limit }
-    ensures runs { Runs (H.left host.old Second) (H.left host.new Second) limit (machine_of kernel.old) (machine_of kernel.new) (K.written out.old) (K.written out.new) result }
+    requires within { (machine_of W.held kernel.old).steps ≤ limit }
+    ensures runs { Runs (H.left host.old Second) (H.left host.new Second) limit (machine_of W.held kernel.old) (machine_of W.held kernel.new) (K.written out.old) (K.written out.new) result }
+    ensures sound { IsSound W.slot_count W.held kernel.new }
+    ensures usable { IsUsable kernel.new }
+    ensures keeps { Keeps W.is_honest W.held W.slot_count W.asked W.faults kernel.old kernel.new }
     ensures end { result ≡ Ok Ending.Played → IsTold (H.left host.new Second) [] }
     ensures read { result ≡ Err RunFault.Read → Rose (H.faults host.old) (H.faults host.new) }
     ensures write { result ≡ Err RunFault.Write → Rose (K.faults out.old) (K.faults out.new) }

@@ -3,6 +3,7 @@
 #![tactic(auto)]
 
 mod adapters;
+mod agreement;
 mod booting;
 mod ending;
 mod event_file;

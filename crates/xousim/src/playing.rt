@@ -5,30 +5,36 @@ ghost use Rattle.event_text.specs.Held.{IsWaiting};
 ghost use Rattle.machine_model.specs.Machine.{Machine};
 ghost use Rattle.xk_base.specs.declared.limits.TheConstants.{EVENT_FILE_LIMIT};
 ghost use Rattle.xk_base.specs.Outside.{Rose};
-ghost use Rattle.xousim.specs.History.{ticks, play};
-ghost use Rattle.plain_kernel.specs.State.{machine_of};
+ghost use Rattle.xk_kernel.specs.Sound.{IsSound, IsUsable, Keeps};
+ghost use Rattle.xk_kernel.specs.State.{machine_of};
+ghost use Rattle.xousim.specs.History.{at_once, play, ticks};
 ghost use Rattle.xousim.specs.Playing.{Advances, Goes, HasPlayed};
 ghost use Rattle.xousim.specs.Writing.{Wrote};
 
 use crate::ending::Ending;
 use crate::transcript::write_records;
 use event_text::{Event, EventReader, NextEvent};
-use plain_kernel::{Kernel, Stepped};
 use xk_base::Failed;
-use xk_ports::Sink;
+use xk_kernel::{Kernel, Stepped, SwapFault};
+use xk_ports::{Sink, SwapStore};
 
 /// Plays a tick of at most `count` steps.
-fn play_tick<K: Sink>(
-    kernel: &mut Kernel,
+fn play_tick<K: Sink, W: SwapStore>(
+    kernel: &mut Kernel<W>,
     count: u32,
     limit: u32,
     out: &mut K,
 ) -> Result<Ending, Failed>
+    requires sound { IsSound W.slot_count W.held kernel.old }
+    requires usable { IsUsable kernel.old }
     requires limit { limit ≤ 4000000000 }
-    requires within { (machine_of kernel.old).steps ≤ limit }
-    ensures wrote { Wrote (K.written out.old) (K.written out.new) (ticks count limit (machine_of kernel.old)) result }
-    ensures machine { OnOk result (machine_of kernel.new ≡ (ticks count limit (machine_of kernel.old)).machine) }
-    ensures within { OnOk result ((machine_of kernel.new).steps ≤ limit) }
+    requires within { (machine_of W.held kernel.old).steps ≤ limit }
+    ensures wrote { Wrote (K.written out.old) (K.written out.new) (ticks count limit (machine_of W.held kernel.old)) result }
+    ensures machine { OnOk result (machine_of W.held kernel.new ≡ (ticks count limit (machine_of W.held kernel.old)).machine) }
+    ensures sound { IsSound W.slot_count W.held kernel.new }
+    ensures usable { IsUsable kernel.new }
+    ensures keeps { Keeps W.is_honest W.held W.slot_count W.asked W.faults kernel.old kernel.new }
+    ensures within { OnOk result ((machine_of W.held kernel.new).steps ≤ limit) }
     ensures cause { OnErr result (Rose (K.faults out.old) (K.faults out.new)) }
     ensures never_falls { K.faults out.old ≤ K.faults out.new }
 {
@@ -41,9 +47,10 @@ fn play_tick<K: Sink>(
             return Ok(Ending::LimitMet);
         }
         match kernel.step() {
-            Stepped::Did => {}
-            Stepped::Idle => unreachable!(),
-            Stepped::NotBuilt => return Ok(Ending::Unbuilt),
+            Ok(Stepped::Did) => {}
+            Ok(Stepped::NotBuilt) => return Ok(Ending::Unbuilt),
+            // A thread is ready, and the store isn't used until pages can be out.
+            Ok(Stepped::Idle) | Err(SwapFault) => unreachable!(),
         }
         write_records(kernel.last(), out)?;
     }
@@ -51,25 +58,53 @@ fn play_tick<K: Sink>(
     Ok(Ending::Played)
 }
 
-/// Plays an event. Only ticks are built.
-#[tactic(auto, using(crate::proofs::HistoryLemmas::wrote_ended), unfolding(crate::specs::History::play))]
-fn play_event<K: Sink>(
-    kernel: &mut Kernel,
+/// Plays an event without steps, where it is built.
+fn play_at_once<K: Sink, W: SwapStore>(
+    kernel: &mut Kernel<W>,
+    event: Event,
+    out: &mut K,
+) -> Result<Ending, Failed>
+    requires sound { IsSound W.slot_count W.held kernel.old }
+    requires usable { IsUsable kernel.old }
+    ensures wrote { Wrote (K.written out.old) (K.written out.new) (at_once event (machine_of W.held kernel.old)) result }
+    ensures machine { OnOk result (machine_of W.held kernel.new ≡ (at_once event (machine_of W.held kernel.old)).machine) }
+    ensures sound { IsSound W.slot_count W.held kernel.new }
+    ensures usable { IsUsable kernel.new }
+    ensures keeps { Keeps W.is_honest W.held W.slot_count W.asked W.faults kernel.old kernel.new }
+    ensures cause { OnErr result (Rose (K.faults out.old) (K.faults out.new)) }
+    ensures never_falls { K.faults out.old ≤ K.faults out.new }
+{
+    if !kernel.event_built(event) {
+        return Ok(Ending::Unbuilt);
+    }
+    kernel.event_start(event);
+    write_records(kernel.last(), out)?;
+    Ok(Ending::Played)
+}
+
+/// Plays an event.
+fn play_event<K: Sink, W: SwapStore>(
+    kernel: &mut Kernel<W>,
     event: Event,
     limit: u32,
     out: &mut K,
 ) -> Result<Ending, Failed>
+    requires sound { IsSound W.slot_count W.held kernel.old }
+    requires usable { IsUsable kernel.old }
     requires limit { limit ≤ 4000000000 }
-    requires within { (machine_of kernel.old).steps ≤ limit }
-    ensures wrote { Wrote (K.written out.old) (K.written out.new) (play event limit (machine_of kernel.old)) result }
-    ensures machine { OnOk result (machine_of kernel.new ≡ (play event limit (machine_of kernel.old)).machine) }
-    ensures within { OnOk result ((machine_of kernel.new).steps ≤ limit) }
+    requires within { (machine_of W.held kernel.old).steps ≤ limit }
+    ensures wrote { Wrote (K.written out.old) (K.written out.new) (play event limit (machine_of W.held kernel.old)) result }
+    ensures machine { OnOk result (machine_of W.held kernel.new ≡ (play event limit (machine_of W.held kernel.old)).machine) }
+    ensures sound { IsSound W.slot_count W.held kernel.new }
+    ensures usable { IsUsable kernel.new }
+    ensures keeps { Keeps W.is_honest W.held W.slot_count W.asked W.faults kernel.old kernel.new }
+    ensures within { OnOk result ((machine_of W.held kernel.new).steps ≤ limit) }
     ensures cause { OnErr result (Rose (K.faults out.old) (K.faults out.new)) }
     ensures never_falls { K.faults out.old ≤ K.faults out.new }
 {
     match event {
         Event::Tick(count) => play_tick(kernel, count, limit, out),
-        Event::Pick(_, _) | Event::Irq(_) | Event::Kill(_) => Ok(Ending::Unbuilt),
+        Event::Pick(_, _) | Event::Irq(_) | Event::Kill(_) => play_at_once(kernel, event, out),
     }
 }
 
@@ -85,16 +120,21 @@ enum Advance {
 }
 
 /// Asks for the next event, and plays it if there is one.
-fn play_next<K: Sink>(
-    kernel: &mut Kernel,
+fn play_next<K: Sink, W: SwapStore>(
+    kernel: &mut Kernel<W>,
     reader: &mut EventReader,
     limit: u32,
     out: &mut K,
 ) -> Result<Advance, Failed>
+    requires sound { IsSound W.slot_count W.held kernel.old }
+    requires usable { IsUsable kernel.old }
     requires limit { limit ≤ 4000000000 }
-    requires within { (machine_of kernel.old).steps ≤ limit }
-    ensures advances { (start : Machine) (begun : Option (List ℕ)) (taken : List ℕ) → HasPlayed limit start begun taken reader.old (machine_of kernel.old) (K.written out.old) → Advances limit start begun taken reader.old.finished reader.new (machine_of kernel.new) (K.written out.new) result }
-    ensures within { OnOk result ((machine_of kernel.new).steps ≤ limit) }
+    requires within { (machine_of W.held kernel.old).steps ≤ limit }
+    ensures advances { (start : Machine) (begun : Option (List ℕ)) (taken : List ℕ) → HasPlayed limit start begun taken reader.old (machine_of W.held kernel.old) (K.written out.old) → Advances limit start begun taken reader.old.finished reader.new (machine_of W.held kernel.new) (K.written out.new) result }
+    ensures sound { IsSound W.slot_count W.held kernel.new }
+    ensures usable { IsUsable kernel.new }
+    ensures keeps { Keeps W.is_honest W.held W.slot_count W.asked W.faults kernel.old kernel.new }
+    ensures within { OnOk result ((machine_of W.held kernel.new).steps ≤ limit) }
 
     // Each event takes bytes that are held, and none are read.
     ensures fewer { result ≡ Ok Advance.Played → length reader.new.held < length reader.old.held }
@@ -119,16 +159,21 @@ fn play_next<K: Sink>(
 
 /// Plays all events that the reader knows, and answers how the history ended, or None where the
 /// reader waits for bytes.
-pub fn play_known<K: Sink>(
-    kernel: &mut Kernel,
+pub fn play_known<K: Sink, W: SwapStore>(
+    kernel: &mut Kernel<W>,
     reader: &mut EventReader,
     limit: u32,
     out: &mut K,
 ) -> Result<Option<Ending>, Failed>
+    requires sound { IsSound W.slot_count W.held kernel.old }
+    requires usable { IsUsable kernel.old }
     requires limit { limit ≤ 4000000000 }
-    requires within { (machine_of kernel.old).steps ≤ limit }
-    ensures goes { (start : Machine) (begun : Option (List ℕ)) (taken : List ℕ) → HasPlayed limit start begun taken reader.old (machine_of kernel.old) (K.written out.old) → Goes limit start begun taken reader.old.finished reader.new (machine_of kernel.new) (K.written out.new) result }
-    ensures within { OnOk result ((machine_of kernel.new).steps ≤ limit) }
+    requires within { (machine_of W.held kernel.old).steps ≤ limit }
+    ensures goes { (start : Machine) (begun : Option (List ℕ)) (taken : List ℕ) → HasPlayed limit start begun taken reader.old (machine_of W.held kernel.old) (K.written out.old) → Goes limit start begun taken reader.old.finished reader.new (machine_of W.held kernel.new) (K.written out.new) result }
+    ensures sound { IsSound W.slot_count W.held kernel.new }
+    ensures usable { IsUsable kernel.new }
+    ensures keeps { Keeps W.is_honest W.held W.slot_count W.asked W.faults kernel.old kernel.new }
+    ensures within { OnOk result ((machine_of W.held kernel.new).steps ≤ limit) }
     ensures waits { result ≡ Ok None → IsWaiting reader.new × (reader.new.start + length reader.new.held ≤ EVENT_FILE_LIMIT) }
     ensures offset { reader.new.start + length reader.new.held ≡ reader.old.start + length reader.old.held }
     ensures finished { reader.new.finished ≡ reader.old.finished }

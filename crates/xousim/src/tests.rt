@@ -1,5 +1,9 @@
 //! The program over files and streams in memory, and each real adapter once.
 
+mod image;
+mod memory_calls;
+mod processes;
+
 use crate::adapters::{ErrSink, FileHost, StdSink};
 use crate::status::{Ended, Status};
 use crate::top::xous_main;
@@ -66,7 +70,7 @@ fn trace_in_pieces(
     files.push((String::from_str(alloc, "i")?, image.to_vec(alloc)?))?;
     files.push((String::from_str(alloc, "e")?, events.to_vec(alloc)?))?;
     let mut host = MemHost::new(alloc, files, piece.max(1), host_fails.to_vec(alloc)?, 100)?;
-    let mut out = MemSink::new(alloc, 1000, out_fails.to_vec(alloc)?)?;
+    let mut out = MemSink::new(alloc, 2000, out_fails.to_vec(alloc)?)?;
     let mut notes = MemSink::new(alloc, 100, Vec::new(alloc))?;
     let words = words(alloc, &["trace", "i", "e"])?;
     let store = MemStore::new(Vec::new(alloc));
@@ -164,7 +168,7 @@ fn damage_in_an_unused_part(rt: HostRuntime) -> Result<(), Fail> {
 
 #[test]
 fn what_is_not_built(rt: HostRuntime) -> Result<(), Fail> {
-    let run = trace(rt.alloc(), &FIRST_IMAGE, b"tick 6\nkill 2\n", &[], &[])?;
+    let run = trace(rt.alloc(), &FIRST_IMAGE, b"tick 6\nirq 2\n", &[], &[])?;
     assert_eq!(rt; run.status, Status::NotBuilt);
     assert_eq!(rt; run.out.len(), 167);
     assert_eq!(rt; run.notes.as_slice(), b"not built\n".as_slice());

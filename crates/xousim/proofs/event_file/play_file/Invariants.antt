@@ -1,6 +1,7 @@
 use Rattle.std.proofs.Common.{◌≡◌, ◌≤◌, ◌+◌, ◌-◌, List, ℕ, length}
 use Rattle.event_text.specs.Held.{IsWaiting}
-use Rattle.plain_kernel.specs.State.{machine_of}
+use Rattle.xk_kernel.specs.Sound.{IsSound, IsUsable, Keeps}
+use Rattle.xk_kernel.specs.State.{machine_of}
 use Rattle.xk_base.specs.declared.limits.TheConstants.{EVENT_FILE_LIMIT}
 use Rattle.xk_ports.specs.Told.{Consumes}
 use Rattle.xk_ports.specs.declared.host.FileSlot.TheVariants.{First, Second}
@@ -11,10 +12,13 @@ use Rattle.xousim.proofs.event_file.play_file.Given as goal
 abbrev pub invariant-pieces : goal.invariant-pieces
 invariant-pieces g l = record {
   front : (taken : List ℕ) × Consumes (g.H.Host.left l.fn.host Second) (g.H.Host.left l.host Second) taken
-      × HasPlayed l.limit (machine_of l.fn.kernel) (g.K.Sink.written l.fn.out) taken l.reader (machine_of l.kernel) (g.K.Sink.written l.out);
+      × HasPlayed l.limit (machine_of g.W.SwapStore.held l.fn.kernel) (g.K.Sink.written l.fn.out) taken l.reader (machine_of g.W.SwapStore.held l.kernel) (g.K.Sink.written l.out);
   waits : IsWaiting l.reader;
   inside : l.reader.start + length l.reader.held ≤ EVENT_FILE_LIMIT;
-  within : (machine_of l.kernel).steps ≤ l.limit;
+  sound : IsSound g.W.SwapStore.slot_count g.W.SwapStore.held l.kernel;
+  usable : IsUsable l.kernel;
+  keeps : Keeps g.W.SwapStore.is_honest g.W.SwapStore.held g.W.SwapStore.slot_count g.W.SwapStore.asked g.W.SwapStore.faults l.fn.kernel l.kernel;
+  within : (machine_of g.W.SwapStore.held l.kernel).steps ≤ l.limit;
   picked : g.H.Host.is_picked l.host Second ≡ g.H.Host.is_picked l.fn.host Second;
   asked : g.H.Host.asked l.host ≡ g.H.Host.asked l.fn.host;
   first : g.H.Host.left l.host First ≡ g.H.Host.left l.fn.host First;

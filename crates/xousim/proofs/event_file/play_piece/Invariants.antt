@@ -1,7 +1,8 @@
 use Rattle.std.proofs.Common.{◌≡◌, ◌≤◌, ◌+◌, ◌++◌, Option, List, ℕ, length}
 use Rattle.event_text.specs.Held.{IsWaiting}
 use Rattle.machine_model.specs.Machine.{Machine}
-use Rattle.plain_kernel.specs.State.{machine_of}
+use Rattle.xk_kernel.specs.Sound.{IsSound, IsUsable, Keeps}
+use Rattle.xk_kernel.specs.State.{machine_of}
 use Rattle.xk_base.specs.declared.limits.TheConstants.{EVENT_FILE_LIMIT}
 use Rattle.xousim.specs.Playing.{HasPlayed}
 use Rattle.xousim.proofs.event_file.play_piece.Given as goal
@@ -11,12 +12,15 @@ abbrev pub invariant-rest : goal.invariant-rest
 invariant-rest g l = record {
   front : (done : List ℕ) × (l.piece ≡ done ++ l.rest)
       × ((start : Machine) (begun : Option (List ℕ)) (taken : List ℕ)
-      → HasPlayed l.limit start begun taken l.fn.reader (machine_of l.fn.kernel) (g.K.Sink.written l.fn.out)
-      → HasPlayed l.limit start begun (taken ++ done) l.reader (machine_of l.kernel) (g.K.Sink.written l.out));
+      → HasPlayed l.limit start begun taken l.fn.reader (machine_of g.W.SwapStore.held l.fn.kernel) (g.K.Sink.written l.fn.out)
+      → HasPlayed l.limit start begun (taken ++ done) l.reader (machine_of g.W.SwapStore.held l.kernel) (g.K.Sink.written l.out));
   waits : IsWaiting l.reader;
   inside : l.reader.start + length l.reader.held ≤ EVENT_FILE_LIMIT;
   offset : l.reader.start + length l.reader.held + length l.rest ≡ l.fn.reader.start + length l.fn.reader.held + length l.piece;
-  within : (machine_of l.kernel).steps ≤ l.limit;
+  sound : IsSound g.W.SwapStore.slot_count g.W.SwapStore.held l.kernel;
+  usable : IsUsable l.kernel;
+  keeps : Keeps g.W.SwapStore.is_honest g.W.SwapStore.held g.W.SwapStore.slot_count g.W.SwapStore.asked g.W.SwapStore.faults l.fn.kernel l.kernel;
+  within : (machine_of g.W.SwapStore.held l.kernel).steps ≤ l.limit;
   later : g.K.Sink.faults l.fn.out ≤ g.K.Sink.faults l.out;
 }
 

@@ -1,6 +1,7 @@
 use Rattle.std.proofs.Common.{◌≡◌, ◌≤◌, ◌+◌, Option, List, ℕ, length}
 use Rattle.machine_model.specs.Machine.{Machine}
-use Rattle.plain_kernel.specs.State.{machine_of}
+use Rattle.xk_kernel.specs.Sound.{IsSound, IsUsable, Keeps}
+use Rattle.xk_kernel.specs.State.{machine_of}
 use Rattle.xousim.specs.Playing.{HasPlayed}
 use Rattle.xousim.proofs.playing.play_known.Given as goal
 
@@ -8,9 +9,12 @@ use Rattle.xousim.proofs.playing.play_known.Given as goal
 abbrev pub invariant-answers : goal.invariant-answers
 invariant-answers g l = record {
   goes : (start : Machine) (begun : Option (List ℕ)) (taken : List ℕ)
-      → HasPlayed l.limit start begun taken l.fn.reader (machine_of l.fn.kernel) (g.K.Sink.written l.fn.out)
-      → HasPlayed l.limit start begun taken l.reader (machine_of l.kernel) (g.K.Sink.written l.out);
-  within : (machine_of l.kernel).steps ≤ l.limit;
+      → HasPlayed l.limit start begun taken l.fn.reader (machine_of g.W.SwapStore.held l.fn.kernel) (g.K.Sink.written l.fn.out)
+      → HasPlayed l.limit start begun taken l.reader (machine_of g.W.SwapStore.held l.kernel) (g.K.Sink.written l.out);
+  sound : IsSound g.W.SwapStore.slot_count g.W.SwapStore.held l.kernel;
+  usable : IsUsable l.kernel;
+  keeps : Keeps g.W.SwapStore.is_honest g.W.SwapStore.held g.W.SwapStore.slot_count g.W.SwapStore.asked g.W.SwapStore.faults l.fn.kernel l.kernel;
+  within : (machine_of g.W.SwapStore.held l.kernel).steps ≤ l.limit;
   offset : l.reader.start + length l.reader.held ≡ l.fn.reader.start + length l.fn.reader.held;
   finished : l.reader.finished ≡ l.fn.reader.finished;
   later : g.K.Sink.faults l.fn.out ≤ g.K.Sink.faults l.out;

@@ -1,10 +1,10 @@
-use Rattle.std.proofs.Common.{◌≡◌, ◌∙◌, sym, ap, subst, List, Option, ℕ, Result, Ok}
+use Rattle.std.proofs.Common.{◌≡◌, ◌∙◌, sym, ap, subst, Result, Ok}
 use Rattle.machine_model.specs.Machine.{Machine}
 use Rattle.event_text.specs.Held.{Reader}
 use Rattle.event_text.specs.Plays.{events_in}
 use Rattle.event_text.specs.declared.event.NextEvent.{NextEvent}
 use Rattle.event_text.proofs.PlaysLemmas.{left_end, next_finished}
-use Rattle.plain_kernel.specs.State.{machine_of}
+use Rattle.xk_kernel.specs.State.{machine_of}
 use Rattle.xk_base.specs.declared.errors.Failed.{Failed}
 use Rattle.xousim.specs.declared.ending.Ending.{Ending}
 use Rattle.xousim.specs.declared.ending.Ending.TheVariants.{Played}
@@ -17,10 +17,10 @@ use Rattle.xousim.proofs.playing.play_next.Goals as goal
 pub returns-in_err-ending-in-Event-clause-advances : goal.returns-in_err-ending-in-Event-clause-advances
 returns-in_err-ending-in-Event-clause-advances g c = λ start begun taken p.
     let r : Reader = c.args.reader.now in
-    let m : Machine = machine_of c.args.kernel.now in
+    let m : Machine = machine_of g.W.SwapStore.held c.args.kernel.now in
     let mid = g.K.Sink.written c.args.out.now in
     let out = g.K.Sink.written c.play_event.new.out in
-    advances_err c.args.limit start begun taken r.finished c.next.new.self (machine_of c.play_event.new.kernel) out c.from_residual.result c.from_residual.ensures.0
+    advances_err c.args.limit start begun taken r.finished c.next.new.self (machine_of g.W.SwapStore.held c.play_event.new.kernel) out c.from_residual.result c.from_residual.ensures.0
     (λ failed. fails_event c.args.limit start m begun mid out taken r c.in-Event.event failed (sym c.in-Event.ensures.answer) c.in_err-ending-in-Event.ensures.wrote p)
 
 pub returns-in_err-ending-in-Event-clause-finished : goal.returns-in_err-ending-in-Event-clause-finished
@@ -29,8 +29,8 @@ returns-in_err-ending-in-Event-clause-finished g c = ap (λ (r : Reader). r.fini
 pub returns-in-Played-clause-advances : goal.returns-in-Played-clause-advances
 returns-in-Played-clause-advances g c = λ start begun taken p.
     let r : Reader = c.args.reader.now in
-    let m : Machine = machine_of c.args.kernel.now in
-    let next : Machine = machine_of c.play_event.new.kernel in
+    let m : Machine = machine_of g.W.SwapStore.held c.args.kernel.now in
+    let next : Machine = machine_of g.W.SwapStore.held c.play_event.new.kernel in
     let mid = g.K.Sink.written c.args.out.now in
     let out = g.K.Sink.written c.play_event.new.out in
     let w = c.in_ok-ending-in-Event.ensures.wrote in
@@ -49,12 +49,15 @@ pub returns-in_default : goal.returns-in_default
 returns-in_default g c = record {
   advances = λ start begun taken p.
       let r : Reader = c.args.reader.now in
-      let m : Machine = machine_of c.args.kernel.now in
-      let next : Machine = machine_of c.play_event.new.kernel in
+      let m : Machine = machine_of g.W.SwapStore.held c.args.kernel.now in
+      let next : Machine = machine_of g.W.SwapStore.held c.play_event.new.kernel in
       let mid = g.K.Sink.written c.args.out.now in
       let out = g.K.Sink.written c.play_event.new.out in
       ends_event c.args.limit start m next begun mid out taken r c.in-Event.event c.in_ok-ending-in-Event.ending (sym c.in-Event.ensures.answer)
       c.in_default.not-Played c.in_ok-ending-in-Event.ensures.wrote c.in_ok-ending-in-Event.ensures.machine p;
+  sound = c.play_event.ensures.sound;
+  usable = c.play_event.ensures.usable;
+  keeps = c.play_event.ensures.keeps;
   within = c.in_ok-ending-in-Event.ensures.within;
   fewer = λ e. cc;
   waits = λ e. cc;
@@ -67,7 +70,7 @@ returns-in_default g c = record {
 
 pub returns-in-More-clause-advances : goal.returns-in-More-clause-advances
 returns-in-More-clause-advances g c = λ start begun taken p.
-    let m : Machine = machine_of c.args.kernel.now in
+    let m : Machine = machine_of g.W.SwapStore.held c.args.kernel.now in
     let out = g.K.Sink.written c.args.out.now in
     let P : Reader → Type 0 = λ x. HasPlayed c.args.limit start begun taken x m out in
     subst P (sym c.next.ensures.after)
@@ -78,14 +81,14 @@ returns-in-More-clause-finished g c = ap (λ (r : Reader). r.finished) c.next.en
 
 pub returns-in-Bad-clause-advances : goal.returns-in-Bad-clause-advances
 returns-in-Bad-clause-advances g c = λ start begun taken p.
-    ends_bad c.args.limit start (machine_of c.args.kernel.now) begun (g.K.Sink.written c.args.out.now) taken c.args.reader.now c.in-Bad.line (sym c.in-Bad.ensures.answer) p
+    ends_bad c.args.limit start (machine_of g.W.SwapStore.held c.args.kernel.now) begun (g.K.Sink.written c.args.out.now) taken c.args.reader.now c.in-Bad.line (sym c.in-Bad.ensures.answer) p
 
 pub returns-in-Bad-clause-finished : goal.returns-in-Bad-clause-finished
 returns-in-Bad-clause-finished g c = ap (λ (r : Reader). r.finished) c.next.ensures.after ∙ next_finished c.args.reader.now
 
 pub returns-in-End-clause-advances : goal.returns-in-End-clause-advances
 returns-in-End-clause-advances g c = λ start begun taken p.
-    ends_whole c.args.limit start (machine_of c.args.kernel.now) begun (g.K.Sink.written c.args.out.now) taken c.args.reader.now (sym c.in-End.ensures.answer) p
+    ends_whole c.args.limit start (machine_of g.W.SwapStore.held c.args.kernel.now) begun (g.K.Sink.written c.args.out.now) taken c.args.reader.now (sym c.in-End.ensures.answer) p
 
 pub returns-in-End-clause-finished : goal.returns-in-End-clause-finished
 returns-in-End-clause-finished g c = ap (λ (r : Reader). r.finished) c.next.ensures.after ∙ next_finished c.args.reader.now

@@ -1,103 +1,116 @@
-use Rattle.std.proofs.Common.{◌≡◌, ◌≢◌, ◌<◌, ◌≤◌, ◌+◌, ◌-◌, ℕ, suc, true, false, is_some, sym, ap, ◌∙◌, subst, arith, List, Option, Result, Ok, Err}
-use Rattle.xk_base.specs.declared.errors.Failed.{Failed}
+use Rattle.std.proofs.Common.{◌≡◌, ◌≢◌, ◌+◌, ◌-◌, ℕ, suc, sym, ap, ◌∙◌, subst, arith, List, Ok, Err}
 use Rattle.xk_base.specs.declared.records.Rec.{Rec}
 use Rattle.xk_ports.specs.Told.{Grows, GrowsByPrefix}
 use Rattle.trace_text.specs.Lines.{text_of}
 use Rattle.machine_model.specs.Machine.{Machine}
-use Rattle.machine_model.specs.Order.{actor, turn}
+use Rattle.machine_model.specs.Order.{turn}
 use Rattle.machine_model.specs.Step.{step}
-use Rattle.xousim.specs.declared.ending.Ending.{Ending}
 use Rattle.xousim.specs.declared.ending.Ending.TheVariants.{Played, LimitMet, Unbuilt}
 use Rattle.xousim.specs.History.{History, behind, ticks}
-use Rattle.plain_kernel.specs.State.{machine_of}
+use Rattle.xk_kernel.specs.State.{machine_of}
+use Rattle.xk_kernel.specs.Stepping.{DoesStep}
+use Rattle.xk_kernel.specs.declared.kernel.Stepped.{Stepped}
+use Rattle.xk_kernel.specs.declared.kernel.Stepped.TheVariants.{Did, NotBuilt}
 use Rattle.xousim.specs.Writing.{Wrote}
 use Rattle.xousim.proofs.HistoryLemmas.{ticks_zero, ticks_idle, ticks_met, ticks_unbuilt, ticks_step, turn_steps, step_steps, wrote_ended, wrote_behind, wrote_front, wrote_err, wrote_same}
+use Rattle.xousim.proofs.KeptLemmas.{kept_after}
 use Rattle.xousim.proofs.playing.play_tick.Goals as goal
 
 pub returns-then-not-ready-clause-wrote : goal.returns-then-not-ready-clause-wrote
 returns-then-not-ready-clause-wrote g c =
     let out = g.K.Sink.written c.steps.out in
     c.steps.invariant.rest (Ok Played) out
-    (wrote_same out out _ _ (Ok Played) (ticks_idle (c.args.count - c.steps.done) c.args.limit (machine_of c.steps.kernel) (cc)) (wrote_ended out Played (turn (machine_of c.steps.kernel))))
+    (wrote_same out out _ _ (Ok Played) (ticks_idle (c.args.count - c.steps.done) c.args.limit (machine_of g.W.SwapStore.held c.steps.kernel) (cc)) (wrote_ended out Played (turn (machine_of g.W.SwapStore.held c.steps.kernel))))
 
 pub returns-then-not-ready-clause-machine : goal.returns-then-not-ready-clause-machine
 returns-then-not-ready-clause-machine g c =
-    c.end_turn.ensures
-    ∙ (sym (ap (λ (h : History). h.machine) (ticks_idle (c.args.count - c.steps.done) c.args.limit (machine_of c.steps.kernel) (cc)))
+    c.end_turn.ensures.machine
+    ∙ (sym (ap (λ (h : History). h.machine) (ticks_idle (c.args.count - c.steps.done) c.args.limit (machine_of g.W.SwapStore.held c.steps.kernel) (cc)))
     ∙ c.steps.invariant.machine)
 
 pub returns-then-not-ready-clause-within : goal.returns-then-not-ready-clause-within
-returns-then-not-ready-clause-within g c = rw (c.end_turn.ensures, turn_steps) c.steps.invariant.within
+returns-then-not-ready-clause-within g c = rw (c.end_turn.ensures.machine, turn_steps) c.steps.invariant.within
 
 pub returns-then-steps-limit-clause-wrote : goal.returns-then-steps-limit-clause-wrote
 returns-then-steps-limit-clause-wrote g c =
     let out = g.K.Sink.written c.steps.out in
     c.steps.invariant.rest (Ok LimitMet) out
-    (wrote_same out out _ _ (Ok LimitMet) (ticks_met (c.args.count - c.steps.done) c.args.limit (machine_of c.steps.kernel) (omega arith) (cc) (cc)) (wrote_ended out LimitMet (machine_of c.steps.kernel)))
+    (wrote_same out out _ _ (Ok LimitMet) (ticks_met (c.args.count - c.steps.done) c.args.limit (machine_of g.W.SwapStore.held c.steps.kernel) (omega arith) (cc) (cc)) (wrote_ended out LimitMet (machine_of g.W.SwapStore.held c.steps.kernel)))
 
 pub returns-then-steps-limit-clause-machine : goal.returns-then-steps-limit-clause-machine
 returns-then-steps-limit-clause-machine g c =
-    sym (ap (λ (h : History). h.machine) (ticks_met (c.args.count - c.steps.done) c.args.limit (machine_of c.steps.kernel) (omega arith) (cc) (cc)))
+    sym (ap (λ (h : History). h.machine) (ticks_met (c.args.count - c.steps.done) c.args.limit (machine_of g.W.SwapStore.held c.steps.kernel) (omega arith) (cc) (cc)))
     ∙ c.steps.invariant.machine
 
-pub returns-in-NotBuilt-clause-wrote : goal.returns-in-NotBuilt-clause-wrote
-returns-in-NotBuilt-clause-wrote g c =
+pub returns-in-Ok-NotBuilt-clause-wrote : goal.returns-in-Ok-NotBuilt-clause-wrote
+returns-in-Ok-NotBuilt-clause-wrote g c =
+    let D : Stepped → Type 0 = λ s. DoesStep g.W.SwapStore.held c.steps.kernel c.step.new.self s in
+    let does : D NotBuilt = subst D c.in-Ok-NotBuilt.field-0-is c.in-Ok-NotBuilt.ensures.does in
     let out = g.K.Sink.written c.steps.out in
     c.steps.invariant.rest (Ok Unbuilt) out
     (wrote_same out out _ _ (Ok Unbuilt)
-    (ticks_unbuilt (c.args.count - c.steps.done) c.args.limit (machine_of c.steps.kernel) (omega arith) c.in-NotBuilt.ensures.0
-    (λ e. c.if-steps-limit.false (c.steps-in-steps.ensures ∙ e)) c.in-NotBuilt.ensures.1)
-    (wrote_ended out Unbuilt (machine_of c.steps.kernel)))
+    (ticks_unbuilt (c.args.count - c.steps.done) c.args.limit (machine_of g.W.SwapStore.held c.steps.kernel) (omega arith) does.0
+    (λ e. c.if-steps-limit.false (c.steps-in-steps.ensures ∙ e)) does.1)
+    (wrote_ended out Unbuilt (machine_of g.W.SwapStore.held c.steps.kernel)))
 
-pub returns-in-NotBuilt-clause-machine : goal.returns-in-NotBuilt-clause-machine
-returns-in-NotBuilt-clause-machine g c =
-    c.in-NotBuilt.ensures.2
+pub returns-in-Ok-NotBuilt-clause-machine : goal.returns-in-Ok-NotBuilt-clause-machine
+returns-in-Ok-NotBuilt-clause-machine g c =
+    let D : Stepped → Type 0 = λ s. DoesStep g.W.SwapStore.held c.steps.kernel c.step.new.self s in
+    let does : D NotBuilt = subst D c.in-Ok-NotBuilt.field-0-is c.in-Ok-NotBuilt.ensures.does in
+    does.2
     ∙ (sym (ap (λ (h : History). h.machine)
-    (ticks_unbuilt (c.args.count - c.steps.done) c.args.limit (machine_of c.steps.kernel) (omega arith) c.in-NotBuilt.ensures.0
-    (λ e. c.if-steps-limit.false (c.steps-in-steps.ensures ∙ e)) c.in-NotBuilt.ensures.1))
+    (ticks_unbuilt (c.args.count - c.steps.done) c.args.limit (machine_of g.W.SwapStore.held c.steps.kernel) (omega arith) does.0
+    (λ e. c.if-steps-limit.false (c.steps-in-steps.ensures ∙ e)) does.1))
     ∙ c.steps.invariant.machine)
 
 pub returns-in_err-write_records-clause-wrote : goal.returns-in_err-write_records-clause-wrote
 returns-in_err-write_records-clause-wrote g c =
-    let m : Machine = machine_of c.steps.kernel in
+    let D : Stepped → Type 0 = λ s. DoesStep g.W.SwapStore.held c.steps.kernel c.step.new.self s in
+    let does : D Did = subst D c.in-Ok-Did.field-0-is c.in-Ok-Did.ensures.does in
+    let m : Machine = machine_of g.W.SwapStore.held c.steps.kernel in
     let left : ℕ = c.args.count - (c.steps.done + 1) in
     let some : c.args.count - c.steps.done ≡ suc left = omega arith in
     let before = g.K.Sink.written c.steps.out in
     let after = g.K.Sink.written c.write_records.new.out in
-    let records : c.last.result.now ≡ (step m).records = c.last.ensures ∙ c.in-Did.ensures.3 in
+    let records : c.last.result.now ≡ (step m).records = c.last.ensures ∙ does.2.records in
     let P : List Rec → Type 0 = λ rs. GrowsByPrefix before after (text_of rs) in
     let front : P (step m).records = subst P records c.in_err-write_records.ensures.front in
-    wrote_err (g.K.Sink.written c.args.out.now) after (ticks c.args.count c.args.limit (machine_of c.args.kernel.now)) c.from_residual.result c.from_residual.ensures.0
+    wrote_err (g.K.Sink.written c.args.out.now) after (ticks c.args.count c.args.limit (machine_of g.W.SwapStore.held c.args.kernel.now)) c.from_residual.result c.from_residual.ensures.0
     (λ failed. c.steps.invariant.rest (Err failed) after
     (wrote_same before after (ticks (c.args.count - c.steps.done) c.args.limit m) (behind (step m).records (ticks left c.args.limit (step m).machine)) (Err failed)
     (ap (λ (n : ℕ). ticks n c.args.limit m) some
-    ∙ ticks_step left c.args.limit m c.in-Did.ensures.0 (λ e. c.if-steps-limit.false (c.steps-in-steps.ensures ∙ e)) c.in-Did.ensures.1)
+    ∙ ticks_step left c.args.limit m does.0 (λ e. c.if-steps-limit.false (c.steps-in-steps.ensures ∙ e)) does.1)
     (wrote_front before after (step m).records (ticks left c.args.limit (step m).machine) failed front)))
 
 pub steps-preserved : goal.steps-preserved
 steps-preserved g c =
-    let m : Machine = machine_of c.steps.kernel in
+    let D : Stepped → Type 0 = λ s. DoesStep g.W.SwapStore.held c.steps.kernel c.step.new.self s in
+    let does : D Did = subst D c.in-Ok-Did.field-0-is c.in-Ok-Did.ensures.does in
+    let m : Machine = machine_of g.W.SwapStore.held c.steps.kernel in
     let left : ℕ = c.args.count - (c.steps.done + 1) in
     let some : c.args.count - c.steps.done ≡ suc left = omega arith in
     let before = g.K.Sink.written c.steps.out in
     let mid = g.K.Sink.written c.write_records.new.out in
-    let records : c.last.result.now ≡ (step m).records = c.last.ensures ∙ c.in-Did.ensures.3 in
+    let records : c.last.result.now ≡ (step m).records = c.last.ensures ∙ does.2.records in
     let P : List Rec → Type 0 = λ rs. Grows before mid (text_of rs) in
     let grown : P (step m).records = subst P records c.in_ok-write_records.ensures.appended in
     let more : m.steps ≢ c.args.limit = λ e. c.if-steps-limit.false (c.steps-in-steps.ensures ∙ e) in
     let one : ticks (c.args.count - c.steps.done) c.args.limit m ≡ _ =
-    ap (λ (n : ℕ). ticks n c.args.limit m) some ∙ ticks_step left c.args.limit m c.in-Did.ensures.0 more c.in-Did.ensures.1 in
+    ap (λ (n : ℕ). ticks n c.args.limit m) some ∙ ticks_step left c.args.limit m does.0 more does.1 in
     record {
       rest = λ result after w.
           let Q : Machine → Type 0 = λ mm. Wrote mid after (ticks left c.args.limit mm) result in
           c.steps.invariant.rest result after
           (wrote_same before after _ _ result one
           (wrote_behind before mid after (step m).records (ticks left c.args.limit (step m).machine) result grown
-          (subst Q c.in-Did.ensures.2 w)));
-      machine = ap (λ (mm : Machine). (ticks left c.args.limit mm).machine) c.in-Did.ensures.2
+          (subst Q does.2.machine w)));
+      machine = ap (λ (mm : Machine). (ticks left c.args.limit mm).machine) does.2.machine
           ∙ (sym (ap (λ (h : History). h.machine) one) ∙ c.steps.invariant.machine);
       later = omega arith;
-      within = rw (c.in-Did.ensures.2, step_steps m c.in-Did.ensures.0) (omega (arith, c.steps.invariant.within));
+      sound = c.step.ensures.sound;
+      usable = c.in-Ok-Did.ensures.usable;
+      keeps = kept_after c.steps.invariant.keeps c.step.ensures.keeps;
+      within = rw (does.2.machine, step_steps m does.0) (omega (arith, c.steps.invariant.within));
     }
 
 pub returns-clause-wrote : goal.returns-clause-wrote
@@ -106,16 +119,16 @@ returns-clause-wrote g c =
     let none : c.args.count - c.steps.done ≡ 0 = omega arith in
     c.steps.invariant.rest (Ok Played) out
     (wrote_same out out _ _ (Ok Played)
-    (ap (λ (n : ℕ). ticks n c.args.limit (machine_of c.steps.kernel)) none ∙ ticks_zero c.args.limit (machine_of c.steps.kernel))
-    (wrote_ended out Played (turn (machine_of c.steps.kernel))))
+    (ap (λ (n : ℕ). ticks n c.args.limit (machine_of g.W.SwapStore.held c.steps.kernel)) none ∙ ticks_zero c.args.limit (machine_of g.W.SwapStore.held c.steps.kernel))
+    (wrote_ended out Played (turn (machine_of g.W.SwapStore.held c.steps.kernel))))
 
 pub returns-clause-machine : goal.returns-clause-machine
 returns-clause-machine g c =
     let none : c.args.count - c.steps.done ≡ 0 = omega arith in
-    c.end_turn-2.ensures
+    c.end_turn-2.ensures.machine
     ∙ (sym (ap (λ (h : History). h.machine)
-    (ap (λ (n : ℕ). ticks n c.args.limit (machine_of c.steps.kernel)) none ∙ ticks_zero c.args.limit (machine_of c.steps.kernel)))
+    (ap (λ (n : ℕ). ticks n c.args.limit (machine_of g.W.SwapStore.held c.steps.kernel)) none ∙ ticks_zero c.args.limit (machine_of g.W.SwapStore.held c.steps.kernel)))
     ∙ c.steps.invariant.machine)
 
 pub returns-clause-within : goal.returns-clause-within
-returns-clause-within g c = rw (c.end_turn-2.ensures, turn_steps) c.steps.invariant.within
+returns-clause-within g c = rw (c.end_turn-2.ensures.machine, turn_steps) c.steps.invariant.within

@@ -2,7 +2,8 @@ use Rattle.std.proofs.Common.{◌≡◌, ◌≤◌, ◌-◌, Option, List, ℕ, 
 use Rattle.xk_base.specs.declared.errors.Failed.{Failed}
 use Rattle.xousim.specs.declared.ending.Ending.{Ending}
 use Rattle.xousim.specs.History.{ticks}
-use Rattle.plain_kernel.specs.State.{machine_of}
+use Rattle.xk_kernel.specs.Sound.{IsSound, IsUsable, Keeps}
+use Rattle.xk_kernel.specs.State.{machine_of}
 use Rattle.xousim.specs.Writing.{Wrote}
 use Rattle.xousim.proofs.playing.play_tick.Given as goal
 
@@ -10,9 +11,12 @@ use Rattle.xousim.proofs.playing.play_tick.Given as goal
 abbrev pub invariant-steps : goal.invariant-steps
 invariant-steps g l = record {
   rest : (result : Result Ending Failed) (after : Option (List ℕ))
-      → Wrote (g.K.Sink.written l.out) after (ticks (l.count - l.done) l.limit (machine_of l.kernel)) result
-      → Wrote (g.K.Sink.written l.fn.out) after (ticks l.count l.limit (machine_of l.fn.kernel)) result;
-  machine : (ticks (l.count - l.done) l.limit (machine_of l.kernel)).machine ≡ (ticks l.count l.limit (machine_of l.fn.kernel)).machine;
+      → Wrote (g.K.Sink.written l.out) after (ticks (l.count - l.done) l.limit (machine_of g.W.SwapStore.held l.kernel)) result
+      → Wrote (g.K.Sink.written l.fn.out) after (ticks l.count l.limit (machine_of g.W.SwapStore.held l.fn.kernel)) result;
+  machine : (ticks (l.count - l.done) l.limit (machine_of g.W.SwapStore.held l.kernel)).machine ≡ (ticks l.count l.limit (machine_of g.W.SwapStore.held l.fn.kernel)).machine;
   later : g.K.Sink.faults l.fn.out ≤ g.K.Sink.faults l.out;
-  within : (machine_of l.kernel).steps ≤ l.limit;
+  sound : IsSound g.W.SwapStore.slot_count g.W.SwapStore.held l.kernel;
+  usable : IsUsable l.kernel;
+  keeps : Keeps g.W.SwapStore.is_honest g.W.SwapStore.held g.W.SwapStore.slot_count g.W.SwapStore.asked g.W.SwapStore.faults l.fn.kernel l.kernel;
+  within : (machine_of g.W.SwapStore.held l.kernel).steps ≤ l.limit;
 }

@@ -1,4 +1,4 @@
-use Rattle.std.proofs.Common.{◌<◌, arith, length}
+use Rattle.std.proofs.Common.{arith}
 use Rattle.std.proofs.lemmas.Grind.{common_steps}
 use Rattle.xousim.proofs.ToldLemmas.{consumed_front}
 use Rattle.xousim.proofs.reading.read_rest.Goals as goal

@@ -1,11 +1,10 @@
-use Rattle.std.proofs.Common.{◌≡◌, ◌∙◌, subst, sym, ap, inl, inr, true, List, Option, ℕ, Result, Ok, Err}
+use Rattle.std.proofs.Common.{◌∙◌, subst, sym, ap, inr, true, List, Option, Err}
 use Rattle.machine_model.specs.Machine.{Machine}
-use Rattle.plain_kernel.specs.State.{machine_of}
+use Rattle.xk_kernel.specs.State.{machine_of}
 use Rattle.xk_base.specs.declared.limits.TheConstants.{DEFAULT_STEPS}
 use Rattle.xk_base.specs.Outside.{Rose}
 use Rattle.xk_ports.specs.Host.{FileAsked}
 use Rattle.xk_ports.specs.declared.host.FileSlot.TheVariants.{Second}
-use Rattle.xousim.specs.declared.ending.Ending.{Ending}
 use Rattle.xousim.specs.declared.event_file.RunFault.{RunFault}
 use Rattle.xousim.specs.Playing.{Runs}
 use Rattle.xousim.specs.Reading.{Asked}
@@ -16,7 +15,7 @@ use Rattle.xousim.proofs.top.play_events.Goals as goal
 pub returns-in-Ok-play_file-clause-played : goal.returns-in-Ok-play_file-clause-played
 returns-in-Ok-play_file-clause-played g c =
     let file = g.H.Host.file c.args.host.now in
-    let start : Machine = machine_of c.args.kernel.now in
+    let start : Machine = machine_of g.W.SwapStore.held c.args.kernel.now in
     let faults = g.K.Sink.faults in
     let runs = c.in-Ok-play_file.ensures.runs in
     let A : Option (List FileAsked) → Type 0 = λ asked. Asked (g.H.Host.asked c.args.host.now) asked Second c.args.name.now true in
@@ -39,7 +38,7 @@ returns-in-Err-Read-clause-played g c =
     let before = g.H.Host.left c.pick_file.new.self Second in
     let left = g.H.Host.left c.play_file.new.host Second in
     let faults = g.H.Host.faults in
-    let P : RunFault → Type 0 = λ f. Runs before left DEFAULT_STEPS (machine_of c.args.kernel.now) (machine_of c.play_file.new.kernel) (g.K.Sink.written c.args.out.now) (g.K.Sink.written c.play_file.new.out) (Err f) in
+    let P : RunFault → Type 0 = λ f. Runs before left DEFAULT_STEPS (machine_of g.W.SwapStore.held c.args.kernel.now) (machine_of g.W.SwapStore.held c.play_file.new.kernel) (g.K.Sink.written c.args.out.now) (g.K.Sink.written c.play_file.new.out) (Err f) in
     let runs = subst P c.in-Err-Read.field-0-is c.in-Err-Read.ensures.runs in
     let rose = c.in-Err-Read.ensures.read (ap (λ (f : RunFault). Err f) c.in-Err-Read.field-0-is) in
     let A : Option (List FileAsked) → Type 0 = λ asked. Asked (g.H.Host.asked c.args.host.now) asked Second c.args.name.now true in
@@ -56,9 +55,9 @@ returns-in-Err-Write-clause-played g c =
     let file = g.H.Host.file c.args.host.now in
     let before = g.H.Host.left c.pick_file.new.self Second in
     let left = g.H.Host.left c.play_file.new.host Second in
-    let start : Machine = machine_of c.args.kernel.now in
+    let start : Machine = machine_of g.W.SwapStore.held c.args.kernel.now in
     let faults = g.K.Sink.faults in
-    let P : RunFault → Type 0 = λ f. Runs before left DEFAULT_STEPS start (machine_of c.play_file.new.kernel) (g.K.Sink.written c.args.out.now) (g.K.Sink.written c.play_file.new.out) (Err f) in
+    let P : RunFault → Type 0 = λ f. Runs before left DEFAULT_STEPS start (machine_of g.W.SwapStore.held c.play_file.new.kernel) (g.K.Sink.written c.args.out.now) (g.K.Sink.written c.play_file.new.out) (Err f) in
     let runs = subst P c.in-Err-Write.field-0-is c.in-Err-Write.ensures.runs in
     let rose = c.in-Err-Write.ensures.write (ap (λ (f : RunFault). Err f) c.in-Err-Write.field-0-is) in
     let A : Option (List FileAsked) → Type 0 = λ asked. Asked (g.H.Host.asked c.args.host.now) asked Second c.args.name.now true in

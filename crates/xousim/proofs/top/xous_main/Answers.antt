@@ -7,8 +7,8 @@ use Rattle.xousim.proofs.top.xous_main.Goals as goal
 pub returns-clause-complete : goal.returns-clause-complete
 returns-clause-complete g c =
     ends_complete_if (command_of c.args.words.now) (g.H.Host.file c.args.host.now)
-    (g.H.Host.asked c.args.host.now) (g.H.Host.asked c.run_words-status.new.host) (g.H.Host.left c.run_words-status.new.host Second)
-    (g.K.Sink.written c.args.out.now) (g.K.Sink.written c.run_words-status.new.out)
-    (Rose (g.H.Host.faults c.args.host.now) (g.H.Host.faults c.run_words-status.new.host))
-    (Rose (g.K.Sink.faults c.args.out.now) (g.K.Sink.faults c.run_words-status.new.out))
-    c.run_words-status.result _ c.run_words-status.ensures.ends
+    (g.H.Host.asked c.args.host.now) (g.H.Host.asked c.run_words-ended.new.host) (g.H.Host.left c.run_words-ended.new.host Second)
+    (g.K.Sink.written c.args.out.now) (g.K.Sink.written c.run_words-ended.new.out)
+    (Rose (g.H.Host.faults c.args.host.now) (g.H.Host.faults c.run_words-ended.new.host))
+    (Rose (g.K.Sink.faults c.args.out.now) (g.K.Sink.faults c.run_words-ended.new.out))
+    c.run_words-ended.result.status _ c.run_words-ended.ensures.ends

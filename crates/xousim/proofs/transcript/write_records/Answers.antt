@@ -1,6 +1,6 @@
-use Rattle.std.proofs.Common.{◌≡◌, ◌++◌, ℕ, suc, List, take, drop, get_or, sym, subst}
-use Rattle.xk_ports.specs.Told.{Grows, GrowsByPrefix}
-use Rattle.trace_text.specs.Lines.{line_of, text_of}
+use Rattle.std.proofs.Common.{ℕ, suc, List, take, drop, sym, subst}
+use Rattle.xk_ports.specs.Told.{GrowsByPrefix}
+use Rattle.trace_text.specs.Lines.{text_of}
 use Rattle.xousim.proofs.ToldLemmas.{on_err, prefix_after, text_at}
 use Rattle.xousim.proofs.transcript.write_records.Goals as goal
 

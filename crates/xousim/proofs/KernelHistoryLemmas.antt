@@ -1,0 +1,77 @@
+-- Where all is built, a history is the kernel's.
+use Rattle.std.proofs.Common.{◌≡◌, ◌≢◌, ◌==◌, ℕ, zero, suc, Bool, true, false, List, [], ◌∷◌, is_some, refl, sym, ap, subst}
+use Rattle.std.specs.Prelude.{if◌then◌else◌}
+use Rattle.event_text.specs.declared.event.Event.{Event}
+use Rattle.event_text.specs.declared.event.Event.TheVariants.{Tick, Pick, Irq, Kill}
+use Rattle.machine_model.specs.Events.{nothing}
+use Rattle.machine_model.specs.Machine.{Machine}
+use Rattle.machine_model.specs.Order.{actor, turn}
+use Rattle.machine_model.specs.Step.{step}
+use Rattle.xk_kernel.specs.Built.{step_built}
+use Rattle.xk_kernel.specs.History as kernel
+use Rattle.xousim.specs.declared.ending.Ending.{Ending}
+use Rattle.xousim.specs.declared.ending.Ending.TheVariants.{Played, LimitMet, Unbuilt}
+use Rattle.xousim.specs.History.{History, behind, ended, followed_by, go_on, history, history_to, of_kernel, play, ticks}
+
+ticks_agree : (n limit : ℕ) (m : Machine) → (ticks n limit m).ending ≢ Unbuilt → ticks n limit m ≡ of_kernel (kernel.ticks n limit m)
+unfolding ticks kernel.ticks
+ticks_agree zero limit m built = refl
+ticks_agree (suc n) limit m built =
+    go (is_some (actor m)) (m.steps == limit) (step_built m) built (λ h. ticks_agree n limit (step m).machine h)
+  where
+    ours : Bool → Bool → Bool → History
+    ours a b c =
+        if a then (if b then ended LimitMet m else (if c then behind (step m).records (ticks n limit (step m).machine) else ended Unbuilt m))
+        else ended Played (turn m)
+
+    theirs : Bool → Bool → kernel.History
+    theirs a b =
+        if a then (if b then kernel.stopped m else kernel.behind (step m).records (kernel.ticks n limit (step m).machine))
+        else kernel.reached (nothing (turn m))
+
+    go : (a b c : Bool) → (ours a b c).ending ≢ Unbuilt
+        → ((ticks n limit (step m).machine).ending ≢ Unbuilt → ticks n limit (step m).machine ≡ of_kernel (kernel.ticks n limit (step m).machine))
+        → ours a b c ≡ of_kernel (theirs a b)
+    go false b c built later = refl
+    go true true c built later = refl
+    go true false false built later = absurd (built refl)
+    go true false true built later = ap (behind (step m).records) (later built)
+
+play_agrees : (event : Event) (limit : ℕ) (m : Machine) → (play event limit m).ending ≢ Unbuilt → play event limit m ≡ of_kernel (kernel.play event limit m)
+unfolding play kernel.play
+play_agrees (Tick n) limit m built = ticks_agree n limit m built
+play_agrees (Pick pid tid) limit m built = refl
+play_agrees (Irq k) limit m built = absurd (built refl)
+play_agrees (Kill pid) limit m built = refl
+
+unbuilt_stops : (h : History) (next : Machine → History) → h.ending ≡ Unbuilt → (followed_by h next).ending ≡ Unbuilt
+unbuilt_stops h next is =
+    let P : Ending → Type 0 = λ e. (go_on e h next).ending ≡ Unbuilt in subst P (sym is) is
+
+follows : (k : kernel.History) (next : Machine → History) (knext : Machine → kernel.History)
+    → ((x : Machine) → (next x).ending ≢ Unbuilt → next x ≡ of_kernel (knext x))
+    → (followed_by (of_kernel k) next).ending ≢ Unbuilt → followed_by (of_kernel k) next ≡ of_kernel (kernel.followed_by k knext)
+follows k next knext later built = go k.met built
+  where
+    go : (b : Bool) → (go_on (if b then LimitMet else Played) (of_kernel k) next).ending ≢ Unbuilt
+        → go_on (if b then LimitMet else Played) (of_kernel k) next ≡ of_kernel (kernel.go_on b k knext)
+    go true built = refl
+    go false built = ap (behind k.records) (later k.machine built)
+
+-- one history, and what comes after it
+both_follow : (h : History) (k : kernel.History) (next : Machine → History) (knext : Machine → kernel.History)
+    → (h.ending ≢ Unbuilt → h ≡ of_kernel k)
+    → ((x : Machine) → (next x).ending ≢ Unbuilt → next x ≡ of_kernel (knext x))
+    → (followed_by h next).ending ≢ Unbuilt → followed_by h next ≡ of_kernel (kernel.followed_by k knext)
+both_follow h k next knext agree later built =
+    let same : h ≡ of_kernel k = agree (λ e. built (unbuilt_stops h next e)) in
+    let P : History → Type 0 = λ x. (followed_by x next).ending ≢ Unbuilt → followed_by x next ≡ of_kernel (kernel.followed_by k knext) in
+    subst P (sym same) (follows k next knext later) built
+
+pub history_agrees : (events : List Event) (limit : ℕ) (m : Machine) → (history events limit m).ending ≢ Unbuilt
+    → history events limit m ≡ of_kernel (kernel.history events limit m)
+unfolding history_to kernel.history
+history_agrees [] limit m built = refl
+history_agrees (event ∷ events) limit m built =
+    both_follow (play event limit m) (kernel.play event limit m) (history_to Played events limit) (kernel.history events limit)
+    (play_agrees event limit m) (λ x. history_agrees events limit x) built
