@@ -13,6 +13,7 @@ pub mod FirstLoans
 pub mod FirstPages
 pub mod FreeRuns
 pub mod HereLaws
+pub mod LedgerBytes
 pub mod Loops
 pub mod Nowhere
 pub mod PageWrites
@@ -23,6 +24,7 @@ pub mod Reached
 pub mod RightSteps
 pub mod RunLaws
 pub mod SeatWrites
+pub mod SeenPages
 pub mod SoundMemory
 pub mod SpacesMade
 pub mod Steps

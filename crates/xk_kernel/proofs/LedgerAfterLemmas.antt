@@ -20,8 +20,8 @@ use Rattle.vm_memory.specs.Memory.{Size, processes, ledger}
 use Rattle.vm_memory.specs.Sound.{IsSound}
 use Rattle.vm_memory.specs.UserView.{KeepsRest, contents_seen, seen_memory, user_view}
 use Rattle.vm_memory.proofs.CallLaws.{sound-means}
-use Rattle.xk_kernel.proofs.LedgerBytesLemmas.{IsSeenAt, IsTold, same_by_bytes, written_by_bytes, stored_is_loaded}
-use Rattle.xk_kernel.proofs.SeenPageLemmas.{told}
+use Rattle.vm_memory.proofs.LedgerBytes.{IsSeenAt, IsTold, same_by_bytes, written_by_bytes, stored_is_loaded}
+use Rattle.vm_memory.proofs.SeenPages.{told}
 use Rattle.xk_kernel.proofs.StoreLemmas.{StoresLawfully}
 
 -- ---- the page of a store

@@ -17,7 +17,6 @@ pub mod JoinLemmas
 pub mod JoinerLemmas
 pub mod JoiningLemmas
 pub mod LedgerAfterLemmas
-pub mod LedgerBytesLemmas
 pub mod LimitLemmas
 pub mod LoanLemmas
 pub mod LogLemmas
@@ -28,7 +27,6 @@ pub mod MomentLemmas
 pub mod OrderLemmas
 pub mod ReplyLemmas
 pub mod RunLemmas
-pub mod SeenPageLemmas
 pub mod SettleLemmas
 pub mod StartLemmas
 pub mod StepOfLemmas

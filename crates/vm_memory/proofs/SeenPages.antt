@@ -28,7 +28,7 @@ use Rattle.vm_memory.specs.UserView.{IsUnseen, contents_seen}
 use Rattle.vm_memory.proofs.BareLaws.{reach-bare}
 use Rattle.vm_memory.proofs.Reached.{no_slot_named, reach_by, reach_nowhere, seat_contents, console_contents}
 use Rattle.vm_memory.proofs.WalkTargets.{page_frame}
-use Rattle.xk_kernel.proofs.LedgerBytesLemmas.{IsTold, IsWholeContents}
+use Rattle.vm_memory.proofs.LedgerBytes.{IsTold, IsWholeContents}
 
 -- ---- a page that is named
 
