@@ -1,8 +1,10 @@
 #!/usr/bin/env python3
-"""Steps a second of `trace`, on loops that make no system call.
+"""What `trace` costs: steps a second, a boot, and events.
 
-Makes an image and an event file for each loop, runs `trace` on them up to the step limit of ten
-million, and prints a table. The time is that of the whole program, the best of five runs.
+Makes an image and an event file for each row, runs `trace` on them, and prints a table. The loops
+make no system call and run up to the step limit of ten million, in an image of one process and in
+one of 32 whose other processes have the same code. Each time is that of the whole program, the best
+of five runs.
 """
 
 import pathlib
@@ -14,9 +16,13 @@ import time
 TOP = pathlib.Path(__file__).resolve().parent.parent
 LAUNCHER = TOP / "xousim"
 STEPS = 10_000_000
+EVENTS = 1_000_000
 RUNS = 5
+PAGE = 4096
+RAM_BYTES = 0x400_0000
 ENTRY = 0x1_0000
-EXECUTABLE = 4
+ZEROS = 0x2_0000
+WRITABLE, ZERO_FILLED, EXECUTABLE = 1, 2, 4
 ZERO, SP, COUNT, FACTOR, PRODUCT = 0, 2, 5, 6, 7
 
 
@@ -88,28 +94,38 @@ def tag(name, *words):
     return name + struct.pack("<HH", crc_x25(contents), len(words)) + contents
 
 
-def image(code):
-    """One process with one executable section."""
-    row_bytes = 28 + 24
+def image(code, processes=1, zero_pages=0):
+    """So many processes, each with this code in an executable section and a section of zeros."""
+    sections = 2 if zero_pages else 1
+    row_bytes = 28 + processes * (8 + 8 + 8 * sections)
+    load = row_bytes
     name = int.from_bytes(b"sram", "little")
-    section = 4 * len(code) | EXECUTABLE << 24
-    row = tag(b"XArg", row_bytes // 4, 1, 0x4000_0000, 0x100_0000, name)
-    row += tag(b"IniE", row_bytes, ENTRY, ENTRY, section)
+    row = tag(b"XArg", row_bytes // 4, 1, 0x4000_0000, RAM_BYTES, name)
+    words = [load, ENTRY, ENTRY, 4 * len(code) | EXECUTABLE << 24]
+    if zero_pages:
+        words += [ZEROS, zero_pages * PAGE | (WRITABLE | ZERO_FILLED) << 24]
+    for _ in range(processes):
+        row += tag(b"IniE", *words)
     return row + struct.pack(f"<{len(code)}I", *code)
 
 
-def seconds(program, image_path, events_path):
-    """The best time of a run that meets the step limit."""
+def seconds(image_bytes, events, last_line):
+    """The best time of a run that ends with this line."""
     best = None
-    for _ in range(RUNS):
-        start = time.perf_counter()
-        run = subprocess.run(
-            [program, "trace", image_path, events_path], capture_output=True, check=False
-        )
-        took = time.perf_counter() - start
-        if run.stdout != f"end {STEPS} limit\n".encode():
-            raise SystemExit(f"the run failed: {run.stdout!r} {run.stderr!r}")
-        best = took if best is None else min(best, took)
+    with tempfile.TemporaryDirectory() as folder:
+        image_path = pathlib.Path(folder) / "image"
+        events_path = pathlib.Path(folder) / "events"
+        image_path.write_bytes(image_bytes)
+        events_path.write_bytes(events)
+        for _ in range(RUNS):
+            start = time.perf_counter()
+            run = subprocess.run(
+                [LAUNCHER, "trace", image_path, events_path], capture_output=True, check=False
+            )
+            took = time.perf_counter() - start
+            if run.stdout != last_line.encode() + b"\n":
+                raise SystemExit(f"the run failed: {run.stdout[-200:]!r} {run.stderr!r}")
+            best = took if best is None else min(best, took)
     return best
 
 
@@ -123,18 +139,24 @@ def processor():
 def main():
     # The launcher builds the program where it is out of date; with no words it does nothing else.
     subprocess.run([LAUNCHER], stderr=subprocess.DEVNULL, check=False)
-    print(f"One core of {processor()}, {STEPS:,} steps:")
+    print(f"One core of {processor()}:")
     print()
-    print("| Loop | Seconds | Million steps a second |")
+    print("| Run | Seconds | Million a second |")
     print("|---|---|---|")
-    with tempfile.TemporaryDirectory() as folder:
-        events_path = pathlib.Path(folder) / "events"
-        events_path.write_bytes(b"tick 4294967295\n")
-        for name, code in LOOPS:
-            image_path = pathlib.Path(folder) / "image"
-            image_path.write_bytes(image(code))
-            took = seconds(LAUNCHER, image_path, events_path)
-            print(f"| {name} | {took:.2f} | {STEPS / took / 1e6:.0f} |")
+    for name, code in LOOPS:
+        for processes in (1, 32):
+            took = seconds(image(code, processes), b"tick 4294967295\n", f"end {STEPS} limit")
+            text = f"{STEPS:,} steps: {name}, {processes} process{'es' * (processes > 1)}"
+            print(f"| {text} | {took:.2f} | {STEPS / took / 1e6:.0f} |")
+    loop = LOOPS[0][1]
+    for processes, zero_pages in ((1, 0), (32, 391)):
+        pages = processes * (1 + 9 + zero_pages)
+        took = seconds(image(loop, processes, zero_pages), b"", "end 0 done")
+        print(f"| boot of {processes} process{'es' * (processes > 1)} with {pages:,} pages | {took:.3f} | |")
+    for processes in (1, 32):
+        took = seconds(image(loop, processes), b"tick 1\n" * EVENTS, f"end {EVENTS} done")
+        text = f"{EVENTS:,} events `tick 1`, {processes} process{'es' * (processes > 1)}"
+        print(f"| {text} | {took:.2f} | {EVENTS / took / 1e6:.1f} |")
 
 
 if __name__ == "__main__":

@@ -1,9 +1,13 @@
+pub mod ActLemmas
 pub mod AnsweringLemmas
 pub mod BootLemmas
+pub mod CallTableLemmas
+pub mod CallerLemmas
 pub mod CreateLemmas
 pub mod DeathOfLemmas
 pub mod DyingLemmas
 pub mod EndingLemmas
+pub mod EventLemmas
 pub mod FirstLedgerLemmas
 pub mod HeapGrowth
 pub mod HeapLemmas
@@ -25,7 +29,9 @@ pub mod OrderLemmas
 pub mod ReplyLemmas
 pub mod RunLemmas
 pub mod SeenPageLemmas
+pub mod SettleLemmas
 pub mod StartLemmas
+pub mod StepOfLemmas
 pub mod StoreLemmas
 pub mod TellingLemmas
 pub mod ThreadLemmas

@@ -1,5 +1,5 @@
 -- What came of a system call, before its caller is past it: the one outcome of the call, by its row of the table.
-use Rattle.std.specs.Prelude.{◌≡◌, Result, Ok, Err, Some, None}
+use Rattle.std.specs.Prelude.{Result, Ok, Err, Some, None}
 use Rattle.machine_model.specs.Changes.{Change, Outcome, Refused, Served, only, answering}
 use Rattle.machine_model.specs.Machine.{Machine}
 use Rattle.machine_model.specs.Threads.{answer_to, no_answers}

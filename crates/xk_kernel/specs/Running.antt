@@ -1,5 +1,4 @@
 -- What the instruction of a thread makes of the machine.
-use Rattle.std.specs.Prelude.{ℕ}
 use Rattle.machine_model.specs.Instructions.{Executed, Next, Stores, StoresToConsole, CallsKernel, Traps}
 use Rattle.machine_model.specs.Machine.{Machine}
 use Rattle.machine_model.specs.Threads.{change_thread, with_registers}

@@ -1,5 +1,5 @@
 -- What the calls of a kernel do to the machine that it stands for.
-use Rattle.std.specs.Prelude.{◌≡◌, ◌+◌, true, false, is_some, List}
+use Rattle.std.specs.Prelude.{◌≡◌, true, false, is_some, List}
 use Rattle.event_text.specs.declared.event.Event.{Event}
 use Rattle.event_text.specs.declared.event.Event.TheVariants.{Tick, Pick, Irq, Kill}
 use Rattle.machine_model.specs.Events.{picked, raised, killed, nothing}

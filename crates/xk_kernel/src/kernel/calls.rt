@@ -4,6 +4,7 @@ ghost use Rattle.std.specs.Prelude.{ℕ, List, ◌≡◌, ◌+◌, ◌≤◌, tr
 ghost use Rattle.machine_laws.specs.WithoutServers.{is_plain_call};
 ghost use Rattle.machine_model.specs.Calls.{call};
 ghost use Rattle.machine_model.specs.Changes.{call_settled};
+ghost use Rattle.machine_model.specs.Matched.{Matched};
 ghost use Rattle.machine_model.specs.Order.{ready_at};
 ghost use Rattle.machine_model.specs.Step.{after};
 ghost use Rattle.syscall_codec.specs.Calls.{Asks};
@@ -58,6 +59,7 @@ impl<W: SwapStore> Kernel<W> {
     pub(super) fn call(&mut self, words: [u32; 8]) -> Result<(), SwapFault>
         requires whole { IsWhole W.slot_count W.held self.old }
         requires usable { IsUsable self.old }
+        requires matched { Matched (machine_of W.held self.old) }
         requires built { is_plain_call words ≡ true }
         requires ready { ready_at (machine_of W.held self.old) self.old.cursor ≡ true }
         requires room { length self.old.log.records + 2 ≤ self.old.log.room }
@@ -69,10 +71,7 @@ impl<W: SwapStore> Kernel<W> {
     {
         let who = self.cursor;
         self.log.push(What::Call(who, words));
-        let outcome = match read_call(words) {
-            Ok(asked) => self.serve(asked)?,
-            Err(error) => Err(error),
-        };
+        let outcome = self.outcome(words)?;
         self.pass(who);
         match outcome {
             Ok(Served::Answered(reply)) => self.answer(who, reply_words(&reply)),
@@ -83,12 +82,34 @@ impl<W: SwapStore> Kernel<W> {
         Ok(())
     }
 
-    // What comes of the call, before its caller is past it and has its answer.
+    // What comes of a call with these words, before its caller is past it and has its answer.
+    fn outcome(&mut self, words: [u32; 8]) -> Result<Result<Served, XousError>, SwapFault>
+        requires whole { IsWhole W.slot_count W.held self.old }
+        requires usable { IsUsable self.old }
+        requires ready { ready_at (machine_of W.held self.old) self.old.cursor ≡ true }
+        requires matched { Matched (machine_of W.held self.old) }
+        requires built { is_plain_call words ≡ true }
+        ensures whole { IsWhole W.slot_count W.held self.new }
+        ensures usable { OnOk result (IsUsable self.new) }
+        ensures outcome { IfOk result (λ served. outcome_of self.old.cursor (machine_of W.held self.new) served ≡ call (machine_of W.held self.old) words) }
+        ensures refused { IfOk result (λ served. OnErr served (self.new ≡ self.old)) }
+        ensures log { self.new.log ≡ self.old.log }
+        ensures keeps { Keeps W.is_honest W.held W.slot_count W.asked W.faults self.old self.new }
+        ensures sure { IsOk result }
+    {
+        match read_call(words) {
+            Ok(asked) => self.serve(asked),
+            Err(error) => Ok(Err(error)),
+        }
+    }
+
+    // What comes of the call that is asked for.
     fn serve(&mut self, asked: Call) -> Result<Result<Served, XousError>, SwapFault>
         requires whole { IsWhole W.slot_count W.held self.old }
         requires usable { IsUsable self.old }
         requires ready { ready_at (machine_of W.held self.old) self.old.cursor ≡ true }
-        requires built { (words : List ℕ) → Asks words asked → is_plain_call words ≡ true }
+        requires matched { Matched (machine_of W.held self.old) }
+        requires built { (words : List ℕ) × Asks words asked × (is_plain_call words ≡ true) }
         ensures whole { IsWhole W.slot_count W.held self.new }
         ensures usable { OnOk result (IsUsable self.new) }
         ensures outcome { IfOk result (λ served. (words : List ℕ) → Asks words asked → outcome_of self.old.cursor (machine_of W.held self.new) served ≡ call (machine_of W.held self.old) words) }

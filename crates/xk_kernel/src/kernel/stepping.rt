@@ -1,7 +1,8 @@
 //! One step.
 
 ghost use Rattle.std.specs.Prelude.{◌≡◌, ◌<◌, ◌⊎◌, false, IfOk, IsOk, OnErr, OnOk, Some, length, ◌+◌, ◌≤◌};
-ghost use Rattle.machine_model.specs.Step.{console_told, record_of};
+ghost use Rattle.machine_model.specs.Step.{console_told, ends_handler, ends_thread, record_of};
+ghost use Rattle.xk_kernel.specs.Acting.{Acts};
 ghost use Rattle.vm_memory.specs.Memory.{processes};
 ghost use Rattle.xk_base.specs.Circle.{is_thread_id};
 ghost use Rattle.xk_kernel.specs.Telling.{log_with};
@@ -29,6 +30,20 @@ const HANDLER_RETURN: u32 = 0xFF80_2000;
 
 /// The register a0.
 const A0: u8 = 10;
+
+// Whether a fetch there ends the thread.
+fn ends_thread(who: ThreadId, pc: u32) -> bool
+    ensures { result ≡ ends_thread who pc }
+{
+    who.tid.0 > 1 && pc == THREAD_RETURN
+}
+
+// Whether a fetch there ends the interrupt handler.
+fn ends_handler(who: ThreadId, pc: u32) -> bool
+    ensures { result ≡ ends_handler who pc }
+{
+    who.tid.0 == 1 && pc == HANDLER_RETURN
+}
 
 impl<W: SwapStore> Kernel<W> {
     /// Does the next step: one instruction, one whole system call, one end of a thread or one fatal
@@ -66,33 +81,61 @@ impl<W: SwapStore> Kernel<W> {
         ensures sure { IsOk result }
         ensures keeps { Keeps W.is_honest W.held W.slot_count W.asked W.faults self.old self.new }
     {
+        let number = self.steps + 1;
+        if !self.act(who)? {
+            return Ok(Stepped::NotBuilt);
+        }
+        self.steps = number;
+        Ok(Stepped::Did)
+    }
+
+    // The thread, whose step it is, ends or does its instruction, where that is built. The step isn't
+    // counted yet.
+    fn act(&mut self, who: ThreadId) -> Result<bool, SwapFault>
+        requires sound { IsSound W.slot_count W.held self.old }
+        requires usable { IsUsable self.old }
+        requires few { self.old.steps < 4000000000 }
+        requires who { actor (machine_of W.held self.old) ≡ Some who }
+        ensures whole { IsWhole W.slot_count W.held self.new }
+        ensures usable { OnOk result (IsUsable self.new) }
+        ensures acts { IfOk result (Acts W.held self.old self.new who) }
+        ensures sure { IsOk result }
+        ensures keeps { Keeps W.is_honest W.held W.slot_count W.asked W.faults self.old self.new }
+    {
         let thread = self.thread(who);
-        if who.tid.0 > 1 && thread.pc == THREAD_RETURN {
+        if ends_thread(who, thread.pc) {
             self.begin(who);
             self.end_thread(thread.regs.get(A0));
-        } else if who.tid.0 == 1 && thread.pc == HANDLER_RETURN {
-            return Ok(Stepped::NotBuilt);
-        } else {
-            match self.run(who) {
-                Ran::Next(_) => self.begin(who),
-                Ran::Device { offset, value, .. } => self.tell_console(who, offset, value),
-                Ran::Trap { cause, value } => {
-                    self.begin(who);
-                    self.die(What::Fault(who, cause, value));
-                }
-                Ran::Ecall => {
-                    let words = thread.regs.arguments();
-                    if !is_built(&words) {
-                        return Ok(Stepped::NotBuilt);
-                    }
-                    self.begin(who);
-                    self.call(words)?;
-                }
-                Ran::Failed => return Err(SwapFault),
-            }
+            return Ok(true);
         }
-        self.count();
-        Ok(Stepped::Did)
+        if ends_handler(who, thread.pc) {
+            return Ok(false);
+        }
+        match self.run(who) {
+            Ran::Next(_) => {
+                self.begin(who);
+                Ok(true)
+            }
+            Ran::Device { offset, value, .. } => {
+                self.tell_console(who, offset, value);
+                Ok(true)
+            }
+            Ran::Trap { cause, value } => {
+                self.begin(who);
+                self.die(What::Fault(who, cause, value));
+                Ok(true)
+            }
+            Ran::Ecall => {
+                let words = thread.regs.arguments();
+                if !is_built(&words) {
+                    return Ok(false);
+                }
+                self.begin(who);
+                self.call(words)?;
+                Ok(true)
+            }
+            Ran::Failed => Err(SwapFault),
+        }
     }
 
     // A step of the thread begins, which stored the low byte of a value at an offset of the console's

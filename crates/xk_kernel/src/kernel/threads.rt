@@ -83,16 +83,4 @@ impl<W: SwapStore> Kernel<W> {
         self.cursor = who;
         self.log.clear(self.steps + 1);
     }
-
-    // A step that was done is counted.
-    pub(super) fn count(&mut self)
-        requires whole { IsWhole W.slot_count W.held self.old }
-        requires few { self.old.steps < 4000000000 }
-        ensures whole { IsWhole W.slot_count W.held self.new }
-        ensures machine { machine_of W.held self.new ≡ record (machine_of W.held self.old) { steps = (machine_of W.held self.old).steps + 1 } }
-        ensures mem { self.new.mem ≡ self.old.mem }
-        ensures log { self.new.log ≡ self.old.log }
-    {
-        self.steps += 1;
-    }
 }

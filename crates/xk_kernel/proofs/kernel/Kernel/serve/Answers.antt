@@ -1,0 +1,154 @@
+-- What a served call comes to is its row of the table.
+use Rattle.std.proofs.Common.{◌∙◌, sym, ap, subst}
+use Rattle.std.proofs.lemmas.Result.{IfOk-weaker}
+use Rattle.machine_model.specs.Changes.{Served, answering}
+use Rattle.machine_model.specs.Threads.{answer_to}
+use Rattle.syscall_codec.specs.Calls.{Asks}
+use Rattle.xk_base.specs.Replies.{plain_words}
+use Rattle.xk_kernel.specs.Calling.{change_by}
+use Rattle.xk_kernel.specs.State.{machine_of, server_of}
+use Rattle.xk_kernel.specs.declared.kernel.calls.Served.TheVariants.{Died}
+use Rattle.std.specs.Option.{option_map}
+use Rattle.xk_kernel.proofs.CallTableLemmas.{create_is, decrease_is, free_by_call, free_by_tid, increase_is, join_is, map_is, none_left, plain_asked, process_id_is, refused_to_handler, terminate_is, thread_id_is, unmap_is, update_is, yield_is}
+use Rattle.xk_kernel.proofs.kernel.Kernel.serve.Goals.{else-self-eq1-via-then-self-eq1+else-can_wait, else-self-eq1-via-else-self-eq1}
+use Rattle.xk_kernel.proofs.kernel.Kernel.serve.Goals as goal
+
+pub returns-then-can_wait-clause-outcome : goal.returns-then-can_wait-clause-outcome
+unfolding machine_of
+returns-then-can_wait-clause-outcome g c words asks =
+    sym (refused_to_handler (machine_of g.W.SwapStore.held c.args.self.now) words c.args.asked asks c.if-self-eq1.true (sym (c.if-can_wait.ensures words asks)))
+
+pub unreachable-requires : goal.unreachable-requires
+unreachable-requires g c =
+    let plain = c.requires.built in
+    none_left c.args.asked
+    (record {
+      map = c.in_default.not-MapMemory;
+      yield = c.in_default.not-Yield;
+      increase = c.in_default.not-IncreaseHeap;
+      decrease = c.in_default.not-DecreaseHeap;
+      update = c.in_default.not-UpdateMemoryFlags;
+      create = c.in_default.not-CreateThread;
+      unmap = c.in_default.not-UnmapMemory;
+      terminate = c.in_default.not-TerminateProcess;
+      join = c.in_default.not-JoinThread;
+      thread_id = c.in_default.not-GetThreadId;
+      process_id = c.in_default.not-GetProcessId;
+    })
+    (plain_asked plain.0 c.args.asked plain.1 plain.2)
+
+pub returns-in-UnmapMemory-clause-outcome : goal.returns-in-UnmapMemory-clause-outcome
+unfolding machine_of
+returns-in-UnmapMemory-clause-outcome g c words asks =
+    c.unmap_memory.ensures.outcome ∙ unmap_is (machine_of g.W.SwapStore.held c.args.self.now) words
+    (elim c.else-self-eq1.branch [
+      | else-self-eq1-via-then-self-eq1+else-can_wait w ↦ free_by_call (machine_of g.W.SwapStore.held c.args.self.now) words (sym (w.can_wait.ensures words asks) ∙ w.if-can_wait.false)
+      | else-self-eq1-via-else-self-eq1 w ↦ free_by_tid (machine_of g.W.SwapStore.held c.args.self.now) words w.if-self-eq1.false
+    ])
+    c.in-UnmapMemory.address c.in-UnmapMemory.size (subst (Asks words) c.in-UnmapMemory.is asks)
+
+pub returns-in-UpdateMemoryFlags-clause-outcome : goal.returns-in-UpdateMemoryFlags-clause-outcome
+unfolding machine_of
+returns-in-UpdateMemoryFlags-clause-outcome g c words asks =
+    c.update_memory_flags.ensures.outcome ∙ update_is (machine_of g.W.SwapStore.held c.args.self.now) words
+    (elim c.else-self-eq1.branch [
+      | else-self-eq1-via-then-self-eq1+else-can_wait w ↦ free_by_call (machine_of g.W.SwapStore.held c.args.self.now) words (sym (w.can_wait.ensures words asks) ∙ w.if-can_wait.false)
+      | else-self-eq1-via-else-self-eq1 w ↦ free_by_tid (machine_of g.W.SwapStore.held c.args.self.now) words w.if-self-eq1.false
+    ])
+    c.in-UpdateMemoryFlags.address c.in-UpdateMemoryFlags.size c.in-UpdateMemoryFlags.flags (subst (Asks words) c.in-UpdateMemoryFlags.is asks)
+
+pub returns-in-DecreaseHeap-clause-outcome : goal.returns-in-DecreaseHeap-clause-outcome
+unfolding machine_of
+returns-in-DecreaseHeap-clause-outcome g c words asks =
+    c.decrease_heap.ensures.outcome ∙ decrease_is (machine_of g.W.SwapStore.held c.args.self.now) words
+    (elim c.else-self-eq1.branch [
+      | else-self-eq1-via-then-self-eq1+else-can_wait w ↦ free_by_call (machine_of g.W.SwapStore.held c.args.self.now) words (sym (w.can_wait.ensures words asks) ∙ w.if-can_wait.false)
+      | else-self-eq1-via-else-self-eq1 w ↦ free_by_tid (machine_of g.W.SwapStore.held c.args.self.now) words w.if-self-eq1.false
+    ])
+    c.in-DecreaseHeap.bytes (subst (Asks words) c.in-DecreaseHeap.is asks)
+
+pub returns-in-CreateThread-clause-outcome : goal.returns-in-CreateThread-clause-outcome
+unfolding machine_of
+returns-in-CreateThread-clause-outcome g c words asks =
+    c.create_thread.ensures.outcome ∙ create_is (machine_of g.W.SwapStore.held c.args.self.now) words
+    (elim c.else-self-eq1.branch [
+      | else-self-eq1-via-then-self-eq1+else-can_wait w ↦ free_by_call (machine_of g.W.SwapStore.held c.args.self.now) words (sym (w.can_wait.ensures words asks) ∙ w.if-can_wait.false)
+      | else-self-eq1-via-else-self-eq1 w ↦ free_by_tid (machine_of g.W.SwapStore.held c.args.self.now) words w.if-self-eq1.false
+    ])
+    c.in-CreateThread.entry c.in-CreateThread.sp c.in-CreateThread.args (subst (Asks words) c.in-CreateThread.is asks)
+
+pub returns-in-JoinThread-clause-outcome : goal.returns-in-JoinThread-clause-outcome
+unfolding machine_of
+returns-in-JoinThread-clause-outcome g c words asks =
+    c.join_thread.ensures.outcome ∙ join_is (machine_of g.W.SwapStore.held c.args.self.now) words
+    (elim c.else-self-eq1.branch [
+      | else-self-eq1-via-then-self-eq1+else-can_wait w ↦ free_by_call (machine_of g.W.SwapStore.held c.args.self.now) words (sym (w.can_wait.ensures words asks) ∙ w.if-can_wait.false)
+      | else-self-eq1-via-else-self-eq1 w ↦ free_by_tid (machine_of g.W.SwapStore.held c.args.self.now) words w.if-self-eq1.false
+    ])
+    c.in-JoinThread.tid (subst (Asks words) c.in-JoinThread.is asks)
+
+pub returns-in-MapMemory-clause-outcome : goal.returns-in-MapMemory-clause-outcome
+unfolding machine_of
+returns-in-MapMemory-clause-outcome g c =
+    IfOk-weaker c.map_memory.result _ _ (λ served e words asks.
+    e ∙ map_is (machine_of g.W.SwapStore.held c.args.self.now) words
+    (elim c.else-self-eq1.branch [
+      | else-self-eq1-via-then-self-eq1+else-can_wait w ↦ free_by_call (machine_of g.W.SwapStore.held c.args.self.now) words (sym (w.can_wait.ensures words asks) ∙ w.if-can_wait.false)
+      | else-self-eq1-via-else-self-eq1 w ↦ free_by_tid (machine_of g.W.SwapStore.held c.args.self.now) words w.if-self-eq1.false
+    ])
+    c.in-MapMemory.phys c.in-MapMemory.virt c.in-MapMemory.size c.in-MapMemory.flags (subst (Asks words) c.in-MapMemory.is asks))
+    c.map_memory.ensures.outcome
+
+pub returns-in-IncreaseHeap-clause-outcome : goal.returns-in-IncreaseHeap-clause-outcome
+unfolding machine_of
+returns-in-IncreaseHeap-clause-outcome g c =
+    IfOk-weaker c.increase_heap.result _ _ (λ served e words asks.
+    e ∙ increase_is (machine_of g.W.SwapStore.held c.args.self.now) words
+    (elim c.else-self-eq1.branch [
+      | else-self-eq1-via-then-self-eq1+else-can_wait w ↦ free_by_call (machine_of g.W.SwapStore.held c.args.self.now) words (sym (w.can_wait.ensures words asks) ∙ w.if-can_wait.false)
+      | else-self-eq1-via-else-self-eq1 w ↦ free_by_tid (machine_of g.W.SwapStore.held c.args.self.now) words w.if-self-eq1.false
+    ])
+    c.in-IncreaseHeap.bytes (subst (Asks words) c.in-IncreaseHeap.is asks))
+    c.increase_heap.ensures.outcome
+
+pub returns-in-Yield-clause-outcome : goal.returns-in-Yield-clause-outcome
+unfolding machine_of
+returns-in-Yield-clause-outcome g c words asks =
+    ap (λ m. Served (answering (answer_to c.args.self.now.cursor plain_words) m)) c.turn.ensures.machine
+    ∙ yield_is (machine_of g.W.SwapStore.held c.args.self.now) words
+    (elim c.else-self-eq1.branch [
+      | else-self-eq1-via-then-self-eq1+else-can_wait w ↦ free_by_call (machine_of g.W.SwapStore.held c.args.self.now) words (sym (w.can_wait.ensures words asks) ∙ w.if-can_wait.false)
+      | else-self-eq1-via-else-self-eq1 w ↦ free_by_tid (machine_of g.W.SwapStore.held c.args.self.now) words w.if-self-eq1.false
+    ])
+    (subst (Asks words) c.in-Yield.is asks)
+
+pub returns-in-TerminateProcess-clause-outcome : goal.returns-in-TerminateProcess-clause-outcome
+unfolding machine_of
+returns-in-TerminateProcess-clause-outcome g c words asks =
+    ap (λ m. Served (change_by c.args.self.now.cursor m Died)) c.forget.ensures.machine
+    ∙ terminate_is (machine_of g.W.SwapStore.held c.args.self.now) words
+    (elim c.else-self-eq1.branch [
+      | else-self-eq1-via-then-self-eq1+else-can_wait w ↦ free_by_call (machine_of g.W.SwapStore.held c.args.self.now) words (sym (w.can_wait.ensures words asks) ∙ w.if-can_wait.false)
+      | else-self-eq1-via-else-self-eq1 w ↦ free_by_tid (machine_of g.W.SwapStore.held c.args.self.now) words w.if-self-eq1.false
+    ])
+    c.in-TerminateProcess.exit (λ n. ap (option_map server_of) (c.requires.whole.no_servers n)) (subst (Asks words) c.in-TerminateProcess.is asks)
+
+pub returns-in-GetThreadId-clause-outcome : goal.returns-in-GetThreadId-clause-outcome
+unfolding machine_of
+returns-in-GetThreadId-clause-outcome g c words asks =
+    thread_id_is (machine_of g.W.SwapStore.held c.args.self.now) words
+    (elim c.else-self-eq1.branch [
+      | else-self-eq1-via-then-self-eq1+else-can_wait w ↦ free_by_call (machine_of g.W.SwapStore.held c.args.self.now) words (sym (w.can_wait.ensures words asks) ∙ w.if-can_wait.false)
+      | else-self-eq1-via-else-self-eq1 w ↦ free_by_tid (machine_of g.W.SwapStore.held c.args.self.now) words w.if-self-eq1.false
+    ])
+    (subst (Asks words) c.in-GetThreadId.is asks)
+
+pub returns-in-GetProcessId-clause-outcome : goal.returns-in-GetProcessId-clause-outcome
+unfolding machine_of
+returns-in-GetProcessId-clause-outcome g c words asks =
+    process_id_is (machine_of g.W.SwapStore.held c.args.self.now) words
+    (elim c.else-self-eq1.branch [
+      | else-self-eq1-via-then-self-eq1+else-can_wait w ↦ free_by_call (machine_of g.W.SwapStore.held c.args.self.now) words (sym (w.can_wait.ensures words asks) ∙ w.if-can_wait.false)
+      | else-self-eq1-via-else-self-eq1 w ↦ free_by_tid (machine_of g.W.SwapStore.held c.args.self.now) words w.if-self-eq1.false
+    ])
+    (subst (Asks words) c.in-GetProcessId.is asks)
