@@ -1,22 +1,22 @@
 //! A kernel is booted.
 
-ghost use Rattle.std.specs.Prelude.{◌≡◌, ◌≤◌, ◌==◌, if◌then◌else◌, [], All, None, IfErr, IfOk, length};
 ghost use Rattle.std.specs.Option.{option_map};
+ghost use Rattle.std.specs.Prelude.{◌≡◌, ◌≤◌, ◌==◌, if◌then◌else◌, [], All, None, IfErr, IfOk, length};
 ghost use Rattle.boot_plan.specs.Lawful.{CanStart, IsLawfulPlan};
+ghost use Rattle.process_table.specs.ProcessMap.{new_processes};
+ghost use Rattle.process_table.specs.ProcessesOf.{process_count as processes_made, processes_of};
+ghost use Rattle.server_table.specs.ServerState.{no_servers};
+ghost use Rattle.server_table.specs.ServersOf.{servers_of};
+ghost use Rattle.thread_table.specs.ThreadMap.{no_threads};
+ghost use Rattle.thread_table.specs.ThreadsOf.{process_count, threads_of};
 ghost use Rattle.vm_memory.specs.Bytes.{KeepsStore};
 ghost use Rattle.vm_memory.specs.Memory.{size, store_of};
 ghost use Rattle.vm_memory.specs.Tie.{IsTied};
-ghost use Rattle.xk_kernel.specs.Sound.{IsSound, IsUsable};
-ghost use Rattle.process_table.specs.ProcessMap.{new_processes};
-ghost use Rattle.process_table.specs.ProcessesOf.{process_count as processes_made, processes_of};
-ghost use Rattle.server_table.specs.ServersOf.{servers_of};
-ghost use Rattle.server_table.specs.ServerState.{no_servers};
-ghost use Rattle.thread_table.specs.ThreadMap.{no_threads};
-ghost use Rattle.thread_table.specs.ThreadsOf.{process_count, threads_of};
-ghost use Rattle.xk_base.specs.declared.limits.TheConstants.{RECORD_LIMIT};
 ghost use Rattle.xk_base.specs.Circle.{IsPid};
 ghost use Rattle.xk_base.specs.declared.ids.ThreadId.{ThreadId as Id};
 ghost use Rattle.xk_base.specs.declared.ids.Tid.{Tid as TidNumber};
+ghost use Rattle.xk_base.specs.declared.limits.TheConstants.{RECORD_LIMIT};
+ghost use Rattle.xk_kernel.specs.Sound.{IsSound, IsUsable};
 ghost use Rattle.xk_kernel.specs.Start.{first_threads, start, threads_at_start};
 ghost use Rattle.xk_kernel.specs.State.{machine_of, thread_of};
 ghost use Rattle.xk_kernel.specs.Stepping.{last_of};

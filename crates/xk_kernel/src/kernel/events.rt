@@ -1,10 +1,10 @@
 //! The events beside the steps of a tick.
 
 ghost use Rattle.std.specs.Prelude.{◌≡◌, true};
+ghost use Rattle.machine_model.specs.Events.{picked};
 ghost use Rattle.vm_memory.specs.Tie.{IsTied};
 ghost use Rattle.xk_kernel.specs.Built.{event_built};
 ghost use Rattle.xk_kernel.specs.Sound.{IsSound, IsUsable, IsWhole, Keeps};
-ghost use Rattle.machine_model.specs.Events.{picked};
 ghost use Rattle.xk_kernel.specs.State.{machine_of};
 ghost use Rattle.xk_kernel.specs.Stepping.{Becomes, event_done};
 

@@ -4,8 +4,8 @@ ghost use Rattle.std.specs.Prelude.{◌≡◌, ◌%◌, IsSome, Some};
 ghost use Rattle.machine_model.specs.Instructions.{execute_at};
 ghost use Rattle.machine_model.specs.Machine.{Thread as ModelThread};
 ghost use Rattle.machine_model.specs.Views.{memory_of};
-ghost use Rattle.xk_kernel.specs.Running.{machine_after};
 ghost use Rattle.rv32_hart.specs.Running.{ran_of};
+ghost use Rattle.xk_kernel.specs.Running.{machine_after};
 ghost use Rattle.xk_kernel.specs.Sound.{IsUsable, IsWhole, Keeps};
 ghost use Rattle.xk_kernel.specs.State.{machine_of};
 

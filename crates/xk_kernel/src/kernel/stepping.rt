@@ -1,22 +1,19 @@
 //! One step.
 
-ghost use Rattle.std.specs.Prelude.{◌≡◌, ◌<◌, ◌⊎◌, false, IfOk, IsOk, OnErr, OnOk, Some, length, ◌+◌, ◌≤◌};
-ghost use Rattle.machine_model.specs.Step.{console_told, ends_handler, ends_thread, record_of};
-ghost use Rattle.xk_kernel.specs.Acting.{Acts};
-ghost use Rattle.vm_memory.specs.Memory.{processes};
-ghost use Rattle.xk_base.specs.Circle.{is_thread_id};
-ghost use Rattle.xk_kernel.specs.Telling.{log_with};
-ghost use Rattle.std.specs.Prelude.{IsTrue, [], map};
+ghost use Rattle.std.specs.Prelude.{◌≡◌, ◌<◌, ◌⊎◌, false, IfOk, IsOk, OnErr, OnOk, Some, length, ◌+◌, ◌≤◌, IsTrue, [], map};
 ghost use Rattle.ledger_model.specs.Ledger.{pages};
 ghost use Rattle.machine_model.specs.Order.{actor};
-ghost use Rattle.machine_model.specs.Step.{step};
+ghost use Rattle.machine_model.specs.Step.{console_told, ends_handler, ends_thread, record_of, step};
 ghost use Rattle.vm_memory.specs.Bytes.{none_out};
-ghost use Rattle.vm_memory.specs.Memory.{frames_for_pages, store_of};
+ghost use Rattle.vm_memory.specs.Memory.{processes, frames_for_pages, store_of};
 ghost use Rattle.vm_memory.specs.Tie.{IsTied};
+ghost use Rattle.xk_base.specs.Circle.{is_thread_id};
 ghost use Rattle.xk_base.specs.Outside.{Rose};
+ghost use Rattle.xk_kernel.specs.Acting.{Acts};
 ghost use Rattle.xk_kernel.specs.Sound.{IsSound, IsUsable, IsWhole, Keeps};
 ghost use Rattle.xk_kernel.specs.State.{machine_of};
 ghost use Rattle.xk_kernel.specs.Stepping.{DoesStep};
+ghost use Rattle.xk_kernel.specs.Telling.{log_with};
 
 use crate::kernel::boot::THREAD_RETURN;
 use crate::kernel::calls::is_built;
