@@ -162,11 +162,11 @@ module _ (m : Machine) (who : ThreadId) (t : Thread) (there : m.threads who ≡ 
       pub built_call : is_call fetched ≡ true → step_built m ≡ is_plain_call (arguments_of t.regs)
       built_call e = runs ∙ ap (λ c. option_map_or is_plain_call (if c then Some (arguments_of t.regs) else None) true) e
 
--- ---- a built step keeps the machine matched
+-- ---- a built step keeps the machine matched and without servers
 
-pub built_step_matched : (m : Machine) → Matched m → HasNoServers m → step_built m ≡ true → Matched (step m).machine
+pub built_step_keeps : (m : Machine) → Matched m → HasNoServers m → step_built m ≡ true → Matched (step m).machine × HasNoServers (step m).machine
 unfolding step_built
-built_step_matched m h none built = (plain_step_keeps_matched m h none (λ who w acts calls. plain who w acts calls (m.threads who) (by_actor who acts))).0
+built_step_keeps m h none built = plain_step_keeps_matched m h none (λ who w acts calls. plain who w acts calls (m.threads who) (by_actor who acts))
   where
     by_actor : (who : ThreadId) → actor m ≡ Some who
         → option_map_or (λ t. not (ends_handler who t.pc) && option_map_or is_plain_call (call_by m who) true) (m.threads who) false ≡ true
@@ -178,6 +178,9 @@ built_step_matched m h none built = (plain_step_keeps_matched m h none (λ who w
     plain who w acts calls None e = absurd (false≢true e)
     plain who w acts calls (Some t) e =
         sym (ap (λ o. option_map_or is_plain_call o true) calls) ∙ (and_parts (not (ends_handler who t.pc)) (option_map_or is_plain_call (call_by m who) true) e).1
+
+pub built_step_matched : (m : Machine) → Matched m → HasNoServers m → step_built m ≡ true → Matched (step m).machine
+built_step_matched m h none built = (built_step_keeps m h none built).0
 
 -- ---- the kernel tells so
 

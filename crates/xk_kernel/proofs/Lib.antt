@@ -1,6 +1,7 @@
 pub mod ActLemmas
 pub mod AnsweringLemmas
 pub mod BootLemmas
+pub mod BuiltMomentLemmas
 pub mod CallTableLemmas
 pub mod CallerLemmas
 pub mod CreateLemmas
