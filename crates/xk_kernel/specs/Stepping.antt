@@ -23,11 +23,13 @@ pub record Becomes {W : Type 0} (held : W → Held) (new : Kernel W) (taken : St
   pub machine : machine_of held new ≡ taken.machine
   pub records : last_of new ≡ taken.records
 
--- A step is that of the machine; where no thread is ready there is none, and one that isn't built isn't done.
+-- A step is that of the machine; where no thread is ready there is none, and one that isn't built isn't done. Where none is done,
+-- the last records stay too.
 abbrev pub DoesStep : {W : Type 0} → (W → Held) → Kernel W → Kernel W → Stepped → Type 0
 DoesStep held old new Did =
     (is_some (actor (machine_of held old)) ≡ true) × (step_built (machine_of held old) ≡ true) × Becomes held new (step (machine_of held old))
-DoesStep held old new Idle = (is_some (actor (machine_of held old)) ≡ false) × (machine_of held new ≡ machine_of held old)
+DoesStep held old new Idle =
+    (is_some (actor (machine_of held old)) ≡ false) × (machine_of held new ≡ machine_of held old) × (last_of new ≡ last_of old)
 DoesStep held old new NotBuilt =
     (is_some (actor (machine_of held old)) ≡ true) × (step_built (machine_of held old) ≡ false)
     × (machine_of held new ≡ machine_of held old) × (last_of new ≡ last_of old)
