@@ -74,13 +74,16 @@ get_thread_id = 42
 abbrev pub get_process_id : ℕ
 get_process_id = 43
 
+abbrev pub forward_message : ℕ
+forward_message = 44
+
 -- the numbers of all calls; a call with any other number is unhandled
 abbrev pub call_numbers : List ℕ
 call_numbers =
     map_memory ∷ yield_turn ∷ claim_interrupt ∷ free_interrupt ∷ increase_heap ∷ decrease_heap ∷ update_memory_flags
     ∷ create_server_with_address ∷ receive_message ∷ send_message ∷ connect ∷ create_thread ∷ unmap_memory ∷ return_memory
     ∷ terminate_process ∷ try_send_message ∷ try_connect ∷ return_scalar1 ∷ return_scalar2 ∷ try_receive_message
-    ∷ join_thread ∷ destroy_server ∷ get_thread_id ∷ get_process_id ∷ []
+    ∷ join_thread ∷ destroy_server ∷ get_thread_id ∷ get_process_id ∷ forward_message ∷ []
 
 abbrev pub is_call_number : ℕ → Bool
 is_call_number n = list_any (λ k. n == k) call_numbers

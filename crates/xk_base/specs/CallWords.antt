@@ -107,6 +107,13 @@ return_value1 words = slice_index words 2
 abbrev pub return_value2 : List ℕ → ℕ
 return_value2 words = slice_index words 3
 
+-- ForwardMessage: a token, and a connection to the server that the message goes to
+abbrev pub forward_token : List ℕ → ℕ
+forward_token words = slice_index words 1
+
+abbrev pub forward_cid : List ℕ → ℕ
+forward_cid words = slice_index words 2
+
 -- TerminateProcess: a word that nobody reads
 abbrev pub exit_word : List ℕ → ℕ
 exit_word words = slice_index words 1

@@ -62,3 +62,7 @@ steps_to n c d = (place_of d + thread_ids n - ids_until c) % thread_ids n
 -- the ids that pass the test, in ascending order, each once
 unfoldable pub listed_ids : ℕ → (ThreadId → Bool) → List ThreadId
 listed_ids n test = map id_at (listed_below (thread_ids n) (λ k. test (id_at k)))
+
+-- the ids of n processes once more, ordered by tid first: (2, 1), (3, 1), .., (n + 1, 1), (2, 2) and so on
+abbrev pub id_by_tid : ℕ → ℕ → ThreadId
+id_by_tid n k = record { pid = record { 0 = k % n + 2 }; tid = record { 0 = k / n + 1 } }

@@ -1,3 +1,4 @@
+-- The numbers of errors.
 use Rattle.std.specs.Prelude.{ℕ}
 use Rattle.xk_base.specs.declared.errors.XousError.{XousError}
 use Rattle.xk_base.specs.declared.errors.XousError.TheVariants.{BadAlignment, BadAddress, OutOfMemory, MemoryInUse, InterruptNotFound, InterruptInUse, ServerExists, ServerNotFound, ServerQueueFull, ThreadNotAvailable, UnhandledSyscall, InvalidSyscall, ShareViolation, InvalidThread, AccessDenied, DoubleFree, InvalidLimit}

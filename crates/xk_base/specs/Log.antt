@@ -1,3 +1,4 @@
+-- The log of the records of one step or event.
 use Rattle.std.specs.Prelude.{ℕ, List}
 use Rattle.xk_base.specs.declared.records.Rec.{Rec}
 

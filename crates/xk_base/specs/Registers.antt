@@ -1,3 +1,4 @@
+-- The registers of a thread as the list of their 32 words.
 use Rattle.std.specs.Prelude.{ℕ, List, ◌++◌, take, drop, ◌==◌, slice_index, slice_set, if◌then◌else◌}
 
 -- what register `r` holds

@@ -1,4 +1,7 @@
-use Rattle.std.specs.Prelude.{ℕ, Bool, ◌&&◌, nat_le, Option, Some, None, if◌then◌else◌}
+-- The windows of a process's memory in which its pages lie, and the page of an address.
+use Rattle.std.specs.Prelude.{ℕ, ◌/◌, Bool, ◌&&◌, nat_le, Option, Some, None, if◌then◌else◌}
+use Rattle.xk_base.specs.declared.ids.Pid.{Pid}
+use Rattle.xk_base.specs.declared.ids.Place.{Place}
 use Rattle.xk_base.specs.declared.windows.Window.{Window}
 use Rattle.xk_base.specs.declared.windows.Window.TheVariants.{Image, Heap, Message, Map, Stack}
 
@@ -30,3 +33,7 @@ window_at vpn =
     if in_window Message vpn then Some Message else (
     if in_window Map vpn then Some Map else (
     if in_window Stack vpn then Some Stack else None))))
+
+-- the place of the page of an address
+abbrev pub page_of : Pid → ℕ → Place
+page_of pid address = record { pid = pid; vpn = record { 0 = address / 4096 } }

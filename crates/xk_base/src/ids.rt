@@ -21,7 +21,7 @@ pub struct Frame(pub u32);
 pub struct Slot(pub u32);
 
 /// A server, by a number that is never used again.
-#[derive(Clone, Copy, Debug, PartialEq, Eq, PartialOrd, Ord, Hash)]
+#[derive(Clone, Copy, Debug, Default, PartialEq, Eq, PartialOrd, Ord, Hash)]
 pub struct Serial(pub u32);
 
 /// A message, by a number that is never used again.

@@ -1,5 +1,7 @@
 //! The limits of the machine. Each crate names them from here.
 
+ghost use Rattle.xk_base.specs.Limits.{AreLimits};
+
 /// Bytes of a page and of a frame.
 pub const PAGE_SIZE: u32 = 4096;
 
@@ -53,3 +55,15 @@ pub const RECORD_LIMIT: u32 = 2_048;
 
 /// The physical address of the console's page, which is also where RAM ends at the latest.
 pub const CONSOLE_ADDRESS: u32 = 0xF000_0000;
+
+/// The timer's page in the memory of the process that has claimed interrupt `TIMER_INTERRUPT`, by its
+/// virtual address.
+pub const TIMER_ADDRESS: u32 = 0xF000_1000;
+
+/// The interrupt that the timer raises.
+pub const TIMER_INTERRUPT: u8 = 20;
+
+/// Law: each limit is the number that the definitions mean by it.
+pub fn limits_are_pinned()
+    ensures { AreLimits }
+{}

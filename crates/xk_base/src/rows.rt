@@ -51,6 +51,16 @@ impl<T: Drop> Row<T> {
     }
 }
 
+impl<T: Clone + Copy> Row<T> {
+    /// Appends these items in their order. Without memory the list stays.
+    pub fn extend_from_slice(&mut self, items: &[T]) -> Result<(), NoMemory>
+        ensures ok { OnOk result (self.new ≡ self.old ++ items.now) }
+        ensures err { OnErr result (self.new ≡ self.old) }
+    {
+        self.items.extend_from_slice(items).map_err(|_| NoMemory)
+    }
+}
+
 #[cfg(test)]
 mod tests {
     use super::*;
@@ -60,6 +70,7 @@ mod tests {
         let mut row = Row::new(rt.alloc());
         assert_eq!(rt; row.push(7u32), Ok(()));
         assert_eq!(rt; row.push(9u32), Ok(()));
-        assert_eq!(rt; row.as_slice(), [7, 9].as_slice());
+        assert_eq!(rt; row.extend_from_slice([7u32, 8].as_slice()), Ok(()));
+        assert_eq!(rt; row.as_slice(), [7, 9, 7, 8].as_slice());
     }
 }

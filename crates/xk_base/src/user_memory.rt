@@ -3,9 +3,8 @@
 ghost use Rattle.std.specs.Prelude.{◌≡◌, ◌%◌, ◌≤◌, ℕ, Bool, Option, IfOk, OnErr};
 ghost use Rattle.xk_base.specs.declared.pages.Access.{Access};
 ghost use Rattle.xk_base.specs.declared.pages.Access.TheVariants.{Fetch, Load, Store};
-ghost use Rattle.xk_base.specs.declared.pages.Width.TheVariants.{Word};
 ghost use Rattle.xk_base.specs.Outside.{Rose};
-ghost use Rattle.xk_base.specs.UserMemory.{Content, KeepsContent, GivesNumber, StoresAsTold, size_of};
+ghost use Rattle.xk_base.specs.UserMemory.{Content, KeepsContent, FetchesNumber, LoadsNumber, Seen, StoresAsTold, Timer, size_of};
 
 use crate::errors::Failed;
 use crate::pages::{Stored, Width};
@@ -22,8 +21,11 @@ pub trait UserMemory {
     /// Whether an address is in the console's page.
     ghost console: { Self → ℕ → Bool };
 
-    /// Where it is told: the byte at each address; 0 in the console's page.
+    /// Where it is told: the byte at each address; 0 in the console's page and in the timer's.
     ghost content: { Self → Content };
+
+    /// The timer, where its page is there: for the process that has claimed its interrupt.
+    ghost timer: { Self → Option Timer };
 
     /// Whether it is fit for use.
     ghost fit: { Self → Type 0 };
@@ -38,8 +40,9 @@ pub trait UserMemory {
     fn fetch(&mut self, va: u32) -> Result<Option<u32>, Failed>
         requires fit { fit self.old }
         requires aligned { va % 4 ≡ 0 }
-        ensures gives { IfOk result (λ word. GivesNumber (may self.old Fetch va) (content self.old) va Word word) }
+        ensures gives { IfOk result (λ word. FetchesNumber (may self.old Fetch va) (content self.old) va word) }
         ensures kept { KeepsContent (content self.old) (content self.new) }
+        ensures timer { timer self.new ≡ timer self.old }
         ensures may { may self.new ≡ may self.old }
         ensures console { console self.new ≡ console self.old }
         ensures rest { same_rest self.old self.new }
@@ -49,12 +52,14 @@ pub trait UserMemory {
         ensures never_falls { faults self.old ≤ faults self.new };
 
     /// The number of that width at an address, lowest byte first and not sign-extended, where the
-    /// process may load it. A load from the console's page gives 0.
+    /// process may load it. A load from the console's page gives 0, and one from the timer's what the
+    /// timer shows.
     fn load(&mut self, va: u32, width: Width) -> Result<Option<u32>, Failed>
         requires fit { fit self.old }
         requires aligned { va % size_of width ≡ 0 }
-        ensures gives { IfOk result (λ value. GivesNumber (may self.old Load va) (content self.old) va width value) }
+        ensures gives { IfOk result (λ value. LoadsNumber (may self.old Load va) (timer self.old) (content self.old) va width value) }
         ensures kept { KeepsContent (content self.old) (content self.new) }
+        ensures timer { timer self.new ≡ timer self.old }
         ensures may { may self.new ≡ may self.old }
         ensures console { console self.new ≡ console self.old }
         ensures rest { same_rest self.old self.new }
@@ -64,12 +69,15 @@ pub trait UserMemory {
         ensures never_falls { faults self.old ≤ faults self.new };
 
     /// Stores the low bytes of a value at an address, lowest byte first, where the process may store
-    /// there and it isn't the console's page.
+    /// there and it isn't the console's page; in the timer's page the timer takes them.
     fn store(&mut self, va: u32, width: Width, value: u32) -> Result<Stored, Failed>
         requires fit { fit self.old }
         requires aligned { va % size_of width ≡ 0 }
-        ensures stores { IfOk result (λ stored. StoresAsTold (may self.old Store va) (console self.old va) (content self.old) (content self.new) va width value stored) }
+        ensures stores { let old : Seen = record { content = content self.old; timer = timer self.old } in
+            let new : Seen = record { content = content self.new; timer = timer self.new } in
+            IfOk result (λ stored. StoresAsTold (may self.old Store va) (console self.old va) old new va width value stored) }
         ensures kept { OnErr result (KeepsContent (content self.old) (content self.new)) }
+        ensures timer { OnErr result (timer self.new ≡ timer self.old) }
         ensures may { may self.new ≡ may self.old }
         ensures console { console self.new ≡ console self.old }
         ensures rest { same_rest self.old self.new }
