@@ -1,4 +1,4 @@
-pub mod LinesLemmas
 pub mod HeldLemmas
-pub mod PlaysLemmas
+pub mod LineLemmas
+pub mod PlayLemmas
 pub mod WholeLemmas

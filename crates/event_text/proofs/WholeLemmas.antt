@@ -1,6 +1,5 @@
 -- While a reader waits for bytes, the events that it answered are those of the whole lines that it took.
-use Rattle.std.proofs.Common.{◌≡◌, ℕ, ◌+◌, ◌==◌, List, [], ◌∷◌, ◌++◌, length, drop, refl, ap, sym, ◌∙◌, true, false, Bool, Option, Some, None, append-nil, append_assoc, ◌≤◌, arith}
-use Rattle.std.proofs.lemmas.Grind.{common_steps}
+use Rattle.std.proofs.Common.{◌≡◌, ℕ, ◌+◌, ◌==◌, List, [], ◌∷◌, ◌++◌, length, drop, refl, ap, sym, ◌∙◌, true, false, Bool, Option, Some, None, append-nil, append_assoc, arith}
 use Rattle.std.proofs.lemmas.Bool.Decides.{nat_tests}
 use Rattle.std.specs.List.{onto_first}
 use Rattle.event_text.specs.declared.event.Event.{Event}
@@ -8,10 +7,10 @@ use Rattle.event_text.specs.declared.event.Line.{Line}
 use Rattle.event_text.specs.declared.event.Line.TheVariants as kind
 use Rattle.event_text.specs.Lines.{lines_of, whole_lines}
 use Rattle.event_text.specs.EventFile.{Input, after_line, input_from, input_of, line_at}
-use Rattle.event_text.specs.Held.{Reader, IsWaiting, first_line, has_feed, known_line, front_of, past_line, past_blanks, past_blanks_by, if_blank, answer_by, answer_of, past_event, after_next, new_reader, with_bytes, rest_answer}
+use Rattle.event_text.specs.Held.{Reader, IsWaiting, first_line, has_feed, known_line, front_of, past_line, past_blanks, past_blanks_by, if_blank, answer_by, answer_of, past_event, after_next, with_bytes, rest_answer}
 use Rattle.event_text.specs.Plays.{Call, takes, ends, asks, Play, events_in, after_bytes, play_of, with_events}
 use Rattle.event_text.proofs.HeldLemmas.{first_none, first_feed, first_other, known_feed}
-use Rattle.event_text.proofs.PlaysLemmas.{front_is, first_all, input_first, known_begun, known_nothing, lines_feed, lines_nothing, lines_other, next_finished, some_is, with_more}
+use Rattle.event_text.proofs.PlayLemmas.{front_is, first_all, input_first, known_begun, known_nothing, lines_feed, lines_nothing, lines_other, next_finished, some_is, with_more}
 
 -- what lines ask for in the place of those that a reader holds
 abbrev ahead : Reader → List ℕ → Input

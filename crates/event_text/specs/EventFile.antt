@@ -38,6 +38,7 @@ event_of word words =
     else if pointwise nat_eq word (codes "kill") then option_map (λ pid. Kill (record { 0 = pid })) (only_number 255 words)
     else None
 
+-- a line by the event that it asks for: bad where it asks for none
 abbrev pub line_by : Option Event → Line
 line_by None = Bad
 line_by (Some event) = Asks event
@@ -48,6 +49,7 @@ abbrev pub line_of_words : List (List ℕ) → Line
 line_of_words [] = Blank
 line_of_words (word ∷ words) = if slice_index word 0 == 35 then Blank else line_by (event_of word words)
 
+-- what the line with this text is
 abbrev pub line_of_text : List ℕ → Line
 line_of_text text = line_of_words (words_of text)
 
@@ -59,6 +61,7 @@ is_long line = nat_lt EVENT_LINE_LIMIT (length (without_last 10 line))
 abbrev pub is_far : ℕ → List ℕ → Bool
 is_far start line = nat_lt 0 (length line) && nat_lt EVENT_FILE_LIMIT (start + length line)
 
+-- a line is bad by its length or by an offset
 abbrev pub is_over : ℕ → List ℕ → Bool
 is_over start line = is_long line || is_far start line
 

@@ -1,5 +1,5 @@
 -- A reader of an event file, as contracts see it, and what it answers.
-use Rattle.std.specs.Prelude.{◌≡◌, ℕ, ◌+◌, ◌≤◌, ◌==◌, ◌||◌, ◌&&◌, nat_lt, not, Bool, true, false, List, [], ◌∷◌, ◌++◌, length, take, drop, Option, Some, None, if◌then◌else◌}
+use Rattle.std.specs.Prelude.{◌≡◌, ℕ, ◌+◌, ◌≤◌, ◌==◌, ◌||◌, ◌&&◌, nat_lt, not, Bool, true, false, List, [], ◌∷◌, ◌++◌, length, drop, Option, Some, None, if◌then◌else◌}
 use Rattle.xk_base.specs.declared.limits.TheConstants.{EVENT_FILE_LIMIT, EVENT_LINE_LIMIT}
 use Rattle.std.specs.List.{list_any}
 use Rattle.event_text.specs.declared.event.Line.{Line}
@@ -25,6 +25,7 @@ new_reader = record { lines_done = 0; start = 0; held = []; finished = false }
 abbrev pub with_bytes : Reader → List ℕ → Reader
 with_bytes r bytes = record { lines_done = r.lines_done; start = r.start; held = r.held ++ bytes; finished = r.finished }
 
+-- the first of the lines, and nothing where there is none
 abbrev pub first_of : List (List ℕ) → List ℕ
 first_of [] = []
 first_of (line ∷ lines) = line
@@ -33,6 +34,7 @@ first_of (line ∷ lines) = line
 unfoldable pub first_line : List ℕ → List ℕ
 first_line held = first_of (lines_of held)
 
+-- one of the bytes is a line feed (10)
 abbrev pub has_feed : List ℕ → Bool
 has_feed line = list_any (λ byte. byte == 10) line
 
@@ -71,6 +73,7 @@ bad_by (Some kind.Blank) number = None
 bad_by (Some (kind.Asks event)) number = None
 bad_by (Some kind.Bad) number = Some number
 
+-- the number of the first line held, where it is known to be bad
 abbrev pub known_bad : Reader → Option ℕ
 known_bad r = bad_by (front_of r) (r.lines_done + 1)
 
@@ -87,6 +90,7 @@ past_line r = record {
   finished = r.finished;
 }
 
+-- one reader where a good line that is no event is known, and the other where it isn't
 abbrev pub if_blank : Option Line → Reader → Reader → Reader
 if_blank None past here = here
 if_blank (Some kind.Blank) past here = past
@@ -102,16 +106,18 @@ past_blanks_by (line ∷ lines) r = if_blank (front_of r) (past_blanks_by lines 
 unfoldable pub past_blanks : Reader → Reader
 past_blanks r = past_blanks_by (lines_of r.held) r
 
--- The answer by what is known of the first line held, once no good line at the front is no event.
+-- the answer where nothing is known of a line
 abbrev pub rest_answer : Bool → NextEvent
 rest_answer finished = if finished then answer.End else answer.More
 
+-- The answer by what is known of the first line held, once no good line at the front is no event.
 abbrev pub answer_by : Option Line → Reader → NextEvent
 answer_by None r = rest_answer r.finished
 answer_by (Some kind.Blank) r = answer.More
 answer_by (Some (kind.Asks event)) r = answer.Event event
 answer_by (Some kind.Bad) r = answer.Bad (r.lines_done + 1)
 
+-- the reader behind the line of an event
 abbrev pub past_event : Option Line → Reader → Reader
 past_event None r = r
 past_event (Some kind.Blank) r = r
@@ -127,8 +133,7 @@ abbrev pub after_next : Reader → Reader
 after_next r = past_event (front_of (past_blanks r)) (past_blanks r)
 
 -- The fields of a reader: they hold one line at most, and it begins at most at the end of the greatest file.
-pub record IsHeld (lines_done start : ℕ) (buffer : List ℕ) (len : ℕ) : Type 0 where
+pub record IsHeld (lines_done start : ℕ) (held : List ℕ) : Type 0 where
   pub lines_within : lines_done ≤ start
   pub start_within : start ≤ EVENT_FILE_LIMIT
-  pub fits : len ≤ length buffer
-  pub one_line : first_line (take len buffer) ≡ take len buffer
+  pub one_line : first_line held ≡ held

@@ -26,6 +26,7 @@ without_last byte bytes = if is_last byte bytes then take (length bytes - 1) byt
 abbrev pub text_of : List ℕ → List ℕ
 text_of line = without_last 13 (without_last 10 line)
 
+-- a part with a byte
 abbrev pub is_not_empty : List ℕ → Bool
 is_not_empty [] = false
 is_not_empty (byte ∷ bytes) = true

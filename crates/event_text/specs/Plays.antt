@@ -19,12 +19,14 @@ pub record Play : Type 0 where
   pub taken : List ℕ
   pub answered : List Event
 
+-- the event of an answer, if it is one
 abbrev pub events_in : NextEvent → List Event
 events_in (answer.Event event) = event ∷ []
 events_in answer.More = []
 events_in (answer.Bad number) = []
 events_in answer.End = []
 
+-- the reader once the end of the file was said
 abbrev pub finished_reader : Reader → Reader
 finished_reader r = record { lines_done = r.lines_done; start = r.start; held = r.held; finished = true }
 
@@ -34,6 +36,7 @@ after_bytes true bytes play = play
 after_bytes false bytes play =
     record { reader = with_bytes play.reader bytes; taken = play.taken ++ bytes; answered = play.answered }
 
+-- a play after one more call
 abbrev pub after_call : Call → Play → Play
 after_call (takes bytes) play = after_bytes play.reader.finished bytes play
 after_call ends play = record { reader = finished_reader play.reader; taken = play.taken; answered = play.answered }

@@ -12,7 +12,7 @@ fn read_digits(word: &[u8]) -> Option<u64>
     ensures none { IsNone result → is_number word.now ≡ false }
     ensures value { IfSome result (λ n. n ≡ number_after 0 word.now) }
 {
-    if word.is_empty() || word.len() > 10 {
+    if !(1..=10).contains(&word.len()) {
         return None;
     }
     let mut number = 0u64;

@@ -8,6 +8,7 @@ ghost use Rattle.event_text.specs.Held.{new_reader, with_bytes, known_line, firs
 
 use crate::event::{Line, NextEvent};
 use crate::line::{is_over, read_line};
+use arrayvec::ArrayVec;
 use std::marker::Model;
 use xk_base::limits::EVENT_LINE_LIMIT;
 
@@ -21,20 +22,18 @@ const ROOM: usize = EVENT_LINE_LIMIT as usize + 1;
 pub struct EventReader {
     lines_done: u32,
     start: u32,
-    buffer: [u8; ROOM],
-    len: usize,
+    held: ArrayVec<u8, ROOM>,
     finished: bool,
 }
 
 impl Model for EventReader {
-    ghost use Rattle.std.specs.Prelude.{take};
     ghost use Rattle.event_text.specs.Held.{Reader, IsHeld};
 
     ghost Value = { Reader };
 
-    ghost view = { λ r. record { lines_done = r.lines_done; start = r.start; held = take r.len r.buffer; finished = r.finished } };
+    ghost view = { λ r. record { lines_done = r.lines_done; start = r.start; held = r.held.items; finished = r.finished } };
 
-    ghost invariant = { λ r. IsHeld r.lines_done r.start r.buffer r.len };
+    ghost invariant = { λ r. IsHeld r.lines_done r.start r.held.items };
 }
 
 /// What is known of the line held.
@@ -59,8 +58,7 @@ impl EventReader {
         EventReader {
             lines_done: 0,
             start: 0,
-            buffer: [0; ROOM],
-            len: 0,
+            held: ArrayVec::new(),
             finished: false,
         }
     }
@@ -70,7 +68,7 @@ impl EventReader {
         ensures room { result ≡ has_room self.now }
         ensures one_line { first_line self.now.held ≡ self.now.held }
     {
-        self.len < ROOM && !(self.len > 0 && self.buffer[self.len - 1] == b'\n')
+        !self.held.is_full() && !self.held.as_slice().ends_with(b"\n")
     }
 
     /// Adds a byte to the line held.
@@ -78,12 +76,11 @@ impl EventReader {
         requires { has_room self.old ≡ true }
         ensures { self.new ≡ with_bytes self.old (byte ∷ []) }
     {
-        self.buffer[self.len] = byte;
-        self.len += 1;
+        self.held.push(byte);
     }
 
     /// Takes the first bytes of the piece, at most to the end of a line, and answers how many it
-    /// took. It takes none where it has an answer already, so ask for the next event then.
+    /// took: none where the line held is full or ended, so ask for the next event then.
     pub fn feed(&mut self, piece: &[u8]) -> usize
         requires { self.old.finished ≡ false }
         ensures within { result ≤ length piece.now }
@@ -113,7 +110,7 @@ impl EventReader {
         ensures front { result ≡ front_of self.now }
         ensures one_line { first_line self.now.held ≡ self.now.held }
     {
-        read_held(&self.buffer[..self.len], self.start, self.finished)
+        read_held(self.held.as_slice(), self.start, self.finished)
     }
 
     /// Takes the line held, which is good.
@@ -122,8 +119,8 @@ impl EventReader {
         ensures { self.new ≡ past_line self.old }
     {
         self.lines_done += 1;
-        self.start += self.len as u32;
-        self.len = 0;
+        self.start += self.held.len() as u32;
+        self.held.clear();
     }
 
     /// The number of the line held.

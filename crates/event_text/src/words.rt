@@ -7,11 +7,17 @@ ghost use Rattle.event_text.specs.Lines.{words_of, without_last};
 pub(crate) fn without_last(text: &[u8], byte: u8) -> &[u8]
     ensures { result.now ≡ without_last byte text.now }
 {
-    if !text.is_empty() && text[text.len() - 1] == byte {
-        &text[..text.len() - 1]
-    } else {
-        text
-    }
+    text.strip_suffix([byte].as_slice()).unwrap_or(text)
+}
+
+/// Where the first byte is that is no space.
+fn word_start(text: &[u8]) -> Option<usize>
+    ensures bound { IfSome result (λ i. i < length text.now) }
+    ensures found { IfSome result (λ i. slice_index text.now i ≢ 32) }
+    ensures first { IfSome result (λ i. (k : ℕ) → k < i → slice_index text.now k ≡ 32) }
+    ensures none { IfNone result ((k : ℕ) → k < length text.now → slice_index text.now k ≡ 32) }
+{
+    text.iter().position(|byte| *byte != b' ')
 }
 
 /// The text from its first byte on that is no space.
@@ -19,11 +25,10 @@ fn skip_spaces(text: &[u8]) -> &[u8]
     ensures same { words_of result.now ≡ words_of text.now }
     ensures begins { 0 < length result.now → slice_index result.now 0 ≢ 32 }
 {
-    let mut rest = text;
-    while !rest.is_empty() && rest[0] == b' ' {
-        rest = &rest[1..];
+    match word_start(text) {
+        Some(start) => &text[start..],
+        None => &text[text.len()..],
     }
-    rest
 }
 
 /// Where the first space is.
@@ -37,7 +42,7 @@ fn word_end(text: &[u8]) -> Option<usize>
 }
 
 /// The first word and the text after it, or None where no word is left.
-#[tactic(auto, using(crate::proofs::LinesLemmas::words_only, crate::proofs::LinesLemmas::words_none))]
+#[tactic(auto, using(crate::proofs::LineLemmas::words_only, crate::proofs::LineLemmas::words_none))]
 pub(crate) fn next_word(text: &[u8]) -> Option<(&[u8], &[u8])>
     ensures none { IfNone result (words_of text.now ≡ []) }
     ensures words { IfSome result (λ w. words_of text.now ≡ w.0.now ∷ words_of w.1.now) }

@@ -4,6 +4,7 @@ use Rattle.xk_base.specs.Replies.{plain_words, refused_words, range_words, conne
 use Rattle.syscall_codec.specs.declared.replies.Reply.{Reply}
 use Rattle.syscall_codec.specs.declared.replies.Reply.TheVariants.{Plain, Refused, Range, Connection, NewServer, Got, Thread, Scalar1, Scalar2, Returned}
 
+-- the eight words by which a reply is told
 abbrev pub words_of : Reply → List ℕ
 words_of Plain = plain_words
 words_of (Refused error) = refused_words error

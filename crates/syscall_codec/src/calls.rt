@@ -122,6 +122,11 @@ pub enum Call {
     GetThreadId,
     /// Asks for the caller's process.
     GetProcessId,
+    /// Hands a held lend or mutable lend to another server.
+    ForwardMessage {
+        token: u32,
+        cid: u32,
+    },
 }
 
 /// Whether the call can make its thread wait, so that an interrupt handler, tid 1, may not make it.
@@ -134,7 +139,7 @@ pub fn can_wait(c: &Call) -> bool
         | Call::Connect { .. }
         | Call::JoinThread { .. } => true,
         // A mutable lend, a lend and a blocking scalar wait for their answers.
-        Call::TrySendMessage { kind, .. } => kind == 1 || kind == 2 || kind == 5,
+        Call::TrySendMessage { kind, .. } => matches!(kind, 1 | 2 | 5),
         _ => false,
     }
 }

@@ -96,6 +96,16 @@ pub fn call_words(c: &Call) -> [u32; 8]
         Call::DestroyServer { sid } => server_words(numbers::DESTROY_SERVER, sid),
         Call::GetThreadId => [numbers::GET_THREAD_ID, 0, 0, 0, 0, 0, 0, 0],
         Call::GetProcessId => [numbers::GET_PROCESS_ID, 0, 0, 0, 0, 0, 0, 0],
+        Call::ForwardMessage { token, cid } => [
+            numbers::FORWARD_MESSAGE,
+            token,
+            cid,
+            0,
+            0,
+            0,
+            0,
+            0,
+        ],
     }
 }
 

@@ -1,7 +1,7 @@
 //! The flags of memory that MapMemory and UpdateMemoryFlags take.
 
 ghost use Rattle.std.specs.Prelude.{⊤, ◌≡◌, ◌↔◌, [], ◌∷◌, codes, IsTrue, IsSome, IfSome};
-ghost use Rattle.xk_base.specs.Flags.{flag_reserve, flag_read, flag_write, flag_execute, flag_device, are_known_flags, right_of};
+ghost use Rattle.xk_base.specs.Flags.{flag_reserve, flag_read, flag_write, flag_execute, flag_device, are_known_flags, has_flag, right_of};
 ghost use Rattle.syscall_codec.specs.MapFlags.{bits_of};
 
 use bitflags::{Flag, Flags, bitflag_items};
@@ -50,6 +50,13 @@ impl MapFlags {
         ensures value { IfSome result (λ flags. bits_of flags ≡ bits) }
     {
         <MapFlags as Flags>::from_bits(bits)
+    }
+
+    /// Whether the flags ask to read, without which both calls refuse them.
+    pub fn reads(self) -> bool
+        ensures { result ≡ has_flag (bits_of self) flag_read }
+    {
+        self.contains(MapFlags::R)
     }
 
     /// The right that the flags ask for, beside reading.

@@ -47,3 +47,5 @@ pub const DESTROY_SERVER: u32 = 41;
 pub const GET_THREAD_ID: u32 = 42;
 
 pub const GET_PROCESS_ID: u32 = 43;
+
+pub const FORWARD_MESSAGE: u32 = 44;

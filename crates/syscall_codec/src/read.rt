@@ -83,7 +83,7 @@ fn sid_at(words: &[u32; 8]) -> Sid
     Sid([words[1], words[2], words[3], words[4]])
 }
 
-/// A call that sends a message or answers one.
+/// A call that sends a message, answers one or passes one on.
 fn message_call(words: &[u32; 8]) -> Option<Call>
     ensures found { IfSome result (Asks words.now) }
     ensures none { IsNone result → list_any (λ k. call_number words.now == k) message_numbers ≡ false }
@@ -116,6 +116,10 @@ fn message_call(words: &[u32; 8]) -> Option<Call>
             token: words[1],
             value1: words[2],
             value2: words[3],
+        }),
+        numbers::FORWARD_MESSAGE => Some(Call::ForwardMessage {
+            token: words[1],
+            cid: words[2],
         }),
         _ => None,
     }

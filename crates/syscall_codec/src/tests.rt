@@ -98,6 +98,8 @@ fn message_calls(rt: HostRuntime) {
         value2: 9,
     };
     expect_both_ways(&rt, [27, 1, 8, 9, 0, 0, 0, 0], two, false);
+    let forward = Call::ForwardMessage { token: 1, cid: 3 };
+    expect_both_ways(&rt, [44, 1, 3, 0, 0, 0, 0, 0], forward, false);
 }
 
 #[test]
@@ -135,7 +137,7 @@ fn other_words(rt: HostRuntime) {
     let unhandled = Err(XousError::UnhandledSyscall);
     assert_eq!(rt; read_call([1, 0, 0, 0, 0, 0, 0, 0]), unhandled);
     assert_eq!(rt; read_call([0, 0, 0, 0, 0, 0, 0, 0]), unhandled);
-    assert_eq!(rt; read_call([44, 0, 0, 0, 0, 0, 0, 0]), unhandled);
+    assert_eq!(rt; read_call([45, 0, 0, 0, 0, 0, 0, 0]), unhandled);
     assert_eq!(rt; read_call([3, 9, 9, 9, 9, 9, 9, 9]), Ok(Call::Yield));
 }
 

@@ -4,7 +4,9 @@ ghost use Rattle.std.specs.Prelude.{◌≡◌, ◌+◌, ◌<◌, ◌≤◌, [], 
 ghost use Rattle.arrayvec.specs.ArrayVec.{array_vec_len};
 ghost use Rattle.trace_text.specs.Lines.{what_text, line_of, end_line_of};
 
-use crate::pieces::{Line, put, put_byte, put_decimal, put_thread, put_word, put_words};
+use crate::pieces::{
+    Line, append, append_byte, append_decimal, append_thread, append_word, append_words,
+};
 use arrayvec::ArrayVec;
 use xk_base::{Rec, What};
 
@@ -25,57 +27,57 @@ pub fn line(rec: &Rec, out: &mut ArrayVec<u8, 160>)
     ensures some { 0 < array_vec_len out.new }
     ensures fits { array_vec_len out.new ≤ 160 }
 {
-    put_decimal(out, rec.step);
-    put(out, b" ");
-    put_what(out, &rec.what);
-    put(out, b"\n");
+    append_decimal(out, rec.step);
+    append(out, b" ");
+    append_what(out, &rec.what);
+    append(out, b"\n");
 }
 
 /// Appends what happened.
-fn put_what(out: &mut Line, what: &What)
+fn append_what(out: &mut Line, what: &What)
     requires { array_vec_len out.old + 120 ≤ 160 }
     ensures text { out.new.items ≡ out.old.items ++ what_text what.now }
     ensures len { array_vec_len out.new ≤ array_vec_len out.old + 120 }
 {
     match *what {
         What::Call(thread, words) => {
-            put_thread(out, thread);
-            put(out, b" call");
-            put_words(out, &words);
+            append_thread(out, thread);
+            append(out, b" call");
+            append_words(out, &words);
         }
         What::Reply(thread, words) => {
-            put_thread(out, thread);
-            put(out, b" reply");
-            put_words(out, &words);
+            append_thread(out, thread);
+            append(out, b" reply");
+            append_words(out, &words);
         }
         What::Retry(thread) => {
-            put_thread(out, thread);
-            put(out, b" retry");
+            append_thread(out, thread);
+            append(out, b" retry");
         }
         What::Byte(thread, byte) => {
-            put_thread(out, thread);
-            put(out, b" byte ");
-            put_byte(out, byte);
+            append_thread(out, thread);
+            append(out, b" byte ");
+            append_byte(out, byte);
         }
         What::Fault(thread, cause, value) => {
-            put_thread(out, thread);
-            put(out, b" fault ");
-            put_decimal(out, cause as u32);
-            put(out, b" ");
-            put_word(out, value);
+            append_thread(out, thread);
+            append(out, b" fault ");
+            append_decimal(out, cause as u32);
+            append(out, b" ");
+            append_word(out, value);
         }
         What::End(thread) => {
-            put_thread(out, thread);
-            put(out, b" end");
+            append_thread(out, thread);
+            append(out, b" end");
         }
         What::Irq(pid, number) => {
-            put_decimal(out, pid.0 as u32);
-            put(out, b".1 irq ");
-            put_decimal(out, number as u32);
+            append_decimal(out, pid.0 as u32);
+            append(out, b".1 irq ");
+            append_decimal(out, number as u32);
         }
         What::Gone(pid) => {
-            put_decimal(out, pid.0 as u32);
-            put(out, b" gone");
+            append_decimal(out, pid.0 as u32);
+            append(out, b" gone");
         }
     }
 }
@@ -88,10 +90,10 @@ pub fn end_line(steps: u32, why: EndWord, out: &mut ArrayVec<u8, 160>)
     ensures some { 0 < array_vec_len out.new }
     ensures fits { array_vec_len out.new ≤ 160 }
 {
-    put(out, b"end ");
-    put_decimal(out, steps);
+    append(out, b"end ");
+    append_decimal(out, steps);
     match why {
-        EndWord::Done => put(out, b" done\n"),
-        EndWord::Limit => put(out, b" limit\n"),
+        EndWord::Done => append(out, b" done\n"),
+        EndWord::Limit => append(out, b" limit\n"),
     }
 }

@@ -13,7 +13,7 @@ use xk_base::ThreadId;
 pub type Line = ArrayVec<u8, 160>;
 
 /// Appends the bytes.
-pub fn put(out: &mut Line, bytes: &[u8])
+pub fn append(out: &mut Line, bytes: &[u8])
     requires { array_vec_len out.old + length bytes.now ≤ 160 }
     ensures text { out.new.items ≡ out.old.items ++ bytes.now }
     ensures len { array_vec_len out.new ≡ array_vec_len out.old + length bytes.now }
@@ -25,62 +25,62 @@ pub fn put(out: &mut Line, bytes: &[u8])
 }
 
 /// Appends the number in decimal.
-pub fn put_decimal(out: &mut Line, n: u32)
+pub fn append_decimal(out: &mut Line, n: u32)
     requires { array_vec_len out.old + 10 ≤ 160 }
     ensures text { out.new.items ≡ out.old.items ++ decimal n }
     ensures len { array_vec_len out.new ≤ array_vec_len out.old + 10 }
 {
     let mut buffer = Buffer::new();
-    put(out, buffer.format(n).as_bytes());
+    append(out, buffer.format(n).as_bytes());
 }
 
 /// Appends the byte as two hexadecimal digits.
-#[tactic(auto, using(crate::proofs::Digits::encoded_byte))]
-pub fn put_byte(out: &mut Line, byte: u8)
+#[tactic(auto, using(crate::proofs::DigitLemmas::encoded_byte))]
+pub fn append_byte(out: &mut Line, byte: u8)
     requires { array_vec_len out.old + 2 ≤ 160 }
     ensures text { out.new.items ≡ out.old.items ++ byte_text byte }
     ensures len { array_vec_len out.new ≡ array_vec_len out.old + 2 }
 {
     let mut pair = [0u8; 2];
     match hex::encode_to_slice([byte].as_slice(), &mut pair) {
-        Ok(()) => put(out, &pair),
+        Ok(()) => append(out, &pair),
         Err(_) => unreachable!(),
     }
 }
 
 /// Appends the word as eight hexadecimal digits.
-#[tactic(auto, using(crate::proofs::Digits::encoded_word))]
-pub fn put_word(out: &mut Line, word: u32)
+#[tactic(auto, using(crate::proofs::DigitLemmas::encoded_word))]
+pub fn append_word(out: &mut Line, word: u32)
     requires { array_vec_len out.old + 8 ≤ 160 }
     ensures text { out.new.items ≡ out.old.items ++ word_text word }
     ensures len { array_vec_len out.new ≡ array_vec_len out.old + 8 }
 {
     let mut digits = [0u8; 8];
     match hex::encode_to_slice(word.to_be_bytes().as_slice(), &mut digits) {
-        Ok(()) => put(out, &digits),
+        Ok(()) => append(out, &digits),
         Err(_) => unreachable!(),
     }
 }
 
 /// Appends each word after a space.
-pub fn put_words(out: &mut Line, words: &[u32; 8])
+pub fn append_words(out: &mut Line, words: &[u32; 8])
     requires { array_vec_len out.old + 72 ≤ 160 }
     ensures text { out.new.items ≡ out.old.items ++ words_text words.now }
     ensures len { array_vec_len out.new ≡ array_vec_len out.old + 72 }
 {
     for word in words {
-        put(out, b" ");
-        put_word(out, *word);
+        append(out, b" ");
+        append_word(out, *word);
     }
 }
 
 /// Appends the thread as its process and its number there, as `2.2`.
-pub fn put_thread(out: &mut Line, thread: ThreadId)
+pub fn append_thread(out: &mut Line, thread: ThreadId)
     requires { array_vec_len out.old + 21 ≤ 160 }
     ensures text { out.new.items ≡ out.old.items ++ thread_text thread }
     ensures len { array_vec_len out.new ≤ array_vec_len out.old + 21 }
 {
-    put_decimal(out, thread.pid.0 as u32);
-    put(out, b".");
-    put_decimal(out, thread.tid.0 as u32);
+    append_decimal(out, thread.pid.0 as u32);
+    append(out, b".");
+    append_decimal(out, thread.tid.0 as u32);
 }

@@ -1,4 +1,4 @@
-pub mod AskedFilesLemmas
-pub mod PagesLemmas
+pub mod AskedFileLemmas
+pub mod PageLemmas
 pub mod ReadingLemmas
 pub mod ToldLemmas

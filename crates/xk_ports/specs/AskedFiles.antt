@@ -1,3 +1,4 @@
+-- The files that a host was asked for, while there is room for the list of them.
 use Rattle.std.specs.Prelude.{ℕ, ◌+◌, List, [], ◌∷◌, ◌++◌, length, nat_le, Option, Some, None, if◌then◌else◌}
 use Rattle.xk_ports.specs.Host.{FileAsked}
 

@@ -1,3 +1,4 @@
+-- How a list of files that were asked for is kept: their names stand one after the other, each entry with its place there.
 use Rattle.std.specs.Prelude.{ℕ, ◌≡◌, ◌+◌, ◌≤◌, List, length, map, All, slice_range}
 use Rattle.xk_ports.specs.AskedFiles.{room_taken}
 use Rattle.xk_ports.specs.Host.{FileAsked}

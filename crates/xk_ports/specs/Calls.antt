@@ -1,3 +1,4 @@
+-- Counted calls of an object in memory, and which of them are to fail.
 use Rattle.std.specs.Prelude.{ℕ, ◌+◌, ◌==◌, Bool, List, min}
 use Rattle.std.specs.List.{list_any}
 

@@ -1,3 +1,4 @@
+-- The host: the files that it has by name, and those that it was asked for.
 use Rattle.std.specs.Prelude.{◌≡◌, ℕ, Bool, List, Option, Some, IsSome}
 use Rattle.xk_ports.specs.declared.host.FileSlot.{FileSlot}
 use Rattle.xk_ports.specs.declared.host.FileSlot.TheVariants.{First, Second}

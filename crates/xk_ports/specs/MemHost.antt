@@ -1,3 +1,4 @@
+-- A host in memory as its callers see it.
 use Rattle.std.specs.Prelude.{ℕ, ◌||◌, Bool, true, false, List, [], ◌∷◌, Option, Some, None, is_none, unwrap_or, if◌then◌else◌}
 use Rattle.std.specs.Str.{bytes_eq}
 use Rattle.xk_ports.specs.declared.host.FileSlot.{FileSlot}

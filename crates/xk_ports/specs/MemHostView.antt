@@ -1,3 +1,4 @@
+-- How a host in memory is kept: files by their place, and at each slot a reading of one of them.
 use Rattle.std.specs.Prelude.{ℕ, ◌≤◌, ◌<◌, List, [], length, map, drop, Option, slice_index_or}
 use Rattle.std.specs.Option.{ForSome, option_map}
 use Rattle.std.specs.String.{string_bytes}

@@ -1,3 +1,4 @@
+-- A sink in memory.
 use Rattle.std.specs.Prelude.{ℕ, ◌-◌, ◌==◌, ◌||◌, Bool, List, length}
 use Rattle.xk_ports.specs.Calls.{CallsState, is_next_to_fail}
 

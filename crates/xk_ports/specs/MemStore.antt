@@ -1,3 +1,4 @@
+-- A store in memory, and what its preparation does by the answer.
 use Rattle.std.specs.Prelude.{ℕ, ◌≡◌, true, false, List, Option, Result, Ok, Err}
 use Rattle.xk_ports.specs.declared.store.StoreFault.{StoreFault}
 use Rattle.xk_ports.specs.declared.store.StoreFault.TheVariants.{Failed, NoMemory}

@@ -1,3 +1,4 @@
+-- Pages in memory, in numbered slots.
 use Rattle.std.specs.Prelude.{ℕ, ◌≡◌, ◌+◌, ◌*◌, Bool, true, List, [], ◌∷◌, ◌++◌, length, slice_index, slice_range, Option}
 use Rattle.xk_ports.specs.Store.{Contents, StoreAsked, with_page}
 

@@ -1,3 +1,4 @@
+-- The swap store: what its slots hold, and the preparations that were asked for.
 use Rattle.std.specs.Prelude.{◌≡◌, ◌<◌, ◌==◌, ℕ, Bool, true, false, List, [], ◌∷◌, length, slice_index, Option, Some, Result, Ok, Err, if◌then◌else◌}
 use Rattle.std.specs.Option.{option_map}
 use Rattle.xk_ports.specs.declared.store.StoreFault.{StoreFault}

@@ -1,3 +1,4 @@
+-- A sink that never fails.
 use Rattle.std.specs.Prelude.{ℕ, ◌-◌, ◌&&◌, ◌++◌, Bool, List, length, nat_le, take, Option, Some, None, if◌then◌else◌}
 
 -- a sink that never fails: the bytes that it kept, how many it can keep, and whether it kept all

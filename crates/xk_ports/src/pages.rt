@@ -8,7 +8,11 @@ ghost use Rattle.xk_ports.specs.PagesView.{shown_preparation};
 
 use std::alloc::Global;
 use std::marker::Model;
+use xk_base::limits::PAGE_SIZE;
 use xk_base::{NoMemory, Row, Slot};
+
+/// How many bytes a slot has: those of a page.
+const PAGE: usize = PAGE_SIZE as usize;
 
 /// A preparation that was asked for.
 #[derive(Debug, Drop)]
@@ -109,7 +113,7 @@ impl Pages {
         ensures ok { OnOk result (IsPrepared self.old self.new slots (option_copied name.entry)) }
         ensures err { OnErr result (self.new ≡ self.old) }
     {
-        let bytes = zeros(alloc, slots as usize * 4096)?;
+        let bytes = zeros(alloc, slots as usize * PAGE)?;
         self.note(alloc, slots, name, true)?;
         self.bytes = Some(bytes);
         self.slots = slots;
@@ -123,7 +127,7 @@ impl Pages {
         ensures { PutsPage self.old self.new s.0 page.now }
     {
         match &mut self.bytes {
-            Some(bytes) => put_at(bytes.as_mut_slice(), s.0 as usize, page),
+            Some(bytes) => write_slot(bytes.as_mut_slice(), s.0 as usize, page),
             None => unreachable!(),
         }
     }
@@ -136,8 +140,8 @@ impl Pages {
     {
         match &self.bytes {
             Some(bytes) => {
-                let start = s.0 as usize * 4096;
-                into.copy_from_slice(&bytes[start..start + 4096]);
+                let start = s.0 as usize * PAGE;
+                into.copy_from_slice(&bytes[start..start + PAGE]);
             }
             None => unreachable!(),
         }
@@ -151,9 +155,7 @@ fn copied(alloc: Global, name: Option<&str>) -> Result<Option<Row<u8>>, NoMemory
     match name {
         Some(name) => {
             let mut copy = Row::new(alloc);
-            for byte in name.as_bytes() {
-                copy.push(*byte)?;
-            }
+            copy.extend_from_slice(name.as_bytes())?;
             Ok(Some(copy))
         }
         None => Ok(None),
@@ -171,11 +173,11 @@ fn zeros(alloc: Global, count: usize) -> Result<Vec<u8>, NoMemory>
 }
 
 // Puts a page over the bytes of a slot.
-fn put_at(bytes: &mut [u8], slot: usize, page: &[u8])
+fn write_slot(bytes: &mut [u8], slot: usize, page: &[u8])
     requires within { slot * 4096 + 4096 ≤ length bytes.old }
     requires whole { length page.now ≡ 4096 }
     ensures { contents_of bytes.new ≡ with_page (contents_of bytes.old) slot page.now }
 {
-    let start = slot * 4096;
-    bytes[start..start + 4096].copy_from_slice(page);
+    let start = slot * PAGE;
+    bytes[start..start + PAGE].copy_from_slice(page);
 }

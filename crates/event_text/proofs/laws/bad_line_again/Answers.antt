@@ -1,4 +1,4 @@
-use Rattle.event_text.proofs.PlaysLemmas.{bad_again}
+use Rattle.event_text.proofs.PlayLemmas.{bad_again}
 use Rattle.event_text.proofs.laws.bad_line_again.Goals as goal
 
 pub returns : goal.returns

@@ -1,4 +1,4 @@
-use Rattle.event_text.proofs.PlaysLemmas.{play_end}
+use Rattle.event_text.proofs.PlayLemmas.{play_end}
 use Rattle.event_text.proofs.laws.end_of_file.Goals as goal
 
 pub returns : goal.returns

@@ -1,4 +1,4 @@
-use Rattle.event_text.proofs.PlaysLemmas.{play_bad}
+use Rattle.event_text.proofs.PlayLemmas.{play_bad}
 use Rattle.event_text.proofs.laws.first_bad_line.Goals as goal
 
 pub returns : goal.returns

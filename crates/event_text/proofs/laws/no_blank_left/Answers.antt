@@ -1,4 +1,4 @@
-use Rattle.event_text.proofs.PlaysLemmas.{no_blank}
+use Rattle.event_text.proofs.PlayLemmas.{no_blank}
 use Rattle.event_text.proofs.laws.no_blank_left.Goals as goal
 
 pub returns : goal.returns

@@ -3,7 +3,7 @@ use Rattle.std.specs.Char.{is_ascii_digit}
 use Rattle.std.proofs.lemmas.Bool.Decides.{nat_tests}
 use Rattle.std.proofs.lemmas.List.Folds.{list_all_more}
 use Rattle.std.proofs.Math.Seq.{take-suc}
-use Rattle.event_text.proofs.LinesLemmas.{number_after-append, digits_bound}
+use Rattle.event_text.proofs.LineLemmas.{number_after-append, digits_bound}
 use Rattle.event_text.proofs.numbers.read_digits.Goals as goal
 
 pub loop-digit-preserved : goal.loop-digit-preserved

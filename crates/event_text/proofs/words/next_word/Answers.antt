@@ -1,7 +1,7 @@
 use Rattle.std.proofs.Common.{arith, ◌≡◌, ◌<◌, ◌+◌, ◌-◌, ◌∙◌, length, take, drop, ap, sym, []}
 use Rattle.std.proofs.lemmas.Grind.{common_steps}
 use Rattle.event_text.specs.Lines.{words_of}
-use Rattle.event_text.proofs.LinesLemmas.{words_cut, words_none}
+use Rattle.event_text.proofs.LineLemmas.{words_cut, words_none}
 use Rattle.event_text.proofs.words.next_word.Goals as goal
 
 pub returns-then-is_empty-clause-none : goal.returns-then-is_empty-clause-none

@@ -1,9 +1,18 @@
-use Rattle.std.proofs.Common.{arith, ◌≡◌, ◌-◌, ◌∙◌, length, take, drop}
+use Rattle.std.proofs.Common.{arith, ◌≡◌, ◌-◌, length, take, drop}
 use Rattle.std.proofs.lemmas.Grind.{common_steps}
-use Rattle.event_text.proofs.LinesLemmas.{words_skip}
+use Rattle.event_text.proofs.LineLemmas.{words_from}
 use Rattle.event_text.proofs.words.skip_spaces.Goals as goal
 
-pub loop-rest-preserved : goal.loop-rest-preserved
-loop-rest-preserved c =
-    let whole : take (length c.loop-rest.rest.now - 1) (drop 1 c.loop-rest.rest.now) ≡ drop 1 c.loop-rest.rest.now = grind (arith, common_steps) in
-    rw whole (words_skip c.loop-rest.rest.now (grind (arith, common_steps)) (grind (arith, common_steps)) ∙ c.loop-rest.invariant)
+pub returns-in-Some-clause-same : goal.returns-in-Some-clause-same
+returns-in-Some-clause-same c =
+    let text = c.args.text.now in
+    let i = c.in-Some.start in
+    let inside = c.in-Some.ensures.bound in
+    let whole : take (length text - i) (drop i text) ≡ drop i text = grind (arith, common_steps) in
+    rw whole (words_from text i (omega (arith, inside)) c.in-Some.ensures.first)
+
+pub returns-in-None-clause-same : goal.returns-in-None-clause-same
+returns-in-None-clause-same c =
+    let text = c.args.text.now in
+    let whole : take (length text - length text) (drop (length text) text) ≡ drop (length text) text = grind (arith, common_steps) in
+    rw whole (words_from text (length text) (omega arith) c.in-None.ensures.none)

@@ -7,5 +7,6 @@ unfolding front_of
 returns-clause-front c =
     let r = c.self.inside in
     c.read_held.ensures
+    ∙ (ap (λ (held : List ℕ). known_line r.finished r.start held) c.as_slice.ensures.value
     ∙ (ap (λ (held : List ℕ). known_line r.finished r.start held) (sym c.self.invariant.one_line)
-    ∙ ap front_of c.self.view_is)
+    ∙ ap front_of c.self.view_is))

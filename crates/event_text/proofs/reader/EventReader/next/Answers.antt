@@ -1,4 +1,4 @@
-use Rattle.std.proofs.Common.{◌≡◌, ◌<◌, ◌∙◌, refl, sym, ap, Some, None, true, [], length}
+use Rattle.std.proofs.Common.{◌≡◌, ◌∙◌, refl, sym, ap, Some, None, true, []}
 use Rattle.event_text.specs.declared.event.Line.TheVariants as line
 use Rattle.event_text.specs.declared.event.NextEvent.TheVariants as answer
 use Rattle.event_text.specs.Held.{Reader, front_of, is_good, rest_answer}

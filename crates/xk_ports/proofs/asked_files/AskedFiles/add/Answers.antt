@@ -2,7 +2,7 @@ use Rattle.std.proofs.Common.{◌≡◌, ◌+◌, ◌-◌, ◌<◌, ◌∙◌, S
 use Rattle.xk_ports.specs.Host.{FileAsked}
 use Rattle.xk_ports.specs.AskedFiles.{AskedState}
 use Rattle.xk_ports.specs.AskedView.{files_in}
-use Rattle.xk_ports.proofs.AskedFilesLemmas.{asked_after-full, asked_after-room, files_in-add, IsKept-add}
+use Rattle.xk_ports.proofs.AskedFileLemmas.{asked_after-full, asked_after-room, files_in-add, IsKept-add}
 use Rattle.xk_ports.proofs.asked_files.AskedFiles.add.Goals as goal
 use Rattle.xk_ports.proofs.asked_files.AskedFiles.add.Goals.{then-self-via-then-self, then-self-via-else-self+then-self-start}
 

@@ -1,5 +1,5 @@
 use Rattle.std.proofs.Common.{rules}
-use Rattle.xk_ports.proofs.PagesLemmas.{SpoilsSlot_kept}
+use Rattle.xk_ports.proofs.PageLemmas.{SpoilsSlot_kept}
 use Rattle.xk_ports.proofs.mem_store.MemStoreSwapStore.TheImpl.Goals as goal
 
 pub put_page-tells : goal.put_page-tells

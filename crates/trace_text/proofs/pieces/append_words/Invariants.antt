@@ -1,7 +1,7 @@
 -- The words so far have been appended, nine bytes for each.
 use Rattle.std.proofs.Common.{◌≡◌, ◌+◌, ◌*◌, ◌++◌, length, take}
 use Rattle.trace_text.specs.Words.{words_text}
-use Rattle.trace_text.proofs.pieces.put_words.Given as goal
+use Rattle.trace_text.proofs.pieces.append_words.Given as goal
 
 abbrev pub invariant-loop-word : goal.invariant-loop-word
 invariant-loop-word l =

@@ -1,6 +1,6 @@
 use Rattle.std.proofs.Common.{arith}
-use Rattle.xk_ports.proofs.PagesLemmas.{contents_of-put_mid}
-use Rattle.xk_ports.proofs.pages.put_at.Goals as goal
+use Rattle.xk_ports.proofs.PageLemmas.{contents_of-put_mid}
+use Rattle.xk_ports.proofs.pages.write_slot.Goals as goal
 
 pub returns : goal.returns
 returns c =

@@ -43,6 +43,14 @@ unfolding words_of
 words_skip [] some space = absurd (omega arith)
 words_skip (b ∷ bytes) some space = rw space refl
 
+-- .. and so do as many as there are
+pub words_from : (bytes : List ℕ) (i : ℕ) → i ≤ length bytes → ((k : ℕ) → k < i → get_or bytes k 0 ≡ 32) → words_of (drop i bytes) ≡ words_of bytes
+words_from bytes zero inside spaces = refl
+words_from [] (suc i) inside spaces = absurd (omega arith)
+words_from (b ∷ bytes) (suc i) inside spaces =
+    words_from bytes i (omega arith) (λ k h. spaces (suc k) (omega arith))
+    ∙ words_skip (b ∷ bytes) (omega arith) (spaces 0 (omega arith))
+
 kept_first : (word : List ℕ) (parts : List (List ℕ)) → 0 < length word → filter is_not_empty (word ∷ parts) ≡ word ∷ filter is_not_empty parts
 kept_first [] parts some = absurd (omega arith)
 kept_first (b ∷ word) parts some = refl
