@@ -1,9 +1,6 @@
 -- How many pages a machine has room for.
-use Rattle.std.specs.Prelude.{ℕ, ◌+◌, ◌-◌, ◌*◌}
-
--- the frames that hold the page tables of this many processes: a root each, and four tables for each of five windows
-abbrev pub table_frames : ℕ → ℕ
-table_frames processes = 21 * processes
+use Rattle.std.specs.Prelude.{ℕ, ◌+◌, ◌-◌}
+use Rattle.xk_base.specs.Limits.{table_frames}
 
 -- the frames that hold pages: all but those of tables and the one that is always free, through which pages are exchanged
 abbrev pub page_frames : ℕ → ℕ → ℕ

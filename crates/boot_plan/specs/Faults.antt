@@ -1,6 +1,7 @@
 -- The faults of a plan, in the order in which they are looked for. A fault of a process is at its pid.
 use Rattle.std.specs.Prelude.{◌≡◌, ℕ, ◌+◌, ◌*◌, ◌/◌, ◌%◌, Bool, not, ◌&&◌, ◌||◌, ◌==◌, nat_lt, List, [], ◌∷◌, ◌++◌, length, Option, Some}
 use Rattle.std.specs.List.{list_any}
+use Rattle.xk_base.specs.Limits.{table_frames}
 use Rattle.xk_base.specs.Windows.{in_window}
 use Rattle.xk_base.specs.declared.windows.Window.TheVariants.{Image}
 use Rattle.kernel_args.specs.declared.args.Args.{Args}
@@ -10,20 +11,21 @@ use Rattle.kernel_args.specs.declared.faults.ArgFault.{ArgFault}
 use Rattle.kernel_args.specs.Faults.{Check, ◌⇒◌at◌, first_fault}
 use Rattle.boot_plan.specs.declared.faults.PlanError.{PlanError}
 use Rattle.boot_plan.specs.declared.faults.PlanError.TheVariants as errors
-use Rattle.boot_plan.specs.declared.faults.TheConstants.{SECTION_OUTSIDE, SECTION_MISALIGNED, SECTIONS_OVERLAP, LOAD_OUTSIDE, ENTRY_OUTSIDE, RAM_TOO_SMALL}
+use Rattle.boot_plan.specs.FaultNumbers.{section_outside, section_misaligned, sections_overlap, load_outside, entry_outside, ram_too_small}
 use Rattle.boot_plan.specs.Sections.{section_pages, has_page, shares_page, is_executable, file_sizes}
-use Rattle.boot_plan.specs.Capacity.{table_frames, capacity}
+use Rattle.boot_plan.specs.Capacity.{capacity}
 use Rattle.boot_plan.specs.FirstPages.{plan_of, planned_pages}
 
 -- the faults of a section behind these earlier ones of its process: its address isn't that of a page; it has a page
 -- outside the Image window; it shares a page with an earlier section
 abbrev pub section_faults : ℕ → List Section → Section → List Check
 section_faults pid earlier s =
-    (not (s.addr % 4096 == 0) ⇒ SECTION_MISALIGNED at pid)
-    ∷ (list_any (λ vpn. not (in_window Image vpn)) (section_pages s) ⇒ SECTION_OUTSIDE at pid)
-    ∷ (list_any (shares_page s) earlier ⇒ SECTIONS_OVERLAP at pid)
+    (not (s.addr % 4096 == 0) ⇒ section_misaligned at pid)
+    ∷ (list_any (λ vpn. not (in_window Image vpn)) (section_pages s) ⇒ section_outside at pid)
+    ∷ (list_any (shares_page s) earlier ⇒ sections_overlap at pid)
     ∷ []
 
+-- the faults of sections behind these earlier ones
 abbrev pub sections_faults : ℕ → List Section → List Section → List Check
 sections_faults pid earlier [] = []
 sections_faults pid earlier (s ∷ ss) = section_faults pid earlier s ++ sections_faults pid (earlier ++ s ∷ []) ss
@@ -41,8 +43,8 @@ is_entry_outside p =
 abbrev pub process_faults : ℕ → ℕ → ℕ → ProcArgs → List Check
 process_faults words file_len pid p =
     sections_faults pid [] p.sections
-    ++ (is_load_outside words file_len p ⇒ LOAD_OUTSIDE at pid)
-    ∷ (is_entry_outside p ⇒ ENTRY_OUTSIDE at pid)
+    ++ (is_load_outside words file_len p ⇒ load_outside at pid)
+    ∷ (is_entry_outside p ⇒ entry_outside at pid)
     ∷ []
 
 -- the faults of processes with the pids from this one on
@@ -57,9 +59,10 @@ is_ram_too_small args slots =
     nat_lt (args.ram_size / 4096) (table_frames (length args.procs) + 2)
     || nat_lt (capacity (args.ram_size / 4096) (length args.procs) slots) (planned_pages (plan_of args slots))
 
+-- the faults of a plan: those of the processes, then that RAM is too small
 abbrev pub plan_faults : Args → ℕ → ℕ → List Check
 plan_faults args file_len slots =
-    processes_faults args.words file_len 2 args.procs ++ (is_ram_too_small args slots ⇒ RAM_TOO_SMALL at 0) ∷ []
+    processes_faults args.words file_len 2 args.procs ++ (is_ram_too_small args slots ⇒ ram_too_small at 0) ∷ []
 
 -- the first fault of the plan for a file of this many bytes, run with this many slots
 abbrev pub plan_fault : Args → ℕ → ℕ → Option ArgFault

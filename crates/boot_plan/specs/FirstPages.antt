@@ -44,6 +44,7 @@ interrupt_page = 0x7F000
 abbrev pub process_pages : ProcArgs → List PagePlan
 process_pages p = sections_pages p.load p.sections ++ map zero_page (stack_pages ++ interrupt_page ∷ [])
 
+-- the plan of a process
 abbrev pub process_plan : ProcArgs → ProcPlan
 process_plan p = record { entry = p.entry; sections = length p.sections; pages = process_pages p }
 

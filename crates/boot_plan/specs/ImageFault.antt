@@ -4,7 +4,7 @@ use Rattle.kernel_args.specs.declared.args.Args.{Args}
 use Rattle.kernel_args.specs.declared.faults.ArgFault.{ArgFault}
 use Rattle.kernel_args.specs.Faults.{args_fault}
 use Rattle.kernel_args.specs.Image.{Spells}
-use Rattle.boot_plan.specs.declared.faults.TheConstants.{TOO_LONG}
+use Rattle.boot_plan.specs.FaultNumbers.{too_long}
 use Rattle.boot_plan.specs.Faults.{plan_fault}
 
 -- The first fault of an image that is run with this many slots, or that it has none: it has more than 64 MiB, its
@@ -12,7 +12,7 @@ use Rattle.boot_plan.specs.Faults.{plan_fault}
 abbrev pub IsImageFault : List ℕ → ℕ → Option ArgFault → Type 0
 IsImageFault bytes slots fault =
     MatchBool (nat_lt 67108864 (length bytes))
-    (fault ≡ Some (record { what = TOO_LONG; at = 0 }))
+    (fault ≡ Some (record { what = too_long; at = 0 }))
     (MatchOption (args_fault bytes)
     ((args : Args) × Spells bytes args × (fault ≡ plan_fault args (length bytes) slots))
     (λ f. fault ≡ Some f))

@@ -1,11 +1,12 @@
 -- What memory and a kernel ask of a plan.
 use Rattle.std.specs.Prelude.{◌≡◌, ◌≢◌, ◌≤◌, ℕ, ◌+◌, ◌*◌, ◌/◌, ◌%◌, length, IsTrue, IsSome, Some, All, Any, AllPairs}
+use Rattle.xk_base.specs.Limits.{table_frames}
 use Rattle.xk_base.specs.Windows.{window_at}
 use Rattle.xk_base.specs.declared.windows.Window.TheVariants.{Heap}
 use Rattle.boot_plan.specs.declared.plans.BootPlan.{BootPlan}
 use Rattle.boot_plan.specs.declared.plans.ProcPlan.{ProcPlan}
 use Rattle.boot_plan.specs.declared.plans.PagePlan.{PagePlan}
-use Rattle.boot_plan.specs.Capacity.{table_frames, capacity}
+use Rattle.boot_plan.specs.Capacity.{capacity}
 use Rattle.boot_plan.specs.FirstPages.{planned_pages}
 
 -- the page lies in a window, and its bytes within a page and within a file of this many bytes

@@ -1,5 +1,6 @@
 pub mod Capacity
 pub mod Content
+pub mod FaultNumbers
 pub mod Faults
 pub mod FirstPages
 pub mod ImageFault

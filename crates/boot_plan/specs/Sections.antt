@@ -12,6 +12,7 @@ page_count size = div_ceil size 4096
 abbrev pub section_pages : Section → List ℕ
 section_pages s = range_with_len (s.addr / 4096) (page_count s.size)
 
+-- the page is one of the section
 abbrev pub has_page : ℕ → Section → Bool
 has_page vpn s = list_any (nat_eq vpn) (section_pages s)
 

@@ -1,7 +1,8 @@
 //! How many pages a plan has room for.
 
 ghost use Rattle.std.specs.Prelude.{◌≡◌, ◌≤◌, ◌+◌, length};
-ghost use Rattle.boot_plan.specs.Capacity.{capacity, table_frames};
+ghost use Rattle.xk_base.specs.Limits.{table_frames};
+ghost use Rattle.boot_plan.specs.Capacity.{capacity};
 
 use crate::plans::BootPlan;
 use xk_base::limits::TABLE_FRAMES;

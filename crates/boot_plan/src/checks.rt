@@ -13,6 +13,7 @@ use crate::faults::{
     ENTRY_OUTSIDE, LOAD_OUTSIDE, RAM_TOO_SMALL, SECTION_MISALIGNED, SECTION_OUTSIDE,
     SECTIONS_OVERLAP,
 };
+use crate::pages::STACK_PAGES;
 use crate::sections::{file_size, has_page, is_executable, leaves_window, page_count, shares_page};
 use kernel_args::{ArgFault, Args, ProcArgs, Section};
 use xk_base::limits::{PAGE_SIZE, TABLE_FRAMES};
@@ -96,7 +97,7 @@ fn enters_outside(process: &ProcArgs) -> bool
 }
 
 /// The first fault of a process with this pid; `words` is the size of the row of tags.
-#[tactic(auto, using(crate::proofs::FirstFault::first_fault_append))]
+#[tactic(auto, using(crate::proofs::FirstFaultLemmas::first_fault_append))]
 fn process_fault(words: u32, file_len: u32, pid: u32, process: &ProcArgs) -> Option<ArgFault>
     requires { length process.now.sections ≤ 32 }
     ensures { result ≡ first_fault (process_faults words file_len pid process.now) }
@@ -137,7 +138,7 @@ fn first_pages(process: &ProcArgs) -> u32
     ensures count { result ≡ length (process_pages process.now) }
     ensures few { result ≤ 33554441 }
 {
-    let mut count = 9;
+    let mut count = STACK_PAGES + 1;
     for section in process.sections.as_slice() {
         count += page_count(section);
     }
@@ -171,7 +172,7 @@ fn has_small_ram(args: &Args, slots: u32) -> bool
 }
 
 /// The first fault of the plan of an image whose file has `file_len` bytes.
-#[tactic(auto, using(crate::proofs::FirstFault::first_fault_append))]
+#[tactic(auto, using(crate::proofs::FirstFaultLemmas::first_fault_append))]
 pub(crate) fn find_fault(args: &Args, file_len: u32, slots: u32) -> Option<ArgFault>
     requires sound { IsSoundArgs args.now }
     requires few_slots { slots ≤ 16384 }

@@ -8,7 +8,9 @@ ghost use Rattle.kernel_args.specs.declared.faults.ArgFault.{ArgFault};
 ghost use Rattle.boot_plan.specs.Sections.{page_count, section_pages, file_sizes};
 ghost use Rattle.boot_plan.specs.FirstPages.{process_pages, stack_pages, interrupt_page};
 ghost use Rattle.boot_plan.specs.Content.{HoldsByte};
+ghost use Rattle.boot_plan.specs.FaultNumbers.{section_outside, section_misaligned, sections_overlap, load_outside, entry_outside, ram_too_small, too_long};
 ghost use Rattle.boot_plan.specs.ImageFault.{IsImageFault};
+ghost use Rattle.boot_plan.specs.declared.faults.TheConstants.{SECTION_OUTSIDE, SECTION_MISALIGNED, SECTIONS_OVERLAP, LOAD_OUTSIDE, ENTRY_OUTSIDE, RAM_TOO_SMALL, TOO_LONG};
 
 /// A process starts with the pages of its sections, its stack and its interrupt page, and its
 /// sections stand there with their bytes, each from its address on, and zeros up to the end of
@@ -20,6 +22,17 @@ pub fn sections_stand_in_pages()
         → (slice_index_or p.sections i d).addr % 4096 ≡ 0
         → k < 4096 * page_count (slice_index_or p.sections i d).size
         → Any (HoldsByte file (p.load + file_sizes (take i p.sections)) (slice_index_or p.sections i d) k) (process_pages p) }
+{}
+
+/// Law: the faults of a plan, and a file that is too long, have these numbers.
+pub fn fault_numbers_are_pinned()
+    ensures section_outside { SECTION_OUTSIDE ≡ section_outside }
+    ensures section_misaligned { SECTION_MISALIGNED ≡ section_misaligned }
+    ensures sections_overlap { SECTIONS_OVERLAP ≡ sections_overlap }
+    ensures load_outside { LOAD_OUTSIDE ≡ load_outside }
+    ensures entry_outside { ENTRY_OUTSIDE ≡ entry_outside }
+    ensures ram_too_small { RAM_TOO_SMALL ≡ ram_too_small }
+    ensures too_long { TOO_LONG ≡ too_long }
 {}
 
 /// An image has exactly one answer for a number of slots: its first fault, or that it has none. The

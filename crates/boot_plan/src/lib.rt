@@ -16,6 +16,6 @@ pub use faults::{
     ENTRY_OUTSIDE, LOAD_OUTSIDE, PlanError, RAM_TOO_SMALL, SECTION_MISALIGNED, SECTION_OUTSIDE,
     SECTIONS_OVERLAP, TOO_LONG,
 };
-pub use laws::{image_has_one_first_fault, sections_stand_in_pages};
+pub use laws::{fault_numbers_are_pinned, image_has_one_first_fault, sections_stand_in_pages};
 pub use planning::plan;
 pub use plans::{BootPlan, PagePlan, ProcPlan};

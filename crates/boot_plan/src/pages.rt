@@ -17,7 +17,7 @@ use xk_base::{NoMemory, Right, Row, Vpn};
 /// The first page of the stack of the first thread.
 const STACK_FIRST: u32 = 0x7_FFF8;
 /// How many pages that stack has.
-const STACK_PAGES: u32 = 8;
+pub(crate) const STACK_PAGES: u32 = 8;
 /// The page that is the stack of the interrupt thread.
 const INTERRUPT_PAGE: u32 = 0x7_F000;
 

@@ -25,7 +25,7 @@ pub(crate) fn is_writable(section: &Section) -> bool
 }
 
 /// Whether the section's bytes are zeros, and the file has none of them.
-#[tactic(auto, using(crate::proofs::Flags::mask_two))]
+#[tactic(auto, using(crate::proofs::FlagLemmas::mask_two))]
 pub(crate) fn is_zero_filled(section: &Section) -> bool
     ensures { result ≡ is_zero_filled section.now }
 {
@@ -33,7 +33,7 @@ pub(crate) fn is_zero_filled(section: &Section) -> bool
 }
 
 /// Whether the section's pages may be executed.
-#[tactic(auto, using(crate::proofs::Flags::mask_four))]
+#[tactic(auto, using(crate::proofs::FlagLemmas::mask_four))]
 pub(crate) fn is_executable(section: &Section) -> bool
     ensures { result ≡ is_executable section.now }
 {
@@ -68,12 +68,12 @@ pub(crate) fn page_count(section: &Section) -> u32
 }
 
 /// Whether the page is one of the section's.
-#[tactic(auto, using(crate::proofs::Ranges::in_run_is))]
+#[tactic(auto, using(crate::proofs::RangeLemmas::in_run_is))]
 pub(crate) fn has_page(section: &Section, vpn: u32) -> bool
     ensures { result ≡ has_page vpn section.now }
 {
     let first = first_page(section);
-    first <= vpn && vpn < first + page_count(section)
+    (first..first + page_count(section)).contains(&vpn)
 }
 
 /// Whether some page is one of both sections.

@@ -19,5 +19,6 @@ abbrev pub register_after : ℕ → List ℕ → ℕ
 register_after register [] = register
 register_after register (b ∷ bs) = register_after (shifted register b) bs
 
+-- the check number of bytes
 unfoldable pub check_number : List ℕ → ℕ
 check_number bytes = bit_xor (register_after 0xFFFF (flat_map (bits 8) bytes)) 0xFFFF

@@ -7,6 +7,7 @@ use Rattle.kernel_args.specs.declared.args.ProcArgs.{ProcArgs}
 use Rattle.kernel_args.specs.declared.args.Section.{Section}
 use Rattle.kernel_args.specs.declared.args.ProcName.{ProcName}
 
+-- the four bytes of a word
 abbrev pub word : ℕ → List ℕ
 word n = little_bytes 4 n
 
@@ -34,6 +35,7 @@ front_section bytes = None
 abbrev pub process_contents : ProcArgs → List ℕ
 process_contents p = word p.load ++ (word p.entry ++ flat_map section_bytes p.sections)
 
+-- its numbers are words, and it has one to 32 sections
 pub record IsProcess (p : ProcArgs) : Type 0 where
   pub load : p.load < 2 ^ 32
   pub entry : p.entry < 2 ^ 32
@@ -41,6 +43,7 @@ pub record IsProcess (p : ProcArgs) : Type 0 where
   pub few : length p.sections ≤ 32
   pub sections : AllByRecursion IsSection p.sections
 
+-- the contents are those of an `IniE` of this process
 pub record SpellsProcess (contents : List ℕ) (p : ProcArgs) : Type 0 where
   pub is_process : IsProcess p
   pub contents_are : contents ≡ process_contents p
@@ -59,6 +62,7 @@ padded n = (n + 3) / 4 * 4
 abbrev pub entry_bytes : Entry → List ℕ
 entry_bytes e = word e.pid ++ (word (length e.name) ++ (e.name ++ e.padding))
 
+-- its numbers are words, and its padding fills the last one
 pub record IsEntry (e : Entry) : Type 0 where
   pub pid : e.pid < 2 ^ 32
   pub len : length e.name < 2 ^ 32
@@ -78,5 +82,6 @@ front_entry (a ∷ b ∷ c ∷ d ∷ k ∷ l ∷ m ∷ n ∷ bytes) =
     else None
 front_entry bytes = None
 
+-- the name that an entry spells
 abbrev pub name_of : Entry → ProcName
 name_of e = record { pid = e.pid; name = e.name }

@@ -8,7 +8,7 @@ use Rattle.kernel_args.specs.declared.args.Section.{Section}
 use Rattle.kernel_args.specs.declared.faults.ArgFault.{ArgFault}
 use Rattle.kernel_args.specs.declared.faults.ArgsError.{ArgsError}
 use Rattle.kernel_args.specs.declared.faults.ArgsError.TheVariants as errors
-use Rattle.kernel_args.specs.declared.faults.TheConstants.{TOO_SHORT, NOT_XARG, BAD_VERSION, BAD_TOTAL, BAD_CHECK, BAD_RAM, NO_PROCESS, TOO_MANY_PROCESSES, BAD_INI, BAD_NAMES}
+use Rattle.kernel_args.specs.FaultNumbers.{too_short, not_xarg, bad_version, bad_total, bad_check, bad_ram, no_process, too_many_processes, bad_ini, bad_names}
 use Rattle.kernel_args.specs.CheckNumber.{check_number}
 use Rattle.kernel_args.specs.Joined.{cut}
 use Rattle.kernel_args.specs.Tags.{Tag, front_tag, has_name}
@@ -39,6 +39,7 @@ row_size bytes = 4 * number_at 4 8 bytes
 unfoldable pub is_not_xarg : List ℕ → Bool
 is_not_xarg bytes = not (pointwise nat_eq (take 4 bytes) (codes "XArg")) || not (number_at 2 6 bytes == 5)
 
+-- the check number of the first tag isn't that of its contents, five words
 unfoldable pub is_bad_header_check : List ℕ → Bool
 is_bad_header_check bytes = not (number_at 2 4 bytes == check_number (take 20 (drop 8 bytes)))
 
@@ -54,14 +55,15 @@ is_bad_ram start size =
 -- the faults of the first tag
 unfoldable pub header_faults : List ℕ → List Check
 header_faults bytes =
-    (nat_lt (length bytes) 28 ⇒ TOO_SHORT at 0)
-    ∷ (is_not_xarg bytes ⇒ NOT_XARG at 0)
-    ∷ (is_bad_header_check bytes ⇒ BAD_CHECK at 0)
-    ∷ (not (number_at 4 12 bytes == 1) ⇒ BAD_VERSION at 12)
-    ∷ (is_bad_total bytes ⇒ BAD_TOTAL at 8)
-    ∷ (is_bad_ram (number_at 4 16 bytes) (number_at 4 20 bytes) ⇒ BAD_RAM at 16)
+    (nat_lt (length bytes) 28 ⇒ too_short at 0)
+    ∷ (is_not_xarg bytes ⇒ not_xarg at 0)
+    ∷ (is_bad_header_check bytes ⇒ bad_check at 0)
+    ∷ (not (number_at 4 12 bytes == 1) ⇒ bad_version at 12)
+    ∷ (is_bad_total bytes ⇒ bad_total at 8)
+    ∷ (is_bad_ram (number_at 4 16 bytes) (number_at 4 20 bytes) ⇒ bad_ram at 16)
     ∷ []
 
+-- a flag is none of 1, 2, 4, 8 and 16
 abbrev pub has_unknown_flag : Section → Bool
 has_unknown_flag s = nat_lt 31 s.flags
 
@@ -78,17 +80,17 @@ is_bad_names contents = not (length (cut front_entry contents).rest == 0)
 -- the faults of a whole tag at an offset, behind this many processes
 abbrev pub tag_faults : ℕ → ℕ → Tag → List Check
 tag_faults offset processes t =
-    (not (t.check == check_number t.contents) ⇒ BAD_CHECK at offset)
-    ∷ ((has_name (codes "IniE") t && nat_le 32 processes) ⇒ TOO_MANY_PROCESSES at offset)
-    ∷ ((has_name (codes "IniE") t && is_bad_process t.contents) ⇒ BAD_INI at offset)
-    ∷ ((has_name (codes "PNam") t && is_bad_names t.contents) ⇒ BAD_NAMES at offset)
+    (not (t.check == check_number t.contents) ⇒ bad_check at offset)
+    ∷ ((has_name (codes "IniE") t && nat_le 32 processes) ⇒ too_many_processes at offset)
+    ∷ ((has_name (codes "IniE") t && is_bad_process t.contents) ⇒ bad_ini at offset)
+    ∷ ((has_name (codes "PNam") t && is_bad_names t.contents) ⇒ bad_names at offset)
     ∷ []
 
 -- the faults where the whole tags of the row end: a part of a tag is left, or there was no process
 abbrev pub end_faults : ℕ → ℕ → List ℕ → List Check
 end_faults offset processes rest =
-    (not (length rest == 0) ⇒ BAD_TOTAL at offset)
-    ∷ ((processes == 0) ⇒ NO_PROCESS at offset)
+    (not (length rest == 0) ⇒ bad_total at offset)
+    ∷ ((processes == 0) ⇒ no_process at offset)
     ∷ []
 
 -- the first fault of tags from an offset on, behind this many processes, and of what is left
@@ -98,6 +100,7 @@ tags_fault offset processes (t ∷ ts) rest =
     option_or (first_fault (tag_faults offset processes t))
     (tags_fault (offset + 8 + length t.contents) (if has_name (codes "IniE") t then processes + 1 else processes) ts rest)
 
+-- the first fault of the row of tags behind the header, which begins at this offset, behind this many processes
 unfoldable pub row_fault : ℕ → ℕ → List ℕ → Option ArgFault
 row_fault offset processes row = let tags = cut front_tag row in tags_fault offset processes tags.items tags.rest
 

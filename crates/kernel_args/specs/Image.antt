@@ -31,9 +31,11 @@ pub record IsSoundArgs (args : Args) : Type 0 where
   pub few : length args.procs ≤ 32
   pub procs : All IsSoundProcess args.procs
 
+-- the `XArg` of arguments
 abbrev pub header_tag : Args → Tag
 header_tag args = record { name = codes "XArg"; check = check_number (header_contents args); contents = header_contents args }
 
+-- it has the check number of its contents
 pub record IsRightTag (t : Tag) : Type 0 where
   pub tag : IsTag t
   pub right : t.check ≡ check_number t.contents

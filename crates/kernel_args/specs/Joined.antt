@@ -7,6 +7,7 @@ pub record Cut (A : Type 0) : Type 0 where
   pub items : List A
   pub rest : List ℕ
 
+-- the same with one more item at the front
 abbrev pub behind : {A : Type 0} → A → Cut A → Cut A
 behind item c = record { items = item ∷ c.items; rest = c.rest }
 

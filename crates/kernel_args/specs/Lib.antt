@@ -1,5 +1,6 @@
 pub mod CheckNumber
 pub mod Contents
+pub mod FaultNumbers
 pub mod Faults
 pub mod Image
 pub mod Joined

@@ -4,11 +4,13 @@ use Rattle.std.specs.Prelude.{◌≡◌, ◌<◌, ℕ, ◌*◌, ◌/◌, ◌%◌
 use Rattle.std.specs.Cmp.Lexicographic.{pointwise}
 use Rattle.byteorder.specs.Endian.{little_bytes, little_number}
 
+-- a tag without its length, which follows from its contents
 pub record Tag : Type 0 where
   pub name : List ℕ
   pub check : ℕ
   pub contents : List ℕ
 
+-- the bytes of a tag
 abbrev pub tag_bytes : Tag → List ℕ
 tag_bytes t = t.name ++ (little_bytes 2 t.check ++ (little_bytes 2 (length t.contents / 4) ++ t.contents))
 
@@ -28,6 +30,7 @@ front_tag (n ∷ a ∷ m ∷ e ∷ c ∷ d ∷ k ∷ l ∷ bytes) =
     else None
 front_tag bytes = None
 
+-- the tag has this name
 abbrev pub has_name : List ℕ → Tag → Bool
 has_name name t = pointwise nat_eq t.name name
 

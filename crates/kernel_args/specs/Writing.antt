@@ -14,6 +14,7 @@ use Rattle.kernel_args.specs.Faults.{args_fault}
 abbrev pub right_tag : List ℕ → List ℕ → Tag
 right_tag name contents = record { name = name; check = check_number contents; contents = contents }
 
+-- the `IniE` of a process
 abbrev pub process_tag : ProcArgs → Tag
 process_tag p = right_tag (codes "IniE") (process_contents p)
 
@@ -21,6 +22,7 @@ process_tag p = right_tag (codes "IniE") (process_contents p)
 abbrev pub written_entry : ProcName → Entry
 written_entry n = record { pid = n.pid; name = n.name; padding = replicate (padded (length n.name) - length n.name) 0 }
 
+-- the contents of the `PNam` of names
 abbrev pub names_contents : List ProcName → List ℕ
 names_contents ns = flat_map (λ n. entry_bytes (written_entry n)) ns
 
@@ -33,6 +35,7 @@ names_tags (n ∷ ns) = right_tag (codes "PNam") (names_contents (n ∷ ns)) ∷
 abbrev pub written_tags : Args → List Tag
 written_tags args = map process_tag args.procs ++ names_tags args.names
 
+-- the bytes of the header, of a process, of the names, and of all of them in order
 unfoldable pub header_row : Args → List ℕ
 header_row args = tag_bytes (header_tag args)
 

@@ -10,26 +10,17 @@ use crate::check_number::crc_x25;
 use std::alloc::Global;
 use xk_base::{NoMemory, Row};
 
-fn append(out: &mut Row<u8>, bytes: &[u8]) -> Result<(), NoMemory>
-    ensures { OnOk result (out.new ≡ out.old ++ bytes.now) }
-{
-    for byte in bytes {
-        out.push(*byte)?;
-    }
-    Ok(())
-}
-
 fn append_word(out: &mut Row<u8>, n: u32) -> Result<(), NoMemory>
     ensures { OnOk result (out.new ≡ out.old ++ word n) }
 {
-    append(out, &n.to_le_bytes())
+    out.extend_from_slice(&n.to_le_bytes())
 }
 
 fn append_section(out: &mut Row<u8>, section: Section) -> Result<(), NoMemory>
     ensures { OnOk result (out.new ≡ out.old ++ section_bytes section) }
 {
     append_word(out, section.addr)?;
-    append(out, &section.size.to_le_bytes()[..3])?;
+    out.extend_from_slice(&section.size.to_le_bytes()[..3])?;
     out.push(section.flags)
 }
 
@@ -42,7 +33,7 @@ pub fn header_contents(alloc: Global, args: &Args) -> Result<Row<u8>, NoMemory>
     append_word(&mut out, 1)?;
     append_word(&mut out, args.ram_start)?;
     append_word(&mut out, args.ram_size)?;
-    append(&mut out, &args.ram_name)?;
+    out.extend_from_slice(&args.ram_name)?;
     Ok(out)
 }
 
@@ -66,8 +57,8 @@ fn append_name(out: &mut Row<u8>, name: &ProcName) -> Result<(), NoMemory>
     let bytes = name.name.as_slice();
     append_word(out, name.pid)?;
     append_word(out, bytes.len() as u32)?;
-    append(out, bytes)?;
-    for _ in 0..(4 - bytes.len() % 4) % 4 {
+    out.extend_from_slice(bytes)?;
+    for _ in 0..bytes.len().next_multiple_of(4) - bytes.len() {
         out.push(0)?;
     }
     Ok(())
@@ -90,8 +81,8 @@ pub fn append_tag(out: &mut Row<u8>, name: &[u8], contents: &[u8]) -> Result<(),
     requires { length contents.now < 4 * 65536 }
     ensures { OnOk result (out.new ≡ out.old ++ tag_bytes (right_tag name.now contents.now)) }
 {
-    append(out, name)?;
-    append(out, &crc_x25(contents).to_le_bytes())?;
-    append(out, &((contents.len() / 4) as u16).to_le_bytes())?;
-    append(out, contents)
+    out.extend_from_slice(name)?;
+    out.extend_from_slice(&crc_x25(contents).to_le_bytes())?;
+    out.extend_from_slice(&((contents.len() / 4) as u16).to_le_bytes())?;
+    out.extend_from_slice(contents)
 }

@@ -2,6 +2,9 @@
 
 use xk_base::Row;
 
+/// All flags of a section: 1, 2, 4, 8 and 16.
+pub(crate) const KNOWN_FLAGS: u8 = 31;
+
 /// The arguments of an image.
 #[derive(Debug, Drop)]
 pub struct Args {

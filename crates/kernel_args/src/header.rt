@@ -8,9 +8,13 @@ ghost use Rattle.kernel_args.specs.Reading.{HeaderIs};
 use crate::check_number::crc_x25;
 use crate::faults::{ArgFault, BAD_CHECK, BAD_RAM, BAD_TOTAL, BAD_VERSION, NOT_XARG, TOO_SHORT};
 use byteorder::{ByteOrder, LittleEndian};
+use xk_base::limits::{CONSOLE_ADDRESS, FRAME_LIMIT, PAGE_SIZE};
 
 /// The size of the first tag, whose contents are five words, in bytes.
 pub const HEADER_SIZE: usize = 28;
+
+/// The most bytes of RAM: 64 MiB.
+const RAM_LIMIT: u32 = FRAME_LIMIT * PAGE_SIZE;
 
 /// What the first tag says.
 #[derive(Clone, Copy, Debug)]
@@ -37,7 +41,7 @@ fn has_wrong_check(bytes: &[u8]) -> bool
     requires { 28 ≤ length bytes.now }
     ensures { result ≡ is_bad_header_check bytes.now }
 {
-    LittleEndian::read_u16(&bytes[4..]) != crc_x25(&bytes[8..28])
+    LittleEndian::read_u16(&bytes[4..]) != crc_x25(&bytes[8..HEADER_SIZE])
 }
 
 /// Whether the row of tags is below seven words or passes the end of the file.
@@ -57,11 +61,11 @@ fn is_bad_total(bytes: &[u8]) -> bool
 pub fn is_bad_ram(start: u32, size: u32) -> bool
     ensures { result ≡ is_bad_ram_of start size }
 {
-    start % 4096 != 0
-        || size % 4096 != 0
+    start % PAGE_SIZE != 0
+        || size % PAGE_SIZE != 0
         || size == 0
-        || size > 67_108_864
-        || start as u64 + size as u64 > 0xF000_0000
+        || size > RAM_LIMIT
+        || start as u64 + size as u64 > CONSOLE_ADDRESS as u64
 }
 
 /// The word at an offset.

@@ -25,7 +25,7 @@ fn front_entry(bytes: &[u8]) -> Option<(NameAt<'_>, &[u8])>
     }
     let pid = LittleEndian::read_u32(bytes);
     let len = LittleEndian::read_u32(&bytes[4..]) as usize;
-    let padded = (len + 3) / 4 * 4;
+    let padded = len.next_multiple_of(4);
     if bytes.len() - 8 < padded {
         return None;
     }
@@ -42,9 +42,7 @@ fn copied(alloc: Global, bytes: &[u8]) -> Result<Row<u8>, NoMemory>
     ensures { IfOk result (λ row. row ≡ bytes.now) }
 {
     let mut row = Row::new(alloc);
-    for byte in bytes {
-        row.push(*byte)?;
-    }
+    row.extend_from_slice(bytes)?;
     Ok(row)
 }
 

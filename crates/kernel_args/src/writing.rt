@@ -7,36 +7,42 @@ ghost use Rattle.kernel_args.specs.Image.{Spells};
 ghost use Rattle.kernel_args.specs.Writing.{header_row, process_row, names_row, names_contents as names_contents_of, HasPid, IsWritable, written};
 
 use crate::appending::{append_tag, header_contents, names_contents, process_contents};
-use crate::args::{Args, ProcArgs, ProcName, Section};
+use crate::args::{Args, KNOWN_FLAGS, ProcArgs, ProcName, Section};
 use crate::header::{HEADER_SIZE, is_bad_ram};
 use std::alloc::Global;
+use xk_base::limits::{PROCESS_LIMIT, SECTION_LIMIT};
 use xk_base::{NoMemory, Row};
 
 /// The size above that of any contents in bytes: a length field has 16 bits and counts words.
 const CONTENTS_LIMIT: usize = 262_144;
 
+/// The size above that of any section in bytes: its field has 24 bits.
+const SECTION_SIZE_LIMIT: u32 = 0x100_0000;
+
+/// Whether the size of the section has 24 bits and its flags are known.
+fn is_section(section: &Section) -> bool
+    ensures { IsTrue result ↔ IsSection section.now }
+{
+    // read for the prover alone: its range, which the contract states
+    let _addr = section.addr;
+    section.size < SECTION_SIZE_LIMIT && section.flags <= KNOWN_FLAGS
+}
+
 /// Whether the sizes of the sections have 24 bits and their flags are known.
 fn are_sections(sections: &[Section]) -> bool
     ensures { IsTrue result ↔ All IsSection sections.now }
 {
-    for section in sections {
-        // read for its range, which the contract states
-        let _addr = section.addr;
-        if section.size >= 0x100_0000 || section.flags > 31 {
-            return false;
-        }
-    }
-    true
+    sections.iter().all(is_section)
 }
 
 /// Whether it has one to 32 sections, which can be written.
 fn is_process(process: &ProcArgs) -> bool
     ensures { IsTrue result ↔ IsProcess process.now }
 {
-    // read for their ranges, which the contract states
+    // read for the prover alone: their ranges, which the contract states
     let (_load, _entry) = (process.load, process.entry);
     let sections = process.sections.as_slice();
-    !sections.is_empty() && sections.len() <= 32 && are_sections(sections)
+    (1..=SECTION_LIMIT as usize).contains(&sections.len()) && are_sections(sections)
 }
 
 /// The size in bytes of the `IniE` of at most 32 processes, or None where one can't be written.
@@ -62,13 +68,13 @@ fn names_size(names: &[ProcName]) -> Option<usize>
 {
     let mut size = 0;
     for name in names {
-        // read for its range, which the contract states
+        // read for the prover alone: its range, which the contract states
         let _pid = name.pid;
         let len = name.name.as_slice().len();
         if len >= CONTENTS_LIMIT {
             return None;
         }
-        size += 8 + (len + 3) / 4 * 4;
+        size += 8 + len.next_multiple_of(4);
         if size >= CONTENTS_LIMIT {
             return None;
         }
@@ -90,13 +96,20 @@ fn names_tag_size(names: &[ProcName]) -> Option<usize>
     }
 }
 
+/// Whether an image has this many processes.
+fn is_process_count(count: usize) -> bool
+    ensures { IsTrue result ↔ ((1 ≤ count) × (count ≤ 32)) }
+{
+    (1..=PROCESS_LIMIT as usize).contains(&count)
+}
+
 /// Whether the arguments can be written: each section's size is below 2^24, the row of tags has
 /// `args.words` words, each tag fits its length field, and the row has no fault.
 pub fn writable(args: &Args) -> bool
     ensures { IsTrue result ↔ IsWritable args.now }
 {
     let processes = args.procs.as_slice();
-    if is_bad_ram(args.ram_start, args.ram_size) || processes.is_empty() || processes.len() > 32 {
+    if is_bad_ram(args.ram_start, args.ram_size) || !is_process_count(processes.len()) {
         return false;
     }
     let Some(processes_size) = processes_size(processes) else {

@@ -1,5 +1,5 @@
 use Rattle.std.proofs.Common.{arith}
-use Rattle.boot_plan.proofs.Counts.{counted}
+use Rattle.boot_plan.proofs.CountLemmas.{counted}
 use Rattle.boot_plan.proofs.checks.first_pages.Goals as goal
 
 pub returns-clause-count : goal.returns-clause-count

@@ -1,7 +1,7 @@
 use Rattle.std.proofs.Common.{◌+◌, drop, arith, rules}
 use Rattle.kernel_args.specs.Faults.{first_fault}
 use Rattle.boot_plan.specs.Faults.{processes_faults}
-use Rattle.boot_plan.proofs.FirstFault.{from_process, or_at_some, or_at_none}
+use Rattle.boot_plan.proofs.FirstFaultLemmas.{from_process, or_at_some, or_at_none}
 use Rattle.boot_plan.proofs.checks.processes_fault.Goals as goal
 
 pub returns-then-is_some : goal.returns-then-is_some

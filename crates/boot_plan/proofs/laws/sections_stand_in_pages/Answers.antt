@@ -1,4 +1,4 @@
-use Rattle.boot_plan.proofs.ContentLaws.{process_vpns, process_holds}
+use Rattle.boot_plan.proofs.ContentLemmas.{process_vpns, process_holds}
 use Rattle.boot_plan.proofs.laws.sections_stand_in_pages.Goals as goal
 
 pub returns-clause-pages : goal.returns-clause-pages

@@ -1,6 +1,6 @@
 use Rattle.std.proofs.Common.{◌+◌, arith}
 use Rattle.boot_plan.specs.FirstPages.{sections_pages, zero_page}
-use Rattle.boot_plan.proofs.Rows.{one_more, last_page}
+use Rattle.boot_plan.proofs.RowLemmas.{one_more, last_page}
 use Rattle.boot_plan.proofs.pages.process_pages.Goals as goal
 
 pub loop-i-preserved : goal.loop-i-preserved

@@ -1,6 +1,6 @@
 use Rattle.std.proofs.Common.{arith}
 use Rattle.boot_plan.specs.FirstPages.{section_page}
-use Rattle.boot_plan.proofs.Rows.{one_more}
+use Rattle.boot_plan.proofs.RowLemmas.{one_more}
 use Rattle.boot_plan.proofs.pages.push_section.Goals as goal
 
 pub loop-i-preserved : goal.loop-i-preserved

@@ -3,7 +3,7 @@ use Rattle.std.proofs.lemmas.List.Elements.{All-same, All-weaker}
 use Rattle.boot_plan.specs.Sections.{file_sizes}
 use Rattle.boot_plan.specs.FirstPages.{process_plan}
 use Rattle.boot_plan.specs.Lawful.{IsLawfulPlan, CanStart, EntersExecutable}
-use Rattle.boot_plan.proofs.LawfulPlans.{lawful_plan, plan_can_start, plan_enters_executable, loads_fit}
+use Rattle.boot_plan.proofs.LawfulPlanLemmas.{lawful_plan, plan_can_start, plan_enters_executable, loads_fit}
 use Rattle.boot_plan.proofs.planning.plan.Goals as goal
 
 pub plan_processes-requires-clause-loads : goal.plan_processes-requires-clause-loads

@@ -1,7 +1,7 @@
 use Rattle.std.proofs.Common.{◌/◌, lit≤, arith}
 use Rattle.std.proofs.lemmas.Bool.Decides.{nat_tests}
 use Rattle.boot_plan.specs.Sections.{page_count}
-use Rattle.boot_plan.proofs.Ranges.{outside_is}
+use Rattle.boot_plan.proofs.RangeLemmas.{outside_is}
 use Rattle.boot_plan.proofs.sections.leaves_window.Goals as goal
 
 pub returns-else-first : goal.returns-else-first

@@ -1,6 +1,6 @@
 use Rattle.std.proofs.Common.{◌/◌}
 use Rattle.boot_plan.specs.Sections.{page_count}
-use Rattle.boot_plan.proofs.Ranges.{shared_is}
+use Rattle.boot_plan.proofs.RangeLemmas.{shared_is}
 use Rattle.boot_plan.proofs.sections.shares_page.Goals as goal
 
 pub returns : goal.returns

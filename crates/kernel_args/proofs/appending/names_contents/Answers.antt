@@ -1,6 +1,6 @@
 use Rattle.std.proofs.Common.{length, ap, arith}
 use Rattle.kernel_args.specs.declared.args.ProcName.{ProcName}
-use Rattle.kernel_args.proofs.WritingLaws.{name_within}
+use Rattle.kernel_args.proofs.WritingLemmas.{name_within}
 use Rattle.kernel_args.proofs.appending.names_contents.Goals as goal
 
 pub append_name-requires : goal.append_name-requires

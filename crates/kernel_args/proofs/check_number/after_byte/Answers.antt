@@ -1,6 +1,6 @@
 use Rattle.std.proofs.Common.{arith}
 use Rattle.kernel_args.specs.CheckNumber.{bits, register_after}
-use Rattle.kernel_args.proofs.CheckLaws.{one_more_bit, no_more_bits}
+use Rattle.kernel_args.proofs.CheckLemmas.{one_more_bit, no_more_bits}
 use Rattle.kernel_args.proofs.check_number.after_byte.Goals as goal
 
 pub loop-preserved : goal.loop-preserved

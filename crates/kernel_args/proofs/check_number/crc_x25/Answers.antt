@@ -1,7 +1,7 @@
 use Rattle.std.proofs.Common.{arith}
 use Rattle.std.specs.List.{flat_map}
 use Rattle.kernel_args.specs.CheckNumber.{bits, register_after}
-use Rattle.kernel_args.proofs.CheckLaws.{one_more_byte}
+use Rattle.kernel_args.proofs.CheckLemmas.{one_more_byte}
 use Rattle.kernel_args.proofs.check_number.crc_x25.Goals as goal
 
 pub loop-byte-preserved : goal.loop-byte-preserved

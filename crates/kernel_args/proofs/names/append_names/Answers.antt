@@ -1,5 +1,5 @@
 use Rattle.std.proofs.Common.{arith}
-use Rattle.kernel_args.proofs.NameLaws.{names_more, names_end}
+use Rattle.kernel_args.proofs.NameLemmas.{names_more, names_end}
 use Rattle.kernel_args.proofs.names.append_names.Goals as goal
 
 pub loop-entry-preserved : goal.loop-entry-preserved

@@ -1,5 +1,5 @@
 use Rattle.std.proofs.Common.{length}
-use Rattle.kernel_args.proofs.NameLaws.{NamesRead}
+use Rattle.kernel_args.proofs.NameLemmas.{NamesRead}
 use Rattle.kernel_args.proofs.names.append_names.Given as goal
 
 abbrev pub invariant-loop-entry : goal.invariant-loop-entry

@@ -1,9 +1,9 @@
 use Rattle.std.proofs.Common.{arith}
-use Rattle.kernel_args.proofs.ProcessLaws.{sections_more, sections_refused}
+use Rattle.kernel_args.proofs.ProcessLemmas.{sections_more, sections_refused}
 use Rattle.kernel_args.proofs.process.sections_of.Goals as goal
 
-pub returns-then-section-gt31 : goal.returns-then-section-gt31
-returns-then-section-gt31 c =
+pub returns-then-section-gt-KNOWN_FLAGS : goal.returns-then-section-gt-KNOWN_FLAGS
+returns-then-section-gt-KNOWN_FLAGS c =
     sections_refused c.args.bytes.now c.loop-rest.rest.now c.loop-rest.sections c.front_section.result.0 c.front_section.result.1.now c.loop-rest.invariant c.front_section.ensures (omega arith)
 
 pub loop-rest-preserved : goal.loop-rest-preserved

@@ -1,5 +1,5 @@
 use Rattle.std.proofs.Common.{length}
-use Rattle.kernel_args.proofs.ProcessLaws.{SectionsRead}
+use Rattle.kernel_args.proofs.ProcessLemmas.{SectionsRead}
 use Rattle.kernel_args.proofs.process.sections_of.Given as goal
 
 abbrev pub invariant-loop-rest : goal.invariant-loop-rest

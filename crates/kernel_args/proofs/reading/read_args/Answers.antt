@@ -2,8 +2,8 @@ use Rattle.std.proofs.Common.{◌≤◌, arith, length}
 use Rattle.std.proofs.lemmas.Result.{err_from_is_err_and}
 use Rattle.kernel_args.specs.declared.args.Args.{Args}
 use Rattle.kernel_args.specs.Faults.{row_size}
-use Rattle.kernel_args.proofs.ImageLaws.{spelled_has_no_fault}
-use Rattle.kernel_args.proofs.ReadLaws.{row_is, fault_of_header, fault_of_row, image_read}
+use Rattle.kernel_args.proofs.ImageLemmas.{spelled_has_no_fault}
+use Rattle.kernel_args.proofs.ReadLemmas.{row_is, fault_of_header, fault_of_row, image_read}
 use Rattle.kernel_args.proofs.reading.read_args.Goals as goal
 
 pub returns-in-Some-clause-fault : goal.returns-in-Some-clause-fault

@@ -1,7 +1,7 @@
 use Rattle.std.proofs.Common.{ap, ◌∙◌, sym, length}
 use Rattle.std.proofs.lemmas.Result.{err_from_is_err_and}
 use Rattle.kernel_args.specs.Reading.{tag_of}
-use Rattle.kernel_args.proofs.ReadLaws.{row_more, fault_of_tag, fault_of_total, fault_of_none, some_left, none_left}
+use Rattle.kernel_args.proofs.ReadLemmas.{row_more, fault_of_tag, fault_of_total, fault_of_none, some_left, none_left}
 use Rattle.kernel_args.proofs.reading.read_row.Goals as goal
 
 pub returns-in-None-clause-fault : goal.returns-in-None-clause-fault

@@ -1,5 +1,5 @@
 use Rattle.std.proofs.Common.{length}
-use Rattle.kernel_args.proofs.ReadLaws.{RowRead}
+use Rattle.kernel_args.proofs.ReadLemmas.{RowRead}
 use Rattle.kernel_args.proofs.reading.read_row.Given as goal
 
 abbrev pub invariant-loop-rest : goal.invariant-loop-rest

@@ -3,7 +3,7 @@ use Rattle.std.specs.Prelude.{codes}
 use Rattle.std.specs.Cmp.Lexicographic.{pointwise}
 use Rattle.kernel_args.specs.Tags.{has_name}
 use Rattle.kernel_args.specs.Reading.{tag_of, GivesProcess, GivesNames}
-use Rattle.kernel_args.proofs.RowFaults.{adds_process, adds_names, adds_nothing}
+use Rattle.kernel_args.proofs.RowFaultLemmas.{adds_process, adds_names, adds_nothing}
 use Rattle.kernel_args.proofs.reading.read_tag.Goals as goal
 
 pub returns-in_ok-push-in-Some-clause-ok : goal.returns-in_ok-push-in-Some-clause-ok

@@ -1,7 +1,7 @@
 use Rattle.std.proofs.Common.{◌*◌, take, drop, arith, ap, ◌∙◌}
 use Rattle.std.proofs.lemmas.List.{take_rest}
 use Rattle.byteorder.specs.Endian.{little_number}
-use Rattle.kernel_args.proofs.TagLaws.{front_tag_found}
+use Rattle.kernel_args.proofs.TagLemmas.{front_tag_found}
 use Rattle.kernel_args.proofs.tag.front_tag.Goals as goal
 
 pub returns : goal.returns

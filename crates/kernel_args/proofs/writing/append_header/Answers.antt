@@ -2,7 +2,7 @@ use Rattle.std.proofs.Common.{◌≡◌, List, ℕ, ◌++◌, OnOk, ap, ◌∙�
 use Rattle.std.specs.Prelude.{codes}
 use Rattle.kernel_args.specs.Tags.{tag_bytes}
 use Rattle.kernel_args.specs.Writing.{right_tag}
-use Rattle.kernel_args.proofs.WritingLaws.{header_row_is}
+use Rattle.kernel_args.proofs.WritingLemmas.{header_row_is}
 use Rattle.kernel_args.proofs.writing.append_header.Goals as goal
 
 pub returns : goal.returns

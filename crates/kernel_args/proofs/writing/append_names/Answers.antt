@@ -3,8 +3,8 @@ use Rattle.std.specs.Prelude.{codes}
 use Rattle.std.proofs.lemmas.List.{append-nil}
 use Rattle.kernel_args.specs.Tags.{tag_bytes}
 use Rattle.kernel_args.specs.Writing.{right_tag}
-use Rattle.kernel_args.proofs.ReadLaws.{none_left, some_left}
-use Rattle.kernel_args.proofs.WritingLaws.{no_names, some_names}
+use Rattle.kernel_args.proofs.ReadLemmas.{none_left, some_left}
+use Rattle.kernel_args.proofs.WritingLemmas.{no_names, some_names}
 use Rattle.kernel_args.proofs.writing.append_names.Goals as goal
 
 pub returns-then-is_empty : goal.returns-then-is_empty

@@ -3,7 +3,7 @@ use Rattle.std.specs.Prelude.{codes}
 use Rattle.kernel_args.specs.Tags.{tag_bytes}
 use Rattle.kernel_args.specs.Contents.{process_contents}
 use Rattle.kernel_args.specs.Writing.{right_tag}
-use Rattle.kernel_args.proofs.WritingLaws.{length-contents, process_row_is}
+use Rattle.kernel_args.proofs.WritingLemmas.{length-contents, process_row_is}
 use Rattle.kernel_args.proofs.writing.append_process.Goals as goal
 
 pub append_tag-requires : goal.append_tag-requires

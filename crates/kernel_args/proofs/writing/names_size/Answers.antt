@@ -2,7 +2,7 @@ use Rattle.std.proofs.Common.{length, ap, arith}
 use Rattle.std.proofs.lemmas.List.Elements.{All-more}
 use Rattle.kernel_args.specs.declared.args.ProcName.{ProcName}
 use Rattle.kernel_args.specs.Writing.{HasPid}
-use Rattle.kernel_args.proofs.WritingLaws.{name_within, names_step}
+use Rattle.kernel_args.proofs.WritingLemmas.{name_within, names_step}
 use Rattle.kernel_args.proofs.writing.names_size.Goals as goal
 
 pub returns-then-len-ge-CONTENTS_LIMIT : goal.returns-then-len-ge-CONTENTS_LIMIT

@@ -1,6 +1,6 @@
 use Rattle.std.proofs.Common.{List, ℕ, length, ap, arith}
-use Rattle.kernel_args.proofs.ReadLaws.{none_left, some_left}
-use Rattle.kernel_args.proofs.WritingLaws.{no_names, length-names}
+use Rattle.kernel_args.proofs.ReadLemmas.{none_left, some_left}
+use Rattle.kernel_args.proofs.WritingLemmas.{no_names, length-names}
 use Rattle.kernel_args.proofs.writing.names_tag_size.Goals as goal
 
 pub returns-then-is_empty : goal.returns-then-is_empty

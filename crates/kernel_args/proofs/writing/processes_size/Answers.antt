@@ -1,9 +1,8 @@
-use Rattle.std.proofs.Common.{length, ap, arith}
+use Rattle.std.proofs.Common.{length, ap, arith, subst}
 use Rattle.std.proofs.lemmas.List.Elements.{All-more}
 use Rattle.kernel_args.specs.declared.args.ProcArgs.{ProcArgs}
 use Rattle.kernel_args.specs.Contents.{IsProcess}
-use Rattle.kernel_args.proofs.WritingLaws.{processes_step}
-use Rattle.std.proofs.Common.{subst}
+use Rattle.kernel_args.proofs.WritingLemmas.{processes_step}
 use Rattle.kernel_args.proofs.writing.processes_size.Goals as goal
 
 pub loop-process-preserved : goal.loop-process-preserved

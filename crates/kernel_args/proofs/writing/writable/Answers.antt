@@ -5,11 +5,10 @@ use Rattle.kernel_args.specs.declared.args.ProcArgs.{ProcArgs}
 use Rattle.kernel_args.specs.declared.args.ProcName.{ProcName}
 use Rattle.kernel_args.specs.Contents.{IsProcess}
 use Rattle.kernel_args.specs.Writing.{names_contents, process_row, names_row, HasPid}
-use Rattle.kernel_args.proofs.HeaderLaws.{ram_is_good, ram_when_good}
-use Rattle.kernel_args.proofs.ReadLaws.{none_left, some_left}
-use Rattle.kernel_args.proofs.WritableLaws.{refused, decided}
+use Rattle.kernel_args.proofs.HeaderLemmas.{ram_is_good, ram_when_good}
+use Rattle.kernel_args.proofs.WritableLemmas.{refused, decided}
 use Rattle.kernel_args.proofs.writing.writable.Goals as goal
-use Rattle.kernel_args.proofs.writing.writable.Goals.{then-is_bad_ram-via-then-is_bad_ram, then-is_bad_ram-via-else-is_bad_ram+then-is_empty, then-is_bad_ram-via-else-is_bad_ram+else-is_empty+then-processes-gt32}
+use Rattle.kernel_args.proofs.writing.writable.Goals.{then-is_bad_ram-via-then-is_bad_ram, then-is_bad_ram-via-else-is_bad_ram+then-not-is_process_count}
 
 pub returns-then-is_bad_ram : goal.returns-then-is_bad_ram
 returns-then-is_bad_ram c =
@@ -18,12 +17,9 @@ returns-then-is_bad_ram c =
     elim c.then-is_bad_ram.branch [
       | then-is_bad_ram-via-then-is_bad_ram w ↦
           refused args (λ fit. let e : true ≡ false = sym w.if-is_bad_ram.true ∙ c.is_bad_ram.ensures ∙ ram_is_good args.ram_start args.ram_size fit.ram in absurd cc)
-      | then-is_bad_ram-via-else-is_bad_ram+then-is_empty w ↦
-          let none = none_left w.is_empty.result (length c.as_slice-processes.result.now) w.is_empty.ensures w.if-is_empty.true in
-          refused args (λ fit. let some = fit.some in omega arith)
-      | then-is_bad_ram-via-else-is_bad_ram+else-is_empty+then-processes-gt32 w ↦
-          let many = w.if-processes-gt32.true in
-          refused args (λ fit. let few = fit.few in omega arith)
+      | then-is_bad_ram-via-else-is_bad_ram+then-not-is_process_count w ↦
+          refused args (λ fit. let some = fit.some in let few = fit.few in
+          let e : true ≡ false = sym (w.is_process_count.ensures.1 (omega arith, omega arith)) ∙ w.if-not-is_process_count.true in absurd cc)
     ]
 
 pub returns-in_default : goal.returns-in_default
@@ -44,8 +40,9 @@ pub returns : goal.returns
 returns c =
     let args = c.args.args.now in
     let count = ap (λ (l : List ProcArgs). length l) c.as_slice-processes.ensures in
-    let some = some_left c.is_empty.result (length c.as_slice-processes.result.now) c.is_empty.ensures c.if-is_empty.false in
-    let few = c.if-processes-gt32.false in
+    let within = c.is_process_count.ensures.0 c.if-not-is_process_count.false in
+    let some = within.0 in
+    let few = within.1 in
     decided args c.in-Some.processes_size c.in-Some-names_tag_size.names_size (omega arith) (omega arith)
     (ram_when_good args.ram_start args.ram_size (sym c.is_bad_ram.ensures ∙ c.if-is_bad_ram.false)) (omega arith) (omega arith)
     (subst (λ (l : List ProcArgs). All IsProcess l) c.as_slice-processes.ensures c.in-Some.ensures.0)

@@ -6,8 +6,8 @@ use Rattle.kernel_args.specs.declared.args.ProcName.{ProcName}
 use Rattle.kernel_args.specs.Contents.{IsProcess}
 use Rattle.kernel_args.specs.Image.{Spells}
 use Rattle.kernel_args.specs.Writing.{names_contents}
-use Rattle.kernel_args.proofs.WritingLaws.{appended}
-use Rattle.kernel_args.proofs.WritableLaws.{writable_is_fit, written_spells}
+use Rattle.kernel_args.proofs.WritingLemmas.{appended}
+use Rattle.kernel_args.proofs.WritableLemmas.{writable_is_fit, written_spells}
 use Rattle.kernel_args.proofs.writing.write_args.Goals as goal
 
 pub append_processes-requires : goal.append_processes-requires

@@ -16,9 +16,9 @@ use Rattle.kernel_args.specs.Contents.{name_of, front_entry, SpellsProcess}
 use Rattle.kernel_args.specs.Image.{IsRightTag, SpellsTags}
 use Rattle.kernel_args.specs.Faults.{Check, first_fault, is_bad_process, is_bad_names, tag_faults, end_faults, tags_fault}
 use Rattle.kernel_args.specs.Reading.{AddsTag, GivesNames}
-use Rattle.kernel_args.proofs.NumberLaws.{IsBytes, IsBytes-left, IsBytes-right}
-use Rattle.kernel_args.proofs.ProcessLaws.{good_is_process}
-use Rattle.kernel_args.proofs.RowLaws.{good_is_names, no_tags, more_tags, process_tag, names_tag, other_tag, contents_of_one, contents_of_other}
+use Rattle.kernel_args.proofs.NumberLemmas.{IsBytes, IsBytes-left, IsBytes-right}
+use Rattle.kernel_args.proofs.ProcessLemmas.{good_is_process}
+use Rattle.kernel_args.proofs.RowLemmas.{good_is_names, no_tags, more_tags, process_tag, names_tag, other_tag, contents_of_one, contents_of_other}
 
 -- ---- the first fault of a list of checks
 

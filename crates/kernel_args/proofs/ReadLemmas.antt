@@ -11,20 +11,20 @@ use Rattle.kernel_args.specs.declared.args.ProcName.{ProcName}
 use Rattle.kernel_args.specs.declared.faults.ArgFault.{ArgFault}
 use Rattle.kernel_args.specs.declared.faults.ArgsError.{ArgsError}
 use Rattle.kernel_args.specs.declared.faults.ArgsError.TheVariants as errors
-use Rattle.kernel_args.specs.declared.faults.TheConstants.{BAD_TOTAL, NO_PROCESS}
+use Rattle.kernel_args.specs.FaultNumbers.{bad_total, no_process}
 use Rattle.kernel_args.specs.Joined.{Cut}
 use Rattle.kernel_args.specs.Tags.{Tag, IsTag, tag_bytes, front_tag, contents_of}
 use Rattle.kernel_args.specs.Contents.{process_contents}
 use Rattle.kernel_args.specs.Image.{SpellsTags, Spells}
 use Rattle.kernel_args.specs.Faults.{first_fault, tag_faults, end_faults, tags_fault, row_fault, number_at, row_size, header_faults, args_fault, IsFault}
 use Rattle.kernel_args.specs.Reading.{FrontTag, AddsTag, SpellsRow, HeaderIs}
-use Rattle.kernel_args.proofs.JoinedLaws.{cut_none, cut_some, joined_more}
-use Rattle.kernel_args.proofs.TagLaws.{tags, length-tag_bytes}
-use Rattle.kernel_args.proofs.RowLaws.{no_tags, more_tags}
-use Rattle.kernel_args.proofs.RowFaults.{IsGoodTag, tag_is_good, processes_after, count_step, contents_head, IsGoodProcess, IsGoodNames}
-use Rattle.kernel_args.proofs.ImageLaws.{good_processes, good_names, row_of, spells_from}
-use Rattle.kernel_args.proofs.HeaderLaws.{begins_with}
-use Rattle.kernel_args.proofs.NumberLaws.{IsBytes}
+use Rattle.kernel_args.proofs.JoinedLemmas.{cut_none, cut_some, joined_more}
+use Rattle.kernel_args.proofs.TagLemmas.{tags, length-tag_bytes}
+use Rattle.kernel_args.proofs.RowLemmas.{no_tags, more_tags}
+use Rattle.kernel_args.proofs.RowFaultLemmas.{IsGoodTag, tag_is_good, processes_after, count_step, contents_head, IsGoodProcess, IsGoodNames}
+use Rattle.kernel_args.proofs.ImageLemmas.{good_processes, good_names, row_of, spells_from}
+use Rattle.kernel_args.proofs.HeaderLemmas.{begins_with}
+use Rattle.kernel_args.proofs.NumberLemmas.{IsBytes}
 
 -- the offset in the file of what is left of the row
 abbrev pub offset_of : List ℕ → List ℕ → ℕ
@@ -116,21 +116,21 @@ fault_at_end row rest ps ns so_far none =
     sym so_far.fault ∙ ap (λ (c : Cut Tag). tags_fault (offset_of row rest) (length ps) c.items c.rest) (cut_none front_tag rest none)
 
 pub fault_of_total : (row rest : List ℕ) (ps : List ProcArgs) (ns : List ProcName) → RowRead row rest ps ns → front_tag rest ≡ None → 0 < length rest
-    → row_fault 28 0 row ≡ Some (record { what = BAD_TOTAL; at = offset_of row rest })
+    → row_fault 28 0 row ≡ Some (record { what = bad_total; at = offset_of row rest })
 fault_of_total row rest ps ns so_far none some =
     let holds : not (eqb (length rest) 0) ≡ true = not_from_false _ (ne_eqb (length rest) 0 (λ (e : length rest ≡ 0). omega arith)) in
     fault_at_end row rest ps ns so_far none
-    ∙ ap (λ (b : Bool). cond b (Some (record { what = BAD_TOTAL; at = offset_of row rest })) (cond (eqb (length ps) 0) (Some (record { what = NO_PROCESS; at = offset_of row rest })) None)) holds
+    ∙ ap (λ (b : Bool). cond b (Some (record { what = bad_total; at = offset_of row rest })) (cond (eqb (length ps) 0) (Some (record { what = no_process; at = offset_of row rest })) None)) holds
 
 pub fault_of_none : (row rest : List ℕ) (ps : List ProcArgs) (ns : List ProcName) → RowRead row rest ps ns → length rest ≡ 0 → length ps ≡ 0
-    → row_fault 28 0 row ≡ Some (record { what = NO_PROCESS; at = 28 + length row })
+    → row_fault 28 0 row ≡ Some (record { what = no_process; at = 28 + length row })
 fault_of_none row rest ps ns so_far ended nothing =
     let none : front_tag rest ≡ None = ap front_tag (nil_from_length rest ended) in
     let place : offset_of row rest ≡ 28 + length row = omega arith in
     fault_at_end row rest ps ns so_far none
-    ∙ ap (λ (n : ℕ). cond (not (eqb n 0)) (Some (record { what = BAD_TOTAL; at = offset_of row rest })) (cond (eqb (length ps) 0) (Some (record { what = NO_PROCESS; at = offset_of row rest })) None)) ended
-    ∙ ap (λ (n : ℕ). cond (eqb n 0) (Some (record { what = NO_PROCESS; at = offset_of row rest })) None) nothing
-    ∙ ap (λ (o : ℕ). Some (record { what = NO_PROCESS; at = o })) place
+    ∙ ap (λ (n : ℕ). cond (not (eqb n 0)) (Some (record { what = bad_total; at = offset_of row rest })) (cond (eqb (length ps) 0) (Some (record { what = no_process; at = offset_of row rest })) None)) ended
+    ∙ ap (λ (n : ℕ). cond (eqb n 0) (Some (record { what = no_process; at = offset_of row rest })) None) nothing
+    ∙ ap (λ (o : ℕ). Some (record { what = no_process; at = o })) place
 
 pub row_ends : (row rest : List ℕ) (ps : List ProcArgs) (ns : List ProcName) → RowRead row rest ps ns → length rest ≡ 0 → 0 < length ps → SpellsRow row ps ns
 row_ends row rest ps ns so_far ended some = record {

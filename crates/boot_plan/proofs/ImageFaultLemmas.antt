@@ -4,19 +4,19 @@ use Rattle.kernel_args.specs.declared.args.Args.{Args}
 use Rattle.kernel_args.specs.declared.faults.ArgFault.{ArgFault}
 use Rattle.kernel_args.specs.Faults.{args_fault}
 use Rattle.kernel_args.specs.Image.{Spells}
-use Rattle.boot_plan.specs.declared.faults.TheConstants.{TOO_LONG}
+use Rattle.boot_plan.specs.FaultNumbers.{too_long}
 use Rattle.boot_plan.specs.Faults.{plan_fault}
 use Rattle.boot_plan.specs.ImageFault.{IsImageFault}
 
 -- the cases of an image's fault: it is too long, its arguments have a fault, or its plan's
 abbrev Cases : List ℕ → ℕ → Option ArgFault → Bool → Option ArgFault → Type 0
 Cases bytes slots fault long in_args =
-    MatchBool long (fault ≡ Some (record { what = TOO_LONG; at = 0 }))
+    MatchBool long (fault ≡ Some (record { what = too_long; at = 0 }))
     (MatchOption in_args ((args : Args) × Spells bytes args × (fault ≡ plan_fault args (length bytes) slots)) (λ f. fault ≡ Some f))
 
 some_fault : (bytes : List ℕ) (slots : ℕ) (long : Bool) (in_args : Option ArgFault) → (in_args ≡ None → (args : Args) × Spells bytes args)
     → (fault : Option ArgFault) × Cases bytes slots fault long in_args
-some_fault bytes slots true in_args spelled = (Some (record { what = TOO_LONG; at = 0 }), refl)
+some_fault bytes slots true in_args spelled = (Some (record { what = too_long; at = 0 }), refl)
 some_fault bytes slots false None spelled =
     let found = spelled refl in
     (plan_fault found.0 (length bytes) slots, (found.0, found.1, refl))

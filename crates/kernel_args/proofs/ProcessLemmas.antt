@@ -10,9 +10,9 @@ use Rattle.kernel_args.specs.declared.args.ProcArgs.{ProcArgs}
 use Rattle.kernel_args.specs.Joined.{Cut, cut}
 use Rattle.kernel_args.specs.Contents.{word, section_bytes, IsSection, front_section, process_contents, IsProcess, SpellsProcess}
 use Rattle.kernel_args.specs.Faults.{has_unknown_flag, is_bad_process}
-use Rattle.kernel_args.proofs.NumberLaws.{IsBytes, IsBytes-drop, IsBytes-right, word_split, word_front, number_lt}
-use Rattle.kernel_args.proofs.JoinedLaws.{cut_joined, cut_joins, cut_some, joined_once, joined_more, AllByRecursion-append}
-use Rattle.kernel_args.proofs.ContentsLaws.{IsSpelled, sections}
+use Rattle.kernel_args.proofs.NumberLemmas.{IsBytes, IsBytes-drop, IsBytes-right, word_split, word_front, number_lt}
+use Rattle.kernel_args.proofs.JoinedLemmas.{cut_joined, cut_joins, cut_some, joined_once, joined_more, AllByRecursion-append}
+use Rattle.kernel_args.proofs.ContentLemmas.{IsSpelled, sections}
 
 pub length-sections : (ss : List Section) → length (flat_map section_bytes ss) ≡ 8 * length ss
 length-sections [] = refl

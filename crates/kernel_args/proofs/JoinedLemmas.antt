@@ -5,7 +5,7 @@ use Rattle.std.proofs.lemmas.Grind.{flat_map-append}
 use Rattle.std.specs.List.{flat_map, AllByRecursion}
 use Rattle.std.specs.Option.{option_map_or}
 use Rattle.kernel_args.specs.Joined.{Cut, behind, cut_up_to, cut}
-use Rattle.kernel_args.proofs.NumberLaws.{IsBytes}
+use Rattle.kernel_args.proofs.NumberLemmas.{IsBytes}
 
 -- what front took, where it is spelled by spelling
 pub record Takes {A : Type 0} (spelling : A → List ℕ) (Fits : A → Type 0) (bytes : List ℕ) (item : A) (rest : List ℕ) : Type 0 where

@@ -13,15 +13,16 @@ use Rattle.kernel_args.specs.declared.args.Section.{Section}
 use Rattle.kernel_args.specs.Image.{IsSoundArgs}
 use Rattle.boot_plan.specs.declared.plans.PagePlan.{PagePlan}
 use Rattle.boot_plan.specs.Sections.{page_count, has_page, is_executable, file_size, file_sizes}
-use Rattle.boot_plan.specs.Capacity.{table_frames, capacity}
+use Rattle.xk_base.specs.Limits.{table_frames}
+use Rattle.boot_plan.specs.Capacity.{capacity}
 use Rattle.boot_plan.specs.FirstPages.{section_page, sections_pages, zero_page, stack_pages, interrupt_page, process_plan, plan_of, planned_pages}
 use Rattle.boot_plan.specs.Faults.{plan_fault}
 use Rattle.boot_plan.specs.Lawful.{IsLawfulPage, IsLawfulProcess, IsLawfulPlan, CanStart, EntersExecutable}
-use Rattle.boot_plan.proofs.Ranges.{in_run_is}
-use Rattle.boot_plan.proofs.Lists.{All-made, AllPairs-made, AllPairs-append, Any-left, Any-right}
-use Rattle.boot_plan.proofs.NoFault.{IsFaultless, all_faultless, enough_ram}
-use Rattle.boot_plan.proofs.LawfulPages.{InImage, sections_lawful, sections_in_image}
-use Rattle.boot_plan.proofs.DifferentPages.{Differ, sections_differ}
+use Rattle.boot_plan.proofs.RangeLemmas.{in_run_is}
+use Rattle.boot_plan.proofs.ListLemmas.{All-made, AllPairs-made, AllPairs-append, Any-left, Any-right}
+use Rattle.boot_plan.proofs.NoFaultLemmas.{IsFaultless, all_faultless, enough_ram}
+use Rattle.boot_plan.proofs.LawfulPageLemmas.{InImage, sections_lawful, sections_in_image}
+use Rattle.boot_plan.proofs.DifferentPageLemmas.{Differ, sections_differ}
 
 -- ---- the stack and the interrupt page
 

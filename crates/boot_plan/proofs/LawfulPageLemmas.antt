@@ -10,9 +10,9 @@ use Rattle.boot_plan.specs.declared.plans.PagePlan.{PagePlan}
 use Rattle.boot_plan.specs.Sections.{page_count, is_zero_filled, file_size, file_sizes}
 use Rattle.boot_plan.specs.FirstPages.{section_page, sections_pages}
 use Rattle.boot_plan.specs.Lawful.{IsLawfulPage}
-use Rattle.boot_plan.proofs.Ranges.{outside_is}
-use Rattle.boot_plan.proofs.Lists.{All-made}
-use Rattle.boot_plan.proofs.NoFault.{IsPlaced, ArePlaced}
+use Rattle.boot_plan.proofs.RangeLemmas.{outside_is}
+use Rattle.boot_plan.proofs.ListLemmas.{All-made}
+use Rattle.boot_plan.proofs.NoFaultLemmas.{IsPlaced, ArePlaced}
 
 -- a page from 0x10 to 0xFFF lies in the Image window
 image_window : (v : ℕ) → 0x10 ≤ v → v ≤ 0xFFF → window_at v ≡ Some Image

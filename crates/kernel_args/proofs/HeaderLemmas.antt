@@ -12,10 +12,10 @@ use Rattle.kernel_args.specs.Contents.{word}
 use Rattle.kernel_args.specs.Image.{IsRam, header_tag}
 use Rattle.kernel_args.specs.Faults.{first_fault, number_at, row_size, is_not_xarg, is_bad_header_check, is_bad_total, is_bad_ram, header_faults}
 use Rattle.kernel_args.specs.Reading.{HeaderIs}
-use Rattle.kernel_args.proofs.NumberLaws.{IsBytes, IsBytes-drop, IsBytes-take, number_again, word_split, word_front, number_lt}
-use Rattle.kernel_args.proofs.CheckLaws.{check_number_fits}
-use Rattle.kernel_args.proofs.TagLaws.{tags, front_tag_at, length-tag_bytes}
-use Rattle.kernel_args.proofs.RowFaults.{none_when, when_none}
+use Rattle.kernel_args.proofs.NumberLemmas.{IsBytes, IsBytes-drop, IsBytes-take, number_again, word_split, word_front, number_lt}
+use Rattle.kernel_args.proofs.CheckLemmas.{check_number_fits}
+use Rattle.kernel_args.proofs.TagLemmas.{tags, front_tag_at, length-tag_bytes}
+use Rattle.kernel_args.proofs.RowFaultLemmas.{none_when, when_none}
 
 -- ---- RAM
 

@@ -9,9 +9,9 @@ use Rattle.kernel_args.specs.declared.args.Section.{Section}
 use Rattle.boot_plan.specs.declared.plans.PagePlan.{PagePlan}
 use Rattle.boot_plan.specs.Sections.{page_count, section_pages, has_page, shares_page, file_size}
 use Rattle.boot_plan.specs.FirstPages.{section_page, sections_pages}
-use Rattle.boot_plan.proofs.Ranges.{in_run_is}
-use Rattle.boot_plan.proofs.Lists.{All-made, AllPairs-made, AllPairs-append, none_at}
-use Rattle.boot_plan.proofs.NoFault.{ArePlaced}
+use Rattle.boot_plan.proofs.RangeLemmas.{in_run_is}
+use Rattle.boot_plan.proofs.ListLemmas.{All-made, AllPairs-made, AllPairs-append, none_at}
+use Rattle.boot_plan.proofs.NoFaultLemmas.{ArePlaced}
 
 abbrev pub Differ : PagePlan → PagePlan → Type 0
 Differ a b = a.vpn.0 ≢ b.vpn.0

@@ -6,8 +6,8 @@ use Rattle.std.proofs.lemmas.Option.{none-some, cond_some, same_Some}
 use Rattle.byteorder.specs.Endian.{little_bytes, little_number}
 use Rattle.kernel_args.specs.declared.args.Section.{Section}
 use Rattle.kernel_args.specs.Contents.{section_bytes, front_section, Entry, padded, entry_bytes, IsEntry, front_entry}
-use Rattle.kernel_args.proofs.NumberLaws.{IsBytes, IsBytes-drop, number_again, bytes_again_3, bytes_again_4}
-use Rattle.kernel_args.proofs.JoinedLaws.{Takes, IsFront}
+use Rattle.kernel_args.proofs.NumberLemmas.{IsBytes, IsBytes-drop, number_again, bytes_again_3, bytes_again_4}
+use Rattle.kernel_args.proofs.JoinedLemmas.{Takes, IsFront}
 
 -- ---- sections
 

@@ -15,9 +15,9 @@ use Rattle.kernel_args.specs.Tags.{Tag, has_name, contents_of}
 use Rattle.kernel_args.specs.Contents.{process_contents, IsProcess, SpellsProcess, SpellsNames, Entry, IsEntry, entry_bytes, front_entry, name_of}
 use Rattle.kernel_args.specs.Image.{IsRightTag, SpellsTags}
 use Rattle.kernel_args.specs.Faults.{is_bad_names}
-use Rattle.kernel_args.proofs.NumberLaws.{IsBytes}
-use Rattle.kernel_args.proofs.JoinedLaws.{cut_joined, cut_joins, AllByRecursion-append}
-use Rattle.kernel_args.proofs.ContentsLaws.{entries}
+use Rattle.kernel_args.proofs.NumberLemmas.{IsBytes}
+use Rattle.kernel_args.proofs.JoinedLemmas.{cut_joined, cut_joins, AllByRecursion-append}
+use Rattle.kernel_args.proofs.ContentLemmas.{entries}
 
 -- ---- the entries of one `PNam`
 

@@ -8,9 +8,9 @@ use Rattle.kernel_args.specs.declared.args.ProcName.{ProcName}
 use Rattle.kernel_args.specs.Joined.{Cut, cut}
 use Rattle.kernel_args.specs.Contents.{Entry, IsEntry, padded, entry_bytes, front_entry, name_of}
 use Rattle.kernel_args.specs.Reading.{FrontEntry, GivesNames}
-use Rattle.kernel_args.proofs.NumberLaws.{IsBytes, IsBytes-right}
-use Rattle.kernel_args.proofs.JoinedLaws.{cut_none, cut_some, joined_more, AllByRecursion-append}
-use Rattle.kernel_args.proofs.ContentsLaws.{entries}
+use Rattle.kernel_args.proofs.NumberLemmas.{IsBytes, IsBytes-right}
+use Rattle.kernel_args.proofs.JoinedLemmas.{cut_none, cut_some, joined_more, AllByRecursion-append}
+use Rattle.kernel_args.proofs.ContentLemmas.{entries}
 
 -- what a reader by offsets finds
 pub front_entry_found : (bytes : List ℕ) (pid len : ℕ) (entry rest : List ℕ) → 8 ≤ length bytes → pid ≡ little_number 4 bytes → len ≡ little_number 4 (drop 4 bytes)

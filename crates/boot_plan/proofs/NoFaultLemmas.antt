@@ -10,10 +10,10 @@ use Rattle.kernel_args.specs.declared.args.Section.{Section}
 use Rattle.kernel_args.specs.declared.args.Args.{Args}
 use Rattle.kernel_args.specs.declared.faults.ArgFault.{ArgFault}
 use Rattle.kernel_args.specs.Faults.{Check, ◌⇒◌at◌, first_fault}
-use Rattle.boot_plan.specs.declared.faults.TheConstants.{LOAD_OUTSIDE, ENTRY_OUTSIDE, RAM_TOO_SMALL}
+use Rattle.boot_plan.specs.FaultNumbers.{load_outside, entry_outside, ram_too_small}
 use Rattle.boot_plan.specs.Sections.{section_pages, shares_page}
 use Rattle.boot_plan.specs.Faults.{section_faults, sections_faults, is_load_outside, is_entry_outside, process_faults, processes_faults, is_ram_too_small, plan_fault}
-use Rattle.boot_plan.proofs.FirstFault.{first_fault_append}
+use Rattle.boot_plan.proofs.FirstFaultLemmas.{first_fault_append}
 
 -- a section that has no fault behind these earlier ones
 pub record IsPlaced (earlier : List Section) (s : Section) : Type 0 where
@@ -64,7 +64,7 @@ all_placed pid earlier (s ∷ ss) h = (
 
 pub process_faultless : (words file_len pid : ℕ) (p : ProcArgs) → first_fault (process_faults words file_len pid p) ≡ None → IsFaultless words file_len p
 process_faultless words file_len pid p h =
-    let ends = (is_load_outside words file_len p ⇒ LOAD_OUTSIDE at pid) ∷ (is_entry_outside p ⇒ ENTRY_OUTSIDE at pid) ∷ [] in
+    let ends = (is_load_outside words file_len p ⇒ load_outside at pid) ∷ (is_entry_outside p ⇒ entry_outside at pid) ∷ [] in
     let load = passed (is_load_outside words file_len p) _ _ (faultless_right (sections_faults pid [] p.sections) ends h) in
     let entry = passed (is_entry_outside p) _ _ load.1 in
     record {
@@ -81,7 +81,7 @@ each_faultless words file_len pid (p ∷ ps) h = (
 )
 
 abbrev ram_check : Args → ℕ → List Check
-ram_check args slots = (is_ram_too_small args slots ⇒ RAM_TOO_SMALL at 0) ∷ []
+ram_check args slots = (is_ram_too_small args slots ⇒ ram_too_small at 0) ∷ []
 
 pub all_faultless : (args : Args) (file_len slots : ℕ) → plan_fault args file_len slots ≡ None → All (IsFaultless args.words file_len) args.procs
 all_faultless args file_len slots h =

@@ -7,8 +7,8 @@ use Rattle.byteorder.specs.Endian.{little_bytes, little_number}
 use Rattle.kernel_args.specs.Tags.{Tag, tag_bytes, IsTag, front_tag}
 use Rattle.kernel_args.specs.Faults.{number_at}
 use Rattle.kernel_args.specs.Reading.{FrontTag}
-use Rattle.kernel_args.proofs.NumberLaws.{IsBytes, IsBytes-drop, number_again, bytes_again_2}
-use Rattle.kernel_args.proofs.JoinedLaws.{Takes, IsFront}
+use Rattle.kernel_args.proofs.NumberLemmas.{IsBytes, IsBytes-drop, number_again, bytes_again_2}
+use Rattle.kernel_args.proofs.JoinedLemmas.{Takes, IsFront}
 
 -- the tag behind its header of eight bytes
 abbrev tag_at : List ℕ → ℕ → ℕ → List ℕ → Option (Tag × List ℕ)

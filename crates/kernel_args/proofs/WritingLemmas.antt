@@ -13,12 +13,12 @@ use Rattle.kernel_args.specs.Tags.{tag_bytes}
 use Rattle.kernel_args.specs.Contents.{header_contents, IsSection, process_contents, IsProcess, IsEntry, padded, entry_bytes, name_of}
 use Rattle.kernel_args.specs.Image.{IsRam, IsSoundProcess, IsRightTag, header_tag, SpellsTags, Spells}
 use Rattle.kernel_args.specs.Writing.{right_tag, process_tag, written_entry, names_contents, names_tags, written_tags, header_row, process_row, names_row, written, HasPid, HasFittingNumbers, IsWritable}
-use Rattle.kernel_args.proofs.CheckLaws.{check_number_fits}
-use Rattle.kernel_args.proofs.TagLaws.{length-tag_bytes}
-use Rattle.kernel_args.proofs.ProcessLaws.{length-sections}
-use Rattle.kernel_args.proofs.RowLaws.{no_tags, more_tags}
-use Rattle.kernel_args.proofs.RowLaws as rows
-use Rattle.kernel_args.proofs.ImageLaws.{process_is_sound, spelled_has_no_fault}
+use Rattle.kernel_args.proofs.CheckLemmas.{check_number_fits}
+use Rattle.kernel_args.proofs.TagLemmas.{length-tag_bytes}
+use Rattle.kernel_args.proofs.ProcessLemmas.{length-sections}
+use Rattle.kernel_args.proofs.RowLemmas.{no_tags, more_tags}
+use Rattle.kernel_args.proofs.RowLemmas as rows
+use Rattle.kernel_args.proofs.ImageLemmas.{process_is_sound, spelled_has_no_fault}
 
 -- ---- sizes
 

@@ -15,14 +15,14 @@ use Rattle.kernel_args.specs.Contents.{section_bytes, front_section, process_con
 use Rattle.kernel_args.specs.Image.{IsRam, header_tag, Spells}
 use Rattle.kernel_args.specs.Faults.{first_fault, number_at, row_size, is_bad_ram, header_faults, has_unknown_flag, is_bad_process, tag_faults, end_faults, tags_fault, row_fault, args_fault}
 use Rattle.kernel_args.specs.Writing.{right_tag, process_tag, names_contents, names_tags, written_tags, process_row, names_row, written, HasPid, HasFittingNumbers, IsWritable}
-use Rattle.kernel_args.proofs.JoinedLaws.{cut_joined}
-use Rattle.kernel_args.proofs.TagLaws.{tags, length-tag_bytes}
-use Rattle.kernel_args.proofs.ContentsLaws.{IsSpelled, sections}
-use Rattle.kernel_args.proofs.ProcessLaws.{with_flags}
-use Rattle.kernel_args.proofs.RowFaults.{when_none, option_or_none, good_when_none}
-use Rattle.kernel_args.proofs.HeaderLaws.{begun_header, ram_when_good}
-use Rattle.kernel_args.proofs.ImageLaws.{row_of}
-use Rattle.kernel_args.proofs.WritingLaws.{length-contents, length-written, whole_names, right, IsFit, fit_is_writable, fit_spells}
+use Rattle.kernel_args.proofs.JoinedLemmas.{cut_joined}
+use Rattle.kernel_args.proofs.TagLemmas.{tags, length-tag_bytes}
+use Rattle.kernel_args.proofs.ContentLemmas.{IsSpelled, sections}
+use Rattle.kernel_args.proofs.ProcessLemmas.{with_flags}
+use Rattle.kernel_args.proofs.RowFaultLemmas.{when_none, option_or_none, good_when_none}
+use Rattle.kernel_args.proofs.HeaderLemmas.{begun_header, ram_when_good}
+use Rattle.kernel_args.proofs.ImageLemmas.{row_of}
+use Rattle.kernel_args.proofs.WritingLemmas.{length-contents, length-written, whole_names, right, IsFit, fit_is_writable, fit_spells}
 
 -- ---- one process
 

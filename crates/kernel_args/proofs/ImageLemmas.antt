@@ -15,14 +15,14 @@ use Rattle.kernel_args.specs.Contents.{process_contents, IsSection, IsProcess, E
 use Rattle.kernel_args.specs.Image.{IsSoundProcess, IsRightTag, header_tag, SpellsTags, Spells}
 use Rattle.kernel_args.specs.Faults.{first_fault, number_at, row_size, header_faults, tags_fault, row_fault, args_fault}
 use Rattle.kernel_args.specs.Reading.{HeaderIs}
-use Rattle.kernel_args.proofs.NumberLaws.{IsBytes, IsBytes-drop, IsBytes-take, IsBytes-left}
-use Rattle.kernel_args.proofs.JoinedLaws.{cut_joined, cut_joins, joined_once}
-use Rattle.kernel_args.proofs.TagLaws.{tags, length-tag_bytes}
-use Rattle.kernel_args.proofs.ContentsLaws.{entries}
-use Rattle.kernel_args.proofs.ProcessLaws.{process_is_good, processes_once}
-use Rattle.kernel_args.proofs.RowLaws.{names_are_good}
-use Rattle.kernel_args.proofs.RowFaults.{option_or_none, IsGoodProcess, IsGoodNames, no_tags_fault, tags_spelled}
-use Rattle.kernel_args.proofs.HeaderLaws.{header_of, header_is_good, BeginsWith, begins_with}
+use Rattle.kernel_args.proofs.NumberLemmas.{IsBytes, IsBytes-drop, IsBytes-take, IsBytes-left}
+use Rattle.kernel_args.proofs.JoinedLemmas.{cut_joined, cut_joins, joined_once}
+use Rattle.kernel_args.proofs.TagLemmas.{tags, length-tag_bytes}
+use Rattle.kernel_args.proofs.ContentLemmas.{entries}
+use Rattle.kernel_args.proofs.ProcessLemmas.{process_is_good, processes_once}
+use Rattle.kernel_args.proofs.RowLemmas.{names_are_good}
+use Rattle.kernel_args.proofs.RowFaultLemmas.{option_or_none, IsGoodProcess, IsGoodNames, no_tags_fault, tags_spelled}
+use Rattle.kernel_args.proofs.HeaderLemmas.{header_of, header_is_good, BeginsWith, begins_with}
 
 -- the row of tags behind the first
 abbrev pub row_of : List ℕ → List ℕ
