@@ -1,2 +1,2 @@
-pub mod Listing
-pub mod Lowest
+pub mod ListingLemmas
+pub mod LowestLemmas

@@ -9,6 +9,7 @@ use Rattle.xk_base.specs.Counting.{least_below, listed_below, put_at}
 use Rattle.irq_claims.specs.declared.claims.Claim.{Claim}
 use Rattle.irq_claims.specs.declared.claims.Due.{Due}
 
+-- each claim by the number of its interrupt
 abbrev pub ClaimMap : Type 0
 ClaimMap = ℕ → Option Claim
 

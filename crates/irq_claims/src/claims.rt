@@ -42,7 +42,7 @@ pub struct Claims {
     by_number: [Option<Claim>; NUMBERS],
 }
 
-#[tactic(auto, using(xk_base::proofs::RowMap::row_map_set, xk_base::proofs::RowMap::row_map_replicate, xk_base::proofs::RowMap::row_map_read), unfolding(crate::specs::ClaimsOf::claims_of))]
+#[tactic(auto, using(xk_base::proofs::RowMapLemmas::row_map_set, xk_base::proofs::RowMapLemmas::row_map_replicate, xk_base::proofs::RowMapLemmas::row_map_read), unfolding(crate::specs::ClaimsOf::claims_of))]
 impl Claims {
     ghost use Rattle.irq_claims.specs.ClaimsOf.{claims_of};
 
@@ -60,7 +60,7 @@ impl Claims {
         requires { k < INTERRUPT_LIMIT }
         ensures { result ≡ claims_of self.now k }
     {
-        self.by_number[k as usize]
+        self.by_number[usize::from(k)]
     }
 
     /// The process claims the number. It is refused with `InterruptInUse` exactly where the number is

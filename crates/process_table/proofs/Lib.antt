@@ -1,2 +1,2 @@
-pub mod ByPid
-pub mod Laws
+pub mod ByPidLemmas
+pub mod Lemmas

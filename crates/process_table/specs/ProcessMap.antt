@@ -6,6 +6,7 @@ use Rattle.xk_base.specs.Circle.{is_pid}
 use Rattle.xk_base.specs.Counting.{listed_below, put_at}
 use Rattle.process_table.specs.State.{ProcessState, new_process}
 
+-- each process by its pid
 abbrev pub ProcessMap : Type 0
 ProcessMap = ℕ → Option ProcessState
 

@@ -1,3 +1,4 @@
+-- What a table of processes holds, as its callers see it.
 use Rattle.std.specs.Prelude.{ℕ, length}
 use Rattle.process_table.specs.declared.table.Processes.{Processes}
 use Rattle.process_table.specs.ProcessMap.{ProcessMap, by_pid}

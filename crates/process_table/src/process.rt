@@ -1,48 +1,43 @@
 //! One process.
 
-ghost use Rattle.std.specs.Prelude.{◌≡◌, ◌≤◌, length, IfOk, OnOk, OnErr};
-ghost use Rattle.process_table.specs.State.{new_process, dead_process, place_of, server_at, has_room, connection, with_heap, with_connection};
+ghost use Rattle.std.specs.Prelude.{◌≡◌, ◌==◌, ◌<◌, IfSome, OnOk, OnErr, position};
+ghost use Rattle.xk_base.specs.declared.limits.TheConstants.{CONNECTION_LIMIT};
+ghost use Rattle.xk_base.specs.Connections.{connected_to, has_room};
+ghost use Rattle.process_table.specs.State.{new_process, dead_process, connection, with_heap, with_connection};
 
-use std::alloc::Global;
+use arrayvec::ArrayVec;
 use std::marker::Model;
 use xk_base::limits::CONNECTION_LIMIT;
-use xk_base::{Cid, NoMemory, Serial, XousError};
+use xk_base::{Cid, Serial, XousError};
 
 /// How many connections a process has at most.
 const CONNECTIONS: usize = CONNECTION_LIMIT as usize;
 
-/// What the table knows of a process. All room for its connections is taken at once.
+/// What the table knows of a process. The room for all its connections stands in it.
 #[derive(Debug, Drop)]
 pub struct Process {
     alive: bool,
     heap: u32,
-    connections: Vec<Serial>,
+    connections: ArrayVec<Serial, CONNECTIONS>,
 }
 
 impl Model for Process {
-    ghost use Rattle.std.specs.Prelude.{◌≤◌, vec_len, vec_capacity};
-    ghost use Rattle.process_table.specs.declared.process.TheConstants.{CONNECTIONS};
     ghost use Rattle.process_table.specs.State.{ProcessState};
 
     ghost Value = { ProcessState };
 
     ghost view = { λ p. record { alive = p.alive; heap = p.heap; connections = p.connections.items } };
-
-    ghost invariant = { λ p. (vec_len p.connections ≤ CONNECTIONS) × (CONNECTIONS ≤ vec_capacity p.connections) };
 }
 
 impl Process {
     /// A process of a new machine.
-    pub fn new(alloc: Global) -> Result<Process, NoMemory>
-        ensures { IfOk result (λ p. p ≡ new_process) }
+    pub fn new() -> Process
+        ensures { result ≡ new_process }
     {
-        match Vec::with_capacity(alloc, CONNECTIONS) {
-            Ok(connections) => Ok(Process {
-                alive: true,
-                heap: 0,
-                connections,
-            }),
-            Err(_) => Err(NoMemory),
+        Process {
+            alive: true,
+            heap: 0,
+            connections: ArrayVec::new(),
         }
     }
 
@@ -69,16 +64,20 @@ impl Process {
 
     /// The place of the server among its connections.
     fn place_of(&self, serial: Serial) -> Option<usize>
-        ensures { result ≡ place_of serial self.now.connections }
+        ensures found { result ≡ position (λ s. s.0 == serial.0) self.now.connections }
+        ensures within { IfSome result (λ k. k < CONNECTION_LIMIT) }
     {
-        self.connections.iter().position(|s| *s == serial)
+        self.connections
+            .as_slice()
+            .iter()
+            .position(|s| *s == serial)
     }
 
     /// Whether it is connected to the server, or may be.
     pub fn has_room(&self, serial: Serial) -> bool
         ensures { result ≡ has_room serial self.now.connections }
     {
-        self.place_of(serial).is_some() || self.connections.len() < CONNECTIONS
+        self.place_of(serial).is_some() || !self.connections.is_full()
     }
 
     /// Its connection to the server, made where there is none.
@@ -91,16 +90,15 @@ impl Process {
             return Ok(Cid(k as u32 + 2));
         }
         let k = self.connections.len();
-        if k == CONNECTIONS {
-            return Err(XousError::InvalidLimit);
+        match self.connections.try_push(serial) {
+            Ok(()) => Ok(Cid(k as u32 + 2)),
+            Err(_) => Err(XousError::InvalidLimit),
         }
-        self.connections.push_reserved(serial);
-        Ok(Cid(k as u32 + 2))
     }
 
     /// The server of the connection; `None` exactly where it has no such connection.
     pub fn server_of(&self, cid: Cid) -> Option<Serial>
-        ensures { result ≡ server_at cid.0 self.now.connections }
+        ensures { result ≡ connected_to self.now.connections cid.0 }
     {
         if cid.0 < 2 {
             return None;

@@ -2,7 +2,8 @@
 
 ghost use Rattle.std.specs.Prelude.{◌≡◌, ◌≤◌, IfOk, OnOk, OnErr};
 ghost use Rattle.xk_base.specs.Circle.{IsPid};
-ghost use Rattle.process_table.specs.State.{dead_process, server_at, has_room, connection, with_heap, with_connection};
+ghost use Rattle.xk_base.specs.Connections.{connected_to, has_room};
+ghost use Rattle.process_table.specs.State.{dead_process, connection, with_heap, with_connection};
 ghost use Rattle.process_table.specs.ProcessMap.{new_processes, change, is_alive, heap_of, connections_of};
 
 use crate::process::Process;
@@ -16,7 +17,7 @@ pub struct Processes {
     by_pid: Vec<Process>,
 }
 
-#[tactic(auto, using(crate::proofs::ByPid::by_pid_laws), unfolding(crate::specs::ProcessesOf::process_count, crate::specs::ProcessesOf::processes_of))]
+#[tactic(auto, using(crate::proofs::ByPidLemmas::by_pid_laws), unfolding(crate::specs::ProcessesOf::process_count, crate::specs::ProcessesOf::processes_of))]
 impl Processes {
     ghost use Rattle.process_table.specs.ProcessesOf.{process_count, processes_of};
 
@@ -31,7 +32,7 @@ impl Processes {
             return Err(NoMemory);
         };
         for _process in 0..procs {
-            by_pid.push_reserved(Process::new(alloc)?);
+            by_pid.push_reserved(Process::new());
         }
         Ok(Processes { by_pid })
     }
@@ -43,10 +44,9 @@ impl Processes {
         if pid.0 < 2 {
             return false;
         }
-        match self.by_pid.get(pid.0 as usize - 2) {
-            Some(process) => process.is_alive(),
-            None => false,
-        }
+        self.by_pid
+            .get(pid.0 as usize - 2)
+            .is_some_and(|process| process.is_alive())
     }
 
     /// The length of its heap in bytes.
@@ -90,7 +90,7 @@ impl Processes {
     /// connection. The server may be dead.
     pub fn server_of(&self, pid: Pid, cid: Cid) -> Option<Serial>
         requires { IsPid (process_count self.now) pid.0 }
-        ensures { result ≡ server_at cid.0 (connections_of (processes_of self.now pid.0)) }
+        ensures { result ≡ connected_to (connections_of (processes_of self.now pid.0)) cid.0 }
     {
         self.by_pid[pid.0 as usize - 2].server_of(cid)
     }
@@ -108,6 +108,7 @@ impl Processes {
 #[cfg(test)]
 mod tests {
     use super::*;
+    use xk_base::limits::CONNECTION_LIMIT;
 
     #[test]
     fn connections_stay(rt: HostRuntime) {
@@ -129,7 +130,7 @@ mod tests {
     #[test]
     fn connections_are_few(rt: HostRuntime) {
         if let Ok(mut processes) = Processes::new(rt.alloc(), 1) {
-            for k in 0..32 {
+            for k in 0..CONNECTION_LIMIT {
                 assert!(rt; processes.room(Pid(2), Serial(k)));
                 assert_eq!(rt; processes.connect(Pid(2), Serial(k)), Ok(Cid(k + 2)));
             }

@@ -1,5 +1,5 @@
-pub mod Answered
-pub mod Changes
-pub mod Laws
-pub mod Made
-pub mod Serials
+pub mod AnsweredLemmas
+pub mod ChangeLemmas
+pub mod Lemmas
+pub mod MadeLemmas
+pub mod SerialLemmas

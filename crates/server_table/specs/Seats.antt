@@ -1,17 +1,25 @@
 -- The seats of servers, and how a serial is found among them. These words are for the table itself; callers see the
 -- map of ServerState.
-use Rattle.std.specs.Prelude.{ℕ, ◌<◌, ◌≡◌, ◌==◌, Bool, true, false, List, Option, Some, None, is_some, nat_le, if◌then◌else◌}
+use Rattle.std.specs.Prelude.{ℕ, ◌<◌, ◌≡◌, ◌==◌, Bool, true, false, List, Option, Some, None, is_some, nat_le, position, if◌then◌else◌}
 use Rattle.std.specs.Option.{option_map, option_and_then}
 use Rattle.xk_base.specs.declared.ids.Serial.{Serial}
+use Rattle.xk_base.specs.declared.ids.Sid.{Sid}
 use Rattle.xk_base.specs.declared.limits.TheConstants.{SERVER_LIMIT}
-use Rattle.xk_base.specs.Counting.{count_below, least_below}
+use Rattle.xk_base.specs.Counting.{count_below}
 use Rattle.xk_base.specs.RowMap.{row_map}
 use Rattle.server_table.specs.declared.table.ServerSeat.{ServerSeat}
-use Rattle.server_table.specs.ServerState.{Server, same_sid}
+use Rattle.xk_base.specs.Sids.{same_sid}
+use Rattle.server_table.specs.ServerState.{Server}
 
+-- there is a server, and it has that serial
 abbrev pub has_serial : ℕ → Option ServerSeat → Bool
 has_serial n None = false
 has_serial n (Some e) = e.serial.0 == n
+
+-- there is a server, and it has that identifier
+abbrev pub seat_has_sid : Sid → Option ServerSeat → Bool
+seat_has_sid sid None = false
+seat_has_sid sid (Some e) = same_sid e.sid sid
 
 -- the server at a seat, as its serial finds it
 abbrev pub server_of : ℕ → ServerSeat → Server
@@ -19,7 +27,7 @@ server_of seat e = record { sid = e.sid; pid = e.pid; seat = seat }
 
 -- the seat with that serial
 abbrev pub seat_with : List (Option ServerSeat) → ℕ → Option ℕ
-seat_with seats n = least_below SERVER_LIMIT (λ i. has_serial n (row_map seats i))
+seat_with seats n = position (has_serial n) seats
 
 -- the living server with that serial
 unfoldable pub by_serial : List (Option ServerSeat) → ℕ → Option Server

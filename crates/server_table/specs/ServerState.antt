@@ -2,13 +2,13 @@
 -- next one ever have a value, and what has no value isn't alive.
 use Rattle.std.specs.Prelude.{ℕ, ◌+◌, ◌==◌, Bool, false, List, Option, Some, None, Result, Ok, Err, nat_eq, is_some, is_none, if◌then◌else◌}
 use Rattle.std.specs.Option.{option_map, option_and_then}
-use Rattle.std.specs.Cmp.Lexicographic.{pointwise}
 use Rattle.xk_base.specs.declared.errors.XousError.{XousError}
 use Rattle.xk_base.specs.declared.errors.XousError.TheVariants.{ServerExists, InvalidLimit}
 use Rattle.xk_base.specs.declared.ids.Pid.{Pid}
 use Rattle.xk_base.specs.declared.ids.Serial.{Serial}
 use Rattle.xk_base.specs.declared.ids.Sid.{Sid}
 use Rattle.xk_base.specs.declared.limits.TheConstants.{SERVER_LIMIT}
+use Rattle.xk_base.specs.Sids.{same_sid}
 use Rattle.xk_base.specs.Counting.{count_below, least_below, listed_below, put_at}
 use Rattle.server_table.specs.declared.table.ServerSeat.{ServerSeat}
 
@@ -27,21 +27,21 @@ pub record ServerState : Type 0 where
 abbrev pub no_servers : ServerState
 no_servers = record { next = 1; live = λ _. None }
 
-abbrev pub serial_at : ℕ → Serial
-serial_at n = record { 0 = n }
+-- a number as a serial
+abbrev pub serial_of : ℕ → Serial
+serial_of n = record { 0 = n }
 
--- two identifiers are the same
-abbrev pub same_sid : Sid → Sid → Bool
-same_sid a b = pointwise nat_eq a.0 b.0
-
+-- there is a server, and it has that identifier
 abbrev pub has_sid : Sid → Option Server → Bool
 has_sid sid None = false
 has_sid sid (Some s) = same_sid s.sid sid
 
+-- there is a server, and it is one of the process
 abbrev pub is_of : Pid → Option Server → Bool
 is_of pid None = false
 is_of pid (Some s) = s.pid.0 == pid.0
 
+-- there is a server, and it has that seat
 abbrev pub has_seat : ℕ → Option Server → Bool
 has_seat seat None = false
 has_seat seat (Some s) = s.seat == seat
@@ -52,15 +52,15 @@ least_serial test s = least_below s.next (λ n. test (s.live n))
 
 -- the living server with that identifier
 abbrev pub with_sid : Sid → ServerState → Option Serial
-with_sid sid s = option_map serial_at (least_serial (has_sid sid) s)
+with_sid sid s = option_map serial_of (least_serial (has_sid sid) s)
 
 -- the living server of the process with the least serial
 abbrev pub least_of : Pid → ServerState → Option Serial
-least_of pid s = option_map serial_at (least_serial (is_of pid) s)
+least_of pid s = option_map serial_of (least_serial (is_of pid) s)
 
 -- what stands at a seat
 abbrev pub seat_view : ℕ → Server → ServerSeat
-seat_view n s = record { sid = s.sid; serial = serial_at n; pid = s.pid }
+seat_view n s = record { sid = s.sid; serial = serial_of n; pid = s.pid }
 
 -- the living server at the seat; none where the seat is empty
 abbrev pub at_seat : ℕ → ServerState → Option ServerSeat
@@ -79,7 +79,7 @@ abbrev pub made_answer : Sid → ServerState → Result Serial XousError
 made_answer sid s =
     if is_some (with_sid sid s) then Err ServerExists else (
     if live_count s == SERVER_LIMIT then Err InvalidLimit else
-    Ok (serial_at s.next))
+    Ok (serial_of s.next))
 
 -- the servers with a new one at that seat
 abbrev pub with_server : Sid → Pid → Option ℕ → ServerState → ServerState

@@ -1,3 +1,4 @@
+-- What a table of servers holds, as its callers see it.
 use Rattle.server_table.specs.declared.table.Servers.{Servers}
 use Rattle.server_table.specs.Seats.{by_serial}
 use Rattle.server_table.specs.ServerState.{ServerState}

@@ -1,11 +1,9 @@
 //! The table of servers.
 
-ghost use Rattle.std.specs.Prelude.{◌≡◌, ◌<◌, Option, IfOk, IfSome, OnOk, OnErr, is_none, vec_len};
+ghost use Rattle.std.specs.Prelude.{◌≡◌, ◌<◌, Option, IfOk, IfSome, OnOk, OnErr, is_none, position, vec_len};
 ghost use Rattle.std.specs.Option.{option_map};
 ghost use Rattle.xk_base.specs.declared.limits.TheConstants.{SERVER_LIMIT};
-ghost use Rattle.xk_base.specs.Counting.{least_below};
-ghost use Rattle.xk_base.specs.RowMap.{row_map};
-ghost use Rattle.server_table.specs.Seats.{seat_with, lower, AreApart, AreCounted};
+ghost use Rattle.server_table.specs.Seats.{has_serial, seat_has_sid, seat_with, lower, AreApart, AreCounted};
 ghost use Rattle.server_table.specs.ServerState.{no_servers, with_sid, least_of, at_seat, free_seat, made_answer, with_server, without_server};
 
 use std::alloc::Global;
@@ -51,6 +49,20 @@ fn lower(least: Option<Serial>, serial: Serial) -> Option<Serial>
     }
 }
 
+/// Whether the server with that serial stands at the seat.
+fn has_serial(seat: &Option<ServerSeat>, serial: Serial) -> bool
+    ensures { result ≡ has_serial serial.0 seat.now }
+{
+    seat.is_some_and(|server| server.serial == serial)
+}
+
+/// Whether the server with that identifier stands at the seat.
+fn has_sid(seat: &Option<ServerSeat>, sid: Sid) -> bool
+    ensures { result ≡ seat_has_sid sid seat.now }
+{
+    seat.is_some_and(|server| server.sid == sid)
+}
+
 impl Servers {
     ghost use Rattle.server_table.specs.ServersOf.{servers_of};
 
@@ -79,54 +91,39 @@ impl Servers {
         ensures found { result ≡ seat_with self.now.seats.items s.0 }
         ensures within { IfSome result (λ k. k < SERVER_LIMIT) }
     {
-        for k in 0..SEATS {
-            if let Some(server) = self.seats[k]
-                && server.serial == s
-            {
-                return Some(k);
-            }
-        }
-        None
+        self.seats.iter().position(|seat| has_serial(seat, s))
+    }
+
+    /// The seat of the living server with that identifier.
+    fn seat_named(&self, sid: Sid) -> Option<usize>
+        ensures found { result ≡ position (seat_has_sid sid) self.now.seats.items }
+        ensures within { IfSome result (λ k. k < SERVER_LIMIT) }
+    {
+        self.seats.iter().position(|seat| has_sid(seat, sid))
     }
 
     /// The least empty seat.
     fn empty_seat(&self) -> Option<usize>
-        ensures found { result ≡ least_below SERVER_LIMIT (λ i. is_none (row_map self.now.seats.items i)) }
+        ensures found { result ≡ position is_none self.now.seats.items }
         ensures within { IfSome result (λ k. k < SERVER_LIMIT) }
     {
-        for k in 0..SEATS {
-            if self.seats[k].is_none() {
-                return Some(k);
-            }
-        }
-        None
+        self.seats.iter().position(|seat| seat.is_none())
     }
 
     /// The living server with that identifier; `None` exactly where no living server has it.
     pub fn find(&self, sid: Sid) -> Option<Serial>
         ensures { result ≡ with_sid sid (servers_of self.now) }
     {
-        for k in 0..SEATS {
-            if let Some(server) = self.seats[k]
-                && server.sid == sid
-            {
-                return Some(server.serial);
-            }
-        }
-        None
+        let seat = self.seat_named(sid)?;
+        Some(self.seats[seat]?.serial)
     }
 
     /// The process of the server; `None` exactly where no living server has that serial.
     pub fn owner(&self, s: Serial) -> Option<Pid>
         ensures { result ≡ option_map (λ v. v.pid) ((servers_of self.now).live s.0) }
     {
-        match self.seat_of(s) {
-            Some(seat) => match self.seats[seat] {
-                Some(server) => Some(server.pid),
-                None => None,
-            },
-            None => None,
-        }
+        let seat = self.seat_of(s)?;
+        Some(self.seats[seat]?.pid)
     }
 
     /// The seat of the server; `None` exactly where no living server has that serial.
@@ -134,13 +131,7 @@ impl Servers {
         ensures answer { result ≡ option_map (λ v. v.seat) ((servers_of self.now).live s.0) }
         ensures within { IfSome result (λ seat. seat < SERVER_LIMIT) }
     {
-        match self.seat_of(s) {
-            Some(seat) => match self.seats[seat] {
-                Some(_) => Some(seat as u8),
-                None => None,
-            },
-            None => None,
-        }
+        Some(self.seat_of(s)? as u8)
     }
 
     /// The living server of the process with the least serial; `None` exactly where it has none.

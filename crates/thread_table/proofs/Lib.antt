@@ -1,3 +1,3 @@
-pub mod Counts
-pub mod Listing
-pub mod Places
+pub mod CountLemmas
+pub mod ListingLemmas
+pub mod PlaceLemmas

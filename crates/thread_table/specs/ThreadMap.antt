@@ -1,18 +1,19 @@
 -- The threads as a finite map from (pid, tid). Of n processes only ids with the pids 2 to n + 1 and the tids 1 to
 -- `TID_LIMIT` ever have a thread.
-use Rattle.std.specs.Prelude.{ℕ, ◌+◌, ◌-◌, ◌/◌, ◌%◌, ◌==◌, Bool, false, List, Option, Some, None, is_some, is_none, if◌then◌else◌}
+use Rattle.std.specs.Prelude.{ℕ, ◌+◌, ◌-◌, ◌==◌, Bool, false, List, Option, Some, None, is_some, is_none, if◌then◌else◌}
 use Rattle.std.specs.Option.{option_map}
 use Rattle.xk_base.specs.declared.ids.Pid.{Pid}
 use Rattle.xk_base.specs.declared.ids.Serial.{Serial}
 use Rattle.xk_base.specs.declared.ids.ThreadId.{ThreadId}
 use Rattle.xk_base.specs.declared.ids.Tid.{Tid}
 use Rattle.xk_base.specs.declared.limits.TheConstants.{TID_LIMIT}
-use Rattle.xk_base.specs.Circle.{is_thread_id, thread_ids, place_of, next_id, listed_ids}
+use Rattle.xk_base.specs.Circle.{id_by_tid, is_thread_id, thread_ids, place_of, next_id, listed_ids}
 use Rattle.xk_base.specs.Counting.{count_below, least_below}
 use Rattle.xk_base.specs.RowMap.{row_map}
 use Rattle.thread_table.specs.declared.thread.Thread.{Thread}
 use Rattle.thread_table.specs.States.{is_ready_state, is_receiving_state}
 
+-- each thread by its id
 abbrev pub ThreadMap : Type 0
 ThreadMap = ThreadId → Option Thread
 
@@ -42,6 +43,7 @@ without_process pid m id = if id.pid.0 == pid.0 then None else m id
 abbrev pub tid_above : ℕ → Tid
 tid_above k = record { 0 = k + 2 }
 
+-- the id of the process with that tid
 abbrev pub thread_above : Pid → ℕ → ThreadId
 thread_above pid k = record { pid = pid; tid = tid_above k }
 
@@ -56,10 +58,6 @@ free_tid pid m = option_map tid_above (least_below tids_above (λ k. is_none (m 
 -- how many threads the process has beside the interrupt thread
 abbrev pub live_threads : Pid → ThreadMap → ℕ
 live_threads pid m = count_below tids_above (λ k. is_some (m (thread_above pid k)))
-
--- the ids of n processes once more, ordered by tid first: (2, 1), (3, 1), .., (n + 1, 1), (2, 2) and so on
-abbrev pub id_by_tid : ℕ → ℕ → ThreadId
-id_by_tid n k = record { pid = record { 0 = k % n + 2 }; tid = record { 0 = k / n + 1 } }
 
 -- of the threads that wait for a message at the server the one with the least tid; where two processes have one with
 -- that tid, that of the least pid

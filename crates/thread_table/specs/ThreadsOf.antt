@@ -1,3 +1,4 @@
+-- What a table of threads holds, as its callers see it.
 use Rattle.std.specs.Prelude.{ℕ}
 use Rattle.thread_table.specs.declared.table.Threads.{Threads}
 use Rattle.thread_table.specs.ThreadMap.{ThreadMap, thread_map}

@@ -53,7 +53,7 @@ fn ids_until(id: ThreadId) -> usize
     (id.pid.0 as usize - 2) * TIDS + id.tid.0.min(TID_LIMIT) as usize
 }
 
-#[tactic(auto, using(crate::proofs::Places::thread_map_laws), unfolding(crate::specs::ThreadsOf::process_count, crate::specs::ThreadsOf::threads_of))]
+#[tactic(auto, using(crate::proofs::PlaceLemmas::thread_map_laws), unfolding(crate::specs::ThreadsOf::process_count, crate::specs::ThreadsOf::threads_of))]
 impl Threads {
     ghost use Rattle.thread_table.specs.ThreadsOf.{process_count, threads_of};
 
@@ -78,10 +78,7 @@ impl Threads {
     fn has_place(&self, id: ThreadId) -> bool
         ensures { result ≡ is_thread_id (process_count self.now) id }
     {
-        2 <= id.pid.0
-            && u32::from(id.pid.0) < self.procs + 2
-            && 1 <= id.tid.0
-            && id.tid.0 <= TID_LIMIT
+        (2..self.procs + 2).contains(&u32::from(id.pid.0)) && (1..=TID_LIMIT).contains(&id.tid.0)
     }
 
     /// The thread; `None` exactly where there is no such one. Any id may be asked for.
@@ -96,23 +93,23 @@ impl Threads {
     }
 
     /// Puts a new thread there.
-    pub fn start(&mut self, id: ThreadId, t: Thread)
+    pub fn start(&mut self, id: ThreadId, thread: Thread)
         requires pid { IsPid (process_count self.old) id.pid.0 }
         requires tid { IsTid id.tid.0 }
         requires free { threads_of self.old id ≡ None }
-        ensures after { threads_of self.new ≡ put_at same_thread (threads_of self.old) id (Some t) }
+        ensures after { threads_of self.new ≡ put_at same_thread (threads_of self.old) id (Some thread) }
         ensures count { process_count self.new ≡ process_count self.old }
     {
-        self.by_place[place_of(id)] = Some(t);
+        self.by_place[place_of(id)] = Some(thread);
     }
 
     /// Puts this in place of the thread.
-    pub fn set(&mut self, id: ThreadId, t: Thread)
+    pub fn set(&mut self, id: ThreadId, changed: Thread)
         requires { IsSome (threads_of self.old id) }
-        ensures after { threads_of self.new ≡ put_at same_thread (threads_of self.old) id (Some t) }
+        ensures after { threads_of self.new ≡ put_at same_thread (threads_of self.old) id (Some changed) }
         ensures count { process_count self.new ≡ process_count self.old }
     {
-        self.by_place[place_of(id)] = Some(t);
+        self.by_place[place_of(id)] = Some(changed);
     }
 
     /// Ends the thread.
@@ -190,10 +187,7 @@ impl Threads {
         requires { place < thread_ids (process_count self.now) }
         ensures { result ≡ is_ready (threads_of self.now (id_at place)) }
     {
-        match &self.by_place[place] {
-            Some(thread) => thread.state.is_ready(),
-            None => false,
-        }
+        self.by_place[place].is_some_and(|thread| thread.state.is_ready())
     }
 
     /// The first Ready thread strictly after the id in the cyclic order of (pid, tid), the id itself

@@ -34,19 +34,13 @@ impl ThreadState {
     pub(crate) fn is_ready(self) -> bool
         ensures { result ≡ is_ready_state self }
     {
-        match self {
-            ThreadState::Ready => true,
-            _ => false,
-        }
+        matches!(self, ThreadState::Ready)
     }
 
     /// Whether the thread waits for a message at the server.
     pub(crate) fn is_receiving(self, serial: Serial) -> bool
         ensures { result ≡ is_receiving_state serial self }
     {
-        match self {
-            ThreadState::Receiving(at) => at == serial,
-            _ => false,
-        }
+        matches!(self, ThreadState::Receiving(at) if at == serial)
     }
 }

@@ -2,11 +2,11 @@ use Rattle.std.proofs.Common.{◌≡◌, Some, None, sym, ap, ◌∙◌, arith}
 use Rattle.std.specs.Option.{option_map, option_and_then}
 use Rattle.xk_base.specs.declared.limits.TheConstants.{INTERRUPT_LIMIT}
 use Rattle.xk_base.specs.RowMap.{row_map}
-use Rattle.xk_base.proofs.Counting.{least_below-None}
-use Rattle.xk_base.proofs.RowMap.{row_map_set}
+use Rattle.xk_base.proofs.CountingLemmas.{least_below-None}
+use Rattle.xk_base.proofs.RowMapLemmas.{row_map_set}
 use Rattle.irq_claims.specs.ClaimMap.{is_due_to, delivery, lowest_due, settle_any}
 use Rattle.irq_claims.specs.ClaimsOf.{claims_of}
-use Rattle.irq_claims.proofs.Lowest.{lowest_due_is, delivered, settled}
+use Rattle.irq_claims.proofs.LowestLemmas.{lowest_due_is, delivered, settled}
 use Rattle.irq_claims.proofs.claims.Claims.take_lowest.Goals as goal
 
 found : (c : goal.Then-claim) → (row_map c.args.self.now.by_number c.loop-k.k ≡ Some c.in-Some.claim) × (lowest_due c.args.pid (row_map c.args.self.now.by_number) ≡ Some c.loop-k.k)

@@ -1,7 +1,7 @@
 use Rattle.std.proofs.Common.{◌≡◌, ℕ, length, sym, subst, arith}
 use Rattle.xk_base.specs.declared.limits.TheConstants.{SERVER_LIMIT}
 use Rattle.server_table.specs.ServersOf.{servers_of}
-use Rattle.server_table.proofs.Answered.{IsLeast, least_of_is}
+use Rattle.server_table.proofs.AnsweredLemmas.{IsLeast, least_of_is}
 use Rattle.server_table.proofs.table.Servers.any_of.Goals as goal
 
 pub returns : goal.returns

@@ -1,4 +1,4 @@
-use Rattle.server_table.proofs.Answered.{IsLeast}
+use Rattle.server_table.proofs.AnsweredLemmas.{IsLeast}
 use Rattle.server_table.proofs.table.Servers.any_of.Given as goal
 
 abbrev pub invariant-loop-k : goal.invariant-loop-k

@@ -1,8 +1,8 @@
 use Rattle.std.proofs.Common.{◌≡◌, length, sym, ◌∙◌, arith}
 use Rattle.xk_base.specs.declared.limits.TheConstants.{SERVER_LIMIT}
 use Rattle.server_table.specs.ServersOf.{servers_of}
-use Rattle.server_table.proofs.Answered.{at_seat_is}
-use Rattle.server_table.proofs.Serials.{row_read}
+use Rattle.server_table.proofs.AnsweredLemmas.{at_seat_is}
+use Rattle.server_table.proofs.SerialLemmas.{row_read}
 use Rattle.server_table.proofs.table.Servers.at_seat.Goals as goal
 
 pub returns : goal.returns

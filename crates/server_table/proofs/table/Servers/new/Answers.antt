@@ -3,7 +3,7 @@ use Rattle.xk_base.specs.declared.limits.TheConstants.{SERVER_LIMIT}
 use Rattle.server_table.specs.declared.table.ServerSeat.{ServerSeat}
 use Rattle.server_table.specs.Seats.{by_serial, AreApart, AreCounted}
 use Rattle.server_table.specs.ServersOf.{servers_of}
-use Rattle.server_table.proofs.Changes.{apart_empty, counted_empty, by_serial_empty}
+use Rattle.server_table.proofs.ChangeLemmas.{apart_empty, counted_empty, by_serial_empty}
 use Rattle.server_table.proofs.table.Servers.new.Goals as goal
 
 empty : (c : goal.After-loop-seat) → c.loop-seat.seats.items ≡ replicate SERVER_LIMIT None

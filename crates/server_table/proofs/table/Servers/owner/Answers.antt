@@ -4,26 +4,28 @@ use Rattle.xk_base.specs.declared.limits.TheConstants.{SERVER_LIMIT}
 use Rattle.xk_base.specs.RowMap.{row_map}
 use Rattle.server_table.specs.ServersOf.{servers_of}
 use Rattle.server_table.specs.ServerState.{Server}
-use Rattle.server_table.proofs.Serials.{row_read, by_serial_seat, by_serial_blank, by_serial_none}
+use Rattle.server_table.proofs.SerialLemmas.{row_read, by_serial_seat, by_serial_blank, by_serial_none}
 use Rattle.server_table.proofs.table.Servers.owner.Goals as goal
 
-pub returns-in-Some-index : goal.returns-in-Some-index
+pub returns-in_err-seat : goal.returns-in_err-seat
 unfolding servers_of
-returns-in-Some-index c =
-    let size : length c.args.self.now.seats.items ≡ SERVER_LIMIT = omega arith in
-    let here : row_map c.args.self.now.seats.items c.in-Some.seat ≡ Some c.in-Some-index.server =
-    row_read c.args.self.now.seats.items c.in-Some.seat c.index.result.now (omega (arith, c.in-Some.ensures.within)) c.index.ensures ∙ c.in-Some-index.is in
-    sym (ap (option_map (λ (v : Server). v.pid)) (by_serial_seat c.args.self.now.seats.items c.args.s.0 c.in-Some.seat c.in-Some-index.server (sym c.in-Some.ensures.found) here))
+returns-in_err-seat c =
+    c.from_residual.ensures
+    ∙ sym (ap (option_map (λ (v : Server). v.pid)) (by_serial_none c.args.self.now.seats.items c.args.s.0 (sym c.in_err-seat.ensures.found)))
 
-pub returns-in-None-index : goal.returns-in-None-index
+pub returns-in_err-index : goal.returns-in_err-index
 unfolding servers_of
-returns-in-None-index c =
+returns-in_err-index c =
     let size : length c.args.self.now.seats.items ≡ SERVER_LIMIT = omega arith in
-    let here : row_map c.args.self.now.seats.items c.in-Some.seat ≡ None =
-    row_read c.args.self.now.seats.items c.in-Some.seat c.index.result.now (omega (arith, c.in-Some.ensures.within)) c.index.ensures ∙ c.in-None-index.is in
-    sym (ap (option_map (λ (v : Server). v.pid)) (by_serial_blank c.args.self.now.seats.items c.args.s.0 c.in-Some.seat (sym c.in-Some.ensures.found) here))
+    let here : row_map c.args.self.now.seats.items c.in_ok-seat.seat ≡ None =
+    row_read c.args.self.now.seats.items c.in_ok-seat.seat c.index.result.now (omega (arith, c.in_ok-seat.ensures.within)) c.index.ensures ∙ c.in_err-index.was in
+    c.from_residual-in_err-index.ensures
+    ∙ sym (ap (option_map (λ (v : Server). v.pid)) (by_serial_blank c.args.self.now.seats.items c.args.s.0 c.in_ok-seat.seat (sym c.in_ok-seat.ensures.found) here))
 
-pub returns-in-None : goal.returns-in-None
+pub returns : goal.returns
 unfolding servers_of
-returns-in-None c =
-    sym (ap (option_map (λ (v : Server). v.pid)) (by_serial_none c.args.self.now.seats.items c.args.s.0 (sym c.in-None.ensures.found)))
+returns c =
+    let size : length c.args.self.now.seats.items ≡ SERVER_LIMIT = omega arith in
+    let here : row_map c.args.self.now.seats.items c.in_ok-seat.seat ≡ Some c.in_ok-index.field-0 =
+    row_read c.args.self.now.seats.items c.in_ok-seat.seat c.index.result.now (omega (arith, c.in_ok-seat.ensures.within)) c.index.ensures ∙ c.in_ok-index.was in
+    sym (ap (option_map (λ (v : Server). v.pid)) (by_serial_seat c.args.self.now.seats.items c.args.s.0 c.in_ok-seat.seat c.in_ok-index.field-0 (sym c.in_ok-seat.ensures.found) here))

@@ -1,7 +1,7 @@
 use Rattle.std.proofs.Common.{◌≡◌, length, sym, ◌∙◌, arith}
 use Rattle.xk_base.specs.declared.limits.TheConstants.{SERVER_LIMIT}
 use Rattle.server_table.specs.ServersOf.{servers_of}
-use Rattle.server_table.proofs.Made.{removed_apart, removed_counted, removed_state, unknown_state}
+use Rattle.server_table.proofs.MadeLemmas.{removed_apart, removed_counted, removed_state, unknown_state}
 use Rattle.server_table.proofs.table.Servers.remove.Goals as goal
 
 pub invariant_of-self-clause-apart : goal.invariant_of-self-clause-apart

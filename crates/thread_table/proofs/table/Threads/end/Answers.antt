@@ -1,7 +1,7 @@
 use Rattle.std.proofs.Common.{◌≡◌, None, length, arith}
 use Rattle.xk_base.specs.Circle.{thread_ids}
 use Rattle.thread_table.specs.ThreadsOf.{threads_of}
-use Rattle.thread_table.proofs.Places.{thread_map_valid, thread_map_write}
+use Rattle.thread_table.proofs.PlaceLemmas.{thread_map_valid, thread_map_write}
 use Rattle.thread_table.proofs.table.Threads.end.Goals as goal
 
 pub returns-clause-after : goal.returns-clause-after

@@ -1,9 +1,9 @@
 use Rattle.std.proofs.Common.{◌≡◌, true, not, is_none, sym, ap, ◌∙◌, arith}
 use Rattle.std.specs.Option.{option_map}
-use Rattle.xk_base.proofs.Counting.{least_below-Some, least_below-None}
+use Rattle.xk_base.proofs.CountingLemmas.{least_below-Some, least_below-None}
 use Rattle.thread_table.specs.ThreadMap.{thread_above, tid_above, tids_above}
 use Rattle.thread_table.specs.ThreadsOf.{threads_of}
-use Rattle.thread_table.proofs.Counts.{is_none_copied}
+use Rattle.thread_table.proofs.CountLemmas.{is_none_copied}
 use Rattle.thread_table.proofs.table.Threads.free_tid.Goals as goal
 
 pub returns-then-is_none : goal.returns-then-is_none

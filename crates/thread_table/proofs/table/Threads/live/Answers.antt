@@ -1,9 +1,9 @@
 use Rattle.std.proofs.Common.{◌≡◌, ◌+◌, ℕ, Bool, is_some, refl, ap, sym, ◌∙◌, arith}
 use Rattle.xk_base.specs.Counting.{count_below}
-use Rattle.xk_base.proofs.Counting.{count_below-bound}
+use Rattle.xk_base.proofs.CountingLemmas.{count_below-bound}
 use Rattle.thread_table.specs.ThreadMap.{thread_above}
 use Rattle.thread_table.specs.ThreadsOf.{threads_of}
-use Rattle.thread_table.proofs.Counts.{count_passed, count_failed, is_some_copied}
+use Rattle.thread_table.proofs.CountLemmas.{count_passed, count_failed, is_some_copied}
 use Rattle.thread_table.proofs.table.Threads.live.Goals as goal
 use Rattle.thread_table.proofs.table.Threads.live.Goals.{then-is_some, else-is_some}
 

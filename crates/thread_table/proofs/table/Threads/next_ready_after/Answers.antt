@@ -1,7 +1,7 @@
 use Rattle.std.proofs.Common.{◌≡◌, ◌+◌, ◌%◌, Bool, Some, true, sym, ap, ◌∙◌, arith}
 use Rattle.xk_base.specs.Circle.{thread_ids, id_at, id_behind}
 use Rattle.xk_base.specs.declared.ids.ThreadId.{ThreadId}
-use Rattle.xk_base.proofs.Circle.{next_id-Some, next_id-None}
+use Rattle.xk_base.proofs.CircleLemmas.{next_id-Some, next_id-None}
 use Rattle.thread_table.specs.ThreadMap.{is_ready}
 use Rattle.thread_table.specs.ThreadsOf.{process_count, threads_of}
 use Rattle.thread_table.proofs.table.Threads.next_ready_after.Goals as goal

@@ -1,8 +1,8 @@
 use Rattle.std.proofs.Common.{◌≡◌, ℕ, Bool, true, sym, ap, ◌∙◌, arith}
 use Rattle.std.specs.Option.{option_map}
-use Rattle.xk_base.specs.Circle.{thread_ids}
-use Rattle.xk_base.proofs.Counting.{least_below-Some, least_below-None}
-use Rattle.thread_table.specs.ThreadMap.{is_receiving, id_by_tid}
+use Rattle.xk_base.specs.Circle.{id_by_tid, thread_ids}
+use Rattle.xk_base.proofs.CountingLemmas.{least_below-Some, least_below-None}
+use Rattle.thread_table.specs.ThreadMap.{is_receiving}
 use Rattle.thread_table.specs.ThreadsOf.{process_count, threads_of}
 use Rattle.thread_table.proofs.table.Threads.receiver.Goals as goal
 

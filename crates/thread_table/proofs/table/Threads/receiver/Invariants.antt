@@ -1,5 +1,6 @@
 use Rattle.std.proofs.Common.{◌≡◌, ◌<◌, ℕ, false}
-use Rattle.thread_table.specs.ThreadMap.{is_receiving, id_by_tid}
+use Rattle.xk_base.specs.Circle.{id_by_tid}
+use Rattle.thread_table.specs.ThreadMap.{is_receiving}
 use Rattle.thread_table.specs.ThreadsOf.{threads_of}
 use Rattle.thread_table.proofs.table.Threads.receiver.Given as goal
 

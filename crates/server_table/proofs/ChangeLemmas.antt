@@ -1,5 +1,7 @@
 -- What a new server and the end of one change.
 use Rattle.std.proofs.Common.{◌≡◌, ℕ, ◌+◌, ◌<◌, ◌≤◌, Bool, true, false, List, length, set, replicate, Option, Some, None, nat_eq, is_some, refl, ap, sym, subst, ◌∙◌, ◌⊎◌, inl, inr, add-one, arith}
+use Rattle.std.proofs.lemmas.List.Folds.{position_or_len-set}
+use Rattle.std.proofs.lemmas.List.Quantifiers.{position-Some}
 use Rattle.std.specs.Option.{option_map, option_and_then}
 use Rattle.std.proofs.lemmas.Bool.{cases_eq, both_ways, false_from_ne_true, cond-true, cond-false, eq-eqb, ne_eqb}
 use Rattle.std.proofs.lemmas.List.{length-set, get_or-set_same, get_or-set_other}
@@ -7,12 +9,13 @@ use Rattle.std.proofs.lemmas.Option.{none-some, same_Some}
 use Rattle.xk_base.specs.declared.limits.TheConstants.{SERVER_LIMIT}
 use Rattle.xk_base.specs.Counting.{count_below, put_at}
 use Rattle.xk_base.specs.RowMap.{row_map}
-use Rattle.xk_base.proofs.Counting.{count_below-same, count_below-one, count_below-none, least_below-same, least_below-passes}
-use Rattle.xk_base.proofs.RowMap.{row_map_replicate}
+use Rattle.xk_base.proofs.CountingLemmas.{count_below-same, count_below-one, count_below-none}
+use Rattle.xk_base.proofs.RowMapLemmas.{row_map_replicate}
 use Rattle.server_table.specs.declared.table.ServerSeat.{ServerSeat}
 use Rattle.server_table.specs.Seats.{has_serial, server_of, seat_with, by_serial, AreApart, AreCounted}
-use Rattle.server_table.specs.ServerState.{Server, same_sid}
-use Rattle.server_table.proofs.Serials.{taken, by_serial_is, by_serial_found}
+use Rattle.xk_base.specs.Sids.{same_sid}
+use Rattle.server_table.specs.ServerState.{Server}
+use Rattle.server_table.proofs.SerialLemmas.{taken, by_serial_is, by_serial_found}
 
 -- what a place of the list has after a write
 row_here : (xs : List (Option ServerSeat)) (i : ℕ) (v : Option ServerSeat) → i < length xs → row_map (set xs i v) i ≡ v
@@ -30,14 +33,8 @@ other_serial xs i n v l old new = find (seat_with xs n) refl
     here : row_map (set xs i v) i ≡ v
     here = row_here xs i v l
 
-    tests : (j : ℕ) → has_serial n (row_map (set xs i v) j) ≡ has_serial n (row_map xs j)
-    tests j = elim (cases_eq j i) [
-      | inl same ↦ ap (λ k. has_serial n (row_map (set xs i v) k)) same ∙ ap (has_serial n) here ∙ new ∙ sym old ∙ ap (λ k. has_serial n (row_map xs k)) (sym same)
-      | inr apart ↦ ap (has_serial n) (row_there xs i j v apart)
-    ]
-
     seats : seat_with (set xs i v) n ≡ seat_with xs n
-    seats = least_below-same SERVER_LIMIT (λ j. has_serial n (row_map (set xs i v) j)) (λ j. has_serial n (row_map xs j)) (λ j b. tests j)
+    seats = simp (length-set, position_or_len-set (has_serial n) xs i v None (new ∙ sym old))
 
     find : (o : Option ℕ) → seat_with xs n ≡ o
         → option_and_then (λ k. option_map (server_of k) (row_map (set xs i v) k)) (seat_with (set xs i v) n) ≡ option_and_then (λ k. option_map (server_of k) (row_map xs k)) (seat_with xs n)
@@ -45,7 +42,7 @@ other_serial xs i n v l old new = find (seat_with xs n) refl
         ap (option_and_then (λ k. option_map (server_of k) (row_map (set xs i v) k))) (seats ∙ q)
         ∙ sym (ap (option_and_then (λ k. option_map (server_of k) (row_map xs k))) q)
     find (Some k) q =
-        let t : has_serial n (row_map xs k) ≡ true = least_below-passes SERVER_LIMIT (λ j. has_serial n (row_map xs j)) k q in
+        let t : has_serial n (row_map xs k) ≡ true = (position-Some (has_serial n) xs k None q).1 in
         ap (option_and_then (λ j. option_map (server_of j) (row_map (set xs i v) j))) (seats ∙ q)
         ∙ ap (option_map (server_of k)) (row_there xs i k v (λ e. both_ways (has_serial n (row_map xs i)) old (subst (λ j. has_serial n (row_map xs j) ≡ true) e t)))
         ∙ sym (ap (option_and_then (λ j. option_map (server_of j) (row_map xs j))) q)

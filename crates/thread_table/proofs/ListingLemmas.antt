@@ -4,12 +4,12 @@ use Rattle.std.specs.List.{All, Contains}
 use Rattle.std.specs.List.Sorted.{IsStrictlyIncreasing}
 use Rattle.xk_base.specs.declared.ids.ThreadId.{ThreadId}
 use Rattle.xk_base.specs.Circle.{is_thread_id, thread_ids, id_at, place_of}
-use Rattle.xk_base.proofs.Counting.{listed_below-ascends}
-use Rattle.xk_base.proofs.Circle.{places-listed_ids, listed_ids-passes, listed_ids-contains}
+use Rattle.xk_base.proofs.CountingLemmas.{listed_below-ascends}
+use Rattle.xk_base.proofs.CircleLemmas.{places-listed_ids, listed_ids-passes, listed_ids-contains}
 use Rattle.thread_table.specs.declared.table.Threads.{Threads}
 use Rattle.thread_table.specs.ThreadMap.{ThreadMap, live_ids}
 use Rattle.thread_table.specs.ThreadsOf.{process_count, threads_of}
-use Rattle.thread_table.proofs.Places.{thread_map_valid}
+use Rattle.thread_table.proofs.PlaceLemmas.{thread_map_valid}
 
 -- their places in the order of all ids ascend, so that the list has each id once
 pub live_ids-ascends : (n : ℕ) (m : ThreadMap) → IsStrictlyIncreasing (map place_of (live_ids n m))

@@ -1,12 +1,18 @@
 -- What a serial finds among the seats, and the least serial that passes a test.
 use Rattle.std.proofs.Common.{◌≡◌, ℕ, ◌<◌, ◌≤◌, Bool, true, false, List, length, get_or, Option, Some, None, refl, ap, sym, ◌∙◌, inl, inr, arith}
 use Rattle.std.specs.Option.{option_map, option_and_then}
-use Rattle.std.proofs.lemmas.Bool.{cases_lt, both_ways, false_from_ne_true, eq-eqb, eqb-true}
+use Rattle.std.proofs.lemmas.Bool.{cases_lt, both_ways, false_from_ne_true, eq-eqb, eqb-true, cond-true, cond-false}
 use Rattle.std.proofs.lemmas.List.{get_or_past, get_or_default}
+use Rattle.std.specs.Prelude.{not, nat_lt}
+use Rattle.std.specs.List.{position, position_or_len}
+use Rattle.std.proofs.lemmas.Bool.Decides.{nat_tests}
+use Rattle.std.proofs.lemmas.List.Quantifiers.{position-Some}
+use Rattle.std.proofs.lemmas.List.Sums.{passes_at_first, prefix_len_passes}
 use Rattle.std.proofs.lemmas.Option.{none-some, same_Some}
 use Rattle.xk_base.specs.declared.limits.TheConstants.{SERVER_LIMIT}
+use Rattle.xk_base.specs.Counting.{least_below}
 use Rattle.xk_base.specs.RowMap.{row_map}
-use Rattle.xk_base.proofs.Counting.{least_below-Some, least_below-None, least_below-passes}
+use Rattle.xk_base.proofs.CountingLemmas.{least_below-Some, least_below-None}
 use Rattle.server_table.specs.declared.table.ServerSeat.{ServerSeat}
 use Rattle.server_table.specs.Seats.{has_serial, server_of, seat_with, by_serial, AreApart}
 use Rattle.server_table.specs.ServerState.{Server, least_serial}
@@ -22,6 +28,23 @@ within xs i e h = elim (cases_lt i (length xs)) [
 pub row_read : (xs : List (Option ServerSeat)) (k : ℕ) (v : Option ServerSeat) → k < length xs → v ≡ get_or xs k v → row_map xs k ≡ v
 row_read xs k v l here = get_or_default xs k None v l ∙ sym here
 
+-- the first seat that passes a test is the least one
+pub position_is_least : (p : Option ServerSeat → Bool) (xs : List (Option ServerSeat)) (n : ℕ) → length xs ≡ n
+    → position p xs ≡ least_below n (λ i. p (row_map xs i))
+position_is_least p xs n size = elim (cases_lt (position_or_len p xs) (length xs)) [
+  | inl inside ↦
+      cond-true (nat_lt (position_or_len p xs) (length xs)) (Some (position_or_len p xs)) None (grind (arith, nat_tests))
+      ∙ sym (least_below-Some n (λ i. p (row_map xs i)) (position_or_len p xs) (omega arith) (passes_at_first p xs None inside)
+      (λ j l. not_passed (p (row_map xs j)) (prefix_len_passes (λ x. not (p x)) xs j None l)))
+  | inr past ↦
+      cond-false (nat_lt (position_or_len p xs) (length xs)) (Some (position_or_len p xs)) None (grind (arith, nat_tests))
+      ∙ sym (least_below-None n (λ i. p (row_map xs i)) (λ j l. not_passed (p (row_map xs j)) (prefix_len_passes (λ x. not (p x)) xs j None (omega arith))))
+]
+  where
+    not_passed : (b : Bool) → not b ≡ true → b ≡ false
+    not_passed true h = cc
+    not_passed false h = refl
+
 -- a seat that has the serial is taken
 pub taken : (n : ℕ) (o : Option ServerSeat) → has_serial n o ≡ true → (e : ServerSeat) × (o ≡ Some e) × (e.serial.0 ≡ n)
 taken n None h = absurd (both_ways false refl h)
@@ -32,7 +55,8 @@ pub seat_with_is : (xs : List (Option ServerSeat)) (next i : ℕ) (e : ServerSea
     → row_map xs i ≡ Some e → seat_with xs e.serial.0 ≡ Some i
 seat_with_is xs next i e apart size here =
     let inside : i < length xs = within xs i e here in
-    least_below-Some SERVER_LIMIT (λ j. has_serial e.serial.0 (row_map xs j)) i (omega arith)
+    position_is_least (has_serial e.serial.0) xs SERVER_LIMIT size
+    ∙ least_below-Some SERVER_LIMIT (λ j. has_serial e.serial.0 (row_map xs j)) i (omega arith)
     (ap (has_serial e.serial.0) here ∙ eq-eqb e.serial.0 e.serial.0 refl)
     (λ j l. false_from_ne_true (has_serial e.serial.0 (row_map xs j)) (λ t.
     let other : (b : ServerSeat) × (row_map xs j ≡ Some b) × (b.serial.0 ≡ e.serial.0) = taken e.serial.0 (row_map xs j) t in
@@ -52,7 +76,7 @@ found_at : (xs : List (Option ServerSeat)) (n : ℕ) (v : Server) (o : Option �
     → (i : ℕ) × (e : ServerSeat) × (row_map xs i ≡ Some e) × (e.serial.0 ≡ n) × (server_of i e ≡ v)
 found_at xs n v None s h = absurd (none-some v h)
 found_at xs n v (Some i) s h =
-    let t : has_serial n (row_map xs i) ≡ true = least_below-passes SERVER_LIMIT (λ j. has_serial n (row_map xs j)) i s in
+    let t : has_serial n (row_map xs i) ≡ true = (position-Some (has_serial n) xs i None s).1 in
     let at : (e : ServerSeat) × (row_map xs i ≡ Some e) × (e.serial.0 ≡ n) = taken n (row_map xs i) t in
     (i, at.0, at.1, at.2, same_Some (server_of i at.0) v (sym (ap (option_map (server_of i)) at.1) ∙ h))
 
@@ -112,4 +136,4 @@ by_serial_none xs n none = ap (option_and_then (λ k. option_map (server_of k) (
 
 -- what stands at that seat
 pub seat_with_found : (xs : List (Option ServerSeat)) (n i : ℕ) → seat_with xs n ≡ Some i → (e : ServerSeat) × (row_map xs i ≡ Some e) × (e.serial.0 ≡ n)
-seat_with_found xs n i at = taken n (row_map xs i) (least_below-passes SERVER_LIMIT (λ j. has_serial n (row_map xs j)) i at)
+seat_with_found xs n i at = taken n (row_map xs i) (position-Some (has_serial n) xs i None at).1

@@ -7,8 +7,8 @@ use Rattle.xk_base.specs.declared.ids.ThreadId.{ThreadId}
 use Rattle.xk_base.specs.Circle.{is_thread_id, same_thread, thread_ids, id_at, place_of}
 use Rattle.xk_base.specs.Counting.{put_at}
 use Rattle.xk_base.specs.RowMap.{row_map}
-use Rattle.xk_base.proofs.Circle.{same_ids, is_thread_id-id_at, place_of-id_at, place_of-bound, id_at-place_of}
-use Rattle.xk_base.proofs.RowMap.{row_map_replicate}
+use Rattle.xk_base.proofs.CircleLemmas.{same_ids, is_thread_id-id_at, place_of-id_at, place_of-bound, id_at-place_of}
+use Rattle.xk_base.proofs.RowMapLemmas.{row_map_replicate}
 use Rattle.thread_table.specs.declared.thread.Thread.{Thread}
 use Rattle.thread_table.specs.ThreadMap.{thread_map, no_threads}
 

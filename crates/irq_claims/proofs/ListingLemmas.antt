@@ -4,7 +4,7 @@ use Rattle.std.specs.List.{All, Contains}
 use Rattle.std.specs.List.Sorted.{IsStrictlyIncreasing}
 use Rattle.std.proofs.lemmas.List.{get_or_past}
 use Rattle.xk_base.specs.declared.limits.TheConstants.{INTERRUPT_LIMIT}
-use Rattle.xk_base.proofs.Counting.{listed_below-ascends, listed_below-passes, listed_below-contains}
+use Rattle.xk_base.proofs.CountingLemmas.{listed_below-ascends, listed_below-passes, listed_below-contains}
 use Rattle.irq_claims.specs.declared.claims.Claim.{Claim}
 use Rattle.irq_claims.specs.declared.claims.Claims.{Claims}
 use Rattle.irq_claims.specs.declared.claims.TheConstants.{NUMBERS}

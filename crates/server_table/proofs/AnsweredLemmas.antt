@@ -3,6 +3,8 @@ use Rattle.std.proofs.Common.{◌≡◌, ℕ, zero, suc, ◌+◌, ◌<◌, ◌�
 use Rattle.std.specs.Option.{option_map, option_and_then}
 use Rattle.std.proofs.lemmas.Bool.{cases_lt, both_ways, false_from_ne_true, eq-eqb, ne_eqb, eqb-true, cond_both, cond-true, cond-false}
 use Rattle.std.proofs.lemmas.Bool.Decides.{nat_tests}
+use Rattle.std.specs.List.{position}
+use Rattle.std.proofs.lemmas.List.Quantifiers.{position-Some}
 use Rattle.std.proofs.lemmas.Option.{none-some, same_Some}
 use Rattle.std.proofs.lemmas.Slice.Eq.{bytes_eq-Decides}
 use Rattle.xk_base.specs.declared.errors.XousError.TheVariants.{ServerExists, InvalidLimit}
@@ -12,11 +14,12 @@ use Rattle.xk_base.specs.declared.ids.Sid.{Sid}
 use Rattle.xk_base.specs.declared.limits.TheConstants.{SERVER_LIMIT}
 use Rattle.xk_base.specs.Counting.{count_below, least_below}
 use Rattle.xk_base.specs.RowMap.{row_map}
-use Rattle.xk_base.proofs.Counting.{least_below-same, least_below-passes, count_below-bound}
+use Rattle.xk_base.proofs.CountingLemmas.{least_below-none, least_below-same, least_below-passes, count_below-bound}
 use Rattle.server_table.specs.declared.table.ServerSeat.{ServerSeat}
-use Rattle.server_table.specs.Seats.{by_serial, AreApart, AreCounted, lower}
-use Rattle.server_table.specs.ServerState.{ServerState, same_sid, serial_at, has_sid, has_seat, is_of, with_sid, least_of, seat_view, at_seat, free_seat, live_count, made_answer}
-use Rattle.server_table.proofs.Serials.{within, least_is, least_none, by_serial_is}
+use Rattle.server_table.specs.Seats.{seat_has_sid, by_serial, AreApart, AreCounted, lower}
+use Rattle.xk_base.specs.Sids.{same_sid}
+use Rattle.server_table.specs.ServerState.{ServerState, serial_of, has_sid, has_seat, is_of, with_sid, least_of, seat_view, at_seat, free_seat, live_count, made_answer}
+use Rattle.server_table.proofs.SerialLemmas.{within, position_is_least, least_is, least_none, by_serial_is}
 
 -- the servers of a list of seats
 abbrev pub state : List (Option ServerSeat) → ℕ → ServerState
@@ -37,13 +40,26 @@ same_sid-trans a b c g h = (bytes_eq-Decides a.0 b.0).1 ((bytes_eq-Decides a.0 c
 pub with_sid_is : (xs : List (Option ServerSeat)) (next i : ℕ) (e : ServerSeat) (sid : Sid) → AreApart xs next → length xs ≡ SERVER_LIMIT
     → row_map xs i ≡ Some e → same_sid e.sid sid ≡ true → with_sid sid (state xs next) ≡ Some e.serial
 with_sid_is xs next i e sid apart size here same =
-    ap (option_map serial_at) (least_is xs next i e (has_sid sid) apart size refl here same
+    ap (option_map serial_of) (least_is xs next i e (has_sid sid) apart size refl here same
     (λ j b h t. let one : e ≡ b = one_seat xs i j e b here h (sym (apart.sids j i b e h here (same_sid-trans b.sid e.sid sid t same))) in
     let s : e.serial.0 ≡ b.serial.0 = ap (λ x. x.serial.0) one in omega arith))
 
 pub with_sid_none : (xs : List (Option ServerSeat)) (next : ℕ) (sid : Sid)
     → ((j : ℕ) (b : ServerSeat) → row_map xs j ≡ Some b → same_sid b.sid sid ≡ false) → with_sid sid (state xs next) ≡ None
-with_sid_none xs next sid none = ap (option_map serial_at) (least_none xs next (has_sid sid) refl none)
+with_sid_none xs next sid none = ap (option_map serial_of) (least_none xs next (has_sid sid) refl none)
+
+-- a seat that is found by an identifier has it ..
+pub named : (xs : List (Option ServerSeat)) (sid : Sid) (i : ℕ) → position (seat_has_sid sid) xs ≡ Some i → seat_has_sid sid (row_map xs i) ≡ true
+named xs sid i found = (position-Some (seat_has_sid sid) xs i None found).1
+
+-- .. and where none is found, no server has it
+pub unnamed : (xs : List (Option ServerSeat)) (next : ℕ) (sid : Sid) → length xs ≡ SERVER_LIMIT → position (seat_has_sid sid) xs ≡ None
+    → with_sid sid (state xs next) ≡ None
+unnamed xs next sid size none =
+    let least : least_below SERVER_LIMIT (λ i. seat_has_sid sid (row_map xs i)) ≡ None = sym (position_is_least (seat_has_sid sid) xs SERVER_LIMIT size) ∙ none in
+    with_sid_none xs next sid (λ j b h.
+    let l : j < length xs = within xs j b h in
+    sym (ap (seat_has_sid sid) h) ∙ least_below-none SERVER_LIMIT (λ i. seat_has_sid sid (row_map xs i)) least j (omega arith))
 
 -- an identifier that finds nothing is at no seat
 pub fresh_sid : (xs : List (Option ServerSeat)) (next : ℕ) (sid : Sid) → AreApart xs next → length xs ≡ SERVER_LIMIT → with_sid sid (state xs next) ≡ None
@@ -140,13 +156,13 @@ with_sid_missing sid s h = no_value (with_sid sid s) h
 
 pub answer_limit : (sid : Sid) (s : ServerState) → is_some (with_sid sid s) ≡ false → (live_count s == SERVER_LIMIT) ≡ true → made_answer sid s ≡ Err InvalidLimit
 answer_limit sid s new many =
-    cond-false (is_some (with_sid sid s)) (Err ServerExists) (if live_count s == SERVER_LIMIT then Err InvalidLimit else Ok (serial_at s.next)) new
-    ∙ cond-true (live_count s == SERVER_LIMIT) (Err InvalidLimit) (Ok (serial_at s.next)) many
+    cond-false (is_some (with_sid sid s)) (Err ServerExists) (if live_count s == SERVER_LIMIT then Err InvalidLimit else Ok (serial_of s.next)) new
+    ∙ cond-true (live_count s == SERVER_LIMIT) (Err InvalidLimit) (Ok (serial_of s.next)) many
 
-pub answer_ok : (sid : Sid) (s : ServerState) → is_some (with_sid sid s) ≡ false → (live_count s == SERVER_LIMIT) ≡ false → made_answer sid s ≡ Ok (serial_at s.next)
+pub answer_ok : (sid : Sid) (s : ServerState) → is_some (with_sid sid s) ≡ false → (live_count s == SERVER_LIMIT) ≡ false → made_answer sid s ≡ Ok (serial_of s.next)
 answer_ok sid s new few =
-    cond-false (is_some (with_sid sid s)) (Err ServerExists) (if live_count s == SERVER_LIMIT then Err InvalidLimit else Ok (serial_at s.next)) new
-    ∙ cond-false (live_count s == SERVER_LIMIT) (Err InvalidLimit) (Ok (serial_at s.next)) few
+    cond-false (is_some (with_sid sid s)) (Err ServerExists) (if live_count s == SERVER_LIMIT then Err InvalidLimit else Ok (serial_of s.next)) new
+    ∙ cond-false (live_count s == SERVER_LIMIT) (Err InvalidLimit) (Ok (serial_of s.next)) few
 
 -- ---- the least server of a process
 
@@ -223,9 +239,9 @@ least_lowers xs pid k (Some s) e h here of = go (nat_le s.0 e.serial.0) refl
 pub least_of_is : (xs : List (Option ServerSeat)) (next : ℕ) (pid : Pid) (o : Option Serial) → AreApart xs next → length xs ≡ SERVER_LIMIT
     → IsLeast xs pid SERVER_LIMIT o → least_of pid (state xs next) ≡ o
 least_of_is xs next pid None apart size h =
-    ap (option_map serial_at) (least_none xs next (is_of pid) refl (λ j b g. h j b (let l : j < length xs = within xs j b g in omega arith) g))
+    ap (option_map serial_of) (least_none xs next (is_of pid) refl (λ j b g. h j b (let l : j < length xs = within xs j b g in omega arith) g))
 least_of_is xs next pid (Some s) apart size h =
-    ap (option_map serial_at) (least_is xs next h.0 h.1 (is_of pid) apart size refl h.2 h.4
+    ap (option_map serial_of) (least_is xs next h.0 h.1 (is_of pid) apart size refl h.2 h.4
     (λ j b g t. let low : s.0 ≤ b.serial.0 = h.5 j b (let l : j < length xs = within xs j b g in omega arith) g t in
     let same : h.1.serial.0 ≡ s.0 = ap (λ x. x.0) h.3 in omega arith))
     ∙ ap Some h.3

@@ -5,13 +5,14 @@ use Rattle.std.specs.List.Sorted.{IsStrictlyIncreasing}
 use Rattle.std.proofs.lemmas.Option.{same_Some}
 use Rattle.xk_base.specs.declared.limits.TheConstants.{SERVER_LIMIT}
 use Rattle.xk_base.specs.RowMap.{row_map}
-use Rattle.xk_base.proofs.Counting.{listed_below-ascends, listed_below-passes, listed_below-contains}
+use Rattle.xk_base.proofs.CountingLemmas.{listed_below-ascends, listed_below-passes, listed_below-contains}
 use Rattle.server_table.specs.declared.table.ServerSeat.{ServerSeat}
 use Rattle.server_table.specs.declared.table.Servers.{Servers}
 use Rattle.server_table.specs.Seats.{server_of}
 use Rattle.server_table.specs.ServersOf.{servers_of}
-use Rattle.server_table.specs.ServerState.{Server, ServerState, same_sid, live_serials}
-use Rattle.server_table.proofs.Serials.{within, by_serial_found}
+use Rattle.xk_base.specs.Sids.{same_sid}
+use Rattle.server_table.specs.ServerState.{Server, ServerState, live_serials}
+use Rattle.server_table.proofs.SerialLemmas.{within, by_serial_found}
 
 -- a serial that finds a server is one that was given
 pub live_below : (t : Servers) (n : ℕ) (v : Server) → (servers_of t).live n ≡ Some v → n < (servers_of t).next

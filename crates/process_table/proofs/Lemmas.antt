@@ -10,9 +10,9 @@ use Rattle.std.proofs.lemmas.Option.{slice_get_past, slice_get-get_or}
 use Rattle.xk_base.specs.Circle.{IsPid}
 use Rattle.xk_base.specs.Counting.{listed_below}
 use Rattle.xk_base.specs.declared.ids.Serial.{Serial}
-use Rattle.xk_base.proofs.Counting.{listed_below-ascends, listed_below-passes, listed_below-contains}
+use Rattle.xk_base.proofs.CountingLemmas.{listed_below-ascends, listed_below-passes, listed_below-contains}
 use Rattle.process_table.specs.ProcessMap.{ProcessMap, is_alive, living_pids}
-use Rattle.process_table.specs.State.{server_at, cid_at}
+use Rattle.xk_base.specs.Connections.{connected_to}
 
 -- ---- the living processes
 
@@ -47,14 +47,14 @@ living_pids-contains n m k l here =
 -- ---- the numbers of connections
 
 -- each number from 2 to that of the last connection is used ..
-pub server_at-used : (servers : List Serial) (k : ℕ) (d : Serial) → k < length servers → server_at (cid_at k).0 servers ≡ Some (get_or servers k d)
-server_at-used servers k d l =
+pub connected_to-used : (servers : List Serial) (k : ℕ) (d : Serial) → k < length servers → connected_to servers (k + 2) ≡ Some (get_or servers k d)
+connected_to-used servers k d l =
     let e : k + 2 - 2 ≡ k = omega arith in
     cond-false (nat_lt (k + 2) 2) None (slice_get servers (k + 2 - 2)) (grind (arith, nat_tests))
     ∙ ap (slice_get servers) e ∙ slice_get-get_or servers k d l
 
 -- .. and the next one isn't: a new connection has the least unused number
-pub server_at-next : (servers : List Serial) → server_at (cid_at (length servers)).0 servers ≡ None
-server_at-next servers =
+pub connected_to-next : (servers : List Serial) → connected_to servers (length servers + 2) ≡ None
+connected_to-next servers =
     cond-false (nat_lt (length servers + 2) 2) None (slice_get servers (length servers + 2 - 2)) (grind (arith, nat_tests))
     ∙ slice_get_past servers (length servers + 2 - 2) (omega arith)

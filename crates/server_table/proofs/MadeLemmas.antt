@@ -7,14 +7,14 @@ use Rattle.xk_base.specs.Counting.{least_below, put_at}
 use Rattle.xk_base.specs.RowMap.{row_map}
 use Rattle.server_table.specs.declared.table.ServerSeat.{ServerSeat}
 use Rattle.server_table.specs.Seats.{server_of, by_serial, seat_with, AreApart, AreCounted}
-use Rattle.server_table.specs.ServerState.{with_sid, with_server, without_server, free_seat, serial_at}
-use Rattle.server_table.proofs.Answered.{state, fresh_sid, fresh_sid', free_seat_is, empty_is}
-use Rattle.server_table.proofs.Changes.{apart_made, by_serial_made, counted_made, apart_removed, by_serial_removed, counted_removed, nothing_removed}
-use Rattle.server_table.proofs.Serials.{seat_with_found, by_serial_none}
+use Rattle.server_table.specs.ServerState.{with_sid, with_server, without_server, free_seat, serial_of}
+use Rattle.server_table.proofs.AnsweredLemmas.{state, fresh_sid, fresh_sid', free_seat_is, empty_is}
+use Rattle.server_table.proofs.ChangeLemmas.{apart_made, by_serial_made, counted_made, apart_removed, by_serial_removed, counted_removed, nothing_removed}
+use Rattle.server_table.proofs.SerialLemmas.{seat_with_found, by_serial_none}
 
 -- what is put at the seat of a new server
 abbrev pub new_seat : Sid → ℕ → Pid → ServerSeat
-new_seat sid next pid = record { sid = sid; serial = serial_at next; pid = pid }
+new_seat sid next pid = record { sid = sid; serial = serial_of next; pid = pid }
 
 pub made_apart : (xs : List (Option ServerSeat)) (next i : ℕ) (sid : Sid) (pid : Pid) → AreApart xs next → length xs ≡ SERVER_LIMIT → i < SERVER_LIMIT
     → with_sid sid (state xs next) ≡ None → AreApart (set xs i (Some (new_seat sid next pid))) (next + 1)
