@@ -1,4 +1,4 @@
-pub mod AreaLaws
-pub mod OwnerLaws
-pub mod PageLaws
-pub mod WordLaws
+pub mod AreaLemmas
+pub mod OwnerLemmas
+pub mod PageLemmas
+pub mod WordLemmas

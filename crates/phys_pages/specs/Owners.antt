@@ -17,6 +17,7 @@ pub record Extent : Type 0 where
   pub frames : ℕ
   pub slots : ℕ
 
+-- the seats of the table
 unfoldable pub extent : OwnerTable → Extent
 extent t = record { first = t.first; frames = length t.frames; slots = length t.slots }
 
@@ -41,6 +42,7 @@ seat_eq (Frame f) (Slot s) = false
 seat_eq (Slot s) (Frame f) = false
 seat_eq (Slot s) (Slot r) = s.0 == r.0
 
+-- a frame and a slot as seats, by their numbers
 abbrev pub frame_seat : ℕ → Seat
 frame_seat n = Frame (record { 0 = n })
 

@@ -27,6 +27,7 @@ pub record IsRam (start count : ℕ) : Type 0 where
   pub few : count ≤ 0x400_0000
   pub below_device : start + count ≤ 0xF000_0000
 
+-- where RAM lies, by its bytes
 unfoldable pub area : RamBytes → Area
 area ram = record { start = ram.start; frames = length ram.bytes / 4096 }
 
@@ -47,6 +48,7 @@ frame_of a ppn =
 abbrev pub IsInside : Area → ℕ → Type 0
 IsInside a pa = (a.start ≤ pa) × (pa < a.start + a.frames * 4096)
 
+-- .. as a test
 abbrev pub is_inside : Area → ℕ → Bool
 is_inside a pa = nat_le a.start pa && nat_lt pa (a.start + a.frames * 4096)
 

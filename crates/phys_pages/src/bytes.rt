@@ -1,6 +1,6 @@
-//! Zeroed bytes.
+//! Zeroed bytes, and what is known of every slice of bytes.
 
-ghost use Rattle.std.specs.Prelude.{◌≡◌, ℕ, length, slice_index, IfOk};
+ghost use Rattle.std.specs.Prelude.{◌≡◌, ◌<◌, ℕ, length, slice_index, All, IfOk};
 
 use std::alloc::Global;
 use xk_base::NoMemory;
@@ -15,3 +15,8 @@ pub(crate) fn zeros(alloc: Global, count: usize) -> Result<Vec<u8>, NoMemory>
         Err(_) => Err(NoMemory),
     }
 }
+
+// Each element of a slice of bytes is below 256.
+pub(crate) fn are_bytes(bytes: &[u8])
+    ensures { All (λ b. b < 256) bytes.now }
+{}

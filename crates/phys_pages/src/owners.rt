@@ -29,7 +29,7 @@ impl Model for Owners {
     ghost invariant = { λ o. (o.first.0 + length o.frames.items ≤ 16384) × (length o.slots.items ≤ 16384) };
 }
 
-// So many free seats.
+/// So many free seats.
 fn free_seats(alloc: Global, count: u32) -> Result<Vec<Option<PageInfo>>, NoMemory>
     ensures { IfOk result (λ v. v.items ≡ replicate count None) }
 {
@@ -39,22 +39,17 @@ fn free_seats(alloc: Global, count: u32) -> Result<Vec<Option<PageInfo>>, NoMemo
     }
 }
 
-// The first free one of the seats. It takes time by how many used ones stand before it.
+/// The first free one of the seats. It takes time by how many used ones stand before it.
 fn first_free(seats: &[Option<PageInfo>]) -> Option<usize>
     ensures within { IfSome result (λ k. k < length seats.now) }
     ensures found { IfSome result (λ k. row_map seats.now k ≡ None) }
     ensures least { IfSome result (λ k. (j : ℕ) → j < k → is_some (row_map seats.now j) ≡ true) }
     ensures none { IfNone result ((j : ℕ) → j < length seats.now → is_some (row_map seats.now j) ≡ true) }
 {
-    for k in 0..seats.len() {
-        if seats[k].is_none() {
-            return Some(k);
-        }
-    }
-    None
+    seats.iter().position(|seat| seat.is_none())
 }
 
-#[tactic(auto, using(xk_base::proofs::RowMap::row_map_set, xk_base::proofs::RowMap::row_map_replicate, xk_base::proofs::RowMap::row_map_read), unfolding(crate::specs::Owners::extent, crate::specs::Owners::infos))]
+#[tactic(auto, using(xk_base::proofs::RowMapLemmas::row_map_set, xk_base::proofs::RowMapLemmas::row_map_replicate, xk_base::proofs::RowMapLemmas::row_map_read), unfolding(crate::specs::Owners::extent, crate::specs::Owners::infos))]
 impl Owners {
     ghost use Rattle.xk_base.specs.Counting.{put_at};
     ghost use Rattle.phys_pages.specs.Owners.{extent, infos, no_infos, seat_eq, HasSeat, AreFramesUsed, AreSlotsUsed};

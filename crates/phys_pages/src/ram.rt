@@ -1,15 +1,13 @@
 //! The bytes of RAM.
 
-ghost use Rattle.std.specs.Prelude.{◌≡◌, ◌+◌, ◌*◌, ◌/◌, ◌%◌, ◌<◌, ◌≤◌, ℕ, Some, length, slice_index, nat_eq, IfOk, IfSome, IfNone};
+ghost use Rattle.std.specs.Prelude.{◌≡◌, ◌+◌, ◌*◌, ◌/◌, ◌%◌, ◌<◌, ◌≤◌, ℕ, Some, length, slice_index, nat_eq, All, IfOk, IfSome, IfNone};
 
-use crate::bytes::zeros;
+use crate::bytes::{are_bytes, zeros};
 use byteorder::{ByteOrder, LittleEndian};
 use std::alloc::Global;
 use std::marker::Model;
+use xk_base::limits::PAGE_SIZE;
 use xk_base::{Frame, NoMemory};
-
-/// How many bytes a page and a frame have.
-const PAGE_BYTES: u32 = 4096;
 
 /// RAM: a row of frames of 4096 bytes, from a physical address on.
 #[derive(Debug, Drop)]
@@ -44,7 +42,7 @@ impl Ram {
         ensures area { IfOk result (λ r. area r ≡ record { start = start; frames = frames }) }
         ensures zero { IfOk result (λ r. (f i : ℕ) → slice_index (pages r f) i ≡ 0) }
     {
-        let bytes = zeros(alloc, frames as usize * PAGE_BYTES as usize)?;
+        let bytes = zeros(alloc, frames as usize * PAGE_SIZE as usize)?;
         Ok(Ram { start, bytes })
     }
 
@@ -53,7 +51,7 @@ impl Ram {
         ensures count { result ≡ (area self.now).frames }
         ensures placed { IsPlaced (area self.now) }
     {
-        (self.bytes.len() / PAGE_BYTES as usize) as u32
+        (self.bytes.len() / PAGE_SIZE as usize) as u32
     }
 
     /// The 4096 bytes of a frame.
@@ -62,8 +60,8 @@ impl Ram {
         ensures value { result.now ≡ pages self.now f.0 }
         ensures len { length result.now ≡ 4096 }
     {
-        let at = f.0 as usize * PAGE_BYTES as usize;
-        &self.bytes[at..at + PAGE_BYTES as usize]
+        let at = f.0 as usize * PAGE_SIZE as usize;
+        &self.bytes[at..at + PAGE_SIZE as usize]
     }
 
     /// The 4096 bytes of a frame, to be written: what is written is what the frame then holds, and
@@ -74,8 +72,8 @@ impl Ram {
         ensures value { result.now ≡ pages self.old f.0 }
         ensures len { length result.now ≡ 4096 }
     {
-        let at = f.0 as usize * PAGE_BYTES as usize;
-        self.bytes.slice_mut(at..at + PAGE_BYTES as usize)
+        let at = f.0 as usize * PAGE_SIZE as usize;
+        self.bytes.slice_mut(at..at + PAGE_SIZE as usize)
     }
 
     /// The physical page number of a frame: its physical address divided by 4096.
@@ -85,7 +83,7 @@ impl Ram {
         ensures inverse { frame_of (area self.now) result ≡ Some f }
         ensures placed { IsPlaced (area self.now) }
     {
-        self.start / PAGE_BYTES + f.0
+        self.start / PAGE_SIZE + f.0
     }
 
     /// The frame of a physical page number; `None` exactly outside RAM.
@@ -95,7 +93,7 @@ impl Ram {
         ensures inverse { IfSome result (λ f. ppn_of (area self.now) f.0 ≡ ppn) }
         ensures placed { IsPlaced (area self.now) }
     {
-        let first = self.start / PAGE_BYTES;
+        let first = self.start / PAGE_SIZE;
         if ppn < first || ppn - first >= self.frames() {
             return None;
         }
@@ -108,8 +106,8 @@ impl Ram {
         requires inside { IsInside (area self.now) pa }
         ensures { words self.now pa ≡ Some result }
     {
-        let f = Frame(pa / PAGE_BYTES - self.start / PAGE_BYTES);
-        let at = (pa % PAGE_BYTES) as usize;
+        let f = Frame(pa / PAGE_SIZE - self.start / PAGE_SIZE);
+        let at = (pa % PAGE_SIZE) as usize;
         LittleEndian::read_u32(&self.page(f)[at..])
     }
 
@@ -121,9 +119,16 @@ impl Ram {
         ensures pages { pages self.new ≡ put_at nat_eq (pages self.old) (frame_at (area self.old) pa) (with_word (pages self.old (frame_at (area self.old) pa)) (pa % 4096) v) }
         ensures area { area self.new ≡ area self.old }
     {
-        let f = Frame(pa / PAGE_BYTES - self.start / PAGE_BYTES);
-        let at = (pa % PAGE_BYTES) as usize;
+        let f = Frame(pa / PAGE_SIZE - self.start / PAGE_SIZE);
+        let at = (pa % PAGE_SIZE) as usize;
         let page = self.page_mut(f);
         LittleEndian::write_u32(&mut page[at..], v);
+    }
+
+    /// Law: what each frame holds are bytes.
+    pub fn pages_are_bytes(&self)
+        ensures { (f : ℕ) → All (λ b. b < 256) (pages self.now f) }
+    {
+        are_bytes(self.bytes.as_slice());
     }
 }

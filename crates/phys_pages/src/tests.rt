@@ -10,7 +10,7 @@ use xk_base::{Frame, LoanKind, Number, Pid, Place, Slot, Vpn};
 const START: u32 = 0x4000_0000;
 
 // Writes both ends of a frame that holds zeros.
-#[tactic(auto, using(crate::proofs::PageLaws::page_writes))]
+#[tactic(auto, using(crate::proofs::PageLemmas::page_writes))]
 fn write_ends(rt: &impl Abort, ram: &mut Ram, f: Frame, first: u8, last: u8)
     requires { f.0 < (area ram.old).frames }
     ensures { area ram.new ≡ area ram.old }

@@ -1,4 +1,4 @@
-pub mod Extension
-pub mod FormatFields
-pub mod Found
-pub mod Only
+pub mod ExtensionLemmas
+pub mod FormatFieldLemmas
+pub mod FoundLemmas
+pub mod OnlyLemmas

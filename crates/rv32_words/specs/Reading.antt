@@ -42,6 +42,7 @@ abbrev pub j_bits : ℕ → ℕ
 j_bits word =
     word_of ((1, field 31 1 word) ∷ (8, field 12 8 word) ∷ (1, field 20 1 word) ∷ (10, field 21 10 word) ∷ (1, 0) ∷ [])
 
+-- what a word says under each opcode, by its function codes: BRANCH (2.5) ..
 abbrev pub branch_at : ℕ → Option Insn
 branch_at word =
     if funct3_of word == 0b000 then Some (Beq (rs1_of word) (rs2_of word) (sign_extended 13 (b_bits word))) else (
@@ -51,6 +52,7 @@ branch_at word =
     if funct3_of word == 0b110 then Some (Bltu (rs1_of word) (rs2_of word) (sign_extended 13 (b_bits word))) else (
     if funct3_of word == 0b111 then Some (Bgeu (rs1_of word) (rs2_of word) (sign_extended 13 (b_bits word))) else None)))))
 
+-- .. LOAD and STORE (2.6) ..
 abbrev pub load_at : ℕ → Option Insn
 load_at word =
     if funct3_of word == 0b000 then Some (Lb (rd_of word) (rs1_of word) (sign_extended 12 (i_bits word))) else (
@@ -65,6 +67,7 @@ store_at word =
     if funct3_of word == 0b001 then Some (Sh (rs1_of word) (rs2_of word) (sign_extended 12 (s_bits word))) else (
     if funct3_of word == 0b010 then Some (Sw (rs1_of word) (rs2_of word) (sign_extended 12 (s_bits word))) else None))
 
+-- .. OP-IMM, whose shifts have a code in the place of the immediate's high bits (2.4) ..
 abbrev pub shift_left_at : ℕ → Option Insn
 shift_left_at word =
     if funct7_of word == 0b0000000 then Some (Slli (rd_of word) (rs1_of word) (rs2_of word)) else None
@@ -85,6 +88,7 @@ op_imm_at word =
     if funct3_of word == 0b110 then Some (Ori (rd_of word) (rs1_of word) (sign_extended 12 (i_bits word))) else (
     if funct3_of word == 0b111 then Some (Andi (rd_of word) (rs1_of word) (sign_extended 12 (i_bits word))) else None)))))))
 
+-- .. OP, by funct7 the base's, the base's other meaning, and multiplication and division (2.4, M) ..
 abbrev pub base_op_at : ℕ → Option Insn
 base_op_at word =
     if funct3_of word == 0b000 then Some (Add (rd_of word) (rs1_of word) (rs2_of word)) else (
@@ -118,15 +122,18 @@ op_at word =
     if funct7_of word == 0b0100000 then alternate_op_at word else (
     if funct7_of word == 0b0000001 then muldiv_at word else None))
 
+-- .. MISC-MEM (2.7, Zifencei) ..
 abbrev pub misc_mem_at : ℕ → Option Insn
 misc_mem_at word =
     if funct3_of word == 0b000 then Some (Fence (rd_of word) (rs1_of word) (sign_extended 12 (i_bits word))) else (
     if funct3_of word == 0b001 then Some (FenceI (rd_of word) (rs1_of word) (sign_extended 12 (i_bits word))) else None)
 
+-- .. JALR (2.5) ..
 abbrev pub jalr_at : ℕ → Option Insn
 jalr_at word =
     if funct3_of word == 0b000 then Some (Jalr (rd_of word) (rs1_of word) (sign_extended 12 (i_bits word))) else None
 
+-- .. and SYSTEM, of which these two words alone are instructions (2.8)
 abbrev pub system_at : ℕ → Option Insn
 system_at word =
     if word == 0x0000_0073 then Some Ecall else (

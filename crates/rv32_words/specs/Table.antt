@@ -7,6 +7,7 @@ use Rattle.rv32_words.specs.Formats.{Layout, RType, IType, ShiftType, SType, BTy
 use Rattle.rv32_words.specs.declared.insn.Insn.{Insn}
 use Rattle.rv32_words.specs.declared.insn.Insn.TheVariants.{Lui, Auipc, Jal, Jalr, Beq, Bne, Blt, Bge, Bltu, Bgeu, Lb, Lh, Lw, Lbu, Lhu, Sb, Sh, Sw, Addi, Slti, Sltiu, Xori, Ori, Andi, Slli, Srli, Srai, Add, Sub, Sll, Slt, Sltu, Xor, Srl, Sra, Or, And, Mul, Mulh, Mulhsu, Mulhu, Div, Divu, Rem, Remu, Fence, FenceI, Ecall, Ebreak}
 
+-- the format of each instruction's word, with its opcode, its function codes and its fields
 abbrev pub layout : Insn → Layout
 -- 2.4 Integer Computational Instructions: LUI and AUIPC
 layout (Lui rd imm) = UType 0b0110111 rd imm

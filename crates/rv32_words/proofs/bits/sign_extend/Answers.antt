@@ -1,4 +1,4 @@
-use Rattle.rv32_words.proofs.Extension.{extended}
+use Rattle.rv32_words.proofs.ExtensionLemmas.{extended}
 use Rattle.rv32_words.proofs.bits.sign_extend.Goals as goal
 
 pub returns : goal.returns

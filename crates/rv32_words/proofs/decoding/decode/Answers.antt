@@ -1,6 +1,6 @@
 use Rattle.std.proofs.Common.{◌∙◌}
-use Rattle.rv32_words.proofs.Found.{found_or_none}
-use Rattle.rv32_words.proofs.Only.{insn_at-spelled}
+use Rattle.rv32_words.proofs.FoundLemmas.{found_or_none}
+use Rattle.rv32_words.proofs.OnlyLemmas.{insn_at-spelled}
 use Rattle.rv32_words.proofs.decoding.decode.Goals as goal
 
 pub returns-clause-found : goal.returns-clause-found

@@ -1,5 +1,5 @@
 use Rattle.phys_pages.specs.Owners.{extent}
-use Rattle.phys_pages.proofs.OwnerLaws.{infos-set_frame, infos-set_slot}
+use Rattle.phys_pages.proofs.OwnerLemmas.{infos-set_frame, infos-set_slot}
 use Rattle.phys_pages.proofs.owners.Owners.set.Goals as goal
 
 pub returns-in-Frame-clause-infos : goal.returns-in-Frame-clause-infos

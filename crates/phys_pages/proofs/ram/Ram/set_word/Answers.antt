@@ -1,8 +1,8 @@
 use Rattle.std.proofs.Common.{◌≡◌, ◌+◌, ◌-◌, ◌/◌, ◌%◌, ◌<◌, ◌≤◌, List, ℕ, length, refl, sym, ap, ◌∙◌, arith}
 use borrow.Rule.Slice.PartMut.{put_mid}
 use Rattle.phys_pages.specs.Ram.{RamBytes, area, frame_at, with_word, with_page}
-use Rattle.phys_pages.proofs.PageLaws.{length-pages, area-with_page}
-use Rattle.phys_pages.proofs.WordLaws.{frame_at-within, length-with_word, written_word, pages-set_word, words-set_word}
+use Rattle.phys_pages.proofs.PageLemmas.{length-pages, area-with_page}
+use Rattle.phys_pages.proofs.WordLemmas.{frame_at-within, length-with_word, written_word, pages-set_word, words-set_word}
 use Rattle.phys_pages.proofs.ram.Ram.set_word.Goals as goal
 
 -- the frame that is written, as the code finds it

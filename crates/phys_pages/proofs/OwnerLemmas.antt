@@ -4,7 +4,7 @@ use Rattle.std.proofs.lemmas.Bool.{cases_lt, cases_eq, cond-true, cond-false, eq
 use Rattle.std.proofs.lemmas.List.{get_or_past}
 use Rattle.xk_base.specs.Counting.{put_at}
 use Rattle.xk_base.specs.RowMap.{row_map}
-use Rattle.xk_base.proofs.RowMap.{row_map_set}
+use Rattle.xk_base.proofs.RowMapLemmas.{row_map_set}
 use Rattle.xk_base.specs.declared.ids.Frame.{Frame as FrameNumber}
 use Rattle.xk_base.specs.declared.ids.Slot.{Slot as SlotNumber}
 use Rattle.phys_pages.specs.declared.infos.PageInfo.{PageInfo}

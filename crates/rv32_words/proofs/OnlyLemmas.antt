@@ -4,7 +4,7 @@ use Rattle.rv32_words.specs.Table.{Spells}
 use Rattle.rv32_words.specs.Reading.{opcode_of, funct3_of, funct7_of, insn_at, branch_at, load_at, store_at, shift_left_at, shift_right_at, op_imm_at, base_op_at, alternate_op_at, muldiv_at, misc_mem_at, jalr_at}
 use Rattle.rv32_words.specs.declared.insn.Insn.{Insn}
 use Rattle.rv32_words.specs.declared.insn.Insn.TheVariants.{Lui, Auipc, Jal, Jalr, Beq, Bne, Blt, Bge, Bltu, Bgeu, Lb, Lh, Lw, Lbu, Lhu, Sb, Sh, Sw, Addi, Slti, Sltiu, Xori, Ori, Andi, Slli, Srli, Srai, Add, Sub, Sll, Slt, Sltu, Xor, Srl, Sra, Or, And, Mul, Mulh, Mulhsu, Mulhu, Div, Divu, Rem, Remu, Fence, FenceI, Ecall, Ebreak}
-use Rattle.rv32_words.proofs.FormatFields.{r_fields, i_fields, s_fields, b_fields, u_fields, j_fields}
+use Rattle.rv32_words.proofs.FormatFieldLemmas.{r_fields, i_fields, s_fields, b_fields, u_fields, j_fields}
 
 -- ---- which part of the table is read, by the opcode and the codes above it
 

@@ -9,8 +9,8 @@ use Rattle.byteorder.specs.Numbers.{little_number-reads_back, little_from-append
 use Rattle.xk_base.specs.Counting.{put_at}
 use Rattle.phys_pages.specs.Ram.{RamBytes, Area, IsPlaced, IsInside, is_inside, area, pages, words, words_of, with_page, word_in, with_word, frame_at, frame_of, ppn_of}
 use Rattle.xk_base.specs.declared.ids.Frame.{Frame}
-use Rattle.phys_pages.proofs.AreaLaws.{frame_of-within}
-use Rattle.phys_pages.proofs.PageLaws.{pages-with_page, area-with_page}
+use Rattle.phys_pages.proofs.AreaLemmas.{frame_of-within}
+use Rattle.phys_pages.proofs.PageLemmas.{pages-with_page, area-with_page}
 
 -- a number of four bytes depends on the first four alone
 first_four : (xs ys : List ℕ) → 4 ≤ length xs → take 4 xs ≡ take 4 ys → 4 ≤ length ys → little_number 4 xs ≡ little_number 4 ys

@@ -3,10 +3,10 @@ use Rattle.std.proofs.Common.{◌≡◌, ℕ, ◌+◌, ◌*◌, ◌/◌, ◌%◌
 use Rattle.std.proofs.lemmas.Int.{ints}
 use Rattle.std.proofs.lemmas.Bool.{eqb-true}
 use Rattle.std.proofs.lemmas.Option.{none-some}
-use Rattle.rv32_words.proofs.Only.{insn_at-spelled}
+use Rattle.rv32_words.proofs.OnlyLemmas.{insn_at-spelled}
 use Rattle.std.specs.Int.{cast_unsigned}
 use Rattle.xk_base.specs.Fields.{field, word_of, sign_extended, FitsBits}
-use Rattle.xk_base.proofs.Fields.{field_below, field_whole, word_of-drawn_like, sign_extended-fits, low-sign_extended}
+use Rattle.xk_base.proofs.FieldLemmas.{field_below, field_whole, word_of-drawn_like, sign_extended-fits, low-sign_extended}
 use Rattle.rv32_words.specs.Formats.{RType, IType, SType, BType, UType, JType, drawing, FieldsFit}
 use Rattle.rv32_words.specs.Table.{Spells}
 use Rattle.rv32_words.specs.Reading.{opcode_of, rd_of, funct3_of, rs1_of, rs2_of, funct7_of, i_bits, s_bits, b_bits, u_bits, j_bits, insn_at, branch_at, load_at, store_at, shift_left_at, shift_right_at, op_imm_at, base_op_at, alternate_op_at, muldiv_at, op_at, misc_mem_at, jalr_at, system_at}

@@ -1,9 +1,10 @@
 -- What RAM holds after a page was written.
 use Rattle.std.proofs.Common.{◌≡◌, ◌==◌, ◌+◌, ◌-◌, ◌*◌, ◌/◌, ◌<◌, ◌≤◌, ℕ, true, false, cond, List, ◌++◌, length, take, drop, slice_range, slice_index, replicate, nat_eq, refl, sym, ap, ◌∙◌, ⊎_elim, arith}
-use Rattle.std.specs.List.{refill, length_refill}
+use Rattle.std.specs.List.{All, refill, length_refill}
 use Rattle.std.proofs.lemmas.Bool.{cases_lt, eq-eqb}
 use Rattle.std.proofs.lemmas.Bool.Decides.{nat_tests}
 use Rattle.std.proofs.lemmas.List.{length-append, length-take, length-drop, take-append-le, take_all, length-set, get_or-replicate, get_or_past, length-replicate}
+use Rattle.std.proofs.lemmas.List.Elements.{All-drop, All-take}
 use Rattle.std.proofs.lemmas.Slice.{between_is, between-put_mid, take-put_mid_below, drop-put_mid}
 use borrow.Rule.Slice.PartMut.{put_mid}
 use Rattle.xk_base.specs.Counting.{put_at}
@@ -87,3 +88,8 @@ zeroed ram f n page within whole zeros i =
 
 -- what a caller needs that writes into a page
 pub ruleset page_writes = (pages-with_page, area-with_page, length-pages, length-set)
+
+-- bytes of RAM are bytes of its frames
+pub All-pages : (P : ℕ → Type 0) (ram : RamBytes) → All P ram.bytes → (f : ℕ) → All P (pages ram f)
+unfolding pages
+All-pages P ram each f = All-take P (f * 4096 + 4096 - f * 4096) (drop (f * 4096) ram.bytes) (All-drop P (f * 4096) ram.bytes each)
