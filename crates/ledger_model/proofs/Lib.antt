@@ -1,20 +1,16 @@
-pub mod Console
-pub mod Ending
-mod Examples
-pub mod Giving
-pub mod LeastRuns
-pub mod LedgerLaws
-pub mod Lending
-pub mod Living
-pub mod Locality
-pub mod Making
-pub mod Narrower
-pub mod Numbering
-pub mod OfNumber
-pub mod Orphaning
-pub mod Owners
-pub mod PlaceLaws
-pub mod Reaching
-pub mod Removing
-pub mod SmallLaws
-pub mod Writing
+pub mod BareLemmas
+mod ExampleLemmas
+pub mod LeastRunLemmas
+pub mod LedgerLemmas
+pub mod LivingLemmas
+pub mod LocalityLemmas
+pub mod NarrowerLemmas
+pub mod NumberingLemmas
+pub mod OfNumberLemmas
+pub mod OwnerLemmas
+pub mod PlaceLemmas
+pub mod ReachingLemmas
+pub mod RunTestLemmas
+pub mod SmallLemmas
+pub mod Stepping
+pub mod WholePageLemmas

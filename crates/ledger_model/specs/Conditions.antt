@@ -11,7 +11,7 @@ use Rattle.xk_base.specs.declared.pages.LoanKind.TheVariants.{Shared, Exclusive}
 use Rattle.xk_base.specs.declared.pages.Right.{Right}
 use Rattle.xk_base.specs.declared.windows.Window.TheVariants.{Message, Map}
 use Rattle.ledger_model.specs.Ledger.{Ledger, Page, PageName, has_bytes, pages}
-use Rattle.ledger_model.specs.Loans.{loans, IsFresh}
+use Rattle.ledger_model.specs.Loans.{loans, LoanRun, Stands, IsFresh}
 use Rattle.ledger_model.specs.Places.{in_run, is_user_place, is_place_in}
 use Rattle.ledger_model.specs.Reach.{is_free, reach}
 
@@ -78,6 +78,13 @@ pub record CanLend (procs : ℕ) (ledger : Ledger) (from : Place) (n : ℕ) (to 
   pub free : (p : Place) → in_run to n p ≡ true → IsTrue (is_free procs ledger p)
   pub lies : (p : Place) → in_run to n p ≡ true → IsTrue (is_place_in procs Message p)
   pub fresh : IsFresh (loans ledger) number
+
+-- a loan that stands and has a lender, and as many free places of the Message window at `to`
+pub record CanPass (procs : ℕ) (ledger : Ledger) (loan : LoanRun) (to : Place) : Type 0 where
+  pub stands : Stands (loans ledger) loan
+  pub lent : IsTrue (is_some loan.lender)
+  pub free : (p : Place) → in_run to loan.count p ≡ true → IsTrue (is_free procs ledger p)
+  pub lies : (p : Place) → in_run to loan.count p ≡ true → IsTrue (is_place_in procs Message p)
 
 -- n pages at `from` that may be moved, and n free places of the Message window at `to`
 pub record CanGive (procs : ℕ) (ledger : Ledger) (from : Place) (n : ℕ) (to : Place) : Type 0 where

@@ -1,18 +1,12 @@
--- The lawful ledger: what the ledger of `procs` processes keeps, with room for `capacity` pages.
-use Rattle.std.specs.Prelude.{◌≡◌, ℕ, ◌≤◌, ◌<◌, ◌⊎◌, true, false, IsTrue, List, length, Some, None}
-use Rattle.std.specs.List.{All}
+-- The lawful ledger: what the ledger of `procs` processes keeps, with room for `capacity` pages. It says nothing of bytes.
+use Rattle.std.specs.Prelude.{◌≡◌, ℕ, ◌≤◌, ◌⊎◌, true, false, IsTrue, Some, None}
 use Rattle.xk_base.specs.declared.ids.Number.{Number}
 use Rattle.xk_base.specs.declared.ids.Place.{Place}
 use Rattle.xk_base.specs.declared.pages.LoanKind.TheVariants.{Exclusive}
 use Rattle.xk_base.specs.declared.windows.Window.TheVariants.{Message, Map}
-use Rattle.ledger_model.specs.Ledger.{Ledger, Console, Bytes, Page, PageLoan, Orphan, loan_at, pages}
+use Rattle.ledger_model.specs.Ledger.{Ledger, Console, Page, PageLoan, Orphan, loan_at, pages}
 use Rattle.ledger_model.specs.Loans.{loans, LoanRun, Stands, IsFresh}
 use Rattle.ledger_model.specs.Places.{is_user_place, is_place_in}
-
--- the bytes of a page: 4096 of them
-pub record IsPage (bytes : List ℕ) : Type 0 where
-  pub size : length bytes ≡ 4096
-  pub each : All (λ b. b < 256) bytes
 
 -- the entries of a number: it has none, or they are those of one loan that stands
 abbrev pub IsOneRun : Ledger → Number → Type 0
@@ -50,7 +44,3 @@ pub record IsLawful (procs capacity : ℕ) (ledger : Ledger) : Type 0 where
   -- a page under an Exclusive loan has w in its right
   pub exclusive_writable : (p : Place) (page : Page) (loan : PageLoan) → ledger.home p ≡ Some page
       → page.loan ≡ Some loan → loan.kind ≡ Exclusive → page.right.w ≡ true
-  -- each page and each orphan has 4096 bytes
-  pub page_whole : (p : Place) (page : Page) (bytes : List ℕ) → ledger.home p ≡ Some page
-      → page.contents ≡ Bytes bytes → IsPage bytes
-  pub orphan_whole : (p : Place) (orphan : Orphan) → ledger.orphan p ≡ Some orphan → IsPage orphan.bytes

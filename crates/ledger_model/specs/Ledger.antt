@@ -1,7 +1,7 @@
 -- The ledger: every page of the machine by its home place, with its right, its bytes and at most one
 -- loan, and every orphan by its holder's place. The owner of a page is the process of its home. An
 -- orphan is a page whose lender died while another process held it: its owner is the kernel.
-use Rattle.std.specs.Prelude.{ℕ, ◌+◌, Bool, true, false, is_some, List, Option, Some, None}
+use Rattle.std.specs.Prelude.{ℕ, ◌+◌, Bool, true, false, is_some, slice_index, List, Option, Some, None}
 use Rattle.std.specs.Option.{option_map}
 use Rattle.xk_base.specs.declared.ids.Number.{Number}
 use Rattle.xk_base.specs.declared.ids.Place.{Place}
@@ -63,6 +63,11 @@ loan_at ledger p = loan_of (ledger.home p)
 abbrev pub has_bytes : Contents → Bool
 has_bytes Console = false
 has_bytes (Bytes bytes) = true
+
+-- its byte at an offset; a load from the console gives 0
+abbrev pub byte_of : ℕ → Contents → ℕ
+byte_of offset Console = 0
+byte_of offset (Bytes bytes) = slice_index bytes offset
 
 -- a page that counts against the capacity: any but the console
 abbrev pub is_counted : Option Page → Bool

@@ -10,3 +10,4 @@ pub mod Reach
 pub mod RunTests
 pub mod Small
 pub mod Steps
+pub mod WholePages

@@ -60,6 +60,10 @@ pub record LoanRun : Type 0 where
 abbrev pub without_lender : LoanRun → LoanRun
 without_lender r = record r { lender = None }
 
+-- the loan after it was passed on to another holder's place
+abbrev pub with_holder : Place → LoanRun → LoanRun
+with_holder to r = record r { holder = to }
+
 abbrev pub same_number : Number → Number → Bool
 same_number a b = a.0 == b.0
 

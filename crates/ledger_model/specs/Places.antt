@@ -4,6 +4,7 @@ use Rattle.std.specs.Option.{option_map}
 use Rattle.xk_base.specs.declared.ids.Place.{Place}
 use Rattle.xk_base.specs.declared.windows.Window.{Window}
 use Rattle.xk_base.specs.declared.windows.Window.TheVariants.{Image, Heap, Message, Map, Stack}
+use Rattle.xk_base.specs.Circle.{is_pid}
 use Rattle.xk_base.specs.Windows.{first_page, in_window, window_at}
 use Rattle.xk_base.specs.Counting.{count_below, least_below, listed_below}
 
@@ -32,16 +33,13 @@ in_run first n p = (p.pid.0 == first.pid.0) && (nat_le first.vpn.0 p.vpn.0 && na
 abbrev pub moved : Place → Place → Place → Place
 moved from to p = record { pid = to.pid; vpn = record { 0 = to.vpn.0 + (p.vpn.0 - from.vpn.0) } }
 
--- a place where a user page may stand, with `procs` processes: their pids are 2 to procs + 1
-abbrev pub is_process : ℕ → ℕ → Bool
-is_process procs pid = nat_le 2 pid && nat_lt pid (procs + 2)
-
+-- a place where a user page may stand, with `procs` processes
 abbrev pub is_user_place : ℕ → Place → Bool
-is_user_place procs p = is_process procs p.pid.0 && is_some (window_at p.vpn.0)
+is_user_place procs p = is_pid procs p.pid.0 && is_some (window_at p.vpn.0)
 
 -- .. and one in a given window
 abbrev pub is_place_in : ℕ → Window → Place → Bool
-is_place_in procs window p = is_process procs p.pid.0 && in_window window p.vpn.0
+is_place_in procs window p = is_pid procs p.pid.0 && in_window window p.vpn.0
 
 -- ---- The user places of a process are numbered from 0, window after window, so that the numbering
 -- ascends: 4,080 pages of the Image window, then 4,096 of each of Heap, Message, Map and Stack.

@@ -2,6 +2,8 @@
 use Rattle.std.specs.Prelude.{ℕ, ◌+◌, Bool, true, false, not, ◌&&◌, ◌||◌, nat_le, is_some, Option, Some, None}
 use Rattle.std.specs.List.{list_any}
 use Rattle.xk_base.specs.declared.ids.Place.{Place}
+use Rattle.xk_base.specs.declared.pages.LoanKind.{LoanKind}
+use Rattle.xk_base.specs.declared.pages.LoanKind.TheVariants.{Shared, Exclusive}
 use Rattle.xk_base.specs.declared.pages.Right.{Right}
 use Rattle.xk_base.specs.declared.windows.Window.{Window}
 use Rattle.xk_base.specs.Windows.{first_page, last_page}
@@ -52,6 +54,11 @@ abbrev pub any_not_sent : ℕ → Ledger → Place → ℕ → Bool → Bool
 any_not_sent procs ledger first n mutably =
     any_on_loan procs ledger first n || any_console ledger first n
     || (mutably && any_lacks (record { w = true; x = false }) ledger first n)
+
+-- a loan of that kind lends mutably
+abbrev pub is_exclusive : LoanKind → Bool
+is_exclusive Shared = false
+is_exclusive Exclusive = true
 
 -- a process has mapped the console
 unfoldable pub console_mapped : ℕ → Ledger → Bool

@@ -102,6 +102,20 @@ end_loan number ledger = record {
   orphan = λ p. orphan_without number (ledger.orphan p);
 }
 
+-- ---- pass
+
+-- a loan of that number has its holder at the place of the run at `to` where it was in the run at `from`
+abbrev pub passed_loan : Number → Place → Place → PageLoan → PageLoan
+passed_loan number from to loan = if same_number loan.number number then record loan { holder = moved from to loan.holder } else loan
+
+abbrev pub passed : Number → Place → Place → Page → Page
+passed number from to page = record page { loan = option_map (passed_loan number from to) page.loan }
+
+-- Loans of that number go on to another holder: loan i of their run, whose first holder place was `from`,
+-- gets the holder place i of the run at `to`. Home, right, kind and number stay.
+unfoldable pub pass : Number → Place → Place → Ledger → Ledger
+pass number from to ledger = record ledger { home = λ p. option_map (passed number from to) (ledger.home p) }
+
 -- ---- give
 
 -- page i of the run at `from` has its home at place i of the run at `to`, with its right and its bytes

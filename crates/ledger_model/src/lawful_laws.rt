@@ -1,10 +1,11 @@
 //! Each step keeps the ledger lawful, under the condition of the step.
 
-ghost use Rattle.ledger_model.specs.Conditions.{CanForget, CanGive, CanLend, CanMake, CanMakeConsole, CanReduce, CanRemove, CanWrite};
+ghost use Rattle.ledger_model.specs.Conditions.{CanForget, CanGive, CanLend, CanMake, CanMakeConsole, CanPass, CanReduce, CanRemove, CanWrite};
 ghost use Rattle.ledger_model.specs.Lawful.{IsLawful};
 ghost use Rattle.ledger_model.specs.Ledger.{Ledger, PageName};
-ghost use Rattle.ledger_model.specs.Life.{MayAll, Step, after_all};
-ghost use Rattle.ledger_model.specs.Steps.{end_loan, forget, give, lend, make, make_console, orphan_loan, reduce, remove, write};
+ghost use Rattle.ledger_model.specs.Life.{LedgerStep, MayAll, after_all};
+ghost use Rattle.ledger_model.specs.Loans.{LoanRun};
+ghost use Rattle.ledger_model.specs.Steps.{end_loan, forget, give, lend, make, make_console, orphan_loan, pass, reduce, remove, write};
 ghost use Rattle.std.specs.Prelude.{Bool, List, ℕ};
 ghost use Rattle.xk_base.specs.declared.ids.Number.{Number};
 ghost use Rattle.xk_base.specs.declared.ids.Pid.{Pid};
@@ -60,6 +61,13 @@ pub fn lawful_after_end()
         → IsLawful procs capacity (end_loan number ledger) }
 {}
 
+/// `pass` keeps the ledger lawful.
+pub fn lawful_after_pass()
+    ensures { (procs capacity : ℕ) (loan : LoanRun) (to : Place) (ledger : Ledger)
+        → IsLawful procs capacity ledger → CanPass procs ledger loan to
+        → IsLawful procs capacity (pass loan.number loan.holder to ledger) }
+{}
+
 /// `give` keeps the ledger lawful.
 pub fn lawful_after_give()
     ensures { (procs capacity : ℕ) (from : Place) (n : ℕ) (to : Place) (ledger : Ledger)
@@ -81,7 +89,7 @@ pub fn lawful_after_forget()
 
 /// A lawful ledger is lawful after any list of steps, each under its condition.
 pub fn lawful_after_all()
-    ensures { (procs capacity : ℕ) (steps : List Step) (ledger : Ledger)
+    ensures { (procs capacity : ℕ) (steps : List LedgerStep) (ledger : Ledger)
         → IsLawful procs capacity ledger → MayAll procs capacity steps ledger
         → IsLawful procs capacity (after_all procs steps ledger) }
 {}

@@ -12,3 +12,4 @@ pub mod place_laws;
 pub mod reach_laws;
 pub mod small;
 pub mod step_laws;
+pub mod whole_laws;

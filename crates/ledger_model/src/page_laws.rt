@@ -5,7 +5,7 @@ ghost use Rattle.ledger_model.specs.Lawful.{IsLawful};
 ghost use Rattle.ledger_model.specs.Ledger.{Ledger, PageName, is_counted, pages};
 ghost use Rattle.ledger_model.specs.Loans.{LoanRun, Stands, loans};
 ghost use Rattle.ledger_model.specs.Places.{count_places};
-ghost use Rattle.ledger_model.specs.Steps.{end_loan, forget, give, lend, make, make_console, orphan_loan, reduce, remove, write};
+ghost use Rattle.ledger_model.specs.Steps.{end_loan, forget, give, lend, make, make_console, orphan_loan, pass, reduce, remove, write};
 ghost use Rattle.std.specs.Prelude.{Bool, List, None, Some, ℕ, ◌&&◌, ◌+◌, ◌==◌, ◌≡◌};
 ghost use Rattle.xk_base.specs.declared.ids.Number.{Number};
 ghost use Rattle.xk_base.specs.declared.ids.Pid.{Pid};
@@ -33,7 +33,7 @@ pub fn pages_after_remove()
         ≡ pages procs ledger }
 {}
 
-/// `write`, `reduce`, `lend`, `give` and `orphan_loan` keep the number of pages.
+/// `write`, `reduce`, `lend`, `pass`, `give` and `orphan_loan` keep the number of pages.
 pub fn pages_are_kept()
     ensures written { (procs : ℕ) (name : PageName) (offset : ℕ) (bytes : List ℕ) (ledger : Ledger)
         → pages procs (write name offset bytes ledger) ≡ pages procs ledger }
@@ -41,6 +41,8 @@ pub fn pages_are_kept()
         → pages procs (reduce places right ledger) ≡ pages procs ledger }
     ensures lent { (procs : ℕ) (from : Place) (n : ℕ) (to : Place) (kind : LoanKind) (number : Number) (ledger : Ledger)
         → pages procs (lend from n to kind number ledger) ≡ pages procs ledger }
+    ensures passed { (procs : ℕ) (number : Number) (from to : Place) (ledger : Ledger)
+        → pages procs (pass number from to ledger) ≡ pages procs ledger }
     ensures given { (procs : ℕ) (from : Place) (n : ℕ) (to : Place) (ledger : Ledger)
         → CanGive procs ledger from n to → (capacity : ℕ) → IsLawful procs capacity ledger
         → pages procs (give from n to ledger) ≡ pages procs ledger }

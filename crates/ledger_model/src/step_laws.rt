@@ -3,7 +3,7 @@
 ghost use Rattle.ledger_model.specs.Ledger.{Homed, Ledger, Orphaned, PageLoan, PageName, loan_at};
 ghost use Rattle.ledger_model.specs.Loans.{of_number, orphan_loan_at, orphan_of_number};
 ghost use Rattle.ledger_model.specs.Places.{in_run};
-ghost use Rattle.ledger_model.specs.Steps.{end_loan, forget, give, lend, make, make_console, orphan_loan, reduce, remove, write};
+ghost use Rattle.ledger_model.specs.Steps.{end_loan, forget, give, lend, make, make_console, orphan_loan, pass, reduce, remove, write};
 ghost use Rattle.std.specs.Prelude.{Bool, IsFalse, List, None, Some, ℕ, ◌≡◌, ◌≢◌};
 ghost use Rattle.xk_base.specs.declared.ids.Number.{Number};
 ghost use Rattle.xk_base.specs.declared.ids.Pid.{Pid};
@@ -67,6 +67,15 @@ pub fn end_leaves()
     ensures orphans { (number : Number) (ledger : Ledger) (p : Place)
         → orphan_of_number number (orphan_loan_at ledger p) ≡ None
         → (end_loan number ledger).orphan p ≡ ledger.orphan p }
+{}
+
+/// `pass` leaves all pages but those on loan by its number, and all orphans.
+pub fn pass_leaves()
+    ensures homes { (number : Number) (from to : Place) (ledger : Ledger) (p : Place)
+        → of_number number (loan_at ledger p) ≡ None
+        → (pass number from to ledger).home p ≡ ledger.home p }
+    ensures orphans { (number : Number) (from to : Place) (ledger : Ledger) (p : Place)
+        → (pass number from to ledger).orphan p ≡ ledger.orphan p }
 {}
 
 /// `give` leaves all homes but those of its two runs.

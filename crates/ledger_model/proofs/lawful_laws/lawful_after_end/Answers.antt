@@ -1,4 +1,4 @@
-use Rattle.ledger_model.proofs.Ending.{end_loan_lawful}
+use Rattle.ledger_model.proofs.Stepping.EndingLemmas.{end_loan_lawful}
 use Rattle.ledger_model.proofs.lawful_laws.lawful_after_end.Goals as goal
 
 pub returns : goal.returns

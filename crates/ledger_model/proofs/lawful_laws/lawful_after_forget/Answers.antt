@@ -1,4 +1,4 @@
-use Rattle.ledger_model.proofs.Removing.{forget_lawful}
+use Rattle.ledger_model.proofs.Stepping.RemovingLemmas.{forget_lawful}
 use Rattle.ledger_model.proofs.lawful_laws.lawful_after_forget.Goals as goal
 
 pub returns : goal.returns

@@ -1,4 +1,4 @@
-use Rattle.ledger_model.proofs.Giving.{give_lawful}
+use Rattle.ledger_model.proofs.Stepping.GivingLemmas.{give_lawful}
 use Rattle.ledger_model.proofs.lawful_laws.lawful_after_give.Goals as goal
 
 pub returns : goal.returns

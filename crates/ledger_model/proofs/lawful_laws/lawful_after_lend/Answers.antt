@@ -1,4 +1,4 @@
-use Rattle.ledger_model.proofs.Lending.{lend_lawful}
+use Rattle.ledger_model.proofs.Stepping.LendingLemmas.{lend_lawful}
 use Rattle.ledger_model.proofs.lawful_laws.lawful_after_lend.Goals as goal
 
 pub returns : goal.returns

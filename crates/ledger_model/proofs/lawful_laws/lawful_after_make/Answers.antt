@@ -1,4 +1,4 @@
-use Rattle.ledger_model.proofs.Making.{make_lawful}
+use Rattle.ledger_model.proofs.Stepping.MakingLemmas.{make_lawful}
 use Rattle.ledger_model.proofs.lawful_laws.lawful_after_make.Goals as goal
 
 pub returns : goal.returns

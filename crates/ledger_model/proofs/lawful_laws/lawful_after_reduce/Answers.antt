@@ -1,4 +1,4 @@
-use Rattle.ledger_model.proofs.Removing.{reduce_lawful}
+use Rattle.ledger_model.proofs.Stepping.RemovingLemmas.{reduce_lawful}
 use Rattle.ledger_model.proofs.lawful_laws.lawful_after_reduce.Goals as goal
 
 pub returns : goal.returns

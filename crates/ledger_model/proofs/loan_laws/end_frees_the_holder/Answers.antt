@@ -1,5 +1,5 @@
-use Rattle.ledger_model.proofs.Owners.{end_loan_frees}
-use Rattle.ledger_model.proofs.Reaching.{reach-free}
+use Rattle.ledger_model.proofs.OwnerLemmas.{end_loan_frees}
+use Rattle.ledger_model.proofs.ReachingLemmas.{reach-free}
 use Rattle.ledger_model.specs.Places.{place_after}
 use Rattle.ledger_model.specs.Steps.{end_loan}
 use Rattle.ledger_model.proofs.loan_laws.end_frees_the_holder.Goals as goal

@@ -1,5 +1,5 @@
-use Rattle.ledger_model.proofs.Ending.{end_loan_fresh}
-use Rattle.ledger_model.proofs.Living.{step_fresh}
+use Rattle.ledger_model.proofs.Stepping.EndingLemmas.{end_loan_fresh}
+use Rattle.ledger_model.proofs.LivingLemmas.{step_fresh}
 use Rattle.ledger_model.proofs.loan_laws.fresh_number_stays_fresh.Goals as goal
 
 pub returns-clause-stays : goal.returns-clause-stays

@@ -1,5 +1,5 @@
-use Rattle.ledger_model.proofs.Orphaning.{orphan_loan_stands}
-use Rattle.ledger_model.proofs.Owners.{orphan_loan_left, orphan_loan_reach}
+use Rattle.ledger_model.proofs.Stepping.OrphaningLemmas.{orphan_loan_stands}
+use Rattle.ledger_model.proofs.OwnerLemmas.{orphan_loan_left, orphan_loan_reach}
 use Rattle.ledger_model.proofs.loan_laws.orphans_are_their_holders.Goals as goal
 
 pub returns-clause-stands : goal.returns-clause-stands

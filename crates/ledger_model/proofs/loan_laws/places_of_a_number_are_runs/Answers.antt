@@ -1,4 +1,4 @@
-use Rattle.ledger_model.proofs.Owners.{stands_home_at, stands_orphan_at}
+use Rattle.ledger_model.proofs.OwnerLemmas.{stands_home_at, stands_orphan_at}
 use Rattle.ledger_model.proofs.loan_laws.places_of_a_number_are_runs.Goals as goal
 
 pub returns-clause-lent : goal.returns-clause-lent

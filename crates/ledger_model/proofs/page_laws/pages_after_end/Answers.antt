@@ -1,4 +1,4 @@
-use Rattle.ledger_model.proofs.Ending.{end_loan_pages_lent, end_loan_pages_orphan}
+use Rattle.ledger_model.proofs.Stepping.EndingLemmas.{end_loan_pages_lent, end_loan_pages_orphan}
 use Rattle.ledger_model.proofs.page_laws.pages_after_end.Goals as goal
 
 pub returns-clause-lent : goal.returns-clause-lent

@@ -1,4 +1,4 @@
-use Rattle.ledger_model.proofs.Making.{make_console_pages, make_pages}
+use Rattle.ledger_model.proofs.Stepping.MakingLemmas.{make_console_pages, make_pages}
 use Rattle.ledger_model.proofs.page_laws.pages_after_make.Goals as goal
 
 pub returns-clause-made : goal.returns-clause-made

@@ -1,4 +1,4 @@
-use Rattle.ledger_model.proofs.Removing.{forget_pages, remove_pages}
+use Rattle.ledger_model.proofs.Stepping.RemovingLemmas.{forget_pages, remove_pages}
 use Rattle.ledger_model.proofs.page_laws.pages_after_remove.Goals as goal
 
 pub returns-clause-removed : goal.returns-clause-removed

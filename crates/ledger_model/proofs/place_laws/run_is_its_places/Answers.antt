@@ -1,4 +1,4 @@
-use Rattle.ledger_model.proofs.PlaceLaws.{in_run-after, in_run-index, length-run, run-at}
+use Rattle.ledger_model.proofs.PlaceLemmas.{in_run-after, in_run-index, length-run, run-at}
 use Rattle.ledger_model.specs.Places.{in_run}
 use Rattle.std.proofs.Common.{subst, sym, true, ◌-◌, ◌≡◌}
 use Rattle.ledger_model.proofs.place_laws.run_is_its_places.Goals as goal

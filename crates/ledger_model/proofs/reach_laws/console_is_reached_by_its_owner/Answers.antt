@@ -1,4 +1,4 @@
-use Rattle.ledger_model.proofs.Console.{console_fetch, console_load, console_store}
+use Rattle.ledger_model.proofs.Stepping.ConsoleLemmas.{console_fetch, console_load, console_store}
 use Rattle.ledger_model.proofs.reach_laws.console_is_reached_by_its_owner.Goals as goal
 
 pub returns-clause-load : goal.returns-clause-load

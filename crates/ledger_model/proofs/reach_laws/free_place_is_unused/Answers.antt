@@ -1,4 +1,4 @@
-use Rattle.ledger_model.proofs.Reaching.{is_free-all, is_free-parts}
+use Rattle.ledger_model.proofs.ReachingLemmas.{is_free-all, is_free-parts}
 use Rattle.ledger_model.proofs.reach_laws.free_place_is_unused.Goals as goal
 
 pub returns-clause-unused : goal.returns-clause-unused

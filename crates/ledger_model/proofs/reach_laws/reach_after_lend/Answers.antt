@@ -1,4 +1,4 @@
-use Rattle.ledger_model.proofs.Reaching.{lend_reach_holder, lend_reach_lender}
+use Rattle.ledger_model.proofs.ReachingLemmas.{lend_reach_holder, lend_reach_lender}
 use Rattle.ledger_model.proofs.reach_laws.reach_after_lend.Goals as goal
 
 pub returns-clause-lender : goal.returns-clause-lender

@@ -1,4 +1,4 @@
-use Rattle.ledger_model.proofs.Reaching.{reach-free, reach-holder, reach-home, reach-orphan}
+use Rattle.ledger_model.proofs.ReachingLemmas.{reach-free, reach-holder, reach-home, reach-orphan}
 use Rattle.ledger_model.proofs.reach_laws.reach_is_the_table.Goals as goal
 
 pub returns-clause-home : goal.returns-clause-home

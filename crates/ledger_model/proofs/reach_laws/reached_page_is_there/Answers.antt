@@ -1,4 +1,4 @@
-use Rattle.ledger_model.proofs.Reaching.{reached_contents}
+use Rattle.ledger_model.proofs.ReachingLemmas.{reached_contents}
 use Rattle.ledger_model.proofs.reach_laws.reached_page_is_there.Goals as goal
 
 pub returns : goal.returns

@@ -1,5 +1,5 @@
-use Rattle.ledger_model.proofs.Reaching.{write_changed, write_console, write_others}
-use Rattle.ledger_model.proofs.Writing.{write_bare}
+use Rattle.ledger_model.proofs.ReachingLemmas.{write_changed, write_console, write_others}
+use Rattle.ledger_model.proofs.Stepping.WritingLemmas.{write_bare}
 use Rattle.ledger_model.proofs.reach_laws.write_changes_one_page.Goals as goal
 
 pub returns-clause-changed : goal.returns-clause-changed

@@ -2,7 +2,7 @@ use Rattle.std.proofs.Common.{sym, ◌∙◌, None}
 use Rattle.std.proofs.lemmas.Bool.{cond-true, cond-false}
 use Rattle.ledger_model.specs.Reach.{may, page_at_role}
 use Rattle.ledger_model.specs.Small.{ledger_of, role_of}
-use Rattle.ledger_model.proofs.LedgerLaws.{reach-role}
+use Rattle.ledger_model.proofs.LedgerLemmas.{reach-role}
 use Rattle.ledger_model.proofs.small.reached_page.Goals as goal
 
 pub returns-then-can_role : goal.returns-then-can_role

@@ -1,4 +1,4 @@
-use Rattle.ledger_model.proofs.Locality.{end_loan_orphans, end_loan_outside}
+use Rattle.ledger_model.proofs.LocalityLemmas.{end_loan_orphans, end_loan_outside}
 use Rattle.ledger_model.proofs.step_laws.end_leaves.Goals as goal
 
 pub returns-clause-homes : goal.returns-clause-homes

@@ -1,4 +1,4 @@
-use Rattle.ledger_model.proofs.Locality.{forget_orphans, forget_outside}
+use Rattle.ledger_model.proofs.LocalityLemmas.{forget_orphans, forget_outside}
 use Rattle.ledger_model.proofs.step_laws.forget_leaves.Goals as goal
 
 pub returns-clause-homes : goal.returns-clause-homes

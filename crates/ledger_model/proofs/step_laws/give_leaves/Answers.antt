@@ -1,4 +1,4 @@
-use Rattle.ledger_model.proofs.Giving.{give_orphan, give_outside}
+use Rattle.ledger_model.proofs.Stepping.GivingLemmas.{give_orphan, give_outside}
 use Rattle.ledger_model.proofs.step_laws.give_leaves.Goals as goal
 
 pub returns-clause-homes : goal.returns-clause-homes

@@ -1,4 +1,4 @@
-use Rattle.ledger_model.proofs.Lending.{lend_orphan, lend_outside}
+use Rattle.ledger_model.proofs.Stepping.LendingLemmas.{lend_orphan, lend_outside}
 use Rattle.ledger_model.proofs.step_laws.lend_leaves.Goals as goal
 
 pub returns-clause-homes : goal.returns-clause-homes

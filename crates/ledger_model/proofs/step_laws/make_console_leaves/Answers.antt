@@ -1,4 +1,4 @@
-use Rattle.ledger_model.proofs.Locality.{make_console_orphans, make_console_outside}
+use Rattle.ledger_model.proofs.LocalityLemmas.{make_console_orphans, make_console_outside}
 use Rattle.ledger_model.proofs.step_laws.make_console_leaves.Goals as goal
 
 pub returns-clause-homes : goal.returns-clause-homes

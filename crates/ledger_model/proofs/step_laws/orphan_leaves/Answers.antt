@@ -1,4 +1,4 @@
-use Rattle.ledger_model.proofs.Locality.{orphan_loan_orphans, orphan_loan_outside}
+use Rattle.ledger_model.proofs.LocalityLemmas.{orphan_loan_orphans, orphan_loan_outside}
 use Rattle.ledger_model.proofs.step_laws.orphan_leaves.Goals as goal
 
 pub returns-clause-homes : goal.returns-clause-homes

@@ -1,4 +1,4 @@
-use Rattle.ledger_model.proofs.Locality.{reduce_orphans, reduce_outside}
+use Rattle.ledger_model.proofs.LocalityLemmas.{reduce_orphans, reduce_outside}
 use Rattle.ledger_model.proofs.step_laws.reduce_leaves.Goals as goal
 
 pub returns-clause-homes : goal.returns-clause-homes

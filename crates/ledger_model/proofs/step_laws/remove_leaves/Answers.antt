@@ -1,4 +1,4 @@
-use Rattle.ledger_model.proofs.Locality.{remove_orphans, remove_outside}
+use Rattle.ledger_model.proofs.LocalityLemmas.{remove_orphans, remove_outside}
 use Rattle.ledger_model.proofs.step_laws.remove_leaves.Goals as goal
 
 pub returns-clause-homes : goal.returns-clause-homes

@@ -1,4 +1,4 @@
-use Rattle.ledger_model.proofs.Locality.{write_other_home, write_other_orphan}
+use Rattle.ledger_model.proofs.LocalityLemmas.{write_other_home, write_other_orphan}
 use Rattle.ledger_model.proofs.step_laws.write_leaves.Goals as goal
 
 pub returns-clause-homes : goal.returns-clause-homes

@@ -13,10 +13,10 @@ use Rattle.ledger_model.specs.Loans.{loans, loan_of_orphan, LoanRun, without_len
 use Rattle.ledger_model.specs.Places.{in_run, moved, place_after, is_place_in, count_places}
 use Rattle.ledger_model.specs.Reach.{lender_of}
 use Rattle.ledger_model.specs.Steps.{orphan_loan, page_without, orphan_from, orphan_with, has_number, loan_without}
-use Rattle.ledger_model.proofs.LedgerLaws.{cases_Option, same_ledger, same_number-true, same_number-at, same_number-false, same_number-apart, loan_at-page, loan_at-home, lender_of-loan, lender_of-holder}
-use Rattle.ledger_model.proofs.Numbering.{count_places-run, is_place_in-user}
-use Rattle.ledger_model.proofs.OfNumber.{of_number-at, of_number-None, of_number-without, of_number-without_other, orphan_of_number-at, orphan_of_number-apart, loan_without-old, SameOf, run_still, loan_of_run-inside, loan_of_run-outside, loan_of_run-None, orphan_of_run-lent, orphan_of_run-inside, orphan_of_run-outside, stands-home}
-use Rattle.ledger_model.proofs.PlaceLaws.{in_run-after, moved-in_run, moved-back}
+use Rattle.ledger_model.proofs.LedgerLemmas.{cases_Option, same_ledger, same_number-true, same_number-at, same_number-false, same_number-apart, loan_at-page, loan_at-home, lender_of-loan, lender_of-holder}
+use Rattle.ledger_model.proofs.NumberingLemmas.{count_places-run, is_place_in-user}
+use Rattle.ledger_model.proofs.OfNumberLemmas.{of_number-at, of_number-None, of_number-without, of_number-without_other, orphan_of_number-at, orphan_of_number-apart, loan_without-old, SameOf, run_still, loan_of_run-inside, loan_of_run-outside, loan_of_run-None, orphan_of_run-lent, orphan_of_run-inside, orphan_of_run-outside, stands-home}
+use Rattle.ledger_model.proofs.PlaceLemmas.{in_run-after, moved-in_run, moved-back}
 
 -- ---- homes
 
@@ -415,11 +415,6 @@ orphan_loan_lawful procs capacity number l h =
       within = let same : pages procs (orphan_loan procs number l) ≡ pages procs l = orphan_loan_pages procs capacity number l h in let room : pages procs l ≤ capacity = h.within in omega arith;
       one_run = λ other. orphan_loan_runs procs capacity number other l h;
       exclusive_writable = λ p b x e f k. h.exclusive_writable p b x (home p b e) f k;
-      page_whole = λ p b bytes e s. h.page_whole p b bytes (home p b e) s;
-      orphan_whole = λ q o e. elim (made_or_old procs number l q o e) [
-        | inl s ↦ h.page_whole s.home s.page o.bytes s.at s.bytes
-        | inr old ↦ h.orphan_whole q o old.1
-      ];
     }
   where
     loan_without-at : (x : PageLoan) → x.number ≡ number → loan_without number (Some x) ≡ None

@@ -9,14 +9,15 @@ use Rattle.std.proofs.lemmas.List.{length-map, get_or-map}
 use Rattle.std.proofs.lemmas.List.Elements.{All-map, All-weaker}
 use Rattle.std.proofs.lemmas.List.Kept.{AllPairs-from_increasing}
 use Rattle.std.proofs.lemmas.Option.{none-some, same_Some}
+use Rattle.xk_base.specs.Circle.{is_pid}
 use Rattle.xk_base.specs.declared.ids.Place.{Place}
 use Rattle.xk_base.specs.declared.windows.Window.{Window}
 use Rattle.xk_base.specs.declared.windows.Window.TheVariants.{Image, Heap, Message, Map, Stack}
 use Rattle.xk_base.specs.Windows.{in_window, window_at}
 use Rattle.xk_base.specs.Counting.{least_below, listed_below}
-use Rattle.xk_base.proofs.Counting.{count_below-same, count_below-one, count_below-none, count_below-split, count_below-le, least_below-none, least_below-bound, least_below-passes, least_below-Some, least_below-None, least_below-same, listed_below-passes, listed_below-contains, listed_below-ascends, listed_below-same, length-listed_below}
-use Rattle.ledger_model.specs.Places.{same_place, is_before, place_after, in_run, is_process, is_user_place, is_place_in, places_of_process, page_at, place_at, count_places, first_place, listed_places}
-use Rattle.ledger_model.proofs.PlaceLaws.{place_from, in_run-true, in_run-from, IsInRun, in_run-none, in_run-after, same_place-true, same_place-refl, same_place-apart, same_place-false}
+use Rattle.xk_base.proofs.CountingLemmas.{count_below-same, count_below-one, count_below-none, count_below-split, count_below-le, least_below-none, least_below-bound, least_below-passes, least_below-Some, least_below-None, least_below-same, listed_below-passes, listed_below-contains, listed_below-ascends, listed_below-same, length-listed_below}
+use Rattle.ledger_model.specs.Places.{same_place, is_before, place_after, in_run, is_user_place, is_place_in, places_of_process, page_at, place_at, count_places, first_place, listed_places}
+use Rattle.ledger_model.proofs.PlaceLemmas.{place_from, in_run-true, in_run-from, IsInRun, in_run-none, in_run-after, same_place-true, same_place-refl, same_place-apart, same_place-false}
 
 -- where a page number of a window stands among a process's user places
 abbrev pub rank_of : ℕ → ℕ
@@ -57,8 +58,8 @@ number_of-place_at k =
 pub place_at-number_of : (procs : ℕ) (p : Place) → is_user_place procs p ≡ true → place_at (number_of p) ≡ p
 unfolding number_of place_at
 place_at-number_of procs p h =
-    let parts : (is_process procs p.pid.0 ≡ true) × (is_some (window_at p.vpn.0) ≡ true) =
-    and_parts (is_process procs p.pid.0) (is_some (window_at p.vpn.0)) h in
+    let parts : (is_pid procs p.pid.0 ≡ true) × (is_some (window_at p.vpn.0) ≡ true) =
+    and_parts (is_pid procs p.pid.0) (is_some (window_at p.vpn.0)) h in
     let low : 2 ≤ p.pid.0 =
     leb-true 2 p.pid.0 (and_parts (nat_le 2 p.pid.0) (nat_lt p.pid.0 (procs + 2)) parts.0).0 in
     let small : rank_of p.vpn.0 < 20464 = rank_of-bound p.vpn.0 parts.1 in
@@ -68,8 +69,8 @@ place_at-number_of procs p h =
 pub number_of-bound : (procs : ℕ) (p : Place) → is_user_place procs p ≡ true → number_of p < 20464 * procs
 unfolding number_of
 number_of-bound procs p h =
-    let parts : (is_process procs p.pid.0 ≡ true) × (is_some (window_at p.vpn.0) ≡ true) =
-    and_parts (is_process procs p.pid.0) (is_some (window_at p.vpn.0)) h in
+    let parts : (is_pid procs p.pid.0 ≡ true) × (is_some (window_at p.vpn.0) ≡ true) =
+    and_parts (is_pid procs p.pid.0) (is_some (window_at p.vpn.0)) h in
     let pids : (nat_le 2 p.pid.0 ≡ true) × (nat_lt p.pid.0 (procs + 2) ≡ true) =
     and_parts (nat_le 2 p.pid.0) (nat_lt p.pid.0 (procs + 2)) parts.0 in
     let low : 2 ≤ p.pid.0 = leb-true 2 p.pid.0 pids.0 in
@@ -82,7 +83,7 @@ unfolding place_at
 place_at-lies procs k l =
     let low : k % 20464 < 20464 = omega arith in
     let pid : 2 + k / 20464 < procs + 2 = omega arith in
-    and_from (is_process procs (2 + k / 20464)) (is_some (window_at (page_at (k % 20464))))
+    and_from (is_pid procs (2 + k / 20464)) (is_some (window_at (page_at (k % 20464))))
     (and_from (nat_le 2 (2 + k / 20464)) (nat_lt (2 + k / 20464) (procs + 2)) (le-leb 2 (2 + k / 20464) (omega arith)) (lt-ltb (2 + k / 20464) (procs + 2) pid))
     (page_at-lies (k % 20464) low)
 
@@ -314,9 +315,9 @@ in_window-some Stack v e = grind (arith, nat_tests)
 pub is_place_in-user : (procs : ℕ) (w : Window) (p : Place) → is_place_in procs w p ≡ true
     → is_user_place procs p ≡ true
 is_place_in-user procs w p e =
-    let parts : (is_process procs p.pid.0 ≡ true) × (in_window w p.vpn.0 ≡ true) =
-    and_parts (is_process procs p.pid.0) (in_window w p.vpn.0) e in
-    and_from (is_process procs p.pid.0) (is_some (window_at p.vpn.0)) parts.0 (in_window-some w p.vpn.0 parts.1)
+    let parts : (is_pid procs p.pid.0 ≡ true) × (in_window w p.vpn.0 ≡ true) =
+    and_parts (is_pid procs p.pid.0) (in_window w p.vpn.0) e in
+    and_from (is_pid procs p.pid.0) (is_some (window_at p.vpn.0)) parts.0 (in_window-some w p.vpn.0 parts.1)
 
 -- the user place that passes before every other that does is the first
 pub first_place-least : (procs : ℕ) (f : Place → Bool) (p : Place) → is_user_place procs p ≡ true → f p ≡ true

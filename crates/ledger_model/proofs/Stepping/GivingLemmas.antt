@@ -12,11 +12,11 @@ use Rattle.ledger_model.specs.Ledger.{Ledger, Page, PageLoan, loan_at, loan_of, 
 use Rattle.ledger_model.specs.Loans.{loans, loan_of_orphan}
 use Rattle.ledger_model.specs.Places.{in_run, moved, place_after, count_places}
 use Rattle.ledger_model.specs.Steps.{give}
-use Rattle.ledger_model.proofs.LedgerLaws.{loan_at-page, lender_of-none, IsFreeAt, is_free-true}
-use Rattle.ledger_model.proofs.Lending.{IsMovable, may_move-page, movable_not_console}
-use Rattle.ledger_model.proofs.Numbering.{count_places-run, is_place_in-user}
-use Rattle.ledger_model.proofs.PlaceLaws.{moved-in_run, in_run-after}
-use Rattle.ledger_model.proofs.Removing.{same_loans, same_runs}
+use Rattle.ledger_model.proofs.LedgerLemmas.{loan_at-page, lender_of-none, IsFreeAt, is_free-true}
+use Rattle.ledger_model.proofs.Stepping.LendingLemmas.{IsMovable, may_move-page, movable_not_console}
+use Rattle.ledger_model.proofs.NumberingLemmas.{count_places-run, is_place_in-user}
+use Rattle.ledger_model.proofs.PlaceLemmas.{moved-in_run, in_run-after}
+use Rattle.ledger_model.proofs.Stepping.RemovingLemmas.{same_loans, same_runs}
 
 pub give_inside : (from : Place) (n : ℕ) (to : Place) (l : Ledger) (p : Place) → in_run to n p ≡ true
     → (give from n to l).home p ≡ l.home (moved to from p)
@@ -164,9 +164,4 @@ module _ (procs : ℕ) (from : Place) (n : ℕ) (to : Place) (l : Ledger) (can :
           | inl new ↦ absurd (none-some x (sym new.2.no_loan ∙ f))
           | inr o ↦ h.exclusive_writable p b x o.1 f k
         ];
-        page_whole = λ p b bytes e s. elim (new_or_old p b e) [
-          | inl new ↦ h.page_whole (moved to from p) b bytes new.1 s
-          | inr o ↦ h.page_whole p b bytes o.1 s
-        ];
-        orphan_whole = λ p o e. h.orphan_whole p o (sym (give_orphan from n to l p) ∙ e);
       }

@@ -1,14 +1,14 @@
 -- A ledger that is narrower than a lawful one: each of its pages stood at the same home before, each
 -- of its loans was there before, and each of its orphans. Such a ledger is lawful where its numbers
 -- still are those of one run each.
-use Rattle.std.proofs.Common.{◌≡◌, ℕ, ◌≤◌, false, List, Some, None, refl, sym, ap, ◌∙◌, arith, inl, inr}
+use Rattle.std.proofs.Common.{◌≡◌, ℕ, ◌≤◌, false, Some, None, refl, sym, ap, ◌∙◌, arith, inl, inr}
 use Rattle.std.proofs.lemmas.Option.{none-some}
 use Rattle.xk_base.specs.declared.ids.Number.{Number}
 use Rattle.xk_base.specs.declared.ids.Place.{Place}
 use Rattle.xk_base.specs.declared.pages.Right.{Right}
-use Rattle.ledger_model.specs.Ledger.{Ledger, Console, Bytes, Page, PageLoan, Orphan, loan_at, pages}
-use Rattle.ledger_model.specs.Lawful.{IsLawful, IsPage, IsOneRun}
-use Rattle.ledger_model.proofs.LedgerLaws.{cases_Option, loan_at-page, loan_at-home}
+use Rattle.ledger_model.specs.Ledger.{Ledger, Console, Page, PageLoan, Orphan, loan_at, pages}
+use Rattle.ledger_model.specs.Lawful.{IsLawful, IsOneRun}
+use Rattle.ledger_model.proofs.LedgerLemmas.{cases_Option, loan_at-page, loan_at-home}
 
 -- the page b comes from the page a: it is the console only where a is, and has no loan, and under a
 -- loan no other right, that a hasn't
@@ -17,16 +17,14 @@ pub record ComesFrom (a b : Page) : Type 0 where
   pub fetch : a.contents ≡ Console → a.right.x ≡ false → b.right.x ≡ false
   pub loan : (x : PageLoan) → b.loan ≡ Some x → a.loan ≡ Some x
   pub right : (x : PageLoan) → b.loan ≡ Some x → b.right ≡ a.right
-  pub whole : (bytes : List ℕ) → b.contents ≡ Bytes bytes → ((old : List ℕ) → a.contents ≡ Bytes old → IsPage old)
-      → IsPage bytes
 
 pub record Narrower (l m : Ledger) : Type 0 where
   pub homes : (p : Place) (b : Page) → m.home p ≡ Some b → (a : Page) × (l.home p ≡ Some a) × ComesFrom a b
   pub orphans : (p : Place) (b : Orphan) → m.orphan p ≡ Some b
-      → (a : Orphan) × (l.orphan p ≡ Some a) × (IsPage a.bytes → IsPage b.bytes)
+      → (a : Orphan) × (l.orphan p ≡ Some a)
 
 pub same_page : (a : Page) → ComesFrom a a
-same_page a = record { console = λ e. e; fetch = λ c x. x; loan = λ x e. e; right = λ x e. refl; whole = λ bytes e h. h bytes e }
+same_page a = record { console = λ e. e; fetch = λ c x. x; loan = λ x e. e; right = λ x e. refl }
 
 pub no_new_home : (l m : Ledger) → Narrower l m → (p : Place) → l.home p ≡ None → m.home p ≡ None
 no_new_home l m n p e = elim (cases_Option (m.home p)) [
@@ -37,7 +35,7 @@ no_new_home l m n p e = elim (cases_Option (m.home p)) [
 pub no_new_orphan : (l m : Ledger) → Narrower l m → (p : Place) → l.orphan p ≡ None → m.orphan p ≡ None
 no_new_orphan l m n p e = elim (cases_Option (m.orphan p)) [
   | inl none ↦ none
-  | inr some ↦ let a : (a : Orphan) × (l.orphan p ≡ Some a) × (IsPage a.bytes → IsPage some.0.bytes) = n.orphans p some.0 some.1 in absurd (none-some a.0 (sym e ∙ a.1))
+  | inr some ↦ let a : (a : Orphan) × (l.orphan p ≡ Some a) = n.orphans p some.0 some.1 in absurd (none-some a.0 (sym e ∙ a.1))
 ]
 
 pub old_loan : (l m : Ledger) → Narrower l m → (p : Place) (x : PageLoan) → loan_at m p ≡ Some x
@@ -53,11 +51,11 @@ pub lawful_narrower : (procs capacity : ℕ) (l m : Ledger) → IsLawful procs c
 lawful_narrower procs capacity l m h n fewer runs = record {
   home_lies = λ p b e. let a : (a : Page) × (l.home p ≡ Some a) × ComesFrom a b = n.homes p b e in h.home_lies p a.0 a.1;
   holder_lies = λ p x e. h.holder_lies p x (old_loan l m n p x e);
-  orphan_lies = λ p b e. let a : (a : Orphan) × (l.orphan p ≡ Some a) × (IsPage a.bytes → IsPage b.bytes) = n.orphans p b e in h.orphan_lies p a.0 a.1;
+  orphan_lies = λ p b e. let a : (a : Orphan) × (l.orphan p ≡ Some a) = n.orphans p b e in h.orphan_lies p a.0 a.1;
   holders_differ = λ p q x y e f same. h.holders_differ p q x y (old_loan l m n p x e) (old_loan l m n q y f) same;
   holder_no_home = λ p x e. no_new_home l m n x.holder (h.holder_no_home p x (old_loan l m n p x e));
   holder_no_orphan = λ p x e. no_new_orphan l m n x.holder (h.holder_no_orphan p x (old_loan l m n p x e));
-  orphan_no_home = λ p b e. let a : (a : Orphan) × (l.orphan p ≡ Some a) × (IsPage a.bytes → IsPage b.bytes) = n.orphans p b e in no_new_home l m n p (h.orphan_no_home p a.0 a.1);
+  orphan_no_home = λ p b e. let a : (a : Orphan) × (l.orphan p ≡ Some a) = n.orphans p b e in no_new_home l m n p (h.orphan_no_home p a.0 a.1);
   one_console = λ p q b c e f s t.
       let a : (a : Page) × (l.home p ≡ Some a) × ComesFrom a b = n.homes p b e in
       let d : (a : Page) × (l.home q ≡ Some a) × ComesFrom a c = n.homes q c f in
@@ -77,8 +75,4 @@ lawful_narrower procs capacity l m h n fewer runs = record {
   exclusive_writable = λ p b x e f k.
       let a : (a : Page) × (l.home p ≡ Some a) × ComesFrom a b = n.homes p b e in
       ap (λ (r : Right). r.w) (a.2.right x f) ∙ h.exclusive_writable p a.0 x a.1 (a.2.loan x f) k;
-  page_whole = λ p b bytes e s.
-      let a : (a : Page) × (l.home p ≡ Some a) × ComesFrom a b = n.homes p b e in
-      a.2.whole bytes s (λ old t. h.page_whole p a.0 old a.1 t);
-  orphan_whole = λ p b e. let a : (a : Orphan) × (l.orphan p ≡ Some a) × (IsPage a.bytes → IsPage b.bytes) = n.orphans p b e in a.2 (h.orphan_whole p a.0 a.1);
 }

@@ -12,9 +12,9 @@ use Rattle.ledger_model.specs.Ledger.{loan_at, loan_of}
 use Rattle.ledger_model.specs.Places.{same_place, is_before, is_user_place}
 use Rattle.ledger_model.specs.Reach.{is_held_at, lender_of, role_at, FreePlace, HomePlace, HolderPlace, OrphanPlace}
 use Rattle.ledger_model.specs.Small.{loan_of_entry, page_of_entry, orphan_of_entry, ledger_of, is_before_first, is_listed}
-use Rattle.ledger_model.proofs.LedgerLaws.{role_at-home, role_at-orphan, role_at-lender, role_at-free}
-use Rattle.ledger_model.proofs.Numbering.{first_place-least, first_place-None}
-use Rattle.ledger_model.proofs.PlaceLaws.{same_place-true, same_place-at, same_place-apart, is_before-apart, is_before-trans}
+use Rattle.ledger_model.proofs.LedgerLemmas.{role_at-home, role_at-orphan, role_at-lender, role_at-free}
+use Rattle.ledger_model.proofs.NumberingLemmas.{first_place-least, first_place-None}
+use Rattle.ledger_model.proofs.PlaceLemmas.{same_place-true, same_place-at, same_place-apart, is_before-apart, is_before-trans}
 
 -- whether the page of an entry is on loan to a place
 abbrev pub holds : Place → PageEntry → Bool

@@ -14,9 +14,9 @@ use Rattle.ledger_model.specs.Ledger.{Ledger, Page, loan_at, loan_of, is_counted
 use Rattle.ledger_model.specs.Loans.{Loans, loans, orphan_loan_at, loan_of_orphan, LoanRun, Stands, IsFresh}
 use Rattle.ledger_model.specs.Places.{count_places}
 use Rattle.ledger_model.specs.Steps.{remove, forget, reduce, with_right}
-use Rattle.ledger_model.proofs.LedgerLaws.{cases_Option, if_same, loan_at-home, loan_at-None}
-use Rattle.ledger_model.proofs.Narrower.{ComesFrom, Narrower, same_page, lawful_narrower}
-use Rattle.ledger_model.proofs.Numbering.{count_places-same, count_places-split}
+use Rattle.ledger_model.proofs.LedgerLemmas.{cases_Option, if_same, loan_at-home, loan_at-None}
+use Rattle.ledger_model.proofs.NarrowerLemmas.{ComesFrom, Narrower, same_page, lawful_narrower}
+use Rattle.ledger_model.proofs.NumberingLemmas.{count_places-same, count_places-split}
 
 -- ---- ledgers with the same loans
 
@@ -68,7 +68,7 @@ remove_narrower places l = record {
     | inl here ↦ absurd (none-some b (sym (cond-true (places p) None (l.home p) here) ∙ e))
     | inr there ↦ (b, sym (cond-false (places p) None (l.home p) there) ∙ e, same_page b)
   ];
-  orphans = λ p b e. (b, e, λ whole. whole);
+  orphans = λ p b e. (b, e);
 }
 
 and_false : (b : Bool) → false ≡ (b && false)
@@ -170,7 +170,6 @@ reduced_from right a none within = record {
   fetch = λ c x. no_more_x right a.right within x;
   loan = λ x e. e;
   right = λ x e. absurd (none-some x (sym none ∙ e));
-  whole = λ bytes e h. h bytes e;
 }
 
 reduced_home : (right : Right) (o : Option Page) (b : Page) → option_map (with_right right) o ≡ Some b
@@ -190,7 +189,7 @@ reduce_narrower places right l can = record {
         (a.0, a.1, subst (ComesFrom a.0) a.2 (reduced_from right a.0 none (can.within p a.0 here a.1)))
     | inr there ↦ (b, sym (cond-false (places p) (option_map (with_right right) (l.home p)) (l.home p) there) ∙ e, same_page b)
   ];
-  orphans = λ p b e. (b, e, λ whole. whole);
+  orphans = λ p b e. (b, e);
 }
 
 pub reduce_lawful : (procs capacity : ℕ) (places : Place → Bool) (right : Right) (l : Ledger)

@@ -1,37 +1,19 @@
 -- Laws of `write`, which changes bytes alone.
-use Rattle.std.proofs.Common.{◌≡◌, ℕ, ◌+◌, ◌<◌, ◌≤◌, List, ◌++◌, length, take, drop, Option, Some, None, refl, sym, ap, subst, ◌∙◌, arith, inl, inr, length-append, length-take, length-drop}
+use Rattle.std.proofs.Common.{◌≡◌, ℕ, List, Option, Some, None, refl, sym, ap, subst, ◌∙◌, arith, inl, inr}
 use Rattle.std.specs.Prelude.{is_some}
-use Rattle.std.specs.List.{All}
 use Rattle.std.specs.Option.{option_map}
 use Rattle.std.proofs.lemmas.Bool.{cases_Bool, cond-true, cond-false}
-use Rattle.std.proofs.lemmas.List.Elements.{All-append, All-take, All-drop}
 use Rattle.std.proofs.lemmas.Option.{none-some, same_Some}
 use Rattle.ledger_model.specs.Conditions.{CanWrite}
-use Rattle.ledger_model.specs.Lawful.{IsLawful, IsPage}
+use Rattle.ledger_model.specs.Lawful.{IsLawful}
 use Rattle.ledger_model.specs.Ledger.{Ledger, Contents, Console, Bytes, Page, Orphan, PageName, Homed, Orphaned, loan_of, has_bytes, is_counted, pages}
 use Rattle.ledger_model.specs.Loans.{bare, bare_page, bare_orphan, bare_contents, loans, loan_of_orphan}
 use Rattle.ledger_model.specs.Places.{same_place, count_places}
-use Rattle.ledger_model.specs.Steps.{write, written, written_contents, written_page, written_orphan}
-use Rattle.ledger_model.proofs.LedgerLaws.{if_same, same_ledger}
-use Rattle.ledger_model.proofs.Narrower.{ComesFrom, Narrower, same_page, lawful_narrower}
-use Rattle.ledger_model.proofs.Numbering.{count_places-same}
-use Rattle.ledger_model.proofs.Removing.{same_loans, same_runs}
-
--- ---- the bytes
-
--- bytes that fit a page
-record FitsPage (offset : ℕ) (bytes : List ℕ) : Type 0 where
-  fits : offset + length bytes ≤ 4096
-  each : All (λ b. b < 256) bytes
-
-written-whole : (old bytes : List ℕ) (offset : ℕ) → FitsPage offset bytes → IsPage old
-    → IsPage (written old offset bytes)
-written-whole old bytes offset can h = record {
-  size = let fits : offset + length bytes ≤ 4096 = can.fits in let size : length old ≡ 4096 = h.size in
-      simp (length-append, length-take, length-drop) (omega arith);
-  each = All-append (λ b. b < 256) (take offset old) (bytes ++ drop (offset + length bytes) old) (All-take (λ b. b < 256) offset old h.each)
-      (All-append (λ b. b < 256) bytes (drop (offset + length bytes) old) can.each (All-drop (λ b. b < 256) (offset + length bytes) old h.each));
-}
+use Rattle.ledger_model.specs.Steps.{write, written_contents, written_page, written_orphan}
+use Rattle.ledger_model.proofs.LedgerLemmas.{if_same, same_ledger}
+use Rattle.ledger_model.proofs.NarrowerLemmas.{ComesFrom, Narrower, same_page, lawful_narrower}
+use Rattle.ledger_model.proofs.NumberingLemmas.{count_places-same}
+use Rattle.ledger_model.proofs.Stepping.RemovingLemmas.{same_loans, same_runs}
 
 -- ---- rights and loans stay
 
@@ -115,24 +97,18 @@ pub write_pages : (procs : ℕ) (name : PageName) (offset : ℕ) (bytes : List �
     → pages procs (write name offset bytes l) ≡ pages procs l
 write_pages procs name offset bytes l = bare-pages procs l (write name offset bytes l) (write_bare name offset bytes l)
 
-written_from : (offset : ℕ) (bytes : List ℕ) → FitsPage offset bytes → (a : Page)
+written_from : (offset : ℕ) (bytes : List ℕ) (a : Page)
     → ComesFrom a (written_page offset bytes a)
-written_from offset bytes can a = record {
+written_from offset bytes a = record {
   console = written_console a.contents;
   fetch = λ c x. x;
   loan = λ x e. e;
   right = λ x e. refl;
-  whole = written_bytes a.contents;
 }
   where
     written_console : (c : Contents) → written_contents offset bytes c ≡ Console → c ≡ Console
     written_console Console e = refl
     written_console (Bytes old) e = cc
-
-    written_bytes : (c : Contents) (new : List ℕ) → written_contents offset bytes c ≡ Bytes new
-        → ((old : List ℕ) → c ≡ Bytes old → IsPage old) → IsPage new
-    written_bytes Console new e h = cc
-    written_bytes (Bytes old) new e h = let same : written old offset bytes ≡ new = cc in subst IsPage same (written-whole old bytes offset can (h old refl))
 
 written_home : (offset : ℕ) (bytes : List ℕ) (o : Option Page) (b : Page)
     → option_map (written_page offset bytes) o ≡ Some b → (a : Page) × (o ≡ Some a) × (written_page offset bytes a ≡ b)
@@ -145,27 +121,27 @@ written_at : (offset : ℕ) (bytes : List ℕ) (o : Option Orphan) (b : Orphan)
 written_at offset bytes None b e = absurd (none-some b e)
 written_at offset bytes (Some a) b e = (a, refl, same_Some (written_orphan offset bytes a) b e)
 
-write_narrower : (name : PageName) (offset : ℕ) (bytes : List ℕ) (l : Ledger) → FitsPage offset bytes
+write_narrower : (name : PageName) (offset : ℕ) (bytes : List ℕ) (l : Ledger)
     → Narrower l (write name offset bytes l)
 unfolding write
-write_narrower (Homed place) offset bytes l can = record {
+write_narrower (Homed place) offset bytes l = record {
   homes = λ p b e. elim (cases_Bool (same_place p place)) [
     | inl here ↦
         let a : (a : Page) × (l.home p ≡ Some a) × (written_page offset bytes a ≡ b) =
         written_home offset bytes (l.home p) b (sym (cond-true (same_place p place) (option_map (written_page offset bytes) (l.home p)) (l.home p) here) ∙ e) in
-        (a.0, a.1, subst (ComesFrom a.0) a.2 (written_from offset bytes can a.0))
+        (a.0, a.1, subst (ComesFrom a.0) a.2 (written_from offset bytes a.0))
     | inr there ↦ (b, sym (cond-false (same_place p place) (option_map (written_page offset bytes) (l.home p)) (l.home p) there) ∙ e, same_page b)
   ];
-  orphans = λ p b e. (b, e, λ whole. whole);
+  orphans = λ p b e. (b, e);
 }
-write_narrower (Orphaned place) offset bytes l can = record {
+write_narrower (Orphaned place) offset bytes l = record {
   homes = λ p b e. (b, e, same_page b);
   orphans = λ p b e. elim (cases_Bool (same_place p place)) [
     | inl here ↦
         let a : (a : Orphan) × (l.orphan p ≡ Some a) × (written_orphan offset bytes a ≡ b) =
         written_at offset bytes (l.orphan p) b (sym (cond-true (same_place p place) (option_map (written_orphan offset bytes) (l.orphan p)) (l.orphan p) here) ∙ e) in
-        (a.0, a.1, λ whole. subst (λ (o : Orphan). IsPage o.bytes) a.2 (written-whole a.0.bytes bytes offset can whole))
-    | inr there ↦ (b, sym (cond-false (same_place p place) (option_map (written_orphan offset bytes) (l.orphan p)) (l.orphan p) there) ∙ e, λ whole. whole)
+        (a.0, a.1)
+    | inr there ↦ (b, sym (cond-false (same_place p place) (option_map (written_orphan offset bytes) (l.orphan p)) (l.orphan p) there) ∙ e)
   ];
 }
 
@@ -173,6 +149,6 @@ pub write_lawful : (procs capacity : ℕ) (name : PageName) (offset : ℕ) (byte
     → IsLawful procs capacity l → CanWrite procs l name offset bytes
     → IsLawful procs capacity (write name offset bytes l)
 write_lawful procs capacity name offset bytes l h can =
-    lawful_narrower procs capacity l (write name offset bytes l) h (write_narrower name offset bytes l (record { fits = can.fits; each = can.each }))
+    lawful_narrower procs capacity l (write name offset bytes l) h (write_narrower name offset bytes l)
     (let e : pages procs (write name offset bytes l) ≡ pages procs l = write_pages procs name offset bytes l in omega arith)
     (λ number. same_runs l (write name offset bytes l) (write_loans name offset bytes l) number (h.one_run number))

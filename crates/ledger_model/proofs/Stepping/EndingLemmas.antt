@@ -12,11 +12,11 @@ use Rattle.ledger_model.specs.Ledger.{Ledger, Page, Orphan, loan_at, loan_of, is
 use Rattle.ledger_model.specs.Loans.{loans, LoanRun, of_number, Stands, IsFresh}
 use Rattle.ledger_model.specs.Places.{in_run, place_after, count_places}
 use Rattle.ledger_model.specs.Steps.{end_loan, freed, loan_without, orphan_without}
-use Rattle.ledger_model.proofs.LedgerLaws.{same_number-true, same_number-false}
-use Rattle.ledger_model.proofs.Narrower.{ComesFrom, Narrower, lawful_narrower}
-use Rattle.ledger_model.proofs.Numbering.{count_places-same, count_places-le, count_places-run, is_place_in-user}
-use Rattle.ledger_model.proofs.OfNumber.{of_number-without, of_number-without_other, loan_without-old, orphan_of_number-without, orphan_of_number-without_other, orphan_without-None, orphan_without-Some, orphan_without-old, SameOf, run_still, orphan_of_run-lent, orphan_of_run-inside, orphan_of_run-outside, stands-orphan}
-use Rattle.ledger_model.proofs.PlaceLaws.{in_run-after}
+use Rattle.ledger_model.proofs.LedgerLemmas.{same_number-true, same_number-false}
+use Rattle.ledger_model.proofs.NarrowerLemmas.{ComesFrom, Narrower, lawful_narrower}
+use Rattle.ledger_model.proofs.NumberingLemmas.{count_places-same, count_places-le, count_places-run, is_place_in-user}
+use Rattle.ledger_model.proofs.OfNumberLemmas.{of_number-without, of_number-without_other, loan_without-old, orphan_of_number-without, orphan_of_number-without_other, orphan_without-None, orphan_without-Some, orphan_without-old, SameOf, run_still, orphan_of_run-lent, orphan_of_run-inside, orphan_of_run-outside, stands-orphan}
+use Rattle.ledger_model.proofs.PlaceLemmas.{in_run-after}
 
 -- ---- what stays and what goes
 
@@ -61,7 +61,6 @@ freed_from number a = record {
   fetch = λ c x. x;
   loan = λ x e. loan_without-old number a.loan x e;
   right = λ x e. refl;
-  whole = λ bytes e h. h bytes e;
 }
 
 freed_home : (number : Number) (o : Option Page) (b : Page) → option_map (freed number) o ≡ Some b
@@ -75,7 +74,7 @@ end_loan_narrower number l = record {
   homes = λ p b e.
       let a : (a : Page) × (l.home p ≡ Some a) × (freed number a ≡ b) = freed_home number (l.home p) b e in
       (a.0, a.1, subst (ComesFrom a.0) a.2 (freed_from number a.0));
-  orphans = λ p b e. (b, orphan_without-old number (l.orphan p) b e, λ whole. whole);
+  orphans = λ p b e. (b, orphan_without-old number (l.orphan p) b e);
 }
 
 -- ---- pages

@@ -7,7 +7,7 @@ use Rattle.xk_base.specs.declared.pages.Access.TheVariants.{Fetch, Load, Store}
 use Rattle.ledger_model.specs.Lawful.{IsLawful}
 use Rattle.ledger_model.specs.Ledger.{Ledger, Console, Page, Homed}
 use Rattle.ledger_model.specs.Reach.{reach, home_may, owner_may}
-use Rattle.ledger_model.proofs.Reaching.{reach-home}
+use Rattle.ledger_model.proofs.ReachingLemmas.{reach-home}
 
 -- the console has no loan, so its owner's right decides
 console_reach : (procs capacity : ℕ) (l : Ledger) (p : Place) (page : Page) (access : Access)

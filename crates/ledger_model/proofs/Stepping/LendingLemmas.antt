@@ -16,10 +16,10 @@ use Rattle.ledger_model.specs.Ledger.{Ledger, Console, Page, PageLoan, loan_at, 
 use Rattle.ledger_model.specs.Loans.{loans, loan_of_orphan, LoanRun, same_number, of_number, orphan_of_number, Stands}
 use Rattle.ledger_model.specs.Places.{in_run, moved, is_place_in, count_places}
 use Rattle.ledger_model.specs.Steps.{lend, with_loan}
-use Rattle.ledger_model.proofs.LedgerLaws.{if_same, same_number-true, same_number-false, loan_at-page, loan_at-home, lender_of-none, IsFreeAt, is_free-true}
-use Rattle.ledger_model.proofs.Numbering.{count_places-same}
-use Rattle.ledger_model.proofs.OfNumber.{of_number-at, of_number-apart, loan_of_run-inside, loan_of_run-outside, orphan_of_run-lent, SameOf, run_still}
-use Rattle.ledger_model.proofs.PlaceLaws.{moved-in_run, moved-apart}
+use Rattle.ledger_model.proofs.LedgerLemmas.{if_same, same_number-true, same_number-false, loan_at-page, loan_at-home, lender_of-none, IsFreeAt, is_free-true}
+use Rattle.ledger_model.proofs.NumberingLemmas.{count_places-same}
+use Rattle.ledger_model.proofs.OfNumberLemmas.{of_number-at, of_number-apart, loan_of_run-inside, loan_of_run-outside, orphan_of_run-lent, SameOf, run_still}
+use Rattle.ledger_model.proofs.PlaceLemmas.{moved-in_run, moved-apart}
 
 -- ---- pages that may be moved or lent
 
@@ -243,6 +243,4 @@ module _ (procs : ℕ) (from : Place) (n : ℕ) (to : Place) (kind : LoanKind) (
               ap (λ (r : Right). r.w) a.3 ∙ (ap (λ (z : Page). z.right.w) same ∙ was.3 (ap (λ (z : PageLoan). z.kind) loan ∙ k))
           | inr old ↦ ap (λ (r : Right). r.w) a.3 ∙ h.exclusive_writable p a.0 x a.1 (sym old.1 ∙ f) k
         ];
-    page_whole = λ p b bytes e s. let a : _ = page_from p b e in h.page_whole p a.0 bytes a.1 (sym a.2 ∙ s);
-    orphan_whole = λ p o e. h.orphan_whole p o (sym (lend_orphan from n to kind number l p) ∙ e);
   }

@@ -11,7 +11,7 @@ use Rattle.ledger_model.specs.Ledger.{Ledger, PageLoan, Orphan}
 use Rattle.ledger_model.specs.Loans.{Loans, OrphanLoan, loans, loan_of_orphan, orphan_loan_at, LoanRun, same_number, of_number, orphan_of_number, lent_from, loan_of_run, orphan_of_run, Stands, IsFresh}
 use Rattle.ledger_model.specs.Places.{in_run, moved}
 use Rattle.ledger_model.specs.Steps.{loan_without, orphan_without}
-use Rattle.ledger_model.proofs.LedgerLaws.{same_number-true, same_number-at, same_number-apart, same_number-false}
+use Rattle.ledger_model.proofs.LedgerLemmas.{same_number-true, same_number-at, same_number-apart, same_number-false}
 
 -- ---- a loan is of a number or not
 

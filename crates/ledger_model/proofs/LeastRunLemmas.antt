@@ -13,15 +13,15 @@ use Rattle.xk_base.specs.declared.windows.Window.{Window}
 use Rattle.xk_base.specs.declared.windows.Window.TheVariants.{Image, Heap, Message, Map, Stack}
 use Rattle.xk_base.specs.Windows.{first_page, last_page}
 use Rattle.xk_base.specs.Counting.{least_below}
-use Rattle.xk_base.proofs.Counting.{least_below-none, least_below-passes, least_below-first, least_below-None, least_below-Some}
+use Rattle.xk_base.proofs.CountingLemmas.{least_below-none, least_below-passes, least_below-first, least_below-None, least_below-Some}
 use Rattle.ledger_model.specs.LeastRun.{is_free_run, window_pages, window_place, least_run, IsLeastRun, HasNoRun}
 use Rattle.ledger_model.specs.Ledger.{Ledger, Page, Orphan}
 use Rattle.ledger_model.specs.Lawful.{IsLawful}
 use Rattle.ledger_model.specs.Listings.{home_places, orphan_places}
 use Rattle.ledger_model.specs.Places.{place_after, is_before, is_user_place}
 use Rattle.ledger_model.specs.Reach.{is_free}
-use Rattle.ledger_model.proofs.Numbering.{listed_places-passes, listed_places-contains, listed_places-ascends, is_place_in-user}
-use Rattle.ledger_model.proofs.PlaceLaws.{list_all-run, run-passes, is_before-apart}
+use Rattle.ledger_model.proofs.NumberingLemmas.{listed_places-passes, listed_places-contains, listed_places-ascends, is_place_in-user}
+use Rattle.ledger_model.proofs.PlaceLemmas.{list_all-run, run-passes, is_before-apart}
 
 -- ---- free runs
 

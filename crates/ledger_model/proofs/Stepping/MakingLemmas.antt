@@ -1,23 +1,21 @@
 -- Laws of `make` and `make_console`, which put new pages at free places.
-use Rattle.std.proofs.Common.{◌≡◌, ℕ, ◌+◌, ◌<◌, ◌≤◌, Bool, true, false, not, List, replicate, Some, None, refl, sym, ap, subst, ◌∙◌, arith, ◌⊎◌, inl, inr, lit<}
+use Rattle.std.proofs.Common.{◌≡◌, ℕ, ◌+◌, ◌≤◌, Bool, true, false, not, Some, None, refl, sym, ap, subst, ◌∙◌, arith, ◌⊎◌, inl, inr}
 use Rattle.std.specs.Prelude.{is_some, if◌then◌else◌}
 use Rattle.std.proofs.lemmas.Bool.{cases_Bool, cond-true, cond-false, both_ways}
-use Rattle.std.proofs.lemmas.List.{length-replicate}
-use Rattle.std.proofs.lemmas.List.Elements.{All-replicate}
 use Rattle.std.proofs.lemmas.Option.{none-some, same_Some}
 use Rattle.xk_base.specs.declared.ids.Place.{Place}
 use Rattle.xk_base.specs.declared.pages.Right.{Right}
 use Rattle.xk_base.specs.declared.windows.Window.TheVariants.{Map}
 use Rattle.ledger_model.specs.Conditions.{CanMake, CanMakeConsole, is_console}
-use Rattle.ledger_model.specs.Lawful.{IsLawful, IsPage}
+use Rattle.ledger_model.specs.Lawful.{IsLawful}
 use Rattle.ledger_model.specs.Ledger.{Ledger, Console, Bytes, Page, PageLoan, loan_at, loan_of, has_bytes, is_counted, pages}
 use Rattle.ledger_model.specs.Loans.{loans}
 use Rattle.ledger_model.specs.Places.{same_place, place_after, in_run, is_user_place, is_place_in, count_places}
 use Rattle.ledger_model.specs.Steps.{make, make_console, new_page, zero_page}
-use Rattle.ledger_model.proofs.LedgerLaws.{loan_at-page, loan_at-None, lender_of-none, IsFreeAt, is_free-true}
-use Rattle.ledger_model.proofs.Numbering.{count_places-same, count_places-run, is_place_in-user}
-use Rattle.ledger_model.proofs.PlaceLaws.{same_place-true, in_run-after}
-use Rattle.ledger_model.proofs.Removing.{same_loans, same_runs}
+use Rattle.ledger_model.proofs.LedgerLemmas.{loan_at-page, loan_at-None, lender_of-none, IsFreeAt, is_free-true}
+use Rattle.ledger_model.proofs.NumberingLemmas.{count_places-same, count_places-run, is_place_in-user}
+use Rattle.ledger_model.proofs.PlaceLemmas.{same_place-true, in_run-after}
+use Rattle.ledger_model.proofs.Stepping.RemovingLemmas.{same_loans, same_runs}
 
 -- ---- one new page at each of some free places
 
@@ -28,7 +26,6 @@ record Fits (procs : ℕ) (l : Ledger) (places : Place → Bool) (new : Page) : 
   lies : (p : Place) → places p ≡ true → is_user_place procs p ≡ true
   free : (p : Place) → places p ≡ true → IsFreeAt procs l p
   no_loan : new.loan ≡ None
-  whole : (bytes : List ℕ) → new.contents ≡ Bytes bytes → IsPage bytes
   in_map : new.contents ≡ Console → (p : Place) → places p ≡ true → is_place_in procs Map p ≡ true
   no_fetch : new.contents ≡ Console → new.right.x ≡ false
   one : new.contents ≡ Console → (p q : Place) → places p ≡ true → places q ≡ true → p ≡ q
@@ -112,11 +109,6 @@ filled-lawful procs capacity places new l h fits room =
         | inl n ↦ absurd (none-some x (sym fits.no_loan ∙ (ap (λ (page : Page). page.loan) n.1 ∙ f)))
         | inr o ↦ h.exclusive_writable p b x o.1 f k
       ];
-      page_whole = λ p b bytes e s. elim (new_or_old places new l p b e) [
-        | inl n ↦ fits.whole bytes (ap (λ (page : Page). page.contents) n.1 ∙ s)
-        | inr o ↦ h.page_whole p b bytes o.1 s
-      ];
-      orphan_whole = h.orphan_whole;
     }
 
 -- ---- make
@@ -126,20 +118,12 @@ filled-make : (first : Place) (n : ℕ) (right : Right) (l : Ledger)
 unfolding make
 filled-make first n right l = refl
 
-zeros_whole : (bytes : List ℕ) → bytes ≡ replicate 4096 0 → IsPage bytes
-zeros_whole bytes e = subst IsPage (sym e) (record { size = length-replicate {A = ℕ} 4096 0; each = All-replicate (λ b. b < 256) 4096 0 (lit< tt) })
-
-zero_page-whole : IsPage zero_page
-unfolding zero_page
-zero_page-whole = zeros_whole zero_page refl
-
 make_fits : (procs capacity : ℕ) (first : Place) (n : ℕ) (right : Right) (l : Ledger)
     → CanMake procs capacity l first n → Fits procs l (in_run first n) (new_page right (Bytes zero_page))
 make_fits procs capacity first n right l can = record {
   lies = can.lies;
   free = λ p t. is_free-true procs l p (can.free p t);
   no_loan = refl;
-  whole = λ bytes e. let same : zero_page ≡ bytes = cc in subst IsPage same zero_page-whole;
   in_map = λ e. cc;
   no_fetch = λ e. cc;
   one = λ e. cc;
@@ -197,7 +181,6 @@ console-fits procs place w l can = record {
   lies = λ p t. is_place_in-user procs Map p (there p t);
   free = λ p t. subst (IsFreeAt procs l) (sym (same_place-true p place t)) (is_free-true procs l place can.free);
   no_loan = refl;
-  whole = λ bytes e. cc;
   in_map = λ e p t. there p t;
   no_fetch = λ e. refl;
   one = λ e p q t u. same_place-true p place t ∙ sym (same_place-true q place u);

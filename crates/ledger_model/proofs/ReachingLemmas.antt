@@ -14,9 +14,9 @@ use Rattle.ledger_model.specs.Ledger.{Ledger, Contents, Console, Bytes, Page, Pa
 use Rattle.ledger_model.specs.Places.{same_place, place_after}
 use Rattle.ledger_model.specs.Reach.{lender_of, FreePlace, HomePlace, HolderPlace, OrphanPlace, home_may, lender_may, holder_may, reach, is_free}
 use Rattle.ledger_model.specs.Steps.{lend, with_loan, write, written, written_contents, written_page, written_orphan}
-use Rattle.ledger_model.proofs.LedgerLaws.{cases_Option, loan_at-page, lender_of-none, lender_of-None, lender_of-loan, role_at-home, role_at-orphan, role_at-holder, role_at-lender, role_at-free, IsFreeAt, is_free-true, is_free-from, reach-role}
-use Rattle.ledger_model.proofs.Lending.{lend_page, lend_lawful, lend_loan_inside, loan_to}
-use Rattle.ledger_model.proofs.PlaceLaws.{in_run-after, moved-after, same_place-refl, same_place-apart}
+use Rattle.ledger_model.proofs.LedgerLemmas.{cases_Option, loan_at-page, lender_of-none, lender_of-None, lender_of-loan, role_at-home, role_at-orphan, role_at-holder, role_at-lender, role_at-free, IsFreeAt, is_free-true, is_free-from, reach-role}
+use Rattle.ledger_model.proofs.Stepping.LendingLemmas.{lend_page, lend_lawful, lend_loan_inside, loan_to}
+use Rattle.ledger_model.proofs.PlaceLemmas.{in_run-after, moved-after, same_place-refl, same_place-apart}
 
 -- ---- the table
 

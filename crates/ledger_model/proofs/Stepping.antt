@@ -1,0 +1,9 @@
+pub mod ConsoleLemmas
+pub mod EndingLemmas
+pub mod GivingLemmas
+pub mod LendingLemmas
+pub mod MakingLemmas
+pub mod OrphaningLemmas
+pub mod PassingLemmas
+pub mod RemovingLemmas
+pub mod WritingLemmas

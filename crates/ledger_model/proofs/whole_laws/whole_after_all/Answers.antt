@@ -1,0 +1,5 @@
+use Rattle.ledger_model.proofs.WholePageLemmas.{steps_whole}
+use Rattle.ledger_model.proofs.whole_laws.whole_after_all.Goals as goal
+
+pub returns : goal.returns
+returns c = steps_whole
