@@ -7,7 +7,9 @@
 --     Exclusive              MutOut               MutIn
 --     an orphan, Shared      (there is none)      LentIn
 --     an orphan, Exclusive   (there is none)      MutIn
-use Rattle.std.specs.Prelude.{◌≡◌, ℕ, ◌+◌, ◌*◌, ◌/◌, Bool, true, false, ◌&&◌, is_some, is_none, IsTrue, Option, Some, None}
+use Rattle.std.specs.Prelude.{◌≡◌, ℕ, ◌+◌, ◌/◌, Bool, true, false, ◌&&◌, is_some, is_none, IsTrue, Option, Some, None}
+use Rattle.xk_base.specs.Circle.{is_pid}
+use Rattle.xk_base.specs.Limits.{table_frames}
 use Rattle.xk_base.specs.declared.ids.Number.{Number}
 use Rattle.xk_base.specs.declared.ids.Place.{Place}
 use Rattle.xk_base.specs.declared.pages.LoanKind.{LoanKind}
@@ -16,11 +18,13 @@ use Rattle.xk_base.specs.declared.pages.Right.{Right}
 use Rattle.phys_pages.specs.declared.infos.LoanInfo.{LoanInfo}
 use Rattle.phys_pages.specs.declared.infos.PageInfo.{PageInfo}
 use Rattle.phys_pages.specs.declared.infos.Seat.{Seat}
-use Rattle.phys_pages.specs.Owners.{Extent, frame_seat}
-use Rattle.ledger_model.specs.Places.{is_process, is_user_place}
+use Rattle.phys_pages.specs.Owners.{Extent, HasSeat, frame_seat}
+use Rattle.ledger_model.specs.Places.{is_user_place}
 use Rattle.sv32_space.specs.declared.sides.Side.{Side}
 use Rattle.sv32_space.specs.declared.sides.Side.TheVariants.{Own, LentOut, LentIn, MutOut, MutIn}
-use Rattle.sv32_space.specs.Entries.{Entry, Entries, Free, At, OnConsole}
+use Rattle.sv32_space.specs.declared.sides.Entry.{Entry}
+use Rattle.sv32_space.specs.declared.sides.Entry.TheVariants.{Free, At, OnConsole}
+use Rattle.sv32_space.specs.Entries.{Entries}
 
 -- what the owner table says of each seat; none where the seat is free
 abbrev pub Infos : Type 0
@@ -134,18 +138,20 @@ pub record EntriesAgree (procs : ℕ) (E : Entries) (I : Infos) : Type 0 where
   pub mut_in : (q : Place) (s : Seat) → E q ≡ Some (At MutIn s)
       → I s ≡ Some (on_loan (home_in (I s)) (loan_to q Exclusive (I s)))
 
--- how many frames the tables of so many processes have: of each its root, and four for each window
-abbrev pub table_frames : ℕ → ℕ
-table_frames procs = 21 * procs
-
 -- how many processes there are, as a table of owners tells it, which begins after the frames of their tables
 abbrev pub procs_of : Extent → ℕ
 procs_of table = table.first / 21
+
+-- A frame of the table has no page. The kernel keeps one free to exchange pages with.
+pub record HasUnusedFrame (table : Extent) (I : Infos) : Type 0 where
+  pub frame : ℕ
+  pub within : HasSeat table (frame_seat frame)
+  pub free : I (frame_seat frame) ≡ None
 
 -- Entries and owners agree, with n processes. The owner table covers the frames of RAM, which are `frames`, from the first
 -- after the tables on; the spaces of the pids 2 to n + 1 are made; and their entries agree with the owners.
 pub record Agrees (is_made : ℕ → Type 0) (frames : ℕ) (E : Entries) (table : Extent) (I : Infos) : Type 0 where
   pub first : table.first ≡ table_frames (procs_of table)
   pub last : table.first + table.frames ≡ frames
-  pub made : (pid : ℕ) → IsTrue (is_process (procs_of table) pid) → is_made pid
+  pub made : (pid : ℕ) → IsTrue (is_pid (procs_of table) pid) → is_made pid
   pub entries : EntriesAgree (procs_of table) E I

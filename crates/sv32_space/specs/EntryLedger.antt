@@ -4,20 +4,20 @@
 use Rattle.std.specs.Prelude.{◌≡◌, ℕ, ◌+◌, ◌-◌, Bool, true, false, nat_lt, is_none, is_some, IsTrue, List, Option, Some, None, if◌then◌else◌}
 use Rattle.std.specs.Option.{option_and_then, option_map}
 use Rattle.xk_base.specs.declared.ids.Place.{Place}
-use Rattle.xk_base.specs.declared.pages.LoanKind.TheVariants.{Shared, Exclusive}
-use Rattle.xk_base.specs.declared.pages.Access.{Access}
 use Rattle.xk_base.specs.Counting.{count_below}
+use Rattle.xk_base.specs.declared.pages.LoanKind.TheVariants.{Exclusive}
 use Rattle.phys_pages.specs.Owners.{Extent, frame_seat, slot_seat}
 use Rattle.phys_pages.specs.declared.infos.LoanInfo.{LoanInfo}
 use Rattle.phys_pages.specs.declared.infos.PageInfo.{PageInfo}
 use Rattle.phys_pages.specs.declared.infos.Seat.{Seat}
 use Rattle.ledger_model.specs.Ledger.{Ledger, Console, Bytes, Page, PageLoan, Orphan, loan_at}
 use Rattle.ledger_model.specs.Places.{is_user_place}
-use Rattle.ledger_model.specs.Reach.{owner_may, lender_may, holder_may}
 use Rattle.sv32_space.specs.declared.sides.Side.{Side}
 use Rattle.sv32_space.specs.declared.sides.Side.TheVariants.{Own, LentOut, LentIn, MutOut, MutIn}
 use Rattle.sv32_space.specs.Agreement.{Infos, loan_in, right_of_side}
-use Rattle.sv32_space.specs.Entries.{Entry, Entries, Free, At, OnConsole}
+use Rattle.sv32_space.specs.declared.sides.Entry.{Entry}
+use Rattle.sv32_space.specs.declared.sides.Entry.TheVariants.{Free, At, OnConsole}
+use Rattle.sv32_space.specs.Entries.{Entries}
 
 -- what the page at each seat holds
 abbrev pub SeatBytes : Type 0
@@ -71,20 +71,6 @@ is_free_entry None = true
 is_free_entry (Some Free) = true
 is_free_entry (Some (At side s)) = false
 is_free_entry (Some (OnConsole w)) = false
-
--- the accesses that an entry gives its process: those of the table of accesses for its side
-abbrev pub side_may : Side → Access → Bool
-side_may (Own right) access = owner_may right access
-side_may (LentOut right) access = lender_may Shared right access
-side_may LentIn access = holder_may Shared access
-side_may (MutOut x) access = false
-side_may MutIn access = holder_may Exclusive access
-
-abbrev pub entry_may : Option Entry → Access → Bool
-entry_may None access = false
-entry_may (Some Free) access = false
-entry_may (Some (At side s)) access = side_may side access
-entry_may (Some (OnConsole w)) access = owner_may (record { w = w; x = false }) access
 
 -- the k-th seat of a table: its frames in their order, then its slots
 abbrev pub table_seat : Extent → ℕ → Seat

@@ -6,6 +6,7 @@ pub mod SpelledEntries
 pub mod Spellings
 pub mod Walk
 pub mod EntryLedger
+pub mod EntryLoans
 pub mod PageChanges
 pub mod PageSteps
 pub mod Small

@@ -12,7 +12,9 @@ use Rattle.phys_pages.specs.Owners.{seat_eq}
 use Rattle.ledger_model.specs.Places.{same_place}
 use Rattle.sv32_space.specs.declared.sides.Side.TheVariants.{Own}
 use Rattle.sv32_space.specs.Agreement.{Infos, lender_side, holder_side}
-use Rattle.sv32_space.specs.Entries.{Entry, Entries, Free, At, OnConsole}
+use Rattle.sv32_space.specs.declared.sides.Entry.{Entry}
+use Rattle.sv32_space.specs.declared.sides.Entry.TheVariants.{Free, At, OnConsole}
+use Rattle.sv32_space.specs.Entries.{Entries}
 
 -- one entry, and what is said of one seat
 abbrev pub with_entry : Entries → Place → Entry → Entries
@@ -33,6 +35,14 @@ lent_entries E home right s loan =
 -- a page's loan ends: its home has the former right again, and the holder's entry goes
 abbrev pub ended_entries : Entries → Place → Right → Seat → Place → Entries
 ended_entries E home right s holder = with_entry (with_entry E home (At (Own right) s)) holder Free
+
+-- a page on loan goes on to another holder: the entry of the one that had it goes, and the other's comes
+abbrev pub passed_entries : Entries → Seat → LoanInfo → Place → Entries
+passed_entries E s loan to = with_entry (with_entry E loan.holder Free) to (At (holder_side loan.kind) s)
+
+-- the loan, with its holder there
+abbrev pub held_at : Place → LoanInfo → LoanInfo
+held_at to loan = record loan { holder = to }
 
 -- a page's home changes, with its right
 abbrev pub given_entries : Entries → Place → Place → Right → Seat → Entries

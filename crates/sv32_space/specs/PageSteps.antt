@@ -3,7 +3,7 @@
 use Rattle.std.specs.Prelude.{ℕ, Bool, Option, Some, None, if◌then◌else◌}
 use Rattle.std.specs.Option.{option_and_then, option_map}
 use Rattle.xk_base.specs.declared.ids.Place.{Place}
-use Rattle.ledger_model.specs.Ledger.{Ledger, Page, Orphan}
+use Rattle.ledger_model.specs.Ledger.{Ledger, Page, PageLoan, Orphan}
 use Rattle.ledger_model.specs.Places.{same_place, in_run, moved}
 use Rattle.ledger_model.specs.Steps.{orphan_with}
 
@@ -18,6 +18,18 @@ without_loan page = record page { loan = None }
 unfoldable pub end_at : (Place → Bool) → Ledger → Ledger
 end_at places ledger = record ledger {
   home = λ p. if places p then option_map without_loan (ledger.home p) else ledger.home p;
+}
+
+abbrev pub loan_held_at : Place → PageLoan → PageLoan
+loan_held_at to loan = record loan { holder = to }
+
+abbrev pub page_held_at : Place → Page → Page
+page_held_at to page = record page { loan = option_map (loan_held_at to) page.loan }
+
+-- the loan of page i of the run at `from` has its holder at place i of the run at `to`
+unfoldable pub pass_run : Place → ℕ → Place → Ledger → Ledger
+pass_run from n to ledger = record ledger {
+  home = λ p. if in_run from n p then option_map (page_held_at (moved from to p)) (ledger.home p) else ledger.home p;
 }
 
 -- the orphans at these places go

@@ -9,21 +9,14 @@ use Rattle.ledger_model.specs.Places.{same_place}
 use Rattle.sv32_space.specs.declared.small.LedgerPlace.{LedgerPlace}
 use Rattle.sv32_space.specs.declared.small.LedgerPlace.TheVariants as place
 use Rattle.sv32_space.specs.declared.small.PlacedEntry.{PlacedEntry}
-use Rattle.sv32_space.specs.declared.small.PlaceEntry.{PlaceEntry}
-use Rattle.sv32_space.specs.declared.small.PlaceEntry.TheVariants as entry
 use Rattle.sv32_space.specs.declared.small.SeatInfo.{SeatInfo}
 use Rattle.sv32_space.specs.Agreement.{Infos}
-use Rattle.sv32_space.specs.Entries.{Entry, Entries, Free, At, OnConsole}
+use Rattle.sv32_space.specs.Entries.{Entries}
 use Rattle.sv32_space.specs.EntryLedger.{SeatBytes, page_loan}
-
-abbrev pub entry_of : PlaceEntry → Entry
-entry_of entry.Free = Free
-entry_of (entry.At side seat) = At side seat
-entry_of (entry.OnConsole w) = OnConsole w
 
 -- the entries that a list spells
 unfoldable pub entries_of : List PlacedEntry → Entries
-entries_of entries p = option_map (λ e. entry_of e.entry) (find (λ e. same_place e.place p) entries)
+entries_of entries p = option_map (λ e. e.entry) (find (λ e. same_place e.place p) entries)
 
 -- what is said of the seats of a list
 unfoldable pub infos_of : List SeatInfo → Infos

@@ -1,16 +1,18 @@
 -- The entries of all places, as the bytes of the last-level tables spell them.
+use Rattle.xk_base.specs.Circle.{is_pid}
 use Rattle.std.specs.Prelude.{ℕ, ◌+◌, ◌^◌, ◌<◌, ◌==◌, ◌&&◌, nat_le, false, if◌then◌else◌, List, Option, Some, None}
 use Rattle.xk_base.specs.declared.ids.Frame.{Frame as FrameNumber}
 use Rattle.xk_base.specs.declared.windows.Window.{Window}
 use Rattle.xk_base.specs.Windows.{window_at}
 use Rattle.phys_pages.specs.declared.infos.Seat.TheVariants.{Frame, Slot}
 use Rattle.phys_pages.specs.Ram.{RamBytes, Area, area, pages, ppn_of, frame_of}
-use Rattle.ledger_model.specs.Places.{is_process}
 use Rattle.sv32_space.specs.declared.sides.Side.{Side}
 use Rattle.sv32_space.specs.declared.sides.Side.TheVariants.{Own, LentOut, LentIn, MutOut, MutIn}
 use Rattle.sv32_space.specs.declared.sides.EntryKind.{EntryKind}
 use Rattle.sv32_space.specs.declared.sides.EntryKind.TheVariants.{Free as FreeKind, Here, Out}
-use Rattle.sv32_space.specs.Entries.{Entry, Entries, Free, At, OnConsole}
+use Rattle.sv32_space.specs.declared.sides.Entry.{Entry}
+use Rattle.sv32_space.specs.declared.sides.Entry.TheVariants.{Free, At, OnConsole}
+use Rattle.sv32_space.specs.Entries.{Entries}
 use Rattle.sv32_space.specs.Spellings.{kind_at, right_of}
 use Rattle.sv32_space.specs.Spaces.{root_at, leaf_word}
 
@@ -64,7 +66,7 @@ entry_in_space a P first vpn (Some w) = entry_spelled a (leaf_word P first w vpn
 -- these pages. None at a process whose space doesn't lie in RAM
 abbrev pub entries_of : ℕ → Area → (ℕ → List ℕ) → Entries
 entries_of procs a P q =
-    if is_process procs q.pid.0 && nat_le (root_at q.pid.0 + 21) a.frames
+    if is_pid procs q.pid.0 && nat_le (root_at q.pid.0 + 21) a.frames
     then entry_in_space a P (root_at q.pid.0) q.vpn.0 (window_at q.vpn.0) else None
 
 -- the entries of all places

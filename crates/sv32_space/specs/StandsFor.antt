@@ -1,8 +1,10 @@
 -- Stands for: what ties the entries of all address spaces, the bytes of frames and what the slots of the swap store hold to a
 -- ledger of `procs` processes. It says nothing of how a program keeps track of owners. Each page of the ledger but the
 -- console, and each orphan, has a seat: a frame or a slot. A page is named by its home, an orphan by its holder's place.
-use Rattle.std.specs.Prelude.{◌≡◌, ◌≢◌, ℕ, ◌<◌, ◌≤◌, Bool, false, ◌||◌, is_some, IsTrue, List, Option, Some, None}
-use Rattle.std.specs.Option.{option_map}
+use Rattle.std.specs.Prelude.{◌≡◌, ◌≢◌, ℕ, ◌<◌, ◌≤◌, Bool, false, ◌||◌, is_some, if◌then◌else◌, IsTrue, List, Option, Some, None}
+use Rattle.std.specs.Option.{option_and_then}
+use Rattle.xk_base.specs.Circle.{is_pid}
+use Rattle.xk_base.specs.Limits.{table_frames}
 use Rattle.xk_base.specs.declared.ids.Frame.{Frame as FrameNumber}
 use Rattle.xk_base.specs.declared.ids.Place.{Place}
 use Rattle.xk_base.specs.declared.pages.Right.{Right}
@@ -10,12 +12,14 @@ use Rattle.phys_pages.specs.declared.infos.Seat.{Seat}
 use Rattle.phys_pages.specs.declared.infos.Seat.TheVariants.{Frame, Slot}
 use Rattle.phys_pages.specs.Owners.{frame_seat}
 use Rattle.ledger_model.specs.Ledger.{Ledger, Console, Bytes, Page, PageLoan, Orphan, loan_at, is_counted}
-use Rattle.ledger_model.specs.Places.{is_process, is_user_place}
+use Rattle.ledger_model.specs.Places.{is_user_place}
 use Rattle.ledger_model.specs.Reach.{is_free}
+use Rattle.ledger_model.specs.WholePages.{is_page}
 use Rattle.sv32_space.specs.declared.sides.Side.{Side}
 use Rattle.sv32_space.specs.declared.sides.Side.TheVariants.{Own}
-use Rattle.sv32_space.specs.Agreement.{table_frames, lender_side, holder_side}
-use Rattle.sv32_space.specs.Entries.{Entries, Free, At, OnConsole}
+use Rattle.sv32_space.specs.Agreement.{lender_side, holder_side}
+use Rattle.sv32_space.specs.declared.sides.Entry.TheVariants.{Free, At, OnConsole}
+use Rattle.sv32_space.specs.Entries.{Entries}
 
 -- a place at which a page that has a seat has its name
 abbrev pub has_page : Ledger → Place → Bool
@@ -44,10 +48,18 @@ pub record AreSpelled (procs : ℕ) (E : Entries) (ledger : Ledger) (seat : Plac
   pub console_no_loan : (p : Place) (page : Page) → ledger.home p ≡ Some page → page.contents ≡ Console
       → page.loan ≡ None
 
--- the bytes that are told of a seat: those of a frame always, and those of a slot where the store tells what it holds
+-- A store tells lists of bytes. One counts only where it is a page.
+abbrev pub told_page : List ℕ → Option (List ℕ)
+told_page bytes = if is_page bytes then Some bytes else None
+
+-- what is told of a slot, where the store tells what its slots hold
+abbrev pub told_slot : Option (ℕ → List ℕ) → ℕ → Option (List ℕ)
+told_slot held s = option_and_then (λ slots. told_page (slots s)) held
+
+-- the bytes that are told of a seat: those of a frame always, and those of a slot where the store tells a page there
 abbrev pub told_bytes : (ℕ → List ℕ) → Option (ℕ → List ℕ) → Seat → Option (List ℕ)
 told_bytes pages held (Frame f) = Some (pages f.0)
-told_bytes pages held (Slot s) = option_map (λ slots. slots s.0) held
+told_bytes pages held (Slot s) = told_slot held s.0
 
 -- Part 4. A page in a frame has that frame's bytes. A page that is out has the bytes of its slot.
 pub record AreBytes (told : Seat → Option (List ℕ)) (ledger : Ledger) (seat : Place → Seat) : Type 0 where
@@ -72,7 +84,7 @@ pub record HasFreeFrame (procs frames : ℕ) (ledger : Ledger) (seat : Place →
 -- All parts but the last sentence of part 5, which isn't claimed between the two halves of an exchange. Part 1 is `tables`:
 -- the root and the tables of each process are as they were made.
 pub record StandsAt (tables_made : ℕ → Type 0) (procs frames : ℕ) (E : Entries) (told : Seat → Option (List ℕ)) (ledger : Ledger) (seat : Place → Seat) : Type 0 where
-  pub tables : (pid : ℕ) → IsTrue (is_process procs pid) → tables_made pid
+  pub tables : (pid : ℕ) → IsTrue (is_pid procs pid) → tables_made pid
   pub spelled : AreSpelled procs E ledger seat
   pub bytes : AreBytes told ledger seat
   pub apart : AreSeatsApart procs frames ledger seat

@@ -1,8 +1,7 @@
 -- The bytes of RAM and the owner table: whether they agree, the ledger that they make, and which ledger they stand for.
-use Rattle.std.specs.Prelude.{ℕ, List, Option, Some, None}
+use Rattle.std.specs.Prelude.{ℕ, List, Option, unwrap_or}
 use Rattle.phys_pages.specs.Owners.{OwnerTable, extent, infos}
 use Rattle.phys_pages.specs.Ram.{RamBytes, area, pages}
-use Rattle.phys_pages.specs.declared.infos.Seat.{Seat}
 use Rattle.phys_pages.specs.declared.infos.Seat.TheVariants.{Frame, Slot}
 use Rattle.ledger_model.specs.Ledger.{Ledger}
 use Rattle.ledger_model.specs.Steps.{zero_page}
@@ -10,7 +9,7 @@ use Rattle.sv32_space.specs.Agreement.{Agrees, procs_of}
 use Rattle.sv32_space.specs.EntryLedger.{SeatBytes, ledger_of}
 use Rattle.sv32_space.specs.Spaces.{IsMade}
 use Rattle.sv32_space.specs.SpelledEntries.{entries}
-use Rattle.sv32_space.specs.StandsFor.{StandsFor, told_bytes}
+use Rattle.sv32_space.specs.StandsFor.{StandsFor, told_slot, told_bytes}
 
 -- The entries in RAM agree with the owners.
 abbrev pub agrees : RamBytes → OwnerTable → Type 0
@@ -20,10 +19,9 @@ agrees ram owners = Agrees (IsMade ram) (area ram).frames (entries (procs_of (ex
 abbrev pub Held : Type 0
 Held = Option (ℕ → List ℕ)
 
--- the bytes of a slot; where the store doesn't tell, zeros stand for them
+-- the bytes of a slot; where the store doesn't tell a page, zeros stand for them
 abbrev pub slot_bytes : Held → ℕ → List ℕ
-slot_bytes None s = zero_page
-slot_bytes (Some slots) s = slots s
+slot_bytes held s = unwrap_or (told_slot held s) zero_page
 
 -- what the page at each seat holds
 abbrev pub bytes_at : RamBytes → Held → SeatBytes

@@ -94,7 +94,7 @@ fn kind_by_bits(word: u32) -> Option<EntryKind>
 }
 
 /// The word that spells an entry.
-#[tactic(auto, using(crate::proofs::SpellingLaws::kind_at_spelling))]
+#[tactic(auto, using(crate::proofs::SpellingLemmas::kind_at_spelling))]
 pub fn entry_of(k: EntryKind) -> u32
     requires { IsKind k }
     ensures is { result ≡ spelling k }
@@ -108,7 +108,7 @@ pub fn entry_of(k: EntryKind) -> u32
 }
 
 /// What a word spells; `None` exactly for a word that is no spelling.
-#[tactic(auto, using(crate::proofs::SpellingLaws::kind_at_found, crate::proofs::SpellingLaws::kind_at_only))]
+#[tactic(auto, using(crate::proofs::SpellingLemmas::kind_at_found, crate::proofs::SpellingLemmas::kind_at_only))]
 pub fn kind_of(word: u32) -> Option<EntryKind>
     ensures is { result ≡ kind_at word }
     ensures found { MatchOption result ((k : EntryKind) → ¬ Spells k word) (λ k. Spells k word) }

@@ -8,10 +8,11 @@ ghost use Rattle.phys_pages.specs.declared.infos.PageInfo.{PageInfo};
 ghost use Rattle.phys_pages.specs.declared.infos.Seat.{Seat};
 ghost use Rattle.std.specs.Prelude.{Bool, List, None, Some, false, true, ℕ, ◌≡◌};
 ghost use Rattle.sv32_space.specs.Agreement.{EntriesAgree, Infos, on_loan, owned_by, right_in};
-ghost use Rattle.sv32_space.specs.Entries.{At, Entries, Free, OnConsole};
+ghost use Rattle.sv32_space.specs.declared.sides.Entry.TheVariants.{At, Free, OnConsole};
+ghost use Rattle.sv32_space.specs.Entries.{Entries};
 ghost use Rattle.sv32_space.specs.EntryLedger.{SeatBytes, ledger_of};
-ghost use Rattle.sv32_space.specs.PageChanges.{ended_entries, given_entries, lent_entries, moved_infos, renamed, with_bytes, with_entry, with_info};
-ghost use Rattle.sv32_space.specs.PageSteps.{end_at, forget_orphans, orphan_run, place_page};
+ghost use Rattle.sv32_space.specs.PageChanges.{ended_entries, given_entries, held_at, lent_entries, moved_infos, passed_entries, renamed, with_bytes, with_entry, with_info};
+ghost use Rattle.sv32_space.specs.PageSteps.{end_at, forget_orphans, orphan_run, pass_run, place_page};
 ghost use Rattle.sv32_space.specs.declared.sides.Side.TheVariants.{Own};
 ghost use Rattle.xk_base.specs.declared.ids.Place.{Place};
 ghost use Rattle.xk_base.specs.declared.pages.LoanKind.TheVariants.{Exclusive};
@@ -65,6 +66,14 @@ pub fn ended_loan_is_gone()
         → EntriesAgree procs E I → I s ≡ Some (on_loan (Some home) loan) → right ≡ right_in (E home)
         → ledger_of (ended_entries E home right s loan.holder) (with_info I s (Some (owned_by home))) B
         ≡ end_at (in_run home 1) (ledger_of E I B) }
+{}
+
+/// A page on loan with a lender goes on to another holder, at a free place.
+pub fn passed_page_has_its_new_holder()
+    ensures { (procs : ℕ) (E : Entries) (I : Infos) (B : SeatBytes) (home : Place) (s : Seat) (loan : LoanInfo) (to : Place)
+        → EntriesAgree procs E I → I s ≡ Some (on_loan (Some home) loan) → E to ≡ Some Free
+        → ledger_of (passed_entries E s loan to) (with_info I s (Some (on_loan (Some home) (held_at to loan)))) B
+        ≡ pass_run home 1 to (ledger_of E I B) }
 {}
 
 /// A page on loan becomes an orphan at its holder's place.

@@ -6,6 +6,7 @@ pub mod agreement_laws;
 pub mod count_laws;
 mod entries;
 pub mod ledger_laws;
+mod place_entries;
 pub mod role_laws;
 pub mod run_laws;
 pub mod seat_laws;
@@ -17,7 +18,8 @@ pub mod standing_laws;
 mod walking;
 
 pub use entries::{entry_of, kind_of};
-pub use sides::{EntryKind, Side};
+pub use place_entries::{entry_at, set_entry};
+pub use sides::{Entry, EntryKind, Side};
 pub use spaces::{leaf, new_space, root_of, set_leaf};
 pub use walking::{Walked, walk};
 

@@ -3,14 +3,17 @@
 ghost use Rattle.ledger_model.specs.Ledger.{Homed, Orphaned};
 ghost use Rattle.ledger_model.specs.Loans.{bare};
 ghost use Rattle.ledger_model.specs.Steps.{write, written};
+ghost use Rattle.ledger_model.specs.WholePages.{HasWholePages, IsPage};
 ghost use Rattle.phys_pages.specs.declared.infos.LoanInfo.{LoanInfo};
 ghost use Rattle.phys_pages.specs.declared.infos.PageInfo.{PageInfo};
 ghost use Rattle.phys_pages.specs.declared.infos.Seat.{Seat};
 ghost use Rattle.std.specs.Prelude.{List, None, Some, ℕ, ◌≡◌};
 ghost use Rattle.sv32_space.specs.Agreement.{EntriesAgree, Infos, home_in, on_loan, owned_by};
-ghost use Rattle.sv32_space.specs.Entries.{At, Entries};
+ghost use Rattle.sv32_space.specs.declared.sides.Entry.TheVariants.{At};
+ghost use Rattle.sv32_space.specs.Entries.{Entries};
 ghost use Rattle.sv32_space.specs.EntryLedger.{SeatBytes, ledger_of};
 ghost use Rattle.sv32_space.specs.PageChanges.{renamed, with_bytes, with_entry};
+ghost use Rattle.sv32_space.specs.Tie.{Held, slot_bytes};
 ghost use Rattle.sv32_space.specs.declared.sides.Side.{Side};
 ghost use Rattle.xk_base.specs.declared.ids.Place.{Place};
 
@@ -45,4 +48,12 @@ pub fn home_and_holder_are_renamed()
     ensures orphaned { (procs : ℕ) (E : Entries) (I : Infos) (from to : Seat) (loan : LoanInfo) (side : Side) → EntriesAgree procs E I
         → I from ≡ Some (on_loan None loan) → E loan.holder ≡ Some (At side from)
         → renamed from to E ≡ with_entry E loan.holder (At side to) }
+{}
+
+/// The pages of a ledger are whole where the bytes of each used seat are a page's. Those of a slot
+/// always are, whatever a store tells.
+pub fn pages_are_whole()
+    ensures ledger { (procs : ℕ) (E : Entries) (I : Infos) (B : SeatBytes) → EntriesAgree procs E I
+        → ((s : Seat) (info : PageInfo) → I s ≡ Some info → IsPage (B s)) → HasWholePages (ledger_of E I B) }
+    ensures slots { (held : Held) (s : ℕ) → IsPage (slot_bytes held s) }
 {}

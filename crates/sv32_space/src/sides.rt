@@ -1,5 +1,6 @@
 //! What an entry of a last-level page table says.
 
+use phys_pages::Seat;
 use xk_base::Right;
 
 /// Which side of a page an entry is.
@@ -17,7 +18,7 @@ pub enum Side {
     MutIn,
 }
 
-/// What an entry spells.
+/// What a word spells.
 #[derive(Clone, Copy, Debug, PartialEq, Eq)]
 pub enum EntryKind {
     Free,
@@ -25,4 +26,13 @@ pub enum EntryKind {
     Here { side: Side, ppn: u32 },
     /// A page that is out, at a slot of the swap store.
     Out { side: Side, slot: u32 },
+}
+
+/// What the entry of a place says: nothing, one side of the page at a seat, or the console's page.
+#[derive(Clone, Copy, Debug, PartialEq, Eq)]
+pub enum Entry {
+    Free,
+    At { side: Side, seat: Seat },
+    /// The console's page, which may be loaded from; whether it may be stored to.
+    OnConsole { w: bool },
 }

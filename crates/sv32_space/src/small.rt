@@ -7,25 +7,17 @@ ghost use Rattle.std.specs.List.{find};
 ghost use Rattle.std.specs.Option.{option_map};
 ghost use Rattle.sv32_space.specs.Agreement.{loan_in};
 ghost use Rattle.sv32_space.specs.EntryLedger.{SeatBytes, ledger_of, orphan_of_side, page_of_side};
-ghost use Rattle.sv32_space.specs.Small.{entries_of, entry_of, infos_of, orphan_told, page_told};
+ghost use Rattle.sv32_space.specs.Small.{entries_of, infos_of, orphan_told, page_told};
 
-use crate::sides::Side;
+use crate::sides::{Entry, Side};
 use phys_pages::{LoanInfo, PageInfo, Seat};
 use xk_base::{LoanKind, Number, Place, Right};
-
-/// What an entry says: nothing, one side of the page at a seat, or the console's page.
-#[derive(Clone, Copy, Debug, PartialEq, Eq)]
-pub enum PlaceEntry {
-    Free,
-    At { side: Side, seat: Seat },
-    OnConsole { w: bool },
-}
 
 /// The entry of a place.
 #[derive(Clone, Copy, Debug, PartialEq, Eq)]
 pub struct PlacedEntry {
     pub place: Place,
-    pub entry: PlaceEntry,
+    pub entry: Entry,
 }
 
 /// Whose page is at a seat.
@@ -154,13 +146,13 @@ pub fn ledger_at(entries: &[PlacedEntry], infos: &[SeatInfo], place: Place) -> L
     match entry_at(entries, place) {
         None => LedgerPlace::Nothing,
         Some(placed) => match placed.entry {
-            PlaceEntry::Free => LedgerPlace::Nothing,
-            PlaceEntry::OnConsole { w } => LedgerPlace::Home {
+            Entry::Free => LedgerPlace::Nothing,
+            Entry::OnConsole { w } => LedgerPlace::Home {
                 right: Right { w, x: false },
                 seat: None,
                 loan: None,
             },
-            PlaceEntry::At { side, seat } => place_of_side(side, seat, info_at(infos, seat)),
+            Entry::At { side, seat } => place_of_side(side, seat, info_at(infos, seat)),
         },
     }
 }
@@ -180,7 +172,7 @@ mod tests {
     fn entry(at: Place, side: Side, seat: Seat) -> PlacedEntry {
         PlacedEntry {
             place: at,
-            entry: PlaceEntry::At { side, seat },
+            entry: Entry::At { side, seat },
         }
     }
 
@@ -225,14 +217,14 @@ mod tests {
             entry(place(2, 0x2_0001), Side::MutOut { x: true }, out),
             PlacedEntry {
                 place: place(2, 0x6_0000),
-                entry: PlaceEntry::OnConsole { w: true },
+                entry: Entry::OnConsole { w: true },
             },
             entry(place(3, 0x4_0000), Side::LentIn, lent),
             entry(place(3, 0x4_0001), Side::MutIn, out),
             entry(place(3, 0x4_0002), Side::MutIn, left),
             PlacedEntry {
                 place: place(3, 0x4_0003),
-                entry: PlaceEntry::Free,
+                entry: Entry::Free,
             },
         ];
         let infos = [

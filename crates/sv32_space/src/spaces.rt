@@ -1,13 +1,14 @@
 //! Address spaces: their frames, and the entries of their pages.
 
+ghost use Rattle.xk_base.specs.Circle.{is_pid};
 ghost use Rattle.std.specs.Prelude.{◌≡◌, ℕ, ◌+◌, ◌-◌, ◌*◌, ◌/◌, ◌%◌, ◌<◌, ◌≤◌, ◌≢◌, ◌⊎◌, true, Some, IsSome, IsTrue, nat_eq, slice_index};
 ghost use Rattle.xk_base.specs.declared.ids.Place.{Place};
 ghost use Rattle.xk_base.specs.declared.windows.Window.{Window};
 ghost use Rattle.xk_base.specs.Counting.{put_at};
 ghost use Rattle.xk_base.specs.Windows.{window_at};
 ghost use Rattle.phys_pages.specs.Ram.{area, pages, words, IsInside, IsPlaced};
-ghost use Rattle.ledger_model.specs.Places.{is_process, is_user_place, same_place};
-ghost use Rattle.sv32_space.specs.Entries.{Free};
+ghost use Rattle.ledger_model.specs.Places.{is_user_place, same_place};
+ghost use Rattle.sv32_space.specs.declared.sides.Entry.TheVariants.{Free};
 ghost use Rattle.sv32_space.specs.Spaces.{root_at, window_order, first_root_entry, table_frame, table_word, root_word, window_of_root_entry, leaf_word, leaf_address, IsSpace, IsTableFrame, IsMade};
 ghost use Rattle.sv32_space.specs.SpelledEntries.{entries, entry_spelled};
 ghost use Rattle.sv32_space.specs.Spellings.{kind_at};
@@ -48,7 +49,7 @@ fn table_in(first: Frame, window: Window, i: u32) -> Frame
 }
 
 // The frame of the table that a place's entry stands in.
-#[tactic(auto, using(crate::proofs::SpaceLaws::table_of_page))]
+#[tactic(auto, using(crate::proofs::SpaceLemmas::table_of_page))]
 fn table_at(at: Place) -> Frame
     requires process { 2 ≤ at.pid.0 }
     requires window { IsSome (window_at at.vpn.0) }
@@ -79,7 +80,7 @@ pub fn leaf(ram: &Ram, at: Place) -> u32
     requires window { IsSome (window_at at.vpn.0) }
     ensures word { (w : Window) → window_at at.vpn.0 ≡ Some w → result ≡ leaf_word (pages ram.now) (root_at at.pid.0) w at.vpn.0 }
     ensures spelled { IsSome (kind_at result) }
-    ensures entry { (procs : ℕ) → IsTrue (is_process procs at.pid.0) → entries procs ram.now at ≡ entry_spelled (area ram.now) result }
+    ensures entry { (procs : ℕ) → IsTrue (is_pid procs at.pid.0) → entries procs ram.now at ≡ entry_spelled (area ram.now) result }
 {
     ram.word(address_of(ram, at))
 }
@@ -91,7 +92,7 @@ pub fn set_leaf(ram: &mut Ram, at: Place, word: u32)
     requires spelled { IsSome (kind_at word) }
     ensures words { (w : Window) → window_at at.vpn.0 ≡ Some w
         → words ram.new ≡ put_at nat_eq (words ram.old) (leaf_address (area ram.old) w at) (Some word) }
-    ensures entries { (procs : ℕ) → IsTrue (is_process procs at.pid.0)
+    ensures entries { (procs : ℕ) → IsTrue (is_pid procs at.pid.0)
         → entries procs ram.new ≡ put_at same_place (entries procs ram.old) at (entry_spelled (area ram.old) word) }
     ensures pages { (f : ℕ) → ¬ IsTableFrame (root_at at.pid.0) f → pages ram.new f ≡ pages ram.old f }
     ensures own { IsMade ram.new at.pid.0 }
@@ -103,7 +104,7 @@ pub fn set_leaf(ram: &mut Ram, at: Place, word: u32)
 }
 
 // Fills a frame with zeros.
-#[tactic(auto, using(phys_pages::proofs::PageLaws::page_writes, phys_pages::proofs::PageLaws::zeroed))]
+#[tactic(auto, using(phys_pages::proofs::PageLemmas::page_writes, phys_pages::proofs::PageLemmas::zeroed))]
 fn clear_frame(ram: &mut Ram, f: Frame)
     requires { f.0 < (area ram.old).frames }
     ensures zero { (i : ℕ) → slice_index (pages ram.new f.0) i ≡ 0 }
@@ -127,7 +128,7 @@ fn clear_tables(ram: &mut Ram, first: Frame)
 }
 
 // The word of entry `i` of the root of the space from `first` on.
-#[tactic(auto, using(crate::proofs::SpaceLaws::mapped_entry, crate::proofs::SpaceLaws::table_within))]
+#[tactic(auto, using(crate::proofs::SpaceLemmas::mapped_entry, crate::proofs::SpaceLemmas::table_within))]
 fn root_entry(ram: &Ram, first: Frame, i: u32) -> u32
     requires within { first.0 + 21 ≤ (area ram.now).frames }
     requires entry { i < 1024 }

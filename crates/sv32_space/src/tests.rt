@@ -2,11 +2,13 @@
 
 ghost use Rattle.std.specs.Prelude.{◌≡◌, ◌+◌, ◌*◌, ◌<◌, ◌≤◌};
 ghost use Rattle.phys_pages.specs.Ram.{area};
+ghost use Rattle.sv32_space.specs.Spaces.{IsMade};
+ghost use Rattle.sv32_space.specs.SpelledEntries.{IsEntry};
 ghost use Rattle.sv32_space.specs.declared.sides.EntryKind.TheVariants.{Here};
 
 use super::*;
-use phys_pages::Ram;
-use xk_base::{Access, Frame, Pid, Place, Right, Vpn};
+use phys_pages::{Ram, Seat};
+use xk_base::{Access, Frame, Pid, Place, Right, Slot, Vpn};
 
 const START: u32 = 0x4000_0000;
 
@@ -234,5 +236,53 @@ fn space_of_process_3(rt: HostRuntime) {
         );
     } else {
         assert!(rt; false);
+    }
+}
+
+const AT: Place = Place {
+    pid: Pid(2),
+    vpn: Vpn(0x4_0000),
+};
+
+const NEXT: Place = Place {
+    pid: Pid(2),
+    vpn: Vpn(0x4_0001),
+};
+
+// The entries of a place and of the next one, once that entry was written to the place.
+fn written(ram: &mut Ram, entry: Entry) -> [Option<Entry>; 2]
+    requires made { IsMade ram.old 2 }
+    requires entry { IsEntry (area ram.old) entry }
+    ensures made { IsMade ram.new 2 }
+    ensures area { area ram.new ≡ area ram.old }
+{
+    set_entry(ram, AT, entry);
+    [entry_at(ram, AT), entry_at(ram, NEXT)]
+}
+
+// Each sort of entry is read as it was written, and its neighbour stays free.
+#[test]
+fn entries_of_places(rt: HostRuntime) {
+    if let Ok(mut ram) = Ram::new(rt.alloc(), START, 64) {
+        new_space(&mut ram, Frame(0));
+        let here = Entry::At {
+            side: Side::LentOut(RW),
+            seat: Seat::Frame(Frame(40)),
+        };
+        assert_eq!(rt; written(&mut ram, here), [Some(here), Some(Entry::Free)]);
+        let out = Entry::At {
+            side: Side::MutIn,
+            seat: Seat::Slot(Slot(5)),
+        };
+        assert_eq!(rt; written(&mut ram, out), [Some(out), Some(Entry::Free)]);
+        let console = Entry::OnConsole { w: true };
+        assert_eq!(rt;
+            written(&mut ram, console),
+            [Some(console), Some(Entry::Free)]
+        );
+        assert_eq!(rt;
+            written(&mut ram, Entry::Free),
+            [Some(Entry::Free), Some(Entry::Free)]
+        );
     }
 }

@@ -6,7 +6,7 @@ ghost use Rattle.phys_pages.specs.Ram.{area, words, ppn_of};
 ghost use Rattle.xk_base.specs.declared.ids.Place.{Place};
 ghost use Rattle.xk_base.specs.Windows.{window_at};
 ghost use Rattle.sv32_space.specs.declared.walking.Walked.TheVariants.{PageFault};
-ghost use Rattle.sv32_space.specs.Entries.{Entry};
+ghost use Rattle.sv32_space.specs.declared.sides.Entry.{Entry};
 ghost use Rattle.sv32_space.specs.EntryReach.{entry_reach};
 ghost use Rattle.sv32_space.specs.Spaces.{root_at, IsMade};
 ghost use Rattle.sv32_space.specs.SpelledEntries.{entries};
@@ -69,7 +69,7 @@ fn lets_in(entry: u32, access: Access) -> bool
 }
 
 // The entry at an index of the table in a page; `None` outside RAM.
-#[tactic(auto, using(phys_pages::proofs::WordLaws::word_places))]
+#[tactic(auto, using(phys_pages::proofs::WordLemmas::word_places))]
 fn table_entry(ram: &Ram, ppn: u32, index: u32) -> Option<u32>
     requires { index < 1024 }
     ensures { result ≡ entry_in_table ram.now ppn index }
@@ -125,7 +125,7 @@ fn walk_root(ram: &Ram, entry: u32, va: u32, access: Access) -> Walked
 }
 
 // The entry of a root table that a virtual address selects; `None` where the table isn't in RAM.
-#[tactic(auto, using(crate::proofs::WalkLaws::no_entry_outside))]
+#[tactic(auto, using(crate::proofs::WalkLemmas::no_entry_outside))]
 fn root_entry(ram: &Ram, root: Frame, va: u32) -> Option<u32>
     ensures { result ≡ entry_in_table ram.now (ppn_of (area ram.now) root.0) (vpn_1 va) }
 {
@@ -147,7 +147,7 @@ fn walk_tables(ram: &Ram, root: Frame, va: u32, access: Access) -> Walked
 
 /// Where a process with this root table reaches at a virtual address: the walk of Sv32 in user mode
 /// (RISC-V Privileged, 4.3.2) on the bytes of RAM. A table outside RAM is a page fault.
-#[tactic(auto, using(crate::proofs::ReachLaws::walk_by_entry, crate::proofs::ReachLaws::walk_outside))]
+#[tactic(auto, using(crate::proofs::ReachLemmas::walk_by_entry, crate::proofs::ReachLemmas::walk_outside))]
 pub fn walk(ram: &Ram, root: Frame, va: u32, access: Access) -> Walked
     ensures is { result ≡ walk_of ram.now root.0 va access }
     // in a made space it leads where the entry of the place says ..

@@ -1,4 +1,4 @@
-use Rattle.sv32_space.proofs.PageAgreement.{reduce_console_agrees, unmap_console_agrees}
+use Rattle.sv32_space.proofs.Agreeing.PageAgreementLemmas.{reduce_console_agrees, unmap_console_agrees}
 use Rattle.sv32_space.proofs.agreement_laws.console_keeps_agreement.Goals as goal
 
 pub returns-clause-reduced : goal.returns-clause-reduced

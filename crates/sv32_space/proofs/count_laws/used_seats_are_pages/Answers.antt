@@ -1,4 +1,4 @@
-use Rattle.sv32_space.proofs.SeatCounting.{used_seats_are_pages, all_used}
+use Rattle.sv32_space.proofs.Agreeing.SeatCountingLemmas.{used_seats_are_pages, all_used}
 use Rattle.sv32_space.proofs.count_laws.used_seats_are_pages.Goals as goal
 
 pub returns-clause-used : goal.returns-clause-used

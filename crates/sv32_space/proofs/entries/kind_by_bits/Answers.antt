@@ -1,6 +1,6 @@
 use Rattle.std.proofs.Common.{◌%◌, Some, None, sym, ◌∙◌, refl}
 use Rattle.sv32_space.specs.Spellings.{out_side}
-use Rattle.sv32_space.proofs.SpellingLaws.{kind_by_parts}
+use Rattle.sv32_space.proofs.SpellingLemmas.{kind_by_parts}
 use Rattle.sv32_space.proofs.entries.kind_by_bits.Goals as goal
 
 pub returns-in-Some-default : goal.returns-in-Some-default

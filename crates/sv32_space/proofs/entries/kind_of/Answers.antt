@@ -1,5 +1,5 @@
 use Rattle.std.proofs.Common.{◌∙◌}
-use Rattle.sv32_space.proofs.SpellingLaws.{kind_at_only}
+use Rattle.sv32_space.proofs.SpellingLemmas.{kind_at_only}
 use Rattle.sv32_space.proofs.entries.kind_of.Goals as goal
 
 pub returns-clause-only : goal.returns-clause-only

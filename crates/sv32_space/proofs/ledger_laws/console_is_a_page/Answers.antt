@@ -1,4 +1,4 @@
-use Rattle.sv32_space.proofs.PageLedger.{map_console_ledger, reduce_console_ledger, unmap_console_ledger}
+use Rattle.sv32_space.proofs.Ledgers.PageLedgerLemmas.{map_console_ledger, reduce_console_ledger, unmap_console_ledger}
 use Rattle.sv32_space.proofs.ledger_laws.console_is_a_page.Goals as goal
 
 pub returns-clause-mapped : goal.returns-clause-mapped

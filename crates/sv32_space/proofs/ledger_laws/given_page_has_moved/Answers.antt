@@ -1,4 +1,4 @@
-use Rattle.sv32_space.proofs.PageLedger.{give_ledger}
+use Rattle.sv32_space.proofs.Ledgers.PageLedgerLemmas.{give_ledger}
 use Rattle.sv32_space.proofs.ledger_laws.given_page_has_moved.Goals as goal
 
 pub returns : goal.returns

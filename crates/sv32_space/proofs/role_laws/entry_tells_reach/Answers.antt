@@ -1,4 +1,4 @@
-use Rattle.sv32_space.proofs.Roles.{reach_by_entry}
+use Rattle.sv32_space.proofs.Agreeing.RoleLemmas.{reach_by_entry}
 use Rattle.sv32_space.proofs.role_laws.entry_tells_reach.Goals as goal
 
 pub returns : goal.returns

@@ -1,4 +1,4 @@
-use Rattle.sv32_space.proofs.Roles.{role_of_free, role_of_home, role_of_holder, role_of_orphan}
+use Rattle.sv32_space.proofs.Agreeing.RoleLemmas.{role_of_free, role_of_home, role_of_holder, role_of_orphan}
 use Rattle.sv32_space.proofs.role_laws.entry_tells_role.Goals as goal
 
 pub returns-clause-free : goal.returns-clause-free

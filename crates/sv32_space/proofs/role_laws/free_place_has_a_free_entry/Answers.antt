@@ -1,4 +1,4 @@
-use Rattle.sv32_space.proofs.Roles.{free_by_entry}
+use Rattle.sv32_space.proofs.Agreeing.RoleLemmas.{free_by_entry}
 use Rattle.sv32_space.proofs.role_laws.free_place_has_a_free_entry.Goals as goal
 
 pub returns : goal.returns

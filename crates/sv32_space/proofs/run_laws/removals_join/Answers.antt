@@ -1,4 +1,4 @@
-use Rattle.sv32_space.proofs.Runs.{remove_joined, remove_nothing}
+use Rattle.sv32_space.proofs.RunLemmas.{remove_joined, remove_nothing}
 use Rattle.sv32_space.proofs.run_laws.removals_join.Goals as goal
 
 pub returns-clause-joined : goal.returns-clause-joined

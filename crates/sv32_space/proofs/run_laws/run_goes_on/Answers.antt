@@ -1,4 +1,4 @@
-use Rattle.sv32_space.proofs.Runs.{give_next, make_next, reduce_next, remove_next}
+use Rattle.sv32_space.proofs.RunLemmas.{give_next, make_next, reduce_next, remove_next}
 use Rattle.sv32_space.proofs.run_laws.run_goes_on.Goals as goal
 
 pub returns-clause-made : goal.returns-clause-made

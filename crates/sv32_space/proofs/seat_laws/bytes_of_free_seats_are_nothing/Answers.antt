@@ -1,4 +1,4 @@
-use Rattle.sv32_space.proofs.SeatByteLaws.{used_bytes, free_bytes, bare_same}
+use Rattle.sv32_space.proofs.Ledgers.SeatByteLemmas.{used_bytes, free_bytes, bare_same}
 use Rattle.sv32_space.proofs.seat_laws.bytes_of_free_seats_are_nothing.Goals as goal
 
 pub returns-clause-used : goal.returns-clause-used

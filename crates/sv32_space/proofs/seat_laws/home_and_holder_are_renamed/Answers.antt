@@ -1,4 +1,4 @@
-use Rattle.sv32_space.proofs.Renaming.{renamed_owned, renamed_lent, renamed_orphan}
+use Rattle.sv32_space.proofs.Agreeing.RenamingLemmas.{renamed_owned, renamed_lent, renamed_orphan}
 use Rattle.sv32_space.proofs.seat_laws.home_and_holder_are_renamed.Goals as goal
 
 pub returns-clause-owned : goal.returns-clause-owned

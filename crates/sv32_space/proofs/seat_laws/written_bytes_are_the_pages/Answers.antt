@@ -1,4 +1,4 @@
-use Rattle.sv32_space.proofs.SeatByteLaws.{write_ledger, write_orphan_ledger}
+use Rattle.sv32_space.proofs.Ledgers.SeatByteLemmas.{write_ledger, write_orphan_ledger}
 use Rattle.sv32_space.proofs.seat_laws.written_bytes_are_the_pages.Goals as goal
 
 pub returns-clause-homed : goal.returns-clause-homed

@@ -1,4 +1,4 @@
-use Rattle.sv32_space.proofs.SpaceLaws.{made_stays, made_after_page}
+use Rattle.sv32_space.proofs.SpaceLemmas.{made_stays, made_after_page}
 use Rattle.sv32_space.proofs.space_laws.spaces_stand_in_tables.Goals as goal
 
 pub returns-clause-frames : goal.returns-clause-frames

@@ -1,4 +1,4 @@
-use Rattle.sv32_space.proofs.ClearLaws.{AreCleared}
+use Rattle.sv32_space.proofs.ClearLemmas.{AreCleared}
 use Rattle.sv32_space.proofs.spaces.clear_tables.Given as goal
 
 abbrev pub invariant-loop-f : goal.invariant-loop-f

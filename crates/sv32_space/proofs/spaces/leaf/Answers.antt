@@ -1,4 +1,4 @@
-use Rattle.sv32_space.proofs.EntryLaws.{leaf_read, leaf_is_entry}
+use Rattle.sv32_space.proofs.EntryLemmas.{leaf_read, leaf_is_entry}
 use Rattle.sv32_space.proofs.spaces.leaf.Goals as goal
 
 pub returns-clause-word : goal.returns-clause-word

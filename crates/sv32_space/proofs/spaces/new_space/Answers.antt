@@ -1,7 +1,7 @@
 use Rattle.std.proofs.Common.{◌≡◌, ◌+◌, ◌≤◌, slice_index, subst, ap, sym, ◌∙◌, arith}
 use Rattle.phys_pages.specs.Ram.{area}
-use Rattle.sv32_space.proofs.ClearLaws.{IsEmptySpace, beside, empty_space, empty_leaf, empty_made, empty_free, made_beside, entry_beside}
-use Rattle.sv32_space.proofs.SpaceLaws.{mapped_page}
+use Rattle.sv32_space.proofs.ClearLemmas.{IsEmptySpace, beside, empty_space, empty_leaf, empty_made, empty_free, made_beside, entry_beside}
+use Rattle.sv32_space.proofs.SpaceLemmas.{mapped_page}
 use Rattle.sv32_space.proofs.spaces.new_space.Goals as goal
 
 same_area : (c : goal.After-write_root) → area c.write_root.new.ram ≡ area c.args.ram.now

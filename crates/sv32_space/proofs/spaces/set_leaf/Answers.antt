@@ -4,8 +4,8 @@ use Rattle.xk_base.specs.Counting.{put_at}
 use Rattle.xk_base.specs.Windows.{window_at}
 use Rattle.phys_pages.specs.Ram.{area, pages, frame_at, with_word}
 use Rattle.sv32_space.specs.Spaces.{root_at, table_frame}
-use Rattle.sv32_space.proofs.SpaceLaws.{with_leaf, write_at}
-use Rattle.sv32_space.proofs.EntryLaws.{IsSet, set_entries, set_pages, set_made}
+use Rattle.sv32_space.proofs.SpaceLemmas.{with_leaf, write_at}
+use Rattle.sv32_space.proofs.EntryLemmas.{IsSet, set_entries, set_pages, set_made}
 use Rattle.sv32_space.proofs.spaces.set_leaf.Goals as goal
 
 written : (c : goal.After-set_word) → (w : Window) → window_at c.args.at.vpn.0 ≡ Some w

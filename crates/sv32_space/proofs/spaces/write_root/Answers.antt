@@ -1,5 +1,5 @@
 use Rattle.std.proofs.Common.{◌+◌, ◌*◌, ap, arith}
-use Rattle.sv32_space.proofs.ClearLaws.{root_one}
+use Rattle.sv32_space.proofs.ClearLemmas.{root_one}
 use Rattle.sv32_space.proofs.spaces.write_root.Goals as goal
 
 pub loop-i-preserved : goal.loop-i-preserved

@@ -1,4 +1,4 @@
-use Rattle.sv32_space.proofs.ClearLaws.{IsRootBelow}
+use Rattle.sv32_space.proofs.ClearLemmas.{IsRootBelow}
 use Rattle.sv32_space.proofs.spaces.write_root.Given as goal
 
 abbrev pub invariant-loop-i : goal.invariant-loop-i

@@ -1,6 +1,6 @@
 use Rattle.std.proofs.Common.{ℕ}
 use Rattle.std.specs.Prelude.{IsTrue}
-use Rattle.sv32_space.proofs.Standing.{stands_at, stands_for}
+use Rattle.sv32_space.proofs.Agreeing.StandingLemmas.{stands_at, stands_for}
 use Rattle.sv32_space.proofs.standing_laws.agreeing_entries_stand.Goals as goal
 
 pub returns-clause-at : goal.returns-clause-at

@@ -1,5 +1,5 @@
 use Rattle.std.proofs.Common.{◌/◌, sym, ◌∙◌, arith}
-use Rattle.sv32_space.proofs.WalkLaws.{from_table}
+use Rattle.sv32_space.proofs.WalkLemmas.{from_table}
 use Rattle.sv32_space.proofs.walking.walk_pointer.Goals as goal
 
 pub returns-in-Some : goal.returns-in-Some

@@ -1,0 +1,10 @@
+pub mod EntryRoleLemmas
+pub mod LoanAgreementLemmas
+pub mod LoanStandingLemmas
+pub mod NumberRunLemmas
+pub mod OrphanRunLemmas
+pub mod PageAgreementLemmas
+pub mod RenamingLemmas
+pub mod RoleLemmas
+pub mod SeatCountingLemmas
+pub mod StandingLemmas

@@ -1,0 +1,5 @@
+pub mod EntryLedgerLemmas
+pub mod LoanLedgerLemmas
+pub mod PageLedgerLemmas
+pub mod SeatByteLemmas
+pub mod WholeSeatLemmas
