@@ -10,16 +10,16 @@ use Rattle.xk_base.specs.declared.ids.Serial.{Serial}
 use Rattle.xk_base.specs.declared.ids.ThreadId.{ThreadId}
 use Rattle.xk_base.specs.Counting.{least_below}
 use Rattle.xk_base.specs.Replies.{refused_words}
-use Rattle.xk_base.proofs.Counting.{least_below-none}
+use Rattle.xk_base.proofs.CountingLemmas.{least_below-none}
 use Rattle.ledger_model.specs.Ledger.{Ledger, Page, PageLoan, Orphan, loan_of}
 use Rattle.ledger_model.specs.Loans.{loans, IsFresh, same_number, of_number, orphan_of_number, loan_of_orphan}
-use Rattle.ledger_model.proofs.LedgerLaws.{same_number-true}
-use Rattle.machine_model.specs.Closing.{any_server, server_passes, closed, close, is_message_at, is_sender_at, refused_server}
-use Rattle.machine_model.specs.LoanSets.{end_loans, loan_but, freed_but, orphan_but}
-use Rattle.machine_model.specs.Machine.{Machine, Server}
-use Rattle.machine_model.specs.Messages.{is_of_number, is_sent_by}
-use Rattle.machine_model.specs.Servers.{messages_of}
-use Rattle.machine_model.specs.Threads.{both_answers}
+use Rattle.ledger_model.proofs.LedgerLemmas.{same_number-true}
+use Rattle.machine_model.specs.Ending.Closing.{any_server, server_passes, closed, close, is_message_at, is_sender_at, refused_server}
+use Rattle.machine_model.specs.Messaging.LoanSets.{end_loans, loan_but, freed_but, orphan_but}
+use Rattle.machine_model.specs.State.Machine.{Machine, Server}
+use Rattle.machine_model.specs.Messaging.Messages.{is_of_number, is_sent_by}
+use Rattle.machine_model.specs.State.Servers.{messages_of}
+use Rattle.machine_model.specs.State.Threads.{both_answers}
 use Rattle.machine_model.proofs.LoanSetLemmas.{both_end}
 
 -- ---- a test that is one of two

@@ -7,14 +7,15 @@ use Rattle.xk_base.specs.declared.ids.Pid.{Pid}
 use Rattle.xk_base.specs.declared.ids.Serial.{Serial}
 use Rattle.xk_base.specs.declared.ids.ThreadId.{ThreadId}
 use Rattle.xk_base.specs.CallNumbers.{call_numbers}
-use Rattle.xk_base.proofs.Counting.{least_below-None}
-use Rattle.machine_model.specs.Calls.{call_table}
-use Rattle.machine_model.specs.Changes.{Retried, call_settled, only}
-use Rattle.machine_model.specs.Closing.{any_server, server_passes, closed, close, is_message_at, is_sender_at, refused_server}
-use Rattle.machine_model.specs.Events.{picked, raised, raised_if, killed, killed_if, nothing}
-use Rattle.machine_model.specs.Machine.{Machine, Server}
-use Rattle.machine_model.specs.Order.{ready_at, turn}
-use Rattle.machine_model.specs.Threads.{no_answers}
+use Rattle.xk_base.proofs.CountingLemmas.{least_below-None}
+use Rattle.machine_model.specs.Calling.Calls.{call_table}
+use Rattle.machine_model.specs.State.Changes.{Retried, call_settled, only}
+use Rattle.machine_model.specs.Ending.Closing.{any_server, server_passes, closed, close, is_message_at, is_sender_at, refused_server}
+use Rattle.machine_model.specs.Stepping.Events.{picked, raised, raised_if, killed, killed_if, nothing}
+use Rattle.machine_model.specs.Stepping.Reservations.{unreserved}
+use Rattle.machine_model.specs.State.Machine.{Machine, Server}
+use Rattle.machine_model.specs.State.Order.{ready_at, turn}
+use Rattle.machine_model.specs.State.Threads.{no_answers}
 use Rattle.machine_model.proofs.LoanSetLemmas.{none_ends}
 
 -- ---- calls
@@ -80,10 +81,10 @@ pub pick_of_unready : (m : Machine) (who : ThreadId) → ready_at m who ≡ fals
 unfolding picked
 pick_of_unready m who e = rw e refl
 
-pub irq_unclaimed : (m : Machine) (k : ℕ) → m.claims k ≡ None → raised k m ≡ nothing m
+pub irq_unclaimed : (m : Machine) (k : ℕ) → m.claims k ≡ None → raised k m ≡ nothing (unreserved m)
 unfolding raised
-irq_unclaimed m k e = ap (λ c. raised_if k c m) e
+irq_unclaimed m k e = ap (λ c. raised_if k c (unreserved m)) e
 
-pub kill_of_dead : (m : Machine) (pid : Pid) → (m.process pid.0).alive ≡ false → killed pid m ≡ nothing m
+pub kill_of_dead : (m : Machine) (pid : Pid) → (m.process pid.0).alive ≡ false → killed pid m ≡ nothing (unreserved m)
 unfolding killed
-kill_of_dead m pid e = ap (λ b. killed_if b pid m) e
+kill_of_dead m pid e = ap (λ b. killed_if b pid (unreserved m)) e

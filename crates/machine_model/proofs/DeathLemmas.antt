@@ -4,17 +4,17 @@ use Rattle.std.specs.Prelude.{is_some, if◌then◌else◌}
 use Rattle.std.specs.Option.{option_map, option_and_then, option_or}
 use Rattle.xk_base.specs.declared.ids.Number.{Number}
 use Rattle.xk_base.specs.declared.ids.Pid.{Pid}
-use Rattle.xk_base.proofs.Counting.{least_below-None}
+use Rattle.xk_base.proofs.CountingLemmas.{least_below-None}
 use Rattle.ledger_model.specs.Ledger.{Ledger, Page, PageLoan}
 use Rattle.ledger_model.specs.Reach.{lender_of}
-use Rattle.ledger_model.proofs.LedgerLaws.{same_ledger}
-use Rattle.machine_model.specs.Changes.{only}
-use Rattle.machine_model.specs.Closing.{any_server, server_passes, closed, is_message_at, is_sender_at, is_queued_from, is_held_from, servers_closed, senders_queued_gone, senders_held_gone, without_queued_from, with_senderless_from}
-use Rattle.machine_model.specs.Ends.{death, forgotten}
-use Rattle.machine_model.specs.LoanSets.{orphan_loans, orphan_of_page, is_lent_by, page_but}
-use Rattle.machine_model.specs.Machine.{Machine, Server}
-use Rattle.machine_model.specs.Servers.{is_server_of}
-use Rattle.machine_model.specs.Threads.{no_answers}
+use Rattle.ledger_model.proofs.LedgerLemmas.{same_ledger}
+use Rattle.machine_model.specs.State.Changes.{only}
+use Rattle.machine_model.specs.Ending.Closing.{any_server, server_passes, closed, is_message_at, is_sender_at, is_queued_from, is_held_from, servers_closed, senders_queued_gone, senders_held_gone, without_queued_from, with_senderless_from}
+use Rattle.machine_model.specs.Ending.Ends.{death, forgotten}
+use Rattle.machine_model.specs.Messaging.LoanSets.{orphan_loans, orphan_of_page, is_lent_by, page_but}
+use Rattle.machine_model.specs.State.Machine.{Machine, Server}
+use Rattle.machine_model.specs.State.Servers.{is_server_of}
+use Rattle.machine_model.specs.State.Threads.{no_answers}
 use Rattle.machine_model.proofs.ClosingLemmas.{nobody_refused}
 use Rattle.machine_model.proofs.LoanSetLemmas.{none_ends}
 

@@ -9,30 +9,30 @@ use Rattle.xk_base.specs.CallWords.{send_cid}
 use Rattle.xk_base.specs.Circle.{listed_ids}
 use Rattle.xk_base.specs.Counting.{least_below, listed_below, count_below}
 use Rattle.xk_base.specs.Replies.{eight_words}
-use Rattle.xk_base.proofs.Counting.{least_below-Some}
+use Rattle.xk_base.proofs.CountingLemmas.{least_below-Some}
 use Rattle.ledger_model.specs.Ledger.{pages}
 use Rattle.ledger_model.specs.LeastRun.{least_run, is_free_run, window_place}
 use Rattle.ledger_model.specs.Places.{run, count_places, first_place, place_at}
 use Rattle.ledger_model.specs.Reach.{is_free, role_at, lender_of}
 use Rattle.ledger_model.specs.RunTests.{any_free, any_used, any_on_loan, any_console, any_lacks, console_mapped}
 use Rattle.ledger_model.specs.Steps.{make, make_console, reduce, lend, end_loan, forget}
-use Rattle.machine_model.specs.Calls.{call}
-use Rattle.machine_model.specs.Changes.{Outcome, settled, call_settled}
-use Rattle.machine_model.specs.Closing.{any_server, closed, servers_closed, senders_queued_gone, senders_held_gone}
-use Rattle.machine_model.specs.Ends.{death, forgotten}
-use Rattle.machine_model.specs.Events.{killed}
-use Rattle.machine_model.specs.LoanSets.{end_loans, orphan_loans}
-use Rattle.machine_model.specs.Machine.{Machine, Server}
-use Rattle.machine_model.specs.MemoryCalls.{increase_call, update_call, map_call}
-use Rattle.machine_model.specs.ReceiveCalls.{receive_call}
-use Rattle.machine_model.specs.Receivers.{receiver}
-use Rattle.machine_model.specs.ReturnCalls.{holder_of, return_memory_call}
-use Rattle.machine_model.specs.LendRows.{lend_begin, lend_begin_told, lend_row, lend_told, orphan_row, orphan_told, refusal_row, refusal_told}
-use Rattle.machine_model.specs.Rows.{Deed, id_of, small_machine, told_all, after_all}
-use Rattle.machine_model.specs.SendCalls.{send_call, try_send_call, sent_to, sent_pages, arrival, message_run}
-use Rattle.machine_model.specs.ServerCalls.{create_server_call, connect_call}
-use Rattle.machine_model.specs.Servers.{with_sid, live_servers, server_at}
-use Rattle.machine_model.specs.ThreadCalls.{create_call, free_tid}
+use Rattle.machine_model.specs.Calling.Calls.{call}
+use Rattle.machine_model.specs.State.Changes.{Outcome, settled, call_settled}
+use Rattle.machine_model.specs.Ending.Closing.{any_server, closed, servers_closed, senders_queued_gone, senders_held_gone}
+use Rattle.machine_model.specs.Ending.Ends.{death, forgotten}
+use Rattle.machine_model.specs.Stepping.Events.{killed}
+use Rattle.machine_model.specs.Messaging.LoanSets.{end_loans, orphan_loans}
+use Rattle.machine_model.specs.State.Machine.{Machine, Server}
+use Rattle.machine_model.specs.Calling.MemoryCalls.{increase_call, update_call, map_call}
+use Rattle.machine_model.specs.Messaging.ReceiveCalls.{receive_call}
+use Rattle.machine_model.specs.Messaging.Receivers.{receiver}
+use Rattle.machine_model.specs.Messaging.ReturnCalls.{holder_of, return_memory_call}
+use Rattle.machine_model.specs.Worked.LendRows.{lend_begin, lend_begin_told, lend_row, lend_told, orphan_row, orphan_told, refusal_row, refusal_told}
+use Rattle.machine_model.specs.Worked.Rows.{Deed, id_of, small_machine, told_all, after_all}
+use Rattle.machine_model.specs.Messaging.SendCalls.{send_call, try_send_call, sent_to, sent_pages, arrival, message_run}
+use Rattle.machine_model.specs.Calling.ServerCalls.{create_server_call, connect_call}
+use Rattle.machine_model.specs.State.Servers.{with_sid, live_servers, server_at}
+use Rattle.machine_model.specs.Calling.ThreadCalls.{create_call, free_tid}
 
 -- the first run of the window is free: it is the least
 first_run_free : (m : Machine) (n : ℕ) (server : Server) → nat_le (0 + n) 4096 ≡ true

@@ -7,9 +7,13 @@ pub mod KeptLemmas
 pub mod LendRowLemmas
 pub mod LoanSetLemmas
 pub mod MapRowLemmas
+pub mod Matching
 pub mod OrderLemmas
 pub mod OrphanSetLemmas
 pub mod RefusalLemmas
+pub mod ReservingLemmas
 pub mod RowLemmas
+pub mod SpanLemmas
 pub mod StartLemmas
-pub mod StepLaws
+pub mod StepLemmas
+pub mod TimerLemmas

@@ -6,8 +6,8 @@ use Rattle.xk_base.specs.declared.ids.Number.{Number}
 use Rattle.ledger_model.specs.Ledger.{Ledger, Page, PageLoan, Orphan}
 use Rattle.ledger_model.specs.Loans.{same_number}
 use Rattle.ledger_model.specs.Steps.{end_loan, orphan_loan, has_number, page_without}
-use Rattle.ledger_model.proofs.LedgerLaws.{same_ledger}
-use Rattle.machine_model.specs.LoanSets.{end_loans, orphan_loans, loan_but, freed_but, orphan_but, is_lent_by, page_but}
+use Rattle.ledger_model.proofs.LedgerLemmas.{same_ledger}
+use Rattle.machine_model.specs.Messaging.LoanSets.{end_loans, orphan_loans, loan_but, freed_but, orphan_but, is_lent_by, page_but}
 
 -- these numbers and those
 abbrev pub either : (Number → Bool) → (Number → Bool) → Number → Bool

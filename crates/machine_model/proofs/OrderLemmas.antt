@@ -5,9 +5,9 @@ use Rattle.std.proofs.lemmas.Bool.Decides.{nat_tests}
 use Rattle.std.proofs.lemmas.Nat.{mod_below}
 use Rattle.xk_base.specs.declared.ids.ThreadId.{ThreadId}
 use Rattle.xk_base.specs.Circle.{is_thread_id, id_at, ids_until, id_behind}
-use Rattle.xk_base.proofs.Circle.{next_id-Some, next_id-None}
-use Rattle.machine_model.specs.Machine.{Machine}
-use Rattle.machine_model.specs.Order.{ready_at, next_ready, TellsReady}
+use Rattle.xk_base.proofs.CircleLemmas.{next_id-Some, next_id-None}
+use Rattle.machine_model.specs.State.Machine.{Machine}
+use Rattle.machine_model.specs.State.Order.{ready_at, next_ready, TellsReady}
 
 -- the place that the code looks at in its k-th turn
 abbrev pub looked_at : List Bool → ThreadId → ℕ → ℕ

@@ -11,9 +11,9 @@ use Rattle.ledger_model.specs.Ledger.{Ledger, Page, PageLoan, Orphan, loan_at, l
 use Rattle.ledger_model.specs.Loans.{same_number}
 use Rattle.ledger_model.specs.Reach.{lender_of, is_held_at}
 use Rattle.ledger_model.specs.Steps.{orphan_loan, orphan_with, orphan_from, page_without}
-use Rattle.ledger_model.proofs.LedgerLaws.{same_ledger, cases_Option, loan_at-page, lender_of-loan, lender_of-none, lender_of-None, is_held_at-true, is_held_at-Some}
-use Rattle.ledger_model.proofs.Numbering.{first_place-only}
-use Rattle.machine_model.specs.LoanSets.{orphan_loans, orphan_of_page, page_but, is_lent_by}
+use Rattle.ledger_model.proofs.LedgerLemmas.{same_ledger, cases_Option, loan_at-page, lender_of-loan, lender_of-none, lender_of-None, is_held_at-true, is_held_at-Some}
+use Rattle.ledger_model.proofs.NumberingLemmas.{first_place-only}
+use Rattle.machine_model.specs.Messaging.LoanSets.{orphan_loans, orphan_of_page, page_but, is_lent_by}
 
 -- these numbers and one more
 abbrev pub and_also : (Number → Bool) → Number → Number → Bool

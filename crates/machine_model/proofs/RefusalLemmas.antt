@@ -2,7 +2,7 @@
 use Rattle.std.proofs.Common.{◌≡◌, ℕ, ◌+◌, ◌<◌, Bool, true, false, List, length, get_or, drop, Some, refl, ap, add-one, drop-cons}
 use Rattle.std.specs.Prelude.{if◌then◌else◌}
 use Rattle.xk_base.specs.declared.errors.XousError.{XousError}
-use Rattle.machine_model.specs.Changes.{first_refusal}
+use Rattle.machine_model.specs.State.Changes.{first_refusal}
 
 -- from place k on: the test there decides
 first_from : (tests : List (Bool × XousError)) (k : ℕ) (d : Bool × XousError) → k < length tests

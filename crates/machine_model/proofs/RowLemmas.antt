@@ -2,23 +2,23 @@
 use Rattle.std.proofs.Common.{◌≡◌, refl}
 use Rattle.xk_base.specs.Counting.{least_below, listed_below, count_below}
 use Rattle.xk_base.specs.Circle.{listed_ids, next_id}
-use Rattle.machine_model.specs.Calls.{call}
-use Rattle.machine_model.specs.Changes.{settled, call_settled}
-use Rattle.machine_model.specs.Closing.{any_server, closed, destroyed, servers_closed, senders_queued_gone, senders_held_gone}
-use Rattle.machine_model.specs.Ends.{death, forgotten, handler_ended}
-use Rattle.machine_model.specs.Events.{raised, killed}
-use Rattle.machine_model.specs.InterruptCalls.{claim_call, free_call}
-use Rattle.machine_model.specs.Interrupts.{delivered, lowest_pending}
-use Rattle.machine_model.specs.Order.{turn, next_ready}
-use Rattle.machine_model.specs.ReceiveCalls.{receive_call, try_receive_call}
-use Rattle.machine_model.specs.Receivers.{receiver}
-use Rattle.machine_model.specs.ReturnCalls.{holder_of, return_scalar1_call, return_scalar2_call}
-use Rattle.machine_model.specs.Rows.{small_machine, told_all}
-use Rattle.machine_model.specs.SendCalls.{send_call, try_send_call}
-use Rattle.machine_model.specs.ServerCalls.{create_server_call, connect_call, try_connect_call, destroy_call}
-use Rattle.machine_model.specs.ServerRows.{pending_row, pending_told, scalar_row, scalar_told, waiting_row, waiting_told, stale_row, stale_told, senderless_row, senderless_told, kill_row, kill_told, full_row, full_told, interrupt_row, interrupt_told, death_row, death_told}
-use Rattle.machine_model.specs.Servers.{with_sid, live_servers}
-use Rattle.machine_model.specs.ThreadCalls.{create_call, free_tid}
+use Rattle.machine_model.specs.Calling.Calls.{call}
+use Rattle.machine_model.specs.State.Changes.{settled, call_settled}
+use Rattle.machine_model.specs.Ending.Closing.{any_server, closed, destroyed, servers_closed, senders_queued_gone, senders_held_gone}
+use Rattle.machine_model.specs.Ending.Ends.{death, forgotten, handler_ended}
+use Rattle.machine_model.specs.Stepping.Events.{raised, killed}
+use Rattle.machine_model.specs.Calling.InterruptCalls.{claim_call, free_call}
+use Rattle.machine_model.specs.Stepping.Interrupts.{delivered, lowest_pending}
+use Rattle.machine_model.specs.State.Order.{turn, next_ready}
+use Rattle.machine_model.specs.Messaging.ReceiveCalls.{receive_call, try_receive_call}
+use Rattle.machine_model.specs.Messaging.Receivers.{receiver}
+use Rattle.machine_model.specs.Messaging.ReturnCalls.{holder_of, return_scalar1_call, return_scalar2_call}
+use Rattle.machine_model.specs.Worked.Rows.{small_machine, told_all}
+use Rattle.machine_model.specs.Messaging.SendCalls.{send_call, try_send_call}
+use Rattle.machine_model.specs.Calling.ServerCalls.{create_server_call, connect_call, try_connect_call, destroy_call}
+use Rattle.machine_model.specs.Worked.ServerRows.{pending_row, pending_told, scalar_row, scalar_told, waiting_row, waiting_told, stale_row, stale_told, senderless_row, senderless_told, kill_row, kill_told, full_row, full_told, interrupt_row, interrupt_told, death_row, death_told}
+use Rattle.machine_model.specs.State.Servers.{with_sid, live_servers}
+use Rattle.machine_model.specs.Calling.ThreadCalls.{create_call, free_tid}
 
 pub pending_is_a_set : told_all pending_row (small_machine 1) ≡ pending_told
 unfolding told_all small_machine call claim_call call_settled settled raised handler_ended delivered lowest_pending least_below listed_below listed_ids

@@ -1,8 +1,8 @@
 -- The start of a run is matched; and the small machine of the worked rows is such a start.
-use Rattle.std.proofs.Common.{◌≡◌, ℕ, zero, suc, ◌+◌, ◌≤◌, ◌<◌, Bool, true, false, ◌⊎◌, inl, inr, Option, Some, None, refl, sym, ap, ◌∙◌, arith, subst}
+use Rattle.std.proofs.Common.{◌≡◌, ℕ, ◌+◌, ◌≤◌, ◌<◌, Bool, true, false, ◌⊎◌, inl, inr, Option, Some, None, refl, sym, ap, ◌∙◌, arith, subst}
 use Rattle.std.specs.Prelude.{◌%◌, ◌==◌, is_some, if◌then◌else◌, List, [], length}
 use Rattle.std.specs.List.{All}
-use Rattle.std.specs.Option.{option_map_or}
+use Rattle.std.specs.Option.{option_map, option_map_or}
 use Rattle.std.proofs.lemmas.Bool.{eqb-true, false≢true, and_parts}
 use Rattle.std.proofs.lemmas.List.Elements.{All-nil}
 use Rattle.std.proofs.lemmas.Option.{none-some, same_Some}
@@ -13,22 +13,20 @@ use Rattle.xk_base.specs.declared.ids.Serial.{Serial}
 use Rattle.xk_base.specs.declared.ids.ThreadId.{ThreadId}
 use Rattle.xk_base.specs.declared.messages.Message.{Message}
 use Rattle.xk_base.specs.Circle.{is_pid, is_tid, is_thread_id}
-use Rattle.xk_base.specs.Counting.{sum_below}
-use Rattle.xk_base.proofs.Counting.{count_below-none}
+use Rattle.xk_base.specs.Counting.{count_below}
+use Rattle.xk_base.proofs.CountingLemmas.{count_below-none}
 use Rattle.ledger_model.specs.Lawful.{IsLawful}
 use Rattle.ledger_model.specs.Ledger.{Page, empty_ledger, pages}
-use Rattle.ledger_model.specs.Loans.{loans}
-use Rattle.ledger_model.specs.Places.{count_places, is_process}
-use Rattle.ledger_model.proofs.LedgerLaws.{cases_Option}
-use Rattle.ledger_model.proofs.Numbering.{count_places-none}
-use Rattle.machine_model.specs.Machine.{Machine, Process, Thread, ThreadState, Ready, Receiving, Waiting, Joining, Idle}
-use Rattle.machine_model.specs.Matched.{Matched, IsLedgerMatched, AreLoansMatched, AreSendersMatched, AreReceiversMatched, AreJoinersMatched, AreThreadsMatched, AreHeapsMatched, AreKeysMatched, AreKeysApart, AreNextAbove, AreLimitsKept, is_living, is_waiting_for}
-use Rattle.machine_model.specs.MessageCounts.{count_messages, count_at}
-use Rattle.machine_model.specs.Messages.{is_of_number}
-use Rattle.machine_model.specs.Rows.{small_machine, small_threads}
-use Rattle.machine_model.specs.Servers.{live_servers}
-use Rattle.machine_model.specs.Start.{HasThread, IsStart}
-use Rattle.machine_model.specs.Threads.{first_thread, first_handler_thread, thread_id}
+use Rattle.ledger_model.specs.Loans.{loan_of_orphan, loans}
+use Rattle.ledger_model.specs.Places.{count_places}
+use Rattle.ledger_model.proofs.NumberingLemmas.{count_places-none}
+use Rattle.machine_model.specs.State.Machine.{Machine, Process, Thread, ThreadState, Ready, Receiving, Waiting, Joining, Idle}
+use Rattle.machine_model.specs.Runs.Matched.{Matched, IsLedgerMatched, AreLoansMatched, AreSendersMatched, AreReceiversMatched, AreJoinersMatched, AreThreadsMatched, AreHeapsMatched, AreProcessesMatched, AreServersMatched, AreNextAbove, is_living, is_waiting_for, is_sent_as}
+use Rattle.machine_model.specs.Messaging.MessageCounts.{HasIf, HasNone, count_at}
+use Rattle.machine_model.specs.Messaging.Messages.{is_of_number}
+use Rattle.machine_model.specs.Worked.Rows.{small_machine, small_threads}
+use Rattle.machine_model.specs.State.Start.{HasThread, IsStart}
+use Rattle.machine_model.specs.State.Threads.{first_thread, first_handler_thread, thread_id}
 
 -- a state in which a thread waits
 abbrev waits : ThreadState → Bool
@@ -51,11 +49,6 @@ waits_for_none number (Receiving serial) e = refl
 waits_for_none number (Waiting other) e = absurd (false≢true (sym e))
 waits_for_none number (Joining tid) e = refl
 waits_for_none number Idle e = refl
-
-sum_of_none : (n : ℕ) (f : ℕ → ℕ) → ((k : ℕ) → f k ≡ 0) → sum_below n f ≡ 0
-unfolding sum_below
-sum_of_none zero f e = refl
-sum_of_none (suc n) f e = λ i. sum_of_none n f e i + e n i
 
 module _ (m : Machine) (h : IsStart m) where
   -- ---- threads
@@ -116,22 +109,17 @@ module _ (m : Machine) (h : IsStart m) where
   alive_is_pid pid = ap (λ (x : Process). x.alive) (h.process pid.0)
 
   home_alive : (p : Place) (page : Page) → m.ledger.home p ≡ Some page → is_living m p.pid ≡ true
-  home_alive p page e = alive_is_pid p.pid ∙ (and_parts (is_process m.processes p.pid.0) _ (h.lawful.home_lies p page e)).0
+  home_alive p page e = alive_is_pid p.pid ∙ (and_parts (is_pid m.processes p.pid.0) _ (h.lawful.home_lies p page e)).0
 
-  no_messages : (test : Message → Bool) → count_messages m test ≡ 0
-  unfolding count_messages
-  no_messages test = sum_of_none m.next_serial (λ n. count_at test (m.servers n)) (λ n. ap (count_at test) (h.servers n))
-
-  no_servers_live : live_servers m ≡ 0
-  unfolding live_servers
-  no_servers_live = count_below-none m.next_serial (λ n. is_some (m.servers n)) (λ n l. ap is_some (h.servers n))
+  no_messages : (test : Message → Bool) → HasNone m.servers test
+  no_messages test n = ap (count_at test) (h.servers n)
 
   no_connection : (pid : ℕ) → [] ≡ (m.process pid).connections
   no_connection pid = sym (ap (λ (x : Process). x.connections) (h.process pid))
 
   -- ---- the parts
 
-  ledger : IsLedgerMatched m
+  ledger : IsLedgerMatched m.processes m.capacity m.process m.ledger
   ledger = record {
     lawful = h.lawful;
     homes_live = home_alive;
@@ -139,28 +127,32 @@ module _ (m : Machine) (h : IsStart m) where
     orphans_live = λ p orphan e. absurd (none-some orphan (sym (h.no_orphan p) ∙ e));
   }
 
-  sent : AreLoansMatched m
+  sent : AreLoansMatched (loans m.ledger) m.servers
+  unfolding loans
   sent = record {
     lends = λ k server e. absurd (none-some server (sym (h.servers k) ∙ e));
     loans_sent = λ p loan e. absurd (none-some loan (sym (h.no_loan p) ∙ e));
-    orphans_sent = λ p orphan e. absurd (none-some orphan (sym (h.no_orphan p) ∙ e));
+    orphans_sent = λ p orphan e. absurd (none-some orphan (sym (ap (option_map loan_of_orphan) (h.no_orphan p)) ∙ e));
   }
 
-  senders : AreSendersMatched m
+  senders : AreSendersMatched m.threads m.servers
   senders = record {
-    senders = λ who number. no_messages _ ∙ ap (λ b. if b then 1 else 0) (sym (nobody_waits number who));
+    senders = λ who number. subst (λ b. HasIf b m.servers (is_sent_as who number)) (sym (nobody_waits number who)) (no_messages _);
     queued = λ k server e. absurd (none-some server (sym (h.servers k) ∙ e));
     held = λ k server e. absurd (none-some server (sym (h.servers k) ∙ e));
     sized = λ k server e. absurd (none-some server (sym (h.servers k) ∙ e));
   }
 
-  receivers : AreReceiversMatched m
+  receivers : AreReceiversMatched m.threads m.servers
   receivers id t serial e s = absurd (false≢true (sym (none_waits id t e) ∙ ap waits s))
 
-  joiners : AreJoinersMatched m
+  joiners : AreJoinersMatched m.threads
   joiners id t tid e s = absurd (false≢true (sym (none_waits id t e) ∙ ap waits s))
 
-  threads : AreThreadsMatched m
+  lives : (id : ThreadId) (t : Thread) → m.threads id ≡ Some t → is_living m id.pid ≡ true
+  lives id t e = alive_is_pid id.pid ∙ (start_thread id t e).process
+
+  threads : AreThreadsMatched m.process m.threads
   threads = record {
     handler = λ pid living.
         let given : HasThread m (thread_id pid 1) Idle = h.handler pid (sym (alive_is_pid pid) ∙ living) in
@@ -168,90 +160,80 @@ module _ (m : Machine) (h : IsStart m) where
     above = λ pid living.
         let given : HasThread m (thread_id pid 2) Ready = h.first pid (sym (alive_is_pid pid) ∙ living) in
         (2, omega arith, ap is_some given.there);
-    idle = idle_is_first;
+    idle = λ id t e s. (idle_is_first id t e s, lives id t e);
     pcs = λ id t e. (start_thread id t e).aligned;
-    handlers = λ k claim e. absurd (none-some claim (sym (h.claims k) ∙ e));
   }
 
-  heaps : AreHeapsMatched m
+  heaps : AreHeapsMatched m.process m.ledger
   heaps = record {
     whole = λ pid. ap (λ (x : Process). x.heap % 4096) (h.process pid.0);
     within = λ pid. let none : (m.process pid.0).heap ≡ 0 = ap (λ (x : Process). x.heap) (h.process pid.0) in omega arith;
     below = λ p page e w. absurd (false≢true (sym (h.no_heap p page e) ∙ w));
   }
 
-  apart : AreKeysApart m
-  apart = record {
-    sids = λ a b s t e f same. absurd (none-some s (sym (h.servers a) ∙ e));
-    numbers = λ number.
-        let none : count_messages m (is_of_number number) ≡ 0 = no_messages (is_of_number number) in
-        omega arith;
-    connections = λ pid i j d l below.
+  processes : AreProcessesMatched m.processes m.process
+  processes = record {
+    few = h.few;
+    pids = λ pid living. sym (alive_is_pid pid) ∙ living;
+    apart = λ pid i j d l below.
         let none : length (m.process pid.0).connections ≡ 0 = ap (λ (x : Process). length x.connections) (h.process pid.0) in
         absurd (omega arith);
-  }
-
-  above : AreNextAbove m
-  above = record {
-    numbers = λ k server e. absurd (none-some server (sym (h.servers k) ∙ e));
-    servers = λ k server e. absurd (none-some server (sym (h.servers k) ∙ e));
-    connections = λ pid. subst (λ (serials : List Serial). All (λ serial. serial.0 < m.next_serial) serials) (no_connection pid.0)
-        (All-nil (λ serial. serial.0 < m.next_serial));
-    number_steps = let one : m.next_number ≡ 1 = h.next_number in omega arith;
-    serial_steps = let one : m.next_serial ≡ 1 = h.next_serial in omega arith;
-  }
-
-  limits : AreLimitsKept m
-  limits = record {
-    processes = h.few;
-    pids = λ pid living. sym (alive_is_pid pid) ∙ living;
-    threads = id_known;
-    servers = let none : live_servers m ≡ 0 = no_servers_live in omega arith;
-    slots = λ k server e. absurd (none-some server (sym (h.servers k) ∙ e));
     connections = λ pid.
         let none : length (m.process pid.0).connections ≡ 0 = ap (λ (x : Process). length x.connections) (h.process pid.0) in
         omega arith;
-    claims = λ k claim e. absurd (none-some claim (sym (h.claims k) ∙ e));
+    no_connection = λ pid dead. sym (no_connection pid.0);
+    no_heap = λ pid dead. ap (λ (x : Process). x.heap) (h.process pid.0);
   }
 
-  no_thread_of_dead : (id : ThreadId) → is_living m id.pid ≡ false → m.threads id ≡ None
-  no_thread_of_dead id dead = elim (cases_Option (m.threads id)) [
-    | inl none ↦ none
-    | inr found ↦ absurd (false≢true (sym dead ∙ alive_is_pid id.pid ∙ (start_thread id found.0 found.1).process))
-  ]
+  servers : AreServersMatched m.process m.servers
+  servers = record {
+    living = λ k server e. absurd (none-some server (sym (h.servers k) ∙ e));
+    sids = λ a b s t e f same. absurd (none-some s (sym (h.servers a) ∙ e));
+    numbers = λ number. inl (no_messages (is_of_number number));
+    few = λ bound.
+        let none : count_below bound (λ n. is_some (m.servers n)) ≡ 0 =
+        count_below-none bound (λ n. is_some (m.servers n)) (λ n l. ap is_some (h.servers n)) in
+        omega arith;
+    slots = λ k server e. absurd (none-some server (sym (h.servers k) ∙ e));
+  }
 
-  no_page_of_dead : (pid : Pid) (p : Place) → is_living m pid ≡ false → p.pid ≡ pid → m.ledger.home p ≡ None
-  no_page_of_dead pid p dead same = elim (cases_Option (m.ledger.home p)) [
-    | inl none ↦ none
-    | inr found ↦ absurd (false≢true (sym dead ∙ sym (ap (is_living m) same) ∙ home_alive p found.0 found.1))
-  ]
-
-  keys : AreKeysMatched m
-  keys = record {
-    apart = apart;
-    above = above;
-    limits = limits;
-    pending = λ k e. absurd (false≢true (sym (h.pending k) ∙ e));
-    dead = λ pid dead. record {
-      no_thread = λ tid. no_thread_of_dead (record { pid = pid; tid = tid }) dead;
-      no_page = λ p same. no_page_of_dead pid p dead same;
-      no_server = λ k server e. absurd (none-some server (sym (h.servers k) ∙ e));
-      no_connection = sym (no_connection pid.0);
-      no_claim = λ k claim e. absurd (none-some claim (sym (h.claims k) ∙ e));
-      no_heap = ap (λ (x : Process). x.heap) (h.process pid.0);
-    };
+  above : AreNextAbove m.next_number m.next_serial m.process m.servers
+  above = record {
+    numbers = λ k server e. absurd (none-some server (sym (h.servers k) ∙ e));
+    serials = λ k server e. absurd (none-some server (sym (h.servers k) ∙ e));
+    connections = λ pid. subst (λ (serials : List Serial). All (λ serial. serial.0 < m.next_serial) serials) (no_connection pid.0)
+        (All-nil (λ serial. serial.0 < m.next_serial));
   }
 
   pub start_matched : Matched m
   start_matched = record {
-    ledger = ledger;
-    loans = sent;
-    senders = senders;
-    receivers = receivers;
-    joiners = joiners;
-    threads = threads;
-    heaps = heaps;
-    keys = keys;
+    body = record {
+      ledger = ledger;
+      loans = sent;
+      senders = senders;
+      receivers = receivers;
+      joiners = joiners;
+      threads = threads;
+      heaps = heaps;
+      ids = record { known = id_known; living = lives };
+      pages = home_alive;
+      processes = processes;
+      servers = servers;
+    };
+    rest = record {
+      handlers = λ k claim e. absurd (none-some claim (sym (h.claims k) ∙ e));
+      claims = record {
+        living = λ k claim e. absurd (none-some claim (sym (h.claims k) ∙ e));
+        numbers = λ k claim e. absurd (none-some claim (sym (h.claims k) ∙ e));
+        pending_claimed = λ k e. absurd (false≢true (sym (h.pending k) ∙ e));
+      };
+      above = above;
+      stepped = record {
+        number_steps = let one : m.next_number ≡ 1 = h.next_number in omega arith;
+        serial_steps = let one : m.next_serial ≡ 1 = h.next_serial in omega arith;
+      };
+      timer = λ e. absurd (false≢true (sym (ap is_some h.compare) ∙ e));
+    };
   }
 
 -- ---- the small machine
@@ -279,8 +261,6 @@ empty_lawful n = record {
   within = let none : pages n empty_ledger ≡ 0 = no_pages n in omega arith;
   one_run = λ number. inl (record { homes = λ p. refl; orphans = λ p. refl });
   exclusive_writable = λ p page loan e f s. absurd (none-some page e);
-  page_whole = λ p page bytes e s. absurd (none-some page e);
-  orphan_whole = λ p orphan e. absurd (none-some orphan e);
 }
 
 abbrev of_tids : Bool → Bool → Bool → Option Thread
@@ -325,6 +305,8 @@ small_is_start n few = record {
   next_number = refl;
   next_serial = refl;
   steps = refl;
+  compare = refl;
+  reserved = refl;
 }
 
 pub small_matched : (n : ℕ) → n ≤ 32 → Matched (small_machine n)

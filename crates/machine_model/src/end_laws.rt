@@ -11,24 +11,26 @@ ghost use Rattle.ledger_model.specs.Lawful.{IsLawful};
 ghost use Rattle.ledger_model.specs.Ledger.{Ledger};
 ghost use Rattle.ledger_model.specs.Loans.{IsFresh, loans, same_number};
 ghost use Rattle.ledger_model.specs.Steps.{end_loan, orphan_loan};
-ghost use Rattle.machine_model.specs.Calls.{call_at, call_table};
-ghost use Rattle.machine_model.specs.Changes.{Retried, call_settled, only};
-ghost use Rattle.machine_model.specs.Closing.{close, closed};
-ghost use Rattle.machine_model.specs.Ends.{death, forgotten};
-ghost use Rattle.machine_model.specs.Events.{picked, raised, killed, nothing};
-ghost use Rattle.machine_model.specs.LoanSets.{end_loans, orphan_loans};
-ghost use Rattle.machine_model.specs.InterruptCalls.{claim_call, free_call};
-ghost use Rattle.machine_model.specs.Machine.{Machine, Server};
-ghost use Rattle.machine_model.specs.MemoryCalls.{map_call, unmap_call, update_call, increase_call, decrease_call};
-ghost use Rattle.machine_model.specs.Messages.{is_of_number};
-ghost use Rattle.machine_model.specs.Order.{ready_at, turn};
-ghost use Rattle.machine_model.specs.ReceiveCalls.{receive_call, try_receive_call};
-ghost use Rattle.machine_model.specs.ReturnCalls.{return_memory_call, return_scalar1_call, return_scalar2_call};
-ghost use Rattle.machine_model.specs.SendCalls.{send_call, try_send_call};
-ghost use Rattle.machine_model.specs.ServerCalls.{create_server_call, connect_call, try_connect_call, destroy_call};
-ghost use Rattle.machine_model.specs.Servers.{messages_of};
-ghost use Rattle.machine_model.specs.ThreadCalls.{yield_call, create_call, join_call, terminate_call, thread_id_call, process_id_call};
-ghost use Rattle.machine_model.specs.Threads.{both_answers};
+ghost use Rattle.machine_model.specs.Calling.Calls.{call_at, call_table};
+ghost use Rattle.machine_model.specs.State.Changes.{Retried, call_settled, only};
+ghost use Rattle.machine_model.specs.Ending.Closing.{close, closed};
+ghost use Rattle.machine_model.specs.Ending.Ends.{death, forgotten};
+ghost use Rattle.machine_model.specs.Stepping.Events.{picked, raised, killed, nothing};
+ghost use Rattle.machine_model.specs.Stepping.Reservations.{unreserved};
+ghost use Rattle.machine_model.specs.Messaging.LoanSets.{end_loans, orphan_loans};
+ghost use Rattle.machine_model.specs.Calling.InterruptCalls.{claim_call, free_call};
+ghost use Rattle.machine_model.specs.State.Machine.{Machine, Server};
+ghost use Rattle.machine_model.specs.Calling.MemoryCalls.{map_call, unmap_call, update_call, increase_call, decrease_call};
+ghost use Rattle.machine_model.specs.Messaging.ForwardCalls.{forward_call};
+ghost use Rattle.machine_model.specs.Messaging.Messages.{is_of_number};
+ghost use Rattle.machine_model.specs.State.Order.{ready_at, turn};
+ghost use Rattle.machine_model.specs.Messaging.ReceiveCalls.{receive_call, try_receive_call};
+ghost use Rattle.machine_model.specs.Messaging.ReturnCalls.{return_memory_call, return_scalar1_call, return_scalar2_call};
+ghost use Rattle.machine_model.specs.Messaging.SendCalls.{send_call, try_send_call};
+ghost use Rattle.machine_model.specs.Calling.ServerCalls.{create_server_call, connect_call, try_connect_call, destroy_call};
+ghost use Rattle.machine_model.specs.State.Servers.{messages_of};
+ghost use Rattle.machine_model.specs.Calling.ThreadCalls.{yield_call, create_call, join_call, terminate_call, thread_id_call, process_id_call};
+ghost use Rattle.machine_model.specs.State.Threads.{both_answers};
 
 /// Every number of a call has its row in the table, in the order of the numbers.
 #[tactic(auto, using(crate::proofs::ClosingLemmas::every_number))]
@@ -62,6 +64,7 @@ pub fn each_number_means_its_call()
     ensures destroy_call { (m : Machine) (w : List ℕ) → call_at 41 call_table m w ≡ destroy_call m w }
     ensures thread_id_call { (m : Machine) (w : List ℕ) → call_at 42 call_table m w ≡ thread_id_call m w }
     ensures process_id_call { (m : Machine) (w : List ℕ) → call_at 43 call_table m w ≡ process_id_call m w }
+    ensures forward_call { (m : Machine) (w : List ℕ) → call_at 44 call_table m w ≡ forward_call m w }
 {}
 
 /// A retry ends the turn and changes nothing else.
@@ -142,14 +145,14 @@ pub fn pick_of_unready_does_nothing()
     ensures { (m : Machine) (who : ThreadId) → ready_at m who ≡ false → picked who m ≡ nothing m }
 {}
 
-/// An interrupt that nobody claimed does nothing.
+/// An interrupt that nobody claimed ends a reservation and does nothing else.
 #[tactic(auto, using(crate::proofs::ClosingLemmas::irq_unclaimed))]
 pub fn unclaimed_interrupt_does_nothing()
-    ensures { (m : Machine) (k : ℕ) → m.claims k ≡ None → raised k m ≡ nothing m }
+    ensures { (m : Machine) (k : ℕ) → m.claims k ≡ None → raised k m ≡ nothing (unreserved m) }
 {}
 
-/// What isn't a living process can't be killed.
+/// What isn't a living process can't be killed: that ends a reservation and does nothing else.
 #[tactic(auto, using(crate::proofs::ClosingLemmas::kill_of_dead))]
 pub fn kill_of_dead_does_nothing()
-    ensures { (m : Machine) (pid : Pid) → (m.process pid.0).alive ≡ false → killed pid m ≡ nothing m }
+    ensures { (m : Machine) (pid : Pid) → (m.process pid.0).alive ≡ false → killed pid m ≡ nothing (unreserved m) }
 {}

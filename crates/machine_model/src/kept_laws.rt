@@ -1,12 +1,13 @@
 //! Laws of the machine's invariant.
 
 ghost use Rattle.std.specs.Prelude.{ℕ, ◌≤◌, List};
-ghost use Rattle.machine_model.specs.Kept.{StepKeepsMatched, PickKeepsMatched, IrqKeepsMatched, KillKeepsMatched, TurnKeepsMatched, AllKeepMatched, KeepsCursor, AllKeepCursor};
-ghost use Rattle.machine_model.specs.Machine.{Machine};
-ghost use Rattle.machine_model.specs.Moments.{ByStep, Moment, IsRun, state_at};
-ghost use Rattle.machine_model.specs.Matched.{Matched};
-ghost use Rattle.machine_model.specs.Rows.{small_machine};
-ghost use Rattle.machine_model.specs.Start.{IsStart};
+ghost use Rattle.machine_model.specs.Runs.Kept.{StepKeepsMatched, PickKeepsMatched, IrqKeepsMatched, KillKeepsMatched, TurnKeepsMatched, AllKeepMatched, KeepsCursor, AllKeepCursor};
+ghost use Rattle.machine_model.specs.State.Machine.{Machine};
+ghost use Rattle.machine_model.specs.Runs.Moments.{ByStep, Moment, IsRun, state_at};
+ghost use Rattle.machine_model.specs.Runs.Matched.{Matched};
+ghost use Rattle.machine_model.specs.Runs.Reserving.{ReservationHolds};
+ghost use Rattle.machine_model.specs.Worked.Rows.{small_machine};
+ghost use Rattle.machine_model.specs.State.Start.{IsStart};
 
 /// The end of a turn keeps the machine matched.
 pub fn turn_keeps_matched()
@@ -42,4 +43,9 @@ pub fn small_machine_is_matched()
 /// Where steps keep the cursor, all that leads from a state to the next does.
 pub fn all_keep_cursor()
     ensures { KeepsCursor ByStep → AllKeepCursor }
+{}
+
+/// Between an LR and the SC that succeeds on it, only that thread did steps.
+pub fn reservation_holds()
+    ensures { ReservationHolds }
 {}

@@ -8,6 +8,7 @@ mod laws;
 mod order;
 mod refusals;
 mod rows;
+mod span_laws;
 
 pub use end_laws::{
     close_leaves_no_loan, dead_server_closes, death_without_servers_forgets,
@@ -17,13 +18,13 @@ pub use end_laws::{
     servers_close_one_at_a_time, unclaimed_interrupt_does_nothing,
 };
 pub use kept_laws::{
-    all_keep_cursor, all_keep_matched, pick_keeps_matched, run_stays_matched,
+    all_keep_cursor, all_keep_matched, pick_keeps_matched, reservation_holds, run_stays_matched,
     small_machine_is_matched, start_is_matched, turn_keeps_matched,
 };
 pub use laws::{
     arguments_are_given, next_ready_is_ready, no_step_without_actor, none_ready_without_next,
     other_registers_stay, records_carry_their_step, refusal_changes_caller_alone,
-    refused_caller_goes_on, step_counts_one,
+    refused_caller_goes_on, step_counts_one, timer_raises_once,
 };
 pub use order::next_ready;
 pub use refusals::{first_refusal, refusal_words};
@@ -34,3 +35,4 @@ pub use rows::{
     senderless_message_is_forgotten, sends_are_refused_in_order, stale_connection_leads_nowhere,
     waiting_thread_gets_the_message,
 };
+pub use span_laws::{loan_is_not_out_and_in, loan_is_out_or_in};

@@ -2,8 +2,8 @@
 
 ghost use Rattle.std.specs.Prelude.{◌≡◌, ◌<◌, ◌≤◌, ◌*◌, IsTrue};
 ghost use Rattle.xk_base.specs.Circle.{is_thread_id, id_at};
-ghost use Rattle.machine_model.specs.Machine.{Machine};
-ghost use Rattle.machine_model.specs.Order.{next_ready, TellsReady};
+ghost use Rattle.machine_model.specs.State.Machine.{Machine};
+ghost use Rattle.machine_model.specs.State.Order.{next_ready, TellsReady};
 
 use xk_base::limits::{PROCESS_LIMIT, TID_LIMIT};
 use xk_base::{Pid, ThreadId, Tid};

@@ -2,7 +2,7 @@
 
 ghost use Rattle.std.specs.Prelude.{◌≡◌};
 ghost use Rattle.xk_base.specs.Replies.{refused_words};
-ghost use Rattle.machine_model.specs.Changes.{first_refusal};
+ghost use Rattle.machine_model.specs.State.Changes.{first_refusal};
 
 use xk_base::XousError;
 

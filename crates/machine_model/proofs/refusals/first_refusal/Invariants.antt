@@ -1,5 +1,5 @@
 use Rattle.std.proofs.Common.{◌≡◌, drop}
-use Rattle.machine_model.specs.Changes.{first_refusal}
+use Rattle.machine_model.specs.State.Changes.{first_refusal}
 use Rattle.machine_model.proofs.refusals.first_refusal.Given as goal
 
 -- no test so far holds

@@ -1,0 +1,6 @@
+-- System calls: their table, and those on memory, threads, servers and interrupts.
+pub mod Calls
+pub mod InterruptCalls
+pub mod MemoryCalls
+pub mod ServerCalls
+pub mod ThreadCalls

@@ -1,0 +1,3 @@
+-- How servers, processes, threads and handlers end.
+pub mod Closing
+pub mod Ends

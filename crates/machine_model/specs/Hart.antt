@@ -1,0 +1,3 @@
+-- What instructions do.
+pub mod Atomics
+pub mod Instructions

@@ -1,0 +1,64 @@
+-- Servers: how one is found by its identifier or by a connection, and how one is changed.
+use Rattle.std.specs.Prelude.{ℕ, ◌+◌, ◌==◌, Bool, false, List, length, ◌++◌, Option, Some, None, is_some, nat_eq}
+use Rattle.std.specs.Option.{option_and_then, option_map}
+use Rattle.xk_base.specs.declared.ids.Pid.{Pid}
+use Rattle.xk_base.specs.declared.ids.Serial.{Serial}
+use Rattle.xk_base.specs.declared.ids.Sid.{Sid}
+use Rattle.xk_base.specs.declared.messages.Message.{Message}
+use Rattle.xk_base.specs.declared.limits.TheConstants.{MESSAGE_LIMIT}
+use Rattle.xk_base.specs.Sids.{same_sid}
+use Rattle.xk_base.specs.Counting.{count_below, least_below, put_at}
+use Rattle.machine_model.specs.State.Connections.{own_connections}
+use Rattle.xk_base.specs.Connections.{connected_to}
+use Rattle.machine_model.specs.State.Machine.{Machine, Server}
+
+-- ---- found
+
+abbrev pub serial_of : ℕ → Serial
+serial_of n = record { 0 = n }
+
+abbrev pub has_sid : Sid → Option Server → Bool
+has_sid sid None = false
+has_sid sid (Some server) = same_sid server.sid sid
+
+-- there is such a server, and it is one of that process
+abbrev pub is_server_of : Pid → Option Server → Bool
+is_server_of pid None = false
+is_server_of pid (Some server) = server.pid.0 == pid.0
+
+-- the live server with that identifier
+unfoldable pub with_sid : Machine → Sid → Option Serial
+with_sid m sid = option_map serial_of (least_below m.next_serial (λ n. has_sid sid (m.servers n)))
+
+-- the server is one of the caller's process
+abbrev pub is_own : Machine → Option Serial → Bool
+is_own m None = false
+is_own m (Some serial) = is_server_of m.cursor.pid (m.servers serial.0)
+
+-- the live server that a connection of the caller's process leads to
+abbrev pub server_at : Machine → ℕ → Option Server
+server_at m cid = option_and_then (λ serial. m.servers serial.0) (connected_to (own_connections m) cid)
+
+-- how many servers are alive
+unfoldable pub live_servers : Machine → ℕ
+live_servers m = count_below m.next_serial (λ n. is_some (m.servers n))
+
+-- ---- their messages
+
+abbrev pub messages_of : Server → List Message
+messages_of server = server.queued ++ server.held
+
+-- every message has a slot, queued or held
+abbrev pub slots_used : Server → ℕ
+slots_used server = length server.queued + length server.held
+
+-- there is such a server, and all its slots are in use
+abbrev pub is_full : Option Server → Bool
+is_full None = false
+is_full (Some server) = slots_used server == MESSAGE_LIMIT
+
+-- ---- changed
+
+-- the machine with that server changed, where it is alive
+abbrev pub change_server : Serial → (Server → Server) → Machine → Machine
+change_server serial change m = record m { servers = put_at nat_eq m.servers serial.0 (option_map change (m.servers serial.0)) }
