@@ -12,19 +12,19 @@ use Rattle.ledger_model.specs.Places.{run, count_places, first_place, place_at}
 use Rattle.ledger_model.specs.Reach.{is_free, role_at, lender_of}
 use Rattle.ledger_model.specs.RunTests.{any_free, any_on_loan, any_console, any_lacks}
 use Rattle.ledger_model.specs.Steps.{make, lend}
-use Rattle.machine_model.specs.Calls.{call}
-use Rattle.machine_model.specs.Changes.{settled, call_settled}
-use Rattle.machine_model.specs.Machine.{Machine, Server}
-use Rattle.machine_model.specs.MemoryCalls.{increase_call}
-use Rattle.machine_model.specs.ReceiveCalls.{receive_call}
-use Rattle.machine_model.specs.Receivers.{receiver}
-use Rattle.machine_model.specs.Rows.{id_of, pid_of, small_machine, told_all, after_all}
-use Rattle.machine_model.specs.SendCalls.{send_call, sent_to, sent_pages, arrival}
-use Rattle.machine_model.specs.ServerCalls.{create_server_call, connect_call}
-use Rattle.machine_model.specs.Servers.{with_sid, live_servers, server_at}
-use Rattle.machine_model.specs.ThreadCalls.{create_call, free_tid}
-use Rattle.machine_model.specs.Views.{page_of}
-use Rattle.machine_rows.proofs.Arrivals.{arrives_at, told_from, after_from}
+use Rattle.machine_model.specs.Calling.Calls.{call}
+use Rattle.machine_model.specs.State.Changes.{settled, call_settled}
+use Rattle.machine_model.specs.State.Machine.{Machine, Server}
+use Rattle.machine_model.specs.Calling.MemoryCalls.{increase_call}
+use Rattle.machine_model.specs.Messaging.ReceiveCalls.{receive_call}
+use Rattle.machine_model.specs.Messaging.Receivers.{receiver}
+use Rattle.machine_model.specs.Worked.Rows.{id_of, pid_of, small_machine, told_all, after_all}
+use Rattle.machine_model.specs.Messaging.SendCalls.{send_call, sent_to, sent_pages, arrival}
+use Rattle.machine_model.specs.Calling.ServerCalls.{create_server_call, connect_call}
+use Rattle.machine_model.specs.State.Servers.{with_sid, live_servers, server_at}
+use Rattle.machine_model.specs.Calling.ThreadCalls.{create_call, free_tid}
+use Rattle.xk_base.specs.Windows.{page_of}
+use Rattle.machine_rows.proofs.ArrivalLemmas.{arrives_at, told_from, after_from}
 use Rattle.machine_rows.specs.AllOrNothing.{four_pages_begin, four_pages_begin_told, four_pages_refused, four_pages_refused_told, after_refusal, three_pages_row, three_pages_told}
 
 -- 3.3 is about to lend the last page

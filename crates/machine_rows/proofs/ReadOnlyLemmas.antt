@@ -13,21 +13,21 @@ use Rattle.ledger_model.specs.Places.{run, count_places, first_place, place_at}
 use Rattle.ledger_model.specs.Reach.{is_free, role_at, lender_of, reach}
 use Rattle.ledger_model.specs.RunTests.{any_free, any_on_loan, any_console, any_lacks}
 use Rattle.ledger_model.specs.Steps.{make, reduce, lend, end_loan, write, zero_page}
-use Rattle.machine_model.specs.Calls.{call}
-use Rattle.machine_model.specs.Changes.{settled, call_settled}
-use Rattle.machine_model.specs.Instructions.{loads, stores, writes, Executed, Traps, store_page_fault}
-use Rattle.machine_model.specs.Machine.{Machine, Server}
-use Rattle.machine_model.specs.MemoryCalls.{increase_call, update_call}
-use Rattle.machine_model.specs.ReceiveCalls.{receive_call}
-use Rattle.machine_model.specs.Receivers.{receiver}
-use Rattle.machine_model.specs.ReturnCalls.{holder_of, return_memory_call}
-use Rattle.machine_model.specs.Rows.{id_of, pid_of, small_machine, told_all, after_all}
-use Rattle.machine_model.specs.SendCalls.{send_call, sent_to, sent_pages, arrival}
-use Rattle.machine_model.specs.ServerCalls.{create_server_call, connect_call}
-use Rattle.machine_model.specs.Servers.{with_sid, live_servers, server_at}
-use Rattle.machine_model.specs.ThreadCalls.{create_call, free_tid}
-use Rattle.machine_model.specs.Views.{memory_of, stored}
-use Rattle.machine_rows.proofs.Arrivals.{arrives_at, told_from, after_from}
+use Rattle.machine_model.specs.Calling.Calls.{call}
+use Rattle.machine_model.specs.State.Changes.{settled, call_settled}
+use Rattle.machine_model.specs.Hart.Instructions.{loads, stores, writes, Executed, Traps, store_page_fault}
+use Rattle.machine_model.specs.State.Machine.{Machine, Server}
+use Rattle.machine_model.specs.Calling.MemoryCalls.{increase_call, update_call}
+use Rattle.machine_model.specs.Messaging.ReceiveCalls.{receive_call}
+use Rattle.machine_model.specs.Messaging.Receivers.{receiver}
+use Rattle.machine_model.specs.Messaging.ReturnCalls.{holder_of, return_memory_call}
+use Rattle.machine_model.specs.Worked.Rows.{id_of, pid_of, small_machine, told_all, after_all}
+use Rattle.machine_model.specs.Messaging.SendCalls.{send_call, sent_to, sent_pages, arrival}
+use Rattle.machine_model.specs.Calling.ServerCalls.{create_server_call, connect_call}
+use Rattle.machine_model.specs.State.Servers.{with_sid, live_servers, server_at}
+use Rattle.machine_model.specs.Calling.ThreadCalls.{create_call, free_tid}
+use Rattle.machine_model.specs.State.Views.{memory_of, stored}
+use Rattle.machine_rows.proofs.ArrivalLemmas.{arrives_at, told_from, after_from}
 use Rattle.machine_rows.specs.ReadOnly.{read_only_written, read_only_reduce, read_only_reduce_told, read_only_reduced, read_only_return, read_only_row, read_only_told, read_only_lent, read_only_returned}
 
 -- 3.2 is about to lend its page

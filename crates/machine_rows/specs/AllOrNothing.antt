@@ -3,8 +3,8 @@ use Rattle.std.specs.Prelude.{List, [], ◌∷◌}
 use Rattle.xk_base.specs.declared.records.What.{What}
 use Rattle.xk_base.specs.declared.records.What.TheVariants.{Reply}
 use Rattle.xk_base.specs.Replies.{eight_words}
-use Rattle.machine_model.specs.Machine.{Machine}
-use Rattle.machine_model.specs.Rows.{Deed, Calls, id_of, small_machine, after_all}
+use Rattle.machine_model.specs.State.Machine.{Machine}
+use Rattle.machine_model.specs.Worked.Rows.{Deed, Calls, id_of, small_machine, after_all}
 
 -- 2.2 waits. 3.2 makes a heap of four pages, and a second thread.
 abbrev pub four_pages_begin : List Deed

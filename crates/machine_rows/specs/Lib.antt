@@ -1,4 +1,10 @@
 pub mod AllOrNothing
+pub mod Deaths
+pub mod Forwards
+pub mod Interrupts
+pub mod Loans
 pub mod OwnServer
+pub mod Playing
 pub mod ReadOnly
+pub mod Scalars
 pub mod TwoPages

@@ -4,9 +4,9 @@ use Rattle.xk_base.specs.declared.pages.Width.TheVariants.{Word}
 use Rattle.xk_base.specs.declared.records.What.{What}
 use Rattle.xk_base.specs.declared.records.What.TheVariants.{Reply}
 use Rattle.xk_base.specs.Replies.{eight_words}
-use Rattle.machine_model.specs.Machine.{Machine}
-use Rattle.machine_model.specs.Rows.{Deed, Calls, pid_of, id_of, small_machine, after_all}
-use Rattle.machine_model.specs.Views.{stored}
+use Rattle.machine_model.specs.State.Machine.{Machine}
+use Rattle.machine_model.specs.Worked.Rows.{Deed, Calls, pid_of, id_of, small_machine, after_all}
+use Rattle.machine_model.specs.State.Views.{stored}
 
 -- 2.2 makes the server, and a second thread, which waits there. It makes a heap of one page.
 abbrev pub own_server_begin : List Deed

@@ -4,10 +4,10 @@ use Rattle.xk_base.specs.declared.pages.Width.TheVariants.{Word}
 use Rattle.xk_base.specs.declared.records.What.{What}
 use Rattle.xk_base.specs.declared.records.What.TheVariants.{Reply}
 use Rattle.xk_base.specs.Replies.{eight_words}
-use Rattle.machine_model.specs.LendRows.{lend_begin}
-use Rattle.machine_model.specs.Machine.{Machine}
-use Rattle.machine_model.specs.Rows.{Deed, Calls, pid_of, id_of, small_machine, after_all}
-use Rattle.machine_model.specs.Views.{stored}
+use Rattle.machine_model.specs.Worked.LendRows.{lend_begin}
+use Rattle.machine_model.specs.State.Machine.{Machine}
+use Rattle.machine_model.specs.Worked.Rows.{Deed, Calls, pid_of, id_of, small_machine, after_all}
+use Rattle.machine_model.specs.State.Views.{stored}
 
 -- As in the row of a lend, 2.2 waits at its server and 3.2 has a heap of one page. 3.2 stores a word there.
 abbrev pub read_only_written : Machine

@@ -3,9 +3,10 @@
 ghost use Rattle.std.specs.Prelude.{◌≡◌, ℕ, false, List};
 ghost use Rattle.xk_base.specs.declared.pages.Width.TheVariants.{Word};
 ghost use Rattle.ledger_model.specs.RunTests.{any_on_loan};
-ghost use Rattle.machine_model.specs.Instructions.{loads, stores, writes, following, Stores, Traps, store_page_fault, load_page_fault};
-ghost use Rattle.machine_model.specs.Rows.{small_machine, told_all, after_all, pid_of};
-ghost use Rattle.machine_model.specs.Views.{memory_of, page_of};
+ghost use Rattle.machine_model.specs.Hart.Instructions.{loads, stores, writes, following, Stores, Traps, store_page_fault, load_page_fault};
+ghost use Rattle.machine_model.specs.Worked.Rows.{small_machine, told_all, after_all, pid_of};
+ghost use Rattle.machine_model.specs.State.Views.{memory_of};
+ghost use Rattle.xk_base.specs.Windows.{page_of};
 ghost use Rattle.machine_rows.specs.AllOrNothing.{four_pages_begin, four_pages_begin_told, four_pages_refused, four_pages_refused_told, after_refusal, three_pages_row, three_pages_told};
 ghost use Rattle.machine_rows.specs.OwnServer.{own_server_begin, own_server_begin_told, own_server_written, own_server_send, own_server_send_told, own_server_lent, own_server_return, own_server_return_told, own_server_returned};
 ghost use Rattle.machine_rows.specs.ReadOnly.{read_only_written, read_only_reduce, read_only_reduce_told, read_only_reduced, read_only_row, read_only_told, read_only_lent, read_only_returned};
@@ -26,7 +27,7 @@ pub fn read_only_page_is_lent()
 
 /// Mutable lend of two pages. `3.2` lends both pages of its heap. `2.2` may store to both at its own addresses, stores a word in
 /// each and returns them with offset 7 and valid 9. `3.2` gets the two numbers, and loads the server's words.
-#[tactic(auto, using(crate::proofs::TwoPagesLemmas::begun, crate::proofs::TwoPagesLemmas::sent, crate::proofs::TwoPagesLemmas::first_stores, crate::proofs::TwoPagesLemmas::second_stores, crate::proofs::TwoPagesLemmas::returned, crate::proofs::TwoPagesLemmas::first_loads, crate::proofs::TwoPagesLemmas::second_loads))]
+#[tactic(auto, using(crate::proofs::TwoPageLemmas::begun, crate::proofs::TwoPageLemmas::sent, crate::proofs::TwoPageLemmas::first_stores, crate::proofs::TwoPageLemmas::second_stores, crate::proofs::TwoPageLemmas::returned, crate::proofs::TwoPageLemmas::first_loads, crate::proofs::TwoPageLemmas::second_loads))]
 pub fn two_pages_are_lent_mutably()
     ensures begins { told_all two_pages_begin (small_machine 2) ≡ two_pages_begin_told }
     ensures sends { told_all two_pages_send (after_all two_pages_begin (small_machine 2)) ≡ two_pages_send_told }

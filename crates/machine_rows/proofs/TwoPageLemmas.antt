@@ -13,20 +13,20 @@ use Rattle.ledger_model.specs.Places.{run, count_places, first_place, place_at}
 use Rattle.ledger_model.specs.Reach.{is_free, role_at, lender_of, reach}
 use Rattle.ledger_model.specs.RunTests.{any_free, any_on_loan, any_console, any_lacks}
 use Rattle.ledger_model.specs.Steps.{make, lend, end_loan, write, zero_page}
-use Rattle.machine_model.specs.Calls.{call}
-use Rattle.machine_model.specs.Changes.{settled, call_settled}
-use Rattle.machine_model.specs.Instructions.{loads, stores, writes, following, Executed, Stores}
-use Rattle.machine_model.specs.Machine.{Machine, Server}
-use Rattle.machine_model.specs.MemoryCalls.{increase_call}
-use Rattle.machine_model.specs.ReceiveCalls.{receive_call}
-use Rattle.machine_model.specs.Receivers.{receiver}
-use Rattle.machine_model.specs.ReturnCalls.{holder_of, return_memory_call}
-use Rattle.machine_model.specs.Rows.{id_of, pid_of, small_machine, told_all, after_all}
-use Rattle.machine_model.specs.SendCalls.{send_call, sent_to, sent_pages, arrival}
-use Rattle.machine_model.specs.ServerCalls.{create_server_call, connect_call}
-use Rattle.machine_model.specs.Servers.{with_sid, live_servers, server_at}
-use Rattle.machine_model.specs.Views.{memory_of, stored}
-use Rattle.machine_rows.proofs.Arrivals.{arrives_at, told_from, after_from}
+use Rattle.machine_model.specs.Calling.Calls.{call}
+use Rattle.machine_model.specs.State.Changes.{settled, call_settled}
+use Rattle.machine_model.specs.Hart.Instructions.{loads, stores, writes, following, Executed, Stores}
+use Rattle.machine_model.specs.State.Machine.{Machine, Server}
+use Rattle.machine_model.specs.Calling.MemoryCalls.{increase_call}
+use Rattle.machine_model.specs.Messaging.ReceiveCalls.{receive_call}
+use Rattle.machine_model.specs.Messaging.Receivers.{receiver}
+use Rattle.machine_model.specs.Messaging.ReturnCalls.{holder_of, return_memory_call}
+use Rattle.machine_model.specs.Worked.Rows.{id_of, pid_of, small_machine, told_all, after_all}
+use Rattle.machine_model.specs.Messaging.SendCalls.{send_call, sent_to, sent_pages, arrival}
+use Rattle.machine_model.specs.Calling.ServerCalls.{create_server_call, connect_call}
+use Rattle.machine_model.specs.State.Servers.{with_sid, live_servers, server_at}
+use Rattle.machine_model.specs.State.Views.{memory_of, stored}
+use Rattle.machine_rows.proofs.ArrivalLemmas.{arrives_at, told_from, after_from}
 use Rattle.machine_rows.specs.TwoPages.{two_pages_begin, two_pages_begin_told, two_pages_send, two_pages_send_told, two_pages_lent, first_written, both_written, two_pages_return, two_pages_return_told, two_pages_returned}
 
 -- 3.2 is about to lend its pages
