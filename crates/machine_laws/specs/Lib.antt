@@ -1,2 +1,1 @@
-pub mod Deaths
 pub mod WithoutServers

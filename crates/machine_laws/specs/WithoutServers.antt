@@ -3,7 +3,7 @@ use Rattle.std.specs.Prelude.{◌≡◌, ℕ, Bool, not, ◌||◌, ◌==◌, Lis
 use Rattle.std.specs.List.{list_any}
 use Rattle.xk_base.specs.CallNumbers.{map_memory, yield_turn, increase_heap, decrease_heap, update_memory_flags, create_thread, unmap_memory, terminate_process, join_thread, get_thread_id, get_process_id, is_call_number}
 use Rattle.xk_base.specs.CallWords.{call_number}
-use Rattle.machine_model.specs.Machine.{Machine}
+use Rattle.machine_model.specs.State.Machine.{Machine}
 
 -- no server is alive
 abbrev pub HasNoServers : Machine → Type 0

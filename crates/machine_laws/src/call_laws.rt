@@ -1,16 +1,17 @@
 //! Calls that are refused or retried keep the invariant.
 
-ghost use Rattle.std.specs.Prelude.{ℕ, ◌≡◌, ◌≤◌, ◌+◌, List, Some};
+ghost use Rattle.std.specs.Prelude.{ℕ, ◌≡◌, List, Some};
 ghost use Rattle.xk_base.specs.declared.errors.XousError.{XousError};
 ghost use Rattle.xk_base.specs.declared.ids.ThreadId.{ThreadId};
 ghost use Rattle.xk_base.specs.CallWords.{call_number};
-ghost use Rattle.machine_model.specs.Acts.{call_by};
-ghost use Rattle.machine_model.specs.Calls.{call, call_at, call_table};
-ghost use Rattle.machine_model.specs.Changes.{Outcome, Refused, Retried, call_settled};
-ghost use Rattle.machine_model.specs.Machine.{Machine};
-ghost use Rattle.machine_model.specs.Matched.{Matched};
-ghost use Rattle.machine_model.specs.Order.{actor};
-ghost use Rattle.machine_model.specs.Step.{step};
+ghost use Rattle.machine_model.specs.Stepping.Acts.{call_by};
+ghost use Rattle.machine_model.specs.Calling.Calls.{call, call_at, call_table};
+ghost use Rattle.machine_model.specs.State.Changes.{Outcome, Refused, Retried, call_settled};
+ghost use Rattle.machine_model.specs.State.Machine.{Machine};
+ghost use Rattle.machine_model.specs.Runs.Kept.{Settles};
+ghost use Rattle.machine_model.specs.Runs.Matched.{Matched};
+ghost use Rattle.machine_model.specs.State.Order.{actor};
+ghost use Rattle.machine_model.specs.Stepping.Step.{step};
 
 /// A refused call keeps the machine matched, as what comes of the call and as a step.
 pub fn refused_call_keeps_matched()
@@ -29,11 +30,9 @@ pub fn retried_call_keeps_matched()
 {}
 
 /// The step of a call that any may make keeps the machine matched where what comes of the call of its
-/// number is matched.
+/// number is matched once the step is counted.
 pub fn call_step_keeps_matched()
     ensures { (m : Machine) (who : ThreadId) (words : List ℕ) (outcome : Outcome) → Matched m → actor m ≡ Some who
         → call_by m who ≡ Some words → call_at (call_number words) call_table (record m { cursor = who }) words ≡ outcome
-        → Matched (call_settled (record m { cursor = who }) outcome).machine
-        → (call_settled (record m { cursor = who }) outcome).machine.steps ≤ m.steps + 1
-        → Matched (step m).machine }
+        → Settles m (call_settled (record m { cursor = who }) outcome).machine → Matched (step m).machine }
 {}

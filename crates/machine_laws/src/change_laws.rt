@@ -11,9 +11,9 @@ ghost use Rattle.xk_base.specs.Windows.{first_page, in_window};
 ghost use Rattle.ledger_model.specs.Lawful.{IsLawful};
 ghost use Rattle.ledger_model.specs.Ledger.{Ledger, Page};
 ghost use Rattle.ledger_model.specs.Loans.{loans};
-ghost use Rattle.machine_model.specs.Machine.{Machine, Thread};
-ghost use Rattle.machine_model.specs.Matched.{Matched, is_living};
-ghost use Rattle.machine_model.specs.MemoryCalls.{heap_limit};
+ghost use Rattle.machine_model.specs.State.Machine.{Machine, Thread};
+ghost use Rattle.machine_model.specs.Runs.Matched.{Matched, is_living};
+ghost use Rattle.machine_model.specs.Calling.MemoryCalls.{heap_limit};
 
 /// A matched machine stays matched where its threads keep their states and have aligned pcs,
 /// wherever its cursor goes and however many steps are counted.

@@ -4,12 +4,12 @@ ghost use Rattle.std.specs.Prelude.{ℕ, ◌≡◌, List, Some};
 ghost use Rattle.xk_base.specs.declared.ids.ThreadId.{ThreadId};
 ghost use Rattle.xk_base.specs.CallNumbers.{claim_interrupt, free_interrupt};
 ghost use Rattle.xk_base.specs.CallWords.{call_number};
-ghost use Rattle.machine_model.specs.Acts.{call_by};
-ghost use Rattle.machine_model.specs.Kept.{IrqKeepsMatched};
-ghost use Rattle.machine_model.specs.Machine.{Machine};
-ghost use Rattle.machine_model.specs.Matched.{Matched};
-ghost use Rattle.machine_model.specs.Order.{actor};
-ghost use Rattle.machine_model.specs.Step.{step};
+ghost use Rattle.machine_model.specs.Stepping.Acts.{call_by};
+ghost use Rattle.machine_model.specs.Runs.Kept.{IrqKeepsMatched};
+ghost use Rattle.machine_model.specs.State.Machine.{Machine};
+ghost use Rattle.machine_model.specs.Runs.Matched.{Matched};
+ghost use Rattle.machine_model.specs.State.Order.{actor};
+ghost use Rattle.machine_model.specs.Stepping.Step.{step};
 
 /// The step of a ClaimInterrupt keeps the machine matched, served or refused.
 pub fn claim_interrupt_keeps_matched()

@@ -8,7 +8,9 @@ mod death_laws;
 mod instruction_laws;
 mod irq_laws;
 mod memory_laws;
+mod message_laws;
 mod plain_laws;
+mod server_laws;
 mod step_laws;
 mod thread_end_laws;
 mod thread_laws;
@@ -20,9 +22,8 @@ pub use change_laws::{
     like_heaps_keep_matched, like_ledger_keeps_matched, like_threads_keep_matched,
 };
 pub use death_laws::{
-    kill_without_messages_keeps_matched, kill_without_servers_keeps_matched,
-    last_end_without_messages_keeps_matched, terminate_without_messages_keeps_matched,
-    trap_without_messages_keeps_matched,
+    death_keeps_matched, kill_keeps_matched, last_end_keeps_matched,
+    terminate_process_keeps_matched, trap_keeps_matched,
 };
 pub use instruction_laws::{
     execution_stays_aligned, instruction_keeps_matched, instruction_stores_one_page,
@@ -34,8 +35,10 @@ pub use memory_laws::{
     decrease_keeps_matched, increase_keeps_matched, map_keeps_matched, memory_calls_keep_matched,
     unmap_keeps_matched, update_keeps_matched,
 };
+pub use message_laws::return_memory_keeps_matched;
 pub use plain_laws::{kill_leaves_no_servers, no_loans_without_servers, plain_step_keeps_matched};
-pub use step_laws::step_keeps_matched_by_cases;
+pub use server_laws::destroy_server_keeps_matched;
+pub use step_laws::{step_keeps_matched_by_cases, steps_keep_matched_where_calls_do};
 pub use thread_end_laws::{end_of_handler_keeps_matched, end_of_thread_keeps_matched};
 pub use thread_laws::{
     answered_call_keeps_matched, count_of_steps_keeps_matched, create_thread_keeps_matched,

@@ -5,12 +5,12 @@ ghost use Rattle.xk_base.specs.declared.ids.Pid.{Pid};
 ghost use Rattle.xk_base.specs.declared.ids.Place.{Place};
 ghost use Rattle.xk_base.specs.declared.ids.ThreadId.{ThreadId};
 ghost use Rattle.ledger_model.specs.Ledger.{loan_at};
-ghost use Rattle.machine_model.specs.Acts.{call_by};
-ghost use Rattle.machine_model.specs.Events.{killed};
-ghost use Rattle.machine_model.specs.Machine.{Machine};
-ghost use Rattle.machine_model.specs.Matched.{Matched};
-ghost use Rattle.machine_model.specs.Order.{actor};
-ghost use Rattle.machine_model.specs.Step.{step};
+ghost use Rattle.machine_model.specs.Stepping.Acts.{call_by};
+ghost use Rattle.machine_model.specs.Stepping.Events.{killed};
+ghost use Rattle.machine_model.specs.State.Machine.{Machine};
+ghost use Rattle.machine_model.specs.Runs.Matched.{Matched};
+ghost use Rattle.machine_model.specs.State.Order.{actor};
+ghost use Rattle.machine_model.specs.Stepping.Step.{step};
 ghost use Rattle.machine_laws.specs.WithoutServers.{HasNoServers, is_plain_call};
 
 /// Where there is no server, a step keeps the machine matched and without servers, unless it is a call that speaks of

@@ -2,12 +2,12 @@
 
 ghost use Rattle.std.specs.Prelude.{◌≡◌, true, None, Some};
 ghost use Rattle.xk_base.specs.declared.ids.ThreadId.{ThreadId};
-ghost use Rattle.machine_model.specs.Ends.{has_threads};
-ghost use Rattle.machine_model.specs.Machine.{Machine, Thread};
-ghost use Rattle.machine_model.specs.Matched.{Matched};
-ghost use Rattle.machine_model.specs.Order.{actor};
-ghost use Rattle.machine_model.specs.Step.{step, ends_thread, ends_handler};
-ghost use Rattle.machine_model.specs.Threads.{put_thread};
+ghost use Rattle.machine_model.specs.Ending.Ends.{has_threads};
+ghost use Rattle.machine_model.specs.State.Machine.{Machine, Thread};
+ghost use Rattle.machine_model.specs.Runs.Matched.{Matched};
+ghost use Rattle.machine_model.specs.State.Order.{actor};
+ghost use Rattle.machine_model.specs.Stepping.Step.{step, ends_thread, ends_handler};
+ghost use Rattle.machine_model.specs.State.Threads.{put_thread};
 
 /// The step in which a thread ends keeps the machine matched, where its process has another above tid 1.
 pub fn end_of_thread_keeps_matched()

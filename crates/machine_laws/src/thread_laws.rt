@@ -4,13 +4,14 @@ ghost use Rattle.std.specs.Prelude.{ℕ, ◌≤◌, ◌≡◌, true, List, Some}
 ghost use Rattle.xk_base.specs.declared.ids.ThreadId.{ThreadId};
 ghost use Rattle.xk_base.specs.CallNumbers.{yield_turn, get_thread_id, get_process_id, create_thread, join_thread};
 ghost use Rattle.xk_base.specs.CallWords.{call_number};
-ghost use Rattle.machine_model.specs.Acts.{call_by};
-ghost use Rattle.machine_model.specs.Changes.{Served, call_settled, answering};
-ghost use Rattle.machine_model.specs.Machine.{Machine};
-ghost use Rattle.machine_model.specs.Matched.{Matched};
-ghost use Rattle.machine_model.specs.Order.{ready_at, actor};
-ghost use Rattle.machine_model.specs.Step.{step};
-ghost use Rattle.machine_model.specs.Threads.{answer_to};
+ghost use Rattle.machine_model.specs.Stepping.Acts.{call_by};
+ghost use Rattle.machine_model.specs.State.Changes.{Served, call_settled, answering};
+ghost use Rattle.machine_model.specs.State.Machine.{Machine};
+ghost use Rattle.machine_model.specs.Runs.Kept.{Settles};
+ghost use Rattle.machine_model.specs.Runs.Matched.{Matched};
+ghost use Rattle.machine_model.specs.State.Order.{ready_at, actor};
+ghost use Rattle.machine_model.specs.Stepping.Step.{step};
+ghost use Rattle.machine_model.specs.State.Threads.{answer_to};
 
 /// A machine stays matched as its steps are counted.
 pub fn count_of_steps_keeps_matched()
@@ -19,8 +20,8 @@ pub fn count_of_steps_keeps_matched()
 
 /// A call that answers its caller, who is Ready, keeps the machine matched where its change does.
 pub fn answered_call_keeps_matched()
-    ensures { (m left : Machine) (words : List ℕ) → Matched left → ready_at left m.cursor ≡ true
-        → Matched (call_settled m (Served (answering (answer_to m.cursor words) left))).machine }
+    ensures { (m left : Machine) (words : List ℕ) → Settles m left → ready_at left m.cursor ≡ true
+        → Settles m (call_settled m (Served (answering (answer_to m.cursor words) left))).machine }
 {}
 
 /// The step of a Yield keeps the machine matched.

@@ -1,4 +1,4 @@
-use Rattle.machine_laws.proofs.CallSteps.{step_kept}
+use Rattle.machine_laws.proofs.Calling.CallStepLemmas.{step_kept}
 use Rattle.machine_laws.proofs.call_laws.call_step_keeps_matched.Goals as goal
 
 -- src/call_laws.rt

@@ -1,4 +1,4 @@
-use Rattle.machine_laws.proofs.AnsweredCalls.{refused_matched, refused_step}
+use Rattle.machine_laws.proofs.Calling.AnsweredCallLemmas.{refused_matched, refused_step}
 use Rattle.machine_laws.proofs.call_laws.refused_call_keeps_matched.Goals as goal
 
 -- src/call_laws.rt

@@ -1,4 +1,4 @@
-use Rattle.machine_laws.proofs.AnsweredCalls.{retried_matched, retried_step}
+use Rattle.machine_laws.proofs.Calling.AnsweredCallLemmas.{retried_matched, retried_step}
 use Rattle.machine_laws.proofs.call_laws.retried_call_keeps_matched.Goals as goal
 
 -- src/call_laws.rt

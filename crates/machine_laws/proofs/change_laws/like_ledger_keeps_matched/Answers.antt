@@ -1,4 +1,4 @@
-use Rattle.machine_laws.proofs.LedgerChange.{matched_on}
+use Rattle.machine_laws.proofs.Calling.PageChangeLemmas.{matched_on}
 use Rattle.machine_laws.proofs.change_laws.like_ledger_keeps_matched.Goals as goal
 
 -- src/change_laws.rt

@@ -1,4 +1,4 @@
-use Rattle.machine_laws.proofs.IrqSteps.{free_step}
+use Rattle.machine_laws.proofs.Interrupting.IrqStepLemmas.{free_step}
 use Rattle.machine_laws.proofs.irq_laws.free_interrupt_keeps_matched.Goals as goal
 
 -- src/irq_laws.rt

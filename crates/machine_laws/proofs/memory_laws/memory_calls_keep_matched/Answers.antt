@@ -1,4 +1,4 @@
-use Rattle.machine_laws.proofs.CallSteps.{decrease_step, increase_step, map_step, unmap_step, update_step}
+use Rattle.machine_laws.proofs.Calling.CallStepLemmas.{decrease_step, increase_step, map_step, unmap_step, update_step}
 use Rattle.machine_laws.proofs.memory_laws.memory_calls_keep_matched.Goals as goal
 
 -- src/memory_laws.rt

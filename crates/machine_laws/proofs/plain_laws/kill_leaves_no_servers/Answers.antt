@@ -1,4 +1,4 @@
-use Rattle.machine_laws.proofs.PlainSteps.{kill_leaves_no_servers}
+use Rattle.machine_laws.proofs.Stepping.PlainStepLemmas.{kill_leaves_no_servers}
 use Rattle.machine_laws.proofs.plain_laws.kill_leaves_no_servers.Goals as goal
 
 -- src/plain_laws.rt

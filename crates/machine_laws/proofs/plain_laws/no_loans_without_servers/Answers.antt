@@ -1,4 +1,4 @@
-use Rattle.machine_laws.proofs.PlainSteps.{no_loans_without_servers}
+use Rattle.machine_laws.proofs.Stepping.PlainStepLemmas.{no_loans_without_servers}
 use Rattle.machine_laws.proofs.plain_laws.no_loans_without_servers.Goals as goal
 
 -- src/plain_laws.rt

@@ -1,4 +1,4 @@
-use Rattle.machine_laws.proofs.ThreadAnswers.{answered_call}
+use Rattle.machine_laws.proofs.Threading.ThreadAnswerLemmas.{answered_call}
 use Rattle.machine_laws.proofs.thread_laws.answered_call_keeps_matched.Goals as goal
 
 -- src/thread_laws.rt

@@ -1,4 +1,4 @@
-use Rattle.machine_laws.proofs.ThreadMoves.{matched_later}
+use Rattle.machine_laws.proofs.Threading.ThreadMoveLemmas.{matched_later}
 use Rattle.machine_laws.proofs.thread_laws.count_of_steps_keeps_matched.Goals as goal
 
 -- src/thread_laws.rt

@@ -1,4 +1,4 @@
-use Rattle.machine_laws.proofs.ThreadCallSteps.{process_id_step}
+use Rattle.machine_laws.proofs.Calling.ThreadCallStepLemmas.{process_id_step}
 use Rattle.machine_laws.proofs.thread_laws.get_process_id_keeps_matched.Goals as goal
 
 -- src/thread_laws.rt

@@ -1,4 +1,4 @@
-use Rattle.machine_laws.proofs.ThreadCallSteps.{thread_id_step}
+use Rattle.machine_laws.proofs.Calling.ThreadCallStepLemmas.{thread_id_step}
 use Rattle.machine_laws.proofs.thread_laws.get_thread_id_keeps_matched.Goals as goal
 
 -- src/thread_laws.rt

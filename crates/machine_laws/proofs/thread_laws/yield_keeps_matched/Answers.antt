@@ -1,4 +1,4 @@
-use Rattle.machine_laws.proofs.ThreadCallSteps.{yield_step}
+use Rattle.machine_laws.proofs.Calling.ThreadCallStepLemmas.{yield_step}
 use Rattle.machine_laws.proofs.thread_laws.yield_keeps_matched.Goals as goal
 
 -- src/thread_laws.rt

@@ -1,0 +1,53 @@
+-- The step of a call: where what comes of the call of its number is matched, so is the state after the step. The calls on memory.
+use Rattle.std.proofs.Common.{◌≡◌, ℕ, true, List, Some, refl, sym, subst}
+use Rattle.xk_base.specs.declared.ids.ThreadId.{ThreadId}
+use Rattle.xk_base.specs.CallNumbers.{map_memory, increase_heap, decrease_heap, update_memory_flags, unmap_memory}
+use Rattle.xk_base.specs.CallWords.{call_number}
+use Rattle.machine_model.specs.Stepping.Acts.{call_by}
+use Rattle.machine_model.specs.Calling.Calls.{any_refusals, call, call_at, call_table}
+use Rattle.machine_model.specs.State.Changes.{Call, Outcome}
+use Rattle.machine_model.specs.State.Machine.{Machine}
+use Rattle.machine_model.specs.Runs.Matched.{Matched}
+use Rattle.machine_model.specs.Calling.MemoryCalls.{decrease_call, increase_call, map_call, unmap_call, update_call}
+use Rattle.machine_model.specs.State.Order.{actor, ready_at}
+use Rattle.machine_model.specs.Stepping.Step.{step}
+use Rattle.machine_model.proofs.KeptLemmas.{matched_at}
+use Rattle.machine_laws.proofs.Calling.AnsweredCallLemmas.{Keeps}
+use Rattle.machine_laws.proofs.Calling.HeapCallLemmas.{decrease_keeps, increase_keeps}
+use Rattle.machine_laws.proofs.Calling.MapCallLemmas.{map_keeps}
+use Rattle.machine_laws.proofs.Calling.MemoryCallStepLemmas.{unmap_keeps, update_keeps}
+use Rattle.machine_laws.proofs.Calling.ThreadCallLemmas.{call_keeps, unless_refused_keeps}
+use Rattle.machine_laws.proofs.Calling.ThreadCallStepLemmas.{KeepsNumber, StepKeeps, step_of_number}
+use Rattle.machine_laws.proofs.Threading.ThreadStepLemmas.{turned_to, call_step_keeps}
+
+pub step_kept : (m : Machine) (who : ThreadId) (words : List ℕ) (outcome : Outcome) → Matched m → actor m ≡ Some who
+    → call_by m who ≡ Some words → call_at (call_number words) call_table (turned_to who m) words ≡ outcome
+    → Keeps (turned_to who m) outcome → Matched (step m).machine
+unfolding call
+step_kept m who words outcome h e q c k =
+    let n : Machine = turned_to who m in
+    call_step_keeps m who words e q
+    (unless_refused_keeps n (matched_at who m h) (any_refusals n words) (call_at (call_number words) call_table n words)
+    (λ none. subst (Keeps n) (sym c) k))
+
+-- ---- the calls on memory
+
+-- a call that keeps the machine matched keeps it so under its number
+of_call : (k : ℕ) (served : Call) → ((m : Machine) (w : List ℕ) → call_at k call_table m w ≡ served m w)
+    → ((m : Machine) (w : List ℕ) → Matched m → ready_at m m.cursor ≡ true → Keeps m (served m w)) → KeepsNumber k
+of_call k served same keep m h ready w e = call_keeps m h ready w k e (λ none. subst (Keeps m) (sym (same m w)) (keep m w h ready))
+
+pub map_step : StepKeeps map_memory
+map_step = step_of_number 2 (of_call 2 map_call (λ m w. refl) map_keeps)
+
+pub increase_step : StepKeeps increase_heap
+increase_step = step_of_number 10 (of_call 10 increase_call (λ m w. refl) increase_keeps)
+
+pub decrease_step : StepKeeps decrease_heap
+decrease_step = step_of_number 11 (of_call 11 decrease_call (λ m w. refl) decrease_keeps)
+
+pub update_step : StepKeeps update_memory_flags
+update_step = step_of_number 12 (of_call 12 update_call (λ m w. refl) update_keeps)
+
+pub unmap_step : StepKeeps unmap_memory
+unmap_step = step_of_number 19 (of_call 19 unmap_call (λ m w. refl) unmap_keeps)

@@ -1,0 +1,160 @@
+-- The steps in which a process dies: TerminateProcess, a fatal trap, and the end of its last thread above tid 1. Where its death keeps
+-- the machine matched, they do.
+use Rattle.std.proofs.Common.{◌≡◌, ℕ, Bool, true, false, List, [], Option, Some, None, refl, sym, ap, ◌∙◌, subst}
+use Rattle.std.specs.Prelude.{◌==◌, if◌then◌else◌}
+use Rattle.std.specs.Option.{option_map, option_or}
+use Rattle.std.proofs.lemmas.Bool.{and_left, eq-eqb}
+use Rattle.std.proofs.lemmas.Option.{none-some, same_Some}
+use Rattle.xk_base.specs.declared.ids.Pid.{Pid}
+use Rattle.xk_base.specs.declared.ids.ThreadId.{ThreadId}
+use Rattle.xk_base.specs.CallNumbers.{terminate_process}
+use Rattle.xk_base.specs.CallWords.{call_number}
+use Rattle.xk_base.specs.Circle.{same_thread}
+use Rattle.xk_base.specs.Counting.{put_at}
+use Rattle.xk_base.specs.Registers.{reg_at}
+use Rattle.xk_base.specs.Replies.{scalar1_words}
+use Rattle.machine_model.specs.Stepping.Acts.{call_by, executes}
+use Rattle.machine_model.specs.Calling.Calls.{call}
+use Rattle.machine_model.specs.State.Changes.{Change, call_settled, settled}
+use Rattle.machine_model.specs.Ending.Closing.{any_server, closed, servers_closed, senders_queued_gone, senders_held_gone}
+use Rattle.machine_model.specs.Ending.Ends.{death, forgotten, thread_ended, has_threads, end_with_last_thread, joiners_answered, waits_for_end}
+use Rattle.machine_model.specs.Hart.Atomics.{Performed}
+use Rattle.machine_model.specs.Hart.Instructions.{Executed, Traps}
+use Rattle.machine_model.specs.State.Machine.{Machine, Thread}
+use Rattle.machine_model.specs.Runs.Kept.{Settles}
+use Rattle.machine_model.specs.Runs.Matched.{Matched}
+use Rattle.machine_model.specs.State.Order.{actor}
+use Rattle.machine_model.specs.Stepping.Step.{step, executed, ends_thread, ends_handler, performed}
+use Rattle.machine_model.specs.Calling.ThreadCalls.{terminate_call}
+use Rattle.machine_model.specs.State.Threads.{Answers, put_thread, change_thread, passed, give_answers, both_answers, with_answer}
+use Rattle.machine_model.proofs.KeptLemmas.{matched_at}
+use Rattle.machine_laws.proofs.Dying.DeathLemmas.{death_keeps}
+use Rattle.machine_laws.proofs.Calling.AnsweredCallLemmas.{Keeps}
+use Rattle.machine_laws.proofs.Calling.ThreadCallLemmas.{call_keeps}
+use Rattle.machine_laws.proofs.Threading.ThreadPutLemmas.{alike}
+use Rattle.machine_laws.proofs.Threading.ThreadStepLemmas.{turned_to, actor_ready, step_keeps, call_step_keeps, then_acted, performed_turned}
+
+-- the death of the process keeps the machine matched
+abbrev pub DeathKeeps : Pid → Machine → Type 0
+DeathKeeps pid m = Settles m (settled (death pid m)).machine
+
+-- no thread of the dead process is left
+dead_threads : (pid : Pid) (m : Machine) (id : ThreadId) → (death pid m).machine.threads id ≡ (if id.pid.0 == pid.0 then None else m.threads id)
+unfolding death servers_closed closed senders_queued_gone senders_held_gone forgotten
+dead_threads pid m id = refl
+
+-- ---- TerminateProcess
+
+passes_nobody : (m : Machine) → change_thread m.cursor passed (death m.cursor.pid m).machine ≡ (death m.cursor.pid m).machine
+passes_nobody m = λ i. record left { threads = λ id. same id (same_thread id m.cursor) refl i }
+  where
+    left : Machine
+    left = (death m.cursor.pid m).machine
+
+    gone : left.threads m.cursor ≡ None
+    gone = dead_threads m.cursor.pid m m.cursor ∙ ap (λ b. if b then None else m.threads m.cursor) (eq-eqb m.cursor.pid.0 m.cursor.pid.0 refl)
+
+    same : (id : ThreadId) (b : Bool) → same_thread id m.cursor ≡ b → (if b then option_map passed (left.threads m.cursor) else left.threads id) ≡ left.threads id
+    same id false e = refl
+    same id true e = ap (option_map passed) gone ∙ sym gone ∙ sym (ap left.threads (alike id m.cursor e))
+
+terminate_keeps : (m : Machine) (w : List ℕ) → DeathKeeps m.cursor.pid m → Keeps m (terminate_call m w)
+unfolding terminate_call call_settled
+terminate_keeps m w d =
+    subst (λ left. Settles m (settled (record (death m.cursor.pid m) { machine = left })).machine) (sym (passes_nobody m)) d
+
+terminate_step : (m : Machine) (who : ThreadId) (w : List ℕ) → Matched m → actor m ≡ Some who → call_by m who ≡ Some w
+    → call_number w ≡ terminate_process → DeathKeeps who.pid (turned_to who m) → Matched (step m).machine
+terminate_step m who w h e c number d =
+    let k : Keeps (turned_to who m) (call (turned_to who m) w) =
+    call_keeps (turned_to who m) (matched_at who m h) (actor_ready m who e) w 22 number (λ none. terminate_keeps (turned_to who m) w d) in
+    call_step_keeps m who w e c k
+
+-- ---- a trap
+
+trap_step : (m : Machine) (who : ThreadId) (t : Thread) (cause value : ℕ) → Matched m → actor m ≡ Some who → m.threads who ≡ Some t
+    → executes m who t ≡ Some (Traps cause value) → DeathKeeps who.pid (turned_to who m) → Matched (step m).machine
+trap_step m who t cause value h e there x d =
+    step_keeps m who t e there
+    (subst (Settles m) (sym (go (ends_thread who t.pc) (ends_handler who t.pc) (performed (turned_to who m) who t).executed
+    (ap (λ (y : Performed). if_fetched (ends_thread who t.pc) (ends_handler who t.pc) y.executed) (sym (performed_turned m who t)) ∙ x)))
+    d)
+  where
+    if_fetched : Bool → Bool → Executed → Option Executed
+    if_fetched a b y = if a then None else (if b then None else Some y)
+
+    go : (a b : Bool) (y : Executed) → (if a then None else (if b then None else Some y)) ≡ Some (Traps cause value)
+        → (then_acted m who [] t a b y).machine ≡ (settled (death who.pid (turned_to who m))).machine
+    go true b y q = absurd (none-some (Traps cause value) q)
+    go false true y q = absurd (none-some (Traps cause value) q)
+    go false false y q = ap (λ z. (executed (turned_to who m) t z).machine) (same_Some y (Traps cause value) q)
+
+-- ---- the last thread
+
+same_death : (who : ThreadId) (m : Machine) → death who.pid (put_thread who None m) ≡ death who.pid m
+unfolding death any_server servers_closed closed senders_queued_gone senders_held_gone forgotten
+same_death who m = λ i. record (death who.pid m) { machine = record (death who.pid m).machine { threads = λ id. same id (id.pid.0 == who.pid.0) refl i } }
+  where
+    same : (id : ThreadId) (b : Bool) → (id.pid.0 == who.pid.0) ≡ b
+        → (if b then None else put_at same_thread m.threads who None id) ≡ (if b then None else m.threads id)
+    same id true e = refl
+    same id false e = ap (λ c. if c then None else m.threads id) (and_left (id.pid.0 == who.pid.0) (id.tid.0 == who.tid.0) e)
+
+-- who joined the last thread died with it
+nobody_joins : (m : Machine) (who : ThreadId) (a0 : ℕ) (others : Answers)
+    → give_answers (both_answers (joiners_answered m who a0) others) (death who.pid m).machine ≡ give_answers others (death who.pid m).machine
+nobody_joins m who a0 others = λ i. record left { threads = λ id. same id (id.pid.0 == who.pid.0) refl i }
+  where
+    left : Machine
+    left = (death who.pid m).machine
+
+    gone : (id : ThreadId) → (id.pid.0 == who.pid.0) ≡ true → left.threads id ≡ None
+    gone id e = dead_threads who.pid m id ∙ ap (λ b. if b then None else m.threads id) e
+
+    stranger : (id : ThreadId) (o : Option Thread) → (id.pid.0 == who.pid.0) ≡ false → waits_for_end who id o ≡ false
+    stranger id None e = refl
+    stranger id (Some t) e = and_left (id.pid.0 == who.pid.0) _ e
+
+    same : (id : ThreadId) (b : Bool) → (id.pid.0 == who.pid.0) ≡ b
+        → option_map (with_answer (both_answers (joiners_answered m who a0) others id)) (left.threads id)
+        ≡ option_map (with_answer (others id)) (left.threads id)
+    same id true e =
+        ap (option_map (with_answer (both_answers (joiners_answered m who a0) others id))) (gone id e) ∙ sym (ap (option_map (with_answer (others id))) (gone id e))
+    same id false e =
+        ap (λ b. option_map (with_answer (option_or (if b then Some (scalar1_words a0) else None) (others id))) (left.threads id)) (stranger id (m.threads id) e)
+
+pub last_keeps : (m : Machine) (who : ThreadId) (a0 : ℕ) → has_threads (put_thread who None m) who.pid ≡ false → DeathKeeps who.pid m
+    → Settles m (settled (thread_ended who a0 m)).machine
+unfolding thread_ended settled
+last_keeps m who a0 last d =
+    subst (λ b. Settles m (left_by (end_with_last_thread b who.pid (put_thread who None m)))) (sym last)
+    (subst (λ (left : Change). Settles m (left_by left)) (sym (same_death who m))
+    (subst (Settles m) (sym (nobody_joins m who a0 (death who.pid m).answers)) d))
+  where
+    left_by : Change → Machine
+    left_by left = give_answers (both_answers (joiners_answered m who a0) left.answers) left.machine
+
+last_thread_step : (m : Machine) (who : ThreadId) (t : Thread) → Matched m → actor m ≡ Some who → m.threads who ≡ Some t
+    → ends_thread who t.pc ≡ true → has_threads (put_thread who None m) who.pid ≡ false → DeathKeeps who.pid (turned_to who m) → Matched (step m).machine
+unfolding has_threads
+last_thread_step m who t h e there ends last d =
+    let k : Settles (turned_to who m) (settled (thread_ended who (reg_at t.regs 10) (turned_to who m))).machine =
+    last_keeps (turned_to who m) who (reg_at t.regs 10) last d in
+    step_keeps m who t e there (subst (λ b. Settles m (then_acted m who [] t b (ends_handler who t.pc) (performed (turned_to who m) who t).executed).machine)
+    (sym ends) k)
+
+-- ---- as steps
+
+module _ (m : Machine) (h : Matched m) (who : ThreadId) (e : actor m ≡ Some who) where
+  dies : DeathKeeps who.pid (turned_to who m)
+  dies = death_keeps (turned_to who m) (matched_at who m h) who.pid
+
+  pub terminates : (w : List ℕ) → call_by m who ≡ Some w → call_number w ≡ terminate_process → Matched (step m).machine
+  terminates w c number = terminate_step m who w h e c number dies
+
+  pub traps : (t : Thread) (cause value : ℕ) → m.threads who ≡ Some t → executes m who t ≡ Some (Traps cause value) → Matched (step m).machine
+  traps t cause value there x = trap_step m who t cause value h e there x dies
+
+  pub last_thread_ends : (t : Thread) → m.threads who ≡ Some t → ends_thread who t.pc ≡ true
+      → has_threads (put_thread who None m) who.pid ≡ false → Matched (step m).machine
+  last_thread_ends t there ends last = last_thread_step m who t h e there ends last dies

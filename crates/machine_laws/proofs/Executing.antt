@@ -1,0 +1,3 @@
+pub mod InstructionEffectLemmas
+pub mod InstructionStepLemmas
+pub mod StoredByteLemmas

@@ -1,0 +1,5 @@
+pub mod IrqClaimLemmas
+pub mod IrqDeliveryLemmas
+pub mod IrqHandlerLemmas
+pub mod IrqStepLemmas
+pub mod TimedLemmas

@@ -1,0 +1,4 @@
+pub mod PlainServerLemmas
+pub mod PlainStepLemmas
+pub mod StepCaseLemmas
+pub mod StepKindLemmas

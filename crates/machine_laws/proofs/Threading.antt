@@ -1,0 +1,8 @@
+pub mod ChangedThreadLemmas
+pub mod EndStepLemmas
+pub mod EndThreadLemmas
+pub mod LikeThreadLemmas
+pub mod ThreadAnswerLemmas
+pub mod ThreadMoveLemmas
+pub mod ThreadPutLemmas
+pub mod ThreadStepLemmas
