@@ -5,14 +5,15 @@ use Rattle.phys_pages.specs.Owners.{OwnerTable, extent, infos, frame_seat, HasSe
 use Rattle.sv32_space.specs.declared.sides.Side.{Side}
 use Rattle.sv32_space.specs.declared.sides.Side.TheVariants.{Own, LentOut, LentIn, MutOut, MutIn}
 use Rattle.xk_base.specs.declared.pages.Right.{Right}
-use Rattle.sv32_space.specs.Entries.{Entry, Free, At, OnConsole}
+use Rattle.sv32_space.specs.declared.sides.Entry.{Entry}
+use Rattle.sv32_space.specs.declared.sides.Entry.TheVariants.{Free, At, OnConsole}
 use Rattle.vm_memory.specs.declared.memory.Memory.{Memory}
 use Rattle.vm_memory.specs.declared.memory.changes.Owned.{Owned}
 use Rattle.vm_memory.specs.declared.memory.changes.Owned.TheVariants.{Nothing, Page, Console}
 use Rattle.vm_memory.specs.Memory.{size}
 
--- how large it is, its store, and whether a call has failed stay
-pub record KeepsRest {W : Type 0} (old new : Memory W) : Type 0 where
+-- a change of pages alone: how large the memory is, its store, and whether a call has failed stay
+pub record ChangesPagesAlone {W : Type 0} (old new : Memory W) : Type 0 where
   pub size : size new ≡ size old
   pub store : new.store ≡ old.store
   pub failed : new.failed ≡ old.failed

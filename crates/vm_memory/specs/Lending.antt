@@ -5,7 +5,8 @@ use Rattle.xk_base.specs.declared.ids.Place.{Place}
 use Rattle.phys_pages.specs.declared.infos.Seat.{Seat}
 use Rattle.phys_pages.specs.declared.infos.Seat.TheVariants.{Frame, Slot}
 use Rattle.phys_pages.specs.Ram.{with_page}
-use Rattle.sv32_space.specs.Entries.{Entry, Free, At, OnConsole}
+use Rattle.sv32_space.specs.declared.sides.Entry.{Entry}
+use Rattle.sv32_space.specs.declared.sides.Entry.TheVariants.{Free, At, OnConsole}
 use Rattle.sv32_space.specs.SpelledEntries.{entries}
 use Rattle.vm_memory.specs.contracts.memory.Memory.{the_row}
 use Rattle.vm_memory.specs.declared.memory.Memory.{Memory}

@@ -1,7 +1,5 @@
-pub mod Access
 pub mod Bytes
 pub mod Changing
-pub mod EntryAccess
 pub mod FirstLedger
 pub mod Here
 pub mod Lending
@@ -12,6 +10,4 @@ pub mod RunTests
 pub mod Sound
 pub mod Starting
 pub mod Tie
-pub mod UserRest
-pub mod UserStores
-pub mod UserView
+pub mod Using

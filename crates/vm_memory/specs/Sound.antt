@@ -1,20 +1,15 @@
 -- The soundness of a memory, which each call needs and keeps.
-use Rattle.std.specs.Prelude.{◌≡◌, ℕ, ◌+◌, ◌≤◌, None}
-use Rattle.boot_plan.specs.Capacity.{table_frames}
-use Rattle.phys_pages.specs.Owners.{OwnerTable, extent, infos, frame_seat, HasSeat}
+use Rattle.std.specs.Prelude.{◌≡◌, ℕ, ◌+◌, ◌≤◌}
+use Rattle.xk_base.specs.Limits.{table_frames}
+use Rattle.phys_pages.specs.Owners.{extent, infos}
 use Rattle.phys_pages.specs.Ram.{IsPlaced, area}
 use Rattle.ledger_model.specs.Lawful.{IsLawful}
 use Rattle.ledger_model.specs.Ledger.{pages}
+use Rattle.sv32_space.specs.Agreement.{HasUnusedFrame}
 use Rattle.sv32_space.specs.Tie.{agrees}
 use Rattle.vm_memory.specs.declared.memory.Memory.{Memory}
 use Rattle.vm_memory.specs.Bytes.{used_frames, used_slots}
 use Rattle.vm_memory.specs.Memory.{processes, capacity_of, blank_ledger, IsUsable}
-
--- a frame of the table has no page: the exchange frame
-pub record HasExchangeFrame (owners : OwnerTable) : Type 0 where
-  pub frame : ℕ
-  pub within : HasSeat (extent owners) (frame_seat frame)
-  pub free : infos owners (frame_seat frame) ≡ None
 
 pub record IsSound {W : Type 0} (slot_count : W → ℕ) (m : Memory W) : Type 0 where
   -- entries and owners agree
@@ -33,7 +28,7 @@ pub record IsSound {W : Type 0} (slot_count : W → ℕ) (m : Memory W) : Type 0
   -- its pages are counted, and each has one seat
   pub pages : m.pages ≡ pages (processes m) (blank_ledger m)
   pub seats : used_frames m.owners + used_slots m.owners ≡ m.pages
-  -- until a call answers Failed there is an exchange frame
-  pub room : IsUsable m → HasExchangeFrame m.owners
+  -- until a call answers Failed a frame is free to exchange pages with
+  pub room : IsUsable m → HasUnusedFrame (extent m.owners) (infos m.owners)
   -- This part goes when pages can be out: until then the store isn't used.
   pub no_slots : m.slots ≡ 0

@@ -1,23 +1,24 @@
 //! What stands at a place, by its entry, and where an access leads.
 
+ghost use Rattle.xk_base.specs.Circle.{is_pid};
 ghost use Rattle.std.specs.Option.{option_copied};
 ghost use Rattle.std.specs.Prelude.{◌≡◌, ℕ, ◌<◌, Some, true, IsSome};
-ghost use Rattle.ledger_model.specs.Places.{is_process, is_user_place};
+ghost use Rattle.ledger_model.specs.Places.{is_user_place};
 ghost use Rattle.phys_pages.specs.Ram.{area};
-ghost use Rattle.sv32_space.specs.SpelledEntries.{entries, entry_of_kind};
+ghost use Rattle.sv32_space.specs.SpelledEntries.{entries};
 ghost use Rattle.vm_memory.specs.Bytes.{is_near};
-ghost use Rattle.vm_memory.specs.EntryAccess.{entry_target, is_given_target, is_page_target, page_of, side_here};
+ghost use Rattle.vm_memory.specs.Using.EntryAccess.{entry_target, is_given_target, is_page_target, side_here};
+ghost use Rattle.xk_base.specs.Windows.{page_of, window_at};
 ghost use Rattle.vm_memory.specs.Here.{here_at};
 ghost use Rattle.vm_memory.specs.Lending.{frame_named};
 ghost use Rattle.vm_memory.specs.Memory.{ledger, processes, ram_of};
 ghost use Rattle.vm_memory.specs.Sound.{IsSound};
-ghost use Rattle.xk_base.specs.Windows.{window_at};
 
 use crate::memory::{Here, Memory};
 use phys_pages::{PageInfo, Seat};
-use sv32_space::{EntryKind, Side, Walked, kind_of, leaf, root_of, walk};
+use sv32_space::{Entry, Side, Walked, entry_at, root_of, walk};
 use xk_base::limits::PAGE_SIZE;
-use xk_base::{Access, Frame, LoanKind, Number, Pid, Place, Right, Slot, window_of};
+use xk_base::{Access, Frame, LoanKind, Number, Pid, Place, Right, window_of};
 use xk_ports::SwapStore;
 
 /// Where an access leads.
@@ -86,7 +87,7 @@ impl<W: SwapStore> Memory<W> {
     // Whether it is one of the processes that the memory was made for.
     fn has_process(&self, pid: Pid) -> bool
         requires sound { IsSound W.slot_count self.now }
-        ensures { result ≡ is_process (processes self.now) pid.0 }
+        ensures { result ≡ is_pid (processes self.now) pid.0 }
     {
         2 <= pid.0 && (pid.0 as u32) < self.procs + 2
     }
@@ -100,13 +101,13 @@ impl<W: SwapStore> Memory<W> {
     }
 
     // What the entry of a place says.
-    pub(crate) fn kind(&self, at: Place) -> EntryKind
+    pub(crate) fn entry(&self, at: Place) -> Entry
         requires sound { IsSound W.slot_count self.now }
         requires place { is_user_place (processes self.now) at ≡ true }
-        ensures { entries (processes self.now) (ram_of self.now) at ≡ entry_of_kind (area (ram_of self.now)) (Some result) }
+        ensures { entries (processes self.now) (ram_of self.now) at ≡ Some result }
     {
-        match kind_of(leaf(&self.ram, at)) {
-            Some(kind) => kind,
+        match entry_at(&self.ram, at) {
+            Some(entry) => entry,
             None => unreachable!(),
         }
     }
@@ -118,12 +119,13 @@ impl<W: SwapStore> Memory<W> {
         ensures named { result.0 ≡ frame_named (entries (processes self.now) (ram_of self.now) at) }
         ensures inside { result.0 < (area (ram_of self.now)).frames }
     {
-        match self.kind(at) {
-            EntryKind::Here { side: _, ppn } => match self.ram.frame_of(ppn) {
-                Some(f) => f,
-                None => unreachable!(),
+        match self.entry(at) {
+            Entry::At { side: _, seat } => match seat {
+                Seat::Frame(f) => f,
+                Seat::Slot(_) => unreachable!(),
             },
-            _ => unreachable!(),
+            Entry::Free => unreachable!(),
+            Entry::OnConsole { w: _ } => unreachable!(),
         }
     }
 
@@ -137,7 +139,7 @@ impl<W: SwapStore> Memory<W> {
         }
         match walk(&self.ram, root_of(pid), va, access) {
             Walked::PageFault => Target::Nothing,
-            Walked::Reaches(pa) => match self.ram.frame_of((pa / 4096) as u32) {
+            Walked::Reaches(pa) => match self.ram.frame_of((pa / PAGE_SIZE as u64) as u32) {
                 Some(f) => Target::Page(f),
                 None => Target::Console,
             },
@@ -161,18 +163,14 @@ impl<W: SwapStore> Memory<W> {
         if !self.has_place(place) {
             return Here::Nothing;
         }
-        match self.kind(place) {
-            EntryKind::Free => Here::Nothing,
-            EntryKind::Here { side, ppn } => match (self.ram.frame_of(ppn), side) {
-                (Some(f), _) => here(side, self.owners.info(Seat::Frame(f))),
-                (None, Side::Own(right)) => Here::Own {
-                    right,
-                    console: true,
-                    loan: None,
-                },
-                (None, _) => unreachable!(),
+        match self.entry(place) {
+            Entry::Free => Here::Nothing,
+            Entry::At { side, seat } => here(side, self.owners.info(seat)),
+            Entry::OnConsole { w } => Here::Own {
+                right: Right { w, x: false },
+                console: true,
+                loan: None,
             },
-            EntryKind::Out { side, slot } => here(side, self.owners.info(Seat::Slot(Slot(slot)))),
         }
     }
 }

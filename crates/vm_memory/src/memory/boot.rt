@@ -1,23 +1,25 @@
 //! A memory with its first pages.
 
+ghost use Rattle.xk_base.specs.Circle.{is_pid};
 ghost use Rattle.std.specs.Prelude.{◌≡◌, ◌≢◌, ℕ, ◌+◌, ◌-◌, ◌*◌, ◌%◌, ◌<◌, ◌≤◌, true, length, All, AllPairs, IfOk, IfErr, Some};
-ghost use Rattle.boot_plan.specs.Capacity.{page_frames, table_frames};
+ghost use Rattle.boot_plan.specs.Capacity.{page_frames};
+ghost use Rattle.xk_base.specs.Limits.{table_frames};
 ghost use Rattle.boot_plan.specs.FirstPages.{planned_pages};
 ghost use Rattle.boot_plan.specs.Lawful.{IsLawfulPage, IsLawfulPlan};
 ghost use Rattle.boot_plan.specs.declared.plans.PagePlan.{PagePlan};
 ghost use Rattle.ledger_model.specs.Ledger.{empty_ledger};
 ghost use Rattle.ledger_model.specs.Loans.{bare};
-ghost use Rattle.ledger_model.specs.Places.{is_process, is_user_place};
+ghost use Rattle.ledger_model.specs.Places.{is_user_place};
 ghost use Rattle.ledger_model.specs.Reach.{is_free};
 ghost use Rattle.phys_pages.specs.Owners.{extent, infos, no_infos, seat_eq};
 ghost use Rattle.phys_pages.specs.Ram.{area, pages};
 ghost use Rattle.sv32_space.specs.Agreement.{owned_by};
-ghost use Rattle.sv32_space.specs.Entries.{Free};
+ghost use Rattle.sv32_space.specs.declared.sides.Entry.TheVariants.{Free};
 ghost use Rattle.sv32_space.specs.PageSteps.{place_page};
 ghost use Rattle.sv32_space.specs.Spaces.{IsMade};
 ghost use Rattle.sv32_space.specs.SpelledEntries.{entries};
 ghost use Rattle.vm_memory.specs.Bytes.{KeepsStore, MeansBytes};
-ghost use Rattle.vm_memory.specs.Changing.{IsFreeFrame, KeepsRest};
+ghost use Rattle.vm_memory.specs.Changing.{IsFreeFrame, ChangesPagesAlone};
 ghost use Rattle.vm_memory.specs.FirstLedger.{first_ledger, first_page, page_bytes};
 ghost use Rattle.vm_memory.specs.Memory.{IsUsable, capacity_of, ledger, processes, size, store_of};
 ghost use Rattle.vm_memory.specs.Sound.{IsSound};
@@ -70,7 +72,7 @@ fn empty_parts(alloc: Global, plan: &BootPlan, procs: u32) -> Result<(Ram, Owner
 fn make_spaces(ram: &mut Ram, procs: u32)
     requires few { procs ≤ 32 }
     requires within { 21 * procs ≤ (area ram.old).frames }
-    ensures made { (pid : ℕ) → is_process procs pid ≡ true → IsMade ram.new pid }
+    ensures made { (pid : ℕ) → is_pid procs pid ≡ true → IsMade ram.new pid }
     ensures free { (q : Place) → is_user_place procs q ≡ true → entries procs ram.new q ≡ Some Free }
     ensures area { area ram.new ≡ area ram.old }
 {
@@ -102,6 +104,7 @@ impl<W: SwapStore> Memory<W> {
         match empty_parts(alloc, plan, procs) {
             Ok((mut ram, owners)) => {
                 make_spaces(&mut ram, procs);
+                // For the prover: RAM starts at a page and ends below the console.
                 let _frames = ram.frames();
                 Ok(Memory {
                     ram,
@@ -132,7 +135,7 @@ impl<W: SwapStore> Memory<W> {
         ensures ledger { ledger W.held self.new ≡ place_page at (first_page file.now page.now) (ledger W.held self.old) }
         ensures owners { infos self.new.owners ≡ put_at seat_eq (infos self.old.owners) (Seat.Frame f) (Some (owned_by at)) }
         ensures pages { self.new.pages ≡ self.old.pages + 1 }
-        ensures rest { KeepsRest self.old self.new }
+        ensures rest { ChangesPagesAlone self.old self.new }
     {
         self.place_page(at, page.right, f);
         fill(self.ram.page_mut(f), file, page);
@@ -141,7 +144,7 @@ impl<W: SwapStore> Memory<W> {
     // Puts the pages of a process at their homes, in the next frames.
     fn place_process(&mut self, pid: Pid, plan: &[PagePlan], file: &[u8])
         requires sound { IsSound W.slot_count self.old }
-        requires process { is_process (processes self.old) pid.0 ≡ true }
+        requires process { is_pid (processes self.old) pid.0 ≡ true }
         requires unlent { IsUnlent (ledger W.held self.old) }
         requires free { HasNoPage pid.0 (ledger W.held self.old) }
         requires frames { AreFreeFrom self.old.owners self.old.pages }
@@ -152,7 +155,7 @@ impl<W: SwapStore> Memory<W> {
         ensures ledger { ledger W.held self.new ≡ place_pages file.now pid plan.now (ledger W.held self.old) }
         ensures frames { AreFreeFrom self.new.owners self.new.pages }
         ensures pages { self.new.pages ≡ self.old.pages + length plan.now }
-        ensures rest { KeepsRest self.old self.new }
+        ensures rest { ChangesPagesAlone self.old self.new }
     {
         'pages: for k in 0..plan.len() {
             let page = plan[k];

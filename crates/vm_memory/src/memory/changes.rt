@@ -1,29 +1,29 @@
 //! The changes of one page: it comes, goes, or gets another right, in its entry and in the owner table.
 
+ghost use Rattle.xk_base.specs.Circle.{is_pid};
 ghost use Rattle.std.specs.Prelude.{◌≡◌, ◌≢◌, ℕ, ◌+◌, ◌*◌, ◌<◌, ◌≤◌, Some, None, true, false, nat_eq, IsSome, IsTrue};
 ghost use Rattle.xk_base.specs.Counting.{put_at};
 ghost use Rattle.xk_base.specs.Windows.{window_at};
 ghost use Rattle.ledger_model.specs.Conditions.{CanMakeConsole};
-ghost use Rattle.ledger_model.specs.Places.{in_run, is_process, is_user_place, same_place};
+ghost use Rattle.ledger_model.specs.Places.{in_run, is_user_place, same_place};
 ghost use Rattle.ledger_model.specs.Reach.{is_free, role_at};
 ghost use Rattle.ledger_model.specs.RunTests.{asks_more, is_on_loan};
 ghost use Rattle.ledger_model.specs.Steps.{make, make_console, reduce, remove, zero_page};
-ghost use Rattle.phys_pages.specs.Owners.{AreFramesUsed, infos, seat_eq};
+ghost use Rattle.phys_pages.specs.Owners.{AreFramesUsed, extent, infos, seat_eq};
 ghost use Rattle.phys_pages.specs.Ram.{area, pages};
-ghost use Rattle.sv32_space.specs.Agreement.{owned_by};
-ghost use Rattle.sv32_space.specs.Entries.{At, Free, OnConsole};
+ghost use Rattle.sv32_space.specs.Agreement.{HasUnusedFrame, owned_by};
+ghost use Rattle.sv32_space.specs.declared.sides.Entry.TheVariants.{At, Free, OnConsole};
 ghost use Rattle.sv32_space.specs.Spaces.{IsMade};
 ghost use Rattle.sv32_space.specs.SpelledEntries.{IsEntry, entries, entry_of_kind};
 ghost use Rattle.sv32_space.specs.Spellings.{IsKind};
-ghost use Rattle.vm_memory.specs.Changing.{IsFreeFrame, KeepsRest, own_right, owned_in};
+ghost use Rattle.vm_memory.specs.Changing.{IsFreeFrame, ChangesPagesAlone, own_right, owned_in};
 ghost use Rattle.vm_memory.specs.Memory.{capacity_of, ledger, processes, ram_of};
-ghost use Rattle.vm_memory.specs.Sound.{HasExchangeFrame, IsSound};
+ghost use Rattle.vm_memory.specs.Sound.{IsSound};
 
 use crate::memory::Memory;
 use phys_pages::{PageInfo, Ram, Seat};
-use sv32_space::{EntryKind, Side, entry_of, set_leaf};
-use xk_base::limits::{CONSOLE_ADDRESS, PAGE_SIZE};
-use xk_base::{Frame, Place, Right, Slot};
+use sv32_space::{Entry, Side, set_entry};
+use xk_base::{Frame, Place, Right};
 use xk_ports::SwapStore;
 
 /// What of its own, not on loan, a process has at a place.
@@ -49,54 +49,13 @@ fn own_right(side: Side) -> Option<Right>
 }
 
 // Fills a frame with zeros.
-#[tactic(auto, using(phys_pages::proofs::PageLaws::page_writes, crate::proofs::Steps::cleared))]
+#[tactic(auto, using(phys_pages::proofs::PageLemmas::page_writes, crate::proofs::Changing::PageStepLemmas::cleared))]
 fn clear(ram: &mut Ram, f: Frame)
     requires { f.0 < (area ram.old).frames }
     ensures pages { pages ram.new ≡ put_at nat_eq (pages ram.old) f.0 zero_page }
     ensures area { area ram.new ≡ area ram.old }
 {
     ram.page_mut(f).fill(0);
-}
-
-// Writes the entry of a place.
-fn write_entry(ram: &mut Ram, at: Place, kind: EntryKind)
-    requires made { IsMade ram.old at.pid.0 }
-    requires window { IsSome (window_at at.vpn.0) }
-    requires kind { IsKind kind }
-    ensures entries { (procs : ℕ) → is_process procs at.pid.0 ≡ true
-        → entries procs ram.new ≡ put_at same_place (entries procs ram.old) at (entry_of_kind (area ram.old) (Some kind)) }
-    ensures pages { (procs f : ℕ) → is_process procs at.pid.0 ≡ true → 21 * procs ≤ f → pages ram.new f ≡ pages ram.old f }
-    ensures made { (pid : ℕ) → IsMade ram.old pid → IsMade ram.new pid }
-    ensures area { area ram.new ≡ area ram.old }
-{
-    set_leaf(ram, at, entry_of(kind));
-}
-
-// How the entry of a side of the page at a seat is spelled.
-fn seat_kind(ram: &Ram, side: Side, seat: Seat) -> EntryKind
-    requires { IsEntry (area ram.now) (At side seat) }
-    ensures kind { IsKind result }
-    ensures entry { entry_of_kind (area ram.now) (Some result) ≡ Some (At side seat) }
-{
-    match seat {
-        Seat::Frame(f) => EntryKind::Here {
-            side,
-            ppn: ram.ppn_of(f),
-        },
-        Seat::Slot(s) => EntryKind::Out { side, slot: s.0 },
-    }
-}
-
-// How the console's entry is spelled.
-fn console_kind(ram: &Ram, w: bool) -> EntryKind
-    ensures kind { IsKind result }
-    ensures entry { entry_of_kind (area ram.now) (Some result) ≡ Some (OnConsole w) }
-{
-    let _frames = ram.frames();
-    EntryKind::Here {
-        side: Side::Own(Right { w, x: false }),
-        ppn: CONSOLE_ADDRESS / PAGE_SIZE,
-    }
 }
 
 impl<W: SwapStore> Memory<W> {
@@ -108,24 +67,20 @@ impl<W: SwapStore> Memory<W> {
         if !self.has_place(at) {
             return Owned::Nothing;
         }
-        match self.kind(at) {
-            EntryKind::Free => Owned::Nothing,
-            EntryKind::Here { side, ppn } => match (own_right(side), self.ram.frame_of(ppn)) {
-                (None, _) => Owned::Nothing,
-                (Some(right), Some(f)) => Owned::Page(right, Seat::Frame(f)),
-                (Some(right), None) => Owned::Console(right.w),
-            },
-            EntryKind::Out { side, slot } => match own_right(side) {
+        match self.entry(at) {
+            Entry::Free => Owned::Nothing,
+            Entry::At { side, seat } => match own_right(side) {
+                Some(right) => Owned::Page(right, seat),
                 None => Owned::Nothing,
-                Some(right) => Owned::Page(right, Seat::Slot(Slot(slot))),
             },
+            Entry::OnConsole { w } => Owned::Console(w),
         }
     }
 
     // The first free frame from one on.
     pub(crate) fn free_frame_from(&self, from: Frame) -> Frame
         requires sound { IsSound W.slot_count self.now }
-        requires room { HasExchangeFrame self.now.owners }
+        requires room { HasUnusedFrame (extent self.now.owners) (infos self.now.owners) }
         requires low { 21 * processes self.now ≤ from.0 }
         requires used { AreFramesUsed self.now.owners from.0 }
         ensures free { IsFreeFrame self.now.owners result.0 }
@@ -151,11 +106,14 @@ impl<W: SwapStore> Memory<W> {
         ensures ledger { ledger W.held self.new ≡ make at 1 right (ledger W.held self.old) }
         ensures owners { infos self.new.owners ≡ put_at seat_eq (infos self.old.owners) (Seat.Frame f) (Some (owned_by at)) }
         ensures pages { self.new.pages ≡ self.old.pages + 1 }
-        ensures rest { KeepsRest self.old self.new }
+        ensures rest { ChangesPagesAlone self.old self.new }
     {
         clear(&mut self.ram, f);
-        let kind = seat_kind(&self.ram, Side::Own(right), Seat::Frame(f));
-        write_entry(&mut self.ram, at, kind);
+        let entry = Entry::At {
+            side: Side::Own(right),
+            seat: Seat::Frame(f),
+        };
+        set_entry(&mut self.ram, at, entry);
         let info = PageInfo {
             home: Some(at),
             loan: None,
@@ -170,10 +128,9 @@ impl<W: SwapStore> Memory<W> {
         requires can { CanMakeConsole (processes self.old) (ledger W.held self.old) at }
         ensures sound { IsSound W.slot_count self.new }
         ensures ledger { ledger W.held self.new ≡ make_console at w (ledger W.held self.old) }
-        ensures rest { KeepsRest self.old self.new }
+        ensures rest { ChangesPagesAlone self.old self.new }
     {
-        let kind = console_kind(&self.ram, w);
-        write_entry(&mut self.ram, at, kind);
+        set_entry(&mut self.ram, at, Entry::OnConsole { w });
     }
 
     // The page of a place goes, if there is one.
@@ -182,16 +139,16 @@ impl<W: SwapStore> Memory<W> {
         requires not_lent { is_on_loan (role_at (processes self.old) (ledger W.held self.old) at) ≡ false }
         ensures sound { IsSound W.slot_count self.new }
         ensures ledger { ledger W.held self.new ≡ remove (in_run at 1) (ledger W.held self.old) }
-        ensures rest { KeepsRest self.old self.new }
+        ensures rest { ChangesPagesAlone self.old self.new }
     {
         match self.owned(at) {
             Owned::Nothing => {}
             Owned::Page(_, seat) => {
-                write_entry(&mut self.ram, at, EntryKind::Free);
+                set_entry(&mut self.ram, at, Entry::Free);
                 self.owners.set(seat, None);
                 self.pages -= 1;
             }
-            Owned::Console(_) => write_entry(&mut self.ram, at, EntryKind::Free),
+            Owned::Console(_) => set_entry(&mut self.ram, at, Entry::Free),
         }
     }
 
@@ -202,17 +159,16 @@ impl<W: SwapStore> Memory<W> {
         requires within { asks_more right ((ledger W.held self.old).home at) ≡ false }
         ensures sound { IsSound W.slot_count self.new }
         ensures ledger { ledger W.held self.new ≡ reduce (in_run at 1) right (ledger W.held self.old) }
-        ensures rest { KeepsRest self.old self.new }
+        ensures rest { ChangesPagesAlone self.old self.new }
     {
         match self.owned(at) {
             Owned::Nothing => {}
             Owned::Page(_, seat) => {
-                let kind = seat_kind(&self.ram, Side::Own(right), seat);
-                write_entry(&mut self.ram, at, kind);
+                let side = Side::Own(right);
+                set_entry(&mut self.ram, at, Entry::At { side, seat });
             }
             Owned::Console(_) => {
-                let kind = console_kind(&self.ram, right.w);
-                write_entry(&mut self.ram, at, kind);
+                set_entry(&mut self.ram, at, Entry::OnConsole { w: right.w });
             }
         }
     }

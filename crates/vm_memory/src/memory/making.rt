@@ -1,13 +1,13 @@
 //! Pages are made.
 
+ghost use Rattle.xk_base.specs.Circle.{is_pid};
 ghost use Rattle.std.specs.Prelude.{◌≡◌, ℕ, ◌+◌, ◌<◌, ◌≤◌, true, IfOk, OnOk, OnErr};
 ghost use Rattle.ledger_model.specs.Conditions.{CanMake};
 ghost use Rattle.ledger_model.specs.Ledger.{pages};
 ghost use Rattle.ledger_model.specs.Loans.{bare};
-ghost use Rattle.ledger_model.specs.Places.{is_process};
 ghost use Rattle.ledger_model.specs.Steps.{make};
 ghost use Rattle.vm_memory.specs.Bytes.{KeepsStore, MeansBytes, MeansBytesOver};
-ghost use Rattle.vm_memory.specs.Changing.{KeepsRest};
+ghost use Rattle.vm_memory.specs.Changing.{ChangesPagesAlone};
 ghost use Rattle.vm_memory.specs.Making.{HasMadeFirst, after_console, after_make, console_answer, make_answer, run_place};
 ghost use Rattle.vm_memory.specs.Memory.{IsUsable, capacity_of, frames_for_pages, has_failed, ledger, processes, size, store_of};
 ghost use Rattle.vm_memory.specs.Sound.{IsSound};
@@ -16,6 +16,7 @@ ghost use Rattle.xk_base.specs.Outside.{Rose};
 
 use crate::memory::Memory;
 use crate::memory::run_tests::{RunTest, fits};
+use xk_base::limits::TABLE_FRAMES;
 use xk_base::{Failed, Frame, Pid, Place, Right, Vpn, Window, XousError};
 use xk_ports::SwapStore;
 
@@ -58,9 +59,9 @@ impl<W: SwapStore> Memory<W> {
         requires can { CanMake (processes self.old) (capacity_of self.old) (ledger W.held self.old) first n }
         ensures sound { IsSound W.slot_count self.new }
         ensures ledger { ledger W.held self.new ≡ make first n right (ledger W.held self.old) }
-        ensures rest { KeepsRest self.old self.new }
+        ensures rest { ChangesPagesAlone self.old self.new }
     {
-        let mut hand = Frame(21 * self.procs);
+        let mut hand = Frame(TABLE_FRAMES * self.procs);
         for i in 0..n {
             let f = self.free_frame_from(hand);
             let at = Place {
@@ -87,7 +88,7 @@ impl<W: SwapStore> Memory<W> {
     ) -> Result<Result<Vpn, XousError>, Failed>
         requires sound { IsSound W.slot_count self.old }
         requires usable { IsUsable self.old }
-        requires process { is_process (processes self.old) pid.0 ≡ true }
+        requires process { is_pid (processes self.old) pid.0 ≡ true }
         requires some { 1 ≤ n }
         ensures sound { IsSound W.slot_count self.new }
         ensures answer { IfOk result (λ answer. answer
@@ -123,7 +124,7 @@ impl<W: SwapStore> Memory<W> {
     pub fn make_console(&mut self, pid: Pid, at: Option<Vpn>, w: bool) -> Result<Vpn, XousError>
         requires sound { IsSound W.slot_count self.old }
         requires usable { IsUsable self.old }
-        requires process { is_process (processes self.old) pid.0 ≡ true }
+        requires process { is_pid (processes self.old) pid.0 ≡ true }
         ensures sound { IsSound W.slot_count self.new }
         ensures answer { result ≡ console_answer (processes self.old) (ledger W.held self.old) pid at }
         ensures ledger { ledger W.held self.new ≡ after_console pid w result (ledger W.held self.old) }

@@ -4,6 +4,7 @@ ghost use Rattle.std.specs.Prelude.{◌≡◌, ℕ};
 ghost use Rattle.ledger_model.specs.Ledger.{pages};
 ghost use Rattle.ledger_model.specs.Loans.{IsFresh, loans};
 ghost use Rattle.vm_memory.specs.Here.{here_at};
+ghost use Rattle.ledger_model.specs.WholePages.{HasWholePages};
 ghost use Rattle.vm_memory.specs.Memory.{capacity_of, ledger, processes, ram_of, store_of};
 ghost use Rattle.vm_memory.specs.Sound.{IsSound};
 ghost use Rattle.vm_memory.specs.Tie.{IsTied};
@@ -12,6 +13,7 @@ ghost use Rattle.xk_base.specs.declared.ids.Number.{Number};
 use crate::memory::{Here, Memory};
 use phys_pages::Ram;
 use xk_base::Place;
+use xk_base::limits::TABLE_FRAMES;
 use xk_ports::SwapStore;
 
 impl<W: SwapStore> Memory<W> {
@@ -22,6 +24,14 @@ impl<W: SwapStore> Memory<W> {
         ensures tie { IsTied W.held self.now }
     {
         &self.ram
+    }
+
+    /// Law: each page and each orphan has 4096 bytes, whatever the store tells.
+    pub fn pages_are_whole(&self)
+        requires sound { IsSound W.slot_count self.now }
+        ensures { HasWholePages (ledger W.held self.now) }
+    {
+        self.ram.pages_are_bytes();
     }
 
     /// How many pages and orphans there are, the console not counted.
@@ -38,7 +48,7 @@ impl<W: SwapStore> Memory<W> {
         requires sound { IsSound W.slot_count self.now }
         ensures { result ≡ capacity_of self.now }
     {
-        self.ram.frames() - 21 * self.procs - 1 + self.slots
+        self.ram.frames() - TABLE_FRAMES * self.procs - 1 + self.slots
     }
 
     /// Hands the store back. No loan may stand.

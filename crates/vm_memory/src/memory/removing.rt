@@ -1,13 +1,14 @@
 //! Pages are removed and reduced.
 
+ghost use Rattle.xk_base.specs.Circle.{is_pid};
 ghost use Rattle.std.specs.Prelude.{OnErr, ◌≡◌, ℕ, ◌+◌, ◌≤◌, true, false};
 ghost use Rattle.ledger_model.specs.LeastRun.{window_pages, window_place};
-ghost use Rattle.ledger_model.specs.Places.{in_run, is_process, place_after};
+ghost use Rattle.ledger_model.specs.Places.{in_run, place_after};
 ghost use Rattle.ledger_model.specs.Reach.{role_at};
 ghost use Rattle.ledger_model.specs.RunTests.{any_lacks, any_on_loan, asks_more, is_on_loan};
 ghost use Rattle.ledger_model.specs.Steps.{forget, reduce, remove};
 ghost use Rattle.vm_memory.specs.Bytes.{MeansBytes};
-ghost use Rattle.vm_memory.specs.Changing.{KeepsRest};
+ghost use Rattle.vm_memory.specs.Changing.{ChangesPagesAlone};
 ghost use Rattle.vm_memory.specs.Memory.{IsUsable, ledger, processes, size, store_of};
 ghost use Rattle.vm_memory.specs.Removing.{HasNoLoan, after_reduce, after_remove, clear_answer, reduce_answer, remove_answer};
 ghost use Rattle.vm_memory.specs.Sound.{IsSound};
@@ -25,7 +26,7 @@ impl<W: SwapStore> Memory<W> {
         requires not_lent { is_on_loan (role_at (processes self.old) (ledger W.held self.old) (place_after first i)) ≡ false }
         ensures sound { IsSound W.slot_count self.new }
         ensures ledger { ledger W.held self.new ≡ remove (in_run (place_after first i) 1) (ledger W.held self.old) }
-        ensures rest { KeepsRest self.old self.new }
+        ensures rest { ChangesPagesAlone self.old self.new }
     {
         match first.vpn.0.checked_add(i) {
             Some(vpn) => self.drop_page(Place {
@@ -43,7 +44,7 @@ impl<W: SwapStore> Memory<W> {
         requires within { asks_more right ((ledger W.held self.old).home (place_after first i)) ≡ false }
         ensures sound { IsSound W.slot_count self.new }
         ensures ledger { ledger W.held self.new ≡ reduce (in_run (place_after first i) 1) right (ledger W.held self.old) }
-        ensures rest { KeepsRest self.old self.new }
+        ensures rest { ChangesPagesAlone self.old self.new }
     {
         match first.vpn.0.checked_add(i) {
             Some(vpn) => {
@@ -63,7 +64,7 @@ impl<W: SwapStore> Memory<W> {
         requires not_lent { any_on_loan (processes self.old) (ledger W.held self.old) first n ≡ false }
         ensures sound { IsSound W.slot_count self.new }
         ensures ledger { ledger W.held self.new ≡ remove (in_run first n) (ledger W.held self.old) }
-        ensures rest { KeepsRest self.old self.new }
+        ensures rest { ChangesPagesAlone self.old self.new }
     {
         for i in 0..n {
             self.drop_above(first, i);
@@ -77,7 +78,7 @@ impl<W: SwapStore> Memory<W> {
         requires within { any_lacks right (ledger W.held self.old) first n ≡ false }
         ensures sound { IsSound W.slot_count self.new }
         ensures ledger { ledger W.held self.new ≡ reduce (in_run first n) right (ledger W.held self.old) }
-        ensures rest { KeepsRest self.old self.new }
+        ensures rest { ChangesPagesAlone self.old self.new }
     {
         for i in 0..n {
             self.set_right_above(first, i, right);
@@ -90,7 +91,7 @@ impl<W: SwapStore> Memory<W> {
     pub fn remove_run(&mut self, first: Place, n: u32) -> Result<(), XousError>
         requires sound { IsSound W.slot_count self.old }
         requires usable { IsUsable self.old }
-        requires process { is_process (processes self.old) first.pid.0 ≡ true }
+        requires process { is_pid (processes self.old) first.pid.0 ≡ true }
         ensures sound { IsSound W.slot_count self.new }
         ensures answer { result ≡ remove_answer (processes self.old) (ledger W.held self.old) first n }
         ensures ledger { ledger W.held self.new ≡ after_remove result first n (ledger W.held self.old) }
@@ -116,7 +117,7 @@ impl<W: SwapStore> Memory<W> {
     pub fn clear_run(&mut self, first: Place, n: u32) -> Result<(), XousError>
         requires sound { IsSound W.slot_count self.old }
         requires usable { IsUsable self.old }
-        requires process { is_process (processes self.old) first.pid.0 ≡ true }
+        requires process { is_pid (processes self.old) first.pid.0 ≡ true }
         ensures sound { IsSound W.slot_count self.new }
         ensures answer { result ≡ clear_answer (processes self.old) (ledger W.held self.old) first n }
         ensures ledger { ledger W.held self.new ≡ after_remove result first n (ledger W.held self.old) }
@@ -141,7 +142,7 @@ impl<W: SwapStore> Memory<W> {
     pub fn reduce_run(&mut self, first: Place, n: u32, right: Right) -> Result<(), XousError>
         requires sound { IsSound W.slot_count self.old }
         requires usable { IsUsable self.old }
-        requires process { is_process (processes self.old) first.pid.0 ≡ true }
+        requires process { is_pid (processes self.old) first.pid.0 ≡ true }
         ensures sound { IsSound W.slot_count self.new }
         ensures answer { result ≡ reduce_answer (processes self.old) (ledger W.held self.old) first n right }
         ensures ledger { ledger W.held self.new ≡ after_reduce result first n right (ledger W.held self.old) }
@@ -172,7 +173,7 @@ impl<W: SwapStore> Memory<W> {
         ensures sound { IsSound W.slot_count self.new }
         ensures ledger { ledger W.held self.new ≡ remove (in_run (window_place pid window 0) (window_pages window)) (ledger W.held self.old) }
         ensures no_loan { HasNoLoan (ledger W.held self.new) pid }
-        ensures rest { KeepsRest self.old self.new }
+        ensures rest { ChangesPagesAlone self.old self.new }
     {
         let first = Place {
             pid,
@@ -186,7 +187,7 @@ impl<W: SwapStore> Memory<W> {
     pub fn forget_process(&mut self, pid: Pid)
         requires sound { IsSound W.slot_count self.old }
         requires usable { IsUsable self.old }
-        requires process { is_process (processes self.old) pid.0 ≡ true }
+        requires process { is_pid (processes self.old) pid.0 ≡ true }
         requires no_loan { HasNoLoan (ledger W.held self.old) pid }
         ensures sound { IsSound W.slot_count self.new }
         ensures ledger { ledger W.held self.new ≡ forget pid (ledger W.held self.old) }

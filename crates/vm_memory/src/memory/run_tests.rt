@@ -163,7 +163,8 @@ impl<W: SwapStore> Memory<W> {
             pid,
             vpn: Window::Map.first(),
         };
-        for i in 0..4096 {
+        let pages = Window::Map.last().0 + 1 - first.vpn.0;
+        for i in 0..pages {
             if is_console(self.here_above(first, i)) {
                 return true;
             }

@@ -1,9 +1,9 @@
 //! A machine with one process: a page of code and the ends of its stack.
 
+ghost use Rattle.xk_base.specs.Circle.{is_pid};
 ghost use Rattle.std.specs.Prelude.{◌≡◌, true, length, IfOk};
 ghost use Rattle.boot_plan.specs.Lawful.{IsLawfulPlan};
 ghost use Rattle.ledger_model.specs.Loans.{IsFresh, loans};
-ghost use Rattle.ledger_model.specs.Places.{is_process};
 ghost use Rattle.vm_memory.specs.Memory.{IsUsable, ledger, processes};
 ghost use Rattle.vm_memory.specs.Sound.{IsSound};
 ghost use Rattle.xk_base.specs.declared.ids.Number.{Number};
@@ -69,11 +69,11 @@ fn plan(alloc: Global) -> Result<BootPlan, NoMemory>
 }
 
 // The machine after boot. The code's first word is `addi a0, zero, 1`, its last byte 0xEF.
-#[tactic(auto, using(crate::proofs::FirstLoans::first_fresh))]
+#[tactic(auto, using(crate::proofs::Booting::FirstLoanLemmas::first_fresh))]
 fn booted<W: SwapStore>(alloc: Global, store: W) -> Result<Memory<W>, BootFault<W>>
     ensures sound { IfOk result (λ m. IsSound W.slot_count m) }
     ensures usable { IfOk result (λ m. IsUsable m) }
-    ensures process { IfOk result (λ m. is_process (processes m) 2 ≡ true) }
+    ensures process { IfOk result (λ m. is_pid (processes m) 2 ≡ true) }
     ensures no_loan { IfOk result (λ m. (number : Number) → IsFresh (loans (ledger W.held m)) number) }
 {
     let Ok(plan) = plan(alloc) else {

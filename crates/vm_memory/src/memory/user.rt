@@ -1,14 +1,15 @@
 //! The memory of one process, as its instructions see it.
 
-ghost use Rattle.std.specs.Prelude.{◌≡◌, ◌+◌, ◌%◌, ◌<◌, ◌≤◌, ℕ, true, length, slice_index, Some};
+ghost use Rattle.std.specs.Prelude.{◌≡◌, ◌+◌, ◌%◌, ◌<◌, ◌≤◌, ℕ, true, length, slice_index, None, Some};
 ghost use Rattle.ledger_model.specs.Steps.{written};
 ghost use Rattle.sv32_space.specs.SpelledEntries.{entries};
-ghost use Rattle.vm_memory.specs.EntryAccess.{entry_may, entry_target, page_of};
+ghost use Rattle.vm_memory.specs.Using.EntryAccess.{entry_target};
+ghost use Rattle.xk_base.specs.Windows.{page_of};
 ghost use Rattle.vm_memory.specs.Memory.{processes, ram_of};
 ghost use Rattle.vm_memory.specs.Sound.{IsSound};
-ghost use Rattle.vm_memory.specs.UserStores.{DoesStore, low_bytes};
-ghost use Rattle.vm_memory.specs.UserView.{user_view};
-ghost use Rattle.xk_base.specs.UserMemory.{GivesNumber, number_at, size_of};
+ghost use Rattle.vm_memory.specs.Using.UserStores.{DoesStore};
+ghost use Rattle.xk_base.specs.UserMemory.{low_bytes, LoadsNumber, number_at, size_of};
+ghost use Rattle.vm_memory.specs.Using.UserView.{user_view};
 ghost use Rattle.xk_base.specs.declared.pages.Access.TheVariants.{Store};
 
 use crate::memory::Memory;
@@ -25,7 +26,7 @@ pub struct User<'a, W: SwapStore> {
 }
 
 // The number of that width at an offset of a page, lowest byte first.
-fn number(page: &[u8], offset: u32, width: Width) -> u32
+fn read_number(page: &[u8], offset: u32, width: Width) -> u32
     requires whole { length page.now ≡ 4096 }
     requires aligned { offset % size_of width ≡ 0 }
     requires within { offset < 4096 }
@@ -39,8 +40,8 @@ fn number(page: &[u8], offset: u32, width: Width) -> u32
     }
 }
 
-// Puts the low bytes of a value at an offset of a page, lowest byte first.
-fn put(page: &mut [u8], offset: u32, width: Width, value: u32)
+// Writes the low bytes of a value at an offset of a page, lowest byte first.
+fn write_number(page: &mut [u8], offset: u32, width: Width, value: u32)
     requires whole { length page.old ≡ 4096 }
     requires aligned { offset % size_of width ≡ 0 }
     requires within { offset < 4096 }
@@ -66,13 +67,13 @@ fn put(page: &mut [u8], offset: u32, width: Width, value: u32)
 impl<W: SwapStore> Memory<W> {
     // The number of that width at an address, where the process has the access; 0 in the console's
     // page.
-    fn number_at(&self, pid: Pid, va: u32, width: Width, access: Access) -> Option<u32>
+    fn load_number(&self, pid: Pid, va: u32, width: Width, access: Access) -> Option<u32>
         requires sound { IsSound W.slot_count self.now }
         requires aligned { va % size_of width ≡ 0 }
-        ensures { GivesNumber ((user_view W.held self.now pid).may access va) (Some ((user_view W.held self.now pid).byte)) va width result }
+        ensures { LoadsNumber ((user_view W.held self.now pid).may access va) None (Some ((user_view W.held self.now pid).byte)) va width result }
     {
         match self.find(pid, va, access) {
-            Target::Page(f) => Some(number(self.ram.page(f), va % PAGE_SIZE, width)),
+            Target::Page(f) => Some(read_number(self.ram.page(f), va % PAGE_SIZE, width)),
             Target::Console => Some(0),
             Target::Nothing => None,
         }
@@ -80,14 +81,14 @@ impl<W: SwapStore> Memory<W> {
 
     // Stores the low bytes of a value at an address, where the process may store there and it isn't
     // the console's page.
-    fn put_at(&mut self, pid: Pid, va: u32, width: Width, value: u32) -> Stored
+    fn store_number(&mut self, pid: Pid, va: u32, width: Width, value: u32) -> Stored
         requires sound { IsSound W.slot_count self.old }
         requires aligned { va % size_of width ≡ 0 }
         ensures { DoesStore self.old self.new pid va width value result }
     {
         match self.find(pid, va, Access::Store) {
             Target::Page(f) => {
-                put(self.ram.page_mut(f), va % PAGE_SIZE, width, value);
+                write_number(self.ram.page_mut(f), va % PAGE_SIZE, width, value);
                 Stored::Done
             }
             Target::Console => Stored::Device(va % PAGE_SIZE),
@@ -105,18 +106,20 @@ impl<W: SwapStore> Memory<W> {
 }
 
 impl<W: SwapStore> UserMemory for User<'_, W> {
-    ghost use Rattle.std.specs.Prelude.{◌≡◌};
+    ghost use Rattle.std.specs.Prelude.{◌≡◌, None};
     ghost use Rattle.vm_memory.specs.Memory.{IsUsable};
     ghost use Rattle.vm_memory.specs.Sound.{IsSound};
-    ghost use Rattle.vm_memory.specs.UserView.{user_content, user_view, KeepsRest};
+    ghost use Rattle.vm_memory.specs.Using.UserView.{user_content, user_view, KeepsRest};
     ghost use Rattle.std.proofs.Common.{◌∙◌};
-    ghost use Rattle.vm_memory.specs.UserRest.{pid_rest_over};
+    ghost use Rattle.vm_memory.specs.Using.UserRest.{pid_rest_over};
 
     ghost may = { λ u. (user_view W.held u.mem.now u.pid).may };
 
     ghost console = { λ u. (user_view W.held u.mem.now u.pid).console };
 
     ghost content = { λ u. user_content W.is_honest W.held u.mem.now u.pid };
+
+    ghost timer = { λ u. None };
 
     ghost fit = { λ u. IsSound W.slot_count u.mem.now × IsUsable u.mem.now };
 
@@ -129,15 +132,18 @@ impl<W: SwapStore> UserMemory for User<'_, W> {
     ghost rest_over = { λ a b c x y. (y.0 ∙ x.0, y.1 ∙ x.1, pid_rest_over W.is_honest W.held W.slot_count W.asked W.faults a.pid b.pid a.mem.now b.mem.now c.mem.now x.1 x.2 y.2) };
 
     fn fetch(&mut self, va: u32) -> Result<Option<u32>, Failed> {
-        Ok(self.mem.number_at(self.pid, va, Width::Word, Access::Fetch))
+        Ok(
+            self.mem
+                .load_number(self.pid, va, Width::Word, Access::Fetch),
+        )
     }
 
     fn load(&mut self, va: u32, width: Width) -> Result<Option<u32>, Failed> {
-        Ok(self.mem.number_at(self.pid, va, width, Access::Load))
+        Ok(self.mem.load_number(self.pid, va, width, Access::Load))
     }
 
     fn store(&mut self, va: u32, width: Width, value: u32) -> Result<Stored, Failed> {
-        Ok(self.mem.put_at(self.pid, va, width, value))
+        Ok(self.mem.store_number(self.pid, va, width, value))
     }
 
     fn can_store(&self, va: u32, _width: Width) -> bool {

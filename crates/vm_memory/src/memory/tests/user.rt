@@ -1,7 +1,7 @@
 //! A process's memory through the bound that the hart has it by.
 
+ghost use Rattle.xk_base.specs.Circle.{is_pid};
 ghost use Rattle.std.specs.Prelude.{◌≡◌, true, IfOk};
-ghost use Rattle.ledger_model.specs.Places.{is_process};
 ghost use Rattle.vm_memory.specs.Memory.{IsUsable, processes};
 ghost use Rattle.vm_memory.specs.Sound.{IsSound};
 
@@ -72,7 +72,7 @@ fn all<U: UserMemory>(rt: &impl Abort, user: &mut U) -> Result<(), Failed>
 fn script<W: SwapStore>(rt: &impl Abort, memory: &mut Memory<W>) -> Result<(), Failed>
     requires sound { IsSound W.slot_count memory.old }
     requires usable { IsUsable memory.old }
-    requires process { is_process (processes memory.old) 2 ≡ true }
+    requires process { is_pid (processes memory.old) 2 ≡ true }
 {
     let mapped = memory.make_console(PID, None, true);
     assert_eq!(rt; mapped, Ok(Vpn(0x6_0000)));

@@ -1,7 +1,7 @@
 //! Pages of a window are made, reduced and removed.
 
+ghost use Rattle.xk_base.specs.Circle.{is_pid};
 ghost use Rattle.std.specs.Prelude.{◌≡◌, true};
-ghost use Rattle.ledger_model.specs.Places.{is_process};
 ghost use Rattle.vm_memory.specs.Memory.{IsUsable, processes};
 ghost use Rattle.vm_memory.specs.Sound.{IsSound};
 
@@ -16,7 +16,7 @@ use xk_ports::{SureStore, SwapStore};
 fn heap_script<W: SwapStore>(rt: &impl Abort, memory: &mut Memory<W>)
     requires sound { IsSound W.slot_count memory.old }
     requires usable { IsUsable memory.old }
-    requires process { is_process (processes memory.old) 2 ≡ true }
+    requires process { is_pid (processes memory.old) 2 ≡ true }
 {
     let first = Some(Vpn(0x2_0000));
     let made = memory.make(PID, Window::Heap, first, 2, WRITE);
@@ -55,7 +55,7 @@ fn heap_pages_come_and_go(rt: HostRuntime) {
 fn map_script<W: SwapStore>(rt: &impl Abort, memory: &mut Memory<W>)
     requires sound { IsSound W.slot_count memory.old }
     requires usable { IsUsable memory.old }
-    requires process { is_process (processes memory.old) 2 ≡ true }
+    requires process { is_pid (processes memory.old) 2 ≡ true }
 {
     let last = Some(Vpn(0x6_0FFF));
     let made = memory.make(PID, Window::Map, last, 1, WRITE);

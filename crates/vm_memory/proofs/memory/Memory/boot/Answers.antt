@@ -9,9 +9,9 @@ use Rattle.ledger_model.specs.Ledger.{empty_ledger}
 use Rattle.ledger_model.specs.Loans.{bare}
 use Rattle.vm_memory.specs.Memory.{Size, capacity_of, ledger}
 use Rattle.vm_memory.specs.Starting.{place_pages, place_processes}
-use Rattle.vm_memory.proofs.BootLaws.{next_unlent, next_has_none, next_process_room, next_booted}
-use Rattle.vm_memory.proofs.FirstPages.{first_is}
-use Rattle.vm_memory.proofs.SoundMemory.{sound-tied}
+use Rattle.vm_memory.proofs.Booting.BootLemmas.{next_unlent, next_has_none, next_process_room, next_booted}
+use Rattle.vm_memory.proofs.Booting.FirstPageLemmas.{first_is}
+use Rattle.vm_memory.proofs.Changing.SoundMemoryLemmas.{sound-tied}
 use Rattle.vm_memory.proofs.memory.Memory.boot.Goals as goal
 
 -- as many processes as the plan has

@@ -1,4 +1,4 @@
-use Rattle.vm_memory.proofs.BootLaws.{AreBooted}
+use Rattle.vm_memory.proofs.Booting.BootLemmas.{AreBooted}
 use Rattle.vm_memory.proofs.memory.Memory.boot.Given as goal
 
 abbrev pub invariant-processes : goal.invariant-processes

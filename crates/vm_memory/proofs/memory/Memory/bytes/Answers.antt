@@ -2,7 +2,7 @@ use Rattle.std.proofs.Common.{sym, ap, ◌∙◌, Some}
 use Rattle.ledger_model.specs.Ledger.{Bytes}
 use Rattle.phys_pages.specs.Ram.{pages}
 use Rattle.xk_base.specs.declared.pages.Access.TheVariants.{Load}
-use Rattle.vm_memory.proofs.Reached.{near_contents}
+use Rattle.vm_memory.proofs.Using.ReachedLemmas.{near_contents}
 use Rattle.vm_memory.proofs.memory.Memory.bytes.Goals as goal
 
 pub returns-clause-value : goal.returns-clause-value

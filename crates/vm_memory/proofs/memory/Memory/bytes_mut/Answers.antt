@@ -4,9 +4,9 @@ use Rattle.phys_pages.specs.Ram.{pages, with_page}
 use Rattle.xk_base.specs.declared.pages.Access.TheVariants.{Store}
 use Rattle.vm_memory.specs.Bytes.{none_out}
 use Rattle.vm_memory.specs.Lending.{with_bytes_at}
-use Rattle.vm_memory.proofs.PageWrites.{near_entry, lent_sound, lent_ledger, lent_size}
-use Rattle.vm_memory.proofs.Reached.{near_contents}
-use Rattle.vm_memory.proofs.SoundMemory.{sound-tied}
+use Rattle.vm_memory.proofs.Bytes.PageWriteLemmas.{near_entry, lent_sound, lent_ledger, lent_size}
+use Rattle.vm_memory.proofs.Using.ReachedLemmas.{near_contents}
+use Rattle.vm_memory.proofs.Changing.SoundMemoryLemmas.{sound-tied}
 use Rattle.vm_memory.proofs.memory.Memory.bytes_mut.Goals as goal
 
 lends : (g : _) (c : goal.After-page_mut g) (w : List ℕ)

@@ -1,6 +1,6 @@
 use Rattle.std.proofs.Common.{arith, sym, ◌∙◌, ◌+◌}
 use Rattle.vm_memory.specs.Memory.{ledger, processes}
-use Rattle.vm_memory.proofs.ConsoleRuns.{mapped_found, mapped_missed, pid_there}
+use Rattle.vm_memory.proofs.Changing.ConsoleRunLemmas.{mapped_found, mapped_missed, pid_there}
 use Rattle.vm_memory.proofs.memory.Memory.console_mapped.Goals as goal
 
 pub returns-then-has_console : goal.returns-then-has_console

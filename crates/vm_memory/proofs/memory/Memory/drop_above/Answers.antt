@@ -3,9 +3,9 @@ use Rattle.ledger_model.specs.Places.{in_run, place_after}
 use Rattle.ledger_model.specs.Reach.{role_at}
 use Rattle.ledger_model.specs.RunTests.{is_on_loan}
 use Rattle.ledger_model.specs.Steps.{remove}
-use Rattle.ledger_model.proofs.PlaceLaws.{place_from}
+use Rattle.ledger_model.proofs.PlaceLemmas.{place_from}
 use Rattle.vm_memory.specs.Memory.{ledger, processes}
-use Rattle.vm_memory.proofs.Nowhere.{nowhere_removed}
+use Rattle.vm_memory.proofs.Using.NowhereLemmas.{nowhere_removed}
 use Rattle.vm_memory.proofs.memory.Memory.drop_above.Goals as goal
 
 pub drop_page-requires-clause-not_lent : goal.drop_page-requires-clause-not_lent

@@ -1,7 +1,7 @@
 use Rattle.std.proofs.Common.{refl, sym}
-use Rattle.sv32_space.proofs.Runs.{remove_none}
+use Rattle.sv32_space.proofs.RunLemmas.{remove_none}
 use Rattle.vm_memory.specs.Memory.{ledger}
-use Rattle.vm_memory.proofs.Loops.{next_not_lent, next_removed, rest_then}
+use Rattle.vm_memory.proofs.Changing.LoopLemmas.{next_not_lent, next_removed, rest_then}
 use Rattle.vm_memory.proofs.memory.Memory.drop_pages.Goals as goal
 
 pub loop-i-init : goal.loop-i-init

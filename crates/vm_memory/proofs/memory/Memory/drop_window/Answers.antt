@@ -1,6 +1,6 @@
 use Rattle.std.proofs.Common.{refl}
 use Rattle.vm_memory.specs.Memory.{ledger, processes}
-use Rattle.vm_memory.proofs.Forgetting.{no_loan_after, window_not_lent}
+use Rattle.vm_memory.proofs.Changing.ForgettingLemmas.{no_loan_after, window_not_lent}
 use Rattle.vm_memory.proofs.memory.Memory.drop_window.Goals as goal
 
 pub drop_pages-requires-clause-not_lent : goal.drop_pages-requires-clause-not_lent

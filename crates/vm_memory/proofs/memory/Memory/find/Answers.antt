@@ -1,6 +1,6 @@
 use Rattle.std.proofs.Common.{arith, ◌∙◌, sym, ap}
 use Rattle.sv32_space.specs.Walk.{walk_of}
-use Rattle.vm_memory.proofs.WalkTargets.{walk-fault, walk-page, walk-console, walk-bound}
+use Rattle.vm_memory.proofs.Using.WalkTargetLemmas.{walk-fault, walk-page, walk-console, walk-bound}
 use Rattle.vm_memory.proofs.memory.Memory.find.Goals as goal
 
 pub overflow_cast-pa : goal.overflow_cast-pa

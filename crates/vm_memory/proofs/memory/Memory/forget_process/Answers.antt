@@ -2,9 +2,9 @@ use Rattle.std.proofs.Common.{ap, ◌∙◌}
 use Rattle.ledger_model.specs.Steps.{remove}
 use Rattle.vm_memory.specs.Memory.{ledger, processes}
 use Rattle.xk_base.specs.declared.windows.Window.TheVariants.{Heap, Message, Map, Stack}
-use Rattle.vm_memory.proofs.Forgetting.{all_windows, homes_lie, in_place}
-use Rattle.vm_memory.proofs.CallLaws.{sound-means}
-use Rattle.vm_memory.proofs.SoundMemory.{sound-tied}
+use Rattle.vm_memory.proofs.Changing.ForgettingLemmas.{all_windows, homes_lie, in_place}
+use Rattle.vm_memory.proofs.Changing.CallLemmas.{sound-means}
+use Rattle.vm_memory.proofs.Changing.SoundMemoryLemmas.{sound-tied}
 use Rattle.vm_memory.proofs.memory.Memory.forget_process.Goals as goal
 
 pub returns-clause-tie : goal.returns-clause-tie

@@ -1,16 +1,27 @@
 use Rattle.std.proofs.Common.{Some, sym, ap, ◌∙◌}
-use Rattle.std.proofs.lemmas.Bool.{true≢false}
-use Rattle.phys_pages.specs.Ram.{area}
-use Rattle.sv32_space.specs.SpelledEntries.{entry_of_kind}
-use Rattle.vm_memory.proofs.Reached.{near-place, outside_not_near, other_not_near}
+use Rattle.std.proofs.lemmas.Bool.{false≢true}
+use Rattle.sv32_space.specs.declared.sides.Entry.TheVariants.{At}
+use Rattle.phys_pages.specs.declared.infos.Seat.{Seat}
+use Rattle.vm_memory.specs.Bytes.{names_frame}
+use Rattle.vm_memory.proofs.Using.ReachedLemmas.{near-named, near-place}
+use Rattle.vm_memory.proofs.Using.WalkTargetLemmas.{page_frame}
 use Rattle.vm_memory.proofs.memory.Memory.frame.Goals as goal
 
-pub kind-requires-clause-place : goal.kind-requires-clause-place
-kind-requires-clause-place g c = near-place g.W.SwapStore.slot_count c.args.self.now c.args.at c.requires.sound c.requires.near
+pub entry-requires-clause-place : goal.entry-requires-clause-place
+entry-requires-clause-place g c = near-place g.W.SwapStore.slot_count c.args.self.now c.args.at c.requires.sound c.requires.near
 
 pub unreachable-requires : goal.unreachable-requires
-unreachable-requires g c = true≢false (sym c.requires.near ∙ outside_not_near c.args.self.now c.args.at c.in-Here.side c.in-Here.ppn
-    (c.kind.ensures ∙ ap (λ k. entry_of_kind (area c.args.self.now.ram) (Some k)) c.in-Here.is) (sym c.frame_of.ensures.answer ∙ c.in-None.is))
+unreachable-requires g c = false≢true (sym (ap names_frame (c.entry.ensures ∙ ap (λ e. Some e) c.in-At.is ∙ ap (λ (s : Seat). Some (At c.in-At.side s)) c.in-Slot.is))
+    ∙ near-named c.args.self.now c.args.at c.requires.near)
 
-pub unreachable-requires-in_default : goal.unreachable-requires-in_default
-unreachable-requires-in_default g c = true≢false (sym c.requires.near ∙ other_not_near c.args.self.now c.args.at c.kind.result c.kind.ensures c.in_default.not-Here)
+pub unreachable-requires-in-Free : goal.unreachable-requires-in-Free
+unreachable-requires-in-Free g c = false≢true (sym (ap names_frame (c.entry.ensures ∙ ap (λ e. Some e) c.in-Free.is)) ∙ near-named c.args.self.now c.args.at c.requires.near)
+
+pub unreachable-requires-in-OnConsole : goal.unreachable-requires-in-OnConsole
+unreachable-requires-in-OnConsole g c = false≢true (sym (ap names_frame (c.entry.ensures ∙ ap (λ e. Some e) c.in-OnConsole.is)) ∙ near-named c.args.self.now c.args.at c.requires.near)
+
+pub returns-clause-inside : goal.returns-clause-inside
+returns-clause-inside g c =
+    let f = page_frame g.W.SwapStore.slot_count c.args.self.now c.requires.sound c.args.at c.in-At.side c.in-Frame.f
+    (c.entry.ensures ∙ ap (λ e. Some e) c.in-At.is ∙ ap (λ (s : Seat). Some (At c.in-At.side s)) c.in-Frame.is) in
+    f.inside

@@ -1,6 +1,6 @@
 use Rattle.std.proofs.Common.{sym, subst, ◌+◌}
 use Rattle.vm_memory.specs.Memory.{ledger, processes}
-use Rattle.vm_memory.proofs.FreeRuns.{IsSearched, looked, run_there, none_there, searched_used, searched_free}
+use Rattle.vm_memory.proofs.Changing.FreeRunLemmas.{IsSearched, looked, run_there, none_there, searched_used, searched_free}
 use Rattle.vm_memory.proofs.memory.Memory.free_run.Goals as goal
 use Rattle.vm_memory.proofs.memory.Memory.free_run.Goals.{then-not-is_nothing, else-not-is_nothing+else-k-start}
 

@@ -1,5 +1,5 @@
 use Rattle.vm_memory.specs.Memory.{ledger, processes}
-use Rattle.vm_memory.proofs.FreeRuns.{IsSearched}
+use Rattle.vm_memory.proofs.Changing.FreeRunLemmas.{IsSearched}
 use Rattle.vm_memory.proofs.memory.Memory.free_run.Given as goal
 
 abbrev pub invariant-loop-k : goal.invariant-loop-k

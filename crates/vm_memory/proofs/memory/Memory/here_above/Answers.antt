@@ -1,6 +1,6 @@
 use Rattle.std.proofs.Common.{arith}
 use Rattle.ledger_model.specs.Places.{place_after}
-use Rattle.vm_memory.proofs.Nowhere.{nowhere_here}
+use Rattle.vm_memory.proofs.Using.NowhereLemmas.{nowhere_here}
 use Rattle.vm_memory.proofs.memory.Memory.here_above.Goals as goal
 
 pub returns-in-None : goal.returns-in-None

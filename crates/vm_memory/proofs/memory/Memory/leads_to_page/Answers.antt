@@ -1,6 +1,6 @@
 use Rattle.std.proofs.Common.{◌≡◌, ◌*◌, ◌/◌, ap, ◌∙◌, arith}
 use Rattle.sv32_space.specs.SpelledEntries.{entries}
-use Rattle.vm_memory.specs.EntryAccess.{entry_target, is_page_target}
+use Rattle.vm_memory.specs.Using.EntryAccess.{entry_target, is_page_target}
 use Rattle.vm_memory.specs.Memory.{processes}
 use Rattle.vm_memory.proofs.memory.Memory.leads_to_page.Goals as goal
 

@@ -1,7 +1,7 @@
 use Rattle.std.proofs.Common.{sym, ◌∙◌}
 use Rattle.vm_memory.specs.Memory.{capacity_of, ledger, processes}
-use Rattle.vm_memory.proofs.Answering.{can_answered}
-use Rattle.vm_memory.proofs.SoundMemory.{sound-tied}
+use Rattle.vm_memory.proofs.Changing.AnsweringLemmas.{can_answered}
+use Rattle.vm_memory.proofs.Changing.SoundMemoryLemmas.{sound-tied}
 use Rattle.vm_memory.proofs.memory.Memory.make.Goals as goal
 
 pub returns-in-Err-clause-tie : goal.returns-in-Err-clause-tie

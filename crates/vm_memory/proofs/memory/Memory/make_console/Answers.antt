@@ -1,7 +1,7 @@
 use Rattle.std.proofs.Common.{sym, ◌∙◌}
-use Rattle.vm_memory.proofs.Answering.{can_console}
-use Rattle.vm_memory.proofs.CallLaws.{sound-means}
-use Rattle.vm_memory.proofs.SoundMemory.{sound-tied}
+use Rattle.vm_memory.proofs.Changing.AnsweringLemmas.{can_console}
+use Rattle.vm_memory.proofs.Changing.CallLemmas.{sound-means}
+use Rattle.vm_memory.proofs.Changing.SoundMemoryLemmas.{sound-tied}
 use Rattle.vm_memory.proofs.memory.Memory.make_console.Goals as goal
 
 pub returns-then-console_mapped-clause-tie : goal.returns-then-console_mapped-clause-tie

@@ -2,9 +2,9 @@ use Rattle.std.proofs.Common.{arith, refl, sym, ap, ◌≡◌, ◌*◌}
 use Rattle.phys_pages.specs.Owners.{extent}
 use Rattle.sv32_space.specs.Agreement.{owned_by}
 use Rattle.ledger_model.specs.Places.{place_after}
-use Rattle.sv32_space.proofs.Runs.{make_none}
+use Rattle.sv32_space.proofs.RunLemmas.{make_none}
 use Rattle.vm_memory.specs.Memory.{Size, ledger, processes}
-use Rattle.vm_memory.proofs.Loops.{first_same, next_free, next_lies, next_made, next_room, next_used, rest_then, user_bound}
+use Rattle.vm_memory.proofs.Changing.LoopLemmas.{first_same, next_free, next_lies, next_made, next_room, next_used, rest_then, user_bound}
 use Rattle.vm_memory.proofs.memory.Memory.make_pages.Goals as goal
 
 pub loop-i-init : goal.loop-i-init

@@ -1,7 +1,7 @@
 use Rattle.std.proofs.Common.{◌≡◌, ◌*◌, ◌≤◌}
 use Rattle.phys_pages.specs.Owners.{AreFramesUsed}
 use Rattle.ledger_model.specs.Steps.{make}
-use Rattle.vm_memory.specs.Changing.{KeepsRest}
+use Rattle.vm_memory.specs.Changing.{ChangesPagesAlone}
 use Rattle.vm_memory.specs.Memory.{ledger, processes}
 use Rattle.vm_memory.specs.Sound.{IsSound}
 use Rattle.vm_memory.proofs.memory.Memory.make_pages.Given as goal
@@ -11,7 +11,7 @@ abbrev pub invariant-loop-i : goal.invariant-loop-i
 invariant-loop-i g l = record {
   sound : IsSound g.W.SwapStore.slot_count l.self;
   ledger : ledger g.W.SwapStore.held l.self ≡ make l.fn.first l.i l.fn.right (ledger g.W.SwapStore.held l.fn.self);
-  rest : KeepsRest l.fn.self l.self;
+  rest : ChangesPagesAlone l.fn.self l.self;
   low : 21 * processes l.self ≤ l.hand.0;
   used : AreFramesUsed l.self.owners l.hand.0;
 }

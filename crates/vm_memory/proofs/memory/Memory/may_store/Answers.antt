@@ -1,7 +1,7 @@
 use Rattle.std.proofs.Common.{ap, ◌∙◌}
 use Rattle.xk_base.specs.declared.pages.Access.TheVariants.{Store}
-use Rattle.vm_memory.specs.EntryAccess.{is_given_target}
-use Rattle.vm_memory.proofs.UserLaws.{target_given}
+use Rattle.vm_memory.specs.Using.EntryAccess.{is_given_target}
+use Rattle.vm_memory.proofs.Using.UserLemmas.{target_given}
 use Rattle.vm_memory.proofs.memory.Memory.may_store.Goals as goal
 
 pub returns : goal.returns

@@ -1,5 +1,5 @@
 use Rattle.std.proofs.Common.{sym, ◌∙◌}
-use Rattle.vm_memory.proofs.SoundMemory.{pages-ledger}
+use Rattle.vm_memory.proofs.Changing.SoundMemoryLemmas.{pages-ledger}
 use Rattle.vm_memory.proofs.memory.Memory.pages.Goals as goal
 
 pub returns : goal.returns

@@ -1,12 +1,10 @@
-use Rattle.vm_memory.proofs.RightSteps.{console_made_step}
+use Rattle.std.proofs.Common.{rules}
+use Rattle.vm_memory.proofs.Changing.ConsoleStepLemmas.{console_made_step}
 use Rattle.vm_memory.proofs.memory.Memory.place_console.Goals as goal
 
-pub returns-clause-sound : goal.returns-clause-sound
-returns-clause-sound g c = (console_made_step g.W.SwapStore.slot_count g.W.SwapStore.held c.args.self.now c.requires.sound c.args.at c.write_entry.new.ram c.args.w
-    c.console_kind-kind.result c.requires.can c.console_kind-kind.ensures.entry
-    (record { entries = c.write_entry.ensures.entries; pages = c.write_entry.ensures.pages; made = c.write_entry.ensures.made; area = c.write_entry.ensures.area })).sound
-
-pub returns-clause-ledger : goal.returns-clause-ledger
-returns-clause-ledger g c = (console_made_step g.W.SwapStore.slot_count g.W.SwapStore.held c.args.self.now c.requires.sound c.args.at c.write_entry.new.ram c.args.w
-    c.console_kind-kind.result c.requires.can c.console_kind-kind.ensures.entry
-    (record { entries = c.write_entry.ensures.entries; pages = c.write_entry.ensures.pages; made = c.write_entry.ensures.made; area = c.write_entry.ensures.area })).ledger
+pub returns : goal.returns
+returns g c =
+    let step = console_made_step g.W.SwapStore.slot_count g.W.SwapStore.held c.args.self.now c.requires.sound c.args.at c.set_entry.new.ram c.args.w
+    c.requires.can
+    (record { entries = c.set_entry.ensures.entries; pages = c.set_entry.ensures.pages; made = c.set_entry.ensures.made; area = c.set_entry.ensures.area }) in
+    record { sound = step.sound; ledger = step.ledger; rest = search rules }

@@ -3,7 +3,7 @@ use Rattle.ledger_model.specs.Ledger.{Bytes}
 use Rattle.ledger_model.specs.Steps.{new_page}
 use Rattle.sv32_space.specs.PageSteps.{place_page}
 use Rattle.vm_memory.specs.Memory.{ledger}
-use Rattle.vm_memory.proofs.PlacedPages.{made_frame, filled_sound, filled_size, filled_ledger, length-page_bytes}
+use Rattle.vm_memory.proofs.Booting.PlacedPageLemmas.{made_frame, filled_sound, filled_size, filled_ledger, length-page_bytes}
 use Rattle.vm_memory.proofs.memory.Memory.place_first.Goals as goal
 
 pub page_mut-requires : goal.page_mut-requires

@@ -1,23 +1,26 @@
+use Rattle.std.proofs.Common.{◌<◌, rules, sym, subst}
+use Rattle.phys_pages.specs.Ram.{Area}
 use Rattle.vm_memory.specs.Memory.{processes}
-use Rattle.vm_memory.proofs.Steps.{cleared_made, placed_step, user_process}
+use Rattle.vm_memory.proofs.Changing.PageStepLemmas.{cleared_made, frame_behind, free_entry, placed_step, user_process}
 use Rattle.vm_memory.proofs.memory.Memory.place_page.Goals as goal
 
-pub write_entry-requires-clause-made : goal.write_entry-requires-clause-made
-write_entry-requires-clause-made g c =
+pub set_entry-requires-clause-made : goal.set_entry-requires-clause-made
+set_entry-requires-clause-made g c =
     let process = user_process (processes c.args.self.now) c.args.at c.requires.place in
-    cleared_made g.W.SwapStore.slot_count g.W.SwapStore.held c.args.self.now c.requires.sound c.args.at c.clear.new.ram c.args.f.0 c.requires.frame
+    cleared_made g.W.SwapStore.slot_count g.W.SwapStore.held c.args.self.now c.requires.sound c.args.at c.clear.new.ram c.args.f c.requires.frame
     c.clear.ensures.pages c.clear.ensures.area c.args.at.pid.0 process (c.requires.sound.agree.made c.args.at.pid.0 process)
 
-pub returns-clause-sound : goal.returns-clause-sound
-returns-clause-sound g c = (placed_step g.W.SwapStore.slot_count g.W.SwapStore.held c.args.self.now c.requires.sound c.args.at c.clear.new.ram c.write_entry.new.ram
-    c.set.new.self c.args.right c.args.f c.seat_kind-kind.result c.requires.place c.requires.free c.requires.room c.requires.frame
-    c.clear.ensures.pages c.clear.ensures.area c.seat_kind-kind.ensures.entry
-    (record { entries = c.write_entry.ensures.entries; pages = c.write_entry.ensures.pages; made = c.write_entry.ensures.made; area = c.write_entry.ensures.area })
-    c.set.ensures.infos c.set.ensures.extent).sound
+pub set_entry-requires-clause-entry : goal.set_entry-requires-clause-entry
+set_entry-requires-clause-entry g c =
+    subst (λ (a : Area). c.args.f.0 < a.frames) (sym c.clear.ensures.area)
+    (frame_behind g.W.SwapStore.slot_count g.W.SwapStore.held c.args.self.now c.requires.sound c.args.at c.args.f.0 c.requires.frame).1
 
-pub returns-clause-ledger : goal.returns-clause-ledger
-returns-clause-ledger g c = (placed_step g.W.SwapStore.slot_count g.W.SwapStore.held c.args.self.now c.requires.sound c.args.at c.clear.new.ram c.write_entry.new.ram
-    c.set.new.self c.args.right c.args.f c.seat_kind-kind.result c.requires.place c.requires.free c.requires.room c.requires.frame
-    c.clear.ensures.pages c.clear.ensures.area c.seat_kind-kind.ensures.entry
-    (record { entries = c.write_entry.ensures.entries; pages = c.write_entry.ensures.pages; made = c.write_entry.ensures.made; area = c.write_entry.ensures.area })
-    c.set.ensures.infos c.set.ensures.extent).ledger
+pub returns : goal.returns
+returns g c =
+    let step = placed_step g.W.SwapStore.slot_count g.W.SwapStore.held c.args.self.now c.requires.sound c.args.at c.clear.new.ram c.args.f c.requires.frame
+    c.clear.ensures.pages c.clear.ensures.area c.set_entry.new.ram c.set.new.self c.args.right c.requires.place
+    (free_entry g.W.SwapStore.slot_count g.W.SwapStore.held c.args.self.now c.requires.sound c.args.at c.requires.place c.requires.free)
+    c.requires.room
+    (record { entries = c.set_entry.ensures.entries; pages = c.set_entry.ensures.pages; made = c.set_entry.ensures.made; area = c.set_entry.ensures.area })
+    c.set.ensures.infos c.set.ensures.extent in
+    record { sound = step.sound; ledger = step.ledger; owners = c.set.ensures.infos; pages = search rules; rest = search rules }

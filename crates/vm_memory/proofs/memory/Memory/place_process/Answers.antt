@@ -1,6 +1,6 @@
 use Rattle.std.proofs.Common.{false, refl}
 use Rattle.boot_plan.specs.declared.plans.PagePlan.{PagePlan}
-use Rattle.vm_memory.proofs.ProcessPlaced.{next_free, next_placed}
+use Rattle.vm_memory.proofs.Booting.ProcessPlacedLemmas.{next_free, next_placed}
 use Rattle.vm_memory.proofs.memory.Memory.place_process.Goals as goal
 
 -- what a read past the end would give

@@ -1,4 +1,4 @@
-use Rattle.vm_memory.proofs.ProcessPlaced.{ArePlaced}
+use Rattle.vm_memory.proofs.Booting.ProcessPlacedLemmas.{ArePlaced}
 use Rattle.vm_memory.proofs.memory.Memory.place_process.Given as goal
 
 abbrev pub invariant-pages : goal.invariant-pages

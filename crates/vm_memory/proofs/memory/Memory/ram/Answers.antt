@@ -1,4 +1,4 @@
-use Rattle.vm_memory.proofs.SoundMemory.{sound-tied}
+use Rattle.vm_memory.proofs.Changing.SoundMemoryLemmas.{sound-tied}
 use Rattle.vm_memory.proofs.memory.Memory.ram.Goals as goal
 
 pub returns-clause-tie : goal.returns-clause-tie

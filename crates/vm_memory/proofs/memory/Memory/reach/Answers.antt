@@ -1,6 +1,6 @@
 use Rattle.std.proofs.Common.{sym, ◌∙◌}
-use Rattle.vm_memory.proofs.Reached.{page_reached, reached_near}
-use Rattle.vm_memory.proofs.SoundMemory.{sound-tied}
+use Rattle.vm_memory.proofs.Using.ReachedLemmas.{page_reached, reached_near}
+use Rattle.vm_memory.proofs.Changing.SoundMemoryLemmas.{sound-tied}
 use Rattle.vm_memory.proofs.memory.Memory.reach.Goals as goal
 
 pub returns-clause-answer : goal.returns-clause-answer

@@ -1,5 +1,5 @@
-use Rattle.vm_memory.proofs.CallLaws.{sound-means}
-use Rattle.vm_memory.proofs.SoundMemory.{sound-tied}
+use Rattle.vm_memory.proofs.Changing.CallLemmas.{sound-means}
+use Rattle.vm_memory.proofs.Changing.SoundMemoryLemmas.{sound-tied}
 use Rattle.vm_memory.proofs.memory.Memory.reduce_run.Goals as goal
 
 pub returns-then-any-clause-tie : goal.returns-then-any-clause-tie

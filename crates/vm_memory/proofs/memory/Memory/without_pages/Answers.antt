@@ -1,7 +1,7 @@
 use Rattle.std.proofs.Common.{◌≡◌, ◌-◌, ◌*◌, false, length, refl, ap, ◌∙◌, arith}
 use Rattle.phys_pages.specs.Ram.{Area}
 use Rattle.vm_memory.specs.declared.memory.Memory.{Memory}
-use Rattle.vm_memory.proofs.EmptyMemory.{IsEmpty, empty_sound, empty_has_none}
+use Rattle.vm_memory.proofs.Booting.EmptyMemoryLemmas.{IsEmpty, empty_sound, empty_has_none}
 use Rattle.vm_memory.proofs.memory.Memory.without_pages.Given as given
 use Rattle.vm_memory.proofs.memory.Memory.without_pages.Goals as goal
 

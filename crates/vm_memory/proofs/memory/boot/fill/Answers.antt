@@ -1,5 +1,5 @@
 use Rattle.std.proofs.Common.{arith}
-use Rattle.vm_memory.proofs.PageFill.{filled_from}
+use Rattle.vm_memory.proofs.Booting.PageFillLemmas.{filled_from}
 use Rattle.vm_memory.proofs.memory.boot.fill.Goals as goal
 
 pub returns : goal.returns

@@ -1,4 +1,4 @@
-use Rattle.vm_memory.proofs.SpacesMade.{AreMade}
+use Rattle.vm_memory.proofs.Booting.SpacesMadeLemmas.{AreMade}
 use Rattle.vm_memory.proofs.memory.boot.make_spaces.Given as goal
 
 abbrev pub invariant-spaces : goal.invariant-spaces

@@ -1,5 +1,5 @@
 use Rattle.std.proofs.Common.{refl}
-use Rattle.vm_memory.proofs.UserKeeps.{rest_same}
+use Rattle.vm_memory.proofs.Using.UserKeepLemmas.{rest_same}
 use Rattle.vm_memory.proofs.memory.user.UserUserMemory.load.Goals as goal
 
 pub returns-clause-rest : goal.returns-clause-rest

@@ -1,0 +1,6 @@
+pub mod ByteWriteLemmas
+pub mod LedgerByteLemmas
+pub mod PageWriteLemmas
+pub mod SeatWriteLemmas
+pub mod StoreLemmas
+pub mod WholePageLemmas

@@ -1,0 +1,14 @@
+pub mod AnsweringLemmas
+pub mod CallLemmas
+pub mod ChangedLemmas
+pub mod ConsoleRunLemmas
+pub mod ConsoleStepLemmas
+pub mod CountLemmas
+pub mod ForgettingLemmas
+pub mod FreeRunLemmas
+pub mod HereLemmas
+pub mod LoopLemmas
+pub mod OnePlaceLemmas
+pub mod PageStepLemmas
+pub mod RunLemmas
+pub mod SoundMemoryLemmas

@@ -1,0 +1,133 @@
+-- Runs that are made, removed and reduced page by page: what holds after the first i pages.
+use Rattle.std.proofs.Common.{◌≡◌, ℕ, ◌+◌, ◌*◌, ◌<◌, ◌≤◌, ◌^◌, true, false, Some, refl, sym, ap, subst, ◌∙◌, inl, inr, arith}
+use Rattle.std.specs.Prelude.{is_some}
+use Rattle.std.proofs.lemmas.Bool.{both_ways, cases_lt, cond-true, cond-false}
+use Rattle.boot_plan.specs.Capacity.{capacity}
+use Rattle.xk_base.specs.Counting.{put_at}
+use Rattle.xk_base.specs.declared.ids.Frame.{Frame as FrameNumber}
+use Rattle.xk_base.specs.declared.ids.Place.{Place}
+use Rattle.xk_base.specs.declared.pages.Right.{Right}
+use Rattle.phys_pages.specs.declared.infos.PageInfo.{PageInfo}
+use Rattle.phys_pages.specs.declared.infos.Seat.TheVariants.{Frame}
+use Rattle.phys_pages.specs.Owners.{OwnerTable, AreFramesUsed, extent, frame_seat, infos, seat_eq}
+use Rattle.phys_pages.proofs.OwnerLemmas.{seat_tells}
+use Rattle.ledger_model.specs.Conditions.{CanMake}
+use Rattle.ledger_model.specs.Ledger.{Ledger, pages}
+use Rattle.ledger_model.specs.Places.{in_run, is_user_place, place_after}
+use Rattle.ledger_model.specs.Reach.{is_free, role_at}
+use Rattle.ledger_model.specs.RunTests.{any_lacks, any_on_loan, asks_more, is_on_loan}
+use Rattle.ledger_model.specs.Steps.{make, reduce, remove}
+use Rattle.ledger_model.proofs.Stepping.MakingLemmas.{make_pages}
+use Rattle.ledger_model.proofs.PlaceLemmas.{IsInRun, in_run-after, in_run-from, in_run-true}
+use Rattle.sv32_space.specs.Tie.{Held}
+use Rattle.sv32_space.proofs.RunLemmas.{make_next, remove_next, reduce_next}
+use Rattle.vm_memory.specs.declared.memory.Memory.{Memory}
+use Rattle.vm_memory.specs.Changing.{ChangesPagesAlone}
+use Rattle.vm_memory.specs.Memory.{Size, size, capacity_of, ledger, processes}
+use Rattle.vm_memory.specs.Sound.{IsSound}
+use Rattle.vm_memory.proofs.Using.NowhereLemmas.{no_user}
+use Rattle.vm_memory.proofs.Changing.RunLemmas.{free_ahead, lent_ahead, lent_ahead_reduced, within_ahead}
+use Rattle.vm_memory.proofs.Changing.SoundMemoryLemmas.{pages-ledger}
+
+run_wider : (first : Place) (i n : ℕ) (p : Place) → i ≤ n → in_run first i p ≡ true → in_run first n p ≡ true
+run_wider first i n p few e =
+    let there : IsInRun first i p = in_run-true first i p e in
+    in_run-from first n p (record { pid = there.pid; from = there.from; to = omega (arith, there.to) })
+
+pub rest_same : {W : Type 0} (m : Memory W) → ChangesPagesAlone m m
+rest_same m = record { size = refl; store = refl; failed = refl }
+
+pub rest_then : {W : Type 0} (a b c : Memory W) → ChangesPagesAlone a b → ChangesPagesAlone b c → ChangesPagesAlone a c
+rest_then a b c first second = record {
+  size = second.size ∙ first.size;
+  store = second.store ∙ first.store;
+  failed = second.failed ∙ first.failed;
+}
+
+module _ {W : Type 0} (slot_count : W → ℕ) (held : W → Held) (m0 m : Memory W) (sound : IsSound slot_count m) (rest : ChangesPagesAlone m0 m) (first : Place) (n i : ℕ) (low : i < n) where
+  abbrev L0 : Ledger
+  L0 = ledger held m0
+
+  procs_same : processes m ≡ processes m0
+  procs_same = ap (λ (s : Size). s.procs) rest.size
+
+  capacity_same : capacity_of m ≡ capacity_of m0
+  capacity_same = ap (λ (s : Size). capacity s.area.frames s.procs s.slots) rest.size
+
+  module _ (right : Right) (can : CanMake (processes m0) (capacity_of m0) (ledger held m0) first n) (so_far : ledger held m ≡ make first i right (ledger held m0)) where
+    can_first : CanMake (processes m0) (capacity_of m0) L0 first i
+    can_first = record {
+      lies = λ p e. can.lies p (run_wider first i n p (omega arith) e);
+      free = λ p e. can.free p (run_wider first i n p (omega arith) e);
+      room = omega (arith, can.room);
+    }
+
+    pub next_lies : is_user_place (processes m) (place_after first i) ≡ true
+    next_lies = ap (λ k. is_user_place k (place_after first i)) procs_same ∙ can.lies (place_after first i) (in_run-after first n i low)
+
+    pub next_free : is_free (processes m) (ledger held m) (place_after first i) ≡ true
+    next_free = ap (λ k. is_free k (ledger held m) (place_after first i)) procs_same
+        ∙ (ap (λ l. is_free (processes m0) l (place_after first i)) so_far
+        ∙ free_ahead (processes m0) (capacity_of m0) L0 first i right can_first (can.free (place_after first i) (in_run-after first n i low)))
+
+    pub next_room : m.pages + 1 ≤ capacity_of m
+    next_room =
+        let counted : m.pages ≡ pages (processes m) (ledger held m) = sound.pages ∙ sym (pages-ledger held m) in
+        let same : pages (processes m) (ledger held m) ≡ pages (processes m0) (make first i right L0) =
+        ap (λ k. pages k (ledger held m)) procs_same ∙ ap (pages (processes m0)) so_far in
+        let more : pages (processes m0) (make first i right L0) ≡ pages (processes m0) L0 + i = make_pages (processes m0) (capacity_of m0) first i right L0 can_first in
+        omega (arith, counted, same, more, can.room, capacity_same)
+
+    pub next_made : (m2 : Memory W) → ledger held m2 ≡ make (place_after first i) 1 right (ledger held m) → ledger held m2 ≡ make first (i + 1) right (ledger held m0)
+    next_made m2 e = e ∙ (ap (make (place_after first i) 1 right) so_far ∙ sym (make_next first i right L0))
+
+  module _ (free : any_on_loan (processes m0) (ledger held m0) first n ≡ false) (so_far : ledger held m ≡ remove (in_run first i) (ledger held m0)) where
+    pub next_not_lent : is_on_loan (role_at (processes m) (ledger held m) (place_after first i)) ≡ false
+    next_not_lent = ap (λ k. is_on_loan (role_at k (ledger held m) (place_after first i))) procs_same
+        ∙ (ap (λ l. is_on_loan (role_at (processes m0) l (place_after first i))) so_far
+        ∙ lent_ahead (processes m0) L0 first n i free low)
+
+    pub next_removed : (m2 : Memory W) → ledger held m2 ≡ remove (in_run (place_after first i) 1) (ledger held m) → ledger held m2 ≡ remove (in_run first (i + 1)) (ledger held m0)
+    next_removed m2 e = e ∙ (ap (remove (in_run (place_after first i) 1)) so_far ∙ sym (remove_next first i L0))
+
+  module _ (right : Right) (free : any_on_loan (processes m0) (ledger held m0) first n ≡ false) (within : any_lacks right (ledger held m0) first n ≡ false)
+      (so_far : ledger held m ≡ reduce (in_run first i) right (ledger held m0)) where
+    pub next_not_lent_reduced : is_on_loan (role_at (processes m) (ledger held m) (place_after first i)) ≡ false
+    next_not_lent_reduced = ap (λ k. is_on_loan (role_at k (ledger held m) (place_after first i))) procs_same
+        ∙ (ap (λ l. is_on_loan (role_at (processes m0) l (place_after first i))) so_far
+        ∙ lent_ahead_reduced (processes m0) L0 first n i right free low)
+
+    pub next_within : asks_more right ((ledger held m).home (place_after first i)) ≡ false
+    next_within = ap (λ l. asks_more right (l.home (place_after first i))) so_far ∙ within_ahead L0 first n i right within low
+
+    pub next_reduced : (m2 : Memory W) → ledger held m2 ≡ reduce (in_run (place_after first i) 1) right (ledger held m)
+        → ledger held m2 ≡ reduce (in_run first (i + 1)) right (ledger held m0)
+    next_reduced m2 e = e ∙ (ap (reduce (in_run (place_after first i) 1) right) so_far ∙ sym (reduce_next first i right L0))
+
+-- a user place has a page number of 32 bits
+pub user_bound : (procs : ℕ) (p : Place) → is_user_place procs p ≡ true → p.vpn.0 < 2 ^ 32
+user_bound procs p user = elim (cases_lt p.vpn.0 (2 ^ 32)) [
+  | inl low ↦ low
+  | inr past ↦ absurd (both_ways (is_user_place procs p) (no_user procs p past) user)
+]
+
+-- two sound memories of one size have one first frame
+pub first_same : {W : Type 0} (slot_count : W → ℕ) (old new : Memory W) → IsSound slot_count old → IsSound slot_count new → size new ≡ size old
+    → (extent new.owners).first ≡ (extent old.owners).first
+first_same slot_count old new a b e =
+    let procs : processes new ≡ processes old = ap (λ (s : Size). s.procs) e in
+    let first : (extent old.owners).first ≡ 21 * processes old = a.agree.first in
+    let second : (extent new.owners).first ≡ 21 * processes new = b.agree.first in
+    second ∙ (ap (λ k. 21 * k) procs ∙ sym first)
+
+-- the frames below the next one are used
+pub next_used : (old new : OwnerTable) (f : FrameNumber) (info : PageInfo) → (extent new).first ≡ (extent old).first
+    → infos new ≡ put_at seat_eq (infos old) (Frame f) (Some info) → AreFramesUsed old f.0 → AreFramesUsed new (f.0 + 1)
+next_used old new f info table told used k from to = elim (seat_tells (frame_seat k) (Frame f)) [
+  | inl same ↦ ap (λ J. is_some (J (frame_seat k))) told ∙ ap is_some (cond-true (seat_eq (frame_seat k) (Frame f)) (Some info) (infos old (frame_seat k)) same.1)
+  | inr apart ↦ ap (λ J. is_some (J (frame_seat k))) told ∙ (ap is_some (cond-false (seat_eq (frame_seat k) (Frame f)) (Some info) (infos old (frame_seat k)) apart.1)
+      ∙ used k (subst (λ t. t ≤ k) table from) (before (λ e. apart.0 (ap frame_seat e))))
+]
+  where
+    before : (k ≡ f.0 → ⊥) → k < f.0
+    before h = omega (arith, h)

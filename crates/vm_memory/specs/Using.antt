@@ -1,0 +1,6 @@
+pub mod Access
+pub mod EntryAccess
+pub mod UserRest
+pub mod UserStores
+pub mod UserView
+pub mod Walking

@@ -1,0 +1,49 @@
+-- What is kept over two changes.
+use Rattle.std.specs.Prelude.{◌≡◌, ℕ, Bool}
+use Rattle.std.proofs.Common.{◌∙◌, sym, ap, subst, arith}
+use Rattle.xk_base.specs.declared.ids.Pid.{Pid}
+use Rattle.ledger_model.specs.Ledger.{PageName}
+use Rattle.ledger_model.specs.Loans.{bare}
+use Rattle.sv32_space.specs.Tie.{Held}
+use Rattle.vm_memory.specs.declared.memory.Memory.{Memory}
+use Rattle.vm_memory.specs.Bytes.{KeepsStore}
+use Rattle.vm_memory.specs.Memory.{Size, processes, ledger, store_of}
+use Rattle.vm_memory.specs.Using.UserView.{KeepsRest, IsUnseen}
+
+store_over : {W P : Type 0} (is_honest : W → Bool) (held : W → Held) (slot_count : W → ℕ) (asked : W → P) (faults : W → ℕ) (a b c : W)
+    → KeepsStore is_honest held slot_count asked faults a b → KeepsStore is_honest held slot_count asked faults b c
+    → KeepsStore is_honest held slot_count asked faults a c
+store_over is_honest held slot_count asked faults a b c x y = record {
+  honest = y.honest ∙ x.honest;
+  told = y.told ∙ x.told;
+  slots = y.slots ∙ x.slots;
+  preparations = y.preparations ∙ x.preparations;
+  never_falls = omega (arith, x.never_falls, y.never_falls);
+}
+
+pub rest_over : {W P : Type 0} (is_honest : W → Bool) (held : W → Held) (slot_count : W → ℕ) (asked : W → P) (faults : W → ℕ) (pid : Pid) (a b c : Memory W)
+    → KeepsRest is_honest held slot_count asked faults pid a b → KeepsRest is_honest held slot_count asked faults pid b c
+    → KeepsRest is_honest held slot_count asked faults pid a c
+rest_over is_honest held slot_count asked faults pid a b c x y = record {
+  rights = y.rights ∙ x.rights;
+  sizes = y.sizes ∙ x.sizes;
+  means = λ m. y.means (x.means m);
+  unseen = λ m name unseen. y.unseen (x.means m) name (still name unseen) ∙ x.unseen m name unseen;
+  sound = λ s. y.sound (x.sound s);
+  tie = λ s. y.tie (x.sound s);
+  out = λ none usable. y.out (x.none none) (x.out none usable);
+  none = λ none. y.none (x.none none);
+  store = store_over is_honest held slot_count asked faults (store_of a) (store_of b) (store_of c) x.store y.store;
+}
+  where
+    still : (name : PageName) → IsUnseen (processes a) (bare (ledger held a)) pid name → IsUnseen (processes b) (bare (ledger held b)) pid name
+    still name unseen =
+        subst (λ l. IsUnseen (processes b) l pid name) (sym x.rights)
+        (subst (λ n. IsUnseen n (bare (ledger held a)) pid name) (sym (ap (λ (s : Size). s.procs) x.sizes)) unseen)
+
+-- .. also where the process is told by two numbers that are the same
+pub pid_rest_over : {W P : Type 0} (is_honest : W → Bool) (held : W → Held) (slot_count : W → ℕ) (asked : W → P) (faults : W → ℕ) (pid other : Pid) (a b c : Memory W)
+    → other ≡ pid → KeepsRest is_honest held slot_count asked faults pid a b → KeepsRest is_honest held slot_count asked faults other b c
+    → KeepsRest is_honest held slot_count asked faults pid a c
+pid_rest_over is_honest held slot_count asked faults pid other a b c same x y =
+    rest_over is_honest held slot_count asked faults pid a b c x (subst (λ p. KeepsRest is_honest held slot_count asked faults p b c) same y)
