@@ -1,1 +1,2 @@
-pub mod Executing
+pub mod AccessLemmas
+pub mod ExecutingLemmas

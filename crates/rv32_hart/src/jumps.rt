@@ -2,7 +2,7 @@
 
 ghost use Rattle.std.specs.Prelude.{◌≡◌, ◌%◌, ℕ, List};
 ghost use Rattle.rv32_words.specs.Formats.{IsRegister};
-ghost use Rattle.machine_model.specs.Instructions.{following, branches, jumps};
+ghost use Rattle.machine_model.specs.Hart.Instructions.{following, branches, jumps};
 ghost use Rattle.rv32_hart.specs.Running.{IsExecutedAlone, LeavesRegisters, GoesOnAligned};
 
 use crate::arithmetic::add_immediate;

@@ -5,7 +5,7 @@ ghost use Rattle.xk_base.specs.UserMemory.{Memory};
 ghost use Rattle.xk_base.specs.Registers.{reg_at};
 ghost use Rattle.rv32_words.specs.Formats.{IsRegister};
 ghost use Rattle.rv32_words.specs.Table.{IsInRange};
-ghost use Rattle.machine_model.specs.Instructions.{effect, as_word, address_of, sum_of};
+ghost use Rattle.machine_model.specs.Hart.Instructions.{effect, as_word, address_of, sum_of};
 ghost use Rattle.rv32_hart.specs.Operations.{effect_of, WritesRegister};
 
 use self::Operation::{Branch, Break, Call, Fence, Jump, Load, Store, Write};

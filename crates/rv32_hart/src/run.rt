@@ -2,7 +2,7 @@
 
 ghost use Rattle.std.specs.Prelude.{◌≡◌, ◌≤◌, ◌%◌};
 ghost use Rattle.xk_base.specs.Outside.{Rose};
-ghost use Rattle.rv32_hart.specs.Running.{Executes, LeavesRegisters, GoesOnAligned, UnlessFailed, IfFailed};
+ghost use Rattle.rv32_hart.specs.Running.{Executes, View, LeavesRegisters, GoesOnAligned, UnlessFailed, IfFailed};
 
 use crate::causes::{FETCH_PAGE_FAULT, ILLEGAL_INSTRUCTION};
 use crate::execute::execute;
@@ -18,7 +18,9 @@ use xk_base::{Failed, Regs, UserMemory};
 pub fn run_one<U: UserMemory>(regs: &mut Regs, pc: u32, mem: &mut U) -> Ran
     requires aligned { pc % 4 ≡ 0 }
     requires fit { U.fit mem.old }
-    ensures executes { Executes (U.may mem.old) (U.console mem.old) (U.content mem.old) (U.content mem.new) regs.old regs.new pc result }
+    ensures executes { let before : View = record { may = U.may mem.old; console = U.console mem.old; content = U.content mem.old; timer = U.timer mem.old } in
+        let after : View = record { may = U.may mem.new; console = U.console mem.new; content = U.content mem.new; timer = U.timer mem.new } in
+        Executes before after regs.old regs.new pc result }
     ensures leaves { LeavesRegisters regs.old regs.new result }
     ensures aligned { GoesOnAligned result }
     ensures may { U.may mem.new ≡ U.may mem.old }

@@ -1,4 +1,4 @@
-use Rattle.std.proofs.Common.{◌≡◌, ℕ, ◌+◌, ◌/◌, ◌%◌, ◌<◌, List, length, ap, Some, arith, rules, slice_index, slice_set}
+use Rattle.std.proofs.Common.{◌≡◌, ℕ, ◌+◌, ◌/◌, ◌%◌, ◌<◌, List, length, ap, refl, Some, arith, rules, slice_index, slice_set}
 use Rattle.std.proofs.lemmas.Grind.{common_steps}
 use Rattle.std.proofs.lemmas.Bool.Decides.{nat_tests}
 use Rattle.xk_base.specs.declared.pages.Width.TheVariants.{Word}
@@ -15,4 +15,4 @@ returns-in-Word-clause-stores c =
     let size : length c.args.self.now.bytes ≡ 512 = search rules in
     let aligned : c.args.va % 4 ≡ 0 = rw c.in-Word.is at c.requires.aligned in
     let room : c.args.va + 3 < length c.args.self.now.bytes = omega arith in
-    rw c.in-Word.is (grind (arith, nat_tests), grind (arith, nat_tests), ap Some (λ i j. word_stands c.args.self.now.bytes c.args.va c.args.value room j i))
+    rw c.in-Word.is (grind (arith, nat_tests), grind (arith, nat_tests), (ap Some (λ i j. word_stands c.args.self.now.bytes c.args.va c.args.value room j i), refl))
