@@ -1,0 +1,4 @@
+pub mod AmoLemmas
+pub mod PerformingLemmas
+pub mod ReadingLemmas
+pub mod TableLemmas

@@ -1,0 +1,4 @@
+pub mod Meaning
+pub mod Performing
+pub mod Reading
+pub mod Table
