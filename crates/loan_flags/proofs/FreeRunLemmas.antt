@@ -1,0 +1,153 @@
+-- The search for the least free run: what is known when it has looked at the first k places of the window.
+use Rattle.std.proofs.Common.{◌≡◌, ◌≢◌, ℕ, ◌+◌, ◌-◌, ◌<◌, ◌≤◌, Bool, true, false, ◌&&◌, Option, Some, None, refl, sym, ap, subst, ◌∙◌, inl, inr, arith}
+use Rattle.std.specs.Prelude.{nat_le}
+use Rattle.std.specs.List.{list_all}
+use Rattle.std.specs.Option.{option_map}
+use Rattle.std.proofs.lemmas.Bool.{and_from, both_ways, cases_lt, false_from_ne_true, le-leb}
+use Rattle.std.proofs.lemmas.Bool.Decides.{nat_tests}
+use Rattle.xk_base.specs.declared.ids.Pid.{Pid}
+use Rattle.xk_base.specs.declared.ids.Place.{Place}
+use Rattle.xk_base.specs.declared.ids.Vpn.{Vpn}
+use Rattle.xk_base.specs.declared.windows.Window.{Window}
+use Rattle.xk_base.specs.Windows.{first_page, last_page}
+use Rattle.xk_base.specs.Counting.{least_below}
+use Rattle.xk_base.proofs.CountingLemmas.{least_below-None, least_below-Some}
+use Rattle.ledger_model.specs.LeastRun.{is_free_run, least_run, window_pages, window_place}
+use Rattle.ledger_model.specs.Places.{place_after, run}
+use Rattle.ledger_model.proofs.PlaceLemmas.{list_all-run, place_from, run-passes}
+use Rattle.sv32_space.specs.declared.sides.Entry.{Entry}
+use Rattle.sv32_space.specs.Entries.{Entries}
+use Rattle.sv32_space.specs.Agreement.{EntriesAgree, Infos}
+use Rattle.sv32_space.specs.EntryLedger.{SeatBytes, is_free_entry, ledger_of}
+use Rattle.sv32_space.proofs.Agreeing.RoleLemmas.{free_by_entry}
+use Rattle.loan_flags.specs.FreeRuns.{all_free, fits_free, least_free}
+
+and_last : (a b : Bool) → b ≡ false → (a && b) ≡ false
+and_last true b e = e
+and_last false b e = refl
+
+and_first : (a b : Bool) → a ≡ false → (a && b) ≡ false
+and_first true b e = absurd (both_ways true e refl)
+and_first false b e = refl
+
+-- a run with a used place isn't free
+not_all_free : (E : Entries) (first : Place) (n i : ℕ) → i < n → is_free_entry (E (place_after first i)) ≡ false → all_free E first n ≡ false
+unfolding all_free
+not_all_free E first n i b f =
+    false_from_ne_true (all_free E first n) (λ t. both_ways (is_free_entry (E (place_after first i))) f (run-passes (λ p. is_free_entry (E p)) first n t i b))
+
+each_free : (E : Entries) (first : Place) (n : ℕ) → ((i : ℕ) → i < n → is_free_entry (E (place_after first i)) ≡ true) → all_free E first n ≡ true
+unfolding all_free
+each_free E first n h = list_all-run (λ p. is_free_entry (E p)) first n h
+
+-- what was told of the k-th place
+pub looked : (E : Entries) (pid : Pid) (window : Window) (first : Vpn) (k : ℕ) (entry : Option Entry) (told b : Bool) → first.0 ≡ first_page window
+    → E (place_after (record { pid = pid; vpn = first }) k) ≡ entry → told ≡ is_free_entry entry → told ≡ b
+    → is_free_entry (E (window_place pid window k)) ≡ b
+looked E pid window first k entry told b at seen said e =
+    let same : place_after (record { pid = pid; vpn = first }) k ≡ window_place pid window k =
+    place_from (place_after (record { pid = pid; vpn = first }) k) (window_place pid window k) refl (ap (λ x. x + k) at) in
+    sym (ap (λ q. is_free_entry (E q)) same) ∙ (ap is_free_entry seen ∙ (sym said ∙ e))
+
+-- no run that begins before `start` will do; the places from there on are free, but too few so far
+pub record IsSearched (E : Entries) (pid : Pid) (window : Window) (n start k : ℕ) : Type 0 where
+  pub before : (j : ℕ) → j < start → fits_free E pid window n j ≡ false
+  pub free : (j : ℕ) → start ≤ j → j < k → is_free_entry (E (window_place pid window j)) ≡ true
+  pub from : start ≤ k
+  pub few : k < start + n
+
+module _ (E : Entries) (pid : Pid) (window : Window) (n start k : ℕ) (h : IsSearched E pid window n start k) where
+  -- no run with a used place will do
+  pub used_next : is_free_entry (E (window_place pid window k)) ≡ false → (j : ℕ) → j < k + 1 → fits_free E pid window n j ≡ false
+  used_next used j low = elim (cases_lt j start) [
+    | inl old ↦ h.before j old
+    | inr new ↦
+        let few : k < start + n = h.few in
+        let sum : j + (k - j) ≡ k = omega arith in
+        let inside : k - j < n = omega arith in
+        and_last (nat_le (j + n) (window_pages window)) (all_free E (window_place pid window j) n)
+        (not_all_free E (window_place pid window j) n (k - j) inside (ap (λ q. is_free_entry (E q)) (later j (k - j) sum) ∙ used))
+  ]
+    where
+      later : (j i : ℕ) → j + i ≡ k → place_after (window_place pid window j) i ≡ window_place pid window k
+      later j i e = place_from (place_after (window_place pid window j) i) (window_place pid window k) refl (omega arith)
+
+  pub free_next : is_free_entry (E (window_place pid window k)) ≡ true → (j : ℕ) → start ≤ j → j < k + 1 → is_free_entry (E (window_place pid window j)) ≡ true
+  free_next here j low high = elim (cases_lt j k) [
+    | inl old ↦ h.free j low old
+    | inr new ↦ let e : k ≡ j = omega arith in subst (λ i. is_free_entry (E (window_place pid window i)) ≡ true) e here
+  ]
+
+  -- THE RUN: n free places are the least free run
+  pub run_there : (f e : ℕ) → f ≡ first_page window → e ≡ last_page window → k < e + 1 - f → is_free_entry (E (window_place pid window k)) ≡ true
+      → k + 1 - start ≡ n → least_free E pid window n ≡ Some (record { 0 = f + start })
+  unfolding least_free
+  run_there f e a b inside here whole =
+      let size : e + 1 - f ≡ window_pages window = λ i. b i + 1 - a i in
+      let from : start ≤ k = h.from in
+      let few : k < start + n = h.few in
+      let at : first_page window + start ≡ f + start = ap (λ x. x + start) (sym a) in
+      let within : start + n ≤ window_pages window = omega (arith, size) in
+      let below : start < window_pages window = omega (arith, size) in
+      let all : all_free E (window_place pid window start) n ≡ true =
+      each_free E (window_place pid window start) n
+      (λ i low. subst (λ q. is_free_entry (E q) ≡ true)
+      (place_from (window_place pid window (start + i)) (place_after (window_place pid window start) i) refl (omega arith))
+      (free_next here (start + i) (omega arith) (omega (arith, low)))) in
+      ap (option_map (λ j. (window_place pid window j).vpn))
+      (least_below-Some (window_pages window) (fits_free E pid window n) start below
+      (and_from (nat_le (start + n) (window_pages window)) (all_free E (window_place pid window start) n) (le-leb (start + n) (window_pages window) within) all) h.before)
+      ∙ (λ i. Some (record { 0 = at i }))
+
+  -- NONE: at the window's end there is none
+  pub none_there : (f e : ℕ) → f ≡ first_page window → e ≡ last_page window → e + 1 - f ≤ k → least_free E pid window n ≡ None
+  unfolding least_free
+  none_there f e a b past =
+      let size : e + 1 - f ≡ window_pages window = λ i. b i + 1 - a i in
+      let few : k < start + n = h.few in
+      ap (option_map (λ j. (window_place pid window j).vpn))
+      (least_below-None (window_pages window) (fits_free E pid window n)
+      (λ j low. elim (cases_lt j start) [
+        | inl old ↦ h.before j old
+        | inr new ↦
+            let long : window_pages window < j + n = omega (arith, size) in
+            and_first (nat_le (j + n) (window_pages window)) (all_free E (window_place pid window j) n) (too_long (j + n) (window_pages window) long)
+      ]))
+    where
+      too_long : (x y : ℕ) → y < x → nat_le x y ≡ false
+      too_long x y h = grind (arith, nat_tests)
+
+-- the search goes on
+pub searched_none : (E : Entries) (pid : Pid) (window : Window) (n : ℕ) → 1 ≤ n → IsSearched E pid window n 0 0
+searched_none E pid window n some = record {
+  before = λ j low. absurd (omega (arith, low));
+  free = λ j low high. absurd (omega (arith, high));
+  from = omega arith;
+  few = omega (arith, some);
+}
+
+pub searched_used : (E : Entries) (pid : Pid) (window : Window) (n start k : ℕ) → 1 ≤ n → IsSearched E pid window n start k
+    → is_free_entry (E (window_place pid window k)) ≡ false → IsSearched E pid window n (k + 1) (k + 1)
+searched_used E pid window n start k some h used = record {
+  before = used_next E pid window n start k h used;
+  free = λ j low high. absurd (omega (arith, low, high));
+  from = omega arith;
+  few = omega (arith, some);
+}
+
+pub searched_free : (E : Entries) (pid : Pid) (window : Window) (n start k : ℕ) → IsSearched E pid window n start k
+    → is_free_entry (E (window_place pid window k)) ≡ true → k + 1 - start ≢ n → IsSearched E pid window n start (k + 1)
+searched_free E pid window n start k h here apart = record {
+  before = h.before;
+  free = free_next E pid window n start k h here;
+  from = omega (arith, h.from);
+  few = omega (arith, h.from, h.few, apart);
+}
+
+-- where entries and owners agree, it is the least run of their ledger
+pub least_by_entries : (procs : ℕ) (E : Entries) (I : Infos) (B : SeatBytes) (pid : Pid) (window : Window) (n : ℕ) → EntriesAgree procs E I
+    → least_free E pid window n ≡ least_run procs (ledger_of E I B) pid window n
+unfolding least_free least_run all_free is_free_run
+least_by_entries procs E I B pid window n agree = λ i. option_map (λ k. (window_place pid window k).vpn)
+    (least_below (window_pages window) (λ k. nat_le (k + n) (window_pages window)
+    && list_all (λ p. sym (free_by_entry procs E I B agree p) i) (run (window_place pid window k) n)))

@@ -1,0 +1,5 @@
+pub mod FreeRunLemmas
+pub mod LendRunLemmas
+pub mod PageChangeLemmas
+pub mod SendingLemmas
+pub mod StandingRunLemmas

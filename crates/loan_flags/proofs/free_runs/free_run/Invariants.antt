@@ -1,0 +1,9 @@
+use Rattle.std.proofs.Common.{IsTrue, ℕ, ◌≤◌}
+use Rattle.xk_base.specs.Circle.{is_pid}
+use Rattle.sv32_space.specs.SpelledEntries.{entries}
+use Rattle.loan_flags.proofs.FreeRunLemmas.{IsSearched}
+use Rattle.loan_flags.proofs.free_runs.free_run.Given as goal
+
+-- what the first k places of the window tell
+abbrev pub invariant-loop-k : goal.invariant-loop-k
+invariant-loop-k l = (l.start ≤ l.k) × ((procs : ℕ) → IsTrue (is_pid procs l.fn.pid.0) → IsSearched (entries procs l.fn.ram) l.fn.pid l.fn.window l.fn.n l.start l.k)

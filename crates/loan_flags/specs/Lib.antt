@@ -1,0 +1,5 @@
+pub mod Ending
+pub mod FreeRuns
+pub mod Keeping
+pub mod PageLoans
+pub mod Sending
