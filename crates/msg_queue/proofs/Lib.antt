@@ -1,0 +1,15 @@
+pub mod TimesLemmas
+pub mod ChainLemmas
+pub mod LinkLemmas
+pub mod ChangeLemmas
+pub mod RingLemmas
+pub mod MessageLemmas
+pub mod FilledLemmas
+pub mod SeatLemmas
+pub mod HeldLemmas
+pub mod WalkLemmas
+pub mod CallLemmas
+pub mod AfterLemmas
+pub mod SpotLemmas
+pub mod PlaceLemmas
+pub mod StartLemmas

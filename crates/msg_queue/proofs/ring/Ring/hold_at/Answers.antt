@@ -1,0 +1,42 @@
+use Rattle.std.proofs.Common.{◌<◌, ap, sym, subst, ◌∙◌, arith}
+use Rattle.msg_queue.specs.Chains.{chain}
+use Rattle.msg_queue.specs.Seats.{used_of, with_held_at}
+use Rattle.msg_queue.specs.Shown.{links_of, seat_shown}
+use Rattle.msg_queue.proofs.SeatLemmas.{free_is_slot}
+use Rattle.msg_queue.proofs.CallLemmas.{free_is_empty, before_is_few, spot_at_same}
+use Rattle.msg_queue.proofs.AfterLemmas.{after_hold_at, held_put_in, with_held_words}
+use Rattle.msg_queue.proofs.ring.Ring.hold_at.Goals as goal
+
+pub put_in-requires-clause-free : goal.put_in-requires-clause-free
+put_in-requires-clause-free c =
+    free_is_slot c.self.inside.slots.items (links_of c.self.inside) c.self.invariant (subst (λ seat. used_of seat < 128) (sym c.self.view_is) c.requires.room)
+
+pub put_in-requires-clause-empty : goal.put_in-requires-clause-empty
+put_in-requires-clause-empty c =
+    free_is_empty c.self.inside.slots.items (links_of c.self.inside) c.self.invariant (subst (λ seat. used_of seat < 128) (sym c.self.view_is) c.requires.room)
+
+pub put_in-requires-clause-before : goal.put_in-requires-clause-before
+put_in-requires-clause-before c =
+    let at = spot_at_same c.self.inside.next.items c.as_slice.result.now c.self.inside.held c.args.place c.spot_at-spot.result c.as_slice.ensures.value c.spot_at-spot.ensures in
+    omega (arith, ap (λ s. s.before) at, before_is_few (chain c.self.inside.next.items c.self.inside.held) c.args.place c.self.invariant.chains.held_chain.within)
+
+pub invariant_of-self : goal.invariant_of-self
+invariant_of-self c =
+    let l = links_of c.self.inside in
+    let at = spot_at_same c.self.inside.next.items c.as_slice.result.now c.self.inside.held c.args.place c.spot_at-spot.result c.as_slice.ensures.value c.spot_at-spot.ensures in
+    let room : used_of (seat_shown c.self.inside.slots.items l) < 128 = subst (λ seat. used_of seat < 128) (sym c.self.view_is) c.requires.room in
+    let words = held_put_in l c.spot_at-spot.result.before c.put_in.new.next.items c.put_in.new.free c.put_in.new.first c.put_in.new.last
+    (record { words = c.put_in.ensures.words; free = c.put_in.ensures.free; front = c.put_in.ensures.first; back = c.put_in.ensures.last }) in
+    (after_hold_at c.self.inside.slots.items c.put_in.new.slots.items l (with_held_words l c.put_in.new.next.items c.put_in.new.free c.put_in.new.first c.put_in.new.last) c.args.place c.spot_at-spot.result.before c.args.h
+    c.self.invariant room (ap (λ s. s.before) at) c.put_in.ensures.slots words).sound
+
+pub returns : goal.returns
+returns c =
+    let l = links_of c.self.inside in
+    let at = spot_at_same c.self.inside.next.items c.as_slice.result.now c.self.inside.held c.args.place c.spot_at-spot.result c.as_slice.ensures.value c.spot_at-spot.ensures in
+    let room : used_of (seat_shown c.self.inside.slots.items l) < 128 = subst (λ seat. used_of seat < 128) (sym c.self.view_is) c.requires.room in
+    let words = held_put_in l c.spot_at-spot.result.before c.put_in.new.next.items c.put_in.new.free c.put_in.new.first c.put_in.new.last
+    (record { words = c.put_in.ensures.words; free = c.put_in.ensures.free; front = c.put_in.ensures.first; back = c.put_in.ensures.last }) in
+    (after_hold_at c.self.inside.slots.items c.put_in.new.slots.items l (with_held_words l c.put_in.new.next.items c.put_in.new.free c.put_in.new.first c.put_in.new.last) c.args.place c.spot_at-spot.result.before c.args.h
+    c.self.invariant room (ap (λ s. s.before) at) c.put_in.ensures.slots words).shows
+    ∙ ap (with_held_at c.args.place c.args.h) c.self.view_is

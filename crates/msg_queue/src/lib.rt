@@ -1,0 +1,11 @@
+//! The messages of each server: those that are queued, and those that it holds, with their loans.
+#![tactic(auto)]
+
+mod held;
+mod links;
+mod queues;
+mod ring;
+mod walks;
+
+pub use held::Held;
+pub use queues::Queues;
