@@ -4,10 +4,10 @@ use Rattle.std.specs.Option.{option_map_or}
 use Rattle.event_text.specs.declared.event.Event.{Event}
 use Rattle.event_text.specs.declared.event.Event.TheVariants.{Tick, Pick, Irq, Kill}
 use Rattle.machine_laws.specs.WithoutServers.{is_plain_call}
-use Rattle.machine_model.specs.Acts.{call_by}
-use Rattle.machine_model.specs.Machine.{Machine, Thread}
-use Rattle.machine_model.specs.Order.{actor}
-use Rattle.machine_model.specs.Step.{ends_handler}
+use Rattle.machine_model.specs.Stepping.Acts.{call_by}
+use Rattle.machine_model.specs.State.Machine.{Machine, Thread}
+use Rattle.machine_model.specs.State.Order.{actor}
+use Rattle.machine_model.specs.Stepping.Step.{ends_handler}
 use Rattle.xk_base.specs.declared.ids.ThreadId.{ThreadId}
 
 -- a thread above tid 1, whose system call, if it makes one, is on memory, threads or its process, or has no number of the table

@@ -1,8 +1,8 @@
 -- Moments each of which is led to by what is built.
 use Rattle.std.specs.Prelude.{Bool, true, false, List, [], ◌∷◌, IsTrue}
 use Rattle.std.specs.Bool.{⊤}
-use Rattle.machine_model.specs.Machine.{Machine}
-use Rattle.machine_model.specs.Moments.{Cause, ByStep, ByPick, ByIrq, ByKill, ByTurn, Moment}
+use Rattle.machine_model.specs.State.Machine.{Machine}
+use Rattle.machine_model.specs.Runs.Moments.{Cause, ByStep, ByPick, ByIrq, ByKill, ByTurn, Moment}
 use Rattle.xk_kernel.specs.Built.{step_built}
 
 -- what leads to the next state is built: a step where it is; a pick, a kill and the end of a turn are; an interrupt isn't

@@ -3,10 +3,10 @@ use Rattle.std.specs.Prelude.{ℕ, zero, suc, ◌==◌, Bool, true, false, List,
 use Rattle.event_text.specs.declared.event.Event.{Event}
 use Rattle.event_text.specs.declared.event.Event.TheVariants.{Tick, Pick, Irq, Kill}
 use Rattle.xk_base.specs.declared.records.Rec.{Rec}
-use Rattle.machine_model.specs.Events.{picked, raised, killed, nothing}
-use Rattle.machine_model.specs.Machine.{Machine}
-use Rattle.machine_model.specs.Order.{actor, turn}
-use Rattle.machine_model.specs.Step.{Stepped, step}
+use Rattle.machine_model.specs.Stepping.Events.{picked, raised, killed, nothing}
+use Rattle.machine_model.specs.State.Machine.{Machine}
+use Rattle.machine_model.specs.State.Order.{actor, turn}
+use Rattle.machine_model.specs.Stepping.Step.{Stepped, step}
 
 -- The records in order, the last state, and whether the limit was met, at which the history ended. Its steps are those that the
 -- last state counts.

@@ -2,10 +2,10 @@
 use Rattle.std.specs.Prelude.{ℕ, zero, suc, ◌==◌, List, [], ◌∷◌, ◌++◌, if◌then◌else◌, is_some}
 use Rattle.event_text.specs.declared.event.Event.{Event}
 use Rattle.event_text.specs.declared.event.Event.TheVariants.{Tick, Pick, Irq, Kill}
-use Rattle.machine_model.specs.Machine.{Machine}
-use Rattle.machine_model.specs.Moments.{Cause, ByStep, ByPick, ByIrq, ByKill, ByTurn, Moment, caused}
-use Rattle.machine_model.specs.Order.{actor}
-use Rattle.machine_model.specs.Step.{step}
+use Rattle.machine_model.specs.State.Machine.{Machine}
+use Rattle.machine_model.specs.Runs.Moments.{Cause, ByStep, ByPick, ByIrq, ByKill, ByTurn, Moment, caused}
+use Rattle.machine_model.specs.State.Order.{actor}
+use Rattle.machine_model.specs.Stepping.Step.{step}
 use Rattle.xk_kernel.specs.History.{play}
 
 -- the moment that this cause leads to

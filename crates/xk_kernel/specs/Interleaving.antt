@@ -4,10 +4,10 @@ use Rattle.std.specs.Bool.{⊤}
 use Rattle.event_text.specs.declared.event.Event.{Event}
 use Rattle.event_text.specs.declared.event.Event.TheVariants.{Tick, Pick}
 use Rattle.xk_base.specs.declared.ids.ThreadId.{ThreadId}
-use Rattle.machine_model.specs.Events.{nothing}
-use Rattle.machine_model.specs.Machine.{Machine}
-use Rattle.machine_model.specs.Order.{ready_at, turn}
-use Rattle.machine_model.specs.Step.{Stepped, step_by}
+use Rattle.machine_model.specs.Stepping.Events.{nothing}
+use Rattle.machine_model.specs.State.Machine.{Machine}
+use Rattle.machine_model.specs.State.Order.{ready_at, turn}
+use Rattle.machine_model.specs.Stepping.Step.{Stepped, step_by}
 
 -- `pick` and `tick 1` for each of these threads, in their order
 unfoldable pub picks_and_ticks : List ThreadId → List Event

@@ -1,8 +1,8 @@
 -- What the instruction of a thread makes of the machine.
-use Rattle.machine_model.specs.Instructions.{Executed, Next, Stores, StoresToConsole, CallsKernel, Traps}
-use Rattle.machine_model.specs.Machine.{Machine}
-use Rattle.machine_model.specs.Threads.{change_thread, with_registers}
-use Rattle.machine_model.specs.Views.{stored}
+use Rattle.machine_model.specs.Hart.Instructions.{Executed, Next, Stores, StoresToConsole, StoresToTimer, CallsKernel, Traps}
+use Rattle.machine_model.specs.State.Machine.{Machine}
+use Rattle.machine_model.specs.State.Threads.{change_thread, with_registers}
+use Rattle.machine_model.specs.State.Views.{stored, timer_set}
 use Rattle.xk_base.specs.declared.ids.ThreadId.{ThreadId}
 
 -- the thread goes on with its registers and its pc, and a store is made; a call of the kernel and a trap change nothing yet
@@ -10,5 +10,6 @@ abbrev pub machine_after : ThreadId → Machine → Executed → Machine
 machine_after who m (Next regs pc) = change_thread who (with_registers regs pc) m
 machine_after who m (Stores address width value regs pc) = change_thread who (with_registers regs pc) (stored who.pid address width value m)
 machine_after who m (StoresToConsole offset value regs pc) = change_thread who (with_registers regs pc) m
+machine_after who m (StoresToTimer offset width value regs pc) = change_thread who (with_registers regs pc) (timer_set offset width value m)
 machine_after who m CallsKernel = m
 machine_after who m (Traps cause value) = m

@@ -1,6 +1,7 @@
 -- The soundness of a kernel, which each call needs and keeps.
 use Rattle.std.specs.Prelude.{◌≡◌, ℕ, ◌≤◌, Bool, IsTrue, None}
-use Rattle.machine_model.specs.Matched.{Matched}
+use Rattle.irq_claims.specs.ClaimsOf.{claims_of}
+use Rattle.machine_model.specs.Runs.Matched.{Matched}
 use Rattle.process_table.specs.ProcessesOf.{process_count as processes_made}
 use Rattle.server_table.specs.ServersOf.{servers_of}
 use Rattle.sv32_space.specs.Tie.{Held}
@@ -28,6 +29,8 @@ pub record IsWhole {W : Type 0} (slot_count : W → ℕ) (held : W → Held) (k 
   -- These two go when servers and messages are built.
   pub unlent : IsUnlent (ledger held k.mem)
   pub no_servers : (n : ℕ) → (servers_of k.servers).live n ≡ None
+  -- This one goes when interrupts are built. Until then no process has the timer's page, and the timer is never armed.
+  pub unclaimed : (n : ℕ) → claims_of k.claims n ≡ None
 
 -- .. and until a call answers SwapFault the machine is matched
 pub record IsSound {W : Type 0} (slot_count : W → ℕ) (held : W → Held) (k : Kernel W) : Type 0 where

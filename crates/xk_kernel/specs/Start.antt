@@ -3,8 +3,8 @@ use Rattle.std.specs.Prelude.{ℕ, ◌==◌, false, List, [], length, Option, So
 use Rattle.std.specs.Option.{option_and_then}
 use Rattle.boot_plan.specs.Capacity.{capacity}
 use Rattle.boot_plan.specs.declared.plans.BootPlan.{BootPlan}
-use Rattle.machine_model.specs.Machine.{Machine, Thread}
-use Rattle.machine_model.specs.Threads.{first_thread, first_handler_thread}
+use Rattle.machine_model.specs.State.Machine.{Machine, Thread}
+use Rattle.machine_model.specs.State.Threads.{first_thread, first_handler_thread}
 use Rattle.vm_memory.specs.FirstLedger.{first_ledger, process_of}
 use Rattle.xk_base.specs.declared.ids.ThreadId.{ThreadId}
 use Rattle.xk_base.specs.Circle.{is_pid}
@@ -19,7 +19,7 @@ abbrev pub threads_at_start : BootPlan → ThreadId → Option Thread
 threads_at_start plan id = option_and_then (λ process. first_threads process.entry id.tid.0) (process_of plan id.pid.0)
 
 -- The start: all processes are alive, with empty heaps and no connection; it is the turn of the first thread of the
--- first process; there is no server, no message and no claim, and no step was done.
+-- first process; there is no server, no message and no claim, no step was done, the timer isn't armed, and nothing is reserved.
 unfoldable pub start : BootPlan → List ℕ → Machine
 start plan file = record {
   capacity = capacity plan.frames (length plan.procs) plan.slots;
@@ -34,4 +34,6 @@ start plan file = record {
   pending = λ number. false;
   next_number = 1;
   next_serial = 1;
+  compare = None;
+  reserved = None;
 }

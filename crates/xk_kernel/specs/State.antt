@@ -1,10 +1,10 @@
 -- The machine that a kernel stands for: one definition over what its parts hold.
-use Rattle.std.specs.Prelude.{false, [], Option, Some, None}
+use Rattle.std.specs.Prelude.{ℕ, false, [], Option, Some, None}
 use Rattle.std.specs.Option.{option_map, option_map_or}
 use Rattle.irq_claims.specs.ClaimsOf.{claims_of}
 use Rattle.irq_claims.specs.declared.claims.Claim.{Claim as TableClaim}
-use Rattle.machine_model.specs.Ends.{dead_process}
-use Rattle.machine_model.specs.Machine.{Machine, Thread, ThreadState, Process, Server, Claim, Ready, Receiving, Waiting, Joining, Idle}
+use Rattle.machine_model.specs.Ending.Ends.{dead_process}
+use Rattle.machine_model.specs.State.Machine.{Machine, Thread, ThreadState, Process, Server, Claim, Reservation, Ready, Receiving, Waiting, Joining, Idle}
 use Rattle.process_table.specs.ProcessesOf.{processes_of}
 use Rattle.process_table.specs.State.{ProcessState}
 use Rattle.server_table.specs.ServersOf.{servers_of}
@@ -15,6 +15,7 @@ use Rattle.thread_table.specs.declared.thread.Thread.{Thread as TableThread}
 use Rattle.thread_table.specs.declared.thread.ThreadState.{ThreadState as TableState}
 use Rattle.thread_table.specs.declared.thread.ThreadState.TheVariants as table
 use Rattle.vm_memory.specs.Memory.{capacity_of, ledger, processes}
+use Rattle.xk_base.specs.declared.ids.ThreadId.{ThreadId}
 use Rattle.xk_kernel.specs.declared.kernel.Kernel.{Kernel}
 
 -- what a thread of the table is about, and the thread
@@ -40,6 +41,10 @@ server_of s = record { sid = s.sid; pid = s.pid; queued = []; held = [] }
 abbrev pub claim_of : TableClaim → Claim
 claim_of c = record { pid = c.pid; handler = c.handler; argument = c.arg }
 
+abbrev pub as_reservation : ThreadId × ℕ → Reservation
+as_reservation r = record { who = r.0; address = r.1 }
+
+-- The timer isn't armed, as no process can claim its interrupt yet.
 unfoldable pub machine_of : {W : Type 0} → (W → Held) → Kernel W → Machine
 machine_of held k = record {
   capacity = capacity_of k.mem;
@@ -54,4 +59,6 @@ machine_of held k = record {
   pending = λ n. option_map_or (λ c. c.pending) (claims_of k.claims n) false;
   next_number = k.next;
   next_serial = (servers_of k.servers).next;
+  compare = None;
+  reserved = option_map as_reservation k.reserved;
 }

@@ -2,10 +2,10 @@
 use Rattle.std.specs.Prelude.{◌≡◌, true, false, is_some, List}
 use Rattle.event_text.specs.declared.event.Event.{Event}
 use Rattle.event_text.specs.declared.event.Event.TheVariants.{Tick, Pick, Irq, Kill}
-use Rattle.machine_model.specs.Events.{picked, raised, killed, nothing}
-use Rattle.machine_model.specs.Machine.{Machine}
-use Rattle.machine_model.specs.Order.{actor}
-use Rattle.machine_model.specs.Step.{Stepped as StepTaken, step}
+use Rattle.machine_model.specs.Stepping.Events.{picked, raised, killed, nothing}
+use Rattle.machine_model.specs.State.Machine.{Machine}
+use Rattle.machine_model.specs.State.Order.{actor}
+use Rattle.machine_model.specs.Stepping.Step.{Stepped as StepTaken, step}
 use Rattle.sv32_space.specs.Tie.{Held}
 use Rattle.xk_base.specs.declared.records.Rec.{Rec}
 use Rattle.xk_kernel.specs.Built.{step_built}

@@ -1,7 +1,7 @@
 -- What a part of a step leaves: the machine, and what the log tells besides.
 use Rattle.std.specs.Prelude.{◌≡◌, ◌++◌, List, map}
-use Rattle.machine_model.specs.Changes.{Told}
-use Rattle.machine_model.specs.Step.{record_of}
+use Rattle.machine_model.specs.State.Changes.{Told}
+use Rattle.machine_model.specs.Stepping.Step.{record_of}
 use Rattle.sv32_space.specs.Tie.{Held}
 use Rattle.xk_base.specs.Log.{LogState}
 use Rattle.xk_base.specs.declared.records.What.{What}

@@ -2,14 +2,14 @@
 
 ghost use Rattle.std.specs.Prelude.{ℕ, ◌≡◌, ◌+◌, ◌≤◌, false, List, ◌∷◌, ◌++◌, length};
 ghost use Rattle.xk_base.specs.declared.ids.ThreadId.{ThreadId};
-ghost use Rattle.machine_model.specs.Events.{picked};
-ghost use Rattle.machine_model.specs.Machine.{Machine};
+ghost use Rattle.machine_model.specs.Stepping.Events.{picked};
+ghost use Rattle.machine_model.specs.State.Machine.{Machine};
 ghost use Rattle.xk_kernel.specs.History.{history, reached, stopped, behind};
 ghost use Rattle.xk_kernel.specs.Interleaving.{AreReadyInTurn, picks_and_ticks, steps_in_turn};
 
 /// For threads that are each Ready at their turn, `pick` and `tick 1` for each of them do their steps in that order, where the
 /// limit isn't met.
-#[tactic(auto, using(crate::proofs::InterleavingLemmas::interleaving))]
+#[tactic(auto, using(crate::proofs::Running::InterleavingLemmas::interleaving))]
 pub fn interleavings_are_played()
     ensures { (threads : List ThreadId) (limit : ℕ) (m : Machine) → AreReadyInTurn threads m
         → (history (picks_and_ticks threads) limit m).met ≡ false
@@ -17,7 +17,7 @@ pub fn interleavings_are_played()
 {}
 
 /// The limit isn't met where it allows as many steps more as there are threads in the list.
-#[tactic(auto, using(crate::proofs::InterleavingLemmas::unmet_within))]
+#[tactic(auto, using(crate::proofs::Running::InterleavingLemmas::unmet_within))]
 pub fn limit_is_not_met_within()
     ensures { (threads : List ThreadId) (limit : ℕ) (m : Machine) → AreReadyInTurn threads m
         → m.steps + length threads ≤ limit → (history (picks_and_ticks threads) limit m).met ≡ false }
@@ -25,7 +25,7 @@ pub fn limit_is_not_met_within()
 
 /// Where the limit allows the steps of the first of them alone, these are done in that order, and the limit is met where the next
 /// one was picked.
-#[tactic(auto, using(crate::proofs::InterleavingLemmas::interleaving_met))]
+#[tactic(auto, using(crate::proofs::Running::InterleavingLemmas::interleaving_met))]
 pub fn interleavings_are_played_up_to_the_limit()
     ensures { (before : List ThreadId) (who : ThreadId) (later : List ThreadId) (limit : ℕ) (m : Machine)
         → AreReadyInTurn (before ++ (who ∷ later)) m → m.steps + length before ≡ limit

@@ -50,4 +50,6 @@ pub struct Kernel<W: SwapStore> {
     next: u32,
     // Steps done.
     steps: u32,
+    // The thread that has reserved an address, and that address.
+    reserved: Option<(ThreadId, u32)>,
 }

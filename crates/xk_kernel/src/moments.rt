@@ -5,30 +5,30 @@ ghost use Rattle.event_text.specs.declared.event.Event.{Event};
 ghost use Rattle.xk_base.specs.declared.ids.Number.{Number};
 ghost use Rattle.xk_base.specs.Circle.{is_thread_id};
 ghost use Rattle.machine_laws.specs.WithoutServers.{HasNoServers};
-ghost use Rattle.machine_model.specs.Kept.{AllKeepCursor, AllKeepMatched};
-ghost use Rattle.machine_model.specs.LoanSpan.{LoanSpan, SpansHold};
-ghost use Rattle.machine_model.specs.Machine.{Machine};
-ghost use Rattle.machine_model.specs.Matched.{Matched};
-ghost use Rattle.machine_model.specs.Moments.{IsRun, state_at};
+ghost use Rattle.machine_model.specs.Runs.Kept.{AllKeepCursor, AllKeepMatched};
+ghost use Rattle.machine_model.specs.Runs.LoanSpan.{LoanSpan, SpansHold};
+ghost use Rattle.machine_model.specs.State.Machine.{Machine};
+ghost use Rattle.machine_model.specs.Runs.Matched.{Matched};
+ghost use Rattle.machine_model.specs.Runs.Moments.{IsRun, state_at};
 ghost use Rattle.xk_kernel.specs.BuiltMoments.{AreBuilt};
 ghost use Rattle.xk_kernel.specs.History.{history};
 ghost use Rattle.xk_kernel.specs.HistoryMoments.{moments_of};
 
 /// The moments of a history are a run from its start.
-#[tactic(auto, using(crate::proofs::MomentLemmas::history_is_run))]
+#[tactic(auto, using(crate::proofs::Running::MomentLemmas::history_is_run))]
 pub fn history_is_a_run()
     ensures { (events : List Event) (limit : ℕ) (start : Machine) → IsRun start (moments_of events limit start) }
 {}
 
 /// The run ends in the history's last state.
-#[tactic(auto, using(crate::proofs::MomentLemmas::history_last))]
+#[tactic(auto, using(crate::proofs::Running::MomentLemmas::history_last))]
 pub fn run_ends_in_the_last_state()
     ensures { (events : List Event) (limit : ℕ) (start : Machine)
         → state_at start (moments_of events limit start) (length (moments_of events limit start)) ≡ (history events limit start).machine }
 {}
 
 /// The moments of two lists of events are those of the first, and then, where it doesn't meet the limit, those of the second.
-#[tactic(auto, using(crate::proofs::MomentLemmas::moments_append))]
+#[tactic(auto, using(crate::proofs::Running::MomentLemmas::moments_append))]
 pub fn moments_follow_each_other()
     ensures { (before after : List Event) (limit : ℕ) (m : Machine)
         → moments_of (before ++ after) limit m

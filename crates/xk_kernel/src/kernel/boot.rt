@@ -22,6 +22,7 @@ ghost use Rattle.xk_kernel.specs.State.{machine_of, thread_of};
 ghost use Rattle.xk_kernel.specs.Stepping.{last_of};
 
 use crate::kernel::Kernel;
+use crate::kernel::threads::new_thread;
 use boot_plan::BootPlan;
 use irq_claims::Claims;
 use process_table::Processes;
@@ -32,9 +33,6 @@ use vm_memory::{BootError, BootFault, Memory};
 use xk_base::limits::RECORD_LIMIT;
 use xk_base::{Log, NoMemory, Pid, Regs, ThreadId, Tid};
 use xk_ports::SwapStore;
-
-/// The address at which a thread ends: a fetch there by a thread above tid 1 ends it.
-pub(super) const THREAD_RETURN: u32 = 0xFF80_3000;
 
 /// The end of the stack pages with which a process begins.
 const FIRST_STACK: u32 = 0x8000_0000;
@@ -55,14 +53,7 @@ fn start_process(threads: &mut Threads, pid: Pid, entry: u32)
         state: ThreadState::Idle,
     };
     threads.start(ThreadId { pid, tid: Tid(1) }, idle);
-    let mut regs = Regs::new();
-    regs.set(1, THREAD_RETURN);
-    regs.set(2, FIRST_STACK);
-    let first = Thread {
-        pc: entry,
-        regs,
-        state: ThreadState::Ready,
-    };
+    let first = new_thread(entry, FIRST_STACK, [0; 4]);
     threads.start(ThreadId { pid, tid: Tid(2) }, first);
 }
 
@@ -147,6 +138,7 @@ impl<W: SwapStore> Kernel<W> {
             },
             next: 1,
             steps: 0,
+            reserved: None,
         })
     }
 }

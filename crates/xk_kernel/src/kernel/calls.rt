@@ -2,11 +2,11 @@
 
 ghost use Rattle.std.specs.Prelude.{ℕ, List, ◌≡◌, ◌+◌, ◌≤◌, true, length, IsOk, OnErr, OnOk, IfOk};
 ghost use Rattle.machine_laws.specs.WithoutServers.{is_plain_call};
-ghost use Rattle.machine_model.specs.Calls.{call};
-ghost use Rattle.machine_model.specs.Changes.{call_settled};
-ghost use Rattle.machine_model.specs.Matched.{Matched};
-ghost use Rattle.machine_model.specs.Order.{ready_at};
-ghost use Rattle.machine_model.specs.Step.{after};
+ghost use Rattle.machine_model.specs.Calling.Calls.{call};
+ghost use Rattle.machine_model.specs.State.Changes.{call_settled};
+ghost use Rattle.machine_model.specs.Runs.Matched.{Matched};
+ghost use Rattle.machine_model.specs.State.Order.{ready_at};
+ghost use Rattle.machine_model.specs.Stepping.Step.{after};
 ghost use Rattle.syscall_codec.specs.Calls.{Asks};
 ghost use Rattle.xk_base.specs.declared.records.What.TheVariants.{Call as Called};
 ghost use Rattle.xk_kernel.specs.Calling.{outcome_of};
@@ -19,9 +19,9 @@ use syscall_codec::{Call, Reply, can_wait, read_call, reply_words};
 use xk_base::{What, XousError};
 use xk_ports::SwapStore;
 
-/// What came of a system call that was served.
+/// What becomes of the caller of a system call that is served.
 #[derive(Clone, Copy, Debug, PartialEq, Eq)]
-pub enum Served {
+pub enum CallerFate {
     /// The caller is answered.
     Answered(Reply),
     /// The caller waits.
@@ -74,16 +74,16 @@ impl<W: SwapStore> Kernel<W> {
         let outcome = self.outcome(words)?;
         self.pass(who);
         match outcome {
-            Ok(Served::Answered(reply)) => self.answer(who, reply_words(&reply)),
-            Ok(Served::Waits) => {}
-            Ok(Served::Died) => self.log.push(What::Gone(who.pid)),
+            Ok(CallerFate::Answered(reply)) => self.answer(who, reply_words(&reply)),
+            Ok(CallerFate::Waits) => {}
+            Ok(CallerFate::Died) => self.log.push(What::Gone(who.pid)),
             Err(error) => self.answer(who, reply_words(&Reply::Refused(error))),
         }
         Ok(())
     }
 
     // What comes of a call with these words, before its caller is past it and has its answer.
-    fn outcome(&mut self, words: [u32; 8]) -> Result<Result<Served, XousError>, SwapFault>
+    fn outcome(&mut self, words: [u32; 8]) -> Result<Result<CallerFate, XousError>, SwapFault>
         requires whole { IsWhole W.slot_count W.held self.old }
         requires usable { IsUsable self.old }
         requires ready { ready_at (machine_of W.held self.old) self.old.cursor ≡ true }
@@ -104,7 +104,7 @@ impl<W: SwapStore> Kernel<W> {
     }
 
     // What comes of the call that is asked for.
-    fn serve(&mut self, asked: Call) -> Result<Result<Served, XousError>, SwapFault>
+    fn serve(&mut self, asked: Call) -> Result<Result<CallerFate, XousError>, SwapFault>
         requires whole { IsWhole W.slot_count W.held self.old }
         requires usable { IsUsable self.old }
         requires ready { ready_at (machine_of W.held self.old) self.old.cursor ≡ true }
@@ -138,18 +138,18 @@ impl<W: SwapStore> Kernel<W> {
             Call::DecreaseHeap { bytes } => Ok(self.decrease_heap(bytes)),
             Call::Yield => {
                 self.turn();
-                Ok(Ok(Served::Answered(Reply::Plain)))
+                Ok(Ok(CallerFate::Answered(Reply::Plain)))
             }
             Call::CreateThread { entry, sp, args } => Ok(self.create_thread(entry, sp, args)),
             Call::JoinThread { tid } => Ok(self.join_thread(tid)),
             Call::TerminateProcess { .. } => {
                 self.forget(self.cursor.pid);
-                Ok(Ok(Served::Died))
+                Ok(Ok(CallerFate::Died))
             }
-            Call::GetThreadId => Ok(Ok(Served::Answered(Reply::Thread(self.cursor.tid)))),
+            Call::GetThreadId => Ok(Ok(CallerFate::Answered(Reply::Thread(self.cursor.tid)))),
             Call::GetProcessId => {
                 let pid = self.cursor.pid.0 as u32;
-                Ok(Ok(Served::Answered(Reply::Scalar1(pid))))
+                Ok(Ok(CallerFate::Answered(Reply::Scalar1(pid))))
             }
             _ => unreachable!(),
         }

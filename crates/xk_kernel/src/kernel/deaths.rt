@@ -2,10 +2,10 @@
 
 ghost use Rattle.std.specs.Option.{option_map_or};
 ghost use Rattle.std.specs.Prelude.{◌≡◌, ◌+◌, ◌≤◌, true, false, length, IsTrue};
-ghost use Rattle.machine_model.specs.Changes.{answering, settled};
-ghost use Rattle.machine_model.specs.Ends.{death, forgotten, is_joining, joiners_answered, thread_ended};
-ghost use Rattle.machine_model.specs.Order.{ready_at};
-ghost use Rattle.machine_model.specs.Step.{after};
+ghost use Rattle.machine_model.specs.State.Changes.{answering, settled};
+ghost use Rattle.machine_model.specs.Ending.Ends.{death, forgotten, is_joining, joiners_answered, thread_ended};
+ghost use Rattle.machine_model.specs.State.Order.{ready_at};
+ghost use Rattle.machine_model.specs.Stepping.Step.{after};
 ghost use Rattle.vm_memory.specs.Memory.{processes};
 ghost use Rattle.xk_base.specs.Circle.{is_pid};
 ghost use Rattle.xk_base.specs.declared.records.What.TheVariants.{End};

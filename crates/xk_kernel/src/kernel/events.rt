@@ -1,7 +1,7 @@
 //! The events beside the steps of a tick.
 
 ghost use Rattle.std.specs.Prelude.{◌≡◌, true};
-ghost use Rattle.machine_model.specs.Events.{picked};
+ghost use Rattle.machine_model.specs.Stepping.Events.{picked};
 ghost use Rattle.vm_memory.specs.Tie.{IsTied};
 ghost use Rattle.xk_kernel.specs.Built.{event_built};
 ghost use Rattle.xk_kernel.specs.Sound.{IsSound, IsUsable, IsWhole, Keeps};
@@ -38,7 +38,7 @@ impl<W: SwapStore> Kernel<W> {
     }
 
     /// Does the whole of `pick` and `kill`, and nothing for `tick`, whose steps are done one by one.
-    /// Its records are the last ones then.
+    /// Its records are the last ones then. A `kill` ends a reservation.
     pub fn event_start(&mut self, e: Event)
         requires sound { IsSound W.slot_count W.held self.old }
         requires usable { IsUsable self.old }
@@ -54,6 +54,7 @@ impl<W: SwapStore> Kernel<W> {
             Event::Tick(_) => {}
             Event::Pick(pid, tid) => self.pick(ThreadId { pid, tid }),
             Event::Kill(pid) => {
+                self.reserved = None;
                 if self.procs.alive(pid) {
                     self.forget(pid);
                     self.log.push(What::Gone(pid));

@@ -1,18 +1,17 @@
 //! The five calls on memory. The caller is the thread whose turn it is.
 
 ghost use Rattle.std.specs.Prelude.{◌≡◌, ◌==◌, ◌/◌, if◌then◌else◌, None, Some, IfOk, IsOk, OnErr, OnOk};
-ghost use Rattle.machine_model.specs.Changes.{Served as ServedOutcome, unless_refused};
-ghost use Rattle.machine_model.specs.Matched.{AreHeapsMatched};
-ghost use Rattle.machine_model.specs.MemoryCalls.{are_bad_flags, is_bad_range, decrease_refusals, decrease_served, increase_refusals, increase_served, map_refusals, map_served, unmap_refusals, unmap_served, update_refusals, update_served};
-ghost use Rattle.machine_model.specs.Views.{page_of};
+ghost use Rattle.machine_model.specs.State.Changes.{Served, unless_refused};
+ghost use Rattle.machine_model.specs.Runs.Matched.{AreHeapsMatched};
+ghost use Rattle.machine_model.specs.Calling.MemoryCalls.{are_bad_flags, is_bad_range, decrease_refusals, decrease_served, increase_refusals, increase_served, map_refusals, map_served, unmap_refusals, unmap_served, update_refusals, update_served};
+ghost use Rattle.xk_base.specs.Windows.{page_of};
 ghost use Rattle.xk_base.specs.Flags.{right_of};
 ghost use Rattle.xk_kernel.specs.Calling.{outcome_of};
 ghost use Rattle.xk_kernel.specs.Sound.{IsUsable, IsWhole, Keeps};
 ghost use Rattle.xk_kernel.specs.State.{machine_of};
 
-use crate::kernel::calls::Served;
+use crate::kernel::calls::CallerFate;
 use crate::kernel::{Kernel, SwapFault};
-use bitflags::Flags;
 use syscall_codec::{MapFlags, Reply};
 use xk_base::limits::{CONSOLE_ADDRESS, PAGE_SIZE};
 use xk_base::{Failed, Place, Right, Vpn, Window, XousError};
@@ -39,13 +38,10 @@ fn right_asked(flags: u32) -> Option<Right>
     ensures { result ≡ (if are_bad_flags flags then None else Some (right_of flags)) }
 {
     let flags = MapFlags::from_bits(flags)?;
-    if !flags.contains(MapFlags::R) {
+    if !flags.reads() {
         return None;
     }
-    Some(Right {
-        w: flags.contains(MapFlags::W),
-        x: flags.contains(MapFlags::X),
-    })
+    Some(flags.right())
 }
 
 // The page that MapMemory asks for; none where it leaves the choice.
@@ -76,12 +72,12 @@ impl<W: SwapStore> Kernel<W> {
         virt: u32,
         size: u32,
         flags: u32,
-    ) -> Result<Result<Served, XousError>, SwapFault>
+    ) -> Result<Result<CallerFate, XousError>, SwapFault>
         requires whole { IsWhole W.slot_count W.held self.old }
         requires usable { IsUsable self.old }
         ensures whole { IsWhole W.slot_count W.held self.new }
         ensures usable { OnOk result (IsUsable self.new) }
-        ensures outcome { IfOk result (λ served. outcome_of self.old.cursor (machine_of W.held self.new) served ≡ unless_refused (map_refusals (machine_of W.held self.old) phys virt size flags) (ServedOutcome (map_served (machine_of W.held self.old) phys virt size flags))) }
+        ensures outcome { IfOk result (λ served. outcome_of self.old.cursor (machine_of W.held self.new) served ≡ unless_refused (map_refusals (machine_of W.held self.old) phys virt size flags) (Served (map_served (machine_of W.held self.old) phys virt size flags))) }
         ensures refused { IfOk result (λ served. OnErr served (self.new ≡ self.old)) }
         ensures log { self.new.log ≡ self.old.log }
         ensures keeps { Keeps W.is_honest W.held W.slot_count W.asked W.faults self.old self.new }
@@ -99,7 +95,7 @@ impl<W: SwapStore> Kernel<W> {
                 return Ok(Err(XousError::BadAddress));
             }
             return match self.mem.make_console(self.cursor.pid, at, right.w) {
-                Ok(first) => Ok(Ok(Served::Answered(Reply::Range(PAGE_SIZE * first.0, size)))),
+                Ok(first) => Ok(Ok(CallerFate::Answered(Reply::Range(PAGE_SIZE * first.0, size)))),
                 Err(error) => Ok(Err(error)),
             };
         }
@@ -110,19 +106,19 @@ impl<W: SwapStore> Kernel<W> {
             .mem
             .make(self.cursor.pid, Window::Map, at, size / PAGE_SIZE, right)
         {
-            Ok(Ok(first)) => Ok(Ok(Served::Answered(Reply::Range(PAGE_SIZE * first.0, size)))),
+            Ok(Ok(first)) => Ok(Ok(CallerFate::Answered(Reply::Range(PAGE_SIZE * first.0, size)))),
             Ok(Err(error)) => Ok(Err(error)),
             Err(Failed) => Err(SwapFault),
         }
     }
 
     // UnmapMemory: the pages go, the console too.
-    pub(super) fn unmap_memory(&mut self, address: u32, size: u32) -> Result<Served, XousError>
+    pub(super) fn unmap_memory(&mut self, address: u32, size: u32) -> Result<CallerFate, XousError>
         requires whole { IsWhole W.slot_count W.held self.old }
         requires usable { IsUsable self.old }
         ensures whole { IsWhole W.slot_count W.held self.new }
         ensures usable { IsUsable self.new }
-        ensures outcome { outcome_of self.old.cursor (machine_of W.held self.new) result ≡ unless_refused (unmap_refusals (machine_of W.held self.old) address size) (ServedOutcome (unmap_served (machine_of W.held self.old) address size)) }
+        ensures outcome { outcome_of self.old.cursor (machine_of W.held self.new) result ≡ unless_refused (unmap_refusals (machine_of W.held self.old) address size) (Served (unmap_served (machine_of W.held self.old) address size)) }
         ensures refused { OnErr result (self.new ≡ self.old) }
         ensures log { self.new.log ≡ self.old.log }
         ensures keeps { Keeps W.is_honest W.held W.slot_count W.asked W.faults self.old self.new }
@@ -132,7 +128,7 @@ impl<W: SwapStore> Kernel<W> {
         }
         let first = self.caller_place(address);
         match self.mem.remove_run(first, size / PAGE_SIZE) {
-            Ok(()) => Ok(Served::Answered(Reply::Plain)),
+            Ok(()) => Ok(CallerFate::Answered(Reply::Plain)),
             Err(error) => Err(error),
         }
     }
@@ -143,12 +139,12 @@ impl<W: SwapStore> Kernel<W> {
         address: u32,
         size: u32,
         flags: u32,
-    ) -> Result<Served, XousError>
+    ) -> Result<CallerFate, XousError>
         requires whole { IsWhole W.slot_count W.held self.old }
         requires usable { IsUsable self.old }
         ensures whole { IsWhole W.slot_count W.held self.new }
         ensures usable { IsUsable self.new }
-        ensures outcome { outcome_of self.old.cursor (machine_of W.held self.new) result ≡ unless_refused (update_refusals (machine_of W.held self.old) address size flags) (ServedOutcome (update_served (machine_of W.held self.old) address size flags)) }
+        ensures outcome { outcome_of self.old.cursor (machine_of W.held self.new) result ≡ unless_refused (update_refusals (machine_of W.held self.old) address size flags) (Served (update_served (machine_of W.held self.old) address size flags)) }
         ensures refused { OnErr result (self.new ≡ self.old) }
         ensures log { self.new.log ≡ self.old.log }
         ensures keeps { Keeps W.is_honest W.held W.slot_count W.asked W.faults self.old self.new }
@@ -161,7 +157,7 @@ impl<W: SwapStore> Kernel<W> {
         };
         let first = self.caller_place(address);
         match self.mem.reduce_run(first, size / PAGE_SIZE, right) {
-            Ok(()) => Ok(Served::Answered(Reply::Plain)),
+            Ok(()) => Ok(CallerFate::Answered(Reply::Plain)),
             Err(error) => Err(error),
         }
     }
@@ -170,13 +166,13 @@ impl<W: SwapStore> Kernel<W> {
     pub(super) fn increase_heap(
         &mut self,
         bytes: u32,
-    ) -> Result<Result<Served, XousError>, SwapFault>
+    ) -> Result<Result<CallerFate, XousError>, SwapFault>
         requires whole { IsWhole W.slot_count W.held self.old }
         requires usable { IsUsable self.old }
-        requires matched { AreHeapsMatched (machine_of W.held self.old) }
+        requires matched { AreHeapsMatched (machine_of W.held self.old).process (machine_of W.held self.old).ledger }
         ensures whole { IsWhole W.slot_count W.held self.new }
         ensures usable { OnOk result (IsUsable self.new) }
-        ensures outcome { IfOk result (λ served. outcome_of self.old.cursor (machine_of W.held self.new) served ≡ unless_refused (increase_refusals (machine_of W.held self.old) bytes) (ServedOutcome (increase_served (machine_of W.held self.old) bytes))) }
+        ensures outcome { IfOk result (λ served. outcome_of self.old.cursor (machine_of W.held self.new) served ≡ unless_refused (increase_refusals (machine_of W.held self.old) bytes) (Served (increase_served (machine_of W.held self.old) bytes))) }
         ensures refused { IfOk result (λ served. OnErr served (self.new ≡ self.old)) }
         ensures log { self.new.log ≡ self.old.log }
         ensures keeps { Keeps W.is_honest W.held W.slot_count W.asked W.faults self.old self.new }
@@ -192,14 +188,14 @@ impl<W: SwapStore> Kernel<W> {
         }
         let address = HEAP_START + heap;
         if bytes == 0 {
-            return Ok(Ok(Served::Answered(Reply::Range(address, bytes))));
+            return Ok(Ok(CallerFate::Answered(Reply::Range(address, bytes))));
         }
         let first = Vpn(address / PAGE_SIZE);
         let n = bytes / PAGE_SIZE;
         match self.mem.make(pid, Window::Heap, Some(first), n, HEAP_RIGHT) {
             Ok(Ok(_)) => {
                 self.procs.set_heap(pid, heap + bytes);
-                Ok(Ok(Served::Answered(Reply::Range(address, bytes))))
+                Ok(Ok(CallerFate::Answered(Reply::Range(address, bytes))))
             }
             Ok(Err(error)) => Ok(Err(error)),
             Err(Failed) => Err(SwapFault),
@@ -207,13 +203,13 @@ impl<W: SwapStore> Kernel<W> {
     }
 
     // DecreaseHeap: the pages at the end of the heap go; places without a page are passed over.
-    pub(super) fn decrease_heap(&mut self, bytes: u32) -> Result<Served, XousError>
+    pub(super) fn decrease_heap(&mut self, bytes: u32) -> Result<CallerFate, XousError>
         requires whole { IsWhole W.slot_count W.held self.old }
         requires usable { IsUsable self.old }
-        requires matched { AreHeapsMatched (machine_of W.held self.old) }
+        requires matched { AreHeapsMatched (machine_of W.held self.old).process (machine_of W.held self.old).ledger }
         ensures whole { IsWhole W.slot_count W.held self.new }
         ensures usable { IsUsable self.new }
-        ensures outcome { outcome_of self.old.cursor (machine_of W.held self.new) result ≡ unless_refused (decrease_refusals (machine_of W.held self.old) bytes) (ServedOutcome (decrease_served (machine_of W.held self.old) bytes)) }
+        ensures outcome { outcome_of self.old.cursor (machine_of W.held self.new) result ≡ unless_refused (decrease_refusals (machine_of W.held self.old) bytes) (Served (decrease_served (machine_of W.held self.old) bytes)) }
         ensures refused { OnErr result (self.new ≡ self.old) }
         ensures log { self.new.log ≡ self.old.log }
         ensures keeps { Keeps W.is_honest W.held W.slot_count W.asked W.faults self.old self.new }
@@ -229,7 +225,7 @@ impl<W: SwapStore> Kernel<W> {
         match self.mem.clear_run(first, bytes / PAGE_SIZE) {
             Ok(()) => {
                 self.procs.set_heap(self.cursor.pid, heap - bytes);
-                Ok(Served::Answered(Reply::Plain))
+                Ok(CallerFate::Answered(Reply::Plain))
             }
             Err(error) => Err(error),
         }

@@ -1,7 +1,7 @@
 //! What a kernel tells without a step, the end of a turn, and its own end.
 
 ghost use Rattle.std.specs.Prelude.{◌≡◌, is_some};
-ghost use Rattle.machine_model.specs.Order.{actor, ready_at, turn};
+ghost use Rattle.machine_model.specs.State.Order.{actor, ready_at, turn};
 ghost use Rattle.vm_memory.specs.Here.{here_at};
 ghost use Rattle.vm_memory.specs.Memory.{ram_of, store_of};
 ghost use Rattle.vm_memory.specs.Tie.{IsTied};
@@ -121,6 +121,7 @@ impl<W: SwapStore> Kernel<W> {
             cursor: _,
             next: _,
             steps: _,
+            reserved: _,
         } = self;
         mem.close()
     }

@@ -2,8 +2,10 @@
 
 ghost use Rattle.std.specs.Prelude.{◌≡◌, ◌<◌, ◌⊎◌, false, IfOk, IsOk, OnErr, OnOk, Some, length, ◌+◌, ◌≤◌, IsTrue, [], map};
 ghost use Rattle.ledger_model.specs.Ledger.{pages};
-ghost use Rattle.machine_model.specs.Order.{actor};
-ghost use Rattle.machine_model.specs.Step.{console_told, ends_handler, ends_thread, record_of, step};
+ghost use Rattle.machine_model.specs.State.Order.{actor};
+ghost use Rattle.std.specs.Option.{option_map};
+ghost use Rattle.machine_model.specs.Stepping.Reservations.{reservation_of};
+ghost use Rattle.machine_model.specs.Stepping.Step.{console_told, ends_handler, ends_thread, record_of, step};
 ghost use Rattle.vm_memory.specs.Bytes.{none_out};
 ghost use Rattle.vm_memory.specs.Memory.{processes, frames_for_pages, store_of};
 ghost use Rattle.vm_memory.specs.Tie.{IsTied};
@@ -11,12 +13,12 @@ ghost use Rattle.xk_base.specs.Circle.{is_thread_id};
 ghost use Rattle.xk_base.specs.Outside.{Rose};
 ghost use Rattle.xk_kernel.specs.Acting.{Acts};
 ghost use Rattle.xk_kernel.specs.Sound.{IsSound, IsUsable, IsWhole, Keeps};
-ghost use Rattle.xk_kernel.specs.State.{machine_of};
+ghost use Rattle.xk_kernel.specs.State.{as_reservation, machine_of};
 ghost use Rattle.xk_kernel.specs.Stepping.{DoesStep};
 ghost use Rattle.xk_kernel.specs.Telling.{log_with};
 
-use crate::kernel::boot::THREAD_RETURN;
 use crate::kernel::calls::is_built;
+use crate::kernel::threads::THREAD_RETURN;
 use crate::kernel::{Kernel, Stepped, SwapFault};
 use rv32_hart::Ran;
 use xk_base::{ThreadId, What};
@@ -27,6 +29,22 @@ const HANDLER_RETURN: u32 = 0xFF80_2000;
 
 /// The register a0.
 const A0: u8 = 10;
+
+// What the thread did whose step it is.
+enum Acted {
+    // Its step, after which it has reserved this address.
+    Done(Option<u32>),
+    // Nothing, as its step isn't built.
+    Unbuilt,
+}
+
+// The reservation of a thread that has reserved this address.
+fn reservation(who: ThreadId, reserved: Option<u32>) -> Option<(ThreadId, u32)>
+    ensures { option_map as_reservation result ≡ reservation_of who reserved }
+{
+    let address = reserved?;
+    Some((who, address))
+}
 
 // Whether a fetch there ends the thread.
 fn ends_thread(who: ThreadId, pc: u32) -> bool
@@ -79,16 +97,19 @@ impl<W: SwapStore> Kernel<W> {
         ensures keeps { Keeps W.is_honest W.held W.slot_count W.asked W.faults self.old self.new }
     {
         let number = self.steps + 1;
-        if !self.act(who)? {
-            return Ok(Stepped::NotBuilt);
+        match self.act(who)? {
+            Acted::Done(reserved) => {
+                self.steps = number;
+                self.reserved = reservation(who, reserved);
+                Ok(Stepped::Did)
+            }
+            Acted::Unbuilt => Ok(Stepped::NotBuilt),
         }
-        self.steps = number;
-        Ok(Stepped::Did)
     }
 
     // The thread, whose step it is, ends or does its instruction, where that is built. The step isn't
     // counted yet.
-    fn act(&mut self, who: ThreadId) -> Result<bool, SwapFault>
+    fn act(&mut self, who: ThreadId) -> Result<Acted, SwapFault>
         requires sound { IsSound W.slot_count W.held self.old }
         requires usable { IsUsable self.old }
         requires few { self.old.steps < 4000000000 }
@@ -103,33 +124,34 @@ impl<W: SwapStore> Kernel<W> {
         if ends_thread(who, thread.pc) {
             self.begin(who);
             self.end_thread(thread.regs.get(A0));
-            return Ok(true);
+            return Ok(Acted::Done(None));
         }
         if ends_handler(who, thread.pc) {
-            return Ok(false);
+            return Ok(Acted::Unbuilt);
         }
-        match self.run(who) {
+        let mut reserved = self.reserved_by(who);
+        match self.run(who, &mut reserved) {
             Ran::Next(_) => {
                 self.begin(who);
-                Ok(true)
+                Ok(Acted::Done(reserved))
             }
             Ran::Device { offset, value, .. } => {
                 self.tell_console(who, offset, value);
-                Ok(true)
+                Ok(Acted::Done(reserved))
             }
             Ran::Trap { cause, value } => {
                 self.begin(who);
                 self.die(What::Fault(who, cause, value));
-                Ok(true)
+                Ok(Acted::Done(reserved))
             }
             Ran::Ecall => {
                 let words = thread.regs.arguments();
                 if !is_built(&words) {
-                    return Ok(false);
+                    return Ok(Acted::Unbuilt);
                 }
                 self.begin(who);
                 self.call(words)?;
-                Ok(true)
+                Ok(Acted::Done(reserved))
             }
             Ran::Failed => Err(SwapFault),
         }

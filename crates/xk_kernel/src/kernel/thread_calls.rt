@@ -1,38 +1,21 @@
 //! The calls that make a thread and wait for one. The caller is the thread whose turn it is.
 
 ghost use Rattle.std.specs.Prelude.{◌≡◌, true, OnErr};
-ghost use Rattle.machine_model.specs.Changes.{Served as ServedOutcome, unless_refused};
-ghost use Rattle.machine_model.specs.Order.{ready_at};
-ghost use Rattle.machine_model.specs.ThreadCalls.{create_refusals, create_served, join_refusals, join_served};
-ghost use Rattle.machine_model.specs.Threads.{new_thread};
+ghost use Rattle.machine_model.specs.State.Changes.{Served, unless_refused};
+ghost use Rattle.machine_model.specs.State.Order.{ready_at};
+ghost use Rattle.machine_model.specs.Calling.ThreadCalls.{create_refusals, create_served, join_refusals, join_served};
 ghost use Rattle.xk_kernel.specs.Calling.{outcome_of};
 ghost use Rattle.xk_kernel.specs.Sound.{IsWhole};
-ghost use Rattle.xk_kernel.specs.State.{machine_of, thread_of};
+ghost use Rattle.xk_kernel.specs.State.{machine_of};
 
 use crate::kernel::Kernel;
-use crate::kernel::boot::THREAD_RETURN;
-use crate::kernel::calls::Served;
+use crate::kernel::calls::CallerFate;
+use crate::kernel::threads::new_thread;
 use syscall_codec::Reply;
-use thread_table::{Thread, ThreadState};
+use thread_table::ThreadState;
 use xk_base::limits::TID_LIMIT;
-use xk_base::{Regs, ThreadId, Tid, XousError};
+use xk_base::{ThreadId, Tid, XousError};
 use xk_ports::SwapStore;
-
-// A thread that begins at an address.
-fn new_thread(entry: u32, sp: u32, args: [u32; 4]) -> Thread
-    ensures { thread_of result ≡ new_thread entry sp args }
-{
-    let mut regs = Regs::new();
-    regs.set(1, THREAD_RETURN);
-    regs.set(2, sp);
-    let [a0, a1, a2, a3] = args;
-    regs.set_arguments([a0, a1, a2, a3, 0, 0, 0, 0]);
-    Thread {
-        pc: entry,
-        regs,
-        state: ThreadState::Ready,
-    }
-}
 
 impl<W: SwapStore> Kernel<W> {
     // CreateThread: a new thread has the least free tid.
@@ -41,10 +24,10 @@ impl<W: SwapStore> Kernel<W> {
         entry: u32,
         sp: u32,
         args: [u32; 4],
-    ) -> Result<Served, XousError>
+    ) -> Result<CallerFate, XousError>
         requires whole { IsWhole W.slot_count W.held self.old }
         ensures whole { IsWhole W.slot_count W.held self.new }
-        ensures outcome { outcome_of self.old.cursor (machine_of W.held self.new) result ≡ unless_refused (create_refusals (machine_of W.held self.old) entry) (ServedOutcome (create_served (machine_of W.held self.old) entry sp args)) }
+        ensures outcome { outcome_of self.old.cursor (machine_of W.held self.new) result ≡ unless_refused (create_refusals (machine_of W.held self.old) entry) (Served (create_served (machine_of W.held self.old) entry sp args)) }
         ensures refused { OnErr result (self.new ≡ self.old) }
         ensures mem { self.new.mem ≡ self.old.mem }
         ensures log { self.new.log ≡ self.old.log }
@@ -58,15 +41,15 @@ impl<W: SwapStore> Kernel<W> {
         };
         self.threads
             .start(ThreadId { pid, tid }, new_thread(entry, sp, args));
-        Ok(Served::Answered(Reply::Thread(tid)))
+        Ok(CallerFate::Answered(Reply::Thread(tid)))
     }
 
     // JoinThread: the caller waits for the end of that thread.
-    pub(super) fn join_thread(&mut self, tid: u32) -> Result<Served, XousError>
+    pub(super) fn join_thread(&mut self, tid: u32) -> Result<CallerFate, XousError>
         requires whole { IsWhole W.slot_count W.held self.old }
         requires ready { ready_at (machine_of W.held self.old) self.old.cursor ≡ true }
         ensures whole { IsWhole W.slot_count W.held self.new }
-        ensures outcome { outcome_of self.old.cursor (machine_of W.held self.new) result ≡ unless_refused (join_refusals (machine_of W.held self.old) tid) (ServedOutcome (join_served (machine_of W.held self.old) tid)) }
+        ensures outcome { outcome_of self.old.cursor (machine_of W.held self.new) result ≡ unless_refused (join_refusals (machine_of W.held self.old) tid) (Served (join_served (machine_of W.held self.old) tid)) }
         ensures refused { OnErr result (self.new ≡ self.old) }
         ensures mem { self.new.mem ≡ self.old.mem }
         ensures log { self.new.log ≡ self.old.log }
@@ -86,6 +69,6 @@ impl<W: SwapStore> Kernel<W> {
         let mut thread = self.thread(who);
         thread.state = ThreadState::Joining(awaited);
         self.put(who, thread);
-        Ok(Served::Waits)
+        Ok(CallerFate::Waits)
     }
 }

@@ -1,4 +1,4 @@
-use Rattle.xk_kernel.proofs.MomentLemmas.{history_matched}
+use Rattle.xk_kernel.proofs.Running.MomentLemmas.{history_matched}
 use Rattle.xk_kernel.proofs.moments.history_stays_matched.Goals as goal
 
 -- src/moments.rt

@@ -1,4 +1,4 @@
-use Rattle.xk_kernel.proofs.MomentLemmas.{history_spans}
+use Rattle.xk_kernel.proofs.Running.MomentLemmas.{history_spans}
 use Rattle.xk_kernel.proofs.moments.loans_have_their_spans.Goals as goal
 
 -- src/moments.rt

@@ -1,4 +1,4 @@
-use Rattle.xk_kernel.proofs.MomentLemmas.{moments_matched}
+use Rattle.xk_kernel.proofs.Running.MomentLemmas.{moments_matched}
 use Rattle.xk_kernel.proofs.moments.moments_stay_matched.Goals as goal
 
 -- src/moments.rt

@@ -1,21 +1,21 @@
 -- The thread ends, or its instruction is executed: what the kernel became and told is what the machine makes of it.
 use Rattle.std.proofs.Common.{◌≡◌, ◌+◌, ◌<◌, true, false, [], refl, sym, ap, subst, ◌∙◌}
-use Rattle.machine_laws.proofs.AnsweredCalls.{actor_ready}
+use Rattle.machine_laws.proofs.Threading.ThreadStepLemmas.{actor_ready}
 use Rattle.machine_laws.specs.WithoutServers.{is_plain_call}
 use Rattle.machine_model.proofs.KeptLemmas.{matched_at}
-use Rattle.machine_model.specs.Acts.{is_call}
-use Rattle.machine_model.specs.Calls.{call}
-use Rattle.machine_model.specs.Changes.{call_settled, settled}
-use Rattle.machine_model.specs.Ends.{death, thread_ended}
-use Rattle.machine_model.specs.Matched.{Matched}
-use Rattle.machine_model.specs.Step.{after, console_told, executed}
+use Rattle.machine_model.specs.Stepping.Acts.{is_call}
+use Rattle.machine_model.specs.Calling.Calls.{call}
+use Rattle.machine_model.specs.State.Changes.{call_settled, settled}
+use Rattle.machine_model.specs.Ending.Ends.{death, thread_ended}
+use Rattle.machine_model.specs.Runs.Matched.{Matched}
+use Rattle.machine_model.specs.Stepping.Step.{after, console_told, executed}
 use Rattle.xk_base.specs.Circle.{is_thread_id}
 use Rattle.xk_base.specs.Registers.{arguments_of}
 use Rattle.xk_base.specs.declared.records.What.TheVariants.{Call, End, Fault}
 use Rattle.xk_kernel.specs.Running.{machine_after}
 use Rattle.xk_kernel.specs.State.{machine_of, thread_of}
-use Rattle.xk_kernel.proofs.ActLemmas.{actor_known, at, begun_done, begun_ready, built_call, built_end, built_instruction, call_executed, device_executed, fetched, never_fails, next_executed, run_done, run_steps, told_end, told_executed, trap_executed, unbuilt_handler}
-use Rattle.xk_kernel.proofs.SettleLemmas.{ready_there}
+use Rattle.xk_kernel.proofs.Acting.ActLemmas.{actor_known, at, begun_done, begun_ready, built_call, built_end, built_instruction, call_executed, device_executed, fetched, left_at_end, left_executed, never_fails, next_executed, run_done, run_steps, told_end, told_executed, trap_executed, unbuilt_handler}
+use Rattle.xk_kernel.proofs.Calling.SettleLemmas.{ready_there}
 use Rattle.xk_kernel.proofs.kernel.Kernel.act.Goals as goal
 
 pub thread-thread-requires : goal.thread-thread-requires
@@ -37,6 +37,7 @@ returns-then-ends_thread-clause-acts g c =
       begun_done g.W.SwapStore.held c.args.self.now c.begin.new.self c.end_thread.new.self c.args.who (λ w m. after (End w) (settled (thread_ended w c.get.result m)))
           (told_end (machine_of g.W.SwapStore.held c.args.self.now) c.args.who (thread_of c.thread-thread.result) c.thread-thread.ensures ends ∙ ap (λ a0. after (End c.args.who) (settled (thread_ended c.args.who a0 (at c.args.who (machine_of g.W.SwapStore.held c.args.self.now))))) (sym c.get.ensures.value))
           c.begin.ensures.machine c.begin.ensures.log c.end_thread.ensures.tells,
+      left_at_end (machine_of g.W.SwapStore.held c.args.self.now) c.args.who (thread_of c.thread-thread.result) c.thread-thread.ensures ends,
     )
 
 pub returns-then-ends_handler-clause-acts : goal.returns-then-ends_handler-clause-acts
@@ -58,6 +59,8 @@ returns-in-Next-clause-acts g c =
       built_instruction (machine_of g.W.SwapStore.held c.args.self.now) c.args.who (thread_of c.thread-thread.result) c.thread-thread.ensures c.requires.who (sym c.ends_thread.ensures ∙ c.if-ends_thread.false) (sym c.ends_handler.ensures ∙ c.if-ends_handler.false) next.1,
       run_done g.W.SwapStore.held c.args.self.now c.run.new.self c.begin-in-Next.new.self c.args.who (fetched (machine_of g.W.SwapStore.held c.args.self.now) c.args.who (thread_of c.thread-thread.result) c.thread-thread.ensures) [] (told_executed (machine_of g.W.SwapStore.held c.args.self.now) c.args.who (thread_of c.thread-thread.result) c.thread-thread.ensures (sym c.ends_thread.ensures ∙ c.if-ends_thread.false) (sym c.ends_handler.ensures ∙ c.if-ends_handler.false) ∙ next.0) (c.run.ensures.machine (thread_of c.thread-thread.result) c.thread-thread.ensures) c.run.ensures.log
           c.begin-in-Next.ensures.machine c.begin-in-Next.ensures.log,
+      left_executed (machine_of g.W.SwapStore.held c.args.self.now) c.args.who (thread_of c.thread-thread.result) c.thread-thread.ensures (sym c.ends_thread.ensures ∙ c.if-ends_thread.false) (sym c.ends_handler.ensures ∙ c.if-ends_handler.false)
+          c.run.new.reserved (c.run.ensures.reserved (thread_of c.thread-thread.result) c.thread-thread.ensures),
     )
 
 pub tell_console-requires-clause-id : goal.tell_console-requires-clause-id
@@ -73,6 +76,8 @@ returns-in-Device-clause-acts g c =
       built_instruction (machine_of g.W.SwapStore.held c.args.self.now) c.args.who (thread_of c.thread-thread.result) c.thread-thread.ensures c.requires.who (sym c.ends_thread.ensures ∙ c.if-ends_thread.false) (sym c.ends_handler.ensures ∙ c.if-ends_handler.false) device.1,
       run_done g.W.SwapStore.held c.args.self.now c.run.new.self c.tell_console.new.self c.args.who (fetched (machine_of g.W.SwapStore.held c.args.self.now) c.args.who (thread_of c.thread-thread.result) c.thread-thread.ensures) (console_told c.args.who c.in-Device.offset c.in-Device.value) (told_executed (machine_of g.W.SwapStore.held c.args.self.now) c.args.who (thread_of c.thread-thread.result) c.thread-thread.ensures (sym c.ends_thread.ensures ∙ c.if-ends_thread.false) (sym c.ends_handler.ensures ∙ c.if-ends_handler.false) ∙ device.0) (c.run.ensures.machine (thread_of c.thread-thread.result) c.thread-thread.ensures) c.run.ensures.log
           c.tell_console.ensures.machine c.tell_console.ensures.log,
+      left_executed (machine_of g.W.SwapStore.held c.args.self.now) c.args.who (thread_of c.thread-thread.result) c.thread-thread.ensures (sym c.ends_thread.ensures ∙ c.if-ends_thread.false) (sym c.ends_handler.ensures ∙ c.if-ends_handler.false)
+          c.run.new.reserved (c.run.ensures.reserved (thread_of c.thread-thread.result) c.thread-thread.ensures),
     )
 
 -- ---- dies of a trap
@@ -92,6 +97,8 @@ returns-in-Trap-clause-acts g c =
       built_instruction (machine_of g.W.SwapStore.held c.args.self.now) c.args.who (thread_of c.thread-thread.result) c.thread-thread.ensures c.requires.who (sym c.ends_thread.ensures ∙ c.if-ends_thread.false) (sym c.ends_handler.ensures ∙ c.if-ends_handler.false) trap.2,
       begun_done g.W.SwapStore.held c.args.self.now c.begin-in-Trap.new.self c.die.new.self c.args.who (λ w m. after (Fault c.args.who c.in-Trap.cause c.in-Trap.value) (settled (death w.pid m)))
           (told_executed (machine_of g.W.SwapStore.held c.args.self.now) c.args.who (thread_of c.thread-thread.result) c.thread-thread.ensures (sym c.ends_thread.ensures ∙ c.if-ends_thread.false) (sym c.ends_handler.ensures ∙ c.if-ends_handler.false) ∙ trap.0) begun (c.begin-in-Trap.ensures.log ∙ (λ i. record (c.run.ensures.log i) { step = run_steps g.W.SwapStore.held c.args.self.now c.run.new.self c.run.new.self c.args.who (fetched (machine_of g.W.SwapStore.held c.args.self.now) c.args.who (thread_of c.thread-thread.result) c.thread-thread.ensures) (c.run.ensures.machine (thread_of c.thread-thread.result) c.thread-thread.ensures) i + 1; records = [] })) c.die.ensures.tells,
+      left_executed (machine_of g.W.SwapStore.held c.args.self.now) c.args.who (thread_of c.thread-thread.result) c.thread-thread.ensures (sym c.ends_thread.ensures ∙ c.if-ends_thread.false) (sym c.ends_handler.ensures ∙ c.if-ends_handler.false)
+          c.run.new.reserved (c.run.ensures.reserved (thread_of c.thread-thread.result) c.thread-thread.ensures),
     )
 
 -- ---- calls the kernel
@@ -134,6 +141,8 @@ returns-in_ok-call-in-Ecall-clause-acts g c =
       begun_done g.W.SwapStore.held c.args.self.now c.begin-in-Ecall.new.self c.call.new.self c.args.who (λ w m. after (Call w c.arguments-words.result) (call_settled m (call m c.arguments-words.result)))
           (told_executed (machine_of g.W.SwapStore.held c.args.self.now) c.args.who (thread_of c.thread-thread.result) c.thread-thread.ensures (sym c.ends_thread.ensures ∙ c.if-ends_thread.false) (sym c.ends_handler.ensures ∙ c.if-ends_handler.false) ∙ called.0 ∙ ap (λ words. after (Call c.args.who words) (call_settled (at c.args.who (machine_of g.W.SwapStore.held c.args.self.now)) (call (at c.args.who (machine_of g.W.SwapStore.held c.args.self.now)) words))) (sym c.arguments-words.ensures.are))
           begun (c.begin-in-Ecall.ensures.log ∙ (λ i. record (c.run.ensures.log i) { step = run_steps g.W.SwapStore.held c.args.self.now c.run.new.self c.run.new.self c.args.who (fetched (machine_of g.W.SwapStore.held c.args.self.now) c.args.who (thread_of c.thread-thread.result) c.thread-thread.ensures) (c.run.ensures.machine (thread_of c.thread-thread.result) c.thread-thread.ensures) i + 1; records = [] })) c.in_ok-call-in-Ecall.ensures.tells,
+      left_executed (machine_of g.W.SwapStore.held c.args.self.now) c.args.who (thread_of c.thread-thread.result) c.thread-thread.ensures (sym c.ends_thread.ensures ∙ c.if-ends_thread.false) (sym c.ends_handler.ensures ∙ c.if-ends_handler.false)
+          c.run.new.reserved (c.run.ensures.reserved (thread_of c.thread-thread.result) c.thread-thread.ensures),
     )
 
 -- ---- memory doesn't fail

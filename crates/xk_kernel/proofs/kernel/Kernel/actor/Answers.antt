@@ -1,5 +1,5 @@
 use Rattle.std.proofs.Common.{sym, ◌∙◌}
-use Rattle.xk_kernel.proofs.OrderLemmas.{acts_itself, acts_next}
+use Rattle.xk_kernel.proofs.Acting.OrderLemmas.{acts_itself, acts_next}
 use Rattle.xk_kernel.proofs.kernel.Kernel.actor.Goals as goal
 
 -- src/kernel/readers.rt

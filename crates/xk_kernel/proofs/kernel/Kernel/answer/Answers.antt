@@ -1,10 +1,10 @@
 use Rattle.std.proofs.Common.{Some, [], ◌∷◌, ap, ◌∙◌}
-use Rattle.machine_model.specs.Machine.{Ready}
-use Rattle.machine_model.specs.Threads.{put_thread}
+use Rattle.machine_model.specs.State.Machine.{Ready}
+use Rattle.machine_model.specs.State.Threads.{put_thread}
 use Rattle.xk_base.specs.declared.records.What.TheVariants.{Reply}
 use Rattle.xk_kernel.specs.State.{machine_of, thread_of}
-use Rattle.xk_kernel.proofs.ThreadLemmas.{answer_there, machine_of_log}
-use Rattle.xk_kernel.proofs.TellingLemmas.{told_length, told_one}
+use Rattle.xk_kernel.proofs.Acting.ThreadLemmas.{answer_there, machine_of_log}
+use Rattle.xk_kernel.proofs.Calling.TellingLemmas.{told_length, told_one}
 use Rattle.xk_kernel.proofs.kernel.Kernel.answer.Goals as goal
 
 -- src/kernel/threads.rt

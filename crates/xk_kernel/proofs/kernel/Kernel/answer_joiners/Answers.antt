@@ -1,7 +1,7 @@
 use Rattle.std.proofs.Common.{◌≡◌, ◌+◌, subst, sym, ◌∙◌, arith}
 use Rattle.vm_memory.specs.Memory.{processes}
-use Rattle.xk_base.proofs.Circle.{is_pid-bounds}
-use Rattle.xk_kernel.proofs.AnsweringLemmas.{HasAnswered, answered_all, answered_none, answered_not, answered_one}
+use Rattle.xk_base.proofs.CircleLemmas.{is_pid-bounds}
+use Rattle.xk_kernel.proofs.Calling.AnsweringLemmas.{HasAnswered, answered_all, answered_none, answered_not, answered_one}
 use Rattle.xk_kernel.proofs.kernel.Kernel.answer_joiners.Goals as goal
 use Rattle.xk_kernel.proofs.kernel.Kernel.answer_joiners.Goals.{then-is_joining, else-is_joining}
 

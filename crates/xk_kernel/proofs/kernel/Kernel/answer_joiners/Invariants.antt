@@ -1,4 +1,4 @@
-use Rattle.xk_kernel.proofs.AnsweringLemmas.{HasAnswered}
+use Rattle.xk_kernel.proofs.Calling.AnsweringLemmas.{HasAnswered}
 use Rattle.xk_kernel.proofs.kernel.Kernel.answer_joiners.Given as goal
 
 abbrev pub invariant-loop-k : goal.invariant-loop-k

@@ -1,8 +1,8 @@
-use Rattle.std.proofs.Common.{◌≡◌, refl, ap, arith}
+use Rattle.std.proofs.Common.{◌≡◌, None, refl, ap, arith}
 use Rattle.xk_base.specs.Log.{LogState}
 use Rattle.xk_base.specs.declared.limits.TheConstants.{RECORD_LIMIT}
-use Rattle.vm_memory.proofs.CallLaws.{sound-means}
-use Rattle.xk_kernel.proofs.BootLemmas.{IsBooted, booted_machine, booted_sound, first_turn}
+use Rattle.vm_memory.proofs.Changing.CallLemmas.{sound-means}
+use Rattle.xk_kernel.proofs.Starting.BootLemmas.{IsBooted, booted_machine, booted_sound, first_turn}
 use Rattle.xk_kernel.specs.declared.kernel.Kernel.{Kernel}
 use Rattle.xk_kernel.proofs.kernel.Kernel.boot.Given.{Over}
 use Rattle.xk_kernel.proofs.kernel.Kernel.boot.Goals as goal
@@ -18,6 +18,7 @@ kernel g c = record {
   cursor = first_turn;
   next = 1;
   steps = 0;
+  reserved = None;
 }
 
 booted : (g : Over) (c : goal.After-new g) → IsBooted g.W.SwapStore.held c.args.plan.now c.args.file.now (kernel g c)
@@ -31,6 +32,7 @@ booted g c = record {
   cursor = refl;
   next = refl;
   steps = refl;
+  reserved = refl;
 }
 
 -- src/kernel/boot.rt
@@ -38,7 +40,7 @@ pub returns-clause-sound : goal.returns-clause-sound
 returns-clause-sound g c =
     let room : c.in-Ok.tables.3.room ≡ RECORD_LIMIT = ap (λ (l : LogState). l.room) c.in-Ok.ensures.log in
     booted_sound g.W.SwapStore.slot_count g.W.SwapStore.held c.args.plan.now c.args.file.now (kernel g c) (booted g c)
-    (λ i. (c.type_inv.file i).fits) c.requires.can_start c.requires.lawful.few c.in_ok-mem.ensures.sound c.requires.lawful.some
+    c.requires.can_start c.requires.lawful.few c.in_ok-mem.ensures.sound c.requires.lawful.some
     c.in-Ok.ensures.threaded c.in-Ok.ensures.made (omega arith)
 
 pub returns-clause-start : goal.returns-clause-start

@@ -1,8 +1,8 @@
 -- Each outcome of a call leaves and tells what the machine makes of it.
 use Rattle.std.proofs.Common.{◌≡◌, [], ◌∷◌, refl, ap, subst, ◌∙◌, Ok, Some, OnErr}
-use Rattle.machine_model.specs.Calls.{call}
-use Rattle.machine_model.specs.Changes.{Refused, Served, answering, call_settled, only}
-use Rattle.machine_model.specs.Threads.{answer_to, change_thread, give_answers, passed}
+use Rattle.machine_model.specs.Calling.Calls.{call}
+use Rattle.machine_model.specs.State.Changes.{Refused, Served, answering, call_settled, only}
+use Rattle.machine_model.specs.State.Threads.{answer_to, change_thread, give_answers, passed}
 use Rattle.syscall_codec.specs.Replies.{words_of}
 use Rattle.xk_base.specs.Circle.{is_thread_id}
 use Rattle.xk_base.specs.Replies.{refused_words}
@@ -10,8 +10,8 @@ use Rattle.xk_base.specs.declared.records.What.TheVariants.{Call as Called, Gone
 use Rattle.xk_kernel.specs.Calling.{outcome_of}
 use Rattle.xk_kernel.specs.State.{machine_of}
 use Rattle.xk_kernel.specs.Telling.{log_with}
-use Rattle.xk_kernel.proofs.CallerLemmas.{served_there}
-use Rattle.xk_kernel.proofs.SettleLemmas.{answered_is, died_is, ready_there, refused_is, there_past, told_so, unlogged, waits_is}
+use Rattle.xk_kernel.proofs.Calling.CallerLemmas.{served_there}
+use Rattle.xk_kernel.proofs.Calling.SettleLemmas.{answered_is, died_is, ready_there, refused_is, there_past, told_so, unlogged, waits_is}
 use Rattle.xk_kernel.proofs.kernel.Kernel.call.Goals as goal
 
 pub outcome-requires-clause-ready : goal.outcome-requires-clause-ready

@@ -1,5 +1,5 @@
 use Rattle.vm_memory.specs.Memory.{ledger}
-use Rattle.xk_kernel.proofs.LoanLemmas.{unlent_fresh}
+use Rattle.xk_kernel.proofs.Memory.LoanLemmas.{unlent_fresh}
 use Rattle.xk_kernel.proofs.kernel.Kernel.close.Goals as goal
 
 -- src/kernel/readers.rt

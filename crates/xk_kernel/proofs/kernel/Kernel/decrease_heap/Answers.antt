@@ -1,7 +1,7 @@
 use Rattle.std.proofs.Common.{◌≤◌, ◌/◌, arith}
 use Rattle.vm_memory.specs.Memory.{ledger}
-use Rattle.xk_kernel.proofs.HeapLemmas.{decrease_done, decrease_lent, decrease_too_many, heap_told, heap_within, whole_with_parts}
-use Rattle.xk_kernel.proofs.MemoryCallLemmas.{remove_unlent}
+use Rattle.xk_kernel.proofs.Memory.HeapLemmas.{decrease_done, decrease_lent, decrease_too_many, heap_told, heap_within, whole_with_parts}
+use Rattle.xk_kernel.proofs.Memory.MemoryCallLemmas.{remove_unlent}
 use Rattle.xk_kernel.proofs.kernel.Kernel.decrease_heap.Goals as goal
 
 pub returns-then-bytes-heap-clause-outcome : goal.returns-then-bytes-heap-clause-outcome

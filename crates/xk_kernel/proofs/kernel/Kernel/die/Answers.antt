@@ -1,4 +1,4 @@
-use Rattle.xk_kernel.proofs.DyingLemmas.{dies, machine_has_no_server}
+use Rattle.xk_kernel.proofs.Ending.DyingLemmas.{dies, machine_has_no_server}
 use Rattle.xk_kernel.proofs.kernel.Kernel.die.Goals as goal
 
 pub returns-clause-tells : goal.returns-clause-tells

@@ -1,7 +1,7 @@
 use Rattle.std.proofs.Common.{sym, ◌∙◌}
-use Rattle.xk_kernel.proofs.DyingLemmas.{machine_has_no_server}
-use Rattle.xk_kernel.proofs.EndingLemmas.{end_with_others, end_with_process, ready_is_there}
-use Rattle.xk_kernel.proofs.TidLemmas.{none_live, some_live}
+use Rattle.xk_kernel.proofs.Ending.DyingLemmas.{machine_has_no_server}
+use Rattle.xk_kernel.proofs.Ending.EndingLemmas.{end_with_others, end_with_process, ready_is_there}
+use Rattle.xk_kernel.proofs.Acting.TidLemmas.{none_live, some_live}
 use Rattle.xk_kernel.proofs.kernel.Kernel.end_thread.Goals as goal
 
 pub end-requires : goal.end-requires

@@ -1,7 +1,7 @@
 use Rattle.std.proofs.Common.{subst, sym}
 use Rattle.machine_model.proofs.KeptLemmas.{turn_keeps}
-use Rattle.machine_model.specs.Matched.{Matched}
-use Rattle.vm_memory.proofs.SoundMemory.{sound-tied}
+use Rattle.machine_model.specs.Runs.Matched.{Matched}
+use Rattle.vm_memory.proofs.Changing.SoundMemoryLemmas.{sound-tied}
 use Rattle.xk_kernel.specs.State.{machine_of}
 use Rattle.xk_kernel.proofs.kernel.Kernel.end_turn.Goals as goal
 

@@ -1,12 +1,12 @@
 -- The event does what the machine makes of it.
-use Rattle.std.proofs.Common.{[], ◌∷◌, sym, ap, subst, ◌∙◌}
-use Rattle.machine_model.specs.Events.{killed, nothing, picked}
-use Rattle.vm_memory.proofs.SoundMemory.{sound-tied}
+use Rattle.std.proofs.Common.{None, [], ◌∷◌, sym, ap, subst, ◌∙◌}
+use Rattle.machine_model.specs.Stepping.Events.{killed, nothing, picked}
+use Rattle.vm_memory.proofs.Changing.SoundMemoryLemmas.{sound-tied}
 use Rattle.xk_base.specs.declared.records.What.TheVariants.{Gone}
 use Rattle.xk_kernel.specs.State.{machine_of}
 use Rattle.xk_kernel.specs.Stepping.{Becomes, event_done}
 use Rattle.xk_kernel.specs.Telling.{log_with}
-use Rattle.xk_kernel.proofs.EventLemmas.{became_sound, kill_matched, killed_done, known, left_matched, lives, logged_whole, nothing_done, pick_matched, picked_done, pushed_whole, spared_done}
+use Rattle.xk_kernel.proofs.Ending.EventLemmas.{became_sound, kill_matched, killed_done, known, left_matched, lives, logged_whole, nothing_done, pick_matched, picked_done, pushed_whole, spared_done, unreserved_whole}
 use Rattle.xk_kernel.proofs.kernel.Kernel.event_start.Goals as goal
 
 -- ---- tick
@@ -40,7 +40,13 @@ returns-in-Pick-clause-does g c =
 pub returns-in-Pick-clause-tie : goal.returns-in-Pick-clause-tie
 returns-in-Pick-clause-tie g c = sound-tied g.W.SwapStore.slot_count g.W.SwapStore.held c.pick.new.self.mem c.pick.ensures.whole.mem
 
--- ---- kill of a process that lives
+-- ---- kill
+
+-- a process that lives
+
+pub forget-requires-clause-whole : goal.forget-requires-clause-whole
+forget-requires-clause-whole g c =
+    unreserved_whole g.W.SwapStore.slot_count g.W.SwapStore.held (record c.args.self.now { log = c.clear.new.self }) (logged_whole g.W.SwapStore.slot_count g.W.SwapStore.held c.args.self.now c.args.self.now c.requires.sound c.requires.usable c.clear.new.self c.clear.ensures)
 
 pub forget-requires-clause-pid : goal.forget-requires-clause-pid
 forget-requires-clause-pid g c = known g.W.SwapStore.slot_count g.W.SwapStore.held c.args.self.now c.args.self.now c.requires.sound c.requires.usable c.in-Kill.pid (lives g.W.SwapStore.slot_count g.W.SwapStore.held c.args.self.now c.args.self.now c.requires.sound c.requires.usable c.in-Kill.pid c.alive.result c.alive.ensures ∙ c.if-alive.true)
@@ -62,16 +68,19 @@ returns-then-alive-clause-does g c =
 pub returns-then-alive-clause-tie : goal.returns-then-alive-clause-tie
 returns-then-alive-clause-tie g c = sound-tied g.W.SwapStore.slot_count g.W.SwapStore.held c.forget.new.self.mem c.forget.ensures.whole.mem
 
--- ---- and of one that doesn't
+-- one that doesn't
 
 pub returns-else-alive-clause-sound : goal.returns-else-alive-clause-sound
 returns-else-alive-clause-sound g c =
-    became_sound g.W.SwapStore.slot_count g.W.SwapStore.held c.args.self.now (record c.args.self.now { log = c.clear.new.self }) c.requires.sound c.requires.usable (nothing (machine_of g.W.SwapStore.held c.args.self.now)) (logged_whole g.W.SwapStore.slot_count g.W.SwapStore.held c.args.self.now c.args.self.now c.requires.sound c.requires.usable c.clear.new.self c.clear.ensures)
-    (nothing_done g.W.SwapStore.slot_count g.W.SwapStore.held c.args.self.now c.args.self.now c.requires.sound c.requires.usable c.clear.new.self c.clear.ensures) (left_matched g.W.SwapStore.slot_count g.W.SwapStore.held c.args.self.now c.args.self.now c.requires.sound c.requires.usable)
+    became_sound g.W.SwapStore.slot_count g.W.SwapStore.held c.args.self.now (record c.args.self.now { log = c.clear.new.self; reserved = None }) c.requires.sound c.requires.usable (killed c.in-Kill.pid (machine_of g.W.SwapStore.held c.args.self.now))
+    (unreserved_whole g.W.SwapStore.slot_count g.W.SwapStore.held (record c.args.self.now { log = c.clear.new.self }) (logged_whole g.W.SwapStore.slot_count g.W.SwapStore.held c.args.self.now c.args.self.now c.requires.sound c.requires.usable c.clear.new.self c.clear.ensures))
+    (spared_done g.W.SwapStore.slot_count g.W.SwapStore.held c.args.self.now c.args.self.now c.requires.sound c.requires.usable c.in-Kill.pid c.clear.new.self (lives g.W.SwapStore.slot_count g.W.SwapStore.held c.args.self.now c.args.self.now c.requires.sound c.requires.usable c.in-Kill.pid c.alive.result c.alive.ensures ∙ c.if-alive.false) c.clear.ensures)
+    (kill_matched g.W.SwapStore.slot_count g.W.SwapStore.held c.args.self.now c.args.self.now c.requires.sound c.requires.usable c.in-Kill.pid)
 
 pub returns-else-alive-clause-does : goal.returns-else-alive-clause-does
 returns-else-alive-clause-does g c =
-    subst (λ e. Becomes g.W.SwapStore.held (record c.args.self.now { log = c.clear.new.self }) (event_done e (machine_of g.W.SwapStore.held c.args.self.now))) (sym c.in-Kill.is) (spared_done g.W.SwapStore.slot_count g.W.SwapStore.held c.args.self.now c.args.self.now c.requires.sound c.requires.usable c.in-Kill.pid c.clear.new.self (lives g.W.SwapStore.slot_count g.W.SwapStore.held c.args.self.now c.args.self.now c.requires.sound c.requires.usable c.in-Kill.pid c.alive.result c.alive.ensures ∙ c.if-alive.false) c.clear.ensures)
+    subst (λ e. Becomes g.W.SwapStore.held (record c.args.self.now { log = c.clear.new.self; reserved = None }) (event_done e (machine_of g.W.SwapStore.held c.args.self.now))) (sym c.in-Kill.is)
+    (spared_done g.W.SwapStore.slot_count g.W.SwapStore.held c.args.self.now c.args.self.now c.requires.sound c.requires.usable c.in-Kill.pid c.clear.new.self (lives g.W.SwapStore.slot_count g.W.SwapStore.held c.args.self.now c.args.self.now c.requires.sound c.requires.usable c.in-Kill.pid c.alive.result c.alive.ensures ∙ c.if-alive.false) c.clear.ensures)
 
 pub returns-else-alive-clause-tie : goal.returns-else-alive-clause-tie
 returns-else-alive-clause-tie g c = sound-tied g.W.SwapStore.slot_count g.W.SwapStore.held c.args.self.now.mem c.requires.sound.whole.mem

@@ -1,8 +1,8 @@
 use Rattle.std.proofs.Common.{◌≤◌, ◌<◌, ◌-◌, ◌/◌, arith}
 use Rattle.vm_memory.specs.Memory.{ledger}
-use Rattle.xk_kernel.proofs.HeapGrowth.{heap_right, increase_by_none, increase_done, increase_past, increase_refused}
-use Rattle.xk_kernel.proofs.HeapLemmas.{heap_told, heap_within, whole_with_parts}
-use Rattle.xk_kernel.proofs.MemoryCallLemmas.{make_unlent, means_over}
+use Rattle.xk_kernel.proofs.Memory.HeapGrowthLemmas.{heap_right, increase_by_none, increase_done, increase_past, increase_refused}
+use Rattle.xk_kernel.proofs.Memory.HeapLemmas.{heap_told, heap_within, whole_with_parts}
+use Rattle.xk_kernel.proofs.Memory.MemoryCallLemmas.{make_unlent, means_over}
 use Rattle.xk_kernel.proofs.kernel.Kernel.increase_heap.Goals as goal
 
 pub overflow_sub-heap : goal.overflow_sub-heap

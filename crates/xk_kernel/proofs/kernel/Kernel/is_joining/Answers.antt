@@ -1,7 +1,7 @@
 use Rattle.std.proofs.Common.{◌≡◌, None, Some, ap, sym, ◌∙◌}
 use Rattle.std.specs.Prelude.{◌==◌}
 use Rattle.std.specs.Option.{option_copied}
-use Rattle.xk_kernel.proofs.JoiningLemmas.{joining_at, joins, joins_not}
+use Rattle.xk_kernel.proofs.Calling.JoiningLemmas.{joining_at, joins, joins_not}
 use Rattle.xk_kernel.proofs.kernel.Kernel.is_joining.Goals as goal
 
 pub returns-in-None : goal.returns-in-None

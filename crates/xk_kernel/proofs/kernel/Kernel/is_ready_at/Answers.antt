@@ -1,8 +1,8 @@
 use Rattle.std.proofs.Common.{ap, sym, ◌∙◌}
 use Rattle.thread_table.specs.States.{is_ready_state}
 use Rattle.xk_kernel.specs.State.{machine_of}
-use Rattle.xk_kernel.proofs.OrderLemmas.{ready_found, ready_missing, unready}
-use Rattle.xk_kernel.proofs.ThreadLemmas.{not_lent, thread_lent}
+use Rattle.xk_kernel.proofs.Acting.OrderLemmas.{ready_found, ready_missing, unready}
+use Rattle.xk_kernel.proofs.Acting.ThreadLemmas.{not_lent, thread_lent}
 use Rattle.xk_kernel.proofs.kernel.Kernel.is_ready_at.Goals as goal
 
 -- src/kernel/readers.rt

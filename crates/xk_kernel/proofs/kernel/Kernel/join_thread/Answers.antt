@@ -1,7 +1,7 @@
 use Rattle.std.proofs.Common.{sym, ap, ◌∙◌}
 use Rattle.std.specs.Prelude.{is_some}
-use Rattle.thread_table.proofs.Counts.{is_some_copied}
-use Rattle.xk_kernel.proofs.JoinLemmas.{join_low, join_high, join_itself, join_absent, join_waits}
+use Rattle.thread_table.proofs.CountLemmas.{is_some_copied}
+use Rattle.xk_kernel.proofs.Calling.JoinLemmas.{join_low, join_high, join_itself, join_absent, join_waits}
 use Rattle.xk_kernel.proofs.kernel.Kernel.join_thread.Goals as goal
 use Rattle.xk_kernel.proofs.kernel.Kernel.join_thread.Goals.{then-tid-lt2-via-then-tid-lt2, then-tid-lt2-via-else-tid-lt2+then-tid, then-tid-lt2-via-else-tid-lt2+else-tid+then-tid-who}
 

@@ -1,5 +1,5 @@
 use Rattle.xk_kernel.specs.State.{machine_of}
-use Rattle.xk_kernel.proofs.CallTableLemmas.{unhandled}
+use Rattle.xk_kernel.proofs.Calling.CallTableLemmas.{unhandled}
 use Rattle.xk_kernel.proofs.kernel.Kernel.outcome.Goals as goal
 
 pub returns-in-Err-clause-outcome : goal.returns-in-Err-clause-outcome

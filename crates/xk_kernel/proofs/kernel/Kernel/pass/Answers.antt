@@ -1,7 +1,7 @@
 use Rattle.std.proofs.Common.{◌∙◌}
-use Rattle.machine_model.specs.Threads.{passed}
+use Rattle.machine_model.specs.State.Threads.{passed}
 use Rattle.xk_kernel.specs.State.{machine_of, thread_of}
-use Rattle.xk_kernel.proofs.ThreadLemmas.{change_missing, change_there, is_lent, not_lent, thread_lent}
+use Rattle.xk_kernel.proofs.Acting.ThreadLemmas.{change_missing, change_there, is_lent, not_lent, thread_lent}
 use Rattle.xk_kernel.proofs.kernel.Kernel.pass.Goals as goal
 
 -- src/kernel/threads.rt

@@ -1,6 +1,6 @@
 use Rattle.std.proofs.Common.{sym, ◌∙◌}
 use Rattle.vm_memory.specs.Memory.{processes}
-use Rattle.xk_kernel.proofs.OrderLemmas.{cursor_whole, pick_moves, pick_stays, ready_valid}
+use Rattle.xk_kernel.proofs.Acting.OrderLemmas.{cursor_whole, pick_moves, pick_stays, ready_valid}
 use Rattle.xk_kernel.proofs.kernel.Kernel.pick.Goals as goal
 
 -- src/kernel/events.rt

@@ -1,5 +1,5 @@
 use Rattle.std.proofs.Common.{Some}
-use Rattle.xk_kernel.proofs.ThreadLemmas.{in_table, machine_put}
+use Rattle.xk_kernel.proofs.Acting.ThreadLemmas.{in_table, machine_put}
 use Rattle.xk_kernel.proofs.kernel.Kernel.put.Goals as goal
 
 -- src/kernel/threads.rt

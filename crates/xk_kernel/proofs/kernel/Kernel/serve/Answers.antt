@@ -1,15 +1,15 @@
 -- What a served call comes to is its row of the table.
 use Rattle.std.proofs.Common.{◌∙◌, sym, ap, subst}
 use Rattle.std.proofs.lemmas.Result.{IfOk-weaker}
-use Rattle.machine_model.specs.Changes.{Served, answering}
-use Rattle.machine_model.specs.Threads.{answer_to}
+use Rattle.machine_model.specs.State.Changes.{Served, answering}
+use Rattle.machine_model.specs.State.Threads.{answer_to}
 use Rattle.syscall_codec.specs.Calls.{Asks}
 use Rattle.xk_base.specs.Replies.{plain_words}
 use Rattle.xk_kernel.specs.Calling.{change_by}
 use Rattle.xk_kernel.specs.State.{machine_of, server_of}
-use Rattle.xk_kernel.specs.declared.kernel.calls.Served.TheVariants.{Died}
+use Rattle.xk_kernel.specs.declared.kernel.calls.CallerFate.TheVariants.{Died}
 use Rattle.std.specs.Option.{option_map}
-use Rattle.xk_kernel.proofs.CallTableLemmas.{create_is, decrease_is, free_by_call, free_by_tid, increase_is, join_is, map_is, none_left, plain_asked, process_id_is, refused_to_handler, terminate_is, thread_id_is, unmap_is, update_is, yield_is}
+use Rattle.xk_kernel.proofs.Calling.CallTableLemmas.{create_is, decrease_is, free_by_call, free_by_tid, increase_is, join_is, map_is, none_left, plain_asked, process_id_is, refused_to_handler, terminate_is, thread_id_is, unmap_is, update_is, yield_is}
 use Rattle.xk_kernel.proofs.kernel.Kernel.serve.Goals.{else-self-eq1-via-then-self-eq1+else-can_wait, else-self-eq1-via-else-self-eq1}
 use Rattle.xk_kernel.proofs.kernel.Kernel.serve.Goals as goal
 

@@ -1,5 +1,5 @@
 -- A sound memory is tied.
-use Rattle.vm_memory.proofs.SoundMemory.{sound-tied}
+use Rattle.vm_memory.proofs.Changing.SoundMemoryLemmas.{sound-tied}
 use Rattle.xk_kernel.proofs.kernel.Kernel.step.Goals as goal
 
 pub returns-in_default-clause-tie : goal.returns-in_default-clause-tie

@@ -1,4 +1,4 @@
-use Rattle.xk_kernel.proofs.ThreadLemmas.{there_is_one, thread_lent}
+use Rattle.xk_kernel.proofs.Acting.ThreadLemmas.{there_is_one, thread_lent}
 use Rattle.xk_kernel.proofs.kernel.Kernel.thread.Goals as goal
 
 -- src/kernel/threads.rt

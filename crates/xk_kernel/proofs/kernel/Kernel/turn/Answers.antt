@@ -1,6 +1,6 @@
 use Rattle.std.proofs.Common.{sym, ◌∙◌}
 use Rattle.vm_memory.specs.Memory.{processes}
-use Rattle.xk_kernel.proofs.OrderLemmas.{cursor_whole, next_valid, turn_moves, turn_stays}
+use Rattle.xk_kernel.proofs.Acting.OrderLemmas.{cursor_whole, next_valid, turn_moves, turn_stays}
 use Rattle.xk_kernel.proofs.kernel.Kernel.turn.Goals as goal
 
 -- src/kernel/readers.rt

@@ -1,7 +1,7 @@
 use Rattle.std.proofs.Common.{sym, ◌∙◌, ◌/◌}
 use Rattle.std.specs.Prelude.{Ok, Err}
 use Rattle.vm_memory.specs.Memory.{ledger}
-use Rattle.xk_kernel.proofs.MemoryCallLemmas.{caller_process, remove_unlent, unmap_outcome, whole_with_mem}
+use Rattle.xk_kernel.proofs.Memory.MemoryCallLemmas.{caller_process, remove_unlent, unmap_outcome, whole_with_mem}
 use Rattle.xk_kernel.proofs.kernel.Kernel.unmap_memory.Goals as goal
 
 pub remove_run-requires-clause-process : goal.remove_run-requires-clause-process

@@ -1,21 +1,16 @@
-use Rattle.std.proofs.Common.{◌≡◌, ℕ, List, ap, ◌∙◌}
-use Rattle.machine_model.specs.Threads.{first_handler_thread, first_stack, first_thread, thread_return}
+use Rattle.std.proofs.Common.{◌≡◌, ℕ, List, ap}
+use Rattle.machine_model.specs.State.Threads.{first_handler_thread}
 use Rattle.thread_table.specs.ThreadsOf.{threads_of}
 use Rattle.thread_table.specs.declared.thread.Thread.{Thread as TableThread}
 use Rattle.thread_table.specs.declared.thread.ThreadState.TheVariants as table
-use Rattle.xk_base.specs.Registers.{with_reg}
 use Rattle.xk_kernel.specs.State.{thread_of}
-use Rattle.xk_kernel.proofs.StartLemmas.{process_started}
+use Rattle.xk_kernel.proofs.Starting.StartLemmas.{process_started}
 use Rattle.xk_kernel.proofs.kernel.boot.start_process.Goals as goal
 
 -- src/kernel/boot.rt
 pub returns-clause-after : goal.returns-clause-after
 returns-clause-after c =
     let idle : TableThread = record { pc = 0; regs = c.new.result; state = table.Idle } in
-    let first : TableThread = record { pc = c.args.entry; regs = c.set-2.new.self; state = table.Ready } in
     let handler_is : thread_of idle ≡ first_handler_thread = ap (λ (regs : List ℕ). thread_of (record { pc = 0; regs = regs; state = table.Idle })) c.new.ensures in
-    let first_is : thread_of first ≡ first_thread c.args.entry =
-    ap (λ (regs : List ℕ). thread_of (record { pc = c.args.entry; regs = regs; state = table.Ready }))
-    (c.set-2.ensures.value ∙ ap (λ (regs : List ℕ). with_reg regs 2 first_stack) (c.set.ensures.value ∙ ap (λ (regs : List ℕ). with_reg regs 1 thread_return) c.new-regs.ensures)) in
-    process_started (threads_of c.args.threads.now) (threads_of c.start.new.self) (threads_of c.start-2.new.self) c.args.pid c.args.entry idle first
-    handler_is first_is c.requires.none c.start.ensures.after c.start-2.ensures.after
+    process_started (threads_of c.args.threads.now) (threads_of c.start.new.self) (threads_of c.start-2.new.self) c.args.pid c.args.entry idle c.new_thread-first.result
+    handler_is c.new_thread-first.ensures c.requires.none c.start.ensures.after c.start-2.ensures.after

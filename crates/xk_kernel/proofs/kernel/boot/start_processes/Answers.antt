@@ -1,6 +1,6 @@
 use Rattle.std.proofs.Common.{◌≡◌, List, length, get_or, ap, arith}
 use Rattle.boot_plan.specs.declared.plans.ProcPlan.{ProcPlan}
-use Rattle.xk_kernel.proofs.StartLemmas.{all_started, next_started}
+use Rattle.xk_kernel.proofs.Starting.StartLemmas.{all_started, next_started}
 use Rattle.xk_kernel.proofs.kernel.boot.start_processes.Goals as goal
 
 -- src/kernel/boot.rt

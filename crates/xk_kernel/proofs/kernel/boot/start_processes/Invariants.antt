@@ -1,4 +1,4 @@
-use Rattle.xk_kernel.proofs.StartLemmas.{AreStarted}
+use Rattle.xk_kernel.proofs.Starting.StartLemmas.{AreStarted}
 use Rattle.xk_kernel.proofs.kernel.boot.start_processes.Given as goal
 
 abbrev pub invariant-processes : goal.invariant-processes

@@ -1,0 +1,259 @@
+-- What the thread whose step it is does is what the machine makes of it.
+use Rattle.std.proofs.Common.{◌≡◌, ℕ, ◌+◌, Bool, true, false, List, [], ◌++◌, map, Option, Some, None, refl, sym, ap, ◌∙◌, arith}
+use Rattle.std.specs.Prelude.{◌==◌, ◌&&◌, nat_lt, not, if◌then◌else◌}
+use Rattle.std.specs.Option.{option_and_then, option_map_or}
+use Rattle.std.proofs.lemmas.Bool.{false≢true, and_parts}
+use Rattle.std.proofs.lemmas.Bool.Decides.{nat_tests}
+use Rattle.machine_laws.specs.WithoutServers.{HasNoServers, is_plain_call}
+use Rattle.machine_laws.proofs.Threading.ThreadStepLemmas.{actor_ready}
+use Rattle.machine_laws.proofs.Stepping.PlainStepLemmas.{plain_step_keeps_matched}
+use Rattle.machine_model.specs.Stepping.Acts.{call_by, executes, is_call, words_if_call}
+use Rattle.machine_model.specs.Calling.Calls.{call}
+use Rattle.machine_model.specs.State.Changes.{Told, call_settled, settled}
+use Rattle.machine_model.specs.Ending.Ends.{death, handler_ended, thread_ended}
+use Rattle.machine_model.specs.Hart.Instructions.{CallsKernel, Executed, Next, Stores, StoresToConsole, StoresToTimer, Traps}
+use Rattle.machine_model.specs.State.Machine.{Machine, Reservation, Thread}
+use Rattle.machine_model.specs.Runs.Matched.{Matched}
+use Rattle.machine_model.specs.State.Order.{actor, ready_at}
+use Rattle.machine_model.specs.Stepping.Step.{acted_if_there, after, console_told, ends_handler, ends_thread, executed, performed, record_of, reservation_left_if_there, step}
+use Rattle.machine_model.specs.State.Threads.{handler_return, thread_return}
+use Rattle.machine_model.specs.State.Views.{memory_of, stored, timer_set}
+use Rattle.machine_model.specs.Stepping.Reservations.{reservation_of}
+use Rattle.rv32_hart.specs.Running.{ran_of}
+use Rattle.rv32_hart.specs.declared.ran.Ran.{Ran}
+use Rattle.rv32_hart.specs.declared.ran.Ran.TheVariants.{Device, Ecall, Failed, Trap}
+use Rattle.rv32_hart.specs.declared.ran.Ran.TheVariants as ran
+use Rattle.sv32_space.specs.Tie.{Held}
+use Rattle.xk_base.specs.Circle.{is_thread_id}
+use Rattle.xk_base.specs.Registers.{arguments_of, reg_at}
+use Rattle.xk_base.specs.declared.ids.ThreadId.{ThreadId}
+use Rattle.xk_base.specs.declared.records.What.{What}
+use Rattle.xk_base.specs.declared.records.What.TheVariants.{Call, End, Fault}
+use Rattle.xk_kernel.specs.Acting.{IsDone, reservation_by, told_by}
+use Rattle.xk_kernel.specs.Built.{step_built}
+use Rattle.xk_kernel.specs.Running.{machine_after}
+use Rattle.xk_kernel.specs.State.{machine_of}
+use Rattle.xk_kernel.specs.Telling.{Tells}
+use Rattle.xk_kernel.specs.declared.kernel.Kernel.{Kernel}
+
+-- the machine with its cursor at that thread
+abbrev pub at : ThreadId → Machine → Machine
+at who m = record m { cursor = who }
+
+-- ---- the answer of the hart tells which effect was executed
+
+module _ (m : Machine) (who : ThreadId) (t : Thread) where
+  pub next_executed : (x : Executed) (pc : ℕ) → ran_of x ≡ ran.Next pc
+      → (executed (at who m) t x ≡ record { machine = at who (machine_after who m x); told = [] }) × (is_call x ≡ false)
+  unfolding stored timer_set
+  next_executed (Next regs pc) p e = (refl, refl)
+  next_executed (Stores address width value regs pc) p e = (refl, refl)
+  next_executed (StoresToConsole offset value regs pc) p e = cc
+  next_executed (StoresToTimer offset width value regs pc) p e = (refl, refl)
+  next_executed CallsKernel p e = cc
+  next_executed (Traps cause value) p e = cc
+
+  pub device_executed : (x : Executed) (offset value pc : ℕ) → ran_of x ≡ Device offset value pc
+      → (executed (at who m) t x ≡ record { machine = at who (machine_after who m x); told = console_told who offset value }) × (is_call x ≡ false)
+  device_executed (Next regs pc) o v p e = cc
+  device_executed (Stores address width value regs pc) o v p e = cc
+  device_executed (StoresToConsole offset value regs pc) o v p e =
+      ((λ i. record { machine = at who (machine_after who m (StoresToConsole offset value regs pc)); told = console_told who (offset_of (e i)) (value_of (e i)) }), refl)
+    where
+      offset_of : Ran → ℕ
+      offset_of (Device o v p) = o
+      offset_of _ = 0
+
+      value_of : Ran → ℕ
+      value_of (Device o v p) = v
+      value_of _ = 0
+  device_executed (StoresToTimer offset width value regs pc) o v p e = cc
+  device_executed CallsKernel o v p e = cc
+  device_executed (Traps cause value) o v p e = cc
+
+  -- a trap and a call of the kernel leave the machine so far
+  pub trap_executed : (x : Executed) (cause value : ℕ) → ran_of x ≡ Trap cause value
+      → (executed (at who m) t x ≡ after (Fault who cause value) (settled (death who.pid (at who m)))) × (machine_after who m x ≡ m) × (is_call x ≡ false)
+  trap_executed (Next regs pc) a v e = cc
+  trap_executed (Stores address width value regs pc) a v e = cc
+  trap_executed (StoresToConsole offset value regs pc) a v e = cc
+  trap_executed (StoresToTimer offset width value regs pc) a v e = cc
+  trap_executed CallsKernel a v e = cc
+  trap_executed (Traps cause value) a v e =
+      ((λ i. after (Fault who (cause_of (e i)) (value_of (e i))) (settled (death who.pid (at who m)))), refl, refl)
+    where
+      cause_of : Ran → ℕ
+      cause_of (Trap c v) = c
+      cause_of _ = 0
+
+      value_of : Ran → ℕ
+      value_of (Trap c v) = v
+      value_of _ = 0
+
+  pub call_executed : (x : Executed) → ran_of x ≡ Ecall
+      → (executed (at who m) t x ≡ after (Call who (arguments_of t.regs)) (call_settled (at who m) (call (at who m) (arguments_of t.regs))))
+      × (machine_after who m x ≡ m) × (is_call x ≡ true)
+  call_executed (Next regs pc) e = cc
+  call_executed (Stores address width value regs pc) e = cc
+  call_executed (StoresToConsole offset value regs pc) e = cc
+  call_executed (StoresToTimer offset width value regs pc) e = cc
+  call_executed CallsKernel e = (refl, refl, refl)
+  call_executed (Traps cause value) e = cc
+
+pub never_fails : (x : Executed) → ran_of x ≡ Failed → ⊥
+never_fails (Next regs pc) e = cc
+never_fails (Stores address width value regs pc) e = cc
+never_fails (StoresToConsole offset value regs pc) e = cc
+never_fails (StoresToTimer offset width value regs pc) e = cc
+never_fails CallsKernel e = cc
+never_fails (Traps cause value) e = cc
+
+-- ---- what the thread does, and whether it is built
+
+-- no thread ends where a handler does
+apart : (tid pc : ℕ) → (nat_lt 1 tid && (pc == thread_return)) ≡ true → ((tid == 1) && (pc == handler_return)) ≡ false
+apart tid pc e = grind (arith, nat_tests)
+
+module _ (m : Machine) (who : ThreadId) (t : Thread) (there : m.threads who ≡ Some t) where
+  -- what its instruction comes to
+  abbrev pub fetched : Executed
+  fetched = (performed m who t).executed
+
+  -- by the tests of its pc, and by what is executed
+  abbrev acted_by : Bool → Bool → Executed → Told
+  acted_by a b x =
+      if a then after (End who) (settled (thread_ended who (reg_at t.regs 10) (at who m))) else (
+      if b then after (End who) (settled (handler_ended who.pid (at who m))) else
+      executed (at who m) t x)
+
+  told_is : told_by who m ≡ acted_by (ends_thread who t.pc) (ends_handler who t.pc) fetched
+  unfolding memory_of
+  told_is = ap (acted_if_there (at who m)) there
+
+  pub told_end : ends_thread who t.pc ≡ true → told_by who m ≡ after (End who) (settled (thread_ended who (reg_at t.regs 10) (at who m)))
+  told_end e = told_is ∙ ap (λ a. acted_by a (ends_handler who t.pc) fetched) e
+
+  pub told_executed : ends_thread who t.pc ≡ false → ends_handler who t.pc ≡ false → told_by who m ≡ executed (at who m) t fetched
+  told_executed a b = told_is ∙ (λ i. acted_by (a i) (b i) fetched)
+
+  -- the reservation that the step leaves, by the tests of its pc
+  abbrev left_by : Bool → Bool → Option Reservation
+  left_by a b = if a then None else (if b then None else reservation_of who (performed m who t).reserved)
+
+  left_is : reservation_by who m ≡ left_by (ends_thread who t.pc) (ends_handler who t.pc)
+  unfolding memory_of
+  left_is = ap (reservation_left_if_there (at who m)) there
+
+  pub left_at_end : ends_thread who t.pc ≡ true → reservation_of who None ≡ reservation_by who m
+  left_at_end e = sym (left_is ∙ ap (λ a. left_by a (ends_handler who t.pc)) e)
+
+  pub left_executed : ends_thread who t.pc ≡ false → ends_handler who t.pc ≡ false → (reserved : Option ℕ) → reserved ≡ (performed m who t).reserved
+      → reservation_of who reserved ≡ reservation_by who m
+  left_executed a b reserved e = ap (reservation_of who) e ∙ sym (left_is ∙ (λ i. left_by (a i) (b i)))
+
+  module _ (acts : actor m ≡ Some who) where
+    abbrev words_by : Bool → Bool → Executed → Option (List ℕ)
+    words_by a b x = option_and_then (words_if_call t) (if a then None else (if b then None else Some x))
+
+    abbrev built_by : Bool → Bool → Executed → Bool
+    built_by a b x = not b && option_map_or is_plain_call (words_by a b x) true
+
+    built_is : step_built m ≡ built_by (ends_thread who t.pc) (ends_handler who t.pc) fetched
+    unfolding step_built call_by
+    built_is =
+        ap (λ o. option_map_or (λ who. option_map_or (λ t. not (ends_handler who t.pc) && option_map_or is_plain_call (option_and_then (λ thread. option_and_then (words_if_call thread) (executes m who thread)) (m.threads who)) true) (m.threads who) false) o false) acts
+        ∙ ap (λ o. option_map_or (λ t. not (ends_handler who t.pc) && option_map_or is_plain_call (option_and_then (λ thread. option_and_then (words_if_call thread) (executes m who thread)) o) true) o false) there
+
+    pub built_end : ends_thread who t.pc ≡ true → step_built m ≡ true
+    built_end e = built_is ∙ (λ i. built_by (e i) (no_handler i) fetched)
+      where
+        no_handler : ends_handler who t.pc ≡ false
+        no_handler = apart who.tid.0 t.pc e
+
+    pub unbuilt_handler : ends_handler who t.pc ≡ true → step_built m ≡ false
+    unbuilt_handler e = built_is ∙ ap (λ b. built_by (ends_thread who t.pc) b fetched) e
+
+    module _ (a : ends_thread who t.pc ≡ false) (b : ends_handler who t.pc ≡ false) where
+      runs : step_built m ≡ option_map_or is_plain_call (words_if_call t fetched) true
+      runs = built_is ∙ (λ i. built_by (a i) (b i) fetched)
+
+      pub built_instruction : is_call fetched ≡ false → step_built m ≡ true
+      built_instruction e = runs ∙ ap (λ c. option_map_or is_plain_call (if c then Some (arguments_of t.regs) else None) true) e
+
+      pub built_call : is_call fetched ≡ true → step_built m ≡ is_plain_call (arguments_of t.regs)
+      built_call e = runs ∙ ap (λ c. option_map_or is_plain_call (if c then Some (arguments_of t.regs) else None) true) e
+
+-- ---- a built step keeps the machine matched and without servers
+
+pub built_step_keeps : (m : Machine) → Matched m → HasNoServers m → step_built m ≡ true → Matched (step m).machine × HasNoServers (step m).machine
+unfolding step_built
+built_step_keeps m h none built = plain_step_keeps_matched m h none (λ who w acts calls. plain who w acts calls (m.threads who) (by_actor who acts))
+  where
+    by_actor : (who : ThreadId) → actor m ≡ Some who
+        → option_map_or (λ t. not (ends_handler who t.pc) && option_map_or is_plain_call (call_by m who) true) (m.threads who) false ≡ true
+    by_actor who acts =
+        sym (ap (λ o. option_map_or (λ who. option_map_or (λ t. not (ends_handler who t.pc) && option_map_or is_plain_call (call_by m who) true) (m.threads who) false) o false) acts) ∙ built
+
+    plain : (who : ThreadId) (w : List ℕ) → actor m ≡ Some who → call_by m who ≡ Some w → (o : Option Thread)
+        → option_map_or (λ t. not (ends_handler who t.pc) && option_map_or is_plain_call (call_by m who) true) o false ≡ true → is_plain_call w ≡ true
+    plain who w acts calls None e = absurd (false≢true e)
+    plain who w acts calls (Some t) e =
+        sym (ap (λ o. option_map_or is_plain_call o true) calls) ∙ (and_parts (not (ends_handler who t.pc)) (option_map_or is_plain_call (call_by m who) true) e).1
+
+pub built_step_matched : (m : Machine) → Matched m → HasNoServers m → step_built m ≡ true → Matched (step m).machine
+built_step_matched m h none built = (built_step_keeps m h none built).0
+
+-- ---- the kernel tells so
+
+module _ {W : Type 0} (held : W → Held) (old mid new : Kernel W) (who : ThreadId) where
+  cursor_at : machine_of held mid ≡ at who (machine_of held old) → mid.cursor ≡ who
+  unfolding machine_of
+  cursor_at e = ap (λ (m : Machine). m.cursor) e
+
+  -- what a begun step told
+  pub begun_done : (done : ThreadId → Machine → Told) → told_by who (machine_of held old) ≡ done who (at who (machine_of held old))
+      → machine_of held mid ≡ at who (machine_of held old) → mid.log ≡ record old.log { step = old.steps + 1; records = [] }
+      → Tells held mid new (done mid.cursor (machine_of held mid)) → IsDone held old new (told_by who (machine_of held old))
+  begun_done done is machine log tells =
+      let same : done mid.cursor (machine_of held mid) ≡ told_by who (machine_of held old) = (λ i. done (cursor_at machine i) (machine i)) ∙ sym is in
+      record {
+        machine = tells.machine ∙ ap (λ (t : Told). t.machine) same;
+        log =
+            tells.log
+            ∙ (λ i. record (log i) { records = (log i).records ++ map (record_of (log i).step) (same i).told });
+      }
+
+  -- an instruction counts no step
+  pub run_steps : (x : Executed) → machine_of held mid ≡ machine_after who (machine_of held old) x → mid.steps ≡ old.steps
+  unfolding machine_of stored timer_set
+  run_steps x e = ap (λ (m : Machine). m.steps) e ∙ steps_after x
+    where
+      steps_after : (x : Executed) → (machine_after who (machine_of held old) x).steps ≡ old.steps
+      steps_after (Next regs pc) = refl
+      steps_after (Stores address width value regs pc) = refl
+      steps_after (StoresToConsole offset value regs pc) = refl
+      steps_after (StoresToTimer offset width value regs pc) = refl
+      steps_after CallsKernel = refl
+      steps_after (Traps cause value) = refl
+
+  -- what an instruction did that goes on, between the run and the step's beginning
+  pub run_done : (x : Executed) (told : List What) → told_by who (machine_of held old) ≡ record { machine = at who (machine_after who (machine_of held old) x); told = told }
+      → machine_of held mid ≡ machine_after who (machine_of held old) x → mid.log ≡ old.log
+      → machine_of held new ≡ at who (machine_of held mid)
+      → new.log ≡ record mid.log { step = mid.steps + 1; records = map (record_of (mid.steps + 1)) told }
+      → IsDone held old new (told_by who (machine_of held old))
+  run_done x told is machine log begun told_log = record {
+    machine = begun ∙ ap (at who) machine ∙ sym (ap (λ (t : Told). t.machine) is);
+    log =
+        told_log
+        ∙ (λ i. record (log i) { step = run_steps x machine i + 1; records = map (record_of (run_steps x machine i + 1)) told })
+        ∙ sym (ap (λ (t : Told). record old.log { step = old.steps + 1; records = map (record_of (old.steps + 1)) t.told }) is);
+  }
+
+  -- the thread of a begun step is Ready
+  pub begun_ready : actor (machine_of held old) ≡ Some who → machine_of held mid ≡ at who (machine_of held old) → ready_at (machine_of held mid) mid.cursor ≡ true
+  begun_ready acts e = (λ i. ready_at (e i) (cursor_at e i)) ∙ actor_ready (machine_of held old) who acts
+
+-- the thread that acts is one of the processes'
+pub actor_known : (m : Machine) (who : ThreadId) (t : Thread) → Matched m → m.threads who ≡ Some t → is_thread_id m.processes who ≡ true
+actor_known m who t h there = h.body.ids.known who t there

@@ -1,0 +1,11 @@
+pub mod AnsweringLemmas
+pub mod CallTableLemmas
+pub mod CallerLemmas
+pub mod CreateLemmas
+pub mod JoinLemmas
+pub mod JoinerLemmas
+pub mod JoiningLemmas
+pub mod LogLemmas
+pub mod ReplyLemmas
+pub mod SettleLemmas
+pub mod TellingLemmas

@@ -1,0 +1,242 @@
+-- What comes of each plain call, by the words that ask for it.
+use Rattle.std.proofs.Common.{◌≡◌, ℕ, Bool, true, false, List, ◌∷◌, [], None, Some, refl, sym, ap, ◌∙◌}
+use Rattle.std.specs.Prelude.{◌==◌, ◌&&◌, ◌||◌, ◌≢◌, not, if◌then◌else◌, Result, Ok, Err}
+use Rattle.std.specs.List.{list_any}
+use Rattle.std.proofs.lemmas.Bool.{false≢true, ne_eqb}
+use Rattle.std.proofs.Math.Bool.{and-false}
+use Rattle.machine_laws.proofs.Stepping.PlainServerLemmas.{outside_refused}
+use Rattle.machine_laws.specs.WithoutServers.{is_plain_call, plain_numbers}
+use Rattle.machine_model.specs.Calling.Calls.{call, call_at, call_table}
+use Rattle.machine_model.specs.State.Changes.{Refused, Served, answering, refused_or, unless_refused}
+use Rattle.machine_model.specs.Ending.Ends.{forgotten}
+use Rattle.machine_model.specs.State.Machine.{Machine}
+use Rattle.machine_model.specs.Calling.MemoryCalls.{decrease_call, decrease_refusals, decrease_served, increase_call, increase_refusals, increase_served, map_call, map_refusals, map_served, unmap_call, unmap_refusals, unmap_served, update_call, update_refusals, update_served}
+use Rattle.machine_model.specs.State.Order.{turn}
+use Rattle.machine_model.specs.Calling.ThreadCalls.{create_call, create_refusals, create_served, join_call, join_refusals, join_served, process_id_call, terminate_call, thread_id_call, yield_call}
+use Rattle.machine_model.specs.State.Threads.{answer_to, no_answers}
+use Rattle.machine_model.proofs.DeathLemmas.{HasNoServer, death_without_servers}
+use Rattle.syscall_codec.specs.Calls.{Asks}
+use Rattle.syscall_codec.specs.declared.calls.Call.{Call}
+use Rattle.syscall_codec.specs.declared.calls.Call.TheVariants.{MapMemory, Yield, ClaimInterrupt, FreeInterrupt, IncreaseHeap, DecreaseHeap, UpdateMemoryFlags, CreateServerWithAddress, ReceiveMessage, SendMessage, Connect, CreateThread, UnmapMemory, ReturnMemory, TerminateProcess, TrySendMessage, TryConnect, ReturnScalar1, ReturnScalar2, TryReceiveMessage, JoinThread, DestroyServer, GetThreadId, GetProcessId, ForwardMessage}
+use Rattle.xk_base.specs.CallNumbers.{is_call_number}
+use Rattle.xk_base.specs.CallWords.{call_number, is_refused_to_handler}
+use Rattle.xk_base.specs.Replies.{plain_words, scalar1_words, thread_words}
+use Rattle.xk_base.specs.declared.errors.XousError.{XousError}
+use Rattle.xk_base.specs.declared.errors.XousError.TheVariants.{InvalidSyscall, UnhandledSyscall}
+
+-- the caller is the interrupt thread, and the call can make it wait
+abbrev pub is_refused_caller : Machine → List ℕ → Bool
+is_refused_caller m w = m.cursor.tid.0 == 1 && is_refused_to_handler w
+
+-- a call that its number has in the table, and that isn't refused to its caller, is that row
+by_number : (m : Machine) (w : List ℕ) (k : ℕ) → call_number w ≡ k → is_call_number k ≡ true → is_refused_caller m w ≡ false
+    → call m w ≡ call_at k call_table m w
+unfolding call
+by_number m w k n known free =
+    ap (λ j. unless_refused ((not (is_call_number j), UnhandledSyscall) ∷ (is_refused_caller m w, InvalidSyscall) ∷ []) (call_at j call_table m w)) n
+    ∙ (λ i. refused_or (if not (known i) then Some UnhandledSyscall else (if free i then Some InvalidSyscall else None)) (call_at k call_table m w))
+
+-- each call that isn't refused to its caller
+module _ (m : Machine) (w : List ℕ) (free : is_refused_caller m w ≡ false) where
+  pub map_is : (phys virt size flags : ℕ) → Asks w (MapMemory phys virt size flags)
+      → unless_refused (map_refusals m phys virt size flags) (Served (map_served m phys virt size flags)) ≡ call m w
+  unfolding map_call
+  map_is phys virt size flags (n, a, b, d, e) =
+      sym (by_number m w 2 n refl free
+      ∙ (λ i. unless_refused (map_refusals m (a i) (b i) (d i) (e i)) (Served (map_served m (a i) (b i) (d i) (e i)))))
+
+  pub unmap_is : (address size : ℕ) → Asks w (UnmapMemory address size)
+      → unless_refused (unmap_refusals m address size) (Served (unmap_served m address size)) ≡ call m w
+  unfolding unmap_call
+  unmap_is address size (n, a, b) =
+      sym (by_number m w 19 n refl free ∙ (λ i. unless_refused (unmap_refusals m (a i) (b i)) (Served (unmap_served m (a i) (b i)))))
+
+  pub update_is : (address size flags : ℕ) → Asks w (UpdateMemoryFlags address size flags)
+      → unless_refused (update_refusals m address size flags) (Served (update_served m address size flags)) ≡ call m w
+  unfolding update_call
+  update_is address size flags (n, a, b, d) =
+      sym (by_number m w 12 n refl free ∙ (λ i. unless_refused (update_refusals m (a i) (b i) (d i)) (Served (update_served m (a i) (b i) (d i)))))
+
+  pub increase_is : (bytes : ℕ) → Asks w (IncreaseHeap bytes)
+      → unless_refused (increase_refusals m bytes) (Served (increase_served m bytes)) ≡ call m w
+  unfolding increase_call
+  increase_is bytes (n, a) = sym (by_number m w 10 n refl free ∙ (λ i. unless_refused (increase_refusals m (a i)) (Served (increase_served m (a i)))))
+
+  pub decrease_is : (bytes : ℕ) → Asks w (DecreaseHeap bytes)
+      → unless_refused (decrease_refusals m bytes) (Served (decrease_served m bytes)) ≡ call m w
+  unfolding decrease_call
+  decrease_is bytes (n, a) = sym (by_number m w 11 n refl free ∙ (λ i. unless_refused (decrease_refusals m (a i)) (Served (decrease_served m (a i)))))
+
+  pub create_is : (entry sp : ℕ) (args : List ℕ) → Asks w (CreateThread entry sp args)
+      → unless_refused (create_refusals m entry) (Served (create_served m entry sp args)) ≡ call m w
+  unfolding create_call
+  create_is entry sp args (n, a, b, d) =
+      sym (by_number m w 18 n refl free ∙ (λ i. unless_refused (create_refusals m (a i)) (Served (create_served m (a i) (b i) (d i)))))
+
+  pub join_is : (tid : ℕ) → Asks w (JoinThread tid)
+      → unless_refused (join_refusals m tid) (Served (join_served m tid)) ≡ call m w
+  unfolding join_call
+  join_is tid (n, a) = sym (by_number m w 36 n refl free ∙ (λ i. unless_refused (join_refusals m (a i)) (Served (join_served m (a i)))))
+
+  pub yield_is : Asks w Yield → Served (answering (answer_to m.cursor plain_words) (turn m)) ≡ call m w
+  unfolding yield_call
+  yield_is n = sym (by_number m w 3 n refl free)
+
+  pub thread_id_is : Asks w GetThreadId → Served (answering (answer_to m.cursor (thread_words m.cursor.tid.0)) m) ≡ call m w
+  unfolding thread_id_call
+  thread_id_is n = sym (by_number m w 42 n refl free)
+
+  pub process_id_is : Asks w GetProcessId → Served (answering (answer_to m.cursor (scalar1_words m.cursor.pid.0)) m) ≡ call m w
+  unfolding process_id_call
+  process_id_is n = sym (by_number m w 43 n refl free)
+
+  pub terminate_is : (exit : ℕ) → HasNoServer m → Asks w (TerminateProcess exit)
+      → Served (record { machine = forgotten m.cursor.pid m; answers = no_answers; delivery = None; gone = Some m.cursor.pid }) ≡ call m w
+  unfolding terminate_call
+  terminate_is exit none (n, a) = sym (by_number m w 22 n refl free ∙ ap Served (death_without_servers m none m.cursor.pid))
+
+-- ---- who may make it
+
+-- another thread than the interrupt thread may make every call
+pub free_by_tid : (m : Machine) (w : List ℕ) → m.cursor.tid.0 ≢ 1 → is_refused_caller m w ≡ false
+free_by_tid m w other = ap (λ b. b && is_refused_to_handler w) (ne_eqb m.cursor.tid.0 1 other)
+
+-- every thread may make a call that can't wait
+pub free_by_call : (m : Machine) (w : List ℕ) → is_refused_to_handler w ≡ false → is_refused_caller m w ≡ false
+free_by_call m w e = ap (λ b. m.cursor.tid.0 == 1 && b) e ∙ and-false (m.cursor.tid.0 == 1)
+
+-- ---- which calls there are
+
+-- the number of words that ask for a call is one of the table
+known : (w : List ℕ) (asked : Call) → Asks w asked → is_call_number (call_number w) ≡ true
+known w (MapMemory a b d e) h = ap is_call_number h.0
+known w Yield h = ap is_call_number h
+known w (ClaimInterrupt a b d) h = ap is_call_number h.0
+known w (FreeInterrupt a) h = ap is_call_number h.0
+known w (IncreaseHeap a) h = ap is_call_number h.0
+known w (DecreaseHeap a) h = ap is_call_number h.0
+known w (UpdateMemoryFlags a b d) h = ap is_call_number h.0
+known w (CreateServerWithAddress a) h = ap is_call_number h.0
+known w (ReceiveMessage a) h = ap is_call_number h.0
+known w (SendMessage a b d e) h = ap is_call_number h.0
+known w (Connect a) h = ap is_call_number h.0
+known w (CreateThread a b d) h = ap is_call_number h.0
+known w (UnmapMemory a b) h = ap is_call_number h.0
+known w (ReturnMemory a b d e f) h = ap is_call_number h.0
+known w (TerminateProcess a) h = ap is_call_number h.0
+known w (TrySendMessage a b d e) h = ap is_call_number h.0
+known w (TryConnect a) h = ap is_call_number h.0
+known w (ReturnScalar1 a b) h = ap is_call_number h.0
+known w (ReturnScalar2 a b d) h = ap is_call_number h.0
+known w (TryReceiveMessage a) h = ap is_call_number h.0
+known w (JoinThread a) h = ap is_call_number h.0
+known w (DestroyServer a) h = ap is_call_number h.0
+known w GetThreadId h = ap is_call_number h
+known w GetProcessId h = ap is_call_number h
+known w (ForwardMessage a b) h = ap is_call_number h.0
+
+-- one that is refused to its caller, the interrupt thread
+pub refused_to_handler : (m : Machine) (w : List ℕ) (asked : Call) → Asks w asked → m.cursor.tid.0 ≡ 1 → is_refused_to_handler w ≡ true
+    → call m w ≡ Refused InvalidSyscall
+unfolding call
+refused_to_handler m w asked h handler waits = λ i.
+    refused_or (if not (known w asked h i) then Some UnhandledSyscall else (if (handler i == 1) && waits i then Some InvalidSyscall else None))
+    (call_at (call_number w) call_table m w)
+
+-- it is on memory, threads or the caller's process
+abbrev pub is_plain : Call → Bool
+is_plain (MapMemory a b d e) = true
+is_plain Yield = true
+is_plain (IncreaseHeap a) = true
+is_plain (DecreaseHeap a) = true
+is_plain (UpdateMemoryFlags a b d) = true
+is_plain (CreateThread a b d) = true
+is_plain (UnmapMemory a b) = true
+is_plain (TerminateProcess a) = true
+is_plain (JoinThread a) = true
+is_plain GetThreadId = true
+is_plain GetProcessId = true
+is_plain _ = false
+
+-- the test of a number
+abbrev is_plain_number : ℕ → Bool
+is_plain_number k = list_any (λ n. n == k) plain_numbers || not (is_call_number k)
+
+-- plain words ask for such a call
+pub plain_asked : (w : List ℕ) (asked : Call) → Asks w asked → is_plain_call w ≡ true → is_plain asked ≡ true
+plain_asked w (MapMemory a b d e) h plain = refl
+plain_asked w Yield h plain = refl
+plain_asked w (ClaimInterrupt a b d) h plain = sym (ap is_plain_number h.0) ∙ plain
+plain_asked w (FreeInterrupt a) h plain = sym (ap is_plain_number h.0) ∙ plain
+plain_asked w (IncreaseHeap a) h plain = refl
+plain_asked w (DecreaseHeap a) h plain = refl
+plain_asked w (UpdateMemoryFlags a b d) h plain = refl
+plain_asked w (CreateServerWithAddress a) h plain = sym (ap is_plain_number h.0) ∙ plain
+plain_asked w (ReceiveMessage a) h plain = sym (ap is_plain_number h.0) ∙ plain
+plain_asked w (SendMessage a b d e) h plain = sym (ap is_plain_number h.0) ∙ plain
+plain_asked w (Connect a) h plain = sym (ap is_plain_number h.0) ∙ plain
+plain_asked w (CreateThread a b d) h plain = refl
+plain_asked w (UnmapMemory a b) h plain = refl
+plain_asked w (ReturnMemory a b d e f) h plain = sym (ap is_plain_number h.0) ∙ plain
+plain_asked w (TerminateProcess a) h plain = refl
+plain_asked w (TrySendMessage a b d e) h plain = sym (ap is_plain_number h.0) ∙ plain
+plain_asked w (TryConnect a) h plain = sym (ap is_plain_number h.0) ∙ plain
+plain_asked w (ReturnScalar1 a b) h plain = sym (ap is_plain_number h.0) ∙ plain
+plain_asked w (ReturnScalar2 a b d) h plain = sym (ap is_plain_number h.0) ∙ plain
+plain_asked w (TryReceiveMessage a) h plain = sym (ap is_plain_number h.0) ∙ plain
+plain_asked w (JoinThread a) h plain = refl
+plain_asked w (DestroyServer a) h plain = sym (ap is_plain_number h.0) ∙ plain
+plain_asked w GetThreadId h plain = refl
+plain_asked w GetProcessId h plain = refl
+plain_asked w (ForwardMessage a b) h plain = sym (ap is_plain_number h.0) ∙ plain
+
+-- it is one of these
+pub record IsNoneOf (asked : Call) : Type 0 where
+  pub map : (a b d e : ℕ) → asked ≢ MapMemory a b d e
+  pub yield : asked ≢ Yield
+  pub increase : (a : ℕ) → asked ≢ IncreaseHeap a
+  pub decrease : (a : ℕ) → asked ≢ DecreaseHeap a
+  pub update : (a b d : ℕ) → asked ≢ UpdateMemoryFlags a b d
+  pub create : (a b : ℕ) (d : List ℕ) → asked ≢ CreateThread a b d
+  pub unmap : (a b : ℕ) → asked ≢ UnmapMemory a b
+  pub terminate : (a : ℕ) → asked ≢ TerminateProcess a
+  pub join : (a : ℕ) → asked ≢ JoinThread a
+  pub thread_id : asked ≢ GetThreadId
+  pub process_id : asked ≢ GetProcessId
+
+pub none_left : (asked : Call) → IsNoneOf asked → is_plain asked ≡ true → ⊥
+none_left (MapMemory a b d e) none plain = none.map a b d e refl
+none_left Yield none plain = none.yield refl
+none_left (ClaimInterrupt a b d) none plain = false≢true plain
+none_left (FreeInterrupt a) none plain = false≢true plain
+none_left (IncreaseHeap a) none plain = none.increase a refl
+none_left (DecreaseHeap a) none plain = none.decrease a refl
+none_left (UpdateMemoryFlags a b d) none plain = none.update a b d refl
+none_left (CreateServerWithAddress a) none plain = false≢true plain
+none_left (ReceiveMessage a) none plain = false≢true plain
+none_left (SendMessage a b d e) none plain = false≢true plain
+none_left (Connect a) none plain = false≢true plain
+none_left (CreateThread a b d) none plain = none.create a b d refl
+none_left (UnmapMemory a b) none plain = none.unmap a b refl
+none_left (ReturnMemory a b d e f) none plain = false≢true plain
+none_left (TerminateProcess a) none plain = none.terminate a refl
+none_left (TrySendMessage a b d e) none plain = false≢true plain
+none_left (TryConnect a) none plain = false≢true plain
+none_left (ReturnScalar1 a b) none plain = false≢true plain
+none_left (ReturnScalar2 a b d) none plain = false≢true plain
+none_left (TryReceiveMessage a) none plain = false≢true plain
+none_left (JoinThread a) none plain = none.join a refl
+none_left (DestroyServer a) none plain = false≢true plain
+none_left GetThreadId none plain = none.thread_id refl
+none_left GetProcessId none plain = none.process_id refl
+none_left (ForwardMessage a b) none plain = false≢true plain
+
+-- ---- no call has the number
+
+abbrev error_of : Result Call XousError → XousError
+error_of (Ok asked) = UnhandledSyscall
+error_of (Err error) = error
+
+pub unhandled : (m : Machine) (w : List ℕ) (error : XousError) → ◌≡◌ {A = Result Call XousError} (Err error) (Err UnhandledSyscall) → is_call_number (call_number w) ≡ false
+    → Refused error ≡ call m w
+unhandled m w error e outside = ap (λ r. Refused (error_of r)) e ∙ sym (outside_refused m w outside)

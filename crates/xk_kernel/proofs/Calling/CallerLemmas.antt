@@ -1,0 +1,118 @@
+-- A plain call leaves its caller there, unless the caller's process dies.
+use Rattle.std.proofs.Common.{◌≡◌, ℕ, Bool, true, false, List, Option, Some, None, refl, sym, subst}
+use Rattle.std.specs.Prelude.{is_some, if◌then◌else◌}
+use Rattle.std.specs.Bool.{⊤}
+use Rattle.std.specs.Option.{option_map}
+use Rattle.std.proofs.lemmas.Option.{none-some}
+use Rattle.machine_laws.proofs.Stepping.PlainServerLemmas.{outside_refused, plain_cases}
+use Rattle.machine_laws.specs.WithoutServers.{is_plain_call}
+use Rattle.machine_model.specs.Calling.Calls.{any_refusals, call, call_at, call_table}
+use Rattle.machine_model.specs.State.Changes.{Change, Outcome, Refused, Retried, Served, first_refusal, refused_or, unless_refused}
+use Rattle.machine_model.specs.Ending.Ends.{death}
+use Rattle.machine_model.specs.State.Machine.{Joining, Machine, Thread}
+use Rattle.machine_model.specs.Calling.MemoryCalls.{decrease_call, decrease_refusals, decrease_served, increase_call, increase_refusals, increase_served, map_call, map_refusals, map_served, unmap_call, unmap_refusals, unmap_served, update_call, update_refusals, update_served}
+use Rattle.machine_model.specs.State.Order.{turn}
+use Rattle.machine_model.specs.Calling.ThreadCalls.{create_call, create_refusals, create_served, join_call, join_refusals, join_served, process_id_call, terminate_call, thread_id_call, yield_call}
+use Rattle.machine_model.specs.State.Threads.{with_state}
+use Rattle.xk_base.specs.Circle.{same_thread}
+use Rattle.xk_base.specs.CallWords.{call_number, heap_bytes, join_tid, map_flags, map_phys, map_size, map_virt, range_address, range_flags, range_size, thread_arguments, thread_entry, thread_sp}
+use Rattle.xk_base.specs.declared.errors.XousError.{XousError}
+
+-- what comes of the call leaves its caller, where no process dies
+abbrev LeavesCaller : Machine → Outcome → Type 0
+LeavesCaller m (Refused error) = ⊤
+LeavesCaller m Retried = ⊤
+LeavesCaller m (Served change) = change.gone ≡ None → is_some (change.machine.threads m.cursor) ≡ true
+
+module _ (m : Machine) (w : List ℕ) (there : is_some (m.threads m.cursor) ≡ true) where
+  either : (refusals : List (Bool × XousError)) (outcome : Outcome) → LeavesCaller m outcome → LeavesCaller m (unless_refused refusals outcome)
+  either refusals outcome leaves = go (first_refusal refusals)
+    where
+      go : (o : Option XousError) → LeavesCaller m (refused_or o outcome)
+      go None = leaves
+      go (Some error) = tt
+
+  map_leaves : LeavesCaller m (map_call m w)
+  unfolding map_call
+  map_leaves =
+      either (map_refusals m (map_phys w) (map_virt w) (map_size w) (map_flags w))
+      (Served (map_served m (map_phys w) (map_virt w) (map_size w) (map_flags w))) (λ e. there)
+
+  unmap_leaves : LeavesCaller m (unmap_call m w)
+  unfolding unmap_call
+  unmap_leaves = either (unmap_refusals m (range_address w) (range_size w)) (Served (unmap_served m (range_address w) (range_size w))) (λ e. there)
+
+  update_leaves : LeavesCaller m (update_call m w)
+  unfolding update_call
+  update_leaves =
+      either (update_refusals m (range_address w) (range_size w) (range_flags w))
+      (Served (update_served m (range_address w) (range_size w) (range_flags w))) (λ e. there)
+
+  increase_leaves : LeavesCaller m (increase_call m w)
+  unfolding increase_call
+  increase_leaves = either (increase_refusals m (heap_bytes w)) (Served (increase_served m (heap_bytes w))) (λ e. there)
+
+  decrease_leaves : LeavesCaller m (decrease_call m w)
+  unfolding decrease_call
+  decrease_leaves = either (decrease_refusals m (heap_bytes w)) (Served (decrease_served m (heap_bytes w))) (λ e. there)
+
+  -- the caller's thread is as before or another that is there
+  put_there : (b : Bool) (t : Option Thread) → is_some t ≡ true → is_some (if b then t else m.threads m.cursor) ≡ true
+  put_there true t e = e
+  put_there false t e = there
+
+  changed_there : (change : Thread → Thread) (o : Option Thread) → is_some o ≡ true → is_some (option_map change o) ≡ true
+  changed_there change None e = e
+  changed_there change (Some t) e = refl
+
+  create_leaves : LeavesCaller m (create_call m w)
+  unfolding create_call
+  create_leaves =
+      either (create_refusals m (thread_entry w)) (Served (create_served m (thread_entry w) (thread_sp w) (thread_arguments w)))
+      (λ e. put_there (same_thread m.cursor _) _ refl)
+
+  join_leaves : LeavesCaller m (join_call m w)
+  unfolding join_call
+  join_leaves =
+      either (join_refusals m (join_tid w)) (Served (join_served m (join_tid w)))
+      (λ e. put_there (same_thread m.cursor m.cursor) _ (changed_there (with_state (Joining (record { 0 = join_tid w }))) (m.threads m.cursor) there))
+
+  yield_leaves : LeavesCaller m (yield_call m w)
+  unfolding yield_call turn
+  yield_leaves = λ e. there
+
+  thread_id_leaves : LeavesCaller m (thread_id_call m w)
+  unfolding thread_id_call
+  thread_id_leaves = λ e. there
+
+  process_id_leaves : LeavesCaller m (process_id_call m w)
+  unfolding process_id_call
+  process_id_leaves = λ e. there
+
+  terminate_leaves : LeavesCaller m (terminate_call m w)
+  unfolding terminate_call death
+  terminate_leaves = λ e. absurd (none-some m.cursor.pid (sym e))
+
+  plain_leaves : is_plain_call w ≡ true → LeavesCaller m (call m w)
+  unfolding call
+  plain_leaves plain =
+      plain_cases (λ k. LeavesCaller m (unless_refused (any_refusals m w) (call_at k call_table m w))) (call_number w)
+      (record {
+        map = either (any_refusals m w) (map_call m w) map_leaves;
+        yield = either (any_refusals m w) (yield_call m w) yield_leaves;
+        increase = either (any_refusals m w) (increase_call m w) increase_leaves;
+        decrease = either (any_refusals m w) (decrease_call m w) decrease_leaves;
+        update = either (any_refusals m w) (update_call m w) update_leaves;
+        create = either (any_refusals m w) (create_call m w) create_leaves;
+        unmap = either (any_refusals m w) (unmap_call m w) unmap_leaves;
+        terminate = either (any_refusals m w) (terminate_call m w) terminate_leaves;
+        join = either (any_refusals m w) (join_call m w) join_leaves;
+        thread_id = either (any_refusals m w) (thread_id_call m w) thread_id_leaves;
+        process_id = either (any_refusals m w) (process_id_call m w) process_id_leaves;
+        outside = λ outside. subst (LeavesCaller m) (sym (outside_refused m w outside)) tt;
+      })
+      plain
+
+  -- a served caller is there, unless its process died
+  pub served_there : (change : Change) → is_plain_call w ≡ true → Served change ≡ call m w → change.gone ≡ None → is_some (change.machine.threads m.cursor) ≡ true
+  served_there change plain e = subst (LeavesCaller m) (sym e) (plain_leaves plain)

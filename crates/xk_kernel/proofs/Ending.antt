@@ -1,0 +1,4 @@
+pub mod DeathOfLemmas
+pub mod DyingLemmas
+pub mod EndingLemmas
+pub mod EventLemmas

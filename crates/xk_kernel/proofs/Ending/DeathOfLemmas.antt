@@ -1,0 +1,138 @@
+-- A process is forgotten: what each part lets go is what the machine does.
+use Rattle.std.proofs.Common.{◌≡◌, ℕ, Bool, true, false, nat_eq, Option, Some, None, refl, sym, ap, ◌∙◌, subst}
+use Rattle.std.specs.Prelude.{◌==◌, ◌&&◌, not, if◌then◌else◌}
+use Rattle.std.specs.Option.{option_map, option_map_or}
+use Rattle.std.proofs.lemmas.Option.{none-some}
+use Rattle.boot_plan.specs.Capacity.{capacity}
+use Rattle.irq_claims.specs.ClaimMap.{ClaimMap, end_claims, is_of}
+use Rattle.irq_claims.specs.ClaimsOf.{claims_of}
+use Rattle.irq_claims.specs.declared.claims.Claim.{Claim as TableClaim}
+use Rattle.irq_claims.specs.declared.claims.Claims.{Claims}
+use Rattle.ledger_model.specs.Conditions.{is_lent}
+use Rattle.ledger_model.specs.Ledger.{Ledger, Page, PageLoan, loan_of}
+use Rattle.ledger_model.specs.Steps.{forget}
+use Rattle.machine_model.specs.Ending.Ends.{dead_process, forgotten}
+use Rattle.machine_model.specs.Stepping.Interrupts.{is_claim_of}
+use Rattle.process_table.specs.ProcessMap.{change}
+use Rattle.process_table.specs.ProcessesOf.{processes_of}
+use Rattle.process_table.specs.State.{ProcessState, dead_process as dead_state}
+use Rattle.process_table.specs.declared.table.Processes.{Processes}
+use Rattle.sv32_space.specs.Tie.{Held}
+use Rattle.thread_table.specs.ThreadMap.{without_process}
+use Rattle.thread_table.specs.ThreadsOf.{threads_of}
+use Rattle.thread_table.specs.declared.table.Threads.{Threads}
+use Rattle.thread_table.specs.declared.thread.Thread.{Thread as TableThread}
+use Rattle.vm_memory.specs.Memory.{Size, ledger, size}
+use Rattle.vm_memory.specs.Removing.{HasNoLoan}
+use Rattle.vm_memory.specs.Starting.{IsUnlent}
+use Rattle.vm_memory.specs.declared.memory.Memory.{Memory}
+use Rattle.xk_base.specs.declared.ids.Pid.{Pid}
+use Rattle.xk_kernel.specs.State.{machine_of, thread_of, process_of, claim_of}
+use Rattle.xk_kernel.specs.declared.kernel.Kernel.{Kernel}
+
+-- ---- a ledger without loans
+
+-- no page on loan is lent
+unlent_page : (o : Option Page) → loan_of o ≡ None → is_lent o ≡ false
+unlent_page None e = refl
+unlent_page (Some page) e = by_loan page.loan e
+  where
+    by_loan : (o : Option PageLoan) → o ≡ None → is_lent (Some (record page { loan = o })) ≡ false
+    by_loan None q = refl
+    by_loan (Some loan) q = cc
+
+pub unlent_has_no_loan : (l : Ledger) (pid : Pid) → IsUnlent l → HasNoLoan l pid
+unlent_has_no_loan l pid h = record {
+  lender = λ p e. unlent_page (l.home p) (h.loans p);
+  holder = λ p loan e same. none-some loan (sym (h.loans p) ∙ e);
+  orphan = λ p e. h.orphans p;
+}
+
+page_stays_unlent : (b : Bool) (o : Option Page) → loan_of o ≡ None → loan_of (if b then None else o) ≡ None
+page_stays_unlent true o e = refl
+page_stays_unlent false o e = e
+
+stays_unlent : (l : Ledger) (pid : Pid) → IsUnlent l → IsUnlent (forget pid l)
+unfolding forget
+stays_unlent l pid h = record {
+  loans = λ p. page_stays_unlent (p.pid.0 == pid.0) (l.home p) (h.loans p);
+  orphans = h.orphans;
+}
+
+-- it stays so as pages go
+pub forget_unlent : (l new : Ledger) (pid : Pid) → new ≡ forget pid l → IsUnlent l → IsUnlent new
+forget_unlent l new pid e h = subst IsUnlent (sym e) (stays_unlent l pid h)
+
+-- ---- claims
+
+end_nothing : (b : Bool) (o : Option TableClaim) → o ≡ None → (if b then None else o) ≡ None
+end_nothing true o e = refl
+end_nothing false o e = e
+
+-- nothing is claimed after the end of a process where nothing was
+pub forget_unclaimed : (pid : Pid) (old new : Claims) → claims_of new ≡ end_claims pid (claims_of old) → ((n : ℕ) → claims_of old n ≡ None) → (n : ℕ) → claims_of new n ≡ None
+forget_unclaimed pid old new e none n = ap (λ (m : ClaimMap). m n) e ∙ end_nothing (is_of pid (claims_of old n)) (claims_of old n) (none n)
+
+-- ---- the parts
+
+thread_gone : (b : Bool) (o : Option TableThread) → option_map thread_of (if b then None else o) ≡ (if b then None else option_map thread_of o)
+thread_gone true o = refl
+thread_gone false o = refl
+
+process_dead : (o : Option ProcessState) → process_of (option_map (λ _. dead_state) o) ≡ dead_process
+process_dead None = refl
+process_dead (Some p) = refl
+
+process_ended : (b : Bool) (old other : Option ProcessState)
+    → process_of (if b then option_map (λ _. dead_state) old else other) ≡ (if b then dead_process else process_of other)
+process_ended true old other = process_dead old
+process_ended false old other = refl
+
+claim_gone : (pid : Pid) (o : Option TableClaim) → option_map claim_of (if is_of pid o then None else o) ≡ (if is_claim_of pid (option_map claim_of o) then None else option_map claim_of o)
+claim_gone pid None = refl
+claim_gone pid (Some claim) = either (claim.pid.0 == pid.0)
+  where
+    either : (b : Bool) → option_map claim_of (if b then None else Some claim) ≡ (if b then None else Some (claim_of claim))
+    either true = refl
+    either false = refl
+
+abbrev pending_of : Option TableClaim → Bool
+pending_of o = option_map_or (λ c. c.pending) o false
+
+pending_gone : (pid : Pid) (o : Option TableClaim) → pending_of (if is_of pid o then None else o) ≡ (pending_of o && not (is_claim_of pid (option_map claim_of o)))
+pending_gone pid None = refl
+pending_gone pid (Some claim) = either (claim.pid.0 == pid.0) claim.pending
+  where
+    either : (b p : Bool) → pending_of (if b then None else Some (record claim { pending = p })) ≡ (p && not b)
+    either true true = refl
+    either true false = refl
+    either false true = refl
+    either false false = refl
+
+-- ---- the machine
+
+-- what the parts of the kernel are after the end of the process
+pub record HasForgotten {W : Type 0} (held : W → Held) (pid : Pid) (old new : Kernel W) : Type 0 where
+  pub ledger : ledger held new.mem ≡ forget pid (ledger held old.mem)
+  pub size : size new.mem ≡ size old.mem
+  pub threads : threads_of new.threads ≡ without_process pid (threads_of old.threads)
+  pub process : processes_of new.procs ≡ change pid.0 (λ _. dead_state) (processes_of old.procs)
+  pub claims : claims_of new.claims ≡ end_claims pid (claims_of old.claims)
+
+-- the rest is as it was
+abbrev forgetting : {W : Type 0} → Kernel W → Memory W → Threads → Processes → Claims → Kernel W
+forgetting k mem threads procs claims = record k { mem = mem; threads = threads; procs = procs; claims = claims }
+
+pub machine_forgotten : {W : Type 0} (held : W → Held) (pid : Pid) (k : Kernel W) (mem : Memory W) (threads : Threads) (procs : Processes) (claims : Claims)
+    → HasForgotten held pid k (forgetting k mem threads procs claims)
+    → machine_of held (forgetting k mem threads procs claims) ≡ forgotten pid (machine_of held k)
+unfolding machine_of forgotten
+machine_forgotten held pid k mem threads procs claims h = λ i. record (machine_of held k) {
+  capacity = ap (λ (s : Size). capacity s.area.frames s.procs s.slots) h.size i;
+  processes = ap (λ (s : Size). s.procs) h.size i;
+  ledger = h.ledger i;
+  threads = λ id. (ap (λ (f : _). option_map thread_of (f id)) h.threads ∙ thread_gone (id.pid.0 == pid.0) (threads_of k.threads id)) i;
+  process = λ q. (ap (λ (f : _). process_of (f q)) h.process ∙ process_ended (nat_eq q pid.0) (processes_of k.procs pid.0) (processes_of k.procs q)) i;
+  claims = λ n. (ap (λ (f : _). option_map claim_of (f n)) h.claims ∙ claim_gone pid (claims_of k.claims n)) i;
+  pending = λ n. (ap (λ (f : _). pending_of (f n)) h.claims ∙ pending_gone pid (claims_of k.claims n)) i;
+}

@@ -1,0 +1,133 @@
+-- What a pick and a kill do, and that a kernel stays sound.
+use Rattle.std.proofs.Common.{◌≡◌, ℕ, ◌≤◌, Bool, true, false, [], ◌∷◌, ◌++◌, map, Option, Some, None, refl, sym, ap, subst, ◌∙◌}
+use Rattle.std.specs.Prelude.{IsTrue}
+use Rattle.machine_laws.proofs.Stepping.PlainStepLemmas.{kill_leaves_no_servers}
+use Rattle.machine_model.proofs.DeathLemmas.{death_without_servers}
+use Rattle.machine_model.proofs.KeptLemmas.{pick_keeps}
+use Rattle.machine_model.specs.State.Changes.{Change, settled}
+use Rattle.machine_model.specs.Ending.Ends.{forgotten}
+use Rattle.machine_model.specs.Stepping.Events.{at_event, killed, killed_if, nothing, picked}
+use Rattle.machine_model.specs.State.Machine.{Machine}
+use Rattle.machine_model.specs.Stepping.Reservations.{unreserved}
+use Rattle.machine_model.specs.Runs.Matched.{Matched}
+use Rattle.machine_model.specs.Stepping.Step.{Stepped, record_of}
+use Rattle.machine_laws.specs.WithoutServers.{HasNoServers}
+use Rattle.process_table.specs.ProcessesOf.{processes_of}
+use Rattle.process_table.specs.ProcessMap.{is_alive}
+use Rattle.process_table.specs.State.{ProcessState}
+use Rattle.sv32_space.specs.Tie.{Held}
+use Rattle.vm_memory.specs.Memory.{processes}
+use Rattle.xk_base.specs.Circle.{is_pid}
+use Rattle.xk_base.specs.Log.{LogState}
+use Rattle.xk_base.specs.declared.ids.Pid.{Pid}
+use Rattle.xk_base.specs.declared.ids.ThreadId.{ThreadId}
+use Rattle.xk_base.specs.declared.limits.TheConstants.{RECORD_LIMIT}
+use Rattle.xk_base.specs.declared.records.What.TheVariants.{Gone}
+use Rattle.xk_kernel.specs.Sound.{IsSound, IsUsable, IsWhole}
+use Rattle.xk_kernel.specs.State.{machine_of, process_of}
+use Rattle.xk_kernel.specs.Stepping.{Becomes}
+use Rattle.xk_kernel.specs.Telling.{log_with}
+use Rattle.xk_kernel.specs.declared.kernel.Kernel.{Kernel}
+use Rattle.xk_kernel.proofs.Calling.SettleLemmas.{nobody_answered, no_reply}
+use Rattle.xk_kernel.proofs.Acting.StepOfLemmas.{without_servers}
+
+-- a whole kernel is whole with another log of as much room
+pub pushed_whole : {W : Type 0} (slot_count : W → ℕ) (held : W → Held) (k : Kernel W) (log : LogState) → IsWhole slot_count held k → log.room ≡ k.log.room
+    → IsWhole slot_count held (record k { log = log })
+pushed_whole slot_count held k log whole e = record {
+  mem = whole.mem;
+  threads = whole.threads;
+  procs = whole.procs;
+  cursor = whole.cursor;
+  room = subst (λ room. RECORD_LIMIT ≤ room) (sym e) whole.room;
+  unlent = whole.unlent;
+  no_servers = whole.no_servers;
+  unclaimed = whole.unclaimed;
+}
+
+-- .. and with no reservation
+pub unreserved_whole : {W : Type 0} (slot_count : W → ℕ) (held : W → Held) (k : Kernel W) → IsWhole slot_count held k → IsWhole slot_count held (record k { reserved = None })
+unreserved_whole slot_count held k whole = record {
+  mem = whole.mem;
+  threads = whole.threads;
+  procs = whole.procs;
+  cursor = whole.cursor;
+  room = whole.room;
+  unlent = whole.unlent;
+  no_servers = whole.no_servers;
+  unclaimed = whole.unclaimed;
+}
+
+-- ---- a process that lives
+
+alive_of : (o : Option ProcessState) → (process_of o).alive ≡ is_alive o
+alive_of None = refl
+alive_of (Some p) = refl
+
+-- ---- a kill
+
+killed_is : (m : Machine) → HasNoServers m → (pid : Pid) → (m.process pid.0).alive ≡ true
+    → killed pid m ≡ record { machine = forgotten pid (unreserved m); records = record_of m.steps (Gone pid) ∷ [] }
+unfolding killed settled forgotten
+killed_is m none pid alive =
+    ap (λ b. killed_if b pid (unreserved m)) alive
+    ∙ ap (λ (change : Change). at_event m.steps (settled change)) (death_without_servers (unreserved m) none pid)
+    ∙ (λ i. record { machine = nobody_answered (forgotten pid (unreserved m)) i; records = map (record_of m.steps) (no_reply m.processes i ++ ([] ++ Gone pid ∷ [])) })
+
+spared : (m : Machine) (pid : Pid) → (m.process pid.0).alive ≡ false → killed pid m ≡ nothing (unreserved m)
+unfolding killed
+spared m pid dead = ap (λ b. killed_if b pid (unreserved m)) dead
+
+module _ {W : Type 0} (slot_count : W → ℕ) (held : W → Held) (old new : Kernel W) (sound : IsSound slot_count held old) (usable : IsUsable old) where
+  -- what leaves the machine matched leaves the kernel sound
+  pub became_sound : (next : Stepped) → IsWhole slot_count held new → Becomes held new next → Matched next.machine → IsSound slot_count held new
+  became_sound next whole becomes matched = record { whole = whole; matched = λ _. subst Matched (sym becomes.machine) matched }
+
+  pub left_matched : Matched (machine_of held old)
+  left_matched = sound.matched usable
+
+  pub pick_matched : (who : ThreadId) → Matched (picked who (machine_of held old)).machine
+  pick_matched who = pick_keeps who (machine_of held old) left_matched
+
+  pub kill_matched : (pid : Pid) → Matched (killed pid (machine_of held old)).machine
+  kill_matched pid = (kill_leaves_no_servers (machine_of held old) left_matched (without_servers slot_count held old sound.whole) pid).0
+
+  -- the log that is begun anew
+  abbrev begun : LogState
+  begun = record old.log { step = old.steps; records = [] }
+
+  pub logged_whole : (log : LogState) → log ≡ begun → IsWhole slot_count held (record old { log = log })
+  logged_whole log e = pushed_whole slot_count held old log sound.whole (ap (λ (l : LogState). l.room) e)
+
+  pub nothing_done : (log : LogState) → log ≡ begun → Becomes held (record old { log = log }) (nothing (machine_of held old))
+  unfolding machine_of
+  nothing_done log e = record { machine = refl; records = ap (λ (l : LogState). l.records) e }
+
+  pub picked_done : (who : ThreadId) → machine_of held new ≡ (picked who (machine_of held old)).machine → new.log ≡ begun → Becomes held new (picked who (machine_of held old))
+  unfolding picked
+  picked_done who machine log = record { machine = machine; records = ap (λ (l : LogState). l.records) log }
+
+  pub lives : (pid : Pid) (b : Bool) → b ≡ is_alive (processes_of old.procs pid.0) → ((machine_of held old).process pid.0).alive ≡ b
+  unfolding machine_of
+  lives pid b e = alive_of (processes_of old.procs pid.0) ∙ sym e
+
+  pub known : (pid : Pid) → ((machine_of held old).process pid.0).alive ≡ true → IsTrue (is_pid (processes old.mem) pid.0)
+  unfolding machine_of
+  known pid alive = left_matched.body.processes.pids pid alive
+
+  pub killed_done : (pid : Pid) → ((machine_of held old).process pid.0).alive ≡ true → machine_of held new ≡ forgotten pid (unreserved (machine_of held old))
+      → new.log ≡ log_with (Gone pid ∷ []) begun → Becomes held new (killed pid (machine_of held old))
+  unfolding machine_of
+  killed_done pid alive machine log =
+      let is : killed pid (machine_of held old) ≡ record { machine = forgotten pid (unreserved (machine_of held old)); records = record_of old.steps (Gone pid) ∷ [] } =
+      killed_is (machine_of held old) (without_servers slot_count held old sound.whole) pid alive in
+      record {
+        machine = machine ∙ sym (ap (λ (s : Stepped). s.machine) is);
+        records = ap (λ (l : LogState). l.records) log ∙ sym (ap (λ (s : Stepped). s.records) is);
+      }
+
+  pub spared_done : (pid : Pid) (log : LogState) → ((machine_of held old).process pid.0).alive ≡ false → log ≡ begun
+      → Becomes held (record old { log = log; reserved = None }) (killed pid (machine_of held old))
+  unfolding machine_of
+  spared_done pid log dead e =
+      subst (Becomes held (record old { log = log; reserved = None })) (sym (spared (machine_of held old) pid dead)) (record { machine = refl; records = ap (λ (l : LogState). l.records) e })

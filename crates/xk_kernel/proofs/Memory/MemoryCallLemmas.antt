@@ -1,0 +1,214 @@
+-- A kernel whose memory alone changed: the machine that it stands for, and that it is whole; and the calls that remove and reduce
+-- pages.
+use Rattle.std.proofs.Common.{◌≡◌, ℕ, ◌/◌, if◌then◌else◌, Bool, true, false, [], ◌∷◌, Option, Some, None, refl, sym, ap, subst, ◌∙◌}
+use Rattle.std.specs.Prelude.{◌&&◌, Result, Ok, Err}
+use Rattle.std.specs.Option.{option_map}
+use Rattle.std.proofs.lemmas.Bool.{false≢true, and_from, and_parts, or_right}
+use Rattle.std.proofs.lemmas.Option.{none-some, same_Some}
+use Rattle.xk_base.specs.Circle.{is_pid, is_tid, is_thread_id}
+use Rattle.xk_base.specs.declared.errors.XousError.{XousError}
+use Rattle.xk_base.specs.declared.errors.XousError.TheVariants.{BadAlignment, BadAddress, ShareViolation, AccessDenied, InvalidSyscall}
+use Rattle.xk_base.specs.declared.ids.Pid.{Pid}
+use Rattle.xk_base.specs.declared.ids.Place.{Place}
+use Rattle.xk_base.specs.declared.ids.Vpn.{Vpn}
+use Rattle.xk_base.specs.declared.limits.TheConstants.{PAGE_SIZE}
+use Rattle.xk_base.specs.declared.pages.Right.{Right}
+use Rattle.xk_base.specs.Flags.{right_of}
+use Rattle.boot_plan.specs.Capacity.{capacity}
+use Rattle.ledger_model.specs.Ledger.{Ledger, Page, loan_of}
+use Rattle.ledger_model.specs.Places.{in_run, same_place}
+use Rattle.ledger_model.specs.RunTests.{any_free, any_lacks, any_on_loan}
+use Rattle.ledger_model.specs.Steps.{make, make_console, new_page, reduce, remove, with_right}
+use Rattle.machine_model.specs.State.Changes.{Served, unless_refused}
+use Rattle.machine_model.specs.State.Machine.{Machine}
+use Rattle.machine_model.specs.Calling.MemoryCalls.{are_bad_flags, caller_place, is_bad_range, unmap_refusals, unmap_served, update_refusals, update_served}
+use Rattle.xk_base.specs.Windows.{page_of}
+use Rattle.sv32_space.specs.Tie.{Held}
+use Rattle.syscall_codec.specs.declared.replies.Reply.TheVariants.{Plain}
+use Rattle.vm_memory.specs.declared.memory.Memory.{Memory}
+use Rattle.vm_memory.specs.Bytes.{MeansBytesOver, is_known, none_out}
+use Rattle.vm_memory.specs.Making.{after_console, after_make, place_of}
+use Rattle.vm_memory.specs.Memory.{ledger, processes, size}
+use Rattle.vm_memory.specs.Removing.{after_reduce, after_remove, reduce_answer, remove_answer}
+use Rattle.vm_memory.specs.Sound.{IsSound as IsMemorySound}
+use Rattle.vm_memory.specs.Starting.{IsUnlent}
+use Rattle.vm_memory.proofs.Changing.CallLemmas.{sound-none_out}
+use Rattle.xk_kernel.specs.Calling.{outcome_of}
+use Rattle.xk_kernel.specs.Sound.{IsWhole}
+use Rattle.xk_kernel.specs.State.{machine_of}
+use Rattle.xk_kernel.specs.declared.kernel.Kernel.{Kernel}
+use Rattle.xk_kernel.specs.declared.kernel.calls.CallerFate.{CallerFate}
+use Rattle.xk_kernel.specs.declared.kernel.calls.CallerFate.TheVariants.{Answered}
+
+abbrev pub with_mem : {W : Type 0} → Memory W → Kernel W → Kernel W
+with_mem mem k = record k { mem = mem }
+
+abbrev pub on_ledger : Ledger → Machine → Machine
+on_ledger l m = record m { ledger = l }
+
+-- THE MACHINE is the one with the memory's ledger
+pub machine_with_mem : {W : Type 0} (held : W → Held) (k : Kernel W) (mem : Memory W) (l : Ledger) → size mem ≡ size k.mem → ledger held mem ≡ l
+    → machine_of held (with_mem mem k) ≡ on_ledger l (machine_of held k)
+unfolding machine_of
+machine_with_mem held k mem l s e = λ i. record (machine_of held k) {
+  capacity = capacity (s i).area.frames (s i).procs (s i).slots;
+  processes = (s i).procs;
+  ledger = e i;
+}
+
+-- THE PARTS stay sound
+pub whole_with_mem : {W : Type 0} (slot_count : W → ℕ) (held : W → Held) (k : Kernel W) (mem : Memory W) → IsWhole slot_count held k
+    → size mem ≡ size k.mem → IsMemorySound slot_count mem → IsUnlent (ledger held mem) → IsWhole slot_count held (with_mem mem k)
+whole_with_mem slot_count held k mem whole s sound unlent =
+    let same : processes mem ≡ processes k.mem = ap (λ z. z.procs) s in
+    record {
+      mem = sound;
+      threads = whole.threads ∙ sym same;
+      procs = whole.procs ∙ sym same;
+      cursor = ap (λ n. is_thread_id n k.cursor) same ∙ whole.cursor;
+      room = whole.room;
+      unlent = unlent;
+      no_servers = whole.no_servers;
+      unclaimed = whole.unclaimed;
+    }
+
+-- ---- a ledger without loans keeps none
+
+loan_gone : (b : Bool) (o : Option Page) → loan_of o ≡ None → loan_of (if b then None else o) ≡ None
+loan_gone true o e = refl
+loan_gone false o e = e
+
+loan_right : (right : Right) (o : Option Page) → loan_of (option_map (with_right right) o) ≡ loan_of o
+loan_right right None = refl
+loan_right right (Some page) = refl
+
+loan_reduced : (b : Bool) (right : Right) (o : Option Page) → loan_of o ≡ None → loan_of (if b then option_map (with_right right) o else o) ≡ None
+loan_reduced true right o e = loan_right right o ∙ e
+loan_reduced false right o e = e
+
+loan_new : (b : Bool) (page : Page) (o : Option Page) → page.loan ≡ None → loan_of o ≡ None → loan_of (if b then Some page else o) ≡ None
+loan_new true page o new e = new
+loan_new false page o new e = e
+
+pub removed_unlent : (places : Place → Bool) (l : Ledger) → IsUnlent l → IsUnlent (remove places l)
+unfolding remove
+removed_unlent places l h = record { loans = λ q. loan_gone (places q) (l.home q) (h.loans q); orphans = h.orphans }
+
+pub reduced_unlent : (places : Place → Bool) (right : Right) (l : Ledger) → IsUnlent l → IsUnlent (reduce places right l)
+unfolding reduce
+reduced_unlent places right l h = record { loans = λ q. loan_reduced (places q) right (l.home q) (h.loans q); orphans = h.orphans }
+
+pub made_unlent : (first : Place) (n : ℕ) (right : Right) (l : Ledger) → IsUnlent l → IsUnlent (make first n right l)
+unfolding make
+made_unlent first n right l h = record { loans = λ q. loan_new (in_run first n q) (new_page right _) (l.home q) refl (h.loans q); orphans = h.orphans }
+
+pub console_unlent : (place : Place) (w : Bool) (l : Ledger) → IsUnlent l → IsUnlent (make_console place w l)
+unfolding make_console
+console_unlent place w l h = record { loans = λ q. loan_new (same_place q place) (new_page (record { w = w; x = false }) _) (l.home q) refl (h.loans q); orphans = h.orphans }
+
+pub remove_unlent : (r : Result (Unit {0}) XousError) (first : Place) (n : ℕ) (old new : Ledger) → new ≡ after_remove r first n old → IsUnlent old → IsUnlent new
+remove_unlent r first n old new e h = subst IsUnlent (sym e) (go r)
+  where
+    go : (r : Result (Unit {0}) XousError) → IsUnlent (after_remove r first n old)
+    go (Ok done) = removed_unlent (in_run first n) old h
+    go (Err error) = h
+
+pub make_unlent : (pid : Pid) (n : ℕ) (right : Right) (r : Result Vpn XousError) (old new : Ledger) → new ≡ after_make pid n right r old → IsUnlent old → IsUnlent new
+make_unlent pid n right r old new e h = subst IsUnlent (sym e) (go r)
+  where
+    go : (r : Result Vpn XousError) → IsUnlent (after_make pid n right r old)
+    go (Ok first) = made_unlent (place_of pid first) n right old h
+    go (Err error) = h
+
+pub make_console_unlent : (pid : Pid) (w : Bool) (r : Result Vpn XousError) (old new : Ledger) → new ≡ after_console pid w r old → IsUnlent old → IsUnlent new
+make_console_unlent pid w r old new e h = subst IsUnlent (sym e) (go r)
+  where
+    go : (r : Result Vpn XousError) → IsUnlent (after_console pid w r old)
+    go (Ok first) = console_unlent (place_of pid first) w old h
+    go (Err error) = h
+
+pub reduce_unlent : (r : Result (Unit {0}) XousError) (first : Place) (n : ℕ) (right : Right) (old new : Ledger) → new ≡ after_reduce r first n right old → IsUnlent old → IsUnlent new
+reduce_unlent r first n right old new e h = subst IsUnlent (sym e) (go r)
+  where
+    go : (r : Result (Unit {0}) XousError) → IsUnlent (after_reduce r first n right old)
+    go (Ok done) = reduced_unlent (in_run first n) right old h
+    go (Err error) = h
+
+-- no page is out, so that the ledger's bytes mean something
+pub means_over : {W : Type 0} (slot_count : W → ℕ) (honest : W → Bool) (held : W → Held) (old new : Memory W) → IsMemorySound slot_count old
+    → IsMemorySound slot_count new → MeansBytesOver honest held old new
+means_over slot_count honest held old new a b =
+    or_right (is_known honest held old) (none_out old && none_out new)
+    (and_from (none_out old) (none_out new) (sound-none_out slot_count old a) (sound-none_out slot_count new b))
+
+-- ---- the caller
+
+pub caller_process : {W : Type 0} (slot_count : W → ℕ) (held : W → Held) (k : Kernel W) → IsWhole slot_count held k → is_pid (processes k.mem) k.cursor.pid.0 ≡ true
+caller_process slot_count held k whole = (and_parts (is_pid (processes k.mem) k.cursor.pid.0) (is_tid k.cursor.tid.0) whole.cursor).0
+
+-- a call that is done is answered plainly
+abbrev pub plain_or : Result (Unit {0}) XousError → Result CallerFate XousError
+plain_or (Ok done) = Ok (Answered Plain)
+plain_or (Err error) = Err error
+
+-- ---- UnmapMemory
+
+unmap_by : (m : Machine) (address size : ℕ) (bad free loan : Bool) → bad ≡ false
+    → let r : Result (Unit {0}) XousError = if free then Err BadAddress else (if loan then Err ShareViolation else Ok tt) in
+    outcome_of m.cursor (on_ledger (after_remove r (caller_place m address) (size / PAGE_SIZE) m.ledger) m) (plain_or r)
+    ≡ unless_refused ((bad, BadAlignment) ∷ (free, BadAddress) ∷ (loan, ShareViolation) ∷ []) (Served (unmap_served m address size))
+unmap_by m address size true free loan e = absurd (false≢true (sym e))
+unmap_by m address size false true loan e = refl
+unmap_by m address size false false true e = refl
+unmap_by m address size false false false e = refl
+
+pub unmap_outcome : {W : Type 0} (held : W → Held) (k : Kernel W) (mem : Memory W) (address bytes : ℕ) (r : Result (Unit {0}) XousError)
+    → size mem ≡ size k.mem → is_bad_range address bytes ≡ false
+    → r ≡ remove_answer (processes k.mem) (ledger held k.mem) (page_of k.cursor.pid address) (bytes / PAGE_SIZE)
+    → ledger held mem ≡ after_remove r (page_of k.cursor.pid address) (bytes / PAGE_SIZE) (ledger held k.mem)
+    → outcome_of k.cursor (machine_of held (with_mem mem k)) (plain_or r)
+    ≡ unless_refused (unmap_refusals (machine_of held k) address bytes) (Served (unmap_served (machine_of held k) address bytes))
+unfolding machine_of
+unmap_outcome held k mem address bytes r s good a e =
+    let place = page_of k.cursor.pid address in
+    let n = bytes / PAGE_SIZE in
+    ap (λ m. outcome_of k.cursor m (plain_or r)) (machine_with_mem held k mem (after_remove r place n (ledger held k.mem)) s e)
+    ∙ ap (λ x. outcome_of k.cursor (on_ledger (after_remove x place n (ledger held k.mem)) (machine_of held k)) (plain_or x)) a
+    ∙ unmap_by (machine_of held k) address bytes (is_bad_range address bytes)
+    (any_free (processes k.mem) (ledger held k.mem) place n) (any_on_loan (processes k.mem) (ledger held k.mem) place n) good
+
+-- ---- UpdateMemoryFlags
+
+-- the right that known flags with R ask for
+pub right_told : (bad : Bool) (asked right : Right) → Some right ≡ (if bad then None else Some asked) → (bad ≡ false) × (right ≡ asked)
+right_told true asked right e = absurd (none-some right (sym e))
+right_told false asked right e = (refl, same_Some right asked e)
+
+update_by : (m : Machine) (address size flags : ℕ) (bad unknown free loan lacks : Bool) → bad ≡ false → unknown ≡ false
+    → let r : Result (Unit {0}) XousError = if free then Err BadAddress else (if loan then Err ShareViolation else (if lacks then Err AccessDenied else Ok tt)) in
+    outcome_of m.cursor (on_ledger (after_reduce r (caller_place m address) (size / PAGE_SIZE) (right_of flags) m.ledger) m) (plain_or r)
+    ≡ unless_refused ((bad, BadAlignment) ∷ (unknown, InvalidSyscall) ∷ (free, BadAddress) ∷ (loan, ShareViolation) ∷ (lacks, AccessDenied) ∷ []) (Served (update_served m address size flags))
+update_by m address size flags true unknown free loan lacks e u = absurd (false≢true (sym e))
+update_by m address size flags false true free loan lacks e u = absurd (false≢true (sym u))
+update_by m address size flags false false true loan lacks e u = refl
+update_by m address size flags false false false true lacks e u = refl
+update_by m address size flags false false false false true e u = refl
+update_by m address size flags false false false false false e u = refl
+
+pub update_outcome : {W : Type 0} (held : W → Held) (k : Kernel W) (mem : Memory W) (address bytes flags : ℕ) (right : Right) (r : Result (Unit {0}) XousError)
+    → size mem ≡ size k.mem → is_bad_range address bytes ≡ false → (are_bad_flags flags ≡ false) × (right ≡ right_of flags)
+    → r ≡ reduce_answer (processes k.mem) (ledger held k.mem) (page_of k.cursor.pid address) (bytes / PAGE_SIZE) right
+    → ledger held mem ≡ after_reduce r (page_of k.cursor.pid address) (bytes / PAGE_SIZE) right (ledger held k.mem)
+    → outcome_of k.cursor (machine_of held (with_mem mem k)) (plain_or r)
+    ≡ unless_refused (update_refusals (machine_of held k) address bytes flags) (Served (update_served (machine_of held k) address bytes flags))
+unfolding machine_of
+update_outcome held k mem address bytes flags right r s good told a e =
+    let place = page_of k.cursor.pid address in
+    let n = bytes / PAGE_SIZE in
+    ap (λ m. outcome_of k.cursor m (plain_or r)) (machine_with_mem held k mem (after_reduce r place n right (ledger held k.mem)) s e)
+    ∙ ap (λ x. outcome_of k.cursor (on_ledger (after_reduce r place n x (ledger held k.mem)) (machine_of held k)) (plain_or r)) told.1
+    ∙ ap (λ x. outcome_of k.cursor (on_ledger (after_reduce x place n (right_of flags) (ledger held k.mem)) (machine_of held k)) (plain_or x))
+    (a ∙ ap (reduce_answer (processes k.mem) (ledger held k.mem) place n) told.1)
+    ∙ update_by (machine_of held k) address bytes flags (is_bad_range address bytes) (are_bad_flags flags)
+    (any_free (processes k.mem) (ledger held k.mem) place n) (any_on_loan (processes k.mem) (ledger held k.mem) place n)
+    (any_lacks (right_of flags) (ledger held k.mem) place n) good told.0

@@ -1,0 +1,6 @@
+pub mod BuiltMomentLemmas
+pub mod HistoryLemmas
+pub mod InterleavingLemmas
+pub mod LimitLemmas
+pub mod MomentLemmas
+pub mod RunLemmas

@@ -1,0 +1,206 @@
+-- What running an instruction makes of the machine.
+use Rattle.std.proofs.Common.{◌≡◌, ℕ, ◌⊎◌, Bool, true, false, Option, Some, None, refl, sym, ap, subst, ◌∙◌, inl, inr}
+use Rattle.std.proofs.lemmas.Bool.{cond-true}
+use Rattle.std.proofs.lemmas.Option.{same_Some}
+use Rattle.std.specs.Prelude.{unwrap_or, if◌then◌else◌}
+use Rattle.std.specs.Option.{option_map}
+use Rattle.xk_base.specs.declared.ids.Pid.{Pid}
+use Rattle.xk_base.specs.declared.ids.ThreadId.{ThreadId}
+use Rattle.xk_base.specs.Circle.{same_thread}
+use Rattle.machine_model.specs.Stepping.Reservations.{reserved_by}
+use Rattle.xk_base.specs.UserMemory.{Content, Memory as SeenMemory}
+use Rattle.machine_model.specs.Hart.Instructions.{Executed, Next, Stores, StoresToConsole, StoresToTimer, CallsKernel, Traps}
+use Rattle.machine_model.specs.Hart.Atomics.{Performed, execute_at}
+use Rattle.machine_model.specs.State.Machine.{Machine, Thread}
+use Rattle.machine_model.specs.State.Threads.{put_thread, with_registers}
+use Rattle.machine_model.specs.State.Views.{memory_of, stored}
+use Rattle.rv32_atomics.specs.Performing.{Core, DoesPerform, IsPerformed, Performs}
+use Rattle.rv32_hart.specs.Running.{ran_of, registers_after, IfFailed, View, seen}
+use Rattle.rv32_hart.specs.declared.ran.Ran.{Ran}
+use Rattle.rv32_hart.specs.declared.ran.Ran.TheVariants.{Ecall, Trap, Device, Failed}
+use Rattle.rv32_hart.specs.declared.ran.Ran.TheVariants as ran
+use Rattle.sv32_space.specs.Tie.{Held}
+use Rattle.vm_memory.specs.declared.memory.Memory.{Memory}
+use Rattle.vm_memory.specs.Bytes.{means_bytes}
+use Rattle.vm_memory.specs.Memory.{IsUsable}
+use Rattle.vm_memory.specs.Sound.{IsSound}
+use Rattle.vm_memory.specs.Using.UserView.{KeepsRest, seen_memory, user_content, user_view}
+use Rattle.vm_memory.proofs.Changing.CallLemmas.{sound-means, sound-none_out}
+use Rattle.xk_kernel.specs.Running.{machine_after}
+use Rattle.xk_kernel.specs.Sound.{IsWhole}
+use Rattle.xk_kernel.specs.State.{as_reservation, machine_of}
+use Rattle.xk_kernel.specs.declared.kernel.Kernel.{Kernel}
+use Rattle.xk_kernel.proofs.Memory.MemoryPartLemmas.{memory_machine, memory_seen, with_memory}
+use Rattle.xk_kernel.proofs.Memory.LedgerAfterLemmas.{ledger_after, ledger_by_bytes}
+use Rattle.xk_kernel.proofs.Memory.StoreLemmas.{LeavesTimer, StoresLawfully, leaves_timer, stores_lawfully}
+
+-- ---- the machine afterwards
+
+-- the machine with the ledger that the instruction leaves
+abbrev pub ledger_left : Pid → Machine → Executed → Machine
+ledger_left pid m x = record m { ledger = ledger_after m.processes pid m.ledger x }
+
+pc_left : Ran → ℕ
+pc_left (ran.Next next) = next
+pc_left (Device offset value next) = next
+pc_left Ecall = 0
+pc_left (Trap cause value) = 0
+pc_left Failed = 0
+
+-- the thread goes on
+abbrev pub GoesOn : Ran → ℕ → Type 0
+GoesOn answer next = (answer ≡ ran.Next next) ⊎ ((offset : ℕ) × (value : ℕ) × (answer ≡ Device offset value next))
+
+-- .. or stays
+abbrev pub Stays : Ran → Type 0
+Stays answer = (answer ≡ Ecall) ⊎ (((cause : ℕ) × (value : ℕ) × (answer ≡ Trap cause value)) ⊎ (answer ≡ Failed))
+
+next_left : (next : ℕ) (answer : Ran) → GoesOn answer next → pc_left answer ≡ next
+unfolding pc_left
+next_left next answer (inl e) = ap pc_left e
+next_left next answer (inr e) = ap pc_left e.2
+
+stays_not : (answer : Ran) (next : ℕ) → Stays answer → GoesOn answer next → ⊥
+stays_not answer next (inl e) (inl f) = cc
+stays_not answer next (inl e) (inr f) = let g : answer ≡ Device f.0 f.1 next = f.2 in cc
+stays_not answer next (inr (inl e)) (inl f) = let g : answer ≡ Trap e.0 e.1 = e.2 in cc
+stays_not answer next (inr (inl e)) (inr f) = let g : answer ≡ Trap e.0 e.1 = e.2 in let h : answer ≡ Device f.0 f.1 next = f.2 in cc
+stays_not answer next (inr (inr e)) (inl f) = cc
+stays_not answer next (inr (inr e)) (inr f) = let g : answer ≡ Device f.0 f.1 next = f.2 in cc
+
+pub goes_on : (m : Machine) (who : ThreadId) (t : Thread) (x : Executed) (next : ℕ) → LeavesTimer x → m.threads who ≡ Some t → GoesOn (ran_of x) next
+    → put_thread who (Some (record t { regs = registers_after t.regs x; pc = next })) (ledger_left who.pid m x) ≡ machine_after who m x
+unfolding stored pc_left
+goes_on m who t (Next regs pc) next so e is =
+    let n : pc ≡ next = next_left next (ran.Next pc) is in λ i. put_thread who (option_map (with_registers regs (sym n i)) (sym e i)) m
+goes_on m who t (Stores address width value regs pc) next so e is =
+    let n : pc ≡ next = next_left next (ran.Next pc) is in
+    λ i. put_thread who (option_map (with_registers regs (sym n i)) (sym e i)) (stored who.pid address width value m)
+goes_on m who t (StoresToConsole offset value regs pc) next so e is =
+    let n : pc ≡ next = next_left next (Device offset value pc) is in λ i. put_thread who (option_map (with_registers regs (sym n i)) (sym e i)) m
+goes_on m who t (StoresToTimer offset width value regs pc) next so e is = absurd so
+goes_on m who t CallsKernel next so e is = absurd (stays_not Ecall next (inl refl) is)
+goes_on m who t (Traps cause value) next so e is = absurd (stays_not (Trap cause value) next (inr (inl (cause, value, refl))) is)
+
+pub stays : (m : Machine) (who : ThreadId) (x : Executed) → Stays (ran_of x) → ledger_left who.pid m x ≡ machine_after who m x
+stays m who (Next regs pc) is = absurd (stays_not (ran.Next pc) pc is (inl refl))
+stays m who (Stores address width value regs pc) is = absurd (stays_not (ran.Next pc) pc is (inl refl))
+stays m who (StoresToConsole offset value regs pc) is = absurd (stays_not (Device offset value pc) pc is (inr (offset, value, refl)))
+stays m who (StoresToTimer offset width value regs pc) is = absurd (stays_not (ran.Next pc) pc is (inl refl))
+stays m who CallsKernel is = refl
+stays m who (Traps cause value) is = refl
+
+-- ---- the answer
+
+told_all : (b : Bool) (byte : ℕ → ℕ) → b ≡ true → (if b then Some byte else None) ≡ Some byte
+told_all b byte e = cond-true b (Some byte) None e
+
+-- what is told of memory is these bytes
+abbrev telling : View → (ℕ → ℕ) → View
+telling view byte = record view { content = Some byte }
+
+-- a memory that can't fail has executed the instruction
+is_performed : (effect : SeenMemory → Performed) (byte : ℕ → ℕ) (view after : View) (old new : Core) (answer : Ran) (Fit : Type 0)
+    → Fit → IfFailed answer (¬ Fit) → DoesPerform effect (telling view byte) after old new answer
+    → IsPerformed (effect (seen view byte)) (telling view byte) after old new answer
+is_performed effect byte view after old new (ran.Next next) Fit fit f h = h
+is_performed effect byte view after old new Ecall Fit fit f h = h
+is_performed effect byte view after old new (Trap cause value) Fit fit f h = h
+is_performed effect byte view after old new (Device offset value next) Fit fit f h = h
+is_performed effect byte view after old new Failed Fit fit f h = absurd (f fit)
+
+-- what running the instruction comes to, where the thread has reserved this address
+pub record HasRun {W : Type 0} (held : W → Held) (k : Kernel W) (mem : Memory W) (pid : Pid) (old new : Core) (pc : ℕ) (answer : Ran) : Type 0 where
+  pub answered : answer ≡ ran_of (execute_at old.regs pc old.reserved (memory_of (machine_of held k) pid)).executed
+  pub registers : new.regs ≡ registers_after old.regs (execute_at old.regs pc old.reserved (memory_of (machine_of held k) pid)).executed
+  pub reserved : new.reserved ≡ (execute_at old.regs pc old.reserved (memory_of (machine_of held k) pid)).reserved
+  pub untimed : LeavesTimer (execute_at old.regs pc old.reserved (memory_of (machine_of held k) pid)).executed
+  pub machine : machine_of held (with_memory mem k) ≡ ledger_left pid (machine_of held k) (execute_at old.regs pc old.reserved (memory_of (machine_of held k) pid)).executed
+
+module _ {W P : Type 0} (is_honest : W → Bool) (held : W → Held) (slot_count : W → ℕ) (asked : W → P) (faults : W → ℕ)
+    (k : Kernel W) (mem : Memory W) (pid other : Pid) (same : other ≡ pid) (whole : IsWhole slot_count held k) (usable : IsUsable k.mem)
+    (rest : KeepsRest is_honest held slot_count asked faults pid k.mem mem) where
+  pub stays_usable : IsUsable mem
+  stays_usable = rest.out (sound-none_out slot_count k.mem whole.mem) usable
+
+  abbrev byte : ℕ → ℕ
+  byte = (user_view held k.mem pid).byte
+
+  known_before : user_content is_honest held k.mem pid ≡ Some byte
+  known_before = told_all (means_bytes is_honest held k.mem) byte (sound-means slot_count is_honest held k.mem whole.mem)
+
+  known_after : user_content is_honest held mem other ≡ Some (user_view held mem pid).byte
+  known_after = told_all (means_bytes is_honest held mem) (user_view held mem other).byte (sound-means slot_count is_honest held mem (rest.sound whole.mem))
+      ∙ ap (λ p. Some (user_view held mem p).byte) same
+
+  -- what the process sees before and after
+  abbrev view_before : View
+  view_before = record { may = (user_view held k.mem pid).may; console = (user_view held k.mem pid).console; content = user_content is_honest held k.mem pid; timer = None }
+
+  abbrev view_after : View
+  view_after = record { may = (user_view held mem other).may; console = (user_view held mem other).console; content = user_content is_honest held mem other; timer = None }
+
+  pub has_run : (old new before : Core) (pc : ℕ) (answer : Ran) → old ≡ before → Performs view_before view_after old new pc answer
+      → IfFailed answer (¬ (IsSound slot_count mem × IsUsable mem)) → HasRun held k mem pid before new pc answer
+  unfolding machine_of seen_memory
+  has_run old new before pc answer same_core h f =
+      let view : SeenMemory = user_view held k.mem pid in
+      let x : Performed = execute_at before.regs pc before.reserved view in
+      let told : View = telling view_before byte in
+      let known : Performs told view_after before new pc answer =
+      subst (λ (core : Core). Performs told view_after core new pc answer) same_core
+      (subst (λ o. Performs (record view_before { content = o }) view_after old new pc answer) known_before h) in
+      let e : IsPerformed x told view_after before new answer =
+      is_performed (execute_at before.regs pc before.reserved) byte view_before view_after before new answer (IsSound slot_count mem × IsUsable mem) (rest.sound whole.mem, stays_usable) f known in
+      let same_x : execute_at before.regs pc before.reserved (memory_of (machine_of held k) pid) ≡ x =
+      ap (execute_at before.regs pc before.reserved) (memory_seen held k pid whole.unclaimed) in
+      let lawful : StoresLawfully view x.executed = stores_lawfully view before.regs pc before.reserved in
+      record {
+        answered = e.executed.answer ∙ ap (λ (p : Performed). ran_of p.executed) (sym same_x);
+        registers = e.executed.registers ∙ ap (λ (p : Performed). registers_after before.regs p.executed) (sym same_x);
+        reserved = e.reserved ∙ ap (λ (p : Performed). p.reserved) (sym same_x);
+        untimed = subst (λ (p : Performed). LeavesTimer p.executed) (sym same_x) (leaves_timer view x.executed refl lawful);
+        machine = memory_machine held k mem rest.sizes
+            ∙ ap (λ l. record (machine_of held k) { ledger = l })
+            (ledger_by_bytes is_honest held slot_count asked faults pid k.mem mem whole.mem rest (user_view held mem pid).byte refl x.executed
+            lawful (ap (λ (o : Content). unwrap_or o byte) (sym known_after ∙ e.executed.content)))
+            ∙ ap (λ (p : Performed). ledger_left pid (machine_of held k) p.executed) (sym same_x);
+      }
+
+-- ---- as the kernel says it
+
+module _ {W : Type 0} (held : W → Held) (k : Kernel W) (mem : Memory W) (who : ThreadId) (old new : Core) (pc : ℕ) (answer : Ran)
+    (h : HasRun held k mem who.pid old new pc answer) where
+  abbrev x : Executed
+  x = (execute_at old.regs pc old.reserved (memory_of (machine_of held k) who.pid)).executed
+
+  pub machine_stays : Stays answer → machine_of held (with_memory mem k) ≡ machine_after who (machine_of held k) x
+  machine_stays is = h.machine ∙ stays (machine_of held k) who x (subst (λ a. Stays a) h.answered is)
+
+  pub machine_goes_on : (t : Thread) (next : ℕ) → t.regs ≡ old.regs → (machine_of held k).threads who ≡ Some t → GoesOn answer next
+      → put_thread who (Some (record t { regs = new.regs; pc = next })) (machine_of held (with_memory mem k)) ≡ machine_after who (machine_of held k) x
+  machine_goes_on t next same e is =
+      (λ i. put_thread who (Some (record t { regs = (h.registers ∙ ap (λ regs. registers_after regs x) (sym same)) i; pc = next })) (h.machine i))
+      ∙ goes_on (machine_of held k) who t x next h.untimed e (subst (λ a. GoesOn a next) h.answered is)
+
+-- what holds of the thread that is there
+pub of_thread : (o : Option Thread) (t : Thread) → o ≡ Some t → (Holds : Thread → Type 0) → Holds t → (u : Thread) → o ≡ Some u → Holds u
+of_thread o t e Holds h u f = subst (λ v. Holds v) (same_Some t u (sym e ∙ f)) h
+
+-- ---- the address that a thread has reserved
+
+abbrev reserved_if : ThreadId → Option (ThreadId × ℕ) → Option ℕ
+reserved_if who kept = reserved_by who (option_map as_reservation kept)
+
+abbrev own_or_none : ℕ → Bool → Option ℕ
+own_or_none address own = if own then Some address else None
+
+module _ (who holder : ThreadId) (address : ℕ) (kept : Option (ThreadId × ℕ)) (is : kept ≡ Some (holder, address)) where
+  pub reserved_own : same_thread holder who ≡ true → Some address ≡ reserved_by who (option_map as_reservation kept)
+  reserved_own same = sym (ap (reserved_if who) is ∙ ap (own_or_none address) same)
+
+  pub reserved_by_another : same_thread holder who ≡ false → None ≡ reserved_by who (option_map as_reservation kept)
+  reserved_by_another other = sym (ap (reserved_if who) is ∙ ap (own_or_none address) other)
+
+pub nothing_reserved : (who : ThreadId) (kept : Option (ThreadId × ℕ)) → kept ≡ None → None ≡ reserved_by who (option_map as_reservation kept)
+nothing_reserved who kept is = sym (ap (reserved_if who) is)
