@@ -1,5 +1,5 @@
 -- The cases of a tick, and what is written for each.
-use Rattle.std.proofs.Common.{◌≡◌, ◌≢◌, ◌<◌, ◌==◌, ◌+◌, ℕ, zero, suc, Bool, true, false, List, [], ◌∷◌, ◌++◌, Option, Some, None, Result, Ok, Err, IsErr, OnOk, is_some, refl, sym, ap, ◌∙◌, subst, arith, append_assoc, ◌≤◌, ◌⊎◌, inl, inr}
+use Rattle.std.proofs.Common.{◌≡◌, ◌≢◌, ◌<◌, ◌==◌, ◌+◌, ℕ, zero, suc, true, false, List, [], ◌∷◌, ◌++◌, Option, Result, Ok, Err, IsErr, OnOk, is_some, refl, sym, ap, ◌∙◌, subst, arith, append_assoc, ◌≤◌, ◌⊎◌, inl, inr}
 use Rattle.std.proofs.lemmas.Bool.Decides.{nat_tests}
 use Rattle.std.proofs.lemmas.Grind.{flat_map-append}
 use Rattle.xk_base.specs.declared.records.Rec.{Rec}
@@ -7,19 +7,15 @@ use Rattle.xk_base.specs.declared.errors.Failed.{Failed}
 use Rattle.xk_ports.specs.Told.{Grows, GrowsByPrefix}
 use Rattle.xk_ports.proofs.ToldLemmas.{Grows-append, Grows-none}
 use Rattle.trace_text.specs.Lines.{line_of, text_of}
-use Rattle.machine_model.specs.Machine.{Machine}
-use Rattle.machine_model.specs.Order.{actor, turn}
-use Rattle.machine_model.specs.Step.{step, step_by, step_by_if}
-use Rattle.xk_base.specs.declared.ids.ThreadId.{ThreadId}
+use Rattle.machine_model.specs.State.Machine.{Machine}
+use Rattle.machine_model.specs.State.Order.{actor, turn}
+use Rattle.machine_model.specs.Stepping.Step.{step}
 use Rattle.xk_kernel.specs.Built.{event_built, step_built}
 use Rattle.xousim.specs.declared.ending.Ending.{Ending}
 use Rattle.xousim.specs.declared.ending.Ending.TheVariants.{Played, LimitMet, Unbuilt, BadLine}
 use Rattle.xousim.specs.History.{History, at_once, ended, behind, ticks, history, history_to, play, played, followed_by, go_on}
 use Rattle.xk_kernel.specs.Stepping.{event_done}
-use Rattle.machine_model.specs.Changes.{settled}
-use Rattle.machine_model.specs.Closing.{closed, servers_closed, senders_queued_gone, senders_held_gone}
-use Rattle.machine_model.specs.Ends.{death, forgotten}
-use Rattle.machine_model.specs.Events.{killed, killed_if, picked}
+use Rattle.xk_kernel.proofs.Running.LimitLemmas.{kill_steps, pick_steps}
 use Rattle.event_text.specs.declared.event.Event.TheVariants.{Tick, Pick, Irq, Kill}
 use Rattle.xk_base.specs.declared.ids.Pid.{Pid}
 use Rattle.xk_base.specs.declared.ids.Tid.{Tid}
@@ -54,20 +50,6 @@ unfolding ticks
 ticks_step n limit m ready more built =
     let other : (m.steps == limit) ≡ false = grind (arith, nat_tests) in
     rw (ready, other, built) refl
-
--- the end of a turn is no step, and a step counts one
-pub turn_steps : (m : Machine) → (turn m).steps ≡ m.steps
-unfolding turn
-turn_steps m = refl
-
-counts_one : (m : Machine) (who : Option ThreadId) → is_some who ≡ true → (step_by_if who m).machine.steps ≡ m.steps + 1
-unfolding step_by
-counts_one m None none = cc
-counts_one m (Some who) some = refl
-
-pub step_steps : (m : Machine) → is_some (actor m) ≡ true → (step m).machine.steps ≡ m.steps + 1
-unfolding step
-step_steps m ready = counts_one m (actor m) ready
 
 -- ---- what is written
 
@@ -191,21 +173,12 @@ history_after last (event ∷ events) more limit m played =
 pub at_once_built : (event : Event) (m : Machine) → event_built event ≡ true → at_once event m ≡ played (event_done event m)
 at_once_built event m built = rw built refl
 
-killed_steps : (pid : Pid) (m : Machine) → (killed pid m).machine.steps ≡ m.steps
-unfolding killed settled death servers_closed closed senders_queued_gone senders_held_gone forgotten
-killed_steps pid m = go (m.process pid.0).alive
-  where
-    go : (b : Bool) → (killed_if b pid m).machine.steps ≡ m.steps
-    go true = refl
-    go false = refl
-
 -- it is no step
 pub at_once_steps : (event : Event) (m : Machine) → (at_once event m).machine.steps ≡ m.steps
-unfolding picked
 at_once_steps (Tick n) m = refl
-at_once_steps (Pick pid tid) m = refl
+at_once_steps (Pick pid tid) m = pick_steps (record { pid = pid; tid = tid }) m
 at_once_steps (Irq k) m = refl
-at_once_steps (Kill pid) m = killed_steps pid m
+at_once_steps (Kill pid) m = kill_steps pid m
 
 pub play_other : (event : Event) (limit : ℕ) (m : Machine)
     → (((pid : Pid) × (tid : Tid) × (event ≡ Pick pid tid)) ⊎ (((k : ℕ) × (event ≡ Irq k)) ⊎ ((pid : Pid) × (event ≡ Kill pid))))

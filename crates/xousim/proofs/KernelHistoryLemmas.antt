@@ -3,17 +3,17 @@ use Rattle.std.proofs.Common.{◌≡◌, ◌≢◌, ◌==◌, ℕ, zero, suc, Bo
 use Rattle.std.specs.Prelude.{if◌then◌else◌}
 use Rattle.event_text.specs.declared.event.Event.{Event}
 use Rattle.event_text.specs.declared.event.Event.TheVariants.{Tick, Pick, Irq, Kill}
-use Rattle.machine_model.specs.Events.{nothing}
-use Rattle.machine_model.specs.Machine.{Machine}
-use Rattle.machine_model.specs.Order.{actor, turn}
-use Rattle.machine_model.specs.Step.{step}
+use Rattle.machine_model.specs.Stepping.Events.{nothing}
+use Rattle.machine_model.specs.State.Machine.{Machine}
+use Rattle.machine_model.specs.State.Order.{actor, turn}
+use Rattle.machine_model.specs.Stepping.Step.{step}
 use Rattle.xk_kernel.specs.Built.{step_built}
 use Rattle.xk_kernel.specs.History as kernel
 use Rattle.xousim.specs.declared.ending.Ending.{Ending}
 use Rattle.xousim.specs.declared.ending.Ending.TheVariants.{Played, LimitMet, Unbuilt}
-use Rattle.xousim.specs.History.{History, behind, ended, followed_by, go_on, history, history_to, of_kernel, play, ticks}
+use Rattle.xousim.specs.History.{History, behind, ended, followed_by, go_on, history_to, of_kernel, play, ticks}
 
-ticks_agree : (n limit : ℕ) (m : Machine) → (ticks n limit m).ending ≢ Unbuilt → ticks n limit m ≡ of_kernel (kernel.ticks n limit m)
+ticks_agree : (n limit : ℕ) (m : Machine) → (ticks n limit m).ending ≢ Unbuilt → ticks n limit m ≡ of_kernel Played (kernel.ticks n limit m)
 unfolding ticks kernel.ticks
 ticks_agree zero limit m built = refl
 ticks_agree (suc n) limit m built =
@@ -30,14 +30,14 @@ ticks_agree (suc n) limit m built =
         else kernel.reached (nothing (turn m))
 
     go : (a b c : Bool) → (ours a b c).ending ≢ Unbuilt
-        → ((ticks n limit (step m).machine).ending ≢ Unbuilt → ticks n limit (step m).machine ≡ of_kernel (kernel.ticks n limit (step m).machine))
-        → ours a b c ≡ of_kernel (theirs a b)
+        → ((ticks n limit (step m).machine).ending ≢ Unbuilt → ticks n limit (step m).machine ≡ of_kernel Played (kernel.ticks n limit (step m).machine))
+        → ours a b c ≡ of_kernel Played (theirs a b)
     go false b c built later = refl
     go true true c built later = refl
     go true false false built later = absurd (built refl)
     go true false true built later = ap (behind (step m).records) (later built)
 
-play_agrees : (event : Event) (limit : ℕ) (m : Machine) → (play event limit m).ending ≢ Unbuilt → play event limit m ≡ of_kernel (kernel.play event limit m)
+play_agrees : (event : Event) (limit : ℕ) (m : Machine) → (play event limit m).ending ≢ Unbuilt → play event limit m ≡ of_kernel Played (kernel.play event limit m)
 unfolding play kernel.play
 play_agrees (Tick n) limit m built = ticks_agree n limit m built
 play_agrees (Pick pid tid) limit m built = refl
@@ -48,30 +48,34 @@ unbuilt_stops : (h : History) (next : Machine → History) → h.ending ≡ Unbu
 unbuilt_stops h next is =
     let P : Ending → Type 0 = λ e. (go_on e h next).ending ≡ Unbuilt in subst P (sym is) is
 
-follows : (k : kernel.History) (next : Machine → History) (knext : Machine → kernel.History)
-    → ((x : Machine) → (next x).ending ≢ Unbuilt → next x ≡ of_kernel (knext x))
-    → (followed_by (of_kernel k) next).ending ≢ Unbuilt → followed_by (of_kernel k) next ≡ of_kernel (kernel.followed_by k knext)
-follows k next knext later built = go k.met built
+follows : (last : Ending) (k : kernel.History) (next : Machine → History) (knext : Machine → kernel.History)
+    → ((x : Machine) → (next x).ending ≢ Unbuilt → next x ≡ of_kernel last (knext x))
+    → (followed_by (of_kernel Played k) next).ending ≢ Unbuilt → followed_by (of_kernel Played k) next ≡ of_kernel last (kernel.followed_by k knext)
+follows last k next knext later built = go k.met built
   where
-    go : (b : Bool) → (go_on (if b then LimitMet else Played) (of_kernel k) next).ending ≢ Unbuilt
-        → go_on (if b then LimitMet else Played) (of_kernel k) next ≡ of_kernel (kernel.go_on b k knext)
+    -- the same, met or not
+    with_met : Bool → kernel.History
+    with_met b = record { records = k.records; machine = k.machine; met = b }
+
+    go : (b : Bool) → (followed_by (of_kernel Played (with_met b)) next).ending ≢ Unbuilt
+        → followed_by (of_kernel Played (with_met b)) next ≡ of_kernel last (kernel.followed_by (with_met b) knext)
     go true built = refl
     go false built = ap (behind k.records) (later k.machine built)
 
 -- one history, and what comes after it
-both_follow : (h : History) (k : kernel.History) (next : Machine → History) (knext : Machine → kernel.History)
-    → (h.ending ≢ Unbuilt → h ≡ of_kernel k)
-    → ((x : Machine) → (next x).ending ≢ Unbuilt → next x ≡ of_kernel (knext x))
-    → (followed_by h next).ending ≢ Unbuilt → followed_by h next ≡ of_kernel (kernel.followed_by k knext)
-both_follow h k next knext agree later built =
-    let same : h ≡ of_kernel k = agree (λ e. built (unbuilt_stops h next e)) in
-    let P : History → Type 0 = λ x. (followed_by x next).ending ≢ Unbuilt → followed_by x next ≡ of_kernel (kernel.followed_by k knext) in
-    subst P (sym same) (follows k next knext later) built
+both_follow : (last : Ending) (h : History) (k : kernel.History) (next : Machine → History) (knext : Machine → kernel.History)
+    → (h.ending ≢ Unbuilt → h ≡ of_kernel Played k)
+    → ((x : Machine) → (next x).ending ≢ Unbuilt → next x ≡ of_kernel last (knext x))
+    → (followed_by h next).ending ≢ Unbuilt → followed_by h next ≡ of_kernel last (kernel.followed_by k knext)
+both_follow last h k next knext agree later built =
+    let same : h ≡ of_kernel Played k = agree (λ e. built (unbuilt_stops h next e)) in
+    let P : History → Type 0 = λ x. (followed_by x next).ending ≢ Unbuilt → followed_by x next ≡ of_kernel last (kernel.followed_by k knext) in
+    subst P (sym same) (follows last k next knext later) built
 
-pub history_agrees : (events : List Event) (limit : ℕ) (m : Machine) → (history events limit m).ending ≢ Unbuilt
-    → history events limit m ≡ of_kernel (kernel.history events limit m)
+pub history_agrees : (last : Ending) (events : List Event) (limit : ℕ) (m : Machine) → (history_to last events limit m).ending ≢ Unbuilt
+    → history_to last events limit m ≡ of_kernel last (kernel.history events limit m)
 unfolding history_to kernel.history
-history_agrees [] limit m built = refl
-history_agrees (event ∷ events) limit m built =
-    both_follow (play event limit m) (kernel.play event limit m) (history_to Played events limit) (kernel.history events limit)
-    (play_agrees event limit m) (λ x. history_agrees events limit x) built
+history_agrees last [] limit m built = refl
+history_agrees last (event ∷ events) limit m built =
+    both_follow last (play event limit m) (kernel.play event limit m) (history_to last events limit) (kernel.history events limit)
+    (play_agrees event limit m) (λ x. history_agrees last events limit x) built

@@ -1,8 +1,8 @@
 pub mod HistoryLemmas
-pub mod KernelHistoryLemmas
 pub mod KeptLemmas
+pub mod KernelHistoryLemmas
 pub mod PlayingLemmas
 pub mod ReadingLemmas
 pub mod ToldLemmas
 pub mod TopLemmas
-pub mod VerdictLaws
+pub mod VerdictLemmas

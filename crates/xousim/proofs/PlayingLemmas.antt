@@ -5,7 +5,7 @@ use Rattle.xk_base.specs.declared.errors.Failed.{Failed}
 use Rattle.xk_ports.specs.Told.{Grows}
 use Rattle.xk_ports.proofs.ToldLemmas.{Grows-none}
 use Rattle.trace_text.specs.Lines.{text_of}
-use Rattle.machine_model.specs.Machine.{Machine}
+use Rattle.machine_model.specs.State.Machine.{Machine}
 use Rattle.event_text.specs.declared.event.Event.{Event}
 use Rattle.event_text.specs.declared.event.NextEvent.{NextEvent}
 use Rattle.event_text.specs.declared.event.NextEvent.TheVariants as answer
@@ -13,7 +13,7 @@ use Rattle.event_text.specs.EventFile.{Input, input_of}
 use Rattle.event_text.specs.Held.{Reader, IsWaiting, new_reader, with_bytes, answer_of, after_next}
 use Rattle.event_text.specs.Lines.{whole_lines}
 use Rattle.event_text.specs.Plays.{Call, takes, ends, asks, Play, play_of, after_bytes, events_in, left_of, with_events, finished_reader, MayFollow}
-use Rattle.event_text.proofs.PlaysLemmas.{play_left, left_next, left_bad, left_end}
+use Rattle.event_text.proofs.PlayLemmas.{play_left, left_next, left_bad, left_end}
 use Rattle.event_text.proofs.WholeLemmas.{play_whole}
 use Rattle.xousim.specs.declared.ending.Ending.{Ending}
 use Rattle.xousim.specs.declared.ending.Ending.TheVariants.{Played, BadLine}

@@ -1,21 +1,20 @@
 -- The parts of a call, put together.
-use Rattle.std.proofs.Common.{◌≡◌, ◌<◌, ◌≤◌, inl, inr, ℕ, Bool, List, [], ◌∷◌, ◌++◌, length, Option, Some, true, false, Result, Ok, Err, IfOk, IfErr, refl, sym, ap, ◌∙◌, subst, arith, append_assoc}
+use Rattle.std.proofs.Common.{◌≡◌, ◌<◌, ◌≤◌, inl, inr, ℕ, Bool, List, [], ◌∷◌, ◌++◌, length, Option, Some, true, false, Result, Ok, Err, IfOk, IfErr, refl, sym, ap, ◌∙◌, subst, arith, append_assoc, nat_lt}
 use Rattle.xk_base.specs.Outside.{Rose}
 use Rattle.xk_ports.specs.Host.{FileAsked}
 use Rattle.xk_ports.specs.Told.{Grows, GrowsByPrefix}
 use Rattle.xk_ports.specs.declared.host.FileSlot.TheVariants.{First, Second}
 use Rattle.xk_ports.proofs.ToldLemmas.{Grows-append}
 use Rattle.trace_text.specs.Lines.{text_of}
-use Rattle.machine_model.specs.Machine.{Machine}
+use Rattle.machine_model.specs.State.Machine.{Machine}
 use Rattle.xousim.specs.declared.ending.Ending.{Ending}
 use Rattle.xousim.specs.declared.status.Status.{Status}
 use Rattle.xousim.specs.declared.status.Status.TheVariants.{Done, ReadFault, WriteFault, ImageFault, EventFault, StepLimit, NoMemory, NotBuilt}
 use Rattle.xousim.specs.Finish.{EndsBooted, Finishes}
 use Rattle.xousim.specs.History.{History}
-use Rattle.std.proofs.Common.{nat_lt}
 use Rattle.std.proofs.lemmas.Bool.Decides.{nat_tests}
 use Rattle.boot_plan.specs.ImageFault.{IsImageFault}
-use Rattle.boot_plan.specs.declared.faults.TheConstants.{TOO_LONG}
+use Rattle.boot_plan.specs.FaultNumbers.{too_long}
 use Rattle.xousim.specs.Outcome.{Boots, Told, Image, Refuses, RefusesBytes, Plays, Ends, AsksBoth, transcript, last_line, run_of}
 use Rattle.xousim.specs.Reading.{IsFile, Asked, AsksFor}
 use Rattle.xk_kernel.specs.Start.{start}
@@ -125,16 +124,14 @@ plays_later file name left machine before after mid_rose host_rose out_rose (Ima
 
 -- both files were asked for
 pub asks_both : (names : Names) (old mid new : Option (List FileAsked)) (picked : Bool)
-    → AsksFor old mid First names.image → Asked mid new Second names.events picked → AsksBoth names old new picked
-asks_both names old mid new picked first second = (
-  first.0,
-  Grows-append old mid new (record { slot = First; name = names.image; picked = first.0 } ∷ []) (record { slot = Second; name = names.events; picked = picked } ∷ []) first.1 second,
-)
+    → Asked old mid First names.image true → Asked mid new Second names.events picked → AsksBoth names old new picked
+asks_both names old mid new picked first second =
+    Grows-append old mid new (record { slot = First; name = names.image; picked = true } ∷ []) (record { slot = Second; name = names.events; picked = picked } ∷ []) first second
 
 -- ---- whole calls
 
 pub ends_booted : (file mid_file : Told) (names : Names) (old mid new : Option (List FileAsked)) (left : Option (List ℕ)) (machine : Machine) (before after : Option (List ℕ)) (mid_rose host_rose out_rose : Type 0) (status : Status)
-    → mid_file ≡ file → Image file names.image machine → (mid_rose → host_rose) → AsksFor old mid First names.image
+    → mid_file ≡ file → Image file names.image machine → (mid_rose → host_rose) → Asked old mid First names.image true
     → EndsBooted mid_file names.events mid new left machine before after mid_rose out_rose status → Ends file names old new left before after host_rose out_rose status
 ends_booted file mid_file names old mid new left machine before after mid_rose host_rose out_rose status same image later first (inl unpicked) =
     inr (machine, image, inl (unpicked.0, later unpicked.1, unpicked.2, asks_both names old mid new false first unpicked.3))
@@ -149,7 +146,7 @@ ends_refused file names old new left before after host_rose out_rose status refu
 pub image_boots : (file : Told) (name bytes : List ℕ) (machine : Machine) → IsFile file name bytes → Boots bytes machine → Image file name machine
 image_boots file name bytes machine read boots = record { bytes = bytes; read = read; boots = boots }
 
-pub too_long_fault : (bytes : List ℕ) → 67108864 < length bytes → IsImageFault bytes 0 (Some (record { what = TOO_LONG; at = 0 }))
+pub too_long_fault : (bytes : List ℕ) → 67108864 < length bytes → IsImageFault bytes 0 (Some (record { what = too_long; at = 0 }))
 too_long_fault bytes long =
     let e : nat_lt 67108864 (length bytes) ≡ true = grind (arith, nat_tests) in
     rw e refl

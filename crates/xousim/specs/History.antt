@@ -4,9 +4,9 @@ use Rattle.event_text.specs.declared.event.Event.{Event}
 use Rattle.event_text.specs.declared.event.Event.TheVariants.{Tick, Pick, Irq, Kill}
 use Rattle.event_text.specs.EventFile.{Input}
 use Rattle.xk_base.specs.declared.records.Rec.{Rec}
-use Rattle.machine_model.specs.Machine.{Machine}
-use Rattle.machine_model.specs.Order.{actor, turn}
-use Rattle.machine_model.specs.Step.{Stepped, step}
+use Rattle.machine_model.specs.State.Machine.{Machine}
+use Rattle.machine_model.specs.State.Order.{actor, turn}
+use Rattle.machine_model.specs.Stepping.Step.{Stepped, step}
 use Rattle.xousim.specs.declared.ending.Ending.{Ending}
 use Rattle.xousim.specs.declared.ending.Ending.TheVariants.{Played, LimitMet, Unbuilt, BadLine}
 use Rattle.xk_kernel.specs.Built.{event_built, step_built}
@@ -78,6 +78,6 @@ end_of (Some line) = BadLine line
 abbrev pub history_of : Input → ℕ → Machine → History
 history_of input limit m = history_to (end_of input.bad) input.events limit m
 
--- the kernel's history of the same events, which knows no ending but the limit
-abbrev pub of_kernel : kernel.History → History
-of_kernel h = record { records = h.records; machine = h.machine; ending = if h.met then LimitMet else Played }
+-- The kernel's history of events, which knows no ending but the limit, as a history that ends in this way where the limit isn't met.
+abbrev pub of_kernel : Ending → kernel.History → History
+of_kernel last h = record { records = h.records; machine = h.machine; ending = if h.met then LimitMet else last }

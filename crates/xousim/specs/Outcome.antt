@@ -8,7 +8,7 @@ use Rattle.boot_plan.specs.FirstPages.{plan_of}
 use Rattle.boot_plan.specs.ImageFault.{IsImageFault}
 use Rattle.event_text.specs.EventFile.{input_of}
 use Rattle.event_text.specs.Lines.{whole_lines}
-use Rattle.machine_model.specs.Machine.{Machine}
+use Rattle.machine_model.specs.State.Machine.{Machine}
 use Rattle.trace_text.specs.declared.lines.EndWord.TheVariants as words
 use Rattle.trace_text.specs.Lines.{text_of, end_line_of}
 use Rattle.xk_base.specs.declared.limits.TheConstants.{DEFAULT_STEPS}
@@ -127,10 +127,10 @@ abbrev pub AsksImage : Names → Option (List FileAsked) → Option (List FileAs
 AsksImage names asked asked_after =
     (first : Bool) × Grows asked asked_after (record { slot = First; name = names.image; picked = first } ∷ [])
 
--- the image was asked for at the first slot, and then the event file at the second, where it was picked or not
+-- the image was asked for and picked at the first slot, and then the event file was asked for at the second and picked there or not
 abbrev pub AsksBoth : Names → Option (List FileAsked) → Option (List FileAsked) → Bool → Type 0
-AsksBoth names asked asked_after second =
-    (first : Bool) × Grows asked asked_after (record { slot = First; name = names.image; picked = first } ∷ record { slot = Second; name = names.events; picked = second } ∷ [])
+AsksBoth names asked asked_after events_picked =
+    Grows asked asked_after (record { slot = First; name = names.image; picked = true } ∷ record { slot = Second; name = names.events; picked = events_picked } ∷ [])
 
 -- the image isn't booted, and nothing is written
 abbrev pub EndsUnbooted : Told → Names → Option (List FileAsked) → Option (List FileAsked) → Option (List ℕ) → Option (List ℕ) → Type 0 → Status → Type 0

@@ -4,7 +4,7 @@ use Rattle.event_text.specs.EventFile.{input_of}
 use Rattle.event_text.specs.Held.{Reader}
 use Rattle.event_text.specs.Lines.{whole_lines}
 use Rattle.event_text.specs.Plays.{Call, play_of}
-use Rattle.machine_model.specs.Machine.{Machine}
+use Rattle.machine_model.specs.State.Machine.{Machine}
 use Rattle.trace_text.specs.Lines.{text_of}
 use Rattle.xk_base.specs.declared.errors.Failed.{Failed}
 use Rattle.xk_ports.specs.Told.{Grows, GrowsByPrefix, Consumes}

@@ -1,7 +1,7 @@
 -- The numbers of statuses and their texts on the notes.
 use Rattle.std.specs.Prelude.{ℕ, List, [], ◌++◌, codes, decimal, ◌==◌, if◌then◌else◌}
-use Rattle.kernel_args.specs.declared.faults.TheConstants.{TOO_SHORT, NOT_XARG, BAD_VERSION, BAD_TOTAL, BAD_CHECK, BAD_RAM, NO_PROCESS, TOO_MANY_PROCESSES, BAD_INI, BAD_NAMES}
-use Rattle.boot_plan.specs.declared.faults.TheConstants.{SECTION_OUTSIDE, SECTION_MISALIGNED, SECTIONS_OVERLAP, LOAD_OUTSIDE, ENTRY_OUTSIDE, RAM_TOO_SMALL}
+use Rattle.kernel_args.specs.FaultNumbers.{too_short, not_xarg, bad_version, bad_total, bad_check, bad_ram, no_process, too_many_processes, bad_ini, bad_names}
+use Rattle.boot_plan.specs.FaultNumbers.{section_outside, section_misaligned, sections_overlap, load_outside, entry_outside, ram_too_small}
 use Rattle.xousim.specs.declared.status.Status.{Status}
 use Rattle.xousim.specs.declared.status.Status.TheVariants.{Done, ReadFault, WriteFault, ImageFault, EventFault, StepLimit, NoMemory, NotBuilt}
 
@@ -19,22 +19,22 @@ number_of NotBuilt = 10
 -- the name of an image's fault by its number; 17 is TooLong
 abbrev pub fault_name : ℕ → List ℕ
 fault_name what =
-    if what == TOO_SHORT then codes "TooShort" else (
-    if what == NOT_XARG then codes "NotXArg" else (
-    if what == BAD_VERSION then codes "BadVersion" else (
-    if what == BAD_TOTAL then codes "BadTotal" else (
-    if what == BAD_CHECK then codes "BadCheck" else (
-    if what == BAD_RAM then codes "BadRam" else (
-    if what == NO_PROCESS then codes "NoProcess" else (
-    if what == TOO_MANY_PROCESSES then codes "TooManyProcesses" else (
-    if what == BAD_INI then codes "BadIni" else (
-    if what == BAD_NAMES then codes "BadNames" else (
-    if what == SECTION_OUTSIDE then codes "SectionOutside" else (
-    if what == SECTION_MISALIGNED then codes "SectionMisaligned" else (
-    if what == SECTIONS_OVERLAP then codes "SectionsOverlap" else (
-    if what == LOAD_OUTSIDE then codes "LoadOutside" else (
-    if what == ENTRY_OUTSIDE then codes "EntryOutside" else (
-    if what == RAM_TOO_SMALL then codes "RamTooSmall" else codes "TooLong")))))))))))))))
+    if what == too_short then codes "TooShort" else (
+    if what == not_xarg then codes "NotXArg" else (
+    if what == bad_version then codes "BadVersion" else (
+    if what == bad_total then codes "BadTotal" else (
+    if what == bad_check then codes "BadCheck" else (
+    if what == bad_ram then codes "BadRam" else (
+    if what == no_process then codes "NoProcess" else (
+    if what == too_many_processes then codes "TooManyProcesses" else (
+    if what == bad_ini then codes "BadIni" else (
+    if what == bad_names then codes "BadNames" else (
+    if what == section_outside then codes "SectionOutside" else (
+    if what == section_misaligned then codes "SectionMisaligned" else (
+    if what == sections_overlap then codes "SectionsOverlap" else (
+    if what == load_outside then codes "LoadOutside" else (
+    if what == entry_outside then codes "EntryOutside" else (
+    if what == ram_too_small then codes "RamTooSmall" else codes "TooLong")))))))))))))))
 
 -- the text of a status on the notes; a run to its end has none
 abbrev pub note_of : Status → List ℕ

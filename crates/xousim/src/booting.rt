@@ -1,6 +1,6 @@
 //! An image is read and booted.
 
-ghost use Rattle.std.specs.Prelude.{◌≡◌, ◌≤◌, [], All, length, IfOk, IfErr};
+ghost use Rattle.std.specs.Prelude.{◌≡◌, ◌≤◌, [], true, All, length, IfOk, IfErr, OnOk};
 ghost use Rattle.boot_plan.specs.FirstPages.{plan_of};
 ghost use Rattle.boot_plan.specs.Lawful.{CanStart, IsLawfulPlan};
 ghost use Rattle.kernel_args.specs.declared.args.Args.{Args};
@@ -12,7 +12,7 @@ ghost use Rattle.xk_kernel.specs.State.{machine_of};
 ghost use Rattle.xk_ports.specs.Host.{other_slot};
 ghost use Rattle.xk_ports.specs.declared.host.FileSlot.TheVariants.{First, Second};
 ghost use Rattle.xousim.specs.Outcome.{Boots, Image, IsSoundImage, Refuses, RefusesBytes};
-ghost use Rattle.xousim.specs.Reading.{AsksFor, IsTold};
+ghost use Rattle.xousim.specs.Reading.{Asked, AsksFor, IsTold};
 
 use crate::reading::{Content, ReadError, read_file};
 use crate::status::{Ended, Status};
@@ -83,6 +83,7 @@ pub fn boot_image<H: Host, W: SwapStore>(
     ensures refused { IfErr result (λ ended. Refuses (H.file host.old) name.now (Rose (H.faults host.old) (H.faults host.new)) ended.status) }
     ensures back { IfErr result (λ ended. KeepsStore W.is_honest W.held W.slot_count W.asked W.faults store ended.store) }
     ensures asked { AsksFor (H.asked host.old) (H.asked host.new) First name.now }
+    ensures picked { OnOk result (Asked (H.asked host.old) (H.asked host.new) First name.now true) }
     ensures file { H.file host.new ≡ H.file host.old }
     ensures never_falls { H.faults host.old ≤ H.faults host.new }
 {

@@ -1,9 +1,9 @@
 //! Files are read to their ends.
 
-ghost use Rattle.std.specs.Prelude.{◌≡◌, ◌<◌, ◌≤◌, ◌^◌, IsTrue, IfOk, Err};
+ghost use Rattle.std.specs.Prelude.{◌≡◌, ◌<◌, ◌≤◌, ◌^◌, true, IsTrue, IfOk, OnOk, Err};
 ghost use Rattle.xk_base.specs.Outside.{Rose};
 ghost use Rattle.xk_ports.specs.Host.{other_slot};
-ghost use Rattle.xousim.specs.Reading.{AsksFor, IsContent, IsContentOf, IsRead};
+ghost use Rattle.xousim.specs.Reading.{Asked, AsksFor, IsContent, IsContentOf, IsRead};
 
 use std::alloc::Global;
 use xk_ports::{FileSlot, Host};
@@ -71,6 +71,7 @@ pub fn read_file<H: Host>(
     ensures end { IfOk result (IsRead (H.left host.new which)) }
     ensures cause { result ≡ Err ReadError.Fault → Rose (H.faults host.old) (H.faults host.new) }
     ensures asked { AsksFor (H.asked host.old) (H.asked host.new) which name.now }
+    ensures picked { OnOk result (Asked (H.asked host.old) (H.asked host.new) which name.now true) }
     ensures file { H.file host.new ≡ H.file host.old }
     ensures other { H.left host.new (other_slot which) ≡ H.left host.old (other_slot which) }
     ensures never_falls { H.faults host.old ≤ H.faults host.new }

@@ -22,7 +22,7 @@ pub enum Status {
     StepLimit(u32),
     /// There was no memory.
     NoMemory,
-    /// The words, the image, an event or a step isn't built yet.
+    /// The words, an event or a step isn't built yet.
     NotBuilt,
 }
 

@@ -1,6 +1,8 @@
 //! The program over files and streams in memory, and each real adapter once.
 
+mod atomics;
 mod image;
+mod lines;
 mod memory_calls;
 mod processes;
 
@@ -8,6 +10,7 @@ use crate::adapters::{ErrSink, FileHost, StdSink};
 use crate::status::{Ended, Status};
 use crate::top::xous_main;
 use kernel_args::ArgFault;
+use lines::transcript;
 use std::alloc::Global;
 use std::fs::OpenOptions;
 use std::test::Fail;
@@ -37,8 +40,18 @@ const IMAGE_WITH_TAG: [u8; 100] = [
     0x6f, 0x00, 0x00, 0x00,
 ];
 
-const FIRST_LINES: &[u8] =
-    b"6 2.2 call 00000002 f0000000 00000000 00001000 00000006 00000000 00000000 00000000\n6 2.2 reply 00000003 60000000 00001000 00000000 00000000 00000000 00000000 00000000\n8 2.2 byte 68\n";
+/// The records of its first 100 steps.
+const FIRST_RECORDS: [&str; 3] = [
+    "6 2.2 call 2 f0000000 0 1000 6",
+    "6 2.2 reply 3 60000000 1000",
+    "8 2.2 byte 68",
+];
+
+/// The same, and this last line.
+fn first_lines(alloc: Global, last: &str) -> Result<Vec<u8>, Fail> {
+    let [call, reply, byte] = FIRST_RECORDS;
+    transcript(alloc, &[call, reply, byte, last])
+}
 
 /// What a run left: its status, its output and its notes.
 #[derive(Drop)]
@@ -104,7 +117,8 @@ fn trace(
 fn first_run(rt: HostRuntime) -> Result<(), Fail> {
     let run = trace(rt.alloc(), &FIRST_IMAGE, b"tick 100", &[], &[])?;
     assert_eq!(rt; run.status, Status::Done);
-    assert!(rt; run.out.as_slice().strip_prefix(FIRST_LINES) == Some(b"end 100 done\n".as_slice()));
+    let lines = first_lines(rt.alloc(), "end 100 done")?;
+    assert_eq!(rt; run.out.as_slice(), lines.as_slice());
     assert_eq!(rt; run.notes.as_slice(), b"".as_slice());
     Ok(())
 }
@@ -113,8 +127,8 @@ fn first_run(rt: HostRuntime) -> Result<(), Fail> {
 fn greatest_tick(rt: HostRuntime) -> Result<(), Fail> {
     let run = trace(rt.alloc(), &FIRST_IMAGE, b"tick 4294967295\n", &[], &[])?;
     assert_eq!(rt; run.status, Status::StepLimit(10_000_000));
-    let last = b"end 10000000 limit\n".as_slice();
-    assert!(rt; run.out.as_slice().strip_prefix(FIRST_LINES) == Some(last));
+    let lines = first_lines(rt.alloc(), "end 10000000 limit")?;
+    assert_eq!(rt; run.out.as_slice(), lines.as_slice());
     assert_eq!(rt; run.notes.as_slice(), b"step limit 10000000\n".as_slice());
     Ok(())
 }
@@ -170,7 +184,8 @@ fn damage_in_an_unused_part(rt: HostRuntime) -> Result<(), Fail> {
 fn what_is_not_built(rt: HostRuntime) -> Result<(), Fail> {
     let run = trace(rt.alloc(), &FIRST_IMAGE, b"tick 6\nirq 2\n", &[], &[])?;
     assert_eq!(rt; run.status, Status::NotBuilt);
-    assert_eq!(rt; run.out.len(), 167);
+    let lines = transcript(rt.alloc(), &FIRST_RECORDS[..2])?;
+    assert_eq!(rt; run.out.as_slice(), lines.as_slice());
     assert_eq!(rt; run.notes.as_slice(), b"not built\n".as_slice());
     Ok(())
 }
@@ -216,16 +231,16 @@ fn faults_outside(rt: HostRuntime) -> Result<(), Fail> {
 /// read fault.
 #[test]
 fn faults_after_output(rt: HostRuntime) -> Result<(), Fail> {
-    let rest = b"8 2.2 byte 68\n".as_slice();
+    let lines = transcript(rt.alloc(), &FIRST_RECORDS[..2])?;
     let run = trace(rt.alloc(), &FIRST_IMAGE, b"tick 6\ntick x\n", &[], &[])?;
     assert_eq!(rt; run.status, Status::EventFault(2));
-    assert!(rt; FIRST_LINES.strip_prefix(run.out.as_slice()) == Some(rest));
+    assert_eq!(rt; run.out.as_slice(), lines.as_slice());
     assert_eq!(rt; run.notes.as_slice(), b"event fault at line 2\n".as_slice());
     // Calls 2 to 90 read the image, 91 picks the event file, and 99 reads its eighth byte.
     let events = b"tick 6\ntick 94\n";
     let run = trace_in_pieces(rt.alloc(), 1, &FIRST_IMAGE, events, &[99], &[])?;
     assert_eq!(rt; run.status.number(), 3);
-    assert!(rt; FIRST_LINES.strip_prefix(run.out.as_slice()) == Some(rest));
+    assert_eq!(rt; run.out.as_slice(), lines.as_slice());
     Ok(())
 }
 
@@ -249,7 +264,8 @@ fn first_run_sure(rt: HostRuntime) -> Result<(), Fail> {
         store,
     );
     assert_eq!(rt; status, Status::Done);
-    assert!(rt; out.as_slice().strip_prefix(FIRST_LINES) == Some(b"end 100 done\n".as_slice()));
+    let lines = first_lines(alloc, "end 100 done")?;
+    assert_eq!(rt; out.as_slice(), lines.as_slice());
     Ok(())
 }
 

@@ -6,7 +6,7 @@ ghost use Rattle.xousim.specs.Outcome.{IsVerdict};
 ghost use Rattle.xousim.specs.Words.{Names};
 
 /// Where a host tells its files, no two statuses are verdicts of them.
-#[tactic(auto, using(crate::proofs::VerdictLaws::one_verdict_of_files))]
+#[tactic(auto, using(crate::proofs::VerdictLemmas::one_verdict_of_files))]
 pub fn one_verdict()
     ensures { (file : List ℕ → Option (List ℕ)) (names : Names) (one other : Status) → IsVerdict (Some file) names one → IsVerdict (Some file) names other → one ≡ other }
 {}

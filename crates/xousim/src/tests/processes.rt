@@ -1,6 +1,7 @@
 //! Several processes and threads.
 
 use super::image::image;
+use super::lines::transcript;
 use super::trace;
 use crate::status::Status;
 use std::test::Fail;
@@ -26,8 +27,15 @@ fn processes_in_turn(rt: HostRuntime) -> Result<(), Fail> {
     let events = b"pick 33 2\ntick 2\nkill 33\npick 33 2\ntick 1\n";
     let run = trace(alloc, most.as_slice(), events, &[], &[])?;
     assert_eq!(rt; run.status, Status::Done);
-    let lines =
-        b"2 33.2 call 0000002b 00000000 00000000 00000000 00000000 00000000 00000000 00000000\n2 33.2 reply 0000000e 00000021 00000000 00000000 00000000 00000000 00000000 00000000\n2 33 gone\nend 3 done\n";
+    let lines = transcript(
+        alloc,
+        &[
+            "2 33.2 call 2b",
+            "2 33.2 reply e 21",
+            "2 33 gone",
+            "end 3 done",
+        ],
+    )?;
     assert_eq!(rt; run.out.as_slice(), lines.as_slice());
     Ok(())
 }
@@ -50,8 +58,28 @@ const JOINING: [u32; 14] = [
     0x0000_8067, // return
 ];
 
-const JOINING_LINES: &[u8] =
-    b"4 2.2 call 00000012 00010028 00000000 00000000 00000000 00000000 00000000 00000000\n4 2.2 reply 0000000a 00000003 00000000 00000000 00000000 00000000 00000000 00000000\n8 3.2 call 00000012 00010028 00000000 00000000 00000000 00000000 00000000 00000000\n8 3.2 reply 0000000a 00000003 00000000 00000000 00000000 00000000 00000000 00000000\n10 3.2 call 00000024 00000003 00000000 00000000 00000000 00000000 00000000 00000000\n12 3.3 call 00000003 00000000 00000000 00000000 00000000 00000000 00000000 00000000\n12 3.3 reply 00000000 00000000 00000000 00000000 00000000 00000000 00000000 00000000\n14 2.3 call 00000003 00000000 00000000 00000000 00000000 00000000 00000000 00000000\n14 2.3 reply 00000000 00000000 00000000 00000000 00000000 00000000 00000000 00000000\n17 3.3 end\n17 3.2 reply 0000000e 00000007 00000000 00000000 00000000 00000000 00000000 00000000\n19 2.2 call 00000024 00000003 00000000 00000000 00000000 00000000 00000000 00000000\n21 3 gone\n22 2.3 end\n22 2.2 reply 0000000e 00000007 00000000 00000000 00000000 00000000 00000000 00000000\n24 2.2 call 00000003 00000007 00000000 00000000 00000000 00000000 00000000 00000000\n24 2.2 reply 00000000 00000000 00000000 00000000 00000000 00000000 00000000 00000000\n26 2.2 end\n26 2 gone\nend 26 done\n";
+const JOINING_LINES: [&str; 20] = [
+    "4 2.2 call 12 10028",
+    "4 2.2 reply a 3",
+    "8 3.2 call 12 10028",
+    "8 3.2 reply a 3",
+    "10 3.2 call 24 3",
+    "12 3.3 call 3",
+    "12 3.3 reply 0",
+    "14 2.3 call 3",
+    "14 2.3 reply 0",
+    "17 3.3 end",
+    "17 3.2 reply e 7",
+    "19 2.2 call 24 3",
+    "21 3 gone",
+    "22 2.3 end",
+    "22 2.2 reply e 7",
+    "24 2.2 call 3 7",
+    "24 2.2 reply 0",
+    "26 2.2 end",
+    "26 2 gone",
+    "end 26 done",
+];
 
 /// Two processes with two threads each. The turns by hand: 2.2 does steps 1 to 4, 3.2 5 to 10, 3.3 11
 /// and 12, 2.3 13 and 14, 3.3 15 to 17, 2.2 18 and 19, 2.3 20 to 22, 2.2 23 to 26.
@@ -63,6 +91,7 @@ fn threads_join_and_yield(rt: HostRuntime) -> Result<(), Fail> {
         b"tick 4\npick 3 2\ntick 6\ntick 2\ntick 3\npick 3 3\ntick 2\ntick 4\nkill 3\ntick 10\n";
     let run = trace(alloc, two.as_slice(), events, &[], &[])?;
     assert_eq!(rt; run.status, Status::Done);
-    assert_eq!(rt; run.out.as_slice(), JOINING_LINES);
+    let lines = transcript(alloc, &JOINING_LINES)?;
+    assert_eq!(rt; run.out.as_slice(), lines.as_slice());
     Ok(())
 }

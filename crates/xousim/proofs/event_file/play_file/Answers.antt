@@ -1,5 +1,5 @@
 use Rattle.std.proofs.Common.{◌≡◌, ◌∙◌, ◌≤◌, ◌+◌, ◌++◌, subst, sym, ap, refl, false, List, [], length, Option, Some, ℕ, Ok, take, arith}
-use Rattle.machine_model.specs.Machine.{Machine}
+use Rattle.machine_model.specs.State.Machine.{Machine}
 use Rattle.event_text.specs.Held.{Reader, IsWaiting, new_reader}
 use Rattle.event_text.proofs.HeldLemmas.{front_empty}
 use Rattle.xk_kernel.specs.State.{machine_of}

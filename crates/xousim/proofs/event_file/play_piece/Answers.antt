@@ -1,6 +1,6 @@
 use Rattle.std.proofs.Common.{◌≡◌, ◌∙◌, ◌++◌, ◌-◌, subst, sym, ap, false, List, Option, ℕ, Ok, take, drop, length, arith, append_assoc, append-nil, [], refl}
 use Rattle.std.proofs.lemmas.Grind.{common_steps}
-use Rattle.machine_model.specs.Machine.{Machine}
+use Rattle.machine_model.specs.State.Machine.{Machine}
 use Rattle.event_text.specs.Held.{Reader}
 use Rattle.xk_kernel.specs.State.{machine_of}
 use Rattle.xousim.specs.declared.ending.Ending.{Ending}

@@ -1,6 +1,6 @@
 use Rattle.std.proofs.Common.{◌≡◌, ◌≤◌, ◌+◌, ◌++◌, Option, List, ℕ, length}
 use Rattle.event_text.specs.Held.{IsWaiting}
-use Rattle.machine_model.specs.Machine.{Machine}
+use Rattle.machine_model.specs.State.Machine.{Machine}
 use Rattle.xk_kernel.specs.Sound.{IsSound, IsUsable, Keeps}
 use Rattle.xk_kernel.specs.State.{machine_of}
 use Rattle.xk_base.specs.declared.limits.TheConstants.{EVENT_FILE_LIMIT}

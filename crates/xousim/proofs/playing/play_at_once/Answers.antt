@@ -1,5 +1,5 @@
 use Rattle.std.proofs.Common.{◌≡◌, ◌∙◌, subst, true, List, Err}
-use Rattle.machine_model.specs.Machine.{Machine}
+use Rattle.machine_model.specs.State.Machine.{Machine}
 use Rattle.trace_text.specs.Lines.{text_of}
 use Rattle.xk_base.specs.declared.records.Rec.{Rec}
 use Rattle.xk_kernel.specs.Built.{event_built}

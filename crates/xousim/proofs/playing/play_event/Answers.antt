@@ -1,5 +1,5 @@
 use Rattle.std.proofs.Common.{◌≡◌}
-use Rattle.machine_model.specs.Machine.{Machine}
+use Rattle.machine_model.specs.State.Machine.{Machine}
 use Rattle.xk_kernel.specs.State.{machine_of}
 use Rattle.xousim.specs.History.{at_once, play}
 use Rattle.xousim.proofs.HistoryLemmas.{play_other, wrote_same, ok_machine, ok_within}

@@ -1,5 +1,5 @@
 use Rattle.std.proofs.Common.{subst, Bool, Ok}
-use Rattle.machine_model.specs.Machine.{Machine}
+use Rattle.machine_model.specs.State.Machine.{Machine}
 use Rattle.xk_kernel.specs.State.{machine_of}
 use Rattle.xousim.specs.declared.playing.Advance.{Advance}
 use Rattle.xousim.specs.Playing.{Advances, EndsSo, FailsSo}

@@ -1,9 +1,9 @@
 use Rattle.std.proofs.Common.{◌≡◌, ◌∙◌, sym, ap, subst, Result, Ok}
-use Rattle.machine_model.specs.Machine.{Machine}
+use Rattle.machine_model.specs.State.Machine.{Machine}
 use Rattle.event_text.specs.Held.{Reader}
 use Rattle.event_text.specs.Plays.{events_in}
 use Rattle.event_text.specs.declared.event.NextEvent.{NextEvent}
-use Rattle.event_text.proofs.PlaysLemmas.{left_end, next_finished}
+use Rattle.event_text.proofs.PlayLemmas.{left_end, next_finished}
 use Rattle.xk_kernel.specs.State.{machine_of}
 use Rattle.xk_base.specs.declared.errors.Failed.{Failed}
 use Rattle.xousim.specs.declared.ending.Ending.{Ending}

@@ -2,9 +2,9 @@ use Rattle.std.proofs.Common.{◌≡◌, ◌≢◌, ◌+◌, ◌-◌, ℕ, suc, 
 use Rattle.xk_base.specs.declared.records.Rec.{Rec}
 use Rattle.xk_ports.specs.Told.{Grows, GrowsByPrefix}
 use Rattle.trace_text.specs.Lines.{text_of}
-use Rattle.machine_model.specs.Machine.{Machine}
-use Rattle.machine_model.specs.Order.{turn}
-use Rattle.machine_model.specs.Step.{step}
+use Rattle.machine_model.specs.State.Machine.{Machine}
+use Rattle.machine_model.specs.State.Order.{turn}
+use Rattle.machine_model.specs.Stepping.Step.{step}
 use Rattle.xousim.specs.declared.ending.Ending.TheVariants.{Played, LimitMet, Unbuilt}
 use Rattle.xousim.specs.History.{History, behind, ticks}
 use Rattle.xk_kernel.specs.State.{machine_of}
@@ -12,7 +12,8 @@ use Rattle.xk_kernel.specs.Stepping.{DoesStep}
 use Rattle.xk_kernel.specs.declared.kernel.Stepped.{Stepped}
 use Rattle.xk_kernel.specs.declared.kernel.Stepped.TheVariants.{Did, NotBuilt}
 use Rattle.xousim.specs.Writing.{Wrote}
-use Rattle.xousim.proofs.HistoryLemmas.{ticks_zero, ticks_idle, ticks_met, ticks_unbuilt, ticks_step, turn_steps, step_steps, wrote_ended, wrote_behind, wrote_front, wrote_err, wrote_same}
+use Rattle.xk_kernel.proofs.Running.LimitLemmas.{step_steps, turn_steps}
+use Rattle.xousim.proofs.HistoryLemmas.{ticks_zero, ticks_idle, ticks_met, ticks_unbuilt, ticks_step, wrote_ended, wrote_behind, wrote_front, wrote_err, wrote_same}
 use Rattle.xousim.proofs.KeptLemmas.{kept_after}
 use Rattle.xousim.proofs.playing.play_tick.Goals as goal
 

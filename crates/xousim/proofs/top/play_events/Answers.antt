@@ -1,5 +1,5 @@
 use Rattle.std.proofs.Common.{◌∙◌, subst, sym, ap, inr, true, List, Option, Err}
-use Rattle.machine_model.specs.Machine.{Machine}
+use Rattle.machine_model.specs.State.Machine.{Machine}
 use Rattle.xk_kernel.specs.State.{machine_of}
 use Rattle.xk_base.specs.declared.limits.TheConstants.{DEFAULT_STEPS}
 use Rattle.xk_base.specs.Outside.{Rose}

@@ -20,4 +20,4 @@ returns-in-Ok-clause-ends g c =
     (Rose (g.K.Sink.faults c.args.out.now) (g.K.Sink.faults c.play_events-status.new.out)) c.play_events-status.result
     c.boot_image.ensures.file c.in-Ok.ensures.booted
     (rose_after (faults c.args.host.now) (faults c.boot_image.new.host) (faults c.play_events-status.new.host) c.boot_image.ensures.never_falls)
-    c.boot_image.ensures.asked c.play_events-status.ensures.played
+    c.in-Ok.ensures.picked c.play_events-status.ensures.played

@@ -1,7 +1,7 @@
 use Rattle.xk_base.specs.Outside.{Rose}
 use Rattle.xk_ports.specs.declared.host.FileSlot.TheVariants.{Second}
 use Rattle.xousim.specs.Words.{command_of}
-use Rattle.xousim.proofs.VerdictLaws.{ends_complete_if}
+use Rattle.xousim.proofs.VerdictLemmas.{ends_complete_if}
 use Rattle.xousim.proofs.top.xous_main.Goals as goal
 
 pub returns-clause-complete : goal.returns-clause-complete

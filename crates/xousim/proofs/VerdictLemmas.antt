@@ -3,11 +3,11 @@ use Rattle.std.proofs.Common.{◌≡◌, ◌⊎◌, inl, inr, ℕ, List, Option,
 use Rattle.std.proofs.lemmas.Option.{same_Some}
 use Rattle.kernel_args.specs.declared.args.Args.{Args}
 use Rattle.kernel_args.specs.declared.faults.ArgFault.{ArgFault}
-use Rattle.kernel_args.proofs.ImageLaws.{spelled_once}
+use Rattle.kernel_args.proofs.ImageLemmas.{spelled_once}
 use Rattle.boot_plan.specs.FirstPages.{plan_of}
 use Rattle.boot_plan.specs.ImageFault.{IsImageFault}
-use Rattle.boot_plan.proofs.ImageFaultLaws.{image_fault_once}
-use Rattle.machine_model.specs.Machine.{Machine}
+use Rattle.boot_plan.proofs.ImageFaultLemmas.{image_fault_once}
+use Rattle.machine_model.specs.State.Machine.{Machine}
 use Rattle.xk_kernel.specs.Start.{start}
 use Rattle.xk_base.specs.declared.limits.TheConstants.{DEFAULT_STEPS}
 use Rattle.xk_ports.specs.Host.{FileAsked}
