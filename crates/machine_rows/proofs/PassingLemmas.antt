@@ -18,7 +18,7 @@ use Rattle.machine_model.specs.State.Machine.{Machine, Server}
 use Rattle.machine_model.specs.State.Order.{actor}
 use Rattle.machine_model.specs.State.Servers.{server_at}
 use Rattle.machine_model.specs.Stepping.Acts.{call_by}
-use Rattle.machine_model.specs.Stepping.Step.{Stepped, step}
+use Rattle.machine_model.specs.Stepping.Step.{Recorded, step}
 use Rattle.machine_model.specs.Worked.Rows.{what_of}
 use Rattle.machine_rows.specs.Playing.{calls, left_by, IsToldAs}
 use Rattle.machine_rows.proofs.ArrivalLemmas.{goes_on_at, one_place}
@@ -43,7 +43,7 @@ pub record IsPassing (who : ThreadId) (words : List ℕ) (before : Machine) (ser
       (next_arrival (sending who words before) (passed_number (eight_words words)) (forward_cid (eight_words words)))
 
 -- the step of the forward, where the page goes to the first place
-unfoldable pub passed_step : ThreadId → List ℕ → Machine → ℕ → Stepped
+unfoldable pub passed_step : ThreadId → List ℕ → Machine → ℕ → Recorded
 passed_step who words before pid =
     let m = sending who words before in
     call_step m (eight_words words) (forwarded_to m (eight_words words) (Some (window_of pid).vpn))

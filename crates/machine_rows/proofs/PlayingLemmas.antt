@@ -15,7 +15,7 @@ use Rattle.machine_model.specs.State.Changes.{Outcome, Told, settled, call_settl
 use Rattle.machine_model.specs.State.Machine.{Machine, Thread}
 use Rattle.machine_model.specs.State.Order.{actor}
 use Rattle.machine_model.specs.Stepping.Acts.{call_by, executes, words_if_call}
-use Rattle.machine_model.specs.Stepping.Step.{Stepped, after, counted, acted_if_there, executed, performed, record_of, ends_thread, ends_handler, step, step_by, step_by_if}
+use Rattle.machine_model.specs.Stepping.Step.{Recorded, after, counted, acted_if_there, executed, performed, record_of, ends_thread, ends_handler, step, step_by, step_by_if}
 use Rattle.machine_model.specs.Stepping.Timer.{timed}
 use Rattle.machine_model.specs.Worked.Rows.{what_of}
 use Rattle.machine_rows.specs.Playing.{Line, calls, call_address, standing, played, told_by, left_by, expected, IsToldAs}
@@ -55,7 +55,7 @@ left_on a b m next left = left-append a b m ∙ ap (left_by b) left
 -- ---- a call
 
 -- the step of the cursor's thread whose call has this outcome
-unfoldable pub call_step : Machine → List ℕ → Outcome → Stepped
+unfoldable pub call_step : Machine → List ℕ → Outcome → Recorded
 call_step m words outcome =
     let done = timed (counted m (m.threads m.cursor) (after (Call m.cursor words) (call_settled m outcome))) in
     record { machine = done.machine; records = map (record_of (m.steps + 1)) done.told }
@@ -99,11 +99,11 @@ pub line_left : (who : ThreadId) (words : List ℕ) (told : List What) (m : Mach
     → step (standing who call_address words m) ≡ call_step (standing who call_address words m) (eight_words words) outcome
     → left_by (calls who words told ∷ []) m ≡ (call_step (standing who call_address words m) (eight_words words) outcome).machine
 unfolding left_by
-line_left who words told m outcome e = ap (λ (s : Stepped). s.machine) e
+line_left who words told m outcome e = ap (λ (s : Recorded). s.machine) e
 
 pub line_told : (who : ThreadId) (words : List ℕ) (told : List What) (m : Machine) (outcome : Outcome)
     → step (standing who call_address words m) ≡ call_step (standing who call_address words m) (eight_words words) outcome
     → map what_of (call_step (standing who call_address words m) (eight_words words) outcome).records ≡ Call who (eight_words words) ∷ told
     → IsToldAs (calls who words told ∷ []) m
 unfolding told_by expected
-line_told who words told m outcome e tells = ap (λ (s : Stepped). map what_of s.records ++ []) e ∙ ap (λ t. t ++ []) tells
+line_told who words told m outcome e tells = ap (λ (s : Recorded). map what_of s.records ++ []) e ∙ ap (λ t. t ++ []) tells

@@ -18,7 +18,7 @@ use Rattle.machine_model.specs.State.Machine.{Machine, Server}
 use Rattle.machine_model.specs.State.Order.{actor}
 use Rattle.machine_model.specs.State.Servers.{server_at}
 use Rattle.machine_model.specs.Stepping.Acts.{call_by}
-use Rattle.machine_model.specs.Stepping.Step.{Stepped, step}
+use Rattle.machine_model.specs.Stepping.Step.{Recorded, step}
 use Rattle.machine_model.specs.Worked.Rows.{what_of}
 use Rattle.machine_rows.specs.Playing.{calls, call_address, standing, left_by, IsToldAs}
 use Rattle.machine_rows.proofs.ArrivalLemmas.{arrives_one}
@@ -48,7 +48,7 @@ pub record IsSending (who : ThreadId) (words : List ℕ) (before : Machine) (ser
       ≡ sent_to (sending who words before) (eight_words words) (arrival (sending who words before) (eight_words words))
 
 -- the step of the send, where the page goes to place k
-unfoldable pub sent_step : ThreadId → List ℕ → Machine → ℕ → Stepped
+unfoldable pub sent_step : ThreadId → List ℕ → Machine → ℕ → Recorded
 sent_step who words before k =
     let m = sending who words before in
     call_step m (eight_words words) (sent_to m (eight_words words) (Some (window_at_receiver k).vpn))

@@ -15,7 +15,7 @@ use Rattle.ledger_model.specs.Steps.{zero_page}
 use Rattle.machine_model.specs.State.Machine.{Machine, Thread}
 use Rattle.machine_model.specs.State.Threads.{change_thread}
 use Rattle.machine_model.specs.Stepping.Events.{raised, killed}
-use Rattle.machine_model.specs.Stepping.Step.{Stepped, step}
+use Rattle.machine_model.specs.Stepping.Step.{Recorded, step}
 use Rattle.machine_model.specs.Worked.Rows.{small_machine, what_of}
 
 -- ---- the code
@@ -95,7 +95,7 @@ abbrev pub standing : ThreadId → ℕ → List ℕ → Machine → Machine
 standing who pc words m = record (change_thread who (thread_at pc words) m) { cursor = who }
 
 -- the next state, and its records
-abbrev pub played : Act → Machine → Stepped
+abbrev pub played : Act → Machine → Recorded
 played (ActsAt who pc words) m = step (standing who pc words m)
 played Steps m = step m
 played (Raises k) m = raised k m

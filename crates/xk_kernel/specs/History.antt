@@ -6,7 +6,7 @@ use Rattle.xk_base.specs.declared.records.Rec.{Rec}
 use Rattle.machine_model.specs.Stepping.Events.{picked, raised, killed, nothing}
 use Rattle.machine_model.specs.State.Machine.{Machine}
 use Rattle.machine_model.specs.State.Order.{actor, turn}
-use Rattle.machine_model.specs.Stepping.Step.{Stepped, step}
+use Rattle.machine_model.specs.Stepping.Step.{Recorded, step}
 
 -- The records in order, the last state, and whether the limit was met, at which the history ended. Its steps are those that the
 -- last state counts.
@@ -16,7 +16,7 @@ pub record History : Type 0 where
   pub met : Bool
 
 -- the limit wasn't met up to this state, of which these records tell
-abbrev pub reached : Stepped → History
+abbrev pub reached : Recorded → History
 reached done = record { records = done.records; machine = done.machine; met = false }
 
 -- the limit is met in this state, where the history ends

@@ -7,7 +7,7 @@ use Rattle.xk_base.specs.declared.ids.ThreadId.{ThreadId}
 use Rattle.machine_model.specs.Stepping.Events.{nothing}
 use Rattle.machine_model.specs.State.Machine.{Machine}
 use Rattle.machine_model.specs.State.Order.{ready_at, turn}
-use Rattle.machine_model.specs.Stepping.Step.{Stepped, step_by}
+use Rattle.machine_model.specs.Stepping.Step.{Recorded, step_by}
 
 -- `pick` and `tick 1` for each of these threads, in their order
 unfoldable pub picks_and_ticks : List ThreadId → List Event
@@ -24,7 +24,7 @@ AreReadyInTurn [] m = ⊤
 AreReadyInTurn (who ∷ later) m = IsTrue (ready_at m who) × AreReadyInTurn later (after_step_of who m)
 
 -- a step of each of these threads in their order, each at the end of the turn before: the last state and all records
-unfoldable pub steps_in_turn : List ThreadId → Machine → Stepped
+unfoldable pub steps_in_turn : List ThreadId → Machine → Recorded
 steps_in_turn [] m = nothing m
 steps_in_turn (who ∷ later) m = record {
   machine = (steps_in_turn later (after_step_of who m)).machine;

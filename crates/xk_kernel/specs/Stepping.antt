@@ -5,7 +5,7 @@ use Rattle.event_text.specs.declared.event.Event.TheVariants.{Tick, Pick, Irq, K
 use Rattle.machine_model.specs.Stepping.Events.{picked, raised, killed, nothing}
 use Rattle.machine_model.specs.State.Machine.{Machine}
 use Rattle.machine_model.specs.State.Order.{actor}
-use Rattle.machine_model.specs.Stepping.Step.{Stepped as StepTaken, step}
+use Rattle.machine_model.specs.Stepping.Step.{Recorded, step}
 use Rattle.sv32_space.specs.Tie.{Held}
 use Rattle.xk_base.specs.declared.records.Rec.{Rec}
 use Rattle.xk_kernel.specs.Built.{step_built}
@@ -19,7 +19,7 @@ abbrev pub last_of : {W : Type 0} → Kernel W → List Rec
 last_of k = k.log.records
 
 -- the next state is this one, and exactly these records tell of it
-pub record Becomes {W : Type 0} (held : W → Held) (new : Kernel W) (taken : StepTaken) : Type 0 where
+pub record Becomes {W : Type 0} (held : W → Held) (new : Kernel W) (taken : Recorded) : Type 0 where
   pub machine : machine_of held new ≡ taken.machine
   pub records : last_of new ≡ taken.records
 
@@ -35,7 +35,7 @@ DoesStep held old new NotBuilt =
     × (machine_of held new ≡ machine_of held old) × (last_of new ≡ last_of old)
 
 -- what an event does beside the steps of a tick
-abbrev pub event_done : Event → Machine → StepTaken
+abbrev pub event_done : Event → Machine → Recorded
 event_done (Tick n) m = nothing m
 event_done (Pick pid tid) m = picked (record { pid = pid; tid = tid }) m
 event_done (Irq k) m = raised k m

@@ -6,7 +6,7 @@ use Rattle.event_text.specs.EventFile.{Input}
 use Rattle.xk_base.specs.declared.records.Rec.{Rec}
 use Rattle.machine_model.specs.State.Machine.{Machine}
 use Rattle.machine_model.specs.State.Order.{actor, turn}
-use Rattle.machine_model.specs.Stepping.Step.{Stepped, step}
+use Rattle.machine_model.specs.Stepping.Step.{Recorded, step}
 use Rattle.xousim.specs.declared.ending.Ending.{Ending}
 use Rattle.xousim.specs.declared.ending.Ending.TheVariants.{Played, LimitMet, Unbuilt, BadLine}
 use Rattle.xk_kernel.specs.Built.{event_built, step_built}
@@ -46,7 +46,7 @@ ticks (suc n) limit m =
     else ended Played (turn m)
 
 -- an event without steps was done, and its records tell of it
-abbrev pub played : Stepped → History
+abbrev pub played : Recorded → History
 played done = record { records = done.records; machine = done.machine; ending = Played }
 
 -- an event without steps, where it is built

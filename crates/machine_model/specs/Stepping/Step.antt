@@ -19,7 +19,7 @@ use Rattle.machine_model.specs.Stepping.Reservations.{reserved_by, reservation_o
 use Rattle.machine_model.specs.Stepping.Timer.{timed}
 
 -- the next state, and the records of the step in their order
-pub record Stepped : Type 0 where
+pub record Recorded : Type 0 where
   pub machine : Machine
   pub records : List Rec
 
@@ -103,17 +103,17 @@ record_of step what = record { step = step; what = what }
 
 -- The thread `who` does a step. The cursor goes to it first. Each step counts one, and its records carry its number. Last comes
 -- the timer.
-unfoldable pub step_by : ThreadId → Machine → Stepped
+unfoldable pub step_by : ThreadId → Machine → Recorded
 step_by who m =
     let turned = record m { cursor = who } in
     let done = timed (counted turned (m.threads who) (acted_if_there turned (m.threads who))) in
     record { machine = done.machine; records = map (record_of (m.steps + 1)) done.told }
 
 -- .. where there is one whose turn it is
-abbrev pub step_by_if : Option ThreadId → Machine → Stepped
+abbrev pub step_by_if : Option ThreadId → Machine → Recorded
 step_by_if None m = record { machine = m; records = [] }
 step_by_if (Some who) m = step_by who m
 
 -- The next step, by the thread whose it is. Where no thread is Ready there is no step.
-unfoldable pub step : Machine → Stepped
+unfoldable pub step : Machine → Recorded
 step m = step_by_if (actor m) m

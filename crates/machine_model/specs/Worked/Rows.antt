@@ -12,7 +12,7 @@ use Rattle.machine_model.specs.State.Changes.{Told, settled, call_settled}
 use Rattle.machine_model.specs.Ending.Ends.{handler_ended}
 use Rattle.machine_model.specs.Stepping.Events.{raised, killed}
 use Rattle.machine_model.specs.State.Machine.{Machine, Thread}
-use Rattle.machine_model.specs.Stepping.Step.{Stepped}
+use Rattle.machine_model.specs.Stepping.Step.{Recorded}
 use Rattle.machine_model.specs.State.Threads.{thread_id, first_thread, first_handler_thread}
 
 abbrev pub pid_of : ℕ → Pid
@@ -58,7 +58,7 @@ abbrev pub what_of : Rec → What
 what_of r = r.what
 
 -- a step or an event without the numbers of its records
-abbrev pub told_of : Stepped → Told
+abbrev pub told_of : Recorded → Told
 told_of s = record { machine = s.machine; told = map what_of s.records }
 
 -- a call of the cursor's thread, without the fetch of its ECALL

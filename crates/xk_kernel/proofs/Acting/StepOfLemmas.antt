@@ -7,7 +7,7 @@ use Rattle.machine_model.specs.State.Machine.{Machine}
 use Rattle.machine_model.specs.Runs.Matched.{Matched}
 use Rattle.machine_model.specs.State.Order.{actor}
 use Rattle.machine_model.specs.Stepping.Reservations.{reservation_of}
-use Rattle.machine_model.specs.Stepping.Step.{Stepped, counted, record_of, step, step_by, step_by_if}
+use Rattle.machine_model.specs.Stepping.Step.{Recorded, counted, record_of, step, step_by, step_by_if}
 use Rattle.machine_model.specs.State.Changes.{Told}
 use Rattle.machine_model.proofs.TimerLemmas.{timed_unarmed}
 use Rattle.sv32_space.specs.Tie.{Held}
@@ -25,7 +25,7 @@ use Rattle.xk_kernel.proofs.Acting.ActLemmas.{built_step_matched}
 abbrev counted_by : ThreadId → Machine → Told
 counted_by who m = counted (record m { cursor = who }) (m.threads who) (told_by who m)
 
-abbrev stepped_to : ℕ → Told → Stepped
+abbrev stepped_to : ℕ → Told → Recorded
 stepped_to number done = record { machine = done.machine; records = map (record_of number) done.told }
 
 -- the step is that of its actor; where the timer isn't armed, it does nothing
@@ -69,8 +69,8 @@ module _ {W : Type 0} (slot_count : W → ℕ) (held : W → Held) (old new : Ke
         record {
           machine =
               (λ i. record (done.machine i) { steps = old.steps + 1; reserved = (same ∙ leaves) i })
-              ∙ sym (ap (λ (s : Stepped). s.machine) is);
-          records = ap (λ log. log.records) done.log ∙ sym (ap (λ (s : Stepped). s.records) is);
+              ∙ sym (ap (λ (s : Recorded). s.machine) is);
+          records = ap (λ log. log.records) done.log ∙ sym (ap (λ (s : Recorded). s.records) is);
         }
 
     pub did : Acts held old new who (Done address) → DoesStep held old counting Did

@@ -10,7 +10,7 @@ use Rattle.machine_model.specs.Stepping.Events.{at_event, killed, killed_if, not
 use Rattle.machine_model.specs.State.Machine.{Machine}
 use Rattle.machine_model.specs.Stepping.Reservations.{unreserved}
 use Rattle.machine_model.specs.Runs.Matched.{Matched}
-use Rattle.machine_model.specs.Stepping.Step.{Stepped, record_of}
+use Rattle.machine_model.specs.Stepping.Step.{Recorded, record_of}
 use Rattle.machine_laws.specs.WithoutServers.{HasNoServers}
 use Rattle.process_table.specs.ProcessesOf.{processes_of}
 use Rattle.process_table.specs.ProcessMap.{is_alive}
@@ -80,7 +80,7 @@ spared m pid dead = ap (λ b. killed_if b pid (unreserved m)) dead
 
 module _ {W : Type 0} (slot_count : W → ℕ) (held : W → Held) (old new : Kernel W) (sound : IsSound slot_count held old) (usable : IsUsable old) where
   -- what leaves the machine matched leaves the kernel sound
-  pub became_sound : (next : Stepped) → IsWhole slot_count held new → Becomes held new next → Matched next.machine → IsSound slot_count held new
+  pub became_sound : (next : Recorded) → IsWhole slot_count held new → Becomes held new next → Matched next.machine → IsSound slot_count held new
   became_sound next whole becomes matched = record { whole = whole; matched = λ _. subst Matched (sym becomes.machine) matched }
 
   pub left_matched : Matched (machine_of held old)
@@ -122,8 +122,8 @@ module _ {W : Type 0} (slot_count : W → ℕ) (held : W → Held) (old new : Ke
       let is : killed pid (machine_of held old) ≡ record { machine = forgotten pid (unreserved (machine_of held old)); records = record_of old.steps (Gone pid) ∷ [] } =
       killed_is (machine_of held old) (without_servers slot_count held old sound.whole) pid alive in
       record {
-        machine = machine ∙ sym (ap (λ (s : Stepped). s.machine) is);
-        records = ap (λ (l : LogState). l.records) log ∙ sym (ap (λ (s : Stepped). s.records) is);
+        machine = machine ∙ sym (ap (λ (s : Recorded). s.machine) is);
+        records = ap (λ (l : LogState). l.records) log ∙ sym (ap (λ (s : Recorded). s.records) is);
       }
 
   pub spared_done : (pid : Pid) (log : LogState) → ((machine_of held old).process pid.0).alive ≡ false → log ≡ begun

@@ -9,7 +9,7 @@ use Rattle.xk_base.specs.declared.records.Rec.{Rec}
 use Rattle.machine_model.specs.Stepping.Events.{picked, nothing}
 use Rattle.machine_model.specs.State.Machine.{Machine}
 use Rattle.machine_model.specs.State.Order.{actor, turn, ready_at}
-use Rattle.machine_model.specs.Stepping.Step.{Stepped, step, step_by, step_by_if}
+use Rattle.machine_model.specs.Stepping.Step.{Recorded, step, step_by, step_by_if}
 use Rattle.xk_kernel.specs.History.{History, reached, stopped, behind, followed_by, play, history}
 use Rattle.xk_kernel.specs.Interleaving.{picks_and_ticks, after_step_of, AreReadyInTurn, steps_in_turn}
 use Rattle.xk_kernel.proofs.Running.LimitLemmas.{step_by_counts}
@@ -59,7 +59,7 @@ tick_one : (who : ThreadId) (limit : ℕ) (m : Machine) → ready_at m who ≡ t
 tick_one who limit m ready more =
     let one : 1 ≤ 1 = omega arith in
     tick_steps 1 limit (at who m) one (someone who m ready) more
-    ∙ (ap (λ (s : Stepped). behind s.records (play (Tick 0) limit s.machine)) (step_at who m ready)
+    ∙ (ap (λ (s : Recorded). behind s.records (play (Tick 0) limit s.machine)) (step_at who m ready)
     ∙ ap (behind (step_by who m).records) (tick_zero limit (step_by who m).machine))
 
 plain : (records : List Rec) (m : Machine) (next : Machine → History) → followed_by (behind records (reached (nothing (turn m)))) next ≡ behind records (next (turn m))
@@ -80,7 +80,7 @@ turn_met : (who : ThreadId) (later : List ThreadId) (limit : ℕ) (m : Machine) 
 unfolding picks_and_ticks
 turn_met who later limit m ready met =
     let one : 1 ≤ 1 = omega arith in
-    let there : stopped (at who m) ≡ stopped (picked who m).machine = ap (λ (s : Stepped). stopped s.machine) (sym (pick_is who m ready)) in
+    let there : stopped (at who m) ≡ stopped (picked who m).machine = ap (λ (s : Recorded). stopped s.machine) (sym (pick_is who m ready)) in
     pick_first who (Tick 1 ∷ picks_and_ticks later) limit m ready
     ∙ (history_first (Tick 1) (picks_and_ticks later) limit (at who m)
     ∙ (ap (λ (h : History). followed_by h (history (picks_and_ticks later) limit)) (tick_met 1 limit (at who m) one (someone who m ready) met)
