@@ -33,7 +33,7 @@ use Rattle.machine_laws.proofs.Calling.ThreadCallLemmas.{call_keeps, two_passed,
 use Rattle.machine_laws.proofs.Calling.ThreadCallStepLemmas.{StepKeeps, step_of_number}
 
 -- what is found is at some place, and passes
-found_at : (test : Message → Bool) (xs : List Message) (x : Message) → find test xs ≡ Some x
+pub found_at : (test : Message → Bool) (xs : List Message) (x : Message) → find test xs ≡ Some x
     → (j : ℕ) × (d : Message) × (j < length xs) × (get_or xs j d ≡ x) × (test x ≡ true)
 found_at test [] x e = absurd (none-some x e)
 found_at test (y ∷ xs) x e = go (λ later. found_at test xs x later) (test y) refl e
