@@ -1,0 +1,3 @@
+pub mod Fates
+pub mod Leaving
+pub mod Lending
