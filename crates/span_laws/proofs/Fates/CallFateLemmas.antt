@@ -1,7 +1,5 @@
 -- The fate of a number in the step of a call, refused, retried or served.
-use Rattle.std.proofs.Common.{◌≡◌, ℕ, ◌≤◌, Bool, true, false, List, Some, refl, sym, ap, ◌∙◌, arith, subst}
-use Rattle.std.specs.Prelude.{◌==◌}
-use Rattle.std.proofs.lemmas.Bool.{eq-eqb}
+use Rattle.std.proofs.Common.{◌≡◌, ℕ, true, List, refl, sym, ap, ◌∙◌, arith, subst}
 use Rattle.xk_base.specs.declared.errors.XousError.{XousError}
 use Rattle.xk_base.specs.declared.ids.Number.{Number}
 use Rattle.xk_base.specs.declared.ids.ThreadId.{ThreadId}
@@ -54,6 +52,10 @@ retried_like : (m : Machine) (who : ThreadId) → IsLike (call_settled (turned_t
 unfolding call_settled turn
 retried_like m who = record { ledger = refl; servers = refl; process = refl; number = refl }
 
+-- a row of the table before others
+row : {A B : Type 0} → A → B → A × B
+row a b = (a, b)
+
 module _ (number : Number) (m : Machine) (who : ThreadId) (w : List ℕ) (h : Matched m) (calls : IsCaller m who w) where
   abbrev n : Machine
   n = turned_to who m
@@ -76,34 +78,33 @@ module _ (number : Number) (m : Machine) (who : ThreadId) (w : List ℕ) (h : Ma
   sends k e same = ap is_send same ∙ e
 
   rows : OfRows (HasServedFate number m who w) n w call_table
-  rows = (
-    λ e. leaves (map_call n w) (map_leaves n w),
-    (λ e. leaves (yield_call n w) (yield_leaves n w),
-    (λ e. leaves (claim_call n w) (claim_leaves n w),
-    (λ e. leaves (free_call n w) (free_leaves n w),
-    (λ e. leaves (increase_call n w) (increase_leaves n w turned ready),
-    (λ e. leaves (decrease_call n w) (decrease_leaves n w),
-    (λ e. leaves (update_call n w) (update_leaves n w),
-    (λ e. leaves (create_server_call n w) (create_server_leaves n w),
-    (λ e. leaves (receive_call n w) (receive_leaves n w),
-    (λ e. send_fate number m who w h calls (sends send_message refl e),
-    (λ e. leaves (connect_call n w) (connect_leaves n w),
-    (λ e. leaves (create_call n w) (create_leaves n w),
-    (λ e. leaves (unmap_call n w) (unmap_leaves n w),
-    (λ e. return_memory_fate number m who w h calls e,
-    (λ e. terminate_fate,
-    (λ e. try_send_fate number m who w h calls (sends try_send_message refl e),
-    (λ e. leaves (try_connect_call n w) (try_connect_leaves n w),
-    (λ e. leaves (return_scalar1_call n w) (scalar1_leaves n w),
-    (λ e. leaves (return_scalar2_call n w) (scalar2_leaves n w),
-    (λ e. leaves (try_receive_call n w) (try_receive_leaves n w),
-    (λ e. leaves (join_call n w) (join_leaves n w),
-    (λ e. destroy_fate number m who w h,
-    (λ e. leaves (thread_id_call n w) (thread_id_leaves n w),
-    (λ e. leaves (process_id_call n w) (process_id_leaves n w),
-    (λ e. forward_fate number m who w h turned calls e,
-    tt)))))))))))))))))))))))),
-  )
+  rows =
+      row (λ e. leaves (map_call n w) (map_leaves n w))
+      (row (λ e. leaves (yield_call n w) (yield_leaves n w))
+      (row (λ e. leaves (claim_call n w) (claim_leaves n w))
+      (row (λ e. leaves (free_call n w) (free_leaves n w))
+      (row (λ e. leaves (increase_call n w) (increase_leaves n w turned ready))
+      (row (λ e. leaves (decrease_call n w) (decrease_leaves n w))
+      (row (λ e. leaves (update_call n w) (update_leaves n w))
+      (row (λ e. leaves (create_server_call n w) (create_server_leaves n w))
+      (row (λ e. leaves (receive_call n w) (receive_leaves n w))
+      (row (λ e. send_fate number m who w h calls (sends send_message refl e))
+      (row (λ e. leaves (connect_call n w) (connect_leaves n w))
+      (row (λ e. leaves (create_call n w) (create_leaves n w))
+      (row (λ e. leaves (unmap_call n w) (unmap_leaves n w))
+      (row (λ e. return_memory_fate number m who w h calls e)
+      (row (λ e. terminate_fate)
+      (row (λ e. try_send_fate number m who w h calls (sends try_send_message refl e))
+      (row (λ e. leaves (try_connect_call n w) (try_connect_leaves n w))
+      (row (λ e. leaves (return_scalar1_call n w) (scalar1_leaves n w))
+      (row (λ e. leaves (return_scalar2_call n w) (scalar2_leaves n w))
+      (row (λ e. leaves (try_receive_call n w) (try_receive_leaves n w))
+      (row (λ e. leaves (join_call n w) (join_leaves n w))
+      (row (λ e. destroy_fate number m who w h)
+      (row (λ e. leaves (thread_id_call n w) (thread_id_leaves n w))
+      (row (λ e. leaves (process_id_call n w) (process_id_leaves n w))
+      (row (λ e. forward_fate number m who w h turned calls e)
+      tt))))))))))))))))))))))))
 
   of_outcome : (outcome : Outcome) → call n w ≡ outcome → OfServed (HasServedFate number m who w) outcome
       → IsLike (step m).machine (call_settled n outcome).machine → Fate number m (moment_of ByStep m)

@@ -1,5 +1,5 @@
 -- The fate of a number by each cause.
-use Rattle.std.proofs.Common.{◌≡◌, ℕ, ◌≤◌, Bool, true, false, List, [], Option, Some, None, refl, sym, ap, ◌∙◌, arith, subst}
+use Rattle.std.proofs.Common.{◌≡◌, ℕ, Bool, true, false, [], Option, Some, None, refl, sym, ap, ◌∙◌, arith, subst}
 use Rattle.std.specs.Prelude.{if◌then◌else◌}
 use Rattle.xk_base.specs.declared.ids.Number.{Number}
 use Rattle.xk_base.specs.declared.ids.Pid.{Pid}
@@ -18,7 +18,7 @@ use Rattle.machine_model.specs.Stepping.Acts.{executes}
 use Rattle.machine_model.specs.Stepping.Events.{killed, killed_if, picked, raised, raised_if}
 use Rattle.machine_model.specs.Stepping.Interrupts.{delivered, delivered_lowest, handler_started, is_free_for_interrupt, lowest_pending, pended}
 use Rattle.machine_model.specs.Stepping.Reservations.{unreserved}
-use Rattle.machine_model.specs.Stepping.Step.{acted, ends_handler, ends_thread, executed, performed, step}
+use Rattle.machine_model.specs.Stepping.Step.{acted, ends_handler, performed, step}
 use Rattle.machine_model.proofs.KeptLemmas.{matched_at}
 use Rattle.machine_model.proofs.StepLemmas.{no_step}
 use Rattle.machine_model.proofs.TimerLemmas.{pended_raised}

@@ -21,7 +21,7 @@ use Rattle.machine_model.specs.Runs.LoanSpan.{IsIn, IsLenderGone, IsOut, IsServe
 use Rattle.machine_model.specs.Runs.Matched.{Matched, is_living}
 use Rattle.machine_model.specs.Runs.Moments.{Moment}
 use Rattle.machine_model.specs.State.Changes.{settled}
-use Rattle.machine_model.specs.State.Machine.{Machine, Process, Reservation, Server}
+use Rattle.machine_model.specs.State.Machine.{Machine, Process, Reservation}
 use Rattle.machine_model.proofs.CloseManyLemmas.{ended_is_fresh}
 use Rattle.machine_model.proofs.Matching.LoanSetLawLemmas.{orphaned_stands}
 use Rattle.machine_model.proofs.SpanLemmas.{out_or_in}
@@ -29,7 +29,7 @@ use Rattle.machine_laws.proofs.Dying.DeathClosingLemmas.{closed_numbers, own, qu
 use Rattle.machine_laws.proofs.Dying.DeathForgetLemmas.{left_if}
 use Rattle.machine_laws.proofs.Dying.DeathHeldLemmas.{held_below, held_numbers}
 use Rattle.machine_laws.proofs.Dying.DeathLemmas.{death_is, first, first_matched, last_forgettable, second}
-use Rattle.machine_laws.proofs.Messaging.ListedLemmas.{PassingServer, passing_server}
+use Rattle.machine_laws.proofs.Messaging.ListedLemmas.{passing_server}
 use Rattle.span_laws.specs.Fates.{Fate, IsGivenBack, IsKept}
 use Rattle.span_laws.specs.Leaving.{Leaves}
 use Rattle.span_laws.proofs.Fates.FateLemmas.{fate_ends, fate_in, fate_left, fate_out}

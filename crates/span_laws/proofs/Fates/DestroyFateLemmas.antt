@@ -1,5 +1,5 @@
 -- The fate of a number in a served DestroyServer: the loans of the server's messages end.
-use Rattle.std.proofs.Common.{◌≡◌, ℕ, ◌≤◌, Bool, true, List, Some, None, refl, sym, ap, ◌∙◌, arith, inl, inr}
+use Rattle.std.proofs.Common.{◌≡◌, ℕ, List, None, ap, ◌∙◌, arith, inl, inr}
 use Rattle.std.specs.Prelude.{◌==◌, if◌then◌else◌}
 use Rattle.xk_base.specs.declared.ids.Number.{Number}
 use Rattle.xk_base.specs.declared.ids.Sid.{Sid}
@@ -16,7 +16,6 @@ use Rattle.ledger_model.specs.Loans.{LoanRun}
 use Rattle.machine_model.specs.Runs.LoanSpan.{IsOut}
 use Rattle.span_laws.proofs.Fates.CallTableLemmas.{OfServed, of_unless_refused}
 use Rattle.span_laws.proofs.Fates.EndedFateLemmas.{ended_fate}
-use Rattle.span_laws.proofs.Fates.LikeLemmas.{IsLike}
 use Rattle.span_laws.proofs.Fates.ServedFateLemmas.{HasServedFate}
 use Rattle.span_laws.proofs.Lending.ClosedLendLemmas.{IsLendAt, lend_of_closed}
 

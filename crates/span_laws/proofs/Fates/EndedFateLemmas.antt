@@ -1,5 +1,5 @@
 -- The fate of a number where the loans of a set end: outside the set it is left, and a loan of the set closes and is given back.
-use Rattle.std.proofs.Common.{◌≡◌, ℕ, ◌<◌, ◌≤◌, ◌⊎◌, inl, inr, Bool, true, false, Option, Some, None, refl, sym, ap, ◌∙◌, subst}
+use Rattle.std.proofs.Common.{◌≡◌, ℕ, ◌<◌, ◌≤◌, ◌⊎◌, inl, inr, Bool, true, false, Some, None, refl, sym, ap, ◌∙◌, subst}
 use Rattle.std.specs.Prelude.{if◌then◌else◌}
 use Rattle.std.specs.Option.{option_map}
 use Rattle.xk_base.specs.declared.ids.Number.{Number}
@@ -10,7 +10,7 @@ use Rattle.ledger_model.specs.Places.{place_after}
 use Rattle.ledger_model.proofs.OwnerLemmas.{stands_home_at}
 use Rattle.machine_model.specs.Messaging.LoanSets.{end_loans, freed_but, loan_but}
 use Rattle.machine_model.specs.Runs.LoanSpan.{Closes, IsIn, IsOut, unlent}
-use Rattle.machine_model.specs.Runs.Matched.{Matched, is_living}
+use Rattle.machine_model.specs.Runs.Matched.{Matched}
 use Rattle.machine_model.specs.Runs.Moments.{Moment}
 use Rattle.machine_model.specs.State.Machine.{Machine}
 use Rattle.machine_model.proofs.CloseManyLemmas.{ended_is_fresh}

@@ -1,7 +1,7 @@
 -- How a fate is shown: of a number that is in before and after, of a loan that is kept, opens, or ends, and of one that is left as it is.
-use Rattle.std.proofs.Common.{◌≡◌, ℕ, ◌<◌, ◌≤◌, ◌⊎◌, inl, inr, Some, None, refl, sym, ap, ◌∙◌, subst}
+use Rattle.std.proofs.Common.{ℕ, ◌<◌, ◌≤◌, ◌⊎◌, inl, inr, refl, sym, subst}
 use Rattle.xk_base.specs.declared.ids.Number.{Number}
-use Rattle.ledger_model.specs.Loans.{IsFresh, LoanRun, Stands, loans}
+use Rattle.ledger_model.specs.Loans.{LoanRun, loans}
 use Rattle.ledger_model.proofs.OfNumberLemmas.{SameOf, fresh_still, stands_still}
 use Rattle.machine_model.specs.Runs.LoanSpan.{Closes, IsIn, IsOut, Opens}
 use Rattle.machine_model.specs.Runs.Matched.{Matched}

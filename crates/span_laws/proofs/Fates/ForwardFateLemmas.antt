@@ -1,10 +1,10 @@
 -- The fate of a number in a served ForwardMessage: the loan of the number that is named goes to other places of a holder, and the
 -- caller's process was its holder before.
 use Rattle.std.proofs.Common.{◌≡◌, ℕ, ◌+◌, ◌-◌, ◌<◌, ◌≤◌, ◌⊎◌, Bool, true, false, List, [], ◌∷◌, Option, Some, None, refl, sym, ap, ◌∙◌, arith, inl, inr, subst}
-use Rattle.std.specs.Prelude.{◌&&◌, is_none, is_some, nat_le, unwrap_or}
+use Rattle.std.specs.Prelude.{is_none, is_some, nat_le, unwrap_or}
 use Rattle.std.specs.Option.{option_and_then, option_map, option_map_or}
 use Rattle.std.proofs.lemmas.Bool.{and_from, and_parts, false≢true, le-leb}
-use Rattle.std.proofs.lemmas.Option.{none-some, same_Some}
+use Rattle.std.proofs.lemmas.Option.{none-some}
 use Rattle.xk_base.specs.declared.errors.XousError.TheVariants.{DoubleFree, InvalidSyscall, MemoryInUse, ServerNotFound, ServerQueueFull}
 use Rattle.xk_base.specs.declared.ids.Number.{Number}
 use Rattle.xk_base.specs.declared.ids.Place.{Place}
@@ -14,12 +14,12 @@ use Rattle.xk_base.specs.declared.ids.Vpn.{Vpn}
 use Rattle.xk_base.specs.declared.messages.Message.{Message}
 use Rattle.xk_base.specs.declared.windows.Window.TheVariants.{Message as MessageWindow}
 use Rattle.xk_base.specs.CallNumbers.{forward_message}
-use Rattle.xk_base.specs.CallWords.{call_number, forward_cid, forward_token}
+use Rattle.xk_base.specs.CallWords.{call_number, forward_cid}
 use Rattle.xk_base.specs.Circle.{is_pid}
 use Rattle.xk_base.specs.Connections.{connected_to}
 use Rattle.xk_base.specs.Windows.{in_window}
 use Rattle.ledger_model.specs.Conditions.{CanPass}
-use Rattle.ledger_model.specs.Ledger.{Ledger, Orphaned, Homed, Page, contents_of}
+use Rattle.ledger_model.specs.Ledger.{Orphaned, Homed, Page, contents_of}
 use Rattle.ledger_model.specs.Loans.{IsFresh, LoanRun, Stands, loans, same_number, with_holder}
 use Rattle.ledger_model.specs.Places.{in_run, is_place_in, place_after}
 use Rattle.ledger_model.specs.Reach.{is_free}
@@ -29,13 +29,13 @@ use Rattle.ledger_model.proofs.LeastRunLemmas.{is_free_run-each, least_run-Some}
 use Rattle.ledger_model.proofs.PlaceLemmas.{in_run-index, in_run-true}
 use Rattle.ledger_model.proofs.Stepping.PassingLemmas.{pass_fresh, pass_stands}
 use Rattle.machine_model.specs.Messaging.ForwardCalls.{are_one_server, forward_call, forward_refusals, forward_served, forward_served_if, forwarded_to, held_place, is_passable_of, next_arrival, next_arrival_refusals, passable, passed_from, passed_message, passed_number, passed_place, passed_to, with_first}
-use Rattle.machine_model.specs.Messaging.Messages.{is_lend, is_lend_of, is_of_number, without_held}
+use Rattle.machine_model.specs.Messaging.Messages.{is_lend, is_lend_of, is_of_number}
 use Rattle.machine_model.specs.Messaging.Receivers.{receiver}
 use Rattle.machine_model.specs.Messaging.SendCalls.{arrived, message_run}
-use Rattle.machine_model.specs.Runs.LoanSpan.{IsIn, IsOut, page_bytes, page_name, page_right, right_of_name}
+use Rattle.machine_model.specs.Runs.LoanSpan.{IsIn, IsOut, page_name, right_of_name}
 use Rattle.machine_model.specs.Runs.Matched.{Matched}
 use Rattle.machine_model.specs.Runs.Moments.{ByStep}
-use Rattle.machine_model.specs.State.Changes.{Change, Served, first_refusal}
+use Rattle.machine_model.specs.State.Changes.{Served}
 use Rattle.machine_model.specs.State.Connections.{own_connections}
 use Rattle.machine_model.specs.State.Machine.{Machine, Server}
 use Rattle.machine_model.specs.State.Servers.{is_full, serial_of, server_at}
@@ -47,7 +47,6 @@ use Rattle.span_laws.specs.Fates.{Fate, IsKept}
 use Rattle.span_laws.specs.Leaving.{Leaves}
 use Rattle.span_laws.proofs.Fates.CallTableLemmas.{OfServed, of_unless_refused}
 use Rattle.span_laws.proofs.Fates.FateLemmas.{fate_in, fate_left, fate_out}
-use Rattle.span_laws.proofs.Fates.LikeLemmas.{IsLike}
 use Rattle.span_laws.proofs.Fates.ServedFateLemmas.{HasServedFate, IsCaller, served_call}
 use Rattle.span_laws.proofs.Leaving.LedgerStepLemmas.{pass_leaves}
 use Rattle.span_laws.proofs.Lending.HeldMessageLemmas.{IsHeldBy, held_by, held_passes, held_run}
@@ -200,8 +199,8 @@ module _ (number : Number) (m : Machine) (who : ThreadId) (w : List ℕ) (h : Ma
             token = sym (ap (λ (k : Number). k.0) named) ∙ ap (λ (k : Number). k.0) same;
           });
           bytes = λ k low. inl (
-          ap (contents_of m.ledger) (name_at_home a lent.0 k lent.1)
-          ∙ (sym (contents (place_after lent.0 k)) ∙ sym (ap (contents_of after.ledger) (name_at_home (with_holder to a) lent.0 k lent.1))));
+              ap (contents_of m.ledger) (name_at_home a lent.0 k lent.1)
+              ∙ (sym (contents (place_after lent.0 k)) ∙ sym (ap (contents_of after.ledger) (name_at_home (with_holder to a) lent.0 k lent.1))));
         }
           where
             rights : (p : Place) → right_of_name after.ledger (Homed p) ≡ right_of_name m.ledger (Homed p)

@@ -1,13 +1,12 @@
 -- The fate of a number in the step of an instruction: its loan is kept, and only its holder changes bytes of its pages, under Exclusive.
-use Rattle.std.proofs.Common.{◌≡◌, ◌≢◌, ℕ, ◌<◌, ◌≤◌, Bool, true, false, List, Option, Some, None, refl, sym, ap, ◌∙◌, ◌⊎◌, inl, inr, arith, subst}
+use Rattle.std.proofs.Common.{◌≡◌, ◌≢◌, ℕ, ◌<◌, ◌≤◌, true, Some, refl, sym, ap, ◌∙◌, ◌⊎◌, inl, inr, arith, subst}
 use Rattle.std.proofs.lemmas.Bool.{false≢true}
 use Rattle.xk_base.specs.declared.ids.Number.{Number}
 use Rattle.xk_base.specs.declared.ids.Pid.{Pid}
 use Rattle.xk_base.specs.declared.ids.ThreadId.{ThreadId}
 use Rattle.xk_base.specs.declared.pages.LoanKind.TheVariants.{Exclusive}
-use Rattle.ledger_model.specs.Ledger.{Ledger, PageName, contents_of}
+use Rattle.ledger_model.specs.Ledger.{contents_of}
 use Rattle.ledger_model.specs.Loans.{LoanRun, IsFresh, Stands, loans}
-use Rattle.ledger_model.specs.Steps.{write}
 use Rattle.ledger_model.proofs.ReachingLemmas.{write_others}
 use Rattle.ledger_model.proofs.Stepping.WritingLemmas.{write_loans}
 use Rattle.machine_model.specs.Hart.Instructions.{Executed, Next, Stores, StoresToConsole, StoresToTimer, CallsKernel, Traps}
@@ -19,7 +18,7 @@ use Rattle.machine_model.specs.State.Machine.{Machine, Thread}
 use Rattle.machine_model.specs.State.Order.{actor}
 use Rattle.machine_model.specs.State.Views.{stored, timer_set}
 use Rattle.machine_model.specs.Stepping.Acts.{does_instruction, executes, is_instruction}
-use Rattle.machine_model.specs.Stepping.Step.{acted, executed, step}
+use Rattle.machine_model.specs.Stepping.Step.{executed, step}
 use Rattle.machine_model.proofs.SpanLemmas.{out_or_in}
 use Rattle.machine_laws.proofs.Executing.InstructionStepLemmas.{instruction_stores}
 use Rattle.machine_laws.proofs.Stepping.StepKindLemmas.{acted_as_executed, is_done}

@@ -1,15 +1,13 @@
 -- Of a step only the ledger, the servers, the processes and the next number count for a fate. What a step by a thread leaves of them
 -- is what its act leaves, since the timer leaves them alone.
-use Rattle.std.proofs.Common.{◌≡◌, ℕ, Bool, true, false, List, Option, Some, None, refl, sym, ap, ◌∙◌}
+use Rattle.std.proofs.Common.{◌≡◌, ℕ, List, Option, Some, None, refl, ap, ◌∙◌}
 use Rattle.std.specs.Option.{option_and_then}
-use Rattle.std.proofs.lemmas.Option.{none-some, same_Some}
-use Rattle.xk_base.specs.declared.ids.Pid.{Pid}
+use Rattle.std.proofs.lemmas.Option.{none-some}
 use Rattle.xk_base.specs.declared.ids.ThreadId.{ThreadId}
-use Rattle.ledger_model.specs.Ledger.{Ledger}
 use Rattle.machine_model.specs.Calling.Calls.{call}
-use Rattle.machine_model.specs.State.Changes.{Change, call_settled, Refused, Retried, Served, settled}
-use Rattle.machine_model.specs.State.Machine.{Machine, Process, Server, Thread}
-use Rattle.machine_model.specs.State.Order.{actor, turn}
+use Rattle.machine_model.specs.State.Changes.{Change, call_settled, Served, settled}
+use Rattle.machine_model.specs.State.Machine.{Machine, Thread}
+use Rattle.machine_model.specs.State.Order.{actor}
 use Rattle.machine_model.specs.Stepping.Acts.{call_by, executes, words_if_call}
 use Rattle.machine_model.specs.Stepping.Step.{acted, counted, step}
 use Rattle.machine_model.specs.Stepping.Timer.{timed}

@@ -1,5 +1,5 @@
 -- The calls on memory leave every number: they make pages at free places, and change none that is on loan.
-use Rattle.std.proofs.Common.{◌≡◌, ℕ, ◌+◌, ◌-◌, ◌/◌, ◌<◌, ◌≤◌, Bool, true, false, List, [], ◌∷◌, Option, Some, None, refl, sym, ap, ◌∙◌, arith}
+use Rattle.std.proofs.Common.{◌≡◌, ℕ, ◌+◌, ◌-◌, ◌/◌, ◌≤◌, Bool, true, false, List, [], ◌∷◌, None, refl, ap, ◌∙◌, arith}
 use Rattle.std.specs.Prelude.{◌%◌, ◌==◌, nat_lt, not}
 use Rattle.std.proofs.lemmas.Bool.{eqb-true, ltb-false}
 use Rattle.xk_base.specs.declared.errors.XousError.TheVariants.{BadAlignment, InvalidLimit, OutOfMemory, ShareViolation}
@@ -13,15 +13,14 @@ use Rattle.xk_base.specs.Flags.{flag_execute, has_flag, right_of}
 use Rattle.ledger_model.specs.Conditions.{is_lent}
 use Rattle.ledger_model.specs.Ledger.{Ledger, pages}
 use Rattle.ledger_model.specs.LeastRun.{least_run}
-use Rattle.ledger_model.specs.Places.{in_run, same_place}
+use Rattle.ledger_model.specs.Places.{in_run}
 use Rattle.ledger_model.specs.Reach.{is_free}
 use Rattle.ledger_model.specs.RunTests.{any_on_loan}
-use Rattle.ledger_model.specs.Steps.{make, remove, reduce}
 use Rattle.ledger_model.proofs.LedgerLemmas.{is_free-true}
 use Rattle.ledger_model.proofs.PlaceLemmas.{same_place-true}
 use Rattle.machine_model.specs.Calling.MemoryCalls.{are_too_many, caller_place, decrease_call, decrease_refusals, decrease_served, heap_limit, heap_of, heap_start, increase_call, increase_refusals, increase_served, is_aligned, map_address, map_call, map_refusals, map_served, mapped_ledger, unmap_call, unmap_refusals, unmap_served, update_call, update_refusals, update_served}
 use Rattle.machine_model.specs.Runs.Matched.{Matched}
-use Rattle.machine_model.specs.State.Changes.{Change, Served, first_refusal}
+use Rattle.machine_model.specs.State.Changes.{Served, first_refusal}
 use Rattle.machine_model.specs.State.Machine.{Machine}
 use Rattle.machine_model.specs.State.Order.{ready_at}
 use Rattle.machine_laws.proofs.Calling.HeapCallLemmas.{can_grow}

@@ -1,16 +1,15 @@
 -- The fate of a number in an accepted send: a lend opens the loan of its own number, and every other number is left.
-use Rattle.std.proofs.Common.{◌≡◌, ℕ, ◌+◌, ◌-◌, ◌<◌, ◌≤◌, Bool, true, false, List, [], ◌∷◌, ◌++◌, Option, Some, None, refl, sym, ap, ◌∙◌, ◌⊎◌, inl, inr, arith, subst}
-use Rattle.std.specs.Prelude.{◌/◌, ◌&&◌, ◌||◌, is_none, is_some, unwrap_or}
+use Rattle.std.proofs.Common.{◌≡◌, ℕ, ◌+◌, ◌-◌, ◌≤◌, Bool, true, false, List, [], ◌∷◌, ◌++◌, Option, Some, None, refl, sym, ap, ◌∙◌, ◌⊎◌, inl, inr, arith, subst}
+use Rattle.std.specs.Prelude.{◌&&◌, ◌||◌, is_none, unwrap_or}
 use Rattle.std.specs.Option.{option_and_then, option_map_or}
 use Rattle.std.proofs.lemmas.Bool.{and_from, false≢true, or_parts}
-use Rattle.std.proofs.lemmas.Option.{none-some, same_Some}
+use Rattle.std.proofs.lemmas.Option.{none-some}
 use Rattle.xk_base.specs.declared.errors.XousError.{XousError}
 use Rattle.xk_base.specs.declared.errors.XousError.TheVariants.{BadAlignment, BadAddress, MemoryInUse, ServerNotFound, ServerQueueFull, InvalidSyscall, ShareViolation}
 use Rattle.xk_base.specs.declared.ids.Number.{Number}
 use Rattle.xk_base.specs.declared.ids.Place.{Place}
 use Rattle.xk_base.specs.declared.ids.ThreadId.{ThreadId}
 use Rattle.xk_base.specs.declared.ids.Vpn.{Vpn}
-use Rattle.xk_base.specs.declared.limits.TheConstants.{PAGE_SIZE}
 use Rattle.xk_base.specs.declared.messages.MsgKind.{MsgKind}
 use Rattle.xk_base.specs.declared.messages.MsgKind.TheVariants.{LendMut, Lend, Move, Scalar, BlockingScalar}
 use Rattle.xk_base.specs.declared.pages.LoanKind.{LoanKind}
@@ -22,7 +21,7 @@ use Rattle.ledger_model.specs.Ledger.{Ledger}
 use Rattle.ledger_model.specs.Loans.{IsFresh, LoanRun, Stands, loans, same_number}
 use Rattle.ledger_model.specs.Places.{in_run, place_after}
 use Rattle.ledger_model.specs.RunTests.{any_console, any_free, any_lacks, any_not_sent, any_on_loan}
-use Rattle.ledger_model.specs.Steps.{give, lend}
+use Rattle.ledger_model.specs.Steps.{lend}
 use Rattle.ledger_model.proofs.LedgerLemmas.{cases_Option, is_free-true, same_number-true}
 use Rattle.ledger_model.proofs.LeastRunLemmas.{is_free_run-each, least_run-Some}
 use Rattle.ledger_model.proofs.PlaceLemmas.{in_run-index, in_run-true}
@@ -34,7 +33,7 @@ use Rattle.machine_model.specs.Messaging.Messages.{is_answered, new_message}
 use Rattle.machine_model.specs.Runs.LoanSpan.{IsOut, Opens, is_lend_call, is_send}
 use Rattle.machine_model.specs.Runs.Matched.{Matched}
 use Rattle.machine_model.specs.Runs.Moments.{ByStep}
-use Rattle.machine_model.specs.State.Changes.{Change, Served, first_refusal, unless_refused}
+use Rattle.machine_model.specs.State.Changes.{Served, first_refusal}
 use Rattle.machine_model.specs.State.Machine.{Machine, Server}
 use Rattle.machine_model.specs.State.Servers.{server_at}
 use Rattle.machine_model.specs.Stepping.Acts.{is_call_served}

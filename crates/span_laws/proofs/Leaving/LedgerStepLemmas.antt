@@ -1,10 +1,9 @@
 -- What the steps of the ledger leave of a number: all of it where each place is as it was or without a loan before and after; and
 -- steps of one number leave every other.
-use Rattle.std.proofs.Common.{◌≡◌, ◌≢◌, ℕ, Bool, true, false, Option, Some, None, refl, sym, ap, ◌∙◌, ◌⊎◌, inl, inr}
+use Rattle.std.proofs.Common.{◌≡◌, ℕ, Bool, true, false, Option, Some, None, refl, sym, ap, ◌∙◌}
 use Rattle.std.specs.Prelude.{◌==◌, if◌then◌else◌}
 use Rattle.std.specs.Option.{option_and_then, option_map, option_or}
-use Rattle.std.proofs.lemmas.Bool.{eqb-true, false≢true}
-use Rattle.std.proofs.lemmas.Option.{none-some, same_Some}
+use Rattle.std.proofs.lemmas.Bool.{false≢true}
 use Rattle.xk_base.specs.declared.ids.Number.{Number}
 use Rattle.xk_base.specs.declared.ids.Pid.{Pid}
 use Rattle.xk_base.specs.declared.ids.Place.{Place}
@@ -16,8 +15,8 @@ use Rattle.ledger_model.specs.Ledger.{Contents, Console, Bytes, Ledger, Orphan, 
 use Rattle.ledger_model.specs.Loans.{same_number}
 use Rattle.ledger_model.specs.Places.{in_run, moved, same_place}
 use Rattle.ledger_model.specs.Reach.{is_free, lender_of}
-use Rattle.ledger_model.specs.Steps.{end_loan, forget, give, has_number, lend, loan_without, make, make_console, new_page, orphan_with, orphan_without, pass, passed, passed_loan, reduce, remove, with_loan, with_right, zero_page}
-use Rattle.ledger_model.proofs.LedgerLemmas.{cases_Option, is_free-true, lender_of-loan, loan_at-page, same_number-true}
+use Rattle.ledger_model.specs.Steps.{forget, give, has_number, lend, make, make_console, new_page, orphan_with, pass, passed, passed_loan, reduce, remove, with_loan, with_right, zero_page}
+use Rattle.ledger_model.proofs.LedgerLemmas.{is_free-true, lender_of-loan, same_number-true}
 use Rattle.ledger_model.proofs.PlaceLemmas.{moved-in_run}
 use Rattle.machine_model.specs.Messaging.LoanSets.{end_loans, freed_but, loan_but, orphan_but, orphan_loans, orphan_of_page, is_lent_by, page_but}
 use Rattle.span_laws.specs.Leaving.{Leaves, orphan_of, page_of}

@@ -1,5 +1,5 @@
 -- The pages and orphans of a number: where they are left as they are, so is its loan, with its rights and bytes.
-use Rattle.std.proofs.Common.{◌≡◌, ◌≢◌, ℕ, ◌<◌, Bool, true, false, Option, Some, None, refl, sym, ap, ◌∙◌, ◌⊎◌, inl, inr}
+use Rattle.std.proofs.Common.{◌≡◌, ℕ, ◌<◌, Bool, true, false, Option, Some, None, refl, sym, ap, ◌∙◌, inl, inr}
 use Rattle.std.specs.Prelude.{if◌then◌else◌}
 use Rattle.std.specs.Option.{option_map, option_map_or}
 use Rattle.std.proofs.lemmas.Bool.{false≢true}
@@ -7,8 +7,8 @@ use Rattle.std.proofs.lemmas.Option.{none-some}
 use Rattle.xk_base.specs.declared.ids.Number.{Number}
 use Rattle.xk_base.specs.declared.ids.Place.{Place}
 use Rattle.ledger_model.specs.Conditions.{is_lent}
-use Rattle.ledger_model.specs.Ledger.{Ledger, Orphan, Page, PageLoan, Contents, PageName, Homed, Orphaned, contents_of, loan_at, loan_of}
-use Rattle.ledger_model.specs.Loans.{IsFresh, LoanRun, OrphanLoan, Stands, loan_of_orphan, loans, of_number, orphan_loan_at, orphan_of_number, same_number}
+use Rattle.ledger_model.specs.Ledger.{Ledger, Orphan, Page, PageLoan, Contents, Homed, Orphaned, contents_of, loan_at, loan_of}
+use Rattle.ledger_model.specs.Loans.{LoanRun, OrphanLoan, Stands, loan_of_orphan, loans, of_number, orphan_loan_at, orphan_of_number, same_number}
 use Rattle.ledger_model.specs.Places.{moved, place_after}
 use Rattle.ledger_model.specs.Steps.{has_number}
 use Rattle.ledger_model.proofs.LedgerLemmas.{cases_Option}
@@ -44,7 +44,7 @@ orphan_loan_of number (Some x) = by (same_number x.number number)
 -- a page of the number is what stands there
 page_of_some : (number : Number) (o : Option Page) (x : PageLoan) → of_number number (loan_of o) ≡ Some x → page_of number o ≡ o
 page_of_some number None x e = refl
-page_of_some number (Some page) x e = go (has_number number page.loan) (sym (loan_of_page_of number (Some page)) ) e
+page_of_some number (Some page) x e = go (has_number number page.loan) (sym (loan_of_page_of number (Some page))) e
   where
     go : (b : Bool) → of_number number page.loan ≡ loan_of (if b then Some page else None) → of_number number page.loan ≡ Some x
         → (if b then Some page else None) ≡ Some page

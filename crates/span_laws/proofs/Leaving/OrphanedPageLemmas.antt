@@ -1,8 +1,7 @@
 -- The pages of a loan that becomes orphans keep their bytes, in the order of its run; and a fresh number stays fresh.
-use Rattle.std.proofs.Common.{◌≡◌, ℕ, ◌<◌, Bool, true, false, Option, Some, None, refl, sym, ap, ◌∙◌, inl, inr}
+use Rattle.std.proofs.Common.{◌≡◌, ℕ, ◌<◌, Bool, true, false, Option, Some, None, refl, sym, ap, ◌∙◌}
 use Rattle.std.specs.Prelude.{if◌then◌else◌}
 use Rattle.std.specs.Option.{option_and_then, option_map, option_or}
-use Rattle.std.proofs.lemmas.Bool.{false≢true}
 use Rattle.std.proofs.lemmas.Option.{none-some}
 use Rattle.xk_base.specs.declared.ids.Number.{Number}
 use Rattle.xk_base.specs.declared.ids.Place.{Place}
@@ -12,7 +11,7 @@ use Rattle.ledger_model.specs.Loans.{IsFresh, LoanRun, Stands, loan_of_orphan, l
 use Rattle.ledger_model.specs.Places.{place_after}
 use Rattle.ledger_model.specs.Reach.{lender_of}
 use Rattle.ledger_model.specs.Steps.{orphan_with}
-use Rattle.ledger_model.proofs.LedgerLemmas.{cases_Option, lender_of-holder, loan_at-page}
+use Rattle.ledger_model.proofs.LedgerLemmas.{lender_of-holder, loan_at-page}
 use Rattle.ledger_model.proofs.OwnerLemmas.{stands_home_at}
 use Rattle.machine_model.specs.Messaging.LoanSets.{is_lent_by, orphan_loans, orphan_of_page, page_but}
 

@@ -1,15 +1,14 @@
 -- Runs of a loan that are at the same places with the same kind are the same, so that a number has one loan in one state.
-use Rattle.std.proofs.Common.{◌≡◌, ℕ, ◌+◌, ◌<◌, ◌≤◌, Bool, true, false, Option, Some, None, refl, sym, ap, ◌∙◌, arith, inl, inr, subst}
-use Rattle.std.specs.Prelude.{◌-◌, is_some, nat_lt, if◌then◌else◌}
+use Rattle.std.proofs.Common.{◌≡◌, ℕ, ◌+◌, ◌<◌, ◌≤◌, Bool, true, false, Some, None, refl, sym, ap, ◌∙◌, arith, inl, inr}
+use Rattle.std.specs.Prelude.{◌-◌, is_some, if◌then◌else◌}
 use Rattle.std.specs.Option.{option_map}
-use Rattle.std.proofs.lemmas.Bool.{cases_lt, false≢true}
 use Rattle.std.proofs.lemmas.Option.{none-some, same_Some}
 use Rattle.xk_base.specs.declared.ids.Number.{Number}
 use Rattle.xk_base.specs.declared.ids.Place.{Place}
 use Rattle.xk_base.specs.declared.pages.LoanKind.{LoanKind}
 use Rattle.ledger_model.specs.Ledger.{PageLoan}
-use Rattle.ledger_model.specs.Loans.{LoanRun, Loans, OrphanLoan, Stands, loan_of_run, loans, of_number, orphan_of_number, orphan_of_run}
-use Rattle.ledger_model.specs.Places.{in_run, moved, place_after}
+use Rattle.ledger_model.specs.Loans.{LoanRun, OrphanLoan, loan_of_run, loans, of_number, orphan_of_number, orphan_of_run}
+use Rattle.ledger_model.specs.Places.{in_run, moved}
 use Rattle.ledger_model.proofs.LedgerLemmas.{cases_Option}
 use Rattle.ledger_model.proofs.OfNumberLemmas.{loan_of_run-None, loan_of_run-inside, loan_of_run-outside, orphan_of_run-inside, orphan_of_run-outside}
 use Rattle.ledger_model.proofs.PlaceLemmas.{in_run-from, in_run-true, place_from}

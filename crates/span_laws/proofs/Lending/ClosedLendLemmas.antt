@@ -12,7 +12,7 @@ use Rattle.machine_model.specs.State.Machine.{Machine, Server}
 use Rattle.machine_model.specs.State.Servers.{messages_of}
 use Rattle.machine_laws.proofs.Messaging.ClosedServerLemmas.{not_closed}
 use Rattle.machine_laws.proofs.Messaging.ListedLemmas.{at_listed}
-use Rattle.span_laws.proofs.Lending.LendMessageLemmas.{HasLend, HasMessage, lend_there, message_lends, message_of, none_elsewhere}
+use Rattle.span_laws.proofs.Lending.LendMessageLemmas.{HasMessage, lend_there, message_lends, message_of, none_elsewhere}
 
 -- a server of these has the lend of the number
 pub record IsLendAt (which : ℕ → Bool) (m : Machine) (number : Number) : Type 0 where

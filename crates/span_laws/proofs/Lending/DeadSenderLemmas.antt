@@ -1,22 +1,21 @@
 -- Messages of a process that dies: where a loan's number is that of one, the process is the loan's lender.
-use Rattle.std.proofs.Common.{◌≡◌, ℕ, ◌+◌, ◌<◌, ◌≤◌, Bool, true, false, List, length, get_or, ◌++◌, Option, Some, None, refl, sym, ap, ◌∙◌, arith, subst}
-use Rattle.std.specs.Prelude.{◌&&◌, ◌==◌, if◌then◌else◌}
+use Rattle.std.proofs.Common.{◌≡◌, ℕ, ◌+◌, ◌<◌, true, false, length, get_or, Some, refl, sym, ap, ◌∙◌, arith}
+use Rattle.std.specs.Prelude.{◌&&◌, ◌==◌}
 use Rattle.std.specs.List.{list_any}
 use Rattle.std.specs.Option.{option_map_or}
 use Rattle.std.proofs.lemmas.Bool.{and_from, and_parts, eqb-true, false≢true}
 use Rattle.std.proofs.lemmas.List.{get_or-append-add, get_or_append_left, length-append}
-use Rattle.std.proofs.lemmas.Option.{none-some, same_Some}
 use Rattle.xk_base.specs.declared.ids.Number.{Number}
 use Rattle.xk_base.specs.declared.ids.Pid.{Pid}
 use Rattle.xk_base.specs.declared.ids.Place.{Place}
 use Rattle.xk_base.specs.declared.ids.ThreadId.{ThreadId}
 use Rattle.xk_base.specs.declared.messages.Message.{Message}
-use Rattle.ledger_model.specs.Ledger.{PageLoan, loan_at}
+use Rattle.ledger_model.specs.Ledger.{PageLoan}
 use Rattle.ledger_model.specs.Loans.{LoanRun, loans}
 use Rattle.ledger_model.specs.Places.{moved}
 use Rattle.ledger_model.proofs.LedgerLemmas.{loan_at-page}
 use Rattle.ledger_model.proofs.OfNumberLemmas.{stands-home}
-use Rattle.machine_model.specs.Ending.Closing.{is_held_from, is_queued_from}
+use Rattle.machine_model.specs.Ending.Closing.{is_held_from}
 use Rattle.machine_model.specs.Messaging.Messages.{is_lend, is_lend_of, is_of_number, is_sent_from}
 use Rattle.machine_model.specs.Runs.LoanSpan.{IsOut}
 use Rattle.machine_model.specs.Runs.Matched.{Matched, is_living}
@@ -33,8 +32,7 @@ pub queued_message : (m : Machine) (number : Number) (serial : ℕ) (server : Se
     → (x : HasMessage m number) × (message_of m number x ≡ get_or server.queued j d) × (x.server ≡ server)
 queued_message m number serial server live j d low is =
     let same : get_or (messages_of server) j d ≡ get_or server.queued j d = get_or_append_left server.queued server.held d j low in
-    let all : length (messages_of server) ≡ length server.queued + length server.held = length-append server.queued server.held in
-    (
+    let all : length (messages_of server) ≡ length server.queued + length server.held = length-append server.queued server.held in (
       record {
         serial = serial;
         server = server;
@@ -54,8 +52,7 @@ pub held_message : (m : Machine) (number : Number) (serial : ℕ) (server : Serv
 held_message m number serial server live j d low is =
     let same : get_or (messages_of server) (length server.queued + j) d ≡ get_or server.held j d =
     get_or-append-add server.queued server.held j d in
-    let all : length (messages_of server) ≡ length server.queued + length server.held = length-append server.queued server.held in
-    (
+    let all : length (messages_of server) ≡ length server.queued + length server.held = length-append server.queued server.held in (
       record {
         serial = serial;
         server = server;

@@ -1,16 +1,16 @@
 -- The message of a loan that is out: there is one lend of its number, and the loan is that of the message.
-use Rattle.std.proofs.Common.{◌≡◌, ◌≢◌, ℕ, ◌<◌, ◌≤◌, Bool, true, false, List, length, get_or, ◌++◌, Option, Some, None, refl, sym, ap, ◌∙◌, arith, inl, inr, subst}
+use Rattle.std.proofs.Common.{◌≡◌, ◌≢◌, ℕ, ◌<◌, ◌≤◌, Bool, true, length, get_or, Option, Some, None, refl, sym, ap, ◌∙◌, arith, inl, inr, subst}
 use Rattle.std.specs.Prelude.{◌&&◌, is_some}
 use Rattle.std.specs.List.{list_any}
-use Rattle.std.proofs.lemmas.Bool.{and_from, and_parts, eq-eqb, eqb-true, false≢true}
-use Rattle.std.proofs.lemmas.Option.{none-some, same_Some}
+use Rattle.std.proofs.lemmas.Bool.{and_from, and_parts, false≢true}
+use Rattle.std.proofs.lemmas.Option.{same_Some}
 use Rattle.xk_base.specs.declared.ids.Number.{Number}
 use Rattle.xk_base.specs.declared.ids.Place.{Place}
 use Rattle.xk_base.specs.declared.ids.ThreadId.{ThreadId}
 use Rattle.xk_base.specs.declared.messages.Message.{Message}
 use Rattle.xk_base.specs.declared.messages.MsgKind.{MsgKind}
 use Rattle.xk_base.specs.declared.pages.LoanKind.{LoanKind}
-use Rattle.ledger_model.specs.Loans.{LoanRun, Stands, loans, same_number}
+use Rattle.ledger_model.specs.Loans.{LoanRun, Stands, loans}
 use Rattle.ledger_model.proofs.LedgerLemmas.{cases_Option, same_number-true}
 use Rattle.ledger_model.proofs.OfNumberLemmas.{orphan_of_number-Some, orphan_of_run-inside, stands-home}
 use Rattle.ledger_model.specs.Places.{moved}

@@ -1,5 +1,5 @@
 -- A loan of a number that was fresh before a lend is of pages of the lend, each at its home without a loan just before.
-use Rattle.std.proofs.Common.{◌≡◌, ℕ, ◌<◌, ◌≤◌, Bool, true, false, Option, Some, None, refl, sym, ap, ◌∙◌, arith}
+use Rattle.std.proofs.Common.{◌≡◌, ℕ, ◌<◌, ◌≤◌, Bool, true, false, Option, Some, None, refl, sym, ap, ◌∙◌}
 use Rattle.std.specs.Prelude.{if◌then◌else◌, is_some}
 use Rattle.std.specs.Option.{option_map}
 use Rattle.std.proofs.lemmas.Bool.{false≢true}
@@ -12,10 +12,8 @@ use Rattle.ledger_model.specs.Ledger.{Ledger, Page, PageLoan, loan_at, loan_of}
 use Rattle.ledger_model.specs.Loans.{IsFresh, LoanRun, Stands, loans, of_number, orphan_of_number}
 use Rattle.ledger_model.specs.Places.{in_run, moved, place_after}
 use Rattle.ledger_model.specs.Steps.{lend, with_loan}
-use Rattle.ledger_model.proofs.LedgerLemmas.{cases_Option}
 use Rattle.ledger_model.proofs.OfNumberLemmas.{of_number-at, orphan_of_run-inside, stands-home}
 use Rattle.ledger_model.proofs.OwnerLemmas.{stands_home_at}
-use Rattle.ledger_model.proofs.PlaceLemmas.{in_run-after}
 use Rattle.machine_model.specs.Runs.LoanSpan.{unlent}
 use Rattle.span_laws.proofs.Leaving.SameRunLemmas.{first_in_run}
 

@@ -1,5 +1,5 @@
 -- Every number of a run from a matched state has its span, where each cause keeps the machine matched and each number has its fate.
-use Rattle.std.proofs.Common.{◌≡◌, ℕ, zero, suc, ◌+◌, ◌<◌, ◌≤◌, ◌⊎◌, Bool, true, false, List, [], ◌∷◌, get_or, length, Option, Some, None, refl, sym, ap, ◌∙◌, arith, inl, inr, subst}
+use Rattle.std.proofs.Common.{◌≡◌, ℕ, zero, suc, ◌<◌, ◌≤◌, ◌⊎◌, true, List, [], ◌∷◌, get_or, length, Some, sym, ap, ◌∙◌, arith, inl, inr, subst}
 use Rattle.std.specs.Prelude.{slice_get}
 use Rattle.std.specs.Option.{option_map, option_map_or}
 use Rattle.std.proofs.lemmas.Bool.{cases_lt}
@@ -19,7 +19,7 @@ use Rattle.machine_model.specs.Runs.Moments.{ByTurn, IsRun, Moment, caused, stat
 use Rattle.machine_model.specs.State.Machine.{Machine}
 use Rattle.machine_model.proofs.KeptLemmas.{run_keeps}
 use Rattle.machine_model.proofs.SpanLemmas.{not_both, out_or_in}
-use Rattle.span_laws.specs.Fates.{AllHaveFates, Fate, IsKept, moment_of}
+use Rattle.span_laws.specs.Fates.{AllHaveFates, Fate}
 use Rattle.span_laws.proofs.Spans.SpanInductionLemmas.{HasNext, IsSpanned, out_between, spans_to}
 
 -- ---- the states of a run
