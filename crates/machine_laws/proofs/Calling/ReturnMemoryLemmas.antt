@@ -24,7 +24,8 @@ use Rattle.machine_model.specs.Runs.Matched.{Matched}
 use Rattle.machine_model.specs.State.Changes.{Change, Served, answering, call_settled, settled}
 use Rattle.machine_model.specs.State.Machine.{Machine, Server}
 use Rattle.machine_model.specs.State.Order.{ready_at}
-use Rattle.machine_model.specs.State.Servers.{change_server, serial_of}
+use Rattle.xk_base.specs.Sids.{serial_of}
+use Rattle.machine_model.specs.State.Servers.{change_server}
 use Rattle.machine_model.specs.State.Threads.{answer_to, both_answers, passed, with_answer}
 use Rattle.machine_model.proofs.LoanSetLemmas.{only_one_ends}
 use Rattle.machine_laws.proofs.Calling.AnsweredCallLemmas.{Keeps}
