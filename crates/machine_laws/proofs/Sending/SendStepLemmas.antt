@@ -70,7 +70,8 @@ waiting_kind : (n : ℕ) (kind : MsgKind) → kind_at n ≡ Some kind → is_ans
 waiting_kind n kind = go (n == 1) (n == 2) (n == 3) (n == 4) (n == 5)
   where
     go : (a b c d f : Bool)
-        → (if a then Some LendMut else (if b then Some Lend else (if c then Some Move else (if d then Some Scalar else (if f then Some BlockingScalar else None)))))
+        → (if a then Some LendMut else (if b then Some Lend else (if c then Some Move else (
+        if d then Some Scalar else (if f then Some BlockingScalar else None)))))
         ≡ Some kind
         → is_answered kind ≡ true → (a || b || f) ≡ true
     go true b c d f e q = refl
@@ -126,7 +127,8 @@ module _ (m : Machine) (h : Matched m) (ready : ready_at m m.cursor ≡ true) (w
           range = and_false (carries_pages kind) _ range carries;
           there = and_false (carries_pages kind) _ used carries;
           sendable = and_false (carries_pages kind) _ sendable carries;
-          free = sym (arrival_is s.1 at) ∙ is_there (arrival m w) (record { 0 = 0 }) (and_false (carries_pages kind) (is_none (arrival m w)) found carries);
+          free = sym (arrival_is s.1 at)
+              ∙ is_there (arrival m w) (record { 0 = 0 }) (and_false (carries_pages kind) (is_none (arrival m w)) found carries);
         };
         above = above kind refl;
       })
@@ -144,7 +146,9 @@ module _ (m : Machine) (h : Matched m) (ready : ready_at m m.cursor ≡ true) (w
       → Keeps m (sent_to m w (arrival m w))
   sent_to_keeps rest none full above =
       unless_refused_keeps m h (arrival_refusals w (arrival m w)) (Served (send_served m w (arrival m w))) (λ found.
-      let p = five_passed (is_none (server_at m (send_cid w))) (is_none (named_kind w)) (sends_pages w && is_bad_range (send_address w) (send_length w))
+      let p =
+      five_passed (is_none (server_at m (send_cid w))) (is_none (named_kind w))
+      (sends_pages w && is_bad_range (send_address w) (send_length w))
       (sends_pages w && any_free m.processes m.ledger (caller_place m (send_address w)) (sent_pages w))
       (sends_pages w && any_not_sent m.processes m.ledger (caller_place m (send_address w)) (sent_pages w) (sends_lend_mut w))
       ServerNotFound InvalidSyscall BadAlignment BadAddress ShareViolation rest none in
@@ -167,7 +171,9 @@ module _ (m : Machine) (h : Matched m) (ready : ready_at m m.cursor ≡ true) (w
   unfolding try_send_call
   try_send_keeps above =
       unless_refused_keeps m h (send_refusals m w ++ (is_full_for m w, ServerQueueFull) ∷ []) (sent_to m w (arrival m w)) (λ none.
-      let p = five_passed (is_none (server_at m (send_cid w))) (is_none (named_kind w)) (sends_pages w && is_bad_range (send_address w) (send_length w))
+      let p =
+      five_passed (is_none (server_at m (send_cid w))) (is_none (named_kind w))
+      (sends_pages w && is_bad_range (send_address w) (send_length w))
       (sends_pages w && any_free m.processes m.ledger (caller_place m (send_address w)) (sent_pages w))
       (sends_pages w && any_not_sent m.processes m.ledger (caller_place m (send_address w)) (sent_pages w) (sends_lend_mut w))
       ServerNotFound InvalidSyscall BadAlignment BadAddress ShareViolation ((is_full_for m w, ServerQueueFull) ∷ []) none in
