@@ -3,5 +3,7 @@ pub mod Dying
 pub mod Executing
 pub mod Interrupting
 pub mod Messaging
+pub mod Receiving
+pub mod Sending
 pub mod Stepping
 pub mod Threading

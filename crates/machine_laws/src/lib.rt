@@ -10,6 +10,8 @@ mod irq_laws;
 mod memory_laws;
 mod message_laws;
 mod plain_laws;
+mod receive_laws;
+mod send_laws;
 mod server_laws;
 mod step_laws;
 mod thread_end_laws;
@@ -37,6 +39,8 @@ pub use memory_laws::{
 };
 pub use message_laws::return_memory_keeps_matched;
 pub use plain_laws::{kill_leaves_no_servers, no_loans_without_servers, plain_step_keeps_matched};
+pub use receive_laws::{receive_message_keeps_matched, try_receive_message_keeps_matched};
+pub use send_laws::{send_message_keeps_matched, try_send_message_keeps_matched};
 pub use server_laws::destroy_server_keeps_matched;
 pub use step_laws::{step_keeps_matched_by_cases, steps_keep_matched_where_calls_do};
 pub use thread_end_laws::{end_of_handler_keeps_matched, end_of_thread_keeps_matched};
