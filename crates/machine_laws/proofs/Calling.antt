@@ -1,6 +1,9 @@
 pub mod AnsweredCallLemmas
 pub mod CallStepLemmas
+pub mod ConnectCallLemmas
+pub mod ConnectionLemmas
 pub mod DestroyCallLemmas
+pub mod GivenBackLemmas
 pub mod HeapCallLemmas
 pub mod MadePageLemmas
 pub mod MapCallLemmas
@@ -8,6 +11,7 @@ pub mod MemoryCallStepLemmas
 pub mod PageChangeLemmas
 pub mod ReturnCallLemmas
 pub mod ReturnMemoryLemmas
+pub mod ReturnScalarLemmas
 pub mod RunRefusalLemmas
 pub mod ThreadCallLemmas
 pub mod ThreadCallStepLemmas
