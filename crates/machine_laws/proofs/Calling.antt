@@ -2,6 +2,7 @@ pub mod AnsweredCallLemmas
 pub mod CallStepLemmas
 pub mod ConnectCallLemmas
 pub mod ConnectionLemmas
+pub mod CreateServerLemmas
 pub mod DestroyCallLemmas
 pub mod GivenBackLemmas
 pub mod HeapCallLemmas

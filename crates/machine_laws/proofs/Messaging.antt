@@ -3,6 +3,7 @@ pub mod AnyServerLemmas
 pub mod ClosedServerLemmas
 pub mod FilterLemmas
 pub mod ListedLemmas
+pub mod NewServerLemmas
 pub mod NoLoanLemmas
 pub mod RemovalLemmas
 pub mod SenderlessLemmas

@@ -40,7 +40,8 @@ pub use memory_laws::{
 pub use message_laws::return_memory_keeps_matched;
 pub use plain_laws::{kill_leaves_no_servers, no_loans_without_servers, plain_step_keeps_matched};
 pub use server_laws::{
-    connect_keeps_matched, destroy_server_keeps_matched, try_connect_keeps_matched,
+    connect_keeps_matched, create_server_keeps_matched, destroy_server_keeps_matched,
+    try_connect_keeps_matched,
 };
 pub use step_laws::{step_keeps_matched_by_cases, steps_keep_matched_where_calls_do};
 pub use thread_end_laws::{end_of_handler_keeps_matched, end_of_thread_keeps_matched};
