@@ -3,5 +3,6 @@ pub mod Dying
 pub mod Executing
 pub mod Interrupting
 pub mod Messaging
+pub mod Sending
 pub mod Stepping
 pub mod Threading

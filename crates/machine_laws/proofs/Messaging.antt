@@ -5,6 +5,8 @@ pub mod FilterLemmas
 pub mod ListedLemmas
 pub mod NewServerLemmas
 pub mod NoLoanLemmas
+pub mod OneServerLemmas
+pub mod PutThreadLemmas
 pub mod RemovalLemmas
 pub mod SenderlessLemmas
 pub mod WaitedForLemmas
