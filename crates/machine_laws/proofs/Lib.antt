@@ -1,8 +1,11 @@
 pub mod Calling
 pub mod Dying
 pub mod Executing
+pub mod Forwarding
 pub mod Interrupting
 pub mod Messaging
+pub mod Returning
 pub mod Sending
+pub mod Serving
 pub mod Stepping
 pub mod Threading

@@ -3,8 +3,6 @@ pub mod AnyServerLemmas
 pub mod ClosedServerLemmas
 pub mod FilterLemmas
 pub mod ListedLemmas
-pub mod NewServerLemmas
-pub mod NoLoanLemmas
 pub mod OneServerLemmas
 pub mod PutThreadLemmas
 pub mod RemovalLemmas

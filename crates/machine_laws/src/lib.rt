@@ -27,7 +27,9 @@ pub use death_laws::{
     death_keeps_matched, kill_keeps_matched, last_end_keeps_matched,
     terminate_process_keeps_matched, trap_keeps_matched,
 };
-pub use held_laws::{return_scalar1_keeps_matched, return_scalar2_keeps_matched};
+pub use held_laws::{
+    forward_message_keeps_matched, return_scalar1_keeps_matched, return_scalar2_keeps_matched,
+};
 pub use instruction_laws::{
     execution_stays_aligned, instruction_keeps_matched, instruction_stores_one_page,
 };

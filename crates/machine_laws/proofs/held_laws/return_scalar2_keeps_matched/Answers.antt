@@ -1,4 +1,4 @@
-use Rattle.machine_laws.proofs.Calling.ReturnScalarLemmas.{return_scalar2_step}
+use Rattle.machine_laws.proofs.Returning.ReturnScalarLemmas.{return_scalar2_step}
 use Rattle.machine_laws.proofs.held_laws.return_scalar2_keeps_matched.Goals as goal
 
 -- src/held_laws.rt

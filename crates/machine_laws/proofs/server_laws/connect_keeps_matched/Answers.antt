@@ -1,4 +1,4 @@
-use Rattle.machine_laws.proofs.Calling.ConnectCallLemmas.{connect_step}
+use Rattle.machine_laws.proofs.Serving.ConnectCallLemmas.{connect_step}
 use Rattle.machine_laws.proofs.server_laws.connect_keeps_matched.Goals as goal
 
 -- src/server_laws.rt

@@ -1,4 +1,4 @@
-use Rattle.machine_laws.proofs.Calling.CreateServerLemmas.{create_server_step}
+use Rattle.machine_laws.proofs.Serving.CreateServerLemmas.{create_server_step}
 use Rattle.machine_laws.proofs.server_laws.create_server_keeps_matched.Goals as goal
 
 -- src/server_laws.rt

@@ -19,7 +19,7 @@ use Rattle.machine_model.specs.State.Machine.{Machine}
 use Rattle.machine_model.specs.State.Order.{ready_at}
 use Rattle.machine_model.proofs.LoanSetLemmas.{only_one_ends}
 use Rattle.machine_laws.proofs.Calling.AnsweredCallLemmas.{Keeps}
-use Rattle.machine_laws.proofs.Calling.GivenBackLemmas.{EndsAs, given_back_keeps}
+use Rattle.machine_laws.proofs.Returning.GivenBackLemmas.{EndsAs, given_back_keeps}
 use Rattle.machine_laws.proofs.Calling.ThreadCallLemmas.{call_keeps, two_passed, unless_refused_keeps}
 use Rattle.machine_laws.proofs.Calling.ThreadCallStepLemmas.{StepKeeps, step_of_number}
 

@@ -19,7 +19,7 @@ use Rattle.machine_model.specs.State.Servers.{has_sid, serial_of, with_sid}
 use Rattle.machine_model.specs.Runs.Matched.{Matched}
 use Rattle.machine_laws.proofs.Calling.AnsweredCallLemmas.{Keeps, retried_keeps}
 use Rattle.machine_laws.proofs.Calling.CallStepLemmas.{of_call}
-use Rattle.machine_laws.proofs.Calling.ConnectionLemmas.{caller_connected}
+use Rattle.machine_laws.proofs.Serving.ConnectionLemmas.{caller_connected}
 use Rattle.machine_laws.proofs.Calling.RunRefusalLemmas.{not_false}
 use Rattle.machine_laws.proofs.Calling.ThreadCallLemmas.{answered_keeps, one_passed, two_passed, unless_refused_keeps}
 use Rattle.machine_laws.proofs.Calling.ThreadCallStepLemmas.{StepKeeps, step_of_number}

@@ -16,11 +16,11 @@ use Rattle.machine_model.specs.State.Order.{ready_at}
 use Rattle.machine_model.specs.State.Servers.{live_servers, with_sid}
 use Rattle.machine_laws.proofs.Calling.AnsweredCallLemmas.{Keeps}
 use Rattle.machine_laws.proofs.Calling.CallStepLemmas.{of_call}
-use Rattle.machine_laws.proofs.Calling.ConnectionLemmas.{caller_connected}
+use Rattle.machine_laws.proofs.Serving.ConnectionLemmas.{caller_connected}
 use Rattle.machine_laws.proofs.Calling.RunRefusalLemmas.{not_false}
 use Rattle.machine_laws.proofs.Calling.ThreadCallLemmas.{three_passed, unless_refused_keeps}
 use Rattle.machine_laws.proofs.Calling.ThreadCallStepLemmas.{StepKeeps, step_of_number}
-use Rattle.machine_laws.proofs.Messaging.NewServerLemmas.{server_settles}
+use Rattle.machine_laws.proofs.Serving.NewServerLemmas.{server_settles}
 use Rattle.machine_laws.proofs.Threading.ThreadAnswerLemmas.{answered_call, ready_lives}
 
 module _ (m : Machine) (w : List ℕ) (h : Matched m) (ready : ready_at m m.cursor ≡ true) where

@@ -17,7 +17,7 @@ use Rattle.machine_model.specs.State.Machine.{Machine, Server}
 use Rattle.machine_model.specs.State.Servers.{messages_of}
 use Rattle.machine_model.proofs.Matching.CountLemmas.{first_in}
 use Rattle.machine_model.proofs.Matching.OneMessageLemmas.{HasServer, one_server}
-use Rattle.machine_laws.proofs.Calling.ReturnCallLemmas.{unique}
+use Rattle.machine_laws.proofs.Returning.ReturnCallLemmas.{unique}
 use Rattle.machine_laws.proofs.Messaging.ListedLemmas.{at_listed}
 
 -- ---- where no loan and no orphan is of the set

@@ -18,10 +18,10 @@ use Rattle.machine_model.specs.State.Machine.{Machine}
 use Rattle.machine_model.specs.State.Order.{ready_at}
 use Rattle.machine_laws.proofs.Calling.AnsweredCallLemmas.{Keeps}
 use Rattle.machine_laws.proofs.Calling.CallStepLemmas.{of_call}
-use Rattle.machine_laws.proofs.Calling.GivenBackLemmas.{EndsAs, given_back_keeps}
+use Rattle.machine_laws.proofs.Returning.GivenBackLemmas.{EndsAs, given_back_keeps}
 use Rattle.machine_laws.proofs.Calling.ThreadCallLemmas.{one_passed, unless_refused_keeps}
 use Rattle.machine_laws.proofs.Calling.ThreadCallStepLemmas.{StepKeeps, step_of_number}
-use Rattle.machine_laws.proofs.Messaging.NoLoanLemmas.{nothing_ends}
+use Rattle.machine_laws.proofs.Returning.NoLoanLemmas.{nothing_ends}
 
 scalar_no_lend : (kind : MsgKind) → is_blocking_scalar kind ≡ true → is_lend kind ≡ false
 scalar_no_lend LendMut e = absurd (false≢true e)

@@ -23,7 +23,7 @@ use Rattle.machine_model.specs.State.Order.{ready_at}
 use Rattle.machine_model.specs.State.Servers.{change_server, serial_of}
 use Rattle.machine_model.specs.State.Threads.{answer_to, both_answers, passed, with_answer}
 use Rattle.machine_laws.proofs.Calling.AnsweredCallLemmas.{Keeps}
-use Rattle.machine_laws.proofs.Calling.ReturnCallLemmas.{given_settles}
+use Rattle.machine_laws.proofs.Returning.ReturnCallLemmas.{given_settles}
 
 -- what is found is at some place, and passes
 pub found_at : (test : Message → Bool) (xs : List Message) (x : Message) → find test xs ≡ Some x
