@@ -4,6 +4,7 @@ pub mod Executing
 pub mod Forwarding
 pub mod Interrupting
 pub mod Messaging
+pub mod Receiving
 pub mod Returning
 pub mod Sending
 pub mod Serving

@@ -11,6 +11,7 @@ mod irq_laws;
 mod memory_laws;
 mod message_laws;
 mod plain_laws;
+mod receive_laws;
 mod send_laws;
 mod server_laws;
 mod step_laws;
@@ -42,6 +43,7 @@ pub use memory_laws::{
 };
 pub use message_laws::return_memory_keeps_matched;
 pub use plain_laws::{kill_leaves_no_servers, no_loans_without_servers, plain_step_keeps_matched};
+pub use receive_laws::{receive_message_keeps_matched, try_receive_message_keeps_matched};
 pub use send_laws::{send_message_keeps_matched, try_send_message_keeps_matched};
 pub use server_laws::{
     connect_keeps_matched, create_server_keeps_matched, destroy_server_keeps_matched,

@@ -44,7 +44,7 @@ none_of_number s number Q none n = go (s n) (none n)
         none_counted (λ y. is_of_number number y && Q y) (messages_of server) (λ j d low.
         ap (λ b. b && Q (get_or (messages_of server) j d)) (none_pass (is_of_number number) (messages_of server) e j d low))
 
-lend_is_answered : (kind : MsgKind) → is_lend kind ≡ true → is_answered kind ≡ true
+pub lend_is_answered : (kind : MsgKind) → is_lend kind ≡ true → is_answered kind ≡ true
 lend_is_answered LendMut e = refl
 lend_is_answered Lend e = refl
 lend_is_answered Move e = absurd (false≢true e)
