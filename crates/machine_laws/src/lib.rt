@@ -49,7 +49,10 @@ pub use server_laws::{
     connect_keeps_matched, create_server_keeps_matched, destroy_server_keeps_matched,
     try_connect_keeps_matched,
 };
-pub use step_laws::{step_keeps_matched_by_cases, steps_keep_matched_where_calls_do};
+pub use step_laws::{
+    all_keep_matched, calls_keep_matched, runs_stay_matched, step_keeps_matched,
+    step_keeps_matched_by_cases, steps_keep_matched_where_calls_do,
+};
 pub use thread_end_laws::{end_of_handler_keeps_matched, end_of_thread_keeps_matched};
 pub use thread_laws::{
     answered_call_keeps_matched, count_of_steps_keeps_matched, create_thread_keeps_matched,
