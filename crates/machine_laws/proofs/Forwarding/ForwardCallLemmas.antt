@@ -30,7 +30,8 @@ use Rattle.ledger_model.specs.Steps.{pass}
 use Rattle.ledger_model.proofs.LeastRunLemmas.{is_free_run-each, least_run-Some}
 use Rattle.ledger_model.proofs.PlaceLemmas.{IsInRun, in_run-index, in_run-true}
 use Rattle.machine_model.specs.Messaging.ForwardCalls.{are_one_server, forward_call, forward_refusals, forward_served, forward_served_if, forwarded_to, held_place, is_passable_of, next_arrival, next_arrival_refusals, passable, passed_from, passed_message, passed_number, passed_place, passed_to, with_first}
-use Rattle.machine_model.specs.Messaging.Messages.{is_answered, is_lend, is_lend_of, is_of_number, with_queued, with_received, without_held}
+use Rattle.xk_base.specs.Kinds.{is_answered}
+use Rattle.machine_model.specs.Messaging.Messages.{is_lend, is_lend_of, is_of_number, with_queued, with_received, without_held}
 use Rattle.machine_model.specs.Messaging.Receivers.{receiver}
 use Rattle.machine_model.specs.Messaging.ReturnCalls.{held_at, holder_of, holds}
 use Rattle.machine_model.specs.Messaging.SendCalls.{arrived, message_run}
@@ -38,7 +39,8 @@ use Rattle.machine_model.specs.Runs.Matched.{IsHoldable, IsQueueable, Matched}
 use Rattle.machine_model.specs.State.Changes.{Change, Served, call_settled, first_refusal, settled}
 use Rattle.machine_model.specs.State.Machine.{Machine, Server, Thread, Receiving}
 use Rattle.machine_model.specs.State.Order.{is_ready, ready_at}
-use Rattle.machine_model.specs.State.Servers.{change_server, is_full, is_server_of, messages_of, serial_of, server_at, slots_used}
+use Rattle.xk_base.specs.Sids.{serial_of}
+use Rattle.machine_model.specs.State.Servers.{change_server, is_full, is_server_of, messages_of, server_at, slots_used}
 use Rattle.machine_model.specs.State.Threads.{Answers, answer_to, both_answers, no_answers, passed, with_answer}
 use Rattle.machine_model.proofs.Matching.CountLemmas.{HasMore}
 use Rattle.machine_laws.proofs.Calling.AnsweredCallLemmas.{Keeps}

@@ -26,7 +26,8 @@ use Rattle.ledger_model.specs.Reach.{is_free}
 use Rattle.ledger_model.specs.Steps.{pass}
 use Rattle.machine_model.specs.Messaging.ForwardCalls.{with_first}
 use Rattle.machine_model.specs.Messaging.MessageCounts.{HasIf, count_at, count_in}
-use Rattle.machine_model.specs.Messaging.Messages.{carries_pages, is_answered, is_lend, is_lend_of, is_of_number, loan_kind}
+use Rattle.xk_base.specs.Kinds.{is_answered}
+use Rattle.machine_model.specs.Messaging.Messages.{carries_pages, is_lend, is_lend_of, is_of_number, loan_kind}
 use Rattle.machine_model.specs.Runs.Matched.{AreLoansMatched, AreNextAbove, AreReceiversMatched, AreSendersMatched, AreServersMatched, IsHoldable, IsLendMatched, IsMessageLent, IsOnLoan, IsQueueable, IsSized, Matched, is_living, is_sent_as, is_waiting_for, lend_run, waits_for}
 use Rattle.machine_model.specs.State.Machine.{Machine, Server, Thread, Receiving}
 use Rattle.machine_model.specs.State.Servers.{messages_of, slots_used}

@@ -12,13 +12,15 @@ use Rattle.xk_base.specs.Counting.{put_at}
 use Rattle.xk_base.specs.Replies.{message_words, plain_words}
 use Rattle.machine_model.specs.Calling.Calls.{call}
 use Rattle.machine_model.specs.Calling.ServerCalls.{named_sid, own_server_refusals}
-use Rattle.machine_model.specs.Messaging.Messages.{is_answered, oldest, with_received, without_oldest}
+use Rattle.xk_base.specs.Kinds.{is_answered}
+use Rattle.machine_model.specs.Messaging.Messages.{oldest, with_received, without_oldest}
 use Rattle.machine_model.specs.Messaging.ReceiveCalls.{oldest_queued, receive_call, receive_served, received, try_receive_call, try_receive_served, waits_at}
 use Rattle.machine_model.specs.Runs.Matched.{Matched}
 use Rattle.machine_model.specs.State.Changes.{Change, Served, answering, first_refusal}
 use Rattle.machine_model.specs.State.Machine.{Machine, Server}
 use Rattle.machine_model.specs.State.Order.{ready_at}
-use Rattle.machine_model.specs.State.Servers.{change_server, is_own, is_server_of, serial_of, with_sid}
+use Rattle.xk_base.specs.Sids.{serial_of}
+use Rattle.machine_model.specs.State.Servers.{change_server, is_own, is_server_of, with_sid}
 use Rattle.machine_model.specs.State.Threads.{answer_to}
 use Rattle.machine_laws.proofs.Calling.AnsweredCallLemmas.{Keeps}
 use Rattle.machine_laws.proofs.Calling.RunRefusalLemmas.{not_false}

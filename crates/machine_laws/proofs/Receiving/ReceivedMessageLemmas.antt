@@ -12,7 +12,8 @@ use Rattle.xk_base.specs.declared.messages.Message.{Message}
 use Rattle.xk_base.specs.Circle.{same_thread}
 use Rattle.ledger_model.specs.Loans.{loans}
 use Rattle.machine_model.specs.Messaging.MessageCounts.{HasAtMostOne, HasOne, count_at, count_in}
-use Rattle.machine_model.specs.Messaging.Messages.{is_answered, is_lend, is_lend_of, is_of_number, is_sent_by}
+use Rattle.xk_base.specs.Kinds.{is_answered}
+use Rattle.machine_model.specs.Messaging.Messages.{is_lend, is_lend_of, is_of_number, is_sent_by}
 use Rattle.machine_model.specs.Runs.Matched.{AreLoansMatched, AreReceiversMatched, AreSendersMatched, IsHoldable, IsMessageLent, IsQueueable, IsSized, Matched, is_sent_as, waits_for}
 use Rattle.machine_model.specs.State.Machine.{Machine, Server}
 use Rattle.machine_model.specs.State.Servers.{messages_of}

@@ -18,7 +18,8 @@ use Rattle.xk_base.specs.Circle.{same_thread}
 use Rattle.xk_base.specs.Counting.{put_at}
 use Rattle.xk_base.specs.Replies.{message_words}
 use Rattle.ledger_model.specs.Ledger.{Ledger}
-use Rattle.machine_model.specs.Messaging.Messages.{is_answered, new_message, new_number, with_queued, with_received}
+use Rattle.xk_base.specs.Kinds.{is_answered}
+use Rattle.machine_model.specs.Messaging.Messages.{new_message, new_number, with_queued, with_received}
 use Rattle.machine_model.specs.Messaging.Receivers.{receiver}
 use Rattle.machine_model.specs.Messaging.SendCalls.{arrived, sender_answered, sender_left}
 use Rattle.machine_model.specs.Runs.Matched.{IsHoldable, IsQueueable, Matched}

@@ -26,7 +26,8 @@ use Rattle.ledger_model.proofs.LeastRunLemmas.{is_free_run-each, least_run-Some}
 use Rattle.ledger_model.proofs.PlaceLemmas.{in_run-index, in_run-true}
 use Rattle.ledger_model.proofs.RunTestLemmas.{sent_may_lend, sent_may_move}
 use Rattle.machine_model.specs.Calling.MemoryCalls.{caller_place, is_aligned, is_bad_range}
-use Rattle.machine_model.specs.Messaging.Messages.{carries_pages, is_answered, new_message, new_number}
+use Rattle.xk_base.specs.Kinds.{is_answered}
+use Rattle.machine_model.specs.Messaging.Messages.{carries_pages, new_message, new_number}
 use Rattle.machine_model.specs.Messaging.SendCalls.{is_lend_mut, sent_ledger, sent_pages}
 use Rattle.machine_model.specs.Runs.Matched.{Matched, is_living}
 use Rattle.machine_model.specs.State.Connections.{own_connections}

@@ -14,12 +14,12 @@ use Rattle.xk_base.specs.declared.windows.Window.TheVariants.{Message as Message
 use Rattle.xk_base.specs.CallNumbers.{send_message, try_send_message}
 use Rattle.xk_base.specs.CallWords.{call_number, send_address, send_cid, send_kind, send_length}
 use Rattle.xk_base.specs.Connections.{connected_to}
-use Rattle.xk_base.specs.Kinds.{is_waiting_kind, kind_at}
+use Rattle.xk_base.specs.Kinds.{is_waiting_kind, kind_at, is_answered}
 use Rattle.ledger_model.specs.LeastRun.{least_run}
 use Rattle.ledger_model.specs.RunTests.{any_free, any_not_sent}
 use Rattle.machine_model.specs.Calling.Calls.{call}
 use Rattle.machine_model.specs.Calling.MemoryCalls.{caller_place, is_bad_range}
-use Rattle.machine_model.specs.Messaging.Messages.{carries_pages, is_answered, new_message, new_number}
+use Rattle.machine_model.specs.Messaging.Messages.{carries_pages, new_message, new_number}
 use Rattle.machine_model.specs.Messaging.Receivers.{receiver}
 use Rattle.machine_model.specs.Messaging.SendCalls.{arrival, arrival_refusals, is_full_for, is_lend_mut, message_run, named_kind, send_call, send_refusals, send_served, sends_lend_mut, sends_pages, sent, sent_ledger, sent_pages, sent_serial, sent_to, try_send_call}
 use Rattle.machine_model.specs.Runs.Matched.{Matched}
@@ -27,7 +27,8 @@ use Rattle.machine_model.specs.State.Changes.{Served, first_refusal, unless_retr
 use Rattle.machine_model.specs.State.Connections.{own_connections}
 use Rattle.machine_model.specs.State.Machine.{Machine, Server}
 use Rattle.machine_model.specs.State.Order.{ready_at}
-use Rattle.machine_model.specs.State.Servers.{is_full, serial_of, server_at}
+use Rattle.xk_base.specs.Sids.{serial_of}
+use Rattle.machine_model.specs.State.Servers.{is_full, server_at}
 use Rattle.machine_laws.proofs.Calling.AnsweredCallLemmas.{Keeps, retried_keeps}
 use Rattle.machine_laws.proofs.Sending.SendCallLemmas.{arrives, arrives_keeps}
 use Rattle.machine_laws.proofs.Sending.SendLedgerLemmas.{IsAccepted, sent_ledger_is}
@@ -67,19 +68,7 @@ server_there m (Some serial) e = go (m.servers serial.0) refl e
 
 -- a kind that is to be answered makes its sender wait
 waiting_kind : (n : ℕ) (kind : MsgKind) → kind_at n ≡ Some kind → is_answered kind ≡ true → is_waiting_kind n ≡ true
-waiting_kind n kind = go (n == 1) (n == 2) (n == 3) (n == 4) (n == 5)
-  where
-    go : (a b c d f : Bool)
-        → (if a then Some LendMut else (if b then Some Lend else (if c then Some Move else (
-        if d then Some Scalar else (if f then Some BlockingScalar else None)))))
-        ≡ Some kind
-        → is_answered kind ≡ true → (a || b || f) ≡ true
-    go true b c d f e q = refl
-    go false true c d f e q = refl
-    go false false true d f e q = absurd (false≢true (ap is_answered (same_Some Move kind e) ∙ q))
-    go false false false true f e q = absurd (false≢true (ap is_answered (same_Some Scalar kind e) ∙ q))
-    go false false false false true e q = refl
-    go false false false false false e q = absurd (none-some kind e)
+waiting_kind n kind e answered = ap (λ o. option_map_or is_answered o false) e ∙ answered
 
 module _ (m : Machine) (h : Matched m) (ready : ready_at m m.cursor ≡ true) (w : List ℕ) where
   -- ---- an accepted send

@@ -15,7 +15,8 @@ use Rattle.machine_model.specs.State.Changes.{Outcome, Served, unless_refused, u
 use Rattle.machine_model.specs.State.Connections.{connect_caller, own_connections}
 use Rattle.machine_model.specs.State.Machine.{Machine}
 use Rattle.machine_model.specs.State.Order.{ready_at}
-use Rattle.machine_model.specs.State.Servers.{has_sid, serial_of, with_sid}
+use Rattle.xk_base.specs.Sids.{serial_of, is_sid}
+use Rattle.machine_model.specs.State.Servers.{with_sid}
 use Rattle.machine_model.specs.Runs.Matched.{Matched}
 use Rattle.machine_laws.proofs.Calling.AnsweredCallLemmas.{Keeps, retried_keeps}
 use Rattle.machine_laws.proofs.Calling.CallStepLemmas.{of_call}
@@ -28,12 +29,12 @@ use Rattle.machine_laws.proofs.Threading.ThreadAnswerLemmas.{ready_lives}
 -- a server that is found by its identifier has a serial below the next
 found_low : (m : Machine) (sid : Sid) → is_missing m sid ≡ false → (named_server m sid).0 < m.next_serial
 unfolding with_sid
-found_low m sid there = go (least_below m.next_serial (λ n. has_sid sid (m.servers n))) refl there
+found_low m sid there = go (least_below m.next_serial (λ n. is_sid sid (option_map (λ s. s.sid) (m.servers n)))) refl there
   where
-    go : (o : Option ℕ) → least_below m.next_serial (λ n. has_sid sid (m.servers n)) ≡ o → is_none (option_map serial_of o) ≡ false
+    go : (o : Option ℕ) → least_below m.next_serial (λ n. is_sid sid (option_map (λ s. s.sid) (m.servers n))) ≡ o → is_none (option_map serial_of o) ≡ false
         → (unwrap_or (option_map serial_of o) (serial_of 0)).0 < m.next_serial
     go None q r = absurd (false≢true (sym r))
-    go (Some n) q r = least_below-bound m.next_serial (λ k. has_sid sid (m.servers k)) n q
+    go (Some n) q r = least_below-bound m.next_serial (λ k. is_sid sid (option_map (λ s. s.sid) (m.servers k))) n q
 
 -- what follows where the test doesn't hold
 pub unless_retried_keeps : (m : Machine) → Matched m → (test : Bool) (outcome : Outcome) → (test ≡ false → Keeps m outcome)

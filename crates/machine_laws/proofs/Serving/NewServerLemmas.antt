@@ -11,7 +11,7 @@ use Rattle.xk_base.specs.declared.ids.Sid.{Sid}
 use Rattle.xk_base.specs.declared.limits.TheConstants.{MESSAGE_LIMIT, SERVER_LIMIT}
 use Rattle.xk_base.specs.declared.messages.Message.{Message}
 use Rattle.xk_base.specs.Counting.{count_below, least_below, put_at}
-use Rattle.xk_base.specs.Sids.{same_sid}
+use Rattle.xk_base.specs.Sids.{same_sid, serial_of, is_sid}
 use Rattle.xk_base.proofs.CountingLemmas.{count_below-one, count_below-same, least_below-none}
 use Rattle.ledger_model.specs.Loans.{loans}
 use Rattle.machine_model.specs.Calling.ServerCalls.{new_server, with_server}
@@ -20,7 +20,7 @@ use Rattle.machine_model.specs.Messaging.Messages.{is_lend_of, is_of_number}
 use Rattle.machine_model.specs.Runs.Kept.{Settles}
 use Rattle.machine_model.specs.Runs.Matched.{AreServersMatched, IsHoldable, IsMessageLent, IsQueueable, IsServerAwaited, IsSized, Matched, is_living, is_sent_as, waits_for}
 use Rattle.machine_model.specs.State.Machine.{Machine, Server}
-use Rattle.machine_model.specs.State.Servers.{has_sid, live_servers, messages_of, serial_of, slots_used, with_sid}
+use Rattle.machine_model.specs.State.Servers.{live_servers, messages_of, slots_used, with_sid}
 use Rattle.machine_model.proofs.Matching.OneMessageLemmas.{CountAlike, if_alike, most_alike, one_alike}
 
 -- ---- counts and identifiers
@@ -47,13 +47,13 @@ module _ (m : Machine) (h : Matched m) (sid : Sid) where
   -- where no server has the identifier, none has it
   pub none_named : is_some (with_sid m sid) ≡ false → (n : ℕ) (server : Server) → m.servers n ≡ Some server → same_sid server.sid sid ≡ false
   unfolding with_sid
-  none_named none n server e = go (least_below m.next_serial (λ k. has_sid sid (m.servers k))) refl none
+  none_named none n server e = go (least_below m.next_serial (λ k. is_sid sid (option_map (λ s. s.sid) (m.servers k)))) refl none
     where
-      go : (o : Option ℕ) → least_below m.next_serial (λ k. has_sid sid (m.servers k)) ≡ o → is_some (option_map serial_of o) ≡ false
+      go : (o : Option ℕ) → least_below m.next_serial (λ k. is_sid sid (option_map (λ s. s.sid) (m.servers k))) ≡ o → is_some (option_map serial_of o) ≡ false
           → same_sid server.sid sid ≡ false
       go (Some k) q r = absurd (false≢true (sym r))
       go None q r =
-          sym (ap (has_sid sid) e) ∙ least_below-none m.next_serial (λ k. has_sid sid (m.servers k)) q n (h.rest.above.serials n server e)
+          sym (ap (λ o. is_sid sid (option_map (λ s. s.sid) o)) e) ∙ least_below-none m.next_serial (λ k. is_sid sid (option_map (λ s. s.sid) (m.servers k))) q n (h.rest.above.serials n server e)
 
   -- ---- the server
 
