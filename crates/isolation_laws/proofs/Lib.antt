@@ -1,0 +1,3 @@
+pub mod Blindness
+pub mod Isolating
+pub mod Ledgers
