@@ -19,7 +19,8 @@ use Rattle.machine_model.specs.Messaging.SendCalls.{arrived}
 use Rattle.machine_model.specs.Runs.Isolation.{without_bytes}
 use Rattle.machine_model.specs.State.Changes.{Change}
 use Rattle.machine_model.specs.State.Machine.{Machine}
-use Rattle.machine_model.specs.State.Servers.{serial_of, server_at, change_server}
+use Rattle.xk_base.specs.Sids.{serial_of}
+use Rattle.machine_model.specs.State.Servers.{server_at, change_server}
 use Rattle.isolation_laws.proofs.Blindness.ChangeLemmas.{SeesNoByte, bare_change, bare_outcome, unless_bare, with_left, refused_alike}
 use Rattle.isolation_laws.proofs.Blindness.SendCallLemmas.{arrived_bare}
 use Rattle.isolation_laws.proofs.Ledgers.BareStepLemmas.{end_loan_bare, pass_bare}
