@@ -4,4 +4,4 @@
 
 mod isolation;
 
-pub use isolation::step_is_isolated;
+pub use isolation::{call_changes_no_byte, step_is_isolated};
