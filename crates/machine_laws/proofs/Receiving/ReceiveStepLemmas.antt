@@ -22,12 +22,11 @@ use Rattle.machine_model.specs.State.Servers.{change_server, is_own, is_server_o
 use Rattle.machine_model.specs.State.Threads.{answer_to}
 use Rattle.machine_laws.proofs.Calling.AnsweredCallLemmas.{Keeps}
 use Rattle.machine_laws.proofs.Calling.RunRefusalLemmas.{not_false}
-use Rattle.machine_laws.proofs.Calling.ThreadCallLemmas.{answered_keeps, call_keeps, one_passed, unless_refused_keeps}
+use Rattle.machine_laws.proofs.Calling.ThreadCallLemmas.{answered_keeps, call_keeps, not_handler, one_passed, unless_refused_keeps}
 use Rattle.machine_laws.proofs.Calling.ThreadCallStepLemmas.{StepKeeps, step_of_number}
 use Rattle.machine_laws.proofs.Messaging.OneServerLemmas.{now}
 use Rattle.machine_laws.proofs.Receiving.ReceiveWaitLemmas.{wait_keeps}
 use Rattle.machine_laws.proofs.Receiving.ReceivedMessageLemmas.{gone_matched, held_matched}
-use Rattle.machine_laws.proofs.Sending.SendStepLemmas.{not_handler}
 
 -- the server of the caller's process
 record IsOwnServer (m : Machine) (serial : Serial) : Type 0 where
@@ -111,7 +110,7 @@ module _ (m : Machine) (h : Matched m) (ready : ready_at m m.cursor ≡ true) wh
         answered_keeps m m plain_words h ready (omega arith)))
 
     receive_number_keeps : call_number w ≡ 15 → Keeps m (call m w)
-    receive_number_keeps e = call_keeps m h ready w 15 e (λ none. receive_keeps (not_handler m h ready w none (rw e refl)))
+    receive_number_keeps e = call_keeps m h ready w 15 e (λ none. receive_keeps (not_handler m w none (rw e refl)))
 
     try_receive_number_keeps : call_number w ≡ 28 → Keeps m (call m w)
     try_receive_number_keeps e = call_keeps m h ready w 28 e (λ none. try_receive_keeps)

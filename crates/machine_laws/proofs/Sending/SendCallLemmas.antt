@@ -143,17 +143,22 @@ module _ (m : Machine) (h : Matched m) (ready : ready_at m m.cursor ≡ true) (w
         sent_threads m.processes m.process m.threads alone m.cursor r.thread r.there r.ready (is_answered kind) above (new_number m)
         (message_words x) o serial receives
 
+    -- the machine after the send, where these are its servers
+    abbrev then_with : (ℕ → Option Server) → Machine
+    then_with servers = record m {
+      ledger = l;
+      threads = threads_then;
+      servers = servers;
+      next_number = m.next_number + 1;
+      steps = m.steps + 1;
+    }
+
     with_lists : (queued held : List Message) → IsTaken m.servers (now m.servers serial.0 server e queued held) x → All IsQueueable queued
         → All IsHoldable held → length queued + length held ≤ MESSAGE_LIMIT
-        → ((id : ThreadId) (v : Thread) (at : Serial) → m.threads id ≡ Some v → v.state ≡ Receiving at → at.0 ≡ serial.0 → server.queued ≡ [] → queued ≡ [])
+        → ((id : ThreadId) (v : Thread) (at : Serial) → m.threads id ≡ Some v → v.state ≡ Receiving at → at.0 ≡ serial.0
+        → server.queued ≡ [] → queued ≡ [])
         → ((P : Message → Type 0) → P x → All P (messages_of server) → All P (queued ++ held))
-        → Matched (record m {
-          ledger = l;
-          threads = threads_then;
-          servers = now m.servers serial.0 server e queued held;
-          next_number = m.next_number + 1;
-          steps = m.steps + 1;
-        })
+        → Matched (then_with (now m.servers serial.0 server e queued held))
     with_lists queued held taken q d slots still all = sent_matched m h serial.0 server e x queued held threads_then l (record {
       numbered = refl;
       unanswered = λ never i. if never i then Some m.cursor else None;
@@ -174,13 +179,7 @@ module _ (m : Machine) (h : Matched m) (ready : ready_at m m.cursor ≡ true) (w
 
     -- .. is the machine of the call
     moved_to : (queued held : List Message) → server_then o x server ≡ record server { queued = queued; held = held }
-        → Matched (record m {
-          ledger = l;
-          threads = threads_then;
-          servers = now m.servers serial.0 server e queued held;
-          next_number = m.next_number + 1;
-          steps = m.steps + 1;
-        })
+        → Matched (then_with (now m.servers serial.0 server e queued held))
         → Matched (then_machine (is_answered kind) o m serial x l)
     moved_to queued held same f = subst Matched (λ i. record m {
       ledger = l;
@@ -202,7 +201,8 @@ module _ (m : Machine) (h : Matched m) (ready : ready_at m m.cursor ≡ true) (w
       (let size : length (server.queued ++ x ∷ []) ≡ length server.queued + 1 = length-append server.queued (x ∷ []) in
       let low : length server.queued + length server.held + 1 ≤ MESSAGE_LIMIT = below in
       omega (arith, size, low))
-      (λ id v at there s same. absurd (none_receives m serial none id (h.body.ids.known id v there) v there (s ∙ (λ i. Receiving (record { 0 = same i })))))
+      (λ id v at there s same.
+      absurd (none_receives m serial none id (h.body.ids.known id v there) v there (s ∙ (λ i. Receiving (record { 0 = same i })))))
       (λ P here all. more_all (messages_of server) ((server.queued ++ x ∷ []) ++ server.held) x more P here all))
     where
       receives : (who : ThreadId) → None ≡ Some who → (u : Thread) × (m.threads who ≡ Some u) × (u.state ≡ Receiving serial)
@@ -224,13 +224,8 @@ module _ (m : Machine) (h : Matched m) (ready : ready_at m m.cursor ≡ true) (w
       more = held_more x server.queued server.held
 
       by_answer : (b : Bool) → is_answered kind ≡ b
-          → Matched (record m {
-            ledger = l;
-            threads = threads_then (Some who) receives;
-            servers = now m.servers serial.0 server e server.queued (if b then server.held ++ x ∷ [] else server.held);
-            next_number = m.next_number + 1;
-            steps = m.steps + 1;
-          })
+          → Matched (then_with (Some who) receives
+          (now m.servers serial.0 server e server.queued (if b then server.held ++ x ∷ [] else server.held)))
       by_answer true q =
           with_lists (Some who) receives server.queued (server.held ++ x ∷ [])
           (taken_in m h serial.0 server e x server.queued (server.held ++ x ∷ []) more)

@@ -1,23 +1,23 @@
 -- The steps of SendMessage and TrySendMessage keep the machine matched: refused, retried, and served.
 use Rattle.std.proofs.Common.{◌≡◌, ℕ, Bool, true, false, List, [], ◌∷◌, ◌++◌, Option, Some, None, refl, sym, ap, ◌∙◌, subst}
-use Rattle.std.specs.Prelude.{◌==◌, ◌&&◌, ◌||◌, if◌then◌else◌, is_none, not, unwrap_or}
+use Rattle.std.specs.Prelude.{◌==◌, ◌&&◌, ◌||◌, if◌then◌else◌, is_none, unwrap_or}
 use Rattle.std.specs.Option.{option_and_then, option_map_or}
 use Rattle.std.proofs.lemmas.Bool.{false≢true}
 use Rattle.std.proofs.lemmas.Option.{none-some, same_Some}
 use Rattle.xk_base.specs.declared.errors.XousError.{XousError}
-use Rattle.xk_base.specs.declared.errors.XousError.TheVariants.{BadAlignment, BadAddress, InvalidSyscall, MemoryInUse, ServerNotFound, ServerQueueFull, ShareViolation, UnhandledSyscall}
+use Rattle.xk_base.specs.declared.errors.XousError.TheVariants.{BadAlignment, BadAddress, InvalidSyscall, MemoryInUse, ServerNotFound, ServerQueueFull, ShareViolation}
 use Rattle.xk_base.specs.declared.ids.Serial.{Serial}
 use Rattle.xk_base.specs.declared.ids.Vpn.{Vpn}
 use Rattle.xk_base.specs.declared.messages.MsgKind.{MsgKind}
 use Rattle.xk_base.specs.declared.messages.MsgKind.TheVariants.{LendMut, Lend, Move, Scalar, BlockingScalar}
 use Rattle.xk_base.specs.declared.windows.Window.TheVariants.{Message as MessageWindow}
-use Rattle.xk_base.specs.CallNumbers.{is_call_number, send_message, try_send_message}
-use Rattle.xk_base.specs.CallWords.{call_number, is_refused_to_handler, send_address, send_cid, send_kind, send_length}
+use Rattle.xk_base.specs.CallNumbers.{send_message, try_send_message}
+use Rattle.xk_base.specs.CallWords.{call_number, send_address, send_cid, send_kind, send_length}
 use Rattle.xk_base.specs.Connections.{connected_to}
 use Rattle.xk_base.specs.Kinds.{is_waiting_kind, kind_at}
 use Rattle.ledger_model.specs.LeastRun.{least_run}
 use Rattle.ledger_model.specs.RunTests.{any_free, any_not_sent}
-use Rattle.machine_model.specs.Calling.Calls.{any_refusals, call}
+use Rattle.machine_model.specs.Calling.Calls.{call}
 use Rattle.machine_model.specs.Calling.MemoryCalls.{caller_place, is_bad_range}
 use Rattle.machine_model.specs.Messaging.Messages.{carries_pages, is_answered, new_message, new_number}
 use Rattle.machine_model.specs.Messaging.Receivers.{receiver}
@@ -31,7 +31,7 @@ use Rattle.machine_model.specs.State.Servers.{is_full, serial_of, server_at}
 use Rattle.machine_laws.proofs.Calling.AnsweredCallLemmas.{Keeps, retried_keeps}
 use Rattle.machine_laws.proofs.Sending.SendCallLemmas.{arrives, arrives_keeps}
 use Rattle.machine_laws.proofs.Sending.SendLedgerLemmas.{IsAccepted, sent_ledger_is}
-use Rattle.machine_laws.proofs.Calling.ThreadCallLemmas.{call_keeps, one_passed, two_passed, unless_refused_keeps}
+use Rattle.machine_laws.proofs.Calling.ThreadCallLemmas.{call_keeps, not_handler, one_passed, unless_refused_keeps}
 use Rattle.machine_laws.proofs.Calling.ThreadCallStepLemmas.{StepKeeps, step_of_number}
 
 -- ---- refusals
@@ -70,7 +70,8 @@ waiting_kind : (n : ℕ) (kind : MsgKind) → kind_at n ≡ Some kind → is_ans
 waiting_kind n kind = go (n == 1) (n == 2) (n == 3) (n == 4) (n == 5)
   where
     go : (a b c d f : Bool)
-        → (if a then Some LendMut else (if b then Some Lend else (if c then Some Move else (if d then Some Scalar else (if f then Some BlockingScalar else None)))))
+        → (if a then Some LendMut else (if b then Some Lend else (if c then Some Move else (
+        if d then Some Scalar else (if f then Some BlockingScalar else None)))))
         ≡ Some kind
         → is_answered kind ≡ true → (a || b || f) ≡ true
     go true b c d f e q = refl
@@ -126,7 +127,8 @@ module _ (m : Machine) (h : Matched m) (ready : ready_at m m.cursor ≡ true) (w
           range = and_false (carries_pages kind) _ range carries;
           there = and_false (carries_pages kind) _ used carries;
           sendable = and_false (carries_pages kind) _ sendable carries;
-          free = sym (arrival_is s.1 at) ∙ is_there (arrival m w) (record { 0 = 0 }) (and_false (carries_pages kind) (is_none (arrival m w)) found carries);
+          free = sym (arrival_is s.1 at)
+              ∙ is_there (arrival m w) (record { 0 = 0 }) (and_false (carries_pages kind) (is_none (arrival m w)) found carries);
         };
         above = above kind refl;
       })
@@ -144,7 +146,9 @@ module _ (m : Machine) (h : Matched m) (ready : ready_at m m.cursor ≡ true) (w
       → Keeps m (sent_to m w (arrival m w))
   sent_to_keeps rest none full above =
       unless_refused_keeps m h (arrival_refusals w (arrival m w)) (Served (send_served m w (arrival m w))) (λ found.
-      let p = five_passed (is_none (server_at m (send_cid w))) (is_none (named_kind w)) (sends_pages w && is_bad_range (send_address w) (send_length w))
+      let p =
+      five_passed (is_none (server_at m (send_cid w))) (is_none (named_kind w))
+      (sends_pages w && is_bad_range (send_address w) (send_length w))
       (sends_pages w && any_free m.processes m.ledger (caller_place m (send_address w)) (sent_pages w))
       (sends_pages w && any_not_sent m.processes m.ledger (caller_place m (send_address w)) (sent_pages w) (sends_lend_mut w))
       ServerNotFound InvalidSyscall BadAlignment BadAddress ShareViolation rest none in
@@ -167,32 +171,23 @@ module _ (m : Machine) (h : Matched m) (ready : ready_at m m.cursor ≡ true) (w
   unfolding try_send_call
   try_send_keeps above =
       unless_refused_keeps m h (send_refusals m w ++ (is_full_for m w, ServerQueueFull) ∷ []) (sent_to m w (arrival m w)) (λ none.
-      let p = five_passed (is_none (server_at m (send_cid w))) (is_none (named_kind w)) (sends_pages w && is_bad_range (send_address w) (send_length w))
+      let p =
+      five_passed (is_none (server_at m (send_cid w))) (is_none (named_kind w))
+      (sends_pages w && is_bad_range (send_address w) (send_length w))
       (sends_pages w && any_free m.processes m.ledger (caller_place m (send_address w)) (sent_pages w))
       (sends_pages w && any_not_sent m.processes m.ledger (caller_place m (send_address w)) (sent_pages w) (sends_lend_mut w))
       ServerNotFound InvalidSyscall BadAlignment BadAddress ShareViolation ((is_full_for m w, ServerQueueFull) ∷ []) none in
       sent_to_keeps ((is_full_for m w, ServerQueueFull) ∷ []) none (one_passed (is_full_for m w) ServerQueueFull p.5) above)
 
-  -- tid 1 makes no call that can wait
-  pub not_handler : first_refusal (any_refusals m w) ≡ None → is_refused_to_handler w ≡ true → (m.cursor.tid.0 == 1) ≡ false
-  not_handler none refused =
-      let fit : (not (is_call_number (call_number w)) ≡ false) × ((m.cursor.tid.0 == 1 && is_refused_to_handler w) ≡ false) =
-      two_passed (not (is_call_number (call_number w))) (m.cursor.tid.0 == 1 && is_refused_to_handler w) UnhandledSyscall InvalidSyscall none in
-      go (m.cursor.tid.0 == 1) (is_refused_to_handler w) refused fit.1
-    where
-      go : (a b : Bool) → b ≡ true → (a && b) ≡ false → a ≡ false
-      go false b p q = refl
-      go true b p q = absurd (false≢true (sym q ∙ p))
-
   send_number_keeps : call_number w ≡ 16 → Keeps m (call m w)
   send_number_keeps e =
       call_keeps m h ready w 16 e (λ none. send_keeps (λ kind named answered.
-      not_handler none (rw e refl)))
+      not_handler m w none (rw e refl)))
 
   try_send_number_keeps : call_number w ≡ 24 → Keeps m (call m w)
   try_send_number_keeps e =
       call_keeps m h ready w 24 e (λ none. try_send_keeps (λ kind named answered.
-      not_handler none (rw e (waiting_kind (send_kind w) kind named answered))))
+      not_handler m w none (rw e (waiting_kind (send_kind w) kind named answered))))
 
 pub send_step : StepKeeps send_message
 send_step = step_of_number 16 send_number_keeps
