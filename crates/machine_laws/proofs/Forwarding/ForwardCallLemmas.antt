@@ -1,9 +1,9 @@
 -- The step of a ForwardMessage keeps the machine matched, served or refused.
-use Rattle.std.proofs.Common.{◌≡◌, ◌≢◌, append-nil, append_assoc, ℕ, ◌+◌, ◌-◌, ◌<◌, ◌≤◌, Bool, true, false, List, [], ◌∷◌, ◌++◌, filter, length, Option, Some, None, refl, sym, ap, ◌∙◌, arith, subst}
-use Rattle.std.specs.Prelude.{◌==◌, ◌&&◌, find, if◌then◌else◌, is_none, is_some, nat_eq, nat_le, unwrap_or}
+use Rattle.std.proofs.Common.{◌≡◌, ◌≢◌, append-nil, append_assoc, ℕ, ◌+◌, ◌≤◌, Bool, true, false, List, [], ◌∷◌, ◌++◌, filter, length, Option, Some, None, refl, sym, ap, ◌∙◌, arith, subst}
+use Rattle.std.specs.Prelude.{◌==◌, ◌&&◌, find, if◌then◌else◌, is_none, is_some, nat_eq, unwrap_or}
 use Rattle.std.specs.List.{All}
 use Rattle.std.specs.Option.{option_and_then, option_map, option_map_or, option_or}
-use Rattle.std.proofs.lemmas.Bool.{and_from, and_parts, eq-eqb, eqb-true, false≢true, le-leb}
+use Rattle.std.proofs.lemmas.Bool.{and_parts, eq-eqb, eqb-true, false≢true}
 use Rattle.std.proofs.lemmas.List.{length-append}
 use Rattle.std.proofs.lemmas.List.Elements.{All-append, All-cons, All-nil}
 use Rattle.std.proofs.lemmas.Option.{none-some, same_Some}
@@ -15,27 +15,20 @@ use Rattle.xk_base.specs.declared.ids.ThreadId.{ThreadId}
 use Rattle.xk_base.specs.declared.ids.Vpn.{Vpn}
 use Rattle.xk_base.specs.declared.limits.TheConstants.{MESSAGE_LIMIT}
 use Rattle.xk_base.specs.declared.messages.Message.{Message}
-use Rattle.xk_base.specs.declared.windows.Window.TheVariants.{Message as MessageWindow}
 use Rattle.xk_base.specs.CallNumbers.{forward_message}
 use Rattle.xk_base.specs.CallWords.{forward_cid}
-use Rattle.xk_base.specs.Circle.{is_pid, same_thread}
+use Rattle.xk_base.specs.Circle.{same_thread}
 use Rattle.xk_base.specs.Counting.{least_below, put_at}
 use Rattle.xk_base.specs.Replies.{message_words, plain_words}
-use Rattle.xk_base.specs.Windows.{in_window}
 use Rattle.xk_base.proofs.CountingLemmas.{least_below-passes}
-use Rattle.ledger_model.specs.LeastRun.{IsLeastRun}
-use Rattle.ledger_model.specs.Places.{in_run, is_place_in}
-use Rattle.ledger_model.specs.Reach.{is_free}
 use Rattle.ledger_model.specs.Steps.{pass}
-use Rattle.ledger_model.proofs.LeastRunLemmas.{is_free_run-each, least_run-Some}
-use Rattle.ledger_model.proofs.PlaceLemmas.{IsInRun, in_run-index, in_run-true}
 use Rattle.machine_model.specs.Messaging.ForwardCalls.{are_one_server, forward_call, forward_refusals, forward_served, forward_served_if, forwarded_to, held_place, is_passable_of, next_arrival, next_arrival_refusals, passable, passed_from, passed_message, passed_number, passed_place, passed_to, with_first}
 use Rattle.xk_base.specs.Kinds.{is_answered}
 use Rattle.machine_model.specs.Messaging.Messages.{is_lend, is_lend_of, is_of_number, with_queued, with_received, without_held}
 use Rattle.machine_model.specs.Messaging.Receivers.{receiver}
 use Rattle.machine_model.specs.Messaging.ReturnCalls.{held_at, holder_of, holds}
 use Rattle.machine_model.specs.Messaging.SendCalls.{arrived, message_run}
-use Rattle.machine_model.specs.Runs.Matched.{IsHoldable, IsQueueable, Matched}
+use Rattle.machine_model.specs.Runs.Matched.{IsHoldable, IsQueueable, Matched, is_living}
 use Rattle.machine_model.specs.State.Changes.{Change, Served, call_settled, first_refusal, settled}
 use Rattle.machine_model.specs.State.Machine.{Machine, Server, Thread, Receiving}
 use Rattle.machine_model.specs.State.Order.{is_ready, ready_at}
@@ -52,6 +45,7 @@ use Rattle.machine_laws.proofs.Calling.ThreadCallStepLemmas.{StepKeeps, step_of_
 use Rattle.machine_laws.proofs.Messaging.AnsweredThreadLemmas.{answered}
 use Rattle.machine_laws.proofs.Forwarding.ForwardedListLemmas.{others_of}
 use Rattle.machine_laws.proofs.Forwarding.ForwardedMessageLemmas.{IsPassed, forwarded, forwarded_matched, lend_carries}
+use Rattle.machine_laws.proofs.Messaging.MessageRunLemmas.{run_free, run_lies}
 use Rattle.machine_laws.proofs.Messaging.OneServerLemmas.{now_elsewhere}
 use Rattle.machine_laws.proofs.Sending.SentReceiverLemmas.{none_receives, receiver_receives}
 use Rattle.machine_laws.proofs.Threading.ThreadAnswerLemmas.{IsReadyThread, answered_matched, ready_thread}
@@ -199,29 +193,11 @@ module _ (m : Machine) (h : Matched m) (ready : ready_at m m.cursor ≡ true) (n
   is_to_answer : is_answered is.x.kind ≡ true
   is_to_answer = (lend_carries is.x.kind passes.0).1
 
-  -- ---- the new places
-
   abbrev place : Place
   place = record { pid = is.b.pid; vpn = first }
 
-  least : IsLeastRun m.processes m.ledger is.b.pid MessageWindow is.x.count first
-  least = least_run-Some m.processes m.ledger is.b.pid MessageWindow is.x.count first is.run
-
-  place_free : (p : Place) → in_run place is.x.count p ≡ true → is_free m.processes m.ledger p ≡ true
-  place_free p inside =
-      let at = in_run-index place is.x.count p inside in
-      ap (is_free m.processes m.ledger) at.1 ∙ is_free_run-each m.processes m.ledger place is.x.count least.free (p.vpn.0 - first.0) at.0
-
-  place_lies : (p : Place) → in_run place is.x.count p ≡ true → is_place_in m.processes MessageWindow p ≡ true
-  place_lies p inside =
-      let at : IsInRun place is.x.count p = in_run-true place is.x.count p inside in
-      let low : 262144 ≤ first.0 = least.low in
-      let high : first.0 + is.x.count ≤ 266240 = least.high in
-      let from : first.0 ≤ p.vpn.0 = at.from in
-      let to : p.vpn.0 < first.0 + is.x.count = at.to in
-      and_from (is_pid m.processes p.pid.0) (in_window MessageWindow p.vpn.0)
-      (ap (is_pid m.processes) at.pid ∙ h.body.processes.pids is.b.pid (h.body.servers.living is.to.0 is.b is.to_live))
-      (and_from (nat_le 262144 p.vpn.0) (nat_le p.vpn.0 266239) (le-leb 262144 p.vpn.0 (omega (arith, low, from))) (le-leb p.vpn.0 266239 (omega (arith, high, to))))
+  lives : is_living m is.b.pid ≡ true
+  lives = h.body.servers.living is.to.0 is.b is.to_live
 
   -- ---- queued, or received
 
@@ -295,8 +271,8 @@ module _ (m : Machine) (h : Matched m) (ready : ready_at m m.cursor ≡ true) (n
     sent = sender.1;
     to = is.to_live;
     apart = is.apart;
-    free = place_free;
-    lies = place_lies;
+    free = run_free m h is.b.pid lives is.x.count first is.run;
+    lies = run_lies m h is.b.pid lives is.x.count first is.run;
     more = more o;
     queueable = queueable o;
     holdable = holdable o;

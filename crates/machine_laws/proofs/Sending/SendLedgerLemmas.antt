@@ -1,8 +1,8 @@
 -- What the tests of a send leave true: where the message goes, and that its pages may be lent or moved there. So the ledger after it is
 -- one that a send may leave, whatever the kind.
-use Rattle.std.proofs.Common.{le_trans, ◌≡◌, ◌≢◌, ℕ, ◌+◌, ◌/◌, ◌<◌, ◌≤◌, true, false, List, Some, refl, sym, ap, ◌∙◌, arith}
-use Rattle.std.specs.Prelude.{◌-◌, ◌%◌, ◌==◌, ◌||◌, nat_le, not}
-use Rattle.std.proofs.lemmas.Bool.{and_from, eqb-false, eqb-true, le-leb, or_parts}
+use Rattle.std.proofs.Common.{◌≡◌, ◌≢◌, ℕ, ◌/◌, ◌≤◌, true, false, List, Some, refl, sym, ap, ◌∙◌, arith}
+use Rattle.std.specs.Prelude.{◌%◌, ◌==◌, ◌||◌, not}
+use Rattle.std.proofs.lemmas.Bool.{eqb-false, eqb-true, or_parts}
 use Rattle.xk_base.specs.declared.ids.Pid.{Pid}
 use Rattle.xk_base.specs.declared.ids.Place.{Place}
 use Rattle.xk_base.specs.declared.ids.Serial.{Serial}
@@ -14,16 +14,10 @@ use Rattle.xk_base.specs.declared.pages.LoanKind.{LoanKind}
 use Rattle.xk_base.specs.declared.pages.LoanKind.TheVariants.{Shared, Exclusive}
 use Rattle.xk_base.specs.declared.windows.Window.TheVariants.{Message as MessageWindow}
 use Rattle.xk_base.specs.CallWords.{send_address, send_cid, send_length}
-use Rattle.xk_base.specs.Circle.{is_pid}
 use Rattle.xk_base.specs.Connections.{connected_to}
-use Rattle.xk_base.specs.Windows.{in_window}
 use Rattle.ledger_model.specs.Conditions.{CanGive, CanLend}
-use Rattle.ledger_model.specs.LeastRun.{IsLeastRun, least_run}
-use Rattle.ledger_model.specs.Places.{in_run, is_place_in}
-use Rattle.ledger_model.specs.Reach.{is_free}
+use Rattle.ledger_model.specs.LeastRun.{least_run}
 use Rattle.ledger_model.specs.RunTests.{any_free, any_not_sent, is_exclusive}
-use Rattle.ledger_model.proofs.LeastRunLemmas.{is_free_run-each, least_run-Some}
-use Rattle.ledger_model.proofs.PlaceLemmas.{in_run-index, in_run-true}
 use Rattle.ledger_model.proofs.RunTestLemmas.{sent_may_lend, sent_may_move}
 use Rattle.machine_model.specs.Calling.MemoryCalls.{caller_place, is_aligned, is_bad_range}
 use Rattle.xk_base.specs.Kinds.{is_answered}
@@ -34,6 +28,7 @@ use Rattle.machine_model.specs.State.Connections.{own_connections}
 use Rattle.machine_model.specs.State.Machine.{Machine, Server}
 use Rattle.machine_model.specs.State.Servers.{slots_used}
 use Rattle.machine_model.proofs.Matching.MatchedLemmas.{number_is_fresh}
+use Rattle.machine_laws.proofs.Messaging.MessageRunLemmas.{run_free, run_lies}
 use Rattle.machine_laws.proofs.Calling.RunRefusalLemmas.{not_false}
 use Rattle.machine_laws.proofs.Sending.SentLedgerLemmas.{IsSentLedger, given_sent, lent_sent, same_sent}
 
@@ -74,26 +69,6 @@ module _ (m : Machine) (h : Matched m) (w : List ℕ) (first : Vpn) (pid : Pid) 
   to = record { pid = pid; vpn = first }
 
   module _ (kind : MsgKind) (s : ArePagesSent m w kind first pid) where
-    run : IsLeastRun m.processes m.ledger pid MessageWindow n first
-    run = least_run-Some m.processes m.ledger pid MessageWindow n first s.free
-
-    free_there : (p : Place) → in_run to n p ≡ true → is_free m.processes m.ledger p ≡ true
-    free_there p inside =
-        let at = in_run-index to n p inside in
-        ap (is_free m.processes m.ledger) at.1 ∙ is_free_run-each m.processes m.ledger to n run.free (p.vpn.0 - first.0) at.0
-
-    lies_there : (p : Place) → in_run to n p ≡ true → is_place_in m.processes MessageWindow p ≡ true
-    lies_there p inside =
-        let at = in_run-true to n p inside in
-        let low : 262144 ≤ first.0 = run.low in
-        let high : first.0 + n ≤ 266240 = run.high in
-        let after : first.0 ≤ p.vpn.0 = at.from in
-        let before : p.vpn.0 < first.0 + n = at.to in
-        let last : p.vpn.0 ≤ 266239 = omega (arith, high, before) in
-        and_from (is_pid m.processes p.pid.0) (in_window MessageWindow p.vpn.0)
-        (ap (is_pid m.processes) at.pid ∙ h.body.processes.pids pid lives)
-        (and_from (nat_le 262144 p.vpn.0) (nat_le p.vpn.0 266239) (le-leb 262144 p.vpn.0 (le_trans low after)) (le-leb p.vpn.0 266239 last))
-
     some : 1 ≤ n
     some = some_pages (send_address w) (send_length w) s.range
 
@@ -101,16 +76,16 @@ module _ (m : Machine) (h : Matched m) (w : List ℕ) (first : Vpn) (pid : Pid) 
     can_lend loan mutably = record {
       pages = sent_may_lend m.processes m.ledger from n loan s.there
           (ap (any_not_sent m.processes m.ledger from n) (sym mutably) ∙ s.sendable);
-      free = free_there;
-      lies = lies_there;
+      free = run_free m h pid lives n first s.free;
+      lies = run_lies m h pid lives n first s.free;
       fresh = number_is_fresh m h (new_number m) (omega arith);
     }
 
     can_give : CanGive m.processes m.ledger from n to
     can_give = record {
       pages = sent_may_move m.processes m.ledger from n (is_lend_mut kind) s.there s.sendable;
-      free = free_there;
-      lies = lies_there;
+      free = run_free m h pid lives n first s.free;
+      lies = run_lies m h pid lives n first s.free;
     }
 
   -- the ledger after the send
