@@ -3,6 +3,9 @@ pub mod AnyServerLemmas
 pub mod ClosedServerLemmas
 pub mod FilterLemmas
 pub mod ListedLemmas
+pub mod MessageRunLemmas
+pub mod OneServerLemmas
+pub mod PutThreadLemmas
 pub mod RemovalLemmas
 pub mod SenderlessLemmas
 pub mod WaitedForLemmas

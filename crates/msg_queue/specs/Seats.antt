@@ -4,7 +4,8 @@ use Rattle.std.specs.List.{insert, remove, find, position_or_len, list_any}
 use Rattle.xk_base.specs.declared.ids.Number.{Number}
 use Rattle.xk_base.specs.declared.ids.Pid.{Pid}
 use Rattle.xk_base.specs.declared.ids.ThreadId.{ThreadId}
-use Rattle.xk_base.specs.Kinds.{kind_number, is_waiting_kind}
+use Rattle.xk_base.specs.Circle.{is_thread_of}
+use Rattle.xk_base.specs.Kinds.{is_answered}
 use Rattle.xk_base.specs.declared.messages.Message.{Message}
 use Rattle.ledger_model.specs.Loans.{same_number}
 use Rattle.msg_queue.specs.declared.held.Held.{Held}
@@ -75,14 +76,9 @@ without_held number seat = without_held_at (place_of number seat.held) seat
 
 -- ---- the first message of a process
 
--- the sender is a thread of the process
-abbrev pub is_sender_in : Pid → Option ThreadId → Bool
-is_sender_in pid None = false
-is_sender_in pid (Some sender) = sender.pid.0 == pid.0
-
 -- a thread of the process waits for the answer to the message: it sent a lend or a blocking scalar
 unfoldable pub is_awaited_in : Pid → Held → Bool
-is_awaited_in pid h = is_waiting_kind (kind_number h.msg.kind) && is_sender_in pid h.msg.sender
+is_awaited_in pid h = is_answered h.msg.kind && is_thread_of pid h.msg.sender
 
 -- the number is that of such a message, and no such message has a lower one
 pub record IsLeast (pid : Pid) (messages : List Held) (number : Number) : Type 0 where

@@ -108,6 +108,7 @@ module _ (may : Access → ℕ → Bool) (console : ℕ → Bool) (timer : Optio
   performs_atomic None middle pc word atomic answer m s k i e h =
       inl (
         atomic,
+        m,
         performs (λ mem. atomic_effect mem old pc before atomic) (reserves old before atomic) None answer e
             (through may console timer after old new (λ mem. atomic_effect mem old pc before atomic) None middle answer k h),
       )

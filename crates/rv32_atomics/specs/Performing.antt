@@ -1,7 +1,7 @@
 -- What running any instruction at the pc comes to: what the tables of instructions give for the registers, the pc, the thread's
 -- reservation and the memory that the process sees.
-use Rattle.std.specs.Prelude.{◌≡◌, ℕ, not, List, ◌⊎◌, if◌then◌else◌, Option, Some, None}
-use Rattle.xk_base.specs.declared.pages.Access.TheVariants.{Store}
+use Rattle.std.specs.Prelude.{◌≡◌, ℕ, true, not, List, ◌⊎◌, if◌then◌else◌, Option, Some, None}
+use Rattle.xk_base.specs.declared.pages.Access.TheVariants.{Fetch, Store}
 use Rattle.xk_base.specs.declared.pages.Width.TheVariants.{Word}
 use Rattle.xk_base.specs.UserMemory.{Memory, Content}
 use Rattle.machine_model.specs.Hart.Atomics.{Atomic, Performed, atomic_effect, execute_at, leaving, reserves}
@@ -61,12 +61,12 @@ PerformsBase before after old new pc answer word =
     DoesPerform (λ mem. leaving old.reserved (execute_fetched old.regs pc word mem)) before after old new answer
 
 -- The instruction at the pc is performed, over what the process reaches and what it is told to stand there. Where it is told
--- nothing, it is some atomic instruction, or that of some word.
+-- nothing, it is some atomic instruction, where the process may fetch at the pc, or that of some word.
 abbrev pub PerformsOver : Content → View → View → Core → Core → ℕ → Ran → Type 0
 PerformsOver (Some byte) before after old new pc answer =
     DoesPerform (execute_at old.regs pc old.reserved) before after old new answer
 PerformsOver None before after old new pc answer =
-    ((atomic : Atomic) × PerformsAtomic before after old new pc answer atomic)
+    ((atomic : Atomic) × (before.may Fetch pc ≡ true) × PerformsAtomic before after old new pc answer atomic)
     ⊎ ((word : ℕ) × PerformsBase before after old new pc answer word)
 
 abbrev pub Performs : View → View → Core → Core → ℕ → Ran → Type 0

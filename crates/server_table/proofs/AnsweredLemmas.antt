@@ -17,8 +17,8 @@ use Rattle.xk_base.specs.RowMap.{row_map}
 use Rattle.xk_base.proofs.CountingLemmas.{least_below-none, least_below-same, least_below-passes, count_below-bound}
 use Rattle.server_table.specs.declared.table.ServerSeat.{ServerSeat}
 use Rattle.server_table.specs.Seats.{seat_has_sid, by_serial, AreApart, AreCounted, lower}
-use Rattle.xk_base.specs.Sids.{same_sid}
-use Rattle.server_table.specs.ServerState.{ServerState, serial_of, has_sid, has_seat, is_of, with_sid, least_of, seat_view, at_seat, free_seat, live_count, made_answer}
+use Rattle.xk_base.specs.Sids.{same_sid, is_sid, serial_of}
+use Rattle.server_table.specs.ServerState.{ServerState, Server, has_seat, is_of, with_sid, least_of, seat_view, at_seat, free_seat, live_count, made_answer}
 use Rattle.server_table.proofs.SerialLemmas.{within, position_is_least, least_is, least_none, by_serial_is}
 
 -- the servers of a list of seats
@@ -30,6 +30,9 @@ one_seat : (xs : List (Option ServerSeat)) (i j : ℕ) (a b : ServerSeat) → ro
 one_seat xs i j a b g h e = same_Some a b (sym g ∙ ap (row_map xs) e ∙ h)
 
 -- ---- identifiers
+
+abbrev has_sid : Sid → Option Server → Bool
+has_sid sid server = is_sid sid (option_map (λ s. s.sid) server)
 
 pub same_sid-sym : (a b : Sid) → same_sid a b ≡ true → same_sid b a ≡ true
 same_sid-sym a b h = (bytes_eq-Decides b.0 a.0).1 (sym ((bytes_eq-Decides a.0 b.0).0 h))

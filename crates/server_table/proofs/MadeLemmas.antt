@@ -5,9 +5,10 @@ use Rattle.xk_base.specs.declared.ids.Sid.{Sid}
 use Rattle.xk_base.specs.declared.limits.TheConstants.{SERVER_LIMIT}
 use Rattle.xk_base.specs.Counting.{least_below, put_at}
 use Rattle.xk_base.specs.RowMap.{row_map}
+use Rattle.xk_base.specs.Sids.{serial_of}
 use Rattle.server_table.specs.declared.table.ServerSeat.{ServerSeat}
 use Rattle.server_table.specs.Seats.{server_of, by_serial, seat_with, AreApart, AreCounted}
-use Rattle.server_table.specs.ServerState.{with_sid, with_server, without_server, free_seat, serial_of}
+use Rattle.server_table.specs.ServerState.{with_sid, with_server, without_server, free_seat}
 use Rattle.server_table.proofs.AnsweredLemmas.{state, fresh_sid, fresh_sid', free_seat_is, empty_is}
 use Rattle.server_table.proofs.ChangeLemmas.{apart_made, by_serial_made, counted_made, apart_removed, by_serial_removed, counted_removed, nothing_removed}
 use Rattle.server_table.proofs.SerialLemmas.{seat_with_found, by_serial_none}

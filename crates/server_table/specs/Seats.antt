@@ -8,7 +8,7 @@ use Rattle.xk_base.specs.declared.limits.TheConstants.{SERVER_LIMIT}
 use Rattle.xk_base.specs.Counting.{count_below}
 use Rattle.xk_base.specs.RowMap.{row_map}
 use Rattle.server_table.specs.declared.table.ServerSeat.{ServerSeat}
-use Rattle.xk_base.specs.Sids.{same_sid}
+use Rattle.xk_base.specs.Sids.{same_sid, is_sid}
 use Rattle.server_table.specs.ServerState.{Server}
 
 -- there is a server, and it has that serial
@@ -18,8 +18,7 @@ has_serial n (Some e) = e.serial.0 == n
 
 -- there is a server, and it has that identifier
 abbrev pub seat_has_sid : Sid → Option ServerSeat → Bool
-seat_has_sid sid None = false
-seat_has_sid sid (Some e) = same_sid e.sid sid
+seat_has_sid sid e = is_sid sid (option_map (λ server. server.sid) e)
 
 -- the server at a seat, as its serial finds it
 abbrev pub server_of : ℕ → ServerSeat → Server

@@ -8,7 +8,7 @@ use Rattle.xk_base.specs.declared.ids.Pid.{Pid}
 use Rattle.xk_base.specs.declared.ids.Serial.{Serial}
 use Rattle.xk_base.specs.declared.ids.Sid.{Sid}
 use Rattle.xk_base.specs.declared.limits.TheConstants.{SERVER_LIMIT}
-use Rattle.xk_base.specs.Sids.{same_sid}
+use Rattle.xk_base.specs.Sids.{serial_of, serial_with}
 use Rattle.xk_base.specs.Counting.{count_below, least_below, listed_below, put_at}
 use Rattle.server_table.specs.declared.table.ServerSeat.{ServerSeat}
 
@@ -27,15 +27,6 @@ pub record ServerState : Type 0 where
 abbrev pub no_servers : ServerState
 no_servers = record { next = 1; live = λ _. None }
 
--- a number as a serial
-abbrev pub serial_of : ℕ → Serial
-serial_of n = record { 0 = n }
-
--- there is a server, and it has that identifier
-abbrev pub has_sid : Sid → Option Server → Bool
-has_sid sid None = false
-has_sid sid (Some s) = same_sid s.sid sid
-
 -- there is a server, and it is one of the process
 abbrev pub is_of : Pid → Option Server → Bool
 is_of pid None = false
@@ -52,7 +43,7 @@ least_serial test s = least_below s.next (λ n. test (s.live n))
 
 -- the living server with that identifier
 abbrev pub with_sid : Sid → ServerState → Option Serial
-with_sid sid s = option_map serial_of (least_serial (has_sid sid) s)
+with_sid sid s = serial_with sid s.next (λ n. option_map (λ server. server.sid) (s.live n))
 
 -- the living server of the process with the least serial
 abbrev pub least_of : Pid → ServerState → Option Serial

@@ -1,3 +1,4 @@
 pub mod CountLemmas
 pub mod ListingLemmas
 pub mod PlaceLemmas
+mod LendingLemmas

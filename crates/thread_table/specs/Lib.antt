@@ -1,3 +1,4 @@
 pub mod States
 pub mod ThreadMap
 pub mod ThreadsOf
+pub mod Lending

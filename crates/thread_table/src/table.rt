@@ -1,13 +1,13 @@
 //! The table of threads.
 
-ghost use Rattle.std.specs.Prelude.{◌≡◌, ◌<◌, ◌≤◌, IfOk, IsSome, vec_len};
+ghost use Rattle.std.specs.Prelude.{◌≡◌, ◌<◌, ◌≤◌, IfOk, IsSome, Some, vec_len};
 ghost use Rattle.std.specs.Option.{option_copied};
 ghost use Rattle.xk_base.specs.Circle.{IsPid, IsTid, is_thread_id, same_thread, thread_ids, place_of, id_at, ids_until};
 ghost use Rattle.xk_base.specs.Counting.{put_at};
 ghost use Rattle.xk_base.specs.declared.limits.TheConstants.{PROCESS_LIMIT};
 ghost use Rattle.thread_table.specs.ThreadMap.{no_threads, without_process, free_tid, live_threads, receiver, next_ready, is_ready};
 
-use crate::thread::Thread;
+use crate::thread::{Thread, thread_in};
 use std::alloc::Global;
 use xk_base::limits::{PROCESS_LIMIT, TID_LIMIT};
 use xk_base::{NoMemory, Pid, Serial, ThreadId, Tid};
@@ -53,8 +53,12 @@ fn ids_until(id: ThreadId) -> usize
     (id.pid.0 as usize - 2) * TIDS + id.tid.0.min(TID_LIMIT) as usize
 }
 
-#[tactic(auto, using(crate::proofs::PlaceLemmas::thread_map_laws), unfolding(crate::specs::ThreadsOf::process_count, crate::specs::ThreadsOf::threads_of))]
+#[tactic(auto, using(crate::proofs::PlaceLemmas::thread_map_laws), unfolding(crate::specs::ThreadsOf::process_count, crate::specs::ThreadsOf::threads_of, crate::specs::Lending::with_thread))]
 impl Threads {
+    ghost use Rattle.std.specs.Borrow.{sem};
+    ghost use Rattle.std.specs.Option.{option_copied_mut};
+    ghost use Rattle.thread_table.specs.declared.thread.Thread.{Thread};
+    ghost use Rattle.thread_table.specs.Lending.{LendsThread, LendsThreadIf, with_thread};
     ghost use Rattle.thread_table.specs.ThreadsOf.{process_count, threads_of};
 
     /// A table without threads for `procs` processes. It takes all memory that their threads will ever
@@ -90,6 +94,33 @@ impl Threads {
         } else {
             None
         }
+    }
+
+    /// The thread, to be changed; `None` exactly where there is no such one. What is written into it is
+    /// what the table then holds, and all other threads stay.
+    pub fn get_mut(&mut self, id: ThreadId) -> Option<&mut Thread>
+        ensures* lends { sem 𝓛 (LendsThreadIf self.entry id result) }
+        ensures value { option_copied_mut result ≡ threads_of self.old id }
+        ensures writes { (thread : Thread) → IsSome (threads_of self.old id) → threads_of (with_thread self.old id thread) ≡ put_at same_thread (threads_of self.old) id (Some thread) }
+        ensures count { (thread : Thread) → process_count (with_thread self.old id thread) ≡ process_count self.old }
+    {
+        if self.get(id).is_some() {
+            Some(self.thread_mut(id))
+        } else {
+            None
+        }
+    }
+
+    /// The thread, which there is, to be changed. What is written into it is what the table then holds,
+    /// and all other threads stay.
+    pub fn thread_mut(&mut self, id: ThreadId) -> &mut Thread
+        requires { IsSome (threads_of self.old id) }
+        ensures* lends { sem 𝓛 (LendsThread self.entry id result) }
+        ensures value { threads_of self.old id ≡ Some result.now }
+        ensures writes { (thread : Thread) → threads_of (with_thread self.old id thread) ≡ put_at same_thread (threads_of self.old) id (Some thread) }
+        ensures count { (thread : Thread) → process_count (with_thread self.old id thread) ≡ process_count self.old }
+    {
+        thread_in(&mut self.by_place[place_of(id)])
     }
 
     /// Puts a new thread there.

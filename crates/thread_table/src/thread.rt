@@ -1,6 +1,9 @@
 //! One thread.
 
-ghost use Rattle.std.specs.Prelude.{◌≡◌};
+ghost use Rattle.std.specs.Borrow.{Lends, sem};
+ghost use Rattle.std.specs.Prelude.{◌≡◌, IsSome, Some};
+ghost use Rattle.std.specs.contracts.option.Option.{the_row as option_row};
+ghost use Rattle.thread_table.specs.contracts.thread.Thread.{the_row as thread_row};
 ghost use Rattle.thread_table.specs.States.{is_ready_state, is_receiving_state};
 
 use xk_base::{Number, Regs, Serial, Tid};
@@ -42,5 +45,17 @@ impl ThreadState {
         ensures { result ≡ is_receiving_state serial self }
     {
         matches!(self, ThreadState::Receiving(at) if at == serial)
+    }
+}
+
+/// The thread of a place that has one, to be changed.
+pub(crate) fn thread_in(place: &mut Option<Thread>) -> &mut Thread
+    requires { IsSome place.old }
+    ensures* lends { sem 𝓛 (Lends (option_row thread_row) thread_row place.entry result Some) }
+    ensures value { place.old ≡ Some result.now }
+{
+    match place {
+        Some(thread) => thread,
+        None => unreachable!(),
     }
 }

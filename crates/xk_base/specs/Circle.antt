@@ -1,8 +1,9 @@
 -- The ids of threads of n processes: the pids are 2 to n + 1, and each process has the tids 1 to `TID_LIMIT`.
 -- Their ascending order is (2, 1), (2, 2), .., (2, TID_LIMIT), (3, 1) and so on. Bent into a circle, the first
 -- follows the last.
-use Rattle.std.specs.Prelude.{ℕ, ◌+◌, ◌-◌, ◌*◌, ◌/◌, ◌%◌, ◌<◌, ◌≤◌, ◌==◌, min, Bool, ◌&&◌, nat_le, nat_lt, Option, List, map}
-use Rattle.std.specs.Option.{option_map}
+use Rattle.std.specs.Prelude.{ℕ, ◌+◌, ◌-◌, ◌*◌, ◌/◌, ◌%◌, ◌<◌, ◌≤◌, ◌==◌, min, Bool, false, ◌&&◌, nat_le, nat_lt, Option, List, map}
+use Rattle.std.specs.Option.{option_map, option_map_or}
+use Rattle.xk_base.specs.declared.ids.Pid.{Pid}
 use Rattle.xk_base.specs.declared.ids.ThreadId.{ThreadId}
 use Rattle.xk_base.specs.declared.limits.TheConstants.{TID_LIMIT}
 use Rattle.xk_base.specs.Counting.{least_below, listed_below}
@@ -30,6 +31,10 @@ is_thread_id n id = is_pid n id.pid.0 && is_tid id.tid.0
 -- two ids are the same
 abbrev pub same_thread : ThreadId → ThreadId → Bool
 same_thread a b = (a.pid.0 == b.pid.0) && (a.tid.0 == b.tid.0)
+
+-- there is a thread, and it is one of the process
+abbrev pub is_thread_of : Pid → Option ThreadId → Bool
+is_thread_of pid thread = option_map_or (λ who. who.pid.0 == pid.0) thread false
 
 -- how many ids of threads n processes have
 abbrev pub thread_ids : ℕ → ℕ

@@ -1,5 +1,6 @@
 -- The numbers of the kinds of messages, in a send and in a delivered message.
-use Rattle.std.specs.Prelude.{ℕ, Bool, ◌==◌, ◌||◌, Option, Some, None, if◌then◌else◌}
+use Rattle.std.specs.Prelude.{ℕ, Bool, true, false, ◌==◌, Option, Some, None, if◌then◌else◌}
+use Rattle.std.specs.Option.{option_map_or}
 use Rattle.xk_base.specs.declared.messages.MsgKind.{MsgKind}
 use Rattle.xk_base.specs.declared.messages.MsgKind.TheVariants.{LendMut, Lend, Move, Scalar, BlockingScalar}
 
@@ -19,6 +20,14 @@ kind_at n =
     if n == kind_number Scalar then Some Scalar else (
     if n == kind_number BlockingScalar then Some BlockingScalar else None))))
 
--- a send of this kind makes its sender wait for an answer
+-- a send of this kind holds its sender until it is answered
+abbrev pub is_answered : MsgKind → Bool
+is_answered LendMut = true
+is_answered Lend = true
+is_answered Move = false
+is_answered Scalar = false
+is_answered BlockingScalar = true
+
+-- the number is that of such a kind
 abbrev pub is_waiting_kind : ℕ → Bool
-is_waiting_kind n = n == kind_number LendMut || n == kind_number Lend || n == kind_number BlockingScalar
+is_waiting_kind n = option_map_or is_answered (kind_at n) false

@@ -14,7 +14,8 @@ use Rattle.machine_model.specs.Ending.Closing.{destroyed}
 use Rattle.machine_model.specs.State.Connections.{own_connections, connect_caller}
 use Rattle.xk_base.specs.Connections.{has_room, cid_for}
 use Rattle.machine_model.specs.State.Machine.{Machine, Server}
-use Rattle.machine_model.specs.State.Servers.{serial_of, with_sid, is_own, live_servers}
+use Rattle.xk_base.specs.Sids.{serial_of}
+use Rattle.machine_model.specs.State.Servers.{with_sid, is_own, live_servers}
 use Rattle.machine_model.specs.State.Threads.{answer_to, both_answers}
 
 -- the identifier that the call names

@@ -21,7 +21,8 @@ use Rattle.machine_model.specs.Messaging.Messages.{is_lend_of, without_held}
 use Rattle.machine_model.specs.Messaging.Receivers.{receiver}
 use Rattle.machine_model.specs.Messaging.ReturnCalls.{holder_of, held_by_caller}
 use Rattle.machine_model.specs.Messaging.SendCalls.{message_run, arrived}
-use Rattle.machine_model.specs.State.Servers.{serial_of, server_at, is_full, change_server}
+use Rattle.xk_base.specs.Sids.{serial_of}
+use Rattle.machine_model.specs.State.Servers.{server_at, is_full, change_server}
 use Rattle.machine_model.specs.State.Threads.{answer_to, both_answers}
 
 -- ---- what the words name

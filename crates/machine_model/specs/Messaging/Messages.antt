@@ -1,5 +1,5 @@
 -- Messages: what the kinds mean, what a send makes, and what a message does at its server.
-use Rattle.std.specs.Prelude.{ℕ, ◌*◌, ◌/◌, ◌==◌, Bool, true, false, not, ◌&&◌, is_some, List, [], ◌∷◌, ◌++◌, drop, filter, if◌then◌else◌, Option, Some, None}
+use Rattle.std.specs.Prelude.{ℕ, ◌*◌, ◌/◌, Bool, true, false, not, ◌&&◌, is_some, List, [], ◌∷◌, ◌++◌, drop, filter, if◌then◌else◌, Option, Some, None}
 use Rattle.std.specs.Option.{option_map_or}
 use Rattle.xk_base.specs.declared.ids.Number.{Number}
 use Rattle.xk_base.specs.declared.ids.Pid.{Pid}
@@ -12,7 +12,8 @@ use Rattle.xk_base.specs.declared.messages.MsgKind.TheVariants.{LendMut, Lend, M
 use Rattle.xk_base.specs.declared.pages.LoanKind.{LoanKind}
 use Rattle.xk_base.specs.declared.pages.LoanKind.TheVariants.{Shared, Exclusive}
 use Rattle.xk_base.specs.CallWords.{send_id, send_words, send_length, send_offset, send_valid}
-use Rattle.xk_base.specs.Circle.{same_thread}
+use Rattle.xk_base.specs.Circle.{same_thread, is_thread_of}
+use Rattle.xk_base.specs.Kinds.{is_answered}
 use Rattle.ledger_model.specs.Loans.{same_number}
 use Rattle.machine_model.specs.State.Machine.{Machine, Server}
 
@@ -37,14 +38,6 @@ loan_kind BlockingScalar = None
 -- its pages are on loan until it is returned
 abbrev pub is_lend : MsgKind → Bool
 is_lend kind = is_some (loan_kind kind)
-
--- it holds its sender until it is answered
-abbrev pub is_answered : MsgKind → Bool
-is_answered LendMut = true
-is_answered Lend = true
-is_answered Move = false
-is_answered Scalar = false
-is_answered BlockingScalar = true
 
 -- ---- tests
 
@@ -72,7 +65,7 @@ is_sent_by who message = option_map_or (same_thread who) message.sender false
 
 -- .. a thread of the process does
 abbrev pub is_sent_from : Pid → Message → Bool
-is_sent_from pid message = option_map_or (λ who. who.pid.0 == pid.0) message.sender false
+is_sent_from pid message = is_thread_of pid message.sender
 
 -- ---- what a send makes
 

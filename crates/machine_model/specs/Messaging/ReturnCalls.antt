@@ -17,7 +17,8 @@ use Rattle.ledger_model.specs.Steps.{end_loan}
 use Rattle.machine_model.specs.State.Changes.{Change, Served, Call, answering, unless_refused}
 use Rattle.machine_model.specs.State.Machine.{Machine, Server}
 use Rattle.machine_model.specs.Messaging.Messages.{is_lend_of, is_blocking_of, without_held}
-use Rattle.machine_model.specs.State.Servers.{serial_of, is_server_of, change_server}
+use Rattle.xk_base.specs.Sids.{serial_of}
+use Rattle.machine_model.specs.State.Servers.{is_server_of, change_server}
 use Rattle.machine_model.specs.State.Threads.{Answers, no_answers, answer_to, both_answers}
 
 -- ---- the message that is answered

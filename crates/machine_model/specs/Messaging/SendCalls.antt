@@ -16,7 +16,7 @@ use Rattle.xk_base.specs.declared.messages.MsgKind.TheVariants.{LendMut, Lend, M
 use Rattle.xk_base.specs.declared.pages.LoanKind.TheVariants.{Shared, Exclusive}
 use Rattle.xk_base.specs.declared.windows.Window.TheVariants.{Message as MessageWindow}
 use Rattle.xk_base.specs.CallWords.{send_cid, send_kind, send_address, send_length}
-use Rattle.xk_base.specs.Kinds.{kind_at}
+use Rattle.xk_base.specs.Kinds.{kind_at, is_answered}
 use Rattle.xk_base.specs.Replies.{plain_words, message_words}
 use Rattle.ledger_model.specs.Ledger.{Ledger}
 use Rattle.ledger_model.specs.LeastRun.{least_run}
@@ -25,11 +25,12 @@ use Rattle.ledger_model.specs.Steps.{lend, give}
 use Rattle.machine_model.specs.State.Changes.{Change, Outcome, Served, Call, only, answering, unless_refused, unless_retried}
 use Rattle.machine_model.specs.State.Connections.{own_connections}
 use Rattle.xk_base.specs.Connections.{connected_to}
+use Rattle.xk_base.specs.Sids.{serial_of}
 use Rattle.machine_model.specs.State.Machine.{Machine, Server, Waiting}
 use Rattle.machine_model.specs.Calling.MemoryCalls.{is_bad_range, caller_place}
-use Rattle.machine_model.specs.Messaging.Messages.{carries_pages, is_answered, new_number, new_message, with_queued, with_received}
+use Rattle.machine_model.specs.Messaging.Messages.{carries_pages, new_number, new_message, with_queued, with_received}
 use Rattle.machine_model.specs.Messaging.Receivers.{receiver}
-use Rattle.machine_model.specs.State.Servers.{serial_of, server_at, is_full, change_server}
+use Rattle.machine_model.specs.State.Servers.{server_at, is_full, change_server}
 use Rattle.machine_model.specs.State.Threads.{Answers, no_answers, answer_to, both_answers, change_thread, with_state}
 
 -- ---- what the words name

@@ -22,8 +22,9 @@ use Rattle.ledger_model.specs.Loans.{LoanRun, Loans, OrphanLoan, Stands, loans}
 use Rattle.machine_model.specs.State.Machine.{Machine, Process, Thread, ThreadState, Server, Claim, Ready, Receiving, Waiting, Joining, Idle}
 use Rattle.machine_model.specs.Calling.MemoryCalls.{heap_limit}
 use Rattle.machine_model.specs.Messaging.MessageCounts.{HasOne, HasIf, HasAtMostOne}
-use Rattle.machine_model.specs.Messaging.Messages.{carries_pages, is_answered, loan_kind, is_of_number, is_lend_of, is_sent_by}
+use Rattle.machine_model.specs.Messaging.Messages.{carries_pages, loan_kind, is_of_number, is_lend_of, is_sent_by}
 use Rattle.machine_model.specs.State.Servers.{messages_of, slots_used}
+use Rattle.xk_base.specs.Kinds.{is_answered}
 use Rattle.xk_base.specs.Sids.{same_sid}
 use Rattle.machine_model.specs.State.Threads.{thread_id}
 

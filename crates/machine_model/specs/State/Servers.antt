@@ -6,20 +6,13 @@ use Rattle.xk_base.specs.declared.ids.Serial.{Serial}
 use Rattle.xk_base.specs.declared.ids.Sid.{Sid}
 use Rattle.xk_base.specs.declared.messages.Message.{Message}
 use Rattle.xk_base.specs.declared.limits.TheConstants.{MESSAGE_LIMIT}
-use Rattle.xk_base.specs.Sids.{same_sid}
-use Rattle.xk_base.specs.Counting.{count_below, least_below, put_at}
+use Rattle.xk_base.specs.Sids.{serial_with}
+use Rattle.xk_base.specs.Counting.{count_below, put_at}
 use Rattle.machine_model.specs.State.Connections.{own_connections}
 use Rattle.xk_base.specs.Connections.{connected_to}
 use Rattle.machine_model.specs.State.Machine.{Machine, Server}
 
 -- ---- found
-
-abbrev pub serial_of : ℕ → Serial
-serial_of n = record { 0 = n }
-
-abbrev pub has_sid : Sid → Option Server → Bool
-has_sid sid None = false
-has_sid sid (Some server) = same_sid server.sid sid
 
 -- there is such a server, and it is one of that process
 abbrev pub is_server_of : Pid → Option Server → Bool
@@ -28,7 +21,7 @@ is_server_of pid (Some server) = server.pid.0 == pid.0
 
 -- the live server with that identifier
 unfoldable pub with_sid : Machine → Sid → Option Serial
-with_sid m sid = option_map serial_of (least_below m.next_serial (λ n. has_sid sid (m.servers n)))
+with_sid m sid = serial_with sid m.next_serial (λ n. option_map (λ server. server.sid) (m.servers n))
 
 -- the server is one of the caller's process
 abbrev pub is_own : Machine → Option Serial → Bool

@@ -4,6 +4,7 @@ use Rattle.std.specs.Prelude.{◌==◌, ◌&&◌, nat_lt, not, if◌then◌else�
 use Rattle.std.specs.Option.{option_and_then, option_map_or}
 use Rattle.std.proofs.lemmas.Bool.{false≢true, and_parts}
 use Rattle.std.proofs.lemmas.Bool.Decides.{nat_tests}
+use Rattle.std.proofs.lemmas.Option.{same_Some}
 use Rattle.machine_laws.specs.WithoutServers.{HasNoServers, is_plain_call}
 use Rattle.machine_laws.proofs.Threading.ThreadStepLemmas.{actor_ready}
 use Rattle.machine_laws.proofs.Stepping.PlainStepLemmas.{plain_step_keeps_matched}
@@ -99,6 +100,12 @@ module _ (m : Machine) (who : ThreadId) (t : Thread) where
   call_executed (StoresToTimer offset width value regs pc) e = cc
   call_executed CallsKernel e = (refl, refl, refl)
   call_executed (Traps cause value) e = cc
+
+-- a thread of a machine that stays makes its call with the words that it had
+pub words_stay : (m n : Machine) (who : ThreadId) (t u : Thread) → n ≡ m → m.threads who ≡ Some t → n.threads who ≡ Some u
+    → arguments_of u.regs ≡ arguments_of t.regs
+words_stay m n who t u e was is =
+    ap (λ (thread : Thread). arguments_of thread.regs) (same_Some u t (sym is ∙ ap (λ (machine : Machine). machine.threads who) e ∙ was))
 
 pub never_fails : (x : Executed) → ran_of x ≡ Failed → ⊥
 never_fails (Next regs pc) e = cc

@@ -1,7 +1,7 @@
 -- The threads of the table and those of the machine that it stands for.
-use Rattle.std.proofs.Common.{◌≡◌, Bor, Bool, true, false, List, ℕ, Option, Some, None, IsSome, is_some, refl, sym, ap, subst, ◌∙◌}
+use Rattle.std.proofs.Common.{◌≡◌, Bor, MutBor, Bool, true, false, List, ℕ, Option, Some, None, IsSome, is_some, refl, sym, ap, subst, ◌∙◌}
 use Rattle.std.specs.Prelude.{if◌then◌else◌, IsTrue}
-use Rattle.std.specs.Option.{option_map, option_copied}
+use Rattle.std.specs.Option.{option_map, option_copied, option_copied_mut}
 use Rattle.std.proofs.lemmas.Bool.{false≢true}
 use Rattle.xk_base.specs.Circle.{is_thread_id, same_thread}
 use Rattle.xk_base.specs.Counting.{put_at}
@@ -58,13 +58,19 @@ module _ {W : Type 0} (held : W → Held) (k : Kernel W) (id : ThreadId) where
       → (machine_of held k).threads id ≡ Some (thread_of t.now)
   thread_lent o t e is = thread_found t.now (sym e ∙ ap option_copied is)
 
-  pub is_lent : (o : Option (Bor TableThread)) (t : Bor TableThread) → option_copied o ≡ threads_of k.threads id → o ≡ Some t
-      → IsSome ((machine_of held k).threads id)
-  is_lent o t e is = ap is_some (thread_lent o t e is)
-
   -- .. or none
   pub not_lent : (o : Option (Bor TableThread)) → option_copied o ≡ threads_of k.threads id → o ≡ None → (machine_of held k).threads id ≡ None
   not_lent o e is = thread_missing (sym e ∙ ap option_copied is)
+
+  -- .. and the thread that it lends to be changed, or none
+  pub to_change : (o : Option (MutBor TableThread)) (t : MutBor TableThread) → option_copied_mut o ≡ threads_of k.threads id → o ≡ Some t
+      → IsSome (threads_of k.threads id) × ((machine_of held k).threads id ≡ Some (thread_of t.now))
+  to_change o t e is =
+      let there : threads_of k.threads id ≡ Some t.now = sym e ∙ ap option_copied_mut is in (ap is_some there, thread_found t.now there)
+
+  pub not_to_change : (o : Option (MutBor TableThread)) → option_copied_mut o ≡ threads_of k.threads id → o ≡ None
+      → (machine_of held k).threads id ≡ None
+  not_to_change o e is = thread_missing (sym e ∙ ap option_copied_mut is)
 
   pub there_is_one : (o : Option (Bor TableThread)) → option_copied o ≡ threads_of k.threads id → o ≡ None
       → IsSome ((machine_of held k).threads id) → ⊥
@@ -108,6 +114,14 @@ put_there m id t = go (same_thread id id) (same_thread-self id)
     go : (b : Bool) → b ≡ true → (if b then t else m.threads id) ≡ t
     go true e = refl
     go false e = absurd (false≢true e)
+
+-- the thread that is there in its own place changes nothing
+pub put_same : (m : Machine) (id : ThreadId) (t : Thread) → m.threads id ≡ Some t → put_thread id (Some t) m ≡ m
+put_same m id t e = λ i. record m { threads = λ q. at q (same_thread q id) refl i }
+  where
+    at : (q : ThreadId) (b : Bool) → same_thread q id ≡ b → (if b then Some t else m.threads q) ≡ m.threads q
+    at q true s = sym (ap m.threads (same_thread-true q id s) ∙ e)
+    at q false s = refl
 
 -- none in place of none changes nothing
 pub put_none : (m : Machine) (id : ThreadId) → m.threads id ≡ None → put_thread id None m ≡ m

@@ -1,5 +1,5 @@
 -- What running an instruction makes of the machine.
-use Rattle.std.proofs.Common.{◌≡◌, ℕ, ◌⊎◌, Bool, true, false, Option, Some, None, refl, sym, ap, subst, ◌∙◌, inl, inr}
+use Rattle.std.proofs.Common.{◌≡◌, ℕ, ◌⊎◌, Bool, true, false, List, Option, Some, None, refl, sym, ap, subst, ◌∙◌, inl, inr}
 use Rattle.std.proofs.lemmas.Bool.{cond-true}
 use Rattle.std.proofs.lemmas.Option.{same_Some}
 use Rattle.std.specs.Prelude.{unwrap_or, if◌then◌else◌}
@@ -15,11 +15,13 @@ use Rattle.machine_model.specs.State.Machine.{Machine, Thread}
 use Rattle.machine_model.specs.State.Threads.{put_thread, with_registers}
 use Rattle.machine_model.specs.State.Views.{memory_of, stored}
 use Rattle.rv32_atomics.specs.Performing.{Core, DoesPerform, IsPerformed, Performs}
-use Rattle.rv32_hart.specs.Running.{ran_of, registers_after, IfFailed, View, seen}
+use Rattle.rv32_hart.specs.Running.{ran_of, registers_after, IfFailed, LeavesRegisters, View, seen}
 use Rattle.rv32_hart.specs.declared.ran.Ran.{Ran}
 use Rattle.rv32_hart.specs.declared.ran.Ran.TheVariants.{Ecall, Trap, Device, Failed}
 use Rattle.rv32_hart.specs.declared.ran.Ran.TheVariants as ran
 use Rattle.sv32_space.specs.Tie.{Held}
+use Rattle.thread_table.specs.ThreadsOf.{process_count}
+use Rattle.thread_table.specs.declared.table.Threads.{Threads}
 use Rattle.vm_memory.specs.declared.memory.Memory.{Memory}
 use Rattle.vm_memory.specs.Bytes.{means_bytes}
 use Rattle.vm_memory.specs.Memory.{IsUsable}
@@ -182,6 +184,26 @@ module _ {W : Type 0} (held : W → Held) (k : Kernel W) (mem : Memory W) (who :
   machine_goes_on t next same e is =
       (λ i. put_thread who (Some (record t { regs = (h.registers ∙ ap (λ regs. registers_after regs x) (sym same)) i; pc = next })) (h.machine i))
       ∙ goes_on (machine_of held k) who t x next h.untimed e (subst (λ a. GoesOn a next) h.answered is)
+
+-- the table of threads with one of them changed keeps the kernel whole
+pub whole_lent : {W : Type 0} (slot_count : W → ℕ) (held : W → Held) (k : Kernel W) (threads : Threads) → process_count threads ≡ process_count k.threads
+    → IsWhole slot_count held k → IsWhole slot_count held (record k { threads = threads })
+whole_lent slot_count held k threads count whole = record {
+  mem = whole.mem;
+  threads = count ∙ whole.threads;
+  procs = whole.procs;
+  cursor = whole.cursor;
+  room = whole.room;
+  unlent = whole.unlent;
+  no_servers = whole.no_servers;
+  unclaimed = whole.unclaimed;
+}
+
+-- a thread that stays has its registers as before
+pub registers_stay : (answer : Ran) (old new : List ℕ) → Stays answer → LeavesRegisters old new answer → new ≡ old
+registers_stay answer old new (inl e) leaves = subst (λ a. LeavesRegisters old new a) e leaves
+registers_stay answer old new (inr (inl e)) leaves = subst (λ a. LeavesRegisters old new a) e.2 leaves
+registers_stay answer old new (inr (inr e)) leaves = subst (λ a. LeavesRegisters old new a) e leaves
 
 -- what holds of the thread that is there
 pub of_thread : (o : Option Thread) (t : Thread) → o ≡ Some t → (Holds : Thread → Type 0) → Holds t → (u : Thread) → o ≡ Some u → Holds u

@@ -44,7 +44,7 @@ impl<W: SwapStore> Kernel<W> {
         ensures log { self.new.log ≡ self.old.log }
         ensures keeps { Keeps W.is_honest W.held W.slot_count W.asked W.faults self.old self.new }
     {
-        let mut thread = self.thread(who);
+        let thread = self.threads.thread_mut(who);
         let mut user = User {
             mem: &mut self.mem,
             pid: who.pid,
@@ -52,10 +52,7 @@ impl<W: SwapStore> Kernel<W> {
         let ran = run_any(&mut thread.regs, thread.pc, reserved, &mut user);
         let User { mem: _, pid: _ } = user;
         match ran {
-            Ran::Next(next) | Ran::Device { next, .. } => {
-                thread.pc = next;
-                self.put(who, thread);
-            }
+            Ran::Next(next) | Ran::Device { next, .. } => thread.pc = next,
             Ran::Ecall | Ran::Trap { .. } | Ran::Failed => {}
         }
         ran

@@ -122,8 +122,9 @@ impl<W: SwapStore> Kernel<W> {
     {
         let thread = self.thread(who);
         if ends_thread(who, thread.pc) {
+            let a0 = thread.regs.get(A0);
             self.begin(who);
-            self.end_thread(thread.regs.get(A0));
+            self.end_thread(a0);
             return Ok(Acted::Done(None));
         }
         if ends_handler(who, thread.pc) {
@@ -145,7 +146,7 @@ impl<W: SwapStore> Kernel<W> {
                 Ok(Acted::Done(reserved))
             }
             Ran::Ecall => {
-                let words = thread.regs.arguments();
+                let words = self.thread(who).regs.arguments();
                 if !is_built(&words) {
                     return Ok(Acted::Unbuilt);
                 }

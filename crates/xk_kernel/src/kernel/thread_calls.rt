@@ -66,9 +66,7 @@ impl<W: SwapStore> Kernel<W> {
         if self.threads.get(id).is_none() {
             return Err(XousError::InvalidThread);
         }
-        let mut thread = self.thread(who);
-        thread.state = ThreadState::Joining(awaited);
-        self.put(who, thread);
+        self.threads.thread_mut(who).state = ThreadState::Joining(awaited);
         Ok(CallerFate::Waits)
     }
 }

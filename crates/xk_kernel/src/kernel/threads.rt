@@ -1,7 +1,7 @@
 //! One thread of the kernel is made, read, changed and answered; a step begins.
 
 ghost use Rattle.std.specs.Prelude.{◌≡◌, ◌+◌, ◌<◌, [], ◌∷◌, length, IsSome, IsTrue, Some};
-ghost use Rattle.machine_model.specs.State.Threads.{answer_to, change_thread, give_answers, new_thread, passed, put_thread};
+ghost use Rattle.machine_model.specs.State.Threads.{answer_to, change_thread, give_answers, new_thread, passed};
 ghost use Rattle.vm_memory.specs.Memory.{processes};
 ghost use Rattle.xk_base.specs.Circle.{is_thread_id};
 ghost use Rattle.xk_base.specs.declared.records.What.TheVariants.{Reply};
@@ -35,26 +35,14 @@ pub(super) fn new_thread(entry: u32, sp: u32, args: [u32; 4]) -> Thread
 
 impl<W: SwapStore> Kernel<W> {
     // The thread of that id, which there is.
-    pub(super) fn thread(&self, id: ThreadId) -> Thread
+    pub(super) fn thread(&self, id: ThreadId) -> &Thread
         requires there { IsSome ((machine_of W.held self.now).threads id) }
-        ensures { (machine_of W.held self.now).threads id ≡ Some (thread_of result) }
+        ensures { (machine_of W.held self.now).threads id ≡ Some (thread_of result.now) }
     {
         match self.threads.get(id) {
-            Some(thread) => *thread,
+            Some(thread) => thread,
             None => unreachable!(),
         }
-    }
-
-    // Puts this in place of the thread of that id.
-    pub(super) fn put(&mut self, id: ThreadId, thread: Thread)
-        requires whole { IsWhole W.slot_count W.held self.old }
-        requires there { IsSome ((machine_of W.held self.old).threads id) }
-        ensures whole { IsWhole W.slot_count W.held self.new }
-        ensures machine { machine_of W.held self.new ≡ put_thread id (Some (thread_of thread)) (machine_of W.held self.old) }
-        ensures mem { self.new.mem ≡ self.old.mem }
-        ensures log { self.new.log ≡ self.old.log }
-    {
-        self.threads.set(id, thread);
     }
 
     // The thread is answered: it has the words in a0 to a7, and is Ready. Its pc stays.
@@ -67,10 +55,9 @@ impl<W: SwapStore> Kernel<W> {
         ensures told { length self.new.log.records ≡ length self.old.log.records + 1 }
         ensures mem { self.new.mem ≡ self.old.mem }
     {
-        let mut thread = self.thread(id);
+        let thread = self.threads.thread_mut(id);
         thread.regs.set_arguments(words);
         thread.state = ThreadState::Ready;
-        self.put(id, thread);
         self.log.push(What::Reply(id, words));
     }
 
@@ -82,10 +69,8 @@ impl<W: SwapStore> Kernel<W> {
         ensures mem { self.new.mem ≡ self.old.mem }
         ensures log { self.new.log ≡ self.old.log }
     {
-        if let Some(thread) = self.threads.get(id) {
-            let mut thread = *thread;
+        if let Some(thread) = self.threads.get_mut(id) {
             thread.pc = thread.pc.wrapping_add(4);
-            self.put(id, thread);
         }
     }
 

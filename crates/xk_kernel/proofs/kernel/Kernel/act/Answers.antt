@@ -1,5 +1,5 @@
 -- The thread ends, or its instruction is executed: what the kernel became and told is what the machine makes of it.
-use Rattle.std.proofs.Common.{◌≡◌, ◌+◌, ◌<◌, true, false, [], refl, sym, ap, subst, ◌∙◌}
+use Rattle.std.proofs.Common.{◌≡◌, ◌+◌, ◌<◌, true, false, [], is_some, refl, sym, ap, subst, ◌∙◌}
 use Rattle.machine_laws.proofs.Threading.ThreadStepLemmas.{actor_ready}
 use Rattle.machine_laws.specs.WithoutServers.{is_plain_call}
 use Rattle.machine_model.proofs.KeptLemmas.{matched_at}
@@ -14,7 +14,7 @@ use Rattle.xk_base.specs.Registers.{arguments_of}
 use Rattle.xk_base.specs.declared.records.What.TheVariants.{Call, End, Fault}
 use Rattle.xk_kernel.specs.Running.{machine_after}
 use Rattle.xk_kernel.specs.State.{machine_of, thread_of}
-use Rattle.xk_kernel.proofs.Acting.ActLemmas.{actor_known, at, begun_done, begun_ready, built_call, built_end, built_instruction, call_executed, device_executed, fetched, left_at_end, left_executed, never_fails, next_executed, run_done, run_steps, told_end, told_executed, trap_executed, unbuilt_handler}
+use Rattle.xk_kernel.proofs.Acting.ActLemmas.{actor_known, at, begun_done, begun_ready, built_call, built_end, built_instruction, call_executed, device_executed, fetched, left_at_end, left_executed, never_fails, next_executed, run_done, run_steps, told_end, told_executed, trap_executed, unbuilt_handler, words_stay}
 use Rattle.xk_kernel.proofs.Calling.SettleLemmas.{ready_there}
 use Rattle.xk_kernel.proofs.kernel.Kernel.act.Goals as goal
 
@@ -25,7 +25,7 @@ thread-thread-requires g c = record { there = ready_there (machine_of g.W.SwapSt
 
 pub begin-requires-clause-id : goal.begin-requires-clause-id
 unfolding machine_of
-begin-requires-clause-id g c = actor_known (machine_of g.W.SwapStore.held c.args.self.now) c.args.who (thread_of c.thread-thread.result) (c.requires.sound.matched c.requires.usable) c.thread-thread.ensures
+begin-requires-clause-id g c = actor_known (machine_of g.W.SwapStore.held c.args.self.now) c.args.who (thread_of c.thread-thread.result.now) (c.requires.sound.matched c.requires.usable) c.thread-thread.ensures
 
 pub end_thread-requires-clause-ready : goal.end_thread-requires-clause-ready
 end_thread-requires-clause-ready g c = begun_ready g.W.SwapStore.held c.args.self.now c.begin.new.self c.begin.new.self c.args.who c.requires.who c.begin.ensures.machine
@@ -33,119 +33,130 @@ end_thread-requires-clause-ready g c = begun_ready g.W.SwapStore.held c.args.sel
 pub returns-then-ends_thread-clause-acts : goal.returns-then-ends_thread-clause-acts
 returns-then-ends_thread-clause-acts g c =
     let ends = sym c.ends_thread.ensures ∙ c.if-ends_thread.true in (
-      built_end (machine_of g.W.SwapStore.held c.args.self.now) c.args.who (thread_of c.thread-thread.result) c.thread-thread.ensures c.requires.who ends,
-      begun_done g.W.SwapStore.held c.args.self.now c.begin.new.self c.end_thread.new.self c.args.who (λ w m. after (End w) (settled (thread_ended w c.get.result m)))
-          (told_end (machine_of g.W.SwapStore.held c.args.self.now) c.args.who (thread_of c.thread-thread.result) c.thread-thread.ensures ends ∙ ap (λ a0. after (End c.args.who) (settled (thread_ended c.args.who a0 (at c.args.who (machine_of g.W.SwapStore.held c.args.self.now))))) (sym c.get.ensures.value))
+      built_end (machine_of g.W.SwapStore.held c.args.self.now) c.args.who (thread_of c.thread-thread.result.now) c.thread-thread.ensures c.requires.who ends,
+      begun_done g.W.SwapStore.held c.args.self.now c.begin.new.self c.end_thread.new.self c.args.who (λ w m. after (End w) (settled (thread_ended w c.get-a0.result m)))
+          (told_end (machine_of g.W.SwapStore.held c.args.self.now) c.args.who (thread_of c.thread-thread.result.now) c.thread-thread.ensures ends ∙ ap (λ a0. after (End c.args.who) (settled (thread_ended c.args.who a0 (at c.args.who (machine_of g.W.SwapStore.held c.args.self.now))))) (sym c.get-a0.ensures.value))
           c.begin.ensures.machine c.begin.ensures.log c.end_thread.ensures.tells,
-      left_at_end (machine_of g.W.SwapStore.held c.args.self.now) c.args.who (thread_of c.thread-thread.result) c.thread-thread.ensures ends,
+      left_at_end (machine_of g.W.SwapStore.held c.args.self.now) c.args.who (thread_of c.thread-thread.result.now) c.thread-thread.ensures ends,
     )
 
 pub returns-then-ends_handler-clause-acts : goal.returns-then-ends_handler-clause-acts
 returns-then-ends_handler-clause-acts g c =
-    (unbuilt_handler (machine_of g.W.SwapStore.held c.args.self.now) c.args.who (thread_of c.thread-thread.result) c.thread-thread.ensures c.requires.who (sym c.ends_handler.ensures ∙ c.if-ends_handler.true), refl, refl)
+    (unbuilt_handler (machine_of g.W.SwapStore.held c.args.self.now) c.args.who (thread_of c.thread-thread.result.now) c.thread-thread.ensures c.requires.who (sym c.ends_handler.ensures ∙ c.if-ends_handler.true), refl, refl)
 
 -- ---- goes on
 
 pub begin-requires-in-Next-clause-id : goal.begin-requires-in-Next-clause-id
 unfolding machine_of
-begin-requires-in-Next-clause-id g c = ap (λ s. is_thread_id s.procs c.args.who) c.run.ensures.keeps.size ∙ actor_known (machine_of g.W.SwapStore.held c.args.self.now) c.args.who (thread_of c.thread-thread.result) (c.requires.sound.matched c.requires.usable) c.thread-thread.ensures
+begin-requires-in-Next-clause-id g c = ap (λ s. is_thread_id s.procs c.args.who) c.run.ensures.keeps.size ∙ actor_known (machine_of g.W.SwapStore.held c.args.self.now) c.args.who (thread_of c.thread-thread.result.now) (c.requires.sound.matched c.requires.usable) c.thread-thread.ensures
 
 pub begin-requires-in-Next-clause-few : goal.begin-requires-in-Next-clause-few
-begin-requires-in-Next-clause-few g c = subst (λ s. s < 4000000000) (sym (run_steps g.W.SwapStore.held c.args.self.now c.run.new.self c.run.new.self c.args.who (fetched (machine_of g.W.SwapStore.held c.args.self.now) c.args.who (thread_of c.thread-thread.result) c.thread-thread.ensures) (c.run.ensures.machine (thread_of c.thread-thread.result) c.thread-thread.ensures))) c.requires.few
+begin-requires-in-Next-clause-few g c = subst (λ s. s < 4000000000) (sym (run_steps g.W.SwapStore.held c.args.self.now c.run.new.self c.run.new.self c.args.who (fetched (machine_of g.W.SwapStore.held c.args.self.now) c.args.who (thread_of c.thread-thread.result.now) c.thread-thread.ensures) (c.run.ensures.machine (thread_of c.thread-thread.result.now) c.thread-thread.ensures))) c.requires.few
 
 pub returns-in-Next-clause-acts : goal.returns-in-Next-clause-acts
 returns-in-Next-clause-acts g c =
-    let next = next_executed (machine_of g.W.SwapStore.held c.args.self.now) c.args.who (thread_of c.thread-thread.result) (fetched (machine_of g.W.SwapStore.held c.args.self.now) c.args.who (thread_of c.thread-thread.result) c.thread-thread.ensures) c.in-Next.field-0 (sym (c.run.ensures.answer (thread_of c.thread-thread.result) c.thread-thread.ensures) ∙ c.in-Next.is) in (
-      built_instruction (machine_of g.W.SwapStore.held c.args.self.now) c.args.who (thread_of c.thread-thread.result) c.thread-thread.ensures c.requires.who (sym c.ends_thread.ensures ∙ c.if-ends_thread.false) (sym c.ends_handler.ensures ∙ c.if-ends_handler.false) next.1,
-      run_done g.W.SwapStore.held c.args.self.now c.run.new.self c.begin-in-Next.new.self c.args.who (fetched (machine_of g.W.SwapStore.held c.args.self.now) c.args.who (thread_of c.thread-thread.result) c.thread-thread.ensures) [] (told_executed (machine_of g.W.SwapStore.held c.args.self.now) c.args.who (thread_of c.thread-thread.result) c.thread-thread.ensures (sym c.ends_thread.ensures ∙ c.if-ends_thread.false) (sym c.ends_handler.ensures ∙ c.if-ends_handler.false) ∙ next.0) (c.run.ensures.machine (thread_of c.thread-thread.result) c.thread-thread.ensures) c.run.ensures.log
+    let next = next_executed (machine_of g.W.SwapStore.held c.args.self.now) c.args.who (thread_of c.thread-thread.result.now) (fetched (machine_of g.W.SwapStore.held c.args.self.now) c.args.who (thread_of c.thread-thread.result.now) c.thread-thread.ensures) c.in-Next.field-0 (sym (c.run.ensures.answer (thread_of c.thread-thread.result.now) c.thread-thread.ensures) ∙ c.in-Next.is) in (
+      built_instruction (machine_of g.W.SwapStore.held c.args.self.now) c.args.who (thread_of c.thread-thread.result.now) c.thread-thread.ensures c.requires.who (sym c.ends_thread.ensures ∙ c.if-ends_thread.false) (sym c.ends_handler.ensures ∙ c.if-ends_handler.false) next.1,
+      run_done g.W.SwapStore.held c.args.self.now c.run.new.self c.begin-in-Next.new.self c.args.who (fetched (machine_of g.W.SwapStore.held c.args.self.now) c.args.who (thread_of c.thread-thread.result.now) c.thread-thread.ensures) [] (told_executed (machine_of g.W.SwapStore.held c.args.self.now) c.args.who (thread_of c.thread-thread.result.now) c.thread-thread.ensures (sym c.ends_thread.ensures ∙ c.if-ends_thread.false) (sym c.ends_handler.ensures ∙ c.if-ends_handler.false) ∙ next.0) (c.run.ensures.machine (thread_of c.thread-thread.result.now) c.thread-thread.ensures) c.run.ensures.log
           c.begin-in-Next.ensures.machine c.begin-in-Next.ensures.log,
-      left_executed (machine_of g.W.SwapStore.held c.args.self.now) c.args.who (thread_of c.thread-thread.result) c.thread-thread.ensures (sym c.ends_thread.ensures ∙ c.if-ends_thread.false) (sym c.ends_handler.ensures ∙ c.if-ends_handler.false)
-          c.run.new.reserved (c.run.ensures.reserved (thread_of c.thread-thread.result) c.thread-thread.ensures),
+      left_executed (machine_of g.W.SwapStore.held c.args.self.now) c.args.who (thread_of c.thread-thread.result.now) c.thread-thread.ensures (sym c.ends_thread.ensures ∙ c.if-ends_thread.false) (sym c.ends_handler.ensures ∙ c.if-ends_handler.false)
+          c.run.new.reserved (c.run.ensures.reserved (thread_of c.thread-thread.result.now) c.thread-thread.ensures),
     )
 
 pub tell_console-requires-clause-id : goal.tell_console-requires-clause-id
 unfolding machine_of
-tell_console-requires-clause-id g c = ap (λ s. is_thread_id s.procs c.args.who) c.run.ensures.keeps.size ∙ actor_known (machine_of g.W.SwapStore.held c.args.self.now) c.args.who (thread_of c.thread-thread.result) (c.requires.sound.matched c.requires.usable) c.thread-thread.ensures
+tell_console-requires-clause-id g c = ap (λ s. is_thread_id s.procs c.args.who) c.run.ensures.keeps.size ∙ actor_known (machine_of g.W.SwapStore.held c.args.self.now) c.args.who (thread_of c.thread-thread.result.now) (c.requires.sound.matched c.requires.usable) c.thread-thread.ensures
 
 pub tell_console-requires-clause-few : goal.tell_console-requires-clause-few
-tell_console-requires-clause-few g c = subst (λ s. s < 4000000000) (sym (run_steps g.W.SwapStore.held c.args.self.now c.run.new.self c.run.new.self c.args.who (fetched (machine_of g.W.SwapStore.held c.args.self.now) c.args.who (thread_of c.thread-thread.result) c.thread-thread.ensures) (c.run.ensures.machine (thread_of c.thread-thread.result) c.thread-thread.ensures))) c.requires.few
+tell_console-requires-clause-few g c = subst (λ s. s < 4000000000) (sym (run_steps g.W.SwapStore.held c.args.self.now c.run.new.self c.run.new.self c.args.who (fetched (machine_of g.W.SwapStore.held c.args.self.now) c.args.who (thread_of c.thread-thread.result.now) c.thread-thread.ensures) (c.run.ensures.machine (thread_of c.thread-thread.result.now) c.thread-thread.ensures))) c.requires.few
 
 pub returns-in-Device-clause-acts : goal.returns-in-Device-clause-acts
 returns-in-Device-clause-acts g c =
-    let device = device_executed (machine_of g.W.SwapStore.held c.args.self.now) c.args.who (thread_of c.thread-thread.result) (fetched (machine_of g.W.SwapStore.held c.args.self.now) c.args.who (thread_of c.thread-thread.result) c.thread-thread.ensures) c.in-Device.offset c.in-Device.value c.in-Device.next (sym (c.run.ensures.answer (thread_of c.thread-thread.result) c.thread-thread.ensures) ∙ c.in-Device.is) in (
-      built_instruction (machine_of g.W.SwapStore.held c.args.self.now) c.args.who (thread_of c.thread-thread.result) c.thread-thread.ensures c.requires.who (sym c.ends_thread.ensures ∙ c.if-ends_thread.false) (sym c.ends_handler.ensures ∙ c.if-ends_handler.false) device.1,
-      run_done g.W.SwapStore.held c.args.self.now c.run.new.self c.tell_console.new.self c.args.who (fetched (machine_of g.W.SwapStore.held c.args.self.now) c.args.who (thread_of c.thread-thread.result) c.thread-thread.ensures) (console_told c.args.who c.in-Device.offset c.in-Device.value) (told_executed (machine_of g.W.SwapStore.held c.args.self.now) c.args.who (thread_of c.thread-thread.result) c.thread-thread.ensures (sym c.ends_thread.ensures ∙ c.if-ends_thread.false) (sym c.ends_handler.ensures ∙ c.if-ends_handler.false) ∙ device.0) (c.run.ensures.machine (thread_of c.thread-thread.result) c.thread-thread.ensures) c.run.ensures.log
+    let device = device_executed (machine_of g.W.SwapStore.held c.args.self.now) c.args.who (thread_of c.thread-thread.result.now) (fetched (machine_of g.W.SwapStore.held c.args.self.now) c.args.who (thread_of c.thread-thread.result.now) c.thread-thread.ensures) c.in-Device.offset c.in-Device.value c.in-Device.next (sym (c.run.ensures.answer (thread_of c.thread-thread.result.now) c.thread-thread.ensures) ∙ c.in-Device.is) in (
+      built_instruction (machine_of g.W.SwapStore.held c.args.self.now) c.args.who (thread_of c.thread-thread.result.now) c.thread-thread.ensures c.requires.who (sym c.ends_thread.ensures ∙ c.if-ends_thread.false) (sym c.ends_handler.ensures ∙ c.if-ends_handler.false) device.1,
+      run_done g.W.SwapStore.held c.args.self.now c.run.new.self c.tell_console.new.self c.args.who (fetched (machine_of g.W.SwapStore.held c.args.self.now) c.args.who (thread_of c.thread-thread.result.now) c.thread-thread.ensures) (console_told c.args.who c.in-Device.offset c.in-Device.value) (told_executed (machine_of g.W.SwapStore.held c.args.self.now) c.args.who (thread_of c.thread-thread.result.now) c.thread-thread.ensures (sym c.ends_thread.ensures ∙ c.if-ends_thread.false) (sym c.ends_handler.ensures ∙ c.if-ends_handler.false) ∙ device.0) (c.run.ensures.machine (thread_of c.thread-thread.result.now) c.thread-thread.ensures) c.run.ensures.log
           c.tell_console.ensures.machine c.tell_console.ensures.log,
-      left_executed (machine_of g.W.SwapStore.held c.args.self.now) c.args.who (thread_of c.thread-thread.result) c.thread-thread.ensures (sym c.ends_thread.ensures ∙ c.if-ends_thread.false) (sym c.ends_handler.ensures ∙ c.if-ends_handler.false)
-          c.run.new.reserved (c.run.ensures.reserved (thread_of c.thread-thread.result) c.thread-thread.ensures),
+      left_executed (machine_of g.W.SwapStore.held c.args.self.now) c.args.who (thread_of c.thread-thread.result.now) c.thread-thread.ensures (sym c.ends_thread.ensures ∙ c.if-ends_thread.false) (sym c.ends_handler.ensures ∙ c.if-ends_handler.false)
+          c.run.new.reserved (c.run.ensures.reserved (thread_of c.thread-thread.result.now) c.thread-thread.ensures),
     )
 
 -- ---- dies of a trap
 
 pub begin-requires-in-Trap-clause-id : goal.begin-requires-in-Trap-clause-id
 unfolding machine_of
-begin-requires-in-Trap-clause-id g c = ap (λ s. is_thread_id s.procs c.args.who) c.run.ensures.keeps.size ∙ actor_known (machine_of g.W.SwapStore.held c.args.self.now) c.args.who (thread_of c.thread-thread.result) (c.requires.sound.matched c.requires.usable) c.thread-thread.ensures
+begin-requires-in-Trap-clause-id g c = ap (λ s. is_thread_id s.procs c.args.who) c.run.ensures.keeps.size ∙ actor_known (machine_of g.W.SwapStore.held c.args.self.now) c.args.who (thread_of c.thread-thread.result.now) (c.requires.sound.matched c.requires.usable) c.thread-thread.ensures
 
 pub begin-requires-in-Trap-clause-few : goal.begin-requires-in-Trap-clause-few
-begin-requires-in-Trap-clause-few g c = subst (λ s. s < 4000000000) (sym (run_steps g.W.SwapStore.held c.args.self.now c.run.new.self c.run.new.self c.args.who (fetched (machine_of g.W.SwapStore.held c.args.self.now) c.args.who (thread_of c.thread-thread.result) c.thread-thread.ensures) (c.run.ensures.machine (thread_of c.thread-thread.result) c.thread-thread.ensures))) c.requires.few
+begin-requires-in-Trap-clause-few g c = subst (λ s. s < 4000000000) (sym (run_steps g.W.SwapStore.held c.args.self.now c.run.new.self c.run.new.self c.args.who (fetched (machine_of g.W.SwapStore.held c.args.self.now) c.args.who (thread_of c.thread-thread.result.now) c.thread-thread.ensures) (c.run.ensures.machine (thread_of c.thread-thread.result.now) c.thread-thread.ensures))) c.requires.few
 
 pub returns-in-Trap-clause-acts : goal.returns-in-Trap-clause-acts
 returns-in-Trap-clause-acts g c =
-    let trap : (executed (at c.args.who (machine_of g.W.SwapStore.held c.args.self.now)) (thread_of c.thread-thread.result) (fetched (machine_of g.W.SwapStore.held c.args.self.now) c.args.who (thread_of c.thread-thread.result) c.thread-thread.ensures) ≡ after (Fault c.args.who c.in-Trap.cause c.in-Trap.value) (settled (death c.args.who.pid (at c.args.who (machine_of g.W.SwapStore.held c.args.self.now))))) × (machine_after c.args.who (machine_of g.W.SwapStore.held c.args.self.now) (fetched (machine_of g.W.SwapStore.held c.args.self.now) c.args.who (thread_of c.thread-thread.result) c.thread-thread.ensures) ≡ (machine_of g.W.SwapStore.held c.args.self.now)) × (is_call (fetched (machine_of g.W.SwapStore.held c.args.self.now) c.args.who (thread_of c.thread-thread.result) c.thread-thread.ensures) ≡ false) = trap_executed (machine_of g.W.SwapStore.held c.args.self.now) c.args.who (thread_of c.thread-thread.result) (fetched (machine_of g.W.SwapStore.held c.args.self.now) c.args.who (thread_of c.thread-thread.result) c.thread-thread.ensures) c.in-Trap.cause c.in-Trap.value (sym (c.run.ensures.answer (thread_of c.thread-thread.result) c.thread-thread.ensures) ∙ c.in-Trap.is) in
-    let left : machine_of g.W.SwapStore.held c.run.new.self ≡ (machine_of g.W.SwapStore.held c.args.self.now) = (c.run.ensures.machine (thread_of c.thread-thread.result) c.thread-thread.ensures) ∙ trap.1 in
+    let trap : (executed (at c.args.who (machine_of g.W.SwapStore.held c.args.self.now)) (thread_of c.thread-thread.result.now) (fetched (machine_of g.W.SwapStore.held c.args.self.now) c.args.who (thread_of c.thread-thread.result.now) c.thread-thread.ensures) ≡ after (Fault c.args.who c.in-Trap.cause c.in-Trap.value) (settled (death c.args.who.pid (at c.args.who (machine_of g.W.SwapStore.held c.args.self.now))))) × (machine_after c.args.who (machine_of g.W.SwapStore.held c.args.self.now) (fetched (machine_of g.W.SwapStore.held c.args.self.now) c.args.who (thread_of c.thread-thread.result.now) c.thread-thread.ensures) ≡ (machine_of g.W.SwapStore.held c.args.self.now)) × (is_call (fetched (machine_of g.W.SwapStore.held c.args.self.now) c.args.who (thread_of c.thread-thread.result.now) c.thread-thread.ensures) ≡ false) = trap_executed (machine_of g.W.SwapStore.held c.args.self.now) c.args.who (thread_of c.thread-thread.result.now) (fetched (machine_of g.W.SwapStore.held c.args.self.now) c.args.who (thread_of c.thread-thread.result.now) c.thread-thread.ensures) c.in-Trap.cause c.in-Trap.value (sym (c.run.ensures.answer (thread_of c.thread-thread.result.now) c.thread-thread.ensures) ∙ c.in-Trap.is) in
+    let left : machine_of g.W.SwapStore.held c.run.new.self ≡ (machine_of g.W.SwapStore.held c.args.self.now) = (c.run.ensures.machine (thread_of c.thread-thread.result.now) c.thread-thread.ensures) ∙ trap.1 in
     let begun : machine_of g.W.SwapStore.held c.begin-in-Trap.new.self ≡ at c.args.who (machine_of g.W.SwapStore.held c.args.self.now) = c.begin-in-Trap.ensures.machine ∙ ap (at c.args.who) left in (
-      built_instruction (machine_of g.W.SwapStore.held c.args.self.now) c.args.who (thread_of c.thread-thread.result) c.thread-thread.ensures c.requires.who (sym c.ends_thread.ensures ∙ c.if-ends_thread.false) (sym c.ends_handler.ensures ∙ c.if-ends_handler.false) trap.2,
+      built_instruction (machine_of g.W.SwapStore.held c.args.self.now) c.args.who (thread_of c.thread-thread.result.now) c.thread-thread.ensures c.requires.who (sym c.ends_thread.ensures ∙ c.if-ends_thread.false) (sym c.ends_handler.ensures ∙ c.if-ends_handler.false) trap.2,
       begun_done g.W.SwapStore.held c.args.self.now c.begin-in-Trap.new.self c.die.new.self c.args.who (λ w m. after (Fault c.args.who c.in-Trap.cause c.in-Trap.value) (settled (death w.pid m)))
-          (told_executed (machine_of g.W.SwapStore.held c.args.self.now) c.args.who (thread_of c.thread-thread.result) c.thread-thread.ensures (sym c.ends_thread.ensures ∙ c.if-ends_thread.false) (sym c.ends_handler.ensures ∙ c.if-ends_handler.false) ∙ trap.0) begun (c.begin-in-Trap.ensures.log ∙ (λ i. record (c.run.ensures.log i) { step = run_steps g.W.SwapStore.held c.args.self.now c.run.new.self c.run.new.self c.args.who (fetched (machine_of g.W.SwapStore.held c.args.self.now) c.args.who (thread_of c.thread-thread.result) c.thread-thread.ensures) (c.run.ensures.machine (thread_of c.thread-thread.result) c.thread-thread.ensures) i + 1; records = [] })) c.die.ensures.tells,
-      left_executed (machine_of g.W.SwapStore.held c.args.self.now) c.args.who (thread_of c.thread-thread.result) c.thread-thread.ensures (sym c.ends_thread.ensures ∙ c.if-ends_thread.false) (sym c.ends_handler.ensures ∙ c.if-ends_handler.false)
-          c.run.new.reserved (c.run.ensures.reserved (thread_of c.thread-thread.result) c.thread-thread.ensures),
+          (told_executed (machine_of g.W.SwapStore.held c.args.self.now) c.args.who (thread_of c.thread-thread.result.now) c.thread-thread.ensures (sym c.ends_thread.ensures ∙ c.if-ends_thread.false) (sym c.ends_handler.ensures ∙ c.if-ends_handler.false) ∙ trap.0) begun (c.begin-in-Trap.ensures.log ∙ (λ i. record (c.run.ensures.log i) { step = run_steps g.W.SwapStore.held c.args.self.now c.run.new.self c.run.new.self c.args.who (fetched (machine_of g.W.SwapStore.held c.args.self.now) c.args.who (thread_of c.thread-thread.result.now) c.thread-thread.ensures) (c.run.ensures.machine (thread_of c.thread-thread.result.now) c.thread-thread.ensures) i + 1; records = [] })) c.die.ensures.tells,
+      left_executed (machine_of g.W.SwapStore.held c.args.self.now) c.args.who (thread_of c.thread-thread.result.now) c.thread-thread.ensures (sym c.ends_thread.ensures ∙ c.if-ends_thread.false) (sym c.ends_handler.ensures ∙ c.if-ends_handler.false)
+          c.run.new.reserved (c.run.ensures.reserved (thread_of c.thread-thread.result.now) c.thread-thread.ensures),
     )
 
 -- ---- calls the kernel
 
 pub begin-requires-in-Ecall-clause-id : goal.begin-requires-in-Ecall-clause-id
 unfolding machine_of
-begin-requires-in-Ecall-clause-id g c = ap (λ s. is_thread_id s.procs c.args.who) c.run.ensures.keeps.size ∙ actor_known (machine_of g.W.SwapStore.held c.args.self.now) c.args.who (thread_of c.thread-thread.result) (c.requires.sound.matched c.requires.usable) c.thread-thread.ensures
+begin-requires-in-Ecall-clause-id g c = ap (λ s. is_thread_id s.procs c.args.who) c.run.ensures.keeps.size ∙ actor_known (machine_of g.W.SwapStore.held c.args.self.now) c.args.who (thread_of c.thread-thread.result.now) (c.requires.sound.matched c.requires.usable) c.thread-thread.ensures
 
 pub begin-requires-in-Ecall-clause-few : goal.begin-requires-in-Ecall-clause-few
-begin-requires-in-Ecall-clause-few g c = subst (λ s. s < 4000000000) (sym (run_steps g.W.SwapStore.held c.args.self.now c.run.new.self c.run.new.self c.args.who (fetched (machine_of g.W.SwapStore.held c.args.self.now) c.args.who (thread_of c.thread-thread.result) c.thread-thread.ensures) (c.run.ensures.machine (thread_of c.thread-thread.result) c.thread-thread.ensures))) c.requires.few
+begin-requires-in-Ecall-clause-few g c = subst (λ s. s < 4000000000) (sym (run_steps g.W.SwapStore.held c.args.self.now c.run.new.self c.run.new.self c.args.who (fetched (machine_of g.W.SwapStore.held c.args.self.now) c.args.who (thread_of c.thread-thread.result.now) c.thread-thread.ensures) (c.run.ensures.machine (thread_of c.thread-thread.result.now) c.thread-thread.ensures))) c.requires.few
+
+pub thread-requires : goal.thread-requires
+thread-requires g c =
+    let called : (executed (at c.args.who (machine_of g.W.SwapStore.held c.args.self.now)) (thread_of c.thread-thread.result.now) (fetched (machine_of g.W.SwapStore.held c.args.self.now) c.args.who (thread_of c.thread-thread.result.now) c.thread-thread.ensures) ≡ after (Call c.args.who (arguments_of (thread_of c.thread-thread.result.now).regs)) (call_settled (at c.args.who (machine_of g.W.SwapStore.held c.args.self.now)) (call (at c.args.who (machine_of g.W.SwapStore.held c.args.self.now)) (arguments_of (thread_of c.thread-thread.result.now).regs)))) × (machine_after c.args.who (machine_of g.W.SwapStore.held c.args.self.now) (fetched (machine_of g.W.SwapStore.held c.args.self.now) c.args.who (thread_of c.thread-thread.result.now) c.thread-thread.ensures) ≡ (machine_of g.W.SwapStore.held c.args.self.now)) × (is_call (fetched (machine_of g.W.SwapStore.held c.args.self.now) c.args.who (thread_of c.thread-thread.result.now) c.thread-thread.ensures) ≡ true) = call_executed (machine_of g.W.SwapStore.held c.args.self.now) c.args.who (thread_of c.thread-thread.result.now) (fetched (machine_of g.W.SwapStore.held c.args.self.now) c.args.who (thread_of c.thread-thread.result.now) c.thread-thread.ensures) (sym (c.run.ensures.answer (thread_of c.thread-thread.result.now) c.thread-thread.ensures) ∙ c.in-Ecall.is) in
+    let left : machine_of g.W.SwapStore.held c.run.new.self ≡ (machine_of g.W.SwapStore.held c.args.self.now) = (c.run.ensures.machine (thread_of c.thread-thread.result.now) c.thread-thread.ensures) ∙ called.1 in
+    record { there = ap (λ m. is_some (m.threads c.args.who)) left ∙ ready_there (machine_of g.W.SwapStore.held c.args.self.now) c.args.who (actor_ready (machine_of g.W.SwapStore.held c.args.self.now) c.args.who c.requires.who) }
 
 pub returns-then-not-is_built-clause-acts : goal.returns-then-not-is_built-clause-acts
 returns-then-not-is_built-clause-acts g c =
-    let called : (executed (at c.args.who (machine_of g.W.SwapStore.held c.args.self.now)) (thread_of c.thread-thread.result) (fetched (machine_of g.W.SwapStore.held c.args.self.now) c.args.who (thread_of c.thread-thread.result) c.thread-thread.ensures) ≡ after (Call c.args.who (arguments_of (thread_of c.thread-thread.result).regs)) (call_settled (at c.args.who (machine_of g.W.SwapStore.held c.args.self.now)) (call (at c.args.who (machine_of g.W.SwapStore.held c.args.self.now)) (arguments_of (thread_of c.thread-thread.result).regs)))) × (machine_after c.args.who (machine_of g.W.SwapStore.held c.args.self.now) (fetched (machine_of g.W.SwapStore.held c.args.self.now) c.args.who (thread_of c.thread-thread.result) c.thread-thread.ensures) ≡ (machine_of g.W.SwapStore.held c.args.self.now)) × (is_call (fetched (machine_of g.W.SwapStore.held c.args.self.now) c.args.who (thread_of c.thread-thread.result) c.thread-thread.ensures) ≡ true) = call_executed (machine_of g.W.SwapStore.held c.args.self.now) c.args.who (thread_of c.thread-thread.result) (fetched (machine_of g.W.SwapStore.held c.args.self.now) c.args.who (thread_of c.thread-thread.result) c.thread-thread.ensures) (sym (c.run.ensures.answer (thread_of c.thread-thread.result) c.thread-thread.ensures) ∙ c.in-Ecall.is) in (
-      built_call (machine_of g.W.SwapStore.held c.args.self.now) c.args.who (thread_of c.thread-thread.result) c.thread-thread.ensures c.requires.who (sym c.ends_thread.ensures ∙ c.if-ends_thread.false) (sym c.ends_handler.ensures ∙ c.if-ends_handler.false) called.2 ∙ ap is_plain_call (sym c.arguments-words.ensures.are) ∙ sym c.is_built.ensures ∙ c.if-not-is_built.true,
-      (c.run.ensures.machine (thread_of c.thread-thread.result) c.thread-thread.ensures) ∙ called.1,
+    let called : (executed (at c.args.who (machine_of g.W.SwapStore.held c.args.self.now)) (thread_of c.thread-thread.result.now) (fetched (machine_of g.W.SwapStore.held c.args.self.now) c.args.who (thread_of c.thread-thread.result.now) c.thread-thread.ensures) ≡ after (Call c.args.who (arguments_of (thread_of c.thread-thread.result.now).regs)) (call_settled (at c.args.who (machine_of g.W.SwapStore.held c.args.self.now)) (call (at c.args.who (machine_of g.W.SwapStore.held c.args.self.now)) (arguments_of (thread_of c.thread-thread.result.now).regs)))) × (machine_after c.args.who (machine_of g.W.SwapStore.held c.args.self.now) (fetched (machine_of g.W.SwapStore.held c.args.self.now) c.args.who (thread_of c.thread-thread.result.now) c.thread-thread.ensures) ≡ (machine_of g.W.SwapStore.held c.args.self.now)) × (is_call (fetched (machine_of g.W.SwapStore.held c.args.self.now) c.args.who (thread_of c.thread-thread.result.now) c.thread-thread.ensures) ≡ true) = call_executed (machine_of g.W.SwapStore.held c.args.self.now) c.args.who (thread_of c.thread-thread.result.now) (fetched (machine_of g.W.SwapStore.held c.args.self.now) c.args.who (thread_of c.thread-thread.result.now) c.thread-thread.ensures) (sym (c.run.ensures.answer (thread_of c.thread-thread.result.now) c.thread-thread.ensures) ∙ c.in-Ecall.is) in
+    let left : machine_of g.W.SwapStore.held c.run.new.self ≡ (machine_of g.W.SwapStore.held c.args.self.now) = (c.run.ensures.machine (thread_of c.thread-thread.result.now) c.thread-thread.ensures) ∙ called.1 in
+    let words : c.arguments-words.result ≡ arguments_of (thread_of c.thread-thread.result.now).regs =
+    c.arguments-words.ensures.are ∙ words_stay (machine_of g.W.SwapStore.held c.args.self.now) (machine_of g.W.SwapStore.held c.run.new.self) c.args.who (thread_of c.thread-thread.result.now) (thread_of c.thread.result.now) left c.thread-thread.ensures c.thread.ensures in (
+      built_call (machine_of g.W.SwapStore.held c.args.self.now) c.args.who (thread_of c.thread-thread.result.now) c.thread-thread.ensures c.requires.who (sym c.ends_thread.ensures ∙ c.if-ends_thread.false) (sym c.ends_handler.ensures ∙ c.if-ends_handler.false) called.2 ∙ ap is_plain_call (sym words) ∙ sym c.is_built.ensures ∙ c.if-not-is_built.true,
+      (c.run.ensures.machine (thread_of c.thread-thread.result.now) c.thread-thread.ensures) ∙ called.1,
       c.run.ensures.log,
     )
 
 pub call-requires-clause-matched : goal.call-requires-clause-matched
 call-requires-clause-matched g c =
-    let called : (executed (at c.args.who (machine_of g.W.SwapStore.held c.args.self.now)) (thread_of c.thread-thread.result) (fetched (machine_of g.W.SwapStore.held c.args.self.now) c.args.who (thread_of c.thread-thread.result) c.thread-thread.ensures) ≡ after (Call c.args.who (arguments_of (thread_of c.thread-thread.result).regs)) (call_settled (at c.args.who (machine_of g.W.SwapStore.held c.args.self.now)) (call (at c.args.who (machine_of g.W.SwapStore.held c.args.self.now)) (arguments_of (thread_of c.thread-thread.result).regs)))) × (machine_after c.args.who (machine_of g.W.SwapStore.held c.args.self.now) (fetched (machine_of g.W.SwapStore.held c.args.self.now) c.args.who (thread_of c.thread-thread.result) c.thread-thread.ensures) ≡ (machine_of g.W.SwapStore.held c.args.self.now)) × (is_call (fetched (machine_of g.W.SwapStore.held c.args.self.now) c.args.who (thread_of c.thread-thread.result) c.thread-thread.ensures) ≡ true) = call_executed (machine_of g.W.SwapStore.held c.args.self.now) c.args.who (thread_of c.thread-thread.result) (fetched (machine_of g.W.SwapStore.held c.args.self.now) c.args.who (thread_of c.thread-thread.result) c.thread-thread.ensures) (sym (c.run.ensures.answer (thread_of c.thread-thread.result) c.thread-thread.ensures) ∙ c.in-Ecall.is) in
-    let left : machine_of g.W.SwapStore.held c.run.new.self ≡ (machine_of g.W.SwapStore.held c.args.self.now) = (c.run.ensures.machine (thread_of c.thread-thread.result) c.thread-thread.ensures) ∙ called.1 in
+    let called : (executed (at c.args.who (machine_of g.W.SwapStore.held c.args.self.now)) (thread_of c.thread-thread.result.now) (fetched (machine_of g.W.SwapStore.held c.args.self.now) c.args.who (thread_of c.thread-thread.result.now) c.thread-thread.ensures) ≡ after (Call c.args.who (arguments_of (thread_of c.thread-thread.result.now).regs)) (call_settled (at c.args.who (machine_of g.W.SwapStore.held c.args.self.now)) (call (at c.args.who (machine_of g.W.SwapStore.held c.args.self.now)) (arguments_of (thread_of c.thread-thread.result.now).regs)))) × (machine_after c.args.who (machine_of g.W.SwapStore.held c.args.self.now) (fetched (machine_of g.W.SwapStore.held c.args.self.now) c.args.who (thread_of c.thread-thread.result.now) c.thread-thread.ensures) ≡ (machine_of g.W.SwapStore.held c.args.self.now)) × (is_call (fetched (machine_of g.W.SwapStore.held c.args.self.now) c.args.who (thread_of c.thread-thread.result.now) c.thread-thread.ensures) ≡ true) = call_executed (machine_of g.W.SwapStore.held c.args.self.now) c.args.who (thread_of c.thread-thread.result.now) (fetched (machine_of g.W.SwapStore.held c.args.self.now) c.args.who (thread_of c.thread-thread.result.now) c.thread-thread.ensures) (sym (c.run.ensures.answer (thread_of c.thread-thread.result.now) c.thread-thread.ensures) ∙ c.in-Ecall.is) in
+    let left : machine_of g.W.SwapStore.held c.run.new.self ≡ (machine_of g.W.SwapStore.held c.args.self.now) = (c.run.ensures.machine (thread_of c.thread-thread.result.now) c.thread-thread.ensures) ∙ called.1 in
     let begun : machine_of g.W.SwapStore.held c.begin-in-Ecall.new.self ≡ at c.args.who (machine_of g.W.SwapStore.held c.args.self.now) = c.begin-in-Ecall.ensures.machine ∙ ap (at c.args.who) left in
     subst Matched (sym begun) (matched_at c.args.who (machine_of g.W.SwapStore.held c.args.self.now) (c.requires.sound.matched c.requires.usable))
 
 pub call-requires-clause-ready : goal.call-requires-clause-ready
 call-requires-clause-ready g c =
-    let called : (executed (at c.args.who (machine_of g.W.SwapStore.held c.args.self.now)) (thread_of c.thread-thread.result) (fetched (machine_of g.W.SwapStore.held c.args.self.now) c.args.who (thread_of c.thread-thread.result) c.thread-thread.ensures) ≡ after (Call c.args.who (arguments_of (thread_of c.thread-thread.result).regs)) (call_settled (at c.args.who (machine_of g.W.SwapStore.held c.args.self.now)) (call (at c.args.who (machine_of g.W.SwapStore.held c.args.self.now)) (arguments_of (thread_of c.thread-thread.result).regs)))) × (machine_after c.args.who (machine_of g.W.SwapStore.held c.args.self.now) (fetched (machine_of g.W.SwapStore.held c.args.self.now) c.args.who (thread_of c.thread-thread.result) c.thread-thread.ensures) ≡ (machine_of g.W.SwapStore.held c.args.self.now)) × (is_call (fetched (machine_of g.W.SwapStore.held c.args.self.now) c.args.who (thread_of c.thread-thread.result) c.thread-thread.ensures) ≡ true) = call_executed (machine_of g.W.SwapStore.held c.args.self.now) c.args.who (thread_of c.thread-thread.result) (fetched (machine_of g.W.SwapStore.held c.args.self.now) c.args.who (thread_of c.thread-thread.result) c.thread-thread.ensures) (sym (c.run.ensures.answer (thread_of c.thread-thread.result) c.thread-thread.ensures) ∙ c.in-Ecall.is) in
-    let left : machine_of g.W.SwapStore.held c.run.new.self ≡ (machine_of g.W.SwapStore.held c.args.self.now) = (c.run.ensures.machine (thread_of c.thread-thread.result) c.thread-thread.ensures) ∙ called.1 in
+    let called : (executed (at c.args.who (machine_of g.W.SwapStore.held c.args.self.now)) (thread_of c.thread-thread.result.now) (fetched (machine_of g.W.SwapStore.held c.args.self.now) c.args.who (thread_of c.thread-thread.result.now) c.thread-thread.ensures) ≡ after (Call c.args.who (arguments_of (thread_of c.thread-thread.result.now).regs)) (call_settled (at c.args.who (machine_of g.W.SwapStore.held c.args.self.now)) (call (at c.args.who (machine_of g.W.SwapStore.held c.args.self.now)) (arguments_of (thread_of c.thread-thread.result.now).regs)))) × (machine_after c.args.who (machine_of g.W.SwapStore.held c.args.self.now) (fetched (machine_of g.W.SwapStore.held c.args.self.now) c.args.who (thread_of c.thread-thread.result.now) c.thread-thread.ensures) ≡ (machine_of g.W.SwapStore.held c.args.self.now)) × (is_call (fetched (machine_of g.W.SwapStore.held c.args.self.now) c.args.who (thread_of c.thread-thread.result.now) c.thread-thread.ensures) ≡ true) = call_executed (machine_of g.W.SwapStore.held c.args.self.now) c.args.who (thread_of c.thread-thread.result.now) (fetched (machine_of g.W.SwapStore.held c.args.self.now) c.args.who (thread_of c.thread-thread.result.now) c.thread-thread.ensures) (sym (c.run.ensures.answer (thread_of c.thread-thread.result.now) c.thread-thread.ensures) ∙ c.in-Ecall.is) in
+    let left : machine_of g.W.SwapStore.held c.run.new.self ≡ (machine_of g.W.SwapStore.held c.args.self.now) = (c.run.ensures.machine (thread_of c.thread-thread.result.now) c.thread-thread.ensures) ∙ called.1 in
     let begun : machine_of g.W.SwapStore.held c.begin-in-Ecall.new.self ≡ at c.args.who (machine_of g.W.SwapStore.held c.args.self.now) = c.begin-in-Ecall.ensures.machine ∙ ap (at c.args.who) left in
     begun_ready g.W.SwapStore.held c.args.self.now c.begin-in-Ecall.new.self c.begin-in-Ecall.new.self c.args.who c.requires.who begun
 
 pub returns-in_ok-call-in-Ecall-clause-acts : goal.returns-in_ok-call-in-Ecall-clause-acts
 returns-in_ok-call-in-Ecall-clause-acts g c =
-    let called : (executed (at c.args.who (machine_of g.W.SwapStore.held c.args.self.now)) (thread_of c.thread-thread.result) (fetched (machine_of g.W.SwapStore.held c.args.self.now) c.args.who (thread_of c.thread-thread.result) c.thread-thread.ensures) ≡ after (Call c.args.who (arguments_of (thread_of c.thread-thread.result).regs)) (call_settled (at c.args.who (machine_of g.W.SwapStore.held c.args.self.now)) (call (at c.args.who (machine_of g.W.SwapStore.held c.args.self.now)) (arguments_of (thread_of c.thread-thread.result).regs)))) × (machine_after c.args.who (machine_of g.W.SwapStore.held c.args.self.now) (fetched (machine_of g.W.SwapStore.held c.args.self.now) c.args.who (thread_of c.thread-thread.result) c.thread-thread.ensures) ≡ (machine_of g.W.SwapStore.held c.args.self.now)) × (is_call (fetched (machine_of g.W.SwapStore.held c.args.self.now) c.args.who (thread_of c.thread-thread.result) c.thread-thread.ensures) ≡ true) = call_executed (machine_of g.W.SwapStore.held c.args.self.now) c.args.who (thread_of c.thread-thread.result) (fetched (machine_of g.W.SwapStore.held c.args.self.now) c.args.who (thread_of c.thread-thread.result) c.thread-thread.ensures) (sym (c.run.ensures.answer (thread_of c.thread-thread.result) c.thread-thread.ensures) ∙ c.in-Ecall.is) in
-    let left : machine_of g.W.SwapStore.held c.run.new.self ≡ (machine_of g.W.SwapStore.held c.args.self.now) = (c.run.ensures.machine (thread_of c.thread-thread.result) c.thread-thread.ensures) ∙ called.1 in
+    let called : (executed (at c.args.who (machine_of g.W.SwapStore.held c.args.self.now)) (thread_of c.thread-thread.result.now) (fetched (machine_of g.W.SwapStore.held c.args.self.now) c.args.who (thread_of c.thread-thread.result.now) c.thread-thread.ensures) ≡ after (Call c.args.who (arguments_of (thread_of c.thread-thread.result.now).regs)) (call_settled (at c.args.who (machine_of g.W.SwapStore.held c.args.self.now)) (call (at c.args.who (machine_of g.W.SwapStore.held c.args.self.now)) (arguments_of (thread_of c.thread-thread.result.now).regs)))) × (machine_after c.args.who (machine_of g.W.SwapStore.held c.args.self.now) (fetched (machine_of g.W.SwapStore.held c.args.self.now) c.args.who (thread_of c.thread-thread.result.now) c.thread-thread.ensures) ≡ (machine_of g.W.SwapStore.held c.args.self.now)) × (is_call (fetched (machine_of g.W.SwapStore.held c.args.self.now) c.args.who (thread_of c.thread-thread.result.now) c.thread-thread.ensures) ≡ true) = call_executed (machine_of g.W.SwapStore.held c.args.self.now) c.args.who (thread_of c.thread-thread.result.now) (fetched (machine_of g.W.SwapStore.held c.args.self.now) c.args.who (thread_of c.thread-thread.result.now) c.thread-thread.ensures) (sym (c.run.ensures.answer (thread_of c.thread-thread.result.now) c.thread-thread.ensures) ∙ c.in-Ecall.is) in
+    let left : machine_of g.W.SwapStore.held c.run.new.self ≡ (machine_of g.W.SwapStore.held c.args.self.now) = (c.run.ensures.machine (thread_of c.thread-thread.result.now) c.thread-thread.ensures) ∙ called.1 in
+    let words : c.arguments-words.result ≡ arguments_of (thread_of c.thread-thread.result.now).regs =
+    c.arguments-words.ensures.are ∙ words_stay (machine_of g.W.SwapStore.held c.args.self.now) (machine_of g.W.SwapStore.held c.run.new.self) c.args.who (thread_of c.thread-thread.result.now) (thread_of c.thread.result.now) left c.thread-thread.ensures c.thread.ensures in
     let begun : machine_of g.W.SwapStore.held c.begin-in-Ecall.new.self ≡ at c.args.who (machine_of g.W.SwapStore.held c.args.self.now) = c.begin-in-Ecall.ensures.machine ∙ ap (at c.args.who) left in (
-      built_call (machine_of g.W.SwapStore.held c.args.self.now) c.args.who (thread_of c.thread-thread.result) c.thread-thread.ensures c.requires.who (sym c.ends_thread.ensures ∙ c.if-ends_thread.false) (sym c.ends_handler.ensures ∙ c.if-ends_handler.false) called.2 ∙ ap is_plain_call (sym c.arguments-words.ensures.are) ∙ sym c.is_built.ensures ∙ c.if-not-is_built.false,
+      built_call (machine_of g.W.SwapStore.held c.args.self.now) c.args.who (thread_of c.thread-thread.result.now) c.thread-thread.ensures c.requires.who (sym c.ends_thread.ensures ∙ c.if-ends_thread.false) (sym c.ends_handler.ensures ∙ c.if-ends_handler.false) called.2 ∙ ap is_plain_call (sym words) ∙ sym c.is_built.ensures ∙ c.if-not-is_built.false,
       begun_done g.W.SwapStore.held c.args.self.now c.begin-in-Ecall.new.self c.call.new.self c.args.who (λ w m. after (Call w c.arguments-words.result) (call_settled m (call m c.arguments-words.result)))
-          (told_executed (machine_of g.W.SwapStore.held c.args.self.now) c.args.who (thread_of c.thread-thread.result) c.thread-thread.ensures (sym c.ends_thread.ensures ∙ c.if-ends_thread.false) (sym c.ends_handler.ensures ∙ c.if-ends_handler.false) ∙ called.0 ∙ ap (λ words. after (Call c.args.who words) (call_settled (at c.args.who (machine_of g.W.SwapStore.held c.args.self.now)) (call (at c.args.who (machine_of g.W.SwapStore.held c.args.self.now)) words))) (sym c.arguments-words.ensures.are))
-          begun (c.begin-in-Ecall.ensures.log ∙ (λ i. record (c.run.ensures.log i) { step = run_steps g.W.SwapStore.held c.args.self.now c.run.new.self c.run.new.self c.args.who (fetched (machine_of g.W.SwapStore.held c.args.self.now) c.args.who (thread_of c.thread-thread.result) c.thread-thread.ensures) (c.run.ensures.machine (thread_of c.thread-thread.result) c.thread-thread.ensures) i + 1; records = [] })) c.in_ok-call-in-Ecall.ensures.tells,
-      left_executed (machine_of g.W.SwapStore.held c.args.self.now) c.args.who (thread_of c.thread-thread.result) c.thread-thread.ensures (sym c.ends_thread.ensures ∙ c.if-ends_thread.false) (sym c.ends_handler.ensures ∙ c.if-ends_handler.false)
-          c.run.new.reserved (c.run.ensures.reserved (thread_of c.thread-thread.result) c.thread-thread.ensures),
+          (told_executed (machine_of g.W.SwapStore.held c.args.self.now) c.args.who (thread_of c.thread-thread.result.now) c.thread-thread.ensures (sym c.ends_thread.ensures ∙ c.if-ends_thread.false) (sym c.ends_handler.ensures ∙ c.if-ends_handler.false) ∙ called.0 ∙ ap (λ words. after (Call c.args.who words) (call_settled (at c.args.who (machine_of g.W.SwapStore.held c.args.self.now)) (call (at c.args.who (machine_of g.W.SwapStore.held c.args.self.now)) words))) (sym words))
+          begun (c.begin-in-Ecall.ensures.log ∙ (λ i. record (c.run.ensures.log i) { step = run_steps g.W.SwapStore.held c.args.self.now c.run.new.self c.run.new.self c.args.who (fetched (machine_of g.W.SwapStore.held c.args.self.now) c.args.who (thread_of c.thread-thread.result.now) c.thread-thread.ensures) (c.run.ensures.machine (thread_of c.thread-thread.result.now) c.thread-thread.ensures) i + 1; records = [] })) c.in_ok-call-in-Ecall.ensures.tells,
+      left_executed (machine_of g.W.SwapStore.held c.args.self.now) c.args.who (thread_of c.thread-thread.result.now) c.thread-thread.ensures (sym c.ends_thread.ensures ∙ c.if-ends_thread.false) (sym c.ends_handler.ensures ∙ c.if-ends_handler.false)
+          c.run.new.reserved (c.run.ensures.reserved (thread_of c.thread-thread.result.now) c.thread-thread.ensures),
     )
 
 -- ---- memory doesn't fail
 
 pub returns-in-Failed-clause-sure : goal.returns-in-Failed-clause-sure
-returns-in-Failed-clause-sure g c = absurd (never_fails (fetched (machine_of g.W.SwapStore.held c.args.self.now) c.args.who (thread_of c.thread-thread.result) c.thread-thread.ensures) (sym (c.run.ensures.answer (thread_of c.thread-thread.result) c.thread-thread.ensures) ∙ c.in-Failed.is))
+returns-in-Failed-clause-sure g c = absurd (never_fails (fetched (machine_of g.W.SwapStore.held c.args.self.now) c.args.who (thread_of c.thread-thread.result.now) c.thread-thread.ensures) (sym (c.run.ensures.answer (thread_of c.thread-thread.result.now) c.thread-thread.ensures) ∙ c.in-Failed.is))

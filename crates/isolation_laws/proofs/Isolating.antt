@@ -1,0 +1,3 @@
+pub mod InstructionLemmas
+pub mod SeenMemoryLemmas
+pub mod StepLemmas

@@ -1,0 +1,2 @@
+pub mod BareStepLemmas
+pub mod BareTestLemmas

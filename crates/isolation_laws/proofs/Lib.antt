@@ -1,0 +1,4 @@
+pub mod Blindness
+pub mod Isolating
+pub mod Keeping
+pub mod Ledgers
