@@ -3,5 +3,7 @@
 #![tactic(auto)]
 
 mod isolation;
+mod two_runs;
 
 pub use isolation::{call_changes_no_byte, step_is_isolated};
+pub use two_runs::{runs_are_same_but_bytes, runs_tell_the_same};
