@@ -179,7 +179,7 @@ module _ (m : Machine) (h : Matched m) (r : ready_at m m.cursor ≡ true) (bytes
       and_from (is_pid m.processes p.pid.0) (in_window Heap p.vpn.0)
       (ap (is_pid m.processes) new.own ∙ h.body.processes.pids m.cursor.pid alive_now) new.inside
 
-  can_grow : CanMake m.processes m.capacity m.ledger (caller_place m (heap_start + heap_of m)) (bytes / PAGE_SIZE)
+  pub can_grow : CanMake m.processes m.capacity m.ledger (caller_place m (heap_start + heap_of m)) (bytes / PAGE_SIZE)
   can_grow = record {
     lies = λ p e. is_place_in-user m.processes Heap p (new_lies p (new_place p e));
     free = λ p e. let new = new_place p e in

@@ -39,11 +39,11 @@ use Rattle.machine_laws.proofs.Calling.RunRefusalLemmas.{none_holds, not_false, 
 -- ---- where the pages go
 
 -- n free places of the caller's Map window
-record IsFreeRun (m : Machine) (n : ℕ) (first : Place) : Type 0 where
-  own : first.pid.0 ≡ m.cursor.pid.0
-  low : 393216 ≤ first.vpn.0
-  high : first.vpn.0 + n ≤ 397312
-  free : (p : Place) → in_run first n p ≡ true → is_free m.processes m.ledger p ≡ true
+pub record IsFreeRun (m : Machine) (n : ℕ) (first : Place) : Type 0 where
+  pub own : first.pid.0 ≡ m.cursor.pid.0
+  pub low : 393216 ≤ first.vpn.0
+  pub high : first.vpn.0 + n ≤ 397312
+  pub free : (p : Place) → in_run first n p ≡ true → is_free m.processes m.ledger p ≡ true
 
 least_free : (m : Machine) (n : ℕ) (v : Vpn) → least_run m.processes m.ledger m.cursor.pid Map n ≡ Some v
     → IsFreeRun m n (record { pid = m.cursor.pid; vpn = v })
@@ -62,7 +62,7 @@ least_free m n v e =
 page_of_start : (v : ℕ) → v ≡ 4096 * v / 4096
 page_of_start v = omega arith
 
-map_run : (m : Machine) (virt n : ℕ) (b : Bool) (o : Option Vpn) → least_run m.processes m.ledger m.cursor.pid Map n ≡ o
+pub map_run : (m : Machine) (virt n : ℕ) (b : Bool) (o : Option Vpn) → least_run m.processes m.ledger m.cursor.pid Map n ≡ o
     → not b && not (fits_window Map (virt / PAGE_SIZE) n) ≡ false
     → not b && any_used m.processes m.ledger (caller_place m virt) n ≡ false
     → b && is_none o ≡ false
@@ -167,15 +167,15 @@ module _ (m : Machine) (h : Matched m) (r : ready_at m m.cursor ≡ true) (n : �
 -- ---- the call
 
 -- what the refusals leave true
-record IsMappable (m : Machine) (phys virt size flags : ℕ) : Type 0 where
-  one : (phys == CONSOLE_ADDRESS) && (not (size == PAGE_SIZE) || has_flag flags flag_execute) ≡ false
-  none : (phys == CONSOLE_ADDRESS) && console_mapped m.processes m.ledger ≡ false
-  fits : not (virt == 0) && not (fits_window Map (virt / PAGE_SIZE) (size / PAGE_SIZE)) ≡ false
-  unused : not (virt == 0) && any_used m.processes m.ledger (caller_place m virt) (size / PAGE_SIZE) ≡ false
-  found : (virt == 0) && is_none (least_run m.processes m.ledger m.cursor.pid Map (size / PAGE_SIZE)) ≡ false
-  room : not (phys == CONSOLE_ADDRESS) && are_too_many m (size / PAGE_SIZE) ≡ false
+pub record IsMappable (m : Machine) (phys virt size flags : ℕ) : Type 0 where
+  pub one : (phys == CONSOLE_ADDRESS) && (not (size == PAGE_SIZE) || has_flag flags flag_execute) ≡ false
+  pub none : (phys == CONSOLE_ADDRESS) && console_mapped m.processes m.ledger ≡ false
+  pub fits : not (virt == 0) && not (fits_window Map (virt / PAGE_SIZE) (size / PAGE_SIZE)) ≡ false
+  pub unused : not (virt == 0) && any_used m.processes m.ledger (caller_place m virt) (size / PAGE_SIZE) ≡ false
+  pub found : (virt == 0) && is_none (least_run m.processes m.ledger m.cursor.pid Map (size / PAGE_SIZE)) ≡ false
+  pub room : not (phys == CONSOLE_ADDRESS) && are_too_many m (size / PAGE_SIZE) ≡ false
 
-mappable : (m : Machine) (phys virt size flags : ℕ) → first_refusal (map_refusals m phys virt size flags) ≡ None
+pub mappable : (m : Machine) (phys virt size flags : ℕ) → first_refusal (map_refusals m phys virt size flags) ≡ None
     → IsMappable m phys virt size flags
 mappable m phys virt size flags e =
     let console = phys == CONSOLE_ADDRESS in
@@ -214,7 +214,7 @@ first_in first size e =
     let one : size / 4096 ≡ 1 = one_page size e in
     in_run-from first (size / PAGE_SIZE) first (record { pid = refl; from = omega arith; to = omega arith })
 
-console_one : (console x : Bool) (first : Place) (size : ℕ) → console && (not (size == PAGE_SIZE) || x) ≡ false → console ≡ true
+pub console_one : (console x : Bool) (first : Place) (size : ℕ) → console && (not (size == PAGE_SIZE) || x) ≡ false → console ≡ true
     → in_run first (size / PAGE_SIZE) first ≡ true
 console_one true x first size e q =
     first_in first size (eqb-true size PAGE_SIZE (not_false (size == PAGE_SIZE) (or_parts (not (size == PAGE_SIZE)) x e).0))

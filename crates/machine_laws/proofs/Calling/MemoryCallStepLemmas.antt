@@ -40,7 +40,7 @@ like_removed m places h can = record {
   stand = λ p page e. stands_now m h p page (removed_stood (places p) (m.ledger.home p) page e);
 }
 
-unmap_loan : (m : Machine) (address size : ℕ) → first_refusal (unmap_refusals m address size) ≡ None
+pub unmap_loan : (m : Machine) (address size : ℕ) → first_refusal (unmap_refusals m address size) ≡ None
     → any_on_loan m.processes m.ledger (caller_place m address) (size / PAGE_SIZE) ≡ false
 unmap_loan m address size e =
     let third = (any_on_loan m.processes m.ledger (caller_place m address) (size / PAGE_SIZE), ShareViolation) ∷ [] in
@@ -80,7 +80,7 @@ like_reduced m places right h can = record {
   stand = λ p page e. let old = reduced_stood right (places p) (m.ledger.home p) page e in stands_now m h p old.0 old.1;
 }
 
-update_allowed : (m : Machine) (address size flags : ℕ) → first_refusal (update_refusals m address size flags) ≡ None
+pub update_allowed : (m : Machine) (address size flags : ℕ) → first_refusal (update_refusals m address size flags) ≡ None
     → (any_on_loan m.processes m.ledger (caller_place m address) (size / PAGE_SIZE) ≡ false)
     × (any_lacks (right_of flags) m.ledger (caller_place m address) (size / PAGE_SIZE) ≡ false)
 update_allowed m address size flags e =

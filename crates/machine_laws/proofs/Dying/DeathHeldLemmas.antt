@@ -118,7 +118,7 @@ module _ (m : Machine) (h : Matched m) (pid : Pid) where
           none_if (second_answers id) (own_receives pid held_numbers (λ n. false) m.threads no_answers id x serial e there s)
       by_receives id x serial there s false e = other_answer pid held_numbers (λ n. false) m.threads no_answers id e
 
-  held_below : AreBelow held_numbers m.next_number
+  pub held_below : AreBelow held_numbers m.next_number
   held_below number e =
       let at : PassingServer m (λ n server. list_any (λ x. is_of_number number x && is_sent_from pid x) server.held) = passing_server m _ e in
       let place = listed_at (λ x. is_of_number number x && is_sent_from pid x) at.server.held at.passes in

@@ -26,7 +26,7 @@ use Rattle.machine_model.specs.Stepping.Reservations.{unreserved}
 use Rattle.machine_model.proofs.Matching.CountLemmas.{first_in}
 use Rattle.machine_model.proofs.Matching.OneMessageLemmas.{HasServer, one_server}
 use Rattle.machine_laws.proofs.Dying.DeathClosingLemmas.{gone, own, queued_gone_machine, queued_gone_matched, refused}
-use Rattle.machine_laws.proofs.Dying.DeathForgetLemmas.{forgotten_matched}
+use Rattle.machine_laws.proofs.Dying.DeathForgetLemmas.{IsForgettable, forgotten_matched}
 use Rattle.machine_laws.proofs.Dying.DeathHeldLemmas.{held_gone_machine, held_gone_matched, held_numbers}
 use Rattle.machine_laws.proofs.Dying.DeathLoanLemmas.{plain_forgettable}
 use Rattle.machine_laws.proofs.Dying.StoppedThreadLemmas.{other_answer}
@@ -56,16 +56,16 @@ sent_from pid id x own by = go x.sender by
     go (Some who) e = sym (ap (λ (v : ThreadId). v.pid.0 == pid.0) (alike id who e)) ∙ own
 
 module _ (m : Machine) (h : Matched m) (pid : Pid) where
-  abbrev first : Machine
+  abbrev pub first : Machine
   first = queued_gone_machine m h pid
 
-  first_matched : Matched first
+  pub first_matched : Matched first
   first_matched = queued_gone_matched m h pid
 
-  abbrev second : Machine
+  abbrev pub second : Machine
   second = held_gone_machine first first_matched pid
 
-  second_matched : Matched second
+  pub second_matched : Matched second
   second_matched = held_gone_matched first first_matched pid
 
   -- ---- what is left of the process
@@ -124,8 +124,12 @@ module _ (m : Machine) (h : Matched m) (pid : Pid) where
       go false none = refl
       go true one = at_server (one_server second.servers (is_sent_as id number) one)
 
+  -- .. and so no page of it is on loan
+  pub last_forgettable : IsForgettable second pid
+  last_forgettable = plain_forgettable second second_matched pid strange unwaiting
+
   last_matched : Matched (forgotten pid second)
-  last_matched = forgotten_matched second second_matched pid (plain_forgettable second second_matched pid strange unwaiting)
+  last_matched = forgotten_matched second second_matched pid last_forgettable
 
   -- ---- the same threads are left
 
@@ -141,7 +145,7 @@ module _ (m : Machine) (h : Matched m) (pid : Pid) where
       ∙ sym (λ i. option_map (with_answer (other_answer pid (held_numbers first first_matched pid) (λ n. false) first.threads no_answers id e i))
       (option_map (with_answer (other_answer pid (gone m h pid) (own m h pid) m.threads (refused m h pid) id e i)) (m.threads id)))
 
-  death_is : (settled (death pid m)).machine ≡ forgotten pid second
+  pub death_is : (settled (death pid m)).machine ≡ forgotten pid second
   unfolding settled death servers_closed closed senders_queued_gone senders_held_gone forgotten any_server
   death_is = λ i. record (forgotten pid second) { threads = λ id. thread_same id (id.pid.0 == pid.0) refl i }
 

@@ -1,0 +1,15 @@
+pub mod CallFateLemmas
+pub mod CallTableLemmas
+pub mod CauseFateLemmas
+pub mod DeathFateLemmas
+pub mod DestroyFateLemmas
+pub mod EndedFateLemmas
+pub mod FateLemmas
+pub mod ForwardFateLemmas
+pub mod InstructionFateLemmas
+pub mod LeavingCallLemmas
+pub mod LikeLemmas
+pub mod MemoryCallLemmas
+pub mod ReturnFateLemmas
+pub mod SendFateLemmas
+pub mod ServedFateLemmas

@@ -1,0 +1,276 @@
+-- The fate of a number in a served ForwardMessage: the loan of the number that is named goes to other places of a holder, and the
+-- caller's process was its holder before.
+use Rattle.std.proofs.Common.{◌≡◌, ℕ, ◌+◌, ◌-◌, ◌<◌, ◌≤◌, ◌⊎◌, Bool, true, false, List, [], ◌∷◌, Option, Some, None, refl, sym, ap, ◌∙◌, arith, inl, inr, subst}
+use Rattle.std.specs.Prelude.{is_none, is_some, nat_le, unwrap_or}
+use Rattle.std.specs.Option.{option_and_then, option_map, option_map_or}
+use Rattle.std.proofs.lemmas.Bool.{and_from, and_parts, false≢true, le-leb}
+use Rattle.std.proofs.lemmas.Option.{none-some}
+use Rattle.xk_base.specs.declared.errors.XousError.TheVariants.{DoubleFree, InvalidSyscall, MemoryInUse, ServerNotFound, ServerQueueFull}
+use Rattle.xk_base.specs.declared.ids.Number.{Number}
+use Rattle.xk_base.specs.declared.ids.Place.{Place}
+use Rattle.xk_base.specs.declared.ids.Serial.{Serial}
+use Rattle.xk_base.specs.declared.ids.ThreadId.{ThreadId}
+use Rattle.xk_base.specs.declared.ids.Vpn.{Vpn}
+use Rattle.xk_base.specs.declared.messages.Message.{Message}
+use Rattle.xk_base.specs.declared.windows.Window.TheVariants.{Message as MessageWindow}
+use Rattle.xk_base.specs.CallNumbers.{forward_message}
+use Rattle.xk_base.specs.CallWords.{call_number, forward_cid}
+use Rattle.xk_base.specs.Circle.{is_pid}
+use Rattle.xk_base.specs.Connections.{connected_to}
+use Rattle.xk_base.specs.Windows.{in_window}
+use Rattle.ledger_model.specs.Conditions.{CanPass}
+use Rattle.ledger_model.specs.Ledger.{Orphaned, Homed, Page, contents_of}
+use Rattle.ledger_model.specs.Loans.{IsFresh, LoanRun, Stands, loans, same_number, with_holder}
+use Rattle.ledger_model.specs.Places.{in_run, is_place_in, place_after}
+use Rattle.ledger_model.specs.Reach.{is_free}
+use Rattle.ledger_model.specs.Steps.{pass, passed}
+use Rattle.ledger_model.proofs.LedgerLemmas.{same_number-true}
+use Rattle.ledger_model.proofs.LeastRunLemmas.{is_free_run-each, least_run-Some}
+use Rattle.ledger_model.proofs.PlaceLemmas.{in_run-index, in_run-true}
+use Rattle.ledger_model.proofs.Stepping.PassingLemmas.{pass_fresh, pass_stands}
+use Rattle.machine_model.specs.Messaging.ForwardCalls.{are_one_server, forward_call, forward_refusals, forward_served, forward_served_if, forwarded_to, held_place, is_passable_of, next_arrival, next_arrival_refusals, passable, passed_from, passed_message, passed_number, passed_place, passed_to, with_first}
+use Rattle.machine_model.specs.Messaging.Messages.{is_lend, is_lend_of, is_of_number}
+use Rattle.machine_model.specs.Messaging.Receivers.{receiver}
+use Rattle.machine_model.specs.Messaging.SendCalls.{arrived, message_run}
+use Rattle.machine_model.specs.Runs.LoanSpan.{IsIn, IsOut, page_name, right_of_name}
+use Rattle.machine_model.specs.Runs.Matched.{Matched}
+use Rattle.machine_model.specs.Runs.Moments.{ByStep}
+use Rattle.machine_model.specs.State.Changes.{Served}
+use Rattle.machine_model.specs.State.Connections.{own_connections}
+use Rattle.machine_model.specs.State.Machine.{Machine, Server}
+use Rattle.machine_model.specs.State.Servers.{is_full, serial_of, server_at}
+use Rattle.machine_model.specs.Stepping.Acts.{is_call_served}
+use Rattle.machine_model.proofs.SpanLemmas.{out_or_in}
+use Rattle.machine_laws.proofs.Calling.RunRefusalLemmas.{none_holds}
+use Rattle.machine_laws.proofs.Threading.ThreadStepLemmas.{turned_to}
+use Rattle.span_laws.specs.Fates.{Fate, IsKept}
+use Rattle.span_laws.specs.Leaving.{Leaves}
+use Rattle.span_laws.proofs.Fates.CallTableLemmas.{OfServed, of_unless_refused}
+use Rattle.span_laws.proofs.Fates.FateLemmas.{fate_in, fate_left, fate_out}
+use Rattle.span_laws.proofs.Fates.ServedFateLemmas.{HasServedFate, IsCaller, served_call}
+use Rattle.span_laws.proofs.Leaving.LedgerStepLemmas.{pass_leaves}
+use Rattle.span_laws.proofs.Lending.HeldMessageLemmas.{IsHeldBy, held_by, held_passes, held_run}
+use Rattle.span_laws.proofs.Lending.LendMessageLemmas.{From, IsRunOf, IsSentBy, Senderless}
+
+-- ---- where its pages go
+
+-- free places of the Message window of a living process
+record IsArrival (m : Machine) (to : Place) (n : ℕ) : Type 0 where
+  free : (p : Place) → in_run to n p ≡ true → is_free m.processes m.ledger p ≡ true
+  lies : (p : Place) → in_run to n p ≡ true → is_place_in m.processes MessageWindow p ≡ true
+
+server_lives : (m : Machine) → Matched m → (o : Option Serial) (server : Server) → option_and_then (λ serial. m.servers serial.0) o ≡ Some server
+    → is_pid m.processes server.pid.0 ≡ true
+server_lives m h None server e = absurd (none-some server e)
+server_lives m h (Some serial) server e = h.body.processes.pids server.pid (h.body.servers.living serial.0 server e)
+
+in_message_window : (first n v : ℕ) → 262144 ≤ first → first + n ≤ 266240 → first ≤ v → v < first + n → in_window MessageWindow v ≡ true
+in_message_window first n v low high from to =
+    and_from (nat_le 262144 v) (nat_le v 266239) (le-leb 262144 v (omega arith)) (le-leb v 266239 (omega arith))
+
+arrival_of : (m : Machine) → Matched m → (cid n : ℕ) (first : Vpn) → option_and_then (message_run m n) (server_at m cid) ≡ Some first
+    → IsArrival m (passed_place m cid first) n
+arrival_of m h cid n first e = go (server_at m cid) refl e
+  where
+    go : (o : Option Server) → server_at m cid ≡ o → option_and_then (message_run m n) o ≡ Some first
+        → IsArrival m (record { pid = option_map_or (λ server. server.pid) o m.cursor.pid; vpn = first }) n
+    go None q r = absurd (none-some first r)
+    go (Some server) q r =
+        let run = least_run-Some m.processes m.ledger server.pid MessageWindow n first r in
+        let to : Place = record { pid = server.pid; vpn = first } in
+        record {
+          free = λ p inside.
+              let at = in_run-index to n p inside in
+              ap (is_free m.processes m.ledger) at.1 ∙ is_free_run-each m.processes m.ledger to n run.free (p.vpn.0 - first.0) at.0;
+          lies = λ p inside.
+              let at = in_run-true to n p inside in
+              and_from (is_pid m.processes p.pid.0) (in_window MessageWindow p.vpn.0)
+              (ap (is_pid m.processes) at.pid ∙ server_lives m h (connected_to (own_connections m) cid) server q)
+              (in_message_window first.0 n p.vpn.0 run.low run.high at.from at.to);
+        }
+
+-- ---- the pages of the loan stay
+
+passed_right : (number : Number) (from to : Place) (o : Option Page)
+    → option_map (λ page. page.right) (option_map (passed number from to) o) ≡ option_map (λ page. page.right) o
+passed_right number from to None = refl
+passed_right number from to (Some page) = refl
+
+passed_contents : (number : Number) (from to : Place) (o : Option Page)
+    → option_map (λ page. page.contents) (option_map (passed number from to) o) ≡ option_map (λ page. page.contents) o
+passed_contents number from to None = refl
+passed_contents number from to (Some page) = refl
+
+name_at_home : (r : LoanRun) (home : Place) (k : ℕ) → r.lender ≡ Some home → page_name r k ≡ Homed (place_after home k)
+name_at_home r home k e = ap (λ o. option_map_or (λ from. Homed (place_after from k)) o (Orphaned (place_after r.holder k))) e
+
+-- ---- the loan
+
+arrived_ledger : (o : Option ThreadId) (to : Serial) (message : Message) (paged : Machine)
+    → ((arrived o to message paged).machine.ledger ≡ paged.ledger) × ((arrived o to message paged).machine.next_number ≡ paged.next_number)
+arrived_ledger None to message paged = (refl, refl)
+arrived_ledger (Some who) to message paged = (refl, refl)
+
+passed_left : (m : Machine) (cid : ℕ) (first : Vpn) (from to : Serial) (message : Message)
+    → ((passed_message m cid first from to message).machine.ledger ≡ pass message.number (held_place m message) (passed_place m cid first) m.ledger)
+    × ((passed_message m cid first from to message).machine.next_number ≡ m.next_number)
+passed_left m cid first from to message = arrived_ledger (receiver m to) to (with_first first message) _
+
+module _ (number : Number) (m : Machine) (who : ThreadId) (w : List ℕ) (h : Matched m) (turned : Matched (turned_to who m))
+    (calls : IsCaller m who w) (forwards : call_number w ≡ forward_message) where
+  abbrev n : Machine
+  n = turned_to who m
+
+  module _ (message : Message) (there : passable n (passed_number w) ≡ Some message) (first : Vpn)
+      (arrives : option_and_then (message_run n message.count) (server_at n (forward_cid w)) ≡ Some first) where
+    abbrev to : Place
+    to = passed_place n (forward_cid w) first
+
+    held : IsHeldBy m who.pid (is_passable_of (passed_number w)) message
+    held =
+        let at = held_by n (is_passable_of (passed_number w)) message there in
+        record { serial = at.serial; server = at.server; live = at.live; own = at.own; found = at.found }
+
+    passes : (is_lend_of (passed_number w) message ≡ true) × (is_some message.sender ≡ true)
+    passes =
+        and_parts (is_lend_of (passed_number w) message) (is_some message.sender)
+        (held_passes m who.pid (is_passable_of (passed_number w)) message held)
+
+    named : message.number ≡ passed_number w
+    named =
+        same_number-true message.number (passed_number w) (and_parts (is_of_number (passed_number w) message) (is_lend message.kind) passes.0).0
+
+    module _ (after : Machine) (is : after.ledger ≡ pass message.number (held_place n message) to m.ledger)
+        (climbs : m.next_number ≤ after.next_number) (accepted : is_call_served m who w ≡ true) (same : message.number ≡ number) where
+      module _ (a : LoanRun) (out : IsOut number m a) where
+        run : IsRunOf held.server message a
+        run =
+            held_run m number who.pid (is_passable_of (passed_number w)) message h held
+            (subst (λ k. is_lend_of k message ≡ true) (sym named ∙ same) passes.0) a out
+
+        lender_there : (o : Option Place) → IsSentBy o message.sender → (home : Place) × (o ≡ Some home)
+        lender_there o (Senderless none nobody) = absurd (false≢true (ap is_some (sym nobody) ∙ passes.1))
+        lender_there o (From home sender e f g) = (home, e)
+
+        lent : (home : Place) × (a.lender ≡ Some home)
+        lent =
+            let at = lender_there run.lender run.sent in
+            (at.0, ap (λ (r : LoanRun). r.lender) run.run ∙ at.1)
+
+        holder : a.holder ≡ held_place n message
+        holder = ap (λ (r : LoanRun). r.holder) run.run ∙ ap (λ pid. record { pid = pid; vpn = message.first }) held.own
+
+        arrival : IsArrival n to a.count
+        arrival =
+            arrival_of n turned (forward_cid w) a.count first
+            (subst (λ c. option_and_then (message_run n c) (server_at n (forward_cid w)) ≡ Some first)
+            (sym (ap (λ (r : LoanRun). r.count) run.run)) arrives)
+
+        can : CanPass m.processes m.ledger a to
+        can = record {
+          stands = out.stands;
+          lent = ap is_some lent.1;
+          free = arrival.free;
+          lies = arrival.lies;
+        }
+
+        ledger_now : after.ledger ≡ pass a.number a.holder to m.ledger
+        ledger_now = is ∙ (λ i. pass ((same ∙ sym out.numbered) i) (sym holder i) to m.ledger)
+
+        now : IsOut number after (with_holder to a)
+        now = record {
+          numbered = out.numbered;
+          some = out.some;
+          stands = subst (λ l. Stands (loans l) (with_holder to a)) (sym ledger_now) (pass_stands m.processes m.ledger a to can);
+        }
+
+        kept : IsKept number m (record { cause = ByStep; machine = after }) a (with_holder to a)
+        kept = record {
+          kind = refl;
+          count = refl;
+          lender = λ home e. e;
+          rights = λ home k e low.
+              ap (right_of_name m.ledger) (name_at_home a home k e)
+              ∙ (sym (rights (place_after home k)) ∙ sym (ap (right_of_name after.ledger) (name_at_home (with_holder to a) home k e)));
+          holder = inr (record {
+            words = w;
+            served = served_call m who w after a.holder.pid calls accepted (sym (ap (λ (p : Place). p.pid) holder));
+            forwards = forwards;
+            token = sym (ap (λ (k : Number). k.0) named) ∙ ap (λ (k : Number). k.0) same;
+          });
+          bytes = λ k low. inl (
+              ap (contents_of m.ledger) (name_at_home a lent.0 k lent.1)
+              ∙ (sym (contents (place_after lent.0 k)) ∙ sym (ap (contents_of after.ledger) (name_at_home (with_holder to a) lent.0 k lent.1))));
+        }
+          where
+            rights : (p : Place) → right_of_name after.ledger (Homed p) ≡ right_of_name m.ledger (Homed p)
+            rights p = ap (λ l. right_of_name l (Homed p)) ledger_now ∙ passed_here p
+              where
+                passed_here : (p : Place) → right_of_name (pass a.number a.holder to m.ledger) (Homed p) ≡ right_of_name m.ledger (Homed p)
+                passed_here p = unfold pass in passed_right a.number a.holder to (m.ledger.home p)
+
+            contents : (p : Place) → contents_of after.ledger (Homed p) ≡ contents_of m.ledger (Homed p)
+            contents p = ap (λ l. contents_of l (Homed p)) ledger_now ∙ passed_here p
+              where
+                passed_here : (p : Place) → contents_of (pass a.number a.holder to m.ledger) (Homed p) ≡ contents_of m.ledger (Homed p)
+                passed_here p = unfold pass in passed_contents a.number a.holder to (m.ledger.home p)
+
+      this_fate : Fate number m (record { cause = ByStep; machine = after })
+      this_fate = go (out_or_in m number h)
+        where
+          fresh_after : IsIn number m → IsIn number after
+          fresh_after fresh =
+              subst (λ l. IsFresh (loans l) number) (sym is)
+              (subst (λ k. IsFresh (loans (pass k (held_place n message) to m.ledger)) number) (sym same)
+              (pass_fresh number (held_place n message) to m.ledger fresh))
+
+          go : IsIn number m ⊎ ((loan : LoanRun) × IsOut number m loan) → Fate number m (record { cause = ByStep; machine = after })
+          go (inl fresh) = fate_in number m (record { cause = ByStep; machine = after }) fresh (fresh_after fresh) climbs
+          go (inr (a, out)) = fate_out number m (record { cause = ByStep; machine = after }) a (with_holder to a) out (now a out) (kept a out) climbs
+
+    forwarded_fate : (from goal : Serial) → HasServedFate number m who w (passed_message n (forward_cid w) first from goal message)
+    forwarded_fate from goal after like accepted = go (same_number message.number number) refl
+      where
+        is : after.ledger ≡ pass message.number (held_place n message) to m.ledger
+        is = like.ledger ∙ (passed_left n (forward_cid w) first from goal message).0
+
+        climbs : m.next_number ≤ after.next_number
+        climbs =
+            let equal : after.next_number ≡ m.next_number = like.number ∙ (passed_left n (forward_cid w) first from goal message).1 in omega arith
+
+        go : (b : Bool) → same_number message.number number ≡ b → Fate number m (record { cause = ByStep; machine = after })
+        go true e = this_fate after is climbs accepted (same_number-true message.number number e)
+        go false e =
+            fate_left number m (record { cause = ByStep; machine = after }) h
+            (subst (λ l. Leaves number m.ledger l) (sym is) (pass_leaves number message.number (held_place n message) to m.ledger e)) climbs
+
+  -- ---- the call
+
+  by_message : (o : Option Message) → passable n (passed_number w) ≡ o → is_none o ≡ false → (first : Option Vpn) → is_none first ≡ false
+      → option_and_then (message_run n (option_map_or (λ message. message.count) o 0)) (server_at n (forward_cid w)) ≡ first
+      → HasServedFate number m who w (forward_served_if n (passed_number w) (forward_cid w) (unwrap_or first (record { 0 = 0 })) o)
+  by_message None e some first found arrives = absurd (false≢true (sym some))
+  by_message (Some message) e some None found arrives = absurd (false≢true (sym found))
+  by_message (Some message) e some (Some first) found arrives =
+      forwarded_fate message e first arrives (unwrap_or (passed_from n (passed_number w)) (serial_of 0))
+      (unwrap_or (passed_to n (forward_cid w)) (serial_of 0))
+
+  arrives_as : next_arrival n (passed_number w) (forward_cid w)
+      ≡ option_and_then (message_run n (option_map_or (λ message. message.count) (passable n (passed_number w)) 0)) (server_at n (forward_cid w))
+  unfolding next_arrival
+  arrives_as = refl
+
+  pub forward_fate : OfServed (HasServedFate number m who w) (forward_call n w)
+  unfolding forward_call
+  forward_fate =
+      let first = next_arrival n (passed_number w) (forward_cid w) in
+      of_unless_refused (HasServedFate number m who w) (forward_refusals n (passed_number w) (forward_cid w)) (forwarded_to n w first)
+      (λ none. of_unless_refused (HasServedFate number m who w) (next_arrival_refusals first)
+      (Served (forward_served n (passed_number w) (forward_cid w) first))
+      (λ there. by_message (passable n (passed_number w)) refl
+      (none_holds (is_none (passable n (passed_number w))) DoubleFree
+      ((is_none (server_at n (forward_cid w)), ServerNotFound)
+      ∷ (are_one_server (passed_from n (passed_number w)) (passed_to n (forward_cid w)), InvalidSyscall)
+      ∷ (is_full (server_at n (forward_cid w)), ServerQueueFull)
+      ∷ []) none).0
+      first (none_holds (is_none first) MemoryInUse [] there).0 (sym arrives_as)))

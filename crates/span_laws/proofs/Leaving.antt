@@ -1,0 +1,5 @@
+pub mod LedgerStepLemmas
+pub mod NumberPageLemmas
+pub mod OrphanedPageLemmas
+pub mod SameRunLemmas
+pub mod StoredPageLemmas

@@ -1,0 +1,5 @@
+pub mod ClosedLendLemmas
+pub mod DeadSenderLemmas
+pub mod HeldMessageLemmas
+pub mod LendMessageLemmas
+pub mod LentPageLemmas

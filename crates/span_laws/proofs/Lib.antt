@@ -1,0 +1,4 @@
+pub mod Fates
+pub mod Leaving
+pub mod Lending
+pub mod Spans

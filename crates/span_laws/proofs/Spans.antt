@@ -1,0 +1,2 @@
+pub mod SpanInductionLemmas
+pub mod RunSpanLemmas
