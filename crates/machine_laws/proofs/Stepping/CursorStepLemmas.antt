@@ -31,7 +31,8 @@ use Rattle.machine_model.specs.Ending.Closing.{closed, destroyed, senders_held_g
 use Rattle.machine_model.specs.Ending.Ends.{death, end_with_last_thread, forgotten, handler_ended, has_threads, thread_ended}
 use Rattle.machine_model.specs.Hart.Instructions.{Executed, Next, Stores, StoresToConsole, StoresToTimer, CallsKernel, Traps}
 use Rattle.machine_model.specs.Messaging.ForwardCalls.{forward_call, forward_refusals, forward_served, forward_served_if, held_place, next_arrival, next_arrival_refusals, passable, passed_from, passed_number, passed_place, passed_to, with_first}
-use Rattle.machine_model.specs.Messaging.Messages.{is_answered, new_message, new_number, without_held}
+use Rattle.xk_base.specs.Kinds.{is_answered}
+use Rattle.machine_model.specs.Messaging.Messages.{new_message, new_number, without_held}
 use Rattle.machine_model.specs.Messaging.ReceiveCalls.{oldest_queued, receive_call, receive_served, received, try_receive_call, try_receive_served, waits_at}
 use Rattle.machine_model.specs.Messaging.Receivers.{receiver}
 use Rattle.machine_model.specs.Messaging.ReturnCalls.{named_number, return_memory_call, return_memory_refusals, return_memory_served, return_scalar1_call, return_scalar2_call, return_scalar_refusals, return_scalar_served}
@@ -42,7 +43,8 @@ use Rattle.machine_model.specs.Runs.Moments.{ByStep}
 use Rattle.machine_model.specs.State.Changes.{Change, Outcome, Refused, Retried, Served, Told, answering, call_settled, first_refusal, refused_or, settled, unless_refused, unless_retried}
 use Rattle.machine_model.specs.State.Machine.{Claim, Idle, Machine, Thread}
 use Rattle.machine_model.specs.State.Order.{actor, next_ready, ready_at, turn}
-use Rattle.machine_model.specs.State.Servers.{change_server, serial_of}
+use Rattle.xk_base.specs.Sids.{serial_of}
+use Rattle.machine_model.specs.State.Servers.{change_server}
 use Rattle.machine_model.specs.State.Threads.{answer_to, change_thread, put_thread, thread_id, with_state}
 use Rattle.machine_model.specs.State.Views.{stored, timer_set}
 use Rattle.machine_model.specs.Stepping.Interrupts.{delivered, delivered_lowest, handler_started, is_free_for_interrupt, lowest_pending, with_handler_next}

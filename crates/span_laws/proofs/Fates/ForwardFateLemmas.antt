@@ -38,7 +38,8 @@ use Rattle.machine_model.specs.Runs.Moments.{ByStep}
 use Rattle.machine_model.specs.State.Changes.{Served}
 use Rattle.machine_model.specs.State.Connections.{own_connections}
 use Rattle.machine_model.specs.State.Machine.{Machine, Server}
-use Rattle.machine_model.specs.State.Servers.{is_full, serial_of, server_at}
+use Rattle.xk_base.specs.Sids.{serial_of}
+use Rattle.machine_model.specs.State.Servers.{is_full, server_at}
 use Rattle.machine_model.specs.Stepping.Acts.{is_call_served}
 use Rattle.machine_model.proofs.SpanLemmas.{out_or_in}
 use Rattle.machine_laws.proofs.Calling.RunRefusalLemmas.{none_holds}

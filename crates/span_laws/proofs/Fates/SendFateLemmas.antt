@@ -29,7 +29,8 @@ use Rattle.machine_model.specs.Calling.MemoryCalls.{caller_place, is_bad_range}
 use Rattle.machine_model.specs.Messaging.Messages.{carries_pages, is_lend, new_number}
 use Rattle.machine_model.specs.Messaging.Receivers.{receiver}
 use Rattle.machine_model.specs.Messaging.SendCalls.{arrival, arrival_refusals, arrived, is_full_for, message_run, named_kind, send_call, send_refusals, send_served, sender_left, sends_lend_mut, sends_pages, sent, sent_ledger, sent_pages, sent_place, sent_serial, sent_to, try_send_call, with_sent}
-use Rattle.machine_model.specs.Messaging.Messages.{is_answered, new_message}
+use Rattle.xk_base.specs.Kinds.{is_answered}
+use Rattle.machine_model.specs.Messaging.Messages.{new_message}
 use Rattle.machine_model.specs.Runs.LoanSpan.{IsOut, Opens, is_lend_call, is_send}
 use Rattle.machine_model.specs.Runs.Matched.{Matched}
 use Rattle.machine_model.specs.Runs.Moments.{ByStep}

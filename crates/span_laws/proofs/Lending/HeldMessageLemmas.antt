@@ -15,7 +15,8 @@ use Rattle.machine_model.specs.Messaging.ReturnCalls.{held_at, held_by_caller, h
 use Rattle.machine_model.specs.Runs.LoanSpan.{IsOut}
 use Rattle.machine_model.specs.Runs.Matched.{IsMessageLent, Matched}
 use Rattle.machine_model.specs.State.Machine.{Machine, Server}
-use Rattle.machine_model.specs.State.Servers.{is_server_of, serial_of}
+use Rattle.xk_base.specs.Sids.{serial_of}
+use Rattle.machine_model.specs.State.Servers.{is_server_of}
 use Rattle.machine_model.proofs.Matching.CountLemmas.{all_right}
 use Rattle.machine_laws.proofs.Calling.ReturnMemoryLemmas.{found_at}
 use Rattle.span_laws.proofs.Lending.LendMessageLemmas.{IsRunOf, run_of_message}
