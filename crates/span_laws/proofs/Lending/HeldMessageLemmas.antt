@@ -18,7 +18,7 @@ use Rattle.machine_model.specs.State.Machine.{Machine, Server}
 use Rattle.xk_base.specs.Sids.{serial_of}
 use Rattle.machine_model.specs.State.Servers.{is_server_of}
 use Rattle.machine_model.proofs.Matching.CountLemmas.{all_right}
-use Rattle.machine_laws.proofs.Calling.ReturnMemoryLemmas.{found_at}
+use Rattle.machine_laws.proofs.Returning.GivenBackLemmas.{found_at}
 use Rattle.span_laws.proofs.Lending.LendMessageLemmas.{IsRunOf, run_of_message}
 
 -- a server of the process holds the message, as the first that passes
