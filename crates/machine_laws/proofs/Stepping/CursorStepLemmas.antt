@@ -18,8 +18,10 @@ use Rattle.xk_base.specs.CallNumbers.{call_numbers, is_call_number}
 use Rattle.xk_base.specs.CallWords.{call_number, forward_cid, heap_bytes, interrupt_argument, interrupt_handler, interrupt_number, join_tid, map_flags, map_phys, map_size, map_virt, range_address, range_flags, range_size, return_address, return_offset, return_size, return_valid, return_value1, return_value2, send_address, thread_arguments, thread_entry, thread_sp}
 use Rattle.xk_base.specs.Circle.{is_pid, is_thread_id}
 use Rattle.xk_base.specs.Counting.{put_at}
+use Rattle.xk_base.specs.Kinds.{is_answered}
 use Rattle.xk_base.specs.Registers.{arguments_of, reg_at}
 use Rattle.xk_base.specs.Replies.{plain_words, scalar1_words, scalar2_words, thread_words}
+use Rattle.xk_base.specs.Sids.{serial_of}
 use Rattle.xk_base.proofs.CircleLemmas.{next_id-valid}
 use Rattle.ledger_model.specs.Steps.{pass}
 use Rattle.machine_model.specs.Calling.Calls.{any_refusals, call, call_at, call_table}
@@ -31,7 +33,6 @@ use Rattle.machine_model.specs.Ending.Closing.{closed, destroyed, senders_held_g
 use Rattle.machine_model.specs.Ending.Ends.{death, end_with_last_thread, forgotten, handler_ended, has_threads, thread_ended}
 use Rattle.machine_model.specs.Hart.Instructions.{Executed, Next, Stores, StoresToConsole, StoresToTimer, CallsKernel, Traps}
 use Rattle.machine_model.specs.Messaging.ForwardCalls.{forward_call, forward_refusals, forward_served, forward_served_if, held_place, next_arrival, next_arrival_refusals, passable, passed_from, passed_number, passed_place, passed_to, with_first}
-use Rattle.xk_base.specs.Kinds.{is_answered}
 use Rattle.machine_model.specs.Messaging.Messages.{new_message, new_number, without_held}
 use Rattle.machine_model.specs.Messaging.ReceiveCalls.{oldest_queued, receive_call, receive_served, received, try_receive_call, try_receive_served, waits_at}
 use Rattle.machine_model.specs.Messaging.Receivers.{receiver}
@@ -43,7 +44,6 @@ use Rattle.machine_model.specs.Runs.Moments.{ByStep}
 use Rattle.machine_model.specs.State.Changes.{Change, Outcome, Refused, Retried, Served, Told, answering, call_settled, first_refusal, refused_or, settled, unless_refused, unless_retried}
 use Rattle.machine_model.specs.State.Machine.{Claim, Idle, Machine, Thread}
 use Rattle.machine_model.specs.State.Order.{actor, next_ready, ready_at, turn}
-use Rattle.xk_base.specs.Sids.{serial_of}
 use Rattle.machine_model.specs.State.Servers.{change_server}
 use Rattle.machine_model.specs.State.Threads.{answer_to, change_thread, put_thread, thread_id, with_state}
 use Rattle.machine_model.specs.State.Views.{stored, timer_set}
