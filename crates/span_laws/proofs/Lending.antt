@@ -1,3 +1,4 @@
+pub mod ArrivalLemmas
 pub mod ClosedLendLemmas
 pub mod DeadSenderLemmas
 pub mod HeldMessageLemmas

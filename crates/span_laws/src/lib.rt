@@ -7,4 +7,4 @@ mod run_laws;
 
 pub use fate_laws::every_number_has_its_fate;
 pub use loan_laws::{left_number_keeps_its_loan, number_has_one_loan};
-pub use run_laws::loans_have_their_spans_where_causes_keep_matched;
+pub use run_laws::loans_have_their_spans;

@@ -1,10 +1,9 @@
 -- The fate of a number in a served ForwardMessage: the loan of the number that is named goes to other places of a holder, and the
 -- caller's process was its holder before.
-use Rattle.std.proofs.Common.{◌≡◌, ℕ, ◌+◌, ◌-◌, ◌<◌, ◌≤◌, ◌⊎◌, Bool, true, false, List, [], ◌∷◌, Option, Some, None, refl, sym, ap, ◌∙◌, arith, inl, inr, subst}
-use Rattle.std.specs.Prelude.{is_none, is_some, nat_le, unwrap_or}
+use Rattle.std.proofs.Common.{◌≡◌, ℕ, ◌≤◌, ◌⊎◌, Bool, true, false, List, [], ◌∷◌, Option, Some, None, refl, sym, ap, ◌∙◌, arith, inl, inr, subst}
+use Rattle.std.specs.Prelude.{is_none, is_some, unwrap_or}
 use Rattle.std.specs.Option.{option_and_then, option_map, option_map_or}
-use Rattle.std.proofs.lemmas.Bool.{and_from, and_parts, false≢true, le-leb}
-use Rattle.std.proofs.lemmas.Option.{none-some}
+use Rattle.std.proofs.lemmas.Bool.{and_parts, false≢true}
 use Rattle.xk_base.specs.declared.errors.XousError.TheVariants.{DoubleFree, InvalidSyscall, MemoryInUse, ServerNotFound, ServerQueueFull}
 use Rattle.xk_base.specs.declared.ids.Number.{Number}
 use Rattle.xk_base.specs.declared.ids.Place.{Place}
@@ -12,34 +11,26 @@ use Rattle.xk_base.specs.declared.ids.Serial.{Serial}
 use Rattle.xk_base.specs.declared.ids.ThreadId.{ThreadId}
 use Rattle.xk_base.specs.declared.ids.Vpn.{Vpn}
 use Rattle.xk_base.specs.declared.messages.Message.{Message}
-use Rattle.xk_base.specs.declared.windows.Window.TheVariants.{Message as MessageWindow}
 use Rattle.xk_base.specs.CallNumbers.{forward_message}
 use Rattle.xk_base.specs.CallWords.{call_number, forward_cid}
-use Rattle.xk_base.specs.Circle.{is_pid}
-use Rattle.xk_base.specs.Connections.{connected_to}
-use Rattle.xk_base.specs.Windows.{in_window}
 use Rattle.ledger_model.specs.Conditions.{CanPass}
 use Rattle.ledger_model.specs.Ledger.{Orphaned, Homed, Page, contents_of}
 use Rattle.ledger_model.specs.Loans.{IsFresh, LoanRun, Stands, loans, same_number, with_holder}
-use Rattle.ledger_model.specs.Places.{in_run, is_place_in, place_after}
-use Rattle.ledger_model.specs.Reach.{is_free}
+use Rattle.ledger_model.specs.Places.{place_after}
 use Rattle.ledger_model.specs.Steps.{pass, passed}
 use Rattle.ledger_model.proofs.LedgerLemmas.{same_number-true}
-use Rattle.ledger_model.proofs.LeastRunLemmas.{is_free_run-each, least_run-Some}
-use Rattle.ledger_model.proofs.PlaceLemmas.{in_run-index, in_run-true}
 use Rattle.ledger_model.proofs.Stepping.PassingLemmas.{pass_fresh, pass_stands}
 use Rattle.machine_model.specs.Messaging.ForwardCalls.{are_one_server, forward_call, forward_refusals, forward_served, forward_served_if, forwarded_to, held_place, is_passable_of, next_arrival, next_arrival_refusals, passable, passed_from, passed_message, passed_number, passed_place, passed_to, with_first}
-use Rattle.machine_model.specs.Messaging.Messages.{is_lend, is_lend_of, is_of_number}
+use Rattle.machine_model.specs.Messaging.Messages.{is_lend, is_lend_of, is_of_number, without_held}
 use Rattle.machine_model.specs.Messaging.Receivers.{receiver}
-use Rattle.machine_model.specs.Messaging.SendCalls.{arrived, message_run}
+use Rattle.machine_model.specs.Messaging.SendCalls.{message_run}
 use Rattle.machine_model.specs.Runs.LoanSpan.{IsIn, IsOut, page_name, right_of_name}
 use Rattle.machine_model.specs.Runs.Matched.{Matched}
 use Rattle.machine_model.specs.Runs.Moments.{ByStep}
 use Rattle.machine_model.specs.State.Changes.{Served}
-use Rattle.machine_model.specs.State.Connections.{own_connections}
-use Rattle.machine_model.specs.State.Machine.{Machine, Server}
+use Rattle.machine_model.specs.State.Machine.{Machine}
 use Rattle.xk_base.specs.Sids.{serial_of}
-use Rattle.machine_model.specs.State.Servers.{is_full, server_at}
+use Rattle.machine_model.specs.State.Servers.{change_server, is_full, server_at}
 use Rattle.machine_model.specs.Stepping.Acts.{is_call_served}
 use Rattle.machine_model.proofs.SpanLemmas.{out_or_in}
 use Rattle.machine_laws.proofs.Calling.RunRefusalLemmas.{none_holds}
@@ -50,45 +41,9 @@ use Rattle.span_laws.proofs.Fates.CallTableLemmas.{OfServed, of_unless_refused}
 use Rattle.span_laws.proofs.Fates.FateLemmas.{fate_in, fate_left, fate_out}
 use Rattle.span_laws.proofs.Fates.ServedFateLemmas.{HasServedFate, IsCaller, served_call}
 use Rattle.span_laws.proofs.Leaving.LedgerStepLemmas.{pass_leaves}
+use Rattle.span_laws.proofs.Lending.ArrivalLemmas.{IsArrival, arrival_of, arrived_leaves}
 use Rattle.span_laws.proofs.Lending.HeldMessageLemmas.{IsHeldBy, held_by, held_passes, held_run}
 use Rattle.span_laws.proofs.Lending.LendMessageLemmas.{From, IsRunOf, IsSentBy, Senderless}
-
--- ---- where its pages go
-
--- free places of the Message window of a living process
-record IsArrival (m : Machine) (to : Place) (n : ℕ) : Type 0 where
-  free : (p : Place) → in_run to n p ≡ true → is_free m.processes m.ledger p ≡ true
-  lies : (p : Place) → in_run to n p ≡ true → is_place_in m.processes MessageWindow p ≡ true
-
-server_lives : (m : Machine) → Matched m → (o : Option Serial) (server : Server) → option_and_then (λ serial. m.servers serial.0) o ≡ Some server
-    → is_pid m.processes server.pid.0 ≡ true
-server_lives m h None server e = absurd (none-some server e)
-server_lives m h (Some serial) server e = h.body.processes.pids server.pid (h.body.servers.living serial.0 server e)
-
-in_message_window : (first n v : ℕ) → 262144 ≤ first → first + n ≤ 266240 → first ≤ v → v < first + n → in_window MessageWindow v ≡ true
-in_message_window first n v low high from to =
-    and_from (nat_le 262144 v) (nat_le v 266239) (le-leb 262144 v (omega arith)) (le-leb v 266239 (omega arith))
-
-arrival_of : (m : Machine) → Matched m → (cid n : ℕ) (first : Vpn) → option_and_then (message_run m n) (server_at m cid) ≡ Some first
-    → IsArrival m (passed_place m cid first) n
-arrival_of m h cid n first e = go (server_at m cid) refl e
-  where
-    go : (o : Option Server) → server_at m cid ≡ o → option_and_then (message_run m n) o ≡ Some first
-        → IsArrival m (record { pid = option_map_or (λ server. server.pid) o m.cursor.pid; vpn = first }) n
-    go None q r = absurd (none-some first r)
-    go (Some server) q r =
-        let run = least_run-Some m.processes m.ledger server.pid MessageWindow n first r in
-        let to : Place = record { pid = server.pid; vpn = first } in
-        record {
-          free = λ p inside.
-              let at = in_run-index to n p inside in
-              ap (is_free m.processes m.ledger) at.1 ∙ is_free_run-each m.processes m.ledger to n run.free (p.vpn.0 - first.0) at.0;
-          lies = λ p inside.
-              let at = in_run-true to n p inside in
-              and_from (is_pid m.processes p.pid.0) (in_window MessageWindow p.vpn.0)
-              (ap (is_pid m.processes) at.pid ∙ server_lives m h (connected_to (own_connections m) cid) server q)
-              (in_message_window first.0 n p.vpn.0 run.low run.high at.from at.to);
-        }
 
 -- ---- the pages of the loan stay
 
@@ -107,15 +62,15 @@ name_at_home r home k e = ap (λ o. option_map_or (λ from. Homed (place_after f
 
 -- ---- the loan
 
-arrived_ledger : (o : Option ThreadId) (to : Serial) (message : Message) (paged : Machine)
-    → ((arrived o to message paged).machine.ledger ≡ paged.ledger) × ((arrived o to message paged).machine.next_number ≡ paged.next_number)
-arrived_ledger None to message paged = (refl, refl)
-arrived_ledger (Some who) to message paged = (refl, refl)
-
 passed_left : (m : Machine) (cid : ℕ) (first : Vpn) (from to : Serial) (message : Message)
     → ((passed_message m cid first from to message).machine.ledger ≡ pass message.number (held_place m message) (passed_place m cid first) m.ledger)
     × ((passed_message m cid first from to message).machine.next_number ≡ m.next_number)
-passed_left m cid first from to message = arrived_ledger (receiver m to) to (with_first first message) _
+passed_left m cid first from to message =
+    let paged = record (change_server from (without_held message.number) m) {
+      ledger = pass message.number (held_place m message) (passed_place m cid first) m.ledger;
+    } in
+    let left = arrived_leaves (receiver m to) to (with_first first message) paged in
+    (left.ledger, left.number)
 
 module _ (number : Number) (m : Machine) (who : ThreadId) (w : List ℕ) (h : Matched m) (turned : Matched (turned_to who m))
     (calls : IsCaller m who w) (forwards : call_number w ≡ forward_message) where

@@ -11,12 +11,10 @@ use Rattle.xk_base.specs.declared.windows.Window.TheVariants.{Map}
 use Rattle.xk_base.specs.CallWords.{heap_bytes, map_flags, map_phys, map_size, map_virt, range_address, range_flags, range_size}
 use Rattle.xk_base.specs.Flags.{flag_execute, has_flag, right_of}
 use Rattle.ledger_model.specs.Conditions.{is_lent}
-use Rattle.ledger_model.specs.Ledger.{Ledger, pages}
+use Rattle.ledger_model.specs.Ledger.{pages}
 use Rattle.ledger_model.specs.LeastRun.{least_run}
 use Rattle.ledger_model.specs.Places.{in_run}
-use Rattle.ledger_model.specs.Reach.{is_free}
 use Rattle.ledger_model.specs.RunTests.{any_on_loan}
-use Rattle.ledger_model.proofs.LedgerLemmas.{is_free-true}
 use Rattle.ledger_model.proofs.PlaceLemmas.{same_place-true}
 use Rattle.machine_model.specs.Calling.MemoryCalls.{are_too_many, caller_place, decrease_call, decrease_refusals, decrease_served, heap_limit, heap_of, heap_start, increase_call, increase_refusals, increase_served, is_aligned, map_address, map_call, map_refusals, map_served, mapped_ledger, unmap_call, unmap_refusals, unmap_served, update_call, update_refusals, update_served}
 use Rattle.machine_model.specs.Runs.Matched.{Matched}
@@ -30,10 +28,7 @@ use Rattle.machine_laws.proofs.Calling.RunRefusalLemmas.{none_holds, not_false, 
 use Rattle.span_laws.specs.Leaving.{Leaves}
 use Rattle.span_laws.proofs.Fates.CallTableLemmas.{LeavesAll, of_unless_refused}
 use Rattle.span_laws.proofs.Fates.LeavingCallLemmas.{Leaving}
-use Rattle.span_laws.proofs.Leaving.LedgerStepLemmas.{console_leaves, make_leaves, reduce_leaves, remove_leaves}
-
-free_unlent : (procs : ℕ) (l : Ledger) (p : Place) → is_free procs l p ≡ true → is_lent (l.home p) ≡ false
-free_unlent procs l p e = ap is_lent (is_free-true procs l p e).home
+use Rattle.span_laws.proofs.Leaving.LedgerStepLemmas.{console_leaves, free_unlent, make_leaves, reduce_leaves, remove_leaves}
 
 at_least : (a : ℕ) → a ≤ a
 at_least a = omega arith

@@ -1,8 +1,7 @@
 -- The fate of a number in a served ReturnMemory: the loan of the number that is named ends, and the caller's process was its holder.
-use Rattle.std.proofs.Common.{◌≡◌, ℕ, Bool, false, List, Option, Some, None, refl, sym, ap, ◌∙◌, arith, inl}
+use Rattle.std.proofs.Common.{◌≡◌, ℕ, Bool, false, List, Some, sym, ap, ◌∙◌, arith, inl}
 use Rattle.std.specs.Prelude.{is_none, not}
 use Rattle.std.specs.Option.{option_map_or}
-use Rattle.std.proofs.lemmas.Bool.{false≢true}
 use Rattle.xk_base.specs.declared.errors.XousError.TheVariants.{BadAddress, DoubleFree}
 use Rattle.xk_base.specs.declared.ids.Number.{Number}
 use Rattle.xk_base.specs.declared.ids.ThreadId.{ThreadId}
@@ -23,15 +22,9 @@ use Rattle.machine_laws.proofs.Calling.ThreadCallLemmas.{two_passed}
 use Rattle.machine_laws.proofs.Threading.ThreadStepLemmas.{turned_to}
 use Rattle.span_laws.proofs.Fates.CallTableLemmas.{OfServed, of_unless_refused}
 use Rattle.span_laws.proofs.Fates.EndedFateLemmas.{ended_fate}
-use Rattle.span_laws.proofs.Fates.ServedFateLemmas.{HasServedFate, IsCaller, served_call}
+use Rattle.span_laws.proofs.Fates.ServedFateLemmas.{HasServedFate, IsCaller, served_call, some_of}
 use Rattle.span_laws.proofs.Lending.HeldMessageLemmas.{IsHeldBy, held_by, held_passes, held_run}
 use Rattle.span_laws.proofs.Lending.LendMessageLemmas.{IsRunOf}
-
-some_of : {A : Type 0} → (o : Option A) → is_none o ≡ false → (x : A) × (o ≡ Some x)
-some_of None e = absurd (false≢true (sym e))
-some_of (Some x) e = (x, refl)
-
--- ---- the call
 
 module _ (number : Number) (m : Machine) (who : ThreadId) (w : List ℕ) (h : Matched m) (calls : IsCaller m who w) where
   abbrev test : Message → Bool

@@ -1,9 +1,8 @@
 -- The fate of a number in an accepted send: a lend opens the loan of its own number, and every other number is left.
-use Rattle.std.proofs.Common.{◌≡◌, ℕ, ◌+◌, ◌-◌, ◌≤◌, Bool, true, false, List, [], ◌∷◌, ◌++◌, Option, Some, None, refl, sym, ap, ◌∙◌, ◌⊎◌, inl, inr, arith, subst}
+use Rattle.std.proofs.Common.{◌≡◌, ℕ, ◌+◌, ◌≤◌, Bool, true, false, List, [], ◌∷◌, ◌++◌, Option, Some, None, refl, sym, ap, ◌∙◌, ◌⊎◌, inl, inr, arith, subst}
 use Rattle.std.specs.Prelude.{◌&&◌, ◌||◌, is_none, unwrap_or}
-use Rattle.std.specs.Option.{option_and_then, option_map_or}
+use Rattle.std.specs.Option.{option_map_or}
 use Rattle.std.proofs.lemmas.Bool.{and_from, false≢true, or_parts}
-use Rattle.std.proofs.lemmas.Option.{none-some}
 use Rattle.xk_base.specs.declared.errors.XousError.{XousError}
 use Rattle.xk_base.specs.declared.errors.XousError.TheVariants.{BadAlignment, BadAddress, MemoryInUse, ServerNotFound, ServerQueueFull, InvalidSyscall, ShareViolation}
 use Rattle.xk_base.specs.declared.ids.Number.{Number}
@@ -14,7 +13,6 @@ use Rattle.xk_base.specs.declared.messages.MsgKind.{MsgKind}
 use Rattle.xk_base.specs.declared.messages.MsgKind.TheVariants.{LendMut, Lend, Move, Scalar, BlockingScalar}
 use Rattle.xk_base.specs.declared.pages.LoanKind.{LoanKind}
 use Rattle.xk_base.specs.declared.pages.LoanKind.TheVariants.{Shared, Exclusive}
-use Rattle.xk_base.specs.declared.windows.Window.TheVariants.{Message as MessageWindow}
 use Rattle.xk_base.specs.CallWords.{call_number, send_address, send_cid, send_length}
 use Rattle.ledger_model.specs.Conditions.{is_lent}
 use Rattle.ledger_model.specs.Ledger.{Ledger}
@@ -23,19 +21,18 @@ use Rattle.ledger_model.specs.Places.{in_run, place_after}
 use Rattle.ledger_model.specs.RunTests.{any_console, any_free, any_lacks, any_not_sent, any_on_loan}
 use Rattle.ledger_model.specs.Steps.{lend}
 use Rattle.ledger_model.proofs.LedgerLemmas.{cases_Option, is_free-true, same_number-true}
-use Rattle.ledger_model.proofs.LeastRunLemmas.{is_free_run-each, least_run-Some}
-use Rattle.ledger_model.proofs.PlaceLemmas.{in_run-index, in_run-true}
+use Rattle.ledger_model.proofs.PlaceLemmas.{in_run-true}
 use Rattle.machine_model.specs.Calling.MemoryCalls.{caller_place, is_bad_range}
 use Rattle.machine_model.specs.Messaging.Messages.{carries_pages, is_lend, new_number}
 use Rattle.machine_model.specs.Messaging.Receivers.{receiver}
-use Rattle.machine_model.specs.Messaging.SendCalls.{arrival, arrival_refusals, arrived, is_full_for, message_run, named_kind, send_call, send_refusals, send_served, sender_left, sends_lend_mut, sends_pages, sent, sent_ledger, sent_pages, sent_place, sent_serial, sent_to, try_send_call, with_sent}
+use Rattle.machine_model.specs.Messaging.SendCalls.{arrival, arrival_refusals, is_full_for, named_kind, send_call, send_refusals, send_served, sender_left, sends_lend_mut, sends_pages, sent, sent_ledger, sent_pages, sent_place, sent_serial, sent_to, try_send_call, with_sent}
 use Rattle.xk_base.specs.Kinds.{is_answered}
 use Rattle.machine_model.specs.Messaging.Messages.{new_message}
 use Rattle.machine_model.specs.Runs.LoanSpan.{IsOut, Opens, is_lend_call, is_send}
 use Rattle.machine_model.specs.Runs.Matched.{Matched}
 use Rattle.machine_model.specs.Runs.Moments.{ByStep}
 use Rattle.machine_model.specs.State.Changes.{Served, first_refusal}
-use Rattle.machine_model.specs.State.Machine.{Machine, Server}
+use Rattle.machine_model.specs.State.Machine.{Machine}
 use Rattle.machine_model.specs.State.Servers.{server_at}
 use Rattle.machine_model.specs.Stepping.Acts.{is_call_served}
 use Rattle.machine_model.proofs.Matching.MatchedLemmas.{number_is_fresh}
@@ -45,10 +42,11 @@ use Rattle.span_laws.specs.Fates.{Fate}
 use Rattle.span_laws.specs.Leaving.{Leaves}
 use Rattle.span_laws.proofs.Fates.CallTableLemmas.{OfServed, of_unless_refused, of_unless_retried}
 use Rattle.span_laws.proofs.Fates.FateLemmas.{fate_left, fate_opens}
-use Rattle.span_laws.proofs.Fates.LikeLemmas.{IsLike}
-use Rattle.span_laws.proofs.Fates.ServedFateLemmas.{HasServedFate, IsCaller, served_call}
+use Rattle.span_laws.proofs.Fates.ServedFateLemmas.{HasServedFate, IsCaller, served_call, some_of}
 use Rattle.span_laws.proofs.Leaving.LedgerStepLemmas.{give_leaves, lend_leaves}
 use Rattle.span_laws.proofs.Leaving.NumberPageLemmas.{leaves_itself}
+use Rattle.machine_model.proofs.KeptLemmas.{matched_at}
+use Rattle.span_laws.proofs.Lending.ArrivalLemmas.{IsArrived, arrival_of, arrived_leaves}
 use Rattle.span_laws.proofs.Lending.LentPageLemmas.{before_lend, home_in, no_orphans}
 
 -- ---- what the refusals leave true
@@ -59,10 +57,6 @@ pub record IsSendable (m : Machine) (w : List ℕ) : Type 0 where
   pub named : named_kind w ≡ Some kind
   pub clear : carries_pages kind ≡ true → (p : Place) → in_run (caller_place m (send_address w)) (sent_pages w) p ≡ true
       → is_lent (m.ledger.home p) ≡ false
-
-some_of : {A : Type 0} → (o : Option A) → is_none o ≡ false → (x : A) × (o ≡ Some x)
-some_of None e = absurd (false≢true (sym e))
-some_of (Some x) e = (x, refl)
 
 pub sendable : (m : Machine) (w : List ℕ) → first_refusal (send_refusals m w) ≡ None → IsSendable m w
 sendable m w none =
@@ -96,20 +90,10 @@ sendable m w none =
 
 -- ---- an accepted send
 
--- what a send leaves of the ledger and of the next number
-arrived_like : (o : Option ThreadId) (m : Machine) (kind : MsgKind) (w : List ℕ) (first : Vpn) (paged : Machine) (b : Bool)
-    → IsLike (arrived o (sent_serial m w) (new_message m kind w first) (sender_left b (new_number m) paged)).machine
-    (arrived o (sent_serial m w) (new_message m kind w first) paged).machine
-arrived_like None m kind w first paged true = record { ledger = refl; servers = refl; process = refl; number = refl }
-arrived_like None m kind w first paged false = record { ledger = refl; servers = refl; process = refl; number = refl }
-arrived_like (Some who) m kind w first paged true = record { ledger = refl; servers = refl; process = refl; number = refl }
-arrived_like (Some who) m kind w first paged false = record { ledger = refl; servers = refl; process = refl; number = refl }
-
-arrived_ledger : (o : Option ThreadId) (m : Machine) (kind : MsgKind) (w : List ℕ) (first : Vpn) (paged : Machine)
-    → ((arrived o (sent_serial m w) (new_message m kind w first) paged).machine.ledger ≡ paged.ledger)
-    × ((arrived o (sent_serial m w) (new_message m kind w first) paged).machine.next_number ≡ paged.next_number)
-arrived_ledger None m kind w first paged = (refl, refl)
-arrived_ledger (Some who) m kind w first paged = (refl, refl)
+-- what an accepted send leaves, by its kind
+sender_leaves : (b : Bool) (number : Number) (m : Machine) → IsArrived m (sender_left b number m)
+sender_leaves true number m = record { ledger = refl; number = refl }
+sender_leaves false number m = record { ledger = refl; number = refl }
 
 sent_left : (m : Machine) (kind : MsgKind) (w : List ℕ) (first : Vpn)
     → ((sent m kind w first).machine.ledger
@@ -117,27 +101,17 @@ sent_left : (m : Machine) (kind : MsgKind) (w : List ℕ) (first : Vpn)
     × ((sent m kind w first).machine.next_number ≡ m.next_number + 1)
 sent_left m kind w first =
     let paged = with_sent m kind (caller_place m (send_address w)) (sent_pages w) (sent_place m w first) in
-    let o = receiver m (sent_serial m w) in
-    let like = arrived_like o m kind w first paged (is_answered kind) in
-    let left = arrived_ledger o m kind w first paged in
-    (like.ledger ∙ left.0, like.number ∙ left.1)
+    let sender = sender_leaves (is_answered kind) (new_number m) paged in
+    let left = arrived_leaves (receiver m (sent_serial m w)) (sent_serial m w) (new_message m kind w first)
+    (sender_left (is_answered kind) (new_number m) paged) in
+    (left.ledger ∙ sender.ledger, left.number ∙ sender.number)
 
 -- the places where a move goes are free
-free_arrival : (m : Machine) (w : List ℕ) (first : Vpn) → arrival m w ≡ Some first → (p : Place)
+free_arrival : (m : Machine) → Matched m → (w : List ℕ) (first : Vpn) → arrival m w ≡ Some first → (p : Place)
     → in_run (sent_place m w first) (sent_pages w) p ≡ true → is_lent (m.ledger.home p) ≡ false
 unfolding arrival
-free_arrival m w first e p inside = go (server_at m (send_cid w)) e inside
-  where
-    go : (o : Option Server) → option_and_then (message_run m (sent_pages w)) o ≡ Some first
-        → in_run (record { pid = option_map_or (λ server. server.pid) o m.cursor.pid; vpn = first }) (sent_pages w) p ≡ true
-        → is_lent (m.ledger.home p) ≡ false
-    go None q t = absurd (none-some first q)
-    go (Some server) q t =
-        let run = least_run-Some m.processes m.ledger server.pid MessageWindow (sent_pages w) first q in
-        let at = in_run-index (record { pid = server.pid; vpn = first }) (sent_pages w) p t in
-        ap (λ r. is_lent (m.ledger.home r)) at.1
-        ∙ ap is_lent (is_free-true m.processes m.ledger _
-        (is_free_run-each m.processes m.ledger (record { pid = server.pid; vpn = first }) (sent_pages w) run.free (p.vpn.0 - first.0) at.0)).home
+free_arrival m h w first e p inside =
+    ap is_lent (is_free-true m.processes m.ledger p ((arrival_of m h (send_cid w) (sent_pages w) first e).free p inside)).home
 
 module _ (number : Number) (m : Machine) (who : ThreadId) (w : List ℕ) (h : Matched m) (calls : IsCaller m who w)
     (sends : is_send (call_number w) ≡ true) (can : IsSendable (turned_to who m) w) where
@@ -224,7 +198,7 @@ module _ (number : Number) (m : Machine) (who : ThreadId) (w : List ℕ) (h : Ma
       by_kind Move e is =
           left (subst (λ l. Leaves number m.ledger l) (sym is)
           (give_leaves number m.processes m.ledger from (sent_pages w) (sent_place n w first) (can.clear (carries Move e refl))
-          (free_arrival n w first (there (pages Move e refl)))))
+          (free_arrival n (matched_at who m h) w first (there (pages Move e refl)))))
       by_kind Scalar e is = left (subst (λ l. Leaves number m.ledger l) (sym is) (leaves_itself number m.ledger))
       by_kind BlockingScalar e is = left (subst (λ l. Leaves number m.ledger l) (sym is) (leaves_itself number m.ledger))
 

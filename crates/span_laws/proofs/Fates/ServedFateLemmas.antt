@@ -1,5 +1,7 @@
 -- The fate of a number in a served call: from its change to the state after the step.
-use Rattle.std.proofs.Common.{◌≡◌, ℕ, ◌≤◌, true, List, Some, refl, sym, subst}
+use Rattle.std.proofs.Common.{◌≡◌, ℕ, ◌≤◌, true, false, List, Option, Some, None, refl, sym, subst}
+use Rattle.std.specs.Prelude.{is_none}
+use Rattle.std.proofs.lemmas.Bool.{false≢true}
 use Rattle.xk_base.specs.declared.ids.Number.{Number}
 use Rattle.xk_base.specs.declared.ids.Pid.{Pid}
 use Rattle.xk_base.specs.declared.ids.ThreadId.{ThreadId}
@@ -16,6 +18,11 @@ use Rattle.span_laws.specs.Leaving.{Leaves}
 use Rattle.span_laws.proofs.Fates.CallTableLemmas.{LeavesAll}
 use Rattle.span_laws.proofs.Fates.FateLemmas.{fate_left}
 use Rattle.span_laws.proofs.Fates.LikeLemmas.{IsLike}
+
+-- what a refusal says is there
+pub some_of : {A : Type 0} → (o : Option A) → is_none o ≡ false → (x : A) × (o ≡ Some x)
+some_of None e = absurd (false≢true (sym e))
+some_of (Some x) e = (x, refl)
 
 -- the thread does the next step, and makes this call
 pub record IsCaller (m : Machine) (who : ThreadId) (w : List ℕ) : Type 0 where

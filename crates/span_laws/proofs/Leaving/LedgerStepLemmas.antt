@@ -40,7 +40,8 @@ leaves_alike number l m homes orphans = record {
   orphans = λ p. ap (orphan_of number) (orphans p);
 }
 
-free_unlent : (procs : ℕ) (l : Ledger) (p : Place) → is_free procs l p ≡ true → is_lent (l.home p) ≡ false
+-- a free place has no page on loan
+pub free_unlent : (procs : ℕ) (l : Ledger) (p : Place) → is_free procs l p ≡ true → is_lent (l.home p) ≡ false
 free_unlent procs l p e = ap is_lent (is_free-true procs l p e).home
 
 module _ (number : Number) (procs : ℕ) (l : Ledger) where
