@@ -1,0 +1,21 @@
+//! The law of the timer over runs of the abstract machine. The functions have no code; their contracts are the laws.
+#![tactic(auto)]
+
+ghost use Rattle.timer_laws.specs.Raising.{ElseNothing, RaiseIsEvent};
+ghost use Rattle.timer_laws.specs.TimerLaw.{TimerHolds};
+
+/// In a step that the timer raises its interrupt in, that comes last, as by an event.
+pub fn raise_is_an_event()
+    ensures { RaiseIsEvent }
+{}
+
+/// In any other step the timer does nothing.
+pub fn nothing_else_is_done()
+    ensures { ElseNothing }
+{}
+
+/// Each arming raises at most once, in the step whose number is the compare value, and there exactly where
+/// nothing touches the timer in between.
+pub fn timer_holds()
+    ensures { TimerHolds }
+{}
