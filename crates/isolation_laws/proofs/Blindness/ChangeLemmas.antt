@@ -1,77 +1,78 @@
--- Changes and outcomes without bytes: what is told of them is the same, and so is what a call is refused for.
-use Rattle.std.proofs.Common.{◌≡◌, ℕ, Bool, true, false, List, Option, Some, None, refl, ap, ◌∙◌, sym}
+-- Changes and outcomes with other bytes: what is told of them is the same, and so is what a call is refused for.
+use Rattle.machine_model.specs.Runs.Isolation.{without_bytes}
+use Rattle.isolation_laws.proofs.Ledgers.OtherBytesLemmas.{machine_through, no_bytes}
+use Rattle.std.proofs.Common.{◌≡◌, ℕ, Bool, true, false, List, Option, Some, None, refl, ap, ◌∙◌}
 use Rattle.xk_base.specs.declared.errors.XousError.{XousError}
 use Rattle.ledger_model.specs.Ledger.{Ledger}
-use Rattle.machine_model.specs.Runs.Isolation.{without_bytes}
 use Rattle.machine_model.specs.State.Changes.{Call, Change, Outcome, Refused, Retried, Served, Told, call_settled, first_refusal, refused_or, settled, unless_refused, unless_retried}
 use Rattle.machine_model.specs.State.Machine.{Machine}
 use Rattle.machine_model.specs.State.Order.{turn, next_ready}
 
--- ---- without bytes
+-- ---- with other bytes
 
-abbrev pub bare_change : Change → Change
-bare_change change = record change { machine = without_bytes change.machine }
+abbrev pub change_through : (List ℕ → List ℕ) → Change → Change
+change_through g change = record change { machine = machine_through g change.machine }
 
-abbrev pub bare_outcome : Outcome → Outcome
-bare_outcome (Refused error) = Refused error
-bare_outcome Retried = Retried
-bare_outcome (Served change) = Served (bare_change change)
+abbrev pub outcome_through : (List ℕ → List ℕ) → Outcome → Outcome
+outcome_through g (Refused error) = Refused error
+outcome_through g Retried = Retried
+outcome_through g (Served change) = Served (change_through g change)
 
-abbrev pub bare_told : Told → Told
-bare_told told = record told { machine = without_bytes told.machine }
+abbrev pub told_through : (List ℕ → List ℕ) → Told → Told
+told_through g told = record told { machine = machine_through g told.machine }
 
 -- the change with another ledger
 abbrev pub with_left : Change → Ledger → Change
 with_left change ledger = record change { machine = record change.machine { ledger = ledger } }
 
--- What comes of the call, without bytes, is what comes of it without bytes.
-abbrev pub SeesNoByte : Call → Type 0
-SeesNoByte call = (m : Machine) (w : List ℕ) → bare_outcome (call m w) ≡ call (without_bytes m) w
+-- What comes of the call where pages hold other bytes is what comes of it, with other bytes in the same pages.
+abbrev pub Carries : (List ℕ → List ℕ) → Call → Type 0
+Carries g served = (m : Machine) (w : List ℕ) → outcome_through g (served m w) ≡ served (machine_through g m) w
 
 -- What comes of the call is the same but for bytes from machines that are the same but for bytes.
 abbrev pub IsBlind : Call → Type 0
-IsBlind call = (m n : Machine) (w : List ℕ) → without_bytes m ≡ without_bytes n → bare_outcome (call m w) ≡ bare_outcome (call n w)
+IsBlind served =
+    (m n : Machine) (w : List ℕ) → without_bytes m ≡ without_bytes n
+    → outcome_through no_bytes (served m w) ≡ outcome_through no_bytes (served n w)
 
-pub blind : (call : Call) → SeesNoByte call → IsBlind call
-blind call sees m n w e = sees m w ∙ (ap (λ x. call x w) e ∙ sym (sees n w))
+module _ (g : List ℕ → List ℕ) where
+  -- ---- refusals and retries
 
--- ---- refusals and retries
+  pub refused_through : (x : Option XousError) (outcome : Outcome) → outcome_through g (refused_or x outcome) ≡ refused_or x (outcome_through g outcome)
+  refused_through None outcome = refl
+  refused_through (Some error) outcome = refl
 
-pub refused_bare : (x : Option XousError) (outcome : Outcome) → bare_outcome (refused_or x outcome) ≡ refused_or x (bare_outcome outcome)
-refused_bare None outcome = refl
-refused_bare (Some error) outcome = refl
+  -- the same refusals, and then what follows with other bytes
+  pub unless_through : (refusals others : List (Bool × XousError)) (outcome other : Outcome) → refusals ≡ others → outcome_through g outcome ≡ other
+      → outcome_through g (unless_refused refusals outcome) ≡ unless_refused others other
+  unless_through refusals others outcome other same e =
+      refused_through (first_refusal refusals) outcome ∙ (λ i. unless_refused (same i) (e i))
 
--- the same refusals, and then what follows without bytes
-pub unless_bare : (refusals others : List (Bool × XousError)) (outcome other : Outcome) → refusals ≡ others → bare_outcome outcome ≡ other
-    → bare_outcome (unless_refused refusals outcome) ≡ unless_refused others other
-unless_bare refusals others outcome other same e =
-    refused_bare (first_refusal refusals) outcome ∙ (λ i. unless_refused (same i) (e i))
+  pub served_unless : (refusals others : List (Bool × XousError)) (change other : Change) → refusals ≡ others → change_through g change ≡ other
+      → outcome_through g (unless_refused refusals (Served change)) ≡ unless_refused others (Served other)
+  served_unless refusals others change other same e =
+      unless_through refusals others (Served change) (Served other) same (ap (λ c. Served c) e)
 
-pub served_unless : (refusals others : List (Bool × XousError)) (change other : Change) → refusals ≡ others → bare_change change ≡ other
-    → bare_outcome (unless_refused refusals (Served change)) ≡ unless_refused others (Served other)
-served_unless refusals others change other same e =
-    unless_bare refusals others (Served change) (Served other) same (ap (λ c. Served c) e)
+  -- .. where the refusals see nothing of the ledger
+  pub refused_alike : (refusals : List (Bool × XousError)) (change other : Change) → change_through g change ≡ other
+      → outcome_through g (unless_refused refusals (Served change)) ≡ unless_refused refusals (Served other)
+  refused_alike refusals change other e = served_unless refusals refusals change other refl e
 
--- .. where the refusals see nothing of the ledger
-pub refused_alike : (refusals : List (Bool × XousError)) (change other : Change) → bare_change change ≡ other
-    → bare_outcome (unless_refused refusals (Served change)) ≡ unless_refused refusals (Served other)
-refused_alike refusals change other e = served_unless refusals refusals change other refl e
+  pub retried_through : (test : Bool) (outcome : Outcome) → outcome_through g (unless_retried test outcome) ≡ unless_retried test (outcome_through g outcome)
+  retried_through true outcome = refl
+  retried_through false outcome = refl
 
-pub retried_bare : (test : Bool) (outcome : Outcome) → bare_outcome (unless_retried test outcome) ≡ unless_retried test (bare_outcome outcome)
-retried_bare true outcome = refl
-retried_bare false outcome = refl
+  pub served_through : (change other : Change) → change_through g change ≡ other → outcome_through g (Served change) ≡ Served other
+  served_through change other e = ap (λ c. Served c) e
 
-pub served_bare : (change other : Change) → bare_change change ≡ other → bare_outcome (Served change) ≡ Served other
-served_bare change other e = ap (λ c. Served c) e
+  -- ---- settled
 
--- ---- settled
+  pub settled_through : (change : Change) → told_through g (settled change) ≡ settled (change_through g change)
+  unfolding settled
+  settled_through change = refl
 
-pub settled_bare : (change : Change) → bare_told (settled change) ≡ settled (bare_change change)
-unfolding settled
-settled_bare change = refl
-
-pub call_settled_bare : (m : Machine) (outcome : Outcome) → bare_told (call_settled m outcome) ≡ call_settled (without_bytes m) (bare_outcome outcome)
-unfolding call_settled settled turn next_ready
-call_settled_bare m (Refused error) = refl
-call_settled_bare m Retried = refl
-call_settled_bare m (Served change) = refl
+  pub call_settled_through : (m : Machine) (outcome : Outcome) → told_through g (call_settled m outcome) ≡ call_settled (machine_through g m) (outcome_through g outcome)
+  unfolding call_settled settled turn next_ready
+  call_settled_through m (Refused error) = refl
+  call_settled_through m Retried = refl
+  call_settled_through m (Served change) = refl

@@ -1,4 +1,5 @@
--- The return of a lend and its forward see no byte.
+-- The return of a lend and its forward carry bytes as they are.
+use Rattle.isolation_laws.proofs.Ledgers.OtherBytesLemmas.{machine_through}
 use Rattle.xk_base.specs.Replies.{plain_words}
 use Rattle.machine_model.specs.State.Threads.{both_answers, answer_to}
 use Rattle.ledger_model.specs.Steps.{pass}
@@ -16,70 +17,77 @@ use Rattle.machine_model.specs.Messaging.ForwardCalls.{forward_call, forward_ser
 use Rattle.machine_model.specs.Messaging.Receivers.{receiver}
 use Rattle.machine_model.specs.Messaging.ReturnCalls.{holder_of, named_number, return_memory_call, return_memory_served, return_memory_refusals}
 use Rattle.machine_model.specs.Messaging.SendCalls.{arrived}
-use Rattle.machine_model.specs.Runs.Isolation.{without_bytes}
 use Rattle.machine_model.specs.State.Changes.{Change}
 use Rattle.machine_model.specs.State.Machine.{Machine}
+<<<<<<< HEAD
 use Rattle.xk_base.specs.Sids.{serial_of}
 use Rattle.machine_model.specs.State.Servers.{server_at, change_server}
 use Rattle.isolation_laws.proofs.Blindness.ChangeLemmas.{SeesNoByte, bare_change, bare_outcome, unless_bare, with_left, refused_alike}
 use Rattle.isolation_laws.proofs.Blindness.SendCallLemmas.{arrived_bare}
 use Rattle.isolation_laws.proofs.Ledgers.BareStepLemmas.{end_loan_bare, pass_bare}
+=======
+use Rattle.machine_model.specs.State.Servers.{server_at, change_server}
+use Rattle.isolation_laws.proofs.Blindness.ChangeLemmas.{Carries, change_through, outcome_through, unless_through, with_left, refused_alike}
+use Rattle.isolation_laws.proofs.Blindness.SendCallLemmas.{arrived_through}
+use Rattle.isolation_laws.proofs.Ledgers.ThroughStepLemmas.{end_loan_through, pass_through}
+>>>>>>> 78f3c2a56eeaa98f542551c4935e9c5abdaf43f8
 use Rattle.isolation_laws.proofs.Ledgers.BareTestLemmas.{least_run_alike}
 
-pub return_memory_sees : SeesNoByte return_memory_call
-unfolding return_memory_call holder_of
-return_memory_sees m w =
-    let number = named_number w in
-    refused_alike (return_memory_refusals m number (return_address w) (return_size w))
-    (return_memory_served m number (return_offset w) (return_valid w))
-    (return_memory_served (without_bytes m) number (return_offset w) (return_valid w))
-    (ap (with_left (return_memory_served m number (return_offset w) (return_valid w))) (end_loan_bare number m.ledger))
+module _ (g : List ℕ → List ℕ) where
+  pub return_memory_carries : Carries g return_memory_call
+  unfolding return_memory_call holder_of
+  return_memory_carries m w =
+      let number = named_number w in
+      refused_alike g (return_memory_refusals m number (return_address w) (return_size w))
+      (return_memory_served m number (return_offset w) (return_valid w))
+      (return_memory_served (machine_through g m) number (return_offset w) (return_valid w))
+      (ap (with_left (return_memory_served m number (return_offset w) (return_valid w))) (end_loan_through g number m.ledger))
 
--- ---- ForwardMessage
+  -- ---- ForwardMessage
 
-passed_bare : (m : Machine) (cid : ℕ) (first : Vpn) (from to : Serial) (message : Message)
-    → bare_change (passed_message m cid first from to message) ≡ passed_message (without_bytes m) cid first from to message
-unfolding receiver
-passed_bare m cid first from to message =
-    ap answered
-    (arrived_bare (receiver m to) to (with_first first message) paged
-    ∙ ap (λ l. arrived (receiver m to) to (with_first first message) (record paged { ledger = l }))
-    (pass_bare message.number (held_place m message) (passed_place m cid first) m.ledger))
-  where
-    paged : Machine
-    paged = record (change_server from (without_held message.number) m) {
-      ledger = pass message.number (held_place m message) (passed_place m cid first) m.ledger;
-    }
+  passed_through : (m : Machine) (cid : ℕ) (first : Vpn) (from to : Serial) (message : Message)
+      → change_through g (passed_message m cid first from to message) ≡ passed_message (machine_through g m) cid first from to message
+  unfolding receiver
+  passed_through m cid first from to message =
+      ap answered
+      (arrived_through g (receiver m to) to (with_first first message) paged
+      ∙ ap (λ l. arrived (receiver m to) to (with_first first message) (record paged { ledger = l }))
+      (pass_through g message.number (held_place m message) (passed_place m cid first) m.ledger))
+    where
+      paged : Machine
+      paged = record (change_server from (without_held message.number) m) {
+        ledger = pass message.number (held_place m message) (passed_place m cid first) m.ledger;
+      }
 
-    answered : Change → Change
-    answered left = record left { answers = both_answers left.answers (answer_to m.cursor plain_words) }
+      answered : Change → Change
+      answered left = record left { answers = both_answers left.answers (answer_to m.cursor plain_words) }
 
-served_if_bare : (m : Machine) (number : Number) (cid : ℕ) (first : Vpn) (o : Option Message)
-    → bare_change (forward_served_if m number cid first o) ≡ forward_served_if (without_bytes m) number cid first o
-unfolding holder_of
-served_if_bare m number cid first None = refl
-served_if_bare m number cid first (Some message) =
-    passed_bare m cid first (unwrap_or (passed_from m number) (serial_of 0)) (unwrap_or (passed_to m cid) (serial_of 0)) message
+  served_if_through : (m : Machine) (number : Number) (cid : ℕ) (first : Vpn) (o : Option Message)
+      → change_through g (forward_served_if m number cid first o) ≡ forward_served_if (machine_through g m) number cid first o
+  unfolding holder_of
+  served_if_through m number cid first None = refl
+  served_if_through m number cid first (Some message) =
+      passed_through m cid first (unwrap_or (passed_from m number) (serial_of 0)) (unwrap_or (passed_to m cid) (serial_of 0)) message
 
-forwarded_bare : (m : Machine) (w : List ℕ) (first : Option Vpn) → bare_outcome (forwarded_to m w first) ≡ forwarded_to (without_bytes m) w first
-unfolding holder_of
-forwarded_bare m w first =
-    refused_alike (next_arrival_refusals first) (forward_served m (passed_number w) (forward_cid w) first)
-    (forward_served (without_bytes m) (passed_number w) (forward_cid w) first)
-    (served_if_bare m (passed_number w) (forward_cid w) (unwrap_or first (record { 0 = 0 })) (passable m (passed_number w)))
+  forwarded_through : (m : Machine) (w : List ℕ) (first : Option Vpn) → outcome_through g (forwarded_to m w first) ≡ forwarded_to (machine_through g m) w first
+  unfolding holder_of
+  forwarded_through m w first =
+      refused_alike g (next_arrival_refusals first) (forward_served m (passed_number w) (forward_cid w) first)
+      (forward_served (machine_through g m) (passed_number w) (forward_cid w) first)
+      (served_if_through m (passed_number w) (forward_cid w) (unwrap_or first (record { 0 = 0 })) (passable m (passed_number w)))
 
-next_arrival_alike : (m : Machine) (number : Number) (cid : ℕ) → next_arrival m number cid ≡ next_arrival (without_bytes m) number cid
-unfolding next_arrival holder_of
-next_arrival_alike m number cid =
-    sym (λ i. option_and_then
-    (λ server. least_run_alike m.processes m.ledger server.pid MessageWindow (option_map_or (λ message. message.count) (passable m number) 0) i)
-    (server_at m cid))
+  next_arrival_alike : (m : Machine) (number : Number) (cid : ℕ) → next_arrival m number cid ≡ next_arrival (machine_through g m) number cid
+  unfolding next_arrival holder_of
+  next_arrival_alike m number cid =
+      sym (λ i. option_and_then
+      (λ server. least_run_alike g m.processes m.ledger server.pid MessageWindow (option_map_or (λ message. message.count) (passable m number) 0) i)
+      (server_at m cid))
 
-pub forward_sees : SeesNoByte forward_call
-unfolding forward_call holder_of
-forward_sees m w =
-    unless_bare (forward_refusals m (passed_number w) (forward_cid w)) (forward_refusals (without_bytes m) (passed_number w) (forward_cid w))
-    (forwarded_to m w (next_arrival m (passed_number w) (forward_cid w)))
-    (forwarded_to (without_bytes m) w (next_arrival (without_bytes m) (passed_number w) (forward_cid w))) refl
-    (forwarded_bare m w (next_arrival m (passed_number w) (forward_cid w))
-    ∙ ap (forwarded_to (without_bytes m) w) (next_arrival_alike m (passed_number w) (forward_cid w)))
+  pub forward_carries : Carries g forward_call
+  unfolding forward_call holder_of
+  forward_carries m w =
+      unless_through g (forward_refusals m (passed_number w) (forward_cid w)) (forward_refusals (machine_through g m) (passed_number w) (forward_cid w))
+      (forwarded_to m w (next_arrival m (passed_number w) (forward_cid w)))
+      (forwarded_to (machine_through g m) w (next_arrival (machine_through g m) (passed_number w) (forward_cid w))) refl
+      (forwarded_through m w (next_arrival m (passed_number w) (forward_cid w))
+      ∙ ap (forwarded_to (machine_through g m) w) (next_arrival_alike m (passed_number w) (forward_cid w)))

@@ -1,4 +1,5 @@
 -- Two runs side by side have the same records, and the same states but for bytes.
+use Rattle.isolation_laws.proofs.Ledgers.OtherBytesLemmas.{machine_through, alike_through, alike_without, no_bytes}
 use Rattle.std.proofs.Common.{◌≡◌, zero, suc, List, [], ◌∷◌, ◌++◌, map, Option, Some, None, refl, sym, ap, ◌∙◌}
 use Rattle.xk_base.specs.declared.ids.ThreadId.{ThreadId}
 use Rattle.machine_model.specs.Runs.Isolation.{without_bytes}
@@ -17,7 +18,7 @@ use Rattle.isolation_laws.proofs.Isolating.StepLemmas.{actor_alike, bare_recorde
 abbrev pub by_cause : Cause → Machine → Recorded
 by_cause cause m = record { machine = caused cause m; records = records_by cause m }
 
-module _ (m n : Machine) (e : without_bytes m ≡ without_bytes n) where
+module _ (m n : Machine) (e : machine_through no_bytes m ≡ machine_through no_bytes n) where
   idle_alike : actor m ≡ None → bare_recorded (step m) ≡ bare_recorded (step n)
   idle_alike none =
       ap bare_recorded (no_step m none)
@@ -29,7 +30,7 @@ module _ (m n : Machine) (e : without_bytes m ≡ without_bytes n) where
     where
       go : (o : Option ThreadId) → actor m ≡ o → bare_recorded (step m) ≡ bare_recorded (step n)
       go None q = idle_alike q
-      go (Some who) q = step_alike m n who q (record { but_bytes = e; loaded = acts who q })
+      go (Some who) q = step_alike m n who q (record { but_bytes = alike_without m n e; loaded = acts who q })
 
   pub cause_alike : (cause : Cause) → (cause ≡ ByStep → ActsAlike m n) → bare_recorded (by_cause cause m) ≡ bare_recorded (by_cause cause n)
   cause_alike ByStep acts = any_step_alike (acts refl)
@@ -60,12 +61,14 @@ module _ (m n : Machine) (moment other : Moment) (moments others : List Moment) 
   acts q = side.steps 0 moment refl q
 
   first_alike : bare_recorded (by_cause moment.cause m) ≡ bare_recorded (by_cause other.cause n)
-  first_alike = cause_alike m n side.but_bytes moment.cause acts ∙ ap (λ c. bare_recorded (by_cause c n)) head
+  first_alike = cause_alike m n (alike_through m n side.but_bytes) moment.cause acts ∙ ap (λ c. bare_recorded (by_cause c n)) head
 
   first_states : without_bytes moment.machine ≡ without_bytes other.machine
   unfolding IsRun
   first_states =
-      ap without_bytes side.run.0 ∙ (ap (λ (r : Recorded). r.machine) first_alike ∙ ap without_bytes (sym side.other.0))
+      ap without_bytes side.run.0
+      ∙ (alike_without (caused moment.cause m) (caused other.cause n) (ap (λ (r : Recorded). r.machine) first_alike)
+      ∙ ap without_bytes (sym side.other.0))
 
   rest_side : IsSideBySide moment.machine other.machine moments others
   unfolding IsRun state_at
