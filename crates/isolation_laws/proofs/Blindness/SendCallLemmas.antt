@@ -1,6 +1,7 @@
 -- Sends carry bytes as they are.
 use Rattle.isolation_laws.proofs.Ledgers.OtherBytesLemmas.{through, machine_through}
-use Rattle.machine_model.specs.Messaging.Messages.{is_answered, new_message, new_number}
+use Rattle.xk_base.specs.Kinds.{is_answered}
+use Rattle.machine_model.specs.Messaging.Messages.{new_message, new_number}
 use Rattle.xk_base.specs.declared.errors.XousError.TheVariants.{ServerNotFound, ServerQueueFull, InvalidSyscall, BadAlignment, BadAddress, ShareViolation}
 use Rattle.std.specs.Option.{option_and_then}
 use Rattle.std.specs.Prelude.{is_none, unwrap_or, ◌&&◌}
