@@ -19,18 +19,11 @@ use Rattle.machine_model.specs.Messaging.ReturnCalls.{holder_of, named_number, r
 use Rattle.machine_model.specs.Messaging.SendCalls.{arrived}
 use Rattle.machine_model.specs.State.Changes.{Change}
 use Rattle.machine_model.specs.State.Machine.{Machine}
-<<<<<<< HEAD
 use Rattle.xk_base.specs.Sids.{serial_of}
-use Rattle.machine_model.specs.State.Servers.{server_at, change_server}
-use Rattle.isolation_laws.proofs.Blindness.ChangeLemmas.{SeesNoByte, bare_change, bare_outcome, unless_bare, with_left, refused_alike}
-use Rattle.isolation_laws.proofs.Blindness.SendCallLemmas.{arrived_bare}
-use Rattle.isolation_laws.proofs.Ledgers.BareStepLemmas.{end_loan_bare, pass_bare}
-=======
 use Rattle.machine_model.specs.State.Servers.{server_at, change_server}
 use Rattle.isolation_laws.proofs.Blindness.ChangeLemmas.{Carries, change_through, outcome_through, unless_through, with_left, refused_alike}
 use Rattle.isolation_laws.proofs.Blindness.SendCallLemmas.{arrived_through}
 use Rattle.isolation_laws.proofs.Ledgers.ThroughStepLemmas.{end_loan_through, pass_through}
->>>>>>> 78f3c2a56eeaa98f542551c4935e9c5abdaf43f8
 use Rattle.isolation_laws.proofs.Ledgers.BareTestLemmas.{least_run_alike}
 
 module _ (g : List ℕ → List ℕ) where
