@@ -49,14 +49,14 @@ same_head a b rest others e = cc
 same_tail : (a b : Cause) (rest others : List Cause) → a ∷ rest ≡ b ∷ others → rest ≡ others
 same_tail a b rest others e = cc
 
-no_cause : (b : Cause) (others : List Cause) → [] ≡ b ∷ others → ⊥
+pub no_cause : (b : Cause) (others : List Cause) → [] ≡ b ∷ others → ⊥
 no_cause b others e = cc
 
 module _ (m n : Machine) (moment other : Moment) (moments others : List Moment) (side : IsSideBySide m n (moment ∷ moments) (other ∷ others)) where
-  head : moment.cause ≡ other.cause
+  pub head : moment.cause ≡ other.cause
   head = same_head moment.cause other.cause (map (λ x. x.cause) moments) (map (λ x. x.cause) others) side.causes
 
-  acts : moment.cause ≡ ByStep → ActsAlike m n
+  pub acts : moment.cause ≡ ByStep → ActsAlike m n
   unfolding state_at
   acts q = side.steps 0 moment refl q
 
@@ -70,7 +70,7 @@ module _ (m n : Machine) (moment other : Moment) (moments others : List Moment) 
       ∙ (alike_without (caused moment.cause m) (caused other.cause n) (ap (λ (r : Recorded). r.machine) first_alike)
       ∙ ap without_bytes (sym side.other.0))
 
-  rest_side : IsSideBySide moment.machine other.machine moments others
+  pub rest_side : IsSideBySide moment.machine other.machine moments others
   unfolding IsRun state_at
   rest_side = record {
     run = side.run.1;

@@ -15,7 +15,7 @@ use Rattle.machine_model.specs.State.Views.{contents_seen, is_of_timer_page, mem
 
 module _ (pid : Pid) (m n : Machine) (same : IsSameFor pid m n) where
   -- the same pages are reached
-  reached_alike : (access : Access) (address : ℕ) → page_reached m pid access address ≡ page_reached n pid access address
+  pub reached_alike : (access : Access) (address : ℕ) → page_reached m pid access address ≡ page_reached n pid access address
   reached_alike access address =
       sym (reach-bare m.processes m.ledger (page_of pid address) access)
       ∙ (ap (λ (x : Machine). page_reached x pid access address) same.but_bytes

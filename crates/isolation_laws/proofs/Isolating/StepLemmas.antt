@@ -28,7 +28,7 @@ abbrev pub bare_recorded : Recorded → Recorded
 bare_recorded r = record r { machine = machine_through no_bytes r.machine }
 
 -- what a thread does that ends, ends its handler or executes this
-abbrev acts : Machine → ThreadId → Thread → Bool → Bool → Executed → Told
+abbrev pub acts : Machine → ThreadId → Thread → Bool → Bool → Executed → Told
 acts m who t a b x =
     if a then after (End who) (settled (thread_ended who (reg_at t.regs 10) (turned_to who m))) else (
     if b then after (End who) (settled (handler_ended who.pid (turned_to who m))) else
@@ -61,7 +61,7 @@ module _ (m n : Machine) (who : ThreadId) (same : IsSameFor who.pid m n) where
   abbrev e : machine_through no_bytes m ≡ machine_through no_bytes n
   e = alike_through m n same.but_bytes
 
-  performed_alike : (t : Thread) → performed (turned_to who m) who t ≡ performed (turned_to who n) who t
+  pub performed_alike : (t : Thread) → performed (turned_to who m) who t ≡ performed (turned_to who n) who t
   unfolding memory_of
   performed_alike t = λ i. execute_at t.regs t.pc (reserved_by who (e i).reserved) (memory_alike who.pid m n same i)
 

@@ -67,7 +67,7 @@ table_keeps =
     also forward_keeps
     also NoRow
 
-call_keeps : CallKeepsBytes call
+pub call_keeps : CallKeepsBytes call
 unfolding call
 call_keeps m w h =
     unless_refused_keeps m (any_refusals m w) (call_at (call_number w) call_table m w)

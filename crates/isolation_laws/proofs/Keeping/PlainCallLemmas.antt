@@ -80,7 +80,7 @@ join_keeps m w h = unless_left_keeps m (join_refusals m (join_tid w)) (join_serv
 
 pub terminate_keeps : CallKeepsBytes terminate_call
 unfolding terminate_call
-terminate_keeps m w h = death_keeps m.cursor.pid m h
+terminate_keeps m w h = death_keeps m.cursor.pid m h.body.ledger.lawful
 
 pub thread_id_keeps : CallKeepsBytes thread_id_call
 unfolding thread_id_call

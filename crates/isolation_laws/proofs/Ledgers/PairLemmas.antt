@@ -64,7 +64,7 @@ pair_contents Console d = Console
 pair_contents (Bytes x) Console = Console
 pair_contents (Bytes x) (Bytes y) = Bytes (pair x y)
 
-abbrev pair_page : Option Page → Option Page → Option Page
+abbrev pub pair_page : Option Page → Option Page → Option Page
 pair_page None b = None
 pair_page (Some x) None = None
 pair_page (Some x) (Some y) = Some (record x { contents = pair_contents x.contents y.contents })
