@@ -37,7 +37,9 @@ module _ (pid : Pid) (m n : Machine) (same : IsSameFor pid m n) where
   pub memory_alike : memory_of m pid ≡ memory_of n pid
   unfolding memory_of
   memory_alike = λ i. record {
-    may = λ access address. (is_some (timer_at (timer_alike i) address) && is_of_timer_page access) || is_some (reached_alike access address i);
+    may =
+        λ access address. (is_some (timer_at (timer_alike i) address) && is_of_timer_page access) || is_some
+        (reached_alike access address i);
     console = λ address. option_map_or (λ contents. not (has_bytes contents)) (seen_alike address i) false;
     byte = λ address. option_map_or (byte_of (address % 4096)) (seen_alike address i) 0;
     timer = timer_alike i;

@@ -25,7 +25,8 @@ module _ (pid : Pid) (m : Machine) where
       (end_loans_orphans (is_message_at (λ n. is_server_of pid (m.servers n)) m) m.ledger)
       (orphans_then shut.ledger taken_out.ledger (forgotten pid senderless).ledger (end_loans_orphans (is_queued_from pid shut) shut.ledger)
       (orphans_then taken_out.ledger senderless.ledger (forgotten pid senderless).ledger
-      (orphan_loans_orphans taken_out.processes (is_held_from pid taken_out) taken_out.ledger) (forget_orphans pid senderless.ledger)))
+      (orphan_loans_orphans taken_out.processes (is_held_from pid taken_out) taken_out.ledger)
+      (forget_orphans pid senderless.ledger)))
 
   pub death_keeps : IsLawful m.processes m.capacity m.ledger → ChangesNoByte m.ledger (death pid m).machine.ledger
   death_keeps lawful = orphans_keep m.processes m.capacity m.ledger (death pid m).machine.ledger lawful death_orphans

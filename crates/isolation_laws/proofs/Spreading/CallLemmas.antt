@@ -17,9 +17,9 @@ use Rattle.machine_model.specs.State.Machine.{Machine}
 use Rattle.machine_model.specs.State.Threads.{put_thread}
 use Rattle.machine_laws.proofs.Calling.PageChangeLemmas.{matched_on, stands_now}
 use Rattle.isolation_laws.specs.Differences.{OnlyMovesDifferences}
-use Rattle.isolation_laws.proofs.Blindness.CallTableLemmas.{call_carries}
-use Rattle.isolation_laws.proofs.Blindness.ChangeLemmas.{outcome_through}
-use Rattle.isolation_laws.proofs.Blindness.EndLemmas.{death_through, thread_ended_through}
+use Rattle.isolation_laws.proofs.Carrying.CallTableLemmas.{call_carries}
+use Rattle.isolation_laws.proofs.Carrying.ChangeLemmas.{outcome_through}
+use Rattle.isolation_laws.proofs.Carrying.EndLemmas.{death_through, thread_ended_through}
 use Rattle.isolation_laws.proofs.Keeping.CallLemmas.{ledger_after}
 use Rattle.isolation_laws.proofs.Keeping.CallStepLemmas.{call_keeps}
 use Rattle.isolation_laws.proofs.Keeping.DeathLemmas.{death_keeps}
@@ -37,7 +37,8 @@ pair_stood (Some x) b page e = (x, refl)
 module _ (m n : Machine) (e : without_bytes m ≡ without_bytes n) where
   same_bare : bare (paired m.ledger n.ledger) ≡ bare m.ledger
   same_bare =
-      sym (bare_through first (paired m.ledger n.ledger)) ∙ ap bare (through_first m.ledger n.ledger (ap (λ (x : Machine). x.ledger) e))
+      sym (bare_through first (paired m.ledger n.ledger))
+      ∙ ap bare (through_first m.ledger n.ledger (ap (λ (x : Machine). x.ledger) e))
 
   pub both_lawful : IsLawful m.processes m.capacity m.ledger → IsLawful m.processes m.capacity (paired m.ledger n.ledger)
   both_lawful lawful = bare-lawful m.processes m.capacity m.ledger (paired m.ledger n.ledger) same_bare lawful
@@ -60,19 +61,22 @@ outcome_ledger g m Retried = refl
 outcome_ledger g m (Served change) = refl
 
 call_ledger_carries : (w : List ℕ) → CarriesLedger (λ m. ledger_after m (call m w))
-call_ledger_carries w g zeros m = outcome_ledger g m (call m w) ∙ ap (ledger_after (machine_through g m)) (call_carries g zeros m w)
+call_ledger_carries w g zeros m =
+    outcome_ledger g m (call m w) ∙ ap (ledger_after (machine_through g m)) (call_carries g zeros m w)
 
 pub call_moves : (m n : Machine) (w : List ℕ) → Matched m → without_bytes m ≡ without_bytes n
     → OnlyMovesDifferences m.ledger n.ledger (ledger_after m (call m w)) (ledger_after n (call n w))
 call_moves m n w h e =
-    carried_moves (λ x. ledger_after x (call x w)) (call_ledger_carries w) m n e (call_keeps (both m n e) w (both_matched m n e h))
+    carried_moves (λ x. ledger_after x (call x w)) (call_ledger_carries w) m n e
+    (call_keeps (both m n e) w (both_matched m n e h))
 
 -- ---- deaths
 
 pub death_moves : (m n : Machine) (pid : Pid) → IsLawful m.processes m.capacity m.ledger → without_bytes m ≡ without_bytes n
     → OnlyMovesDifferences m.ledger n.ledger (death pid m).machine.ledger (death pid n).machine.ledger
 death_moves m n pid lawful e =
-    carried_moves (λ x. (death pid x).machine.ledger) (λ g zeros x. ap (λ (c : Change). c.machine.ledger) (death_through g pid x)) m n e
+    carried_moves (λ x. (death pid x).machine.ledger)
+    (λ g zeros x. ap (λ (c : Change). c.machine.ledger) (death_through g pid x)) m n e
     (death_keeps pid (both m n e) (both_lawful m n e lawful))
 
 -- ---- the end of a thread
@@ -87,7 +91,8 @@ ended_keeps : (who : ThreadId) (a0 : ℕ) (m : Machine) → IsLawful m.processes
 unfolding thread_ended
 ended_keeps who a0 m lawful = last_keeps (has_threads (put_thread who None m) who.pid) who.pid (put_thread who None m) lawful
 
-pub ended_moves : (m n : Machine) (who : ThreadId) (a0 : ℕ) → IsLawful m.processes m.capacity m.ledger → without_bytes m ≡ without_bytes n
+pub ended_moves : (m n : Machine) (who : ThreadId) (a0 : ℕ) → IsLawful m.processes m.capacity m.ledger
+    → without_bytes m ≡ without_bytes n
     → OnlyMovesDifferences m.ledger n.ledger (thread_ended who a0 m).machine.ledger (thread_ended who a0 n).machine.ledger
 ended_moves m n who a0 lawful e =
     carried_moves (λ x. (thread_ended who a0 x).machine.ledger)

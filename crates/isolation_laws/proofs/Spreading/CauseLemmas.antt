@@ -26,7 +26,8 @@ any_step_moves : (m n : Machine) → Matched m → without_bytes m ≡ without_b
     → OnlyMovesDifferences m.ledger n.ledger (step m).machine.ledger (step n).machine.ledger
 any_step_moves m n h e acts = go (actor m) refl
   where
-    go : (o : Option ThreadId) → actor m ≡ o → OnlyMovesDifferences m.ledger n.ledger (step m).machine.ledger (step n).machine.ledger
+    go : (o : Option ThreadId) → actor m ≡ o
+        → OnlyMovesDifferences m.ledger n.ledger (step m).machine.ledger (step n).machine.ledger
     go None q =
         left_moves m.ledger n.ledger (step m).machine.ledger (step n).machine.ledger
         (ap (λ (r : Recorded). r.machine.ledger) (no_step m q))
@@ -41,7 +42,8 @@ irq_ledger : (k : ℕ) (m : Machine) → (raised k m).machine.ledger ≡ m.ledge
 unfolding raised
 irq_ledger k m = raised_ledger k (m.claims k) (unreserved m)
 
-killed_moves : (alive : Bool) (pid : Pid) (m n : Machine) → IsLawful m.processes m.capacity m.ledger → without_bytes m ≡ without_bytes n
+killed_moves : (alive : Bool) (pid : Pid) (m n : Machine) → IsLawful m.processes m.capacity m.ledger
+    → without_bytes m ≡ without_bytes n
     → OnlyMovesDifferences m.ledger n.ledger (killed_if alive pid m).machine.ledger (killed_if alive pid n).machine.ledger
 unfolding settled
 killed_moves false pid m n lawful e = stay_moves m.ledger n.ledger

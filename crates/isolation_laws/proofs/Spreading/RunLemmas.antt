@@ -26,7 +26,8 @@ module _ (a b middle other after last : Ledger) (first : OnlyMovesDifferences a 
 
 -- ---- runs
 
-module _ (m n : Machine) (moment other : Moment) (moments others : List Moment) (side : IsSideBySide m n (moment ∷ moments) (other ∷ others))
+module _ (m n : Machine) (moment other : Moment) (moments others : List Moment)
+    (side : IsSideBySide m n (moment ∷ moments) (other ∷ others))
     (h : Matched m) where
   first_moves : OnlyMovesDifferences m.ledger n.ledger moment.machine.ledger other.machine.ledger
   unfolding IsRun

@@ -102,7 +102,8 @@ module _ (offset : ℕ) (bytes : List ℕ) where
       alike : page ≡ name → contents_of a page ≡ contents_of b page
       alike q = ap (contents_of a) q ∙ (same ∙ ap (contents_of b) (sym q))
 
-      go : (h : Bool) → hits name page ≡ h → (contents_of (write name offset bytes a) page ≡ contents_of (write name offset bytes b) page)
+      go : (h : Bool) → hits name page ≡ h
+          → (contents_of (write name offset bytes a) page ≡ contents_of (write name offset bytes b) page)
           ⊎ ((old : PageName) × HoldsWhat a b (write name offset bytes a) (write name offset bytes b) page old)
       go true q =
           inl (at true q a ∙ (ap (option_map (written_contents offset bytes)) (alike (hit_is name page q)) ∙ sym (at true q b)))
