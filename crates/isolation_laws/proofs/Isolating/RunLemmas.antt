@@ -32,7 +32,8 @@ module _ (m n : Machine) (e : machine_through no_bytes m ≡ machine_through no_
       go None q = idle_alike q
       go (Some who) q = step_alike m n who q (record { but_bytes = alike_without m n e; loaded = acts who q })
 
-  pub cause_alike : (cause : Cause) → (cause ≡ ByStep → ActsAlike m n) → bare_recorded (by_cause cause m) ≡ bare_recorded (by_cause cause n)
+  pub cause_alike : (cause : Cause) → (cause ≡ ByStep → ActsAlike m n)
+      → bare_recorded (by_cause cause m) ≡ bare_recorded (by_cause cause n)
   cause_alike ByStep acts = any_step_alike (acts refl)
   cause_alike (ByPick who) acts = picked_bare who m ∙ (ap (λ x. by_cause (ByPick who) x) e ∙ sym (picked_bare who n))
   cause_alike (ByIrq k) acts = raised_bare k m ∙ (ap (λ x. by_cause (ByIrq k) x) e ∙ sym (raised_bare k n))
@@ -49,19 +50,21 @@ same_head a b rest others e = cc
 same_tail : (a b : Cause) (rest others : List Cause) → a ∷ rest ≡ b ∷ others → rest ≡ others
 same_tail a b rest others e = cc
 
-no_cause : (b : Cause) (others : List Cause) → [] ≡ b ∷ others → ⊥
+pub no_cause : (b : Cause) (others : List Cause) → [] ≡ b ∷ others → ⊥
 no_cause b others e = cc
 
-module _ (m n : Machine) (moment other : Moment) (moments others : List Moment) (side : IsSideBySide m n (moment ∷ moments) (other ∷ others)) where
-  head : moment.cause ≡ other.cause
+module _ (m n : Machine) (moment other : Moment) (moments others : List Moment)
+    (side : IsSideBySide m n (moment ∷ moments) (other ∷ others)) where
+  pub head : moment.cause ≡ other.cause
   head = same_head moment.cause other.cause (map (λ x. x.cause) moments) (map (λ x. x.cause) others) side.causes
 
-  acts : moment.cause ≡ ByStep → ActsAlike m n
+  pub acts : moment.cause ≡ ByStep → ActsAlike m n
   unfolding state_at
   acts q = side.steps 0 moment refl q
 
   first_alike : bare_recorded (by_cause moment.cause m) ≡ bare_recorded (by_cause other.cause n)
-  first_alike = cause_alike m n (alike_through m n side.but_bytes) moment.cause acts ∙ ap (λ c. bare_recorded (by_cause c n)) head
+  first_alike =
+      cause_alike m n (alike_through m n side.but_bytes) moment.cause acts ∙ ap (λ c. bare_recorded (by_cause c n)) head
 
   first_states : without_bytes moment.machine ≡ without_bytes other.machine
   unfolding IsRun
@@ -70,7 +73,7 @@ module _ (m n : Machine) (moment other : Moment) (moments others : List Moment) 
       ∙ (alike_without (caused moment.cause m) (caused other.cause n) (ap (λ (r : Recorded). r.machine) first_alike)
       ∙ ap without_bytes (sym side.other.0))
 
-  rest_side : IsSideBySide moment.machine other.machine moments others
+  pub rest_side : IsSideBySide moment.machine other.machine moments others
   unfolding IsRun state_at
   rest_side = record {
     run = side.run.1;
@@ -94,6 +97,7 @@ unfolding state_at
 same_but_bytes m n moments others side zero = side.but_bytes
 same_but_bytes m n [] [] side (suc i) = side.but_bytes
 same_but_bytes m n [] (other ∷ others) side (suc i) = absurd (no_cause other.cause (map (λ x. x.cause) others) side.causes)
-same_but_bytes m n (moment ∷ moments) [] side (suc i) = absurd (no_cause moment.cause (map (λ x. x.cause) moments) (sym side.causes))
+same_but_bytes m n (moment ∷ moments) [] side (suc i) =
+    absurd (no_cause moment.cause (map (λ x. x.cause) moments) (sym side.causes))
 same_but_bytes m n (moment ∷ moments) (other ∷ others) side (suc i) =
     same_but_bytes moment.machine other.machine moments others (rest_side m n moment other moments others side) i

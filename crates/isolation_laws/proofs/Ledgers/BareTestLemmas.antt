@@ -59,7 +59,8 @@ holder_alike l None = refl
 holder_alike l (Some home) = ap (lent_role home) (loan_alike (l.home home))
 
 role_on_loan : (h : Option Page) (o : Option Orphan) (r : Role)
-    → is_on_loan (home_or (option_map bare_page h) (orphan_or_holder (option_map bare_orphan o) r)) ≡ is_on_loan (home_or h (orphan_or_holder o r))
+    → is_on_loan (home_or (option_map bare_page h) (orphan_or_holder (option_map bare_orphan o) r))
+    ≡ is_on_loan (home_or h (orphan_or_holder o r))
 role_on_loan None None r = refl
 role_on_loan None (Some orphan) r = refl
 role_on_loan (Some page) o r = refl
@@ -79,11 +80,13 @@ pub used_bare : (procs : ℕ) (l : Ledger) (first : Place) (n : ℕ) → any_use
 unfolding any_used
 used_bare procs l first n = λ i. list_any (λ p. not (free_bare procs l p i)) (run first n)
 
-pub any_free_bare : (procs : ℕ) (l : Ledger) (first : Place) (n : ℕ) → any_free procs (bare l) first n ≡ any_free procs l first n
+pub any_free_bare : (procs : ℕ) (l : Ledger) (first : Place) (n : ℕ)
+    → any_free procs (bare l) first n ≡ any_free procs l first n
 unfolding any_free
 any_free_bare procs l first n = λ i. list_any (λ p. free_bare procs l p i) (run first n)
 
-pub any_on_loan_bare : (procs : ℕ) (l : Ledger) (first : Place) (n : ℕ) → any_on_loan procs (bare l) first n ≡ any_on_loan procs l first n
+pub any_on_loan_bare : (procs : ℕ) (l : Ledger) (first : Place) (n : ℕ)
+    → any_on_loan procs (bare l) first n ≡ any_on_loan procs l first n
 unfolding any_on_loan
 any_on_loan_bare procs l first n = λ i. list_any (λ p. on_loan_alike procs l p i) (run first n)
 
@@ -91,7 +94,8 @@ asks_alike : (asked : Right) (o : Option Page) → asks_more asked (option_map b
 asks_alike asked None = refl
 asks_alike asked (Some page) = refl
 
-pub any_lacks_bare : (asked : Right) (l : Ledger) (first : Place) (n : ℕ) → any_lacks asked (bare l) first n ≡ any_lacks asked l first n
+pub any_lacks_bare : (asked : Right) (l : Ledger) (first : Place) (n : ℕ)
+    → any_lacks asked (bare l) first n ≡ any_lacks asked l first n
 unfolding any_lacks bare
 any_lacks_bare asked l first n = λ i. list_any (λ p. asks_alike asked (l.home p) i) (run first n)
 
@@ -99,7 +103,8 @@ console_alike : (o : Option Page) → is_console (option_map bare_page o) ≡ is
 console_alike None = refl
 console_alike (Some page) = of_contents page.contents
   where
-    of_contents : (c : Contents) → is_console (Some (record page { contents = bare_contents c })) ≡ is_console (Some (record page { contents = c }))
+    of_contents : (c : Contents)
+        → is_console (Some (record page { contents = bare_contents c })) ≡ is_console (Some (record page { contents = c }))
     of_contents Console = refl
     of_contents (Bytes bytes) = refl
 
@@ -138,17 +143,20 @@ module _ (g : List ℕ → List ℕ) where
   pub pages_alike : (procs : ℕ) (l : Ledger) → pages procs (through g l) ≡ pages procs l
   pages_alike procs l = same_through (pages procs) (pages_bare procs) l
 
-  pub used_alike : (procs : ℕ) (l : Ledger) (first : Place) (n : ℕ) → any_used procs (through g l) first n ≡ any_used procs l first n
+  pub used_alike : (procs : ℕ) (l : Ledger) (first : Place) (n : ℕ)
+      → any_used procs (through g l) first n ≡ any_used procs l first n
   used_alike procs l first n = same_through (λ x. any_used procs x first n) (λ x. used_bare procs x first n) l
 
-  pub any_free_alike : (procs : ℕ) (l : Ledger) (first : Place) (n : ℕ) → any_free procs (through g l) first n ≡ any_free procs l first n
+  pub any_free_alike : (procs : ℕ) (l : Ledger) (first : Place) (n : ℕ)
+      → any_free procs (through g l) first n ≡ any_free procs l first n
   any_free_alike procs l first n = same_through (λ x. any_free procs x first n) (λ x. any_free_bare procs x first n) l
 
   pub any_on_loan_alike : (procs : ℕ) (l : Ledger) (first : Place) (n : ℕ)
       → any_on_loan procs (through g l) first n ≡ any_on_loan procs l first n
   any_on_loan_alike procs l first n = same_through (λ x. any_on_loan procs x first n) (λ x. any_on_loan_bare procs x first n) l
 
-  pub any_lacks_alike : (asked : Right) (l : Ledger) (first : Place) (n : ℕ) → any_lacks asked (through g l) first n ≡ any_lacks asked l first n
+  pub any_lacks_alike : (asked : Right) (l : Ledger) (first : Place) (n : ℕ)
+      → any_lacks asked (through g l) first n ≡ any_lacks asked l first n
   any_lacks_alike asked l first n = same_through (λ x. any_lacks asked x first n) (λ x. any_lacks_bare asked x first n) l
 
   pub any_not_sent_alike : (procs : ℕ) (l : Ledger) (first : Place) (n : ℕ) (mutably : Bool)
@@ -161,4 +169,5 @@ module _ (g : List ℕ → List ℕ) where
 
   pub least_run_alike : (procs : ℕ) (l : Ledger) (pid : Pid) (window : Window) (n : ℕ)
       → least_run procs (through g l) pid window n ≡ least_run procs l pid window n
-  least_run_alike procs l pid window n = same_through (λ x. least_run procs x pid window n) (λ x. least_run_bare procs x pid window n) l
+  least_run_alike procs l pid window n =
+      same_through (λ x. least_run procs x pid window n) (λ x. least_run_bare procs x pid window n) l

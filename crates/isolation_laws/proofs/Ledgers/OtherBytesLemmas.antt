@@ -45,9 +45,6 @@ module _ (g : List ℕ → List ℕ) where
   unfolding bare through
   bare_through l = same_ledger (bare (through g l)) (bare l) (λ p. page_bare (l.home p)) (λ p. orphan_bare (l.orphan p))
 
-  pub machine_bare : (m : Machine) → without_bytes (machine_through g m) ≡ without_bytes m
-  machine_bare m = ap (λ l. record m { ledger = l }) (bare_through m.ledger)
-
 -- ---- no bytes at all
 
 abbrev pub no_bytes : List ℕ → List ℕ
@@ -64,8 +61,10 @@ pub through_twice : (g : List ℕ → List ℕ) (l : Ledger) → through no_byte
 through_twice g l = sym (bare_is (through g l)) ∙ (bare_through g l ∙ bare_is l)
 
 -- machines that are the same without bytes
-pub alike_through : (m n : Machine) → without_bytes m ≡ without_bytes n → machine_through no_bytes m ≡ machine_through no_bytes n
+pub alike_through : (m n : Machine) → without_bytes m ≡ without_bytes n
+    → machine_through no_bytes m ≡ machine_through no_bytes n
 alike_through m n e = sym (without_is m) ∙ (e ∙ without_is n)
 
-pub alike_without : (m n : Machine) → machine_through no_bytes m ≡ machine_through no_bytes n → without_bytes m ≡ without_bytes n
+pub alike_without : (m n : Machine) → machine_through no_bytes m ≡ machine_through no_bytes n
+    → without_bytes m ≡ without_bytes n
 alike_without m n e = without_is m ∙ (e ∙ sym (without_is n))

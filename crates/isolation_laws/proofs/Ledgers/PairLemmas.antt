@@ -64,7 +64,7 @@ pair_contents Console d = Console
 pair_contents (Bytes x) Console = Console
 pair_contents (Bytes x) (Bytes y) = Bytes (pair x y)
 
-abbrev pair_page : Option Page → Option Page → Option Page
+abbrev pub pair_page : Option Page → Option Page → Option Page
 pair_page None b = None
 pair_page (Some x) None = None
 pair_page (Some x) (Some y) = Some (record x { contents = pair_contents x.contents y.contents })
@@ -91,14 +91,16 @@ second_contents Console (Bytes y) e = absurd (cc)
 second_contents (Bytes x) Console e = absurd (cc)
 second_contents (Bytes x) (Bytes y) e = ap (λ b. Bytes b) (second_of x y)
 
-first_page : (a b : Option Page) → option_map bare_page a ≡ option_map bare_page b → option_map (page_through first) (pair_page a b) ≡ a
+first_page : (a b : Option Page) → option_map bare_page a ≡ option_map bare_page b
+    → option_map (page_through first) (pair_page a b) ≡ a
 first_page None b e = refl
 first_page (Some x) None e = absurd (none-some (bare_page x) (sym e))
 first_page (Some x) (Some y) e =
     let same : bare_page x ≡ bare_page y = same_Some (bare_page x) (bare_page y) e in
     ap (λ c. Some (record x { contents = c })) (first_contents x.contents y.contents (ap (λ (q : Page). q.contents) same))
 
-second_page : (a b : Option Page) → option_map bare_page a ≡ option_map bare_page b → option_map (page_through second) (pair_page a b) ≡ b
+second_page : (a b : Option Page) → option_map bare_page a ≡ option_map bare_page b
+    → option_map (page_through second) (pair_page a b) ≡ b
 second_page None None e = refl
 second_page None (Some y) e = absurd (none-some (bare_page y) e)
 second_page (Some x) None e = absurd (none-some (bare_page x) (sym e))

@@ -38,17 +38,20 @@ IsBlind served =
 module _ (g : List ℕ → List ℕ) where
   -- ---- refusals and retries
 
-  pub refused_through : (x : Option XousError) (outcome : Outcome) → outcome_through g (refused_or x outcome) ≡ refused_or x (outcome_through g outcome)
+  pub refused_through : (x : Option XousError) (outcome : Outcome)
+      → outcome_through g (refused_or x outcome) ≡ refused_or x (outcome_through g outcome)
   refused_through None outcome = refl
   refused_through (Some error) outcome = refl
 
   -- the same refusals, and then what follows with other bytes
-  pub unless_through : (refusals others : List (Bool × XousError)) (outcome other : Outcome) → refusals ≡ others → outcome_through g outcome ≡ other
+  pub unless_through : (refusals others : List (Bool × XousError)) (outcome other : Outcome) → refusals ≡ others
+      → outcome_through g outcome ≡ other
       → outcome_through g (unless_refused refusals outcome) ≡ unless_refused others other
   unless_through refusals others outcome other same e =
       refused_through (first_refusal refusals) outcome ∙ (λ i. unless_refused (same i) (e i))
 
-  pub served_unless : (refusals others : List (Bool × XousError)) (change other : Change) → refusals ≡ others → change_through g change ≡ other
+  pub served_unless : (refusals others : List (Bool × XousError)) (change other : Change) → refusals ≡ others
+      → change_through g change ≡ other
       → outcome_through g (unless_refused refusals (Served change)) ≡ unless_refused others (Served other)
   served_unless refusals others change other same e =
       unless_through refusals others (Served change) (Served other) same (ap (λ c. Served c) e)
@@ -58,11 +61,13 @@ module _ (g : List ℕ → List ℕ) where
       → outcome_through g (unless_refused refusals (Served change)) ≡ unless_refused refusals (Served other)
   refused_alike refusals change other e = served_unless refusals refusals change other refl e
 
-  pub retried_through : (test : Bool) (outcome : Outcome) → outcome_through g (unless_retried test outcome) ≡ unless_retried test (outcome_through g outcome)
+  pub retried_through : (test : Bool) (outcome : Outcome)
+      → outcome_through g (unless_retried test outcome) ≡ unless_retried test (outcome_through g outcome)
   retried_through true outcome = refl
   retried_through false outcome = refl
 
-  pub served_through : (change other : Change) → change_through g change ≡ other → outcome_through g (Served change) ≡ Served other
+  pub served_through : (change other : Change) → change_through g change ≡ other
+      → outcome_through g (Served change) ≡ Served other
   served_through change other e = ap (λ c. Served c) e
 
   -- ---- settled
@@ -71,7 +76,8 @@ module _ (g : List ℕ → List ℕ) where
   unfolding settled
   settled_through change = refl
 
-  pub call_settled_through : (m : Machine) (outcome : Outcome) → told_through g (call_settled m outcome) ≡ call_settled (machine_through g m) (outcome_through g outcome)
+  pub call_settled_through : (m : Machine) (outcome : Outcome)
+      → told_through g (call_settled m outcome) ≡ call_settled (machine_through g m) (outcome_through g outcome)
   unfolding call_settled settled turn next_ready
   call_settled_through m (Refused error) = refl
   call_settled_through m Retried = refl

@@ -19,7 +19,7 @@ use Rattle.ledger_model.specs.LeastRun.{least_run}
 use Rattle.ledger_model.specs.Places.{in_run}
 use Rattle.machine_model.specs.Calling.MemoryCalls.{are_too_many, caller_place, decrease_call, decrease_refusals, decrease_served, heap_of, heap_start, increase_call, increase_refusals, increase_served, map_address, map_call, map_refusals, map_served, mapped_ledger, unmap_call, unmap_refusals, unmap_served, update_call, update_refusals, update_served, is_bad_range, is_aligned, are_bad_flags, heap_limit}
 use Rattle.machine_model.specs.State.Machine.{Machine}
-use Rattle.isolation_laws.proofs.Blindness.ChangeLemmas.{Carries, change_through, with_left, served_unless}
+use Rattle.isolation_laws.proofs.Carrying.ChangeLemmas.{Carries, change_through, with_left, served_unless}
 use Rattle.isolation_laws.proofs.Ledgers.ThroughStepLemmas.{make_through, make_console_through, reduce_through, remove_through}
 use Rattle.isolation_laws.proofs.Ledgers.BareTestLemmas.{any_free_alike, any_lacks_alike, any_on_loan_alike, console_mapped_alike, least_run_alike, pages_alike, used_alike}
 
@@ -29,8 +29,10 @@ module _ (g : List ℕ → List ℕ) where
   pub unmap_carries : Carries g unmap_call
   unfolding unmap_call
   unmap_carries m w =
-      served_unless g (unmap_refusals m (range_address w) (range_size w)) (unmap_refusals (machine_through g m) (range_address w) (range_size w))
-      (unmap_served m (range_address w) (range_size w)) (unmap_served (machine_through g m) (range_address w) (range_size w)) refusals
+      served_unless g (unmap_refusals m (range_address w) (range_size w))
+      (unmap_refusals (machine_through g m) (range_address w) (range_size w))
+      (unmap_served m (range_address w) (range_size w))
+      (unmap_served (machine_through g m) (range_address w) (range_size w)) refusals
       (ap (with_left (unmap_served m (range_address w) (range_size w))) (remove_through g (in_run first n) m.ledger))
     where
       first : Place
@@ -39,7 +41,8 @@ module _ (g : List ℕ → List ℕ) where
       n : ℕ
       n = range_size w / PAGE_SIZE
 
-      refusals : unmap_refusals m (range_address w) (range_size w) ≡ unmap_refusals (machine_through g m) (range_address w) (range_size w)
+      refusals : unmap_refusals m (range_address w) (range_size w)
+          ≡ unmap_refusals (machine_through g m) (range_address w) (range_size w)
       refusals = sym (λ i.
           (is_bad_range (range_address w) (range_size w), BadAlignment)
           ∷ (any_free_alike g m.processes m.ledger first n i, BadAddress)

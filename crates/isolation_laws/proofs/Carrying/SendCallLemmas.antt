@@ -25,7 +25,7 @@ use Rattle.machine_model.specs.Messaging.SendCalls.{arrival, arrival_refusals, a
 use Rattle.machine_model.specs.State.Changes.{Change, Served, unless_retried}
 use Rattle.machine_model.specs.State.Machine.{Machine}
 use Rattle.machine_model.specs.State.Servers.{server_at}
-use Rattle.isolation_laws.proofs.Blindness.ChangeLemmas.{Carries, change_through, outcome_through, retried_through, served_through, unless_through}
+use Rattle.isolation_laws.proofs.Carrying.ChangeLemmas.{Carries, change_through, outcome_through, retried_through, served_through, unless_through}
 use Rattle.isolation_laws.proofs.Ledgers.ThroughStepLemmas.{give_through, lend_through}
 use Rattle.isolation_laws.proofs.Ledgers.BareTestLemmas.{any_free_alike, any_not_sent_alike, least_run_alike}
 
@@ -45,11 +45,13 @@ module _ (g : List ℕ → List ℕ) where
   arrived_through None serial message m = refl
   arrived_through (Some who) serial message m = refl
 
-  left_through : (waits : Bool) (number : Number) (m : Machine) → machine_through g (sender_left waits number m) ≡ sender_left waits number (machine_through g m)
+  left_through : (waits : Bool) (number : Number) (m : Machine)
+      → machine_through g (sender_left waits number m) ≡ sender_left waits number (machine_through g m)
   left_through true number m = refl
   left_through false number m = refl
 
-  sent_through : (m : Machine) (kind : MsgKind) (w : List ℕ) (first : Vpn) → change_through g (sent m kind w first) ≡ sent (machine_through g m) kind w first
+  sent_through : (m : Machine) (kind : MsgKind) (w : List ℕ) (first : Vpn)
+      → change_through g (sent m kind w first) ≡ sent (machine_through g m) kind w first
   unfolding receiver
   sent_through m kind w first =
       ap answered
@@ -84,25 +86,31 @@ module _ (g : List ℕ → List ℕ) where
   arrival_alike m w =
       sym (λ i. option_and_then (λ server. least_run_alike g m.processes m.ledger server.pid MessageWindow (sent_pages w) i) (server_at m (send_cid w)))
 
-  sent_to_through : (m : Machine) (w : List ℕ) (first : Option Vpn) → outcome_through g (sent_to m w first) ≡ sent_to (machine_through g m) w first
+  sent_to_through : (m : Machine) (w : List ℕ) (first : Option Vpn)
+      → outcome_through g (sent_to m w first) ≡ sent_to (machine_through g m) w first
   sent_to_through m w first =
-      unless_through g (arrival_refusals w first) (arrival_refusals w first) (Served (send_served m w first)) (Served (send_served (machine_through g m) w first)) refl
+      unless_through g (arrival_refusals w first) (arrival_refusals w first) (Served (send_served m w first))
+      (Served (send_served (machine_through g m) w first)) refl
       (served_through g (send_served m w first) (send_served (machine_through g m) w first)
       (sent_through m (unwrap_or (named_kind w) Scalar) w (unwrap_or first (record { 0 = 0 }))))
 
-  arrived_to : (m : Machine) (w : List ℕ) → outcome_through g (sent_to m w (arrival m w)) ≡ sent_to (machine_through g m) w (arrival (machine_through g m) w)
+  arrived_to : (m : Machine) (w : List ℕ)
+      → outcome_through g (sent_to m w (arrival m w)) ≡ sent_to (machine_through g m) w (arrival (machine_through g m) w)
   arrived_to m w = sent_to_through m w (arrival m w) ∙ ap (sent_to (machine_through g m) w) (arrival_alike m w)
 
   pub send_carries : Carries g send_call
   unfolding send_call
   send_carries m w =
-      unless_through g (send_refusals m w) (send_refusals (machine_through g m) w) (unless_retried (is_full_for m w) (sent_to m w (arrival m w)))
-      (unless_retried (is_full_for m w) (sent_to (machine_through g m) w (arrival (machine_through g m) w))) (send_refusals_alike m w)
+      unless_through g (send_refusals m w) (send_refusals (machine_through g m) w)
+      (unless_retried (is_full_for m w) (sent_to m w (arrival m w)))
+      (unless_retried (is_full_for m w) (sent_to (machine_through g m) w (arrival (machine_through g m) w)))
+      (send_refusals_alike m w)
       (retried_through g (is_full_for m w) (sent_to m w (arrival m w)) ∙ ap (unless_retried (is_full_for m w)) (arrived_to m w))
 
   pub try_send_carries : Carries g try_send_call
   unfolding try_send_call
   try_send_carries m w =
-      unless_through g (send_refusals m w ++ (is_full_for m w, ServerQueueFull) ∷ []) (send_refusals (machine_through g m) w ++ (is_full_for m w, ServerQueueFull) ∷ [])
+      unless_through g (send_refusals m w ++ (is_full_for m w, ServerQueueFull) ∷ [])
+      (send_refusals (machine_through g m) w ++ (is_full_for m w, ServerQueueFull) ∷ [])
       (sent_to m w (arrival m w)) (sent_to (machine_through g m) w (arrival (machine_through g m) w))
       (ap (λ refusals. refusals ++ (is_full_for m w, ServerQueueFull) ∷ []) (send_refusals_alike m w)) (arrived_to m w)

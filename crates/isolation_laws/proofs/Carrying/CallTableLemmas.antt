@@ -9,16 +9,17 @@ use Rattle.xk_base.specs.CallWords.{call_number}
 use Rattle.machine_model.specs.Calling.Calls.{any_refusals, call, call_at, call_table}
 use Rattle.machine_model.specs.State.Changes.{Call, Outcome, Refused, Retried, Served}
 use Rattle.machine_model.specs.State.Machine.{Machine}
-use Rattle.isolation_laws.proofs.Blindness.ChangeLemmas.{Carries, IsBlind, outcome_through, unless_through, with_left}
-use Rattle.isolation_laws.proofs.Blindness.MemoryCallLemmas.{decrease_carries, increase_carries, map_carries, unmap_carries, update_carries}
-use Rattle.isolation_laws.proofs.Blindness.PassCallLemmas.{forward_carries, return_memory_carries}
-use Rattle.isolation_laws.proofs.Blindness.PlainCallLemmas.{claim_carries, connect_carries, create_carries, create_server_carries, destroy_carries, free_carries, join_carries, process_id_carries, receive_carries, return_scalar1_carries, return_scalar2_carries, terminate_carries, thread_id_carries, try_connect_carries, try_receive_carries, yield_carries}
-use Rattle.isolation_laws.proofs.Blindness.SendCallLemmas.{send_carries, try_send_carries}
+use Rattle.isolation_laws.proofs.Carrying.ChangeLemmas.{Carries, IsBlind, outcome_through, unless_through, with_left}
+use Rattle.isolation_laws.proofs.Carrying.MemoryCallLemmas.{decrease_carries, increase_carries, map_carries, unmap_carries, update_carries}
+use Rattle.isolation_laws.proofs.Carrying.PassCallLemmas.{forward_carries, return_memory_carries}
+use Rattle.isolation_laws.proofs.Carrying.PlainCallLemmas.{claim_carries, connect_carries, create_carries, create_server_carries, destroy_carries, free_carries, join_carries, process_id_carries, receive_carries, return_scalar1_carries, return_scalar2_carries, terminate_carries, thread_id_carries, try_connect_carries, try_receive_carries, yield_carries}
+use Rattle.isolation_laws.proofs.Carrying.SendCallLemmas.{send_carries, try_send_carries}
 
 -- each call of the rows carries bytes
 data CarryBytes (g : List ℕ → List ℕ) : List (ℕ × Call) → Type 0 where
   NoRow : CarryBytes g []
-  Row : (number : ℕ) (served : Call) (rows : List (ℕ × Call)) → Carries g served → CarryBytes g rows → CarryBytes g ((number, served) ∷ rows)
+  Row : (number : ℕ) (served : Call) (rows : List (ℕ × Call)) → Carries g served → CarryBytes g rows
+      → CarryBytes g ((number, served) ∷ rows)
 
 infixr 5 ◌also◌
 ◌also◌ : {g : List ℕ → List ℕ} {number : ℕ} {served : Call} {rows : List (ℕ × Call)} → Carries g served → CarryBytes g rows
@@ -70,11 +71,13 @@ module _ (g : List ℕ → List ℕ) where
   unfolding call
   call_carries zeros m w =
       unless_through g (any_refusals m w) (any_refusals m w) (call_at (call_number w) call_table m w)
-      (call_at (call_number w) call_table (machine_through g m) w) refl (rows_carry (call_number w) call_table (table_carries zeros) m w)
+      (call_at (call_number w) call_table (machine_through g m) w) refl
+      (rows_carry (call_number w) call_table (table_carries zeros) m w)
 
 -- ---- blind
 
-outcome_twice : (g : List ℕ → List ℕ) (outcome : Outcome) → outcome_through no_bytes (outcome_through g outcome) ≡ outcome_through no_bytes outcome
+outcome_twice : (g : List ℕ → List ℕ) (outcome : Outcome)
+    → outcome_through no_bytes (outcome_through g outcome) ≡ outcome_through no_bytes outcome
 outcome_twice g (Refused error) = refl
 outcome_twice g Retried = refl
 outcome_twice g (Served change) = ap (λ l. Served (with_left change l)) (through_twice g change.machine.ledger)

@@ -18,8 +18,8 @@ use Rattle.machine_model.specs.State.Changes.{Change, Served, answering, unless_
 use Rattle.machine_model.specs.State.Machine.{Machine}
 use Rattle.machine_model.specs.State.Order.{next_ready, turn}
 use Rattle.machine_model.specs.State.Servers.{live_servers, with_sid}
-use Rattle.isolation_laws.proofs.Blindness.ChangeLemmas.{Carries, change_through, retried_through, served_through, refused_alike, outcome_through}
-use Rattle.isolation_laws.proofs.Blindness.EndLemmas.{death_through, destroyed_through}
+use Rattle.isolation_laws.proofs.Carrying.ChangeLemmas.{Carries, change_through, retried_through, served_through, refused_alike, outcome_through}
+use Rattle.isolation_laws.proofs.Carrying.EndLemmas.{death_through, destroyed_through}
 
 module _ (g : List ℕ → List ℕ) where
   -- ---- interrupts
@@ -30,7 +30,8 @@ module _ (g : List ℕ → List ℕ) where
       let k = interrupt_number w in
       let handler = interrupt_handler w in
       let argument = interrupt_argument w in
-      refused_alike g (claim_refusals m k handler) (claim_served m k handler argument) (claim_served (machine_through g m) k handler argument) refl
+      refused_alike g (claim_refusals m k handler) (claim_served m k handler argument)
+      (claim_served (machine_through g m) k handler argument) refl
 
   pub free_carries : Carries g free_call
   unfolding free_call
@@ -44,7 +45,8 @@ module _ (g : List ℕ → List ℕ) where
   unfolding create_server_call with_sid live_servers
   create_server_carries m w =
       let sid = named_sid w in
-      refused_alike g (create_server_refusals m sid) (create_server_served m sid) (create_server_served (machine_through g m) sid) refl
+      refused_alike g (create_server_refusals m sid) (create_server_served m sid)
+      (create_server_served (machine_through g m) sid) refl
 
   pub connect_carries : Carries g connect_call
   unfolding connect_call with_sid
@@ -58,11 +60,14 @@ module _ (g : List ℕ → List ℕ) where
   unfolding try_connect_call with_sid
   try_connect_carries m w =
       let sid = named_sid w in
-      refused_alike g ((is_missing m sid, ServerNotFound) ∷ connect_refusals m sid) (connect_served m sid) (connect_served (machine_through g m) sid) refl
+      refused_alike g ((is_missing m sid, ServerNotFound) ∷ connect_refusals m sid) (connect_served m sid)
+      (connect_served (machine_through g m) sid) refl
 
   pub destroy_carries : Carries g destroy_call
   unfolding destroy_call with_sid
-  destroy_carries m w = refused_alike g (own_server_refusals m (named_sid w)) (destroy_served m (named_sid w)) (destroy_served (machine_through g m) (named_sid w)) served
+  destroy_carries m w =
+      refused_alike g (own_server_refusals m (named_sid w)) (destroy_served m (named_sid w))
+      (destroy_served (machine_through g m) (named_sid w)) served
     where
       answered : Change → Change
       answered left = record left { answers = both_answers (answer_to m.cursor plain_words) left.answers }
@@ -82,7 +87,8 @@ module _ (g : List ℕ → List ℕ) where
       let entry = thread_entry w in
       let sp = thread_sp w in
       let arguments = thread_arguments w in
-      refused_alike g (create_refusals m entry) (create_served m entry sp arguments) (create_served (machine_through g m) entry sp arguments) refl
+      refused_alike g (create_refusals m entry) (create_served m entry sp arguments)
+      (create_served (machine_through g m) entry sp arguments) refl
 
   pub join_carries : Carries g join_call
   unfolding join_call
@@ -92,7 +98,8 @@ module _ (g : List ℕ → List ℕ) where
 
   pub terminate_carries : Carries g terminate_call
   unfolding terminate_call
-  terminate_carries m w = served_through g (death m.cursor.pid m) (death m.cursor.pid (machine_through g m)) (death_through g m.cursor.pid m)
+  terminate_carries m w =
+      served_through g (death m.cursor.pid m) (death m.cursor.pid (machine_through g m)) (death_through g m.cursor.pid m)
 
   pub thread_id_carries : Carries g thread_id_call
   unfolding thread_id_call
@@ -130,7 +137,8 @@ module _ (g : List ℕ → List ℕ) where
       ≡ unless_refused (return_scalar_refusals (machine_through g m) number) (Served (return_scalar_served (machine_through g m) number words))
   unfolding holder_of
   scalar_carries m number words =
-      refused_alike g (return_scalar_refusals m number) (return_scalar_served m number words) (return_scalar_served (machine_through g m) number words) refl
+      refused_alike g (return_scalar_refusals m number) (return_scalar_served m number words)
+      (return_scalar_served (machine_through g m) number words) refl
 
   pub return_scalar1_carries : Carries g return_scalar1_call
   unfolding return_scalar1_call holder_of

@@ -9,7 +9,7 @@ use Rattle.machine_model.specs.State.Changes.{Told, settled}
 use Rattle.machine_model.specs.State.Machine.{Claim, Machine}
 use Rattle.machine_model.specs.Stepping.Interrupts.{delivered, delivered_lowest, handler_started, is_free_for_interrupt, lowest_pending, pended, with_handler_next}
 use Rattle.machine_model.specs.Stepping.Timer.{is_due, raised_by_timer, timed, timed_if, with_irq_if}
-use Rattle.isolation_laws.proofs.Blindness.ChangeLemmas.{change_through, told_through}
+use Rattle.isolation_laws.proofs.Carrying.ChangeLemmas.{change_through, told_through}
 
 module _ (g : List ℕ → List ℕ) where
   started_through : (m : Machine) (pid : Pid) (k : ℕ) (o : Option Claim)
@@ -17,7 +17,8 @@ module _ (g : List ℕ → List ℕ) where
   started_through m pid k None = refl
   started_through m pid k (Some claim) = refl
 
-  lowest_through : (m : Machine) (pid : Pid) (o : Option ℕ) → change_through g (delivered_lowest m pid o) ≡ delivered_lowest (machine_through g m) pid o
+  lowest_through : (m : Machine) (pid : Pid) (o : Option ℕ)
+      → change_through g (delivered_lowest m pid o) ≡ delivered_lowest (machine_through g m) pid o
   lowest_through m pid None = refl
   lowest_through m pid (Some k) = started_through m pid k (m.claims k)
 
@@ -25,12 +26,15 @@ module _ (g : List ℕ → List ℕ) where
   unfolding delivered lowest_pending
   delivered_through pid m = lowest_through m pid (if is_free_for_interrupt m pid then lowest_pending m pid else None)
 
-  pub pended_through : (k : ℕ) (claim : Claim) (m : Machine) → change_through g (pended k claim m) ≡ pended k claim (machine_through g m)
-  pended_through k claim m = ap with_handler_next (delivered_through claim.pid (record m { pending = put_at nat_eq m.pending k true }))
+  pub pended_through : (k : ℕ) (claim : Claim) (m : Machine)
+      → change_through g (pended k claim m) ≡ pended k claim (machine_through g m)
+  pended_through k claim m =
+      ap with_handler_next (delivered_through claim.pid (record m { pending = put_at nat_eq m.pending k true }))
 
   -- ---- the timer
 
-  raised_through : (o : Option Claim) (m : Machine) → change_through g (raised_by_timer o m) ≡ raised_by_timer o (machine_through g m)
+  raised_through : (o : Option Claim) (m : Machine)
+      → change_through g (raised_by_timer o m) ≡ raised_by_timer o (machine_through g m)
   raised_through None m = refl
   raised_through (Some claim) m = pended_through TIMER_INTERRUPT claim m
 

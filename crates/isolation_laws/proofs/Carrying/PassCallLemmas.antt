@@ -21,8 +21,8 @@ use Rattle.machine_model.specs.State.Changes.{Change}
 use Rattle.machine_model.specs.State.Machine.{Machine}
 use Rattle.xk_base.specs.Sids.{serial_of}
 use Rattle.machine_model.specs.State.Servers.{server_at, change_server}
-use Rattle.isolation_laws.proofs.Blindness.ChangeLemmas.{Carries, change_through, outcome_through, unless_through, with_left, refused_alike}
-use Rattle.isolation_laws.proofs.Blindness.SendCallLemmas.{arrived_through}
+use Rattle.isolation_laws.proofs.Carrying.ChangeLemmas.{Carries, change_through, outcome_through, unless_through, with_left, refused_alike}
+use Rattle.isolation_laws.proofs.Carrying.SendCallLemmas.{arrived_through}
 use Rattle.isolation_laws.proofs.Ledgers.ThroughStepLemmas.{end_loan_through, pass_through}
 use Rattle.isolation_laws.proofs.Ledgers.BareTestLemmas.{least_run_alike}
 
@@ -39,7 +39,8 @@ module _ (g : List ℕ → List ℕ) where
   -- ---- ForwardMessage
 
   passed_through : (m : Machine) (cid : ℕ) (first : Vpn) (from to : Serial) (message : Message)
-      → change_through g (passed_message m cid first from to message) ≡ passed_message (machine_through g m) cid first from to message
+      → change_through g (passed_message m cid first from to message)
+      ≡ passed_message (machine_through g m) cid first from to message
   unfolding receiver
   passed_through m cid first from to message =
       ap answered
@@ -60,16 +61,19 @@ module _ (g : List ℕ → List ℕ) where
   unfolding holder_of
   served_if_through m number cid first None = refl
   served_if_through m number cid first (Some message) =
-      passed_through m cid first (unwrap_or (passed_from m number) (serial_of 0)) (unwrap_or (passed_to m cid) (serial_of 0)) message
+      passed_through m cid first (unwrap_or (passed_from m number) (serial_of 0))
+      (unwrap_or (passed_to m cid) (serial_of 0)) message
 
-  forwarded_through : (m : Machine) (w : List ℕ) (first : Option Vpn) → outcome_through g (forwarded_to m w first) ≡ forwarded_to (machine_through g m) w first
+  forwarded_through : (m : Machine) (w : List ℕ) (first : Option Vpn)
+      → outcome_through g (forwarded_to m w first) ≡ forwarded_to (machine_through g m) w first
   unfolding holder_of
   forwarded_through m w first =
       refused_alike g (next_arrival_refusals first) (forward_served m (passed_number w) (forward_cid w) first)
       (forward_served (machine_through g m) (passed_number w) (forward_cid w) first)
       (served_if_through m (passed_number w) (forward_cid w) (unwrap_or first (record { 0 = 0 })) (passable m (passed_number w)))
 
-  next_arrival_alike : (m : Machine) (number : Number) (cid : ℕ) → next_arrival m number cid ≡ next_arrival (machine_through g m) number cid
+  next_arrival_alike : (m : Machine) (number : Number) (cid : ℕ)
+      → next_arrival m number cid ≡ next_arrival (machine_through g m) number cid
   unfolding next_arrival holder_of
   next_arrival_alike m number cid =
       sym (λ i. option_and_then
@@ -79,7 +83,8 @@ module _ (g : List ℕ → List ℕ) where
   pub forward_carries : Carries g forward_call
   unfolding forward_call holder_of
   forward_carries m w =
-      unless_through g (forward_refusals m (passed_number w) (forward_cid w)) (forward_refusals (machine_through g m) (passed_number w) (forward_cid w))
+      unless_through g (forward_refusals m (passed_number w) (forward_cid w))
+      (forward_refusals (machine_through g m) (passed_number w) (forward_cid w))
       (forwarded_to m w (next_arrival m (passed_number w) (forward_cid w)))
       (forwarded_to (machine_through g m) w (next_arrival (machine_through g m) (passed_number w) (forward_cid w))) refl
       (forwarded_through m w (next_arrival m (passed_number w) (forward_cid w))
