@@ -4,6 +4,7 @@
 ghost use Rattle.timer_laws.specs.Arming.{OnlyClaimantStores};
 ghost use Rattle.timer_laws.specs.Raising.{ElseNothing, RaiseFindsClaim, RaiseIsEvent};
 ghost use Rattle.timer_laws.specs.TimerLaw.{TimerHolds};
+ghost use Rattle.timer_laws.specs.TimerPage.{PageIsApart};
 
 /// In a step that the timer raises its interrupt in, that comes last, as by an event.
 pub fn raise_is_an_event()
@@ -30,4 +31,9 @@ pub fn only_the_claimant_stores()
 /// nothing touches the timer in between.
 pub fn timer_holds()
     ensures { TimerHolds }
+{}
+
+/// Where the machine is matched, no page of the ledger is reached at an address of the timer's page.
+pub fn timer_page_is_apart()
+    ensures { PageIsApart }
 {}
