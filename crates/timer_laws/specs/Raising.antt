@@ -3,6 +3,7 @@ use Rattle.std.specs.Prelude.{◌≡◌, ◌+◌, true, is_some, Some, None}
 use Rattle.std.specs.Option.{option_map_or}
 use Rattle.xk_base.specs.declared.ids.ThreadId.{ThreadId}
 use Rattle.xk_base.specs.declared.limits.TheConstants.{TIMER_INTERRUPT}
+use Rattle.machine_model.specs.Runs.Matched.{Matched}
 use Rattle.machine_model.specs.Runs.Moments.{Cause, ByStep}
 use Rattle.machine_model.specs.State.Machine.{Machine}
 use Rattle.machine_model.specs.State.Order.{actor}
@@ -37,3 +38,7 @@ RaiseIsEvent =
 -- Any other step is its other effects.
 abbrev pub ElseNothing : Type 0
 ElseNothing = (m : Machine) → ¬ IsRaise m ByStep → (step m).machine ≡ other_effects m
+
+-- A raise finds the interrupt claimed, so that somebody gets it.
+abbrev pub RaiseFindsClaim : Type 0
+RaiseFindsClaim = (m : Machine) → Matched m → IsRaise m ByStep → is_some ((other_effects m).claims TIMER_INTERRUPT) ≡ true

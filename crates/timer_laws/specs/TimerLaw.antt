@@ -50,16 +50,31 @@ pub record IsRaisedByAny (start : Machine) (moments : List Moment) (j : ℕ) : T
 
 -- ---- the law
 
+-- what an arming needs to raise in moment j
+pub record IsDueIn (compare : ℕ) (start : Machine) (moments : List Moment) (i j : ℕ) : Type 0 where
+  -- 1. That step is the arming step or a later one.
+  pub order : i ≤ j
+  -- 2. The run reaches it.
+  pub reached : IsStepOf compare start moments j
+  -- 3. Nothing touches the timer in between.
+  pub left : IsLeft start moments i j
+
 pub record TimerLaw (start : Machine) (moments : List Moment) : Type 0 where
   -- Each raise is that of an arming.
   pub by_an_arming : (j : ℕ) → IsRaising start moments j → IsRaisedByAny start moments j
-  -- An arming raises only in the step whose number is its compare value,
-  pub only_there : (compare i j : ℕ) → IsRaisedBy compare start moments i j → IsStepOf compare start moments j
-  -- .. and there exactly where the step isn't before the arming and nothing touches the timer in between,
-  pub exactly : (compare i j : ℕ) → IsArming compare start moments i → i ≤ j → IsStepOf compare start moments j
-      → IsRaisedBy compare start moments i j ↔ IsLeft start moments i j
-  -- .. and so at most once.
+  -- An arming raises at most once,
   pub once : (compare i j k : ℕ) → IsRaisedBy compare start moments i j → IsRaisedBy compare start moments i k → j ≡ k
+  -- .. only in the step whose number is its compare value,
+  pub only_there : (compare i j : ℕ) → IsRaisedBy compare start moments i j → IsStepOf compare start moments j
+  -- .. and there exactly where the three things hold.
+  pub exactly : (compare i j : ℕ) → IsArming compare start moments i
+      → IsRaisedBy compare start moments i j ↔ IsDueIn compare start moments i j
+  -- Until then the timer stays armed with that value, as long as nothing touches it,
+  pub stays : (compare i j : ℕ) (moment : Moment) → IsArming compare start moments i → i ≤ j → slice_get moments j ≡ Some moment
+      → IsLeft start moments i j → ((k : ℕ) → k ≤ j → ¬ IsRaisedBy compare start moments i k) → moment.machine.compare ≡ Some compare
+  -- .. and forever where the value is at or below the steps done.
+  pub never_past : (compare i j : ℕ) → IsArming compare start moments i → compare ≤ (state_at start moments i).steps
+      → ¬ IsRaisedBy compare start moments i j
 
 -- so it is in every run from a state in which the timer isn't armed
 abbrev pub TimerHolds : Type 0

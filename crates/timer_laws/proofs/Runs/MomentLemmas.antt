@@ -43,7 +43,8 @@ effects_of ByTurn m = caused ByTurn m
 pub data Touch (m : Machine) (cause : Cause) (after : Machine) : Type 0 where
   Left : after.compare ≡ m.compare → ((c : ℕ) → ¬ Arms c m cause) → ¬ Disarms m cause
       → ((c : Claim) → m.claims TIMER_INTERRUPT ≡ Some c → after.claims TIMER_INTERRUPT ≡ Some c) → Touch m cause after
-  Armed : (c : ℕ) → Arms c m cause → after.compare ≡ Some c → Touch m cause after
+  Armed : (c : ℕ) → Arms c m cause → after.compare ≡ Some c
+      → ((claim : Claim) → m.claims TIMER_INTERRUPT ≡ Some claim → after.claims TIMER_INTERRUPT ≡ Some claim) → Touch m cause after
   Disarmed : after.compare ≡ None → ((c : ℕ) → ¬ Arms c m cause) → Disarms m cause ⊎ EndsClaim m after → Touch m cause after
 
 -- without a store to the timer
@@ -110,6 +111,7 @@ by_store m offset Word value after store same claims = go (offset == 4) (offset 
     go true b p q e =
         Armed value
         (record { step = refl; store = store ∙ ap (λ n. Some (record { offset = n; width = Word; value = value })) (eqb-true offset 4 p) }) e
+        (λ claim stood. ap (λ f. f TIMER_INTERRUPT) claims ∙ stood)
     go false true p q e =
         let disarms : Disarms m ByStep = record {
           step = refl;
@@ -128,7 +130,7 @@ module _ (m : Machine) (who : ThreadId) (acts : actor m ≡ Some who) where
   n = turned_to who m
 
   -- the thread's store to the timer is that of the step
-  store_of : (t : Thread) → m.threads who ≡ Some t → (o : Option Executed) → executes m who t ≡ o → timer_store m ≡ option_and_then to_timer o
+  pub store_of : (t : Thread) → m.threads who ≡ Some t → (o : Option Executed) → executes m who t ≡ o → timer_store m ≡ option_and_then to_timer o
   unfolding timer_store
   store_of t q o e =
       ap (option_and_then (λ who. option_and_then (λ thread. option_and_then to_timer (executes m who thread)) (m.threads who))) acts
@@ -179,7 +181,7 @@ module _ (m : Machine) (who : ThreadId) (acts : actor m ≡ Some who) where
       (death_fate who.pid n)
 
   -- a thread that ends, or ends its handler, executes nothing
-  executes_if : (t : Thread) (a b : Bool) → ends_thread who t.pc ≡ a → ends_handler who t.pc ≡ b
+  pub executes_if : (t : Thread) (a b : Bool) → ends_thread who t.pc ≡ a → ends_handler who t.pc ≡ b
       → executes m who t ≡ (if a then None else (if b then None else Some (performed m who t).executed))
   executes_if t a b p q =
       (λ i. if p i then None else (if ends_handler who t.pc then None else Some (performed m who t).executed))

@@ -223,7 +223,7 @@ module _ (start : Machine) (moments : List Moment) (unarmed : start.compare ≡ 
       go : Touch (at k) moment.cause (effects_of moment.cause (at k)) → IsSince c (suc k)
       go (Left same not_armed not_disarmed stands) =
           longer c k moment there (leaves k moment there not_armed not_disarmed stands) (earlier (sym same ∙ e))
-      go (Armed d arms value) = newly c d k moment there arms (sym value ∙ e)
+      go (Armed d arms value stands) = newly c d k moment there arms (sym value ∙ e)
       go (Disarmed none not_armed by) = absurd (none-some c (sym none ∙ e))
 
   since : (c k : ℕ) → k ≤ length moments → (at k).compare ≡ Some c → IsSince c k
@@ -305,13 +305,10 @@ module _ (start : Machine) (moments : List Moment) (unarmed : start.compare ≡ 
     numbered = sym (that c i j raised).value;
   }
 
-  -- ---- an arming that nothing touches raises at its step
+  -- ---- an arming that nothing touches
 
-  module _ (c i j : ℕ) (arming : IsArming c start moments i) (at_step : IsStepOf c start moments j) (left : IsLeft start moments i j) where
-    low : j < length moments
-    low = slice_get_within moments j at_step.moment at_step.there
-
-    -- the moments from the arming on leave it armed before the timer
+  module _ (c i j : ℕ) (arming : IsArming c start moments i) (low : j < length moments) (left : IsLeft start moments i j) where
+    -- its moments leave it armed before the timer
     armed_by : (k : ℕ) (moment : Moment) → i ≤ k → k ≤ j → slice_get moments k ≡ Some moment → (i < k → (at k).compare ≡ Some c)
         → (effects_of moment.cause (at k)).compare ≡ Some c
     armed_by k moment p q there earlier = go (cases_lt i k) (touch k moment there)
@@ -324,51 +321,70 @@ module _ (start : Machine) (moments : List Moment) (unarmed : start.compare ≡ 
 
         go : (i < k) ⊎ (k ≤ i) → Touch (at k) moment.cause (effects_of moment.cause (at k)) → (effects_of moment.cause (at k)).compare ≡ Some c
         go (inl lt) (Left same not_armed not_disarmed stands) = same ∙ earlier lt
-        go (inl lt) (Armed d arms value) = absurd ((left k moment lt q there).not_armed d arms)
+        go (inl lt) (Armed d arms value stands) = absurd ((left k moment lt q there).not_armed d arms)
         go (inl lt) (Disarmed none not_armed (inl disarms)) = absurd ((left k moment lt q there).not_disarmed disarms)
         go (inl lt) (Disarmed none not_armed (inr ends)) = absurd ((left k moment lt q there).claim_stands (ended_after k moment there ends))
         go (inr le) (Left same not_armed not_disarmed stands) = absurd (not_armed c (here le))
-        go (inr le) (Armed d arms value) =
+        go (inr le) (Armed d arms value stands) =
             value
             ∙ ap Some (same_arming d c k (record { moment = moment; there = there; arms = arms })
             (record { moment = moment; there = there; arms = here le }))
         go (inr le) (Disarmed none not_armed by) = absurd (not_armed c (here le))
 
-    -- none of them before that step is a raise
-    no_raise : (k : ℕ) (moment : Moment) → k < j → slice_get moments k ≡ Some moment → (effects_of moment.cause (at k)).compare ≡ Some c
+    -- where none of the moments before one is a raise, it is still armed there
+    abbrev Quiet : ℕ → Type 0
+    Quiet end =
+        (k : ℕ) (moment : Moment) → i ≤ k → k < end → slice_get moments k ≡ Some moment → (effects_of moment.cause (at k)).compare ≡ Some c
         → ¬ IsRaise (at k) moment.cause
-    no_raise k moment lt there e r =
+
+    held : (end : ℕ) → Quiet end → end ≤ suc j → (k : ℕ) → i < k → k ≤ end → (at k).compare ≡ Some c
+    held end quiet room zero p q = absurd (omega (arith, p))
+    held end quiet room (suc k) p q =
+        let found = moment_at k (omega (arith, low, q, room)) in
+        let armed : (effects_of found.0.cause (at k)).compare ≡ Some c =
+        armed_by k found.0 (omega (arith, p)) (omega (arith, q, room)) found.1 (λ lt. held end quiet room k lt (omega (arith, q))) in
+        ap (λ (x : Machine). x.compare) (unraised k found.0 found.1 (quiet k found.0 (omega (arith, p)) (omega (arith, q)) found.1 armed)) ∙ armed
+
+    -- a raise in between is its own
+    raised_by : (k : ℕ) (moment : Moment) → i ≤ k → k ≤ j → slice_get moments k ≡ Some moment → IsRaise (at k) moment.cause
+        → IsRaisedBy c start moments i k
+    raised_by k moment p q there r = record {
+      arming = arming;
+      raising = record { moment = moment; there = there; raise = r };
+      order = p;
+      last = λ n other lt le. last_of i j left n other lt (omega (arith, le, q));
+    }
+
+    stays : i ≤ j → ((k : ℕ) → k ≤ j → ¬ IsRaisedBy c start moments i k) → (at (suc j)).compare ≡ Some c
+    stays order none =
+        held (suc j) (λ k moment p q there e r. none k (omega (arith, q)) (raised_by k moment p (omega (arith, q)) there r)) (omega arith) (suc j)
+        (omega (arith, order)) (omega arith)
+
+  -- ---- it raises at its step
+
+  module _ (c i j : ℕ) (arming : IsArming c start moments i) (at_step : IsStepOf c start moments j) (left : IsLeft start moments i j) where
+    low : j < length moments
+    low = slice_get_within moments j at_step.moment at_step.there
+
+    -- no moment before that step is a raise
+    no_raise : Quiet c i j arming low left j
+    no_raise k moment order lt there e r =
         let value : (at k).steps + 1 ≡ c = same_Some ((at k).steps + 1) c (sym (due_effects k moment r) ∙ e) in
         let number : (at j).steps + 1 ≡ c = at_step.numbered in
         let less : (at k).steps + 1 ≤ (at j).steps = step_climbs k j lt (omega (arith, low)) moment there r.step r.acts in
         omega (arith, value, number, less)
 
-    held : (k : ℕ) → i < k → k ≤ j → (at k).compare ≡ Some c
-    held zero p q = absurd (omega (arith, p))
-    held (suc k) p q =
-        let found = moment_at k (omega (arith, low, q)) in
-        let armed : (effects_of found.0.cause (at k)).compare ≡ Some c =
-        armed_by k found.0 (omega (arith, p)) (omega (arith, q)) found.1 (λ lt. held k lt (omega (arith, q))) in
-        ap (λ (x : Machine). x.compare) (unraised k found.0 found.1 (no_raise k found.0 (omega (arith, q)) found.1 armed)) ∙ armed
-
     raises : i ≤ j → IsRaisedBy c start moments i j
     raises order =
         let armed : (effects_of at_step.moment.cause (at j)).compare ≡ Some c =
-        armed_by j at_step.moment order (omega arith) at_step.there (λ lt. held j lt (omega arith)) in
-        record {
-          arming = arming;
-          raising = record {
-            moment = at_step.moment;
-            there = at_step.there;
-            raise = record {
-              step = at_step.step;
-              acts = at_step.acts;
-              due = ap (λ cause. (effects_of cause (at j)).compare) (sym at_step.step) ∙ (armed ∙ ap Some (sym at_step.numbered));
-            };
-          };
-          order = order;
-          last = last_of i j left;
-        }
+        armed_by c i j arming low left j at_step.moment order (omega arith) at_step.there
+        (λ lt. held c i j arming low left j no_raise (omega arith) j lt (omega arith)) in
+        raised_by c i j arming low left j at_step.moment order (omega arith) at_step.there
+        (record {
+          step = at_step.step;
+          acts = at_step.acts;
+          due = ap (λ cause. (effects_of cause (at j)).compare) (sym at_step.step) ∙ (armed ∙ ap Some (sym at_step.numbered));
+        })
 
   -- ---- and so once
 
@@ -396,12 +412,27 @@ module _ (start : Machine) (moments : List Moment) (unarmed : start.compare ≡ 
           absurd (omega (arith, less, a_number, b_number))
       go (inr ge) (inr le) = omega (arith, ge, le)
 
+  never_past : (c i j : ℕ) → IsArming c start moments i → c ≤ (at i).steps → ¬ IsRaisedBy c start moments i j
+  never_past c i j arming past raised =
+      let there : IsStepOf c start moments j = only_there c i j raised in
+      let number : (at j).steps + 1 ≡ c = there.numbered in
+      let low : j < length moments = slice_get_within moments j there.moment there.there in
+      let climbs : (at i).steps ≤ (at j).steps = state_climbs i j raised.order (omega (arith, low)) in
+      omega (arith, number, past, climbs)
+
   law : TimerLaw start moments
   law = record {
     by_an_arming = by_an_arming;
-    only_there = only_there;
-    exactly = λ c i j arming order at_step. (λ raised. (that c i j raised).left, λ left. raises c i j arming at_step left order);
     once = λ c i j k a b. same_step c j k (only_there c i j a) (only_there c i k b);
+    only_there = only_there;
+    exactly = λ c i j arming. (
+      λ raised. record { order = raised.order; reached = only_there c i j raised; left = (that c i j raised).left },
+      λ due. raises c i j arming due.reached due.left due.order,
+    );
+    stays = λ c i j moment arming order there left none.
+        ap (λ (x : Machine). x.compare) (sym (next j moment there).now)
+        ∙ stays c i j arming (slice_get_within moments j moment there) left order none;
+    never_past = never_past;
   }
 
 pub timer_holds : TimerHolds
