@@ -25,8 +25,8 @@ CausesMakeNoDifference =
     (cause : Cause) (m n : Machine) → Matched m → without_bytes m ≡ without_bytes n → (cause ≡ ByStep → ActsAlike m n)
     → OnlyMovesDifferences m.ledger n.ledger (caused cause m).ledger (caused cause n).ledger
 
--- .. and so it is at each moment of two runs side by side: what differs then differed at the start
+-- .. and so it is at each moment of two runs side by side from a matched state: what differs then differed at the start
 abbrev pub DifferencesComeFromTheStart : Type 0
 DifferencesComeFromTheStart =
-    (m n : Machine) (moments others : List Moment) → IsSideBySide m n moments others → ((i : ℕ) → Matched (state_at m moments i))
+    (m n : Machine) (moments others : List Moment) → IsSideBySide m n moments others → Matched m
     → (i : ℕ) → OnlyMovesDifferences m.ledger n.ledger (state_at m moments i).ledger (state_at n others i).ledger

@@ -1,7 +1,8 @@
 -- At each moment of two runs side by side, what differs differed at the start.
 use Rattle.std.specs.Prelude.{map}
-use Rattle.std.proofs.Common.{zero, suc, List, [], ◌∷◌, sym, ap, ◌∙◌, inl, inr, subst}
+use Rattle.std.proofs.Common.{ℕ, zero, suc, List, [], ◌∷◌, sym, ap, ◌∙◌, inl, inr, subst}
 use Rattle.ledger_model.specs.Ledger.{Ledger}
+use Rattle.machine_laws.proofs.Stepping.EveryStepLemmas.{every_run_keeps}
 use Rattle.machine_model.specs.Runs.Matched.{Matched}
 use Rattle.machine_model.specs.Runs.Moments.{Moment, IsRun, caused, state_at}
 use Rattle.machine_model.specs.State.Machine.{Machine}
@@ -37,14 +38,18 @@ module _ (m n : Machine) (moment other : Moment) (moments others : List Moment)
       (ap (λ c. caused c n) (head m n moment other moments others side) ∙ sym side.other.0)
       (cause_moves moment.cause m n h side.but_bytes (acts m n moment other moments others side)))
 
-pub run_moves : DifferencesComeFromTheStart
+moves : (m n : Machine) (moments others : List Moment) → IsSideBySide m n moments others → ((i : ℕ) → Matched (state_at m moments i))
+    → (i : ℕ) → OnlyMovesDifferences m.ledger n.ledger (state_at m moments i).ledger (state_at n others i).ledger
 unfolding state_at
-run_moves m n moments others side matched zero = stay_moves m.ledger n.ledger
-run_moves m n [] [] side matched (suc i) = stay_moves m.ledger n.ledger
-run_moves m n [] (other ∷ others) side matched (suc i) = absurd (no_cause other.cause (map (λ x. x.cause) others) side.causes)
-run_moves m n (moment ∷ moments) [] side matched (suc i) =
+moves m n moments others side matched zero = stay_moves m.ledger n.ledger
+moves m n [] [] side matched (suc i) = stay_moves m.ledger n.ledger
+moves m n [] (other ∷ others) side matched (suc i) = absurd (no_cause other.cause (map (λ x. x.cause) others) side.causes)
+moves m n (moment ∷ moments) [] side matched (suc i) =
     absurd (no_cause moment.cause (map (λ x. x.cause) moments) (sym side.causes))
-run_moves m n (moment ∷ moments) (other ∷ others) side matched (suc i) =
+moves m n (moment ∷ moments) (other ∷ others) side matched (suc i) =
     moves_then m.ledger n.ledger moment.machine.ledger other.machine.ledger (state_at moment.machine moments i).ledger
     (state_at other.machine others i).ledger (first_moves m n moment other moments others side (matched 0))
-    (run_moves moment.machine other.machine moments others (rest_side m n moment other moments others side) (λ k. matched (suc k)) i)
+    (moves moment.machine other.machine moments others (rest_side m n moment other moments others side) (λ k. matched (suc k)) i)
+
+pub run_moves : DifferencesComeFromTheStart
+run_moves m n moments others side h = moves m n moments others side (every_run_keeps m moments h side.run)
