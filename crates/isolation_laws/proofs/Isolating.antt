@@ -1,3 +1,5 @@
+pub mod EventLemmas
 pub mod InstructionLemmas
+pub mod RunLemmas
 pub mod SeenMemoryLemmas
 pub mod StepLemmas

@@ -1,2 +1,4 @@
-pub mod BareStepLemmas
 pub mod BareTestLemmas
+pub mod OtherBytesLemmas
+pub mod PairLemmas
+pub mod ThroughStepLemmas

@@ -1,4 +1,5 @@
-pub mod Blindness
+pub mod Carrying
 pub mod Isolating
 pub mod Keeping
 pub mod Ledgers
+pub mod Spreading

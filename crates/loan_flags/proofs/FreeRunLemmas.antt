@@ -1,20 +1,26 @@
 -- The search for the least free run: what is known when it has looked at the first k places of the window.
 use Rattle.std.proofs.Common.{◌≡◌, ◌≢◌, ℕ, ◌+◌, ◌-◌, ◌<◌, ◌≤◌, Bool, true, false, ◌&&◌, Option, Some, None, refl, sym, ap, subst, ◌∙◌, inl, inr, arith}
-use Rattle.std.specs.Prelude.{nat_le}
+use Rattle.std.specs.Prelude.{nat_le, is_some, []}
 use Rattle.std.specs.List.{list_all}
 use Rattle.std.specs.Option.{option_map}
-use Rattle.std.proofs.lemmas.Bool.{and_from, both_ways, cases_lt, false_from_ne_true, le-leb}
+use Rattle.std.proofs.lemmas.Bool.{and_from, and_parts, both_ways, cases_lt, false_from_ne_true, le-leb}
 use Rattle.std.proofs.lemmas.Bool.Decides.{nat_tests}
 use Rattle.xk_base.specs.declared.ids.Pid.{Pid}
 use Rattle.xk_base.specs.declared.ids.Place.{Place}
 use Rattle.xk_base.specs.declared.ids.Vpn.{Vpn}
 use Rattle.xk_base.specs.declared.windows.Window.{Window}
-use Rattle.xk_base.specs.Windows.{first_page, last_page}
+use Rattle.xk_base.specs.Circle.{is_pid}
+use Rattle.xk_base.specs.Windows.{first_page, in_window, last_page}
 use Rattle.xk_base.specs.Counting.{least_below}
 use Rattle.xk_base.proofs.CountingLemmas.{least_below-None, least_below-Some}
-use Rattle.ledger_model.specs.LeastRun.{is_free_run, least_run, window_pages, window_place}
-use Rattle.ledger_model.specs.Places.{place_after, run}
-use Rattle.ledger_model.proofs.PlaceLemmas.{list_all-run, place_from, run-passes}
+use Rattle.ledger_model.specs.LeastRun.{IsLeastRun, is_free_run, least_run, window_pages, window_place}
+use Rattle.ledger_model.specs.Ledger.{Ledger}
+use Rattle.ledger_model.specs.Places.{in_run, is_place_in, place_after, run}
+use Rattle.ledger_model.specs.Reach.{is_free}
+use Rattle.ledger_model.proofs.LeastRunLemmas.{least_run-Some}
+use Rattle.ledger_model.proofs.NumberingLemmas.{is_place_in-user}
+use Rattle.ledger_model.proofs.PlaceLemmas.{IsInRun, in_run-index, in_run-true, list_all-run, place_from, run-passes}
+use Rattle.sv32_space.specs.declared.sides.Entry.TheVariants.{At, Free, OnConsole}
 use Rattle.sv32_space.specs.declared.sides.Entry.{Entry}
 use Rattle.sv32_space.specs.Entries.{Entries}
 use Rattle.sv32_space.specs.Agreement.{EntriesAgree, Infos}
@@ -151,3 +157,45 @@ unfolding least_free least_run all_free is_free_run
 least_by_entries procs E I B pid window n agree = λ i. option_map (λ k. (window_place pid window k).vpn)
     (least_below (window_pages window) (λ k. nat_le (k + n) (window_pages window)
     && list_all (λ p. sym (free_by_entry procs E I B agree p) i) (run (window_place pid window k) n)))
+
+-- ---- what the least free run is
+
+-- an entry that says that nothing stands there
+free_entry : (o : Option Entry) → is_some o ≡ true → is_free_entry o ≡ true → o ≡ Some Free
+free_entry None there free = absurd (both_ways false refl there)
+free_entry (Some Free) there free = refl
+free_entry (Some (At side s)) there free = absurd (both_ways false refl free)
+free_entry (Some (OnConsole w)) there free = absurd (both_ways false refl free)
+
+module _ (procs : ℕ) (E : Entries) (I : Infos) (agree : EntriesAgree procs E I) (pid : Pid) (window : Window) (n : ℕ) (v : Vpn)
+    (process : is_pid procs pid.0 ≡ true) (least : least_free E pid window n ≡ Some v) where
+  abbrev from : Place
+  from = record { pid = pid; vpn = v }
+
+  abbrev blank : Ledger
+  blank = ledger_of E I (λ s. [])
+
+  found : IsLeastRun procs blank pid window n v
+  found = least_run-Some procs blank pid window n v (sym (least_by_entries procs E I (λ s. []) pid window n agree) ∙ least)
+
+  -- its places lie in the window
+  pub least_lies : (p : Place) → in_run from n p ≡ true → is_place_in procs window p ≡ true
+  least_lies p h =
+      let r : IsInRun from n p = in_run-true from n p h in
+      let low : first_page window ≤ v.0 = found.low in
+      let high : v.0 + n ≤ last_page window + 1 = found.high in
+      let above : v.0 ≤ p.vpn.0 = r.from in
+      let below : p.vpn.0 < v.0 + n = r.to in
+      and_from (is_pid procs p.pid.0) (in_window window p.vpn.0) (ap (is_pid procs) r.pid ∙ process)
+      (and_from (nat_le (first_page window) p.vpn.0) (nat_le p.vpn.0 (last_page window))
+      (le-leb (first_page window) p.vpn.0 (omega arith)) (le-leb p.vpn.0 (last_page window) (omega arith)))
+
+  -- nothing stands there
+  pub least_frees : (p : Place) → in_run from n p ≡ true → E p ≡ Some Free
+  unfolding is_free_run
+  least_frees p h =
+      let at = in_run-index from n p h in
+      let passes : is_free procs blank (place_after from (p.vpn.0 - v.0)) ≡ true =
+      run-passes (is_free procs blank) from n found.free (p.vpn.0 - v.0) at.0 in
+      free_entry (E p) (agree.spelled p ∙ is_place_in-user procs window p (least_lies p h))
+      (sym (free_by_entry procs E I (λ s. []) agree p) ∙ (ap (is_free procs blank) at.1 ∙ passes))

@@ -50,7 +50,7 @@ pub use server_laws::{
     try_connect_keeps_matched,
 };
 pub use step_laws::{
-    all_keep_matched, calls_keep_matched, runs_stay_matched, step_keeps_matched,
+    all_keep_cursor, all_keep_matched, calls_keep_matched, runs_stay_matched, step_keeps_matched,
     step_keeps_matched_by_cases, steps_keep_matched_where_calls_do,
 };
 pub use thread_end_laws::{end_of_handler_keeps_matched, end_of_thread_keeps_matched};

@@ -6,7 +6,7 @@ ghost use Rattle.xk_base.specs.declared.ids.ThreadId.{ThreadId};
 ghost use Rattle.machine_model.specs.Stepping.Acts.{call_by};
 ghost use Rattle.machine_model.specs.State.Changes.{settled};
 ghost use Rattle.machine_model.specs.Ending.Ends.{death, handler_ended, thread_ended};
-ghost use Rattle.machine_model.specs.Runs.Kept.{AllKeepMatched, Settles, StepKeepsMatched};
+ghost use Rattle.machine_model.specs.Runs.Kept.{AllKeepCursor, AllKeepMatched, Settles, StepKeepsMatched};
 ghost use Rattle.machine_model.specs.State.Machine.{Machine, Thread};
 ghost use Rattle.machine_model.specs.Runs.Matched.{Matched, is_living};
 ghost use Rattle.machine_model.specs.Runs.Moments.{IsRun, Moment, state_at};
@@ -55,4 +55,9 @@ pub fn all_keep_matched()
 pub fn runs_stay_matched()
     ensures { (start : Machine) (moments : List Moment) → Matched start → IsRun start moments → (i : ℕ)
         → Matched (state_at start moments i) }
+{}
+
+/// Whatever leads from a state to the next keeps the cursor the id of a thread of the processes.
+pub fn all_keep_cursor()
+    ensures { AllKeepCursor }
 {}

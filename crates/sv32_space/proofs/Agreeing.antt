@@ -1,3 +1,4 @@
+pub mod EmptyAgreementLemmas
 pub mod EntryRoleLemmas
 pub mod LoanAgreementLemmas
 pub mod LoanStandingLemmas

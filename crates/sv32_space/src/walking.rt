@@ -13,6 +13,7 @@ ghost use Rattle.sv32_space.specs.SpelledEntries.{entries};
 ghost use Rattle.sv32_space.specs.Walk.{entry_in_table, flag, is_valid, is_leaf, is_pointer, lets_through, is_aligned, from_last_level, from_large_leaf, from_pointer, from_root, walk_of, vpn_1};
 
 use phys_pages::Ram;
+use xk_base::limits::PAGE_SIZE;
 use xk_base::{Access, Frame};
 
 /// Where a walk ends.
@@ -75,7 +76,7 @@ fn table_entry(ram: &Ram, ppn: u32, index: u32) -> Option<u32>
     ensures { result ≡ entry_in_table ram.now ppn index }
 {
     match ram.frame_of(ppn) {
-        Some(_) => Some(ram.word(ppn * 4096 + 4 * index)),
+        Some(_) => Some(ram.word(ppn * PAGE_SIZE + 4 * index)),
         None => None,
     }
 }
@@ -84,7 +85,7 @@ fn walk_last(entry: u32, va: u32, access: Access) -> Walked
     ensures { result ≡ from_last_level entry va access }
 {
     if valid_entry(entry) && leaf_entry(entry) && lets_in(entry, access) {
-        Walked::Reaches((entry / 1024) as u64 * 4096 + (va % 4096) as u64)
+        Walked::Reaches((entry / 1024) as u64 * PAGE_SIZE as u64 + (va % PAGE_SIZE) as u64)
     } else {
         Walked::PageFault
     }
@@ -94,7 +95,7 @@ fn walk_large(entry: u32, va: u32, access: Access) -> Walked
     ensures { result ≡ from_large_leaf entry va access }
 {
     if lets_in(entry, access) && entry / 1024 % 1024 == 0 {
-        Walked::Reaches((entry / 1024) as u64 * 4096 + (va % 0x40_0000) as u64)
+        Walked::Reaches((entry / 1024) as u64 * PAGE_SIZE as u64 + (va % 0x40_0000) as u64)
     } else {
         Walked::PageFault
     }
@@ -103,7 +104,7 @@ fn walk_large(entry: u32, va: u32, access: Access) -> Walked
 fn walk_pointer(ram: &Ram, entry: u32, va: u32, access: Access) -> Walked
     ensures { result ≡ from_pointer ram.now entry va access }
 {
-    match table_entry(ram, entry / 1024, va / 4096 % 1024) {
+    match table_entry(ram, entry / 1024, va / PAGE_SIZE % 1024) {
         Some(last) => walk_last(last, va, access),
         None => Walked::PageFault,
     }

@@ -5,7 +5,6 @@ ghost use Rattle.event_text.specs.declared.event.Event.{Event};
 ghost use Rattle.xk_base.specs.declared.ids.Number.{Number};
 ghost use Rattle.xk_base.specs.Circle.{is_thread_id};
 ghost use Rattle.machine_laws.specs.WithoutServers.{HasNoServers};
-ghost use Rattle.machine_model.specs.Runs.Kept.{AllKeepCursor};
 ghost use Rattle.machine_model.specs.Runs.LoanSpan.{LoanSpan, SpansHold};
 ghost use Rattle.machine_model.specs.State.Machine.{Machine};
 ghost use Rattle.machine_model.specs.Runs.Matched.{Matched};
@@ -46,9 +45,9 @@ pub fn history_stays_matched()
     ensures { (events : List Event) (limit : ℕ) (start : Machine) → Matched start → Matched (history events limit start).machine }
 {}
 
-/// Where all that leads from a state to the next keeps the cursor, the cursor is the id of a thread of the processes at every moment of a history.
+/// Where the cursor of a matched start is the id of a thread of the processes, it is so at every moment of a history.
 pub fn moments_keep_the_cursor()
-    ensures { AllKeepCursor → (events : List Event) (limit : ℕ) (start : Machine) → Matched start
+    ensures { (events : List Event) (limit : ℕ) (start : Machine) → Matched start
         → IsTrue (is_thread_id start.processes start.cursor) → (i : ℕ)
         → IsTrue (is_thread_id (state_at start (moments_of events limit start) i).processes (state_at start (moments_of events limit start) i).cursor) }
 {}

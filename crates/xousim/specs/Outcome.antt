@@ -21,7 +21,7 @@ use Rattle.xousim.specs.declared.ending.Ending.TheVariants.{Played, LimitMet, Un
 use Rattle.xousim.specs.declared.status.Status.{Status}
 use Rattle.xousim.specs.declared.status.Status.TheVariants.{Done, ReadFault, WriteFault, ImageFault, EventFault, StepLimit, NoMemory, NotBuilt}
 use Rattle.xousim.specs.History.{History, history_of}
-use Rattle.xousim.specs.Reading.{IsFile, IsReadOf}
+use Rattle.xousim.specs.Reading.{IsFile, IsReadOf, AsksFor}
 use Rattle.xousim.specs.Words.{Names}
 use Rattle.xk_kernel.specs.Start.{start}
 
@@ -122,20 +122,15 @@ Plays file name left machine before after host_rose out_rose (ImageFault fault) 
 
 -- ---- a call
 
--- the image was asked for at the first slot, and nothing else
-abbrev pub AsksImage : Names → Option (List FileAsked) → Option (List FileAsked) → Type 0
-AsksImage names asked asked_after =
-    (first : Bool) × Grows asked asked_after (record { slot = First; name = names.image; picked = first } ∷ [])
-
 -- the image was asked for and picked at the first slot, and then the event file was asked for at the second and picked there or not
 abbrev pub AsksBoth : Names → Option (List FileAsked) → Option (List FileAsked) → Bool → Type 0
 AsksBoth names asked asked_after events_picked =
     Grows asked asked_after (record { slot = First; name = names.image; picked = true } ∷ record { slot = Second; name = names.events; picked = events_picked } ∷ [])
 
--- the image isn't booted, and nothing is written
+-- The image isn't booted, and nothing is written. It was asked for at the first slot and picked there or not, and nothing else was.
 abbrev pub EndsUnbooted : Told → Names → Option (List FileAsked) → Option (List FileAsked) → Option (List ℕ) → Option (List ℕ) → Type 0 → Status → Type 0
 EndsUnbooted file names asked asked_after before after host_rose status =
-    Refuses file names.image host_rose status × (after ≡ before) × AsksImage names asked asked_after
+    Refuses file names.image host_rose status × (after ≡ before) × AsksFor asked asked_after First names.image
 
 -- the event file isn't picked, and nothing is written
 abbrev pub EndsUnpicked : Names → Option (List FileAsked) → Option (List FileAsked) → Option (List ℕ) → Option (List ℕ) → Type 0 → Status → Type 0

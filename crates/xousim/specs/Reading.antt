@@ -40,5 +40,6 @@ IsRead left TooLong = Unit {0}
 abbrev pub Asked : Option (List FileAsked) → Option (List FileAsked) → FileSlot → List ℕ → Bool → Type 0
 Asked old new which name picked = Grows old new (record { slot = which; name = name; picked = picked } ∷ [])
 
+-- .. whichever of the two
 abbrev pub AsksFor : Option (List FileAsked) → Option (List FileAsked) → FileSlot → List ℕ → Type 0
 AsksFor old new which name = (picked : Bool) × Asked old new which name picked

@@ -15,7 +15,7 @@ use Rattle.machine_model.specs.State.Views.{contents_seen, is_of_timer_page, mem
 
 module _ (pid : Pid) (m n : Machine) (same : IsSameFor pid m n) where
   -- the same pages are reached
-  reached_alike : (access : Access) (address : ℕ) → page_reached m pid access address ≡ page_reached n pid access address
+  pub reached_alike : (access : Access) (address : ℕ) → page_reached m pid access address ≡ page_reached n pid access address
   reached_alike access address =
       sym (reach-bare m.processes m.ledger (page_of pid address) access)
       ∙ (ap (λ (x : Machine). page_reached x pid access address) same.but_bytes
@@ -37,7 +37,9 @@ module _ (pid : Pid) (m n : Machine) (same : IsSameFor pid m n) where
   pub memory_alike : memory_of m pid ≡ memory_of n pid
   unfolding memory_of
   memory_alike = λ i. record {
-    may = λ access address. (is_some (timer_at (timer_alike i) address) && is_of_timer_page access) || is_some (reached_alike access address i);
+    may =
+        λ access address. (is_some (timer_at (timer_alike i) address) && is_of_timer_page access) || is_some
+        (reached_alike access address i);
     console = λ address. option_map_or (λ contents. not (has_bytes contents)) (seen_alike address i) false;
     byte = λ address. option_map_or (byte_of (address % 4096)) (seen_alike address i) 0;
     timer = timer_alike i;

@@ -36,7 +36,8 @@ unless_refused_keeps m refusals outcome keep = go (first_refusal refusals) refl
     go None e = keep e
     go (Some error) e = stays m.ledger
 
-pub unless_retried_keeps : (m : Machine) (test : Bool) (outcome : Outcome) → KeepsBytes m outcome → KeepsBytes m (unless_retried test outcome)
+pub unless_retried_keeps : (m : Machine) (test : Bool) (outcome : Outcome) → KeepsBytes m outcome
+    → KeepsBytes m (unless_retried test outcome)
 unless_retried_keeps m true outcome keep = stays m.ledger
 unless_retried_keeps m false outcome keep = keep
 
@@ -57,6 +58,7 @@ pub none_hold : (refusals : List (Bool × XousError)) → first_refusal refusals
 none_hold [] e = tt
 none_hold ((test, error) ∷ rest) e = go (λ none. none_hold rest none) test e
   where
-    go : (first_refusal rest ≡ None → NoneHold rest) → (b : Bool) → first_refusal ((b, error) ∷ rest) ≡ None → NoneHold ((b, error) ∷ rest)
+    go : (first_refusal rest ≡ None → NoneHold rest) → (b : Bool) → first_refusal ((b, error) ∷ rest) ≡ None
+        → NoneHold ((b, error) ∷ rest)
     go later true f = absurd (none-some error (sym f))
     go later false f = (refl, later f)

@@ -23,10 +23,12 @@ use Rattle.isolation_laws.proofs.Keeping.StandingPageLemmas.{stays}
 -- each call of the rows changes no byte
 data KeepBytes : List (ℕ × Call) → Type 0 where
   NoRow : KeepBytes []
-  Row : (number : ℕ) (served : Call) (rows : List (ℕ × Call)) → CallKeepsBytes served → KeepBytes rows → KeepBytes ((number, served) ∷ rows)
+  Row : (number : ℕ) (served : Call) (rows : List (ℕ × Call)) → CallKeepsBytes served → KeepBytes rows
+      → KeepBytes ((number, served) ∷ rows)
 
 infixr 5 ◌also◌
-◌also◌ : {number : ℕ} {served : Call} {rows : List (ℕ × Call)} → CallKeepsBytes served → KeepBytes rows → KeepBytes ((number, served) ∷ rows)
+◌also◌ : {number : ℕ} {served : Call} {rows : List (ℕ × Call)} → CallKeepsBytes served → KeepBytes rows
+    → KeepBytes ((number, served) ∷ rows)
 ◌also◌ one others = Row _ _ _ one others
 
 choice_keeps : (m : Machine) (b : Bool) (x y : Outcome) → KeepsBytes m x → KeepsBytes m y → KeepsBytes m (if b then x else y)
@@ -67,7 +69,7 @@ table_keeps =
     also forward_keeps
     also NoRow
 
-call_keeps : CallKeepsBytes call
+pub call_keeps : CallKeepsBytes call
 unfolding call
 call_keeps m w h =
     unless_refused_keeps m (any_refusals m w) (call_at (call_number w) call_table m w)
@@ -82,7 +84,8 @@ call_step_keeps m who words h acts c = go (m.threads who) refl c
     after : Thread → Outcome
     after t = call (turned_to who m) words
 
-    go : (o : Option Thread) → m.threads who ≡ o → option_and_then (λ t. option_and_then (words_if_call t) (executes m who t)) o ≡ Some words
+    go : (o : Option Thread) → m.threads who ≡ o
+        → option_and_then (λ t. option_and_then (words_if_call t) (executes m who t)) o ≡ Some words
         → ChangesNoByte m.ledger (step m).machine.ledger
     go None q r = absurd (none-some words r)
     go (Some t) q r =

@@ -18,13 +18,15 @@ use Rattle.isolation_laws.proofs.Keeping.StandingPageLemmas.{OnlyGoes, StoodAt}
 -- ---- pages one by one
 
 -- a page that is there as it was, or as what keeps its bytes makes of it
-changed_stood : (l : Ledger) (p : Place) (f : Page → Page) → ((page : Page) → (f page).contents ≡ page.contents) → (o : Option Page)
+changed_stood : (l : Ledger) (p : Place) (f : Page → Page) → ((page : Page) → (f page).contents ≡ page.contents)
+    → (o : Option Page)
     → l.home p ≡ o → (page : Page) → option_map f o ≡ Some page → StoodAt l p page
 changed_stood l p f keeps None q page e = absurd (none-some page e)
 changed_stood l p f keeps (Some old) q page e =
     record { old = old; stood = q; same = sym (ap (λ (x : Page). x.contents) (same_Some (f old) page e)) ∙ keeps old }
 
-changed_if_stood : (l : Ledger) (p : Place) (f : Page → Page) → ((page : Page) → (f page).contents ≡ page.contents) → (b : Bool) (page : Page)
+changed_if_stood : (l : Ledger) (p : Place) (f : Page → Page) → ((page : Page) → (f page).contents ≡ page.contents)
+    → (b : Bool) (page : Page)
     → (if b then option_map f (l.home p) else l.home p) ≡ Some page → StoodAt l p page
 changed_if_stood l p f keeps true page e = changed_stood l p f keeps (l.home p) refl page e
 changed_if_stood l p f keeps false page e = record { old = page; stood = e; same = refl }
@@ -33,7 +35,8 @@ left_stood : (l : Ledger) (p : Place) (b : Bool) (page : Page) → (if b then No
 left_stood l p true page e = absurd (none-some page e)
 left_stood l p false page e = record { old = page; stood = e; same = refl }
 
-pub left_orphan : (ends : Number → Bool) (o : Option Orphan) (orphan : Orphan) → orphan_but ends o ≡ Some orphan → o ≡ Some orphan
+pub left_orphan : (ends : Number → Bool) (o : Option Orphan) (orphan : Orphan) → orphan_but ends o ≡ Some orphan
+    → o ≡ Some orphan
 left_orphan ends None orphan e = absurd (none-some orphan e)
 left_orphan ends (Some old) orphan e = go (ends old.number) e
   where
@@ -58,11 +61,13 @@ reduce_only places right l = record {
   orphans = λ q orphan e. e;
 }
 
-pub lend_only : (from : Place) (n : ℕ) (to : Place) (kind : LoanKind) (number : Number) (l : Ledger) → OnlyGoes l (lend from n to kind number l)
+pub lend_only : (from : Place) (n : ℕ) (to : Place) (kind : LoanKind) (number : Number) (l : Ledger)
+    → OnlyGoes l (lend from n to kind number l)
 unfolding lend
 lend_only from n to kind number l = record {
   homes = λ p page e.
-      changed_if_stood l p (with_loan (record { holder = moved from to p; kind = kind; number = number })) (λ x. refl) (in_run from n p) page e;
+      changed_if_stood l p (with_loan (record { holder = moved from to p; kind = kind; number = number })) (λ x. refl)
+      (in_run from n p) page e;
   orphans = λ q orphan e. e;
 }
 

@@ -51,12 +51,14 @@ module _ (l : Ledger) (places : Place → Bool) (new : Page) (is_new : IsNewPage
     orphans = λ q orphan e. inl (refl, e);
   }
 
-pub make_keeps : (first : Place) (n : ℕ) (right : Right) (l : Ledger) → ((p : Place) → in_run first n p ≡ true → l.home p ≡ None)
+pub make_keeps : (first : Place) (n : ℕ) (right : Right) (l : Ledger)
+    → ((p : Place) → in_run first n p ≡ true → l.home p ≡ None)
     → ChangesNoByte l (make first n right l)
 unfolding make
 make_keeps first n right l free = made_keeps l (in_run first n) (new_page right (Bytes zero_page)) (inl refl) free
 
-pub make_console_keeps : (place : Place) (w : Bool) (l : Ledger) → l.home place ≡ None → ChangesNoByte l (make_console place w l)
+pub make_console_keeps : (place : Place) (w : Bool) (l : Ledger) → l.home place ≡ None
+    → ChangesNoByte l (make_console place w l)
 unfolding make_console
 make_console_keeps place w l free =
     made_keeps l (λ p. same_place p place) (new_page (record { w = w; x = false }) Console) (inr refl)

@@ -38,7 +38,8 @@ pub unmap_keeps : CallKeepsBytes unmap_call
 unfolding unmap_call
 unmap_keeps m w h =
     let places = in_run (caller_place m (range_address w)) (range_size w / PAGE_SIZE) in
-    unless_refused_keeps m (unmap_refusals m (range_address w) (range_size w)) (Served (unmap_served m (range_address w) (range_size w)))
+    unless_refused_keeps m (unmap_refusals m (range_address w) (range_size w))
+    (Served (unmap_served m (range_address w) (range_size w)))
     (λ none. goes_keep m.ledger (remove places m.ledger) (remove_only places m.ledger))
 
 pub update_keeps : CallKeepsBytes update_call
@@ -64,7 +65,8 @@ abbrev pub HasNoHome : Ledger → Place → ℕ → Type 0
 HasNoHome l first n = (p : Place) → in_run first n p ≡ true → l.home p ≡ None
 
 -- the least run has none
-pub found_free : (procs : ℕ) (l : Ledger) (pid : Pid) (window : Window) (n : ℕ) (v : Vpn) → least_run procs l pid window n ≡ Some v
+pub found_free : (procs : ℕ) (l : Ledger) (pid : Pid) (window : Window) (n : ℕ) (v : Vpn)
+    → least_run procs l pid window n ≡ Some v
     → HasNoHome l (record { pid = pid; vpn = v }) n
 found_free procs l pid window n v e p inside =
     let first : Place = record { pid = pid; vpn = v } in
@@ -93,13 +95,15 @@ one_page : (size : ℕ) → size ≡ 4096 → size / 4096 ≡ 1
 one_page size e = omega arith
 
 -- the console takes one page
-first_in : (x : Bool) (first : Place) (size : ℕ) → not (size == PAGE_SIZE) || x ≡ false → in_run first (size / PAGE_SIZE) first ≡ true
+first_in : (x : Bool) (first : Place) (size : ℕ) → not (size == PAGE_SIZE) || x ≡ false
+    → in_run first (size / PAGE_SIZE) first ≡ true
 first_in x first size e =
     let one : size / 4096 ≡ 1 =
     one_page size (eqb-true size PAGE_SIZE (not_false (size == PAGE_SIZE) (or_parts (not (size == PAGE_SIZE)) x e).0)) in
     in_run-from first (size / PAGE_SIZE) first (record { pid = refl; from = omega arith; to = omega arith })
 
-mapped_keeps : (l : Ledger) (console x : Bool) (first : Place) (size : ℕ) (right : Right) → console && (not (size == PAGE_SIZE) || x) ≡ false
+mapped_keeps : (l : Ledger) (console x : Bool) (first : Place) (size : ℕ) (right : Right)
+    → console && (not (size == PAGE_SIZE) || x) ≡ false
     → HasNoHome l first (size / PAGE_SIZE) → ChangesNoByte l (mapped_ledger console first (size / PAGE_SIZE) right l)
 mapped_keeps l false x first size right e free = make_keeps first (size / PAGE_SIZE) right l free
 mapped_keeps l true x first size right e free = make_console_keeps first right.w l (free first (first_in x first size e))

@@ -86,7 +86,8 @@ module _ (a b c : Ledger) (first : OnlyOrphans a b) (then_ : OnlyOrphans b c) wh
 
 -- ---- no byte is changed
 
-module _ (procs capacity : ℕ) (before after : Ledger) (lawful : IsLawful procs capacity before) (only : OnlyOrphans before after) where
+module _ (procs capacity : ℕ) (before after : Ledger) (lawful : IsLawful procs capacity before)
+    (only : OnlyOrphans before after) where
   -- a page at a home comes from itself; an orphan that stood comes from itself, and any other from the home that was lent to its place
   abbrev home_source : Option Page → Place → Option PageName
   home_source None p = None
@@ -137,10 +138,12 @@ module _ (procs capacity : ℕ) (before after : Ledger) (lawful : IsLawful procs
       go (Some page) q r = Stood p page q (same_Some (Homed p) old r)
   came old (Orphaned q) e = go (after.orphan q) (before.orphan q) refl refl e
     where
-      new : (home : Place) → lender_of procs before q ≡ Some home → option_map (λ h. Homed h) (lender_of procs before q) ≡ Some old → Homed home ≡ old
+      new : (home : Place) → lender_of procs before q ≡ Some home
+          → option_map (λ h. Homed h) (lender_of procs before q) ≡ Some old → Homed home ≡ old
       new home s r = same_Some (Homed home) old (sym (ap (option_map (λ h. Homed h)) s) ∙ r)
 
-      go : (o was : Option Orphan) → after.orphan q ≡ o → before.orphan q ≡ was → orphan_source o was (lender_of procs before q) q ≡ Some old
+      go : (o was : Option Orphan) → after.orphan q ≡ o → before.orphan q ≡ was
+          → orphan_source o was (lender_of procs before q) q ≡ Some old
           → Came old (Orphaned q)
       go None was s t r = absurd (none-some old r)
       go (Some orphan) (Some there) s t r = Stayed q (same_Some (Orphaned q) old r)
@@ -266,7 +269,8 @@ module _ (procs : ℕ) (goes : Number → Bool) (l : Ledger) where
   orphan_bytes loan (Bytes bytes) orphan e =
       ap (λ (x : Orphan). Bytes x.bytes) (same_Some (record { kind = loan.kind; bytes = bytes; number = loan.number }) orphan e)
 
-  home_goes : (home : Place) (page : Page) (loan : PageLoan) → l.home home ≡ Some page → page.loan ≡ Some loan → goes loan.number ≡ true
+  home_goes : (home : Place) (page : Page) (loan : PageLoan) → l.home home ≡ Some page → page.loan ≡ Some loan
+      → goes loan.number ≡ true
       → after.home home ≡ None
   unfolding orphan_loans
   home_goes home page loan e f g = ap (page_but goes) e ∙ ap (λ b. if b then None else Some page) (ap (is_lent_by goes) f ∙ g)
@@ -305,12 +309,14 @@ module _ (procs : ℕ) (goes : Number → Bool) (l : Ledger) where
   from_home q home s (Some page) e orphan r = from_page q home page s e orphan r
 
   from_lender : (q : Place) (o : Option Place) → lender_of procs l q ≡ o → (orphan : Orphan)
-      → option_and_then (orphan_of_page goes) (option_and_then l.home o) ≡ Some orphan → (home : Place) × IsOrphaned l after home q orphan
+      → option_and_then (orphan_of_page goes) (option_and_then l.home o) ≡ Some orphan
+      → (home : Place) × IsOrphaned l after home q orphan
   from_lender q None s orphan r = absurd (none-some orphan r)
   from_lender q (Some home) s orphan r = (home, from_home q home s (l.home home) refl orphan r)
 
   either : (q : Place) (orphan : Orphan) (o : Option Orphan)
-      → option_and_then (orphan_of_page goes) (option_and_then l.home (lender_of procs l q)) ≡ o → option_or o (l.orphan q) ≡ Some orphan
+      → option_and_then (orphan_of_page goes) (option_and_then l.home (lender_of procs l q)) ≡ o
+      → option_or o (l.orphan q) ≡ Some orphan
       → (l.orphan q ≡ Some orphan) ⊎ ((home : Place) × IsOrphaned l after home q orphan)
   either q orphan None s e = inl e
   either q orphan (Some new) s e = inr (from_lender q (lender_of procs l q) refl orphan (s ∙ e))
@@ -319,5 +325,7 @@ module _ (procs : ℕ) (goes : Number → Bool) (l : Ledger) where
   unfolding orphan_loans
   orphan_loans_orphans = record {
     homes = λ p page e. left_stood p (l.home p) refl page e;
-    orphans = λ q orphan e. either q orphan (option_and_then (orphan_of_page goes) (option_and_then l.home (lender_of procs l q))) refl e;
+    orphans =
+        λ q orphan e. either q orphan
+        (option_and_then (orphan_of_page goes) (option_and_then l.home (lender_of procs l q))) refl e;
   }

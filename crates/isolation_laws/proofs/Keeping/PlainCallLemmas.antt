@@ -29,7 +29,8 @@ pub claim_keeps : CallKeepsBytes claim_call
 unfolding claim_call
 claim_keeps m w h =
     let k = interrupt_number w in
-    unless_left_keeps m (claim_refusals m k (interrupt_handler w)) (claim_served m k (interrupt_handler w) (interrupt_argument w)) refl
+    unless_left_keeps m (claim_refusals m k (interrupt_handler w))
+    (claim_served m k (interrupt_handler w) (interrupt_argument w)) refl
 
 pub free_keeps : CallKeepsBytes free_call
 unfolding free_call
@@ -39,7 +40,8 @@ free_keeps m w h = unless_left_keeps m (free_refusals m (interrupt_number w)) (f
 
 pub create_server_keeps : CallKeepsBytes create_server_call
 unfolding create_server_call
-create_server_keeps m w h = unless_left_keeps m (create_server_refusals m (named_sid w)) (create_server_served m (named_sid w)) refl
+create_server_keeps m w h =
+    unless_left_keeps m (create_server_refusals m (named_sid w)) (create_server_served m (named_sid w)) refl
 
 pub connect_keeps : CallKeepsBytes connect_call
 unfolding connect_call
@@ -80,7 +82,7 @@ join_keeps m w h = unless_left_keeps m (join_refusals m (join_tid w)) (join_serv
 
 pub terminate_keeps : CallKeepsBytes terminate_call
 unfolding terminate_call
-terminate_keeps m w h = death_keeps m.cursor.pid m h
+terminate_keeps m w h = death_keeps m.cursor.pid m h.body.ledger.lawful
 
 pub thread_id_keeps : CallKeepsBytes thread_id_call
 unfolding thread_id_call

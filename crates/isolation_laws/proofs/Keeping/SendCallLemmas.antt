@@ -37,7 +37,8 @@ use Rattle.isolation_laws.proofs.Keeping.StandingPageLemmas.{goes_keep, stays}
 
 -- ---- what is sent
 
-arrived_ledger : (o : Option ThreadId) (serial : Serial) (message : Message) (m : Machine) → (arrived o serial message m).machine.ledger ≡ m.ledger
+arrived_ledger : (o : Option ThreadId) (serial : Serial) (message : Message) (m : Machine)
+    → (arrived o serial message m).machine.ledger ≡ m.ledger
 arrived_ledger None serial message m = refl
 arrived_ledger (Some who) serial message m = refl
 
@@ -51,13 +52,16 @@ module _ (m : Machine) (kind : MsgKind) (w : List ℕ) (first : Vpn) where
 
   sent_leaves : (sent m kind w first).machine.ledger ≡ paged.ledger
   sent_leaves =
-      arrived_ledger (receiver m (sent_serial m w)) (sent_serial m w) (new_message m kind w first) (sender_left (is_answered kind) (new_number m) paged)
+      arrived_ledger (receiver m (sent_serial m w)) (sent_serial m w) (new_message m kind w first)
+      (sender_left (is_answered kind) (new_number m) paged)
       ∙ left_ledger (is_answered kind) (new_number m) paged
 
 -- only a move asks that its new homes are free
-sent_keeps : (kind : MsgKind) (from : Place) (n : ℕ) (to : Place) (number : Number) (l : Ledger) → (kind ≡ Move → HasNoHome l to n)
+sent_keeps : (kind : MsgKind) (from : Place) (n : ℕ) (to : Place) (number : Number) (l : Ledger)
+    → (kind ≡ Move → HasNoHome l to n)
     → ChangesNoByte l (sent_ledger kind from n to number l)
-sent_keeps LendMut from n to number l free = goes_keep l (lend from n to Exclusive number l) (lend_only from n to Exclusive number l)
+sent_keeps LendMut from n to number l free =
+    goes_keep l (lend from n to Exclusive number l) (lend_only from n to Exclusive number l)
 sent_keeps Lend from n to number l free = goes_keep l (lend from n to Shared number l) (lend_only from n to Shared number l)
 sent_keeps Move from n to number l free = give_keeps from n to l (free refl)
 sent_keeps Scalar from n to number l free = stays l
@@ -77,7 +81,8 @@ module _ (m : Machine) (w : List ℕ) where
       (sym (ap (λ o. option_map_or (λ (x : Server). x.pid) o m.cursor.pid) s))
       (found_free m.processes m.ledger server.pid MessageWindow (sent_pages w) v e)
 
-  move_free : (kind : Option MsgKind) → named_kind w ≡ kind → sends_pages w && is_none (arrival m w) ≡ false → unwrap_or kind Scalar ≡ Move
+  move_free : (kind : Option MsgKind) → named_kind w ≡ kind → sends_pages w && is_none (arrival m w) ≡ false
+      → unwrap_or kind Scalar ≡ Move
       → HasNoHome m.ledger (sent_place m w (unwrap_or (arrival m w) (record { 0 = 0 }))) (sent_pages w)
   unfolding arrival
   move_free None q e is = absurd (false≢true (ap carries_pages is))
@@ -106,7 +111,8 @@ send_keeps m w h =
 pub try_send_keeps : CallKeepsBytes try_send_call
 unfolding try_send_call
 try_send_keeps m w h =
-    unless_refused_keeps m (send_refusals m w ++ (is_full_for m w, ServerQueueFull) ∷ []) (sent_to m w (arrival m w)) (λ none. sent_to_keeps m w)
+    unless_refused_keeps m (send_refusals m w ++ (is_full_for m w, ServerQueueFull) ∷ []) (sent_to m w (arrival m w))
+    (λ none. sent_to_keeps m w)
 
 -- ---- ForwardMessage
 

@@ -49,4 +49,5 @@ goes_keep before after only = record {
 }
 
 pub stays : (l : Ledger) → ChangesNoByte l l
-stays l = goes_keep l l (record { homes = λ p page e. record { old = page; stood = e; same = refl }; orphans = λ q orphan e. e })
+stays l =
+    goes_keep l l (record { homes = λ p page e. record { old = page; stood = e; same = refl }; orphans = λ q orphan e. e })

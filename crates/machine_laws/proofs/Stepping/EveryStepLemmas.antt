@@ -102,7 +102,7 @@ every_number_keeps = (
 )
 
 -- the test by either side
-turned_list : (k : ℕ) (xs : List ℕ) → list_any (λ j. k == j) xs ≡ true → list_any (λ j. j == k) xs ≡ true
+pub turned_list : (k : ℕ) (xs : List ℕ) → list_any (λ j. k == j) xs ≡ true → list_any (λ j. j == k) xs ≡ true
 turned_list k [] e = e
 turned_list k (x ∷ xs) e = go (λ later. turned_list k xs later) (k == x) refl e
   where

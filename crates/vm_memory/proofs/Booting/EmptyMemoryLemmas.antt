@@ -27,6 +27,7 @@ use Rattle.sv32_space.specs.EntryLedger.{SeatBytes, ledger_of, page_of_entry, or
 use Rattle.sv32_space.specs.Spaces.{IsMade}
 use Rattle.sv32_space.specs.SpelledEntries.{entries}
 use Rattle.sv32_space.specs.Tie.{Held, bytes_at}
+use Rattle.sv32_space.proofs.Agreeing.EmptyAgreementLemmas.{empty_agrees}
 use Rattle.sv32_space.proofs.EntryLemmas.{no_entry_elsewhere}
 use Rattle.vm_memory.specs.declared.memory.Memory.{Memory}
 use Rattle.vm_memory.specs.Bytes.{used_frames, used_slots}
@@ -65,35 +66,6 @@ empty_lawful procs capacity = record {
 
 module _ (procs : ℕ) (E : Entries) (free : (q : Place) → is_user_place procs q ≡ true → E q ≡ Some Free)
     (elsewhere : (q : Place) → is_user_place procs q ≡ false → E q ≡ None) where
-  no_page : (q : Place) (side : Side) (s : Seat) → E q ≡ Some (At side s) → ⊥
-  no_page q side s e = elim (cases_Bool (is_user_place procs q)) [
-    | inl user ↦ clash (sym (free q user) ∙ e)
-    | inr not_user ↦ none-some (At side s) (sym (elsewhere q not_user) ∙ e)
-  ]
-    where
-      clash : Some Free ≡ Some (At side s) → ⊥
-      clash h = cc
-
-  there : (q : Place) → is_some (E q) ≡ is_user_place procs q
-  there q = elim (cases_Bool (is_user_place procs q)) [
-    | inl user ↦ ap is_some (free q user) ∙ sym user
-    | inr not_user ↦ ap is_some (elsewhere q not_user) ∙ sym not_user
-  ]
-
-  empty_agrees : EntriesAgree procs E no_infos
-  empty_agrees = record {
-    spelled = there;
-    used = λ s. refl;
-    home = λ s home e. absurd (none-some _ e);
-    lender = λ s home loan e. absurd (none-some _ e);
-    holder = λ s home loan e. absurd (none-some _ e);
-    own = λ q right s e. absurd (no_page q (Own right) s e);
-    lent_out = λ q right s e. absurd (no_page q (LentOut right) s e);
-    mut_out = λ q x s e. absurd (no_page q (MutOut x) s e);
-    lent_in = λ q s e. absurd (no_page q LentIn s e);
-    mut_in = λ q s e. absurd (no_page q MutIn s e);
-  }
-
   empty_ledger_of : (B : SeatBytes) → ledger_of E no_infos B ≡ empty_ledger
   unfolding ledger_of
   empty_ledger_of B = same_ledger (ledger_of E no_infos B) empty_ledger

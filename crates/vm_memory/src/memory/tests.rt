@@ -10,6 +10,7 @@ ghost use Rattle.xk_base.specs.declared.ids.Number.{Number};
 
 mod first_pages;
 mod first_run;
+mod loans;
 mod user;
 mod windows;
 

@@ -6,7 +6,6 @@ use Rattle.event_text.specs.declared.event.Event.{Event}
 use Rattle.event_text.specs.declared.event.Event.TheVariants.{Tick, Pick, Irq, Kill}
 use Rattle.xk_base.specs.Circle.{is_thread_id}
 use Rattle.machine_model.specs.Stepping.Events.{nothing}
-use Rattle.machine_model.specs.Runs.Kept.{AllKeepCursor}
 use Rattle.machine_model.specs.Runs.LoanSpan.{LoanSpan, SpansHold}
 use Rattle.xk_base.specs.declared.ids.Number.{Number}
 use Rattle.machine_model.specs.State.Machine.{Machine}
@@ -16,6 +15,7 @@ use Rattle.machine_model.specs.State.Order.{actor, turn}
 use Rattle.machine_model.specs.Stepping.Step.{step}
 use Rattle.xk_kernel.specs.History.{reached, stopped, behind, go_on, followed_by, ticks, play, history}
 use Rattle.xk_kernel.specs.HistoryMoments.{moment_by, tick_moments, event_moments, moments_of}
+use Rattle.machine_laws.proofs.Stepping.CursorStepLemmas.{every_cause_keeps_cursor}
 use Rattle.machine_laws.proofs.Stepping.EveryStepLemmas.{every_cause_keeps}
 
 -- ---- runs, and their last states
@@ -173,16 +173,16 @@ pub history_matched : (events : List Event) (limit : ℕ) (start : Machine) → 
 history_matched events limit start h = history_keeps Matched every_cause_keeps events limit start h
 
 -- the cursor, with the invariant on which it rests
-cursor_kept : AllKeepCursor → (cause : Cause) (m : Machine) → Matched m × IsTrue (is_thread_id m.processes m.cursor)
+cursor_kept : (cause : Cause) (m : Machine) → Matched m × IsTrue (is_thread_id m.processes m.cursor)
     → Matched (caused cause m) × IsTrue (is_thread_id (caused cause m).processes (caused cause m).cursor)
-cursor_kept stands cause m h = (every_cause_keeps cause m h.0, stands cause m h.0 h.1)
+cursor_kept cause m h = (every_cause_keeps cause m h.0, every_cause_keeps_cursor cause m h.0 h.1)
 
-pub moments_cursor : AllKeepCursor → (events : List Event) (limit : ℕ) (start : Machine) → Matched start
+pub moments_cursor : (events : List Event) (limit : ℕ) (start : Machine) → Matched start
     → IsTrue (is_thread_id start.processes start.cursor) → (i : ℕ)
     → IsTrue (is_thread_id (state_at start (moments_of events limit start) i).processes (state_at start (moments_of events limit start) i).cursor)
-moments_cursor stands events limit start h c i =
+moments_cursor events limit start h c i =
     let P : Machine → Type 0 = λ (m : Machine). Matched m × IsTrue (is_thread_id m.processes m.cursor) in
-    (moments_keep P (cursor_kept stands) events limit start (h, c) i).1
+    (moments_keep P cursor_kept events limit start (h, c) i).1
 
 pub history_spans : SpansHold → (events : List Event) (limit : ℕ) (start : Machine) (number : Number) → Matched start
     → LoanSpan start (moments_of events limit start) number

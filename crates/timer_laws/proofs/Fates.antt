@@ -1,0 +1,2 @@
+pub mod ClaimFateLemmas
+pub mod CallFateLemmas

@@ -1,0 +1,4 @@
+pub mod ClaimantLemmas
+pub mod MomentLemmas
+pub mod RaiseLemmas
+pub mod RunLemmas

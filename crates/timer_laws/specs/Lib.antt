@@ -1,0 +1,4 @@
+pub mod Arming
+pub mod Raising
+pub mod TimerLaw
+pub mod TimerPage
