@@ -2,9 +2,11 @@
 #![tactic(auto)]
 
 mod device;
+mod laws;
 mod page;
 
 pub use device::Timer;
+pub use laws::view_is_memory;
 pub use page::TimerView;
 
 #[cfg(test)]

@@ -38,6 +38,7 @@ impl<U: UserMemory> UserMemory for TimerView<U> {
 
     ghost console = { λ v. console_with_timer v.on (U.console v.inner) };
 
+    // What stands under the page stays as it is, and no access shows it.
     ghost content = { λ v. U.content v.inner };
 
     ghost timer = { λ v. timer_with v.on (record { steps = v.steps; compare = v.timer }) (U.timer v.inner) };

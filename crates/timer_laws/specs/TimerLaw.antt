@@ -1,11 +1,11 @@
 -- The timer's law over runs. Each arming raises at most once, and only in the step whose number is the compare value. It raises
 -- there exactly where three things hold: that step is the arming step or a later one, the run reaches it, and from after the arming
 -- up to and with that step's other effects nothing arms or disarms the timer, and the claim on its interrupt doesn't end.
-use Rattle.std.specs.Prelude.{◌≡◌, ℕ, ◌+◌, ◌<◌, ◌≤◌, ◌↔◌, true, is_some, List, slice_get, Some, None}
+use Rattle.std.specs.Prelude.{◌≡◌, ℕ, ◌+◌, ◌<◌, ◌≤◌, ◌⊎◌, ◌↔◌, true, is_some, List, slice_get, Some, None}
 use Rattle.machine_model.specs.Runs.Moments.{ByStep, Moment, IsRun, state_at}
 use Rattle.machine_model.specs.State.Machine.{Machine}
 use Rattle.machine_model.specs.State.Order.{actor}
-use Rattle.timer_laws.specs.Arming.{Arms, LeavesTimer}
+use Rattle.timer_laws.specs.Arming.{Arms, Disarms, EndsClaim, LeavesTimer}
 use Rattle.timer_laws.specs.Raising.{IsRaise}
 
 -- ---- moments of a run
@@ -75,6 +75,10 @@ pub record TimerLaw (start : Machine) (moments : List Moment) : Type 0 where
   -- .. and forever where the value is at or below the steps done.
   pub never_past : (compare i j : ℕ) → IsArming compare start moments i → compare ≤ (state_at start moments i).steps
       → ¬ IsRaisedBy compare start moments i j
+  -- What disarms it, or ends the claim on its interrupt, leaves it without a value.
+  pub disarmed : (j : ℕ) (moment : Moment) → slice_get moments j ≡ Some moment
+      → Disarms (state_at start moments j) moment.cause ⊎ EndsClaim (state_at start moments j) moment.machine
+      → moment.machine.compare ≡ None
 
 -- so it is in every run from a state in which the timer isn't armed
 abbrev pub TimerHolds : Type 0

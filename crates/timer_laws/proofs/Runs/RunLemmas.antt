@@ -174,6 +174,40 @@ module _ (start : Machine) (moments : List Moment) (unarmed : start.compare ≡ 
       ended = λ h. e.ended (ap (λ f. f TIMER_INTERRUPT) (sym claims_after) ∙ h);
     }
 
+    -- what disarms the timer leaves it without a value
+    unarmed_after : effects.compare ≡ None → moment.machine.compare ≡ None
+    unarmed_after none = go (decides moment.cause (at k)).decided
+      where
+        is : moment.machine.compare ≡ (caused moment.cause (at k)).compare
+        is = ap (λ (x : Machine). x.compare) next.leads
+
+        go : (IsRaise (at k) moment.cause × ((caused moment.cause (at k)).compare ≡ None))
+            ⊎ (¬ IsRaise (at k) moment.cause × (caused moment.cause (at k) ≡ effects))
+            → moment.machine.compare ≡ None
+        go (inl r) = is ∙ r.1
+        go (inr r) = is ∙ (ap (λ (x : Machine). x.compare) r.1 ∙ none)
+
+    disarmed : Disarms (at k) moment.cause ⊎ EndsClaim (at k) moment.machine → moment.machine.compare ≡ None
+    disarmed by = go by touch
+      where
+        not_both : (c : ℕ) → Disarms (at k) moment.cause → Arms c (at k) moment.cause → ⊥
+        not_both c d a =
+            let offsets : 8 ≡ 4 =
+            ap (λ (s : TimerStore). s.offset)
+            (same_Some (record { offset = 8; width = Word; value = d.value }) (record { offset = 4; width = Word; value = c }) (sym d.store ∙ a.store)) in
+            omega (arith, offsets)
+
+        stood : EndsClaim (at k) moment.machine
+            → ((claim : Claim) → (at k).claims TIMER_INTERRUPT ≡ Some claim → effects.claims TIMER_INTERRUPT ≡ Some claim) → ⊥
+        stood e stands = e.ended (ap (λ f. f TIMER_INTERRUPT) claims_after ∙ stands e.claim e.stood)
+
+        go : Disarms (at k) moment.cause ⊎ EndsClaim (at k) moment.machine → Touch (at k) moment.cause effects → moment.machine.compare ≡ None
+        go by (Disarmed none not_armed how) = unarmed_after none
+        go (inl d) (Left same not_armed not_disarmed stands) = absurd (not_disarmed d)
+        go (inl d) (Armed c arms value stands) = absurd (not_both c d arms)
+        go (inr e) (Left same not_armed not_disarmed stands) = absurd (stood e stands)
+        go (inr e) (Armed c arms value stands) = absurd (stood e stands)
+
     -- it is the only moment there
     left_here : LeavesTimer (at k) moment → (j : ℕ) (between : Moment) → j ≡ k → slice_get moments j ≡ Some between → LeavesTimer (at j) between
     left_here h j between same e =
@@ -433,6 +467,7 @@ module _ (start : Machine) (moments : List Moment) (unarmed : start.compare ≡ 
         ap (λ (x : Machine). x.compare) (sym (next j moment there).now)
         ∙ stays c i j arming (slice_get_within moments j moment there) left order none;
     never_past = never_past;
+    disarmed = disarmed;
   }
 
 pub timer_holds : TimerHolds
