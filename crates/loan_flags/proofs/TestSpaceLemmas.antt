@@ -36,6 +36,9 @@ small = record { first = 21; frames = 43; slots = 16 }
 only : (pid : ℕ) → is_pid 1 pid ≡ true → pid ≡ 2
 only pid h = grind (arith, nat_tests)
 
+small_process : (owners : OwnerTable) → extent owners ≡ small → is_pid (procs_of (extent owners)) 2 ≡ true
+small_process owners extents = ap (λ (x : Extent). is_pid (procs_of x) 2) extents
+
 -- ---- without a page
 
 pub empty_space_agrees : (ram : RamBytes) (owners : OwnerTable) → (area ram).frames ≡ 64 → extent owners ≡ small → infos owners ≡ no_infos
@@ -69,18 +72,15 @@ page_agrees ram put owners left home right s agree free empty sets told same =
     (record { entries_are = sets.entries_are; infos_are = told; extent_is = same; area_is = sets.area_is; made = sets.made; pages = sets.pages })
     agree (make_agrees (procs_of (extent owners)) (entries_of (tables ram owners)) (infos owners) home right s agree.entries free empty)
 
--- the process's space is made
-pub small_made : (ram : RamBytes) (owners : OwnerTable) → agrees ram owners → extent owners ≡ small → IsMade ram 2
-small_made ram owners agree extents = agree.made 2 (ap (λ (x : Extent). is_pid (procs_of x) 2) extents)
-
--- ---- free places
-
-small_process : (owners : OwnerTable) → extent owners ≡ small → is_pid (procs_of (extent owners)) 2 ≡ true
-small_process owners extents = ap (λ (x : Extent). is_pid (procs_of x) 2) extents
-
 pub home_process : (owners : OwnerTable) (home : Place) (vpn : ℕ) → extent owners ≡ small → home ≡ record { pid = record { 0 = 2 }; vpn = record { 0 = vpn } }
     → is_pid (procs_of (extent owners)) home.pid.0 ≡ true
 home_process owners home vpn extents is = ap (λ (q : Place). is_pid (procs_of (extent owners)) q.pid.0) is ∙ small_process owners extents
+
+-- the process's space is made
+pub small_made : (ram : RamBytes) (owners : OwnerTable) → agrees ram owners → extent owners ≡ small → IsMade ram 2
+small_made ram owners agree extents = agree.made 2 (small_process owners extents)
+
+-- ---- free places
 
 module _ (t : Tables) (ram : RamBytes) (owners : OwnerTable) (view : tables ram owners ≡ t) (agree : agrees ram owners) (extents : extent owners ≡ small)
     (v : Vpn) (first : Place) (is : first ≡ record { pid = record { 0 = 2 }; vpn = v })

@@ -123,6 +123,13 @@ fn words(s: &Space, vpn: u32) -> [u32; 2]
     [leaf(&s.ram, place(vpn)), leaf(&s.ram, place(vpn + 1))]
 }
 
+/// No page is at the seat.
+fn is_free(s: &Space, seat: Seat) -> bool
+    requires { HasSeat (record { first = 21; frames = 43; slots = 16 }) seat }
+{
+    s.owners.info(seat).is_none()
+}
+
 /// The first of two free places in the Message window.
 fn free_places(s: &Space) -> Option<Place>
     ensures free { IfSome result (λ to. (p : Place) → IsTrue (in_run to 2 p) → entries_of s.now p ≡ Some Free) }
@@ -253,9 +260,12 @@ fn lend_is_orphaned_and_ends(rt: HostRuntime) {
     let orphans = orphan(&mut s, loan);
     assert_eq!(rt; words(&s, FIRST), FREE);
     assert_eq!(rt; words(&s, MESSAGE), [0x1000_5953, 0x0000_1572]);
+    assert!(rt; !is_free(&s, Seat::Frame(Frame(22))));
+    assert!(rt; !is_free(&s, Seat::Slot(Slot(5))));
     end(&mut s, orphans);
     assert_eq!(rt; words(&s, MESSAGE), FREE);
-    assert_eq!(rt; s.owners.free_frame(), Some(Frame(21)));
+    assert!(rt; is_free(&s, Seat::Frame(Frame(22))));
+    assert!(rt; is_free(&s, Seat::Slot(Slot(5))));
 }
 
 #[test]
