@@ -6,6 +6,8 @@ ghost use Rattle.sv32_space.specs.SpelledEntries.{IsEntry};
 ghost use Rattle.sv32_space.specs.Spaces.{IsMade};
 ghost use Rattle.sv32_space.specs.declared.sides.EntryKind.TheVariants.{Here, Out};
 
+mod loans;
+
 use super::*;
 use crate::page_changes::{holder_side, lender_side};
 use phys_pages::{Ram, Seat};
