@@ -1,12 +1,12 @@
 //! The table of threads.
 
-ghost use Rattle.std.specs.Prelude.{◌≡◌, ◌<◌, ◌≤◌, true, IfOk, IsSome, Some, vec_len};
+ghost use Rattle.std.specs.Prelude.{◌≡◌, ◌<◌, ◌≤◌, ◌+◌, ◌%◌, true, IfOk, IsSome, Some, is_none, vec_len};
 ghost use Rattle.std.specs.Option.{option_copied};
-ghost use Rattle.xk_base.specs.Circle.{IsPid, IsTid, is_thread_id, same_thread, thread_ids, place_of, id_at, ids_until};
+ghost use Rattle.xk_base.specs.Circle.{IsPid, IsTid, is_thread_id, same_thread, thread_ids, place_of, id_at, id_behind, id_by_tid, ids_until};
 ghost use Rattle.xk_base.specs.Counting.{put_at};
 ghost use Rattle.xk_base.specs.declared.ids.ThreadId.{ThreadId as Id};
 ghost use Rattle.xk_base.specs.declared.limits.TheConstants.{PROCESS_LIMIT};
-ghost use Rattle.thread_table.specs.ThreadMap.{no_threads, without_process, free_tid, live_threads, receiver, next_ready, is_ready, is_receiving};
+ghost use Rattle.thread_table.specs.ThreadMap.{no_threads, without_process, free_tid, thread_above, tids_above, live_threads, receiver, next_ready, is_ready, is_receiving};
 
 use crate::thread::{Thread, thread_in};
 use std::alloc::Global;
@@ -165,18 +165,25 @@ impl Threads {
         }
     }
 
+    /// Whether no thread of the process has the tid `k + 2`.
+    fn is_free(&self, pid: Pid, k: u8) -> bool
+        requires { k < tids_above }
+        ensures { result ≡ is_none (threads_of self.now (thread_above pid k)) }
+    {
+        self.get(ThreadId {
+            pid,
+            tid: Tid(k + 2),
+        })
+        .is_none()
+    }
+
     /// The least of 2 to 31 that is the tid of no thread of the process; `None` exactly where all are.
     pub fn free_tid(&self, pid: Pid) -> Option<Tid>
         requires { IsPid (process_count self.now) pid.0 }
         ensures { result ≡ free_tid pid (threads_of self.now) }
     {
-        for k in 0..TID_LIMIT - 1 {
-            let tid = Tid(k + 2);
-            if self.get(ThreadId { pid, tid }).is_none() {
-                return Some(tid);
-            }
-        }
-        None
+        let free = (0..TID_LIMIT - 1).find(|k| self.is_free(pid, *k));
+        Some(Tid(free? + 2))
     }
 
     /// How many threads above tid 1 the process has.
@@ -194,24 +201,37 @@ impl Threads {
         live
     }
 
+    /// The id at the place in the order of (tid, pid).
+    fn id_by_tid(&self, k: usize) -> ThreadId
+        requires { k < thread_ids (process_count self.now) }
+        ensures { result ≡ id_by_tid (process_count self.now) k }
+    {
+        let procs = self.procs as usize;
+        ThreadId {
+            pid: Pid((k % procs + 2) as u8),
+            tid: Tid((k / procs + 1) as u8),
+        }
+    }
+
+    /// Whether the thread at the place in the order of (tid, pid) waits for a message at the server.
+    fn is_receiving_at(&self, serial: Serial, k: usize) -> bool
+        requires { k < thread_ids (process_count self.now) }
+        ensures { result ≡ is_receiving serial (threads_of self.now (id_by_tid (process_count self.now) k)) }
+    {
+        match self.get(self.id_by_tid(k)) {
+            Some(thread) => thread.state.is_receiving(serial),
+            None => false,
+        }
+    }
+
     /// Of the threads that are Receiving at the server the one with the least tid; `None` exactly where
     /// there is none. Of two processes with such a thread the one with the lower pid comes first.
     pub fn receiver(&self, serial: Serial) -> Option<ThreadId>
         ensures { result ≡ receiver (process_count self.now) serial (threads_of self.now) }
     {
-        let procs = self.procs as usize;
-        for k in 0..procs * TIDS {
-            let id = ThreadId {
-                pid: Pid((k % procs + 2) as u8),
-                tid: Tid((k / procs + 1) as u8),
-            };
-            if let Some(thread) = self.get(id)
-                && thread.state.is_receiving(serial)
-            {
-                return Some(id);
-            }
-        }
-        None
+        let places = self.procs as usize * TIDS;
+        let least = (0..places).find(|k| self.is_receiving_at(serial, *k));
+        Some(self.id_by_tid(least?))
     }
 
     /// The same where all threads that are Receiving at the server are of this process. It looks at the
@@ -235,12 +255,22 @@ impl Threads {
         None
     }
 
-    /// Whether a thread that may do the next step stands at the place.
-    fn is_ready_at(&self, place: usize) -> bool
-        requires { place < thread_ids (process_count self.now) }
-        ensures { result ≡ is_ready (threads_of self.now (id_at place)) }
+    /// The place that many after the first behind the id, in the circle of places.
+    fn place_behind(&self, id: ThreadId, k: usize) -> usize
+        requires id { IsPid (process_count self.now) id.pid.0 }
+        requires k { k < thread_ids (process_count self.now) }
+        ensures { result ≡ (ids_until id + k) % thread_ids (process_count self.now) }
     {
-        self.by_place[place].is_some_and(|thread| thread.state.is_ready())
+        (ids_until(id) + k) % (self.procs as usize * TIDS)
+    }
+
+    /// Whether a thread that may do the next step stands that many behind the id.
+    fn is_ready_behind(&self, id: ThreadId, k: usize) -> bool
+        requires id { IsPid (process_count self.now) id.pid.0 }
+        requires k { k < thread_ids (process_count self.now) }
+        ensures { result ≡ is_ready (threads_of self.now (id_behind (process_count self.now) id k)) }
+    {
+        self.by_place[self.place_behind(id, k)].is_some_and(|thread| thread.state.is_ready())
     }
 
     /// The first Ready thread strictly after the id in the cyclic order of (pid, tid), the id itself
@@ -250,13 +280,8 @@ impl Threads {
         ensures { result ≡ next_ready (process_count self.now) (threads_of self.now) id }
     {
         let places = self.procs as usize * TIDS;
-        for k in 0..places {
-            let place = (ids_until(id) + k) % places;
-            if self.is_ready_at(place) {
-                return Some(id_at(place));
-            }
-        }
-        None
+        let first = (0..places).find(|k| self.is_ready_behind(id, *k));
+        Some(id_at(self.place_behind(id, first?)))
     }
 }
 

@@ -1,4 +1,5 @@
-use Rattle.std.proofs.Common.{◌≡◌, ◌+◌, ◌%◌, Bool, Some, true, sym, ap, ◌∙◌, arith}
+use Rattle.std.proofs.Common.{rules, tests, ◌≡◌, ◌<◌, ◌≤◌, ℕ, Bool, true, false, Some, None, sym, ap, ◌∙◌, arith}
+use Rattle.std.proofs.lemmas.Iterator.{first_from_Range}
 use Rattle.xk_base.specs.Circle.{thread_ids, id_at, id_behind}
 use Rattle.xk_base.specs.declared.ids.ThreadId.{ThreadId}
 use Rattle.xk_base.proofs.CircleLemmas.{next_id-Some, next_id-None}
@@ -6,17 +7,35 @@ use Rattle.thread_table.specs.ThreadMap.{is_ready}
 use Rattle.thread_table.specs.ThreadsOf.{process_count, threads_of}
 use Rattle.thread_table.proofs.table.Threads.next_ready_after.Goals as goal
 
-pub returns-then-is_ready_at : goal.returns-then-is_ready_at
+pub returns-in_err-first : goal.returns-in_err-first
 unfolding process_count
-returns-then-is_ready_at c =
+returns-in_err-first c =
     let n = c.args.self.now.procs in
     let test : ThreadId → Bool = λ d. is_ready (threads_of c.args.self.now d) in
-    let here : test (id_behind n c.args.id c.loop-k.k) ≡ true =
-    ap (λ u. test (id_at ((u + c.loop-k.k) % thread_ids n))) (sym c.ids_until.ensures) ∙ sym c.is_ready_at.ensures ∙ c.if-is_ready_at.true in
-    ap Some (c.id_at.ensures ∙ ap (λ u. id_at ((u + c.loop-k.k) % thread_ids n)) c.ids_until.ensures)
-    ∙ sym (next_id-Some n test c.args.id c.loop-k.k (omega arith) here c.loop-k.invariant)
+    let none : (k : ℕ) → 0 ≤ k → k < thread_ids n → test (id_behind n c.args.id k) ≡ false =
+    first_from_Range _ _ _ None (λ k. test (id_behind n c.args.id k) ≡ true) (λ k. test (id_behind n c.args.id k) ≡ false) c.in_err-first.ensures.ran
+    (λ x q k. search (rules, tests)) (λ x q k. search (rules, tests)) in
+    c.from_residual.ensures ∙ sym (next_id-None n test c.args.id (λ k l. none k (omega arith) l))
 
 pub returns : goal.returns
 unfolding process_count
 returns c =
-    sym (next_id-None c.args.self.now.procs (λ d. is_ready (threads_of c.args.self.now d)) c.args.id (λ k l. c.loop-k.invariant k (omega arith)))
+    let n = c.args.self.now.procs in
+    let at = c.in_ok-first.field-0 in
+    let test : ThreadId → Bool = λ d. is_ready (threads_of c.args.self.now d) in
+    let found : (0 ≤ at) × (at < thread_ids n) × (test (id_behind n c.args.id at) ≡ true) × ((k : ℕ) → 0 ≤ k → k < at → test (id_behind n c.args.id k) ≡ false) =
+    first_from_Range _ _ _ (Some at) (λ k. test (id_behind n c.args.id k) ≡ true) (λ k. test (id_behind n c.args.id k) ≡ false) c.in_ok-first.ensures.ran
+    (λ x q k. search (rules, tests)) (λ x q k. search (rules, tests)) in
+    ap Some (c.id_at.ensures ∙ ap id_at c.place_behind.ensures)
+    ∙ sym (next_id-Some n test c.args.id at found.1 found.2 (λ k l. found.3 k (omega arith) l))
+
+pub place_behind-requires-clause-k : goal.place_behind-requires-clause-k
+unfolding process_count
+place_behind-requires-clause-k c =
+    let n = c.args.self.now.procs in
+    let test : ℕ → Bool = λ k. is_ready (threads_of c.args.self.now (id_behind n c.args.id k)) in
+    let at = c.in_ok-first.field-0 in
+    let found : (0 ≤ at) × (at < thread_ids n) × (test at ≡ true) × ((k : ℕ) → 0 ≤ k → k < at → test k ≡ false) =
+    first_from_Range _ _ _ (Some at) (λ k. test k ≡ true) (λ k. test k ≡ false) c.in_ok-first.ensures.ran
+    (λ x q k. search (rules, tests)) (λ x q k. search (rules, tests)) in
+    found.1
