@@ -3,8 +3,8 @@
 
 ghost use Rattle.ledger_model.specs.Places.{in_run, is_place_in};
 ghost use Rattle.loan_flags.specs.Keeping.{entries_of};
-ghost use Rattle.phys_pages.specs.Owners.{HasSeat, extent, infos};
-ghost use Rattle.std.specs.Prelude.{IfOk, IfSome, IsSome, IsTrue, Some, is_some, ◌+◌, ◌<◌, ◌≡◌, ◌≤◌};
+ghost use Rattle.phys_pages.specs.Owners.{HasSeat, infos};
+ghost use Rattle.std.specs.Prelude.{IfOk, IfSome, IsSome, IsTrue, Some, is_some, ◌+◌, ◌<◌, ◌≡◌};
 ghost use Rattle.sv32_space.specs.EntryLoans.{IsUnlent, StandsIn};
 ghost use Rattle.sv32_space.specs.declared.sides.Entry.TheVariants.{Free};
 ghost use Rattle.xk_base.specs.declared.windows.Window.TheVariants.{Message};
