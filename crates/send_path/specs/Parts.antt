@@ -2,7 +2,6 @@
 -- and for the memory.
 use Rattle.std.specs.Prelude.{ℕ, List, map, Option, Some, None}
 use Rattle.std.specs.Option.{option_map}
-use Rattle.ledger_model.specs.Ledger.{Ledger}
 use Rattle.machine_model.specs.Ending.Ends.{dead_process}
 use Rattle.machine_model.specs.State.Machine.{Machine, Thread, ThreadState, Process, Server, Ready, Receiving, Waiting, Joining, Idle}
 use Rattle.msg_queue.specs.Seats.{Seat, message_of, seat_of}
@@ -12,11 +11,14 @@ use Rattle.process_table.specs.declared.table.Processes.{Processes}
 use Rattle.server_table.specs.ServersOf.{servers_of}
 use Rattle.server_table.specs.ServerState.{Server as TableServer}
 use Rattle.server_table.specs.declared.table.Servers.{Servers}
+use Rattle.sv32_space.specs.Tie.{Held}
 use Rattle.thread_table.specs.ThreadsOf.{process_count, threads_of}
 use Rattle.thread_table.specs.declared.table.Threads.{Threads}
 use Rattle.thread_table.specs.declared.thread.Thread.{Thread as TableThread}
 use Rattle.thread_table.specs.declared.thread.ThreadState.{ThreadState as TableState}
 use Rattle.thread_table.specs.declared.thread.ThreadState.TheVariants as table
+use Rattle.vm_memory.specs.Memory.{capacity_of, ledger}
+use Rattle.vm_memory.specs.declared.memory.Memory.{Memory}
 use Rattle.xk_base.specs.Log.{LogState}
 use Rattle.xk_base.specs.declared.ids.ThreadId.{ThreadId}
 
@@ -76,4 +78,16 @@ with_tables who parts m = record m {
   threads = threads_shown parts.threads;
   servers = servers_shown parts.servers parts.queues;
   next_serial = (servers_of parts.servers).next;
+}
+
+-- the parts that a call which ends or makes a loan takes
+pub record Parts (W : Type 0) : Type 0 where
+  pub mem : Memory W
+  pub tables : Tables
+
+-- the same with the ledger of the memory
+unfoldable pub with_parts : {W : Type 0} → (W → Held) → ThreadId → Parts W → Machine → Machine
+with_parts held who parts m = record (with_tables who parts.tables m) {
+  capacity = capacity_of parts.mem;
+  ledger = ledger held parts.mem;
 }
