@@ -5,24 +5,22 @@ use Rattle.std.specs.Option.{option_and_then, option_map}
 use Rattle.machine_model.specs.Calling.ServerCalls.{named_server}
 use Rattle.machine_model.specs.Messaging.Messages.{is_answered, oldest, with_received, without_oldest}
 use Rattle.machine_model.specs.Messaging.ReceiveCalls.{oldest_queued, receive_served, received, try_receive_served, waits_at}
-use Rattle.machine_model.specs.State.Changes.{Change, Outcome, Refused, Served, answering, only}
+use Rattle.machine_model.specs.State.Changes.{Change, Refused, Served, answering, only}
 use Rattle.machine_model.specs.State.Machine.{Machine, Receiving, Server, Thread}
 use Rattle.machine_laws.proofs.Calling.AnsweredCallLemmas.{Keeps}
 use Rattle.machine_laws.proofs.Receiving.ReceiveStepLemmas.{receive_named_keeps, try_receive_named_keeps}
 use Rattle.machine_model.specs.Runs.Matched.{Matched}
 use Rattle.machine_model.specs.State.Order.{ready_at}
 use Rattle.machine_model.specs.State.Servers.{change_server, is_own, with_sid}
-use Rattle.machine_model.specs.State.Threads.{answer_to, change_thread, give_answers, no_answers, passed, with_answer, with_state}
+use Rattle.machine_model.specs.State.Threads.{answer_to, change_thread, no_answers, passed, with_answer, with_state}
 use Rattle.msg_queue.specs.Seats.{Seat, changed_at, message_of, seat_of, with_held, without_queued_at}
 use Rattle.msg_queue.specs.declared.held.Held.{Held}
 use Rattle.server_table.specs.ServersOf.{servers_of}
 use Rattle.server_table.specs.ServerState.{Server as TableServer}
 use Rattle.thread_table.specs.ThreadMap.{is_ready as is_table_ready}
 use Rattle.thread_table.specs.ThreadsOf.{process_count, threads_of}
-use Rattle.thread_table.specs.declared.table.Threads.{Threads}
 use Rattle.xk_base.specs.Circle.{is_thread_id}
 use Rattle.xk_base.specs.Counting.{put_at}
-use Rattle.xk_base.specs.Log.{LogState}
 use Rattle.xk_base.specs.Replies.{message_words, plain_words}
 use Rattle.xk_base.specs.declared.errors.XousError.TheVariants.{ServerNotFound}
 use Rattle.xk_base.specs.declared.ids.Serial.{Serial}
@@ -31,10 +29,10 @@ use Rattle.xk_base.specs.declared.ids.ThreadId.{ThreadId}
 use Rattle.xk_base.specs.declared.messages.Message.{Message}
 use Rattle.xk_base.specs.declared.records.What.TheVariants.{Reply}
 use Rattle.send_path.specs.Parts.{Tables, server_with, servers_shown, threads_shown, with_tables}
-use Rattle.send_path.specs.Rows.{IsServed, IsTableRow, log_with, receive_row}
+use Rattle.send_path.specs.Rows.{IsServed, log_with, receive_row}
 use Rattle.send_path.specs.Seats.{HasLoanIfLend, IsSeatOf, messages_at, own_serial}
 use Rattle.send_path.specs.Sound.{AreSeatsSound, AreTablesSound}
-use Rattle.send_path.specs.Threads.{ThreadMap, answered, changed_thread}
+use Rattle.send_path.specs.Threads.{answered, changed_thread}
 use Rattle.send_path.proofs.MachineLemmas.{IsOwn, not_own, own_found}
 use Rattle.send_path.proofs.ReplyLemmas.{no_reply, one_reply}
 use Rattle.send_path.proofs.RowLemmas.{first_passes, first_refuses, served_so}

@@ -10,7 +10,7 @@ use Rattle.std.proofs.lemmas.Option.{none-some, same_Some}
 use Rattle.ledger_model.proofs.OfNumberLemmas.{stands_still}
 use Rattle.ledger_model.proofs.Stepping.EndingLemmas.{end_loan_other}
 use Rattle.ledger_model.specs.Ledger.{Ledger}
-use Rattle.ledger_model.specs.Loans.{LoanRun, Loans, Stands, loans, same_number}
+use Rattle.ledger_model.specs.Loans.{LoanRun, Stands, loans, same_number}
 use Rattle.ledger_model.specs.Steps.{end_loan}
 use Rattle.machine_laws.proofs.Calling.AnsweredCallLemmas.{Keeps}
 use Rattle.machine_laws.proofs.Messaging.AnyServerLemmas.{held_apart, held_not_queued}
@@ -27,10 +27,10 @@ use Rattle.machine_model.specs.Messaging.Messages.{is_blocking_of, is_blocking_s
 use Rattle.machine_model.specs.Messaging.ReturnCalls.{given_back, held_by_caller, holder_of, is_its_range, return_memory_call, return_memory_served, return_scalar1_call, return_scalar2_call, return_scalar_served, sender_gets, sender_of_message}
 use Rattle.machine_model.specs.Runs.Matched.{Matched, is_waiting_for, waits_for}
 use Rattle.machine_model.specs.State.Changes.{Outcome, Refused, Served, answering, replies, refused_or}
-use Rattle.machine_model.specs.State.Machine.{Machine, Ready, Server, Thread, ThreadState}
+use Rattle.machine_model.specs.State.Machine.{Machine, Server, Thread}
 use Rattle.machine_model.specs.State.Order.{ready_at}
 use Rattle.machine_model.specs.State.Servers.{change_server, messages_of, serial_of}
-use Rattle.machine_model.specs.State.Threads.{answer_to, both_answers, change_thread, give_answers, passed}
+use Rattle.machine_model.specs.State.Threads.{answer_to, both_answers, passed}
 use Rattle.msg_queue.specs.Seats.{Seat, changed_at, message_of, of_number, place_of, seat_of, without_held as without_held_at}
 use Rattle.msg_queue.specs.declared.held.Held.{Held}
 use Rattle.server_table.proofs.Lemmas.{seats_differ}
@@ -53,9 +53,9 @@ use Rattle.xk_base.specs.declared.ids.ThreadId.{ThreadId}
 use Rattle.xk_base.specs.declared.messages.Message.{Message}
 use Rattle.xk_base.specs.declared.messages.MsgKind.{MsgKind}
 use Rattle.xk_base.specs.declared.messages.MsgKind.TheVariants.{LendMut, Lend, Move, Scalar, BlockingScalar}
-use Rattle.send_path.specs.Parts.{Parts, Tables, server_with, servers_shown, threads_shown, with_parts, with_tables}
+use Rattle.send_path.specs.Parts.{Parts, server_with, servers_shown, threads_shown, with_parts, with_tables}
 use Rattle.send_path.specs.Rows.{IsServed, log_with, memory_row, scalar_row, table_row}
-use Rattle.send_path.specs.Seats.{HasLoanIfLend, IsHeldAt, IsNotHeldAt, IsSeatOf, messages_at}
+use Rattle.send_path.specs.Seats.{HasLoanIfLend, IsHeldAt, IsNotHeldAt, messages_at}
 use Rattle.send_path.specs.Sound.{AreLoansAt, AreLoansSound, AreSeatsSound, IsLoanOf, IsSound}
 use Rattle.send_path.specs.Threads.{answered, changed_thread}
 use Rattle.send_path.specs.declared.holding.HeldAt.{HeldAt}

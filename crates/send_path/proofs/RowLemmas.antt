@@ -1,12 +1,11 @@
 -- What a served call makes of the machine and of the log.
-use Rattle.std.proofs.Common.{◌≡◌, List, [], ◌++◌, refl, sym, ap, ◌∙◌, append-nil, Bool, true, false}
-use Rattle.std.specs.Prelude.{not, if◌then◌else◌}
-use Rattle.machine_model.specs.State.Changes.{Outcome, Refused, Served, answering, call_settled, only, refused_or, replies, settled, unless_refused}
-use Rattle.machine_model.specs.State.Machine.{Machine, Thread}
-use Rattle.machine_model.specs.State.Threads.{Answers, change_thread, give_answers, no_answers, passed}
+use Rattle.std.proofs.Common.{◌≡◌, sym, ap, ◌∙◌, append-nil, Bool, true, false}
+use Rattle.std.specs.Prelude.{if◌then◌else◌}
+use Rattle.machine_model.specs.State.Changes.{Outcome, Refused, Served, answering, call_settled, refused_or, replies, settled}
+use Rattle.machine_model.specs.State.Machine.{Machine}
+use Rattle.machine_model.specs.State.Threads.{Answers, change_thread, give_answers, passed}
 use Rattle.xk_base.specs.Log.{LogState}
 use Rattle.xk_base.specs.declared.errors.XousError.{XousError}
-use Rattle.xk_base.specs.declared.records.What.{What}
 use Rattle.std.specs.Prelude.{Some, None}
 use Rattle.send_path.specs.Rows.{IsServed, log_with}
 

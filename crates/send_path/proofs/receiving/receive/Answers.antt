@@ -1,18 +1,12 @@
-use Rattle.std.proofs.Common.{◌≡◌, ◌<◌, ◌+◌, [], ◌∷◌, Option, Some, None, refl, sym, ap, subst, ◌∙◌}
-use Rattle.std.specs.Prelude.{slice_get}
+use Rattle.std.proofs.Common.{◌<◌, ◌+◌, [], ◌∷◌, refl, sym, ap, subst, ◌∙◌}
 use Rattle.machine_model.specs.State.Threads.{passed}
-use Rattle.msg_queue.specs.Seats.{changed_at, seat_of, used_of, without_queued_at}
-use Rattle.xk_base.specs.Replies.{message_words, plain_words}
+use Rattle.msg_queue.specs.Seats.{seat_of, used_of, without_queued_at}
 use Rattle.xk_base.specs.declared.records.What.TheVariants.{Reply}
 use Rattle.send_path.specs.Parts.{Tables, threads_shown}
 use Rattle.send_path.specs.Rows.{log_with}
 use Rattle.send_path.specs.Sound.{AreSeatsSound}
 use Rattle.send_path.specs.Threads.{answered, changed_thread}
 use Rattle.server_table.specs.ServersOf.{servers_of}
-use Rattle.xk_base.specs.Log.{LogState}
-use Rattle.thread_table.specs.declared.table.Threads.{Threads}
-use Rattle.msg_queue.specs.Seats.{Seat}
-use Rattle.std.proofs.Common.{List, ℕ}
 use Rattle.machine_model.specs.State.Threads.{answer_to}
 use Rattle.send_path.proofs.ReceiveLemmas.{message_got, not_found, still_matched, taken_from, taken_sound, told_none, waited}
 use Rattle.send_path.proofs.SeatLemmas.{seat_changed, seat_in_limit, seat_is_there}

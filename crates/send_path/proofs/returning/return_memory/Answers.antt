@@ -1,31 +1,23 @@
-use Rattle.std.proofs.Common.{◌≡◌, true, false, Some, None, refl, sym, ap, subst, ◌∙◌, is_some, IsTrue, [], ◌∷◌, ◌+◌}
+use Rattle.std.proofs.Common.{◌≡◌, refl, sym, ap, subst, ◌∙◌, is_some, ◌+◌}
 use Rattle.std.proofs.lemmas.Bool.{false≢true}
-use Rattle.std.proofs.lemmas.Option.{none-some}
-use Rattle.ledger_model.specs.Loans.{LoanRun, Stands, loans}
+use Rattle.ledger_model.specs.Loans.{loans}
 use Rattle.ledger_model.specs.Steps.{end_loan}
-use Rattle.machine_laws.proofs.Returning.ReturnMemoryLemmas.{return_keeps}
-use Rattle.machine_laws.proofs.Returning.ReturnScalarLemmas.{scalar_keeps}
-use Rattle.machine_model.specs.Messaging.Messages.{is_blocking_of, is_blocking_scalar, is_lend, is_lend_of}
-use Rattle.machine_model.specs.Messaging.ReturnCalls.{return_memory_call}
+use Rattle.machine_model.specs.Messaging.Messages.{is_lend, is_lend_of}
 use Rattle.machine_model.specs.State.Changes.{replies}
 use Rattle.machine_model.specs.State.Servers.{serial_of}
 use Rattle.machine_model.specs.State.Threads.{answer_to, both_answers, passed}
 use Rattle.machine_model.specs.Messaging.ReturnCalls.{sender_gets}
-use Rattle.msg_queue.specs.declared.held.Held.{Held}
 use Rattle.boot_plan.specs.Capacity.{capacity}
 use Rattle.vm_memory.specs.Memory.{Size, ledger}
 use Rattle.server_table.specs.ServersOf.{servers_of}
-use Rattle.syscall_codec.specs.Replies.{words_of}
 use Rattle.thread_table.specs.ThreadsOf.{process_count}
 use Rattle.xk_base.specs.Replies.{plain_words, returned_words}
 use Rattle.xk_base.specs.declared.messages.Message.{Message}
-use Rattle.send_path.specs.Parts.{threads_shown, with_parts, with_tables}
-use Rattle.send_path.specs.Rows.{log_with, memory_row, scalar_row}
-use Rattle.send_path.specs.Seats.{IsHeldAt}
+use Rattle.send_path.specs.Parts.{threads_shown, with_parts}
+use Rattle.send_path.specs.Rows.{log_with, memory_row}
 use Rattle.send_path.specs.Sound.{AreLoansSound, AreSeatsSound}
 use Rattle.send_path.specs.Threads.{answered, changed_thread}
-use Rattle.send_path.proofs.ReturnLemmas.{blocking_no_lend, change_is, gave_back, has_loan, held_alike, holder_alike, is_ready, its_holder, its_kind, its_loan, loan_number, loans_left, memory_change_is, memory_elsewhere, memory_keeps, memory_refused, memory_served, none_held, other_kind, others_stand, row_keeps, scalar_refused, scalar_served, seats_left, sender_fits, shown, still_matched}
-use Rattle.send_path.proofs.SeatLemmas.{seat_in_limit}
+use Rattle.send_path.proofs.ReturnLemmas.{gave_back, has_loan, held_alike, holder_alike, its_holder, its_kind, its_loan, loan_number, loans_left, memory_change_is, memory_elsewhere, memory_keeps, memory_refused, memory_served, none_held, other_kind, others_stand, seats_left, sender_fits, shown, still_matched}
 use Rattle.send_path.proofs.ThreadLemmas.{ready_id}
 use Rattle.send_path.proofs.returning.return_memory.Goals as goal
 

@@ -1,4 +1,4 @@
-use Rattle.std.proofs.Common.{◌≡◌, Some, ap, ◌∙◌}
+use Rattle.std.proofs.Common.{Some, ap, ◌∙◌}
 use Rattle.machine_model.specs.State.Machine.{Ready}
 use Rattle.machine_model.specs.State.Threads.{with_answer}
 use Rattle.std.specs.Option.{option_copied}

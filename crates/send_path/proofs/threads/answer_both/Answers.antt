@@ -1,4 +1,4 @@
-use Rattle.std.proofs.Common.{[], ◌∷◌, sym, ap, ◌∙◌}
+use Rattle.std.proofs.Common.{sym, ap, ◌∙◌}
 use Rattle.machine_model.specs.State.Threads.{answer_to}
 use Rattle.thread_table.specs.ThreadsOf.{process_count}
 use Rattle.xk_base.specs.declared.records.What.TheVariants.{Reply}
