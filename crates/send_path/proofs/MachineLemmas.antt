@@ -4,7 +4,8 @@ use Rattle.std.specs.Prelude.{if◌then◌else◌}
 use Rattle.std.specs.Option.{option_and_then, option_map}
 use Rattle.std.proofs.lemmas.Option.{none-some}
 use Rattle.machine_model.specs.State.Machine.{Machine}
-use Rattle.machine_model.specs.State.Servers.{has_sid, is_own, is_server_of, serial_of, with_sid}
+use Rattle.xk_base.specs.Sids.{serial_of}
+use Rattle.machine_model.specs.State.Servers.{has_sid, is_own, is_server_of, with_sid}
 use Rattle.msg_queue.specs.Seats.{Seat}
 use Rattle.server_table.specs.ServersOf.{servers_of}
 use Rattle.server_table.specs.ServerState.{Server as TableServer, has_sid as has_table_sid, is_of, with_sid as with_table_sid}

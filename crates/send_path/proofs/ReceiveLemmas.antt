@@ -3,7 +3,8 @@ use Rattle.std.proofs.Common.{◌≡◌, ℕ, ◌<◌, Bool, true, false, List, 
 use Rattle.std.specs.Prelude.{All, ◌==◌, ◌&&◌, nat_eq, not, slice_get, unwrap_or, if◌then◌else◌}
 use Rattle.std.specs.Option.{option_and_then, option_map}
 use Rattle.machine_model.specs.Calling.ServerCalls.{named_server}
-use Rattle.machine_model.specs.Messaging.Messages.{is_answered, oldest, with_received, without_oldest}
+use Rattle.xk_base.specs.Kinds.{is_answered}
+use Rattle.machine_model.specs.Messaging.Messages.{oldest, with_received, without_oldest}
 use Rattle.machine_model.specs.Messaging.ReceiveCalls.{oldest_queued, receive_served, received, try_receive_served, waits_at}
 use Rattle.machine_model.specs.State.Changes.{Change, Refused, Served, answering, only}
 use Rattle.machine_model.specs.State.Machine.{Machine, Receiving, Server, Thread}

@@ -29,7 +29,8 @@ use Rattle.machine_model.specs.Runs.Matched.{Matched, is_waiting_for, waits_for}
 use Rattle.machine_model.specs.State.Changes.{Outcome, Refused, Served, answering, replies, refused_or}
 use Rattle.machine_model.specs.State.Machine.{Machine, Server, Thread}
 use Rattle.machine_model.specs.State.Order.{ready_at}
-use Rattle.machine_model.specs.State.Servers.{change_server, messages_of, serial_of}
+use Rattle.xk_base.specs.Sids.{serial_of}
+use Rattle.machine_model.specs.State.Servers.{change_server, messages_of}
 use Rattle.machine_model.specs.State.Threads.{answer_to, both_answers, passed}
 use Rattle.msg_queue.specs.Seats.{Seat, changed_at, message_of, of_number, place_of, seat_of, without_held as without_held_at}
 use Rattle.msg_queue.specs.declared.held.Held.{Held}

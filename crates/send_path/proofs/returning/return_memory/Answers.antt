@@ -4,7 +4,7 @@ use Rattle.ledger_model.specs.Loans.{loans}
 use Rattle.ledger_model.specs.Steps.{end_loan}
 use Rattle.machine_model.specs.Messaging.Messages.{is_lend, is_lend_of}
 use Rattle.machine_model.specs.State.Changes.{replies}
-use Rattle.machine_model.specs.State.Servers.{serial_of}
+use Rattle.xk_base.specs.Sids.{serial_of}
 use Rattle.machine_model.specs.State.Threads.{answer_to, both_answers, passed}
 use Rattle.machine_model.specs.Messaging.ReturnCalls.{sender_gets}
 use Rattle.boot_plan.specs.Capacity.{capacity}

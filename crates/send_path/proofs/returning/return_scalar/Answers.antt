@@ -3,7 +3,7 @@ use Rattle.std.proofs.lemmas.Bool.{false≢true}
 use Rattle.ledger_model.specs.Loans.{loans}
 use Rattle.machine_model.specs.Messaging.Messages.{is_blocking_of, is_blocking_scalar}
 use Rattle.machine_model.specs.State.Changes.{replies}
-use Rattle.machine_model.specs.State.Servers.{serial_of}
+use Rattle.xk_base.specs.Sids.{serial_of}
 use Rattle.machine_model.specs.State.Threads.{answer_to, both_answers, passed}
 use Rattle.machine_model.specs.Messaging.ReturnCalls.{sender_gets}
 use Rattle.vm_memory.specs.Memory.{ledger}
