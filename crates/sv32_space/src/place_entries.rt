@@ -75,6 +75,7 @@ fn spelled(ram: &Ram, entry: Entry) -> EntryKind
     ensures kind { IsKind result }
     ensures entry { entry_of_kind (area ram.now) (Some result) ≡ Some entry }
 {
+    // For the prover: RAM starts at a page and ends below the console.
     let _frames = ram.frames();
     match entry {
         Entry::Free => EntryKind::Free,

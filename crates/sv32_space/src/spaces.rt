@@ -121,6 +121,7 @@ fn clear_tables(ram: &mut Ram, first: Frame)
     ensures others { (g : ℕ) → (g ≤ first.0) ⊎ (first.0 + 21 ≤ g) → pages ram.new g ≡ pages ram.old g }
     ensures area { area ram.new ≡ area ram.old }
 {
+    // For the prover: RAM starts at a page and ends below the console.
     let _frames = ram.frames();
     for f in first.0 + 1..first.0 + TABLE_FRAMES {
         clear_frame(ram, Frame(f));
@@ -134,6 +135,7 @@ fn root_entry(ram: &Ram, first: Frame, i: u32) -> u32
     requires entry { i < 1024 }
     ensures { result ≡ root_word (area ram.now) first.0 i (window_of_root_entry i) }
 {
+    // For the prover: RAM starts at a page and ends below the console.
     let _frames = ram.frames();
     match window_of(Vpn(i * 1024 + 1023)) {
         Some(window) => ram.ppn_of(table_in(first, window, i)) * 1024 + 1,

@@ -157,6 +157,7 @@ pub fn walk(ram: &Ram, root: Frame, va: u32, access: Access) -> Walked
     // .. and nowhere outside the windows
     ensures outside { (pid : ℕ) → IsMade ram.now pid → root_at pid ≡ root.0 → window_at (va / 4096) ≡ None → result ≡ PageFault }
 {
+    // For the prover: RAM starts at a page and ends below the console.
     let _frames = ram.frames();
     walk_tables(ram, root, va, access)
 }

@@ -191,14 +191,10 @@ impl Threads {
         requires { IsPid (process_count self.now) pid.0 }
         ensures { result ≡ live_threads pid (threads_of self.now) }
     {
-        let mut live = 0;
-        for k in 0..TID_LIMIT - 1 {
-            let above = Tid(k + 2);
-            if self.get(ThreadId { pid, tid: above }).is_some() {
-                live += 1;
-            }
-        }
-        live
+        let live = (0..TID_LIMIT - 1)
+            .filter(|k| !self.is_free(pid, *k))
+            .count();
+        live as u32
     }
 
     /// The id at the place in the order of (tid, pid).
