@@ -4,12 +4,11 @@ use Rattle.std.specs.Prelude.{if◌then◌else◌}
 use Rattle.std.specs.Option.{option_and_then, option_map}
 use Rattle.std.proofs.lemmas.Option.{none-some}
 use Rattle.machine_model.specs.State.Machine.{Machine}
-use Rattle.xk_base.specs.Sids.{serial_of}
-use Rattle.machine_model.specs.State.Servers.{has_sid, is_own, is_server_of, with_sid}
+use Rattle.xk_base.specs.Sids.{serial_with}
+use Rattle.machine_model.specs.State.Servers.{is_own, is_server_of, with_sid}
 use Rattle.msg_queue.specs.Seats.{Seat}
 use Rattle.server_table.specs.ServersOf.{servers_of}
-use Rattle.server_table.specs.ServerState.{Server as TableServer, has_sid as has_table_sid, is_of, with_sid as with_table_sid}
-use Rattle.xk_base.specs.Counting.{least_below}
+use Rattle.server_table.specs.ServerState.{Server as TableServer, is_of, with_sid as with_table_sid}
 use Rattle.xk_base.specs.declared.ids.Pid.{Pid}
 use Rattle.xk_base.specs.declared.ids.Serial.{Serial}
 use Rattle.xk_base.specs.declared.ids.Sid.{Sid}
@@ -17,9 +16,9 @@ use Rattle.xk_base.specs.declared.ids.ThreadId.{ThreadId}
 use Rattle.send_path.specs.Parts.{Tables, server_of, with_tables}
 use Rattle.send_path.specs.Seats.{own_serial}
 
-same_sid_test : (sid : Sid) (seats : List Seat) (o : Option TableServer) → has_sid sid (option_map (server_of seats) o) ≡ has_table_sid sid o
-same_sid_test sid seats None = refl
-same_sid_test sid seats (Some v) = refl
+same_sid_of : (seats : List Seat) (o : Option TableServer) → option_map (λ s. s.sid) (option_map (server_of seats) o) ≡ option_map (λ s. s.sid) o
+same_sid_of seats None = refl
+same_sid_of seats (Some v) = refl
 
 pub same_owner_test : (pid : Pid) (seats : List Seat) (o : Option TableServer) → is_server_of pid (option_map (server_of seats) o) ≡ is_of pid o
 same_owner_test pid seats None = refl
@@ -31,7 +30,7 @@ module _ (who : ThreadId) (parts : Tables) (m : Machine) (sid : Sid) where
 
   named : with_sid all sid ≡ with_table_sid sid (servers_of parts.servers)
   unfolding with_sid with_tables
-  named = ap (λ test. option_map serial_of (least_below (servers_of parts.servers).next test)) (λ i n. same_sid_test sid parts.queues ((servers_of parts.servers).live n) i)
+  named = ap (serial_with sid (servers_of parts.servers).next) (λ i n. same_sid_of parts.queues ((servers_of parts.servers).live n) i)
 
   owned : (serial : Serial) → is_own all (Some serial) ≡ is_of who.pid ((servers_of parts.servers).live serial.0)
   unfolding with_tables
