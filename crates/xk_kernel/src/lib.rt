@@ -21,6 +21,6 @@ pub use laws::{
 };
 pub use moments::{
     built_history_stays_matched, built_moments_stay_matched, history_is_a_run,
-    history_stays_matched, loans_have_their_spans, moments_follow_each_other,
-    moments_keep_the_cursor, moments_stay_matched, run_ends_in_the_last_state,
+    history_stays_matched, moments_follow_each_other, moments_keep_the_cursor,
+    moments_stay_matched, run_ends_in_the_last_state,
 };

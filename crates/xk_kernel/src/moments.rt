@@ -2,10 +2,8 @@
 
 ghost use Rattle.std.specs.Prelude.{ℕ, ◌≡◌, List, [], ◌++◌, length, if◌then◌else◌, IsTrue};
 ghost use Rattle.event_text.specs.declared.event.Event.{Event};
-ghost use Rattle.xk_base.specs.declared.ids.Number.{Number};
 ghost use Rattle.xk_base.specs.Circle.{is_thread_id};
 ghost use Rattle.machine_laws.specs.WithoutServers.{HasNoServers};
-ghost use Rattle.machine_model.specs.Runs.LoanSpan.{LoanSpan, SpansHold};
 ghost use Rattle.machine_model.specs.State.Machine.{Machine};
 ghost use Rattle.machine_model.specs.Runs.Matched.{Matched};
 ghost use Rattle.machine_model.specs.Runs.Moments.{IsRun, state_at};
@@ -63,10 +61,4 @@ pub fn built_moments_stay_matched()
 pub fn built_history_stays_matched()
     ensures { (events : List Event) (limit : ℕ) (start : Machine) → Matched start → HasNoServers start
         → AreBuilt start (moments_of events limit start) → Matched (history events limit start).machine }
-{}
-
-/// Where the loans of every run have their spans, every number of a history has its span.
-pub fn loans_have_their_spans()
-    ensures { SpansHold → (events : List Event) (limit : ℕ) (start : Machine) (number : Number) → Matched start
-        → LoanSpan start (moments_of events limit start) number }
 {}

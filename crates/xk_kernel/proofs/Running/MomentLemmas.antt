@@ -6,8 +6,6 @@ use Rattle.event_text.specs.declared.event.Event.{Event}
 use Rattle.event_text.specs.declared.event.Event.TheVariants.{Tick, Pick, Irq, Kill}
 use Rattle.xk_base.specs.Circle.{is_thread_id}
 use Rattle.machine_model.specs.Stepping.Events.{nothing}
-use Rattle.machine_model.specs.Runs.LoanSpan.{LoanSpan, SpansHold}
-use Rattle.xk_base.specs.declared.ids.Number.{Number}
 use Rattle.machine_model.specs.State.Machine.{Machine}
 use Rattle.machine_model.specs.Runs.Matched.{Matched}
 use Rattle.machine_model.specs.Runs.Moments.{Cause, ByStep, ByPick, ByIrq, ByKill, ByTurn, Moment, IsRun, caused, state_at}
@@ -183,7 +181,3 @@ pub moments_cursor : (events : List Event) (limit : ℕ) (start : Machine) → M
 moments_cursor events limit start h c i =
     let P : Machine → Type 0 = λ (m : Machine). Matched m × IsTrue (is_thread_id m.processes m.cursor) in
     (moments_keep P cursor_kept events limit start (h, c) i).1
-
-pub history_spans : SpansHold → (events : List Event) (limit : ℕ) (start : Machine) (number : Number) → Matched start
-    → LoanSpan start (moments_of events limit start) number
-history_spans spans events limit start number h = spans start (moments_of events limit start) number h (history_is_run events limit start)
