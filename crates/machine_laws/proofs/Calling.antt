@@ -1,13 +1,10 @@
 pub mod AnsweredCallLemmas
 pub mod CallStepLemmas
-pub mod DestroyCallLemmas
 pub mod HeapCallLemmas
 pub mod MadePageLemmas
 pub mod MapCallLemmas
 pub mod MemoryCallStepLemmas
 pub mod PageChangeLemmas
-pub mod ReturnCallLemmas
-pub mod ReturnMemoryLemmas
 pub mod RunRefusalLemmas
 pub mod ThreadCallLemmas
 pub mod ThreadCallStepLemmas

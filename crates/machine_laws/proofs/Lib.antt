@@ -1,7 +1,12 @@
 pub mod Calling
 pub mod Dying
 pub mod Executing
+pub mod Forwarding
 pub mod Interrupting
 pub mod Messaging
+pub mod Receiving
+pub mod Returning
+pub mod Sending
+pub mod Serving
 pub mod Stepping
 pub mod Threading

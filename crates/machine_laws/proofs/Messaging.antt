@@ -3,6 +3,8 @@ pub mod AnyServerLemmas
 pub mod ClosedServerLemmas
 pub mod FilterLemmas
 pub mod ListedLemmas
+pub mod OneServerLemmas
+pub mod PutThreadLemmas
 pub mod RemovalLemmas
 pub mod SenderlessLemmas
 pub mod WaitedForLemmas

@@ -1,3 +1,4 @@
+pub mod EveryStepLemmas
 pub mod PlainServerLemmas
 pub mod PlainStepLemmas
 pub mod StepCaseLemmas

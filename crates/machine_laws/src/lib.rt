@@ -5,11 +5,14 @@
 mod call_laws;
 mod change_laws;
 mod death_laws;
+mod held_laws;
 mod instruction_laws;
 mod irq_laws;
 mod memory_laws;
 mod message_laws;
 mod plain_laws;
+mod receive_laws;
+mod send_laws;
 mod server_laws;
 mod step_laws;
 mod thread_end_laws;
@@ -25,6 +28,9 @@ pub use death_laws::{
     death_keeps_matched, kill_keeps_matched, last_end_keeps_matched,
     terminate_process_keeps_matched, trap_keeps_matched,
 };
+pub use held_laws::{
+    forward_message_keeps_matched, return_scalar1_keeps_matched, return_scalar2_keeps_matched,
+};
 pub use instruction_laws::{
     execution_stays_aligned, instruction_keeps_matched, instruction_stores_one_page,
 };
@@ -37,8 +43,16 @@ pub use memory_laws::{
 };
 pub use message_laws::return_memory_keeps_matched;
 pub use plain_laws::{kill_leaves_no_servers, no_loans_without_servers, plain_step_keeps_matched};
-pub use server_laws::destroy_server_keeps_matched;
-pub use step_laws::{step_keeps_matched_by_cases, steps_keep_matched_where_calls_do};
+pub use receive_laws::{receive_message_keeps_matched, try_receive_message_keeps_matched};
+pub use send_laws::{send_message_keeps_matched, try_send_message_keeps_matched};
+pub use server_laws::{
+    connect_keeps_matched, create_server_keeps_matched, destroy_server_keeps_matched,
+    try_connect_keeps_matched,
+};
+pub use step_laws::{
+    all_keep_matched, calls_keep_matched, runs_stay_matched, step_keeps_matched,
+    step_keeps_matched_by_cases, steps_keep_matched_where_calls_do,
+};
 pub use thread_end_laws::{end_of_handler_keeps_matched, end_of_thread_keeps_matched};
 pub use thread_laws::{
     answered_call_keeps_matched, count_of_steps_keeps_matched, create_thread_keeps_matched,

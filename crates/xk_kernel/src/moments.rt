@@ -5,7 +5,7 @@ ghost use Rattle.event_text.specs.declared.event.Event.{Event};
 ghost use Rattle.xk_base.specs.declared.ids.Number.{Number};
 ghost use Rattle.xk_base.specs.Circle.{is_thread_id};
 ghost use Rattle.machine_laws.specs.WithoutServers.{HasNoServers};
-ghost use Rattle.machine_model.specs.Runs.Kept.{AllKeepCursor, AllKeepMatched};
+ghost use Rattle.machine_model.specs.Runs.Kept.{AllKeepCursor};
 ghost use Rattle.machine_model.specs.Runs.LoanSpan.{LoanSpan, SpansHold};
 ghost use Rattle.machine_model.specs.State.Machine.{Machine};
 ghost use Rattle.machine_model.specs.Runs.Matched.{Matched};
@@ -35,20 +35,20 @@ pub fn moments_follow_each_other()
         ≡ moments_of before limit m ++ (if (history before limit m).met then [] else moments_of after limit (history before limit m).machine) }
 {}
 
-/// Where all that leads from a state to the next keeps the machine matched, every moment of a history is matched.
+/// Every moment of a history from a matched state is matched.
 pub fn moments_stay_matched()
-    ensures { AllKeepMatched → (events : List Event) (limit : ℕ) (start : Machine) → Matched start
+    ensures { (events : List Event) (limit : ℕ) (start : Machine) → Matched start
         → (i : ℕ) → Matched (state_at start (moments_of events limit start) i) }
 {}
 
-/// Then its last state is matched.
+/// So is its last state.
 pub fn history_stays_matched()
-    ensures { AllKeepMatched → (events : List Event) (limit : ℕ) (start : Machine) → Matched start → Matched (history events limit start).machine }
+    ensures { (events : List Event) (limit : ℕ) (start : Machine) → Matched start → Matched (history events limit start).machine }
 {}
 
-/// Where it keeps the cursor too, the cursor is the id of a thread of the processes at every moment of a history.
+/// Where all that leads from a state to the next keeps the cursor, the cursor is the id of a thread of the processes at every moment of a history.
 pub fn moments_keep_the_cursor()
-    ensures { AllKeepMatched → AllKeepCursor → (events : List Event) (limit : ℕ) (start : Machine) → Matched start
+    ensures { AllKeepCursor → (events : List Event) (limit : ℕ) (start : Machine) → Matched start
         → IsTrue (is_thread_id start.processes start.cursor) → (i : ℕ)
         → IsTrue (is_thread_id (state_at start (moments_of events limit start) i).processes (state_at start (moments_of events limit start) i).cursor) }
 {}

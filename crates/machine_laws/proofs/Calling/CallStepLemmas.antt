@@ -33,7 +33,7 @@ step_kept m who words outcome h e q c k =
 -- ---- the calls on memory
 
 -- a call that keeps the machine matched keeps it so under its number
-of_call : (k : ℕ) (served : Call) → ((m : Machine) (w : List ℕ) → call_at k call_table m w ≡ served m w)
+pub of_call : (k : ℕ) (served : Call) → ((m : Machine) (w : List ℕ) → call_at k call_table m w ≡ served m w)
     → ((m : Machine) (w : List ℕ) → Matched m → ready_at m m.cursor ≡ true → Keeps m (served m w)) → KeepsNumber k
 of_call k served same keep m h ready w e = call_keeps m h ready w k e (λ none. subst (Keeps m) (sym (same m w)) (keep m w h ready))
 

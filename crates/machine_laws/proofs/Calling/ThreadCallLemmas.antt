@@ -1,8 +1,12 @@
 -- The calls on threads and on interrupts keep the machine matched, refused or served.
-use Rattle.std.proofs.Common.{◌≡◌, ℕ, ◌+◌, ◌≤◌, Bool, true, false, List, [], ◌∷◌, Option, Some, None, refl, sym, arith, subst}
+use Rattle.std.proofs.Common.{◌≡◌, ℕ, ◌+◌, ◌≤◌, Bool, true, false, List, [], ◌∷◌, Option, Some, None, refl, sym, ◌∙◌, arith, subst}
+use Rattle.std.specs.Prelude.{◌==◌, ◌&&◌, not}
+use Rattle.std.proofs.lemmas.Bool.{false≢true}
 use Rattle.std.proofs.lemmas.Option.{none-some}
 use Rattle.xk_base.specs.declared.errors.XousError.{XousError}
-use Rattle.xk_base.specs.CallWords.{call_number}
+use Rattle.xk_base.specs.declared.errors.XousError.TheVariants.{InvalidSyscall, UnhandledSyscall}
+use Rattle.xk_base.specs.CallNumbers.{is_call_number}
+use Rattle.xk_base.specs.CallWords.{call_number, is_refused_to_handler}
 use Rattle.xk_base.specs.Replies.{plain_words, thread_words, scalar1_words}
 use Rattle.machine_model.specs.Calling.Calls.{call, call_at, call_table, any_refusals}
 use Rattle.machine_model.specs.State.Changes.{Outcome, Served, answering, first_refusal, refused_or, unless_refused}
@@ -40,6 +44,18 @@ three_passed true b c x y z e = absurd (none-some x (sym e))
 three_passed false b c x y z e =
     let rest : (b ≡ false) × (c ≡ false) = two_passed b c y z e in
     (refl, rest.0, rest.1)
+
+-- tid 1 makes no call that can wait
+pub not_handler : (m : Machine) (w : List ℕ) → first_refusal (any_refusals m w) ≡ None → is_refused_to_handler w ≡ true
+    → (m.cursor.tid.0 == 1) ≡ false
+not_handler m w none refused =
+    let fit : (not (is_call_number (call_number w)) ≡ false) × ((m.cursor.tid.0 == 1 && is_refused_to_handler w) ≡ false) =
+    two_passed (not (is_call_number (call_number w))) (m.cursor.tid.0 == 1 && is_refused_to_handler w) UnhandledSyscall InvalidSyscall none in
+    go (m.cursor.tid.0 == 1) (is_refused_to_handler w) refused fit.1
+  where
+    go : (a b : Bool) → b ≡ true → (a && b) ≡ false → a ≡ false
+    go false b p q = refl
+    go true b p q = absurd (false≢true (sym q ∙ p))
 
 -- ---- served
 

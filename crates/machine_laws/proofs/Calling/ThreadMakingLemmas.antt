@@ -5,16 +5,15 @@ use Rattle.std.specs.Option.{option_map}
 use Rattle.std.proofs.lemmas.Bool.{false≢true, and_from, and_parts, or_parts}
 use Rattle.std.proofs.lemmas.Bool.Decides.{nat_tests}
 use Rattle.std.proofs.lemmas.Option.{none-some}
-use Rattle.xk_base.specs.declared.errors.XousError.TheVariants.{BadAlignment, ThreadNotAvailable, InvalidThread, UnhandledSyscall, InvalidSyscall}
+use Rattle.xk_base.specs.declared.errors.XousError.TheVariants.{BadAlignment, ThreadNotAvailable, InvalidThread}
 use Rattle.xk_base.specs.declared.ids.ThreadId.{ThreadId}
 use Rattle.xk_base.specs.declared.limits.TheConstants.{TID_LIMIT}
-use Rattle.xk_base.specs.CallNumbers.{is_call_number}
-use Rattle.xk_base.specs.CallWords.{call_number, is_refused_to_handler, thread_entry, thread_sp, thread_arguments, join_tid}
+use Rattle.xk_base.specs.CallWords.{call_number, thread_entry, thread_sp, thread_arguments, join_tid}
 use Rattle.xk_base.specs.Circle.{same_thread, is_pid, is_tid, is_thread_id}
 use Rattle.xk_base.specs.Counting.{put_at}
 use Rattle.xk_base.specs.Replies.{thread_words}
 use Rattle.xk_base.proofs.CountingLemmas.{least_below-bound, least_below-passes}
-use Rattle.machine_model.specs.Calling.Calls.{call, any_refusals}
+use Rattle.machine_model.specs.Calling.Calls.{call}
 use Rattle.machine_model.specs.State.Changes.{Served, call_settled, settled, answering, first_refusal}
 use Rattle.machine_model.specs.State.Machine.{Machine, Thread, ThreadState, Joining}
 use Rattle.machine_model.specs.Runs.Matched.{Matched, is_living}
@@ -26,7 +25,7 @@ use Rattle.machine_laws.proofs.Threading.ThreadMoveLemmas.{matched_moved}
 use Rattle.machine_laws.proofs.Threading.ThreadPutLemmas.{IsPut, IsFit, alike, waits_at, put_keeps}
 use Rattle.machine_laws.proofs.Threading.ThreadStepLemmas.{settles}
 use Rattle.machine_laws.proofs.Calling.AnsweredCallLemmas.{Keeps}
-use Rattle.machine_laws.proofs.Calling.ThreadCallLemmas.{answered_keeps, unless_refused_keeps, one_passed, two_passed, call_keeps}
+use Rattle.machine_laws.proofs.Calling.ThreadCallLemmas.{answered_keeps, call_keeps, not_handler, one_passed, two_passed, unless_refused_keeps}
 
 is_none-None : {A : Type 0} → (o : Option A) → is_none o ≡ true → o ≡ None
 is_none-None None e = refl
@@ -185,21 +184,10 @@ module _ (m : Machine) (h : Matched m) (ready : ready_at m m.cursor ≡ true) (w
       let low : nat_le 2 tid ≡ true = inner.0 in
       joined_keeps tid (grind (arith, nat_tests)) outer.1 parts.1 above
 
-  not_handler : call_number w ≡ 36 → first_refusal (any_refusals m w) ≡ None → (m.cursor.tid.0 == 1) ≡ false
-  not_handler e none =
-      let fit : (not (is_call_number (call_number w)) ≡ false) × ((m.cursor.tid.0 == 1 && is_refused_to_handler w) ≡ false) =
-      two_passed (not (is_call_number (call_number w))) (m.cursor.tid.0 == 1 && is_refused_to_handler w) UnhandledSyscall InvalidSyscall none in
-      let refused : is_refused_to_handler w ≡ true = rw e refl in
-      go (m.cursor.tid.0 == 1) (is_refused_to_handler w) refused fit.1
-    where
-      go : (a b : Bool) → b ≡ true → (a && b) ≡ false → a ≡ false
-      go false b p q = refl
-      go true b p q = absurd (false≢true (sym q ∙ p))
-
   join_keeps : (m.cursor.tid.0 == 1) ≡ false → Keeps m (join_call m w)
   unfolding join_call
   join_keeps above = unless_refused_keeps m h (join_refusals m (join_tid w)) (Served (join_served m (join_tid w)))
       (join_served_keeps (join_tid w) above)
 
   pub join_number_keeps : call_number w ≡ 36 → Keeps m (call m w)
-  join_number_keeps e = call_keeps m h ready w 36 e (λ none. join_keeps (not_handler e none))
+  join_number_keeps e = call_keeps m h ready w 36 e (λ none. join_keeps (not_handler m w none (rw e refl)))

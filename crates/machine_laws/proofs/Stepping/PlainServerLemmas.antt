@@ -24,7 +24,7 @@ use Rattle.machine_laws.specs.WithoutServers.{HasNoServers, is_plain_call, plain
 
 -- ---- plain calls
 
-in_list : (P : ℕ → Type 0) (k : ℕ) (xs : List ℕ) → AllByRecursion P xs → list_any (λ j. j == k) xs ≡ true → P k
+pub in_list : (P : ℕ → Type 0) (k : ℕ) (xs : List ℕ) → AllByRecursion P xs → list_any (λ j. j == k) xs ≡ true → P k
 in_list P k [] all e = absurd (false≢true e)
 in_list P k (x ∷ xs) all e = go (in_list P k xs all.1) (x == k) refl e
   where

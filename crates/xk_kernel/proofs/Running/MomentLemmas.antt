@@ -6,7 +6,7 @@ use Rattle.event_text.specs.declared.event.Event.{Event}
 use Rattle.event_text.specs.declared.event.Event.TheVariants.{Tick, Pick, Irq, Kill}
 use Rattle.xk_base.specs.Circle.{is_thread_id}
 use Rattle.machine_model.specs.Stepping.Events.{nothing}
-use Rattle.machine_model.specs.Runs.Kept.{AllKeepMatched, AllKeepCursor}
+use Rattle.machine_model.specs.Runs.Kept.{AllKeepCursor}
 use Rattle.machine_model.specs.Runs.LoanSpan.{LoanSpan, SpansHold}
 use Rattle.xk_base.specs.declared.ids.Number.{Number}
 use Rattle.machine_model.specs.State.Machine.{Machine}
@@ -16,6 +16,7 @@ use Rattle.machine_model.specs.State.Order.{actor, turn}
 use Rattle.machine_model.specs.Stepping.Step.{step}
 use Rattle.xk_kernel.specs.History.{reached, stopped, behind, go_on, followed_by, ticks, play, history}
 use Rattle.xk_kernel.specs.HistoryMoments.{moment_by, tick_moments, event_moments, moments_of}
+use Rattle.machine_laws.proofs.Stepping.EveryStepLemmas.{every_cause_keeps}
 
 -- ---- runs, and their last states
 
@@ -164,24 +165,24 @@ pub history_keeps : (P : Machine → Type 0) → ((cause : Cause) (m : Machine) 
 history_keeps P keep events limit start h =
     subst P (history_last events limit start) (moments_keep P keep events limit start h (length (moments_of events limit start)))
 
-pub moments_matched : AllKeepMatched → (events : List Event) (limit : ℕ) (start : Machine) → Matched start
+pub moments_matched : (events : List Event) (limit : ℕ) (start : Machine) → Matched start
     → (i : ℕ) → Matched (state_at start (moments_of events limit start) i)
-moments_matched keep events limit start h i = moments_keep Matched keep events limit start h i
+moments_matched events limit start h i = moments_keep Matched every_cause_keeps events limit start h i
 
-pub history_matched : AllKeepMatched → (events : List Event) (limit : ℕ) (start : Machine) → Matched start → Matched (history events limit start).machine
-history_matched keep events limit start h = history_keeps Matched keep events limit start h
+pub history_matched : (events : List Event) (limit : ℕ) (start : Machine) → Matched start → Matched (history events limit start).machine
+history_matched events limit start h = history_keeps Matched every_cause_keeps events limit start h
 
 -- the cursor, with the invariant on which it rests
-cursor_kept : AllKeepMatched → AllKeepCursor → (cause : Cause) (m : Machine) → Matched m × IsTrue (is_thread_id m.processes m.cursor)
+cursor_kept : AllKeepCursor → (cause : Cause) (m : Machine) → Matched m × IsTrue (is_thread_id m.processes m.cursor)
     → Matched (caused cause m) × IsTrue (is_thread_id (caused cause m).processes (caused cause m).cursor)
-cursor_kept keep stands cause m h = (keep cause m h.0, stands cause m h.0 h.1)
+cursor_kept stands cause m h = (every_cause_keeps cause m h.0, stands cause m h.0 h.1)
 
-pub moments_cursor : AllKeepMatched → AllKeepCursor → (events : List Event) (limit : ℕ) (start : Machine) → Matched start
+pub moments_cursor : AllKeepCursor → (events : List Event) (limit : ℕ) (start : Machine) → Matched start
     → IsTrue (is_thread_id start.processes start.cursor) → (i : ℕ)
     → IsTrue (is_thread_id (state_at start (moments_of events limit start) i).processes (state_at start (moments_of events limit start) i).cursor)
-moments_cursor keep stands events limit start h c i =
+moments_cursor stands events limit start h c i =
     let P : Machine → Type 0 = λ (m : Machine). Matched m × IsTrue (is_thread_id m.processes m.cursor) in
-    (moments_keep P (cursor_kept keep stands) events limit start (h, c) i).1
+    (moments_keep P (cursor_kept stands) events limit start (h, c) i).1
 
 pub history_spans : SpansHold → (events : List Event) (limit : ℕ) (start : Machine) (number : Number) → Matched start
     → LoanSpan start (moments_of events limit start) number

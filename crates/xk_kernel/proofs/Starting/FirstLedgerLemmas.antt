@@ -11,7 +11,7 @@ use Rattle.boot_plan.specs.Lawful.{CanStart}
 use Rattle.boot_plan.specs.declared.plans.BootPlan.{BootPlan}
 use Rattle.boot_plan.specs.declared.plans.PagePlan.{PagePlan}
 use Rattle.boot_plan.specs.declared.plans.ProcPlan.{ProcPlan}
-use Rattle.ledger_model.specs.Ledger.{Page, loan_of, pages}
+use Rattle.ledger_model.specs.Ledger.{Page, loan_of}
 use Rattle.vm_memory.specs.FirstLedger.{first_ledger, first_page, planned_page, process_of}
 use Rattle.vm_memory.specs.Starting.{IsUnlent}
 use Rattle.xk_base.specs.Circle.{is_pid}

@@ -58,7 +58,7 @@ module _ (m : Machine) (h : Matched m) (k : ℕ) (server : Server) (e : m.server
 
   -- ---- the message is the only one of its number
 
-  unique : (Q : Message → Bool) (n : ℕ) (other : Server) → m.servers n ≡ Some other
+  pub unique : (Q : Message → Bool) (n : ℕ) (other : Server) → m.servers n ≡ Some other
       → list_any (λ z. is_of_number x.number z && Q z) (messages_of other) ≡ true → Q x ≡ true
   unique Q n other f t = elim (same_or_not n k) [
     | inl same ↦

@@ -1,0 +1,4 @@
+pub mod ForwardCallLemmas
+pub mod ForwardedLedgerLemmas
+pub mod ForwardedListLemmas
+pub mod ForwardedMessageLemmas

@@ -1,0 +1,3 @@
+pub mod ReceiveStepLemmas
+pub mod ReceiveWaitLemmas
+pub mod ReceivedMessageLemmas

@@ -1,0 +1,5 @@
+pub mod GivenBackLemmas
+pub mod NoLoanLemmas
+pub mod ReturnCallLemmas
+pub mod ReturnMemoryLemmas
+pub mod ReturnScalarLemmas
