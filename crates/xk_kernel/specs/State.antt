@@ -1,10 +1,11 @@
 -- The machine that a kernel stands for: one definition over what its parts hold.
-use Rattle.std.specs.Prelude.{ℕ, false, [], Option, Some, None}
+use Rattle.std.specs.Prelude.{ℕ, false, List, map, Option, Some, None}
 use Rattle.std.specs.Option.{option_map, option_map_or}
 use Rattle.irq_claims.specs.ClaimsOf.{claims_of}
 use Rattle.irq_claims.specs.declared.claims.Claim.{Claim as TableClaim}
 use Rattle.machine_model.specs.Ending.Ends.{dead_process}
 use Rattle.machine_model.specs.State.Machine.{Machine, Thread, ThreadState, Process, Server, Claim, Reservation, Ready, Receiving, Waiting, Joining, Idle}
+use Rattle.msg_queue.specs.Seats.{Seat, message_of, seat_of}
 use Rattle.process_table.specs.ProcessesOf.{processes_of}
 use Rattle.process_table.specs.State.{ProcessState}
 use Rattle.server_table.specs.ServersOf.{servers_of}
@@ -34,9 +35,11 @@ abbrev pub process_of : Option ProcessState → Process
 process_of None = dead_process
 process_of (Some p) = record { alive = p.alive; heap = p.heap; connections = p.connections }
 
--- a server of the table. There are no messages yet
-abbrev pub server_of : TableServer → Server
-server_of s = record { sid = s.sid; pid = s.pid; queued = []; held = [] }
+-- a server of the table, with the messages of its seat
+abbrev pub server_of : List Seat → TableServer → Server
+server_of seats s =
+    let seat = seat_of seats s.seat in
+    record { sid = s.sid; pid = s.pid; queued = map message_of seat.queued; held = map message_of seat.held }
 
 abbrev pub claim_of : TableClaim → Claim
 claim_of c = record { pid = c.pid; handler = c.handler; argument = c.arg }
@@ -54,7 +57,7 @@ machine_of held k = record {
   cursor = k.cursor;
   threads = λ id. option_map thread_of (threads_of k.threads id);
   process = λ pid. process_of (processes_of k.procs pid);
-  servers = λ n. option_map server_of ((servers_of k.servers).live n);
+  servers = λ n. option_map (server_of k.queues) ((servers_of k.servers).live n);
   claims = λ n. option_map claim_of (claims_of k.claims n);
   pending = λ n. option_map_or (λ c. c.pending) (claims_of k.claims n) false;
   next_number = k.next;

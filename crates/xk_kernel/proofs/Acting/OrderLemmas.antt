@@ -122,6 +122,7 @@ cursor_whole slot_count held k d h valid = record {
   room = h.room;
   unlent = h.unlent;
   no_servers = h.no_servers;
+  no_messages = h.no_messages;
   unclaimed = h.unclaimed;
 }
 

@@ -36,7 +36,7 @@ step_is m who acts unarmed = ap (λ a. step_by_if a m) acts ∙ ap (stepped_to (
 -- a whole kernel has no servers
 pub without_servers : {W : Type 0} (slot_count : W → ℕ) (held : W → Held) (k : Kernel W) → IsWhole slot_count held k → HasNoServers (machine_of held k)
 unfolding machine_of
-without_servers slot_count held k whole n = ap (option_map server_of) (whole.no_servers n)
+without_servers slot_count held k whole n = ap (option_map (server_of k.queues)) (whole.no_servers n)
 
 module _ {W : Type 0} (slot_count : W → ℕ) (held : W → Held) (old new : Kernel W) (who : ThreadId) (acts : actor (machine_of held old) ≡ Some who) where
   module _ (address : Option ℕ) (kept : Option (ThreadId × ℕ)) (same : option_map as_reservation kept ≡ reservation_of who address) where
@@ -53,6 +53,7 @@ module _ {W : Type 0} (slot_count : W → ℕ) (held : W → Held) (old new : Ke
       room = h.room;
       unlent = h.unlent;
       no_servers = h.no_servers;
+      no_messages = h.no_messages;
       unclaimed = h.unclaimed;
     }
 

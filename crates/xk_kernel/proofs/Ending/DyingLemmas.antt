@@ -33,7 +33,7 @@ settled_death m none pid = ap settled (death_without_servers m none pid) ∙ set
 module _ {W : Type 0} (held : W → Held) where
   pub machine_has_no_server : (k : Kernel W) → ((n : ℕ) → (servers_of k.servers).live n ≡ None) → HasNoServer (machine_of held k)
   unfolding machine_of
-  machine_has_no_server k none = λ n. ap (option_map server_of) (none n)
+  machine_has_no_server k none = λ n. ap (option_map (server_of k.queues)) (none n)
 
   pub dies : (old new : Kernel W) (first last : LogState) (cause : What) (pid : Pid) → HasNoServer (machine_of held old)
       → first ≡ log_with (cause ∷ []) old.log → machine_of held new ≡ forgotten pid (machine_of held (record old { log = first })) → new.log ≡ first

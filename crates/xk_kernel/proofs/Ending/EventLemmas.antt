@@ -42,6 +42,7 @@ pushed_whole slot_count held k log whole e = record {
   room = subst (λ room. RECORD_LIMIT ≤ room) (sym e) whole.room;
   unlent = whole.unlent;
   no_servers = whole.no_servers;
+  no_messages = whole.no_messages;
   unclaimed = whole.unclaimed;
 }
 
@@ -55,6 +56,7 @@ unreserved_whole slot_count held k whole = record {
   room = whole.room;
   unlent = whole.unlent;
   no_servers = whole.no_servers;
+  no_messages = whole.no_messages;
   unclaimed = whole.unclaimed;
 }
 

@@ -131,7 +131,7 @@ returns-in-TerminateProcess-clause-outcome g c words asks =
       | else-self-eq1-via-then-self-eq1+else-can_wait w ↦ free_by_call (machine_of g.W.SwapStore.held c.args.self.now) words (sym (w.can_wait.ensures words asks) ∙ w.if-can_wait.false)
       | else-self-eq1-via-else-self-eq1 w ↦ free_by_tid (machine_of g.W.SwapStore.held c.args.self.now) words w.if-self-eq1.false
     ])
-    c.in-TerminateProcess.exit (λ n. ap (option_map server_of) (c.requires.whole.no_servers n)) (subst (Asks words) c.in-TerminateProcess.is asks)
+    c.in-TerminateProcess.exit (λ n. ap (option_map (server_of c.args.self.now.queues)) (c.requires.whole.no_servers n)) (subst (Asks words) c.in-TerminateProcess.is asks)
 
 pub returns-in-GetThreadId-clause-outcome : goal.returns-in-GetThreadId-clause-outcome
 unfolding machine_of
