@@ -3,7 +3,6 @@ pub mod HistoryMoments
 pub mod Interleaving
 pub mod Acting
 pub mod Built
-pub mod BuiltMoments
 pub mod Calling
 pub mod Running
 pub mod Sound

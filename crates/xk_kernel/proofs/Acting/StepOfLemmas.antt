@@ -3,6 +3,7 @@ use Rattle.std.proofs.Common.{◌≡◌, ℕ, ◌+◌, map, Option, Some, None, 
 use Rattle.std.specs.Prelude.{is_some}
 use Rattle.std.specs.Option.{option_map}
 use Rattle.machine_laws.specs.WithoutServers.{HasNoServers}
+use Rattle.machine_laws.proofs.Stepping.EveryStepLemmas.{every_step_keeps}
 use Rattle.machine_model.specs.State.Machine.{Machine}
 use Rattle.machine_model.specs.Runs.Matched.{Matched}
 use Rattle.machine_model.specs.State.Order.{actor}
@@ -19,7 +20,6 @@ use Rattle.xk_kernel.specs.Stepping.{Becomes, DoesStep}
 use Rattle.xk_kernel.specs.declared.kernel.Kernel.{Kernel}
 use Rattle.xk_kernel.specs.declared.kernel.Stepped.TheVariants.{Did, NotBuilt}
 use Rattle.xk_kernel.specs.declared.kernel.stepping.Acted.TheVariants.{Done, Unbuilt}
-use Rattle.xk_kernel.proofs.Acting.ActLemmas.{built_step_matched}
 
 -- what its actor did, counted, with the reservation that it leaves
 abbrev counted_by : ThreadId → Machine → Told
@@ -82,7 +82,7 @@ module _ {W : Type 0} (slot_count : W → ℕ) (held : W → Held) (old new : Ke
       whole = counting_whole whole;
       matched = λ _.
           subst Matched (sym (step_done h.1 h.2).machine)
-          (built_step_matched (machine_of held old) (sound.matched usable) (without_servers slot_count held old sound.whole) h.0);
+          (every_step_keeps (machine_of held old) (sound.matched usable));
     }
 
   pub did_not : Acts held old new who Unbuilt → DoesStep held old new NotBuilt

@@ -1,7 +1,7 @@
 -- What a pick and a kill do, and that a kernel stays sound.
 use Rattle.std.proofs.Common.{◌≡◌, ℕ, ◌≤◌, Bool, true, false, [], ◌∷◌, ◌++◌, map, Option, Some, None, refl, sym, ap, subst, ◌∙◌}
 use Rattle.std.specs.Prelude.{IsTrue}
-use Rattle.machine_laws.proofs.Stepping.PlainStepLemmas.{kill_leaves_no_servers}
+use Rattle.machine_laws.proofs.Dying.DeathLemmas.{kill_keeps}
 use Rattle.machine_model.proofs.DeathLemmas.{death_without_servers}
 use Rattle.machine_model.proofs.KeptLemmas.{pick_keeps}
 use Rattle.machine_model.specs.State.Changes.{Change, settled}
@@ -92,7 +92,7 @@ module _ {W : Type 0} (slot_count : W → ℕ) (held : W → Held) (old new : Ke
   pick_matched who = pick_keeps who (machine_of held old) left_matched
 
   pub kill_matched : (pid : Pid) → Matched (killed pid (machine_of held old)).machine
-  kill_matched pid = (kill_leaves_no_servers (machine_of held old) left_matched (without_servers slot_count held old sound.whole) pid).0
+  kill_matched pid = kill_keeps pid (machine_of held old) left_matched
 
   -- the log that is begun anew
   abbrev begun : LogState
