@@ -27,7 +27,7 @@ use Rattle.machine_laws.proofs.Messaging.ListedLemmas.{all_fail}
 
 -- ---- messages that are not from the process
 
-abbrev IsForeign : Pid → Message → Type 0
+abbrev pub IsForeign : Pid → Message → Type 0
 IsForeign pid x = is_sent_from pid x ≡ false
 
 not_both : (a b : Bool) → b ≡ false → (a && b) ≡ false
@@ -56,11 +56,9 @@ senders_stay pid [] all = refl
 senders_stay pid (x ∷ xs) all =
     λ i. sender_stays pid x (All-head (IsForeign pid) x xs all) i ∷ senders_stay pid xs (All-tail (IsForeign pid) x xs all) i
 
-module _ (m : Machine) (h : Matched m) (pid : Pid) (strange : (n : ℕ) (server : Server) → m.servers n ≡ Some server → (server.pid.0 == pid.0) ≡ false)
-    (unwaiting : (id : ThreadId) (number : Number) → (id.pid.0 == pid.0) ≡ true → waits_for m.threads id number ≡ false) where
-  foreign : (n : ℕ) (server : Server) → m.servers n ≡ Some server → All (IsForeign pid) (messages_of server)
-  foreign = unsent m h pid strange unwaiting
-
+-- where no server is one of the process and no message is from it
+module _ (m : Machine) (pid : Pid) (strange : (n : ℕ) (server : Server) → m.servers n ≡ Some server → (server.pid.0 == pid.0) ≡ false)
+    (foreign : (n : ℕ) (server : Server) → m.servers n ≡ Some server → All (IsForeign pid) (messages_of server)) where
   -- no server passes a test that fails at each
   none_passes : (test : ℕ → Server → Bool) → ((n : ℕ) (server : Server) → m.servers n ≡ Some server → test n server ≡ false) → any_server m test ≡ false
   unfolding any_server
@@ -123,9 +121,14 @@ module _ (m : Machine) (h : Matched m) (pid : Pid) (strange : (n : ℕ) (server 
         ap (λ held. record server { held = held }) (senders_stay pid server.held (all_right (IsForeign pid) server.queued server.held (foreign n server e)))) n i;
   }
 
-  pub lone_death : death pid m ≡ record (only (forgotten pid m)) { gone = Some pid }
+  pub foreign_death : death pid m ≡ record (only (forgotten pid m)) { gone = Some pid }
   unfolding death
-  lone_death =
+  foreign_death =
       (λ i. record (none_closes i) { machine = forgotten pid (senders_held_gone pid (senders_queued_gone pid (none_closes i).machine)); gone = Some pid })
       ∙ (λ i. record (only (forgotten pid (senders_held_gone pid (none_queued i)))) { gone = Some pid })
       ∙ (λ i. record (only (forgotten pid (none_held i))) { gone = Some pid })
+
+pub lone_death : (m : Machine) → Matched m → (pid : Pid) → ((n : ℕ) (server : Server) → m.servers n ≡ Some server → (server.pid.0 == pid.0) ≡ false)
+    → ((id : ThreadId) (number : Number) → (id.pid.0 == pid.0) ≡ true → waits_for m.threads id number ≡ false)
+    → death pid m ≡ record (only (forgotten pid m)) { gone = Some pid }
+lone_death m h pid strange unwaiting = foreign_death m pid strange (unsent m h pid strange unwaiting)
