@@ -1,5 +1,6 @@
 //! The kernel.
 
+mod alone;
 mod boot;
 mod calls;
 mod deaths;
