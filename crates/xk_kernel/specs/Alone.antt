@@ -1,11 +1,17 @@
 -- A process that stands alone: its death answers nobody, and changes no server, no message and no loan.
-use Rattle.std.specs.Prelude.{◌+◌, Bool, true, false, not, ◌&&◌, is_some, Option, Some, None}
+use Rattle.std.specs.Prelude.{◌≡◌, ◌+◌, Bool, true, false, not, ◌&&◌, is_some, Option, Some, None}
 use Rattle.xk_base.specs.Counting.{least_below}
 use Rattle.xk_base.specs.declared.ids.Pid.{Pid}
 use Rattle.xk_base.specs.declared.limits.TheConstants.{TID_LIMIT}
+use Rattle.machine_model.specs.Ending.Ends.{death, forgotten}
+use Rattle.machine_model.specs.State.Changes.{only}
 use Rattle.machine_model.specs.State.Machine.{Machine, Thread, ThreadState, Ready, Receiving, Waiting, Joining, Idle}
 use Rattle.machine_model.specs.State.Servers.{is_server_of}
 use Rattle.machine_model.specs.State.Threads.{thread_id}
+
+-- the death of the process is to be forgotten: nobody is answered, and nothing else changes
+abbrev pub DiesPlainly : Pid → Machine → Type 0
+DiesPlainly pid m = death pid m ≡ record (only (forgotten pid m)) { gone = Some pid }
 
 -- a live server is one of the process
 abbrev pub owns_server : Pid → Machine → Bool

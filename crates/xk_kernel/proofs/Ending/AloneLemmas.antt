@@ -13,9 +13,7 @@ use Rattle.xk_base.specs.declared.ids.ThreadId.{ThreadId}
 use Rattle.xk_base.specs.declared.limits.TheConstants.{TID_LIMIT}
 use Rattle.xk_base.proofs.CircleLemmas.{same_ids}
 use Rattle.xk_base.proofs.CountingLemmas.{least_below-none}
-use Rattle.machine_model.specs.Ending.Ends.{death, forgotten}
 use Rattle.machine_model.specs.Runs.Matched.{Matched, is_waiting_for, waits_for}
-use Rattle.machine_model.specs.State.Changes.{only}
 use Rattle.machine_model.specs.State.Machine.{Machine, Server, Thread, ThreadState, Ready, Receiving, Waiting, Joining, Idle}
 use Rattle.machine_model.specs.State.Servers.{is_server_of}
 use Rattle.machine_model.specs.State.Threads.{thread_id}
@@ -27,7 +25,7 @@ use Rattle.server_table.specs.ServerState.{Server as TableServer, is_of, least_o
 use Rattle.sv32_space.specs.Tie.{Held}
 use Rattle.thread_table.specs.declared.thread.ThreadState.{ThreadState as TableState}
 use Rattle.thread_table.specs.declared.thread.ThreadState.TheVariants as table
-use Rattle.xk_kernel.specs.Alone.{has_waiting, is_alone, is_waiting, is_waiting_state, owns_server}
+use Rattle.xk_kernel.specs.Alone.{DiesPlainly, has_waiting, is_alone, is_waiting, is_waiting_state, owns_server}
 use Rattle.xk_kernel.specs.State.{machine_of, server_of, state_of}
 use Rattle.xk_kernel.specs.declared.kernel.Kernel.{Kernel}
 
@@ -112,7 +110,7 @@ module _ (m : Machine) (h : Matched m) (pid : Pid) (alone : is_alone pid m ≡ t
       go None e = refl
       go (Some t) e = not_waiting_for number t.state (idle t e)
 
-  pub alone_death : death pid m ≡ record (only (forgotten pid m)) { gone = Some pid }
+  pub alone_death : DiesPlainly pid m
   alone_death = lone_death m h pid strange unwaiting
 
   pub alone_forgettable : IsForgettable m pid

@@ -11,7 +11,6 @@ use Rattle.machine_model.specs.State.Machine.{Machine}
 use Rattle.machine_model.specs.Stepping.Reservations.{unreserved}
 use Rattle.machine_model.specs.Runs.Matched.{Matched}
 use Rattle.machine_model.specs.Stepping.Step.{Recorded, record_of}
-use Rattle.machine_laws.specs.WithoutServers.{HasNoServers}
 use Rattle.process_table.specs.ProcessesOf.{processes_of}
 use Rattle.process_table.specs.ProcessMap.{is_alive}
 use Rattle.process_table.specs.State.{ProcessState}
@@ -23,6 +22,7 @@ use Rattle.xk_base.specs.declared.ids.Pid.{Pid}
 use Rattle.xk_base.specs.declared.ids.ThreadId.{ThreadId}
 use Rattle.xk_base.specs.declared.limits.TheConstants.{RECORD_LIMIT}
 use Rattle.xk_base.specs.declared.records.What.TheVariants.{Gone}
+use Rattle.xk_kernel.specs.Alone.{DiesPlainly}
 use Rattle.xk_kernel.specs.Sound.{IsSound, IsUsable, IsWhole}
 use Rattle.xk_kernel.specs.State.{machine_of, process_of}
 use Rattle.xk_kernel.specs.Stepping.{Becomes}
@@ -68,12 +68,12 @@ alive_of (Some p) = refl
 
 -- ---- a kill
 
-killed_is : (m : Machine) → HasNoServers m → (pid : Pid) → (m.process pid.0).alive ≡ true
+killed_is : (m : Machine) (pid : Pid) → DiesPlainly pid (unreserved m) → (m.process pid.0).alive ≡ true
     → killed pid m ≡ record { machine = forgotten pid (unreserved m); records = record_of m.steps (Gone pid) ∷ [] }
 unfolding killed settled forgotten
-killed_is m none pid alive =
+killed_is m pid plain alive =
     ap (λ b. killed_if b pid (unreserved m)) alive
-    ∙ ap (λ (change : Change). at_event m.steps (settled change)) (death_without_servers (unreserved m) none pid)
+    ∙ ap (λ (change : Change). at_event m.steps (settled change)) plain
     ∙ (λ i. record { machine = nobody_answered (forgotten pid (unreserved m)) i; records = map (record_of m.steps) (no_reply m.processes i ++ ([] ++ Gone pid ∷ [])) })
 
 spared : (m : Machine) (pid : Pid) → (m.process pid.0).alive ≡ false → killed pid m ≡ nothing (unreserved m)
@@ -122,7 +122,7 @@ module _ {W : Type 0} (slot_count : W → ℕ) (held : W → Held) (old new : Ke
   unfolding machine_of
   killed_done pid alive machine log =
       let is : killed pid (machine_of held old) ≡ record { machine = forgotten pid (unreserved (machine_of held old)); records = record_of old.steps (Gone pid) ∷ [] } =
-      killed_is (machine_of held old) (without_servers slot_count held old sound.whole) pid alive in
+      killed_is (machine_of held old) pid (death_without_servers (unreserved (machine_of held old)) (without_servers slot_count held old sound.whole) pid) alive in
       record {
         machine = machine ∙ sym (ap (λ (s : Recorded). s.machine) is);
         records = ap (λ (l : LogState). l.records) log ∙ sym (ap (λ (s : Recorded). s.records) is);
