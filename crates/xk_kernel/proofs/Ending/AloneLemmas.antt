@@ -13,20 +13,23 @@ use Rattle.xk_base.specs.declared.ids.ThreadId.{ThreadId}
 use Rattle.xk_base.specs.declared.limits.TheConstants.{TID_LIMIT}
 use Rattle.xk_base.proofs.CircleLemmas.{same_ids}
 use Rattle.xk_base.proofs.CountingLemmas.{least_below-none}
-use Rattle.machine_model.specs.Runs.Matched.{Matched, is_waiting_for, waits_for}
+use Rattle.machine_model.specs.Runs.Matched.{Matched, is_living, is_waiting_for, waits_for}
 use Rattle.machine_model.specs.State.Machine.{Machine, Server, Thread, ThreadState, Ready, Receiving, Waiting, Joining, Idle}
 use Rattle.machine_model.specs.State.Servers.{is_server_of}
 use Rattle.machine_model.specs.State.Threads.{thread_id}
 use Rattle.machine_laws.proofs.Dying.DeathForgetLemmas.{IsForgettable}
 use Rattle.machine_laws.proofs.Dying.DeathLoanLemmas.{plain_forgettable}
 use Rattle.machine_laws.proofs.Dying.LoneDeathLemmas.{lone_death}
+use Rattle.process_table.specs.ProcessMap.{is_alive}
+use Rattle.process_table.specs.ProcessesOf.{processes_of}
+use Rattle.process_table.specs.State.{ProcessState}
 use Rattle.server_table.specs.ServersOf.{servers_of}
 use Rattle.server_table.specs.ServerState.{Server as TableServer, is_of, least_of}
 use Rattle.sv32_space.specs.Tie.{Held}
 use Rattle.thread_table.specs.declared.thread.ThreadState.{ThreadState as TableState}
 use Rattle.thread_table.specs.declared.thread.ThreadState.TheVariants as table
 use Rattle.xk_kernel.specs.Alone.{DiesPlainly, has_waiting, is_alone, is_waiting, is_waiting_state, owns_server}
-use Rattle.xk_kernel.specs.State.{machine_of, server_of, state_of}
+use Rattle.xk_kernel.specs.State.{machine_of, process_of, server_of, state_of}
 use Rattle.xk_kernel.specs.declared.kernel.Kernel.{Kernel}
 
 -- ---- as the table of servers tells it
@@ -56,6 +59,16 @@ pub alone_told : {W : Type 0} (held : W → Held) (k : Kernel W) (pid : Pid) (o 
 alone_told held k pid o e waits w =
     let none : is_none o ≡ not (owns_server pid (machine_of held k)) = none_is o ∙ ap not (ap is_some e ∙ owner_told held k pid) in
     λ i. none i && not (w i)
+
+-- whether the process lives
+alive_of : (o : Option ProcessState) → (process_of o).alive ≡ is_alive o
+alive_of None = refl
+alive_of (Some p) = refl
+
+pub alive_told : {W : Type 0} (held : W → Held) (k : Kernel W) (pid : Pid) (b : Bool) → b ≡ is_alive (processes_of k.procs pid.0)
+    → is_living (machine_of held k) pid ≡ b
+unfolding machine_of
+alive_told held k pid b e = alive_of (processes_of k.procs pid.0) ∙ sym e
 
 -- a thread of the table that waits for no answer
 pub unwaiting_told : (s : TableState) → ((number : Number) → s ≡ table.Waiting number → ⊥) → is_waiting_state (state_of s) ≡ false
