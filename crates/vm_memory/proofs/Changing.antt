@@ -5,8 +5,8 @@ pub mod ConsoleRunLemmas
 pub mod ConsoleStepLemmas
 pub mod CountLemmas
 pub mod ForgettingLemmas
-pub mod FreeRunLemmas
 pub mod HereLemmas
+pub mod LoanCallLemmas
 pub mod LoopLemmas
 pub mod OnePlaceLemmas
 pub mod PageStepLemmas

@@ -3,10 +3,12 @@ pub mod Changing
 pub mod FirstLedger
 pub mod Here
 pub mod Lending
+pub mod Loans
 pub mod Making
 pub mod Memory
 pub mod Removing
 pub mod RunTests
+pub mod Sending
 pub mod Sound
 pub mod Starting
 pub mod Tie

@@ -3,6 +3,7 @@
 mod access;
 mod boot;
 mod changes;
+mod lending;
 mod making;
 mod pages;
 mod readers;

@@ -15,11 +15,12 @@ use Rattle.machine_model.specs.Calling.ServerCalls.{named_sid, own_server_refusa
 use Rattle.machine_model.specs.Messaging.Messages.{is_answered, oldest, with_received, without_oldest}
 use Rattle.machine_model.specs.Messaging.ReceiveCalls.{oldest_queued, receive_call, receive_served, received, try_receive_call, try_receive_served, waits_at}
 use Rattle.machine_model.specs.Runs.Matched.{Matched}
-use Rattle.machine_model.specs.State.Changes.{Change, Served, answering, first_refusal}
+use Rattle.machine_model.specs.State.Changes.{Change, Served, answering, first_refusal, unless_refused}
 use Rattle.machine_model.specs.State.Machine.{Machine, Server}
 use Rattle.machine_model.specs.State.Order.{ready_at}
 use Rattle.machine_model.specs.State.Servers.{change_server, is_own, is_server_of, serial_of, with_sid}
 use Rattle.machine_model.specs.State.Threads.{answer_to}
+use Rattle.xk_base.specs.declared.ids.Sid.{Sid}
 use Rattle.machine_laws.proofs.Calling.AnsweredCallLemmas.{Keeps}
 use Rattle.machine_laws.proofs.Calling.RunRefusalLemmas.{not_false}
 use Rattle.machine_laws.proofs.Calling.ThreadCallLemmas.{answered_keeps, call_keeps, not_handler, one_passed, unless_refused_keeps}
@@ -90,24 +91,31 @@ module _ (m : Machine) (h : Matched m) (ready : ready_at m m.cursor ≡ true) wh
       let own : IsOwnServer m serial = own_server m serial q in
       received_keeps serial (otherwise serial) own (without serial own)
 
-  module _ (w : List ℕ) where
-    is_callers : first_refusal (own_server_refusals m (named_sid w)) ≡ None → is_own m (with_sid m (named_sid w)) ≡ true
-    is_callers none =
-        not_false (is_own m (with_sid m (named_sid w))) (one_passed (not (is_own m (with_sid m (named_sid w)))) ServerNotFound none)
+  -- by the identifier that they name
+  module _ (sid : Sid) where
+    is_callers : first_refusal (own_server_refusals m sid) ≡ None → is_own m (with_sid m sid) ≡ true
+    is_callers none = not_false (is_own m (with_sid m sid)) (one_passed (not (is_own m (with_sid m sid))) ServerNotFound none)
 
+    pub receive_named_keeps : (m.cursor.tid.0 == 1) ≡ false → Keeps m (unless_refused (own_server_refusals m sid) (Served (receive_served m sid)))
+    receive_named_keeps above =
+        unless_refused_keeps m h (own_server_refusals m sid) (Served (receive_served m sid)) (λ none.
+        served_keeps (λ serial. waits_at serial m) (with_sid m sid) (is_callers none) (λ serial own empty.
+        wait_keeps m h ready serial above (record { server = own.server; live = own.live; own = own.own; empty = empty })))
+
+    pub try_receive_named_keeps : Keeps m (unless_refused (own_server_refusals m sid) (Served (try_receive_served m sid)))
+    try_receive_named_keeps =
+        unless_refused_keeps m h (own_server_refusals m sid) (Served (try_receive_served m sid)) (λ none.
+        served_keeps (λ serial. answering (answer_to m.cursor plain_words) m) (with_sid m sid) (is_callers none) (λ serial own empty.
+        answered_keeps m m plain_words h ready (omega arith)))
+
+  module _ (w : List ℕ) where
     receive_keeps : (m.cursor.tid.0 == 1) ≡ false → Keeps m (receive_call m w)
     unfolding receive_call
-    receive_keeps above =
-        unless_refused_keeps m h (own_server_refusals m (named_sid w)) (Served (receive_served m (named_sid w))) (λ none.
-        served_keeps (λ serial. waits_at serial m) (with_sid m (named_sid w)) (is_callers none) (λ serial own empty.
-        wait_keeps m h ready serial above (record { server = own.server; live = own.live; own = own.own; empty = empty })))
+    receive_keeps above = receive_named_keeps (named_sid w) above
 
     try_receive_keeps : Keeps m (try_receive_call m w)
     unfolding try_receive_call
-    try_receive_keeps =
-        unless_refused_keeps m h (own_server_refusals m (named_sid w)) (Served (try_receive_served m (named_sid w))) (λ none.
-        served_keeps (λ serial. answering (answer_to m.cursor plain_words) m) (with_sid m (named_sid w)) (is_callers none) (λ serial own empty.
-        answered_keeps m m plain_words h ready (omega arith)))
+    try_receive_keeps = try_receive_named_keeps (named_sid w)
 
     receive_number_keeps : call_number w ≡ 15 → Keeps m (call m w)
     receive_number_keeps e = call_keeps m h ready w 15 e (λ none. receive_keeps (not_handler m w none (rw e refl)))

@@ -35,7 +35,7 @@ loan_ends m number k server e j d low passes =
     named = eqb-true (get_or server.held j d).number.0 number.0 (lend_number number (get_or server.held j d) passes)
 
 module _ (m : Machine) (h : Matched m) (ready : ready_at m m.cursor ≡ true) (w : List ℕ) where
-  return_keeps : Keeps m (return_memory_call m w)
+  pub return_keeps : Keeps m (return_memory_call m w)
   unfolding return_memory_call
   return_keeps =
       unless_refused_keeps m h (return_memory_refusals m (named_number w) (return_address w) (return_size w))

@@ -41,7 +41,7 @@ no_loan_of_scalar m h number k server e j d low passes =
 
 module _ (m : Machine) (w : List ℕ) (h : Matched m) (ready : ready_at m m.cursor ≡ true) where
   -- with whatever words
-  scalar_keeps : (words : List ℕ)
+  pub scalar_keeps : (words : List ℕ)
       → Keeps m (unless_refused (return_scalar_refusals m (named_number w)) (Served (return_scalar_served m (named_number w) words)))
   scalar_keeps words =
       unless_refused_keeps m h (return_scalar_refusals m (named_number w)) (Served (return_scalar_served m (named_number w) words))

@@ -139,7 +139,7 @@ module _ (m : Machine) (h : Matched m) (ready : ready_at m m.cursor ≡ true) (w
       at : server_at m (send_cid w) ≡ Some s.1
       at = ap (λ o. option_and_then (λ (serial : Serial). m.servers serial.0) o) s.2 ∙ s.3
 
-  abbrev MayWait : Type 0
+  abbrev pub MayWait : Type 0
   MayWait = (kind : MsgKind) → named_kind w ≡ Some kind → is_answered kind ≡ true → (m.cursor.tid.0 == 1) ≡ false
 
   sent_to_keeps : (rest : List (Bool × XousError)) → first_refusal (send_refusals m w ++ rest) ≡ None → is_full_for m w ≡ false → MayWait
@@ -156,7 +156,7 @@ module _ (m : Machine) (h : Matched m) (ready : ready_at m m.cursor ≡ true) (w
 
   -- ---- the calls
 
-  send_keeps : MayWait → Keeps m (send_call m w)
+  pub send_keeps : MayWait → Keeps m (send_call m w)
   unfolding send_call
   send_keeps above =
       unless_refused_keeps m h (send_refusals m w) (unless_retried (is_full_for m w) (sent_to m w (arrival m w))) (λ none.
@@ -167,7 +167,7 @@ module _ (m : Machine) (h : Matched m) (ready : ready_at m m.cursor ≡ true) (w
       go true full none = retried_keeps m h
       go false full none = sent_to_keeps [] none full above
 
-  try_send_keeps : MayWait → Keeps m (try_send_call m w)
+  pub try_send_keeps : MayWait → Keeps m (try_send_call m w)
   unfolding try_send_call
   try_send_keeps above =
       unless_refused_keeps m h (send_refusals m w ++ (is_full_for m w, ServerQueueFull) ∷ []) (sent_to m w (arrival m w)) (λ none.

@@ -24,6 +24,8 @@ impl<W: SwapStore> Memory<W> {
     // Where n pages of a process go: at the named page, or at the least free run.
     fn find_run(&self, pid: Pid, window: Window, at: Option<Vpn>, n: u32) -> Result<Vpn, XousError>
         requires sound { IsSound W.slot_count self.now }
+        requires usable { IsUsable self.now }
+        requires process { is_pid (processes self.now) pid.0 ≡ true }
         requires some { 1 ≤ n }
         ensures { result ≡ run_place (processes self.now) (ledger W.held self.now) pid window at n }
     {
@@ -42,6 +44,8 @@ impl<W: SwapStore> Memory<W> {
     // .. and the capacity must hold.
     fn find_room(&self, pid: Pid, window: Window, at: Option<Vpn>, n: u32) -> Result<Vpn, XousError>
         requires sound { IsSound W.slot_count self.now }
+        requires usable { IsUsable self.now }
+        requires process { is_pid (processes self.now) pid.0 ≡ true }
         requires some { 1 ≤ n }
         ensures { result ≡ make_answer (processes self.now) (capacity_of self.now) (ledger W.held self.now) pid window at n }
     {

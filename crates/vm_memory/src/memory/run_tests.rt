@@ -1,8 +1,7 @@
-//! What is asked of the places of a run, and the least free run.
+//! What is asked of the places of a run.
 
-ghost use Rattle.std.specs.Prelude.{◌≡◌, ℕ, ◌≤◌, true, false};
+ghost use Rattle.std.specs.Prelude.{◌≡◌, ℕ, true, false};
 ghost use Rattle.ledger_model.specs.Conditions.{is_within};
-ghost use Rattle.ledger_model.specs.LeastRun.{least_run};
 ghost use Rattle.ledger_model.specs.Places.{place_after};
 ghost use Rattle.ledger_model.specs.RunTests.{console_mapped, fits_window};
 ghost use Rattle.vm_memory.specs.Here.{here_at};
@@ -183,25 +182,5 @@ impl<W: SwapStore> Memory<W> {
             }
         }
         false
-    }
-
-    /// The least first page of a run of n free places in a window of the process, or `None` where no
-    /// run is free. It takes time by the pages of the window.
-    pub fn free_run(&self, pid: Pid, window: Window, n: u32) -> Option<Vpn>
-        requires sound { IsSound W.slot_count self.now }
-        requires some { 1 ≤ n }
-        ensures { result ≡ least_run (processes self.now) (ledger W.held self.now) pid window n }
-    {
-        let first = window.first();
-        let base = Place { pid, vpn: first };
-        let mut start = 0;
-        for k in 0..window.last().0 + 1 - first.0 {
-            if !is_nothing(self.here_above(base, k)) {
-                start = k + 1;
-            } else if k + 1 - start == n {
-                return Some(Vpn(first.0 + start));
-            }
-        }
-        None
     }
 }

@@ -1,0 +1,11 @@
+pub mod HeldListLemmas
+pub mod HolderLemmas
+pub mod MachineLemmas
+pub mod ReceiveLemmas
+pub mod ReplyLemmas
+pub mod ReturnLemmas
+pub mod RowLemmas
+pub mod SeatLemmas
+pub mod SeatSearchLemmas
+pub mod SoundLemmas
+pub mod ThreadLemmas

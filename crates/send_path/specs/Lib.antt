@@ -1,0 +1,5 @@
+pub mod Parts
+pub mod Rows
+pub mod Seats
+pub mod Sound
+pub mod Threads

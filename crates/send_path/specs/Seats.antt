@@ -1,0 +1,65 @@
+-- The messages of a server's seat, each with its loan.
+use Rattle.std.specs.Prelude.{◌≡◌, ◌≢◌, ℕ, List, [], ◌∷◌, ◌++◌, is_some, Option, Some, None, if◌then◌else◌}
+use Rattle.std.specs.Option.{option_and_then, option_map}
+use Rattle.machine_model.specs.Messaging.Messages.{is_answered, is_lend}
+use Rattle.msg_queue.specs.Seats.{Seat, message_of, of_number, seat_of}
+use Rattle.msg_queue.specs.declared.held.Held.{Held}
+use Rattle.server_table.specs.ServerState.{Server, ServerState, at_seat, is_of, with_sid}
+use Rattle.server_table.specs.declared.table.ServerSeat.{ServerSeat}
+use Rattle.xk_base.specs.declared.ids.Number.{Number}
+use Rattle.xk_base.specs.declared.ids.Pid.{Pid}
+use Rattle.xk_base.specs.declared.ids.Serial.{Serial}
+use Rattle.xk_base.specs.declared.ids.Sid.{Sid}
+use Rattle.xk_base.specs.declared.messages.Message.{Message}
+use Rattle.send_path.specs.declared.holding.HeldAt.{HeldAt}
+
+-- all messages of a seat
+abbrev pub messages_at : Seat → List Held
+messages_at seat = seat.queued ++ seat.held
+
+-- the message has a loan exactly where it is a lend or mutable lend
+abbrev pub HasLoanIfLend : Held → Type 0
+HasLoanIfLend h = is_some h.loan ≡ is_lend h.msg.kind
+
+-- a thread received the message: one that is to be answered is held, any other leaves the seat
+abbrev pub with_received : Held → Seat → Seat
+with_received h seat = record seat { held = if is_answered h.msg.kind then seat.held ++ h ∷ [] else seat.held }
+
+-- the live server of that serial has this seat
+pub record IsSeatOf (servers : ServerState) (serial seat : ℕ) : Type 0 where
+  pub server : Server
+  pub live : servers.live serial ≡ Some server
+  pub its : server.seat ≡ seat
+
+-- the live server with that identifier, where it is one of the process
+abbrev pub own_serial : Pid → Sid → ServerState → Option Serial
+own_serial pid sid servers =
+    option_and_then (λ serial. if is_of pid (servers.live serial.0) then Some serial else None) (with_sid sid servers)
+
+-- no live server has the seat
+abbrev pub HasNoServer : ServerState → ℕ → Type 0
+HasNoServer servers seat = (serial : ℕ) (server : Server) → servers.live serial ≡ Some server → server.seat ≢ seat
+
+-- the message of that number that the server at a seat holds, as the server shows it
+abbrev pub held_shown : Number → Seat → Option Message
+held_shown number seat = option_map message_of (of_number number seat.held)
+
+-- a server of the process holds the message of that number at this seat
+pub record IsHeldAt (pid : Pid) (number : Number) (servers : ServerState) (seats : List Seat) (at : HeldAt) : Type 0 where
+  pub seat : IsSeatOf servers at.serial.0 at.seat
+  pub own : seat.server.pid.0 ≡ pid.0
+  pub message : held_shown number (seat_of seats at.seat) ≡ Some at.message
+
+-- no server of the process does at this seat
+abbrev pub IsNotHeldAt : Pid → Number → ServerState → List Seat → ℕ → Type 0
+IsNotHeldAt pid number servers seats seat =
+    (e : ServerSeat) → at_seat seat servers ≡ Some e → e.pid.0 ≡ pid.0 → of_number number (seat_of seats seat).held ≡ None
+
+-- what is found at this seat, and what a search of all seats finds
+abbrev pub IsHolderAt : Pid → Number → ServerState → List Seat → ℕ → Option HeldAt → Type 0
+IsHolderAt pid number servers seats seat None = IsNotHeldAt pid number servers seats seat
+IsHolderAt pid number servers seats seat (Some at) = IsHeldAt pid number servers seats at
+
+abbrev pub IsHolder : Pid → Number → ServerState → List Seat → Option HeldAt → Type 0
+IsHolder pid number servers seats None = (seat : ℕ) → IsNotHeldAt pid number servers seats seat
+IsHolder pid number servers seats (Some at) = IsHeldAt pid number servers seats at

@@ -1,0 +1,83 @@
+-- The soundness of the parts, which each call needs of those that it takes, and keeps.
+use Rattle.std.specs.Prelude.{◌≡◌, ℕ, ◌<◌, Bool, true, All, List, length, Option, Some, None}
+use Rattle.ledger_model.specs.Loans.{LoanRun, Loans, Stands, loans}
+use Rattle.machine_model.specs.Messaging.Messages.{loan_kind}
+use Rattle.machine_model.specs.Runs.Matched.{Matched}
+use Rattle.machine_model.specs.State.Machine.{Machine}
+use Rattle.msg_queue.specs.Seats.{Seat, empty_seat, seat_of}
+use Rattle.server_table.specs.ServersOf.{servers_of}
+use Rattle.server_table.specs.ServerState.{Server, ServerState}
+use Rattle.sv32_space.specs.Tie.{Held}
+use Rattle.thread_table.specs.ThreadsOf.{process_count}
+use Rattle.vm_memory.specs.Bytes.{MeansBytes, none_out}
+use Rattle.vm_memory.specs.Memory.{has_failed, ledger, processes, size, store_of}
+use Rattle.vm_memory.specs.Sound.{IsSound as IsMemorySound}
+use Rattle.vm_memory.specs.declared.memory.Memory.{Memory}
+use Rattle.xk_base.specs.declared.ids.Pid.{Pid}
+use Rattle.xk_base.specs.declared.ids.Place.{Place}
+use Rattle.xk_base.specs.declared.ids.ThreadId.{ThreadId}
+use Rattle.xk_base.specs.declared.limits.TheConstants.{SERVER_LIMIT}
+use Rattle.xk_base.specs.declared.messages.Message.{Message}
+use Rattle.send_path.specs.Parts.{Parts, Tables, with_parts, with_tables}
+use Rattle.send_path.specs.Seats.{HasLoanIfLend, HasNoServer, messages_at}
+
+-- of the seats
+pub record AreSeatsSound (servers : ServerState) (seats : List Seat) : Type 0 where
+  pub all : length seats ≡ SERVER_LIMIT
+  -- a seat without a live server is empty
+  pub empty : (seat : ℕ) → seat < SERVER_LIMIT → HasNoServer servers seat → seat_of seats seat ≡ empty_seat
+  -- a message has a loan exactly where it is a lend or mutable lend
+  pub loans : (seat : ℕ) → All HasLoanIfLend (messages_at (seat_of seats seat))
+
+-- Of the parts that a call which moves no page takes. They are those of a matched machine: what the invariant says of threads,
+-- servers and messages holds of them.
+pub record AreTablesSound (who : ThreadId) (parts : Tables) : Type 0 where
+  pub machine : Machine
+  pub matched : Matched (with_tables who parts machine)
+  pub seats : AreSeatsSound (servers_of parts.servers) parts.queues
+
+-- ---- with the memory
+
+-- the thread's place, or none for none
+abbrev pub IsLenderOf : Option ThreadId → Option Place → Type 0
+IsLenderOf None lender = lender ≡ None
+IsLenderOf (Some sender) lender = (from : Place) × (lender ≡ Some from) × (from.pid ≡ sender.pid)
+
+-- The loan of a message is one to the server of this process that stands. It has the message's number, kind, first place and
+-- count. Its lender is in the sender's process, and there is none where the message has no sender.
+pub record IsLoanOf (all : Loans) (pid : Pid) (message : Message) (run : LoanRun) : Type 0 where
+  pub stands : Stands all run
+  pub number : run.number ≡ message.number
+  pub kind : loan_kind message.kind ≡ Some run.kind
+  pub first : run.holder ≡ record { pid = pid; vpn = message.first }
+  pub count : run.count ≡ message.count
+  pub lender : IsLenderOf message.sender run.lender
+
+-- each loan at a seat is that of its message
+abbrev pub AreLoansAt : Loans → Pid → Seat → Type 0
+AreLoansAt all pid seat = All (λ h. (run : LoanRun) → h.loan ≡ Some run → IsLoanOf all pid h.msg run) (messages_at seat)
+
+-- .. at the seat of every live server
+abbrev pub AreLoansSound : Loans → ServerState → List Seat → Type 0
+AreLoansSound all servers seats =
+    (serial : ℕ) (server : Server) → servers.live serial ≡ Some server → AreLoansAt all server.pid (seat_of seats server.seat)
+
+-- the parts that a call which ends or makes a loan takes
+pub record IsSound {W : Type 0} (slot_count : W → ℕ) (held : W → Held) (who : ThreadId) (parts : Parts W) : Type 0 where
+  -- they are those of a matched machine
+  pub machine : Machine
+  pub matched : Matched (with_parts held who parts machine)
+  -- the memory is sound, and was made for as many processes as the threads were
+  pub mem : IsMemorySound slot_count parts.mem
+  pub processes : process_count parts.tables.threads ≡ processes parts.mem
+  pub seats : AreSeatsSound (servers_of parts.tables.servers) parts.tables.queues
+  pub loans : AreLoansSound (loans (ledger held parts.mem)) (servers_of parts.tables.servers) parts.tables.queues
+
+-- What a call keeps of the memory, however it ends: how large it is, its store, and whether a call has failed. No page goes out, and
+-- its bytes mean something where they did.
+pub record KeepsMemory {W : Type 0} (honest : W → Bool) (held : W → Held) (old new : Memory W) : Type 0 where
+  pub size : size new ≡ size old
+  pub store : store_of new ≡ store_of old
+  pub failed : has_failed new ≡ has_failed old
+  pub none : none_out old ≡ true → none_out new ≡ true
+  pub means : MeansBytes honest held old → MeansBytes honest held new

@@ -1,0 +1,51 @@
+//! ReceiveMessage and TryReceiveMessage.
+
+ghost use Rattle.std.specs.Prelude.{◌≡◌, ◌+◌, ◌≤◌, ◌==◌, ◌&&◌, length, true, IsFalse};
+ghost use Rattle.thread_table.specs.ThreadMap.{is_ready};
+ghost use Rattle.thread_table.specs.ThreadsOf.{threads_of};
+ghost use Rattle.send_path.specs.Rows.{IsTableRow, receive_row};
+ghost use Rattle.send_path.specs.Sound.{AreTablesSound};
+
+use crate::seats::{Seated, keep_received, own_server};
+use crate::threads::{answer_caller, pass, wait};
+use msg_queue::Queues;
+use server_table::Servers;
+use syscall_codec::{Reply, reply_words};
+use thread_table::{ThreadState, Threads};
+use xk_base::{Log, Sid, ThreadId, What, XousError};
+
+/// A thread asks for a message of the server with that identifier, which is one of its process: it
+/// gets the oldest queued message. Where none is queued it waits for one, if it wants to wait, and
+/// else is answered that there is none. It is refused as `ServerNotFound` where there is no such
+/// server, and then nothing changes. Tid 1 may not wait: where it does the parts aren't those of a matched
+/// machine any more.
+pub fn receive(
+    threads: &mut Threads,
+    servers: &Servers,
+    queues: &mut Queues,
+    log: &mut Log,
+    who: ThreadId,
+    sid: Sid,
+    wait_for_one: bool,
+) -> Result<(), XousError>
+    requires ready { is_ready (threads_of threads.old who) ≡ true }
+    requires room { length log.old.records + 2 ≤ log.old.room }
+    requires sound { AreTablesSound who (record { threads = threads.old; servers = servers.now; queues = queues.old; log = log.old }) }
+    ensures row { IsTableRow (receive_row sid wait_for_one) who (record { threads = threads.old; servers = servers.now; queues = queues.old; log = log.old }) (record { threads = threads.new; servers = servers.now; queues = queues.new; log = log.new }) result }
+    ensures sound { IsFalse (wait_for_one && (who.tid.0 == 1)) → AreTablesSound who (record { threads = threads.new; servers = servers.now; queues = queues.new; log = log.new }) }
+{
+    let Some(Seated { serial, seat }) = own_server(servers, who.pid, sid) else {
+        return Err(XousError::ServerNotFound);
+    };
+    if let Some(message) = queues.take_oldest(seat) {
+        let words = reply_words(&Reply::Got(message.msg));
+        keep_received(queues, seat, message);
+        answer_caller(threads, log, who, words);
+    } else if wait_for_one {
+        wait(threads, who, ThreadState::Receiving(serial));
+        pass(threads, who);
+    } else {
+        answer_caller(threads, log, who, reply_words(&Reply::Plain));
+    }
+    Ok(())
+}

@@ -1,0 +1,173 @@
+//! ReturnMemory, ReturnScalar1 and ReturnScalar2.
+
+ghost use Rattle.std.specs.Prelude.{◌≡◌, ◌+◌, ◌≤◌, ◌==◌, ◌||◌, length, true};
+ghost use Rattle.syscall_codec.specs.Replies.{words_of};
+ghost use Rattle.thread_table.specs.ThreadMap.{is_ready};
+ghost use Rattle.thread_table.specs.ThreadsOf.{threads_of};
+ghost use Rattle.xk_base.specs.CallNumbers.{return_memory as memory_number, return_scalar1 as scalar1_number, return_scalar2 as scalar2_number};
+ghost use Rattle.xk_base.specs.CallWords.{call_number};
+ghost use Rattle.send_path.specs.Rows.{IsRow, memory_row, scalar_row, table_row};
+ghost use Rattle.send_path.specs.Sound.{IsSound, KeepsMemory};
+
+use crate::holding::{HeldAt, held_by, is_blocking, is_its_range, is_lend, take};
+use crate::threads::answer_with_sender;
+use msg_queue::Queues;
+use server_table::Servers;
+use syscall_codec::{Call, Reply, read_call, reply_words};
+use thread_table::Threads;
+use vm_memory::Memory;
+use xk_base::{Log, Number, ThreadId, XousError};
+use xk_ports::SwapStore;
+
+/// The pages that a server gives back, and what it leaves in the words offset and valid.
+#[derive(Clone, Copy, Debug, PartialEq, Eq)]
+struct Returned {
+    number: Number,
+    address: u32,
+    size: u32,
+    offset: u32,
+    valid: u32,
+}
+
+/// A thread gives back a message that a server of its process holds: the loan ends, the sender is
+/// answered, and so is the caller. It is refused as `DoubleFree` where no such server holds a message
+/// of that number and of the call's kind, and as `BadAddress` where the pages aren't those of the
+/// loan; then nothing changes.
+pub fn give_back<W: SwapStore>(
+    mem: &mut Memory<W>,
+    threads: &mut Threads,
+    servers: &Servers,
+    queues: &mut Queues,
+    log: &mut Log,
+    who: ThreadId,
+    words: [u32; 8],
+) -> Result<(), XousError>
+    requires ready { is_ready (threads_of threads.old who) ≡ true }
+    requires room { length log.old.records + 2 ≤ log.old.room }
+    requires served { (call_number words == memory_number || call_number words == scalar1_number || call_number words == scalar2_number) ≡ true }
+    requires sound { IsSound W.slot_count W.held who (record { mem = mem.old; tables = record { threads = threads.old; servers = servers.now; queues = queues.old; log = log.old } }) }
+    ensures row { IsRow W.held (table_row words) who (record { mem = mem.old; tables = record { threads = threads.old; servers = servers.now; queues = queues.old; log = log.old } }) (record { mem = mem.new; tables = record { threads = threads.new; servers = servers.now; queues = queues.new; log = log.new } }) result }
+    ensures sound { IsSound W.slot_count W.held who (record { mem = mem.new; tables = record { threads = threads.new; servers = servers.now; queues = queues.new; log = log.new } }) }
+    ensures mem { KeepsMemory W.is_honest W.held mem.old mem.new }
+{
+    match read_call(words) {
+        Ok(
+            Call::ReturnMemory {
+                token,
+                address,
+                size,
+                offset,
+                valid,
+            },
+        ) => {
+            let returned = Returned {
+                number: Number(token),
+                address,
+                size,
+                offset,
+                valid,
+            };
+            return_memory(mem, threads, servers, queues, log, who, returned)
+        }
+        Ok(Call::ReturnScalar1 { token, value }) => {
+            let reply = Reply::Scalar1(value);
+            return_scalar(
+                mem,
+                threads,
+                servers,
+                queues,
+                log,
+                who,
+                Number(token),
+                reply,
+            )
+        }
+        Ok(
+            Call::ReturnScalar2 {
+                token,
+                value1,
+                value2,
+            },
+        ) => {
+            let reply = Reply::Scalar2(value1, value2);
+            return_scalar(
+                mem,
+                threads,
+                servers,
+                queues,
+                log,
+                who,
+                Number(token),
+                reply,
+            )
+        }
+        _ => unreachable!(),
+    }
+}
+
+// A held lend or mutable lend is given back.
+fn return_memory<W: SwapStore>(
+    mem: &mut Memory<W>,
+    threads: &mut Threads,
+    servers: &Servers,
+    queues: &mut Queues,
+    log: &mut Log,
+    who: ThreadId,
+    returned: Returned,
+) -> Result<(), XousError>
+    requires ready { is_ready (threads_of threads.old who) ≡ true }
+    requires room { length log.old.records + 2 ≤ log.old.room }
+    requires sound { IsSound W.slot_count W.held who (record { mem = mem.old; tables = record { threads = threads.old; servers = servers.now; queues = queues.old; log = log.old } }) }
+    ensures row { IsRow W.held (memory_row returned.number returned.address returned.size returned.offset returned.valid) who (record { mem = mem.old; tables = record { threads = threads.old; servers = servers.now; queues = queues.old; log = log.old } }) (record { mem = mem.new; tables = record { threads = threads.new; servers = servers.now; queues = queues.new; log = log.new } }) result }
+    ensures sound { IsSound W.slot_count W.held who (record { mem = mem.new; tables = record { threads = threads.new; servers = servers.now; queues = queues.new; log = log.new } }) }
+    ensures mem { KeepsMemory W.is_honest W.held mem.old mem.new }
+{
+    let Some(HeldAt { seat, message, .. }) = held_by(servers, queues, who.pid, returned.number)
+    else {
+        return Err(XousError::DoubleFree);
+    };
+    if !is_lend(message.kind) {
+        return Err(XousError::DoubleFree);
+    }
+    if !is_its_range(returned.address, returned.size, &message) {
+        return Err(XousError::BadAddress);
+    }
+    match take(queues, seat, returned.number) {
+        Some(loan) => mem.end_loan(loan),
+        None => unreachable!(),
+    }
+    let words = reply_words(&Reply::Returned(returned.offset, returned.valid));
+    answer_with_sender(threads, log, who, message.sender, words);
+    Ok(())
+}
+
+// A held blocking scalar is given back with this reply.
+fn return_scalar<W: SwapStore>(
+    mem: &Memory<W>,
+    threads: &mut Threads,
+    servers: &Servers,
+    queues: &mut Queues,
+    log: &mut Log,
+    who: ThreadId,
+    number: Number,
+    reply: Reply,
+) -> Result<(), XousError>
+    requires ready { is_ready (threads_of threads.old who) ≡ true }
+    requires room { length log.old.records + 2 ≤ log.old.room }
+    requires sound { IsSound W.slot_count W.held who (record { mem = mem.now; tables = record { threads = threads.old; servers = servers.now; queues = queues.old; log = log.old } }) }
+    ensures row { IsRow W.held (scalar_row number (words_of reply)) who (record { mem = mem.now; tables = record { threads = threads.old; servers = servers.now; queues = queues.old; log = log.old } }) (record { mem = mem.now; tables = record { threads = threads.new; servers = servers.now; queues = queues.new; log = log.new } }) result }
+    ensures sound { IsSound W.slot_count W.held who (record { mem = mem.now; tables = record { threads = threads.new; servers = servers.now; queues = queues.new; log = log.new } }) }
+{
+    let Some(HeldAt { seat, message, .. }) = held_by(servers, queues, who.pid, number) else {
+        return Err(XousError::DoubleFree);
+    };
+    if !is_blocking(message.kind) {
+        return Err(XousError::DoubleFree);
+    }
+    match take(queues, seat, number) {
+        Some(_) => unreachable!(),
+        None => {}
+    }
+    answer_with_sender(threads, log, who, message.sender, reply_words(&reply));
+    Ok(())
+}

@@ -1,0 +1,62 @@
+//! The seat of a server, and what a message does there.
+
+ghost use Rattle.std.specs.Prelude.{◌≡◌, ◌<◌, if◌then◌else◌, Option, IfSome};
+ghost use Rattle.std.specs.Option.{option_map};
+ghost use Rattle.machine_model.specs.Messaging.Messages.{is_answered as is_kind_answered};
+ghost use Rattle.msg_queue.specs.Seats.{changed_at, seat_of, used_of, with_held};
+ghost use Rattle.server_table.specs.ServersOf.{servers_of};
+ghost use Rattle.xk_base.specs.declared.limits.TheConstants.{SERVER_LIMIT, MESSAGE_LIMIT};
+ghost use Rattle.send_path.specs.Seats.{HasLoanIfLend, IsSeatOf, own_serial};
+
+use msg_queue::{Held, Queues};
+use server_table::Servers;
+use xk_base::{MsgKind, Pid, Serial, Sid};
+
+/// A live server and its seat.
+#[derive(Clone, Copy, Debug, PartialEq, Eq)]
+pub(crate) struct Seated {
+    pub serial: Serial,
+    pub seat: u8,
+}
+
+// The live server of the process with that identifier.
+pub(crate) fn own_server(servers: &Servers, pid: Pid, sid: Sid) -> Option<Seated>
+    ensures serial { option_map (λ s. s.serial) result ≡ own_serial pid sid (servers_of servers.now) }
+    ensures seat { IfSome result (λ s. IsSeatOf (servers_of servers.now) s.serial.0 s.seat) }
+{
+    let serial = servers.find(sid)?;
+    if servers.owner(serial)? != pid {
+        return None;
+    }
+    let seat = servers.seat(serial)?;
+    Some(Seated { serial, seat })
+}
+
+/// Whether a message of the kind holds its sender until it is answered.
+pub(crate) fn is_answered(kind: MsgKind) -> bool
+    ensures { result ≡ is_kind_answered kind }
+{
+    match kind {
+        MsgKind::LendMut | MsgKind::Lend | MsgKind::BlockingScalar => true,
+        MsgKind::Move | MsgKind::Scalar => false,
+    }
+}
+
+// A thread received the message, which was taken out or is new: one that is to be answered is held,
+// and any other leaves its slot.
+pub(crate) fn keep_received(queues: &mut Queues, seat: u8, received: Held)
+    requires seat { seat < SERVER_LIMIT }
+    requires room { used_of (seat_of queues.old seat) < MESSAGE_LIMIT }
+    requires loan { HasLoanIfLend received }
+    ensures { queues.new ≡ (if is_kind_answered received.msg.kind then changed_at seat (with_held received) queues.old else queues.old) }
+{
+    if is_answered(received.msg.kind) {
+        queues.hold(seat, received);
+    } else {
+        let Held { msg: _, loan } = received;
+        match loan {
+            None => {}
+            Some(_) => unreachable!(),
+        }
+    }
+}
