@@ -15,7 +15,8 @@ use Rattle.sv32_space.specs.Tie.{Held}
 use Rattle.xk_base.specs.declared.ids.ThreadId.{ThreadId}
 use Rattle.xk_kernel.specs.Acting.{Acts, IsDone, reservation_by, told_by}
 use Rattle.xk_kernel.specs.Sound.{IsSound, IsUsable, IsWhole}
-use Rattle.xk_kernel.specs.State.{as_reservation, machine_of, server_of}
+use Rattle.send_path.specs.Parts.{server_of}
+use Rattle.xk_kernel.specs.State.{as_reservation, machine_of}
 use Rattle.xk_kernel.specs.Stepping.{Becomes, DoesStep}
 use Rattle.xk_kernel.specs.declared.kernel.Kernel.{Kernel}
 use Rattle.xk_kernel.specs.declared.kernel.Stepped.TheVariants.{Did, NotBuilt}

@@ -29,7 +29,8 @@ use Rattle.sv32_space.specs.Tie.{Held}
 use Rattle.thread_table.specs.declared.thread.ThreadState.{ThreadState as TableState}
 use Rattle.thread_table.specs.declared.thread.ThreadState.TheVariants as table
 use Rattle.xk_kernel.specs.Alone.{DiesPlainly, has_waiting, is_alone, is_waiting, is_waiting_state, owns_server}
-use Rattle.xk_kernel.specs.State.{machine_of, process_of, server_of, state_of}
+use Rattle.send_path.specs.Parts.{process_of, server_of, state_of}
+use Rattle.xk_kernel.specs.State.{machine_of}
 use Rattle.xk_kernel.specs.declared.kernel.Kernel.{Kernel}
 
 -- ---- as the table of servers tells it

@@ -15,7 +15,8 @@ use Rattle.xk_base.specs.declared.ids.ThreadId.{ThreadId}
 use Rattle.xk_base.specs.declared.records.What.{What}
 use Rattle.xk_base.specs.declared.records.What.TheVariants.{Gone}
 use Rattle.xk_kernel.specs.Alone.{DiesPlainly}
-use Rattle.xk_kernel.specs.State.{machine_of, server_of}
+use Rattle.send_path.specs.Parts.{server_of}
+use Rattle.xk_kernel.specs.State.{machine_of}
 use Rattle.xk_kernel.specs.Telling.{Tells, log_with}
 use Rattle.xk_kernel.specs.declared.kernel.Kernel.{Kernel}
 use Rattle.xk_kernel.proofs.Calling.LogLemmas.{log_with-next}

@@ -24,7 +24,8 @@ use Rattle.xk_base.specs.declared.limits.TheConstants.{RECORD_LIMIT}
 use Rattle.xk_base.specs.declared.records.What.TheVariants.{Gone}
 use Rattle.xk_kernel.specs.Alone.{DiesPlainly}
 use Rattle.xk_kernel.specs.Sound.{IsSound, IsUsable, IsWhole}
-use Rattle.xk_kernel.specs.State.{machine_of, process_of}
+use Rattle.send_path.specs.Parts.{process_of}
+use Rattle.xk_kernel.specs.State.{machine_of}
 use Rattle.xk_kernel.specs.Stepping.{Becomes}
 use Rattle.xk_kernel.specs.Telling.{log_with}
 use Rattle.xk_kernel.specs.declared.kernel.Kernel.{Kernel}

@@ -40,7 +40,8 @@ use Rattle.xk_base.specs.declared.limits.TheConstants.{RECORD_LIMIT}
 use Rattle.xk_kernel.proofs.Starting.FirstLedgerLemmas.{IsPlanned, first_no_heap, first_unlent, pid_of_planned, planned_of_pid}
 use Rattle.xk_kernel.specs.Sound.{IsSound}
 use Rattle.xk_kernel.specs.Start.{first_threads, start, threads_at_start}
-use Rattle.xk_kernel.specs.State.{as_reservation, claim_of, machine_of, process_of, server_of, thread_of}
+use Rattle.send_path.specs.Parts.{process_of, server_of, thread_of}
+use Rattle.xk_kernel.specs.State.{as_reservation, claim_of, machine_of}
 use Rattle.xk_kernel.specs.declared.kernel.Kernel.{Kernel}
 
 -- ---- the start of a plan is a start

@@ -19,7 +19,8 @@ ghost use Rattle.xk_base.specs.declared.ids.Tid.{Tid as TidNumber};
 ghost use Rattle.xk_base.specs.declared.limits.TheConstants.{RECORD_LIMIT};
 ghost use Rattle.xk_kernel.specs.Sound.{IsSound, IsUsable};
 ghost use Rattle.xk_kernel.specs.Start.{first_threads, start, threads_at_start};
-ghost use Rattle.xk_kernel.specs.State.{machine_of, thread_of};
+ghost use Rattle.send_path.specs.Parts.{thread_of};
+ghost use Rattle.xk_kernel.specs.State.{machine_of};
 ghost use Rattle.xk_kernel.specs.Stepping.{last_of};
 
 use crate::kernel::Kernel;

@@ -1,6 +1,6 @@
 use Rattle.std.proofs.Common.{sym, ap, ◌∙◌}
 use Rattle.xk_kernel.specs.Alone.{is_waiting, is_waiting_state}
-use Rattle.xk_kernel.specs.State.{state_of}
+use Rattle.send_path.specs.Parts.{state_of}
 use Rattle.xk_kernel.proofs.Acting.ThreadLemmas.{not_lent, thread_lent}
 use Rattle.xk_kernel.proofs.Ending.AloneLemmas.{unwaiting_told}
 use Rattle.xk_kernel.proofs.kernel.Kernel.is_waiting.Goals as goal
