@@ -2,3 +2,4 @@ pub mod CountLemmas
 pub mod ListingLemmas
 pub mod PlaceLemmas
 mod LendingLemmas
+pub mod ReceiverLemmas

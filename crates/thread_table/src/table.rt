@@ -1,11 +1,12 @@
 //! The table of threads.
 
-ghost use Rattle.std.specs.Prelude.{◌≡◌, ◌<◌, ◌≤◌, IfOk, IsSome, Some, vec_len};
+ghost use Rattle.std.specs.Prelude.{◌≡◌, ◌<◌, ◌≤◌, true, IfOk, IsSome, Some, vec_len};
 ghost use Rattle.std.specs.Option.{option_copied};
 ghost use Rattle.xk_base.specs.Circle.{IsPid, IsTid, is_thread_id, same_thread, thread_ids, place_of, id_at, ids_until};
 ghost use Rattle.xk_base.specs.Counting.{put_at};
+ghost use Rattle.xk_base.specs.declared.ids.ThreadId.{ThreadId as Id};
 ghost use Rattle.xk_base.specs.declared.limits.TheConstants.{PROCESS_LIMIT};
-ghost use Rattle.thread_table.specs.ThreadMap.{no_threads, without_process, free_tid, live_threads, receiver, next_ready, is_ready};
+ghost use Rattle.thread_table.specs.ThreadMap.{no_threads, without_process, free_tid, live_threads, receiver, next_ready, is_ready, is_receiving};
 
 use crate::thread::{Thread, thread_in};
 use std::alloc::Global;
@@ -208,6 +209,27 @@ impl Threads {
                 && thread.state.is_receiving(serial)
             {
                 return Some(id);
+            }
+        }
+        None
+    }
+
+    /// The same where all threads that are Receiving at the server are of this process. It looks at the
+    /// threads of the process alone, and not at those of all.
+    pub fn receiver_in(&self, pid: Pid, serial: Serial) -> Option<ThreadId>
+        requires pid { IsPid (process_count self.now) pid.0 }
+        requires its { (id : Id) → is_receiving serial (threads_of self.now id) ≡ true → id.pid.0 ≡ pid.0 }
+        ensures { result ≡ receiver (process_count self.now) serial (threads_of self.now) }
+    {
+        for k in 0..TID_LIMIT {
+            let own = ThreadId {
+                pid,
+                tid: Tid(k + 1),
+            };
+            if let Some(receiver) = self.get(own)
+                && receiver.state.is_receiving(serial)
+            {
+                return Some(own);
             }
         }
         None

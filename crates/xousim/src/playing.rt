@@ -39,18 +39,22 @@ fn play_tick<K: Sink, W: SwapStore>(
     ensures never_falls { K.faults out.old ≤ K.faults out.new }
 {
     'steps: for done in 0..count {
-        if !kernel.ready() {
+        if kernel.steps() == limit {
+            if kernel.ready() {
+                return Ok(Ending::LimitMet);
+            }
             kernel.end_turn();
             return Ok(Ending::Played);
         }
-        if kernel.steps() == limit {
-            return Ok(Ending::LimitMet);
-        }
         match kernel.step() {
             Ok(Stepped::Did) => {}
+            Ok(Stepped::Idle) => {
+                kernel.end_turn();
+                return Ok(Ending::Played);
+            }
             Ok(Stepped::NotBuilt) => return Ok(Ending::Unbuilt),
-            // A thread is ready, and the store isn't used until pages can be out.
-            Ok(Stepped::Idle) | Err(SwapFault) => unreachable!(),
+            // The store isn't used until pages can be out.
+            Err(SwapFault) => unreachable!(),
         }
         write_records(kernel.last(), out)?;
     }

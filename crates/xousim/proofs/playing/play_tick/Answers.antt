@@ -10,38 +10,61 @@ use Rattle.xousim.specs.History.{History, behind, ticks}
 use Rattle.xk_kernel.specs.State.{machine_of}
 use Rattle.xk_kernel.specs.Stepping.{DoesStep}
 use Rattle.xk_kernel.specs.declared.kernel.Stepped.{Stepped}
-use Rattle.xk_kernel.specs.declared.kernel.Stepped.TheVariants.{Did, NotBuilt}
+use Rattle.xk_kernel.specs.declared.kernel.Stepped.TheVariants.{Did, Idle, NotBuilt}
 use Rattle.xousim.specs.Writing.{Wrote}
 use Rattle.xk_kernel.proofs.Running.LimitLemmas.{step_steps, turn_steps}
 use Rattle.xousim.proofs.HistoryLemmas.{ticks_zero, ticks_idle, ticks_met, ticks_unbuilt, ticks_step, wrote_ended, wrote_behind, wrote_front, wrote_err, wrote_same}
 use Rattle.xousim.proofs.KeptLemmas.{kept_after}
 use Rattle.xousim.proofs.playing.play_tick.Goals as goal
 
-pub returns-then-not-ready-clause-wrote : goal.returns-then-not-ready-clause-wrote
-returns-then-not-ready-clause-wrote g c =
-    let out = g.K.Sink.written c.steps.out in
-    c.steps.invariant.rest (Ok Played) out
-    (wrote_same out out _ _ (Ok Played) (ticks_idle (c.args.count - c.steps.done) c.args.limit (machine_of g.W.SwapStore.held c.steps.kernel) (cc)) (wrote_ended out Played (turn (machine_of g.W.SwapStore.held c.steps.kernel))))
-
-pub returns-then-not-ready-clause-machine : goal.returns-then-not-ready-clause-machine
-returns-then-not-ready-clause-machine g c =
-    c.end_turn.ensures.machine
-    ∙ (sym (ap (λ (h : History). h.machine) (ticks_idle (c.args.count - c.steps.done) c.args.limit (machine_of g.W.SwapStore.held c.steps.kernel) (cc)))
-    ∙ c.steps.invariant.machine)
-
-pub returns-then-not-ready-clause-within : goal.returns-then-not-ready-clause-within
-returns-then-not-ready-clause-within g c = rw (c.end_turn.ensures.machine, turn_steps) c.steps.invariant.within
-
-pub returns-then-steps-limit-clause-wrote : goal.returns-then-steps-limit-clause-wrote
-returns-then-steps-limit-clause-wrote g c =
+pub returns-then-ready-clause-wrote : goal.returns-then-ready-clause-wrote
+returns-then-ready-clause-wrote g c =
     let out = g.K.Sink.written c.steps.out in
     c.steps.invariant.rest (Ok LimitMet) out
     (wrote_same out out _ _ (Ok LimitMet) (ticks_met (c.args.count - c.steps.done) c.args.limit (machine_of g.W.SwapStore.held c.steps.kernel) (omega arith) (cc) (cc)) (wrote_ended out LimitMet (machine_of g.W.SwapStore.held c.steps.kernel)))
 
-pub returns-then-steps-limit-clause-machine : goal.returns-then-steps-limit-clause-machine
-returns-then-steps-limit-clause-machine g c =
+pub returns-then-ready-clause-machine : goal.returns-then-ready-clause-machine
+returns-then-ready-clause-machine g c =
     sym (ap (λ (h : History). h.machine) (ticks_met (c.args.count - c.steps.done) c.args.limit (machine_of g.W.SwapStore.held c.steps.kernel) (omega arith) (cc) (cc)))
     ∙ c.steps.invariant.machine
+
+pub returns-then-steps-limit-clause-wrote : goal.returns-then-steps-limit-clause-wrote
+returns-then-steps-limit-clause-wrote g c =
+    let out = g.K.Sink.written c.steps.out in
+    c.steps.invariant.rest (Ok Played) out
+    (wrote_same out out _ _ (Ok Played) (ticks_idle (c.args.count - c.steps.done) c.args.limit (machine_of g.W.SwapStore.held c.steps.kernel) (cc)) (wrote_ended out Played (turn (machine_of g.W.SwapStore.held c.steps.kernel))))
+
+pub returns-then-steps-limit-clause-machine : goal.returns-then-steps-limit-clause-machine
+returns-then-steps-limit-clause-machine g c =
+    c.end_turn.ensures.machine
+    ∙ (sym (ap (λ (h : History). h.machine) (ticks_idle (c.args.count - c.steps.done) c.args.limit (machine_of g.W.SwapStore.held c.steps.kernel) (cc)))
+    ∙ c.steps.invariant.machine)
+
+pub returns-then-steps-limit-clause-within : goal.returns-then-steps-limit-clause-within
+returns-then-steps-limit-clause-within g c = rw (c.end_turn.ensures.machine, turn_steps) c.steps.invariant.within
+
+pub returns-in-Ok-Idle-clause-wrote : goal.returns-in-Ok-Idle-clause-wrote
+returns-in-Ok-Idle-clause-wrote g c =
+    let D : Stepped → Type 0 = λ s. DoesStep g.W.SwapStore.held c.steps.kernel c.step.new.self s in
+    let does : D Idle = subst D c.in-Ok-Idle.field-0-is c.in-Ok-Idle.ensures.does in
+    let out = g.K.Sink.written c.steps.out in
+    c.steps.invariant.rest (Ok Played) out
+    (wrote_same out out _ _ (Ok Played) (ticks_idle (c.args.count - c.steps.done) c.args.limit (machine_of g.W.SwapStore.held c.steps.kernel) does.0) (wrote_ended out Played (turn (machine_of g.W.SwapStore.held c.steps.kernel))))
+
+pub returns-in-Ok-Idle-clause-machine : goal.returns-in-Ok-Idle-clause-machine
+returns-in-Ok-Idle-clause-machine g c =
+    let D : Stepped → Type 0 = λ s. DoesStep g.W.SwapStore.held c.steps.kernel c.step.new.self s in
+    let does : D Idle = subst D c.in-Ok-Idle.field-0-is c.in-Ok-Idle.ensures.does in
+    c.end_turn-in-Ok-Idle.ensures.machine
+    ∙ (ap turn does.1
+    ∙ (sym (ap (λ (h : History). h.machine) (ticks_idle (c.args.count - c.steps.done) c.args.limit (machine_of g.W.SwapStore.held c.steps.kernel) does.0))
+    ∙ c.steps.invariant.machine))
+
+pub returns-in-Ok-Idle-clause-within : goal.returns-in-Ok-Idle-clause-within
+returns-in-Ok-Idle-clause-within g c =
+    let D : Stepped → Type 0 = λ s. DoesStep g.W.SwapStore.held c.steps.kernel c.step.new.self s in
+    let does : D Idle = subst D c.in-Ok-Idle.field-0-is c.in-Ok-Idle.ensures.does in
+    rw (c.end_turn-in-Ok-Idle.ensures.machine, turn_steps, does.1) c.steps.invariant.within
 
 pub returns-in-Ok-NotBuilt-clause-wrote : goal.returns-in-Ok-NotBuilt-clause-wrote
 returns-in-Ok-NotBuilt-clause-wrote g c =
