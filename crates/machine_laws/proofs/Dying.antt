@@ -5,4 +5,5 @@ pub mod DeathLemmas
 pub mod DeathLoanLemmas
 pub mod DeathStepLemmas
 pub mod DeathWithoutServerLemmas
+pub mod LoneDeathLemmas
 pub mod StoppedThreadLemmas

@@ -1,17 +1,18 @@
 //! Laws of the deaths of processes: whatever messages there are, each keeps the invariant.
 
-ghost use Rattle.std.specs.Prelude.{ℕ, ◌≡◌, false, true, List, None, Some};
+ghost use Rattle.std.specs.Prelude.{ℕ, ◌≡◌, ◌==◌, false, true, List, None, Some};
 ghost use Rattle.xk_base.specs.CallNumbers.{terminate_process};
 ghost use Rattle.xk_base.specs.CallWords.{call_number};
+ghost use Rattle.xk_base.specs.declared.ids.Number.{Number};
 ghost use Rattle.xk_base.specs.declared.ids.Pid.{Pid};
 ghost use Rattle.xk_base.specs.declared.ids.ThreadId.{ThreadId};
 ghost use Rattle.machine_model.specs.Stepping.Acts.{call_by, executes};
-ghost use Rattle.machine_model.specs.Ending.Ends.{death, has_threads};
+ghost use Rattle.machine_model.specs.Ending.Ends.{death, forgotten, has_threads};
 ghost use Rattle.machine_model.specs.Hart.Instructions.{Traps};
-ghost use Rattle.machine_model.specs.State.Changes.{settled};
-ghost use Rattle.machine_model.specs.State.Machine.{Machine, Thread};
+ghost use Rattle.machine_model.specs.State.Changes.{only, settled};
+ghost use Rattle.machine_model.specs.State.Machine.{Machine, Server, Thread};
 ghost use Rattle.machine_model.specs.Runs.Kept.{KillKeepsMatched, Settles};
-ghost use Rattle.machine_model.specs.Runs.Matched.{Matched};
+ghost use Rattle.machine_model.specs.Runs.Matched.{Matched, waits_for};
 ghost use Rattle.machine_model.specs.State.Order.{actor};
 ghost use Rattle.machine_model.specs.Stepping.Step.{step, ends_thread};
 ghost use Rattle.machine_model.specs.State.Threads.{put_thread};
@@ -20,6 +21,16 @@ ghost use Rattle.machine_model.specs.State.Threads.{put_thread};
 pub fn death_keeps_matched()
     ensures matched { (m : Machine) → Matched m → (pid : Pid) → Matched (settled (death pid m)).machine }
     ensures settled { (m : Machine) → Matched m → (pid : Pid) → Settles m (settled (death pid m)).machine }
+{}
+
+/// The death of a process that owns no server, and of which no thread waits for an answer, is to be forgotten: nobody is
+/// answered, and no message changes.
+#[tactic(auto, using(crate::proofs::Dying::LoneDeathLemmas::lone_death))]
+pub fn lone_death_forgets()
+    ensures { (m : Machine) → Matched m → (pid : Pid)
+        → ((n : ℕ) (server : Server) → m.servers n ≡ Some server → (server.pid.0 == pid.0) ≡ false)
+        → ((id : ThreadId) (number : Number) → (id.pid.0 == pid.0) ≡ true → waits_for m.threads id number ≡ false)
+        → death pid m ≡ record (only (forgotten pid m)) { gone = Some pid } }
 {}
 
 /// A kill keeps the machine matched.

@@ -25,7 +25,7 @@ pub use change_laws::{
     like_heaps_keep_matched, like_ledger_keeps_matched, like_threads_keep_matched,
 };
 pub use death_laws::{
-    death_keeps_matched, kill_keeps_matched, last_end_keeps_matched,
+    death_keeps_matched, kill_keeps_matched, last_end_keeps_matched, lone_death_forgets,
     terminate_process_keeps_matched, trap_keeps_matched,
 };
 pub use held_laws::{

@@ -1,3 +1,4 @@
+pub mod AloneLemmas
 pub mod DeathOfLemmas
 pub mod DyingLemmas
 pub mod EndingLemmas

@@ -1,4 +1,3 @@
-pub mod BuiltMomentLemmas
 pub mod HistoryLemmas
 pub mod InterleavingLemmas
 pub mod LimitLemmas

@@ -1,5 +1,5 @@
 -- Which steps and events are built. Any other is named as not built, and isn't done.
-use Rattle.std.specs.Prelude.{Bool, true, false, not, ◌&&◌}
+use Rattle.std.specs.Prelude.{Bool, true, false, not, ◌&&◌, ◌||◌}
 use Rattle.std.specs.Option.{option_map_or}
 use Rattle.event_text.specs.declared.event.Event.{Event}
 use Rattle.event_text.specs.declared.event.Event.TheVariants.{Tick, Pick, Irq, Kill}
@@ -8,7 +8,10 @@ use Rattle.machine_model.specs.Stepping.Acts.{call_by}
 use Rattle.machine_model.specs.State.Machine.{Machine, Thread}
 use Rattle.machine_model.specs.State.Order.{actor}
 use Rattle.machine_model.specs.Stepping.Step.{ends_handler}
+use Rattle.machine_model.specs.Runs.Matched.{is_living}
+use Rattle.xk_base.specs.declared.ids.Pid.{Pid}
 use Rattle.xk_base.specs.declared.ids.ThreadId.{ThreadId}
+use Rattle.xk_kernel.specs.Alone.{is_alone}
 
 -- a thread above tid 1, whose system call, if it makes one, is on memory, threads or its process, or has no number of the table
 abbrev pub thread_built : Machine → ThreadId → Thread → Bool
@@ -18,9 +21,13 @@ thread_built m who t = not (ends_handler who t.pc) && option_map_or is_plain_cal
 unfoldable pub step_built : Machine → Bool
 step_built m = option_map_or (λ who. option_map_or (thread_built m who) (m.threads who) false) (actor m) false
 
--- every event is, but for an interrupt
-abbrev pub event_built : Event → Bool
-event_built (Tick n) = true
-event_built (Pick pid tid) = true
-event_built (Irq k) = false
-event_built (Kill pid) = true
+-- the kill of a process that lives is built where it stands alone
+abbrev pub kill_built : Pid → Machine → Bool
+kill_built pid m = not (is_living m pid) || is_alone pid m
+
+-- every event is, but for an interrupt and such a kill
+abbrev pub event_built : Event → Machine → Bool
+event_built (Tick n) m = true
+event_built (Pick pid tid) m = true
+event_built (Irq k) m = false
+event_built (Kill pid) m = kill_built pid m

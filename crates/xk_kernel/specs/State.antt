@@ -1,42 +1,15 @@
 -- The machine that a kernel stands for: one definition over what its parts hold.
-use Rattle.std.specs.Prelude.{ℕ, false, [], Option, Some, None}
+use Rattle.std.specs.Prelude.{ℕ, false, None}
 use Rattle.std.specs.Option.{option_map, option_map_or}
 use Rattle.irq_claims.specs.ClaimsOf.{claims_of}
 use Rattle.irq_claims.specs.declared.claims.Claim.{Claim as TableClaim}
-use Rattle.machine_model.specs.Ending.Ends.{dead_process}
-use Rattle.machine_model.specs.State.Machine.{Machine, Thread, ThreadState, Process, Server, Claim, Reservation, Ready, Receiving, Waiting, Joining, Idle}
-use Rattle.process_table.specs.ProcessesOf.{processes_of}
-use Rattle.process_table.specs.State.{ProcessState}
+use Rattle.machine_model.specs.State.Machine.{Machine, Claim, Reservation}
+use Rattle.send_path.specs.Parts.{processes_shown, servers_shown, threads_shown}
 use Rattle.server_table.specs.ServersOf.{servers_of}
-use Rattle.server_table.specs.ServerState.{Server as TableServer}
 use Rattle.sv32_space.specs.Tie.{Held}
-use Rattle.thread_table.specs.ThreadsOf.{threads_of}
-use Rattle.thread_table.specs.declared.thread.Thread.{Thread as TableThread}
-use Rattle.thread_table.specs.declared.thread.ThreadState.{ThreadState as TableState}
-use Rattle.thread_table.specs.declared.thread.ThreadState.TheVariants as table
 use Rattle.vm_memory.specs.Memory.{capacity_of, ledger, processes}
 use Rattle.xk_base.specs.declared.ids.ThreadId.{ThreadId}
 use Rattle.xk_kernel.specs.declared.kernel.Kernel.{Kernel}
-
--- what a thread of the table is about, and the thread
-abbrev pub state_of : TableState → ThreadState
-state_of table.Ready = Ready
-state_of (table.Receiving serial) = Receiving serial
-state_of (table.Waiting number) = Waiting number
-state_of (table.Joining tid) = Joining tid
-state_of table.Idle = Idle
-
-abbrev pub thread_of : TableThread → Thread
-thread_of t = record { pc = t.pc; regs = t.regs; state = state_of t.state }
-
--- a process of the table; one that isn't there is dead
-abbrev pub process_of : Option ProcessState → Process
-process_of None = dead_process
-process_of (Some p) = record { alive = p.alive; heap = p.heap; connections = p.connections }
-
--- a server of the table. There are no messages yet
-abbrev pub server_of : TableServer → Server
-server_of s = record { sid = s.sid; pid = s.pid; queued = []; held = [] }
 
 abbrev pub claim_of : TableClaim → Claim
 claim_of c = record { pid = c.pid; handler = c.handler; argument = c.arg }
@@ -52,9 +25,9 @@ machine_of held k = record {
   ledger = ledger held k.mem;
   steps = k.steps;
   cursor = k.cursor;
-  threads = λ id. option_map thread_of (threads_of k.threads id);
-  process = λ pid. process_of (processes_of k.procs pid);
-  servers = λ n. option_map server_of ((servers_of k.servers).live n);
+  threads = threads_shown k.threads;
+  process = processes_shown k.procs;
+  servers = servers_shown k.servers k.queues;
   claims = λ n. option_map claim_of (claims_of k.claims n);
   pending = λ n. option_map_or (λ c. c.pending) (claims_of k.claims n) false;
   next_number = k.next;

@@ -1,5 +1,6 @@
 //! The kernel.
 
+mod alone;
 mod boot;
 mod calls;
 mod deaths;
@@ -12,6 +13,7 @@ mod thread_calls;
 mod threads;
 
 use irq_claims::Claims;
+use msg_queue::Queues;
 use process_table::Processes;
 use server_table::Servers;
 use thread_table::Threads;
@@ -42,6 +44,7 @@ pub struct Kernel<W: SwapStore> {
     threads: Threads,
     procs: Processes,
     servers: Servers,
+    queues: Queues,
     claims: Claims,
     log: Log,
     // Whose turn it is.

@@ -20,7 +20,6 @@ pub use laws::{
     tick_zero_ends_the_turn, unready_thread_is_not_picked,
 };
 pub use moments::{
-    built_history_stays_matched, built_moments_stay_matched, history_is_a_run,
-    history_stays_matched, moments_follow_each_other, moments_keep_the_cursor,
+    history_is_a_run, history_stays_matched, moments_follow_each_other, moments_keep_the_cursor,
     moments_stay_matched, run_ends_in_the_last_state,
 };

@@ -3,11 +3,9 @@
 ghost use Rattle.std.specs.Prelude.{ℕ, ◌≡◌, List, [], ◌++◌, length, if◌then◌else◌, IsTrue};
 ghost use Rattle.event_text.specs.declared.event.Event.{Event};
 ghost use Rattle.xk_base.specs.Circle.{is_thread_id};
-ghost use Rattle.machine_laws.specs.WithoutServers.{HasNoServers};
 ghost use Rattle.machine_model.specs.State.Machine.{Machine};
 ghost use Rattle.machine_model.specs.Runs.Matched.{Matched};
 ghost use Rattle.machine_model.specs.Runs.Moments.{IsRun, state_at};
-ghost use Rattle.xk_kernel.specs.BuiltMoments.{AreBuilt};
 ghost use Rattle.xk_kernel.specs.History.{history};
 ghost use Rattle.xk_kernel.specs.HistoryMoments.{moments_of};
 
@@ -48,17 +46,4 @@ pub fn moments_keep_the_cursor()
     ensures { (events : List Event) (limit : ℕ) (start : Machine) → Matched start
         → IsTrue (is_thread_id start.processes start.cursor) → (i : ℕ)
         → IsTrue (is_thread_id (state_at start (moments_of events limit start) i).processes (state_at start (moments_of events limit start) i).cursor) }
-{}
-
-/// While what a history asks for is built, every moment from a matched state without servers is matched, and has no server.
-pub fn built_moments_stay_matched()
-    ensures { (events : List Event) (limit : ℕ) (start : Machine) → Matched start → HasNoServers start
-        → AreBuilt start (moments_of events limit start) → (i : ℕ)
-        → Matched (state_at start (moments_of events limit start) i) × HasNoServers (state_at start (moments_of events limit start) i) }
-{}
-
-/// Then its last state is matched.
-pub fn built_history_stays_matched()
-    ensures { (events : List Event) (limit : ℕ) (start : Machine) → Matched start → HasNoServers start
-        → AreBuilt start (moments_of events limit start) → Matched (history events limit start).machine }
 {}

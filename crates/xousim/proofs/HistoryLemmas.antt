@@ -1,5 +1,6 @@
 -- The cases of a tick, and what is written for each.
-use Rattle.std.proofs.Common.{◌≡◌, ◌≢◌, ◌<◌, ◌==◌, ◌+◌, ℕ, zero, suc, true, false, List, [], ◌∷◌, ◌++◌, Option, Result, Ok, Err, IsErr, OnOk, is_some, refl, sym, ap, ◌∙◌, subst, arith, append_assoc, ◌≤◌, ◌⊎◌, inl, inr}
+use Rattle.std.proofs.Common.{◌≡◌, ◌≢◌, ◌<◌, ◌==◌, ◌+◌, ℕ, zero, suc, Bool, true, false, List, [], ◌∷◌, ◌++◌, Option, Result, Ok, Err, IsErr, OnOk, is_some, refl, sym, ap, ◌∙◌, subst, arith, append_assoc, ◌≤◌, ◌⊎◌, inl, inr}
+use Rattle.std.specs.Prelude.{if◌then◌else◌}
 use Rattle.std.proofs.lemmas.Bool.Decides.{nat_tests}
 use Rattle.std.proofs.lemmas.Grind.{flat_map-append}
 use Rattle.xk_base.specs.declared.records.Rec.{Rec}
@@ -170,7 +171,7 @@ history_after last (event ∷ events) more limit m played =
 
 -- ---- an event without steps
 
-pub at_once_built : (event : Event) (m : Machine) → event_built event ≡ true → at_once event m ≡ played (event_done event m)
+pub at_once_built : (event : Event) (m : Machine) → event_built event m ≡ true → at_once event m ≡ played (event_done event m)
 at_once_built event m built = rw built refl
 
 -- it is no step
@@ -178,7 +179,11 @@ pub at_once_steps : (event : Event) (m : Machine) → (at_once event m).machine.
 at_once_steps (Tick n) m = refl
 at_once_steps (Pick pid tid) m = pick_steps (record { pid = pid; tid = tid }) m
 at_once_steps (Irq k) m = refl
-at_once_steps (Kill pid) m = kill_steps pid m
+at_once_steps (Kill pid) m = go (event_built (Kill pid) m)
+  where
+    go : (b : Bool) → (if b then played (event_done (Kill pid) m) else ended Unbuilt m).machine.steps ≡ m.steps
+    go true = kill_steps pid m
+    go false = refl
 
 pub play_other : (event : Event) (limit : ℕ) (m : Machine)
     → (((pid : Pid) × (tid : Tid) × (event ≡ Pick pid tid)) ⊎ (((k : ℕ) × (event ≡ Irq k)) ⊎ ((pid : Pid) × (event ≡ Kill pid))))

@@ -7,11 +7,12 @@ use Rattle.machine_model.specs.Stepping.Events.{nothing}
 use Rattle.machine_model.specs.State.Machine.{Machine}
 use Rattle.machine_model.specs.State.Order.{actor, turn}
 use Rattle.machine_model.specs.Stepping.Step.{step}
-use Rattle.xk_kernel.specs.Built.{step_built}
+use Rattle.xk_kernel.specs.Built.{event_built, step_built}
 use Rattle.xk_kernel.specs.History as kernel
+use Rattle.xk_kernel.specs.Stepping.{event_done}
 use Rattle.xousim.specs.declared.ending.Ending.{Ending}
 use Rattle.xousim.specs.declared.ending.Ending.TheVariants.{Played, LimitMet, Unbuilt}
-use Rattle.xousim.specs.History.{History, behind, ended, followed_by, go_on, history_to, of_kernel, play, ticks}
+use Rattle.xousim.specs.History.{History, behind, ended, followed_by, go_on, history_to, of_kernel, play, played, ticks}
 
 ticks_agree : (n limit : ℕ) (m : Machine) → (ticks n limit m).ending ≢ Unbuilt → ticks n limit m ≡ of_kernel Played (kernel.ticks n limit m)
 unfolding ticks kernel.ticks
@@ -42,7 +43,14 @@ unfolding play kernel.play
 play_agrees (Tick n) limit m built = ticks_agree n limit m built
 play_agrees (Pick pid tid) limit m built = refl
 play_agrees (Irq k) limit m built = absurd (built refl)
-play_agrees (Kill pid) limit m built = refl
+play_agrees (Kill pid) limit m built = go (event_built (Kill pid) m) built
+  where
+    ours : Bool → History
+    ours b = if b then played (event_done (Kill pid) m) else ended Unbuilt m
+
+    go : (b : Bool) → (ours b).ending ≢ Unbuilt → ours b ≡ of_kernel Played (kernel.play (Kill pid) limit m)
+    go true built = refl
+    go false built = absurd (built refl)
 
 unbuilt_stops : (h : History) (next : Machine → History) → h.ending ≡ Unbuilt → (followed_by h next).ending ≡ Unbuilt
 unbuilt_stops h next is =

@@ -51,7 +51,7 @@ played done = record { records = done.records; machine = done.machine; ending = 
 
 -- an event without steps, where it is built
 abbrev pub at_once : Event → Machine → History
-at_once event m = if event_built event then played (event_done event m) else ended Unbuilt m
+at_once event m = if event_built event m then played (event_done event m) else ended Unbuilt m
 
 -- one event
 unfoldable pub play : Event → ℕ → Machine → History

@@ -35,7 +35,7 @@ no_loan (Some page) h = go page.loan refl
 module _ (m : Machine) (h : Matched m) (pid : Pid) (strange : (n : ℕ) (server : Server) → m.servers n ≡ Some server → (server.pid.0 == pid.0) ≡ false)
     (unwaiting : (id : ThreadId) (number : Number) → (id.pid.0 == pid.0) ≡ true → waits_for m.threads id number ≡ false) where
   -- no message is from one of its threads, since each sender waits
-  unsent : (n : ℕ) (server : Server) → m.servers n ≡ Some server → All (λ x. is_sent_from pid x ≡ false) (messages_of server)
+  pub unsent : (n : ℕ) (server : Server) → m.servers n ≡ Some server → All (λ x. is_sent_from pid x ≡ false) (messages_of server)
   unsent n server e j d low = go (get_or (messages_of server) j d).sender refl
     where
       waiting : (who : ThreadId) → (get_or (messages_of server) j d).sender ≡ Some who

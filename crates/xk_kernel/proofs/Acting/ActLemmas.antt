@@ -2,12 +2,10 @@
 use Rattle.std.proofs.Common.{◌≡◌, ℕ, ◌+◌, Bool, true, false, List, [], ◌++◌, map, Option, Some, None, refl, sym, ap, ◌∙◌, arith}
 use Rattle.std.specs.Prelude.{◌==◌, ◌&&◌, nat_lt, not, if◌then◌else◌}
 use Rattle.std.specs.Option.{option_and_then, option_map_or}
-use Rattle.std.proofs.lemmas.Bool.{false≢true, and_parts}
 use Rattle.std.proofs.lemmas.Bool.Decides.{nat_tests}
 use Rattle.std.proofs.lemmas.Option.{same_Some}
-use Rattle.machine_laws.specs.WithoutServers.{HasNoServers, is_plain_call}
+use Rattle.machine_laws.specs.WithoutServers.{is_plain_call}
 use Rattle.machine_laws.proofs.Threading.ThreadStepLemmas.{actor_ready}
-use Rattle.machine_laws.proofs.Stepping.PlainStepLemmas.{plain_step_keeps_matched}
 use Rattle.machine_model.specs.Stepping.Acts.{call_by, executes, is_call, words_if_call}
 use Rattle.machine_model.specs.Calling.Calls.{call}
 use Rattle.machine_model.specs.State.Changes.{Told, call_settled, settled}
@@ -189,26 +187,6 @@ module _ (m : Machine) (who : ThreadId) (t : Thread) (there : m.threads who ≡ 
 
       pub built_call : is_call fetched ≡ true → step_built m ≡ is_plain_call (arguments_of t.regs)
       built_call e = runs ∙ ap (λ c. option_map_or is_plain_call (if c then Some (arguments_of t.regs) else None) true) e
-
--- ---- a built step keeps the machine matched and without servers
-
-pub built_step_keeps : (m : Machine) → Matched m → HasNoServers m → step_built m ≡ true → Matched (step m).machine × HasNoServers (step m).machine
-unfolding step_built
-built_step_keeps m h none built = plain_step_keeps_matched m h none (λ who w acts calls. plain who w acts calls (m.threads who) (by_actor who acts))
-  where
-    by_actor : (who : ThreadId) → actor m ≡ Some who
-        → option_map_or (λ t. not (ends_handler who t.pc) && option_map_or is_plain_call (call_by m who) true) (m.threads who) false ≡ true
-    by_actor who acts =
-        sym (ap (λ o. option_map_or (λ who. option_map_or (λ t. not (ends_handler who t.pc) && option_map_or is_plain_call (call_by m who) true) (m.threads who) false) o false) acts) ∙ built
-
-    plain : (who : ThreadId) (w : List ℕ) → actor m ≡ Some who → call_by m who ≡ Some w → (o : Option Thread)
-        → option_map_or (λ t. not (ends_handler who t.pc) && option_map_or is_plain_call (call_by m who) true) o false ≡ true → is_plain_call w ≡ true
-    plain who w acts calls None e = absurd (false≢true e)
-    plain who w acts calls (Some t) e =
-        sym (ap (λ o. option_map_or is_plain_call o true) calls) ∙ (and_parts (not (ends_handler who t.pc)) (option_map_or is_plain_call (call_by m who) true) e).1
-
-pub built_step_matched : (m : Machine) → Matched m → HasNoServers m → step_built m ≡ true → Matched (step m).machine
-built_step_matched m h none built = (built_step_keeps m h none built).0
 
 -- ---- the kernel tells so
 

@@ -17,7 +17,8 @@ use Rattle.thread_table.specs.declared.thread.Thread.{Thread as TableThread}
 use Rattle.thread_table.specs.declared.thread.ThreadState.{ThreadState as TableState}
 use Rattle.thread_table.specs.declared.thread.ThreadState.TheVariants.{Ready, Receiving, Waiting, Joining, Idle}
 use Rattle.vm_memory.specs.Memory.{processes}
-use Rattle.xk_kernel.specs.State.{machine_of, state_of, thread_of}
+use Rattle.send_path.specs.Parts.{state_of, thread_of}
+use Rattle.xk_kernel.specs.State.{machine_of}
 use Rattle.xk_kernel.specs.Sound.{IsWhole}
 use Rattle.xk_kernel.proofs.Acting.ThreadLemmas.{is_id}
 use Rattle.xk_kernel.specs.declared.kernel.Kernel.{Kernel}
@@ -122,6 +123,7 @@ cursor_whole slot_count held k d h valid = record {
   room = h.room;
   unlent = h.unlent;
   no_servers = h.no_servers;
+  no_messages = h.no_messages;
   unclaimed = h.unclaimed;
 }
 

@@ -3,6 +3,7 @@ use Rattle.std.proofs.Common.{◌≡◌, ℕ, ◌+◌, map, Option, Some, None, 
 use Rattle.std.specs.Prelude.{is_some}
 use Rattle.std.specs.Option.{option_map}
 use Rattle.machine_laws.specs.WithoutServers.{HasNoServers}
+use Rattle.machine_laws.proofs.Stepping.EveryStepLemmas.{every_step_keeps}
 use Rattle.machine_model.specs.State.Machine.{Machine}
 use Rattle.machine_model.specs.Runs.Matched.{Matched}
 use Rattle.machine_model.specs.State.Order.{actor}
@@ -14,12 +15,12 @@ use Rattle.sv32_space.specs.Tie.{Held}
 use Rattle.xk_base.specs.declared.ids.ThreadId.{ThreadId}
 use Rattle.xk_kernel.specs.Acting.{Acts, IsDone, reservation_by, told_by}
 use Rattle.xk_kernel.specs.Sound.{IsSound, IsUsable, IsWhole}
-use Rattle.xk_kernel.specs.State.{as_reservation, machine_of, server_of}
+use Rattle.send_path.specs.Parts.{server_of}
+use Rattle.xk_kernel.specs.State.{as_reservation, machine_of}
 use Rattle.xk_kernel.specs.Stepping.{Becomes, DoesStep}
 use Rattle.xk_kernel.specs.declared.kernel.Kernel.{Kernel}
 use Rattle.xk_kernel.specs.declared.kernel.Stepped.TheVariants.{Did, NotBuilt}
 use Rattle.xk_kernel.specs.declared.kernel.stepping.Acted.TheVariants.{Done, Unbuilt}
-use Rattle.xk_kernel.proofs.Acting.ActLemmas.{built_step_matched}
 
 -- what its actor did, counted, with the reservation that it leaves
 abbrev counted_by : ThreadId → Machine → Told
@@ -36,7 +37,7 @@ step_is m who acts unarmed = ap (λ a. step_by_if a m) acts ∙ ap (stepped_to (
 -- a whole kernel has no servers
 pub without_servers : {W : Type 0} (slot_count : W → ℕ) (held : W → Held) (k : Kernel W) → IsWhole slot_count held k → HasNoServers (machine_of held k)
 unfolding machine_of
-without_servers slot_count held k whole n = ap (option_map server_of) (whole.no_servers n)
+without_servers slot_count held k whole n = ap (option_map (server_of k.queues)) (whole.no_servers n)
 
 module _ {W : Type 0} (slot_count : W → ℕ) (held : W → Held) (old new : Kernel W) (who : ThreadId) (acts : actor (machine_of held old) ≡ Some who) where
   module _ (address : Option ℕ) (kept : Option (ThreadId × ℕ)) (same : option_map as_reservation kept ≡ reservation_of who address) where
@@ -53,6 +54,7 @@ module _ {W : Type 0} (slot_count : W → ℕ) (held : W → Held) (old new : Ke
       room = h.room;
       unlent = h.unlent;
       no_servers = h.no_servers;
+      no_messages = h.no_messages;
       unclaimed = h.unclaimed;
     }
 
@@ -81,7 +83,7 @@ module _ {W : Type 0} (slot_count : W → ℕ) (held : W → Held) (old new : Ke
       whole = counting_whole whole;
       matched = λ _.
           subst Matched (sym (step_done h.1 h.2).machine)
-          (built_step_matched (machine_of held old) (sound.matched usable) (without_servers slot_count held old sound.whole) h.0);
+          (every_step_keeps (machine_of held old) (sound.matched usable));
     }
 
   pub did_not : Acts held old new who Unbuilt → DoesStep held old new NotBuilt

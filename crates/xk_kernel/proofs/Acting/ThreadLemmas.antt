@@ -14,7 +14,8 @@ use Rattle.thread_table.specs.ThreadsOf.{process_count, threads_of}
 use Rattle.thread_table.specs.declared.table.Threads.{Threads}
 use Rattle.thread_table.specs.declared.thread.Thread.{Thread as TableThread}
 use Rattle.thread_table.proofs.PlaceLemmas.{same_thread-true, same_thread-self, thread_map_valid}
-use Rattle.xk_kernel.specs.State.{machine_of, thread_of}
+use Rattle.send_path.specs.Parts.{thread_of}
+use Rattle.xk_kernel.specs.State.{machine_of}
 use Rattle.xk_kernel.specs.declared.kernel.Kernel.{Kernel}
 
 -- ---- one thread, in the table and in the machine

@@ -14,7 +14,7 @@ use Rattle.machine_model.specs.Calling.MemoryCalls.{decrease_call, decrease_refu
 use Rattle.machine_model.specs.State.Order.{turn}
 use Rattle.machine_model.specs.Calling.ThreadCalls.{create_call, create_refusals, create_served, join_call, join_refusals, join_served, process_id_call, terminate_call, thread_id_call, yield_call}
 use Rattle.machine_model.specs.State.Threads.{answer_to, no_answers}
-use Rattle.machine_model.proofs.DeathLemmas.{HasNoServer, death_without_servers}
+use Rattle.xk_kernel.specs.Alone.{DiesPlainly}
 use Rattle.syscall_codec.specs.Calls.{Asks}
 use Rattle.syscall_codec.specs.declared.calls.Call.{Call}
 use Rattle.syscall_codec.specs.declared.calls.Call.TheVariants.{MapMemory, Yield, ClaimInterrupt, FreeInterrupt, IncreaseHeap, DecreaseHeap, UpdateMemoryFlags, CreateServerWithAddress, ReceiveMessage, SendMessage, Connect, CreateThread, UnmapMemory, ReturnMemory, TerminateProcess, TrySendMessage, TryConnect, ReturnScalar1, ReturnScalar2, TryReceiveMessage, JoinThread, DestroyServer, GetThreadId, GetProcessId, ForwardMessage}
@@ -90,10 +90,10 @@ module _ (m : Machine) (w : List ℕ) (free : is_refused_caller m w ≡ false) w
   unfolding process_id_call
   process_id_is n = sym (by_number m w 43 n refl free)
 
-  pub terminate_is : (exit : ℕ) → HasNoServer m → Asks w (TerminateProcess exit)
+  pub terminate_is : (exit : ℕ) → DiesPlainly m.cursor.pid m → Asks w (TerminateProcess exit)
       → Served (record { machine = forgotten m.cursor.pid m; answers = no_answers; delivery = None; gone = Some m.cursor.pid }) ≡ call m w
   unfolding terminate_call
-  terminate_is exit none (n, a) = sym (by_number m w 22 n refl free ∙ ap Served (death_without_servers m none m.cursor.pid))
+  terminate_is exit plain (n, a) = sym (by_number m w 22 n refl free ∙ ap Served plain)
 
 -- ---- who may make it
 

@@ -17,7 +17,8 @@ use Rattle.thread_table.specs.ThreadMap.{free_tid as table_free_tid}
 use Rattle.thread_table.specs.ThreadsOf.{threads_of}
 use Rattle.thread_table.specs.declared.table.Threads.{Threads}
 use Rattle.thread_table.specs.declared.thread.Thread.{Thread as TableThread}
-use Rattle.xk_kernel.specs.State.{machine_of, thread_of}
+use Rattle.send_path.specs.Parts.{thread_of}
+use Rattle.xk_kernel.specs.State.{machine_of}
 use Rattle.xk_kernel.specs.declared.kernel.Kernel.{Kernel}
 use Rattle.xk_kernel.proofs.Acting.ThreadLemmas.{machine_put}
 use Rattle.xk_kernel.proofs.Acting.TidLemmas.{free_is}

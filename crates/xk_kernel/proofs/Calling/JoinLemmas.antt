@@ -13,7 +13,8 @@ use Rattle.sv32_space.specs.Tie.{Held}
 use Rattle.thread_table.specs.ThreadsOf.{threads_of}
 use Rattle.thread_table.specs.declared.thread.Thread.{Thread as TableThread}
 use Rattle.thread_table.specs.declared.thread.ThreadState.TheVariants as table
-use Rattle.xk_kernel.specs.State.{machine_of, thread_of}
+use Rattle.send_path.specs.Parts.{thread_of}
+use Rattle.xk_kernel.specs.State.{machine_of}
 use Rattle.xk_kernel.specs.declared.kernel.Kernel.{Kernel}
 use Rattle.xk_kernel.proofs.Acting.TidLemmas.{is_some_mapped}
 

@@ -10,7 +10,8 @@ use Rattle.thread_table.specs.declared.thread.ThreadState.{ThreadState as TableS
 use Rattle.thread_table.specs.declared.thread.ThreadState.TheVariants as table
 use Rattle.xk_base.specs.declared.ids.ThreadId.{ThreadId}
 use Rattle.xk_base.specs.declared.ids.Tid.{Tid}
-use Rattle.xk_kernel.specs.State.{machine_of, state_of, thread_of}
+use Rattle.send_path.specs.Parts.{state_of, thread_of}
+use Rattle.xk_kernel.specs.State.{machine_of}
 use Rattle.xk_kernel.specs.declared.kernel.Kernel.{Kernel}
 
 pub joining_at : {W : Type 0} (held : W → Held) (k : Kernel W) (id : ThreadId) (tid : Tid) (o : Option TableThread) → threads_of k.threads id ≡ o

@@ -27,7 +27,8 @@ use Rattle.vm_memory.specs.Removing.{HasNoLoan}
 use Rattle.vm_memory.specs.Starting.{IsUnlent}
 use Rattle.vm_memory.specs.declared.memory.Memory.{Memory}
 use Rattle.xk_base.specs.declared.ids.Pid.{Pid}
-use Rattle.xk_kernel.specs.State.{machine_of, thread_of, process_of, claim_of}
+use Rattle.send_path.specs.Parts.{thread_of, process_of}
+use Rattle.xk_kernel.specs.State.{machine_of, claim_of}
 use Rattle.xk_kernel.specs.declared.kernel.Kernel.{Kernel}
 
 -- ---- a ledger without loans

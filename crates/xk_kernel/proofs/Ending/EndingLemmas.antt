@@ -10,7 +10,6 @@ use Rattle.machine_model.specs.State.Machine.{Machine, Thread}
 use Rattle.machine_model.specs.State.Order.{is_ready, ready_at}
 use Rattle.machine_model.specs.Stepping.Step.{after}
 use Rattle.machine_model.specs.State.Threads.{Answers, both_answers, give_answers, put_thread, thread_id, with_answer}
-use Rattle.machine_model.proofs.DeathLemmas.{HasNoServer, death_without_servers}
 use Rattle.sv32_space.specs.Tie.{Held}
 use Rattle.thread_table.proofs.PlaceLemmas.{same_thread-true}
 use Rattle.thread_table.specs.ThreadsOf.{threads_of}
@@ -23,6 +22,7 @@ use Rattle.xk_base.specs.Replies.{scalar1_words}
 use Rattle.xk_base.specs.declared.ids.Pid.{Pid}
 use Rattle.xk_base.specs.declared.ids.ThreadId.{ThreadId}
 use Rattle.xk_base.specs.declared.records.What.TheVariants.{End, Gone}
+use Rattle.xk_kernel.specs.Alone.{DiesPlainly}
 use Rattle.xk_kernel.specs.State.{machine_of}
 use Rattle.xk_kernel.specs.Telling.{Tells, log_with}
 use Rattle.xk_kernel.specs.declared.kernel.Kernel.{Kernel}
@@ -99,11 +99,11 @@ module _ (m : Machine) (who : ThreadId) (a0 : ℕ) where
   unfolding settled forgotten
   settled_last = refl
 
-  ended_last : has_threads without who.pid ≡ false → HasNoServer m → settled (thread_ended who a0 m) ≡ last_told
+  ended_last : has_threads without who.pid ≡ false → DiesPlainly who.pid without → settled (thread_ended who a0 m) ≡ last_told
   unfolding thread_ended
-  ended_last e none =
+  ended_last e plain =
       ap (λ b. settled (with_joiners (end_with_last_thread b who.pid without))) e
-      ∙ ap (λ left. settled (with_joiners left)) (death_without_servers without none who.pid)
+      ∙ ap (λ left. settled (with_joiners left)) plain
       ∙ ap (λ a. settled (record (answering a (forgotten who.pid without)) { gone = Some who.pid })) (both_with_none joiners)
       ∙ settled_last
 
@@ -166,11 +166,11 @@ module _ {W : Type 0} (held : W → Held) (old : Kernel W) (first : LogState) (t
     unfolding settled
     gone_told = ap (λ x. End who ∷ (x ++ Gone who.pid ∷ [])) (append-nil (replies m.processes (joiners_answered m who a0)))
 
-    pub end_with_process : (dead : Kernel W) (last : LogState) → has_threads (machine_of held new) who.pid ≡ false → HasNoServer m
+    pub end_with_process : (dead : Kernel W) (last : LogState) → has_threads (machine_of held new) who.pid ≡ false → DiesPlainly who.pid (put_thread who None m)
         → machine_of held dead ≡ forgotten who.pid (machine_of held new) → dead.log ≡ new.log → last ≡ log_with (Gone who.pid ∷ []) dead.log
         → Tells held old (record dead { log = last }) (after (End who) (settled (thread_ended who a0 m)))
-    end_with_process dead last alone none forgot same gone =
-        let e : settled (thread_ended who a0 m) ≡ last_told m who a0 = ended_last m who a0 (threads_left ∙ alone) none in
+    end_with_process dead last alone plain forgot same gone =
+        let e : settled (thread_ended who a0 m) ≡ last_told m who a0 = ended_last m who a0 (threads_left ∙ alone) plain in
         record {
           machine = machine_of_log held dead last ∙ forgot ∙ ap (forgotten who.pid) machine_is ∙ forgets ∙ sym (ap (λ (t : Told). t.machine) e);
           log =

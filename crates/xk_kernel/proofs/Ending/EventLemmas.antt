@@ -1,7 +1,7 @@
 -- What a pick and a kill do, and that a kernel stays sound.
 use Rattle.std.proofs.Common.{◌≡◌, ℕ, ◌≤◌, Bool, true, false, [], ◌∷◌, ◌++◌, map, Option, Some, None, refl, sym, ap, subst, ◌∙◌}
 use Rattle.std.specs.Prelude.{IsTrue}
-use Rattle.machine_laws.proofs.Stepping.PlainStepLemmas.{kill_leaves_no_servers}
+use Rattle.machine_laws.proofs.Dying.DeathLemmas.{kill_keeps}
 use Rattle.machine_model.proofs.DeathLemmas.{death_without_servers}
 use Rattle.machine_model.proofs.KeptLemmas.{pick_keeps}
 use Rattle.machine_model.specs.State.Changes.{Change, settled}
@@ -11,7 +11,6 @@ use Rattle.machine_model.specs.State.Machine.{Machine}
 use Rattle.machine_model.specs.Stepping.Reservations.{unreserved}
 use Rattle.machine_model.specs.Runs.Matched.{Matched}
 use Rattle.machine_model.specs.Stepping.Step.{Recorded, record_of}
-use Rattle.machine_laws.specs.WithoutServers.{HasNoServers}
 use Rattle.process_table.specs.ProcessesOf.{processes_of}
 use Rattle.process_table.specs.ProcessMap.{is_alive}
 use Rattle.process_table.specs.State.{ProcessState}
@@ -23,8 +22,10 @@ use Rattle.xk_base.specs.declared.ids.Pid.{Pid}
 use Rattle.xk_base.specs.declared.ids.ThreadId.{ThreadId}
 use Rattle.xk_base.specs.declared.limits.TheConstants.{RECORD_LIMIT}
 use Rattle.xk_base.specs.declared.records.What.TheVariants.{Gone}
+use Rattle.xk_kernel.specs.Alone.{DiesPlainly}
 use Rattle.xk_kernel.specs.Sound.{IsSound, IsUsable, IsWhole}
-use Rattle.xk_kernel.specs.State.{machine_of, process_of}
+use Rattle.send_path.specs.Parts.{process_of}
+use Rattle.xk_kernel.specs.State.{machine_of}
 use Rattle.xk_kernel.specs.Stepping.{Becomes}
 use Rattle.xk_kernel.specs.Telling.{log_with}
 use Rattle.xk_kernel.specs.declared.kernel.Kernel.{Kernel}
@@ -42,6 +43,7 @@ pushed_whole slot_count held k log whole e = record {
   room = subst (λ room. RECORD_LIMIT ≤ room) (sym e) whole.room;
   unlent = whole.unlent;
   no_servers = whole.no_servers;
+  no_messages = whole.no_messages;
   unclaimed = whole.unclaimed;
 }
 
@@ -55,6 +57,7 @@ unreserved_whole slot_count held k whole = record {
   room = whole.room;
   unlent = whole.unlent;
   no_servers = whole.no_servers;
+  no_messages = whole.no_messages;
   unclaimed = whole.unclaimed;
 }
 
@@ -66,12 +69,12 @@ alive_of (Some p) = refl
 
 -- ---- a kill
 
-killed_is : (m : Machine) → HasNoServers m → (pid : Pid) → (m.process pid.0).alive ≡ true
+killed_is : (m : Machine) (pid : Pid) → DiesPlainly pid (unreserved m) → (m.process pid.0).alive ≡ true
     → killed pid m ≡ record { machine = forgotten pid (unreserved m); records = record_of m.steps (Gone pid) ∷ [] }
 unfolding killed settled forgotten
-killed_is m none pid alive =
+killed_is m pid plain alive =
     ap (λ b. killed_if b pid (unreserved m)) alive
-    ∙ ap (λ (change : Change). at_event m.steps (settled change)) (death_without_servers (unreserved m) none pid)
+    ∙ ap (λ (change : Change). at_event m.steps (settled change)) plain
     ∙ (λ i. record { machine = nobody_answered (forgotten pid (unreserved m)) i; records = map (record_of m.steps) (no_reply m.processes i ++ ([] ++ Gone pid ∷ [])) })
 
 spared : (m : Machine) (pid : Pid) → (m.process pid.0).alive ≡ false → killed pid m ≡ nothing (unreserved m)
@@ -90,7 +93,7 @@ module _ {W : Type 0} (slot_count : W → ℕ) (held : W → Held) (old new : Ke
   pick_matched who = pick_keeps who (machine_of held old) left_matched
 
   pub kill_matched : (pid : Pid) → Matched (killed pid (machine_of held old)).machine
-  kill_matched pid = (kill_leaves_no_servers (machine_of held old) left_matched (without_servers slot_count held old sound.whole) pid).0
+  kill_matched pid = kill_keeps pid (machine_of held old) left_matched
 
   -- the log that is begun anew
   abbrev begun : LogState
@@ -120,7 +123,7 @@ module _ {W : Type 0} (slot_count : W → ℕ) (held : W → Held) (old new : Ke
   unfolding machine_of
   killed_done pid alive machine log =
       let is : killed pid (machine_of held old) ≡ record { machine = forgotten pid (unreserved (machine_of held old)); records = record_of old.steps (Gone pid) ∷ [] } =
-      killed_is (machine_of held old) (without_servers slot_count held old sound.whole) pid alive in
+      killed_is (machine_of held old) pid (death_without_servers (unreserved (machine_of held old)) (without_servers slot_count held old sound.whole) pid) alive in
       record {
         machine = machine ∙ sym (ap (λ (s : Recorded). s.machine) is);
         records = ap (λ (l : LogState). l.records) log ∙ sym (ap (λ (s : Recorded). s.records) is);

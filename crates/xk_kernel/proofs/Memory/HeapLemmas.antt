@@ -34,7 +34,8 @@ use Rattle.vm_memory.specs.Sound.{IsSound as IsMemorySound}
 use Rattle.vm_memory.specs.Starting.{IsUnlent}
 use Rattle.xk_kernel.specs.Calling.{outcome_of}
 use Rattle.xk_kernel.specs.Sound.{IsWhole}
-use Rattle.xk_kernel.specs.State.{machine_of, process_of}
+use Rattle.send_path.specs.Parts.{process_of}
+use Rattle.xk_kernel.specs.State.{machine_of}
 use Rattle.xk_kernel.specs.declared.kernel.Kernel.{Kernel}
 use Rattle.xk_kernel.specs.declared.kernel.calls.CallerFate.TheVariants.{Answered}
 
@@ -114,6 +115,7 @@ module _ {W : Type 0} (slot_count : W → ℕ) (held : W → Held) (k : Kernel W
         room = whole.room;
         unlent = unlent;
         no_servers = whole.no_servers;
+        no_messages = whole.no_messages;
         unclaimed = whole.unclaimed;
       }
 

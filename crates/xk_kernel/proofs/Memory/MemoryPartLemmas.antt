@@ -97,6 +97,7 @@ module _ {W P : Type 0} (is_honest : W → Bool) (held : W → Held) (slot_count
     room = whole.room;
     unlent = unlent_stays (ledger held k.mem) (ledger held mem) rest.rights whole.unlent;
     no_servers = whole.no_servers;
+    no_messages = whole.no_messages;
     unclaimed = whole.unclaimed;
   }
 

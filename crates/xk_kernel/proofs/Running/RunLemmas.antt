@@ -196,6 +196,7 @@ whole_lent slot_count held k threads count whole = record {
   room = whole.room;
   unlent = whole.unlent;
   no_servers = whole.no_servers;
+  no_messages = whole.no_messages;
   unclaimed = whole.unclaimed;
 }
 

@@ -20,6 +20,7 @@ use Rattle.machine_model.specs.Runs.Matched.{Matched}
 use Rattle.machine_model.specs.State.Start.{HasThread, IsStart}
 use Rattle.machine_model.specs.State.Threads.{first_handler_thread, first_thread, thread_id}
 use Rattle.machine_model.proofs.StartLemmas.{start_matched}
+use Rattle.msg_queue.specs.Seats.{used_of}
 use Rattle.process_table.specs.ProcessMap.{ProcessMap, new_processes}
 use Rattle.process_table.specs.ProcessesOf.{process_count as processes_made, processes_of}
 use Rattle.process_table.specs.State.{new_process}
@@ -39,7 +40,8 @@ use Rattle.xk_base.specs.declared.limits.TheConstants.{RECORD_LIMIT}
 use Rattle.xk_kernel.proofs.Starting.FirstLedgerLemmas.{IsPlanned, first_no_heap, first_unlent, pid_of_planned, planned_of_pid}
 use Rattle.xk_kernel.specs.Sound.{IsSound}
 use Rattle.xk_kernel.specs.Start.{first_threads, start, threads_at_start}
-use Rattle.xk_kernel.specs.State.{as_reservation, claim_of, machine_of, process_of, server_of, thread_of}
+use Rattle.send_path.specs.Parts.{process_of, server_of, thread_of}
+use Rattle.xk_kernel.specs.State.{as_reservation, claim_of, machine_of}
 use Rattle.xk_kernel.specs.declared.kernel.Kernel.{Kernel}
 
 -- ---- the start of a plan is a start
@@ -134,6 +136,7 @@ pub record IsBooted {W : Type 0} (held : W → Held) (plan : BootPlan) (file : L
   pub threads : (id : ThreadId) → option_map thread_of (threads_of k.threads id) ≡ threads_at_start plan id
   pub procs : processes_of k.procs ≡ new_processes (length plan.procs)
   pub servers : servers_of k.servers ≡ no_servers
+  pub messages : All (λ seat. used_of seat ≡ 0) k.queues
   pub claims : claims_of k.claims ≡ no_claims
   pub cursor : k.cursor ≡ first_turn
   pub next : k.next ≡ 1
@@ -150,7 +153,7 @@ booted_machine held plan file k h = λ i. record {
   cursor = h.cursor i;
   threads = λ id. h.threads id i;
   process = λ pid. (ap (λ (m : ProcessMap). process_of (m pid)) h.procs ∙ new_at (is_pid (length plan.procs) pid)) i;
-  servers = λ n. option_map server_of ((h.servers i).live n);
+  servers = λ n. option_map (server_of k.queues) ((h.servers i).live n);
   claims = λ n. option_map claim_of (h.claims i n);
   pending = λ n. option_map_or (λ c. c.pending) (h.claims i n) false;
   next_number = h.next i;
@@ -181,6 +184,7 @@ module _ {W : Type 0} (slot_count : W → ℕ) (held : W → Held) (plan : BootP
       room = room;
       unlent = subst IsUnlent (sym h.ledger) (first_unlent plan file);
       no_servers = λ n. ap (λ (s : ServerState). s.live n) h.servers;
+      no_messages = h.messages;
       unclaimed = λ n. ap (λ (m : ClaimMap). m n) h.claims;
     };
     matched = λ usable. booted_matched;

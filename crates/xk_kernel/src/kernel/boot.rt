@@ -3,6 +3,7 @@
 ghost use Rattle.std.specs.Option.{option_map};
 ghost use Rattle.std.specs.Prelude.{◌≡◌, ◌≤◌, ◌==◌, if◌then◌else◌, [], All, None, IfErr, IfOk, length};
 ghost use Rattle.boot_plan.specs.Lawful.{CanStart, IsLawfulPlan};
+ghost use Rattle.msg_queue.specs.Seats.{used_of};
 ghost use Rattle.process_table.specs.ProcessMap.{new_processes};
 ghost use Rattle.process_table.specs.ProcessesOf.{process_count as processes_made, processes_of};
 ghost use Rattle.server_table.specs.ServerState.{no_servers};
@@ -18,13 +19,15 @@ ghost use Rattle.xk_base.specs.declared.ids.Tid.{Tid as TidNumber};
 ghost use Rattle.xk_base.specs.declared.limits.TheConstants.{RECORD_LIMIT};
 ghost use Rattle.xk_kernel.specs.Sound.{IsSound, IsUsable};
 ghost use Rattle.xk_kernel.specs.Start.{first_threads, start, threads_at_start};
-ghost use Rattle.xk_kernel.specs.State.{machine_of, thread_of};
+ghost use Rattle.send_path.specs.Parts.{thread_of};
+ghost use Rattle.xk_kernel.specs.State.{machine_of};
 ghost use Rattle.xk_kernel.specs.Stepping.{last_of};
 
 use crate::kernel::Kernel;
 use crate::kernel::threads::new_thread;
 use boot_plan::BootPlan;
 use irq_claims::Claims;
+use msg_queue::Queues;
 use process_table::Processes;
 use server_table::Servers;
 use std::alloc::Global;
@@ -37,8 +40,8 @@ use xk_ports::SwapStore;
 /// The end of the stack pages with which a process begins.
 const FIRST_STACK: u32 = 0x8000_0000;
 
-// The threads at their start, the processes, an empty table of servers, and the log.
-type Tables = (Threads, Processes, Servers, Log);
+// The threads at their start, the processes, an empty table of servers, the log, and no messages.
+type Tables = (Threads, Processes, Servers, Log, Queues);
 
 // Starts the interrupt thread, which is idle, and the first thread of a process.
 fn start_process(threads: &mut Threads, pid: Pid, entry: u32)
@@ -80,6 +83,7 @@ fn tables(alloc: Global, plan: &BootPlan) -> Result<Tables, NoMemory>
     ensures made { IfOk result (λ t. processes_made t.1 ≡ length plan.now.procs) }
     ensures servers { IfOk result (λ t. servers_of t.2 ≡ no_servers) }
     ensures log { IfOk result (λ t. t.3 ≡ record { step = 0; records = []; room = RECORD_LIMIT }) }
+    ensures queues { IfOk result (λ t. All (λ seat. used_of seat ≡ 0) t.4) }
 {
     let count = plan.procs.as_slice().len() as u32;
     let mut threads = Threads::new(alloc, count)?;
@@ -87,7 +91,9 @@ fn tables(alloc: Global, plan: &BootPlan) -> Result<Tables, NoMemory>
     let servers = Servers::new(alloc)?;
     let log = Log::new(alloc, RECORD_LIMIT as usize)?;
     start_processes(&mut threads, plan);
-    Ok((threads, procs, servers, log))
+    // These come last: they are closed, and not just let go.
+    let queues = Queues::new(alloc)?;
+    Ok((threads, procs, servers, log, queues))
 }
 
 impl<W: SwapStore> Kernel<W> {
@@ -115,7 +121,7 @@ impl<W: SwapStore> Kernel<W> {
         // Until pages can be out, want of memory is all that can come.
         ensures want { IfErr result (λ fault. fault.why ≡ BootError.NoMemory) }
     {
-        let (threads, procs, servers, log) = match tables(alloc, plan) {
+        let (threads, procs, servers, log, queues) = match tables(alloc, plan) {
             Ok(tables) => tables,
             Err(NoMemory) => {
                 return Err(BootFault {
@@ -124,12 +130,19 @@ impl<W: SwapStore> Kernel<W> {
                 });
             }
         };
-        let mem = Memory::boot(alloc, plan, file, store)?;
+        let mem = match Memory::boot(alloc, plan, file, store) {
+            Ok(mem) => mem,
+            Err(fault) => {
+                queues.close();
+                return Err(fault);
+            }
+        };
         Ok(Kernel {
             mem,
             threads,
             procs,
             servers,
+            queues,
             claims: Claims::new(),
             log,
             cursor: ThreadId {

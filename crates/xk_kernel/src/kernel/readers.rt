@@ -116,6 +116,7 @@ impl<W: SwapStore> Kernel<W> {
             threads: _,
             procs: _,
             servers: _,
+            queues,
             claims: _,
             log: _,
             cursor: _,
@@ -123,6 +124,7 @@ impl<W: SwapStore> Kernel<W> {
             steps: _,
             reserved: _,
         } = self;
+        queues.close();
         mem.close()
     }
 }

@@ -6,7 +6,8 @@ ghost use Rattle.vm_memory.specs.Memory.{processes};
 ghost use Rattle.xk_base.specs.Circle.{is_thread_id};
 ghost use Rattle.xk_base.specs.declared.records.What.TheVariants.{Reply};
 ghost use Rattle.xk_kernel.specs.Sound.{IsWhole};
-ghost use Rattle.xk_kernel.specs.State.{machine_of, thread_of};
+ghost use Rattle.send_path.specs.Parts.{thread_of};
+ghost use Rattle.xk_kernel.specs.State.{machine_of};
 ghost use Rattle.xk_kernel.specs.Telling.{Tells};
 
 use crate::kernel::Kernel;

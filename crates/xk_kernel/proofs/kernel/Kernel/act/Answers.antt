@@ -13,7 +13,8 @@ use Rattle.xk_base.specs.Circle.{is_thread_id}
 use Rattle.xk_base.specs.Registers.{arguments_of}
 use Rattle.xk_base.specs.declared.records.What.TheVariants.{Call, End, Fault}
 use Rattle.xk_kernel.specs.Running.{machine_after}
-use Rattle.xk_kernel.specs.State.{machine_of, thread_of}
+use Rattle.send_path.specs.Parts.{thread_of}
+use Rattle.xk_kernel.specs.State.{machine_of}
 use Rattle.xk_kernel.proofs.Acting.ActLemmas.{actor_known, at, begun_done, begun_ready, built_call, built_end, built_instruction, call_executed, device_executed, fetched, left_at_end, left_executed, never_fails, next_executed, run_done, run_steps, told_end, told_executed, trap_executed, unbuilt_handler, words_stay}
 use Rattle.xk_kernel.proofs.Calling.SettleLemmas.{ready_there}
 use Rattle.xk_kernel.proofs.kernel.Kernel.act.Goals as goal

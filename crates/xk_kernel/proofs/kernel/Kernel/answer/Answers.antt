@@ -2,7 +2,8 @@ use Rattle.std.proofs.Common.{Some, [], ◌∷◌, refl, ap, ◌∙◌}
 use Rattle.machine_model.specs.State.Machine.{Ready}
 use Rattle.machine_model.specs.State.Threads.{put_thread}
 use Rattle.xk_base.specs.declared.records.What.TheVariants.{Reply}
-use Rattle.xk_kernel.specs.State.{machine_of, thread_of}
+use Rattle.send_path.specs.Parts.{thread_of}
+use Rattle.xk_kernel.specs.State.{machine_of}
 use Rattle.xk_kernel.proofs.Acting.ThreadLemmas.{answer_there, in_table, machine_of_log, machine_put, thread_found}
 use Rattle.xk_kernel.proofs.Calling.TellingLemmas.{told_length, told_one}
 use Rattle.xk_kernel.proofs.kernel.Kernel.answer.Goals as goal

@@ -9,10 +9,11 @@ use Rattle.xk_kernel.proofs.kernel.Kernel.boot.Goals as goal
 
 abbrev kernel : (g : Over) → goal.After-new g → Kernel g.row.W.Denot
 kernel g c = record {
-  mem = c.in_ok-mem.mem;
+  mem = c.in-Ok-boot.mem;
   threads = c.in-Ok.tables.0;
   procs = c.in-Ok.tables.1;
   servers = c.in-Ok.tables.2;
+  queues = c.in-Ok.tables.4;
   claims = c.new.result;
   log = c.in-Ok.tables.3;
   cursor = first_turn;
@@ -23,11 +24,12 @@ kernel g c = record {
 
 booted : (g : Over) (c : goal.After-new g) → IsBooted g.W.SwapStore.held c.args.plan.now c.args.file.now (kernel g c)
 booted g c = record {
-  size = c.in_ok-mem.ensures.size;
-  ledger = c.in_ok-mem.ensures.whole (sound-means g.W.SwapStore.slot_count g.W.SwapStore.is_honest g.W.SwapStore.held c.in_ok-mem.mem c.in_ok-mem.ensures.sound);
+  size = c.in-Ok-boot.ensures.size;
+  ledger = c.in-Ok-boot.ensures.whole (sound-means g.W.SwapStore.slot_count g.W.SwapStore.is_honest g.W.SwapStore.held c.in-Ok-boot.mem c.in-Ok-boot.ensures.sound);
   threads = c.in-Ok.ensures.threads;
   procs = c.in-Ok.ensures.procs;
   servers = c.in-Ok.ensures.servers;
+  messages = c.in-Ok.ensures.queues;
   claims = c.new.ensures;
   cursor = refl;
   next = refl;
@@ -40,7 +42,7 @@ pub returns-clause-sound : goal.returns-clause-sound
 returns-clause-sound g c =
     let room : c.in-Ok.tables.3.room ≡ RECORD_LIMIT = ap (λ (l : LogState). l.room) c.in-Ok.ensures.log in
     booted_sound g.W.SwapStore.slot_count g.W.SwapStore.held c.args.plan.now c.args.file.now (kernel g c) (booted g c)
-    c.requires.can_start c.requires.lawful.few c.in_ok-mem.ensures.sound c.requires.lawful.some
+    c.requires.can_start c.requires.lawful.few c.in-Ok-boot.ensures.sound c.requires.lawful.some
     c.in-Ok.ensures.threaded c.in-Ok.ensures.made (omega arith)
 
 pub returns-clause-start : goal.returns-clause-start

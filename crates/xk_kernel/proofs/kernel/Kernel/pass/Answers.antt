@@ -1,6 +1,7 @@
 use Rattle.std.proofs.Common.{◌∙◌}
 use Rattle.machine_model.specs.State.Threads.{passed}
-use Rattle.xk_kernel.specs.State.{machine_of, thread_of}
+use Rattle.send_path.specs.Parts.{thread_of}
+use Rattle.xk_kernel.specs.State.{machine_of}
 use Rattle.xk_kernel.proofs.Acting.ThreadLemmas.{change_missing, change_there, machine_put, not_to_change, to_change}
 use Rattle.xk_kernel.proofs.kernel.Kernel.pass.Goals as goal
 

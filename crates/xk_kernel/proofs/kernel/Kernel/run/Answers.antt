@@ -6,7 +6,8 @@ use Rattle.rv32_hart.specs.Running.{ran_of}
 use Rattle.thread_table.specs.Lending.{with_thread}
 use Rattle.xk_kernel.specs.Running.{machine_after}
 use Rattle.xk_kernel.specs.Sound.{Keeps}
-use Rattle.xk_kernel.specs.State.{machine_of, thread_of}
+use Rattle.send_path.specs.Parts.{thread_of}
+use Rattle.xk_kernel.specs.State.{machine_of}
 use Rattle.xk_kernel.proofs.Acting.ThreadLemmas.{in_table, machine_put, put_same, thread_found}
 use Rattle.xk_kernel.proofs.Memory.MemoryPartLemmas.{keeps_with, whole_with, with_memory}
 use Rattle.xk_kernel.proofs.Running.RunLemmas.{HasRun, has_run, machine_goes_on, machine_stays, of_thread, registers_stay, stays_usable, whole_lent}
