@@ -3,7 +3,7 @@ use Rattle.std.proofs.Common.{◌≡◌, ◌∙◌, sym, refl, ℕ, ◌+◌, ◌
 use Rattle.std.specs.Option.{option_or}
 use Rattle.std.specs.List.{list_any, AllByRecursion}
 use Rattle.std.proofs.lemmas.List.Elements.{All-from_recursion}
-use Rattle.xk_base.specs.Windows.{in_window}
+use Rattle.xk_base.specs.Numbers.Windows.{in_window}
 use Rattle.xk_base.specs.declared.windows.Window.TheVariants.{Image}
 use Rattle.kernel_args.specs.declared.args.ProcArgs.{ProcArgs}
 use Rattle.kernel_args.specs.declared.args.Section.{Section}

@@ -1,6 +1,6 @@
 -- How many pages a machine has room for.
 use Rattle.std.specs.Prelude.{ℕ, ◌+◌, ◌-◌}
-use Rattle.xk_base.specs.Limits.{table_frames}
+use Rattle.xk_base.specs.Numbers.Limits.{table_frames}
 
 -- the frames that hold pages: all but those of tables and the one that is always free, through which pages are exchanged
 abbrev pub page_frames : ℕ → ℕ → ℕ

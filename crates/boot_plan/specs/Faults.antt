@@ -1,8 +1,8 @@
 -- The faults of a plan, in the order in which they are looked for. A fault of a process is at its pid.
 use Rattle.std.specs.Prelude.{◌≡◌, ℕ, ◌+◌, ◌*◌, ◌/◌, ◌%◌, Bool, not, ◌&&◌, ◌||◌, ◌==◌, nat_lt, List, [], ◌∷◌, ◌++◌, length, Option, Some}
 use Rattle.std.specs.List.{list_any}
-use Rattle.xk_base.specs.Limits.{table_frames}
-use Rattle.xk_base.specs.Windows.{in_window}
+use Rattle.xk_base.specs.Numbers.Limits.{table_frames}
+use Rattle.xk_base.specs.Numbers.Windows.{in_window}
 use Rattle.xk_base.specs.declared.windows.Window.TheVariants.{Image}
 use Rattle.kernel_args.specs.declared.args.Args.{Args}
 use Rattle.kernel_args.specs.declared.args.ProcArgs.{ProcArgs}

@@ -1,7 +1,7 @@
 -- What memory and a kernel ask of a plan.
 use Rattle.std.specs.Prelude.{◌≡◌, ◌≢◌, ◌≤◌, ℕ, ◌+◌, ◌*◌, ◌/◌, ◌%◌, length, IsTrue, IsSome, Some, All, Any, AllPairs}
-use Rattle.xk_base.specs.Limits.{table_frames}
-use Rattle.xk_base.specs.Windows.{window_at}
+use Rattle.xk_base.specs.Numbers.Limits.{table_frames}
+use Rattle.xk_base.specs.Numbers.Windows.{window_at}
 use Rattle.xk_base.specs.declared.windows.Window.TheVariants.{Heap}
 use Rattle.boot_plan.specs.declared.plans.BootPlan.{BootPlan}
 use Rattle.boot_plan.specs.declared.plans.ProcPlan.{ProcPlan}

@@ -1,7 +1,7 @@
 //! How many pages a plan has room for.
 
 ghost use Rattle.std.specs.Prelude.{◌≡◌, ◌≤◌, ◌+◌, length};
-ghost use Rattle.xk_base.specs.Limits.{table_frames};
+ghost use Rattle.xk_base.specs.Numbers.Limits.{table_frames};
 ghost use Rattle.boot_plan.specs.Capacity.{capacity};
 
 use crate::plans::BootPlan;

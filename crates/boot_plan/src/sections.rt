@@ -2,7 +2,7 @@
 
 ghost use Rattle.std.specs.Prelude.{◌≡◌, ◌≤◌, ◌<◌, ◌/◌, not};
 ghost use Rattle.std.specs.List.{list_any};
-ghost use Rattle.xk_base.specs.Windows.{in_window};
+ghost use Rattle.xk_base.specs.Numbers.Windows.{in_window};
 ghost use Rattle.xk_base.specs.declared.windows.Window.TheVariants.{Image};
 ghost use Rattle.boot_plan.specs.Sections.{page_count, section_pages, has_page, shares_page, is_writable, is_zero_filled, is_executable, file_size};
 

@@ -3,7 +3,7 @@ use Rattle.std.proofs.Common.{◌≡◌, ◌<◌, ◌==◌, ℕ, Some, true, fal
 use Rattle.std.specs.Option.{option_map, option_and_then}
 use Rattle.xk_base.specs.declared.ids.Pid.{Pid}
 use Rattle.xk_base.specs.declared.limits.TheConstants.{INTERRUPT_LIMIT}
-use Rattle.xk_base.specs.Counting.{put_at}
+use Rattle.xk_base.specs.Tables.Counting.{put_at}
 use Rattle.xk_base.proofs.CountingLemmas.{least_below-Some}
 use Rattle.irq_claims.specs.declared.claims.Claim.{Claim}
 use Rattle.irq_claims.specs.ClaimMap.{ClaimMap, is_due_to, delivery, lowest_delivery, lowest_due, settle_any, with_pending}

@@ -5,7 +5,7 @@ use Rattle.std.specs.Prelude.{ℕ, ◌==◌, Bool, true, false, ◌&&◌, Option
 use Rattle.std.specs.Option.{option_map, option_and_then}
 use Rattle.xk_base.specs.declared.ids.Pid.{Pid}
 use Rattle.xk_base.specs.declared.limits.TheConstants.{INTERRUPT_LIMIT}
-use Rattle.xk_base.specs.Counting.{least_below, listed_below, put_at}
+use Rattle.xk_base.specs.Tables.Counting.{least_below, listed_below, put_at}
 use Rattle.irq_claims.specs.declared.claims.Claim.{Claim}
 use Rattle.irq_claims.specs.declared.claims.Due.{Due}
 

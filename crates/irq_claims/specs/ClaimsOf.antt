@@ -1,5 +1,5 @@
 -- What a table of claims holds, as its callers see it.
-use Rattle.xk_base.specs.RowMap.{row_map}
+use Rattle.xk_base.specs.Tables.RowMap.{row_map}
 use Rattle.irq_claims.specs.declared.claims.Claims.{Claims}
 use Rattle.irq_claims.specs.ClaimMap.{ClaimMap}
 

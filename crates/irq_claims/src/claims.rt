@@ -3,7 +3,7 @@
 ghost use Rattle.std.specs.Prelude.{◌≡◌, ◌<◌, Option, OnOk, OnErr, nat_eq, is_some, if◌then◌else◌};
 ghost use Rattle.std.specs.Option.{option_map};
 ghost use Rattle.xk_base.specs.declared.errors.XousError.TheVariants.{InterruptInUse, InterruptNotFound};
-ghost use Rattle.xk_base.specs.Counting.{put_at};
+ghost use Rattle.xk_base.specs.Tables.Counting.{put_at};
 ghost use Rattle.irq_claims.specs.ClaimMap.{no_claims, new_claim, is_of, pend, lowest_delivery, lowest_due, settle_any, end_claims};
 
 use xk_base::limits::INTERRUPT_LIMIT;

@@ -1,6 +1,6 @@
 -- Small ledgers are counted by evaluation.
 use Rattle.std.proofs.Common.{◌≡◌, true, false, refl}
-use Rattle.xk_base.specs.Counting.{count_below}
+use Rattle.xk_base.specs.Tables.Counting.{count_below}
 use Rattle.ledger_model.specs.Ledger.{Ledger, pages, empty_ledger}
 use Rattle.ledger_model.specs.Places.{place_at, count_places}
 use Rattle.ledger_model.specs.Steps.{make, make_console}

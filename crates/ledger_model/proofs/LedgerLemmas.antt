@@ -12,7 +12,7 @@ use Rattle.ledger_model.specs.Lawful.{IsLawful}
 use Rattle.ledger_model.specs.Loans.{same_number}
 use Rattle.ledger_model.specs.Reach.{is_held_at, lender_of, Role, FreePlace, HomePlace, HolderPlace, OrphanPlace, lent_role, role_at, may, page_at_role, reach, is_free, is_free_role}
 use Rattle.ledger_model.proofs.PlaceLemmas.{same_place-true, same_place-at}
-use Rattle.ledger_model.proofs.NumberingLemmas.{first_place-passes, first_place-only, first_place-none, first_place-None}
+use Rattle.ledger_model.proofs.Loans.NumberingLemmas.{first_place-passes, first_place-only, first_place-none, first_place-None}
 
 -- ledgers that agree at every place are equal
 pub same_ledger : (a b : Ledger) → ((p : Place) → a.home p ≡ b.home p) → ((p : Place) → a.orphan p ≡ b.orphan p)

@@ -1,16 +1,12 @@
-pub mod BareLemmas
 mod ExampleLemmas
-pub mod LeastRunLemmas
 pub mod LedgerLemmas
 pub mod LivingLemmas
+pub mod Loans
 pub mod LocalityLemmas
 pub mod NarrowerLemmas
-pub mod NumberingLemmas
-pub mod OfNumberLemmas
 pub mod OwnerLemmas
+pub mod Pages
 pub mod PlaceLemmas
 pub mod ReachingLemmas
-pub mod RunTestLemmas
-pub mod SmallLemmas
+pub mod Runs
 pub mod Stepping
-pub mod WholePageLemmas

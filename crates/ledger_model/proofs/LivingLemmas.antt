@@ -23,7 +23,7 @@ use Rattle.ledger_model.proofs.LedgerLemmas.{cases_Option, same_number-false, sa
 use Rattle.ledger_model.proofs.Stepping.LendingLemmas.{lend_lawful, lend_other, lend_outside, lend_page, lend_was, loan_to, IsMovable, may_move-page}
 use Rattle.ledger_model.proofs.LocalityLemmas.{make_outside, make_console_outside, remove_outside, reduce_outside, end_loan_outside, orphan_loan_outside, forget_outside}
 use Rattle.ledger_model.proofs.Stepping.MakingLemmas.{make_lawful, make_loans, make_console_lawful, make_console_loans}
-use Rattle.ledger_model.proofs.OfNumberLemmas.{of_number-Some, of_number-at, of_number-apart, SameOf, stands_still, fresh_still}
+use Rattle.ledger_model.proofs.Loans.OfNumberLemmas.{of_number-Some, of_number-at, of_number-apart, SameOf, stands_still, fresh_still}
 use Rattle.ledger_model.proofs.Stepping.OrphaningLemmas.{orphan_loan_lawful, orphan_loan_other, orphan_loan_nothing}
 use Rattle.ledger_model.proofs.Stepping.PassingLemmas.{pass_lawful, pass_other, pass_fresh, pass_home, passed_loan-kind, passed_loan-number}
 use Rattle.ledger_model.proofs.PlaceLemmas.{in_run-after, same_place-true}

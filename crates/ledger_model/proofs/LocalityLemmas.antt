@@ -11,7 +11,7 @@ use Rattle.ledger_model.specs.Ledger.{Ledger, Console, Bytes, Page, PageLoan, Pa
 use Rattle.ledger_model.specs.Loans.{orphan_loan_at, of_number, orphan_of_number}
 use Rattle.ledger_model.specs.Places.{same_place, in_run}
 use Rattle.ledger_model.specs.Steps.{make, make_console, new_page, zero_page, write, written_page, written_orphan, remove, reduce, with_right, end_loan, freed, orphan_loan, forget}
-use Rattle.ledger_model.proofs.OfNumberLemmas.{loan_without-None, orphan_without-None}
+use Rattle.ledger_model.proofs.Loans.OfNumberLemmas.{loan_without-None, orphan_without-None}
 use Rattle.ledger_model.proofs.Stepping.OrphaningLemmas.{orphan_loan_home, orphan_loan_kept, page_without-stays, none_made}
 use Rattle.ledger_model.proofs.LedgerLemmas.{loan_at-home}
 use Rattle.ledger_model.proofs.PlaceLemmas.{same_place-apart}

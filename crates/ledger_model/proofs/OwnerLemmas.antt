@@ -14,7 +14,7 @@ use Rattle.ledger_model.specs.Reach.{reach, is_free, home_may, holder_may, lende
 use Rattle.ledger_model.specs.Steps.{orphan_loan, end_loan, page_without, orphan_without, freed}
 use Rattle.ledger_model.proofs.Stepping.EndingLemmas.{end_loan_fresh, end_loan_loan}
 use Rattle.ledger_model.proofs.LedgerLemmas.{cases_Option, loan_at-page, lender_of-loan, role_at-orphan, role_at-lender, role_at-free, reach-role}
-use Rattle.ledger_model.proofs.OfNumberLemmas.{stands-home, stands-orphan, of_number-None, loan_without-old, orphan_without-Some, orphan_of_run-inside}
+use Rattle.ledger_model.proofs.Loans.OfNumberLemmas.{stands-home, stands-orphan, of_number-None, loan_without-old, orphan_without-Some, orphan_of_run-inside}
 use Rattle.ledger_model.proofs.Stepping.OrphaningLemmas.{orphan_loan_stands, orphan_loan_lawful, orphan_loan_home, page_without-gone}
 use Rattle.ledger_model.proofs.PlaceLemmas.{in_run-after, moved-after}
 use Rattle.ledger_model.proofs.ReachingLemmas.{reach-home, reach-orphan, is_free-all}

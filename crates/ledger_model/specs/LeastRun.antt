@@ -6,8 +6,8 @@ use Rattle.xk_base.specs.declared.ids.Pid.{Pid}
 use Rattle.xk_base.specs.declared.ids.Place.{Place}
 use Rattle.xk_base.specs.declared.ids.Vpn.{Vpn}
 use Rattle.xk_base.specs.declared.windows.Window.{Window}
-use Rattle.xk_base.specs.Counting.{least_below}
-use Rattle.xk_base.specs.Windows.{first_page, last_page}
+use Rattle.xk_base.specs.Tables.Counting.{least_below}
+use Rattle.xk_base.specs.Numbers.Windows.{first_page, last_page}
 use Rattle.ledger_model.specs.Ledger.{Ledger}
 use Rattle.ledger_model.specs.Places.{run}
 use Rattle.ledger_model.specs.Reach.{is_free}

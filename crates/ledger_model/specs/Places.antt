@@ -4,9 +4,9 @@ use Rattle.std.specs.Option.{option_map}
 use Rattle.xk_base.specs.declared.ids.Place.{Place}
 use Rattle.xk_base.specs.declared.windows.Window.{Window}
 use Rattle.xk_base.specs.declared.windows.Window.TheVariants.{Image, Heap, Message, Map, Stack}
-use Rattle.xk_base.specs.Circle.{is_pid}
-use Rattle.xk_base.specs.Windows.{first_page, in_window, window_at}
-use Rattle.xk_base.specs.Counting.{count_below, least_below, listed_below}
+use Rattle.xk_base.specs.Tables.Circle.{is_pid}
+use Rattle.xk_base.specs.Numbers.Windows.{first_page, in_window, window_at}
+use Rattle.xk_base.specs.Tables.Counting.{count_below, least_below, listed_below}
 
 -- whether two places are one
 abbrev pub same_place : Place → Place → Bool

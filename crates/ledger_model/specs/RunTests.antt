@@ -6,7 +6,7 @@ use Rattle.xk_base.specs.declared.pages.LoanKind.{LoanKind}
 use Rattle.xk_base.specs.declared.pages.LoanKind.TheVariants.{Shared, Exclusive}
 use Rattle.xk_base.specs.declared.pages.Right.{Right}
 use Rattle.xk_base.specs.declared.windows.Window.{Window}
-use Rattle.xk_base.specs.Windows.{first_page, last_page}
+use Rattle.xk_base.specs.Numbers.Windows.{first_page, last_page}
 use Rattle.ledger_model.specs.Conditions.{is_console, is_within}
 use Rattle.ledger_model.specs.Ledger.{Ledger, Page}
 use Rattle.ledger_model.specs.Places.{run, first_place}

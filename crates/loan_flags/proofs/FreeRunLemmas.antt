@@ -9,16 +9,16 @@ use Rattle.xk_base.specs.declared.ids.Pid.{Pid}
 use Rattle.xk_base.specs.declared.ids.Place.{Place}
 use Rattle.xk_base.specs.declared.ids.Vpn.{Vpn}
 use Rattle.xk_base.specs.declared.windows.Window.{Window}
-use Rattle.xk_base.specs.Circle.{is_pid}
-use Rattle.xk_base.specs.Windows.{first_page, in_window, last_page}
-use Rattle.xk_base.specs.Counting.{least_below}
+use Rattle.xk_base.specs.Tables.Circle.{is_pid}
+use Rattle.xk_base.specs.Numbers.Windows.{first_page, in_window, last_page}
+use Rattle.xk_base.specs.Tables.Counting.{least_below}
 use Rattle.xk_base.proofs.CountingLemmas.{least_below-None, least_below-Some}
 use Rattle.ledger_model.specs.LeastRun.{IsLeastRun, is_free_run, least_run, window_pages, window_place}
 use Rattle.ledger_model.specs.Ledger.{Ledger}
 use Rattle.ledger_model.specs.Places.{in_run, is_place_in, place_after, run}
 use Rattle.ledger_model.specs.Reach.{is_free}
-use Rattle.ledger_model.proofs.LeastRunLemmas.{least_run-Some}
-use Rattle.ledger_model.proofs.NumberingLemmas.{is_place_in-user}
+use Rattle.ledger_model.proofs.Runs.LeastRunLemmas.{least_run-Some}
+use Rattle.ledger_model.proofs.Loans.NumberingLemmas.{is_place_in-user}
 use Rattle.ledger_model.proofs.PlaceLemmas.{IsInRun, in_run-index, in_run-true, list_all-run, place_from, run-passes}
 use Rattle.sv32_space.specs.declared.sides.Entry.TheVariants.{At, Free, OnConsole}
 use Rattle.sv32_space.specs.declared.sides.Entry.{Entry}

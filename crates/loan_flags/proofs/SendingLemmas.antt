@@ -9,11 +9,11 @@ use Rattle.xk_base.specs.declared.errors.XousError.TheVariants.{BadAddress, Shar
 use Rattle.xk_base.specs.declared.ids.Place.{Place}
 use Rattle.xk_base.specs.declared.pages.LoanKind.{LoanKind}
 use Rattle.xk_base.specs.declared.pages.LoanKind.TheVariants.{Exclusive}
-use Rattle.xk_base.specs.Circle.{is_pid}
-use Rattle.xk_base.specs.Windows.{window_at}
+use Rattle.xk_base.specs.Tables.Circle.{is_pid}
+use Rattle.xk_base.specs.Numbers.Windows.{window_at}
 use Rattle.phys_pages.specs.Ram.{RamBytes}
 use Rattle.ledger_model.specs.Places.{place_after, run}
-use Rattle.ledger_model.proofs.RunTestLemmas.{each_fails, none_passes, some_passes}
+use Rattle.ledger_model.proofs.Runs.RunTestLemmas.{each_fails, none_passes, some_passes}
 use Rattle.sv32_space.specs.declared.sides.Side.TheVariants.{Own, LentOut, LentIn, MutOut, MutIn}
 use Rattle.sv32_space.specs.declared.sides.Entry.{Entry}
 use Rattle.sv32_space.specs.declared.sides.Entry.TheVariants.{Free, At, OnConsole}

@@ -4,7 +4,7 @@ use Rattle.std.specs.Prelude.{is_some}
 use Rattle.std.specs.Option.{option_map, option_map_or}
 use Rattle.std.proofs.lemmas.Bool.{cases_lt, both_ways, false_from_ne_true, or_parts}
 use Rattle.std.proofs.lemmas.Option.{same_Some}
-use Rattle.xk_base.specs.Windows.{window_at}
+use Rattle.xk_base.specs.Numbers.Windows.{window_at}
 use Rattle.xk_base.specs.declared.ids.Place.{Place}
 use Rattle.xk_base.specs.declared.pages.LoanKind.{LoanKind}
 use Rattle.xk_base.specs.declared.pages.LoanKind.TheVariants.{Shared, Exclusive}

@@ -1,6 +1,6 @@
 -- What each call keeps, and the entries that entries and owners of RAM stand for.
 use Rattle.std.specs.Prelude.{◌≡◌, ℕ, ◌≤◌, None}
-use Rattle.xk_base.specs.Limits.{table_frames}
+use Rattle.xk_base.specs.Numbers.Limits.{table_frames}
 use Rattle.phys_pages.specs.Owners.{OwnerTable, extent, infos}
 use Rattle.phys_pages.specs.Ram.{RamBytes, area, pages}
 use Rattle.phys_pages.specs.declared.infos.Seat.{Seat}

@@ -8,7 +8,7 @@ ghost use Rattle.sv32_space.specs.Entries.{Entries};
 ghost use Rattle.sv32_space.specs.EntryLedger.{SeatBytes, ledger_of};
 ghost use Rattle.sv32_space.specs.Spaces.{IsMade};
 ghost use Rattle.sv32_space.specs.SpelledEntries.{entries};
-ghost use Rattle.xk_base.specs.Circle.{is_pid};
+ghost use Rattle.xk_base.specs.Tables.Circle.{is_pid};
 ghost use Rattle.xk_base.specs.declared.ids.Pid.{Pid};
 ghost use Rattle.xk_base.specs.declared.windows.Window.{Window};
 

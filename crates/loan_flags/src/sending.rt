@@ -6,7 +6,7 @@ ghost use Rattle.std.specs.Prelude.{IsTrue, ℕ, ◌≡◌};
 ghost use Rattle.sv32_space.specs.EntryLedger.{is_free_entry};
 ghost use Rattle.sv32_space.specs.Spaces.{IsMade};
 ghost use Rattle.sv32_space.specs.SpelledEntries.{entries};
-ghost use Rattle.xk_base.specs.Circle.{is_pid};
+ghost use Rattle.xk_base.specs.Tables.Circle.{is_pid};
 
 use phys_pages::Ram;
 use sv32_space::{Entry, Side, entry_at};

@@ -1,8 +1,8 @@
 -- A machine that has no server, and the calls that speak of none.
 use Rattle.std.specs.Prelude.{◌≡◌, ℕ, Bool, not, ◌||◌, ◌==◌, List, [], ◌∷◌, None}
 use Rattle.std.specs.List.{list_any}
-use Rattle.xk_base.specs.CallNumbers.{map_memory, yield_turn, increase_heap, decrease_heap, update_memory_flags, create_thread, unmap_memory, terminate_process, join_thread, get_thread_id, get_process_id, is_call_number}
-use Rattle.xk_base.specs.CallWords.{call_number}
+use Rattle.xk_base.specs.Calls.CallNumbers.{map_memory, yield_turn, increase_heap, decrease_heap, update_memory_flags, create_thread, unmap_memory, terminate_process, join_thread, get_thread_id, get_process_id, is_call_number}
+use Rattle.xk_base.specs.Calls.CallWords.{call_number}
 use Rattle.machine_model.specs.State.Machine.{Machine}
 
 -- no server is alive

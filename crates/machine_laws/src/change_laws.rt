@@ -7,7 +7,7 @@ ghost use Rattle.xk_base.specs.declared.ids.Place.{Place};
 ghost use Rattle.xk_base.specs.declared.ids.ThreadId.{ThreadId};
 ghost use Rattle.xk_base.specs.declared.limits.TheConstants.{PAGE_SIZE};
 ghost use Rattle.xk_base.specs.declared.windows.Window.TheVariants.{Heap};
-ghost use Rattle.xk_base.specs.Windows.{first_page, in_window};
+ghost use Rattle.xk_base.specs.Numbers.Windows.{first_page, in_window};
 ghost use Rattle.ledger_model.specs.Lawful.{IsLawful};
 ghost use Rattle.ledger_model.specs.Ledger.{Ledger, Page};
 ghost use Rattle.ledger_model.specs.Loans.{loans};

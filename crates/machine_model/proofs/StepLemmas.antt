@@ -5,7 +5,7 @@ use Rattle.std.proofs.lemmas.List.Elements.{All-nil, All-map}
 use Rattle.xk_base.specs.declared.errors.XousError.{XousError}
 use Rattle.xk_base.specs.declared.ids.ThreadId.{ThreadId}
 use Rattle.xk_base.specs.declared.records.What.{What}
-use Rattle.xk_base.specs.Circle.{is_pid, is_thread_id}
+use Rattle.xk_base.specs.Tables.Circle.{is_pid, is_thread_id}
 use Rattle.xk_base.proofs.CircleLemmas.{next_id-passes, next_id-none}
 use Rattle.machine_model.specs.State.Changes.{Refused, call_settled, with_refusal}
 use Rattle.machine_model.specs.Hart.Instructions.{following}
@@ -14,7 +14,7 @@ use Rattle.machine_model.specs.State.Order.{ready_at, next_ready, actor}
 use Rattle.machine_model.specs.Stepping.Step.{step, step_by, step_by_if, record_of, acted_if_there, counted}
 use Rattle.machine_model.specs.Stepping.Timer.{timed}
 use Rattle.machine_model.specs.State.Threads.{change_thread}
-use Rattle.machine_model.proofs.TimerLemmas.{timed_raised}
+use Rattle.machine_model.proofs.Runs.TimerLemmas.{timed_raised}
 
 pub next_ready_passes : (m : Machine) (c d : ThreadId) → next_ready m c ≡ Some d → ready_at m d ≡ true
 unfolding next_ready

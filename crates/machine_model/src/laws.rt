@@ -1,10 +1,10 @@
 //! Laws of the abstract machine. Each function's contract is the law, and its body is empty.
 
 ghost use Rattle.std.specs.Prelude.{ℕ, ◌≡◌, ◌+◌, ◌<◌, ◌≤◌, ◌⊎◌, true, false, List, length, Some, None, [], All};
-ghost use Rattle.xk_base.specs.Registers.{reg_at, arguments_of, with_arguments};
+ghost use Rattle.xk_base.specs.Calls.Registers.{reg_at, arguments_of, with_arguments};
 ghost use Rattle.xk_base.specs.declared.errors.XousError.{XousError};
 ghost use Rattle.xk_base.specs.declared.ids.ThreadId.{ThreadId};
-ghost use Rattle.xk_base.specs.Circle.{is_pid, is_thread_id};
+ghost use Rattle.xk_base.specs.Tables.Circle.{is_pid, is_thread_id};
 ghost use Rattle.machine_model.specs.State.Changes.{Refused, Told, call_settled, with_refusal};
 ghost use Rattle.machine_model.specs.State.Machine.{Machine, Thread};
 ghost use Rattle.machine_model.specs.Hart.Instructions.{following};

@@ -1,7 +1,7 @@
 //! The order of threads.
 
 ghost use Rattle.std.specs.Prelude.{◌≡◌, ◌<◌, ◌≤◌, ◌*◌, IsTrue};
-ghost use Rattle.xk_base.specs.Circle.{is_thread_id, id_at};
+ghost use Rattle.xk_base.specs.Tables.Circle.{is_thread_id, id_at};
 ghost use Rattle.machine_model.specs.State.Machine.{Machine};
 ghost use Rattle.machine_model.specs.State.Order.{next_ready, TellsReady};
 

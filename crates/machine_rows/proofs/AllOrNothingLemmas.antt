@@ -2,10 +2,10 @@
 use Rattle.std.proofs.Common.{◌≡◌, ℕ, zero, suc, ◌+◌, ◌<◌, true, false, List, [], ◌∷◌, Some, refl, ap, ◌∙◌, arith}
 use Rattle.std.specs.Prelude.{nat_le, unwrap_or, drop}
 use Rattle.xk_base.specs.declared.windows.Window.TheVariants.{Message}
-use Rattle.xk_base.specs.CallWords.{send_cid}
-use Rattle.xk_base.specs.Circle.{listed_ids}
-use Rattle.xk_base.specs.Counting.{least_below, listed_below, count_below}
-use Rattle.xk_base.specs.Replies.{eight_words}
+use Rattle.xk_base.specs.Calls.CallWords.{send_cid}
+use Rattle.xk_base.specs.Tables.Circle.{listed_ids}
+use Rattle.xk_base.specs.Tables.Counting.{least_below, listed_below, count_below}
+use Rattle.xk_base.specs.Calls.Replies.{eight_words}
 use Rattle.ledger_model.specs.Ledger.{pages}
 use Rattle.ledger_model.specs.LeastRun.{is_free_run, window_place}
 use Rattle.ledger_model.specs.Places.{run, count_places, first_place, place_at}
@@ -23,7 +23,7 @@ use Rattle.machine_model.specs.Messaging.SendCalls.{send_call, sent_to, sent_pag
 use Rattle.machine_model.specs.Calling.ServerCalls.{create_server_call, connect_call}
 use Rattle.machine_model.specs.State.Servers.{with_sid, live_servers, server_at}
 use Rattle.machine_model.specs.Calling.ThreadCalls.{create_call, free_tid}
-use Rattle.xk_base.specs.Windows.{page_of}
+use Rattle.xk_base.specs.Numbers.Windows.{page_of}
 use Rattle.machine_rows.proofs.ArrivalLemmas.{arrives_at, told_from, after_from}
 use Rattle.machine_rows.specs.AllOrNothing.{four_pages_begin, four_pages_begin_told, four_pages_refused, four_pages_refused_told, after_refusal, three_pages_row, three_pages_told}
 

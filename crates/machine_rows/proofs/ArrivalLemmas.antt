@@ -7,7 +7,7 @@ use Rattle.xk_base.specs.declared.ids.Pid.{Pid}
 use Rattle.xk_base.specs.declared.ids.Place.{Place}
 use Rattle.xk_base.specs.declared.records.What.{What}
 use Rattle.xk_base.specs.declared.windows.Window.TheVariants.{Message}
-use Rattle.xk_base.specs.CallWords.{send_cid}
+use Rattle.xk_base.specs.Calls.CallWords.{send_cid}
 use Rattle.xk_base.proofs.CountingLemmas.{least_below-Some}
 use Rattle.ledger_model.specs.Ledger.{Ledger}
 use Rattle.ledger_model.specs.LeastRun.{least_run, is_free_run, window_place}

@@ -3,10 +3,10 @@ use Rattle.std.proofs.Common.{◌≡◌, ℕ, true, List, [], ◌∷◌, refl, a
 use Rattle.std.specs.Prelude.{drop, map, unwrap_or}
 use Rattle.xk_base.specs.declared.ids.Place.{Place}
 use Rattle.xk_base.specs.declared.pages.LoanKind.TheVariants.{Exclusive}
-use Rattle.xk_base.specs.CallWords.{send_cid, forward_cid}
-use Rattle.xk_base.specs.Circle.{listed_ids}
-use Rattle.xk_base.specs.Counting.{least_below, listed_below, count_below}
-use Rattle.xk_base.specs.Replies.{eight_words}
+use Rattle.xk_base.specs.Calls.CallWords.{send_cid, forward_cid}
+use Rattle.xk_base.specs.Tables.Circle.{listed_ids}
+use Rattle.xk_base.specs.Tables.Counting.{least_below, listed_below, count_below}
+use Rattle.xk_base.specs.Calls.Replies.{eight_words}
 use Rattle.rv32_words.specs.Reading.{insn_at}
 use Rattle.ledger_model.specs.Ledger.{Ledger}
 use Rattle.ledger_model.specs.Places.{run}
@@ -34,7 +34,7 @@ use Rattle.machine_model.specs.Stepping.Events.{killed}
 use Rattle.machine_model.specs.Stepping.Step.{step, step_by}
 use Rattle.machine_model.specs.Worked.Rows.{small_machine, id_of, what_of}
 use Rattle.machine_rows.specs.Playing.{told_by, left_by, expected, code, first_pages, listed_ledger, coded_machine, IsToldAs}
-use Rattle.machine_rows.proofs.HomeLemmas.{IsCovered, places_in, covered_listed, covered_lend, free_place, covered_pass}
+use Rattle.machine_rows.proofs.Loans.HomeLemmas.{IsCovered, places_in, covered_listed, covered_lend, free_place, covered_pass}
 use Rattle.machine_rows.proofs.PlayingLemmas.{told_on, call_step}
 use Rattle.machine_rows.proofs.SendingLemmas.{IsSending, sending, sends, send_told, send_left, sent_step, window_at_receiver}
 use Rattle.machine_rows.specs.Forwards.{two_servers_made, mutable_lend, forward, connected_back, forward_back, returned_at_last, forward_row, forwarder_killed_row, forward_back_row, forward_refused_row}

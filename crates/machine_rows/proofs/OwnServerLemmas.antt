@@ -3,10 +3,10 @@ use Rattle.std.proofs.Common.{◌≡◌, ℕ, ◌+◌, true, List, [], ◌∷◌
 use Rattle.std.specs.Prelude.{nat_le}
 use Rattle.xk_base.specs.declared.pages.Width.TheVariants.{Word}
 use Rattle.xk_base.specs.declared.windows.Window.TheVariants.{Message}
-use Rattle.xk_base.specs.CallWords.{send_cid}
-use Rattle.xk_base.specs.Circle.{listed_ids}
-use Rattle.xk_base.specs.Counting.{least_below, listed_below, count_below}
-use Rattle.xk_base.specs.Replies.{eight_words}
+use Rattle.xk_base.specs.Calls.CallWords.{send_cid}
+use Rattle.xk_base.specs.Tables.Circle.{listed_ids}
+use Rattle.xk_base.specs.Tables.Counting.{least_below, listed_below, count_below}
+use Rattle.xk_base.specs.Calls.Replies.{eight_words}
 use Rattle.ledger_model.specs.Ledger.{pages}
 use Rattle.ledger_model.specs.LeastRun.{is_free_run, window_place}
 use Rattle.ledger_model.specs.Places.{run, count_places, first_place, place_at}

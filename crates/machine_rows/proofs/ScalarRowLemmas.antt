@@ -1,7 +1,7 @@
 -- Rows of scalars, by evaluation.
 use Rattle.std.proofs.Common.{refl}
-use Rattle.xk_base.specs.Circle.{listed_ids, next_id}
-use Rattle.xk_base.specs.Counting.{least_below, listed_below, count_below}
+use Rattle.xk_base.specs.Tables.Circle.{listed_ids, next_id}
+use Rattle.xk_base.specs.Tables.Counting.{least_below, listed_below, count_below}
 use Rattle.rv32_words.specs.Reading.{insn_at}
 use Rattle.ledger_model.specs.Reach.{reach, role_at}
 use Rattle.machine_model.specs.Calling.Calls.{call}

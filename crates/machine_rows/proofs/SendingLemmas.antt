@@ -7,8 +7,8 @@ use Rattle.xk_base.specs.declared.ids.ThreadId.{ThreadId}
 use Rattle.xk_base.specs.declared.records.What.{What}
 use Rattle.xk_base.specs.declared.records.What.TheVariants.{Call}
 use Rattle.xk_base.specs.declared.windows.Window.TheVariants.{Message}
-use Rattle.xk_base.specs.CallWords.{send_cid}
-use Rattle.xk_base.specs.Replies.{eight_words}
+use Rattle.xk_base.specs.Calls.CallWords.{send_cid}
+use Rattle.xk_base.specs.Calls.Replies.{eight_words}
 use Rattle.ledger_model.specs.Ledger.{Ledger}
 use Rattle.ledger_model.specs.LeastRun.{window_place}
 use Rattle.ledger_model.specs.Reach.{is_free}

@@ -2,7 +2,7 @@
 -- destroyed, and one that is killed. The identifier of the server is 1, 2, 3, 4; pid 2 makes it.
 use Rattle.std.specs.Prelude.{List, [], ◌∷◌, ◌++◌}
 use Rattle.xk_base.specs.declared.records.What.TheVariants.{Reply, Gone}
-use Rattle.xk_base.specs.Replies.{eight_words}
+use Rattle.xk_base.specs.Calls.Replies.{eight_words}
 use Rattle.machine_model.specs.State.Machine.{Machine}
 use Rattle.machine_model.specs.Worked.Rows.{id_of, pid_of}
 use Rattle.machine_rows.specs.Playing.{Line, calls, stores_word, kills, left_by, coded_machine}

@@ -2,7 +2,7 @@
 -- and 5, 6, 7, 8.
 use Rattle.std.specs.Prelude.{List, [], ◌∷◌, ◌++◌}
 use Rattle.xk_base.specs.declared.records.What.TheVariants.{Reply, Gone}
-use Rattle.xk_base.specs.Replies.{eight_words}
+use Rattle.xk_base.specs.Calls.Replies.{eight_words}
 use Rattle.machine_model.specs.Worked.Rows.{id_of, pid_of}
 use Rattle.machine_rows.specs.Playing.{Line, calls, kills, stores_word}
 

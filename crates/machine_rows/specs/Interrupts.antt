@@ -1,7 +1,7 @@
 -- The row of pending interrupts: they are a set.
 use Rattle.std.specs.Prelude.{List, [], ◌∷◌, ◌++◌, replicate}
 use Rattle.xk_base.specs.declared.records.What.TheVariants.{End, Irq, Reply}
-use Rattle.xk_base.specs.Replies.{eight_words}
+use Rattle.xk_base.specs.Calls.Replies.{eight_words}
 use Rattle.machine_model.specs.State.Machine.{Machine, Thread, Ready}
 use Rattle.machine_model.specs.Worked.Rows.{id_of, pid_of}
 use Rattle.machine_rows.specs.Playing.{Line, calls, steps, raises, return_address, left_by, coded_machine}

@@ -2,7 +2,7 @@
 -- 3, 4; pid 2 makes it.
 use Rattle.std.specs.Prelude.{List, [], ◌∷◌, ◌++◌}
 use Rattle.xk_base.specs.declared.records.What.TheVariants.{Fault, Reply, Gone}
-use Rattle.xk_base.specs.Replies.{eight_words}
+use Rattle.xk_base.specs.Calls.Replies.{eight_words}
 use Rattle.machine_model.specs.State.Machine.{Machine}
 use Rattle.machine_model.specs.Worked.Rows.{id_of, pid_of}
 use Rattle.machine_rows.specs.Playing.{Line, calls, stores_word, left_by, coded_machine}

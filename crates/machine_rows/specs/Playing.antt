@@ -6,9 +6,9 @@ use Rattle.xk_base.specs.declared.ids.ThreadId.{ThreadId}
 use Rattle.xk_base.specs.declared.pages.Right.{Right}
 use Rattle.xk_base.specs.declared.records.What.{What}
 use Rattle.xk_base.specs.declared.records.What.TheVariants.{Call}
-use Rattle.xk_base.specs.Circle.{is_pid}
-use Rattle.xk_base.specs.Registers.{with_arguments}
-use Rattle.xk_base.specs.Replies.{eight_words}
+use Rattle.xk_base.specs.Tables.Circle.{is_pid}
+use Rattle.xk_base.specs.Calls.Registers.{with_arguments}
+use Rattle.xk_base.specs.Calls.Replies.{eight_words}
 use Rattle.ledger_model.specs.Ledger.{Ledger, Page, Bytes}
 use Rattle.ledger_model.specs.Places.{same_place}
 use Rattle.ledger_model.specs.Steps.{zero_page}

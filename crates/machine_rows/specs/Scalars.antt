@@ -2,7 +2,7 @@
 -- the server is 1, 2, 3, 4.
 use Rattle.std.specs.Prelude.{List, [], ◌∷◌, ◌++◌, replicate}
 use Rattle.xk_base.specs.declared.records.What.TheVariants.{Reply, Retry}
-use Rattle.xk_base.specs.Replies.{eight_words}
+use Rattle.xk_base.specs.Calls.Replies.{eight_words}
 use Rattle.machine_model.specs.Worked.Rows.{id_of}
 use Rattle.machine_rows.specs.Playing.{Line, calls}
 

@@ -1,7 +1,7 @@
 //! Worked rows of deaths with loans, played by steps.
 
 ghost use Rattle.std.specs.Prelude.{None, ◌≡◌};
-ghost use Rattle.xk_base.specs.Windows.{page_of};
+ghost use Rattle.xk_base.specs.Numbers.Windows.{page_of};
 ghost use Rattle.machine_model.specs.Worked.Rows.{pid_of};
 ghost use Rattle.machine_rows.specs.Deaths.{destroy_row, orphan_row, queued_sender_row, server_killed, server_killed_row};
 ghost use Rattle.machine_rows.specs.Playing.{IsToldAs, coded_machine};

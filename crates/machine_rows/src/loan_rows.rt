@@ -2,7 +2,7 @@
 
 ghost use Rattle.std.specs.Prelude.{None, ◌≡◌};
 ghost use Rattle.xk_base.specs.UserMemory.{number_at};
-ghost use Rattle.xk_base.specs.Windows.{page_of};
+ghost use Rattle.xk_base.specs.Numbers.Windows.{page_of};
 ghost use Rattle.xk_base.specs.declared.pages.Width.TheVariants.{Word};
 ghost use Rattle.machine_model.specs.State.Views.{memory_of};
 ghost use Rattle.machine_model.specs.Worked.Rows.{pid_of};

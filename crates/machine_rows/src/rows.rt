@@ -6,7 +6,7 @@ ghost use Rattle.ledger_model.specs.RunTests.{any_on_loan};
 ghost use Rattle.machine_model.specs.Hart.Instructions.{loads, stores, writes, following, Stores, Traps, store_page_fault, load_page_fault};
 ghost use Rattle.machine_model.specs.Worked.Rows.{small_machine, told_all, after_all, pid_of};
 ghost use Rattle.machine_model.specs.State.Views.{memory_of};
-ghost use Rattle.xk_base.specs.Windows.{page_of};
+ghost use Rattle.xk_base.specs.Numbers.Windows.{page_of};
 ghost use Rattle.machine_rows.specs.AllOrNothing.{four_pages_begin, four_pages_begin_told, four_pages_refused, four_pages_refused_told, after_refusal, three_pages_row, three_pages_told};
 ghost use Rattle.machine_rows.specs.OwnServer.{own_server_begin, own_server_begin_told, own_server_written, own_server_send, own_server_send_told, own_server_lent, own_server_return, own_server_return_told, own_server_returned};
 ghost use Rattle.machine_rows.specs.ReadOnly.{read_only_written, read_only_reduce, read_only_reduce_told, read_only_reduced, read_only_row, read_only_told, read_only_lent, read_only_returned};

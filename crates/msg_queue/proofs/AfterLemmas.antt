@@ -8,9 +8,9 @@ use Rattle.msg_queue.specs.Shown.{seat_shown}
 use Rattle.msg_queue.specs.Spots.{spot_in}
 use Rattle.msg_queue.specs.declared.held.Held.{Held}
 use Rattle.msg_queue.specs.declared.walks.Spot.{Spot}
-use Rattle.msg_queue.proofs.RingLemmas.{exchanged, occupied, vacated}
-use Rattle.msg_queue.proofs.SeatLemmas.{IsRingOf, seat_put}
-use Rattle.msg_queue.proofs.HeldLemmas.{seat_held, seat_held_at}
+use Rattle.msg_queue.proofs.Rings.RingLemmas.{exchanged, occupied, vacated}
+use Rattle.msg_queue.proofs.Seats.SeatLemmas.{IsRingOf, seat_put}
+use Rattle.msg_queue.proofs.Seats.HeldLemmas.{seat_held, seat_held_at}
 use Rattle.msg_queue.proofs.CallLemmas.{ring_same, queued_taken, held_taken, chain_past, remove_past}
 
 -- the link words after a call that changed the free chain and one of the others

@@ -3,7 +3,7 @@ use Rattle.std.proofs.Common.{◌≡◌, ℕ, zero, suc, ◌<◌, ◌≤◌, fal
 use Rattle.std.proofs.lemmas.Bool.{cases_lt}
 use Rattle.std.proofs.lemmas.List.{take_all, drop_all, append-nil, take-append-drop, get_or_past, get_or-take, nil_from_length, length-take}
 use Rattle.std.specs.List.{remove, slice_get}
-use Rattle.xk_base.specs.RowMap.{row_map}
+use Rattle.xk_base.specs.Tables.RowMap.{row_map}
 use Rattle.xk_base.specs.declared.ids.Number.{Number}
 use Rattle.msg_queue.specs.Chains.{no_slot, chain, times, last_from, IsChain}
 use Rattle.msg_queue.specs.Rings.{Links, IsRing}
@@ -12,13 +12,13 @@ use Rattle.msg_queue.specs.Shown.{messages, seat_shown}
 use Rattle.msg_queue.specs.Spots.{spot_in}
 use Rattle.msg_queue.specs.declared.held.Held.{Held}
 use Rattle.msg_queue.specs.declared.walks.Spot.{Spot}
-use Rattle.msg_queue.proofs.TimesLemmas.{times_head, times-append, last_is_among}
+use Rattle.msg_queue.proofs.Rings.TimesLemmas.{times_head, times-append, last_is_among}
 use Rattle.msg_queue.proofs.ChangeLemmas.{is_slot}
-use Rattle.msg_queue.proofs.RingLemmas.{exchanged, vacated}
-use Rattle.msg_queue.proofs.MessageLemmas.{AreUsed, length-contents, get-contents}
-use Rattle.msg_queue.proofs.SeatLemmas.{IsRingOf, used_is, free_first, seat_vacated}
-use Rattle.msg_queue.proofs.HeldLemmas.{held_vacated}
-use Rattle.msg_queue.proofs.WalkLemmas.{first_at, slot_at, none_at, within_at, past_at}
+use Rattle.msg_queue.proofs.Rings.RingLemmas.{exchanged, vacated}
+use Rattle.msg_queue.proofs.Seats.MessageLemmas.{AreUsed, length-contents, get-contents}
+use Rattle.msg_queue.proofs.Seats.SeatLemmas.{IsRingOf, used_is, free_first, seat_vacated}
+use Rattle.msg_queue.proofs.Seats.HeldLemmas.{held_vacated}
+use Rattle.msg_queue.proofs.Rings.WalkLemmas.{first_at, slot_at, none_at, within_at, past_at}
 
 -- the same words and slots
 pub ring_same : (slots slots' : List (Option Held)) (l l' : Links) (seat : Seat) → slots' ≡ slots → l' ≡ l → IsRingOf slots l seat → IsRingOf slots' l' seat

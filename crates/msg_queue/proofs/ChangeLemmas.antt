@@ -4,9 +4,9 @@ use Rattle.std.proofs.lemmas.Bool.{cases_lt, eq-eqb, ne_eqb, cases_eq}
 use Rattle.std.proofs.lemmas.List.{length-set}
 use Rattle.msg_queue.specs.Chains.{no_slot, times, last_from, IsChain}
 use Rattle.msg_queue.specs.Linking.{linked_words, linked_first, linked_last, unlinked_words, unlinked_first, unlinked_last}
-use Rattle.msg_queue.proofs.TimesLemmas.{times-append, times_head, last_is_among, last_from-append}
-use Rattle.msg_queue.proofs.ChainLemmas.{leads_rest, leads_kept}
-use Rattle.msg_queue.proofs.LinkLemmas.{IsOnce, first_linked, behind_linked, behind_passed, put_behind_kept}
+use Rattle.msg_queue.proofs.Rings.TimesLemmas.{times-append, times_head, last_is_among, last_from-append}
+use Rattle.msg_queue.proofs.Rings.ChainLemmas.{leads_rest, leads_kept}
+use Rattle.msg_queue.proofs.Rings.LinkLemmas.{IsOnce, first_linked, behind_linked, behind_passed, put_behind_kept}
 
 -- a slot of a chain is a slot
 pub is_slot : (slot : ℕ) (xs : List ℕ) → ((n : ℕ) → 128 ≤ n → times n xs ≡ 0) → 0 < times slot xs → slot < 128

@@ -4,15 +4,15 @@ use Rattle.std.proofs.lemmas.Bool.{cases_lt, both_ways}
 use Rattle.std.proofs.lemmas.List.{take_more, take_all}
 use Rattle.std.proofs.lemmas.List.Sums.{fails_before_first, passes_at_first, prefix_len-le-length}
 use Rattle.std.specs.List.{slice_get, position_or_len}
-use Rattle.xk_base.specs.RowMap.{row_map}
+use Rattle.xk_base.specs.Tables.RowMap.{row_map}
 use Rattle.xk_base.specs.declared.ids.Number.{Number}
 use Rattle.msg_queue.specs.Chains.{no_slot}
 use Rattle.msg_queue.specs.Seats.{is_of_number, place_of}
 use Rattle.msg_queue.specs.Shown.{messages}
 use Rattle.msg_queue.specs.Spots.{slot_has}
 use Rattle.msg_queue.specs.declared.held.Held.{Held}
-use Rattle.msg_queue.proofs.MessageLemmas.{AreUsed, the_content, length-contents, get-contents}
-use Rattle.msg_queue.proofs.WalkLemmas.{among_at}
+use Rattle.msg_queue.proofs.Seats.MessageLemmas.{AreUsed, the_content, length-contents, get-contents}
+use Rattle.msg_queue.proofs.Rings.WalkLemmas.{among_at}
 
 -- what stands at a place stands within the list
 got : {A : Type 0} (xs : List A) (i : ℕ) (a : A) → slice_get xs i ≡ Some a → (i < length xs) × (get_or xs i a ≡ a)

@@ -2,14 +2,14 @@
 use Rattle.std.proofs.Common.{◌≡◌, ℕ, zero, suc, ◌+◌, ◌<◌, ◌≤◌, List, [], ◌∷◌, length, get_or, Option, None, is_some, replicate, refl, ap, ◌∙◌, inl, inr, add-one, arith}
 use Rattle.std.proofs.lemmas.Bool.{cases_eq, eq-eqb, ne_eqb}
 use Rattle.std.proofs.lemmas.List.{length-replicate}
-use Rattle.xk_base.specs.RowMap.{row_map}
+use Rattle.xk_base.specs.Tables.RowMap.{row_map}
 use Rattle.xk_base.proofs.RowMapLemmas.{row_map_replicate}
 use Rattle.msg_queue.specs.Chains.{no_slot, times, IsChain}
 use Rattle.msg_queue.specs.Rings.{AreChains, AreFilled}
 use Rattle.msg_queue.specs.Seats.{empty_seat}
 use Rattle.msg_queue.specs.declared.held.Held.{Held}
-use Rattle.msg_queue.proofs.ChainLemmas.{Leads, leads_to}
-use Rattle.msg_queue.proofs.SeatLemmas.{IsRingOf, ring_of_chains}
+use Rattle.msg_queue.proofs.Rings.ChainLemmas.{Leads, leads_to}
+use Rattle.msg_queue.proofs.Seats.SeatLemmas.{IsRingOf, ring_of_chains}
 
 -- so many numbers in ascending order from the first on
 upwards : ℕ → ℕ → List ℕ

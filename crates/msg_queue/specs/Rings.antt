@@ -1,6 +1,6 @@
 -- A ring: 128 slots in three chains over one list of link words.
 use Rattle.std.specs.Prelude.{◌≡◌, ℕ, ◌+◌, ◌<◌, true, false, List, length, Option, is_some}
-use Rattle.xk_base.specs.RowMap.{row_map}
+use Rattle.xk_base.specs.Tables.RowMap.{row_map}
 use Rattle.msg_queue.specs.Chains.{IsChain, chain, times, last_from, no_slot}
 use Rattle.msg_queue.specs.declared.held.Held.{Held}
 

@@ -4,8 +4,8 @@ use Rattle.std.specs.List.{insert, remove, find, position_or_len, list_any}
 use Rattle.xk_base.specs.declared.ids.Number.{Number}
 use Rattle.xk_base.specs.declared.ids.Pid.{Pid}
 use Rattle.xk_base.specs.declared.ids.ThreadId.{ThreadId}
-use Rattle.xk_base.specs.Circle.{is_thread_of}
-use Rattle.xk_base.specs.Kinds.{is_answered}
+use Rattle.xk_base.specs.Tables.Circle.{is_thread_of}
+use Rattle.xk_base.specs.Calls.Kinds.{is_answered}
 use Rattle.xk_base.specs.declared.messages.Message.{Message}
 use Rattle.ledger_model.specs.Loans.{same_number}
 use Rattle.msg_queue.specs.declared.held.Held.{Held}

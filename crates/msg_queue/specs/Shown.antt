@@ -1,7 +1,7 @@
 -- What a ring shows: two lists of messages, found by following its chains.
 use Rattle.std.specs.Prelude.{ℕ, List, Option}
 use Rattle.std.specs.List.{filter_map}
-use Rattle.xk_base.specs.RowMap.{row_map}
+use Rattle.xk_base.specs.Tables.RowMap.{row_map}
 use Rattle.msg_queue.specs.Chains.{chain}
 use Rattle.msg_queue.specs.Rings.{Links, IsRing}
 use Rattle.msg_queue.specs.Seats.{Seat}

@@ -1,7 +1,7 @@
 -- Places of a chain.
 use Rattle.std.specs.Prelude.{◌≡◌, ℕ, ◌<◌, Bool, true, false, List, take, Option, Some, None, is_some, slice_index_or}
 use Rattle.xk_base.specs.declared.ids.Number.{Number}
-use Rattle.xk_base.specs.RowMap.{row_map}
+use Rattle.xk_base.specs.Tables.RowMap.{row_map}
 use Rattle.msg_queue.specs.Chains.{no_slot, last_from, times}
 use Rattle.msg_queue.specs.Seats.{is_of_number}
 use Rattle.msg_queue.specs.declared.held.Held.{Held}

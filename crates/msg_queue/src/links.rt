@@ -1,7 +1,7 @@
 //! The link words of a ring: how a slot comes into a chain, and how it leaves.
 
 ghost use Rattle.std.specs.Prelude.{◌≡◌, ◌<◌, ◌≤◌, false, Some, None, is_some, vec_len, slice_index, slice_set};
-ghost use Rattle.xk_base.specs.RowMap.{row_map};
+ghost use Rattle.xk_base.specs.Tables.RowMap.{row_map};
 ghost use Rattle.msg_queue.specs.Linking.{linked_words, linked_first, linked_last, unlinked_words, unlinked_first, unlinked_last};
 
 use crate::held::Held;

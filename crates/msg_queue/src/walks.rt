@@ -2,7 +2,7 @@
 
 ghost use Rattle.std.specs.Prelude.{◌≡◌, ◌<◌, ◌≤◌, List, [], ◌∷◌, ◌++◌, Some, length};
 ghost use Rattle.std.specs.Option.{option_copied, option_map};
-ghost use Rattle.xk_base.specs.RowMap.{row_map};
+ghost use Rattle.xk_base.specs.Tables.RowMap.{row_map};
 ghost use Rattle.msg_queue.specs.Chains.{IsChain, chain};
 ghost use Rattle.msg_queue.specs.Shown.{messages};
 ghost use Rattle.msg_queue.specs.Seats.{place_of, message_of, is_awaited_in, IsFirstOf};

@@ -6,7 +6,7 @@ use Rattle.std.proofs.lemmas.Slice.{drop-put_mid, between_is}
 use borrow.Rule.Slice.PartMut.{put_mid}
 use Rattle.byteorder.specs.Endian.{little_number, little_bytes}
 use Rattle.byteorder.specs.Numbers.{little_number-reads_back, little_from-append, length-bytes_low_first}
-use Rattle.xk_base.specs.Counting.{put_at}
+use Rattle.xk_base.specs.Tables.Counting.{put_at}
 use Rattle.phys_pages.specs.Ram.{RamBytes, Area, IsPlaced, IsInside, is_inside, area, pages, words, words_of, with_page, word_in, with_word, frame_at, frame_of, ppn_of}
 use Rattle.xk_base.specs.declared.ids.Frame.{Frame}
 use Rattle.phys_pages.proofs.AreaLemmas.{frame_of-within}

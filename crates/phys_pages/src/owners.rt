@@ -2,7 +2,7 @@
 
 ghost use Rattle.std.specs.Prelude.{◌≡◌, ◌+◌, ◌<◌, ◌≤◌, ℕ, None, true, length, replicate, is_some, IfOk, IfSome, IfNone};
 ghost use Rattle.std.specs.Option.{option_copied};
-ghost use Rattle.xk_base.specs.RowMap.{row_map};
+ghost use Rattle.xk_base.specs.Tables.RowMap.{row_map};
 
 use crate::infos::{PageInfo, Seat};
 use std::alloc::Global;
@@ -51,7 +51,7 @@ fn first_free(seats: &[Option<PageInfo>]) -> Option<usize>
 
 #[tactic(auto, using(xk_base::proofs::RowMapLemmas::row_map_set, xk_base::proofs::RowMapLemmas::row_map_replicate, xk_base::proofs::RowMapLemmas::row_map_read), unfolding(crate::specs::Owners::extent, crate::specs::Owners::infos))]
 impl Owners {
-    ghost use Rattle.xk_base.specs.Counting.{put_at};
+    ghost use Rattle.xk_base.specs.Tables.Counting.{put_at};
     ghost use Rattle.phys_pages.specs.Owners.{extent, infos, no_infos, seat_eq, HasSeat, AreFramesUsed, AreSlotsUsed};
 
     /// A table of `frames` frames from `first` on and of `slots` slots, all free. All memory is taken

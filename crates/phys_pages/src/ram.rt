@@ -30,7 +30,7 @@ impl Model for Ram {
 #[tactic(auto, unfolding(crate::specs::Ram::area, crate::specs::Ram::pages, crate::specs::Ram::words, crate::specs::Ram::with_page))]
 impl Ram {
     ghost use Rattle.std.specs.Borrow.{sem};
-    ghost use Rattle.xk_base.specs.Counting.{put_at};
+    ghost use Rattle.xk_base.specs.Tables.Counting.{put_at};
     ghost use Rattle.phys_pages.specs.Ram.{area, pages, words, IsPlaced, IsInside, ppn_of, frame_of, frame_at, with_word};
     ghost use Rattle.phys_pages.specs.Lending.{LendsPage};
 

@@ -7,12 +7,12 @@ use Rattle.std.proofs.lemmas.Bool.Decides.{nat_tests}
 use Rattle.std.proofs.lemmas.List.{length-map, get_or-map}
 use Rattle.std.proofs.lemmas.List.Elements.{All-map, All-weaker}
 use Rattle.std.proofs.lemmas.Option.{slice_get_past, slice_get-get_or}
-use Rattle.xk_base.specs.Circle.{IsPid}
-use Rattle.xk_base.specs.Counting.{listed_below}
+use Rattle.xk_base.specs.Tables.Circle.{IsPid}
+use Rattle.xk_base.specs.Tables.Counting.{listed_below}
 use Rattle.xk_base.specs.declared.ids.Serial.{Serial}
 use Rattle.xk_base.proofs.CountingLemmas.{listed_below-ascends, listed_below-passes, listed_below-contains}
 use Rattle.process_table.specs.ProcessMap.{ProcessMap, is_alive, living_pids}
-use Rattle.xk_base.specs.Connections.{connected_to}
+use Rattle.xk_base.specs.Tables.Connections.{connected_to}
 
 -- ---- the living processes
 

@@ -2,8 +2,8 @@
 use Rattle.std.specs.Prelude.{ℕ, ◌+◌, ◌-◌, map, nat_lt, slice_get, Bool, false, List, [], Option, Some, None, nat_eq, if◌then◌else◌}
 use Rattle.std.specs.Option.{option_map}
 use Rattle.xk_base.specs.declared.ids.Serial.{Serial}
-use Rattle.xk_base.specs.Circle.{is_pid}
-use Rattle.xk_base.specs.Counting.{listed_below, put_at}
+use Rattle.xk_base.specs.Tables.Circle.{is_pid}
+use Rattle.xk_base.specs.Tables.Counting.{listed_below, put_at}
 use Rattle.process_table.specs.State.{ProcessState, new_process}
 
 -- each process by its pid

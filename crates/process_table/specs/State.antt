@@ -1,6 +1,6 @@
 -- A process as its table knows it: whether it is alive, its heap, and its connections.
 use Rattle.std.specs.Prelude.{ℕ, Bool, true, false, List, [], Result, Ok, Err, if◌then◌else◌}
-use Rattle.xk_base.specs.Connections.{cid_for, connected, has_room}
+use Rattle.xk_base.specs.Tables.Connections.{cid_for, connected, has_room}
 use Rattle.xk_base.specs.declared.errors.XousError.{XousError}
 use Rattle.xk_base.specs.declared.errors.XousError.TheVariants.{InvalidLimit}
 use Rattle.xk_base.specs.declared.ids.Cid.{Cid}

@@ -2,7 +2,7 @@
 
 ghost use Rattle.std.specs.Prelude.{◌≡◌, ◌==◌, ◌<◌, IfSome, OnOk, OnErr, position};
 ghost use Rattle.xk_base.specs.declared.limits.TheConstants.{CONNECTION_LIMIT};
-ghost use Rattle.xk_base.specs.Connections.{connected_to, has_room};
+ghost use Rattle.xk_base.specs.Tables.Connections.{connected_to, has_room};
 ghost use Rattle.process_table.specs.State.{new_process, dead_process, connection, with_heap, with_connection};
 
 use arrayvec::ArrayVec;

@@ -1,8 +1,8 @@
 //! The table of processes.
 
 ghost use Rattle.std.specs.Prelude.{◌≡◌, ◌≤◌, IfOk, OnOk, OnErr};
-ghost use Rattle.xk_base.specs.Circle.{IsPid};
-ghost use Rattle.xk_base.specs.Connections.{connected_to, has_room};
+ghost use Rattle.xk_base.specs.Tables.Circle.{IsPid};
+ghost use Rattle.xk_base.specs.Tables.Connections.{connected_to, has_room};
 ghost use Rattle.process_table.specs.State.{dead_process, connection, with_heap, with_connection};
 ghost use Rattle.process_table.specs.ProcessMap.{new_processes, change, is_alive, heap_of, connections_of};
 

@@ -3,7 +3,7 @@ use Rattle.std.proofs.Common.{◌≡◌, ℕ, ◌%◌, ◌==◌, List, Bool, tru
 use Rattle.xk_base.specs.declared.pages.Access.{Access}
 use Rattle.xk_base.specs.declared.pages.Access.TheVariants.{Load, Store}
 use Rattle.xk_base.specs.declared.pages.Width.TheVariants.{Word}
-use Rattle.xk_base.specs.Registers.{with_reg}
+use Rattle.xk_base.specs.Calls.Registers.{with_reg}
 use Rattle.xk_base.specs.UserMemory.{Content, Memory, ShowsAt, Timer, number_shown, timer_at}
 use Rattle.machine_model.specs.Hart.Instructions.{Executed, following, puts}
 use Rattle.machine_model.specs.Hart.Atomics.{operates}

@@ -4,7 +4,7 @@ use Rattle.std.proofs.lemmas.Bool.{cond-true, cond-false}
 use Rattle.xk_base.specs.declared.pages.Access.{Access}
 use Rattle.xk_base.specs.declared.pages.Access.TheVariants.{Fetch}
 use Rattle.xk_base.specs.declared.pages.Width.TheVariants.{Word}
-use Rattle.xk_base.specs.Registers.{reg_at}
+use Rattle.xk_base.specs.Calls.Registers.{reg_at}
 use Rattle.xk_base.specs.UserMemory.{Content, KeepsContent, Memory, StandsAt, Timer, number_at}
 use Rattle.machine_model.specs.Hart.Instructions.{Executed, Next, Stores, StoresToConsole, StoresToTimer, CallsKernel, Traps, execute_base, execute_base_at, fetch_page_fault}
 use Rattle.machine_model.specs.Hart.Atomics.{Atomic, Performed, atomic_at, atomic_effect, execute, execute_at, leaving, perform, reserves, unless_ended}

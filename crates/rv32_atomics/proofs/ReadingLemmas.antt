@@ -3,7 +3,7 @@ use Rattle.std.proofs.Common.{◌≡◌, ℕ, zero, suc, [], ◌∷◌, ◌^◌,
 use Rattle.std.specs.Option.{option_map}
 use Rattle.std.proofs.lemmas.Bool.{and_parts, eqb-true}
 use Rattle.std.proofs.lemmas.Option.{none-some}
-use Rattle.xk_base.specs.Fields.{field, Drawing, word_of, IsDrawn, drawn_like}
+use Rattle.xk_base.specs.Numbers.Fields.{field, Drawing, word_of, IsDrawn, drawn_like}
 use Rattle.xk_base.proofs.FieldLemmas.{drawn_like-word_of, field_below, field_whole, word_of-drawn_like}
 use Rattle.rv32_words.specs.Reading.{opcode_of, funct3_of, rd_of, rs1_of, rs2_of}
 use Rattle.machine_model.specs.Hart.Instructions.{flag_of}

@@ -1,7 +1,7 @@
 -- The table read by a word's fields. It says no more than the table of `Table`: the contract of `decode_atomic` has that it finds
 -- an instruction that spells the word, and the only one.
 use Rattle.std.specs.Prelude.{ℕ, ◌&&◌, ◌==◌, if◌then◌else◌, Option, Some, None}
-use Rattle.xk_base.specs.Fields.{field}
+use Rattle.xk_base.specs.Numbers.Fields.{field}
 use Rattle.rv32_words.specs.Reading.{opcode_of, funct3_of, rd_of, rs1_of, rs2_of}
 use Rattle.machine_model.specs.Hart.Atomics.{funct5_of}
 use Rattle.rv32_atomics.specs.declared.atomic.Atomic.{Atomic}

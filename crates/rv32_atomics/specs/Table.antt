@@ -1,7 +1,7 @@
 -- The instruction table: A 2.1 of the RISC-V Unprivileged ISA, as its chapter "RV32/64G Instruction Set Listings" lists it and
 -- its chapter "A" draws it.
 use Rattle.std.specs.Prelude.{◌≡◌, ℕ, Bool, [], ◌∷◌}
-use Rattle.xk_base.specs.Fields.{Drawing, word_of}
+use Rattle.xk_base.specs.Numbers.Fields.{Drawing, word_of}
 use Rattle.rv32_words.specs.Formats.{IsRegister}
 use Rattle.machine_model.specs.Hart.Instructions.{flag_of}
 use Rattle.rv32_atomics.specs.declared.atomic.Atomic.{Atomic}

@@ -2,7 +2,7 @@
 
 ghost use Rattle.std.specs.Prelude.{◌≡◌, ◌≤◌, ◌%◌};
 ghost use Rattle.xk_base.specs.Outside.{Rose};
-ghost use Rattle.xk_base.specs.Registers.{with_reg};
+ghost use Rattle.xk_base.specs.Calls.Registers.{with_reg};
 ghost use Rattle.xk_base.specs.declared.pages.Width.TheVariants.{Word};
 ghost use Rattle.rv32_words.specs.Formats.{IsRegister};
 ghost use Rattle.machine_model.specs.Hart.Atomics.{is_reserved, operates, result_of, stores_conditionally};

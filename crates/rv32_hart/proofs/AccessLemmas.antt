@@ -7,7 +7,7 @@ use Rattle.xk_base.specs.declared.pages.Access.{Access}
 use Rattle.xk_base.specs.declared.pages.Access.TheVariants.{Load, Store}
 use Rattle.xk_base.specs.declared.pages.Width.{Width}
 use Rattle.xk_base.specs.declared.pages.Width.TheVariants.{Byte, Half, Word}
-use Rattle.xk_base.specs.Registers.{with_reg}
+use Rattle.xk_base.specs.Calls.Registers.{with_reg}
 use Rattle.xk_base.specs.UserMemory.{Content, KeepsContent, Memory, Seen, ShowsAt, StoresNumber, TakesNumber, Timer, in_timer_page, number_at, number_loaded, number_shown, size_of, timer_at, timer_stored}
 use Rattle.machine_model.specs.Hart.Instructions.{Executed, Next, Stores, StoresToConsole, StoresToTimer, CallsKernel, Traps, following, loads, puts, stores, writes}
 use Rattle.rv32_hart.specs.declared.ran.Ran.{Ran}

@@ -2,7 +2,7 @@
 
 ghost use Rattle.std.specs.Prelude.{◌≡◌, ◌-◌, ◌%◌};
 ghost use Rattle.xk_base.specs.UserMemory.{Memory};
-ghost use Rattle.xk_base.specs.Registers.{reg_at};
+ghost use Rattle.xk_base.specs.Calls.Registers.{reg_at};
 ghost use Rattle.rv32_words.specs.Formats.{IsRegister};
 ghost use Rattle.rv32_words.specs.Table.{IsInRange};
 ghost use Rattle.machine_model.specs.Hart.Instructions.{effect, as_word, address_of, sum_of};

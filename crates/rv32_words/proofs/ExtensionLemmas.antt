@@ -6,7 +6,7 @@ use Rattle.std.proofs.Math.Decide.{dec_lt}
 use Rattle.std.proofs.lemmas.Nat.{pow_pos, pow-add, shl-shr, div-mul-add}
 use Rattle.std.proofs.Math.Nat.{mod-eq_of_lt, two-pow-succ, mul_comm, mul-lt-mul_of_pos_right, mul-le-mul_right, pow-le-pow_right}
 use Rattle.std.specs.Int.Signed.{shr_z}
-use Rattle.xk_base.specs.Fields.{sign_extended}
+use Rattle.xk_base.specs.Numbers.Fields.{sign_extended}
 use Rattle.xk_base.proofs.FieldLemmas.{sign_extended-positive, sign_extended-negative}
 
 -- what is left of a number below 0 after a shift to the right

@@ -1,7 +1,7 @@
 -- What stands in the fields of a word of each format, and which immediate they make.
 use Rattle.std.proofs.Common.{◌≡◌, ℕ, ◌+◌, ◌*◌, ◌/◌, ◌%◌, ◌^◌, ◌<◌, refl, sym, ◌∙◌, ap, arith, ℤ, get_or, w32}
 use Rattle.std.specs.Int.{cast_unsigned}
-use Rattle.xk_base.specs.Fields.{field, bits_of, Drawing, word_of, IsDrawn, drawn_like, sign_extended}
+use Rattle.xk_base.specs.Numbers.Fields.{field, bits_of, Drawing, word_of, IsDrawn, drawn_like, sign_extended}
 use Rattle.xk_base.proofs.FieldLemmas.{field_below, drawn_like-word_of, sign_extended-low}
 use Rattle.rv32_words.specs.Formats.{imm_bits, RType, IType, SType, BType, UType, JType, drawing, FieldsFit}
 use Rattle.rv32_words.specs.Reading.{opcode_of, rd_of, funct3_of, rs1_of, rs2_of, funct7_of, i_bits, s_bits, b_bits, u_bits, j_bits}

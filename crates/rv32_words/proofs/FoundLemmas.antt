@@ -5,7 +5,7 @@ use Rattle.std.proofs.lemmas.Bool.{eqb-true}
 use Rattle.std.proofs.lemmas.Option.{none-some}
 use Rattle.rv32_words.proofs.OnlyLemmas.{insn_at-spelled}
 use Rattle.std.specs.Int.{cast_unsigned}
-use Rattle.xk_base.specs.Fields.{field, word_of, sign_extended, FitsBits}
+use Rattle.xk_base.specs.Numbers.Fields.{field, word_of, sign_extended, FitsBits}
 use Rattle.xk_base.proofs.FieldLemmas.{field_below, field_whole, word_of-drawn_like, sign_extended-fits, low-sign_extended}
 use Rattle.rv32_words.specs.Formats.{RType, IType, SType, BType, UType, JType, drawing, FieldsFit}
 use Rattle.rv32_words.specs.Table.{Spells}

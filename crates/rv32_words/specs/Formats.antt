@@ -3,7 +3,7 @@
 -- width, from bit 31 down to bit 0.
 use Rattle.std.specs.Prelude.{◌≡◌, ℕ, ◌<◌, ◌^◌, [], ◌∷◌, ℤ}
 use Rattle.std.specs.Int.{w32, cast_unsigned}
-use Rattle.xk_base.specs.Fields.{bits_of, Drawing, FitsBits}
+use Rattle.xk_base.specs.Numbers.Fields.{bits_of, Drawing, FitsBits}
 
 -- imm[high:low], of an immediate in two's complement
 abbrev pub imm_bits : ℤ → ℕ → ℕ → ℕ

@@ -1,7 +1,7 @@
 -- The table read by a word's opcode and then by its function codes. It says no more than the table of `Table`:
 -- the contract of `decode` has that it finds an instruction that spells the word, and the only one.
 use Rattle.std.specs.Prelude.{ℕ, [], ◌∷◌, Option, Some, None, ◌==◌, if◌then◌else◌}
-use Rattle.xk_base.specs.Fields.{field, word_of, sign_extended}
+use Rattle.xk_base.specs.Numbers.Fields.{field, word_of, sign_extended}
 use Rattle.rv32_words.specs.declared.insn.Insn.{Insn}
 use Rattle.rv32_words.specs.declared.insn.Insn.TheVariants.{Lui, Auipc, Jal, Jalr, Beq, Bne, Blt, Bge, Bltu, Bgeu, Lb, Lh, Lw, Lbu, Lhu, Sb, Sh, Sw, Addi, Slti, Sltiu, Xori, Ori, Andi, Slli, Srli, Srai, Add, Sub, Sll, Slt, Sltu, Xor, Srl, Sra, Or, And, Mul, Mulh, Mulhsu, Mulhu, Div, Divu, Rem, Remu, Fence, FenceI, Ecall, Ebreak}
 

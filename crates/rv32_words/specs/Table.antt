@@ -2,7 +2,7 @@
 -- "RV32/64G Instruction Set Listings" lists them. A row has the opcode, then funct3, then funct7 where the
 -- format has it, then the instruction's fields.
 use Rattle.std.specs.Prelude.{◌≡◌, ℕ, pos}
-use Rattle.xk_base.specs.Fields.{word_of}
+use Rattle.xk_base.specs.Numbers.Fields.{word_of}
 use Rattle.rv32_words.specs.Formats.{Layout, RType, IType, ShiftType, SType, BType, UType, JType, drawing, FieldsFit}
 use Rattle.rv32_words.specs.declared.insn.Insn.{Insn}
 use Rattle.rv32_words.specs.declared.insn.Insn.TheVariants.{Lui, Auipc, Jal, Jalr, Beq, Bne, Blt, Bge, Bltu, Bgeu, Lb, Lh, Lw, Lbu, Lhu, Sb, Sh, Sw, Addi, Slti, Sltiu, Xori, Ori, Andi, Slli, Srli, Srai, Add, Sub, Sll, Slt, Sltu, Xor, Srl, Sra, Or, And, Mul, Mulh, Mulhsu, Mulhu, Div, Divu, Rem, Remu, Fence, FenceI, Ecall, Ebreak}

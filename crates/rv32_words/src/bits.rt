@@ -1,7 +1,7 @@
 //! Bits put together, and the signed numbers that they spell.
 
 ghost use Rattle.std.specs.Prelude.{◌≡◌, ◌<◌, ◌≤◌, ◌+◌, ◌*◌, ◌^◌};
-ghost use Rattle.xk_base.specs.Fields.{sign_extended};
+ghost use Rattle.xk_base.specs.Numbers.Fields.{sign_extended};
 
 /// The number `high` with `width` more bits behind its own, which spell `low`.
 pub fn joined(high: u32, width: u32, low: u32) -> u32

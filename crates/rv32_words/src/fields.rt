@@ -1,7 +1,7 @@
 //! What stands in the fields of an instruction's word (RISC-V Unprivileged ISA, 2.2 and 2.3).
 
 ghost use Rattle.std.specs.Prelude.{◌≡◌, ◌<◌, ◌^◌};
-ghost use Rattle.xk_base.specs.Fields.{sign_extended};
+ghost use Rattle.xk_base.specs.Numbers.Fields.{sign_extended};
 ghost use Rattle.rv32_words.specs.Reading.{opcode_of, funct3_of, funct7_of, rd_of, rs1_of, rs2_of, i_bits, s_bits, b_bits, j_bits, u_bits};
 
 use crate::bits::{joined, sign_extend};

@@ -2,7 +2,7 @@
 //! 2.3), put together from bit 31 down.
 
 ghost use Rattle.std.specs.Prelude.{◌≡◌, ◌<◌, ◌^◌, [], ◌∷◌};
-ghost use Rattle.xk_base.specs.Fields.{word_of, bits_of, FitsBits};
+ghost use Rattle.xk_base.specs.Numbers.Fields.{word_of, bits_of, FitsBits};
 ghost use Rattle.rv32_words.specs.Formats.{RType, IType, ShiftType, SType, BType, UType, JType, drawing, FieldsFit, imm_bits};
 
 use crate::bits::joined;

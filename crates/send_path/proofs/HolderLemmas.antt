@@ -13,7 +13,7 @@ use Rattle.machine_model.specs.Messaging.Messages.{is_of_number}
 use Rattle.machine_model.specs.Messaging.ReturnCalls.{held_at, held_by_caller, holder_of, holds}
 use Rattle.machine_model.specs.Runs.Matched.{Matched}
 use Rattle.machine_model.specs.State.Machine.{Machine, Server}
-use Rattle.xk_base.specs.Sids.{serial_of}
+use Rattle.xk_base.specs.Tables.Sids.{serial_of}
 use Rattle.machine_model.specs.State.Servers.{is_server_of, messages_of}
 use Rattle.xk_base.proofs.CountingLemmas.{least_below-None, least_below-Some}
 use Rattle.xk_base.specs.declared.ids.Number.{Number}

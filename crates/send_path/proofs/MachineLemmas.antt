@@ -4,7 +4,7 @@ use Rattle.std.specs.Prelude.{if◌then◌else◌}
 use Rattle.std.specs.Option.{option_and_then, option_map}
 use Rattle.std.proofs.lemmas.Option.{none-some}
 use Rattle.machine_model.specs.State.Machine.{Machine}
-use Rattle.xk_base.specs.Sids.{serial_with}
+use Rattle.xk_base.specs.Tables.Sids.{serial_with}
 use Rattle.machine_model.specs.State.Servers.{is_own, is_server_of, with_sid}
 use Rattle.msg_queue.specs.Seats.{Seat}
 use Rattle.server_table.specs.ServersOf.{servers_of}

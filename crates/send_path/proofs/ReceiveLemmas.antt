@@ -3,7 +3,7 @@ use Rattle.std.proofs.Common.{◌≡◌, ℕ, ◌<◌, Bool, true, false, List, 
 use Rattle.std.specs.Prelude.{All, ◌==◌, ◌&&◌, nat_eq, not, slice_get, unwrap_or, if◌then◌else◌}
 use Rattle.std.specs.Option.{option_and_then, option_map}
 use Rattle.machine_model.specs.Calling.ServerCalls.{named_server}
-use Rattle.xk_base.specs.Kinds.{is_answered}
+use Rattle.xk_base.specs.Calls.Kinds.{is_answered}
 use Rattle.machine_model.specs.Messaging.Messages.{oldest, with_received, without_oldest}
 use Rattle.machine_model.specs.Messaging.ReceiveCalls.{oldest_queued, receive_served, received, try_receive_served, waits_at}
 use Rattle.machine_model.specs.State.Changes.{Change, Refused, Served, answering, only}
@@ -20,9 +20,9 @@ use Rattle.server_table.specs.ServersOf.{servers_of}
 use Rattle.server_table.specs.ServerState.{Server as TableServer}
 use Rattle.thread_table.specs.ThreadMap.{is_ready as is_table_ready}
 use Rattle.thread_table.specs.ThreadsOf.{process_count, threads_of}
-use Rattle.xk_base.specs.Circle.{is_thread_id}
-use Rattle.xk_base.specs.Counting.{put_at}
-use Rattle.xk_base.specs.Replies.{message_words, plain_words}
+use Rattle.xk_base.specs.Tables.Circle.{is_thread_id}
+use Rattle.xk_base.specs.Tables.Counting.{put_at}
+use Rattle.xk_base.specs.Calls.Replies.{message_words, plain_words}
 use Rattle.xk_base.specs.declared.errors.XousError.TheVariants.{ServerNotFound}
 use Rattle.xk_base.specs.declared.ids.Serial.{Serial}
 use Rattle.xk_base.specs.declared.ids.Sid.{Sid}

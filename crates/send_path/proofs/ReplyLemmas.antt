@@ -11,8 +11,8 @@ use Rattle.machine_model.specs.State.Machine.{Thread}
 use Rattle.machine_model.specs.State.Threads.{Answers, answer_to, both_answers, no_answers, with_answer}
 use Rattle.machine_model.specs.Stepping.Step.{record_of}
 use Rattle.xk_base.proofs.CircleLemmas.{id_at-place_of, is_pid-bounds, place_of-bound, place_of-id_at}
-use Rattle.xk_base.specs.Circle.{id_at, is_pid, is_thread_id, is_tid, listed_ids, place_of, same_thread, thread_ids}
-use Rattle.xk_base.specs.Counting.{listed_below}
+use Rattle.xk_base.specs.Tables.Circle.{id_at, is_pid, is_thread_id, is_tid, listed_ids, place_of, same_thread, thread_ids}
+use Rattle.xk_base.specs.Tables.Counting.{listed_below}
 use Rattle.xk_base.specs.declared.ids.ThreadId.{ThreadId}
 use Rattle.xk_base.specs.Log.{LogState}
 use Rattle.xk_base.specs.declared.records.What.{What}

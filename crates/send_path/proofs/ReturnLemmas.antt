@@ -7,7 +7,7 @@ use Rattle.std.proofs.lemmas.Bool.{eq-eqb, eqb-true, false≢true}
 use Rattle.std.proofs.lemmas.List.{map-append}
 use Rattle.std.proofs.lemmas.List.Elements.{All-append, All-cons, All-drop, All-take}
 use Rattle.std.proofs.lemmas.Option.{none-some, same_Some}
-use Rattle.ledger_model.proofs.OfNumberLemmas.{stands_still}
+use Rattle.ledger_model.proofs.Loans.OfNumberLemmas.{stands_still}
 use Rattle.ledger_model.proofs.Stepping.EndingLemmas.{end_loan_other}
 use Rattle.ledger_model.specs.Ledger.{Ledger}
 use Rattle.ledger_model.specs.Loans.{LoanRun, Stands, loans, same_number}
@@ -29,7 +29,7 @@ use Rattle.machine_model.specs.Runs.Matched.{Matched, is_waiting_for, waits_for}
 use Rattle.machine_model.specs.State.Changes.{Outcome, Refused, Served, answering, replies, refused_or}
 use Rattle.machine_model.specs.State.Machine.{Machine, Server, Thread}
 use Rattle.machine_model.specs.State.Order.{ready_at}
-use Rattle.xk_base.specs.Sids.{serial_of}
+use Rattle.xk_base.specs.Tables.Sids.{serial_of}
 use Rattle.machine_model.specs.State.Servers.{change_server, messages_of}
 use Rattle.machine_model.specs.State.Threads.{answer_to, both_answers, passed}
 use Rattle.msg_queue.specs.Seats.{Seat, changed_at, message_of, of_number, place_of, seat_of, without_held as without_held_at}
@@ -43,9 +43,9 @@ use Rattle.syscall_codec.specs.declared.calls.Call.TheVariants.{ReturnMemory, Re
 use Rattle.thread_table.specs.ThreadMap.{is_ready as is_table_ready}
 use Rattle.thread_table.specs.ThreadsOf.{process_count, threads_of}
 use Rattle.vm_memory.specs.Memory.{capacity_of, ledger}
-use Rattle.xk_base.specs.Circle.{is_thread_id, same_thread}
-use Rattle.xk_base.specs.Counting.{put_at}
-use Rattle.xk_base.specs.Replies.{plain_words, returned_words, scalar1_words, scalar2_words}
+use Rattle.xk_base.specs.Tables.Circle.{is_thread_id, same_thread}
+use Rattle.xk_base.specs.Tables.Counting.{put_at}
+use Rattle.xk_base.specs.Calls.Replies.{plain_words, returned_words, scalar1_words, scalar2_words}
 use Rattle.xk_base.specs.declared.errors.XousError.TheVariants.{BadAddress, DoubleFree}
 use Rattle.xk_base.specs.declared.ids.Number.{Number}
 use Rattle.xk_base.specs.declared.ids.Pid.{Pid}

@@ -14,8 +14,8 @@ use Rattle.thread_table.specs.declared.table.Threads.{Threads}
 use Rattle.thread_table.specs.declared.thread.Thread.{Thread as TableThread}
 use Rattle.thread_table.specs.declared.thread.ThreadState.{ThreadState as TableState}
 use Rattle.thread_table.specs.declared.thread.ThreadState.TheVariants as table
-use Rattle.xk_base.specs.Circle.{is_thread_id, same_thread}
-use Rattle.xk_base.specs.Counting.{put_at}
+use Rattle.xk_base.specs.Tables.Circle.{is_thread_id, same_thread}
+use Rattle.xk_base.specs.Tables.Counting.{put_at}
 use Rattle.xk_base.specs.declared.ids.ThreadId.{ThreadId}
 use Rattle.send_path.specs.Parts.{state_of, thread_of, threads_shown}
 use Rattle.send_path.specs.Threads.{ThreadMap, answered, changed_thread}

@@ -1,7 +1,7 @@
 -- The messages of a server's seat, each with its loan.
 use Rattle.std.specs.Prelude.{◌≡◌, ◌≢◌, ℕ, List, [], ◌∷◌, ◌++◌, is_some, Option, Some, None, if◌then◌else◌}
 use Rattle.std.specs.Option.{option_and_then, option_map}
-use Rattle.xk_base.specs.Kinds.{is_answered}
+use Rattle.xk_base.specs.Calls.Kinds.{is_answered}
 use Rattle.machine_model.specs.Messaging.Messages.{is_lend}
 use Rattle.msg_queue.specs.Seats.{Seat, message_of, of_number, seat_of}
 use Rattle.msg_queue.specs.declared.held.Held.{Held}

@@ -3,8 +3,8 @@ use Rattle.std.specs.Prelude.{Bool, Option, ◌==◌, ◌&&◌, ◌||◌, nat_lt
 use Rattle.std.specs.Option.{option_map}
 use Rattle.machine_model.specs.State.Machine.{Thread}
 use Rattle.machine_model.specs.State.Threads.{Answers, with_answer}
-use Rattle.xk_base.specs.Circle.{same_thread}
-use Rattle.xk_base.specs.Counting.{put_at}
+use Rattle.xk_base.specs.Tables.Circle.{same_thread}
+use Rattle.xk_base.specs.Tables.Counting.{put_at}
 use Rattle.xk_base.specs.declared.ids.ThreadId.{ThreadId}
 
 abbrev pub ThreadMap : Type 0

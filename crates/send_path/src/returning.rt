@@ -4,8 +4,8 @@ ghost use Rattle.std.specs.Prelude.{◌≡◌, ◌+◌, ◌≤◌, ◌==◌, ◌
 ghost use Rattle.syscall_codec.specs.Replies.{words_of};
 ghost use Rattle.thread_table.specs.ThreadMap.{is_ready};
 ghost use Rattle.thread_table.specs.ThreadsOf.{threads_of};
-ghost use Rattle.xk_base.specs.CallNumbers.{return_memory as memory_number, return_scalar1 as scalar1_number, return_scalar2 as scalar2_number};
-ghost use Rattle.xk_base.specs.CallWords.{call_number};
+ghost use Rattle.xk_base.specs.Calls.CallNumbers.{return_memory as memory_number, return_scalar1 as scalar1_number, return_scalar2 as scalar2_number};
+ghost use Rattle.xk_base.specs.Calls.CallWords.{call_number};
 ghost use Rattle.send_path.specs.Rows.{IsRow, memory_row, scalar_row, table_row};
 ghost use Rattle.send_path.specs.Sound.{IsSound, KeepsMemory};
 

@@ -5,7 +5,7 @@ ghost use Rattle.std.specs.Option.{option_map};
 ghost use Rattle.msg_queue.specs.Seats.{changed_at, seat_of, used_of, with_held};
 ghost use Rattle.server_table.specs.ServersOf.{servers_of};
 ghost use Rattle.xk_base.specs.declared.limits.TheConstants.{SERVER_LIMIT, MESSAGE_LIMIT};
-ghost use Rattle.xk_base.specs.Kinds.{is_answered as is_kind_answered};
+ghost use Rattle.xk_base.specs.Calls.Kinds.{is_answered as is_kind_answered};
 ghost use Rattle.send_path.specs.Seats.{HasLoanIfLend, IsSeatOf, own_serial};
 
 use msg_queue::{Held, Queues};

@@ -12,12 +12,12 @@ use Rattle.xk_base.specs.declared.ids.Pid.{Pid}
 use Rattle.xk_base.specs.declared.ids.Serial.{Serial}
 use Rattle.xk_base.specs.declared.ids.Sid.{Sid}
 use Rattle.xk_base.specs.declared.limits.TheConstants.{SERVER_LIMIT}
-use Rattle.xk_base.specs.Counting.{count_below, least_below}
-use Rattle.xk_base.specs.RowMap.{row_map}
+use Rattle.xk_base.specs.Tables.Counting.{count_below, least_below}
+use Rattle.xk_base.specs.Tables.RowMap.{row_map}
 use Rattle.xk_base.proofs.CountingLemmas.{least_below-none, least_below-same, least_below-passes, count_below-bound}
 use Rattle.server_table.specs.declared.table.ServerSeat.{ServerSeat}
 use Rattle.server_table.specs.Seats.{seat_has_sid, by_serial, AreApart, AreCounted, lower}
-use Rattle.xk_base.specs.Sids.{same_sid, is_sid, serial_of}
+use Rattle.xk_base.specs.Tables.Sids.{same_sid, is_sid, serial_of}
 use Rattle.server_table.specs.ServerState.{ServerState, Server, has_seat, is_of, with_sid, least_of, seat_view, at_seat, free_seat, live_count, made_answer}
 use Rattle.server_table.proofs.SerialLemmas.{within, position_is_least, least_is, least_none, by_serial_is}
 

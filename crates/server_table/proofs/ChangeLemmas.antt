@@ -7,13 +7,13 @@ use Rattle.std.proofs.lemmas.Bool.{cases_eq, both_ways, false_from_ne_true, cond
 use Rattle.std.proofs.lemmas.List.{length-set, get_or-set_same, get_or-set_other}
 use Rattle.std.proofs.lemmas.Option.{none-some, same_Some}
 use Rattle.xk_base.specs.declared.limits.TheConstants.{SERVER_LIMIT}
-use Rattle.xk_base.specs.Counting.{count_below, put_at}
-use Rattle.xk_base.specs.RowMap.{row_map}
+use Rattle.xk_base.specs.Tables.Counting.{count_below, put_at}
+use Rattle.xk_base.specs.Tables.RowMap.{row_map}
 use Rattle.xk_base.proofs.CountingLemmas.{count_below-same, count_below-one, count_below-none}
 use Rattle.xk_base.proofs.RowMapLemmas.{row_map_replicate}
 use Rattle.server_table.specs.declared.table.ServerSeat.{ServerSeat}
 use Rattle.server_table.specs.Seats.{has_serial, server_of, seat_with, by_serial, AreApart, AreCounted}
-use Rattle.xk_base.specs.Sids.{same_sid}
+use Rattle.xk_base.specs.Tables.Sids.{same_sid}
 use Rattle.server_table.specs.ServerState.{Server}
 use Rattle.server_table.proofs.SerialLemmas.{taken, by_serial_is, by_serial_found}
 

@@ -4,13 +4,13 @@ use Rattle.std.specs.List.{All, Contains}
 use Rattle.std.specs.List.Sorted.{IsStrictlyIncreasing}
 use Rattle.std.proofs.lemmas.Option.{same_Some}
 use Rattle.xk_base.specs.declared.limits.TheConstants.{SERVER_LIMIT}
-use Rattle.xk_base.specs.RowMap.{row_map}
+use Rattle.xk_base.specs.Tables.RowMap.{row_map}
 use Rattle.xk_base.proofs.CountingLemmas.{listed_below-ascends, listed_below-passes, listed_below-contains}
 use Rattle.server_table.specs.declared.table.ServerSeat.{ServerSeat}
 use Rattle.server_table.specs.declared.table.Servers.{Servers}
 use Rattle.server_table.specs.Seats.{server_of}
 use Rattle.server_table.specs.ServersOf.{servers_of}
-use Rattle.xk_base.specs.Sids.{same_sid}
+use Rattle.xk_base.specs.Tables.Sids.{same_sid}
 use Rattle.server_table.specs.ServerState.{Server, ServerState, live_serials}
 use Rattle.server_table.proofs.SerialLemmas.{within, by_serial_found}
 

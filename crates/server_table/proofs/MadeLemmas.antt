@@ -3,9 +3,9 @@ use Rattle.std.proofs.Common.{◌≡◌, ℕ, ◌+◌, ◌<◌, List, length, se
 use Rattle.xk_base.specs.declared.ids.Pid.{Pid}
 use Rattle.xk_base.specs.declared.ids.Sid.{Sid}
 use Rattle.xk_base.specs.declared.limits.TheConstants.{SERVER_LIMIT}
-use Rattle.xk_base.specs.Counting.{least_below, put_at}
-use Rattle.xk_base.specs.RowMap.{row_map}
-use Rattle.xk_base.specs.Sids.{serial_of}
+use Rattle.xk_base.specs.Tables.Counting.{least_below, put_at}
+use Rattle.xk_base.specs.Tables.RowMap.{row_map}
+use Rattle.xk_base.specs.Tables.Sids.{serial_of}
 use Rattle.server_table.specs.declared.table.ServerSeat.{ServerSeat}
 use Rattle.server_table.specs.Seats.{server_of, by_serial, seat_with, AreApart, AreCounted}
 use Rattle.server_table.specs.ServerState.{with_sid, with_server, without_server, free_seat}

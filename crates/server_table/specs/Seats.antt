@@ -5,10 +5,10 @@ use Rattle.std.specs.Option.{option_map, option_and_then}
 use Rattle.xk_base.specs.declared.ids.Serial.{Serial}
 use Rattle.xk_base.specs.declared.ids.Sid.{Sid}
 use Rattle.xk_base.specs.declared.limits.TheConstants.{SERVER_LIMIT}
-use Rattle.xk_base.specs.Counting.{count_below}
-use Rattle.xk_base.specs.RowMap.{row_map}
+use Rattle.xk_base.specs.Tables.Counting.{count_below}
+use Rattle.xk_base.specs.Tables.RowMap.{row_map}
 use Rattle.server_table.specs.declared.table.ServerSeat.{ServerSeat}
-use Rattle.xk_base.specs.Sids.{same_sid, is_sid}
+use Rattle.xk_base.specs.Tables.Sids.{same_sid, is_sid}
 use Rattle.server_table.specs.ServerState.{Server}
 
 -- there is a server, and it has that serial

@@ -8,8 +8,8 @@ use Rattle.xk_base.specs.declared.ids.Pid.{Pid}
 use Rattle.xk_base.specs.declared.ids.Serial.{Serial}
 use Rattle.xk_base.specs.declared.ids.Sid.{Sid}
 use Rattle.xk_base.specs.declared.limits.TheConstants.{SERVER_LIMIT}
-use Rattle.xk_base.specs.Sids.{serial_of, serial_with}
-use Rattle.xk_base.specs.Counting.{count_below, least_below, listed_below, put_at}
+use Rattle.xk_base.specs.Tables.Sids.{serial_of, serial_with}
+use Rattle.xk_base.specs.Tables.Counting.{count_below, least_below, listed_below, put_at}
 use Rattle.server_table.specs.declared.table.ServerSeat.{ServerSeat}
 
 -- a living server, as its serial finds it

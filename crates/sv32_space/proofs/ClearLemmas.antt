@@ -1,11 +1,11 @@
 -- How a space is made, frame by frame and entry by entry.
-use Rattle.xk_base.specs.Circle.{is_pid}
+use Rattle.xk_base.specs.Tables.Circle.{is_pid}
 use Rattle.std.proofs.Common.{◌≡◌, ◌+◌, ◌*◌, ◌/◌, ◌%◌, ◌^◌, ◌<◌, ◌≤◌, ◌≢◌, ℕ, true, Some, IsSome, is_some, slice_index, nat_eq, length, refl, sym, ap, subst, ◌∙◌, inl, inr, ◌⊎◌, arith}
 use Rattle.std.proofs.lemmas.Bool.{cases_eq, cases_lt, and_parts, ne_eqb}
 use Rattle.xk_base.specs.declared.ids.Place.{Place}
 use Rattle.xk_base.specs.declared.windows.Window.{Window}
-use Rattle.xk_base.specs.Counting.{put_at}
-use Rattle.xk_base.specs.Windows.{window_at}
+use Rattle.xk_base.specs.Tables.Counting.{put_at}
+use Rattle.xk_base.specs.Numbers.Windows.{window_at}
 use Rattle.phys_pages.specs.Ram.{RamBytes, IsPlaced, area, pages, with_word, ppn_of, frame_at}
 use Rattle.phys_pages.proofs.PageLemmas.{length-pages}
 use Rattle.phys_pages.proofs.WordLemmas.{word_in-zero}

@@ -1,12 +1,12 @@
 -- The entries of all places, after a write.
-use Rattle.xk_base.specs.Circle.{is_pid}
+use Rattle.xk_base.specs.Tables.Circle.{is_pid}
 use Rattle.std.proofs.Common.{◌≡◌, ◌+◌, ◌*◌, ◌/◌, ◌%◌, ◌^◌, ◌<◌, ◌≤◌, ℕ, Bool, true, false, cond, ◌&&◌, nat_le, nat_lt, List, Option, Some, None, IsTrue, IsFalse, IsSome, is_some, nat_eq, refl, sym, ap, subst, ◌∙◌, inl, inr, arith}
 use Rattle.std.proofs.lemmas.Bool.{cases_Bool, cases_eq, cond-false, ne_eqb, and_parts, and_from, leb-true, le-leb, ltb-true}
 use Rattle.std.proofs.lemmas.Option.{same_Some}
 use Rattle.xk_base.specs.declared.ids.Place.{Place}
 use Rattle.xk_base.specs.declared.windows.Window.{Window}
-use Rattle.xk_base.specs.Windows.{window_at}
-use Rattle.xk_base.specs.Counting.{put_at}
+use Rattle.xk_base.specs.Numbers.Windows.{window_at}
+use Rattle.xk_base.specs.Tables.Counting.{put_at}
 use Rattle.phys_pages.specs.Ram.{RamBytes, Area, IsPlaced, area, pages, words}
 use Rattle.phys_pages.proofs.PageLemmas.{length-pages}
 use Rattle.phys_pages.proofs.WordLemmas.{words-in_frame}

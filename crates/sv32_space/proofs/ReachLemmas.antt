@@ -1,15 +1,15 @@
 -- Where the walk of a made space ends.
-use Rattle.xk_base.specs.Circle.{is_pid}
+use Rattle.xk_base.specs.Tables.Circle.{is_pid}
 use Rattle.std.proofs.Common.{◌≡◌, ◌==◌, ◌+◌, ◌*◌, ◌/◌, ◌%◌, ◌^◌, ◌<◌, ℕ, Bool, true, false, ◌&&◌, nat_le, Option, Some, None, refl, sym, ap, ◌∙◌, inl, inr, arith}
 use Rattle.std.proofs.lemmas.Bool.{cases_Bool, eqb-true}
 use Rattle.std.proofs.lemmas.Option.{none-some, same_Some}
-use Rattle.xk_base.specs.Fields.{field, bits_of}
+use Rattle.xk_base.specs.Numbers.Fields.{field, bits_of}
 use Rattle.xk_base.specs.declared.ids.Frame.{Frame as FrameNumber}
 use Rattle.xk_base.specs.declared.ids.Place.{Place}
 use Rattle.xk_base.specs.declared.pages.Access.{Access}
 use Rattle.xk_base.specs.declared.pages.Access.TheVariants.{Fetch, Load, Store}
 use Rattle.xk_base.specs.declared.windows.Window.{Window}
-use Rattle.xk_base.specs.Windows.{window_at}
+use Rattle.xk_base.specs.Numbers.Windows.{window_at}
 use Rattle.phys_pages.specs.Ram.{RamBytes, Area, IsPlaced, area, pages, ppn_of, frame_of}
 use Rattle.phys_pages.specs.declared.infos.Seat.TheVariants.{Frame, Slot}
 use Rattle.phys_pages.proofs.AreaLemmas.{frame_of-ppn_of}

@@ -1,13 +1,13 @@
 -- Where tables and entries of address spaces stand.
-use Rattle.xk_base.specs.Circle.{is_pid}
+use Rattle.xk_base.specs.Tables.Circle.{is_pid}
 use Rattle.std.proofs.Common.{◌≡◌, ◌+◌, ◌*◌, ◌/◌, ◌%◌, ◌^◌, ◌<◌, ◌≤◌, ℕ, true, nat_le, nat_lt, List, length, Some, IsSome, IsTrue, nat_eq, refl, sym, ap, subst, ◌∙◌, inl, inr, ◌⊎◌, arith}
 use Rattle.std.proofs.lemmas.Bool.{cases_eq, cases_order, cond-false, eq-eqb, ne_eqb, and_parts, ltb-true}
 use Rattle.std.proofs.lemmas.Bool.Decides.{nat_tests}
 use Rattle.std.proofs.lemmas.Option.{none-some, same_Some}
 use Rattle.xk_base.specs.declared.windows.Window.{Window}
 use Rattle.xk_base.specs.declared.windows.Window.TheVariants.{Image, Heap, Message, Map, Stack}
-use Rattle.xk_base.specs.Windows.{first_page, last_page, window_at}
-use Rattle.xk_base.specs.Counting.{put_at}
+use Rattle.xk_base.specs.Numbers.Windows.{first_page, last_page, window_at}
+use Rattle.xk_base.specs.Tables.Counting.{put_at}
 use Rattle.phys_pages.specs.Ram.{RamBytes, Area, area, pages, word_in, with_word, ppn_of, frame_at}
 use Rattle.phys_pages.proofs.WordLemmas.{word_in-with_word, word_in-other}
 use Rattle.sv32_space.specs.Spellings.{kind_at}

@@ -8,8 +8,8 @@
 --     an orphan, Shared      (there is none)      LentIn
 --     an orphan, Exclusive   (there is none)      MutIn
 use Rattle.std.specs.Prelude.{◌≡◌, ℕ, ◌+◌, ◌/◌, Bool, true, false, ◌&&◌, is_some, is_none, IsTrue, Option, Some, None}
-use Rattle.xk_base.specs.Circle.{is_pid}
-use Rattle.xk_base.specs.Limits.{table_frames}
+use Rattle.xk_base.specs.Tables.Circle.{is_pid}
+use Rattle.xk_base.specs.Numbers.Limits.{table_frames}
 use Rattle.xk_base.specs.declared.ids.Number.{Number}
 use Rattle.xk_base.specs.declared.ids.Place.{Place}
 use Rattle.xk_base.specs.declared.pages.LoanKind.{LoanKind}

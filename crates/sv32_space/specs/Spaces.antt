@@ -4,7 +4,7 @@ use Rattle.std.specs.Prelude.{◌≡◌, ℕ, ◌+◌, ◌-◌, ◌*◌, ◌/◌
 use Rattle.xk_base.specs.declared.ids.Place.{Place}
 use Rattle.xk_base.specs.declared.windows.Window.{Window}
 use Rattle.xk_base.specs.declared.windows.Window.TheVariants.{Image, Heap, Message, Map, Stack}
-use Rattle.xk_base.specs.Windows.{first_page, window_at}
+use Rattle.xk_base.specs.Numbers.Windows.{first_page, window_at}
 use Rattle.phys_pages.specs.Ram.{RamBytes, Area, area, pages, word_in, ppn_of}
 use Rattle.sv32_space.specs.Spellings.{bit_v, kind_at}
 

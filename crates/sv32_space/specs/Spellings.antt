@@ -2,7 +2,7 @@
 -- bits: the flags V, R, W, X, U, G, A and D from bit 0 up, two bits left to software, and the physical page number from
 -- bit 10 up. Where V is 0 all other bits are free for software.
 use Rattle.std.specs.Prelude.{◌≡◌, ℕ, ◌+◌, ◌*◌, ◌^◌, ◌<◌, ◌==◌, Bool, true, false, if◌then◌else◌, List, [], ◌∷◌, Option, Some, None}
-use Rattle.xk_base.specs.Fields.{bits_of}
+use Rattle.xk_base.specs.Numbers.Fields.{bits_of}
 use Rattle.xk_base.specs.declared.pages.Right.{Right}
 use Rattle.sv32_space.specs.declared.sides.Side.{Side}
 use Rattle.sv32_space.specs.declared.sides.Side.TheVariants.{Own, LentOut, LentIn, MutOut, MutIn}

@@ -3,8 +3,8 @@
 -- console, and each orphan, has a seat: a frame or a slot. A page is named by its home, an orphan by its holder's place.
 use Rattle.std.specs.Prelude.{◌≡◌, ◌≢◌, ℕ, ◌<◌, ◌≤◌, Bool, false, ◌||◌, is_some, if◌then◌else◌, IsTrue, List, Option, Some, None}
 use Rattle.std.specs.Option.{option_and_then}
-use Rattle.xk_base.specs.Circle.{is_pid}
-use Rattle.xk_base.specs.Limits.{table_frames}
+use Rattle.xk_base.specs.Tables.Circle.{is_pid}
+use Rattle.xk_base.specs.Numbers.Limits.{table_frames}
 use Rattle.xk_base.specs.declared.ids.Frame.{Frame as FrameNumber}
 use Rattle.xk_base.specs.declared.ids.Place.{Place}
 use Rattle.xk_base.specs.declared.pages.Right.{Right}

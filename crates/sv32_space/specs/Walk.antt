@@ -2,7 +2,7 @@
 -- of RAM. SUM and MXR don't matter: the first speaks of supervisor mode, and the second is 0. Of the two schemes that
 -- the manual permits in step 7, this is the one with page faults: A and D are left to software.
 use Rattle.std.specs.Prelude.{ℕ, ◌+◌, ◌*◌, ◌^◌, ◌==◌, Bool, not, ◌&&◌, ◌||◌, if◌then◌else◌, Option, Some, None}
-use Rattle.xk_base.specs.Fields.{field, bits_of}
+use Rattle.xk_base.specs.Numbers.Fields.{field, bits_of}
 use Rattle.xk_base.specs.declared.pages.Access.{Access}
 use Rattle.xk_base.specs.declared.pages.Access.TheVariants.{Fetch, Load, Store}
 use Rattle.phys_pages.specs.Ram.{RamBytes, area, words, ppn_of}

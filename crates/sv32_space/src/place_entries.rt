@@ -6,9 +6,9 @@ ghost use Rattle.sv32_space.specs.PageChanges.{with_entry};
 ghost use Rattle.sv32_space.specs.Spaces.{IsMade};
 ghost use Rattle.sv32_space.specs.SpelledEntries.{IsEntry, console_entry, entries, entry_of_kind, kind_for};
 ghost use Rattle.sv32_space.specs.Spellings.{IsKind};
-ghost use Rattle.xk_base.specs.Circle.{is_pid};
-ghost use Rattle.xk_base.specs.Limits.{table_frames};
-ghost use Rattle.xk_base.specs.Windows.{window_at};
+ghost use Rattle.xk_base.specs.Tables.Circle.{is_pid};
+ghost use Rattle.xk_base.specs.Numbers.Limits.{table_frames};
+ghost use Rattle.xk_base.specs.Numbers.Windows.{window_at};
 
 use crate::entries::{entry_of, kind_of};
 use crate::sides::{Entry, EntryKind, Side};

@@ -1,9 +1,9 @@
 //! Spaces and entries stand in table frames alone, and every entry has a spelling. Each function does nothing; its
 //! contract is the law.
 
-ghost use Rattle.xk_base.specs.Circle.{is_pid};
+ghost use Rattle.xk_base.specs.Tables.Circle.{is_pid};
 ghost use Rattle.std.specs.Prelude.{◌≡◌, ℕ, ◌+◌, ◌*◌, ◌/◌, ◌<◌, ◌≤◌, List, Some, None, IsTrue, IsFalse, nat_eq};
-ghost use Rattle.xk_base.specs.Counting.{put_at};
+ghost use Rattle.xk_base.specs.Tables.Counting.{put_at};
 ghost use Rattle.xk_base.specs.declared.ids.Frame.{Frame};
 ghost use Rattle.xk_base.specs.declared.ids.Place.{Place};
 ghost use Rattle.phys_pages.specs.Ram.{Area, RamBytes, IsPlaced, area, pages, frame_of, ppn_of};

@@ -1,11 +1,11 @@
 //! Address spaces: their frames, and the entries of their pages.
 
-ghost use Rattle.xk_base.specs.Circle.{is_pid};
+ghost use Rattle.xk_base.specs.Tables.Circle.{is_pid};
 ghost use Rattle.std.specs.Prelude.{◌≡◌, ℕ, ◌+◌, ◌-◌, ◌*◌, ◌/◌, ◌%◌, ◌<◌, ◌≤◌, ◌≢◌, ◌⊎◌, true, Some, IsSome, IsTrue, nat_eq, slice_index};
 ghost use Rattle.xk_base.specs.declared.ids.Place.{Place};
 ghost use Rattle.xk_base.specs.declared.windows.Window.{Window};
-ghost use Rattle.xk_base.specs.Counting.{put_at};
-ghost use Rattle.xk_base.specs.Windows.{window_at};
+ghost use Rattle.xk_base.specs.Tables.Counting.{put_at};
+ghost use Rattle.xk_base.specs.Numbers.Windows.{window_at};
 ghost use Rattle.phys_pages.specs.Ram.{area, pages, words, IsInside, IsPlaced};
 ghost use Rattle.ledger_model.specs.Places.{is_user_place, same_place};
 ghost use Rattle.sv32_space.specs.declared.sides.Entry.TheVariants.{Free};

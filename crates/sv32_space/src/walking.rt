@@ -1,10 +1,10 @@
 //! The page walk of Sv32 in user mode.
 
 ghost use Rattle.std.specs.Prelude.{◌≡◌, ℕ, ◌+◌, ◌*◌, ◌/◌, ◌%◌, ◌<◌, ◌^◌, Some, None};
-ghost use Rattle.xk_base.specs.Fields.{field};
+ghost use Rattle.xk_base.specs.Numbers.Fields.{field};
 ghost use Rattle.phys_pages.specs.Ram.{area, words, ppn_of};
 ghost use Rattle.xk_base.specs.declared.ids.Place.{Place};
-ghost use Rattle.xk_base.specs.Windows.{window_at};
+ghost use Rattle.xk_base.specs.Numbers.Windows.{window_at};
 ghost use Rattle.sv32_space.specs.declared.walking.Walked.TheVariants.{PageFault};
 ghost use Rattle.sv32_space.specs.declared.sides.Entry.{Entry};
 ghost use Rattle.sv32_space.specs.EntryReach.{entry_reach};

@@ -1,7 +1,7 @@
 //! The flags of memory that MapMemory and UpdateMemoryFlags take.
 
 ghost use Rattle.std.specs.Prelude.{⊤, ◌≡◌, ◌↔◌, [], ◌∷◌, codes, IsTrue, IsSome, IfSome};
-ghost use Rattle.xk_base.specs.Flags.{flag_reserve, flag_read, flag_write, flag_execute, flag_device, are_known_flags, has_flag, right_of};
+ghost use Rattle.xk_base.specs.Calls.Flags.{flag_reserve, flag_read, flag_write, flag_execute, flag_device, are_known_flags, has_flag, right_of};
 ghost use Rattle.syscall_codec.specs.MapFlags.{bits_of};
 
 use bitflags::{Flag, Flags, bitflag_items};

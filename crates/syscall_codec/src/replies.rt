@@ -1,8 +1,8 @@
 //! The replies to system calls.
 
 ghost use Rattle.std.specs.Prelude.{◌≡◌};
-ghost use Rattle.xk_base.specs.Kinds.{kind_number as number_of_kind};
-ghost use Rattle.xk_base.specs.Replies.{new_server_words as spelled_server, message_words as spelled_message};
+ghost use Rattle.xk_base.specs.Calls.Kinds.{kind_number as number_of_kind};
+ghost use Rattle.xk_base.specs.Calls.Replies.{new_server_words as spelled_server, message_words as spelled_message};
 ghost use Rattle.syscall_codec.specs.Replies.{words_of};
 
 use xk_base::{Cid, Message, MsgKind, Sid, Tid, XousError};

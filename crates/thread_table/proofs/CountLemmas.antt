@@ -3,7 +3,7 @@ use Rattle.std.proofs.Common.{◌≡◌, ◌<◌, ◌≤◌, ℕ, ◌+◌, Bool,
 use Rattle.std.specs.List.{range_with_len, count_by}
 use Rattle.std.specs.Option.{MatchOption, option_copied}
 use Rattle.std.proofs.lemmas.List.Sums.{sum_by-cons}
-use Rattle.xk_base.specs.Counting.{count_below, least_below}
+use Rattle.xk_base.specs.Tables.Counting.{count_below, least_below}
 use Rattle.xk_base.proofs.CountingLemmas.{least_below-Some, least_below-None}
 
 -- a reference to a value is there where the value is

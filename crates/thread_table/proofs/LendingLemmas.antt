@@ -5,9 +5,9 @@ use Rattle.std.specs.Vec.{with_item}
 use native.Mathlib.Bridge.{le_prop}
 use native.Mathlib.Nat.{ℕ_set}
 use Rattle.xk_base.proofs.CircleLemmas.{place_of-bound}
-use Rattle.xk_base.specs.Circle.{is_thread_id, place_of, same_thread, thread_ids}
-use Rattle.xk_base.specs.Counting.{put_at}
-use Rattle.xk_base.specs.RowMap.{row_map}
+use Rattle.xk_base.specs.Tables.Circle.{is_thread_id, place_of, same_thread, thread_ids}
+use Rattle.xk_base.specs.Tables.Counting.{put_at}
+use Rattle.xk_base.specs.Tables.RowMap.{row_map}
 use Rattle.xk_base.specs.declared.ids.ThreadId.{ThreadId}
 use Rattle.xk_base.specs.declared.limits.TheConstants.{PROCESS_LIMIT}
 use Rattle.thread_table.specs.Lending.{with_thread}

@@ -3,7 +3,7 @@ use Rattle.std.proofs.Common.{◌≡◌, ℕ, true, is_some, map, IsSome, subst,
 use Rattle.std.specs.List.{All, Contains}
 use Rattle.std.specs.List.Sorted.{IsStrictlyIncreasing}
 use Rattle.xk_base.specs.declared.ids.ThreadId.{ThreadId}
-use Rattle.xk_base.specs.Circle.{is_thread_id, thread_ids, id_at, place_of}
+use Rattle.xk_base.specs.Tables.Circle.{is_thread_id, thread_ids, id_at, place_of}
 use Rattle.xk_base.proofs.CountingLemmas.{listed_below-ascends}
 use Rattle.xk_base.proofs.CircleLemmas.{places-listed_ids, listed_ids-passes, listed_ids-contains}
 use Rattle.thread_table.specs.declared.table.Threads.{Threads}

@@ -4,9 +4,9 @@ use Rattle.std.proofs.lemmas.Bool.{cases_Bool, both_ways, true_from_ne_false, co
 use Rattle.std.proofs.lemmas.Bool.Decides.{nat_tests}
 use Rattle.std.proofs.lemmas.List.{get_or-set_same, get_or-set_other}
 use Rattle.xk_base.specs.declared.ids.ThreadId.{ThreadId}
-use Rattle.xk_base.specs.Circle.{is_thread_id, same_thread, thread_ids, id_at, place_of}
-use Rattle.xk_base.specs.Counting.{put_at}
-use Rattle.xk_base.specs.RowMap.{row_map}
+use Rattle.xk_base.specs.Tables.Circle.{is_thread_id, same_thread, thread_ids, id_at, place_of}
+use Rattle.xk_base.specs.Tables.Counting.{put_at}
+use Rattle.xk_base.specs.Tables.RowMap.{row_map}
 use Rattle.xk_base.proofs.CircleLemmas.{same_ids, is_thread_id-id_at, place_of-id_at, place_of-bound, id_at-place_of}
 use Rattle.xk_base.proofs.RowMapLemmas.{row_map_replicate}
 use Rattle.thread_table.specs.declared.thread.Thread.{Thread}

@@ -2,7 +2,7 @@
 use Rattle.std.specs.Prelude.{Option, Some}
 use Rattle.std.specs.Borrow.{Lends, LendsIf, MutBor, Fml}
 use Rattle.std.specs.Vec.{with_item}
-use Rattle.xk_base.specs.Circle.{place_of}
+use Rattle.xk_base.specs.Tables.Circle.{place_of}
 use Rattle.xk_base.specs.declared.ids.ThreadId.{ThreadId}
 use Rattle.thread_table.specs.contracts.table.Threads.{the_row}
 use Rattle.thread_table.specs.contracts.thread.Thread.{the_row as thread_row}

@@ -7,9 +7,9 @@ use Rattle.xk_base.specs.declared.ids.Serial.{Serial}
 use Rattle.xk_base.specs.declared.ids.ThreadId.{ThreadId}
 use Rattle.xk_base.specs.declared.ids.Tid.{Tid}
 use Rattle.xk_base.specs.declared.limits.TheConstants.{TID_LIMIT}
-use Rattle.xk_base.specs.Circle.{id_by_tid, is_thread_id, thread_ids, place_of, next_id, listed_ids}
-use Rattle.xk_base.specs.Counting.{count_below, least_below}
-use Rattle.xk_base.specs.RowMap.{row_map}
+use Rattle.xk_base.specs.Tables.Circle.{id_by_tid, is_thread_id, thread_ids, place_of, next_id, listed_ids}
+use Rattle.xk_base.specs.Tables.Counting.{count_below, least_below}
+use Rattle.xk_base.specs.Tables.RowMap.{row_map}
 use Rattle.thread_table.specs.declared.thread.Thread.{Thread}
 use Rattle.thread_table.specs.States.{is_ready_state, is_receiving_state}
 

@@ -2,8 +2,8 @@
 
 ghost use Rattle.std.specs.Prelude.{◌≡◌, ◌<◌, ◌≤◌, ◌+◌, ◌%◌, true, IfOk, IsSome, Some, is_none, vec_len};
 ghost use Rattle.std.specs.Option.{option_copied};
-ghost use Rattle.xk_base.specs.Circle.{IsPid, IsTid, is_thread_id, same_thread, thread_ids, place_of, id_at, id_behind, id_by_tid, ids_until};
-ghost use Rattle.xk_base.specs.Counting.{put_at};
+ghost use Rattle.xk_base.specs.Tables.Circle.{IsPid, IsTid, is_thread_id, same_thread, thread_ids, place_of, id_at, id_behind, id_by_tid, ids_until};
+ghost use Rattle.xk_base.specs.Tables.Counting.{put_at};
 ghost use Rattle.xk_base.specs.declared.ids.ThreadId.{ThreadId as Id};
 ghost use Rattle.xk_base.specs.declared.limits.TheConstants.{PROCESS_LIMIT};
 ghost use Rattle.thread_table.specs.ThreadMap.{no_threads, without_process, free_tid, thread_above, tids_above, live_threads, receiver, next_ready, is_ready, is_receiving};

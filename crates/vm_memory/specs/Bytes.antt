@@ -1,6 +1,6 @@
 -- Where pages are, and when their bytes are known.
 use Rattle.std.specs.Prelude.{◌≡◌, ℕ, ◌+◌, ◌≤◌, ◌==◌, Bool, true, false, ◌&&◌, ◌||◌, is_some, IsTrue, Option, Some, None}
-use Rattle.xk_base.specs.Counting.{count_below}
+use Rattle.xk_base.specs.Tables.Counting.{count_below}
 use Rattle.xk_base.specs.declared.ids.Place.{Place}
 use Rattle.phys_pages.specs.declared.infos.Seat.{Seat}
 use Rattle.phys_pages.specs.declared.infos.Seat.TheVariants.{Frame, Slot}

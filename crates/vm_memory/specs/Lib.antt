@@ -1,14 +1,8 @@
 pub mod Bytes
-pub mod Changing
 pub mod FirstLedger
-pub mod Here
-pub mod Lending
-pub mod Loans
-pub mod Making
+pub mod Loaning
 pub mod Memory
-pub mod Removing
-pub mod RunTests
-pub mod Sending
+pub mod Pages
 pub mod Sound
 pub mod Starting
 pub mod Tie

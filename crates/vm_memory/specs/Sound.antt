@@ -1,6 +1,6 @@
 -- The soundness of a memory, which each call needs and keeps.
 use Rattle.std.specs.Prelude.{◌≡◌, ℕ, ◌+◌, ◌≤◌}
-use Rattle.xk_base.specs.Limits.{table_frames}
+use Rattle.xk_base.specs.Numbers.Limits.{table_frames}
 use Rattle.phys_pages.specs.Owners.{extent, infos}
 use Rattle.phys_pages.specs.Ram.{IsPlaced, area}
 use Rattle.ledger_model.specs.Lawful.{IsLawful}

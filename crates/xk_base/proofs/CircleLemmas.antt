@@ -10,8 +10,8 @@ use Rattle.std.proofs.lemmas.Option.{none-some, same_Some}
 use Rattle.std.proofs.lemmas.List.{length-map, get_or-map}
 use Rattle.std.proofs.lemmas.List.Elements.{All-map, All-weaker}
 use Rattle.xk_base.specs.declared.ids.ThreadId.{ThreadId}
-use Rattle.xk_base.specs.Counting.{least_below, listed_below}
-use Rattle.xk_base.specs.Circle.{listed_ids, is_pid, is_thread_id, thread_ids, id_at, ids_until, place_of, id_behind, next_id, steps_to}
+use Rattle.xk_base.specs.Tables.Counting.{least_below, listed_below}
+use Rattle.xk_base.specs.Tables.Circle.{listed_ids, is_pid, is_thread_id, thread_ids, id_at, ids_until, place_of, id_behind, next_id, steps_to}
 use Rattle.xk_base.proofs.CountingLemmas.{listed_below-passes, listed_below-contains, least_below-same, least_below-Some, least_below-None, least_below-none, least_below-passes, least_below-first, least_below-bound}
 
 -- ---- ids and their places

@@ -9,7 +9,7 @@ use Rattle.std.proofs.lemmas.List.{get_or_append_left}
 use Rattle.std.proofs.lemmas.Grind.{common_steps}
 use Rattle.std.proofs.lemmas.Option.{none-some, same_Some}
 use Rattle.std.proofs.lemmas.List.Elements.{All-nil, All-weaker, All-push, Contains-append_left, Contains-append_right}
-use Rattle.xk_base.specs.Counting.{count_below, least_below, listed_below, sum_below, put_at}
+use Rattle.xk_base.specs.Tables.Counting.{count_below, least_below, listed_below, sum_below, put_at}
 
 -- ---- equal tests
 

@@ -6,7 +6,7 @@ use Rattle.std.proofs.Math.Decide.{dec_lt}
 use Rattle.std.proofs.lemmas.Nat.{pow_pos, pow-add, mod-pow-add, shr_high, shr-shr}
 use Rattle.std.proofs.Math.Nat.{mod-lt, mod-eq_of_lt, mod-one, div-one, two-pow-succ, suc-mul, mul_assoc, mul-le-mul_right, mul-add-div_right, mul-add-mod_self_right}
 use Rattle.std.specs.Int.{w32, cast_unsigned}
-use Rattle.xk_base.specs.Fields.{field, Drawing, bit_count, word_of, IsDrawn, drawn_like, sign_extended, FitsBits}
+use Rattle.xk_base.specs.Numbers.Fields.{field, Drawing, bit_count, word_of, IsDrawn, drawn_like, sign_extended, FitsBits}
 
 pub field_below : (place width word : ℕ) → field place width word < 2 ^ width
 field_below place width word = mod-lt (word / 2 ^ place) (pow_pos width)

@@ -2,8 +2,8 @@
 use Rattle.std.proofs.Common.{◌≡◌, ℕ, ◌<◌, List, length, get_or, set, replicate, Option, None, nat_eq, ap, ◌∙◌, inl, inr, arith}
 use Rattle.std.proofs.lemmas.Bool.{cases_lt, cases_eq, cond-true, cond-false, eq-eqb, ne_eqb}
 use Rattle.std.proofs.lemmas.List.{get_or-set_same, get_or-set_other, get_or_default, get_or_past, get_or-replicate, length-replicate}
-use Rattle.xk_base.specs.Counting.{put_at}
-use Rattle.xk_base.specs.RowMap.{row_map}
+use Rattle.xk_base.specs.Tables.Counting.{put_at}
+use Rattle.xk_base.specs.Tables.RowMap.{row_map}
 
 -- what is read inside the list is what the map has
 pub row_map_read : {V : Type 0} (xs : List (Option V)) (k : ℕ) (d : Option V) → k < length xs → get_or xs k d ≡ row_map xs k

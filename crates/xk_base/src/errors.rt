@@ -1,7 +1,7 @@
 //! The error numbers of system calls, and the two faults of the host.
 
 ghost use Rattle.std.specs.Prelude.{◌≡◌};
-ghost use Rattle.xk_base.specs.Errors.{code_of};
+ghost use Rattle.xk_base.specs.Calls.Errors.{code_of};
 
 /// There was no memory for a call. It is the one answer without a cause in a contract.
 #[derive(Clone, Copy, Debug, PartialEq, Eq, Hash)]

@@ -1,6 +1,6 @@
 //! The limits of the machine. Each crate names them from here.
 
-ghost use Rattle.xk_base.specs.Limits.{AreLimits};
+ghost use Rattle.xk_base.specs.Numbers.Limits.{AreLimits};
 
 /// Bytes of a page and of a frame.
 pub const PAGE_SIZE: u32 = 4096;

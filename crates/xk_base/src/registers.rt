@@ -1,7 +1,7 @@
 //! The 32 registers of a thread (RISC-V Unprivileged ISA, 2.1).
 
 ghost use Rattle.std.specs.Prelude.{◌≡◌, ◌<◌, replicate, length};
-ghost use Rattle.xk_base.specs.Registers.{reg_at, with_reg, arguments_of, with_arguments};
+ghost use Rattle.xk_base.specs.Calls.Registers.{reg_at, with_reg, arguments_of, with_arguments};
 
 use std::marker::Model;
 

@@ -1,7 +1,7 @@
 //! The windows of an address space in which user pages lie.
 
 ghost use Rattle.std.specs.Prelude.{◌≡◌, ◌≤◌};
-ghost use Rattle.xk_base.specs.Windows.{first_page, last_page, window_at};
+ghost use Rattle.xk_base.specs.Numbers.Windows.{first_page, last_page, window_at};
 
 use crate::ids::Vpn;
 

@@ -1,6 +1,6 @@
 -- A process that stands alone: its death answers nobody, and changes no server, no message and no loan.
 use Rattle.std.specs.Prelude.{◌≡◌, ◌+◌, Bool, true, false, not, ◌&&◌, is_some, Option, Some, None}
-use Rattle.xk_base.specs.Counting.{least_below}
+use Rattle.xk_base.specs.Tables.Counting.{least_below}
 use Rattle.xk_base.specs.declared.ids.Pid.{Pid}
 use Rattle.xk_base.specs.declared.limits.TheConstants.{TID_LIMIT}
 use Rattle.machine_model.specs.Ending.Ends.{death, forgotten}

@@ -7,7 +7,7 @@ use Rattle.machine_model.specs.State.Machine.{Machine, Thread}
 use Rattle.machine_model.specs.State.Threads.{first_thread, first_handler_thread}
 use Rattle.vm_memory.specs.FirstLedger.{first_ledger, process_of}
 use Rattle.xk_base.specs.declared.ids.ThreadId.{ThreadId}
-use Rattle.xk_base.specs.Circle.{is_pid}
+use Rattle.xk_base.specs.Tables.Circle.{is_pid}
 
 -- the threads with which a process with that entry starts: thread 1 is the interrupt thread and thread 2 the first thread
 abbrev pub first_threads : ℕ → ℕ → Option Thread

@@ -6,7 +6,7 @@ ghost use Rattle.event_text.specs.declared.event.Event.TheVariants.{Tick, Pick, 
 ghost use Rattle.xk_base.specs.declared.ids.Pid.{Pid};
 ghost use Rattle.xk_base.specs.declared.ids.ThreadId.{ThreadId};
 ghost use Rattle.xk_base.specs.declared.ids.Tid.{Tid};
-ghost use Rattle.xk_base.specs.Circle.{is_pid, is_thread_id};
+ghost use Rattle.xk_base.specs.Tables.Circle.{is_pid, is_thread_id};
 ghost use Rattle.xk_base.specs.declared.records.Rec.{Rec};
 ghost use Rattle.machine_model.specs.Stepping.Events.{picked, raised, killed, nothing};
 ghost use Rattle.machine_model.specs.State.Machine.{Machine};

@@ -2,7 +2,7 @@
 
 ghost use Rattle.std.specs.Prelude.{ℕ, ◌≡◌, List, [], ◌++◌, length, if◌then◌else◌, IsTrue};
 ghost use Rattle.event_text.specs.declared.event.Event.{Event};
-ghost use Rattle.xk_base.specs.Circle.{is_thread_id};
+ghost use Rattle.xk_base.specs.Tables.Circle.{is_thread_id};
 ghost use Rattle.machine_model.specs.State.Machine.{Machine};
 ghost use Rattle.machine_model.specs.Runs.Matched.{Matched};
 ghost use Rattle.machine_model.specs.Runs.Moments.{IsRun, state_at};

@@ -5,7 +5,7 @@ use Rattle.ledger_model.specs.Steps.{zero_page}
 use Rattle.isolation_laws.proofs.Ledgers.OtherBytesLemmas.{machine_through, no_bytes, through_twice}
 use Rattle.std.proofs.Common.{◌≡◌, ℕ, Bool, true, false, List, [], ◌∷◌, refl, ap, ◌∙◌, sym}
 use Rattle.std.specs.Prelude.{◌==◌, if◌then◌else◌}
-use Rattle.xk_base.specs.CallWords.{call_number}
+use Rattle.xk_base.specs.Calls.CallWords.{call_number}
 use Rattle.machine_model.specs.Calling.Calls.{any_refusals, call, call_at, call_table}
 use Rattle.machine_model.specs.State.Changes.{Call, Outcome, Refused, Retried, Served}
 use Rattle.machine_model.specs.State.Machine.{Machine}

@@ -1,6 +1,6 @@
 -- Deliveries of interrupts and the timer carry bytes as they are.
 use Rattle.isolation_laws.proofs.Ledgers.OtherBytesLemmas.{machine_through}
-use Rattle.xk_base.specs.Counting.{put_at}
+use Rattle.xk_base.specs.Tables.Counting.{put_at}
 use Rattle.std.proofs.Common.{◌≡◌, ℕ, Bool, true, false, Option, Some, None, refl, ap, List}
 use Rattle.std.specs.Prelude.{if◌then◌else◌, nat_eq}
 use Rattle.xk_base.specs.declared.ids.Pid.{Pid}

@@ -1,7 +1,7 @@
 -- The calls on memory carry bytes as they are, where zeros stay zeros.
 use Rattle.isolation_laws.proofs.Ledgers.OtherBytesLemmas.{machine_through, through}
 use Rattle.ledger_model.specs.RunTests.{fits_window}
-use Rattle.xk_base.specs.Replies.{range_words}
+use Rattle.xk_base.specs.Calls.Replies.{range_words}
 use Rattle.machine_model.specs.State.Threads.{answer_to}
 use Rattle.xk_base.specs.declared.errors.XousError.TheVariants.{BadAlignment, BadAddress, InvalidLimit, InvalidSyscall, ShareViolation, OutOfMemory, AccessDenied, MemoryInUse}
 use Rattle.ledger_model.specs.Steps.{zero_page}
@@ -12,8 +12,8 @@ use Rattle.xk_base.specs.declared.ids.Place.{Place}
 use Rattle.xk_base.specs.declared.limits.TheConstants.{CONSOLE_ADDRESS, PAGE_SIZE}
 use Rattle.xk_base.specs.declared.pages.Right.{Right}
 use Rattle.xk_base.specs.declared.windows.Window.TheVariants.{Map}
-use Rattle.xk_base.specs.CallWords.{heap_bytes, map_flags, map_phys, map_size, map_virt, range_address, range_flags, range_size}
-use Rattle.xk_base.specs.Flags.{right_of, has_flag, flag_execute}
+use Rattle.xk_base.specs.Calls.CallWords.{heap_bytes, map_flags, map_phys, map_size, map_virt, range_address, range_flags, range_size}
+use Rattle.xk_base.specs.Calls.Flags.{right_of, has_flag, flag_execute}
 use Rattle.ledger_model.specs.Ledger.{Ledger}
 use Rattle.ledger_model.specs.LeastRun.{least_run}
 use Rattle.ledger_model.specs.Places.{in_run}

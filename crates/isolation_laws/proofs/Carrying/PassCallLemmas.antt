@@ -1,6 +1,6 @@
 -- The return of a lend and its forward carry bytes as they are.
 use Rattle.isolation_laws.proofs.Ledgers.OtherBytesLemmas.{machine_through}
-use Rattle.xk_base.specs.Replies.{plain_words}
+use Rattle.xk_base.specs.Calls.Replies.{plain_words}
 use Rattle.machine_model.specs.State.Threads.{both_answers, answer_to}
 use Rattle.ledger_model.specs.Steps.{pass}
 use Rattle.machine_model.specs.Messaging.Messages.{without_held}
@@ -12,14 +12,14 @@ use Rattle.xk_base.specs.declared.ids.Serial.{Serial}
 use Rattle.xk_base.specs.declared.ids.Vpn.{Vpn}
 use Rattle.xk_base.specs.declared.messages.Message.{Message}
 use Rattle.xk_base.specs.declared.windows.Window.TheVariants.{Message as MessageWindow}
-use Rattle.xk_base.specs.CallWords.{forward_cid, return_offset, return_valid, return_address, return_size}
+use Rattle.xk_base.specs.Calls.CallWords.{forward_cid, return_offset, return_valid, return_address, return_size}
 use Rattle.machine_model.specs.Messaging.ForwardCalls.{forward_call, forward_served, forward_served_if, forwarded_to, held_place, next_arrival, next_arrival_refusals, passable, passed_from, passed_message, passed_number, passed_place, passed_to, with_first, forward_refusals}
 use Rattle.machine_model.specs.Messaging.Receivers.{receiver}
 use Rattle.machine_model.specs.Messaging.ReturnCalls.{holder_of, named_number, return_memory_call, return_memory_served, return_memory_refusals}
 use Rattle.machine_model.specs.Messaging.SendCalls.{arrived}
 use Rattle.machine_model.specs.State.Changes.{Change}
 use Rattle.machine_model.specs.State.Machine.{Machine}
-use Rattle.xk_base.specs.Sids.{serial_of}
+use Rattle.xk_base.specs.Tables.Sids.{serial_of}
 use Rattle.machine_model.specs.State.Servers.{server_at, change_server}
 use Rattle.isolation_laws.proofs.Carrying.ChangeLemmas.{Carries, change_through, outcome_through, unless_through, with_left, refused_alike}
 use Rattle.isolation_laws.proofs.Carrying.SendCallLemmas.{arrived_through}

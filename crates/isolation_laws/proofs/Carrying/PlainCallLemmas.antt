@@ -3,8 +3,8 @@ use Rattle.isolation_laws.proofs.Ledgers.OtherBytesLemmas.{machine_through}
 use Rattle.xk_base.specs.declared.errors.XousError.TheVariants.{ServerNotFound}
 use Rattle.xk_base.specs.declared.ids.Number.{Number}
 use Rattle.machine_model.specs.Ending.Ends.{death}
-use Rattle.xk_base.specs.CallWords.{interrupt_number, thread_entry, join_tid, interrupt_handler, thread_sp, interrupt_argument, thread_arguments, return_value1, return_value2}
-use Rattle.xk_base.specs.Replies.{plain_words, scalar1_words, scalar2_words}
+use Rattle.xk_base.specs.Calls.CallWords.{interrupt_number, thread_entry, join_tid, interrupt_handler, thread_sp, interrupt_argument, thread_arguments, return_value1, return_value2}
+use Rattle.xk_base.specs.Calls.Replies.{plain_words, scalar1_words, scalar2_words}
 use Rattle.machine_model.specs.State.Threads.{both_answers, answer_to}
 use Rattle.std.proofs.Common.{◌≡◌, ℕ, List, Option, Some, None, refl, ap, ◌∙◌, ◌∷◌}
 use Rattle.xk_base.specs.declared.ids.Serial.{Serial}

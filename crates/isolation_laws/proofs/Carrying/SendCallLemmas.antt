@@ -1,6 +1,6 @@
 -- Sends carry bytes as they are.
 use Rattle.isolation_laws.proofs.Ledgers.OtherBytesLemmas.{through, machine_through}
-use Rattle.xk_base.specs.Kinds.{is_answered}
+use Rattle.xk_base.specs.Calls.Kinds.{is_answered}
 use Rattle.machine_model.specs.Messaging.Messages.{new_message, new_number}
 use Rattle.xk_base.specs.declared.errors.XousError.TheVariants.{ServerNotFound, ServerQueueFull, InvalidSyscall, BadAlignment, BadAddress, ShareViolation}
 use Rattle.std.specs.Option.{option_and_then}
@@ -17,7 +17,7 @@ use Rattle.xk_base.specs.declared.messages.MsgKind.{MsgKind}
 use Rattle.xk_base.specs.declared.messages.MsgKind.TheVariants.{LendMut, Lend, Move, Scalar, BlockingScalar}
 use Rattle.xk_base.specs.declared.pages.LoanKind.TheVariants.{Shared, Exclusive}
 use Rattle.xk_base.specs.declared.windows.Window.TheVariants.{Message as MessageWindow}
-use Rattle.xk_base.specs.CallWords.{send_address, send_cid, send_length}
+use Rattle.xk_base.specs.Calls.CallWords.{send_address, send_cid, send_length}
 use Rattle.ledger_model.specs.Ledger.{Ledger}
 use Rattle.machine_model.specs.Calling.MemoryCalls.{caller_place, is_bad_range}
 use Rattle.machine_model.specs.Messaging.Receivers.{receiver}

@@ -5,7 +5,7 @@ use Rattle.std.specs.Prelude.{◌%◌}
 use Rattle.xk_base.specs.declared.pages.Access.TheVariants.{Store}
 use Rattle.xk_base.specs.declared.pages.Width.{Width}
 use Rattle.xk_base.specs.declared.records.What.TheVariants.{Call, Fault}
-use Rattle.xk_base.specs.Registers.{arguments_of}
+use Rattle.xk_base.specs.Calls.Registers.{arguments_of}
 use Rattle.xk_base.specs.UserMemory.{low_bytes}
 use Rattle.ledger_model.specs.Ledger.{Ledger, PageName}
 use Rattle.ledger_model.proofs.Stepping.WritingLemmas.{write_bare}

@@ -6,9 +6,9 @@ use Rattle.xk_base.specs.declared.ids.Pid.{Pid}
 use Rattle.xk_base.specs.declared.pages.Access.{Access}
 use Rattle.xk_base.specs.declared.pages.Access.TheVariants.{Load}
 use Rattle.xk_base.specs.UserMemory.{timer_at}
-use Rattle.xk_base.specs.Windows.{page_of}
+use Rattle.xk_base.specs.Numbers.Windows.{page_of}
 use Rattle.ledger_model.specs.Ledger.{PageName, byte_of, contents_of, has_bytes}
-use Rattle.ledger_model.proofs.BareLemmas.{reach-bare}
+use Rattle.ledger_model.proofs.Pages.BareLemmas.{reach-bare}
 use Rattle.machine_model.specs.Runs.Isolation.{IsSameFor}
 use Rattle.machine_model.specs.State.Machine.{Machine}
 use Rattle.machine_model.specs.State.Views.{contents_seen, is_of_timer_page, memory_of, page_reached, timer_of}

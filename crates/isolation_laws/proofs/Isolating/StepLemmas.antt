@@ -4,7 +4,7 @@ use Rattle.std.proofs.Common.{◌≡◌, ℕ, ◌+◌, Bool, true, false, [], ma
 use Rattle.std.specs.Prelude.{if◌then◌else◌}
 use Rattle.xk_base.specs.declared.ids.ThreadId.{ThreadId}
 use Rattle.xk_base.specs.declared.records.What.TheVariants.{End}
-use Rattle.xk_base.specs.Registers.{reg_at}
+use Rattle.xk_base.specs.Calls.Registers.{reg_at}
 use Rattle.machine_model.specs.Ending.Ends.{handler_ended, thread_ended}
 use Rattle.machine_model.specs.Hart.Atomics.{Performed, execute_at}
 use Rattle.machine_model.specs.Hart.Instructions.{Executed}

@@ -1,7 +1,7 @@
 -- The step of a call changes no byte.
 use Rattle.std.proofs.lemmas.Option.{none-some}
 use Rattle.machine_model.specs.Stepping.Step.{step}
-use Rattle.xk_base.specs.CallWords.{call_number}
+use Rattle.xk_base.specs.Calls.CallWords.{call_number}
 use Rattle.machine_model.specs.Stepping.Acts.{call_by, words_if_call, executes}
 use Rattle.machine_model.specs.Calling.Calls.{call_table, call, call_at, any_refusals}
 use Rattle.machine_model.specs.State.Machine.{Machine, Thread}
@@ -10,7 +10,7 @@ use Rattle.std.proofs.Common.{◌≡◌, ℕ, Bool, true, false, List, [], ◌�
 use Rattle.std.specs.Prelude.{◌==◌, if◌then◌else◌}
 use Rattle.std.specs.Option.{option_and_then}
 use Rattle.machine_model.specs.Runs.Isolation.{CallChangesNoByte, ChangesNoByte}
-use Rattle.machine_model.proofs.KeptLemmas.{matched_at}
+use Rattle.machine_model.proofs.Runs.KeptLemmas.{matched_at}
 use Rattle.machine_laws.proofs.Threading.ThreadStepLemmas.{acted_call, step_ledger, turned_to}
 use Rattle.isolation_laws.proofs.Keeping.CallLemmas.{CallKeepsBytes, KeepsBytes, settled_ledger, unless_refused_keeps}
 use Rattle.isolation_laws.proofs.Keeping.MemoryCallLemmas.{decrease_keeps, increase_keeps, map_keeps, unmap_keeps, update_keeps}

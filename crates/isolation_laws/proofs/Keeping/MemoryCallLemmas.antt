@@ -1,8 +1,8 @@
 -- The calls on memory change no byte: pages are made where none was, change their right, or go.
 use Rattle.ledger_model.specs.Steps.{remove, reduce}
 use Rattle.machine_model.specs.State.Changes.{Served}
-use Rattle.xk_base.specs.Flags.{right_of, has_flag, flag_execute}
-use Rattle.xk_base.specs.CallWords.{heap_bytes, range_address, map_phys, range_size, map_virt, map_size, range_flags, map_flags}
+use Rattle.xk_base.specs.Calls.Flags.{right_of, has_flag, flag_execute}
+use Rattle.xk_base.specs.Calls.CallWords.{heap_bytes, range_address, map_phys, range_size, map_virt, map_size, range_flags, map_flags}
 use Rattle.machine_model.specs.Runs.Matched.{Matched}
 use Rattle.machine_model.specs.Runs.Isolation.{ChangesNoByte}
 use Rattle.machine_model.specs.State.Machine.{Machine}
@@ -18,12 +18,12 @@ use Rattle.xk_base.specs.declared.limits.TheConstants.{CONSOLE_ADDRESS, PAGE_SIZ
 use Rattle.xk_base.specs.declared.pages.Right.{Right}
 use Rattle.xk_base.specs.declared.windows.Window.{Window}
 use Rattle.xk_base.specs.declared.windows.Window.TheVariants.{Heap, Map}
-use Rattle.xk_base.specs.Windows.{in_window}
+use Rattle.xk_base.specs.Numbers.Windows.{in_window}
 use Rattle.ledger_model.specs.Ledger.{Ledger, Page}
 use Rattle.ledger_model.specs.LeastRun.{least_run}
 use Rattle.ledger_model.specs.Places.{in_run}
 use Rattle.ledger_model.specs.RunTests.{any_used}
-use Rattle.ledger_model.proofs.LeastRunLemmas.{is_free_run-each, least_run-Some}
+use Rattle.ledger_model.proofs.Runs.LeastRunLemmas.{is_free_run-each, least_run-Some}
 use Rattle.ledger_model.proofs.LedgerLemmas.{is_free-true}
 use Rattle.ledger_model.proofs.PlaceLemmas.{in_run-from, in_run-index, in_run-true, place_from}
 use Rattle.machine_laws.proofs.Calling.RunRefusalLemmas.{not_false, run_free}

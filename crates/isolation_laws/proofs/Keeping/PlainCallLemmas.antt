@@ -2,13 +2,13 @@
 use Rattle.ledger_model.specs.Steps.{end_loan}
 use Rattle.machine_model.specs.Messaging.LoanSets.{end_loans}
 use Rattle.std.specs.Prelude.{◌==◌}
-use Rattle.xk_base.specs.Replies.{plain_words, thread_words, scalar1_words, scalar2_words}
+use Rattle.xk_base.specs.Calls.Replies.{plain_words, thread_words, scalar1_words, scalar2_words}
 use Rattle.xk_base.specs.declared.errors.XousError.TheVariants.{ServerNotFound}
 use Rattle.machine_model.specs.State.Threads.{answer_to}
 use Rattle.machine_model.specs.State.Changes.{answering, Change, unless_refused, Served}
 use Rattle.machine_model.specs.State.Order.{turn}
 use Rattle.machine_model.specs.Ending.Closing.{destroyed, closed, is_message_at}
-use Rattle.xk_base.specs.CallWords.{interrupt_number, thread_entry, join_tid, interrupt_handler, return_address, thread_sp, return_value1, return_size, interrupt_argument, thread_arguments, return_value2, return_offset, return_valid}
+use Rattle.xk_base.specs.Calls.CallWords.{interrupt_number, thread_entry, join_tid, interrupt_handler, return_address, thread_sp, return_value1, return_size, interrupt_argument, thread_arguments, return_value2, return_offset, return_valid}
 use Rattle.machine_model.specs.Messaging.ReturnCalls.{return_scalar1_call, return_scalar2_call, return_memory_call, named_number, return_scalar_refusals, return_memory_refusals, return_scalar_served, return_memory_served}
 use Rattle.machine_model.specs.Messaging.ReceiveCalls.{waits_at, receive_call, try_receive_call, received, receive_served, try_receive_served, oldest_queued}
 use Rattle.machine_model.specs.State.Machine.{Machine}

@@ -1,9 +1,9 @@
 -- Sends and forwards change no byte: pages are lent, lent on, or moved to where none was.
 use Rattle.std.proofs.lemmas.Option.{none-some}
-use Rattle.xk_base.specs.Sids.{serial_of}
+use Rattle.xk_base.specs.Tables.Sids.{serial_of}
 use Rattle.machine_model.specs.State.Servers.{server_at, change_server}
-use Rattle.xk_base.specs.CallWords.{send_address, forward_cid, send_cid}
-use Rattle.xk_base.specs.Kinds.{is_answered}
+use Rattle.xk_base.specs.Calls.CallWords.{send_address, forward_cid, send_cid}
+use Rattle.xk_base.specs.Calls.Kinds.{is_answered}
 use Rattle.machine_model.specs.Messaging.Messages.{carries_pages, new_message, new_number, without_held}
 use Rattle.ledger_model.specs.Steps.{lend, pass}
 use Rattle.machine_model.specs.Messaging.Receivers.{receiver}

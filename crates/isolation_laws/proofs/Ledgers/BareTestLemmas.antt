@@ -7,7 +7,7 @@ use Rattle.xk_base.specs.declared.ids.Pid.{Pid}
 use Rattle.xk_base.specs.declared.ids.Place.{Place}
 use Rattle.xk_base.specs.declared.pages.Right.{Right}
 use Rattle.xk_base.specs.declared.windows.Window.{Window}
-use Rattle.xk_base.specs.Counting.{least_below}
+use Rattle.xk_base.specs.Tables.Counting.{least_below}
 use Rattle.ledger_model.specs.Conditions.{is_console}
 use Rattle.ledger_model.specs.Ledger.{Ledger, Contents, Console, Bytes, Page, Orphan, loan_of, pages}
 use Rattle.ledger_model.specs.LeastRun.{is_free_run, least_run, window_pages, window_place}
@@ -16,7 +16,7 @@ use Rattle.ledger_model.specs.Places.{first_place, run}
 use Rattle.ledger_model.specs.Reach.{Role, home_or, holder_role, is_free, lender_of, lent_role, orphan_or_holder, role_at}
 use Rattle.ledger_model.specs.RunTests.{any_console, any_free, any_lacks, any_not_sent, any_on_loan, any_used, asks_more, console_mapped, is_on_loan}
 use Rattle.isolation_laws.proofs.Ledgers.OtherBytesLemmas.{bare_through, through}
-use Rattle.ledger_model.proofs.BareLemmas.{bare-free, bare-lender}
+use Rattle.ledger_model.proofs.Pages.BareLemmas.{bare-free, bare-lender}
 use Rattle.ledger_model.proofs.LedgerLemmas.{same_ledger}
 use Rattle.ledger_model.proofs.Stepping.WritingLemmas.{bare-pages}
 

@@ -6,7 +6,7 @@ use Rattle.xk_base.specs.declared.ids.ThreadId.{ThreadId}
 use Rattle.ledger_model.specs.Lawful.{IsLawful}
 use Rattle.ledger_model.specs.Ledger.{Page}
 use Rattle.ledger_model.specs.Loans.{bare}
-use Rattle.ledger_model.proofs.BareLemmas.{bare-lawful}
+use Rattle.ledger_model.proofs.Pages.BareLemmas.{bare-lawful}
 use Rattle.ledger_model.proofs.Stepping.WritingLemmas.{bare-loans}
 use Rattle.machine_model.specs.Calling.Calls.{call}
 use Rattle.machine_model.specs.Ending.Ends.{death, end_with_last_thread, has_threads, thread_ended}

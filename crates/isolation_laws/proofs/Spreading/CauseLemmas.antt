@@ -13,7 +13,7 @@ use Rattle.machine_model.specs.Stepping.Events.{killed, killed_if, picked, raise
 use Rattle.machine_model.specs.Stepping.Reservations.{unreserved}
 use Rattle.machine_model.specs.Stepping.Step.{Recorded, step}
 use Rattle.machine_model.proofs.StepLemmas.{no_step}
-use Rattle.machine_model.proofs.TimerLemmas.{pended_raised}
+use Rattle.machine_model.proofs.Runs.TimerLemmas.{pended_raised}
 use Rattle.isolation_laws.specs.Differences.{CausesMakeNoDifference, OnlyMovesDifferences}
 use Rattle.isolation_laws.specs.TwoRuns.{ActsAlike}
 use Rattle.isolation_laws.proofs.Isolating.StepLemmas.{actor_alike}

@@ -4,9 +4,9 @@ use Rattle.std.specs.Prelude.{◌%◌, if◌then◌else◌}
 use Rattle.xk_base.specs.declared.ids.Pid.{Pid}
 use Rattle.xk_base.specs.declared.ids.ThreadId.{ThreadId}
 use Rattle.xk_base.specs.declared.pages.Access.TheVariants.{Store}
-use Rattle.xk_base.specs.Registers.{arguments_of, reg_at}
+use Rattle.xk_base.specs.Calls.Registers.{arguments_of, reg_at}
 use Rattle.xk_base.specs.UserMemory.{low_bytes}
-use Rattle.xk_base.specs.Windows.{page_of}
+use Rattle.xk_base.specs.Numbers.Windows.{page_of}
 use Rattle.ledger_model.specs.Ledger.{Ledger, PageName}
 use Rattle.machine_model.specs.Calling.Calls.{call}
 use Rattle.machine_model.specs.Ending.Ends.{handler_ended}
@@ -21,7 +21,7 @@ use Rattle.machine_model.specs.State.Threads.{change_thread, thread_id, with_sta
 use Rattle.machine_model.specs.State.Views.{page_reached, stored, timer_set, write_to}
 use Rattle.machine_model.specs.Stepping.Interrupts.{delivered, delivered_lowest, handler_started, is_free_for_interrupt, lowest_pending}
 use Rattle.machine_model.specs.Stepping.Step.{ends_handler, ends_thread, executed, performed, step}
-use Rattle.machine_model.proofs.KeptLemmas.{matched_at}
+use Rattle.machine_model.proofs.Runs.KeptLemmas.{matched_at}
 use Rattle.machine_laws.proofs.Threading.ThreadAnswerLemmas.{IsReadyThread, ready_thread}
 use Rattle.machine_laws.proofs.Threading.ThreadStepLemmas.{actor_ready, step_ledger, turned_to}
 use Rattle.isolation_laws.specs.Differences.{OnlyMovesDifferences}

@@ -14,8 +14,8 @@ use Rattle.ledger_model.specs.Places.{in_run, place_after, count_places}
 use Rattle.ledger_model.specs.Steps.{end_loan, freed, loan_without, orphan_without}
 use Rattle.ledger_model.proofs.LedgerLemmas.{same_number-true, same_number-false}
 use Rattle.ledger_model.proofs.NarrowerLemmas.{ComesFrom, Narrower, lawful_narrower}
-use Rattle.ledger_model.proofs.NumberingLemmas.{count_places-same, count_places-le, count_places-run, is_place_in-user}
-use Rattle.ledger_model.proofs.OfNumberLemmas.{of_number-without, of_number-without_other, loan_without-old, orphan_of_number-without, orphan_of_number-without_other, orphan_without-None, orphan_without-Some, orphan_without-old, SameOf, run_still, orphan_of_run-lent, orphan_of_run-inside, orphan_of_run-outside, stands-orphan}
+use Rattle.ledger_model.proofs.Loans.NumberingLemmas.{count_places-same, count_places-le, count_places-run, is_place_in-user}
+use Rattle.ledger_model.proofs.Loans.OfNumberLemmas.{of_number-without, of_number-without_other, loan_without-old, orphan_of_number-without, orphan_of_number-without_other, orphan_without-None, orphan_without-Some, orphan_without-old, SameOf, run_still, orphan_of_run-lent, orphan_of_run-inside, orphan_of_run-outside, stands-orphan}
 use Rattle.ledger_model.proofs.PlaceLemmas.{in_run-after}
 
 -- ---- what stays and what goes

@@ -14,7 +14,7 @@ use Rattle.ledger_model.specs.Places.{in_run, moved, place_after, count_places}
 use Rattle.ledger_model.specs.Steps.{give}
 use Rattle.ledger_model.proofs.LedgerLemmas.{loan_at-page, lender_of-none, IsFreeAt, is_free-true}
 use Rattle.ledger_model.proofs.Stepping.LendingLemmas.{IsMovable, may_move-page, movable_not_console}
-use Rattle.ledger_model.proofs.NumberingLemmas.{count_places-run, is_place_in-user}
+use Rattle.ledger_model.proofs.Loans.NumberingLemmas.{count_places-run, is_place_in-user}
 use Rattle.ledger_model.proofs.PlaceLemmas.{moved-in_run, in_run-after}
 use Rattle.ledger_model.proofs.Stepping.RemovingLemmas.{same_loans, same_runs}
 

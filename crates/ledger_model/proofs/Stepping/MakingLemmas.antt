@@ -13,7 +13,7 @@ use Rattle.ledger_model.specs.Loans.{loans}
 use Rattle.ledger_model.specs.Places.{same_place, place_after, in_run, is_user_place, is_place_in, count_places}
 use Rattle.ledger_model.specs.Steps.{make, make_console, new_page, zero_page}
 use Rattle.ledger_model.proofs.LedgerLemmas.{loan_at-page, loan_at-None, lender_of-none, IsFreeAt, is_free-true}
-use Rattle.ledger_model.proofs.NumberingLemmas.{count_places-same, count_places-run, is_place_in-user}
+use Rattle.ledger_model.proofs.Loans.NumberingLemmas.{count_places-same, count_places-run, is_place_in-user}
 use Rattle.ledger_model.proofs.PlaceLemmas.{same_place-true, in_run-after}
 use Rattle.ledger_model.proofs.Stepping.RemovingLemmas.{same_loans, same_runs}
 

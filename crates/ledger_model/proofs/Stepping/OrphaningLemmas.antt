@@ -14,8 +14,8 @@ use Rattle.ledger_model.specs.Places.{in_run, moved, place_after, is_place_in, c
 use Rattle.ledger_model.specs.Reach.{lender_of}
 use Rattle.ledger_model.specs.Steps.{orphan_loan, page_without, orphan_from, orphan_with, has_number, loan_without}
 use Rattle.ledger_model.proofs.LedgerLemmas.{cases_Option, same_ledger, same_number-true, same_number-at, same_number-false, same_number-apart, loan_at-page, loan_at-home, lender_of-loan, lender_of-holder}
-use Rattle.ledger_model.proofs.NumberingLemmas.{count_places-run, is_place_in-user}
-use Rattle.ledger_model.proofs.OfNumberLemmas.{of_number-at, of_number-None, of_number-without, of_number-without_other, orphan_of_number-at, orphan_of_number-apart, loan_without-old, SameOf, run_still, loan_of_run-inside, loan_of_run-outside, loan_of_run-None, orphan_of_run-lent, orphan_of_run-inside, orphan_of_run-outside, stands-home}
+use Rattle.ledger_model.proofs.Loans.NumberingLemmas.{count_places-run, is_place_in-user}
+use Rattle.ledger_model.proofs.Loans.OfNumberLemmas.{of_number-at, of_number-None, of_number-without, of_number-without_other, orphan_of_number-at, orphan_of_number-apart, loan_without-old, SameOf, run_still, loan_of_run-inside, loan_of_run-outside, loan_of_run-None, orphan_of_run-lent, orphan_of_run-inside, orphan_of_run-outside, stands-home}
 use Rattle.ledger_model.proofs.PlaceLemmas.{in_run-after, moved-in_run, moved-back}
 
 -- ---- homes

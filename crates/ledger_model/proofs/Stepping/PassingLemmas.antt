@@ -14,8 +14,8 @@ use Rattle.ledger_model.specs.Loans.{loans, loan_of_orphan, LoanRun, with_holder
 use Rattle.ledger_model.specs.Places.{in_run, moved, is_place_in, count_places}
 use Rattle.ledger_model.specs.Steps.{pass, passed, passed_loan}
 use Rattle.ledger_model.proofs.LedgerLemmas.{same_number-true, same_number-at, same_number-false, same_number-apart, loan_at-page, loan_at-home, lender_of-none, IsFreeAt, is_free-true}
-use Rattle.ledger_model.proofs.NumberingLemmas.{count_places-same}
-use Rattle.ledger_model.proofs.OfNumberLemmas.{of_number-at, of_number-apart, loan_of_run-inside, loan_of_run-outside, orphan_of_run-lent, SameOf, run_still}
+use Rattle.ledger_model.proofs.Loans.NumberingLemmas.{count_places-same}
+use Rattle.ledger_model.proofs.Loans.OfNumberLemmas.{of_number-at, of_number-apart, loan_of_run-inside, loan_of_run-outside, orphan_of_run-lent, SameOf, run_still}
 use Rattle.ledger_model.proofs.PlaceLemmas.{moved-in_run, moved-apart, place_from}
 
 -- ---- a loan that is passed

@@ -16,7 +16,7 @@ use Rattle.ledger_model.specs.Places.{count_places}
 use Rattle.ledger_model.specs.Steps.{remove, forget, reduce, with_right}
 use Rattle.ledger_model.proofs.LedgerLemmas.{cases_Option, if_same, loan_at-home, loan_at-None}
 use Rattle.ledger_model.proofs.NarrowerLemmas.{ComesFrom, Narrower, same_page, lawful_narrower}
-use Rattle.ledger_model.proofs.NumberingLemmas.{count_places-same, count_places-split}
+use Rattle.ledger_model.proofs.Loans.NumberingLemmas.{count_places-same, count_places-split}
 
 -- ---- ledgers with the same loans
 

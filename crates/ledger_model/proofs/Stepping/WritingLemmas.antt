@@ -12,7 +12,7 @@ use Rattle.ledger_model.specs.Places.{same_place, count_places}
 use Rattle.ledger_model.specs.Steps.{write, written_contents, written_page, written_orphan}
 use Rattle.ledger_model.proofs.LedgerLemmas.{if_same, same_ledger}
 use Rattle.ledger_model.proofs.NarrowerLemmas.{ComesFrom, Narrower, same_page, lawful_narrower}
-use Rattle.ledger_model.proofs.NumberingLemmas.{count_places-same}
+use Rattle.ledger_model.proofs.Loans.NumberingLemmas.{count_places-same}
 use Rattle.ledger_model.proofs.Stepping.RemovingLemmas.{same_loans, same_runs}
 
 -- ---- rights and loans stay

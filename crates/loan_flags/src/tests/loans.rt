@@ -8,7 +8,7 @@ ghost use Rattle.std.specs.Prelude.{IfOk, IfSome, IsSome, IsTrue, Some, is_some,
 ghost use Rattle.sv32_space.specs.EntryLoans.{IsUnlent, StandsIn};
 ghost use Rattle.sv32_space.specs.declared.sides.Entry.TheVariants.{Free};
 ghost use Rattle.xk_base.specs.declared.windows.Window.TheVariants.{Message};
-ghost use Rattle.xk_base.specs.Windows.{window_at};
+ghost use Rattle.xk_base.specs.Numbers.Windows.{window_at};
 
 use crate::*;
 use phys_pages::{Owners, PageInfo, Ram, Seat};

@@ -3,8 +3,8 @@ use Rattle.std.proofs.Common.{◌≡◌, ℕ, ◌+◌, ◌≤◌, List, Some, re
 use Rattle.std.specs.Option.{option_map}
 use Rattle.xk_base.specs.declared.errors.XousError.{XousError}
 use Rattle.xk_base.specs.declared.ids.ThreadId.{ThreadId}
-use Rattle.xk_base.specs.Circle.{same_thread}
-use Rattle.xk_base.specs.Counting.{put_at}
+use Rattle.xk_base.specs.Tables.Circle.{same_thread}
+use Rattle.xk_base.specs.Tables.Counting.{put_at}
 use Rattle.machine_model.specs.Stepping.Acts.{call_by}
 use Rattle.machine_model.specs.Calling.Calls.{call}
 use Rattle.machine_model.specs.Runs.Kept.{Settles}
@@ -13,7 +13,7 @@ use Rattle.machine_model.specs.State.Changes.{Outcome, Refused, Retried, call_se
 use Rattle.machine_model.specs.State.Machine.{Machine}
 use Rattle.machine_model.specs.State.Order.{actor, turn}
 use Rattle.machine_model.specs.Stepping.Step.{step}
-use Rattle.machine_model.proofs.KeptLemmas.{matched_at, turn_keeps}
+use Rattle.machine_model.proofs.Runs.KeptLemmas.{matched_at, turn_keeps}
 use Rattle.machine_laws.proofs.Threading.ChangedThreadLemmas.{like_changed}
 use Rattle.machine_laws.proofs.Threading.LikeThreadLemmas.{matched_with}
 use Rattle.machine_laws.proofs.Threading.ThreadAnswerLemmas.{following-aligned}

@@ -1,8 +1,8 @@
 -- The step of a call: where what comes of the call of its number is matched, so is the state after the step. The calls on memory.
 use Rattle.std.proofs.Common.{◌≡◌, ℕ, true, List, Some, refl, sym, subst}
 use Rattle.xk_base.specs.declared.ids.ThreadId.{ThreadId}
-use Rattle.xk_base.specs.CallNumbers.{map_memory, increase_heap, decrease_heap, update_memory_flags, unmap_memory}
-use Rattle.xk_base.specs.CallWords.{call_number}
+use Rattle.xk_base.specs.Calls.CallNumbers.{map_memory, increase_heap, decrease_heap, update_memory_flags, unmap_memory}
+use Rattle.xk_base.specs.Calls.CallWords.{call_number}
 use Rattle.machine_model.specs.Stepping.Acts.{call_by}
 use Rattle.machine_model.specs.Calling.Calls.{any_refusals, call, call_at, call_table}
 use Rattle.machine_model.specs.State.Changes.{Call, Outcome}
@@ -11,7 +11,7 @@ use Rattle.machine_model.specs.Runs.Matched.{Matched}
 use Rattle.machine_model.specs.Calling.MemoryCalls.{decrease_call, increase_call, map_call, unmap_call, update_call}
 use Rattle.machine_model.specs.State.Order.{actor, ready_at}
 use Rattle.machine_model.specs.Stepping.Step.{step}
-use Rattle.machine_model.proofs.KeptLemmas.{matched_at}
+use Rattle.machine_model.proofs.Runs.KeptLemmas.{matched_at}
 use Rattle.machine_laws.proofs.Calling.AnsweredCallLemmas.{Keeps}
 use Rattle.machine_laws.proofs.Calling.HeapCallLemmas.{decrease_keeps, increase_keeps}
 use Rattle.machine_laws.proofs.Calling.MapCallLemmas.{map_keeps}

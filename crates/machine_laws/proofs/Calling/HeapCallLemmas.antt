@@ -7,17 +7,17 @@ use Rattle.xk_base.specs.declared.errors.XousError.TheVariants.{BadAlignment, In
 use Rattle.xk_base.specs.declared.ids.Place.{Place}
 use Rattle.xk_base.specs.declared.limits.TheConstants.{PAGE_SIZE}
 use Rattle.xk_base.specs.declared.windows.Window.TheVariants.{Heap, Message}
-use Rattle.xk_base.specs.CallWords.{heap_bytes}
-use Rattle.xk_base.specs.Replies.{plain_words, range_words}
-use Rattle.xk_base.specs.Windows.{in_window}
-use Rattle.xk_base.specs.Circle.{is_pid}
+use Rattle.xk_base.specs.Calls.CallWords.{heap_bytes}
+use Rattle.xk_base.specs.Calls.Replies.{plain_words, range_words}
+use Rattle.xk_base.specs.Numbers.Windows.{in_window}
+use Rattle.xk_base.specs.Tables.Circle.{is_pid}
 use Rattle.ledger_model.specs.Conditions.{CanMake}
 use Rattle.ledger_model.specs.Ledger.{Ledger, Page, pages}
 use Rattle.ledger_model.specs.Places.{in_run, is_place_in}
 use Rattle.ledger_model.specs.RunTests.{any_on_loan}
 use Rattle.ledger_model.specs.Steps.{make, remove}
 use Rattle.ledger_model.proofs.Stepping.MakingLemmas.{make_lawful, make_loans}
-use Rattle.ledger_model.proofs.NumberingLemmas.{is_place_in-user}
+use Rattle.ledger_model.proofs.Loans.NumberingLemmas.{is_place_in-user}
 use Rattle.ledger_model.proofs.PlaceLemmas.{IsInRun, in_run-from, in_run-true}
 use Rattle.machine_model.specs.State.Changes.{Served, first_refusal}
 use Rattle.machine_model.specs.State.Machine.{Machine}

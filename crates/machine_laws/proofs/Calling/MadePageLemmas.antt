@@ -6,8 +6,8 @@ use Rattle.std.proofs.lemmas.Bool.{false≢true, and_parts}
 use Rattle.xk_base.specs.declared.ids.Place.{Place}
 use Rattle.xk_base.specs.declared.pages.Right.{Right}
 use Rattle.xk_base.specs.declared.windows.Window.TheVariants.{Message}
-use Rattle.xk_base.specs.Windows.{in_window}
-use Rattle.xk_base.specs.Circle.{is_pid}
+use Rattle.xk_base.specs.Numbers.Windows.{in_window}
+use Rattle.xk_base.specs.Tables.Circle.{is_pid}
 use Rattle.ledger_model.specs.Conditions.{CanMake}
 use Rattle.ledger_model.specs.Ledger.{Bytes, Orphan, Page, PageLoan, loan_at}
 use Rattle.ledger_model.specs.Places.{in_run, is_place_in}

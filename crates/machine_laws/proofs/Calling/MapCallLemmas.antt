@@ -8,11 +8,11 @@ use Rattle.xk_base.specs.declared.ids.Vpn.{Vpn}
 use Rattle.xk_base.specs.declared.limits.TheConstants.{PAGE_SIZE, CONSOLE_ADDRESS}
 use Rattle.xk_base.specs.declared.pages.Right.{Right}
 use Rattle.xk_base.specs.declared.windows.Window.TheVariants.{Heap, Map}
-use Rattle.xk_base.specs.CallWords.{map_phys, map_virt, map_size, map_flags}
-use Rattle.xk_base.specs.Flags.{flag_execute, has_flag, right_of}
-use Rattle.xk_base.specs.Replies.{range_words}
-use Rattle.xk_base.specs.Windows.{in_window}
-use Rattle.xk_base.specs.Circle.{is_pid}
+use Rattle.xk_base.specs.Calls.CallWords.{map_phys, map_virt, map_size, map_flags}
+use Rattle.xk_base.specs.Calls.Flags.{flag_execute, has_flag, right_of}
+use Rattle.xk_base.specs.Calls.Replies.{range_words}
+use Rattle.xk_base.specs.Numbers.Windows.{in_window}
+use Rattle.xk_base.specs.Tables.Circle.{is_pid}
 use Rattle.ledger_model.specs.Conditions.{CanMakeConsole, is_console}
 use Rattle.ledger_model.specs.Ledger.{Console, Page, pages}
 use Rattle.ledger_model.specs.LeastRun.{least_run}
@@ -20,9 +20,9 @@ use Rattle.ledger_model.specs.Places.{first_place, in_run, is_place_in, same_pla
 use Rattle.ledger_model.specs.Reach.{is_free}
 use Rattle.ledger_model.specs.RunTests.{any_used, console_mapped, fits_window}
 use Rattle.ledger_model.specs.Steps.{make_console, new_page}
-use Rattle.ledger_model.proofs.LeastRunLemmas.{is_free_run-each, least_run-Some}
+use Rattle.ledger_model.proofs.Runs.LeastRunLemmas.{is_free_run-each, least_run-Some}
 use Rattle.ledger_model.proofs.Stepping.MakingLemmas.{make_console_lawful, make_console_loans}
-use Rattle.ledger_model.proofs.NumberingLemmas.{first_place-none, is_place_in-user}
+use Rattle.ledger_model.proofs.Loans.NumberingLemmas.{first_place-none, is_place_in-user}
 use Rattle.ledger_model.proofs.PlaceLemmas.{in_run-from, in_run-index, in_run-true, place_from, same_place-true}
 use Rattle.machine_model.specs.State.Changes.{Served, first_refusal}
 use Rattle.machine_model.specs.State.Machine.{Machine}

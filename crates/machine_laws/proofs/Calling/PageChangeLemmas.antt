@@ -8,8 +8,8 @@ use Rattle.xk_base.specs.declared.ids.Pid.{Pid}
 use Rattle.xk_base.specs.declared.ids.Place.{Place}
 use Rattle.xk_base.specs.declared.limits.TheConstants.{PAGE_SIZE}
 use Rattle.xk_base.specs.declared.windows.Window.TheVariants.{Heap}
-use Rattle.xk_base.specs.Counting.{put_at}
-use Rattle.xk_base.specs.Windows.{first_page, in_window}
+use Rattle.xk_base.specs.Tables.Counting.{put_at}
+use Rattle.xk_base.specs.Numbers.Windows.{first_page, in_window}
 use Rattle.ledger_model.specs.Lawful.{IsLawful}
 use Rattle.ledger_model.specs.Ledger.{Ledger, Page, Orphan, loan_at}
 use Rattle.ledger_model.specs.Loans.{Loans, loans, loan_of_orphan, orphan_loan_at}

@@ -1,15 +1,15 @@
 -- The steps of calls on threads and interrupts.
 use Rattle.std.proofs.Common.{◌≡◌, ℕ, true, List, Some}
 use Rattle.xk_base.specs.declared.ids.ThreadId.{ThreadId}
-use Rattle.xk_base.specs.CallWords.{call_number}
-use Rattle.xk_base.specs.CallNumbers.{yield_turn, get_thread_id, get_process_id}
+use Rattle.xk_base.specs.Calls.CallWords.{call_number}
+use Rattle.xk_base.specs.Calls.CallNumbers.{yield_turn, get_thread_id, get_process_id}
 use Rattle.machine_model.specs.Stepping.Acts.{call_by}
 use Rattle.machine_model.specs.Calling.Calls.{call}
 use Rattle.machine_model.specs.State.Machine.{Machine}
 use Rattle.machine_model.specs.Runs.Matched.{Matched}
 use Rattle.machine_model.specs.State.Order.{ready_at, actor}
 use Rattle.machine_model.specs.Stepping.Step.{step}
-use Rattle.machine_model.proofs.KeptLemmas.{matched_at}
+use Rattle.machine_model.proofs.Runs.KeptLemmas.{matched_at}
 use Rattle.machine_laws.proofs.Calling.AnsweredCallLemmas.{Keeps}
 use Rattle.machine_laws.proofs.Calling.ThreadCallLemmas.{yield_number_keeps, thread_id_number_keeps, process_id_number_keeps}
 use Rattle.machine_laws.proofs.Threading.ThreadStepLemmas.{turned_to, actor_ready, call_step_keeps}

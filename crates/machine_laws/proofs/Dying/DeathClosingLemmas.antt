@@ -12,7 +12,7 @@ use Rattle.xk_base.specs.declared.ids.Pid.{Pid}
 use Rattle.xk_base.specs.declared.ids.Serial.{Serial}
 use Rattle.xk_base.specs.declared.ids.ThreadId.{ThreadId}
 use Rattle.xk_base.specs.declared.messages.Message.{Message}
-use Rattle.xk_base.specs.Replies.{refused_words}
+use Rattle.xk_base.specs.Calls.Replies.{refused_words}
 use Rattle.machine_model.specs.Ending.Closing.{is_message_at, is_queued_from, is_sender_at, refused_server, without_queued_from}
 use Rattle.machine_model.specs.Messaging.LoanSets.{end_loans}
 use Rattle.machine_model.specs.Messaging.MessageCounts.{count_at, count_in}
@@ -21,7 +21,7 @@ use Rattle.machine_model.specs.Runs.Matched.{IsServerAwaited, Matched, waits_for
 use Rattle.machine_model.specs.State.Machine.{Machine, Server, Thread, Receiving}
 use Rattle.machine_model.specs.State.Servers.{is_server_of, messages_of}
 use Rattle.machine_model.specs.State.Threads.{Answers}
-use Rattle.machine_model.proofs.LoanSetLemmas.{both_end, either}
+use Rattle.machine_model.proofs.Messaging.LoanSetLemmas.{both_end, either}
 use Rattle.machine_model.proofs.Matching.CountLemmas.{all_left, count_in-append}
 use Rattle.machine_model.proofs.Matching.LoanSetStepLemmas.{AreBelow}
 use Rattle.machine_laws.proofs.Dying.StoppedThreadLemmas.{other_answer, own_receives, own_waits, stopped_or}

@@ -12,7 +12,7 @@ use Rattle.xk_base.specs.declared.ids.Place.{Place}
 use Rattle.xk_base.specs.declared.ids.Serial.{Serial}
 use Rattle.xk_base.specs.declared.ids.ThreadId.{ThreadId}
 use Rattle.xk_base.specs.declared.limits.TheConstants.{PAGE_SIZE, CONNECTION_LIMIT, TIMER_INTERRUPT}
-use Rattle.xk_base.specs.Counting.{put_at}
+use Rattle.xk_base.specs.Tables.Counting.{put_at}
 use Rattle.ledger_model.specs.Conditions.{CanForget}
 use Rattle.ledger_model.specs.Ledger.{Page, PageLoan, Orphan, loan_at, loan_of}
 use Rattle.ledger_model.specs.Loans.{loans}

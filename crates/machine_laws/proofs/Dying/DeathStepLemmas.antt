@@ -7,12 +7,12 @@ use Rattle.std.proofs.lemmas.Bool.{and_left, eq-eqb}
 use Rattle.std.proofs.lemmas.Option.{none-some, same_Some}
 use Rattle.xk_base.specs.declared.ids.Pid.{Pid}
 use Rattle.xk_base.specs.declared.ids.ThreadId.{ThreadId}
-use Rattle.xk_base.specs.CallNumbers.{terminate_process}
-use Rattle.xk_base.specs.CallWords.{call_number}
-use Rattle.xk_base.specs.Circle.{same_thread}
-use Rattle.xk_base.specs.Counting.{put_at}
-use Rattle.xk_base.specs.Registers.{reg_at}
-use Rattle.xk_base.specs.Replies.{scalar1_words}
+use Rattle.xk_base.specs.Calls.CallNumbers.{terminate_process}
+use Rattle.xk_base.specs.Calls.CallWords.{call_number}
+use Rattle.xk_base.specs.Tables.Circle.{same_thread}
+use Rattle.xk_base.specs.Tables.Counting.{put_at}
+use Rattle.xk_base.specs.Calls.Registers.{reg_at}
+use Rattle.xk_base.specs.Calls.Replies.{scalar1_words}
 use Rattle.machine_model.specs.Stepping.Acts.{call_by, executes}
 use Rattle.machine_model.specs.Calling.Calls.{call}
 use Rattle.machine_model.specs.State.Changes.{Change, call_settled, settled}
@@ -27,7 +27,7 @@ use Rattle.machine_model.specs.State.Order.{actor}
 use Rattle.machine_model.specs.Stepping.Step.{step, executed, ends_thread, ends_handler, performed}
 use Rattle.machine_model.specs.Calling.ThreadCalls.{terminate_call}
 use Rattle.machine_model.specs.State.Threads.{Answers, put_thread, change_thread, passed, give_answers, both_answers, with_answer}
-use Rattle.machine_model.proofs.KeptLemmas.{matched_at}
+use Rattle.machine_model.proofs.Runs.KeptLemmas.{matched_at}
 use Rattle.machine_laws.proofs.Dying.DeathLemmas.{death_keeps}
 use Rattle.machine_laws.proofs.Calling.AnsweredCallLemmas.{Keeps}
 use Rattle.machine_laws.proofs.Calling.ThreadCallLemmas.{call_keeps}

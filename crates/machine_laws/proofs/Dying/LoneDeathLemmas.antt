@@ -18,9 +18,9 @@ use Rattle.machine_model.specs.Runs.Matched.{Matched, waits_for}
 use Rattle.machine_model.specs.State.Machine.{Machine, Server}
 use Rattle.machine_model.specs.State.Servers.{is_server_of, messages_of}
 use Rattle.machine_model.specs.State.Threads.{no_answers}
-use Rattle.machine_model.proofs.ClosingLemmas.{nobody_refused}
-use Rattle.machine_model.proofs.DeathLemmas.{none_is_orphaned}
-use Rattle.machine_model.proofs.LoanSetLemmas.{none_ends}
+use Rattle.machine_model.proofs.Ending.ClosingLemmas.{nobody_refused}
+use Rattle.machine_model.proofs.Ending.DeathLemmas.{none_is_orphaned}
+use Rattle.machine_model.proofs.Messaging.LoanSetLemmas.{none_ends}
 use Rattle.machine_model.proofs.Matching.CountLemmas.{all_left, all_right}
 use Rattle.machine_laws.proofs.Dying.DeathLoanLemmas.{unsent}
 use Rattle.machine_laws.proofs.Messaging.ListedLemmas.{all_fail}

@@ -6,7 +6,7 @@ use Rattle.std.proofs.lemmas.Bool.{eqb-true, false≢true}
 use Rattle.xk_base.specs.declared.pages.Access.TheVariants.{Fetch, Load, Store}
 use Rattle.xk_base.specs.declared.pages.Width.{Width}
 use Rattle.xk_base.specs.declared.pages.Width.TheVariants.{Byte, Half, Word}
-use Rattle.xk_base.specs.Registers.{with_reg}
+use Rattle.xk_base.specs.Calls.Registers.{with_reg}
 use Rattle.xk_base.specs.UserMemory.{Memory, Timer, size_of, number_at, number_loaded, timer_at}
 use Rattle.rv32_words.specs.declared.insn.Insn.{Insn}
 use Rattle.rv32_words.specs.declared.insn.Insn.TheVariants.{Lui, Auipc, Jal, Jalr, Beq, Bne, Blt, Bge, Bltu, Bgeu, Lb, Lh, Lw, Lbu, Lhu, Sb, Sh, Sw, Addi, Slti, Sltiu, Xori, Ori, Andi, Slli, Srli, Srai, Add, Sub, Sll, Slt, Sltu, Xor, Srl, Sra, Or, And, Mul, Mulh, Mulhsu, Mulhu, Div, Divu, Rem, Remu, Fence, FenceI, Ecall, Ebreak}

@@ -9,8 +9,8 @@ use Rattle.xk_base.specs.declared.ids.ThreadId.{ThreadId}
 use Rattle.xk_base.specs.declared.limits.TheConstants.{TIMER_INTERRUPT}
 use Rattle.xk_base.specs.declared.pages.Access.TheVariants.{Store}
 use Rattle.xk_base.specs.declared.pages.Width.{Width}
-use Rattle.xk_base.specs.Circle.{same_thread}
-use Rattle.xk_base.specs.Counting.{put_at}
+use Rattle.xk_base.specs.Tables.Circle.{same_thread}
+use Rattle.xk_base.specs.Tables.Counting.{put_at}
 use Rattle.xk_base.specs.UserMemory.{Timer, compare_stored, low_bytes, size_of}
 use Rattle.ledger_model.specs.Ledger.{PageName}
 use Rattle.machine_model.specs.Stepping.Acts.{does_instruction, executes, is_instruction}

@@ -20,7 +20,7 @@ use Rattle.ledger_model.proofs.Stepping.WritingLemmas.{write_bare, write_loans, 
 use Rattle.machine_model.specs.State.Machine.{Machine}
 use Rattle.machine_model.specs.Runs.Matched.{Matched}
 use Rattle.machine_model.specs.State.Views.{page_reached}
-use Rattle.xk_base.specs.Windows.{page_of}
+use Rattle.xk_base.specs.Numbers.Windows.{page_of}
 use Rattle.machine_laws.proofs.Calling.PageChangeLemmas.{IsLikeLedger, stands_now}
 
 -- ---- the bytes

@@ -15,15 +15,15 @@ use Rattle.xk_base.specs.declared.ids.ThreadId.{ThreadId}
 use Rattle.xk_base.specs.declared.ids.Vpn.{Vpn}
 use Rattle.xk_base.specs.declared.limits.TheConstants.{MESSAGE_LIMIT}
 use Rattle.xk_base.specs.declared.messages.Message.{Message}
-use Rattle.xk_base.specs.CallNumbers.{forward_message}
-use Rattle.xk_base.specs.CallWords.{forward_cid}
-use Rattle.xk_base.specs.Circle.{same_thread}
-use Rattle.xk_base.specs.Counting.{least_below, put_at}
-use Rattle.xk_base.specs.Replies.{message_words, plain_words}
+use Rattle.xk_base.specs.Calls.CallNumbers.{forward_message}
+use Rattle.xk_base.specs.Calls.CallWords.{forward_cid}
+use Rattle.xk_base.specs.Tables.Circle.{same_thread}
+use Rattle.xk_base.specs.Tables.Counting.{least_below, put_at}
+use Rattle.xk_base.specs.Calls.Replies.{message_words, plain_words}
 use Rattle.xk_base.proofs.CountingLemmas.{least_below-passes}
 use Rattle.ledger_model.specs.Steps.{pass}
 use Rattle.machine_model.specs.Messaging.ForwardCalls.{are_one_server, forward_call, forward_refusals, forward_served, forward_served_if, forwarded_to, held_place, is_passable_of, next_arrival, next_arrival_refusals, passable, passed_from, passed_message, passed_number, passed_place, passed_to, with_first}
-use Rattle.xk_base.specs.Kinds.{is_answered}
+use Rattle.xk_base.specs.Calls.Kinds.{is_answered}
 use Rattle.machine_model.specs.Messaging.Messages.{is_lend, is_lend_of, is_of_number, with_queued, with_received, without_held}
 use Rattle.machine_model.specs.Messaging.Receivers.{receiver}
 use Rattle.machine_model.specs.Messaging.ReturnCalls.{held_at, holder_of, holds}
@@ -32,7 +32,7 @@ use Rattle.machine_model.specs.Runs.Matched.{IsHoldable, IsQueueable, Matched, i
 use Rattle.machine_model.specs.State.Changes.{Change, Served, call_settled, first_refusal, settled}
 use Rattle.machine_model.specs.State.Machine.{Machine, Server, Thread, Receiving}
 use Rattle.machine_model.specs.State.Order.{is_ready, ready_at}
-use Rattle.xk_base.specs.Sids.{serial_of}
+use Rattle.xk_base.specs.Tables.Sids.{serial_of}
 use Rattle.machine_model.specs.State.Servers.{change_server, is_full, is_server_of, messages_of, server_at, slots_used}
 use Rattle.machine_model.specs.State.Threads.{Answers, answer_to, both_answers, no_answers, passed, with_answer}
 use Rattle.machine_model.proofs.Matching.CountLemmas.{HasMore}

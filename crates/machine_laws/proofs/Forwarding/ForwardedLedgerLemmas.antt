@@ -14,7 +14,7 @@ use Rattle.ledger_model.specs.Ledger.{Ledger, Page, PageLoan, loan_at}
 use Rattle.ledger_model.specs.Loans.{LoanRun, OrphanLoan, Stands, loan_of_orphan, loans, same_number, with_holder}
 use Rattle.ledger_model.specs.Places.{moved}
 use Rattle.ledger_model.specs.Steps.{pass, passed, passed_loan}
-use Rattle.ledger_model.proofs.OfNumberLemmas.{stands_still}
+use Rattle.ledger_model.proofs.Loans.OfNumberLemmas.{stands_still}
 use Rattle.ledger_model.proofs.Stepping.PassingLemmas.{pass_home, pass_lawful, pass_loan, pass_orphan, pass_other, pass_stands, passed_loan-number}
 use Rattle.machine_model.specs.Messaging.Messages.{is_of_number}
 use Rattle.machine_model.specs.Runs.Matched.{AreHeapsMatched, IsLedgerMatched, IsLendMatched, IsMessageLent, IsOnLoan, Matched, is_living, lend_run}

@@ -18,7 +18,7 @@ use Rattle.xk_base.specs.declared.messages.MsgKind.{MsgKind}
 use Rattle.xk_base.specs.declared.messages.MsgKind.TheVariants.{LendMut, Lend, Move, Scalar, BlockingScalar}
 use Rattle.xk_base.specs.declared.pages.LoanKind.{LoanKind}
 use Rattle.xk_base.specs.declared.windows.Window.TheVariants.{Message as MessageWindow}
-use Rattle.xk_base.specs.Counting.{put_at}
+use Rattle.xk_base.specs.Tables.Counting.{put_at}
 use Rattle.ledger_model.specs.Conditions.{CanPass}
 use Rattle.ledger_model.specs.Loans.{LoanRun, Stands, loans}
 use Rattle.ledger_model.specs.Places.{in_run, is_place_in}
@@ -26,7 +26,7 @@ use Rattle.ledger_model.specs.Reach.{is_free}
 use Rattle.ledger_model.specs.Steps.{pass}
 use Rattle.machine_model.specs.Messaging.ForwardCalls.{with_first}
 use Rattle.machine_model.specs.Messaging.MessageCounts.{HasIf, count_at, count_in}
-use Rattle.xk_base.specs.Kinds.{is_answered}
+use Rattle.xk_base.specs.Calls.Kinds.{is_answered}
 use Rattle.machine_model.specs.Messaging.Messages.{carries_pages, is_lend, is_lend_of, is_of_number, loan_kind}
 use Rattle.machine_model.specs.Runs.Matched.{AreLoansMatched, AreNextAbove, AreReceiversMatched, AreSendersMatched, AreServersMatched, IsHoldable, IsLendMatched, IsMessageLent, IsOnLoan, IsQueueable, IsSized, Matched, is_living, is_sent_as, is_waiting_for, lend_run, waits_for}
 use Rattle.machine_model.specs.State.Machine.{Machine, Server, Thread, Receiving}

@@ -6,8 +6,8 @@ use Rattle.std.proofs.lemmas.Bool.{eqb-true, false≢true}
 use Rattle.xk_base.specs.declared.ids.Number.{Number}
 use Rattle.xk_base.specs.declared.ids.Pid.{Pid}
 use Rattle.xk_base.specs.declared.ids.ThreadId.{ThreadId}
-use Rattle.xk_base.specs.Circle.{same_thread}
-use Rattle.xk_base.specs.Counting.{put_at}
+use Rattle.xk_base.specs.Tables.Circle.{same_thread}
+use Rattle.xk_base.specs.Tables.Counting.{put_at}
 use Rattle.machine_model.specs.State.Changes.{Change, settled}
 use Rattle.machine_model.specs.Stepping.Events.{raised, raised_if}
 use Rattle.machine_model.specs.Stepping.Interrupts.{is_idle, is_free_for_interrupt, lowest_pending, handler_started, delivered_lowest, delivered, pended, cursor_after}
@@ -16,7 +16,7 @@ use Rattle.machine_model.specs.Runs.Kept.{IrqKeepsMatched}
 use Rattle.machine_model.specs.State.Machine.{Machine, Thread, ThreadState, Claim, Ready, Receiving, Waiting, Joining, Idle}
 use Rattle.machine_model.specs.Runs.Matched.{Matched, is_waiting_for}
 use Rattle.machine_model.specs.State.Threads.{thread_id, give_answers, no_answers, with_answer, handler_thread}
-use Rattle.machine_model.proofs.KeptLemmas.{matched_at}
+use Rattle.machine_model.proofs.Runs.KeptLemmas.{matched_at}
 use Rattle.machine_laws.proofs.Threading.ThreadAnswerLemmas.{same_thread-self, thread_living}
 use Rattle.machine_laws.proofs.Threading.ThreadMoveLemmas.{KeepsClaims, matched_claimed, matched_moved, matched_reserved}
 use Rattle.machine_laws.proofs.Threading.ThreadPutLemmas.{IsPut, waits_at, put_keeps}

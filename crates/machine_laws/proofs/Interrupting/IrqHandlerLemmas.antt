@@ -5,8 +5,8 @@ use Rattle.std.specs.Option.{option_map}
 use Rattle.std.proofs.lemmas.Bool.{eqb-true, and_parts, and_left}
 use Rattle.xk_base.specs.declared.ids.Pid.{Pid}
 use Rattle.xk_base.specs.declared.ids.ThreadId.{ThreadId}
-use Rattle.xk_base.specs.Circle.{same_thread}
-use Rattle.xk_base.specs.Counting.{put_at}
+use Rattle.xk_base.specs.Tables.Circle.{same_thread}
+use Rattle.xk_base.specs.Tables.Counting.{put_at}
 use Rattle.xk_base.proofs.CircleLemmas.{same_ids}
 use Rattle.machine_model.specs.State.Changes.{settled}
 use Rattle.machine_model.specs.Ending.Ends.{handler_ended}
@@ -17,7 +17,7 @@ use Rattle.machine_model.specs.Runs.Matched.{Matched}
 use Rattle.machine_model.specs.State.Order.{ready_at, actor}
 use Rattle.machine_model.specs.Stepping.Step.{step, ends_thread, ends_handler, performed}
 use Rattle.machine_model.specs.State.Threads.{thread_id, change_thread, with_state, handler_return}
-use Rattle.machine_model.proofs.KeptLemmas.{matched_at}
+use Rattle.machine_model.proofs.Runs.KeptLemmas.{matched_at}
 use Rattle.machine_laws.proofs.Interrupting.IrqDeliveryLemmas.{KeepsDelivery, delivery_keeps, settled_unanswered}
 use Rattle.machine_laws.proofs.Threading.ThreadAnswerLemmas.{IsReadyThread, ready_thread, ready_put_matched, same_thread-self}
 use Rattle.machine_laws.proofs.Threading.ThreadStepLemmas.{settles, turned_to, actor_ready, step_keeps, then_acted}

@@ -9,7 +9,7 @@ use Rattle.xk_base.specs.declared.ids.Number.{Number}
 use Rattle.xk_base.specs.declared.ids.Serial.{Serial}
 use Rattle.xk_base.specs.declared.ids.ThreadId.{ThreadId}
 use Rattle.xk_base.specs.declared.messages.Message.{Message}
-use Rattle.xk_base.specs.Circle.{same_thread}
+use Rattle.xk_base.specs.Tables.Circle.{same_thread}
 use Rattle.machine_model.specs.Ending.Closing.{is_message_at, is_sender_at}
 use Rattle.machine_model.specs.Messaging.MessageCounts.{count_at, count_in}
 use Rattle.machine_model.specs.Messaging.Messages.{is_of_number, is_sent_by}

@@ -5,7 +5,7 @@ use Rattle.std.specs.List.{All, list_any}
 use Rattle.std.proofs.lemmas.Bool.{false≢true, or_from, or_parts}
 use Rattle.std.proofs.lemmas.List.Elements.{All-head, All-tail}
 use Rattle.xk_base.specs.declared.messages.Message.{Message}
-use Rattle.xk_base.specs.Counting.{least_below}
+use Rattle.xk_base.specs.Tables.Counting.{least_below}
 use Rattle.xk_base.proofs.CountingLemmas.{least_below-passes}
 use Rattle.machine_model.specs.Ending.Closing.{any_server, server_passes}
 use Rattle.machine_model.specs.Messaging.MessageCounts.{count_in}

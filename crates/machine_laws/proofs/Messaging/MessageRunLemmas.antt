@@ -6,12 +6,12 @@ use Rattle.xk_base.specs.declared.ids.Pid.{Pid}
 use Rattle.xk_base.specs.declared.ids.Place.{Place}
 use Rattle.xk_base.specs.declared.ids.Vpn.{Vpn}
 use Rattle.xk_base.specs.declared.windows.Window.TheVariants.{Message as MessageWindow}
-use Rattle.xk_base.specs.Circle.{is_pid}
-use Rattle.xk_base.specs.Windows.{in_window}
+use Rattle.xk_base.specs.Tables.Circle.{is_pid}
+use Rattle.xk_base.specs.Numbers.Windows.{in_window}
 use Rattle.ledger_model.specs.LeastRun.{IsLeastRun, least_run}
 use Rattle.ledger_model.specs.Places.{in_run, is_place_in}
 use Rattle.ledger_model.specs.Reach.{is_free}
-use Rattle.ledger_model.proofs.LeastRunLemmas.{is_free_run-each, least_run-Some}
+use Rattle.ledger_model.proofs.Runs.LeastRunLemmas.{is_free_run-each, least_run-Some}
 use Rattle.ledger_model.proofs.PlaceLemmas.{IsInRun, in_run-index, in_run-true}
 use Rattle.machine_model.specs.Runs.Matched.{Matched, is_living}
 use Rattle.machine_model.specs.State.Machine.{Machine}

@@ -10,8 +10,8 @@ use Rattle.xk_base.specs.declared.ids.Serial.{Serial}
 use Rattle.xk_base.specs.declared.ids.ThreadId.{ThreadId}
 use Rattle.xk_base.specs.declared.limits.TheConstants.{MESSAGE_LIMIT}
 use Rattle.xk_base.specs.declared.messages.Message.{Message}
-use Rattle.xk_base.specs.Counting.{put_at}
-use Rattle.xk_base.specs.Sids.{same_sid}
+use Rattle.xk_base.specs.Tables.Counting.{put_at}
+use Rattle.xk_base.specs.Tables.Sids.{same_sid}
 use Rattle.xk_base.proofs.CountingLemmas.{count_below-le}
 use Rattle.ledger_model.specs.Loans.{Loans}
 use Rattle.machine_model.specs.Messaging.MessageCounts.{HasAtMostOne, count_at, count_in}

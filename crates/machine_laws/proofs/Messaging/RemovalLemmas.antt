@@ -14,7 +14,7 @@ use Rattle.xk_base.specs.declared.ids.ThreadId.{ThreadId}
 use Rattle.xk_base.specs.declared.limits.TheConstants.{MESSAGE_LIMIT}
 use Rattle.xk_base.specs.declared.messages.Message.{Message}
 use Rattle.xk_base.specs.declared.pages.LoanKind.{LoanKind}
-use Rattle.xk_base.specs.Sids.{same_sid}
+use Rattle.xk_base.specs.Tables.Sids.{same_sid}
 use Rattle.xk_base.proofs.CountingLemmas.{count_below-le}
 use Rattle.ledger_model.specs.Ledger.{Ledger, Orphan}
 use Rattle.ledger_model.specs.Loans.{OrphanLoan, loan_of_orphan, loans}

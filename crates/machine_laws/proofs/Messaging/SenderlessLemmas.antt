@@ -14,8 +14,8 @@ use Rattle.xk_base.specs.declared.ids.ThreadId.{ThreadId}
 use Rattle.xk_base.specs.declared.limits.TheConstants.{MESSAGE_LIMIT, SERVER_LIMIT}
 use Rattle.xk_base.specs.declared.messages.Message.{Message}
 use Rattle.xk_base.specs.declared.pages.LoanKind.{LoanKind}
-use Rattle.xk_base.specs.Circle.{same_thread}
-use Rattle.xk_base.specs.Sids.{same_sid}
+use Rattle.xk_base.specs.Tables.Circle.{same_thread}
+use Rattle.xk_base.specs.Tables.Sids.{same_sid}
 use Rattle.xk_base.proofs.CountingLemmas.{count_below-same}
 use Rattle.ledger_model.specs.Lawful.{IsLawful}
 use Rattle.ledger_model.specs.Ledger.{Ledger, Orphan, PageLoan, loan_at}

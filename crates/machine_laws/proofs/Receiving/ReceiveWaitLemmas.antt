@@ -5,8 +5,8 @@ use Rattle.std.specs.Option.{option_map, option_map_or}
 use Rattle.xk_base.specs.declared.ids.Number.{Number}
 use Rattle.xk_base.specs.declared.ids.Serial.{Serial}
 use Rattle.xk_base.specs.declared.ids.ThreadId.{ThreadId}
-use Rattle.xk_base.specs.Circle.{same_thread}
-use Rattle.xk_base.specs.Counting.{put_at}
+use Rattle.xk_base.specs.Tables.Circle.{same_thread}
+use Rattle.xk_base.specs.Tables.Counting.{put_at}
 use Rattle.machine_model.specs.Messaging.ReceiveCalls.{waits_at}
 use Rattle.machine_model.specs.Runs.Matched.{AreReceiversMatched, IsServerAwaited, Matched, is_waiting_for, waits_for}
 use Rattle.machine_model.specs.State.Changes.{Served, call_settled, settled}

@@ -9,10 +9,10 @@ use Rattle.xk_base.specs.declared.ids.Number.{Number}
 use Rattle.xk_base.specs.declared.ids.ThreadId.{ThreadId}
 use Rattle.xk_base.specs.declared.limits.TheConstants.{MESSAGE_LIMIT}
 use Rattle.xk_base.specs.declared.messages.Message.{Message}
-use Rattle.xk_base.specs.Circle.{same_thread}
+use Rattle.xk_base.specs.Tables.Circle.{same_thread}
 use Rattle.ledger_model.specs.Loans.{loans}
 use Rattle.machine_model.specs.Messaging.MessageCounts.{HasAtMostOne, HasOne, count_at, count_in}
-use Rattle.xk_base.specs.Kinds.{is_answered}
+use Rattle.xk_base.specs.Calls.Kinds.{is_answered}
 use Rattle.machine_model.specs.Messaging.Messages.{is_lend, is_lend_of, is_of_number, is_sent_by}
 use Rattle.machine_model.specs.Runs.Matched.{AreLoansMatched, AreReceiversMatched, AreSendersMatched, IsHoldable, IsMessageLent, IsQueueable, IsSized, Matched, is_sent_as, waits_for}
 use Rattle.machine_model.specs.State.Machine.{Machine, Server}

@@ -10,9 +10,9 @@ use Rattle.std.proofs.lemmas.Option.{same_Some}
 use Rattle.xk_base.specs.declared.ids.Number.{Number}
 use Rattle.xk_base.specs.declared.ids.ThreadId.{ThreadId}
 use Rattle.xk_base.specs.declared.messages.Message.{Message}
-use Rattle.xk_base.specs.Circle.{same_thread}
-use Rattle.xk_base.specs.Counting.{put_at}
-use Rattle.xk_base.specs.Replies.{plain_words}
+use Rattle.xk_base.specs.Tables.Circle.{same_thread}
+use Rattle.xk_base.specs.Tables.Counting.{put_at}
+use Rattle.xk_base.specs.Calls.Replies.{plain_words}
 use Rattle.ledger_model.specs.Loans.{same_number}
 use Rattle.machine_model.specs.Messaging.LoanSets.{end_loans}
 use Rattle.machine_model.specs.Messaging.MessageCounts.{count_at, count_in}

@@ -6,9 +6,9 @@ use Rattle.std.proofs.lemmas.Bool.{and_parts, eqb-true}
 use Rattle.xk_base.specs.declared.errors.XousError.TheVariants.{BadAddress, DoubleFree}
 use Rattle.xk_base.specs.declared.ids.Number.{Number}
 use Rattle.xk_base.specs.declared.messages.Message.{Message}
-use Rattle.xk_base.specs.CallNumbers.{return_memory}
-use Rattle.xk_base.specs.CallWords.{call_number, return_address, return_offset, return_size, return_valid}
-use Rattle.xk_base.specs.Replies.{returned_words}
+use Rattle.xk_base.specs.Calls.CallNumbers.{return_memory}
+use Rattle.xk_base.specs.Calls.CallWords.{call_number, return_address, return_offset, return_size, return_valid}
+use Rattle.xk_base.specs.Calls.Replies.{returned_words}
 use Rattle.ledger_model.specs.Steps.{end_loan}
 use Rattle.machine_model.specs.Calling.Calls.{call}
 use Rattle.machine_model.specs.Messaging.Messages.{is_lend, is_lend_of, is_of_number}
@@ -17,7 +17,7 @@ use Rattle.machine_model.specs.Runs.Matched.{Matched}
 use Rattle.machine_model.specs.State.Changes.{Served}
 use Rattle.machine_model.specs.State.Machine.{Machine}
 use Rattle.machine_model.specs.State.Order.{ready_at}
-use Rattle.machine_model.proofs.LoanSetLemmas.{only_one_ends}
+use Rattle.machine_model.proofs.Messaging.LoanSetLemmas.{only_one_ends}
 use Rattle.machine_laws.proofs.Calling.AnsweredCallLemmas.{Keeps}
 use Rattle.machine_laws.proofs.Returning.GivenBackLemmas.{EndsAs, given_back_keeps}
 use Rattle.machine_laws.proofs.Calling.ThreadCallLemmas.{call_keeps, two_passed, unless_refused_keeps}

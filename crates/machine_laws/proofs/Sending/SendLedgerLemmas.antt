@@ -13,14 +13,14 @@ use Rattle.xk_base.specs.declared.messages.MsgKind.TheVariants.{LendMut, Lend, M
 use Rattle.xk_base.specs.declared.pages.LoanKind.{LoanKind}
 use Rattle.xk_base.specs.declared.pages.LoanKind.TheVariants.{Shared, Exclusive}
 use Rattle.xk_base.specs.declared.windows.Window.TheVariants.{Message as MessageWindow}
-use Rattle.xk_base.specs.CallWords.{send_address, send_cid, send_length}
-use Rattle.xk_base.specs.Connections.{connected_to}
+use Rattle.xk_base.specs.Calls.CallWords.{send_address, send_cid, send_length}
+use Rattle.xk_base.specs.Tables.Connections.{connected_to}
 use Rattle.ledger_model.specs.Conditions.{CanGive, CanLend}
 use Rattle.ledger_model.specs.LeastRun.{least_run}
 use Rattle.ledger_model.specs.RunTests.{any_free, any_not_sent, is_exclusive}
-use Rattle.ledger_model.proofs.RunTestLemmas.{sent_may_lend, sent_may_move}
+use Rattle.ledger_model.proofs.Runs.RunTestLemmas.{sent_may_lend, sent_may_move}
 use Rattle.machine_model.specs.Calling.MemoryCalls.{caller_place, is_aligned, is_bad_range}
-use Rattle.xk_base.specs.Kinds.{is_answered}
+use Rattle.xk_base.specs.Calls.Kinds.{is_answered}
 use Rattle.machine_model.specs.Messaging.Messages.{carries_pages, new_message, new_number}
 use Rattle.machine_model.specs.Messaging.SendCalls.{is_lend_mut, sent_ledger, sent_pages}
 use Rattle.machine_model.specs.Runs.Matched.{Matched, is_living}

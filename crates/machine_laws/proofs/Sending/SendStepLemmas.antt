@@ -11,10 +11,10 @@ use Rattle.xk_base.specs.declared.ids.Vpn.{Vpn}
 use Rattle.xk_base.specs.declared.messages.MsgKind.{MsgKind}
 use Rattle.xk_base.specs.declared.messages.MsgKind.TheVariants.{LendMut, Lend, Move, Scalar, BlockingScalar}
 use Rattle.xk_base.specs.declared.windows.Window.TheVariants.{Message as MessageWindow}
-use Rattle.xk_base.specs.CallNumbers.{send_message, try_send_message}
-use Rattle.xk_base.specs.CallWords.{call_number, send_address, send_cid, send_kind, send_length}
-use Rattle.xk_base.specs.Connections.{connected_to}
-use Rattle.xk_base.specs.Kinds.{is_waiting_kind, kind_at, is_answered}
+use Rattle.xk_base.specs.Calls.CallNumbers.{send_message, try_send_message}
+use Rattle.xk_base.specs.Calls.CallWords.{call_number, send_address, send_cid, send_kind, send_length}
+use Rattle.xk_base.specs.Tables.Connections.{connected_to}
+use Rattle.xk_base.specs.Calls.Kinds.{is_waiting_kind, kind_at, is_answered}
 use Rattle.ledger_model.specs.LeastRun.{least_run}
 use Rattle.ledger_model.specs.RunTests.{any_free, any_not_sent}
 use Rattle.machine_model.specs.Calling.Calls.{call}
@@ -27,7 +27,7 @@ use Rattle.machine_model.specs.State.Changes.{Served, first_refusal, unless_retr
 use Rattle.machine_model.specs.State.Connections.{own_connections}
 use Rattle.machine_model.specs.State.Machine.{Machine, Server}
 use Rattle.machine_model.specs.State.Order.{ready_at}
-use Rattle.xk_base.specs.Sids.{serial_of}
+use Rattle.xk_base.specs.Tables.Sids.{serial_of}
 use Rattle.machine_model.specs.State.Servers.{is_full, server_at}
 use Rattle.machine_laws.proofs.Calling.AnsweredCallLemmas.{Keeps, retried_keeps}
 use Rattle.machine_laws.proofs.Sending.SendCallLemmas.{arrives, arrives_keeps}

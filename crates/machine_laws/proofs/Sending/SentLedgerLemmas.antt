@@ -11,14 +11,14 @@ use Rattle.xk_base.specs.declared.ids.ThreadId.{ThreadId}
 use Rattle.xk_base.specs.declared.messages.Message.{Message}
 use Rattle.xk_base.specs.declared.pages.LoanKind.{LoanKind}
 use Rattle.xk_base.specs.declared.windows.Window.TheVariants.{Heap, Message as MessageWindow}
-use Rattle.xk_base.specs.Circle.{is_pid}
-use Rattle.xk_base.specs.Windows.{in_window}
+use Rattle.xk_base.specs.Tables.Circle.{is_pid}
+use Rattle.xk_base.specs.Numbers.Windows.{in_window}
 use Rattle.ledger_model.specs.Conditions.{CanGive, CanLend}
 use Rattle.ledger_model.specs.Ledger.{Ledger, Page, PageLoan, loan_at}
 use Rattle.ledger_model.specs.Loans.{Loans, OrphanLoan, Stands, loan_of_orphan, loans}
 use Rattle.ledger_model.specs.Places.{in_run}
 use Rattle.ledger_model.specs.Steps.{give, lend}
-use Rattle.ledger_model.proofs.OfNumberLemmas.{SameOf, stands_still}
+use Rattle.ledger_model.proofs.Loans.OfNumberLemmas.{SameOf, stands_still}
 use Rattle.ledger_model.proofs.PlaceLemmas.{in_run-true}
 use Rattle.ledger_model.proofs.Stepping.GivingLemmas.{give_lawful, give_left, give_loans, give_orphan, give_outside}
 use Rattle.ledger_model.proofs.Stepping.LendingLemmas.{lend_lawful, lend_loan_inside, lend_loan_outside, lend_orphan, lend_other, lend_outside, lend_stands, lend_was, loan_to}

@@ -9,8 +9,8 @@ use Rattle.std.proofs.lemmas.Nat.{div-mul-add, mod-mul-add}
 use Rattle.std.proofs.lemmas.Option.{none-some, same_Some}
 use Rattle.xk_base.specs.declared.ids.Serial.{Serial}
 use Rattle.xk_base.specs.declared.ids.ThreadId.{ThreadId}
-use Rattle.xk_base.specs.Circle.{id_by_tid, is_pid, is_thread_id, is_tid, thread_ids}
-use Rattle.xk_base.specs.Counting.{least_below}
+use Rattle.xk_base.specs.Tables.Circle.{id_by_tid, is_pid, is_thread_id, is_tid, thread_ids}
+use Rattle.xk_base.specs.Tables.Counting.{least_below}
 use Rattle.xk_base.proofs.CircleLemmas.{is_pid-bounds, same_ids}
 use Rattle.xk_base.proofs.CountingLemmas.{least_below-none, least_below-passes}
 use Rattle.machine_model.specs.Messaging.Receivers.{is_receiving, receiver, receiving_at}

@@ -11,7 +11,7 @@ use Rattle.std.proofs.lemmas.List.Sums.{fails_before_first}
 use Rattle.xk_base.specs.declared.ids.Pid.{Pid}
 use Rattle.xk_base.specs.declared.ids.Serial.{Serial}
 use Rattle.xk_base.specs.declared.limits.TheConstants.{CONNECTION_LIMIT}
-use Rattle.xk_base.specs.Connections.{cid_to, connected, has_room}
+use Rattle.xk_base.specs.Tables.Connections.{cid_to, connected, has_room}
 use Rattle.machine_model.specs.State.Connections.{connect_caller, own_connections}
 use Rattle.machine_model.specs.State.Machine.{Machine, Process}
 use Rattle.machine_model.specs.Runs.Matched.{Matched, is_alive, is_living}

@@ -10,8 +10,8 @@ use Rattle.std.proofs.lemmas.Slice.Eq.{bytes_eq-Decides}
 use Rattle.xk_base.specs.declared.ids.Sid.{Sid}
 use Rattle.xk_base.specs.declared.limits.TheConstants.{MESSAGE_LIMIT, SERVER_LIMIT}
 use Rattle.xk_base.specs.declared.messages.Message.{Message}
-use Rattle.xk_base.specs.Counting.{count_below, least_below, put_at}
-use Rattle.xk_base.specs.Sids.{same_sid, serial_of, is_sid}
+use Rattle.xk_base.specs.Tables.Counting.{count_below, least_below, put_at}
+use Rattle.xk_base.specs.Tables.Sids.{same_sid, serial_of, is_sid}
 use Rattle.xk_base.proofs.CountingLemmas.{count_below-one, count_below-same, least_below-none}
 use Rattle.ledger_model.specs.Loans.{loans}
 use Rattle.machine_model.specs.Calling.ServerCalls.{new_server, with_server}

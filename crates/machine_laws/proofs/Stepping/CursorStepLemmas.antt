@@ -14,14 +14,14 @@ use Rattle.xk_base.specs.declared.messages.Message.{Message}
 use Rattle.xk_base.specs.declared.messages.MsgKind.{MsgKind}
 use Rattle.xk_base.specs.declared.messages.MsgKind.TheVariants.{Scalar}
 use Rattle.xk_base.specs.declared.records.What.TheVariants.{End}
-use Rattle.xk_base.specs.CallNumbers.{call_numbers, is_call_number}
-use Rattle.xk_base.specs.CallWords.{call_number, forward_cid, heap_bytes, interrupt_argument, interrupt_handler, interrupt_number, join_tid, map_flags, map_phys, map_size, map_virt, range_address, range_flags, range_size, return_address, return_offset, return_size, return_valid, return_value1, return_value2, send_address, thread_arguments, thread_entry, thread_sp}
-use Rattle.xk_base.specs.Circle.{is_pid, is_thread_id}
-use Rattle.xk_base.specs.Counting.{put_at}
-use Rattle.xk_base.specs.Kinds.{is_answered}
-use Rattle.xk_base.specs.Registers.{arguments_of, reg_at}
-use Rattle.xk_base.specs.Replies.{plain_words, scalar1_words, scalar2_words, thread_words}
-use Rattle.xk_base.specs.Sids.{serial_of}
+use Rattle.xk_base.specs.Calls.CallNumbers.{call_numbers, is_call_number}
+use Rattle.xk_base.specs.Calls.CallWords.{call_number, forward_cid, heap_bytes, interrupt_argument, interrupt_handler, interrupt_number, join_tid, map_flags, map_phys, map_size, map_virt, range_address, range_flags, range_size, return_address, return_offset, return_size, return_valid, return_value1, return_value2, send_address, thread_arguments, thread_entry, thread_sp}
+use Rattle.xk_base.specs.Tables.Circle.{is_pid, is_thread_id}
+use Rattle.xk_base.specs.Tables.Counting.{put_at}
+use Rattle.xk_base.specs.Calls.Kinds.{is_answered}
+use Rattle.xk_base.specs.Calls.Registers.{arguments_of, reg_at}
+use Rattle.xk_base.specs.Calls.Replies.{plain_words, scalar1_words, scalar2_words, thread_words}
+use Rattle.xk_base.specs.Tables.Sids.{serial_of}
 use Rattle.xk_base.proofs.CircleLemmas.{next_id-valid}
 use Rattle.ledger_model.specs.Steps.{pass}
 use Rattle.machine_model.specs.Calling.Calls.{any_refusals, call, call_at, call_table}
@@ -50,9 +50,9 @@ use Rattle.machine_model.specs.State.Views.{stored, timer_set}
 use Rattle.machine_model.specs.Stepping.Interrupts.{delivered, delivered_lowest, handler_started, is_free_for_interrupt, lowest_pending, with_handler_next}
 use Rattle.machine_model.specs.Stepping.Step.{Recorded, acted_if_there, after, counted, ends_handler, ends_thread, executed, performed, step}
 use Rattle.machine_model.specs.Stepping.Timer.{is_due, raised_by_timer, timed, timed_if}
-use Rattle.machine_model.proofs.CursorLemmas.{all_keep_cursor}
+use Rattle.machine_model.proofs.State.CursorLemmas.{all_keep_cursor}
 use Rattle.machine_model.proofs.StepLemmas.{no_step}
-use Rattle.machine_model.proofs.TimerLemmas.{timed_raised}
+use Rattle.machine_model.proofs.Runs.TimerLemmas.{timed_raised}
 use Rattle.machine_laws.proofs.Stepping.EveryStepLemmas.{every_step_keeps, turned_list}
 use Rattle.machine_laws.proofs.Stepping.PlainServerLemmas.{in_list, outside_refused}
 use Rattle.machine_laws.proofs.Threading.ThreadAnswerLemmas.{IsReadyThread, ready_thread}

@@ -4,14 +4,14 @@ use Rattle.std.specs.Prelude.{◌==◌, ◌||◌}
 use Rattle.std.specs.List.{AllByRecursion, list_any}
 use Rattle.std.proofs.lemmas.Bool.{eq-eqb, eqb-true}
 use Rattle.xk_base.specs.declared.errors.XousError.TheVariants.{UnhandledSyscall}
-use Rattle.xk_base.specs.CallNumbers.{call_numbers, is_call_number, terminate_process}
-use Rattle.xk_base.specs.CallWords.{call_number}
+use Rattle.xk_base.specs.Calls.CallNumbers.{call_numbers, is_call_number, terminate_process}
+use Rattle.xk_base.specs.Calls.CallWords.{call_number}
 use Rattle.machine_model.specs.Runs.Kept.{AllKeepMatched, StepKeepsMatched}
 use Rattle.machine_model.specs.Runs.Matched.{Matched}
 use Rattle.machine_model.specs.Runs.Moments.{IsRun, Moment, state_at}
 use Rattle.machine_model.specs.State.Machine.{Machine}
 use Rattle.machine_model.specs.Stepping.Step.{step}
-use Rattle.machine_model.proofs.KeptLemmas.{all_keep, run_keeps}
+use Rattle.machine_model.proofs.Runs.KeptLemmas.{all_keep, run_keeps}
 use Rattle.machine_laws.proofs.Calling.AnsweredCallLemmas.{refused_step}
 use Rattle.machine_laws.proofs.Calling.CallStepLemmas.{decrease_step, increase_step, map_step, unmap_step, update_step}
 use Rattle.machine_laws.proofs.Calling.ThreadCallStepLemmas.{StepKeeps, process_id_step, thread_id_step, yield_step}

@@ -7,9 +7,9 @@ use Rattle.xk_base.specs.declared.errors.XousError.{XousError}
 use Rattle.xk_base.specs.declared.errors.XousError.TheVariants.{UnhandledSyscall}
 use Rattle.xk_base.specs.declared.ids.Pid.{Pid}
 use Rattle.xk_base.specs.declared.ids.ThreadId.{ThreadId}
-use Rattle.xk_base.specs.CallNumbers.{map_memory, yield_turn, increase_heap, decrease_heap, update_memory_flags, create_thread, unmap_memory, terminate_process, join_thread, get_thread_id, get_process_id, is_call_number}
-use Rattle.xk_base.specs.CallWords.{call_number, heap_bytes, map_phys, map_virt, map_size, map_flags, range_address, range_size, range_flags, thread_entry, thread_sp, thread_arguments, join_tid}
-use Rattle.xk_base.specs.Replies.{plain_words, scalar1_words, thread_words}
+use Rattle.xk_base.specs.Calls.CallNumbers.{map_memory, yield_turn, increase_heap, decrease_heap, update_memory_flags, create_thread, unmap_memory, terminate_process, join_thread, get_thread_id, get_process_id, is_call_number}
+use Rattle.xk_base.specs.Calls.CallWords.{call_number, heap_bytes, map_phys, map_virt, map_size, map_flags, range_address, range_size, range_flags, thread_entry, thread_sp, thread_arguments, join_tid}
+use Rattle.xk_base.specs.Calls.Replies.{plain_words, scalar1_words, thread_words}
 use Rattle.machine_model.specs.Calling.Calls.{any_refusals, call, call_at, call_table}
 use Rattle.machine_model.specs.State.Changes.{Change, Outcome, Refused, Served, answering, call_settled, first_refusal, refused_or, settled, unless_refused}
 use Rattle.machine_model.specs.Ending.Ends.{death, forgotten, end_with_last_thread, handler_ended, has_threads, thread_ended}
@@ -19,7 +19,7 @@ use Rattle.machine_model.specs.Calling.MemoryCalls.{decrease_call, decrease_refu
 use Rattle.machine_model.specs.State.Order.{turn}
 use Rattle.machine_model.specs.Calling.ThreadCalls.{create_call, create_refusals, create_served, join_call, join_refusals, join_served, process_id_call, terminate_call, thread_id_call, yield_call}
 use Rattle.machine_model.specs.State.Threads.{answer_to, change_thread, put_thread, thread_id, with_state}
-use Rattle.machine_model.proofs.DeathLemmas.{death_without_servers}
+use Rattle.machine_model.proofs.Ending.DeathLemmas.{death_without_servers}
 use Rattle.machine_laws.specs.WithoutServers.{HasNoServers, is_plain_call, plain_numbers}
 
 -- ---- plain calls

@@ -5,8 +5,8 @@ use Rattle.xk_base.specs.declared.errors.XousError.TheVariants.{UnhandledSyscall
 use Rattle.xk_base.specs.declared.ids.Pid.{Pid}
 use Rattle.xk_base.specs.declared.ids.Place.{Place}
 use Rattle.xk_base.specs.declared.ids.ThreadId.{ThreadId}
-use Rattle.xk_base.specs.CallWords.{call_number}
-use Rattle.xk_base.specs.Registers.{arguments_of, reg_at}
+use Rattle.xk_base.specs.Calls.CallWords.{call_number}
+use Rattle.xk_base.specs.Calls.Registers.{arguments_of, reg_at}
 use Rattle.ledger_model.specs.Ledger.{Orphan, PageLoan, loan_at}
 use Rattle.ledger_model.specs.Loans.{loan_of_orphan, loans}
 use Rattle.machine_model.specs.Stepping.Acts.{call_by, executes}

@@ -5,7 +5,7 @@ use Rattle.std.proofs.lemmas.Bool.{and_parts, eqb-true, ltb-true}
 use Rattle.xk_base.proofs.CircleLemmas.{same_ids}
 use Rattle.xk_base.specs.declared.ids.Pid.{Pid}
 use Rattle.xk_base.specs.declared.ids.ThreadId.{ThreadId}
-use Rattle.xk_base.specs.Registers.{arguments_of, reg_at}
+use Rattle.xk_base.specs.Calls.Registers.{arguments_of, reg_at}
 use Rattle.machine_model.specs.Stepping.Acts.{call_by, executes}
 use Rattle.machine_model.specs.State.Changes.{settled}
 use Rattle.machine_model.specs.Ending.Ends.{death, handler_ended, has_threads, thread_ended}
@@ -16,7 +16,7 @@ use Rattle.machine_model.specs.Runs.Matched.{Matched, is_living}
 use Rattle.machine_model.specs.State.Order.{actor, ready_at}
 use Rattle.machine_model.specs.State.Threads.{handler_return, put_thread, thread_id, thread_return}
 use Rattle.machine_model.specs.Stepping.Step.{step, ends_thread, ends_handler, performed}
-use Rattle.machine_model.proofs.KeptLemmas.{matched_at}
+use Rattle.machine_model.proofs.Runs.KeptLemmas.{matched_at}
 use Rattle.machine_model.proofs.StepLemmas.{no_step}
 use Rattle.machine_laws.proofs.Dying.DeathLemmas.{death_keeps}
 use Rattle.machine_laws.proofs.Dying.DeathStepLemmas.{last_keeps}

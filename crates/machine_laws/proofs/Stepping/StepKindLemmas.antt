@@ -3,7 +3,7 @@ use Rattle.std.proofs.Common.{◌≡◌, Bool, true, false, [], Option, Some, No
 use Rattle.std.specs.Prelude.{if◌then◌else◌}
 use Rattle.std.proofs.lemmas.Option.{none-some, same_Some}
 use Rattle.xk_base.specs.declared.ids.ThreadId.{ThreadId}
-use Rattle.xk_base.specs.Registers.{arguments_of}
+use Rattle.xk_base.specs.Calls.Registers.{arguments_of}
 use Rattle.machine_model.specs.Stepping.Acts.{call_by, does_instruction, executes, is_instruction}
 use Rattle.machine_model.specs.Hart.Atomics.{Performed}
 use Rattle.machine_model.specs.Hart.Instructions.{Executed, CallsKernel}

@@ -4,7 +4,7 @@ use Rattle.std.specs.Prelude.{◌==◌, nat_lt}
 use Rattle.std.proofs.lemmas.Bool.{and_parts}
 use Rattle.std.proofs.lemmas.Bool.Decides.{nat_tests}
 use Rattle.xk_base.specs.declared.ids.ThreadId.{ThreadId}
-use Rattle.xk_base.specs.Registers.{reg_at}
+use Rattle.xk_base.specs.Calls.Registers.{reg_at}
 use Rattle.machine_model.specs.State.Changes.{settled}
 use Rattle.machine_model.specs.Ending.Ends.{thread_ended, has_threads}
 use Rattle.machine_model.specs.State.Machine.{Machine, Thread}
@@ -13,7 +13,7 @@ use Rattle.machine_model.specs.Runs.Matched.{Matched}
 use Rattle.machine_model.specs.State.Order.{actor}
 use Rattle.machine_model.specs.Stepping.Step.{step, ends_thread, ends_handler, performed}
 use Rattle.machine_model.specs.State.Threads.{put_thread, thread_return}
-use Rattle.machine_model.proofs.KeptLemmas.{matched_at}
+use Rattle.machine_model.proofs.Runs.KeptLemmas.{matched_at}
 use Rattle.machine_laws.proofs.Threading.EndThreadLemmas.{thread_end_keeps}
 use Rattle.machine_laws.proofs.Threading.ThreadStepLemmas.{turned_to, actor_ready, step_keeps, then_acted}
 

@@ -11,10 +11,10 @@ use Rattle.xk_base.specs.declared.ids.Serial.{Serial}
 use Rattle.xk_base.specs.declared.ids.ThreadId.{ThreadId}
 use Rattle.xk_base.specs.declared.ids.Tid.{Tid}
 use Rattle.xk_base.specs.declared.limits.TheConstants.{TID_LIMIT}
-use Rattle.xk_base.specs.Circle.{same_thread, is_thread_id}
-use Rattle.xk_base.specs.Counting.{put_at, least_below}
-use Rattle.xk_base.specs.Registers.{with_arguments}
-use Rattle.xk_base.specs.Replies.{scalar1_words}
+use Rattle.xk_base.specs.Tables.Circle.{same_thread, is_thread_id}
+use Rattle.xk_base.specs.Tables.Counting.{put_at, least_below}
+use Rattle.xk_base.specs.Calls.Registers.{with_arguments}
+use Rattle.xk_base.specs.Calls.Replies.{scalar1_words}
 use Rattle.xk_base.proofs.CountingLemmas.{least_below-passes}
 use Rattle.machine_model.specs.State.Changes.{Change, settled, only}
 use Rattle.machine_model.specs.Runs.Kept.{Settles}

@@ -5,9 +5,9 @@ use Rattle.std.specs.Option.{option_map, option_map_or}
 use Rattle.std.proofs.lemmas.Bool.{eq-eqb, false≢true, and_from}
 use Rattle.xk_base.specs.declared.ids.Number.{Number}
 use Rattle.xk_base.specs.declared.ids.ThreadId.{ThreadId}
-use Rattle.xk_base.specs.Circle.{same_thread}
-use Rattle.xk_base.specs.Counting.{put_at}
-use Rattle.xk_base.specs.Registers.{with_arguments}
+use Rattle.xk_base.specs.Tables.Circle.{same_thread}
+use Rattle.xk_base.specs.Tables.Counting.{put_at}
+use Rattle.xk_base.specs.Calls.Registers.{with_arguments}
 use Rattle.machine_model.specs.State.Changes.{Served, call_settled, answering, settled}
 use Rattle.machine_model.specs.Hart.Instructions.{following}
 use Rattle.machine_model.specs.State.Machine.{Machine, Thread, ThreadState, Ready, Receiving, Waiting, Joining, Idle}

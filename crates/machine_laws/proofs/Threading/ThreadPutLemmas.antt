@@ -9,7 +9,7 @@ use Rattle.xk_base.specs.declared.ids.Number.{Number}
 use Rattle.xk_base.specs.declared.ids.Pid.{Pid}
 use Rattle.xk_base.specs.declared.ids.ThreadId.{ThreadId}
 use Rattle.xk_base.specs.declared.ids.Tid.{Tid}
-use Rattle.xk_base.specs.Circle.{is_thread_id, same_thread}
+use Rattle.xk_base.specs.Tables.Circle.{is_thread_id, same_thread}
 use Rattle.xk_base.proofs.CircleLemmas.{same_ids}
 use Rattle.machine_model.specs.State.Machine.{Machine, Thread, ThreadState, Ready, Receiving, Waiting, Joining, Idle}
 use Rattle.machine_model.specs.Runs.Matched.{Matched, AreJoinersMatched, AreReceiversMatched, IsThreadAwaited, HasHandlerThread, HasThreadAbove, is_living, is_waiting_for}

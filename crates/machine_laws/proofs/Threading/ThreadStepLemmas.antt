@@ -5,7 +5,7 @@ use Rattle.std.specs.Option.{option_and_then}
 use Rattle.std.proofs.lemmas.Option.{none-some, same_Some}
 use Rattle.xk_base.specs.declared.ids.ThreadId.{ThreadId}
 use Rattle.xk_base.specs.declared.records.What.TheVariants.{End}
-use Rattle.xk_base.specs.Registers.{arguments_of, reg_at}
+use Rattle.xk_base.specs.Calls.Registers.{arguments_of, reg_at}
 use Rattle.machine_model.specs.Stepping.Acts.{call_by, executes, words_if_call}
 use Rattle.machine_model.specs.Calling.Calls.{call}
 use Rattle.machine_model.specs.State.Changes.{Told, call_settled, settled}
@@ -20,7 +20,7 @@ use Rattle.machine_model.specs.Stepping.Step.{step, step_by, step_by_if, acted, 
 use Rattle.machine_model.specs.Stepping.Timer.{timed}
 use Rattle.machine_model.specs.State.Views.{memory_of}
 use Rattle.machine_model.proofs.StepLemmas.{next_ready_passes}
-use Rattle.machine_model.proofs.TimerLemmas.{timed_raised}
+use Rattle.machine_model.proofs.Runs.TimerLemmas.{timed_raised}
 use Rattle.machine_laws.proofs.Interrupting.TimedLemmas.{timed_matched}
 use Rattle.machine_laws.proofs.Threading.ThreadMoveLemmas.{matched_later, matched_reserved}
 

@@ -11,7 +11,7 @@ use Rattle.ledger_model.specs.Lawful.{IsLawful}
 use Rattle.ledger_model.specs.Ledger.{Ledger, Orphan, Page, PageLoan, loan_at, loan_of}
 use Rattle.ledger_model.specs.Loans.{LoanRun, Loans, Stands, loans, without_lender}
 use Rattle.ledger_model.specs.Steps.{end_loan, orphan_loan}
-use Rattle.ledger_model.proofs.OfNumberLemmas.{SameOf, loan_without-old, stands_still}
+use Rattle.ledger_model.proofs.Loans.OfNumberLemmas.{SameOf, loan_without-old, stands_still}
 use Rattle.ledger_model.proofs.LedgerLemmas.{loan_at-home}
 use Rattle.ledger_model.proofs.Stepping.EndingLemmas.{end_loan_lawful, end_loan_other}
 use Rattle.ledger_model.proofs.Stepping.OrphaningLemmas.{Source, made, made-source, orphan_loan_kept, orphan_loan_lawful, orphan_loan_loan, orphan_loan_made, orphan_loan_other, orphan_loan_stands}

@@ -9,9 +9,9 @@ use Rattle.ledger_model.specs.Ledger.{Ledger}
 use Rattle.ledger_model.specs.Loans.{same_number}
 use Rattle.ledger_model.specs.Steps.{end_loan, orphan_loan}
 use Rattle.machine_model.specs.Messaging.LoanSets.{end_loans, orphan_loans}
-use Rattle.machine_model.proofs.LoanSetLemmas.{none_ends, one_more_ends}
-use Rattle.machine_model.proofs.DeathLemmas.{none_is_orphaned}
-use Rattle.machine_model.proofs.OrphanSetLemmas.{one_more_is_orphaned}
+use Rattle.machine_model.proofs.Messaging.LoanSetLemmas.{none_ends, one_more_ends}
+use Rattle.machine_model.proofs.Ending.DeathLemmas.{none_is_orphaned}
+use Rattle.machine_model.proofs.Messaging.OrphanSetLemmas.{one_more_is_orphaned}
 
 abbrev pub at_number : ℕ → Number
 at_number b = record { 0 = b }

@@ -13,12 +13,12 @@ use Rattle.xk_base.specs.declared.ids.Place.{Place}
 use Rattle.xk_base.specs.declared.ids.ThreadId.{ThreadId}
 use Rattle.xk_base.specs.declared.messages.Message.{Message}
 use Rattle.xk_base.specs.declared.pages.LoanKind.{LoanKind}
-use Rattle.xk_base.specs.Circle.{is_pid, is_thread_id, is_tid, same_thread}
+use Rattle.xk_base.specs.Tables.Circle.{is_pid, is_thread_id, is_tid, same_thread}
 use Rattle.xk_base.proofs.CircleLemmas.{same_ids}
 use Rattle.ledger_model.specs.Ledger.{PageLoan, Orphan, loan_at}
 use Rattle.ledger_model.specs.Loans.{IsFresh, loans, loan_of_orphan, of_number, orphan_of_number, same_number}
 use Rattle.ledger_model.proofs.LedgerLemmas.{cases_Option}
-use Rattle.ledger_model.proofs.OfNumberLemmas.{of_number-Some, orphan_of_number-Some}
+use Rattle.ledger_model.proofs.Loans.OfNumberLemmas.{of_number-Some, orphan_of_number-Some}
 use Rattle.machine_model.specs.Messaging.MessageCounts.{HasIf, HasNone, HasOne, count_at, count_in}
 use Rattle.machine_model.specs.Messaging.Messages.{is_lend, is_lend_of, is_of_number, is_sent_by, loan_kind}
 use Rattle.machine_model.specs.Runs.Matched.{Matched, IsLendMatched, is_sent_as, is_waiting_for, waits_for}

@@ -6,15 +6,15 @@ use Rattle.xk_base.specs.declared.errors.XousError.TheVariants.{ServerExists, Se
 use Rattle.xk_base.specs.declared.ids.Serial.{Serial}
 use Rattle.xk_base.specs.declared.ids.Sid.{Sid}
 use Rattle.xk_base.specs.declared.limits.TheConstants.{SERVER_LIMIT}
-use Rattle.xk_base.specs.CallWords.{sid_words}
-use Rattle.xk_base.specs.Counting.{put_at}
-use Rattle.xk_base.specs.Replies.{plain_words, connection_words, new_server_words}
+use Rattle.xk_base.specs.Calls.CallWords.{sid_words}
+use Rattle.xk_base.specs.Tables.Counting.{put_at}
+use Rattle.xk_base.specs.Calls.Replies.{plain_words, connection_words, new_server_words}
 use Rattle.machine_model.specs.State.Changes.{Change, Served, Call, answering, unless_refused, unless_retried}
 use Rattle.machine_model.specs.Ending.Closing.{destroyed}
 use Rattle.machine_model.specs.State.Connections.{own_connections, connect_caller}
-use Rattle.xk_base.specs.Connections.{has_room, cid_for}
+use Rattle.xk_base.specs.Tables.Connections.{has_room, cid_for}
 use Rattle.machine_model.specs.State.Machine.{Machine, Server}
-use Rattle.xk_base.specs.Sids.{serial_of}
+use Rattle.xk_base.specs.Tables.Sids.{serial_of}
 use Rattle.machine_model.specs.State.Servers.{with_sid, is_own, live_servers}
 use Rattle.machine_model.specs.State.Threads.{answer_to, both_answers}
 

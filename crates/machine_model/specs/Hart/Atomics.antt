@@ -4,8 +4,8 @@ use Rattle.std.specs.Prelude.{ℕ, ◌%◌, List, Bool, false, not, ◌&&◌, �
 use Rattle.std.specs.Option.{option_map, option_map_or}
 use Rattle.xk_base.specs.declared.pages.Access.TheVariants.{Fetch, Load, Store}
 use Rattle.xk_base.specs.declared.pages.Width.TheVariants.{Word}
-use Rattle.xk_base.specs.Fields.{field}
-use Rattle.xk_base.specs.Registers.{with_reg}
+use Rattle.xk_base.specs.Numbers.Fields.{field}
+use Rattle.xk_base.specs.Calls.Registers.{with_reg}
 use Rattle.xk_base.specs.UserMemory.{Memory, number_at, number_loaded}
 use Rattle.rv32_words.specs.Reading.{opcode_of, funct3_of, rd_of, rs1_of, rs2_of}
 use Rattle.machine_model.specs.Hart.Instructions.{Executed, Next, Stores, StoresToConsole, StoresToTimer, CallsKernel, Traps, execute_base, fetch_page_fault, following, loads, puts, signed_below, store_misaligned, store_page_fault, sum_of, x}

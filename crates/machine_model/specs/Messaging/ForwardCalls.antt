@@ -10,18 +10,18 @@ use Rattle.xk_base.specs.declared.ids.Serial.{Serial}
 use Rattle.xk_base.specs.declared.ids.Vpn.{Vpn}
 use Rattle.xk_base.specs.declared.limits.TheConstants.{PAGE_SIZE}
 use Rattle.xk_base.specs.declared.messages.Message.{Message}
-use Rattle.xk_base.specs.CallWords.{forward_token, forward_cid}
-use Rattle.xk_base.specs.Replies.{plain_words}
+use Rattle.xk_base.specs.Calls.CallWords.{forward_token, forward_cid}
+use Rattle.xk_base.specs.Calls.Replies.{plain_words}
 use Rattle.ledger_model.specs.Steps.{pass}
 use Rattle.machine_model.specs.State.Changes.{Change, Outcome, Served, Call, only, unless_refused}
 use Rattle.machine_model.specs.State.Connections.{own_connections}
-use Rattle.xk_base.specs.Connections.{connected_to}
+use Rattle.xk_base.specs.Tables.Connections.{connected_to}
 use Rattle.machine_model.specs.State.Machine.{Machine}
 use Rattle.machine_model.specs.Messaging.Messages.{is_lend_of, without_held}
 use Rattle.machine_model.specs.Messaging.Receivers.{receiver}
 use Rattle.machine_model.specs.Messaging.ReturnCalls.{holder_of, held_by_caller}
 use Rattle.machine_model.specs.Messaging.SendCalls.{message_run, arrived}
-use Rattle.xk_base.specs.Sids.{serial_of}
+use Rattle.xk_base.specs.Tables.Sids.{serial_of}
 use Rattle.machine_model.specs.State.Servers.{server_at, is_full, change_server}
 use Rattle.machine_model.specs.State.Threads.{answer_to, both_answers}
 

@@ -3,8 +3,8 @@ use Rattle.std.specs.Prelude.{◌==◌, Bool, false, Option}
 use Rattle.std.specs.Option.{option_map, option_map_or}
 use Rattle.xk_base.specs.declared.ids.Serial.{Serial}
 use Rattle.xk_base.specs.declared.ids.ThreadId.{ThreadId}
-use Rattle.xk_base.specs.Circle.{thread_ids, id_by_tid}
-use Rattle.xk_base.specs.Counting.{least_below}
+use Rattle.xk_base.specs.Tables.Circle.{thread_ids, id_by_tid}
+use Rattle.xk_base.specs.Tables.Counting.{least_below}
 use Rattle.machine_model.specs.State.Machine.{Machine, ThreadState, Receiving}
 
 -- a thread of this state waits for a message at the server

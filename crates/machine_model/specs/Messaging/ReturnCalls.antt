@@ -10,14 +10,14 @@ use Rattle.xk_base.specs.declared.ids.Serial.{Serial}
 use Rattle.xk_base.specs.declared.ids.ThreadId.{ThreadId}
 use Rattle.xk_base.specs.declared.limits.TheConstants.{PAGE_SIZE}
 use Rattle.xk_base.specs.declared.messages.Message.{Message}
-use Rattle.xk_base.specs.CallWords.{return_token, return_address, return_size, return_offset, return_valid, return_value1, return_value2}
-use Rattle.xk_base.specs.Counting.{least_below}
-use Rattle.xk_base.specs.Replies.{plain_words, returned_words, scalar1_words, scalar2_words}
+use Rattle.xk_base.specs.Calls.CallWords.{return_token, return_address, return_size, return_offset, return_valid, return_value1, return_value2}
+use Rattle.xk_base.specs.Tables.Counting.{least_below}
+use Rattle.xk_base.specs.Calls.Replies.{plain_words, returned_words, scalar1_words, scalar2_words}
 use Rattle.ledger_model.specs.Steps.{end_loan}
 use Rattle.machine_model.specs.State.Changes.{Change, Served, Call, answering, unless_refused}
 use Rattle.machine_model.specs.State.Machine.{Machine, Server}
 use Rattle.machine_model.specs.Messaging.Messages.{is_lend_of, is_blocking_of, without_held}
-use Rattle.xk_base.specs.Sids.{serial_of}
+use Rattle.xk_base.specs.Tables.Sids.{serial_of}
 use Rattle.machine_model.specs.State.Servers.{is_server_of, change_server}
 use Rattle.machine_model.specs.State.Threads.{Answers, no_answers, answer_to, both_answers}
 

@@ -15,17 +15,17 @@ use Rattle.xk_base.specs.declared.messages.MsgKind.{MsgKind}
 use Rattle.xk_base.specs.declared.messages.MsgKind.TheVariants.{LendMut, Lend, Move, Scalar, BlockingScalar}
 use Rattle.xk_base.specs.declared.pages.LoanKind.TheVariants.{Shared, Exclusive}
 use Rattle.xk_base.specs.declared.windows.Window.TheVariants.{Message as MessageWindow}
-use Rattle.xk_base.specs.CallWords.{send_cid, send_kind, send_address, send_length}
-use Rattle.xk_base.specs.Kinds.{kind_at, is_answered}
-use Rattle.xk_base.specs.Replies.{plain_words, message_words}
+use Rattle.xk_base.specs.Calls.CallWords.{send_cid, send_kind, send_address, send_length}
+use Rattle.xk_base.specs.Calls.Kinds.{kind_at, is_answered}
+use Rattle.xk_base.specs.Calls.Replies.{plain_words, message_words}
 use Rattle.ledger_model.specs.Ledger.{Ledger}
 use Rattle.ledger_model.specs.LeastRun.{least_run}
 use Rattle.ledger_model.specs.RunTests.{any_free, any_not_sent}
 use Rattle.ledger_model.specs.Steps.{lend, give}
 use Rattle.machine_model.specs.State.Changes.{Change, Outcome, Served, Call, only, answering, unless_refused, unless_retried}
 use Rattle.machine_model.specs.State.Connections.{own_connections}
-use Rattle.xk_base.specs.Connections.{connected_to}
-use Rattle.xk_base.specs.Sids.{serial_of}
+use Rattle.xk_base.specs.Tables.Connections.{connected_to}
+use Rattle.xk_base.specs.Tables.Sids.{serial_of}
 use Rattle.machine_model.specs.State.Machine.{Machine, Server, Waiting}
 use Rattle.machine_model.specs.Calling.MemoryCalls.{is_bad_range, caller_place}
 use Rattle.machine_model.specs.Messaging.Messages.{carries_pages, new_number, new_message, with_queued, with_received}

@@ -2,7 +2,7 @@
 use Rattle.xk_base.specs.declared.ids.Pid.{Pid}
 use Rattle.xk_base.specs.declared.ids.ThreadId.{ThreadId}
 use Rattle.std.specs.Prelude.{ℕ, ◌+◌, IsTrue}
-use Rattle.xk_base.specs.Circle.{is_thread_id}
+use Rattle.xk_base.specs.Tables.Circle.{is_thread_id}
 use Rattle.machine_model.specs.Stepping.Events.{picked, raised, killed}
 use Rattle.machine_model.specs.State.Machine.{Machine}
 use Rattle.machine_model.specs.Runs.Matched.{Matched}

@@ -13,9 +13,9 @@ use Rattle.xk_base.specs.declared.limits.TheConstants.{PAGE_SIZE, PROCESS_LIMIT,
 use Rattle.xk_base.specs.declared.messages.Message.{Message}
 use Rattle.xk_base.specs.declared.pages.LoanKind.{LoanKind}
 use Rattle.xk_base.specs.declared.windows.Window.TheVariants.{Heap}
-use Rattle.xk_base.specs.Circle.{is_pid, is_thread_id}
-use Rattle.xk_base.specs.Counting.{count_below}
-use Rattle.xk_base.specs.Windows.{first_page, in_window}
+use Rattle.xk_base.specs.Tables.Circle.{is_pid, is_thread_id}
+use Rattle.xk_base.specs.Tables.Counting.{count_below}
+use Rattle.xk_base.specs.Numbers.Windows.{first_page, in_window}
 use Rattle.ledger_model.specs.Lawful.{IsLawful}
 use Rattle.ledger_model.specs.Ledger.{Ledger, Page, PageLoan, Orphan, loan_at}
 use Rattle.ledger_model.specs.Loans.{LoanRun, Loans, OrphanLoan, Stands, loans}
@@ -24,8 +24,8 @@ use Rattle.machine_model.specs.Calling.MemoryCalls.{heap_limit}
 use Rattle.machine_model.specs.Messaging.MessageCounts.{HasOne, HasIf, HasAtMostOne}
 use Rattle.machine_model.specs.Messaging.Messages.{carries_pages, loan_kind, is_of_number, is_lend_of, is_sent_by}
 use Rattle.machine_model.specs.State.Servers.{messages_of, slots_used}
-use Rattle.xk_base.specs.Kinds.{is_answered}
-use Rattle.xk_base.specs.Sids.{same_sid}
+use Rattle.xk_base.specs.Calls.Kinds.{is_answered}
+use Rattle.xk_base.specs.Tables.Sids.{same_sid}
 use Rattle.machine_model.specs.State.Threads.{thread_id}
 
 -- the process is alive

@@ -4,12 +4,12 @@ use Rattle.xk_base.specs.declared.errors.XousError.{XousError}
 use Rattle.xk_base.specs.declared.ids.Pid.{Pid}
 use Rattle.xk_base.specs.declared.records.What.{What}
 use Rattle.xk_base.specs.declared.records.What.TheVariants.{Reply, Retry, Irq, Gone}
-use Rattle.xk_base.specs.Circle.{listed_ids}
-use Rattle.xk_base.specs.Replies.{refused_words}
+use Rattle.xk_base.specs.Tables.Circle.{listed_ids}
+use Rattle.xk_base.specs.Calls.Replies.{refused_words}
 use Rattle.machine_model.specs.State.Machine.{Machine, Thread}
 use Rattle.machine_model.specs.State.Order.{turn}
 use Rattle.machine_model.specs.State.Threads.{Answers, no_answers, give_answers, change_thread, passed}
-use Rattle.xk_base.specs.Registers.{with_arguments}
+use Rattle.xk_base.specs.Calls.Registers.{with_arguments}
 
 -- an interrupt that was taken out of the pending set, and whose handler starts in the process
 pub record Delivery : Type 0 where

@@ -1,8 +1,8 @@
 -- The connections of the caller's process in the machine.
 use Rattle.std.specs.Prelude.{List, nat_eq}
 use Rattle.xk_base.specs.declared.ids.Serial.{Serial}
-use Rattle.xk_base.specs.Connections.{connected}
-use Rattle.xk_base.specs.Counting.{put_at}
+use Rattle.xk_base.specs.Tables.Connections.{connected}
+use Rattle.xk_base.specs.Tables.Counting.{put_at}
 use Rattle.machine_model.specs.State.Machine.{Machine}
 
 -- the connections of the caller's process

@@ -2,7 +2,7 @@
 use Rattle.std.specs.Prelude.{◌≡◌, ℕ, ◌<◌, Bool, true, false, List, length, slice_index_or, Option, Some, unwrap_or, if◌then◌else◌}
 use Rattle.std.specs.Option.{option_map_or}
 use Rattle.xk_base.specs.declared.ids.ThreadId.{ThreadId}
-use Rattle.xk_base.specs.Circle.{thread_ids, id_at, next_id}
+use Rattle.xk_base.specs.Tables.Circle.{thread_ids, id_at, next_id}
 use Rattle.machine_model.specs.State.Machine.{Machine, ThreadState, Ready}
 
 -- a thread of this state can do a step

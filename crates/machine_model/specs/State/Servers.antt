@@ -6,10 +6,10 @@ use Rattle.xk_base.specs.declared.ids.Serial.{Serial}
 use Rattle.xk_base.specs.declared.ids.Sid.{Sid}
 use Rattle.xk_base.specs.declared.messages.Message.{Message}
 use Rattle.xk_base.specs.declared.limits.TheConstants.{MESSAGE_LIMIT}
-use Rattle.xk_base.specs.Sids.{serial_with}
-use Rattle.xk_base.specs.Counting.{count_below, put_at}
+use Rattle.xk_base.specs.Tables.Sids.{serial_with}
+use Rattle.xk_base.specs.Tables.Counting.{count_below, put_at}
 use Rattle.machine_model.specs.State.Connections.{own_connections}
-use Rattle.xk_base.specs.Connections.{connected_to}
+use Rattle.xk_base.specs.Tables.Connections.{connected_to}
 use Rattle.machine_model.specs.State.Machine.{Machine, Server}
 
 -- ---- found

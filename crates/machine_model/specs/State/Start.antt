@@ -5,8 +5,8 @@ use Rattle.xk_base.specs.declared.ids.Place.{Place}
 use Rattle.xk_base.specs.declared.ids.ThreadId.{ThreadId}
 use Rattle.xk_base.specs.declared.limits.TheConstants.{PROCESS_LIMIT}
 use Rattle.xk_base.specs.declared.windows.Window.TheVariants.{Heap}
-use Rattle.xk_base.specs.Circle.{is_pid}
-use Rattle.xk_base.specs.Windows.{in_window}
+use Rattle.xk_base.specs.Tables.Circle.{is_pid}
+use Rattle.xk_base.specs.Numbers.Windows.{in_window}
 use Rattle.ledger_model.specs.Lawful.{IsLawful}
 use Rattle.ledger_model.specs.Ledger.{Page, loan_at}
 use Rattle.machine_model.specs.State.Machine.{Machine, Thread, ThreadState, Ready, Idle}

@@ -3,10 +3,10 @@ use Rattle.std.specs.Prelude.{ℕ, List, [], ◌∷◌, replicate, if◌then◌e
 use Rattle.std.specs.Option.{option_map, option_or}
 use Rattle.xk_base.specs.declared.ids.Pid.{Pid}
 use Rattle.xk_base.specs.declared.ids.ThreadId.{ThreadId}
-use Rattle.xk_base.specs.Circle.{same_thread}
-use Rattle.xk_base.specs.Counting.{put_at}
-use Rattle.xk_base.specs.Registers.{with_reg, with_arguments}
-use Rattle.xk_base.specs.Replies.{eight_words}
+use Rattle.xk_base.specs.Tables.Circle.{same_thread}
+use Rattle.xk_base.specs.Tables.Counting.{put_at}
+use Rattle.xk_base.specs.Calls.Registers.{with_reg, with_arguments}
+use Rattle.xk_base.specs.Calls.Replies.{eight_words}
 use Rattle.machine_model.specs.Hart.Instructions.{following}
 use Rattle.machine_model.specs.State.Machine.{Machine, Thread, ThreadState, Ready, Idle, Claim}
 

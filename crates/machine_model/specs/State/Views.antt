@@ -10,7 +10,7 @@ use Rattle.ledger_model.specs.Ledger.{Ledger, Contents, PageName, byte_of, conte
 use Rattle.ledger_model.specs.Reach.{reach}
 use Rattle.ledger_model.specs.Steps.{write}
 use Rattle.xk_base.specs.UserMemory.{Memory, Timer, timer_at, compare_stored, low_bytes}
-use Rattle.xk_base.specs.Windows.{page_of}
+use Rattle.xk_base.specs.Numbers.Windows.{page_of}
 use Rattle.machine_model.specs.State.Machine.{Machine}
 use Rattle.machine_model.specs.Stepping.Interrupts.{is_claim_of}
 

@@ -11,7 +11,7 @@ use Rattle.machine_model.specs.Stepping.Step.{ends_thread, ends_handler, perform
 use Rattle.machine_model.specs.State.Views.{memory_of}
 use Rattle.xk_base.specs.declared.pages.Access.TheVariants.{Fetch}
 use Rattle.xk_base.specs.declared.pages.Width.TheVariants.{Word}
-use Rattle.xk_base.specs.Registers.{arguments_of}
+use Rattle.xk_base.specs.Calls.Registers.{arguments_of}
 use Rattle.xk_base.specs.UserMemory.{Memory, number_at}
 
 -- what comes of the thread's fetch, where it doesn't end and ends no handler

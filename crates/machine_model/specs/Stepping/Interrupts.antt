@@ -4,7 +4,7 @@ use Rattle.std.specs.Option.{option_map_or}
 use Rattle.xk_base.specs.declared.ids.Pid.{Pid}
 use Rattle.xk_base.specs.declared.ids.ThreadId.{ThreadId}
 use Rattle.xk_base.specs.declared.limits.TheConstants.{INTERRUPT_LIMIT}
-use Rattle.xk_base.specs.Counting.{least_below, put_at}
+use Rattle.xk_base.specs.Tables.Counting.{least_below, put_at}
 use Rattle.machine_model.specs.State.Changes.{Change, Delivery, only}
 use Rattle.machine_model.specs.State.Machine.{Machine, Claim, ThreadState, Idle}
 use Rattle.machine_model.specs.State.Threads.{thread_id, put_thread, no_answers, handler_thread}

@@ -4,7 +4,7 @@
 use Rattle.std.specs.Prelude.{ℕ, if◌then◌else◌, Option, Some, None}
 use Rattle.std.specs.Option.{option_map}
 use Rattle.xk_base.specs.declared.ids.ThreadId.{ThreadId}
-use Rattle.xk_base.specs.Circle.{same_thread}
+use Rattle.xk_base.specs.Tables.Circle.{same_thread}
 use Rattle.machine_model.specs.State.Machine.{Machine, Reservation}
 
 -- the address that the thread has reserved, if it has

@@ -5,7 +5,7 @@ use Rattle.xk_base.specs.declared.ids.ThreadId.{ThreadId}
 use Rattle.xk_base.specs.declared.records.Rec.{Rec}
 use Rattle.xk_base.specs.declared.records.What.{What}
 use Rattle.xk_base.specs.declared.records.What.TheVariants.{Call, Byte, Fault, End}
-use Rattle.xk_base.specs.Registers.{reg_at, arguments_of}
+use Rattle.xk_base.specs.Calls.Registers.{reg_at, arguments_of}
 use Rattle.machine_model.specs.Calling.Calls.{call}
 use Rattle.machine_model.specs.State.Changes.{Told, settled, call_settled}
 use Rattle.machine_model.specs.Ending.Ends.{death, thread_ended, handler_ended}

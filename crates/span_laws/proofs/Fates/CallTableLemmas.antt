@@ -5,7 +5,7 @@ use Rattle.std.specs.Prelude.{◌==◌, if◌then◌else◌}
 use Rattle.std.proofs.lemmas.Bool.{eqb-true}
 use Rattle.xk_base.specs.declared.errors.XousError.{XousError}
 use Rattle.xk_base.specs.declared.ids.Number.{Number}
-use Rattle.xk_base.specs.CallWords.{call_number}
+use Rattle.xk_base.specs.Calls.CallWords.{call_number}
 use Rattle.machine_model.specs.Calling.Calls.{any_refusals, call, call_at, call_table}
 use Rattle.machine_model.specs.State.Changes.{Call, Change, Outcome, Refused, Retried, Served, first_refusal, refused_or, unless_refused, unless_retried}
 use Rattle.machine_model.specs.State.Machine.{Machine}

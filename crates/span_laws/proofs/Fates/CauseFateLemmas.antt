@@ -4,7 +4,7 @@ use Rattle.std.specs.Prelude.{if◌then◌else◌}
 use Rattle.xk_base.specs.declared.ids.Number.{Number}
 use Rattle.xk_base.specs.declared.ids.Pid.{Pid}
 use Rattle.xk_base.specs.declared.ids.ThreadId.{ThreadId}
-use Rattle.xk_base.specs.Registers.{arguments_of, reg_at}
+use Rattle.xk_base.specs.Calls.Registers.{arguments_of, reg_at}
 use Rattle.machine_model.specs.Ending.Closing.{any_server, closed, senders_held_gone, senders_queued_gone, servers_closed}
 use Rattle.machine_model.specs.Ending.Ends.{death, end_with_last_thread, forgotten, handler_ended, has_threads, thread_ended}
 use Rattle.machine_model.specs.Hart.Instructions.{CallsKernel, Executed, Next, Stores, StoresToConsole, StoresToTimer, Traps}
@@ -19,9 +19,9 @@ use Rattle.machine_model.specs.Stepping.Events.{killed, killed_if, picked, raise
 use Rattle.machine_model.specs.Stepping.Interrupts.{delivered, delivered_lowest, handler_started, is_free_for_interrupt, lowest_pending, pended}
 use Rattle.machine_model.specs.Stepping.Reservations.{unreserved}
 use Rattle.machine_model.specs.Stepping.Step.{acted, ends_handler, performed, step}
-use Rattle.machine_model.proofs.KeptLemmas.{matched_at}
+use Rattle.machine_model.proofs.Runs.KeptLemmas.{matched_at}
 use Rattle.machine_model.proofs.StepLemmas.{no_step}
-use Rattle.machine_model.proofs.TimerLemmas.{pended_raised}
+use Rattle.machine_model.proofs.Runs.TimerLemmas.{pended_raised}
 use Rattle.machine_laws.proofs.Stepping.StepKindLemmas.{Executes, HandlerEnds, StepKind, ThreadEnds, acted_as_executed, is_call, kind_of}
 use Rattle.machine_laws.proofs.Threading.ThreadMoveLemmas.{matched_reserved}
 use Rattle.machine_laws.proofs.Threading.ThreadStepLemmas.{then_acted, turned_to}

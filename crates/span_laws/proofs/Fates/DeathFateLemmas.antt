@@ -9,7 +9,7 @@ use Rattle.xk_base.specs.declared.ids.Number.{Number}
 use Rattle.xk_base.specs.declared.ids.Pid.{Pid}
 use Rattle.xk_base.specs.declared.ids.Place.{Place}
 use Rattle.xk_base.specs.declared.ids.ThreadId.{ThreadId}
-use Rattle.xk_base.specs.Counting.{put_at}
+use Rattle.xk_base.specs.Tables.Counting.{put_at}
 use Rattle.ledger_model.specs.Ledger.{Homed, Ledger, Orphaned, Page, contents_of}
 use Rattle.ledger_model.specs.Loans.{IsFresh, LoanRun, Stands, loans, without_lender}
 use Rattle.ledger_model.specs.Places.{place_after}
@@ -22,9 +22,9 @@ use Rattle.machine_model.specs.Runs.Matched.{Matched, is_living}
 use Rattle.machine_model.specs.Runs.Moments.{Moment}
 use Rattle.machine_model.specs.State.Changes.{settled}
 use Rattle.machine_model.specs.State.Machine.{Machine, Process, Reservation}
-use Rattle.machine_model.proofs.CloseManyLemmas.{ended_is_fresh}
+use Rattle.machine_model.proofs.Ending.CloseManyLemmas.{ended_is_fresh}
 use Rattle.machine_model.proofs.Matching.LoanSetLawLemmas.{orphaned_stands}
-use Rattle.machine_model.proofs.SpanLemmas.{out_or_in}
+use Rattle.machine_model.proofs.Runs.SpanLemmas.{out_or_in}
 use Rattle.machine_laws.proofs.Dying.DeathClosingLemmas.{closed_numbers, own, queued_numbers}
 use Rattle.machine_laws.proofs.Dying.DeathForgetLemmas.{left_if}
 use Rattle.machine_laws.proofs.Dying.DeathHeldLemmas.{held_below, held_numbers}
@@ -40,7 +40,7 @@ use Rattle.span_laws.proofs.Leaving.NumberPageLemmas.{leaves_both, left_loans, n
 use Rattle.span_laws.proofs.Leaving.OrphanedPageLemmas.{orphan_contents, orphans_fresh}
 use Rattle.span_laws.proofs.Lending.ClosedLendLemmas.{IsLendAt, lend_of_closed}
 use Rattle.span_laws.proofs.Lending.DeadSenderLemmas.{IsLenderOf, IsQueuedLend, held_lender, lender_lives, queued_lend}
-use Rattle.ledger_model.proofs.OfNumberLemmas.{SameOf, fresh_still, stands_still}
+use Rattle.ledger_model.proofs.Loans.OfNumberLemmas.{SameOf, fresh_still, stands_still}
 
 -- `base` is the state before. The process dies in one that differs from it in the cursor and the reservation at most.
 module _ (number : Number) (base : Machine) (cursor : ThreadId) (reserved : Option Reservation) (pid : Pid) where

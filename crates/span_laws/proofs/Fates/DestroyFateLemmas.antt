@@ -10,7 +10,7 @@ use Rattle.machine_model.specs.Runs.Matched.{Matched}
 use Rattle.machine_model.specs.Runs.Moments.{ByStep}
 use Rattle.machine_model.specs.State.Changes.{Served}
 use Rattle.machine_model.specs.State.Machine.{Machine}
-use Rattle.machine_model.proofs.KeptLemmas.{matched_at}
+use Rattle.machine_model.proofs.Runs.KeptLemmas.{matched_at}
 use Rattle.machine_laws.proofs.Threading.ThreadStepLemmas.{turned_to}
 use Rattle.ledger_model.specs.Loans.{LoanRun}
 use Rattle.machine_model.specs.Runs.LoanSpan.{IsOut}

@@ -13,8 +13,8 @@ use Rattle.machine_model.specs.Runs.LoanSpan.{Closes, IsIn, IsOut, unlent}
 use Rattle.machine_model.specs.Runs.Matched.{Matched}
 use Rattle.machine_model.specs.Runs.Moments.{Moment}
 use Rattle.machine_model.specs.State.Machine.{Machine}
-use Rattle.machine_model.proofs.CloseManyLemmas.{ended_is_fresh}
-use Rattle.machine_model.proofs.SpanLemmas.{out_or_in}
+use Rattle.machine_model.proofs.Ending.CloseManyLemmas.{ended_is_fresh}
+use Rattle.machine_model.proofs.Runs.SpanLemmas.{out_or_in}
 use Rattle.span_laws.specs.Fates.{Fate, IsGivenBack}
 use Rattle.span_laws.specs.Leaving.{Leaves}
 use Rattle.span_laws.proofs.Fates.FateLemmas.{fate_ends, fate_in, fate_left}

@@ -2,12 +2,12 @@
 use Rattle.std.proofs.Common.{ℕ, ◌<◌, ◌≤◌, ◌⊎◌, inl, inr, refl, sym, subst}
 use Rattle.xk_base.specs.declared.ids.Number.{Number}
 use Rattle.ledger_model.specs.Loans.{LoanRun, loans}
-use Rattle.ledger_model.proofs.OfNumberLemmas.{SameOf, fresh_still, stands_still}
+use Rattle.ledger_model.proofs.Loans.OfNumberLemmas.{SameOf, fresh_still, stands_still}
 use Rattle.machine_model.specs.Runs.LoanSpan.{Closes, IsIn, IsOut, Opens}
 use Rattle.machine_model.specs.Runs.Matched.{Matched}
 use Rattle.machine_model.specs.Runs.Moments.{Moment}
 use Rattle.machine_model.specs.State.Machine.{Machine}
-use Rattle.machine_model.proofs.SpanLemmas.{not_both, out_or_in}
+use Rattle.machine_model.proofs.Runs.SpanLemmas.{not_both, out_or_in}
 use Rattle.span_laws.specs.Fates.{Fate, IsGivenBack, IsKept}
 use Rattle.span_laws.specs.Leaving.{Leaves}
 use Rattle.span_laws.proofs.Leaving.NumberPageLemmas.{IsNameLeft, left_loans, name_left}

@@ -11,8 +11,8 @@ use Rattle.xk_base.specs.declared.ids.Serial.{Serial}
 use Rattle.xk_base.specs.declared.ids.ThreadId.{ThreadId}
 use Rattle.xk_base.specs.declared.ids.Vpn.{Vpn}
 use Rattle.xk_base.specs.declared.messages.Message.{Message}
-use Rattle.xk_base.specs.CallNumbers.{forward_message}
-use Rattle.xk_base.specs.CallWords.{call_number, forward_cid}
+use Rattle.xk_base.specs.Calls.CallNumbers.{forward_message}
+use Rattle.xk_base.specs.Calls.CallWords.{call_number, forward_cid}
 use Rattle.ledger_model.specs.Conditions.{CanPass}
 use Rattle.ledger_model.specs.Ledger.{Orphaned, Homed, Page, contents_of}
 use Rattle.ledger_model.specs.Loans.{IsFresh, LoanRun, Stands, loans, same_number, with_holder}
@@ -29,10 +29,10 @@ use Rattle.machine_model.specs.Runs.Matched.{Matched}
 use Rattle.machine_model.specs.Runs.Moments.{ByStep}
 use Rattle.machine_model.specs.State.Changes.{Served}
 use Rattle.machine_model.specs.State.Machine.{Machine}
-use Rattle.xk_base.specs.Sids.{serial_of}
+use Rattle.xk_base.specs.Tables.Sids.{serial_of}
 use Rattle.machine_model.specs.State.Servers.{change_server, is_full, server_at}
 use Rattle.machine_model.specs.Stepping.Acts.{is_call_served}
-use Rattle.machine_model.proofs.SpanLemmas.{out_or_in}
+use Rattle.machine_model.proofs.Runs.SpanLemmas.{out_or_in}
 use Rattle.machine_laws.proofs.Calling.RunRefusalLemmas.{none_holds}
 use Rattle.machine_laws.proofs.Threading.ThreadStepLemmas.{turned_to}
 use Rattle.span_laws.specs.Fates.{Fate, IsKept}

@@ -19,7 +19,7 @@ use Rattle.machine_model.specs.State.Order.{actor}
 use Rattle.machine_model.specs.State.Views.{stored, timer_set}
 use Rattle.machine_model.specs.Stepping.Acts.{does_instruction, executes, is_instruction}
 use Rattle.machine_model.specs.Stepping.Step.{executed, step}
-use Rattle.machine_model.proofs.SpanLemmas.{out_or_in}
+use Rattle.machine_model.proofs.Runs.SpanLemmas.{out_or_in}
 use Rattle.machine_laws.proofs.Executing.InstructionStepLemmas.{instruction_stores}
 use Rattle.machine_laws.proofs.Stepping.StepKindLemmas.{acted_as_executed, is_done}
 use Rattle.machine_laws.proofs.Threading.ThreadStepLemmas.{turned_to}

@@ -3,8 +3,8 @@ use Rattle.std.proofs.Common.{ℕ, List, ◌∷◌, Option, Some, None, refl}
 use Rattle.xk_base.specs.declared.errors.XousError.TheVariants.{ServerNotFound}
 use Rattle.xk_base.specs.declared.ids.Serial.{Serial}
 use Rattle.xk_base.specs.declared.messages.Message.{Message}
-use Rattle.xk_base.specs.CallWords.{interrupt_argument, interrupt_handler, interrupt_number, join_tid, return_value1, return_value2, thread_arguments, thread_entry, thread_sp}
-use Rattle.xk_base.specs.Replies.{plain_words, scalar1_words, scalar2_words, thread_words}
+use Rattle.xk_base.specs.Calls.CallWords.{interrupt_argument, interrupt_handler, interrupt_number, join_tid, return_value1, return_value2, thread_arguments, thread_entry, thread_sp}
+use Rattle.xk_base.specs.Calls.Replies.{plain_words, scalar1_words, scalar2_words, thread_words}
 use Rattle.machine_model.specs.Calling.InterruptCalls.{claim_call, claim_refusals, claim_served, free_call, free_refusals, free_served}
 use Rattle.machine_model.specs.Calling.ServerCalls.{connect_call, connect_refusals, connect_served, create_server_call, create_server_refusals, create_server_served, is_missing, named_server, named_sid, own_server_refusals, try_connect_call}
 use Rattle.machine_model.specs.Calling.ThreadCalls.{create_call, create_refusals, create_served, join_call, join_refusals, join_served, process_id_call, thread_id_call, yield_call}

@@ -11,7 +11,7 @@ use Rattle.machine_model.specs.State.Order.{actor}
 use Rattle.machine_model.specs.Stepping.Acts.{call_by, executes, words_if_call}
 use Rattle.machine_model.specs.Stepping.Step.{acted, counted, step}
 use Rattle.machine_model.specs.Stepping.Timer.{timed}
-use Rattle.machine_model.proofs.TimerLemmas.{IsRaised, timed_raised}
+use Rattle.machine_model.proofs.Runs.TimerLemmas.{IsRaised, timed_raised}
 use Rattle.machine_laws.proofs.Threading.ThreadStepLemmas.{acted_call, step_of_thread, turned_to}
 
 -- the same loans, servers, processes and next number

@@ -8,8 +8,8 @@ use Rattle.xk_base.specs.declared.ids.Place.{Place}
 use Rattle.xk_base.specs.declared.limits.TheConstants.{CONSOLE_ADDRESS, PAGE_SIZE}
 use Rattle.xk_base.specs.declared.pages.Right.{Right}
 use Rattle.xk_base.specs.declared.windows.Window.TheVariants.{Map}
-use Rattle.xk_base.specs.CallWords.{heap_bytes, map_flags, map_phys, map_size, map_virt, range_address, range_flags, range_size}
-use Rattle.xk_base.specs.Flags.{flag_execute, has_flag, right_of}
+use Rattle.xk_base.specs.Calls.CallWords.{heap_bytes, map_flags, map_phys, map_size, map_virt, range_address, range_flags, range_size}
+use Rattle.xk_base.specs.Calls.Flags.{flag_execute, has_flag, right_of}
 use Rattle.ledger_model.specs.Conditions.{is_lent}
 use Rattle.ledger_model.specs.Ledger.{pages}
 use Rattle.ledger_model.specs.LeastRun.{least_run}

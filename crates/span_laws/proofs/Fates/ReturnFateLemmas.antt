@@ -5,8 +5,8 @@ use Rattle.std.specs.Option.{option_map_or}
 use Rattle.xk_base.specs.declared.errors.XousError.TheVariants.{BadAddress, DoubleFree}
 use Rattle.xk_base.specs.declared.ids.Number.{Number}
 use Rattle.xk_base.specs.declared.ids.ThreadId.{ThreadId}
-use Rattle.xk_base.specs.CallNumbers.{return_memory}
-use Rattle.xk_base.specs.CallWords.{call_number, return_address, return_offset, return_size, return_valid}
+use Rattle.xk_base.specs.Calls.CallNumbers.{return_memory}
+use Rattle.xk_base.specs.Calls.CallWords.{call_number, return_address, return_offset, return_size, return_valid}
 use Rattle.xk_base.specs.declared.messages.Message.{Message}
 use Rattle.ledger_model.specs.Loans.{LoanRun, same_number}
 use Rattle.ledger_model.proofs.LedgerLemmas.{same_number-true}
@@ -17,7 +17,7 @@ use Rattle.machine_model.specs.Runs.Matched.{Matched}
 use Rattle.machine_model.specs.Runs.Moments.{ByStep}
 use Rattle.machine_model.specs.State.Changes.{Served}
 use Rattle.machine_model.specs.State.Machine.{Machine}
-use Rattle.machine_model.proofs.LoanSetLemmas.{only_one_ends}
+use Rattle.machine_model.proofs.Messaging.LoanSetLemmas.{only_one_ends}
 use Rattle.machine_laws.proofs.Calling.ThreadCallLemmas.{two_passed}
 use Rattle.machine_laws.proofs.Threading.ThreadStepLemmas.{turned_to}
 use Rattle.span_laws.proofs.Fates.CallTableLemmas.{OfServed, of_unless_refused}

@@ -13,7 +13,7 @@ use Rattle.xk_base.specs.declared.messages.MsgKind.{MsgKind}
 use Rattle.xk_base.specs.declared.messages.MsgKind.TheVariants.{LendMut, Lend, Move, Scalar, BlockingScalar}
 use Rattle.xk_base.specs.declared.pages.LoanKind.{LoanKind}
 use Rattle.xk_base.specs.declared.pages.LoanKind.TheVariants.{Shared, Exclusive}
-use Rattle.xk_base.specs.CallWords.{call_number, send_address, send_cid, send_length}
+use Rattle.xk_base.specs.Calls.CallWords.{call_number, send_address, send_cid, send_length}
 use Rattle.ledger_model.specs.Conditions.{is_lent}
 use Rattle.ledger_model.specs.Ledger.{Ledger}
 use Rattle.ledger_model.specs.Loans.{IsFresh, LoanRun, Stands, loans, same_number}
@@ -26,7 +26,7 @@ use Rattle.machine_model.specs.Calling.MemoryCalls.{caller_place, is_bad_range}
 use Rattle.machine_model.specs.Messaging.Messages.{carries_pages, is_lend, new_number}
 use Rattle.machine_model.specs.Messaging.Receivers.{receiver}
 use Rattle.machine_model.specs.Messaging.SendCalls.{arrival, arrival_refusals, is_full_for, named_kind, send_call, send_refusals, send_served, sender_left, sends_lend_mut, sends_pages, sent, sent_ledger, sent_pages, sent_place, sent_serial, sent_to, try_send_call, with_sent}
-use Rattle.xk_base.specs.Kinds.{is_answered}
+use Rattle.xk_base.specs.Calls.Kinds.{is_answered}
 use Rattle.machine_model.specs.Messaging.Messages.{new_message}
 use Rattle.machine_model.specs.Runs.LoanSpan.{IsOut, Opens, is_lend_call, is_send}
 use Rattle.machine_model.specs.Runs.Matched.{Matched}
@@ -45,7 +45,7 @@ use Rattle.span_laws.proofs.Fates.FateLemmas.{fate_left, fate_opens}
 use Rattle.span_laws.proofs.Fates.ServedFateLemmas.{HasServedFate, IsCaller, served_call, some_of}
 use Rattle.span_laws.proofs.Leaving.LedgerStepLemmas.{give_leaves, lend_leaves}
 use Rattle.span_laws.proofs.Leaving.NumberPageLemmas.{leaves_itself}
-use Rattle.machine_model.proofs.KeptLemmas.{matched_at}
+use Rattle.machine_model.proofs.Runs.KeptLemmas.{matched_at}
 use Rattle.span_laws.proofs.Lending.ArrivalLemmas.{IsArrived, arrival_of, arrived_leaves}
 use Rattle.span_laws.proofs.Lending.LentPageLemmas.{before_lend, home_in, no_orphans}
 

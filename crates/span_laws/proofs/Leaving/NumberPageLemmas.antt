@@ -12,7 +12,7 @@ use Rattle.ledger_model.specs.Loans.{LoanRun, OrphanLoan, Stands, loan_of_orphan
 use Rattle.ledger_model.specs.Places.{moved, place_after}
 use Rattle.ledger_model.specs.Steps.{has_number}
 use Rattle.ledger_model.proofs.LedgerLemmas.{cases_Option}
-use Rattle.ledger_model.proofs.OfNumberLemmas.{SameOf, loan_of_run-inside, orphan_of_run-inside}
+use Rattle.ledger_model.proofs.Loans.OfNumberLemmas.{SameOf, loan_of_run-inside, orphan_of_run-inside}
 use Rattle.ledger_model.proofs.PlaceLemmas.{in_run-after}
 use Rattle.machine_model.specs.Runs.LoanSpan.{page_name, right_of_name}
 use Rattle.span_laws.specs.Leaving.{Leaves, orphan_of, page_of}

@@ -10,7 +10,7 @@ use Rattle.ledger_model.specs.Ledger.{PageLoan}
 use Rattle.ledger_model.specs.Loans.{LoanRun, OrphanLoan, loan_of_run, loans, of_number, orphan_of_number, orphan_of_run}
 use Rattle.ledger_model.specs.Places.{in_run, moved}
 use Rattle.ledger_model.proofs.LedgerLemmas.{cases_Option}
-use Rattle.ledger_model.proofs.OfNumberLemmas.{loan_of_run-None, loan_of_run-inside, loan_of_run-outside, orphan_of_run-inside, orphan_of_run-outside}
+use Rattle.ledger_model.proofs.Loans.OfNumberLemmas.{loan_of_run-None, loan_of_run-inside, loan_of_run-outside, orphan_of_run-inside, orphan_of_run-outside}
 use Rattle.ledger_model.proofs.PlaceLemmas.{in_run-from, in_run-true, place_from}
 use Rattle.machine_model.specs.Runs.LoanSpan.{IsOut}
 use Rattle.machine_model.specs.State.Machine.{Machine}

@@ -14,7 +14,7 @@ use Rattle.ledger_model.specs.Ledger.{PageLoan}
 use Rattle.ledger_model.specs.Loans.{LoanRun, loans}
 use Rattle.ledger_model.specs.Places.{moved}
 use Rattle.ledger_model.proofs.LedgerLemmas.{loan_at-page}
-use Rattle.ledger_model.proofs.OfNumberLemmas.{stands-home}
+use Rattle.ledger_model.proofs.Loans.OfNumberLemmas.{stands-home}
 use Rattle.machine_model.specs.Ending.Closing.{is_held_from}
 use Rattle.machine_model.specs.Messaging.Messages.{is_lend, is_lend_of, is_of_number, is_sent_from}
 use Rattle.machine_model.specs.Runs.LoanSpan.{IsOut}

@@ -8,14 +8,14 @@ use Rattle.xk_base.proofs.CountingLemmas.{least_below-passes}
 use Rattle.xk_base.specs.declared.ids.Number.{Number}
 use Rattle.xk_base.specs.declared.ids.Pid.{Pid}
 use Rattle.xk_base.specs.declared.messages.Message.{Message}
-use Rattle.xk_base.specs.Counting.{least_below}
+use Rattle.xk_base.specs.Tables.Counting.{least_below}
 use Rattle.ledger_model.specs.Loans.{LoanRun, loans}
 use Rattle.machine_model.specs.Messaging.Messages.{is_lend_of}
 use Rattle.machine_model.specs.Messaging.ReturnCalls.{held_at, held_by_caller, holder_of, holds}
 use Rattle.machine_model.specs.Runs.LoanSpan.{IsOut}
 use Rattle.machine_model.specs.Runs.Matched.{IsMessageLent, Matched}
 use Rattle.machine_model.specs.State.Machine.{Machine, Server}
-use Rattle.xk_base.specs.Sids.{serial_of}
+use Rattle.xk_base.specs.Tables.Sids.{serial_of}
 use Rattle.machine_model.specs.State.Servers.{is_server_of}
 use Rattle.machine_model.proofs.Matching.CountLemmas.{all_right}
 use Rattle.machine_laws.proofs.Returning.GivenBackLemmas.{found_at}

@@ -12,7 +12,7 @@ use Rattle.xk_base.specs.declared.messages.MsgKind.{MsgKind}
 use Rattle.xk_base.specs.declared.pages.LoanKind.{LoanKind}
 use Rattle.ledger_model.specs.Loans.{LoanRun, Stands, loans}
 use Rattle.ledger_model.proofs.LedgerLemmas.{cases_Option, same_number-true}
-use Rattle.ledger_model.proofs.OfNumberLemmas.{orphan_of_number-Some, orphan_of_run-inside, stands-home}
+use Rattle.ledger_model.proofs.Loans.OfNumberLemmas.{orphan_of_number-Some, orphan_of_run-inside, stands-home}
 use Rattle.ledger_model.specs.Places.{moved}
 use Rattle.machine_model.specs.Messaging.MessageCounts.{HasOne, count_at, count_in}
 use Rattle.machine_model.specs.Messaging.Messages.{is_lend, is_lend_of, is_of_number, loan_kind}

@@ -12,7 +12,7 @@ use Rattle.ledger_model.specs.Ledger.{Ledger, Page, PageLoan, loan_at, loan_of}
 use Rattle.ledger_model.specs.Loans.{IsFresh, LoanRun, Stands, loans, of_number, orphan_of_number}
 use Rattle.ledger_model.specs.Places.{in_run, moved, place_after}
 use Rattle.ledger_model.specs.Steps.{lend, with_loan}
-use Rattle.ledger_model.proofs.OfNumberLemmas.{of_number-at, orphan_of_run-inside, stands-home}
+use Rattle.ledger_model.proofs.Loans.OfNumberLemmas.{of_number-at, orphan_of_run-inside, stands-home}
 use Rattle.ledger_model.proofs.OwnerLemmas.{stands_home_at}
 use Rattle.machine_model.specs.Runs.LoanSpan.{unlent}
 use Rattle.span_laws.proofs.Leaving.SameRunLemmas.{first_in_run}

@@ -17,8 +17,8 @@ use Rattle.machine_model.specs.Runs.LoanSpan.{IsIn, IsInstructionOf, IsOut, Loan
 use Rattle.machine_model.specs.Runs.Matched.{Matched, is_living}
 use Rattle.machine_model.specs.Runs.Moments.{ByTurn, IsRun, Moment, caused, state_at}
 use Rattle.machine_model.specs.State.Machine.{Machine}
-use Rattle.machine_model.proofs.KeptLemmas.{run_keeps}
-use Rattle.machine_model.proofs.SpanLemmas.{not_both, out_or_in}
+use Rattle.machine_model.proofs.Runs.KeptLemmas.{run_keeps}
+use Rattle.machine_model.proofs.Runs.SpanLemmas.{not_both, out_or_in}
 use Rattle.span_laws.specs.Fates.{AllHaveFates, Fate}
 use Rattle.span_laws.proofs.Spans.SpanInductionLemmas.{HasNext, IsSpanned, out_between, spans_to}
 

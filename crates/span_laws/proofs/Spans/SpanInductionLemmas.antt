@@ -11,7 +11,7 @@ use Rattle.machine_model.specs.Runs.Matched.{Matched}
 use Rattle.machine_model.specs.Runs.Moments.{Moment}
 use Rattle.machine_model.specs.State.Machine.{Machine}
 use Rattle.machine_model.proofs.Matching.MatchedLemmas.{number_is_fresh}
-use Rattle.machine_model.proofs.SpanLemmas.{not_both, out_or_in}
+use Rattle.machine_model.proofs.Runs.SpanLemmas.{not_both, out_or_in}
 use Rattle.span_laws.specs.Fates.{Fate, IsKept}
 use Rattle.span_laws.proofs.Leaving.SameRunLemmas.{one_loan}
 

@@ -12,7 +12,7 @@ use Rattle.ledger_model.specs.Ledger.{Ledger, PageLoan, Orphan, loan_at, loan_of
 use Rattle.ledger_model.specs.Loans.{loans, LoanRun, OrphanLoan, Stands, IsFresh, loan_of_orphan, loan_of_run, of_number, orphan_loan_at, orphan_of_number, orphan_of_run}
 use Rattle.ledger_model.specs.Places.{in_run, moved, place_after}
 use Rattle.ledger_model.proofs.LedgerLemmas.{cases_Option}
-use Rattle.ledger_model.proofs.OfNumberLemmas.{of_number-Some, of_number-at, orphan_of_number-Some, orphan_of_number-at, loan_of_run-None, loan_of_run-inside, loan_of_run-outside, orphan_of_run-inside, orphan_of_run-lent, orphan_of_run-outside}
+use Rattle.ledger_model.proofs.Loans.OfNumberLemmas.{of_number-Some, of_number-at, orphan_of_number-Some, orphan_of_number-at, loan_of_run-None, loan_of_run-inside, loan_of_run-outside, orphan_of_run-inside, orphan_of_run-lent, orphan_of_run-outside}
 use Rattle.ledger_model.proofs.OwnerLemmas.{stands_home_at, stands_orphan_at}
 use Rattle.ledger_model.proofs.PlaceLemmas.{in_run-after, in_run-index, moved-after}
 use Rattle.sv32_space.specs.Agreement.{Infos, EntriesAgree, holder_side, loan_to, on_loan, seat_in}

@@ -11,8 +11,8 @@ use Rattle.ledger_model.specs.Places.{in_run, moved}
 use Rattle.ledger_model.specs.Reach.{is_held_at, lender_of}
 use Rattle.ledger_model.specs.Steps.{end_loan, freed, loan_without, orphan_without, orphan_loan, orphan_from, orphan_with, page_without, pass, passed, passed_loan}
 use Rattle.ledger_model.proofs.LedgerLemmas.{same_ledger, same_number-at, loan_at-page, loan_at-home, is_held_at-true, is_held_at-Some}
-use Rattle.ledger_model.proofs.NumberingLemmas.{first_place-only}
-use Rattle.ledger_model.proofs.OfNumberLemmas.{of_number-at, loan_without-None, orphan_without-None, orphan_without-at, stands-home, stands-orphan, loan_of_run-outside, loan_of_run-None, orphan_of_run-lent, orphan_of_run-outside}
+use Rattle.ledger_model.proofs.Loans.NumberingLemmas.{first_place-only}
+use Rattle.ledger_model.proofs.Loans.OfNumberLemmas.{of_number-at, loan_without-None, orphan_without-None, orphan_without-at, stands-home, stands-orphan, loan_of_run-outside, loan_of_run-None, orphan_of_run-lent, orphan_of_run-outside}
 use Rattle.ledger_model.proofs.Stepping.OrphaningLemmas.{orphan_loan_home, orphan_loan_orphan, orphan_loan_kept, page_without-gone, page_without-stays, made, none_made, Source}
 use Rattle.ledger_model.proofs.Stepping.PassingLemmas.{moved-moved, pass_home, pass_orphan, pass_outside, passed_loan-at}
 use Rattle.ledger_model.proofs.PlaceLemmas.{moved-in_run, moved-back}

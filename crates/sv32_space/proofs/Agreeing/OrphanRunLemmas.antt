@@ -9,7 +9,7 @@ use Rattle.ledger_model.specs.Loans.{LoanRun, Stands, loan_of_orphan, loans, of_
 use Rattle.ledger_model.specs.Places.{in_run, moved}
 use Rattle.ledger_model.specs.Steps.{orphan_loan, orphan_with}
 use Rattle.ledger_model.proofs.LedgerLemmas.{loan_at-page}
-use Rattle.ledger_model.proofs.OfNumberLemmas.{of_number-without, orphan_of_number-at, orphan_of_run-inside, orphan_of_run-lent, orphan_of_run-outside, stands-home}
+use Rattle.ledger_model.proofs.Loans.OfNumberLemmas.{of_number-without, orphan_of_number-at, orphan_of_run-inside, orphan_of_run-lent, orphan_of_run-outside, stands-home}
 use Rattle.ledger_model.proofs.PlaceLemmas.{moved-in_run}
 use Rattle.ledger_model.proofs.Stepping.OrphaningLemmas.{orphan_loan_loan}
 use Rattle.sv32_space.specs.EntryLedger.{IsWellPlaced}

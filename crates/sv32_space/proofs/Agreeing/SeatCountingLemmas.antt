@@ -5,7 +5,7 @@ use Rattle.std.specs.Option.{option_and_then}
 use Rattle.std.proofs.lemmas.Bool.{cases_Bool, cases_lt, cond-true, cond-false, and_from, eq-eqb, ne_eqb, lt-ltb, both_ways, false≢true}
 use Rattle.std.proofs.lemmas.Bool.Decides.{nat_tests}
 use Rattle.xk_base.specs.declared.ids.Place.{Place}
-use Rattle.xk_base.specs.Counting.{count_below}
+use Rattle.xk_base.specs.Tables.Counting.{count_below}
 use Rattle.xk_base.proofs.CountingLemmas.{count_below-one}
 use Rattle.phys_pages.specs.declared.infos.LoanInfo.{LoanInfo}
 use Rattle.phys_pages.specs.declared.infos.PageInfo.{PageInfo}
@@ -15,7 +15,7 @@ use Rattle.phys_pages.specs.Owners.{Extent, HasSeat, frame_seat, slot_seat}
 use Rattle.ledger_model.specs.Ledger.{Ledger, is_counted, pages}
 use Rattle.ledger_model.specs.Places.{count_places, is_user_place, place_at}
 use Rattle.ledger_model.proofs.LedgerLemmas.{cases_Option}
-use Rattle.ledger_model.proofs.NumberingLemmas.{number_of, number_of-place_at, number_of-bound, place_at-number_of, count_places-split, count_places-same}
+use Rattle.ledger_model.proofs.Loans.NumberingLemmas.{number_of, number_of-place_at, number_of-bound, place_at-number_of, count_places-split, count_places-same}
 use Rattle.sv32_space.specs.declared.sides.Side.TheVariants.{Own}
 use Rattle.sv32_space.specs.Agreement.{Infos, EntriesAgree, lender_side, holder_side, right_in, seat_in, is_nobody}
 use Rattle.sv32_space.specs.declared.sides.Entry.{Entry}

@@ -10,7 +10,7 @@ use Rattle.phys_pages.specs.declared.infos.PageInfo.{PageInfo}
 use Rattle.phys_pages.specs.declared.infos.Seat.{Seat}
 use Rattle.ledger_model.specs.Steps.{zero_page}
 use Rattle.ledger_model.specs.WholePages.{IsPage, HasWholePages, is_page}
-use Rattle.ledger_model.proofs.WholePageLemmas.{WholePage, WholeOrphan, is_page-true, whole_from, zero_page-whole}
+use Rattle.ledger_model.proofs.Pages.WholePageLemmas.{WholePage, WholeOrphan, is_page-true, whole_from, zero_page-whole}
 use Rattle.sv32_space.specs.declared.sides.Side.TheVariants.{Own, LentOut, LentIn, MutOut, MutIn}
 use Rattle.sv32_space.specs.Agreement.{Infos, EntriesAgree, loan_told, on_loan, owned_by}
 use Rattle.sv32_space.specs.declared.sides.Entry.{Entry}

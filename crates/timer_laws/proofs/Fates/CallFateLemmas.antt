@@ -9,10 +9,10 @@ use Rattle.xk_base.specs.declared.ids.ThreadId.{ThreadId}
 use Rattle.xk_base.specs.declared.ids.Vpn.{Vpn}
 use Rattle.xk_base.specs.declared.messages.Message.{Message}
 use Rattle.xk_base.specs.declared.messages.MsgKind.TheVariants.{Scalar}
-use Rattle.xk_base.specs.CallWords.{call_number, forward_cid, heap_bytes, join_tid, map_flags, map_phys, map_size, map_virt, range_address, range_flags, range_size, return_address, return_offset, return_size, return_valid, return_value1, return_value2, send_address, thread_arguments, thread_entry, thread_sp}
-use Rattle.xk_base.specs.Kinds.{is_answered}
-use Rattle.xk_base.specs.Replies.{plain_words, scalar1_words, scalar2_words}
-use Rattle.xk_base.specs.Sids.{serial_of}
+use Rattle.xk_base.specs.Calls.CallWords.{call_number, forward_cid, heap_bytes, join_tid, map_flags, map_phys, map_size, map_virt, range_address, range_flags, range_size, return_address, return_offset, return_size, return_valid, return_value1, return_value2, send_address, thread_arguments, thread_entry, thread_sp}
+use Rattle.xk_base.specs.Calls.Kinds.{is_answered}
+use Rattle.xk_base.specs.Calls.Replies.{plain_words, scalar1_words, scalar2_words}
+use Rattle.xk_base.specs.Tables.Sids.{serial_of}
 use Rattle.ledger_model.specs.Steps.{pass}
 use Rattle.machine_model.specs.Calling.Calls.{any_refusals, call, call_at, call_table}
 use Rattle.machine_model.specs.Calling.MemoryCalls.{caller_place, decrease_call, decrease_refusals, decrease_served, increase_call, increase_refusals, increase_served, map_call, map_refusals, map_served, unmap_call, unmap_refusals, unmap_served, update_call, update_refusals, update_served}

@@ -6,8 +6,8 @@ use Rattle.xk_base.specs.declared.errors.XousError.{XousError}
 use Rattle.xk_base.specs.declared.errors.XousError.TheVariants.{BadAlignment, InterruptNotFound, InterruptInUse}
 use Rattle.xk_base.specs.declared.ids.Pid.{Pid}
 use Rattle.xk_base.specs.declared.limits.TheConstants.{INTERRUPT_LIMIT, TIMER_INTERRUPT}
-use Rattle.xk_base.specs.CallWords.{interrupt_number, interrupt_handler, interrupt_argument}
-use Rattle.xk_base.specs.Counting.{put_at}
+use Rattle.xk_base.specs.Calls.CallWords.{interrupt_number, interrupt_handler, interrupt_argument}
+use Rattle.xk_base.specs.Tables.Counting.{put_at}
 use Rattle.machine_model.specs.Calling.InterruptCalls.{claim_call, claim_refusals, claim_served, free_call, free_refusals, free_served}
 use Rattle.machine_model.specs.Ending.Closing.{closed, servers_closed, senders_queued_gone, senders_held_gone}
 use Rattle.machine_model.specs.Ending.Ends.{death, end_with_last_thread, forgotten, handler_ended, has_threads, thread_ended}

@@ -9,8 +9,8 @@ use Rattle.xk_base.specs.declared.ids.ThreadId.{ThreadId}
 use Rattle.xk_base.specs.declared.limits.TheConstants.{TIMER_INTERRUPT}
 use Rattle.xk_base.specs.declared.pages.Width.{Width}
 use Rattle.xk_base.specs.declared.pages.Width.TheVariants.{Byte, Half, Word}
-use Rattle.xk_base.specs.Counting.{put_at}
-use Rattle.xk_base.specs.Registers.{arguments_of, reg_at}
+use Rattle.xk_base.specs.Tables.Counting.{put_at}
+use Rattle.xk_base.specs.Calls.Registers.{arguments_of, reg_at}
 use Rattle.xk_base.specs.UserMemory.{compare_stored}
 use Rattle.machine_model.specs.Calling.Calls.{call}
 use Rattle.machine_model.specs.Ending.Ends.{handler_ended, thread_ended}

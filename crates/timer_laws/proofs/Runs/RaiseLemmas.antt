@@ -6,7 +6,7 @@ use Rattle.std.proofs.lemmas.Bool.{eqb-true, eq-eqb, false≢true}
 use Rattle.xk_base.specs.declared.ids.Pid.{Pid}
 use Rattle.xk_base.specs.declared.ids.ThreadId.{ThreadId}
 use Rattle.xk_base.specs.declared.limits.TheConstants.{TIMER_INTERRUPT}
-use Rattle.xk_base.specs.Counting.{put_at}
+use Rattle.xk_base.specs.Tables.Counting.{put_at}
 use Rattle.machine_model.specs.Runs.Moments.{Cause, ByStep, ByPick, ByIrq, ByKill, ByTurn, caused}
 use Rattle.machine_model.specs.State.Changes.{Told, only, settled}
 use Rattle.machine_model.specs.State.Machine.{Claim, Machine, Reservation}
@@ -17,7 +17,7 @@ use Rattle.machine_model.specs.Stepping.Reservations.{unreserved}
 use Rattle.machine_model.specs.Stepping.Step.{acted_if_there, counted, step}
 use Rattle.machine_model.specs.Stepping.Timer.{is_due, raised_by_timer, timed, timed_if}
 use Rattle.machine_model.proofs.StepLemmas.{no_step}
-use Rattle.machine_model.proofs.TimerLemmas.{due_disarms, not_due, timed_raised}
+use Rattle.machine_model.proofs.Runs.TimerLemmas.{due_disarms, not_due, timed_raised}
 use Rattle.machine_laws.proofs.Interrupting.IrqDeliveryLemmas.{settled_unanswered}
 use Rattle.machine_laws.proofs.Threading.ThreadStepLemmas.{step_of_actor, turned_to}
 use Rattle.timer_laws.specs.Raising.{ElseNothing, IsRaise, RaiseIsEvent, other_effects, other_effects_of}

@@ -17,7 +17,7 @@ use Rattle.machine_model.specs.Stepping.Events.{killed, killed_if, picked, raise
 use Rattle.machine_model.specs.Stepping.Reservations.{unreserved}
 use Rattle.machine_model.specs.Stepping.Step.{step}
 use Rattle.machine_model.proofs.StepLemmas.{no_step, one_step}
-use Rattle.machine_model.proofs.TimerLemmas.{pended_raised}
+use Rattle.machine_model.proofs.Runs.TimerLemmas.{pended_raised}
 use Rattle.timer_laws.specs.Arming.{Arms, Disarms, EndsClaim, LeavesTimer, TimerStore}
 use Rattle.timer_laws.specs.Raising.{IsRaise}
 use Rattle.timer_laws.specs.TimerLaw.{IsArming, IsLeft, IsRaisedBy, IsRaisedByAny, IsRaising, IsStepOf, TimerHolds, TimerLaw}

@@ -1,14 +1,14 @@
 -- A memory without a page is sound.
-use Rattle.xk_base.specs.Circle.{is_pid}
+use Rattle.xk_base.specs.Tables.Circle.{is_pid}
 use Rattle.std.proofs.Common.{◌≡◌, ℕ, ◌+◌, ◌-◌, ◌*◌, ◌/◌, ◌≤◌, true, false, Some, None, refl, sym, ap, subst, ◌∙◌, inl, inr, arith}
 use Rattle.std.specs.Prelude.{is_some}
 use Rattle.std.specs.Option.{option_and_then}
 use Rattle.std.proofs.lemmas.Bool.{cases_Bool}
 use Rattle.std.proofs.lemmas.Option.{none-some}
-use Rattle.xk_base.specs.Counting.{count_below}
+use Rattle.xk_base.specs.Tables.Counting.{count_below}
 use Rattle.xk_base.proofs.CountingLemmas.{count_below-none}
 use Rattle.xk_base.specs.declared.ids.Place.{Place}
-use Rattle.xk_base.specs.Limits.{table_frames}
+use Rattle.xk_base.specs.Numbers.Limits.{table_frames}
 use Rattle.phys_pages.specs.declared.infos.Seat.{Seat}
 use Rattle.phys_pages.specs.Owners.{Extent, extent, infos, no_infos, frame_seat}
 use Rattle.phys_pages.specs.Ram.{IsPlaced, area}

@@ -1,14 +1,14 @@
 -- The pages of a process, as they are placed one after the other.
-use Rattle.xk_base.specs.Circle.{is_pid}
+use Rattle.xk_base.specs.Tables.Circle.{is_pid}
 use Rattle.std.proofs.Common.{◌≡◌, ◌≢◌, ℕ, ◌+◌, ◌*◌, ◌<◌, ◌≤◌, true, List, take, length, get_or, Some, None, refl, sym, ap, subst, ◌∙◌, arith, length-take}
 use Rattle.std.specs.Prelude.{All, AllPairs, is_some}
 use Rattle.std.proofs.lemmas.Bool.{and_from}
 use Rattle.std.proofs.lemmas.List.{take_more, get_or-take, get_or_default}
-use Rattle.xk_base.specs.Counting.{put_at}
+use Rattle.xk_base.specs.Tables.Counting.{put_at}
 use Rattle.xk_base.specs.declared.ids.Frame.{Frame as FrameNumber}
 use Rattle.xk_base.specs.declared.ids.Pid.{Pid}
 use Rattle.xk_base.specs.declared.ids.Place.{Place}
-use Rattle.xk_base.specs.Windows.{window_at}
+use Rattle.xk_base.specs.Numbers.Windows.{window_at}
 use Rattle.boot_plan.specs.Lawful.{IsLawfulPage}
 use Rattle.boot_plan.specs.declared.plans.PagePlan.{PagePlan}
 use Rattle.phys_pages.specs.declared.infos.Seat.{Seat}
@@ -23,7 +23,7 @@ use Rattle.sv32_space.specs.PageSteps.{place_page}
 use Rattle.sv32_space.specs.Tie.{Held}
 use Rattle.sv32_space.proofs.Ledgers.PageLedgerLemmas.{seat_kept}
 use Rattle.vm_memory.specs.declared.memory.Memory.{Memory}
-use Rattle.vm_memory.specs.Changing.{IsFreeFrame, ChangesPagesAlone}
+use Rattle.vm_memory.specs.Pages.Changing.{IsFreeFrame, ChangesPagesAlone}
 use Rattle.vm_memory.specs.FirstLedger.{first_page}
 use Rattle.vm_memory.specs.Memory.{Size, size, processes, capacity_of, ledger}
 use Rattle.vm_memory.specs.Sound.{IsSound}

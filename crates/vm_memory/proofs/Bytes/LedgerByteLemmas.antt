@@ -21,9 +21,9 @@ use Rattle.ledger_model.proofs.LedgerLemmas.{same_ledger}
 use Rattle.ledger_model.proofs.PlaceLemmas.{same_place_tells}
 use Rattle.ledger_model.proofs.ReachingLemmas.{reached_contents, write_changed, write_others}
 use Rattle.ledger_model.proofs.Stepping.WritingLemmas.{write_bare}
-use Rattle.xk_base.specs.Windows.{page_of}
+use Rattle.xk_base.specs.Numbers.Windows.{page_of}
 use Rattle.vm_memory.specs.Using.UserView.{IsUnseen, contents_seen, seen_memory}
-use Rattle.ledger_model.proofs.BareLemmas.{bare-contents, bare-reach, is_bytes}
+use Rattle.ledger_model.proofs.Pages.BareLemmas.{bare-contents, bare-reach, is_bytes}
 use Rattle.vm_memory.proofs.Bytes.StoreLemmas.{there, elsewhere, written_size, low_size, stays_in_page}
 
 -- ---- a ledger from its rights, its loans and its bytes

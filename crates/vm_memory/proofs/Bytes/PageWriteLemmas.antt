@@ -2,7 +2,7 @@
 use Rattle.std.proofs.Common.{◌≡◌, ℕ, ◌+◌, ◌*◌, ◌≤◌, if◌then◌else◌, true, List, [], ◌++◌, length, drop, nat_eq, Option, Some, None, refl, sym, ap, subst, ◌∙◌, arith}
 use Rattle.std.proofs.lemmas.Bool.{false≢true}
 use Rattle.std.proofs.lemmas.List.{drop_all, append-nil}
-use Rattle.xk_base.specs.Counting.{put_at}
+use Rattle.xk_base.specs.Tables.Counting.{put_at}
 use Rattle.xk_base.specs.declared.ids.Frame.{Frame as FrameNumber}
 use Rattle.xk_base.specs.declared.ids.Place.{Place}
 use Rattle.xk_base.specs.declared.pages.Access.{Access}
@@ -12,7 +12,7 @@ use Rattle.phys_pages.specs.Owners.{extent, infos}
 use Rattle.phys_pages.specs.Ram.{RamBytes, Area, IsPlaced, area, pages as page_of_frame, with_page}
 use Rattle.phys_pages.proofs.PageLemmas.{length-pages, pages-with_page, area-with_page}
 use Rattle.boot_plan.specs.Capacity.{capacity}
-use Rattle.xk_base.specs.Limits.{table_frames}
+use Rattle.xk_base.specs.Numbers.Limits.{table_frames}
 use Rattle.ledger_model.specs.Lawful.{IsLawful}
 use Rattle.ledger_model.specs.Ledger.{pages}
 use Rattle.ledger_model.specs.Reach.{reach}
@@ -32,7 +32,7 @@ use Rattle.vm_memory.specs.declared.memory.Memory.{Memory}
 use Rattle.vm_memory.specs.Using.Access.{reaches_bytes, write_page}
 use Rattle.vm_memory.specs.Bytes.{names_frame, is_near}
 use Rattle.sv32_space.specs.EntryReach.{side_name}
-use Rattle.vm_memory.specs.Lending.{frame_named, with_bytes_at}
+use Rattle.vm_memory.specs.Loaning.Lending.{frame_named, with_bytes_at}
 use Rattle.vm_memory.specs.Memory.{size, processes, capacity_of, ledger, blank_ledger}
 use Rattle.vm_memory.specs.Sound.{IsSound}
 use Rattle.vm_memory.proofs.Using.ReachedLemmas.{reach_by, seat_given}

@@ -1,10 +1,10 @@
 -- What an answer of `make` or `make_console` tells of its run.
-use Rattle.xk_base.specs.Circle.{is_pid}
+use Rattle.xk_base.specs.Tables.Circle.{is_pid}
 use Rattle.std.proofs.Common.{◌≡◌, ℕ, ◌+◌, ◌-◌, ◌<◌, ◌≤◌, if◌then◌else◌, Bool, true, false, not, Option, Some, None, refl, sym, ap, subst, ◌∙◌, inl, inr, arith}
 use Rattle.std.specs.Prelude.{is_some, nat_le, nat_lt, Result, Ok, Err}
 use Rattle.std.proofs.lemmas.Bool.{and_from, and_parts, both_ways, false_from_ne_true, leb-true, le-leb, ltb-false}
 use Rattle.std.proofs.lemmas.Option.{none-some, same_Some}
-use Rattle.xk_base.specs.Windows.{first_page, in_window, last_page}
+use Rattle.xk_base.specs.Numbers.Windows.{first_page, in_window, last_page}
 use Rattle.xk_base.specs.declared.errors.XousError.{XousError}
 use Rattle.xk_base.specs.declared.errors.XousError.TheVariants.{BadAddress, MemoryInUse}
 use Rattle.xk_base.specs.declared.ids.Pid.{Pid}
@@ -18,13 +18,13 @@ use Rattle.ledger_model.specs.Ledger.{Ledger, pages}
 use Rattle.ledger_model.specs.Places.{first_place, is_place_in, is_user_place, place_after}
 use Rattle.ledger_model.specs.Reach.{is_free}
 use Rattle.ledger_model.specs.RunTests.{any_used, console_mapped, fits_window}
-use Rattle.ledger_model.proofs.LeastRunLemmas.{is_free_run-each, least_run-Some}
+use Rattle.ledger_model.proofs.Runs.LeastRunLemmas.{is_free_run-each, least_run-Some}
 use Rattle.ledger_model.proofs.LedgerLemmas.{cases_Option}
-use Rattle.ledger_model.proofs.NumberingLemmas.{first_place-none, is_place_in-user}
+use Rattle.ledger_model.proofs.Loans.NumberingLemmas.{first_place-none, is_place_in-user}
 use Rattle.ledger_model.proofs.PlaceLemmas.{in_run-index, place_from}
 use Rattle.sv32_space.specs.Tie.{Held}
 use Rattle.vm_memory.specs.declared.memory.Memory.{Memory}
-use Rattle.vm_memory.specs.Making.{if_room, make_answer, place_of, run_found, run_place}
+use Rattle.vm_memory.specs.Pages.Making.{if_room, make_answer, place_of, run_found, run_place}
 use Rattle.vm_memory.specs.Memory.{ledger, processes}
 use Rattle.vm_memory.specs.Sound.{IsSound}
 use Rattle.vm_memory.proofs.Changing.ConsoleRunLemmas.{console_in_map}

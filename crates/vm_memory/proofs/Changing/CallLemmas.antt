@@ -2,7 +2,7 @@
 use Rattle.std.proofs.Common.{◌≡◌, ℕ, Bool, true, ◌==◌, sym, ap, ◌∙◌, arith}
 use Rattle.std.specs.Prelude.{is_some}
 use Rattle.std.proofs.lemmas.Bool.{or_right}
-use Rattle.xk_base.specs.Counting.{count_below}
+use Rattle.xk_base.specs.Tables.Counting.{count_below}
 use Rattle.phys_pages.specs.Owners.{extent, infos, slot_seat}
 use Rattle.sv32_space.specs.Tie.{Held}
 use Rattle.vm_memory.specs.declared.memory.Memory.{Memory}

@@ -1,8 +1,8 @@
 -- A memory after a change of entries and owners: it is sound, and its ledger has made the step.
-use Rattle.xk_base.specs.Circle.{is_pid}
+use Rattle.xk_base.specs.Tables.Circle.{is_pid}
 use Rattle.std.proofs.Common.{◌≡◌, ℕ, ◌+◌, ◌*◌, ◌≤◌, true, Some, refl, sym, ap, subst, ◌∙◌, arith}
 use Rattle.boot_plan.specs.Capacity.{capacity}
-use Rattle.xk_base.specs.Limits.{table_frames}
+use Rattle.xk_base.specs.Numbers.Limits.{table_frames}
 use Rattle.phys_pages.specs.declared.infos.PageInfo.{PageInfo}
 use Rattle.phys_pages.specs.declared.infos.Seat.{Seat}
 use Rattle.phys_pages.specs.declared.infos.Seat.TheVariants.{Frame, Slot}

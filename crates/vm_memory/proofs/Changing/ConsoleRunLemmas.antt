@@ -1,16 +1,16 @@
 -- Where the console is looked for: in the Map windows of the processes.
-use Rattle.xk_base.specs.Circle.{is_pid}
+use Rattle.xk_base.specs.Tables.Circle.{is_pid}
 use Rattle.std.proofs.Common.{◌≡◌, ℕ, ◌+◌, ◌-◌, ◌<◌, ◌≤◌, Bool, true, false, not, Option, Some, None, refl, sym, ap, subst, ◌∙◌, inl, inr, arith}
 use Rattle.std.specs.Prelude.{is_some, nat_le, nat_lt}
 use Rattle.std.proofs.lemmas.Bool.{and_from, and_parts, both_ways, false_from_ne_true, leb-true, le-leb, ltb-true}
-use Rattle.xk_base.specs.Windows.{first_page, in_window, last_page}
+use Rattle.xk_base.specs.Numbers.Windows.{first_page, in_window, last_page}
 use Rattle.xk_base.specs.declared.ids.Pid.{Pid}
 use Rattle.xk_base.specs.declared.ids.Place.{Place}
 use Rattle.xk_base.specs.declared.ids.Vpn.{Vpn}
 use Rattle.xk_base.specs.declared.windows.Window.TheVariants.{Map}
 use Rattle.std.proofs.lemmas.Bool.Decides.{nat_tests}
 use Rattle.vm_memory.specs.declared.memory.Here.{Here}
-use Rattle.vm_memory.specs.Here.{here_at}
+use Rattle.vm_memory.specs.Pages.Here.{here_at}
 use Rattle.phys_pages.specs.Owners.{infos}
 use Rattle.ledger_model.specs.Conditions.{is_console}
 use Rattle.ledger_model.specs.LeastRun.{window_pages, window_place}
@@ -18,19 +18,19 @@ use Rattle.ledger_model.specs.Ledger.{Ledger, Page, Contents, Console, Bytes, ha
 use Rattle.ledger_model.specs.Places.{first_place, is_place_in, is_user_place, place_after}
 use Rattle.ledger_model.specs.RunTests.{console_mapped}
 use Rattle.ledger_model.proofs.LedgerLemmas.{cases_Option}
-use Rattle.ledger_model.proofs.NumberingLemmas.{first_place-none, first_place-None, is_place_in-user}
+use Rattle.ledger_model.proofs.Loans.NumberingLemmas.{first_place-none, first_place-None, is_place_in-user}
 use Rattle.ledger_model.proofs.PlaceLemmas.{place_from}
 use Rattle.sv32_space.specs.EntryLedger.{ledger_of}
 use Rattle.sv32_space.specs.SpelledEntries.{entries}
 use Rattle.sv32_space.specs.Tie.{Held, bytes_at}
 use Rattle.vm_memory.specs.declared.memory.Memory.{Memory}
 use Rattle.vm_memory.specs.Memory.{blank_ledger, ledger, processes}
-use Rattle.vm_memory.specs.RunTests.{has_console, is_console_here}
+use Rattle.vm_memory.specs.Loaning.RunTests.{has_console, is_console_here}
 use Rattle.vm_memory.specs.Sound.{IsSound}
 use Rattle.vm_memory.proofs.Changing.ChangedLemmas.{no_bytes}
 use Rattle.vm_memory.proofs.Changing.ConsoleStepLemmas.{console_told}
 use Rattle.vm_memory.proofs.Changing.RunLemmas.{console_here}
-use Rattle.ledger_model.proofs.RunTestLemmas.{each_fails, none_passes, some_passes}
+use Rattle.ledger_model.proofs.Runs.RunTestLemmas.{each_fails, none_passes, some_passes}
 
 -- ---- one process
 

@@ -12,7 +12,7 @@ use Rattle.ledger_model.specs.Ledger.{Console}
 use Rattle.ledger_model.specs.Places.{in_run}
 use Rattle.ledger_model.specs.RunTests.{asks_more}
 use Rattle.ledger_model.specs.Steps.{make_console, reduce, remove}
-use Rattle.ledger_model.proofs.NumberingLemmas.{is_place_in-user}
+use Rattle.ledger_model.proofs.Loans.NumberingLemmas.{is_place_in-user}
 use Rattle.ledger_model.proofs.Stepping.MakingLemmas.{make_console_lawful, make_console_pages}
 use Rattle.ledger_model.proofs.Stepping.RemovingLemmas.{remove_lawful, reduce_lawful, reduce_pages}
 use Rattle.sv32_space.specs.declared.sides.Side.TheVariants.{Own, LentOut, LentIn, MutOut, MutIn}

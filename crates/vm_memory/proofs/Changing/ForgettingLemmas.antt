@@ -1,11 +1,11 @@
 -- The pages of a process go window by window.
-use Rattle.xk_base.specs.Circle.{is_pid}
+use Rattle.xk_base.specs.Tables.Circle.{is_pid}
 use Rattle.std.proofs.Common.{◌≡◌, ℕ, ◌+◌, if◌then◌else◌, Bool, true, false, ◌&&◌, ◌==◌, Option, Some, None, refl, sym, ap, subst, ◌∙◌, inl, inr, arith}
 use Rattle.std.specs.Prelude.{is_some, nat_le, nat_lt}
 use Rattle.std.proofs.lemmas.Bool.{cases_Bool, and_parts, both_ways, cond-true, cond-false, eqb-true}
 use Rattle.std.proofs.lemmas.Bool.Decides.{nat_tests}
 use Rattle.std.proofs.lemmas.Option.{none-some}
-use Rattle.xk_base.specs.Windows.{window_at}
+use Rattle.xk_base.specs.Numbers.Windows.{window_at}
 use Rattle.xk_base.specs.declared.ids.Pid.{Pid}
 use Rattle.xk_base.specs.declared.ids.Place.{Place}
 use Rattle.xk_base.specs.declared.windows.Window.{Window}
@@ -28,8 +28,8 @@ use Rattle.sv32_space.specs.Tie.{Held, bytes_at}
 use Rattle.vm_memory.specs.declared.memory.Memory.{Memory}
 use Rattle.vm_memory.specs.Memory.{ledger, processes}
 use Rattle.vm_memory.specs.Sound.{IsSound}
-use Rattle.vm_memory.specs.Removing.{HasNoLoan}
-use Rattle.ledger_model.proofs.RunTestLemmas.{none_passes}
+use Rattle.vm_memory.specs.Pages.Removing.{HasNoLoan}
+use Rattle.ledger_model.proofs.Runs.RunTestLemmas.{none_passes}
 
 -- the places of a process in a window
 abbrev pub in_place : Pid → Window → Place → Bool

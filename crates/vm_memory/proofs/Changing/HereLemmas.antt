@@ -24,7 +24,7 @@ use Rattle.sv32_space.proofs.Ledgers.EntryLedgerLemmas.{names_free}
 use Rattle.vm_memory.specs.declared.memory.Here.TheVariants as here
 use Rattle.vm_memory.specs.declared.memory.Memory.{Memory}
 use Rattle.vm_memory.specs.Using.EntryAccess.{side_here}
-use Rattle.vm_memory.specs.Here.{here_of, here_at}
+use Rattle.vm_memory.specs.Pages.Here.{here_of, here_at}
 use Rattle.vm_memory.specs.Memory.{processes, ledger, blank_ledger}
 use Rattle.vm_memory.specs.Sound.{IsSound}
 use Rattle.sv32_space.proofs.Agreeing.EntryRoleLemmas.{held_role, side_role, entry_role, role-entry}

@@ -1,5 +1,5 @@
 -- A call on loans does to a memory what it does to entries and owners.
-use Rattle.xk_base.specs.Circle.{is_pid}
+use Rattle.xk_base.specs.Tables.Circle.{is_pid}
 use Rattle.std.proofs.Common.{◌≡◌, ℕ, ◌+◌, ◌-◌, ◌≤◌, Bool, true, false, Option, Some, None, Result, Ok, Err, refl, sym, ap, subst, ◌∙◌, arith}
 use Rattle.std.specs.Prelude.{nat_le, if◌then◌else◌}
 use Rattle.std.specs.Option.{option_map_or}
@@ -10,7 +10,7 @@ use Rattle.xk_base.specs.declared.ids.Number.{Number}
 use Rattle.xk_base.specs.declared.ids.Pid.{Pid}
 use Rattle.xk_base.specs.declared.ids.Place.{Place}
 use Rattle.xk_base.specs.declared.ids.Vpn.{Vpn}
-use Rattle.xk_base.specs.Windows.{first_page, in_window, last_page}
+use Rattle.xk_base.specs.Numbers.Windows.{first_page, in_window, last_page}
 use Rattle.xk_base.specs.declared.messages.MemKind.{MemKind}
 use Rattle.xk_base.specs.declared.messages.MemKind.TheVariants.{Move}
 use Rattle.xk_base.specs.declared.pages.LoanKind.{LoanKind}
@@ -28,11 +28,11 @@ use Rattle.ledger_model.specs.Places.{in_run}
 use Rattle.ledger_model.specs.Reach.{is_free}
 use Rattle.ledger_model.specs.RunTests.{any_free, any_not_sent, is_exclusive}
 use Rattle.ledger_model.specs.Steps.{end_loan, give, lend, orphan_loan, pass}
-use Rattle.ledger_model.proofs.BareLemmas.{bare-can_give, bare-can_lend, bare-can_pass}
-use Rattle.ledger_model.proofs.LeastRunLemmas.{is_free_run-each, least_run-Some}
-use Rattle.ledger_model.proofs.NumberingLemmas.{is_place_in-user}
+use Rattle.ledger_model.proofs.Pages.BareLemmas.{bare-can_give, bare-can_lend, bare-can_pass}
+use Rattle.ledger_model.proofs.Runs.LeastRunLemmas.{is_free_run-each, least_run-Some}
+use Rattle.ledger_model.proofs.Loans.NumberingLemmas.{is_place_in-user}
 use Rattle.ledger_model.proofs.PlaceLemmas.{IsInRun, in_run-index, in_run-true}
-use Rattle.ledger_model.proofs.RunTestLemmas.{sent_may_lend, sent_may_move}
+use Rattle.ledger_model.proofs.Runs.RunTestLemmas.{sent_may_lend, sent_may_move}
 use Rattle.ledger_model.proofs.Stepping.EndingLemmas.{end_loan_lawful, end_loan_pages_lent, end_loan_pages_orphan}
 use Rattle.ledger_model.proofs.Stepping.GivingLemmas.{give_lawful, give_pages}
 use Rattle.ledger_model.proofs.Stepping.LendingLemmas.{lend_lawful, lend_pages}
@@ -53,9 +53,9 @@ use Rattle.loan_flags.specs.FreeRuns.{least_free}
 use Rattle.loan_flags.proofs.FreeRunLemmas.{least_by_entries}
 use Rattle.loan_flags.proofs.SentLedgerLemmas.{missing_is_free, unsendable_is_not_sent}
 use Rattle.vm_memory.specs.declared.memory.Memory.{Memory}
-use Rattle.vm_memory.specs.Loans.{KeepsSeats, orphans_of}
+use Rattle.vm_memory.specs.Loaning.Loans.{KeepsSeats, orphans_of}
 use Rattle.vm_memory.specs.Memory.{blank_ledger, capacity_of, ledger, processes}
-use Rattle.vm_memory.specs.Sending.{IsFreeArrival, send_answer}
+use Rattle.vm_memory.specs.Loaning.Sending.{IsFreeArrival, send_answer}
 use Rattle.vm_memory.specs.Sound.{IsSound}
 use Rattle.vm_memory.proofs.Changing.CallLemmas.{sound-means, sound-none_out}
 use Rattle.vm_memory.proofs.Changing.ChangedLemmas.{IsChanged, frames_stay, step_there}

@@ -3,7 +3,7 @@ use Rattle.std.proofs.Common.{◌≡◌, ℕ, ◌+◌, ◌*◌, ◌<◌, ◌≤�
 use Rattle.std.specs.Prelude.{is_some}
 use Rattle.std.proofs.lemmas.Bool.{both_ways, cases_lt, cond-true, cond-false}
 use Rattle.boot_plan.specs.Capacity.{capacity}
-use Rattle.xk_base.specs.Counting.{put_at}
+use Rattle.xk_base.specs.Tables.Counting.{put_at}
 use Rattle.xk_base.specs.declared.ids.Frame.{Frame as FrameNumber}
 use Rattle.xk_base.specs.declared.ids.Place.{Place}
 use Rattle.xk_base.specs.declared.pages.Right.{Right}
@@ -22,7 +22,7 @@ use Rattle.ledger_model.proofs.PlaceLemmas.{IsInRun, in_run-after, in_run-from, 
 use Rattle.sv32_space.specs.Tie.{Held}
 use Rattle.sv32_space.proofs.RunLemmas.{make_next, remove_next, reduce_next}
 use Rattle.vm_memory.specs.declared.memory.Memory.{Memory}
-use Rattle.vm_memory.specs.Changing.{ChangesPagesAlone}
+use Rattle.vm_memory.specs.Pages.Changing.{ChangesPagesAlone}
 use Rattle.vm_memory.specs.Memory.{Size, size, capacity_of, ledger, processes}
 use Rattle.vm_memory.specs.Sound.{IsSound}
 use Rattle.vm_memory.proofs.Using.NowhereLemmas.{no_user}

@@ -10,7 +10,7 @@ use Rattle.ledger_model.specs.Ledger.{Ledger, Contents, Page, has_bytes, is_coun
 use Rattle.ledger_model.specs.Places.{in_run, is_user_place, count_places}
 use Rattle.ledger_model.specs.Steps.{reduce, remove, with_right}
 use Rattle.ledger_model.proofs.LedgerLemmas.{same_ledger}
-use Rattle.ledger_model.proofs.NumberingLemmas.{count_places-one, count_places-none}
+use Rattle.ledger_model.proofs.Loans.NumberingLemmas.{count_places-one, count_places-none}
 use Rattle.ledger_model.proofs.PlaceLemmas.{IsInRun, in_run-true, place_from}
 use Rattle.ledger_model.proofs.Stepping.RemovingLemmas.{remove_pages}
 use Rattle.sv32_space.proofs.Ledgers.EntryLedgerLemmas.{in_one-at}

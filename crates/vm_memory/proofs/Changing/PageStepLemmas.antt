@@ -1,13 +1,13 @@
 -- What the calls on one page write, as steps of the memory.
-use Rattle.xk_base.specs.Circle.{is_pid}
+use Rattle.xk_base.specs.Tables.Circle.{is_pid}
 use Rattle.std.proofs.Common.{◌≡◌, ℕ, ◌+◌, ◌-◌, ◌*◌, ◌<◌, ◌≤◌, Bool, true, false, not, List, replicate, length, Option, Some, None, refl, sym, ap, subst, ◌∙◌, inl, inr, arith}
 use Rattle.std.specs.Prelude.{is_some, nat_eq}
 use Rattle.std.specs.Option.{option_and_then}
 use Rattle.std.proofs.lemmas.Bool.{and_parts, both_ways, cond-true, cond-false, ne_eqb, eq-eqb, not-false}
 use Rattle.std.proofs.lemmas.List.{length-replicate}
 use Rattle.std.proofs.lemmas.Option.{none-some}
-use Rattle.xk_base.specs.Counting.{put_at}
-use Rattle.xk_base.specs.Windows.{window_at}
+use Rattle.xk_base.specs.Tables.Counting.{put_at}
+use Rattle.xk_base.specs.Numbers.Windows.{window_at}
 use Rattle.xk_base.specs.declared.ids.Frame.{Frame as FrameNumber}
 use Rattle.xk_base.specs.declared.ids.Place.{Place}
 use Rattle.xk_base.specs.declared.pages.Right.{Right}
@@ -47,7 +47,7 @@ use Rattle.sv32_space.proofs.Agreeing.RoleLemmas.{free_by_entry}
 use Rattle.vm_memory.specs.declared.memory.Memory.{Memory}
 use Rattle.vm_memory.specs.declared.memory.changes.Owned.{Owned}
 use Rattle.vm_memory.specs.declared.memory.changes.Owned.TheVariants as owned
-use Rattle.vm_memory.specs.Changing.{IsFreeFrame, owned_in}
+use Rattle.vm_memory.specs.Pages.Changing.{IsFreeFrame, owned_in}
 use Rattle.vm_memory.specs.Memory.{blank_ledger, capacity_of, ledger, processes}
 use Rattle.vm_memory.specs.Sound.{IsSound}
 use Rattle.vm_memory.proofs.Changing.ChangedLemmas.{IsChanged, IsStep, no_bytes, frames_stay, step_from, step_there}

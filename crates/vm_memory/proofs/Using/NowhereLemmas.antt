@@ -1,10 +1,10 @@
 -- Places past the address space.
-use Rattle.xk_base.specs.Circle.{is_pid}
+use Rattle.xk_base.specs.Tables.Circle.{is_pid}
 use Rattle.std.proofs.Common.{◌≡◌, ℕ, ◌≤◌, ◌^◌, Bool, true, false, ◌&&◌, None, refl, sym, ap, ◌∙◌, arith}
 use Rattle.std.specs.Prelude.{is_some}
 use Rattle.std.specs.Option.{option_and_then}
 use Rattle.std.proofs.lemmas.Bool.Decides.{nat_tests}
-use Rattle.xk_base.specs.Windows.{window_at}
+use Rattle.xk_base.specs.Numbers.Windows.{window_at}
 use Rattle.xk_base.specs.declared.ids.Place.{Place}
 use Rattle.xk_base.specs.declared.pages.Right.{Right}
 use Rattle.phys_pages.specs.Owners.{infos}
@@ -17,7 +17,7 @@ use Rattle.sv32_space.proofs.EntryLemmas.{no_entry_elsewhere}
 use Rattle.sv32_space.proofs.RunLemmas.{remove_nothing}
 use Rattle.vm_memory.specs.declared.memory.Here.TheVariants.{Nothing}
 use Rattle.vm_memory.specs.declared.memory.Memory.{Memory}
-use Rattle.vm_memory.specs.Here.{here_at, here_of}
+use Rattle.vm_memory.specs.Pages.Here.{here_at, here_of}
 use Rattle.vm_memory.specs.Memory.{blank_ledger, ledger, processes}
 use Rattle.vm_memory.specs.Sound.{IsSound}
 use Rattle.sv32_space.proofs.Agreeing.EntryRoleLemmas.{role-entry}

@@ -31,7 +31,7 @@ use Rattle.vm_memory.specs.declared.memory.access.Target.TheVariants.{Page, Noth
 use Rattle.vm_memory.specs.Using.Access.{contents_reached, reaches_bytes}
 use Rattle.vm_memory.specs.Bytes.{names_frame, is_near}
 use Rattle.vm_memory.specs.Using.EntryAccess.{entry_target, is_page_target}
-use Rattle.vm_memory.specs.Lending.{frame_named}
+use Rattle.vm_memory.specs.Loaning.Lending.{frame_named}
 use Rattle.vm_memory.specs.Memory.{processes, ledger, blank_ledger}
 use Rattle.vm_memory.specs.Sound.{IsSound}
 use Rattle.sv32_space.proofs.Agreeing.EntryRoleLemmas.{reach-entry, reach-none, contents-entry, contents-console}

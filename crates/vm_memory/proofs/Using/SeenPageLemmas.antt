@@ -12,7 +12,7 @@ use Rattle.ledger_model.specs.Loans.{bare}
 use Rattle.ledger_model.specs.Places.{first_place, is_user_place, same_place}
 use Rattle.ledger_model.specs.Reach.{owner_may, reach}
 use Rattle.ledger_model.proofs.LedgerLemmas.{cases_Option}
-use Rattle.ledger_model.proofs.NumberingLemmas.{first_place-none, first_place-passes}
+use Rattle.ledger_model.proofs.Loans.NumberingLemmas.{first_place-none, first_place-passes}
 use Rattle.ledger_model.proofs.PlaceLemmas.{place_from, same_place-true, same_place-refl}
 use Rattle.sv32_space.specs.declared.sides.Entry.{Entry}
 use Rattle.sv32_space.specs.declared.sides.Entry.TheVariants.{Free, At, OnConsole}
@@ -20,11 +20,11 @@ use Rattle.sv32_space.specs.EntryReach.{side_may}
 use Rattle.sv32_space.specs.SpelledEntries.{entries}
 use Rattle.sv32_space.specs.Tie.{Held, bytes_at}
 use Rattle.vm_memory.specs.declared.memory.Memory.{Memory}
-use Rattle.xk_base.specs.Windows.{page_of}
+use Rattle.xk_base.specs.Numbers.Windows.{page_of}
 use Rattle.vm_memory.specs.Memory.{processes, ledger}
 use Rattle.vm_memory.specs.Sound.{IsSound}
 use Rattle.vm_memory.specs.Using.UserView.{IsUnseen, contents_seen}
-use Rattle.ledger_model.proofs.BareLemmas.{reach-bare}
+use Rattle.ledger_model.proofs.Pages.BareLemmas.{reach-bare}
 use Rattle.vm_memory.proofs.Using.ReachedLemmas.{reach_by, reach_nowhere, seat_contents, console_contents}
 use Rattle.vm_memory.proofs.Bytes.LedgerByteLemmas.{IsTold, IsWholeContents}
 use Rattle.vm_memory.proofs.Bytes.WholePageLemmas.{entry_size}

@@ -11,7 +11,7 @@ use Rattle.sv32_space.specs.Tie.{Held}
 use Rattle.sv32_space.specs.EntryReach.{entry_may}
 use Rattle.vm_memory.specs.declared.memory.Memory.{Memory}
 use Rattle.vm_memory.specs.Bytes.{means_bytes, none_out}
-use Rattle.xk_base.specs.Windows.{page_of}
+use Rattle.xk_base.specs.Numbers.Windows.{page_of}
 use Rattle.vm_memory.specs.Memory.{IsUsable, processes}
 use Rattle.vm_memory.specs.Sound.{IsSound}
 use Rattle.vm_memory.specs.Using.UserStores.{DoesStore, StoresBytes}

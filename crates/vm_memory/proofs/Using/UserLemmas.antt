@@ -28,7 +28,7 @@ use Rattle.vm_memory.specs.declared.memory.Memory.{Memory}
 use Rattle.vm_memory.specs.declared.memory.access.Target.{Target}
 use Rattle.vm_memory.specs.declared.memory.access.Target.TheVariants.{Page, Nothing, Console as OnDevice}
 use Rattle.vm_memory.specs.Using.EntryAccess.{entry_target, is_given_target}
-use Rattle.xk_base.specs.Windows.{page_of}
+use Rattle.xk_base.specs.Numbers.Windows.{page_of}
 use Rattle.vm_memory.specs.Memory.{processes, ledger}
 use Rattle.vm_memory.specs.Sound.{IsSound}
 use Rattle.vm_memory.specs.Using.UserView.{contents_seen, seen_memory}

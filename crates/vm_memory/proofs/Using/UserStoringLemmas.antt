@@ -2,7 +2,7 @@
 use Rattle.std.proofs.Common.{◌≡◌, ◌≢◌, ℕ, ◌+◌, ◌/◌, ◌%◌, ◌≤◌, if◌then◌else◌, Bool, true, false, List, length, nat_eq, Option, Some, None, refl, sym, ap, ◌∙◌, inl, inr, arith}
 use Rattle.std.specs.Prelude.{slice_index}
 use Rattle.std.proofs.lemmas.Bool.{cases_eq, cond-true, cond-false, eq-eqb, ne_eqb, false≢true}
-use Rattle.xk_base.specs.Counting.{put_at}
+use Rattle.xk_base.specs.Tables.Counting.{put_at}
 use Rattle.xk_base.specs.UserMemory.{Memory as SeenMemory, size_of, with_number}
 use Rattle.xk_base.specs.declared.ids.Frame.{Frame as FrameNumber}
 use Rattle.xk_base.specs.declared.ids.Pid.{Pid}
@@ -34,12 +34,12 @@ use Rattle.sv32_space.proofs.Ledgers.EntryLedgerLemmas.{names_owned}
 use Rattle.vm_memory.specs.declared.memory.Memory.{Memory}
 use Rattle.vm_memory.specs.declared.memory.access.Target.TheVariants.{Page as ToPage}
 use Rattle.vm_memory.specs.Using.EntryAccess.{entry_target}
-use Rattle.xk_base.specs.Windows.{page_of}
+use Rattle.xk_base.specs.Numbers.Windows.{page_of}
 use Rattle.vm_memory.specs.Memory.{processes, ledger, size}
 use Rattle.vm_memory.specs.Sound.{IsSound}
 use Rattle.xk_base.specs.UserMemory.{low_bytes}
 use Rattle.vm_memory.specs.Using.UserView.{IsUnseen, seen_memory}
-use Rattle.ledger_model.proofs.BareLemmas.{reach-bare}
+use Rattle.ledger_model.proofs.Pages.BareLemmas.{reach-bare}
 use Rattle.vm_memory.proofs.Bytes.PageWriteLemmas.{sound_after, same_entries, size_after, written_after}
 use Rattle.vm_memory.proofs.Using.ReachedLemmas.{reach_by}
 use Rattle.vm_memory.proofs.Bytes.StoreLemmas.{there, elsewhere, written_size, low_size, stays_in_page}

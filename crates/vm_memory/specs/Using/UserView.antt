@@ -11,7 +11,7 @@ use Rattle.sv32_space.specs.Tie.{Held}
 use Rattle.vm_memory.specs.declared.memory.Memory.{Memory}
 use Rattle.vm_memory.specs.Using.Access.{contents_reached}
 use Rattle.vm_memory.specs.Bytes.{KeepsStore, means_bytes, none_out, MeansBytes}
-use Rattle.xk_base.specs.Windows.{page_of}
+use Rattle.xk_base.specs.Numbers.Windows.{page_of}
 use Rattle.vm_memory.specs.Memory.{IsUsable, size, processes, ledger, store_of}
 use Rattle.vm_memory.specs.Sound.{IsSound}
 use Rattle.vm_memory.specs.Tie.{IsTied}

@@ -1,6 +1,6 @@
 -- Where the walk of Sv32 in a process's page tables comes to a page.
 use Rattle.std.specs.Prelude.{ℕ, ◌&&◌, Bool, true, false, not, is_some}
-use Rattle.xk_base.specs.Windows.{page_of}
+use Rattle.xk_base.specs.Numbers.Windows.{page_of}
 use Rattle.xk_base.specs.declared.ids.Pid.{Pid}
 use Rattle.xk_base.specs.declared.pages.Access.{Access}
 use Rattle.ledger_model.specs.Reach.{reach}

@@ -1,6 +1,6 @@
 //! What stands at a place, by its entry, and where an access leads.
 
-ghost use Rattle.xk_base.specs.Circle.{is_pid};
+ghost use Rattle.xk_base.specs.Tables.Circle.{is_pid};
 ghost use Rattle.std.specs.Option.{option_copied};
 ghost use Rattle.std.specs.Prelude.{◌≡◌, ℕ, ◌<◌, Some, true, IsSome};
 ghost use Rattle.ledger_model.specs.Places.{is_user_place};
@@ -8,9 +8,9 @@ ghost use Rattle.phys_pages.specs.Ram.{area};
 ghost use Rattle.sv32_space.specs.SpelledEntries.{entries};
 ghost use Rattle.vm_memory.specs.Bytes.{is_near};
 ghost use Rattle.vm_memory.specs.Using.EntryAccess.{entry_target, is_given_target, is_page_target, side_here};
-ghost use Rattle.xk_base.specs.Windows.{page_of, window_at};
-ghost use Rattle.vm_memory.specs.Here.{here_at};
-ghost use Rattle.vm_memory.specs.Lending.{frame_named};
+ghost use Rattle.xk_base.specs.Numbers.Windows.{page_of, window_at};
+ghost use Rattle.vm_memory.specs.Pages.Here.{here_at};
+ghost use Rattle.vm_memory.specs.Loaning.Lending.{frame_named};
 ghost use Rattle.vm_memory.specs.Memory.{ledger, processes, ram_of};
 ghost use Rattle.vm_memory.specs.Sound.{IsSound};
 

@@ -1,9 +1,9 @@
 //! A memory with its first pages.
 
-ghost use Rattle.xk_base.specs.Circle.{is_pid};
+ghost use Rattle.xk_base.specs.Tables.Circle.{is_pid};
 ghost use Rattle.std.specs.Prelude.{◌≡◌, ◌≢◌, ℕ, ◌+◌, ◌-◌, ◌*◌, ◌%◌, ◌<◌, ◌≤◌, true, length, All, AllPairs, IfOk, IfErr, Some};
 ghost use Rattle.boot_plan.specs.Capacity.{page_frames};
-ghost use Rattle.xk_base.specs.Limits.{table_frames};
+ghost use Rattle.xk_base.specs.Numbers.Limits.{table_frames};
 ghost use Rattle.boot_plan.specs.FirstPages.{planned_pages};
 ghost use Rattle.boot_plan.specs.Lawful.{IsLawfulPage, IsLawfulPlan};
 ghost use Rattle.boot_plan.specs.declared.plans.PagePlan.{PagePlan};
@@ -19,13 +19,13 @@ ghost use Rattle.sv32_space.specs.PageSteps.{place_page};
 ghost use Rattle.sv32_space.specs.Spaces.{IsMade};
 ghost use Rattle.sv32_space.specs.SpelledEntries.{entries};
 ghost use Rattle.vm_memory.specs.Bytes.{KeepsStore, MeansBytes};
-ghost use Rattle.vm_memory.specs.Changing.{IsFreeFrame, ChangesPagesAlone};
+ghost use Rattle.vm_memory.specs.Pages.Changing.{IsFreeFrame, ChangesPagesAlone};
 ghost use Rattle.vm_memory.specs.FirstLedger.{first_ledger, first_page, page_bytes};
 ghost use Rattle.vm_memory.specs.Memory.{IsUsable, capacity_of, ledger, processes, size, store_of};
 ghost use Rattle.vm_memory.specs.Sound.{IsSound};
 ghost use Rattle.vm_memory.specs.Starting.{AreFreeFrom, HasNoPage, IsUnlent, place_pages};
 ghost use Rattle.vm_memory.specs.Tie.{IsTied};
-ghost use Rattle.xk_base.specs.Counting.{put_at};
+ghost use Rattle.xk_base.specs.Tables.Counting.{put_at};
 ghost use Rattle.xk_base.specs.Outside.{Rose};
 ghost use Rattle.xk_base.specs.declared.ids.Place.{Place};
 

@@ -1,9 +1,9 @@
 //! The changes of one page: it comes, goes, or gets another right, in its entry and in the owner table.
 
-ghost use Rattle.xk_base.specs.Circle.{is_pid};
+ghost use Rattle.xk_base.specs.Tables.Circle.{is_pid};
 ghost use Rattle.std.specs.Prelude.{◌≡◌, ◌≢◌, ℕ, ◌+◌, ◌*◌, ◌<◌, ◌≤◌, Some, None, true, false, nat_eq, IsSome, IsTrue};
-ghost use Rattle.xk_base.specs.Counting.{put_at};
-ghost use Rattle.xk_base.specs.Windows.{window_at};
+ghost use Rattle.xk_base.specs.Tables.Counting.{put_at};
+ghost use Rattle.xk_base.specs.Numbers.Windows.{window_at};
 ghost use Rattle.ledger_model.specs.Conditions.{CanMakeConsole};
 ghost use Rattle.ledger_model.specs.Places.{in_run, is_user_place, same_place};
 ghost use Rattle.ledger_model.specs.Reach.{is_free, role_at};
@@ -16,7 +16,7 @@ ghost use Rattle.sv32_space.specs.declared.sides.Entry.TheVariants.{At, Free, On
 ghost use Rattle.sv32_space.specs.Spaces.{IsMade};
 ghost use Rattle.sv32_space.specs.SpelledEntries.{IsEntry, entries, entry_of_kind};
 ghost use Rattle.sv32_space.specs.Spellings.{IsKind};
-ghost use Rattle.vm_memory.specs.Changing.{IsFreeFrame, ChangesPagesAlone, own_right, owned_in};
+ghost use Rattle.vm_memory.specs.Pages.Changing.{IsFreeFrame, ChangesPagesAlone, own_right, owned_in};
 ghost use Rattle.vm_memory.specs.Memory.{capacity_of, ledger, processes, ram_of};
 ghost use Rattle.vm_memory.specs.Sound.{IsSound};
 

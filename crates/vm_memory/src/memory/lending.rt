@@ -1,15 +1,15 @@
 //! Pages are lent and moved. No call moves a byte: each is its step of the ledger, whatever the store
 //! tells.
 
-ghost use Rattle.xk_base.specs.Circle.{is_pid};
+ghost use Rattle.xk_base.specs.Tables.Circle.{is_pid};
 ghost use Rattle.std.specs.Prelude.{◌≡◌, ◌≤◌, true, is_some, IsTrue};
 ghost use Rattle.ledger_model.specs.LeastRun.{least_run};
 ghost use Rattle.ledger_model.specs.Loans.{IsFresh, Stands, loans, with_holder, without_lender};
 ghost use Rattle.ledger_model.specs.Steps.{end_loan, give, lend, orphan_loan, pass};
 ghost use Rattle.loan_flags.specs.Sending.{mem_kind};
-ghost use Rattle.vm_memory.specs.Loans.{KeepsSeats, orphans_of};
+ghost use Rattle.vm_memory.specs.Loaning.Loans.{KeepsSeats, orphans_of};
 ghost use Rattle.vm_memory.specs.Memory.{IsUsable, ledger, processes};
-ghost use Rattle.vm_memory.specs.Sending.{IsFreeArrival, send_answer};
+ghost use Rattle.vm_memory.specs.Loaning.Sending.{IsFreeArrival, send_answer};
 ghost use Rattle.vm_memory.specs.Sound.{IsSound};
 ghost use Rattle.xk_base.specs.declared.messages.MemKind.TheVariants.{Move};
 

@@ -1,14 +1,14 @@
 //! Pages are made.
 
-ghost use Rattle.xk_base.specs.Circle.{is_pid};
+ghost use Rattle.xk_base.specs.Tables.Circle.{is_pid};
 ghost use Rattle.std.specs.Prelude.{◌≡◌, ℕ, ◌+◌, ◌<◌, ◌≤◌, true, IfOk, OnOk, OnErr};
 ghost use Rattle.ledger_model.specs.Conditions.{CanMake};
 ghost use Rattle.ledger_model.specs.Ledger.{pages};
 ghost use Rattle.ledger_model.specs.Loans.{bare};
 ghost use Rattle.ledger_model.specs.Steps.{make};
 ghost use Rattle.vm_memory.specs.Bytes.{KeepsStore, MeansBytes, MeansBytesOver};
-ghost use Rattle.vm_memory.specs.Changing.{ChangesPagesAlone};
-ghost use Rattle.vm_memory.specs.Making.{HasMadeFirst, after_console, after_make, console_answer, make_answer, run_place};
+ghost use Rattle.vm_memory.specs.Pages.Changing.{ChangesPagesAlone};
+ghost use Rattle.vm_memory.specs.Pages.Making.{HasMadeFirst, after_console, after_make, console_answer, make_answer, run_place};
 ghost use Rattle.vm_memory.specs.Memory.{IsUsable, capacity_of, frames_for_pages, has_failed, ledger, processes, size, store_of};
 ghost use Rattle.vm_memory.specs.Sound.{IsSound};
 ghost use Rattle.vm_memory.specs.Tie.{IsTied};

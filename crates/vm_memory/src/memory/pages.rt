@@ -7,7 +7,7 @@ ghost use Rattle.ledger_model.specs.Loans.{bare};
 ghost use Rattle.ledger_model.specs.Reach.{reach};
 ghost use Rattle.vm_memory.specs.Using.Access.{contents_reached, reaches_bytes, write_page};
 ghost use Rattle.vm_memory.specs.Bytes.{KeepsStore, MeansBytes, is_near, is_out};
-ghost use Rattle.vm_memory.specs.Lending.{LendsBytes, with_bytes_at};
+ghost use Rattle.vm_memory.specs.Loaning.Lending.{LendsBytes, with_bytes_at};
 ghost use Rattle.vm_memory.specs.Memory.{IsUsable, has_failed, ledger, processes, size, store_of};
 ghost use Rattle.vm_memory.specs.Sound.{IsSound};
 ghost use Rattle.vm_memory.specs.Tie.{IsTied};

@@ -3,7 +3,7 @@
 ghost use Rattle.std.specs.Prelude.{◌≡◌, ℕ};
 ghost use Rattle.ledger_model.specs.Ledger.{pages};
 ghost use Rattle.ledger_model.specs.Loans.{IsFresh, loans};
-ghost use Rattle.vm_memory.specs.Here.{here_at};
+ghost use Rattle.vm_memory.specs.Pages.Here.{here_at};
 ghost use Rattle.ledger_model.specs.WholePages.{HasWholePages};
 ghost use Rattle.vm_memory.specs.Memory.{capacity_of, ledger, processes, ram_of, store_of};
 ghost use Rattle.vm_memory.specs.Sound.{IsSound};

@@ -1,6 +1,6 @@
 //! Pages are removed and reduced.
 
-ghost use Rattle.xk_base.specs.Circle.{is_pid};
+ghost use Rattle.xk_base.specs.Tables.Circle.{is_pid};
 ghost use Rattle.std.specs.Prelude.{OnErr, ◌≡◌, ℕ, ◌+◌, ◌≤◌, true, false};
 ghost use Rattle.ledger_model.specs.LeastRun.{window_pages, window_place};
 ghost use Rattle.ledger_model.specs.Places.{in_run, place_after};
@@ -8,9 +8,9 @@ ghost use Rattle.ledger_model.specs.Reach.{role_at};
 ghost use Rattle.ledger_model.specs.RunTests.{any_lacks, any_on_loan, asks_more, is_on_loan};
 ghost use Rattle.ledger_model.specs.Steps.{forget, reduce, remove};
 ghost use Rattle.vm_memory.specs.Bytes.{MeansBytes};
-ghost use Rattle.vm_memory.specs.Changing.{ChangesPagesAlone};
+ghost use Rattle.vm_memory.specs.Pages.Changing.{ChangesPagesAlone};
 ghost use Rattle.vm_memory.specs.Memory.{IsUsable, ledger, processes, size, store_of};
-ghost use Rattle.vm_memory.specs.Removing.{HasNoLoan, after_reduce, after_remove, clear_answer, reduce_answer, remove_answer};
+ghost use Rattle.vm_memory.specs.Pages.Removing.{HasNoLoan, after_reduce, after_remove, clear_answer, reduce_answer, remove_answer};
 ghost use Rattle.vm_memory.specs.Sound.{IsSound};
 ghost use Rattle.vm_memory.specs.Tie.{IsTied};
 

@@ -4,9 +4,9 @@ ghost use Rattle.std.specs.Prelude.{◌≡◌, ℕ, true, false};
 ghost use Rattle.ledger_model.specs.Conditions.{is_within};
 ghost use Rattle.ledger_model.specs.Places.{place_after};
 ghost use Rattle.ledger_model.specs.RunTests.{console_mapped, fits_window};
-ghost use Rattle.vm_memory.specs.Here.{here_at};
+ghost use Rattle.vm_memory.specs.Pages.Here.{here_at};
 ghost use Rattle.vm_memory.specs.Memory.{ledger, processes};
-ghost use Rattle.vm_memory.specs.RunTests.{any_passes, has_console, is_console_here, is_loan_here, is_nothing, lacks_here, passes};
+ghost use Rattle.vm_memory.specs.Loaning.RunTests.{any_passes, has_console, is_console_here, is_loan_here, is_nothing, lacks_here, passes};
 ghost use Rattle.vm_memory.specs.Sound.{IsSound};
 
 use crate::memory::{Here, Memory};

@@ -1,6 +1,6 @@
 //! A machine with one process: a page of code and the ends of its stack.
 
-ghost use Rattle.xk_base.specs.Circle.{is_pid};
+ghost use Rattle.xk_base.specs.Tables.Circle.{is_pid};
 ghost use Rattle.std.specs.Prelude.{◌≡◌, true, length, IfOk};
 ghost use Rattle.boot_plan.specs.Lawful.{IsLawfulPlan};
 ghost use Rattle.ledger_model.specs.Loans.{IsFresh, loans};

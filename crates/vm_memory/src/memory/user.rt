@@ -4,7 +4,7 @@ ghost use Rattle.std.specs.Prelude.{◌≡◌, ◌+◌, ◌%◌, ◌<◌, ◌≤
 ghost use Rattle.ledger_model.specs.Steps.{written};
 ghost use Rattle.sv32_space.specs.SpelledEntries.{entries};
 ghost use Rattle.vm_memory.specs.Using.EntryAccess.{entry_target};
-ghost use Rattle.xk_base.specs.Windows.{page_of};
+ghost use Rattle.xk_base.specs.Numbers.Windows.{page_of};
 ghost use Rattle.vm_memory.specs.Memory.{processes, ram_of};
 ghost use Rattle.vm_memory.specs.Sound.{IsSound};
 ghost use Rattle.vm_memory.specs.Using.UserStores.{DoesStore};

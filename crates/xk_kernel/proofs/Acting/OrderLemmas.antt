@@ -3,7 +3,7 @@ use Rattle.std.proofs.Common.{◌≡◌, ℕ, true, false, Option, Some, None, I
 use Rattle.std.specs.Prelude.{if◌then◌else◌, unwrap_or, IsTrue}
 use Rattle.std.specs.Option.{option_map, option_map_or}
 use Rattle.std.proofs.lemmas.Bool.{false≢true}
-use Rattle.xk_base.specs.Circle.{is_thread_id}
+use Rattle.xk_base.specs.Tables.Circle.{is_thread_id}
 use Rattle.xk_base.specs.declared.ids.ThreadId.{ThreadId}
 use Rattle.xk_base.proofs.CircleLemmas.{next_id-same, next_id-valid}
 use Rattle.machine_model.specs.State.Machine.{Machine, Thread}

@@ -10,7 +10,7 @@ use Rattle.machine_model.specs.State.Order.{actor}
 use Rattle.machine_model.specs.Stepping.Reservations.{reservation_of}
 use Rattle.machine_model.specs.Stepping.Step.{Recorded, counted, record_of, step, step_by, step_by_if}
 use Rattle.machine_model.specs.State.Changes.{Told}
-use Rattle.machine_model.proofs.TimerLemmas.{timed_unarmed}
+use Rattle.machine_model.proofs.Runs.TimerLemmas.{timed_unarmed}
 use Rattle.sv32_space.specs.Tie.{Held}
 use Rattle.xk_base.specs.declared.ids.ThreadId.{ThreadId}
 use Rattle.xk_kernel.specs.Acting.{Acts, IsDone, reservation_by, told_by}

@@ -3,8 +3,8 @@ use Rattle.std.proofs.Common.{◌≡◌, Bor, MutBor, Bool, true, false, List, �
 use Rattle.std.specs.Prelude.{if◌then◌else◌, IsTrue}
 use Rattle.std.specs.Option.{option_map, option_copied, option_copied_mut}
 use Rattle.std.proofs.lemmas.Bool.{false≢true}
-use Rattle.xk_base.specs.Circle.{is_thread_id, same_thread}
-use Rattle.xk_base.specs.Counting.{put_at}
+use Rattle.xk_base.specs.Tables.Circle.{is_thread_id, same_thread}
+use Rattle.xk_base.specs.Tables.Counting.{put_at}
 use Rattle.xk_base.specs.Log.{LogState}
 use Rattle.xk_base.specs.declared.ids.ThreadId.{ThreadId}
 use Rattle.machine_model.specs.State.Machine.{Machine, Thread}

@@ -7,7 +7,7 @@ use Rattle.std.proofs.lemmas.Bool.Decides.{nat_tests}
 use Rattle.xk_base.specs.declared.ids.Pid.{Pid}
 use Rattle.xk_base.specs.declared.ids.ThreadId.{ThreadId}
 use Rattle.xk_base.specs.declared.ids.Tid.{Tid}
-use Rattle.xk_base.specs.Counting.{least_below}
+use Rattle.xk_base.specs.Tables.Counting.{least_below}
 use Rattle.xk_base.proofs.CountingLemmas.{least_below-same, least_below-Some, least_below-None, least_below-none, least_below-passes, least_below-first, least_below-bound, count_below-none, none_from_count_below}
 use Rattle.machine_model.specs.Ending.Ends.{has_threads}
 use Rattle.machine_model.specs.Calling.ThreadCalls.{free_tid}

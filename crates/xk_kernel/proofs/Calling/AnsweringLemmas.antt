@@ -10,8 +10,8 @@ use Rattle.machine_model.specs.State.Threads.{answer_to, give_answers, thread_id
 use Rattle.sv32_space.specs.Tie.{Held}
 use Rattle.vm_memory.specs.Memory.{processes}
 use Rattle.xk_base.proofs.CircleLemmas.{is_pid-bounds}
-use Rattle.xk_base.specs.Circle.{is_pid, thread_ids}
-use Rattle.xk_base.specs.Replies.{scalar1_words}
+use Rattle.xk_base.specs.Tables.Circle.{is_pid, thread_ids}
+use Rattle.xk_base.specs.Calls.Replies.{scalar1_words}
 use Rattle.xk_base.specs.declared.ids.ThreadId.{ThreadId}
 use Rattle.xk_base.specs.declared.records.What.TheVariants.{Reply}
 use Rattle.xk_kernel.specs.Sound.{IsWhole}

@@ -18,9 +18,9 @@ use Rattle.xk_kernel.specs.Alone.{DiesPlainly}
 use Rattle.syscall_codec.specs.Calls.{Asks}
 use Rattle.syscall_codec.specs.declared.calls.Call.{Call}
 use Rattle.syscall_codec.specs.declared.calls.Call.TheVariants.{MapMemory, Yield, ClaimInterrupt, FreeInterrupt, IncreaseHeap, DecreaseHeap, UpdateMemoryFlags, CreateServerWithAddress, ReceiveMessage, SendMessage, Connect, CreateThread, UnmapMemory, ReturnMemory, TerminateProcess, TrySendMessage, TryConnect, ReturnScalar1, ReturnScalar2, TryReceiveMessage, JoinThread, DestroyServer, GetThreadId, GetProcessId, ForwardMessage}
-use Rattle.xk_base.specs.CallNumbers.{is_call_number}
-use Rattle.xk_base.specs.CallWords.{call_number, is_refused_to_handler}
-use Rattle.xk_base.specs.Replies.{plain_words, scalar1_words, thread_words}
+use Rattle.xk_base.specs.Calls.CallNumbers.{is_call_number}
+use Rattle.xk_base.specs.Calls.CallWords.{call_number, is_refused_to_handler}
+use Rattle.xk_base.specs.Calls.Replies.{plain_words, scalar1_words, thread_words}
 use Rattle.xk_base.specs.declared.errors.XousError.{XousError}
 use Rattle.xk_base.specs.declared.errors.XousError.TheVariants.{InvalidSyscall, UnhandledSyscall}
 

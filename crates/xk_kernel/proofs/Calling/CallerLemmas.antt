@@ -14,8 +14,8 @@ use Rattle.machine_model.specs.Calling.MemoryCalls.{decrease_call, decrease_refu
 use Rattle.machine_model.specs.State.Order.{turn}
 use Rattle.machine_model.specs.Calling.ThreadCalls.{create_call, create_refusals, create_served, join_call, join_refusals, join_served, process_id_call, terminate_call, thread_id_call, yield_call}
 use Rattle.machine_model.specs.State.Threads.{with_state}
-use Rattle.xk_base.specs.Circle.{same_thread}
-use Rattle.xk_base.specs.CallWords.{call_number, heap_bytes, join_tid, map_flags, map_phys, map_size, map_virt, range_address, range_flags, range_size, thread_arguments, thread_entry, thread_sp}
+use Rattle.xk_base.specs.Tables.Circle.{same_thread}
+use Rattle.xk_base.specs.Calls.CallWords.{call_number, heap_bytes, join_tid, map_flags, map_phys, map_size, map_virt, range_address, range_flags, range_size, thread_arguments, thread_entry, thread_sp}
 use Rattle.xk_base.specs.declared.errors.XousError.{XousError}
 
 -- what comes of the call leaves its caller, where no process dies

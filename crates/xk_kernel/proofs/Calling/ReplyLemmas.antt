@@ -7,8 +7,8 @@ use Rattle.std.proofs.lemmas.List.{map-append}
 use Rattle.machine_model.specs.State.Changes.{replies}
 use Rattle.machine_model.specs.State.Machine.{Machine, Thread}
 use Rattle.machine_model.specs.State.Threads.{Answers, both_answers, give_answers, no_answers, with_answer}
-use Rattle.xk_base.specs.Circle.{id_at, listed_ids, thread_ids}
-use Rattle.xk_base.specs.Counting.{listed_below}
+use Rattle.xk_base.specs.Tables.Circle.{id_at, listed_ids, thread_ids}
+use Rattle.xk_base.specs.Tables.Counting.{listed_below}
 use Rattle.xk_base.specs.declared.ids.ThreadId.{ThreadId}
 use Rattle.xk_base.specs.declared.records.What.{What}
 use Rattle.xk_base.specs.declared.records.What.TheVariants.{Reply}

@@ -13,10 +13,10 @@ use Rattle.machine_model.specs.Stepping.Step.{after}
 use Rattle.machine_model.specs.State.Threads.{answer_to, change_thread, give_answers, no_answers, passed, with_answer}
 use Rattle.sv32_space.specs.Tie.{Held}
 use Rattle.xk_base.proofs.CircleLemmas.{id_at-place_of, place_of-bound, place_of-id_at}
-use Rattle.xk_base.specs.Circle.{id_at, is_thread_id, listed_ids, place_of, same_thread, thread_ids}
-use Rattle.xk_base.specs.Counting.{listed_below}
+use Rattle.xk_base.specs.Tables.Circle.{id_at, is_thread_id, listed_ids, place_of, same_thread, thread_ids}
+use Rattle.xk_base.specs.Tables.Counting.{listed_below}
 use Rattle.xk_base.specs.Log.{LogState}
-use Rattle.xk_base.specs.Replies.{refused_words}
+use Rattle.xk_base.specs.Calls.Replies.{refused_words}
 use Rattle.xk_base.specs.declared.errors.XousError.{XousError}
 use Rattle.xk_base.specs.declared.ids.Pid.{Pid}
 use Rattle.xk_base.specs.declared.ids.ThreadId.{ThreadId}

@@ -4,8 +4,8 @@ use Rattle.std.specs.Prelude.{◌==◌, ◌&&◌, is_some, is_none, not}
 use Rattle.std.specs.Option.{option_map}
 use Rattle.std.proofs.lemmas.Bool.{and_parts, eqb-true, false≢true}
 use Rattle.std.proofs.lemmas.Bool.Decides.{nat_tests}
-use Rattle.xk_base.specs.Circle.{is_thread_id}
-use Rattle.xk_base.specs.Counting.{least_below}
+use Rattle.xk_base.specs.Tables.Circle.{is_thread_id}
+use Rattle.xk_base.specs.Tables.Counting.{least_below}
 use Rattle.xk_base.specs.declared.ids.Number.{Number}
 use Rattle.xk_base.specs.declared.ids.Pid.{Pid}
 use Rattle.xk_base.specs.declared.ids.Serial.{Serial}

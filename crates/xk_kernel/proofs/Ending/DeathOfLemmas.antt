@@ -23,7 +23,7 @@ use Rattle.thread_table.specs.ThreadsOf.{threads_of}
 use Rattle.thread_table.specs.declared.table.Threads.{Threads}
 use Rattle.thread_table.specs.declared.thread.Thread.{Thread as TableThread}
 use Rattle.vm_memory.specs.Memory.{Size, ledger, size}
-use Rattle.vm_memory.specs.Removing.{HasNoLoan}
+use Rattle.vm_memory.specs.Pages.Removing.{HasNoLoan}
 use Rattle.vm_memory.specs.Starting.{IsUnlent}
 use Rattle.vm_memory.specs.declared.memory.Memory.{Memory}
 use Rattle.xk_base.specs.declared.ids.Pid.{Pid}

@@ -6,7 +6,7 @@ use Rattle.machine_model.specs.Ending.Ends.{death, forgotten}
 use Rattle.machine_model.specs.State.Machine.{Machine}
 use Rattle.machine_model.specs.State.Threads.{put_thread}
 use Rattle.machine_model.specs.Stepping.Step.{after}
-use Rattle.machine_model.proofs.DeathLemmas.{HasNoServer, death_without_servers}
+use Rattle.machine_model.proofs.Ending.DeathLemmas.{HasNoServer, death_without_servers}
 use Rattle.server_table.specs.ServersOf.{servers_of}
 use Rattle.sv32_space.specs.Tie.{Held}
 use Rattle.xk_base.specs.Log.{LogState}

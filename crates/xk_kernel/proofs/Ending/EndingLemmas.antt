@@ -15,10 +15,10 @@ use Rattle.thread_table.proofs.PlaceLemmas.{same_thread-true}
 use Rattle.thread_table.specs.ThreadsOf.{threads_of}
 use Rattle.thread_table.specs.declared.table.Threads.{Threads}
 use Rattle.xk_base.proofs.CountingLemmas.{least_below-same}
-use Rattle.xk_base.specs.Circle.{same_thread}
-use Rattle.xk_base.specs.Counting.{put_at}
+use Rattle.xk_base.specs.Tables.Circle.{same_thread}
+use Rattle.xk_base.specs.Tables.Counting.{put_at}
 use Rattle.xk_base.specs.Log.{LogState}
-use Rattle.xk_base.specs.Replies.{scalar1_words}
+use Rattle.xk_base.specs.Calls.Replies.{scalar1_words}
 use Rattle.xk_base.specs.declared.ids.Pid.{Pid}
 use Rattle.xk_base.specs.declared.ids.ThreadId.{ThreadId}
 use Rattle.xk_base.specs.declared.records.What.TheVariants.{End, Gone}

@@ -2,8 +2,8 @@
 use Rattle.std.proofs.Common.{◌≡◌, ℕ, ◌≤◌, Bool, true, false, [], ◌∷◌, ◌++◌, map, Option, Some, None, refl, sym, ap, subst, ◌∙◌}
 use Rattle.std.specs.Prelude.{IsTrue}
 use Rattle.machine_laws.proofs.Dying.DeathLemmas.{kill_keeps}
-use Rattle.machine_model.proofs.DeathLemmas.{death_without_servers}
-use Rattle.machine_model.proofs.KeptLemmas.{pick_keeps}
+use Rattle.machine_model.proofs.Ending.DeathLemmas.{death_without_servers}
+use Rattle.machine_model.proofs.Runs.KeptLemmas.{pick_keeps}
 use Rattle.machine_model.specs.State.Changes.{Change, settled}
 use Rattle.machine_model.specs.Ending.Ends.{forgotten}
 use Rattle.machine_model.specs.Stepping.Events.{at_event, killed, killed_if, nothing, picked}
@@ -16,7 +16,7 @@ use Rattle.process_table.specs.ProcessMap.{is_alive}
 use Rattle.process_table.specs.State.{ProcessState}
 use Rattle.sv32_space.specs.Tie.{Held}
 use Rattle.vm_memory.specs.Memory.{processes}
-use Rattle.xk_base.specs.Circle.{is_pid}
+use Rattle.xk_base.specs.Tables.Circle.{is_pid}
 use Rattle.xk_base.specs.Log.{LogState}
 use Rattle.xk_base.specs.declared.ids.Pid.{Pid}
 use Rattle.xk_base.specs.declared.ids.ThreadId.{ThreadId}

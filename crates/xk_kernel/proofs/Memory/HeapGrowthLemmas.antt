@@ -11,7 +11,7 @@ use Rattle.xk_base.specs.declared.ids.Vpn.{Vpn}
 use Rattle.xk_base.specs.declared.limits.TheConstants.{PAGE_SIZE}
 use Rattle.xk_base.specs.declared.pages.Right.{Right}
 use Rattle.xk_base.specs.declared.windows.Window.TheVariants.{Heap}
-use Rattle.xk_base.specs.Windows.{in_window, page_of}
+use Rattle.xk_base.specs.Numbers.Windows.{in_window, page_of}
 use Rattle.ledger_model.specs.Ledger.{Bytes, Ledger, Page, pages}
 use Rattle.ledger_model.specs.Places.{in_run, place_after, run}
 use Rattle.ledger_model.specs.Reach.{is_free}
@@ -30,7 +30,7 @@ use Rattle.process_table.specs.declared.table.Processes.{Processes}
 use Rattle.sv32_space.specs.Tie.{Held}
 use Rattle.syscall_codec.specs.declared.replies.Reply.TheVariants.{Range}
 use Rattle.vm_memory.specs.declared.memory.Memory.{Memory}
-use Rattle.vm_memory.specs.Making.{if_room, make_answer, place_of, run_place}
+use Rattle.vm_memory.specs.Pages.Making.{if_room, make_answer, place_of, run_place}
 use Rattle.vm_memory.specs.Memory.{capacity_of, ledger, processes, size}
 use Rattle.vm_memory.proofs.Changing.SoundMemoryLemmas.{pages-ledger}
 use Rattle.xk_kernel.specs.Calling.{outcome_of}

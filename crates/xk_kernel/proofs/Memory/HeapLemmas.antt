@@ -9,8 +9,8 @@ use Rattle.xk_base.specs.declared.errors.XousError.{XousError}
 use Rattle.xk_base.specs.declared.errors.XousError.TheVariants.{BadAlignment, InvalidLimit, ShareViolation}
 use Rattle.xk_base.specs.declared.ids.Place.{Place}
 use Rattle.xk_base.specs.declared.limits.TheConstants.{PAGE_SIZE}
-use Rattle.xk_base.specs.Circle.{IsPid, is_pid, is_tid, is_thread_id}
-use Rattle.xk_base.specs.Counting.{put_at}
+use Rattle.xk_base.specs.Tables.Circle.{IsPid, is_pid, is_tid, is_thread_id}
+use Rattle.xk_base.specs.Tables.Counting.{put_at}
 use Rattle.boot_plan.specs.Capacity.{capacity}
 use Rattle.ledger_model.specs.Ledger.{Ledger}
 use Rattle.ledger_model.specs.Places.{in_run}
@@ -20,7 +20,7 @@ use Rattle.machine_model.specs.State.Changes.{Outcome, Refused, Served, unless_r
 use Rattle.machine_model.specs.State.Machine.{Machine}
 use Rattle.machine_model.specs.Runs.Matched.{AreHeapsMatched}
 use Rattle.machine_model.specs.Calling.MemoryCalls.{caller_place, decrease_refusals, decrease_served, heap_of, heap_start, is_aligned}
-use Rattle.xk_base.specs.Windows.{page_of}
+use Rattle.xk_base.specs.Numbers.Windows.{page_of}
 use Rattle.process_table.specs.ProcessesOf.{process_count, processes_of}
 use Rattle.process_table.specs.ProcessMap.{change, heap_of as heap_in}
 use Rattle.process_table.specs.State.{ProcessState, new_process, with_heap as heap_set}
@@ -29,7 +29,7 @@ use Rattle.sv32_space.specs.Tie.{Held}
 use Rattle.syscall_codec.specs.declared.replies.Reply.TheVariants.{Plain}
 use Rattle.vm_memory.specs.declared.memory.Memory.{Memory}
 use Rattle.vm_memory.specs.Memory.{ledger, processes, size}
-use Rattle.vm_memory.specs.Removing.{clear_answer}
+use Rattle.vm_memory.specs.Pages.Removing.{clear_answer}
 use Rattle.vm_memory.specs.Sound.{IsSound as IsMemorySound}
 use Rattle.vm_memory.specs.Starting.{IsUnlent}
 use Rattle.xk_kernel.specs.Calling.{outcome_of}

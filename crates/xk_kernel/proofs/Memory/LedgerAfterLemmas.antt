@@ -15,7 +15,7 @@ use Rattle.machine_model.specs.State.Views.{write_to}
 use Rattle.rv32_hart.specs.Running.{bytes_after}
 use Rattle.sv32_space.specs.Tie.{Held}
 use Rattle.vm_memory.specs.declared.memory.Memory.{Memory}
-use Rattle.xk_base.specs.Windows.{page_of}
+use Rattle.xk_base.specs.Numbers.Windows.{page_of}
 use Rattle.vm_memory.specs.Memory.{Size, processes, ledger}
 use Rattle.vm_memory.specs.Sound.{IsSound}
 use Rattle.vm_memory.specs.Using.UserView.{KeepsRest, contents_seen, seen_memory, user_view}

@@ -10,8 +10,8 @@ use Rattle.xk_base.specs.declared.ids.Vpn.{Vpn}
 use Rattle.xk_base.specs.declared.limits.TheConstants.{PAGE_SIZE, CONSOLE_ADDRESS}
 use Rattle.xk_base.specs.declared.pages.Right.{Right}
 use Rattle.xk_base.specs.declared.windows.Window.TheVariants.{Map}
-use Rattle.xk_base.specs.Flags.{flag_execute, has_flag, right_of}
-use Rattle.xk_base.specs.Replies.{range_words}
+use Rattle.xk_base.specs.Calls.Flags.{flag_execute, has_flag, right_of}
+use Rattle.xk_base.specs.Calls.Replies.{range_words}
 use Rattle.ledger_model.specs.Ledger.{Ledger, pages}
 use Rattle.ledger_model.specs.LeastRun.{least_run}
 use Rattle.ledger_model.specs.RunTests.{any_used, console_mapped, fits_window}
@@ -22,7 +22,7 @@ use Rattle.machine_model.specs.Calling.MemoryCalls.{are_bad_flags, are_too_many,
 use Rattle.sv32_space.specs.Tie.{Held}
 use Rattle.syscall_codec.specs.declared.replies.Reply.TheVariants.{Range}
 use Rattle.vm_memory.specs.declared.memory.Memory.{Memory}
-use Rattle.vm_memory.specs.Making.{console_answer, if_room, make_answer, place_of, run_found, run_place}
+use Rattle.vm_memory.specs.Pages.Making.{console_answer, if_room, make_answer, place_of, run_found, run_place}
 use Rattle.vm_memory.specs.Memory.{capacity_of, ledger, processes, size}
 use Rattle.vm_memory.proofs.Changing.AnsweringLemmas.{run_answered}
 use Rattle.xk_kernel.specs.Calling.{outcome_of}

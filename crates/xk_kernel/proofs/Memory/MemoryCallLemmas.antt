@@ -5,7 +5,7 @@ use Rattle.std.specs.Prelude.{◌&&◌, Result, Ok, Err}
 use Rattle.std.specs.Option.{option_map}
 use Rattle.std.proofs.lemmas.Bool.{false≢true, and_from, and_parts, or_right}
 use Rattle.std.proofs.lemmas.Option.{none-some, same_Some}
-use Rattle.xk_base.specs.Circle.{is_pid, is_tid, is_thread_id}
+use Rattle.xk_base.specs.Tables.Circle.{is_pid, is_tid, is_thread_id}
 use Rattle.xk_base.specs.declared.errors.XousError.{XousError}
 use Rattle.xk_base.specs.declared.errors.XousError.TheVariants.{BadAlignment, BadAddress, ShareViolation, AccessDenied, InvalidSyscall}
 use Rattle.xk_base.specs.declared.ids.Pid.{Pid}
@@ -13,7 +13,7 @@ use Rattle.xk_base.specs.declared.ids.Place.{Place}
 use Rattle.xk_base.specs.declared.ids.Vpn.{Vpn}
 use Rattle.xk_base.specs.declared.limits.TheConstants.{PAGE_SIZE}
 use Rattle.xk_base.specs.declared.pages.Right.{Right}
-use Rattle.xk_base.specs.Flags.{right_of}
+use Rattle.xk_base.specs.Calls.Flags.{right_of}
 use Rattle.boot_plan.specs.Capacity.{capacity}
 use Rattle.ledger_model.specs.Ledger.{Ledger, Page, loan_of}
 use Rattle.ledger_model.specs.Places.{in_run, same_place}
@@ -22,14 +22,14 @@ use Rattle.ledger_model.specs.Steps.{make, make_console, new_page, reduce, remov
 use Rattle.machine_model.specs.State.Changes.{Served, unless_refused}
 use Rattle.machine_model.specs.State.Machine.{Machine}
 use Rattle.machine_model.specs.Calling.MemoryCalls.{are_bad_flags, caller_place, is_bad_range, unmap_refusals, unmap_served, update_refusals, update_served}
-use Rattle.xk_base.specs.Windows.{page_of}
+use Rattle.xk_base.specs.Numbers.Windows.{page_of}
 use Rattle.sv32_space.specs.Tie.{Held}
 use Rattle.syscall_codec.specs.declared.replies.Reply.TheVariants.{Plain}
 use Rattle.vm_memory.specs.declared.memory.Memory.{Memory}
 use Rattle.vm_memory.specs.Bytes.{MeansBytesOver, is_known, none_out}
-use Rattle.vm_memory.specs.Making.{after_console, after_make, place_of}
+use Rattle.vm_memory.specs.Pages.Making.{after_console, after_make, place_of}
 use Rattle.vm_memory.specs.Memory.{ledger, processes, size}
-use Rattle.vm_memory.specs.Removing.{after_reduce, after_remove, reduce_answer, remove_answer}
+use Rattle.vm_memory.specs.Pages.Removing.{after_reduce, after_remove, reduce_answer, remove_answer}
 use Rattle.vm_memory.specs.Sound.{IsSound as IsMemorySound}
 use Rattle.vm_memory.specs.Starting.{IsUnlent}
 use Rattle.vm_memory.proofs.Changing.CallLemmas.{sound-none_out}

@@ -5,7 +5,7 @@ use Rattle.std.proofs.lemmas.Bool.{eqb-true, false≢true}
 use Rattle.xk_base.specs.declared.pages.Access.TheVariants.{Fetch, Load, Store}
 use Rattle.xk_base.specs.declared.pages.Width.{Width}
 use Rattle.xk_base.specs.declared.pages.Width.TheVariants.{Byte, Half, Word}
-use Rattle.xk_base.specs.Registers.{reg_at, with_reg}
+use Rattle.xk_base.specs.Calls.Registers.{reg_at, with_reg}
 use Rattle.xk_base.specs.UserMemory.{Memory, Timer, size_of, number_at, number_loaded, timer_at}
 use Rattle.rv32_words.specs.declared.insn.Insn.{Insn}
 use Rattle.rv32_words.specs.declared.insn.Insn.TheVariants.{Jal, Jalr, Beq, Bne, Blt, Bge, Bltu, Bgeu, Lb, Lh, Lw, Lbu, Lhu, Sb, Sh, Sw}

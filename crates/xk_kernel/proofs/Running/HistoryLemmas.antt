@@ -11,7 +11,7 @@ use Rattle.machine_model.specs.Stepping.Events.{picked, raised, killed, nothing}
 use Rattle.machine_model.specs.State.Machine.{Machine}
 use Rattle.machine_model.specs.State.Order.{actor, turn, ready_at, next_ready}
 use Rattle.machine_model.proofs.StepLemmas.{next_ready_passes, none_is_ready}
-use Rattle.xk_base.specs.Circle.{is_pid, is_thread_id}
+use Rattle.xk_base.specs.Tables.Circle.{is_pid, is_thread_id}
 use Rattle.std.proofs.lemmas.Bool.{false≢true}
 use Rattle.xk_base.specs.declared.ids.ThreadId.{ThreadId}
 use Rattle.machine_model.specs.Stepping.Step.{step}

@@ -12,7 +12,7 @@ use Rattle.machine_model.specs.Ending.Closing.{closed, servers_closed, senders_q
 use Rattle.machine_model.specs.Ending.Ends.{death, forgotten}
 use Rattle.machine_model.specs.Stepping.Events.{nothing, picked, raised, raised_if, killed, killed_if}
 use Rattle.machine_model.specs.Stepping.Reservations.{unreserved}
-use Rattle.machine_model.proofs.TimerLemmas.{pended_raised, timed_raised}
+use Rattle.machine_model.proofs.Runs.TimerLemmas.{pended_raised, timed_raised}
 use Rattle.machine_model.specs.State.Machine.{Machine, Claim}
 use Rattle.machine_model.specs.State.Order.{actor, turn}
 use Rattle.machine_model.specs.Stepping.Step.{acted_if_there, counted, step, step_by, step_by_if}

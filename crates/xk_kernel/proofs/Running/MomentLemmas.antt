@@ -4,7 +4,7 @@ use Rattle.std.specs.Prelude.{if◌then◌else◌}
 use Rattle.std.specs.Bool.{IsTrue}
 use Rattle.event_text.specs.declared.event.Event.{Event}
 use Rattle.event_text.specs.declared.event.Event.TheVariants.{Tick, Pick, Irq, Kill}
-use Rattle.xk_base.specs.Circle.{is_thread_id}
+use Rattle.xk_base.specs.Tables.Circle.{is_thread_id}
 use Rattle.machine_model.specs.Stepping.Events.{nothing}
 use Rattle.machine_model.specs.State.Machine.{Machine}
 use Rattle.machine_model.specs.Runs.Matched.{Matched}

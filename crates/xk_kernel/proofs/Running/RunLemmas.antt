@@ -6,7 +6,7 @@ use Rattle.std.specs.Prelude.{unwrap_or, if◌then◌else◌}
 use Rattle.std.specs.Option.{option_map}
 use Rattle.xk_base.specs.declared.ids.Pid.{Pid}
 use Rattle.xk_base.specs.declared.ids.ThreadId.{ThreadId}
-use Rattle.xk_base.specs.Circle.{same_thread}
+use Rattle.xk_base.specs.Tables.Circle.{same_thread}
 use Rattle.machine_model.specs.Stepping.Reservations.{reserved_by}
 use Rattle.xk_base.specs.UserMemory.{Content, Memory as SeenMemory}
 use Rattle.machine_model.specs.Hart.Instructions.{Executed, Next, Stores, StoresToConsole, StoresToTimer, CallsKernel, Traps}

@@ -13,13 +13,13 @@ use Rattle.boot_plan.specs.declared.plans.ProcPlan.{ProcPlan}
 use Rattle.irq_claims.specs.ClaimMap.{ClaimMap, no_claims}
 use Rattle.irq_claims.specs.ClaimsOf.{claims_of}
 use Rattle.ledger_model.specs.Lawful.{IsLawful}
-use Rattle.ledger_model.proofs.BareLemmas.{bare-lawful}
+use Rattle.ledger_model.proofs.Pages.BareLemmas.{bare-lawful}
 use Rattle.ledger_model.specs.Loans.{bare}
 use Rattle.machine_model.specs.State.Machine.{Thread, Idle, Ready}
 use Rattle.machine_model.specs.Runs.Matched.{Matched}
 use Rattle.machine_model.specs.State.Start.{HasThread, IsStart}
 use Rattle.machine_model.specs.State.Threads.{first_handler_thread, first_thread, thread_id}
-use Rattle.machine_model.proofs.StartLemmas.{start_matched}
+use Rattle.machine_model.proofs.State.StartLemmas.{start_matched}
 use Rattle.msg_queue.specs.Seats.{used_of}
 use Rattle.process_table.specs.ProcessMap.{ProcessMap, new_processes}
 use Rattle.process_table.specs.ProcessesOf.{process_count as processes_made, processes_of}
@@ -33,7 +33,7 @@ use Rattle.vm_memory.specs.Memory.{Size, blank_ledger, capacity_of, ledger, proc
 use Rattle.vm_memory.specs.Sound.{IsSound as IsMemorySound}
 use Rattle.vm_memory.specs.Starting.{IsUnlent}
 use Rattle.vm_memory.proofs.Changing.SoundMemoryLemmas.{bare-ledger}
-use Rattle.xk_base.specs.Circle.{is_pid, is_thread_id}
+use Rattle.xk_base.specs.Tables.Circle.{is_pid, is_thread_id}
 use Rattle.xk_base.specs.declared.ids.Pid.{Pid}
 use Rattle.xk_base.specs.declared.ids.ThreadId.{ThreadId}
 use Rattle.xk_base.specs.declared.limits.TheConstants.{RECORD_LIMIT}

@@ -14,8 +14,8 @@ use Rattle.boot_plan.specs.declared.plans.ProcPlan.{ProcPlan}
 use Rattle.ledger_model.specs.Ledger.{Page, loan_of}
 use Rattle.vm_memory.specs.FirstLedger.{first_ledger, first_page, planned_page, process_of}
 use Rattle.vm_memory.specs.Starting.{IsUnlent}
-use Rattle.xk_base.specs.Circle.{is_pid}
-use Rattle.xk_base.specs.Windows.{in_window, window_at}
+use Rattle.xk_base.specs.Tables.Circle.{is_pid}
+use Rattle.xk_base.specs.Numbers.Windows.{in_window, window_at}
 use Rattle.xk_base.specs.declared.ids.Place.{Place}
 use Rattle.xk_base.specs.declared.windows.Window.TheVariants.{Heap}
 

@@ -13,7 +13,7 @@ ghost use Rattle.thread_table.specs.ThreadsOf.{process_count, threads_of};
 ghost use Rattle.vm_memory.specs.Bytes.{KeepsStore};
 ghost use Rattle.vm_memory.specs.Memory.{size, store_of};
 ghost use Rattle.vm_memory.specs.Tie.{IsTied};
-ghost use Rattle.xk_base.specs.Circle.{IsPid};
+ghost use Rattle.xk_base.specs.Tables.Circle.{IsPid};
 ghost use Rattle.xk_base.specs.declared.ids.ThreadId.{ThreadId as Id};
 ghost use Rattle.xk_base.specs.declared.ids.Tid.{Tid as TidNumber};
 ghost use Rattle.xk_base.specs.declared.limits.TheConstants.{RECORD_LIMIT};

@@ -7,7 +7,7 @@ ghost use Rattle.machine_model.specs.Ending.Ends.{death, forgotten, is_joining, 
 ghost use Rattle.machine_model.specs.State.Order.{ready_at};
 ghost use Rattle.machine_model.specs.Stepping.Step.{after};
 ghost use Rattle.vm_memory.specs.Memory.{processes};
-ghost use Rattle.xk_base.specs.Circle.{is_pid};
+ghost use Rattle.xk_base.specs.Tables.Circle.{is_pid};
 ghost use Rattle.xk_base.specs.declared.records.What.TheVariants.{End};
 ghost use Rattle.xk_kernel.specs.Sound.{IsUsable, IsWhole, Keeps};
 ghost use Rattle.xk_kernel.specs.State.{machine_of};

@@ -4,8 +4,8 @@ ghost use Rattle.std.specs.Prelude.{◌≡◌, ◌==◌, ◌/◌, if◌then◌el
 ghost use Rattle.machine_model.specs.State.Changes.{Served, unless_refused};
 ghost use Rattle.machine_model.specs.Runs.Matched.{AreHeapsMatched};
 ghost use Rattle.machine_model.specs.Calling.MemoryCalls.{are_bad_flags, is_bad_range, decrease_refusals, decrease_served, increase_refusals, increase_served, map_refusals, map_served, unmap_refusals, unmap_served, update_refusals, update_served};
-ghost use Rattle.xk_base.specs.Windows.{page_of};
-ghost use Rattle.xk_base.specs.Flags.{right_of};
+ghost use Rattle.xk_base.specs.Numbers.Windows.{page_of};
+ghost use Rattle.xk_base.specs.Calls.Flags.{right_of};
 ghost use Rattle.xk_kernel.specs.Calling.{outcome_of};
 ghost use Rattle.xk_kernel.specs.Sound.{IsUsable, IsWhole, Keeps};
 ghost use Rattle.xk_kernel.specs.State.{machine_of};

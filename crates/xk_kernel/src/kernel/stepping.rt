@@ -9,7 +9,7 @@ ghost use Rattle.machine_model.specs.Stepping.Step.{console_told, ends_handler, 
 ghost use Rattle.vm_memory.specs.Bytes.{none_out};
 ghost use Rattle.vm_memory.specs.Memory.{processes, frames_for_pages, store_of};
 ghost use Rattle.vm_memory.specs.Tie.{IsTied};
-ghost use Rattle.xk_base.specs.Circle.{is_thread_id};
+ghost use Rattle.xk_base.specs.Tables.Circle.{is_thread_id};
 ghost use Rattle.xk_base.specs.Outside.{Rose};
 ghost use Rattle.xk_kernel.specs.Acting.{Acts};
 ghost use Rattle.xk_kernel.specs.Sound.{IsSound, IsUsable, IsWhole, Keeps};

@@ -3,7 +3,7 @@
 ghost use Rattle.std.specs.Prelude.{◌≡◌, ◌+◌, ◌<◌, [], ◌∷◌, length, IsSome, IsTrue, Some};
 ghost use Rattle.machine_model.specs.State.Threads.{answer_to, change_thread, give_answers, new_thread, passed};
 ghost use Rattle.vm_memory.specs.Memory.{processes};
-ghost use Rattle.xk_base.specs.Circle.{is_thread_id};
+ghost use Rattle.xk_base.specs.Tables.Circle.{is_thread_id};
 ghost use Rattle.xk_base.specs.declared.records.What.TheVariants.{Reply};
 ghost use Rattle.xk_kernel.specs.Sound.{IsWhole};
 ghost use Rattle.send_path.specs.Parts.{thread_of};

@@ -1,4 +1,4 @@
-use Rattle.ledger_model.proofs.LeastRunLemmas.{home_places-ascends, home_places-contains, home_places-each, home_places-once}
+use Rattle.ledger_model.proofs.Runs.LeastRunLemmas.{home_places-ascends, home_places-contains, home_places-each, home_places-once}
 use Rattle.ledger_model.proofs.listing_laws.homes_are_listed.Goals as goal
 
 pub returns-clause-members : goal.returns-clause-members

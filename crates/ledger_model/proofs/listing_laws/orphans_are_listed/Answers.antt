@@ -1,4 +1,4 @@
-use Rattle.ledger_model.proofs.LeastRunLemmas.{orphan_places-ascends, orphan_places-contains, orphan_places-each, orphan_places-once}
+use Rattle.ledger_model.proofs.Runs.LeastRunLemmas.{orphan_places-ascends, orphan_places-contains, orphan_places-each, orphan_places-once}
 use Rattle.ledger_model.proofs.listing_laws.orphans_are_listed.Goals as goal
 
 pub returns-clause-members : goal.returns-clause-members

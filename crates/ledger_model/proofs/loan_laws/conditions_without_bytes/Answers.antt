@@ -1,4 +1,4 @@
-use Rattle.ledger_model.proofs.BareLemmas.{bare-can_give, bare-can_lend, bare-can_pass}
+use Rattle.ledger_model.proofs.Pages.BareLemmas.{bare-can_give, bare-can_lend, bare-can_pass}
 use Rattle.ledger_model.proofs.loan_laws.conditions_without_bytes.Goals as goal
 
 pub returns-clause-lend : goal.returns-clause-lend

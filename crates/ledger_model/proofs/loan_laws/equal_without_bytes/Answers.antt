@@ -1,4 +1,4 @@
-use Rattle.ledger_model.proofs.BareLemmas.{bare-lawful, bare-reach}
+use Rattle.ledger_model.proofs.Pages.BareLemmas.{bare-lawful, bare-reach}
 use Rattle.ledger_model.proofs.Stepping.WritingLemmas.{bare-loans, bare-pages}
 use Rattle.ledger_model.proofs.loan_laws.equal_without_bytes.Goals as goal
 

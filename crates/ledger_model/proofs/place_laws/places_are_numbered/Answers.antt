@@ -1,4 +1,4 @@
-use Rattle.ledger_model.proofs.NumberingLemmas.{number_of, number_of-bound, place_at-lies, place_at-number_of, place_at-rises}
+use Rattle.ledger_model.proofs.Loans.NumberingLemmas.{number_of, number_of-bound, place_at-lies, place_at-number_of, place_at-rises}
 use Rattle.ledger_model.proofs.place_laws.places_are_numbered.Goals as goal
 
 pub returns-clause-ascends : goal.returns-clause-ascends

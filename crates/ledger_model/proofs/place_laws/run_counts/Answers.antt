@@ -1,4 +1,4 @@
-use Rattle.ledger_model.proofs.NumberingLemmas.{count_places-run}
+use Rattle.ledger_model.proofs.Loans.NumberingLemmas.{count_places-run}
 use Rattle.ledger_model.proofs.place_laws.run_counts.Goals as goal
 
 pub returns : goal.returns

@@ -1,6 +1,6 @@
 use Rattle.std.proofs.Common.{sym, ◌∙◌}
 use Rattle.ledger_model.specs.Small.{ledger_of}
-use Rattle.ledger_model.proofs.LeastRunLemmas.{least_run-search, least_run-search_end}
+use Rattle.ledger_model.proofs.Runs.LeastRunLemmas.{least_run-search, least_run-search_end}
 use Rattle.ledger_model.proofs.small.find_least_run.Goals as goal
 
 pub returns-then-is_run_free : goal.returns-then-is_run_free

@@ -1,6 +1,6 @@
 use Rattle.std.proofs.Common.{◌≡◌, ℕ, ◌<◌, true, false}
 use Rattle.ledger_model.specs.Small.{ledger_of, is_listed}
-use Rattle.ledger_model.proofs.LeastRunLemmas.{fits_at}
+use Rattle.ledger_model.proofs.Runs.LeastRunLemmas.{fits_at}
 use Rattle.ledger_model.proofs.small.find_least_run.Given as goal
 
 -- no run that begins before the k-th page of the window will do

@@ -1,6 +1,6 @@
 use Rattle.std.proofs.Common.{sym, ◌∙◌, arith}
 use Rattle.ledger_model.specs.Small.{ledger_of}
-use Rattle.ledger_model.proofs.LeastRunLemmas.{is_free_run-false, is_free_run-from}
+use Rattle.ledger_model.proofs.Runs.LeastRunLemmas.{is_free_run-false, is_free_run-from}
 use Rattle.ledger_model.proofs.small.is_run_free.Goals as goal
 
 pub returns-then-not-is_free_place : goal.returns-then-not-is_free_place

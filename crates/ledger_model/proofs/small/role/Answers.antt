@@ -1,5 +1,5 @@
 use Rattle.std.proofs.Common.{sym}
-use Rattle.ledger_model.proofs.SmallLemmas.{small_home, small_orphan, small_holder, small_free, held_has_loan}
+use Rattle.ledger_model.proofs.Pages.SmallLemmas.{small_home, small_orphan, small_holder, small_free, held_has_loan}
 use Rattle.ledger_model.proofs.small.role.Goals as goal
 
 pub returns-in-Some : goal.returns-in-Some

@@ -1,4 +1,4 @@
-use Rattle.ledger_model.proofs.WholePageLemmas.{end_loan_whole, give_whole, lend_whole, orphan_loan_whole, pass_whole}
+use Rattle.ledger_model.proofs.Pages.WholePageLemmas.{end_loan_whole, give_whole, lend_whole, orphan_loan_whole, pass_whole}
 use Rattle.ledger_model.proofs.whole_laws.lent_pages_stay_whole.Goals as goal
 
 pub returns-clause-lent : goal.returns-clause-lent

@@ -1,4 +1,4 @@
-use Rattle.ledger_model.proofs.WholePageLemmas.{forget_whole, make_console_whole, make_whole, reduce_whole, remove_whole, write_whole}
+use Rattle.ledger_model.proofs.Pages.WholePageLemmas.{forget_whole, make_console_whole, make_whole, reduce_whole, remove_whole, write_whole}
 use Rattle.ledger_model.proofs.whole_laws.pages_stay_whole.Goals as goal
 
 pub returns-clause-made : goal.returns-clause-made

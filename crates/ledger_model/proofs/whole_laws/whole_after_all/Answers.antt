@@ -1,4 +1,4 @@
-use Rattle.ledger_model.proofs.WholePageLemmas.{steps_whole}
+use Rattle.ledger_model.proofs.Pages.WholePageLemmas.{steps_whole}
 use Rattle.ledger_model.proofs.whole_laws.whole_after_all.Goals as goal
 
 pub returns : goal.returns

@@ -1,5 +1,5 @@
 use Rattle.std.proofs.Common.{IsTrue, ℕ, ◌≤◌}
-use Rattle.xk_base.specs.Circle.{is_pid}
+use Rattle.xk_base.specs.Tables.Circle.{is_pid}
 use Rattle.sv32_space.specs.SpelledEntries.{entries}
 use Rattle.loan_flags.proofs.FreeRunLemmas.{IsSearched}
 use Rattle.loan_flags.proofs.free_runs.free_run.Given as goal

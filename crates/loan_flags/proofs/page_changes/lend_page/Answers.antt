@@ -1,5 +1,5 @@
 use Rattle.std.proofs.Common.{ap, true, ℕ, ◌∙◌, ◌≡◌}
-use Rattle.xk_base.specs.Circle.{is_pid}
+use Rattle.xk_base.specs.Tables.Circle.{is_pid}
 use Rattle.sv32_space.specs.declared.sides.Entry.TheVariants.{At, Free}
 use Rattle.sv32_space.specs.declared.sides.Side.TheVariants.{Own}
 use Rattle.sv32_space.specs.PageChanges.{with_entry}

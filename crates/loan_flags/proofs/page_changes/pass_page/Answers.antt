@@ -1,5 +1,5 @@
 use Rattle.std.proofs.Common.{Some, ap, true, ℕ, ◌∙◌, ◌≡◌}
-use Rattle.xk_base.specs.Circle.{is_pid}
+use Rattle.xk_base.specs.Tables.Circle.{is_pid}
 use Rattle.phys_pages.specs.Owners.{infos}
 use Rattle.sv32_space.specs.Agreement.{holder_side, on_loan, seat_in}
 use Rattle.sv32_space.specs.PageChanges.{held_at, with_entry, with_info}

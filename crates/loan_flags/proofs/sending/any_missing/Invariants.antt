@@ -1,5 +1,5 @@
 use Rattle.std.proofs.Common.{IsTrue, false, ℕ, ◌<◌, ◌≡◌}
-use Rattle.xk_base.specs.Circle.{is_pid}
+use Rattle.xk_base.specs.Tables.Circle.{is_pid}
 use Rattle.ledger_model.specs.Places.{place_after}
 use Rattle.sv32_space.specs.EntryLedger.{is_free_entry}
 use Rattle.sv32_space.specs.SpelledEntries.{entries}

@@ -1,4 +1,4 @@
-use Rattle.machine_model.proofs.KeptLemmas.{pick_keeps}
+use Rattle.machine_model.proofs.Runs.KeptLemmas.{pick_keeps}
 use Rattle.machine_model.proofs.kept_laws.pick_keeps_matched.Goals as goal
 
 -- src/kept_laws.rt

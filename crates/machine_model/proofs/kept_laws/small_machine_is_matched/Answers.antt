@@ -1,4 +1,4 @@
-use Rattle.machine_model.proofs.StartLemmas.{small_matched}
+use Rattle.machine_model.proofs.State.StartLemmas.{small_matched}
 use Rattle.machine_model.proofs.kept_laws.small_machine_is_matched.Goals as goal
 
 -- src/kept_laws.rt

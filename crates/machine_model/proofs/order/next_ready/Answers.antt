@@ -1,6 +1,6 @@
 use Rattle.std.proofs.Common.{◌≤◌, ◌∙◌, ap, Some, length, arith}
 use Rattle.machine_model.proofs.order.next_ready.Goals as goal
-use Rattle.machine_model.proofs.OrderLemmas.{found_is_next, none_is_next}
+use Rattle.machine_model.proofs.State.OrderLemmas.{found_is_next, none_is_next}
 
 -- src/order.rt:36:13
 pub returns-then-ready-place : goal.returns-then-ready-place

@@ -1,5 +1,5 @@
 use Rattle.std.proofs.Common.{◌≡◌, ℕ, ◌<◌, false}
-use Rattle.xk_base.specs.Circle.{id_behind}
+use Rattle.xk_base.specs.Tables.Circle.{id_behind}
 use Rattle.machine_model.specs.State.Order.{ready_at}
 use Rattle.machine_model.proofs.order.next_ready.Given as goal
 

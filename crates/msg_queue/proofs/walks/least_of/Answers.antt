@@ -3,7 +3,7 @@ use Rattle.std.proofs.lemmas.List.{append-nil}
 use Rattle.msg_queue.specs.Chains.{chain}
 use Rattle.msg_queue.specs.Seats.{IsFirstOf}
 use Rattle.msg_queue.specs.Shown.{messages}
-use Rattle.msg_queue.proofs.SpotLemmas.{at_first, at_end, at_slot, at_next, at_within, spot_read}
+use Rattle.msg_queue.proofs.Rings.SpotLemmas.{at_first, at_end, at_slot, at_next, at_within, spot_read}
 use Rattle.msg_queue.proofs.PlaceLemmas.{next_message, all_messages}
 use Rattle.msg_queue.proofs.walks.least_of.Goals as goal
 

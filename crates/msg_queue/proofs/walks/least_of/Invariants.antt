@@ -3,7 +3,7 @@ use Rattle.msg_queue.specs.Chains.{chain}
 use Rattle.msg_queue.specs.Seats.{IsFirstOf}
 use Rattle.msg_queue.specs.Shown.{messages}
 use Rattle.msg_queue.specs.declared.held.Held.{Held}
-use Rattle.msg_queue.proofs.SpotLemmas.{IsAt}
+use Rattle.msg_queue.proofs.Rings.SpotLemmas.{IsAt}
 use Rattle.msg_queue.proofs.walks.least_of.Given as goal
 
 -- the lowest is the first of the messages before this place, with those seen before

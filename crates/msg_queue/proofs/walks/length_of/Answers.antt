@@ -1,6 +1,6 @@
 use Rattle.std.proofs.Common.{arith}
 use Rattle.msg_queue.specs.Chains.{chain}
-use Rattle.msg_queue.proofs.SpotLemmas.{at_end, at_slot, at_next}
+use Rattle.msg_queue.proofs.Rings.SpotLemmas.{at_end, at_slot, at_next}
 use Rattle.msg_queue.proofs.walks.length_of.Goals as goal
 
 pub returns-then-spot : goal.returns-then-spot

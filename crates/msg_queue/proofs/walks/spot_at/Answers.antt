@@ -1,6 +1,6 @@
 use Rattle.std.proofs.Common.{◌≡◌, length, ◌∙◌, arith}
 use Rattle.msg_queue.specs.Chains.{chain}
-use Rattle.msg_queue.proofs.SpotLemmas.{at_end, at_slot, at_next, spot_past}
+use Rattle.msg_queue.proofs.Rings.SpotLemmas.{at_end, at_slot, at_next, spot_past}
 use Rattle.msg_queue.proofs.walks.spot_at.Goals as goal
 
 pub returns-then-spot : goal.returns-then-spot

@@ -1,5 +1,5 @@
 use Rattle.msg_queue.specs.Chains.{chain}
-use Rattle.msg_queue.proofs.SpotLemmas.{IsAt}
+use Rattle.msg_queue.proofs.Rings.SpotLemmas.{IsAt}
 use Rattle.msg_queue.proofs.walks.spot_at.Given as goal
 
 abbrev pub invariant-loop-place : goal.invariant-loop-place

@@ -1,7 +1,7 @@
 use Rattle.std.proofs.Common.{◌≡◌, ap, sym, ◌∙◌, length, arith}
 use Rattle.msg_queue.specs.Chains.{chain}
 use Rattle.msg_queue.specs.Spots.{spot_in, slot_has}
-use Rattle.msg_queue.proofs.SpotLemmas.{at_end, at_slot, at_next, at_within, spot_read}
+use Rattle.msg_queue.proofs.Rings.SpotLemmas.{at_end, at_slot, at_next, at_within, spot_read}
 use Rattle.msg_queue.proofs.PlaceLemmas.{found_slot, passed_slot, past_slots}
 use Rattle.msg_queue.proofs.walks.spot_of.Goals as goal
 

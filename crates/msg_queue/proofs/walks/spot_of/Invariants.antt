@@ -2,7 +2,7 @@ use Rattle.std.proofs.Common.{◌≤◌}
 use Rattle.msg_queue.specs.Chains.{chain}
 use Rattle.msg_queue.specs.Seats.{place_of}
 use Rattle.msg_queue.specs.Shown.{messages}
-use Rattle.msg_queue.proofs.SpotLemmas.{IsAt}
+use Rattle.msg_queue.proofs.Rings.SpotLemmas.{IsAt}
 use Rattle.msg_queue.proofs.walks.spot_of.Given as goal
 
 -- no message before this place has the number

@@ -1,6 +1,6 @@
 use Rattle.std.proofs.Common.{◌%◌, refl}
 use Rattle.std.proofs.lemmas.Bool.{eq-eqb, ne_eqb}
-use Rattle.xk_base.specs.Registers.{with_reg}
+use Rattle.xk_base.specs.Calls.Registers.{with_reg}
 use Rattle.machine_model.specs.Hart.Atomics.{operates, result_of}
 use Rattle.machine_model.specs.Hart.Instructions.{following, store_misaligned, store_page_fault}
 use Rattle.rv32_hart.proofs.AccessLemmas.{kept}

@@ -1,6 +1,6 @@
 use Rattle.std.proofs.Common.{refl}
 use Rattle.xk_base.specs.declared.pages.Width.TheVariants.{Word}
-use Rattle.xk_base.specs.Registers.{with_reg}
+use Rattle.xk_base.specs.Calls.Registers.{with_reg}
 use Rattle.machine_model.specs.Hart.Instructions.{following, store_page_fault}
 use Rattle.rv32_hart.specs.declared.ran.Ran.TheVariants as ran
 use Rattle.rv32_hart.proofs.AccessLemmas.{put_done, put_device}

@@ -1,5 +1,5 @@
 use Rattle.std.proofs.Common.{◌∙◌, sym, ap, refl}
-use Rattle.xk_base.specs.Registers.{with_reg}
+use Rattle.xk_base.specs.Calls.Registers.{with_reg}
 use Rattle.machine_model.specs.Hart.Instructions.{following, load_misaligned, load_page_fault, loads}
 use Rattle.rv32_hart.specs.Operations.{extended}
 use Rattle.rv32_hart.specs.Running.{DoesExecute}

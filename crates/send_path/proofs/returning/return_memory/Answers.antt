@@ -4,14 +4,14 @@ use Rattle.ledger_model.specs.Loans.{loans}
 use Rattle.ledger_model.specs.Steps.{end_loan}
 use Rattle.machine_model.specs.Messaging.Messages.{is_lend, is_lend_of}
 use Rattle.machine_model.specs.State.Changes.{replies}
-use Rattle.xk_base.specs.Sids.{serial_of}
+use Rattle.xk_base.specs.Tables.Sids.{serial_of}
 use Rattle.machine_model.specs.State.Threads.{answer_to, both_answers, passed}
 use Rattle.machine_model.specs.Messaging.ReturnCalls.{sender_gets}
 use Rattle.boot_plan.specs.Capacity.{capacity}
 use Rattle.vm_memory.specs.Memory.{Size, ledger}
 use Rattle.server_table.specs.ServersOf.{servers_of}
 use Rattle.thread_table.specs.ThreadsOf.{process_count}
-use Rattle.xk_base.specs.Replies.{plain_words, returned_words}
+use Rattle.xk_base.specs.Calls.Replies.{plain_words, returned_words}
 use Rattle.xk_base.specs.declared.messages.Message.{Message}
 use Rattle.send_path.specs.Parts.{threads_shown, with_parts}
 use Rattle.send_path.specs.Rows.{log_with, memory_row}

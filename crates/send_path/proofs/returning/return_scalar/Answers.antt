@@ -3,14 +3,14 @@ use Rattle.std.proofs.lemmas.Bool.{false≢true}
 use Rattle.ledger_model.specs.Loans.{loans}
 use Rattle.machine_model.specs.Messaging.Messages.{is_blocking_of, is_blocking_scalar}
 use Rattle.machine_model.specs.State.Changes.{replies}
-use Rattle.xk_base.specs.Sids.{serial_of}
+use Rattle.xk_base.specs.Tables.Sids.{serial_of}
 use Rattle.machine_model.specs.State.Threads.{answer_to, both_answers, passed}
 use Rattle.machine_model.specs.Messaging.ReturnCalls.{sender_gets}
 use Rattle.vm_memory.specs.Memory.{ledger}
 use Rattle.server_table.specs.ServersOf.{servers_of}
 use Rattle.syscall_codec.specs.Replies.{words_of}
 use Rattle.thread_table.specs.ThreadsOf.{process_count}
-use Rattle.xk_base.specs.Replies.{plain_words}
+use Rattle.xk_base.specs.Calls.Replies.{plain_words}
 use Rattle.xk_base.specs.declared.messages.Message.{Message}
 use Rattle.send_path.specs.Parts.{threads_shown, with_parts}
 use Rattle.send_path.specs.Rows.{log_with, scalar_row}

@@ -1,7 +1,7 @@
 use Rattle.std.proofs.Common.{◌≡◌, ◌/◌, ◌%◌, ℕ, List, Some, nat_eq, ap, arith, ◌∙◌}
 use Rattle.xk_base.specs.declared.windows.Window.{Window}
-use Rattle.xk_base.specs.Counting.{put_at}
-use Rattle.xk_base.specs.Windows.{window_at}
+use Rattle.xk_base.specs.Tables.Counting.{put_at}
+use Rattle.xk_base.specs.Numbers.Windows.{window_at}
 use Rattle.phys_pages.specs.Ram.{area, pages, frame_at, with_word}
 use Rattle.sv32_space.specs.Spaces.{root_at, table_frame}
 use Rattle.sv32_space.proofs.SpaceLemmas.{with_leaf, write_at}

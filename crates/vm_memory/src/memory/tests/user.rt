@@ -1,6 +1,6 @@
 //! A process's memory through the bound that the hart has it by.
 
-ghost use Rattle.xk_base.specs.Circle.{is_pid};
+ghost use Rattle.xk_base.specs.Tables.Circle.{is_pid};
 ghost use Rattle.std.specs.Prelude.{◌≡◌, true, IfOk};
 ghost use Rattle.vm_memory.specs.Memory.{IsUsable, processes};
 ghost use Rattle.vm_memory.specs.Sound.{IsSound};

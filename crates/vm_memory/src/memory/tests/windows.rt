@@ -1,6 +1,6 @@
 //! Pages of a window are made, reduced and removed.
 
-ghost use Rattle.xk_base.specs.Circle.{is_pid};
+ghost use Rattle.xk_base.specs.Tables.Circle.{is_pid};
 ghost use Rattle.std.specs.Prelude.{◌≡◌, true};
 ghost use Rattle.vm_memory.specs.Memory.{IsUsable, processes};
 ghost use Rattle.vm_memory.specs.Sound.{IsSound};

@@ -1,5 +1,5 @@
 use Rattle.std.proofs.Common.{◌≡◌, ◌<◌, ◌≤◌, ℕ}
-use Rattle.xk_base.specs.RowMap.{row_map}
+use Rattle.xk_base.specs.Tables.RowMap.{row_map}
 use Rattle.irq_claims.specs.ClaimMap.{end_claims}
 use Rattle.irq_claims.proofs.claims.Claims.end.Given as goal
 

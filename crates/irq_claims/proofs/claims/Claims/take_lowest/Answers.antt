@@ -1,7 +1,7 @@
 use Rattle.std.proofs.Common.{◌≡◌, Some, None, sym, ap, ◌∙◌, arith}
 use Rattle.std.specs.Option.{option_map, option_and_then}
 use Rattle.xk_base.specs.declared.limits.TheConstants.{INTERRUPT_LIMIT}
-use Rattle.xk_base.specs.RowMap.{row_map}
+use Rattle.xk_base.specs.Tables.RowMap.{row_map}
 use Rattle.xk_base.proofs.CountingLemmas.{least_below-None}
 use Rattle.xk_base.proofs.RowMapLemmas.{row_map_set}
 use Rattle.irq_claims.specs.ClaimMap.{is_due_to, delivery, lowest_due, settle_any}

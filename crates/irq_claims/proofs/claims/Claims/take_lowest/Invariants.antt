@@ -1,5 +1,5 @@
 use Rattle.std.proofs.Common.{◌≡◌, ◌<◌, ℕ, false}
-use Rattle.xk_base.specs.RowMap.{row_map}
+use Rattle.xk_base.specs.Tables.RowMap.{row_map}
 use Rattle.irq_claims.specs.ClaimMap.{is_due_to}
 use Rattle.irq_claims.proofs.claims.Claims.take_lowest.Given as goal
 

@@ -1,7 +1,7 @@
 use Rattle.std.proofs.Common.{◌<◌, ap, sym, subst, ◌∙◌}
 use Rattle.msg_queue.specs.Seats.{used_of, with_held}
 use Rattle.msg_queue.specs.Shown.{links_of, seat_shown}
-use Rattle.msg_queue.proofs.SeatLemmas.{free_is_slot}
+use Rattle.msg_queue.proofs.Seats.SeatLemmas.{free_is_slot}
 use Rattle.msg_queue.proofs.CallLemmas.{free_is_empty, chain_end_is_few}
 use Rattle.msg_queue.proofs.AfterLemmas.{after_hold, held_put_in, with_held_words}
 use Rattle.msg_queue.proofs.ring.Ring.hold.Goals as goal

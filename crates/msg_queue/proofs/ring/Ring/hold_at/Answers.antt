@@ -2,7 +2,7 @@ use Rattle.std.proofs.Common.{◌<◌, ap, sym, subst, ◌∙◌, arith}
 use Rattle.msg_queue.specs.Chains.{chain}
 use Rattle.msg_queue.specs.Seats.{used_of, with_held_at}
 use Rattle.msg_queue.specs.Shown.{links_of, seat_shown}
-use Rattle.msg_queue.proofs.SeatLemmas.{free_is_slot}
+use Rattle.msg_queue.proofs.Seats.SeatLemmas.{free_is_slot}
 use Rattle.msg_queue.proofs.CallLemmas.{free_is_empty, before_is_few, spot_at_same}
 use Rattle.msg_queue.proofs.AfterLemmas.{after_hold_at, held_put_in, with_held_words}
 use Rattle.msg_queue.proofs.ring.Ring.hold_at.Goals as goal

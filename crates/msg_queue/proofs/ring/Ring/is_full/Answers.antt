@@ -2,7 +2,7 @@ use Rattle.std.proofs.Common.{◌≡◌, sym, ap, ◌∙◌, arith}
 use Rattle.std.proofs.lemmas.Bool.Decides.{nat_tests}
 use Rattle.msg_queue.specs.Seats.{used_of}
 use Rattle.msg_queue.specs.Shown.{links_of}
-use Rattle.msg_queue.proofs.SeatLemmas.{used_is_few, full_from_free, free_from_full}
+use Rattle.msg_queue.proofs.Seats.SeatLemmas.{used_is_few, full_from_free, free_from_full}
 use Rattle.msg_queue.proofs.ring.Ring.is_full.Goals as goal
 
 pub returns-clause-full : goal.returns-clause-full

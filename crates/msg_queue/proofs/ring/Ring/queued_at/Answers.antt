@@ -1,7 +1,7 @@
 use Rattle.std.proofs.Common.{ap, ◌∙◌}
 use Rattle.std.specs.List.{slice_get}
 use Rattle.std.specs.Option.{option_map}
-use Rattle.xk_base.specs.RowMap.{row_map}
+use Rattle.xk_base.specs.Tables.RowMap.{row_map}
 use Rattle.msg_queue.specs.Chains.{chain}
 use Rattle.msg_queue.specs.Seats.{message_of}
 use Rattle.msg_queue.specs.Shown.{links_of}

@@ -2,7 +2,7 @@ use Rattle.std.proofs.Common.{length, ap, ◌∙◌, arith}
 use Rattle.msg_queue.specs.Chains.{chain}
 use Rattle.msg_queue.specs.Seats.{used_of}
 use Rattle.msg_queue.specs.Shown.{links_of}
-use Rattle.msg_queue.proofs.SeatLemmas.{used_is, used_is_few}
+use Rattle.msg_queue.proofs.Seats.SeatLemmas.{used_is, used_is_few}
 use Rattle.msg_queue.proofs.ring.Ring.used.Goals as goal
 
 pub returns-clause-count : goal.returns-clause-count

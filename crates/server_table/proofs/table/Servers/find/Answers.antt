@@ -1,6 +1,6 @@
 use Rattle.std.proofs.Common.{◌≡◌, length, Some, None, true, sym, ap, ◌∙◌, arith}
 use Rattle.xk_base.specs.declared.limits.TheConstants.{SERVER_LIMIT}
-use Rattle.xk_base.specs.RowMap.{row_map}
+use Rattle.xk_base.specs.Tables.RowMap.{row_map}
 use Rattle.server_table.specs.Seats.{seat_has_sid}
 use Rattle.server_table.specs.ServersOf.{servers_of}
 use Rattle.server_table.proofs.AnsweredLemmas.{with_sid_is, unnamed, named}

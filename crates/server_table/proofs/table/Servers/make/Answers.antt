@@ -1,6 +1,6 @@
 use Rattle.std.proofs.Common.{◌≡◌, ◌==◌, length, None, true, false, is_some, is_none, ap, sym, ◌∙◌, arith}
 use Rattle.xk_base.specs.declared.limits.TheConstants.{SERVER_LIMIT}
-use Rattle.xk_base.specs.RowMap.{row_map}
+use Rattle.xk_base.specs.Tables.RowMap.{row_map}
 use Rattle.xk_base.proofs.CountingLemmas.{least_below-none, least_below-passes}
 use Rattle.server_table.specs.ServersOf.{servers_of}
 use Rattle.server_table.specs.ServerState.{with_sid, live_count}

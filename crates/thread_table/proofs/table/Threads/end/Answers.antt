@@ -1,5 +1,5 @@
 use Rattle.std.proofs.Common.{◌≡◌, None, length, arith}
-use Rattle.xk_base.specs.Circle.{thread_ids}
+use Rattle.xk_base.specs.Tables.Circle.{thread_ids}
 use Rattle.thread_table.specs.ThreadsOf.{threads_of}
 use Rattle.thread_table.proofs.PlaceLemmas.{thread_map_valid, thread_map_write}
 use Rattle.thread_table.proofs.table.Threads.end.Goals as goal

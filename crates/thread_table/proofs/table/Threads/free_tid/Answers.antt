@@ -1,7 +1,7 @@
 use Rattle.std.proofs.Common.{rules, tests, ◌≡◌, ◌<◌, ◌≤◌, ℕ, Bool, true, false, Some, None, is_none, ap, ◌∙◌, arith}
 use Rattle.std.proofs.lemmas.Iterator.{first_from_Range}
 use Rattle.std.specs.Option.{option_map}
-use Rattle.xk_base.specs.Counting.{least_below}
+use Rattle.xk_base.specs.Tables.Counting.{least_below}
 use Rattle.thread_table.specs.ThreadMap.{thread_above, tid_above, tids_above}
 use Rattle.thread_table.specs.ThreadsOf.{threads_of}
 use Rattle.thread_table.proofs.CountLemmas.{least_found}

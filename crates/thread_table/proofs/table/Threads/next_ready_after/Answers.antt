@@ -1,6 +1,6 @@
 use Rattle.std.proofs.Common.{rules, tests, ◌≡◌, ◌<◌, ◌≤◌, ℕ, Bool, true, false, Some, None, sym, ap, ◌∙◌, arith}
 use Rattle.std.proofs.lemmas.Iterator.{first_from_Range}
-use Rattle.xk_base.specs.Circle.{thread_ids, id_at, id_behind}
+use Rattle.xk_base.specs.Tables.Circle.{thread_ids, id_at, id_behind}
 use Rattle.xk_base.specs.declared.ids.ThreadId.{ThreadId}
 use Rattle.xk_base.proofs.CircleLemmas.{next_id-Some, next_id-None}
 use Rattle.thread_table.specs.ThreadMap.{is_ready}

@@ -1,8 +1,8 @@
 use Rattle.std.proofs.Common.{rules, tests, ◌≡◌, ◌<◌, ◌≤◌, ℕ, Bool, true, false, Some, None, ap, ◌∙◌}
 use Rattle.std.proofs.lemmas.Iterator.{first_from_Range}
 use Rattle.std.specs.Option.{option_map}
-use Rattle.xk_base.specs.Circle.{id_by_tid, thread_ids}
-use Rattle.xk_base.specs.Counting.{least_below}
+use Rattle.xk_base.specs.Tables.Circle.{id_by_tid, thread_ids}
+use Rattle.xk_base.specs.Tables.Counting.{least_below}
 use Rattle.thread_table.specs.ThreadMap.{is_receiving}
 use Rattle.thread_table.specs.ThreadsOf.{process_count, threads_of}
 use Rattle.thread_table.proofs.CountLemmas.{least_found}

@@ -1,6 +1,6 @@
 use Rattle.std.proofs.Common.{◌≡◌, Some, true, length, arith}
 use Rattle.std.proofs.lemmas.Bool.Decides.{nat_tests}
-use Rattle.xk_base.specs.Circle.{is_thread_id, thread_ids}
+use Rattle.xk_base.specs.Tables.Circle.{is_thread_id, thread_ids}
 use Rattle.thread_table.specs.ThreadsOf.{process_count, threads_of}
 use Rattle.thread_table.proofs.PlaceLemmas.{thread_map_write}
 use Rattle.thread_table.proofs.table.Threads.start.Goals as goal

@@ -3,7 +3,7 @@ use Rattle.ledger_model.specs.Ledger.{Bytes}
 use Rattle.phys_pages.specs.Ram.{pages, with_page}
 use Rattle.xk_base.specs.declared.pages.Access.TheVariants.{Store}
 use Rattle.vm_memory.specs.Bytes.{none_out}
-use Rattle.vm_memory.specs.Lending.{with_bytes_at}
+use Rattle.vm_memory.specs.Loaning.Lending.{with_bytes_at}
 use Rattle.vm_memory.proofs.Bytes.PageWriteLemmas.{near_entry, lent_sound, lent_ledger, lent_size}
 use Rattle.vm_memory.proofs.Using.ReachedLemmas.{near_contents}
 use Rattle.vm_memory.proofs.Changing.SoundMemoryLemmas.{sound-tied}

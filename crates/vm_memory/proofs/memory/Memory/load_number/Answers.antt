@@ -2,7 +2,7 @@ use Rattle.std.proofs.Common.{◌%◌, sym, ap, ◌∙◌}
 use Rattle.std.specs.Prelude.{slice_index}
 use Rattle.xk_base.specs.UserMemory.{number_at}
 use Rattle.sv32_space.specs.SpelledEntries.{entries}
-use Rattle.xk_base.specs.Windows.{page_of}
+use Rattle.xk_base.specs.Numbers.Windows.{page_of}
 use Rattle.vm_memory.specs.Memory.{processes}
 use Rattle.vm_memory.proofs.Using.UserLemmas.{page_gives, console_gives, nothing_given, page_target}
 use Rattle.vm_memory.proofs.Using.WalkTargetLemmas.{page_frame}

@@ -1,7 +1,7 @@
 use Rattle.std.proofs.Common.{◌≡◌, ◌*◌, ◌≤◌}
 use Rattle.phys_pages.specs.Owners.{AreFramesUsed}
 use Rattle.ledger_model.specs.Steps.{make}
-use Rattle.vm_memory.specs.Changing.{ChangesPagesAlone}
+use Rattle.vm_memory.specs.Pages.Changing.{ChangesPagesAlone}
 use Rattle.vm_memory.specs.Memory.{ledger, processes}
 use Rattle.vm_memory.specs.Sound.{IsSound}
 use Rattle.vm_memory.proofs.memory.Memory.make_pages.Given as goal

@@ -1,7 +1,7 @@
 use Rattle.std.proofs.Common.{◌≡◌}
 use Rattle.ledger_model.specs.Places.{in_run}
 use Rattle.ledger_model.specs.Steps.{reduce}
-use Rattle.vm_memory.specs.Changing.{ChangesPagesAlone}
+use Rattle.vm_memory.specs.Pages.Changing.{ChangesPagesAlone}
 use Rattle.vm_memory.specs.Memory.{ledger}
 use Rattle.vm_memory.specs.Sound.{IsSound}
 use Rattle.vm_memory.proofs.memory.Memory.set_rights.Given as goal

@@ -1,7 +1,7 @@
 use Rattle.std.proofs.Common.{sym, ◌∙◌}
 use Rattle.xk_base.specs.declared.pages.Access.TheVariants.{Store}
 use Rattle.sv32_space.specs.SpelledEntries.{entries}
-use Rattle.xk_base.specs.Windows.{page_of}
+use Rattle.xk_base.specs.Numbers.Windows.{page_of}
 use Rattle.vm_memory.specs.Memory.{processes}
 use Rattle.vm_memory.proofs.Using.UserLemmas.{page_target}
 use Rattle.vm_memory.proofs.Using.WalkTargetLemmas.{page_frame}

@@ -2,15 +2,15 @@
 use Rattle.std.proofs.Common.{◌≡◌, ◌+◌, ◌<◌, true, false, [], is_some, refl, sym, ap, subst, ◌∙◌}
 use Rattle.machine_laws.proofs.Threading.ThreadStepLemmas.{actor_ready}
 use Rattle.machine_laws.specs.WithoutServers.{is_plain_call}
-use Rattle.machine_model.proofs.KeptLemmas.{matched_at}
+use Rattle.machine_model.proofs.Runs.KeptLemmas.{matched_at}
 use Rattle.machine_model.specs.Stepping.Acts.{is_call}
 use Rattle.machine_model.specs.Calling.Calls.{call}
 use Rattle.machine_model.specs.State.Changes.{call_settled, settled}
 use Rattle.machine_model.specs.Ending.Ends.{death, thread_ended}
 use Rattle.machine_model.specs.Runs.Matched.{Matched}
 use Rattle.machine_model.specs.Stepping.Step.{after, console_told, executed}
-use Rattle.xk_base.specs.Circle.{is_thread_id}
-use Rattle.xk_base.specs.Registers.{arguments_of}
+use Rattle.xk_base.specs.Tables.Circle.{is_thread_id}
+use Rattle.xk_base.specs.Calls.Registers.{arguments_of}
 use Rattle.xk_base.specs.declared.records.What.TheVariants.{Call, End, Fault}
 use Rattle.xk_kernel.specs.Running.{machine_after}
 use Rattle.send_path.specs.Parts.{thread_of}

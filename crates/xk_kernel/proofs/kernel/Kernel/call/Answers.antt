@@ -4,8 +4,8 @@ use Rattle.machine_model.specs.Calling.Calls.{call}
 use Rattle.machine_model.specs.State.Changes.{Refused, Served, answering, call_settled, only}
 use Rattle.machine_model.specs.State.Threads.{answer_to, change_thread, give_answers, passed}
 use Rattle.syscall_codec.specs.Replies.{words_of}
-use Rattle.xk_base.specs.Circle.{is_thread_id}
-use Rattle.xk_base.specs.Replies.{refused_words}
+use Rattle.xk_base.specs.Tables.Circle.{is_thread_id}
+use Rattle.xk_base.specs.Calls.Replies.{refused_words}
 use Rattle.xk_base.specs.declared.records.What.TheVariants.{Call as Called, Gone, Reply}
 use Rattle.xk_kernel.specs.Calling.{outcome_of}
 use Rattle.xk_kernel.specs.State.{machine_of}

@@ -1,5 +1,5 @@
 use Rattle.std.proofs.Common.{subst, sym}
-use Rattle.machine_model.proofs.KeptLemmas.{turn_keeps}
+use Rattle.machine_model.proofs.Runs.KeptLemmas.{turn_keeps}
 use Rattle.machine_model.specs.Runs.Matched.{Matched}
 use Rattle.vm_memory.proofs.Changing.SoundMemoryLemmas.{sound-tied}
 use Rattle.xk_kernel.specs.State.{machine_of}

@@ -1,6 +1,6 @@
 use Rattle.std.proofs.Common.{ap, sym, ◌∙◌, subst, IsTrue}
 use Rattle.vm_memory.specs.Memory.{Size, ledger}
-use Rattle.xk_base.specs.Circle.{is_thread_id}
+use Rattle.xk_base.specs.Tables.Circle.{is_thread_id}
 use Rattle.xk_kernel.proofs.Ending.DeathOfLemmas.{forget_unclaimed, forget_unlent, machine_forgotten}
 use Rattle.xk_kernel.proofs.kernel.Kernel.forget.Goals as goal
 

@@ -1,7 +1,7 @@
 use Rattle.std.proofs.Common.{◌≤◌, ◌/◌, arith, sym, ◌∙◌}
 use Rattle.std.proofs.lemmas.Bool.{eq-eqb, ne_eqb}
 use Rattle.machine_model.specs.Calling.MemoryCalls.{are_bad_flags}
-use Rattle.xk_base.specs.Flags.{right_of}
+use Rattle.xk_base.specs.Calls.Flags.{right_of}
 use Rattle.vm_memory.specs.Memory.{capacity_of, ledger, processes}
 use Rattle.xk_kernel.proofs.Memory.MapLemmas.{console_done, console_low, console_refused, made_low, map_done, map_refused, narrow}
 use Rattle.xk_kernel.proofs.Memory.MemoryCallLemmas.{make_console_unlent, make_unlent, means_over, right_told, whole_with_mem}

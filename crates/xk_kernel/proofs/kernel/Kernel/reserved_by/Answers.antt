@@ -1,6 +1,6 @@
 -- The address is reserved by the thread where it is the one that holds the reservation.
 use Rattle.std.proofs.Common.{◌≡◌, subst, sym, ◌∙◌}
-use Rattle.xk_base.specs.Circle.{same_thread}
+use Rattle.xk_base.specs.Tables.Circle.{same_thread}
 use Rattle.xk_base.specs.declared.ids.ThreadId.{ThreadId}
 use Rattle.xk_kernel.specs.State.{machine_of}
 use Rattle.xk_kernel.proofs.Running.RunLemmas.{nothing_reserved, reserved_by_another, reserved_own}

@@ -4,7 +4,7 @@ use Rattle.std.proofs.lemmas.Result.{IfOk-weaker}
 use Rattle.machine_model.specs.State.Changes.{Served, answering}
 use Rattle.machine_model.specs.State.Threads.{answer_to}
 use Rattle.syscall_codec.specs.Calls.{Asks}
-use Rattle.xk_base.specs.Replies.{plain_words}
+use Rattle.xk_base.specs.Calls.Replies.{plain_words}
 use Rattle.xk_kernel.specs.Calling.{change_by}
 use Rattle.xk_kernel.specs.State.{machine_of}
 use Rattle.xk_kernel.specs.declared.kernel.calls.CallerFate.TheVariants.{Died}

@@ -1,0 +1,2 @@
+pub mod LeastRunLemmas
+pub mod RunTestLemmas

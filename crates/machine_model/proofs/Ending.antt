@@ -1,0 +1,3 @@
+pub mod CloseManyLemmas
+pub mod ClosingLemmas
+pub mod DeathLemmas

@@ -1,0 +1,3 @@
+pub mod LendRowLemmas
+pub mod LoanSetLemmas
+pub mod OrphanSetLemmas

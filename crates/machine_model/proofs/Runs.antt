@@ -1,0 +1,4 @@
+pub mod KeptLemmas
+pub mod ReservingLemmas
+pub mod SpanLemmas
+pub mod TimerLemmas

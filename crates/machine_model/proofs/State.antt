@@ -1,0 +1,4 @@
+pub mod CursorLemmas
+pub mod OrderLemmas
+pub mod RowLemmas
+pub mod StartLemmas

@@ -1,0 +1,3 @@
+pub mod DestroyRowLemmas
+pub mod QueuedSenderLemmas
+pub mod ServerKilledLemmas

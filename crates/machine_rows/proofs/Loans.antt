@@ -1,0 +1,5 @@
+pub mod HomeLemmas
+pub mod LoanRowLemmas
+pub mod OrphanRowLemmas
+pub mod ReadOnlyLemmas
+pub mod TwoPageLemmas

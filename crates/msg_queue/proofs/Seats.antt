@@ -1,0 +1,4 @@
+pub mod FilledLemmas
+pub mod HeldLemmas
+pub mod MessageLemmas
+pub mod SeatLemmas

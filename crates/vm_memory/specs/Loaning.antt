@@ -1,0 +1,4 @@
+pub mod Lending
+pub mod Loans
+pub mod RunTests
+pub mod Sending

@@ -1,0 +1,4 @@
+pub mod Changing
+pub mod Here
+pub mod Making
+pub mod Removing

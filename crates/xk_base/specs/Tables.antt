@@ -1,0 +1,5 @@
+pub mod Circle
+pub mod Connections
+pub mod Counting
+pub mod RowMap
+pub mod Sids
