@@ -33,7 +33,7 @@ ghost use Rattle.machine_model.specs.Calling.ThreadCalls.{yield_call, create_cal
 ghost use Rattle.machine_model.specs.State.Threads.{both_answers};
 
 /// Every number of a call has its row in the table, in the order of the numbers.
-#[tactic(auto, using(crate::proofs::ClosingLemmas::every_number))]
+#[tactic(auto, using(crate::proofs::Ending::ClosingLemmas::every_number))]
 pub fn every_number_has_its_call()
     ensures { map (λ row. row.0) call_table ≡ call_numbers }
 {}
@@ -68,31 +68,31 @@ pub fn each_number_means_its_call()
 {}
 
 /// A retry ends the turn and changes nothing else.
-#[tactic(auto, using(crate::proofs::ClosingLemmas::retry_turns))]
+#[tactic(auto, using(crate::proofs::Ending::ClosingLemmas::retry_turns))]
 pub fn retry_ends_the_turn()
     ensures { (m : Machine) → (call_settled m Retried).machine ≡ turn m }
 {}
 
 /// The loans of a set of messages end one at a time.
-#[tactic(auto, using(crate::proofs::LoanSetLemmas::one_more_ends))]
+#[tactic(auto, using(crate::proofs::Messaging::LoanSetLemmas::one_more_ends))]
 pub fn loans_end_one_at_a_time()
     ensures { (ends : Number → Bool) (number : Number) (l : Ledger) → end_loan number (end_loans ends l) ≡ end_loans (λ n. ends n || same_number n number) l }
 {}
 
 /// Where no number is in the set, no loan ends.
-#[tactic(auto, using(crate::proofs::LoanSetLemmas::none_ends))]
+#[tactic(auto, using(crate::proofs::Messaging::LoanSetLemmas::none_ends))]
 pub fn no_loan_ends()
     ensures { (ends : Number → Bool) → ((n : Number) → ends n ≡ false) → (l : Ledger) → end_loans ends l ≡ l }
 {}
 
 /// For one number it is the step `end`.
-#[tactic(auto, using(crate::proofs::LoanSetLemmas::only_one_ends))]
+#[tactic(auto, using(crate::proofs::Messaging::LoanSetLemmas::only_one_ends))]
 pub fn one_loan_ends()
     ensures { (number : Number) (l : Ledger) → end_loans (λ n. same_number n number) l ≡ end_loan number l }
 {}
 
 /// For one number it is the step `orphan`.
-#[tactic(auto, using(crate::proofs::LoanSetLemmas::only_one_is_orphaned))]
+#[tactic(auto, using(crate::proofs::Messaging::LoanSetLemmas::only_one_is_orphaned))]
 pub fn one_loan_is_orphaned()
     ensures { (procs : ℕ) (number : Number) (l : Ledger) → orphan_loans procs (λ n. same_number n number) l ≡ orphan_loan procs number l }
 {}
@@ -104,13 +104,13 @@ pub fn loans_are_orphaned_one_at_a_time()
 {}
 
 /// Where no number is in the set, no loan becomes an orphan.
-#[tactic(auto, using(crate::proofs::DeathLemmas::none_is_orphaned))]
+#[tactic(auto, using(crate::proofs::Ending::DeathLemmas::none_is_orphaned))]
 pub fn no_loan_is_orphaned()
     ensures { (procs : ℕ) (goes : Number → Bool) → ((n : Number) → goes n ≡ false) → (l : Ledger) → orphan_loans procs goes l ≡ l }
 {}
 
 /// Servers close one at a time: what is left, and who is answered.
-#[tactic(auto, using(crate::proofs::CloseManyLemmas::one_more_closes, crate::proofs::CloseManyLemmas::one_more_is_told))]
+#[tactic(auto, using(crate::proofs::Ending::CloseManyLemmas::one_more_closes, crate::proofs::Ending::CloseManyLemmas::one_more_is_told))]
 pub fn servers_close_one_at_a_time()
     ensures left { (which : ℕ → Bool) (s : Serial) (m : Machine)
         → (closed (λ n. which n || (n == s.0)) m).machine ≡ (close s (closed which m).machine).machine }
@@ -120,39 +120,39 @@ pub fn servers_close_one_at_a_time()
 {}
 
 /// Closing a server leaves no loan and no orphan of its messages, queued or held.
-#[tactic(auto, using(crate::proofs::CloseManyLemmas::close_frees))]
+#[tactic(auto, using(crate::proofs::Ending::CloseManyLemmas::close_frees))]
 pub fn close_leaves_no_loan()
     ensures { (m : Machine) (s : Serial) (server : Server) (number : Number) → m.servers s.0 ≡ Some server → s.0 < m.next_serial
         → list_any (is_of_number number) (messages_of server) ≡ true → IsFresh (loans (close s m).machine.ledger) number }
 {}
 
 /// Closing a server that isn't alive changes nothing and answers nobody.
-#[tactic(auto, using(crate::proofs::ClosingLemmas::dead_server_closes))]
+#[tactic(auto, using(crate::proofs::Ending::ClosingLemmas::dead_server_closes))]
 pub fn dead_server_closes()
     ensures { (m : Machine) (serial : Serial) → m.servers serial.0 ≡ None → close serial m ≡ only m }
 {}
 
 /// The death of a process where there is no server: it is forgotten, and nobody is answered.
-#[tactic(auto, using(crate::proofs::DeathLemmas::death_without_servers))]
+#[tactic(auto, using(crate::proofs::Ending::DeathLemmas::death_without_servers))]
 pub fn death_without_servers_forgets()
     ensures { (m : Machine) → ((n : ℕ) → m.servers n ≡ None) → (pid : Pid)
         → death pid m ≡ record (only (forgotten pid m)) { gone = Some pid } }
 {}
 
 /// A thread that isn't Ready can't be picked.
-#[tactic(auto, using(crate::proofs::ClosingLemmas::pick_of_unready))]
+#[tactic(auto, using(crate::proofs::Ending::ClosingLemmas::pick_of_unready))]
 pub fn pick_of_unready_does_nothing()
     ensures { (m : Machine) (who : ThreadId) → ready_at m who ≡ false → picked who m ≡ nothing m }
 {}
 
 /// An interrupt that nobody claimed ends a reservation and does nothing else.
-#[tactic(auto, using(crate::proofs::ClosingLemmas::irq_unclaimed))]
+#[tactic(auto, using(crate::proofs::Ending::ClosingLemmas::irq_unclaimed))]
 pub fn unclaimed_interrupt_does_nothing()
     ensures { (m : Machine) (k : ℕ) → m.claims k ≡ None → raised k m ≡ nothing (unreserved m) }
 {}
 
 /// What isn't a living process can't be killed: that ends a reservation and does nothing else.
-#[tactic(auto, using(crate::proofs::ClosingLemmas::kill_of_dead))]
+#[tactic(auto, using(crate::proofs::Ending::ClosingLemmas::kill_of_dead))]
 pub fn kill_of_dead_does_nothing()
     ensures { (m : Machine) (pid : Pid) → (m.process pid.0).alive ≡ false → killed pid m ≡ nothing (unreserved m) }
 {}

@@ -56,20 +56,20 @@ pub fn refused_caller_goes_on()
 {}
 
 /// Eight words in a0 to a7 are what stands there.
-#[tactic(auto, using(crate::proofs::ArgumentLemmas::arguments_given))]
+#[tactic(auto, using(crate::proofs::Calling::ArgumentLemmas::arguments_given))]
 pub fn arguments_are_given()
     ensures { (words regs : List ℕ) → length words ≡ 8 → length regs ≡ 32 → arguments_of (with_arguments words regs) ≡ words }
 {}
 
 /// Eight words in a0 to a7 leave every other register as it was.
-#[tactic(auto, using(crate::proofs::ArgumentLemmas::others_stay))]
+#[tactic(auto, using(crate::proofs::Calling::ArgumentLemmas::others_stay))]
 pub fn other_registers_stay()
     ensures { (words regs : List ℕ) (r : ℕ) → length words ≡ 8 → length regs ≡ 32 → (r < 10) ⊎ (18 ≤ r) → reg_at (with_arguments words regs) r ≡ reg_at regs r }
 {}
 
 /// The timer raises only where its compare value is the number of steps done, and is disarmed as it
 /// does; so an arming raises at most once.
-#[tactic(auto, using(crate::proofs::TimerLemmas::due_disarms, crate::proofs::TimerLemmas::not_due))]
+#[tactic(auto, using(crate::proofs::Runs::TimerLemmas::due_disarms, crate::proofs::Runs::TimerLemmas::not_due))]
 pub fn timer_raises_once()
     ensures due { (done : Told) → is_due done.machine.compare done.machine.steps ≡ true → (timed done).machine.compare ≡ None }
     ensures not_due { (done : Told) → is_due done.machine.compare done.machine.steps ≡ false → timed done ≡ done }

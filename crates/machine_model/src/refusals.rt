@@ -7,7 +7,7 @@ ghost use Rattle.machine_model.specs.State.Changes.{first_refusal};
 use xk_base::XousError;
 
 /// The error of the first test of a list of refusals that holds, and `None` where none does.
-#[tactic(auto, using(crate::proofs::RefusalLemmas::first_holds, crate::proofs::RefusalLemmas::first_passes))]
+#[tactic(auto, using(crate::proofs::Calling::RefusalLemmas::first_holds, crate::proofs::Calling::RefusalLemmas::first_passes))]
 pub fn first_refusal(tests: &[(bool, XousError)]) -> Option<XousError>
     ensures { result ≡ first_refusal tests.now }
 {

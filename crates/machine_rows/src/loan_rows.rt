@@ -10,20 +10,20 @@ ghost use Rattle.machine_rows.specs.Loans.{fault_row, move_row, after_move, retu
 ghost use Rattle.machine_rows.specs.Playing.{IsToldAs, coded_machine};
 
 /// A lent page that was returned can be written by its lender as before the loan.
-#[tactic(auto, using(crate::proofs::LoanRowLemmas::returned_row, crate::proofs::LoanRowLemmas::word_after))]
+#[tactic(auto, using(crate::proofs::Loans::LoanRowLemmas::returned_row, crate::proofs::Loans::LoanRowLemmas::word_after))]
 pub fn returned_page_is_written()
     ensures told { IsToldAs return_row (coded_machine 2) }
     ensures word { number_at (memory_of after_return (pid_of 3)).byte 0x2000_0000 Word ≡ 0x5566_7788 }
 {}
 
 /// A store by another thread of the lender during the loan is a page fault, and ends the process.
-#[tactic(auto, using(crate::proofs::LoanRowLemmas::store_faults))]
+#[tactic(auto, using(crate::proofs::Loans::LoanRowLemmas::store_faults))]
 pub fn lent_page_is_not_written_by_its_lender()
     ensures { IsToldAs fault_row (coded_machine 2) }
 {}
 
 /// A moved page leaves its sender, and stands at the receiver with its bytes and its right.
-#[tactic(auto, using(crate::proofs::LoanRowLemmas::moved_row, crate::proofs::LoanRowLemmas::word_came, crate::proofs::LoanRowLemmas::word_stored_there, crate::proofs::LoanRowLemmas::page_left))]
+#[tactic(auto, using(crate::proofs::Loans::LoanRowLemmas::moved_row, crate::proofs::Loans::LoanRowLemmas::word_came, crate::proofs::Loans::LoanRowLemmas::word_stored_there, crate::proofs::Loans::LoanRowLemmas::page_left))]
 pub fn moved_page_is_the_receivers()
     ensures told { IsToldAs move_row (coded_machine 2) }
     ensures came { number_at (memory_of after_move (pid_of 2)).byte 0x4000_0000 Word ≡ 0x1122_3344 }

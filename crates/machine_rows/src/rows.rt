@@ -15,7 +15,7 @@ ghost use Rattle.machine_rows.specs.TwoPages.{two_pages_begin, two_pages_begin_t
 /// Read-only page. `3.2` stores a word in the page of its heap, gives up W there and lends it, and the server loads the word.
 /// The return gives back the right that the page had: `3.2` loads the word, and a store there traps with cause 15, as it does
 /// during the loan. What is told before the store is that of the row of a lend in `machine_model`.
-#[tactic(auto, using(crate::proofs::ReadOnlyLemmas::reduced, crate::proofs::ReadOnlyLemmas::told, crate::proofs::ReadOnlyLemmas::lent_loads, crate::proofs::ReadOnlyLemmas::lent_traps, crate::proofs::ReadOnlyLemmas::returned_loads, crate::proofs::ReadOnlyLemmas::returned_traps))]
+#[tactic(auto, using(crate::proofs::Loans::ReadOnlyLemmas::reduced, crate::proofs::Loans::ReadOnlyLemmas::told, crate::proofs::Loans::ReadOnlyLemmas::lent_loads, crate::proofs::Loans::ReadOnlyLemmas::lent_traps, crate::proofs::Loans::ReadOnlyLemmas::returned_loads, crate::proofs::Loans::ReadOnlyLemmas::returned_traps))]
 pub fn read_only_page_is_lent()
     ensures reduces { told_all read_only_reduce read_only_written ≡ read_only_reduce_told }
     ensures lends { told_all read_only_row read_only_reduced ≡ read_only_told }
@@ -27,7 +27,7 @@ pub fn read_only_page_is_lent()
 
 /// Mutable lend of two pages. `3.2` lends both pages of its heap. `2.2` may store to both at its own addresses, stores a word in
 /// each and returns them with offset 7 and valid 9. `3.2` gets the two numbers, and loads the server's words.
-#[tactic(auto, using(crate::proofs::TwoPageLemmas::begun, crate::proofs::TwoPageLemmas::sent, crate::proofs::TwoPageLemmas::first_stores, crate::proofs::TwoPageLemmas::second_stores, crate::proofs::TwoPageLemmas::returned, crate::proofs::TwoPageLemmas::first_loads, crate::proofs::TwoPageLemmas::second_loads))]
+#[tactic(auto, using(crate::proofs::Loans::TwoPageLemmas::begun, crate::proofs::Loans::TwoPageLemmas::sent, crate::proofs::Loans::TwoPageLemmas::first_stores, crate::proofs::Loans::TwoPageLemmas::second_stores, crate::proofs::Loans::TwoPageLemmas::returned, crate::proofs::Loans::TwoPageLemmas::first_loads, crate::proofs::Loans::TwoPageLemmas::second_loads))]
 pub fn two_pages_are_lent_mutably()
     ensures begins { told_all two_pages_begin (small_machine 2) ≡ two_pages_begin_told }
     ensures sends { told_all two_pages_send (after_all two_pages_begin (small_machine 2)) ≡ two_pages_send_told }
