@@ -1,4 +1,4 @@
--- Laws of the circle of thread ids of specs/Circle.antt.
+-- Laws of the circle of thread ids of specs/Tables/Circle.antt.
 use Rattle.std.proofs.Common.{◌≡◌, ℕ, ◌+◌, ◌-◌, ◌%◌, ◌<◌, ◌≤◌, Bool, true, false, Option, Some, None, ◌⊎◌, inl, inr, List, [], ◌∷◌, map, refl, sym, ap, subst, ◌∙◌, arith}
 use Rattle.std.specs.Option.{option_map}
 use Rattle.std.specs.List.{All, Contains}

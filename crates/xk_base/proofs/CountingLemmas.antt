@@ -1,4 +1,4 @@
--- Laws of the words of specs/Counting.antt: counts, the least number, listings and sums below n.
+-- Laws of the words of specs/Tables/Counting.antt: counts, the least number, listings and sums below n.
 use Rattle.std.proofs.Common.{◌≡◌, ℕ, zero, suc, ◌+◌, ◌-◌, ◌<◌, ◌≤◌, min, Bool, true, false, not, ◌&&◌, List, [], ◌∷◌, ◌++◌, length, get_or, Option, Some, None, refl, sym, ap, length-append, append-nil, subst, ◌∙◌, arith, ◌⊎◌, inl, inr}
 use Rattle.std.specs.Option.{option_or}
 use Rattle.std.specs.List.{All, Contains}

@@ -1,4 +1,4 @@
--- Laws of specs/RowMap.antt: a list of places read and written as a map.
+-- Laws of specs/Tables/RowMap.antt: a list of places read and written as a map.
 use Rattle.std.proofs.Common.{◌≡◌, ℕ, ◌<◌, List, length, get_or, set, replicate, Option, None, nat_eq, ap, ◌∙◌, inl, inr, arith}
 use Rattle.std.proofs.lemmas.Bool.{cases_lt, cases_eq, cond-true, cond-false, eq-eqb, ne_eqb}
 use Rattle.std.proofs.lemmas.List.{get_or-set_same, get_or-set_other, get_or_default, get_or_past, get_or-replicate, length-replicate}
