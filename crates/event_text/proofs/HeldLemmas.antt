@@ -11,7 +11,7 @@ use Rattle.event_text.specs.declared.event.NextEvent.TheVariants.{More, Bad as N
 use Rattle.event_text.specs.Lines.{lines_of, is_last}
 use Rattle.event_text.specs.EventFile.{is_over, is_long, is_far, line_at}
 use Rattle.xk_base.specs.declared.limits.TheConstants.{EVENT_FILE_LIMIT}
-use Rattle.event_text.specs.Held.{Reader, first_line, first_of, has_feed, has_room, with_bytes, is_good, known_line, front_of, known_bad, is_whole, past_line, past_blanks, past_blanks_by, if_blank, answer_by, answer_of, past_event, after_next, rest_answer}
+use Rattle.event_text.specs.Held.{Reader, first_line, first_of, has_feed, can_grow, with_bytes, is_good, known_line, front_of, known_bad, is_whole, past_line, past_blanks, past_blanks_by, if_blank, answer_by, answer_of, past_event, after_next, rest_answer}
 
 pub first_none : first_line [] ≡ []
 unfolding first_line lines_of
@@ -146,14 +146,14 @@ no_feed_unknown r one unknown = go (has_feed r.held) refl
     go true e = let known = front_feed r one e in cc
 
 -- where nothing is known of the line held, it can have one byte more
-pub room_unknown : (r : Reader) → first_line r.held ≡ r.held → front_of r ≡ None → has_room r ≡ true
+pub room_unknown : (r : Reader) → first_line r.held ≡ r.held → front_of r ≡ None → can_grow r ≡ true
 room_unknown r one unknown =
     let none = no_feed_unknown r one unknown in
     let short = front_short r one none unknown in
     rw (last_feed r.held none) (grind (arith, nat_tests))
 
 -- a reader that takes nothing knows something of the line held
-pub takes_some : (r r' : Reader) (taken : ℕ) (piece : List ℕ) → r' ≡ with_bytes r (take taken piece) → first_line r'.held ≡ r'.held → has_room r' ≡ false → front_of r ≡ None → 0 < taken
+pub takes_some : (r r' : Reader) (taken : ℕ) (piece : List ℕ) → r' ≡ with_bytes r (take taken piece) → first_line r'.held ≡ r'.held → can_grow r' ≡ false → front_of r ≡ None → 0 < taken
 takes_some r r' zero piece e one full unknown =
     let same : r' ≡ r = e ∙ ap (λ (held : List ℕ). record { lines_done = r.lines_done; start = r.start; held = held; finished = r.finished }) (append-nil r.held) in
     let known : front_of r' ≡ None = ap front_of same ∙ unknown in
@@ -192,11 +192,11 @@ not_true true e = cc
 not_true false e = refl
 
 -- what is held stays one line with one byte more, where it has room
-pub room_one_line : (r : Reader) (byte : ℕ) → first_line r.held ≡ r.held → has_room r ≡ true → first_line (r.held ++ byte ∷ []) ≡ r.held ++ byte ∷ []
+pub room_one_line : (r : Reader) (byte : ℕ) → first_line r.held ≡ r.held → can_grow r ≡ true → first_line (r.held ++ byte ∷ []) ≡ r.held ++ byte ∷ []
 room_one_line r byte one room =
     one_line_more r.held byte (no_feed_last r.held one (not_true (is_last 10 r.held) (and_true (nat_lt (length r.held) 65) (not (is_last 10 r.held)) room).1))
 
-pub room_short : (r : Reader) → has_room r ≡ true → length r.held < 65
+pub room_short : (r : Reader) → can_grow r ≡ true → length r.held < 65
 room_short r room =
     let e = (and_true (nat_lt (length r.held) 65) (not (is_last 10 r.held)) room).0 in grind (arith, nat_tests)
 

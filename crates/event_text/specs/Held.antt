@@ -39,8 +39,8 @@ abbrev pub has_feed : List ℕ → Bool
 has_feed line = list_any (λ byte. byte == 10) line
 
 -- The line held can have one byte more: it has no line feed yet, and at most 64 bytes.
-abbrev pub has_room : Reader → Bool
-has_room r = nat_lt (length r.held) (EVENT_LINE_LIMIT + 1) && not (is_last 10 r.held)
+abbrev pub can_grow : Reader → Bool
+can_grow r = nat_lt (length r.held) (EVENT_LINE_LIMIT + 1) && not (is_last 10 r.held)
 
 -- A line is whole where its line feed is held, and where some of it is held and the file has ended.
 abbrev pub is_whole : Bool → List ℕ → Bool

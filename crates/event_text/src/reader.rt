@@ -4,7 +4,7 @@ ghost use Rattle.std.specs.Prelude.{◌≡◌, ◌+◌, ◌≤◌, ◌<◌, [], 
 ghost use Rattle.xk_base.specs.declared.limits.TheConstants.{EVENT_FILE_LIMIT};
 ghost use Rattle.event_text.specs.declared.event.Event.{Event};
 ghost use Rattle.event_text.specs.declared.event.NextEvent.TheVariants as answer;
-ghost use Rattle.event_text.specs.Held.{new_reader, with_bytes, known_line, first_line, has_room, known_bad, IsWaiting, front_of, is_good, past_line, rest_answer, answer_of, after_next};
+ghost use Rattle.event_text.specs.Held.{new_reader, with_bytes, known_line, first_line, can_grow, known_bad, IsWaiting, front_of, is_good, past_line, rest_answer, answer_of, after_next};
 
 use crate::event::{Line, NextEvent};
 use crate::line::{is_over, read_line};
@@ -64,8 +64,8 @@ impl EventReader {
     }
 
     /// Whether the line held can have one byte more.
-    fn has_room(&self) -> bool
-        ensures room { result ≡ has_room self.now }
+    fn can_grow(&self) -> bool
+        ensures room { result ≡ can_grow self.now }
         ensures one_line { first_line self.now.held ≡ self.now.held }
     {
         !self.held.is_full() && !self.held.as_slice().ends_with(b"\n")
@@ -73,7 +73,7 @@ impl EventReader {
 
     /// Adds a byte to the line held.
     fn push(&mut self, byte: u8)
-        requires { has_room self.old ≡ true }
+        requires { can_grow self.old ≡ true }
         ensures { self.new ≡ with_bytes self.old (byte ∷ []) }
     {
         self.held.push(byte);
@@ -89,7 +89,7 @@ impl EventReader {
     {
         let mut taken = 0;
         for &byte in piece {
-            if !self.has_room() {
+            if !self.can_grow() {
                 return taken;
             }
             self.push(byte);

@@ -29,7 +29,7 @@ use Rattle.sv32_space.proofs.Agreeing.LoanStandingLemmas.{in_fresh, stands_in}
 use Rattle.sv32_space.proofs.Agreeing.RoleLemmas.{free_by_entry}
 use Rattle.sv32_space.proofs.Ledgers.EntryLedgerLemmas.{home_at}
 use Rattle.sv32_space.proofs.RunLemmas.{give_next, give_none, lend_next, lend_none}
-use Rattle.loan_flags.specs.Keeping.{KeepsPages, Steps, Tables, entries_of, ledger_by, processes}
+use Rattle.loan_flags.specs.Keeping.{KeepsPages, IsLedgerStep, Tables, entries_of, ledger_by, processes}
 use Rattle.loan_flags.specs.PageLoans.{IsLendable, IsOwn}
 use Rattle.loan_flags.specs.Sending.{mem_kind, send_answer}
 use Rattle.loan_flags.proofs.PageChangeLemmas.{entry_window}
@@ -72,7 +72,7 @@ more_in first i n p b t = let h : IsInRun first i p = in_run-true first i p t in
 
 pub record LendsSo (t u : Tables) (from to : Place) (i : ℕ) (kind : LoanKind) (number : Number) : Type 0 where
   pub agree : agrees u.ram u.owners
-  pub step : Steps (lend from i to kind number) t u
+  pub step : IsLedgerStep (lend from i to kind number) t u
   pub others : (p : Place) → in_run from i p ≡ false → in_run to i p ≡ false → entries_of u p ≡ entries_of t p
   pub keeps : KeepsPages t u
 
@@ -85,7 +85,7 @@ lends_none t from to kind number agree = record {
 }
 
 pub lends_next : (t u v : Tables) (from to : Place) (i : ℕ) (kind : LoanKind) (number : Number) → LendsSo t u from to i kind number
-    → agrees v.ram v.owners → Steps (lend (place_after from i) 1 (place_after to i) kind number) u v
+    → agrees v.ram v.owners → IsLedgerStep (lend (place_after from i) 1 (place_after to i) kind number) u v
     → ((p : Place) → p ≢ place_after from i → p ≢ place_after to i → entries_of v p ≡ entries_of u p) → KeepsPages u v
     → LendsSo t v from to (i + 1) kind number
 lends_next t u v from to i kind number so agree step others keeps = record {
@@ -98,7 +98,7 @@ lends_next t u v from to i kind number so agree step others keeps = record {
 -- the first i pages are given
 pub record GivesSo (t u : Tables) (from to : Place) (i : ℕ) : Type 0 where
   pub agree : agrees u.ram u.owners
-  pub step : Steps (give from i to) t u
+  pub step : IsLedgerStep (give from i to) t u
   pub others : (p : Place) → in_run from i p ≡ false → in_run to i p ≡ false → entries_of u p ≡ entries_of t p
   pub keeps : KeepsPages t u
 
@@ -112,7 +112,7 @@ gives_none t from to agree = record {
 
 pub gives_next : (t u v : Tables) (from to : Place) (i : ℕ) → GivesSo t u from to i
     → ((p : Place) → in_run from (i + 1) p ≡ true → in_run to (i + 1) p ≡ false)
-    → agrees v.ram v.owners → Steps (give (place_after from i) 1 (place_after to i)) u v
+    → agrees v.ram v.owners → IsLedgerStep (give (place_after from i) 1 (place_after to i)) u v
     → ((p : Place) → p ≢ place_after from i → p ≢ place_after to i → entries_of v p ≡ entries_of u p) → KeepsPages u v
     → GivesSo t v from to (i + 1)
 gives_next t u v from to i so apart agree step others keeps = record {

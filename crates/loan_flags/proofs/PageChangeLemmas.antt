@@ -32,7 +32,7 @@ use Rattle.sv32_space.proofs.Ledgers.PageLedgerLemmas.{entry_kept, give_ledger, 
 use Rattle.sv32_space.specs.Spaces.{IsMade}
 use Rattle.sv32_space.specs.SpelledEntries.{entries}
 use Rattle.sv32_space.specs.Tie.{agrees}
-use Rattle.loan_flags.specs.Keeping.{KeepsPages, Steps, Tables, tables, processes, entries_of, ledger_by}
+use Rattle.loan_flags.specs.Keeping.{KeepsPages, IsLedgerStep, Tables, tables, processes, entries_of, ledger_by}
 use Rattle.loan_flags.specs.PageLoans.{IsLendable, IsLentFrom, IsOrphaned}
 
 -- ---- the place of an entry
@@ -133,7 +133,7 @@ module _ (ram one two : RamBytes) (owners left : OwnerTable) (home : Place) (loa
   lend_page_agrees = agrees_after (tables ram owners) (tables two left) (lent_entries E home right s loan) (with_info I s (Some (on_loan (Some home) loan))) lent agree
       (lend_agrees (processes (tables ram owners)) E I home right s loan agree.entries own free)
 
-  pub lend_page_steps : Steps (lend home 1 loan.holder loan.kind loan.number) (tables ram owners) (tables two left)
+  pub lend_page_steps : IsLedgerStep (lend home 1 loan.holder loan.kind loan.number) (tables ram owners) (tables two left)
   lend_page_steps B = ledger_after (tables ram owners) (tables two left) (lent_entries E home right s loan) (with_info I s (Some (on_loan (Some home) loan))) lent B
       ∙ lend_ledger (processes (tables ram owners)) E I B home right s loan agree.entries own free writable
 
@@ -172,7 +172,7 @@ module _ (ram one two : RamBytes) (owners left : OwnerTable) (home : Place) (loa
   end_page_agrees = agrees_after (tables ram owners) (tables two left) (ended_entries (entries_of (tables ram owners)) home (right_in (entries_of (tables ram owners) home)) (seat_in (entries_of (tables ram owners) home)) loan.holder) (with_info (infos owners) (seat_in (entries_of (tables ram owners) home)) (Some (owned_by home))) end_rewrites agree
       (end_agrees (processes (tables ram owners)) (entries_of (tables ram owners)) (infos owners) home (right_in (entries_of (tables ram owners) home)) (seat_in (entries_of (tables ram owners) home)) loan agree.entries lent.info)
 
-  pub end_page_steps : Steps (end_at (in_run home 1)) (tables ram owners) (tables two left)
+  pub end_page_steps : IsLedgerStep (end_at (in_run home 1)) (tables ram owners) (tables two left)
   end_page_steps B = ledger_after (tables ram owners) (tables two left) (ended_entries (entries_of (tables ram owners)) home (right_in (entries_of (tables ram owners) home)) (seat_in (entries_of (tables ram owners) home)) loan.holder) (with_info (infos owners) (seat_in (entries_of (tables ram owners) home)) (Some (owned_by home))) end_rewrites B
       ∙ end_ledger (processes (tables ram owners)) (entries_of (tables ram owners)) (infos owners) B home (right_in (entries_of (tables ram owners) home)) (seat_in (entries_of (tables ram owners) home)) loan agree.entries lent.info refl
 
@@ -206,7 +206,7 @@ module _ (ram one two : RamBytes) (owners left : OwnerTable) (home : Place) (loa
   pass_page_agrees = agrees_after (tables ram owners) (tables two left) (passed_entries (entries_of (tables ram owners)) (seat_in (entries_of (tables ram owners) home)) loan to) (with_info (infos owners) (seat_in (entries_of (tables ram owners) home)) (Some (on_loan (Some home) (held_at to loan)))) pass_rewrites agree
       (pass_agrees (processes (tables ram owners)) (entries_of (tables ram owners)) (infos owners) home (seat_in (entries_of (tables ram owners) home)) loan to agree.entries lent.info free)
 
-  pub pass_page_steps : Steps (pass_run home 1 to) (tables ram owners) (tables two left)
+  pub pass_page_steps : IsLedgerStep (pass_run home 1 to) (tables ram owners) (tables two left)
   pass_page_steps B = ledger_after (tables ram owners) (tables two left) (passed_entries (entries_of (tables ram owners)) (seat_in (entries_of (tables ram owners) home)) loan to) (with_info (infos owners) (seat_in (entries_of (tables ram owners) home)) (Some (on_loan (Some home) (held_at to loan)))) pass_rewrites B
       ∙ pass_ledger (processes (tables ram owners)) (entries_of (tables ram owners)) (infos owners) B home (seat_in (entries_of (tables ram owners) home)) loan to agree.entries lent.info free
 
@@ -240,7 +240,7 @@ module _ (ram one two : RamBytes) (owners left : OwnerTable) (from to : Place) (
   give_page_agrees = agrees_after (tables ram owners) (tables two left) (given_entries (entries_of (tables ram owners)) from to right s) (with_info (infos owners) s (Some (owned_by to))) give_rewrites agree
       (give_agrees (processes (tables ram owners)) (entries_of (tables ram owners)) (infos owners) from to right s agree.entries own free)
 
-  pub give_page_steps : Steps (give from 1 to) (tables ram owners) (tables two left)
+  pub give_page_steps : IsLedgerStep (give from 1 to) (tables ram owners) (tables two left)
   give_page_steps B = ledger_after (tables ram owners) (tables two left) (given_entries (entries_of (tables ram owners)) from to right s) (with_info (infos owners) s (Some (owned_by to))) give_rewrites B
       ∙ give_ledger (processes (tables ram owners)) (entries_of (tables ram owners)) (infos owners) B from to right s agree.entries own free
 
@@ -272,7 +272,7 @@ module _ (ram one : RamBytes) (owners left : OwnerTable) (home : Place) (loan : 
   orphan_page_agrees = agrees_after (tables ram owners) (tables one left) (with_entry (entries_of (tables ram owners)) home Free) (with_info (infos owners) (seat_in (entries_of (tables ram owners) home)) (Some (on_loan None loan))) orphan_rewrites agree
       (orphan_agrees (processes (tables ram owners)) (entries_of (tables ram owners)) (infos owners) home (seat_in (entries_of (tables ram owners) home)) loan agree.entries lent.info)
 
-  pub orphan_page_steps : Steps (orphan_run home 1 loan.holder) (tables ram owners) (tables one left)
+  pub orphan_page_steps : IsLedgerStep (orphan_run home 1 loan.holder) (tables ram owners) (tables one left)
   orphan_page_steps B = ledger_after (tables ram owners) (tables one left) (with_entry (entries_of (tables ram owners)) home Free) (with_info (infos owners) (seat_in (entries_of (tables ram owners) home)) (Some (on_loan None loan))) orphan_rewrites B
       ∙ orphan_ledger (processes (tables ram owners)) (entries_of (tables ram owners)) (infos owners) B home (seat_in (entries_of (tables ram owners) home)) loan agree.entries lent.info
 
@@ -308,7 +308,7 @@ module _ (ram one : RamBytes) (owners left : OwnerTable) (loan : LoanInfo) (agre
   forget_page_agrees = agrees_after (tables ram owners) (tables one left) (with_entry (entries_of (tables ram owners)) loan.holder Free) (with_info (infos owners) (seat_in (entries_of (tables ram owners) loan.holder)) None) forget_rewrites agree
       (forget_agrees (processes (tables ram owners)) (entries_of (tables ram owners)) (infos owners) (seat_in (entries_of (tables ram owners) loan.holder)) loan agree.entries orphan.info)
 
-  pub forget_page_steps : Steps (forget_orphans (in_run loan.holder 1)) (tables ram owners) (tables one left)
+  pub forget_page_steps : IsLedgerStep (forget_orphans (in_run loan.holder 1)) (tables ram owners) (tables one left)
   forget_page_steps B = ledger_after (tables ram owners) (tables one left) (with_entry (entries_of (tables ram owners)) loan.holder Free) (with_info (infos owners) (seat_in (entries_of (tables ram owners) loan.holder)) None) forget_rewrites B
       ∙ forget_ledger (processes (tables ram owners)) (entries_of (tables ram owners)) (infos owners) B (seat_in (entries_of (tables ram owners) loan.holder)) loan agree.entries orphan.info
 

@@ -35,7 +35,7 @@ use Rattle.sv32_space.proofs.Agreeing.OrphanRunLemmas.{orphaned_stands}
 use Rattle.sv32_space.proofs.Agreeing.RoleLemmas.{free_by_entry}
 use Rattle.sv32_space.proofs.Agreeing.StandingLemmas.{well_placed}
 use Rattle.loan_flags.specs.Ending.{EndsSo}
-use Rattle.loan_flags.specs.Keeping.{KeepsPages, Steps, Tables, entries_of, ledger_by, processes}
+use Rattle.loan_flags.specs.Keeping.{KeepsPages, IsLedgerStep, Tables, entries_of, ledger_by, processes}
 use Rattle.loan_flags.specs.PageLoans.{IsLentFrom, IsOrphaned}
 use Rattle.loan_flags.proofs.LendRunLemmas.{in_less, kept_as_it_is, kept_twice, more_in, next_outside, not_last}
 use Rattle.loan_flags.proofs.PageChangeLemmas.{entry_window}
@@ -45,7 +45,7 @@ use Rattle.loan_flags.proofs.SendingLemmas.{no_window}
 
 pub record RunsSo (t u : Tables) (r : LoanRun) (step : Ledger → Ledger) (a b : Place) (i : ℕ) : Type 0 where
   pub agree : agrees u.ram u.owners
-  pub steps : Steps step t u
+  pub steps : IsLedgerStep step t u
   pub others : (p : Place) → in_run a i p ≡ false → in_run b i p ≡ false → entries_of u p ≡ entries_of t p
   pub told : (s : Seat) → ((j : ℕ) → j < i → s ≢ loan_seat (entries_of t) r j) → infos u.owners s ≡ infos t.owners s
   pub keeps : KeepsPages t u
@@ -62,7 +62,7 @@ runs_none t r step a b agree none = record {
 
 pub runs_next : (t u v : Tables) (r : LoanRun) (before one after : Ledger → Ledger) (a b : Place) (i : ℕ) (s : Seat) → RunsSo t u r before a b i
     → ((l : Ledger) → after l ≡ one (before l)) → s ≡ loan_seat (entries_of t) r i
-    → agrees v.ram v.owners → Steps one u v
+    → agrees v.ram v.owners → IsLedgerStep one u v
     → ((p : Place) → p ≢ place_after a i → p ≢ place_after b i → entries_of v p ≡ entries_of u p)
     → ((x : Seat) → x ≢ s → infos v.owners x ≡ infos u.owners x) → KeepsPages u v
     → RunsSo t v r after a b (i + 1)
@@ -112,7 +112,7 @@ module _ (t : Tables) (agree : agrees t.ram t.owners) (r : LoanRun) (stand : Sta
       let same : i ≡ j = seats_apart i j inside (omega arith) e in absurd (omega arith))
 
   -- what the end of the loan leaves
-  ended : (u : Tables) → agrees u.ram u.owners → Steps (end_loan r.number) t u
+  ended : (u : Tables) → agrees u.ram u.owners → IsLedgerStep (end_loan r.number) t u
       → ((p : Place) → (in_run r.holder r.count p || option_map_or (λ q. in_run q r.count p) r.lender false) ≡ false → entries_of u p ≡ entries_of t p)
       → KeepsPages t u → EndsSo t u r
   ended u agreed steps others keeps = record {
@@ -234,12 +234,12 @@ module _ (t : Tables) (agree : agrees t.ram t.owners) (r : LoanRun) (stand : Sta
       pub orphaning_seat : seat_in (entries_of u (place_after from i)) ≡ loan_seat (entries_of t) r i
       orphaning_seat = seat_still u i b orphaning_home
 
-    pub orphaned_steps : (u : Tables) → Steps (orphan_run from r.count r.holder) t u → Steps (orphan_loan (processes t) r.number) t u
+    pub orphaned_steps : (u : Tables) → IsLedgerStep (orphan_run from r.count r.holder) t u → IsLedgerStep (orphan_loan (processes t) r.number) t u
     orphaned_steps u steps B = steps B
         ∙ orphan_lent (ledger_by t B) r (in_stands (processes t) (entries_of t) (infos t.owners) B agree.entries r stand) (processes t)
         (well_placed (processes t) (entries_of t) (infos t.owners) B agree.entries) from lent
 
-    pub orphaned_stands_in : (u : Tables) → agrees u.ram u.owners → Steps (orphan_run from r.count r.holder) t u
+    pub orphaned_stands_in : (u : Tables) → agrees u.ram u.owners → IsLedgerStep (orphan_run from r.count r.holder) t u
         → StandsIn (entries_of u) (infos u.owners) (without_lender r)
     orphaned_stands_in u agreed steps =
         stands_in (processes u) (entries_of u) (infos u.owners) (λ s. zero_page) agreed.entries (without_lender r)
@@ -293,7 +293,7 @@ module _ (t : Tables) (agree : agrees t.ram t.owners) (r : LoanRun) (stand : Sta
         passing_seat = seat_still u i b passing_home
 
       -- the whole loan
-      pub passed_steps : (u : Tables) → Steps (pass_run from r.count to) t u → Steps (pass r.number r.holder to) t u
+      pub passed_steps : (u : Tables) → IsLedgerStep (pass_run from r.count to) t u → IsLedgerStep (pass r.number r.holder to) t u
       passed_steps u steps B = steps B
           ∙ pass_lent (ledger_by t B) r (in_stands (processes t) (entries_of t) (infos t.owners) B agree.entries r stand) from to lent
 
@@ -308,7 +308,7 @@ module _ (t : Tables) (agree : agrees t.ram t.owners) (r : LoanRun) (stand : Sta
         lies = lies;
       }
 
-      pub passed_stands : (u : Tables) → agrees u.ram u.owners → Steps (pass_run from r.count to) t u
+      pub passed_stands : (u : Tables) → agrees u.ram u.owners → IsLedgerStep (pass_run from r.count to) t u
           → ((p : Place) → in_run to r.count p ≡ true → is_place_in (processes t) Message p ≡ true)
           → StandsIn (entries_of u) (infos u.owners) (with_holder to r)
       passed_stands u agreed steps lies =

@@ -8,7 +8,7 @@ use Rattle.ledger_model.specs.Places.{in_run}
 use Rattle.ledger_model.specs.Steps.{end_loan}
 use Rattle.sv32_space.specs.EntryLoans.{IsUnlent}
 use Rattle.sv32_space.specs.Tie.{agrees}
-use Rattle.loan_flags.specs.Keeping.{KeepsPages, Steps, Tables, entries_of}
+use Rattle.loan_flags.specs.Keeping.{KeepsPages, IsLedgerStep, Tables, entries_of}
 
 -- a place of the holder's run, or of the lender's
 abbrev pub is_of_loan : LoanRun → Place → Bool
@@ -18,7 +18,7 @@ is_of_loan loan p = in_run loan.holder loan.count p || option_map_or (λ from. i
 -- but its own stay.
 pub record EndsSo (old new : Tables) (loan : LoanRun) : Type 0 where
   pub agree : agrees new.ram new.owners
-  pub step : Steps (end_loan loan.number) old new
+  pub step : IsLedgerStep (end_loan loan.number) old new
   pub fresh : IsUnlent (infos new.owners) loan.number
   pub others : (p : Place) → IsFalse (is_of_loan loan p) → entries_of new p ≡ entries_of old p
   pub keeps : KeepsPages old new

@@ -37,5 +37,5 @@ pub record KeepsPages (old new : Tables) : Type 0 where
   pub free : (s : Seat) → infos old.owners s ≡ None → infos new.owners s ≡ None
 
 -- The ledger becomes that after the step, whatever bytes the seats hold.
-abbrev pub Steps : (Ledger → Ledger) → Tables → Tables → Type 0
-Steps step old new = (B : SeatBytes) → ledger_by new B ≡ step (ledger_by old B)
+abbrev pub IsLedgerStep : (Ledger → Ledger) → Tables → Tables → Type 0
+IsLedgerStep step old new = (B : SeatBytes) → ledger_by new B ≡ step (ledger_by old B)

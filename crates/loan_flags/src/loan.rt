@@ -117,6 +117,7 @@ impl Loan {
         self.count
     }
 
+    /// Whether its holder has the pages alone.
     pub fn kind(&self) -> LoanKind
         ensures { result ≡ self.now.kind }
     {

@@ -2,7 +2,7 @@
 
 ghost use Rattle.ledger_model.specs.Places.{in_run};
 ghost use Rattle.ledger_model.specs.Steps.{give, lend};
-ghost use Rattle.loan_flags.specs.Keeping.{KeepsPages, Steps, entries_of, tables};
+ghost use Rattle.loan_flags.specs.Keeping.{KeepsPages, IsLedgerStep, entries_of, tables};
 ghost use Rattle.loan_flags.specs.PageLoans.{IsLendable, IsLentFrom, IsOrphaned, IsOwn};
 ghost use Rattle.phys_pages.specs.Owners.{HasSeat, extent, infos};
 ghost use Rattle.phys_pages.specs.Ram.{area};
@@ -62,7 +62,7 @@ pub(crate) fn lend_page(ram: &mut Ram, owners: &mut Owners, home: Place, loan: L
     requires page { IsLendable (entries_of (tables ram.old owners.old)) loan.kind home }
     requires free { entries_of (tables ram.old owners.old) loan.holder ≡ Some Free }
     ensures agrees { agrees ram.new owners.new }
-    ensures step { Steps (lend home 1 loan.holder loan.kind loan.number) (tables ram.old owners.old) (tables ram.new owners.new) }
+    ensures step { IsLedgerStep (lend home 1 loan.holder loan.kind loan.number) (tables ram.old owners.old) (tables ram.new owners.new) }
     ensures others { (p : Place) → p ≢ home → p ≢ loan.holder
         → entries_of (tables ram.new owners.new) p ≡ entries_of (tables ram.old owners.old) p }
     ensures keeps { KeepsPages (tables ram.old owners.old) (tables ram.new owners.new) }
@@ -128,7 +128,7 @@ pub(crate) fn end_page(ram: &mut Ram, owners: &mut Owners, home: Place, loan: Lo
     requires agrees { agrees ram.old owners.old }
     requires lent { IsLentFrom (entries_of (tables ram.old owners.old)) (infos owners.old) home loan }
     ensures agrees { agrees ram.new owners.new }
-    ensures step { Steps (end_at (in_run home 1)) (tables ram.old owners.old) (tables ram.new owners.new) }
+    ensures step { IsLedgerStep (end_at (in_run home 1)) (tables ram.old owners.old) (tables ram.new owners.new) }
     ensures others { (p : Place) → p ≢ home → p ≢ loan.holder
         → entries_of (tables ram.new owners.new) p ≡ entries_of (tables ram.old owners.old) p }
     ensures infos { (t : Seat) → t ≢ seat_in (entries_of (tables ram.old owners.old) home) → infos owners.new t ≡ infos owners.old t }
@@ -160,7 +160,7 @@ pub(crate) fn pass_page(ram: &mut Ram, owners: &mut Owners, home: Place, loan: L
     requires lent { IsLentFrom (entries_of (tables ram.old owners.old)) (infos owners.old) home loan }
     requires free { entries_of (tables ram.old owners.old) to ≡ Some Free }
     ensures agrees { agrees ram.new owners.new }
-    ensures step { Steps (pass_run home 1 to) (tables ram.old owners.old) (tables ram.new owners.new) }
+    ensures step { IsLedgerStep (pass_run home 1 to) (tables ram.old owners.old) (tables ram.new owners.new) }
     ensures others { (p : Place) → p ≢ loan.holder → p ≢ to
         → entries_of (tables ram.new owners.new) p ≡ entries_of (tables ram.old owners.old) p }
     ensures infos { (t : Seat) → t ≢ seat_in (entries_of (tables ram.old owners.old) home) → infos owners.new t ≡ infos owners.old t }
@@ -196,7 +196,7 @@ pub(crate) fn give_page(ram: &mut Ram, owners: &mut Owners, from: Place, to: Pla
     requires page { IsOwn (entries_of (tables ram.old owners.old)) from }
     requires free { entries_of (tables ram.old owners.old) to ≡ Some Free }
     ensures agrees { agrees ram.new owners.new }
-    ensures step { Steps (give from 1 to) (tables ram.old owners.old) (tables ram.new owners.new) }
+    ensures step { IsLedgerStep (give from 1 to) (tables ram.old owners.old) (tables ram.new owners.new) }
     ensures others { (p : Place) → p ≢ from → p ≢ to
         → entries_of (tables ram.new owners.new) p ≡ entries_of (tables ram.old owners.old) p }
     ensures keeps { KeepsPages (tables ram.old owners.old) (tables ram.new owners.new) }
@@ -226,7 +226,7 @@ pub(crate) fn orphan_page(ram: &mut Ram, owners: &mut Owners, home: Place, loan:
     requires agrees { agrees ram.old owners.old }
     requires lent { IsLentFrom (entries_of (tables ram.old owners.old)) (infos owners.old) home loan }
     ensures agrees { agrees ram.new owners.new }
-    ensures step { Steps (orphan_run home 1 loan.holder) (tables ram.old owners.old) (tables ram.new owners.new) }
+    ensures step { IsLedgerStep (orphan_run home 1 loan.holder) (tables ram.old owners.old) (tables ram.new owners.new) }
     ensures others { (p : Place) → p ≢ home
         → entries_of (tables ram.new owners.new) p ≡ entries_of (tables ram.old owners.old) p }
     ensures infos { (t : Seat) → t ≢ seat_in (entries_of (tables ram.old owners.old) home) → infos owners.new t ≡ infos owners.old t }
@@ -249,7 +249,7 @@ pub(crate) fn forget_page(ram: &mut Ram, owners: &mut Owners, loan: LoanInfo)
     requires agrees { agrees ram.old owners.old }
     requires orphan { IsOrphaned (entries_of (tables ram.old owners.old)) (infos owners.old) loan }
     ensures agrees { agrees ram.new owners.new }
-    ensures step { Steps (forget_orphans (in_run loan.holder 1)) (tables ram.old owners.old) (tables ram.new owners.new) }
+    ensures step { IsLedgerStep (forget_orphans (in_run loan.holder 1)) (tables ram.old owners.old) (tables ram.new owners.new) }
     ensures others { (p : Place) → p ≢ loan.holder
         → entries_of (tables ram.new owners.new) p ≡ entries_of (tables ram.old owners.old) p }
     ensures infos { (t : Seat) → t ≢ seat_in (entries_of (tables ram.old owners.old) loan.holder) → infos owners.new t ≡ infos owners.old t }

@@ -4,7 +4,7 @@ ghost use Rattle.ledger_model.specs.Loans.{with_holder, without_lender};
 ghost use Rattle.ledger_model.specs.Places.{in_run, is_place_in, place_after};
 ghost use Rattle.ledger_model.specs.Steps.{give, lend, orphan_loan, pass};
 ghost use Rattle.loan_flags.specs.Ending.{EndsSo};
-ghost use Rattle.loan_flags.specs.Keeping.{KeepsPages, Steps, entries_of, processes, tables};
+ghost use Rattle.loan_flags.specs.Keeping.{KeepsPages, IsLedgerStep, entries_of, processes, tables};
 ghost use Rattle.loan_flags.specs.Sending.{mem_kind, send_answer};
 ghost use Rattle.phys_pages.specs.Owners.{infos};
 ghost use Rattle.std.specs.Prelude.{IsFalse, IsTrue, None, Ok, Some, is_some, ℕ, ◌+◌, ◌<◌, ◌^◌, ◌≡◌, ◌≤◌};
@@ -48,7 +48,7 @@ pub fn lend_run(
     requires unlent { IsUnlent (infos owners.old) number }
     ensures loan { result ≡ record { lender = Some from; holder = to; count = n; kind = kind; number = number } }
     ensures agrees { agrees ram.new owners.new }
-    ensures step { Steps (lend from n to kind number) (tables ram.old owners.old) (tables ram.new owners.new) }
+    ensures step { IsLedgerStep (lend from n to kind number) (tables ram.old owners.old) (tables ram.new owners.new) }
     ensures stands { StandsIn (entries_of (tables ram.new owners.new)) (infos owners.new) result }
     ensures others { (p : Place) → IsFalse (in_run from n p) → IsFalse (in_run to n p)
         → entries_of (tables ram.new owners.new) p ≡ entries_of (tables ram.old owners.old) p }
@@ -74,7 +74,7 @@ pub fn give_run(ram: &mut Ram, owners: &mut Owners, from: Place, n: u32, to: Pla
     requires free { (p : Place) → IsTrue (in_run to n p) → entries_of (tables ram.old owners.old) p ≡ Some Free }
     requires lies { (p : Place) → IsTrue (in_run to n p) → IsTrue (is_place_in (processes (tables ram.old owners.old)) Message p) }
     ensures agrees { agrees ram.new owners.new }
-    ensures step { Steps (give from n to) (tables ram.old owners.old) (tables ram.new owners.new) }
+    ensures step { IsLedgerStep (give from n to) (tables ram.old owners.old) (tables ram.new owners.new) }
     ensures others { (p : Place) → IsFalse (in_run from n p) → IsFalse (in_run to n p)
         → entries_of (tables ram.new owners.new) p ≡ entries_of (tables ram.old owners.old) p }
     ensures keeps { KeepsPages (tables ram.old owners.old) (tables ram.new owners.new) }
@@ -104,7 +104,7 @@ pub fn pass_run(ram: &mut Ram, owners: &mut Owners, loan: Loan, to: Place) -> Lo
     requires lies { (p : Place) → IsTrue (in_run to loan.count p) → IsTrue (is_place_in (processes (tables ram.old owners.old)) Message p) }
     ensures loan { result ≡ with_holder to loan }
     ensures agrees { agrees ram.new owners.new }
-    ensures step { Steps (pass loan.number loan.holder to) (tables ram.old owners.old) (tables ram.new owners.new) }
+    ensures step { IsLedgerStep (pass loan.number loan.holder to) (tables ram.old owners.old) (tables ram.new owners.new) }
     ensures stands { StandsIn (entries_of (tables ram.new owners.new)) (infos owners.new) result }
     ensures others { (p : Place) → IsFalse (in_run loan.holder loan.count p) → IsFalse (in_run to loan.count p)
         → entries_of (tables ram.new owners.new) p ≡ entries_of (tables ram.old owners.old) p }
@@ -133,7 +133,7 @@ pub fn orphan_run(ram: &mut Ram, owners: &mut Owners, loan: Loan) -> Loan
     requires lent { IsTrue (is_some loan.lender) }
     ensures loan { result ≡ without_lender loan }
     ensures agrees { agrees ram.new owners.new }
-    ensures step { Steps (orphan_loan (processes (tables ram.old owners.old)) loan.number) (tables ram.old owners.old) (tables ram.new owners.new) }
+    ensures step { IsLedgerStep (orphan_loan (processes (tables ram.old owners.old)) loan.number) (tables ram.old owners.old) (tables ram.new owners.new) }
     ensures stands { StandsIn (entries_of (tables ram.new owners.new)) (infos owners.new) result }
     ensures others { (from : Place) → loan.lender ≡ Some from → (p : Place) → IsFalse (in_run from loan.count p)
         → entries_of (tables ram.new owners.new) p ≡ entries_of (tables ram.old owners.old) p }

@@ -8,8 +8,8 @@ use Rattle.ledger_model.specs.Loans.{same_number}
 use Rattle.ledger_model.specs.Steps.{has_number}
 
 -- the page, if it is on loan by that number
-abbrev pub page_of : Number → Option Page → Option Page
-page_of number o = option_and_then (λ page. if has_number number page.loan then Some page else None) o
+abbrev pub lent_page_of : Number → Option Page → Option Page
+lent_page_of number o = option_and_then (λ page. if has_number number page.loan then Some page else None) o
 
 -- the orphan, if it is one of that number
 abbrev pub orphan_of : Number → Option Orphan → Option Orphan
@@ -17,5 +17,5 @@ orphan_of number o = option_and_then (λ orphan. if same_number orphan.number nu
 
 -- pages on loan by the number and orphans of it are the same, with their rights and their bytes
 pub record Leaves (number : Number) (before after : Ledger) : Type 0 where
-  pub homes : (p : Place) → page_of number (after.home p) ≡ page_of number (before.home p)
+  pub homes : (p : Place) → lent_page_of number (after.home p) ≡ lent_page_of number (before.home p)
   pub orphans : (p : Place) → orphan_of number (after.orphan p) ≡ orphan_of number (before.orphan p)

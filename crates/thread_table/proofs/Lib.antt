@@ -1,5 +1,6 @@
 pub mod CountLemmas
 pub mod ListingLemmas
 pub mod PlaceLemmas
+mod EmptyingLemmas
 mod LendingLemmas
 pub mod ReceiverLemmas

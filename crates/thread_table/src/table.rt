@@ -160,9 +160,7 @@ impl Threads {
         ensures count { process_count self.new ≡ process_count self.old }
     {
         let first = (pid.0 as usize - 2) * TIDS;
-        for k in 0..TIDS {
-            self.by_place[first + k] = None;
-        }
+        self.by_place[first..first + TIDS].fill_with(|| None);
     }
 
     /// Whether no thread of the process has the tid `k + 2`.

@@ -59,8 +59,9 @@ pub record Reservation : Type 0 where
 -- `capacity` is how many pages there may be at once. The pids of the `processes` processes are 2 to
 -- processes + 1. `cursor` is the thread whose turn it is. `pending` are the interrupt numbers that were raised
 -- and not yet delivered. `next_number` and `next_serial` are the numbers that the next accepted message and
--- the next server get; neither is ever used again. `compare` is the number of steps at which the timer raises its interrupt,
--- where it is armed, and `reserved` the reservation, where there is one.
+-- the next server get; neither is ever used again. Servers stand below `next_serial`: only serials below
+-- it ever have one. `compare` is the number of steps at which the timer raises its interrupt, where it is armed, and `reserved`
+-- the reservation, where there is one.
 pub record Machine : Type 0 where
   pub capacity : ℕ
   pub processes : ℕ

@@ -19,7 +19,7 @@ use Rattle.ledger_model.specs.Steps.{forget, give, has_number, lend, make, make_
 use Rattle.ledger_model.proofs.LedgerLemmas.{is_free-true, lender_of-loan, same_number-true}
 use Rattle.ledger_model.proofs.PlaceLemmas.{moved-in_run}
 use Rattle.machine_model.specs.Messaging.LoanSets.{end_loans, freed_but, loan_but, orphan_but, orphan_loans, orphan_of_page, is_lent_by, page_but}
-use Rattle.span_laws.specs.Leaving.{Leaves, orphan_of, page_of}
+use Rattle.span_laws.specs.Leaving.{Leaves, orphan_of, lent_page_of}
 use Rattle.span_laws.proofs.Leaving.NumberPageLemmas.{unlent_of_none}
 
 -- ---- places that are as they were, or without a loan before and after
@@ -29,8 +29,8 @@ pub data IsAlike (before after : Option Page) : Type 0 where
   Same : after ≡ before → IsAlike before after
   Unlent : is_lent before ≡ false → is_lent after ≡ false → IsAlike before after
 
-alike_of : (number : Number) (before after : Option Page) → IsAlike before after → page_of number after ≡ page_of number before
-alike_of number before after (Same e) = ap (page_of number) e
+alike_of : (number : Number) (before after : Option Page) → IsAlike before after → lent_page_of number after ≡ lent_page_of number before
+alike_of number before after (Same e) = ap (lent_page_of number) e
 alike_of number before after (Unlent a b) = unlent_of_none number after b ∙ sym (unlent_of_none number before a)
 
 pub leaves_alike : (number : Number) (l m : Ledger) → ((p : Place) → IsAlike (l.home p) (m.home p))
@@ -113,15 +113,15 @@ module _ (number : Number) (procs : ℕ) (l : Ledger) where
   lend_leaves from n to kind new other unlent = record { homes = λ p. go p (in_run from n p) refl; orphans = λ p. refl }
     where
       lent : (p : Place) (o : Option Page) → is_lent o ≡ false
-          → page_of number (option_map (with_loan (record { holder = moved from to p; kind = kind; number = new })) o) ≡ page_of number o
+          → lent_page_of number (option_map (with_loan (record { holder = moved from to p; kind = kind; number = new })) o) ≡ lent_page_of number o
       lent p None e = refl
       lent p (Some page) e =
           ap (λ b. if b then Some (with_loan (record { holder = moved from to p; kind = kind; number = new }) page) else None) other
           ∙ sym (unlent_of_none number (Some page) e)
 
       go : (p : Place) (b : Bool) → in_run from n p ≡ b
-          → page_of number (if b then option_map (with_loan (record { holder = moved from to p; kind = kind; number = new })) (l.home p) else l.home p)
-          ≡ page_of number (l.home p)
+          → lent_page_of number (if b then option_map (with_loan (record { holder = moved from to p; kind = kind; number = new })) (l.home p) else l.home p)
+          ≡ lent_page_of number (l.home p)
       go p true e = lent p (l.home p) (unlent p e)
       go p false e = refl
 
@@ -133,7 +133,7 @@ unfolding pass
 pass_leaves number other from to l apart = record { homes = λ p. of_page (l.home p); orphans = λ p. refl }
   where
     by : (page : Page) (x : PageLoan) → page.loan ≡ Some x → (b : Bool) → same_number x.number other ≡ b
-        → page_of number (Some (record page { loan = Some (if b then record x { holder = moved from to x.holder } else x) }))
+        → lent_page_of number (Some (record page { loan = Some (if b then record x { holder = moved from to x.holder } else x) }))
         ≡ (if same_number x.number number then Some page else None)
     by page x e false f = ap (λ o. if same_number x.number number then Some (record page { loan = o }) else None) (sym e)
     by page x e true f =
@@ -143,12 +143,12 @@ pass_leaves number other from to l apart = record { homes = λ p. of_page (l.hom
         ∙ sym (ap (λ b. if b then Some page else None) none)
 
     loaned : (page : Page) (o : Option PageLoan) → page.loan ≡ o
-        → page_of number (Some (record page { loan = option_map (passed_loan other from to) o }))
+        → lent_page_of number (Some (record page { loan = option_map (passed_loan other from to) o }))
         ≡ (if has_number number o then Some page else None)
     loaned page None e = refl
     loaned page (Some x) e = by page x e (same_number x.number other) refl
 
-    of_page : (o : Option Page) → page_of number (option_map (passed other from to) o) ≡ page_of number o
+    of_page : (o : Option Page) → lent_page_of number (option_map (passed other from to) o) ≡ lent_page_of number o
     of_page None = refl
     of_page (Some page) = loaned page page.loan refl
 
@@ -159,19 +159,19 @@ module _ (number : Number) (set : Number → Bool) (outside : set number ≡ fal
   not_in_set k e = ap set (same_number-true k number e) ∙ outside
 
   freed_of : (page : Page) (o : Option PageLoan) → page.loan ≡ o
-      → page_of number (Some (record page { loan = loan_but set o })) ≡ (if has_number number o then Some page else None)
+      → lent_page_of number (Some (record page { loan = loan_but set o })) ≡ (if has_number number o then Some page else None)
   freed_of page None e = refl
   freed_of page (Some x) e = go (set x.number) refl (same_number x.number number) refl
     where
       go : (b : Bool) → set x.number ≡ b → (c : Bool) → same_number x.number number ≡ c
-          → page_of number (Some (record page { loan = if b then None else Some x })) ≡ (if c then Some page else None)
+          → lent_page_of number (Some (record page { loan = if b then None else Some x })) ≡ (if c then Some page else None)
       go true s true f = absurd (false≢true (sym (not_in_set x.number f) ∙ s))
       go true s false f = refl
       go false s c f =
           ap (λ b. if b then Some (record page { loan = Some x }) else None) f
           ∙ ap (λ o. if c then Some (record page { loan = o }) else None) (sym e)
 
-  freed_page : (o : Option Page) → page_of number (option_map (freed_but set) o) ≡ page_of number o
+  freed_page : (o : Option Page) → lent_page_of number (option_map (freed_but set) o) ≡ lent_page_of number o
   freed_page None = refl
   freed_page (Some page) = freed_of page page.loan refl
 
@@ -190,17 +190,17 @@ module _ (number : Number) (set : Number → Bool) (outside : set number ≡ fal
   ends_leave l = record { homes = λ p. freed_page (l.home p); orphans = λ p. freed_orphan (l.orphan p) }
 
   gone_of : (page : Page) (o : Option PageLoan) → page.loan ≡ o
-      → page_of number (if is_lent_by set o then None else Some page) ≡ (if has_number number o then Some page else None)
+      → lent_page_of number (if is_lent_by set o then None else Some page) ≡ (if has_number number o then Some page else None)
   gone_of page None e = ap (λ o. if has_number number o then Some page else None) e
   gone_of page (Some x) e = go (set x.number) refl (same_number x.number number) refl
     where
       go : (b : Bool) → set x.number ≡ b → (c : Bool) → same_number x.number number ≡ c
-          → page_of number (if b then None else Some page) ≡ (if c then Some page else None)
+          → lent_page_of number (if b then None else Some page) ≡ (if c then Some page else None)
       go true s true f = absurd (false≢true (sym (not_in_set x.number f) ∙ s))
       go true s false f = refl
       go false s c f = ap (λ o. if has_number number o then Some page else None) e ∙ ap (λ b. if b then Some page else None) f
 
-  gone_page : (o : Option Page) → page_of number (page_but set o) ≡ page_of number o
+  gone_page : (o : Option Page) → lent_page_of number (page_but set o) ≡ lent_page_of number o
   gone_page None = refl
   gone_page (Some page) = gone_of page page.loan refl
 

@@ -15,14 +15,14 @@ use Rattle.ledger_model.proofs.LedgerLemmas.{cases_Option}
 use Rattle.ledger_model.proofs.Loans.OfNumberLemmas.{SameOf, loan_of_run-inside, orphan_of_run-inside}
 use Rattle.ledger_model.proofs.PlaceLemmas.{in_run-after}
 use Rattle.machine_model.specs.Runs.LoanSpan.{page_name, right_of_name}
-use Rattle.span_laws.specs.Leaving.{Leaves, orphan_of, page_of}
+use Rattle.span_laws.specs.Leaving.{Leaves, orphan_of, lent_page_of}
 
 -- ---- pages and loans of a number
 
 -- the loan of a page of the number is its loan of that number
-pub loan_of_page_of : (number : Number) (o : Option Page) → loan_of (page_of number o) ≡ of_number number (loan_of o)
-loan_of_page_of number None = refl
-loan_of_page_of number (Some page) = go page.loan refl
+pub loan_of_lent_page : (number : Number) (o : Option Page) → loan_of (lent_page_of number o) ≡ of_number number (loan_of o)
+loan_of_lent_page number None = refl
+loan_of_lent_page number (Some page) = go page.loan refl
   where
     go : (o : Option PageLoan) → page.loan ≡ o → loan_of (if has_number number o then Some page else None) ≡ of_number number o
     go None e = refl
@@ -42,9 +42,9 @@ orphan_loan_of number (Some x) = by (same_number x.number number)
     by false = refl
 
 -- a page of the number is what stands there
-page_of_some : (number : Number) (o : Option Page) (x : PageLoan) → of_number number (loan_of o) ≡ Some x → page_of number o ≡ o
-page_of_some number None x e = refl
-page_of_some number (Some page) x e = go (has_number number page.loan) (sym (loan_of_page_of number (Some page))) e
+lent_page_of_some : (number : Number) (o : Option Page) (x : PageLoan) → of_number number (loan_of o) ≡ Some x → lent_page_of number o ≡ o
+lent_page_of_some number None x e = refl
+lent_page_of_some number (Some page) x e = go (has_number number page.loan) (sym (loan_of_lent_page number (Some page))) e
   where
     go : (b : Bool) → of_number number page.loan ≡ loan_of (if b then Some page else None) → of_number number page.loan ≡ Some x
         → (if b then Some page else None) ≡ Some page
@@ -62,9 +62,9 @@ orphan_of_some number (Some orphan) x e = go (same_number orphan.number number) 
     go false q r = absurd (none-some x (sym q ∙ r))
 
 -- none of the number is none
-pub page_of_none : (number : Number) (o : Option Page) → of_number number (loan_of o) ≡ None → page_of number o ≡ None
-page_of_none number None e = refl
-page_of_none number (Some page) e = go (has_number number page.loan) refl
+pub lent_page_of_none : (number : Number) (o : Option Page) → of_number number (loan_of o) ≡ None → lent_page_of number o ≡ None
+lent_page_of_none number None e = refl
+lent_page_of_none number (Some page) e = go (has_number number page.loan) refl
   where
     go : (b : Bool) → has_number number page.loan ≡ b → (if b then Some page else None) ≡ None
     go false q = refl
@@ -85,7 +85,7 @@ orphan_of_none number (Some orphan) e = go (same_number orphan.number number) (o
     go false q = refl
 
 -- a page without a loan is of no number
-pub unlent_of_none : (number : Number) (o : Option Page) → is_lent o ≡ false → page_of number o ≡ None
+pub unlent_of_none : (number : Number) (o : Option Page) → is_lent o ≡ false → lent_page_of number o ≡ None
 unlent_of_none number None e = refl
 unlent_of_none number (Some page) e = go page.loan e
   where
@@ -106,14 +106,14 @@ module _ (number : Number) (l m : Ledger) (left : Leaves number l m) where
   pub left_loans : SameOf number (loans l) (loans m)
   unfolding loans
   left_loans = record {
-    homes = λ p. sym (loan_of_page_of number (m.home p)) ∙ (ap loan_of (left.homes p) ∙ loan_of_page_of number (l.home p));
+    homes = λ p. sym (loan_of_lent_page number (m.home p)) ∙ (ap loan_of (left.homes p) ∙ loan_of_lent_page number (l.home p));
     orphans = λ p. sym (orphan_loan_of number (m.orphan p)) ∙ (ap (option_map loan_of_orphan) (left.orphans p) ∙ orphan_loan_of number (l.orphan p));
   }
 
   left_home : (p : Place) (x : PageLoan) → of_number number (loan_at l p) ≡ Some x → m.home p ≡ l.home p
   left_home p x e =
-      sym (page_of_some number (m.home p) x (sym (loan_of_page_of number (m.home p)) ∙ (ap loan_of (left.homes p) ∙ (loan_of_page_of number (l.home p) ∙ e))))
-      ∙ (left.homes p ∙ page_of_some number (l.home p) x e)
+      sym (lent_page_of_some number (m.home p) x (sym (loan_of_lent_page number (m.home p)) ∙ (ap loan_of (left.homes p) ∙ (loan_of_lent_page number (l.home p) ∙ e))))
+      ∙ (left.homes p ∙ lent_page_of_some number (l.home p) x e)
 
   left_orphan : (p : Place) (x : OrphanLoan) → orphan_of_number number (orphan_loan_at l p) ≡ Some x → m.orphan p ≡ l.orphan p
   left_orphan p x e =

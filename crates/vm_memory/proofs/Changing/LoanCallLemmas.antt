@@ -46,7 +46,7 @@ use Rattle.sv32_space.specs.EntryLoans.{IsUnlent, StandsIn}
 use Rattle.sv32_space.specs.SpelledEntries.{entries}
 use Rattle.sv32_space.specs.Tie.{Held, agrees, bytes_at}
 use Rattle.sv32_space.proofs.Agreeing.LoanStandingLemmas.{fresh_in, in_fresh, in_stands, stands_in}
-use Rattle.loan_flags.specs.Keeping.{KeepsPages, Steps, tables}
+use Rattle.loan_flags.specs.Keeping.{KeepsPages, IsLedgerStep, tables}
 use Rattle.loan_flags.specs.Sending as entry
 use Rattle.loan_flags.specs.Sending.{is_mutable, mem_kind}
 use Rattle.loan_flags.specs.FreeRuns.{least_free}
@@ -214,7 +214,7 @@ module _ {W : Type 0} (slot_count : W → ℕ) (honest : W → Bool) (held : W �
   agree_there = subst (λ k. EntriesAgree k (entries k ram) (infos owners)) same_procs agree.entries
 
   -- Where the step is made from any bytes, and lawful and counted pages follow, the memory makes it.
-  pub does_step : (step : Ledger → Ledger) → Steps step (tables m.ram m.owners) (tables ram owners)
+  pub does_step : (step : Ledger → Ledger) → IsLedgerStep step (tables m.ram m.owners) (tables ram owners)
       → IsLawful (processes m) (capacity_of m) (step (blank_ledger m)) → count ≡ pages (processes m) (step (blank_ledger m))
       → DoesStep slot_count honest held m n step
   does_step step steps lawful counted =
@@ -236,13 +236,13 @@ module _ {W : Type 0} (slot_count : W → ℕ) (honest : W → Bool) (held : W �
       }
 
   -- .. as a call that keeps the number of pages
-  kept : (step : Ledger → Ledger) → Steps step (tables m.ram m.owners) (tables ram owners)
+  kept : (step : Ledger → Ledger) → IsLedgerStep step (tables m.ram m.owners) (tables ram owners)
       → IsLawful (processes m) (capacity_of m) (step (blank_ledger m)) → pages (processes m) (step (blank_ledger m)) ≡ pages (processes m) (blank_ledger m)
       → count ≡ m.pages → DoesStep slot_count honest held m n step
   kept step steps lawful same whole = does_step step steps lawful (whole ∙ (sound.pages ∙ sym same))
 
   pub lent : (from : Place) (k : ℕ) (to : Place) (kind : LoanKind) (number : Number)
-      → Steps (lend from k to kind number) (tables m.ram m.owners) (tables ram owners)
+      → IsLedgerStep (lend from k to kind number) (tables m.ram m.owners) (tables ram owners)
       → CanLend (processes m) (ledger held m) from k to kind number → count ≡ m.pages
       → DoesStep slot_count honest held m n (lend from k to kind number)
   lent from k to kind number steps can whole =
@@ -253,7 +253,7 @@ module _ {W : Type 0} (slot_count : W → ℕ) (honest : W → Bool) (held : W �
       (lend_pages (processes m) from k to kind number (blank_ledger m)) whole
 
   pub given : (from : Place) (k : ℕ) (to : Place)
-      → Steps (give from k to) (tables m.ram m.owners) (tables ram owners)
+      → IsLedgerStep (give from k to) (tables m.ram m.owners) (tables ram owners)
       → CanGive (processes m) (ledger held m) from k to → count ≡ m.pages
       → DoesStep slot_count honest held m n (give from k to)
   given from k to steps can whole =
@@ -264,7 +264,7 @@ module _ {W : Type 0} (slot_count : W → ℕ) (honest : W → Bool) (held : W �
       (give_pages (processes m) from k to (blank_ledger m) blank (capacity_of m) sound.lawful) whole
 
   pub passed : (loan : LoanRun) (to : Place)
-      → Steps (pass loan.number loan.holder to) (tables m.ram m.owners) (tables ram owners)
+      → IsLedgerStep (pass loan.number loan.holder to) (tables m.ram m.owners) (tables ram owners)
       → CanPass (processes m) (ledger held m) loan to → count ≡ m.pages
       → DoesStep slot_count honest held m n (pass loan.number loan.holder to)
   passed loan to steps can whole =
@@ -275,7 +275,7 @@ module _ {W : Type 0} (slot_count : W → ℕ) (honest : W → Bool) (held : W �
       (pass_pages (processes m) loan.number loan.holder to (blank_ledger m)) whole
 
   pub orphaned : (number : Number)
-      → Steps (orphan_loan (processes m) number) (tables m.ram m.owners) (tables ram owners) → count ≡ m.pages
+      → IsLedgerStep (orphan_loan (processes m) number) (tables m.ram m.owners) (tables ram owners) → count ≡ m.pages
       → DoesStep slot_count honest held m n (orphan_loan (processes m) number)
   orphaned number steps whole =
       kept (orphan_loan (processes m) number) steps
@@ -283,7 +283,7 @@ module _ {W : Type 0} (slot_count : W → ℕ) (honest : W → Bool) (held : W �
       (orphan_loan_pages (processes m) (capacity_of m) number (blank_ledger m) sound.lawful) whole
 
   -- the orphans of a loan without a lender go
-  pub ended : (loan : LoanRun) → Steps (end_loan loan.number) (tables m.ram m.owners) (tables ram owners)
+  pub ended : (loan : LoanRun) → IsLedgerStep (end_loan loan.number) (tables m.ram m.owners) (tables ram owners)
       → Stands (loans (ledger held m)) loan → count ≡ m.pages - orphans_of loan
       → DoesStep slot_count honest held m n (end_loan loan.number)
   ended loan steps stands left = does_step (end_loan loan.number) steps

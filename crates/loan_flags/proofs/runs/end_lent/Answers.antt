@@ -6,7 +6,7 @@ use Rattle.sv32_space.specs.Agreement.{seat_in}
 use Rattle.sv32_space.specs.EntryLoans.{loan_info}
 use Rattle.sv32_space.specs.PageSteps.{end_at}
 use Rattle.sv32_space.proofs.RunLemmas.{end_next, end_none}
-use Rattle.loan_flags.specs.Keeping.{Steps, entries_of, tables}
+use Rattle.loan_flags.specs.Keeping.{IsLedgerStep, entries_of, tables}
 use Rattle.loan_flags.specs.PageLoans.{IsLentFrom}
 use Rattle.loan_flags.proofs.StandingRunLemmas.{RunsSo, holder_fits, ending_lent, ending_seat, lender_fits, lent_ended, runs_next, runs_none}
 use Rattle.loan_flags.proofs.runs.end_lent.Goals as goal
@@ -48,7 +48,7 @@ loop-i-preserved c =
     (end_next c.args.from c.loop-i.i)
     (ap (λ p. seat_in (entries_of (tables c.loop-i.ram c.loop-i.owners) p)) c.above-in-loop-i.ensures ∙ ending_seat (tables c.args.ram.now c.args.owners.now) c.requires.agrees c.args.loan.now c.requires.stands c.args.from c.requires.lent (tables c.loop-i.ram c.loop-i.owners) (end_at (in_run c.args.from c.loop-i.i)) c.loop-i.i b c.loop-i.invariant)
     c.end_page.ensures.agrees
-    (subst (λ p. Steps (end_at (in_run p 1)) (tables c.loop-i.ram c.loop-i.owners) (tables c.end_page.new.ram c.end_page.new.owners)) c.above-in-loop-i.ensures c.end_page.ensures.step)
+    (subst (λ p. IsLedgerStep (end_at (in_run p 1)) (tables c.loop-i.ram c.loop-i.owners) (tables c.end_page.new.ram c.end_page.new.owners)) c.above-in-loop-i.ensures c.end_page.ensures.step)
     (λ p home held. c.end_page.ensures.others p (λ e. home (e ∙ c.above-in-loop-i.ensures)) (λ e. held (e ∙ sym holder)))
     c.end_page.ensures.infos
     c.end_page.ensures.keeps

@@ -6,7 +6,7 @@ use Rattle.sv32_space.specs.Agreement.{seat_in}
 use Rattle.sv32_space.specs.EntryLoans.{loan_info}
 use Rattle.sv32_space.specs.PageSteps.{forget_orphans}
 use Rattle.sv32_space.proofs.RunLemmas.{forget_next, forget_none}
-use Rattle.loan_flags.specs.Keeping.{Steps, entries_of, tables}
+use Rattle.loan_flags.specs.Keeping.{IsLedgerStep, entries_of, tables}
 use Rattle.loan_flags.specs.PageLoans.{IsOrphaned}
 use Rattle.loan_flags.proofs.StandingRunLemmas.{RunsSo, holder_fits, orphan_seat_still, orphans_ended, still_orphaned, runs_next, runs_none}
 use Rattle.loan_flags.proofs.runs.end_orphans.Goals as goal
@@ -41,7 +41,7 @@ loop-i-preserved c =
     (forget_next c.args.loan.now.holder c.loop-i.i)
     (ap (λ p. seat_in (entries_of (tables c.loop-i.ram c.loop-i.owners) p)) (sym holder) ∙ orphan_seat_still (tables c.args.ram.now c.args.owners.now) c.requires.agrees c.args.loan.now c.requires.stands c.requires.alone (tables c.loop-i.ram c.loop-i.owners) (forget_orphans (in_run c.args.loan.now.holder c.loop-i.i)) c.loop-i.i b c.loop-i.invariant)
     c.forget_page.ensures.agrees
-    (subst (λ p. Steps (forget_orphans (in_run p 1)) (tables c.loop-i.ram c.loop-i.owners) (tables c.forget_page.new.ram c.forget_page.new.owners)) (sym holder) c.forget_page.ensures.step)
+    (subst (λ p. IsLedgerStep (forget_orphans (in_run p 1)) (tables c.loop-i.ram c.loop-i.owners) (tables c.forget_page.new.ram c.forget_page.new.owners)) (sym holder) c.forget_page.ensures.step)
     (λ p held other. c.forget_page.ensures.others p (λ e. held (e ∙ sym holder)))
     c.forget_page.ensures.infos
     c.forget_page.ensures.keeps

@@ -2,7 +2,7 @@ use Rattle.std.proofs.Common.{arith, subst, sym, ap, ◌∙◌, ◌≡◌}
 use Rattle.xk_base.specs.declared.pages.LoanKind.TheVariants.{Shared}
 use Rattle.ledger_model.specs.Places.{place_after}
 use Rattle.ledger_model.specs.Steps.{give}
-use Rattle.loan_flags.specs.Keeping.{Steps, entries_of, tables}
+use Rattle.loan_flags.specs.Keeping.{IsLedgerStep, entries_of, tables}
 use Rattle.loan_flags.specs.PageLoans.{IsOwn}
 use Rattle.loan_flags.proofs.LendRunLemmas.{GivesSo, free_ahead, from_fits, gives_next, gives_none, own_ahead, runs_apart, to_fits}
 use Rattle.loan_flags.proofs.runs.give_run.Goals as goal
@@ -30,8 +30,8 @@ pub loop-i-preserved : goal.loop-i-preserved
 loop-i-preserved c =
     gives_next (tables c.args.ram.now c.args.owners.now) (tables c.loop-i.ram c.loop-i.owners) (tables c.give_page.new.ram c.give_page.new.owners) c.args.from c.args.to c.loop-i.i c.loop-i.invariant
     (runs_apart (tables c.args.ram.now c.args.owners.now) c.args.from c.args.n c.args.to Shared (record { 0 = 0 }) c.requires.agrees c.requires.may c.requires.free c.loop-i.i c.loop-i-test.true) c.give_page.ensures.agrees
-    (subst (λ p. Steps (give p 1 (place_after c.args.to c.loop-i.i)) (tables c.loop-i.ram c.loop-i.owners) (tables c.give_page.new.ram c.give_page.new.owners)) c.above.ensures
-    (subst (λ q. Steps (give c.above.result 1 q) (tables c.loop-i.ram c.loop-i.owners) (tables c.give_page.new.ram c.give_page.new.owners)) c.above-in-loop-i.ensures c.give_page.ensures.step))
+    (subst (λ p. IsLedgerStep (give p 1 (place_after c.args.to c.loop-i.i)) (tables c.loop-i.ram c.loop-i.owners) (tables c.give_page.new.ram c.give_page.new.owners)) c.above.ensures
+    (subst (λ q. IsLedgerStep (give c.above.result 1 q) (tables c.loop-i.ram c.loop-i.owners) (tables c.give_page.new.ram c.give_page.new.owners)) c.above-in-loop-i.ensures c.give_page.ensures.step))
     (λ p home to. c.give_page.ensures.others p (λ e. home (e ∙ c.above.ensures)) (λ e. to (e ∙ c.above-in-loop-i.ensures)))
     c.give_page.ensures.keeps
 

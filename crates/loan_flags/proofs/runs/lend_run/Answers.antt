@@ -3,7 +3,7 @@ use Rattle.phys_pages.specs.Owners.{infos}
 use Rattle.ledger_model.specs.Places.{place_after}
 use Rattle.ledger_model.specs.Steps.{lend}
 use Rattle.sv32_space.specs.EntryLoans.{StandsIn}
-use Rattle.loan_flags.specs.Keeping.{Steps, entries_of, tables}
+use Rattle.loan_flags.specs.Keeping.{IsLedgerStep, entries_of, tables}
 use Rattle.loan_flags.specs.PageLoans.{IsLendable}
 use Rattle.loan_flags.proofs.LendRunLemmas.{LendsSo, free_ahead, from_fits, lends_next, lends_none, lent_stands, own_ahead, to_fits}
 use Rattle.loan_flags.proofs.runs.lend_run.Goals as goal
@@ -35,8 +35,8 @@ pub loop-i-preserved : goal.loop-i-preserved
 loop-i-preserved c =
     lends_next (tables c.args.ram.now c.args.owners.now) (tables c.loop-i.ram c.loop-i.owners) (tables c.lend_page.new.ram c.lend_page.new.owners)
     c.args.from c.args.to c.loop-i.i c.args.kind c.args.number c.loop-i.invariant c.lend_page.ensures.agrees
-    (subst (λ p. Steps (lend p 1 (place_after c.args.to c.loop-i.i) c.args.kind c.args.number) (tables c.loop-i.ram c.loop-i.owners) (tables c.lend_page.new.ram c.lend_page.new.owners)) c.above-in-loop-i.ensures
-    (subst (λ q. Steps (lend c.above-in-loop-i.result 1 q c.args.kind c.args.number) (tables c.loop-i.ram c.loop-i.owners) (tables c.lend_page.new.ram c.lend_page.new.owners)) c.above.ensures c.lend_page.ensures.step))
+    (subst (λ p. IsLedgerStep (lend p 1 (place_after c.args.to c.loop-i.i) c.args.kind c.args.number) (tables c.loop-i.ram c.loop-i.owners) (tables c.lend_page.new.ram c.lend_page.new.owners)) c.above-in-loop-i.ensures
+    (subst (λ q. IsLedgerStep (lend c.above-in-loop-i.result 1 q c.args.kind c.args.number) (tables c.loop-i.ram c.loop-i.owners) (tables c.lend_page.new.ram c.lend_page.new.owners)) c.above.ensures c.lend_page.ensures.step))
     (λ p home holder. c.lend_page.ensures.others p (λ e. home (e ∙ c.above-in-loop-i.ensures)) (λ e. holder (e ∙ c.above.ensures)))
     c.lend_page.ensures.keeps
 

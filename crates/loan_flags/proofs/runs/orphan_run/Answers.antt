@@ -7,7 +7,7 @@ use Rattle.sv32_space.specs.Agreement.{seat_in}
 use Rattle.sv32_space.specs.EntryLoans.{StandsIn, loan_info}
 use Rattle.sv32_space.specs.PageSteps.{orphan_run}
 use Rattle.sv32_space.proofs.RunLemmas.{orphan_next, orphan_none}
-use Rattle.loan_flags.specs.Keeping.{Steps, entries_of, tables}
+use Rattle.loan_flags.specs.Keeping.{IsLedgerStep, entries_of, tables}
 use Rattle.loan_flags.specs.PageLoans.{IsLentFrom}
 use Rattle.loan_flags.proofs.StandingRunLemmas.{holder_fits, lender_fits, orphaned_stands_in, orphaned_steps, orphaning_lent, orphaning_seat, runs_next, runs_none}
 use Rattle.loan_flags.proofs.runs.orphan_run.Goals as goal
@@ -50,8 +50,8 @@ loop-i-preserved c =
     (orphan_next c.lender_of-from.result c.args.loan.holder c.loop-i.i)
     (ap (λ p. seat_in (entries_of (tables c.loop-i.ram c.loop-i.owners) p)) c.above-in-loop-i.ensures ∙ orphaning_seat (tables c.args.ram.now c.args.owners.now) c.requires.agrees c.args.loan c.requires.stands c.lender_of-from.result c.lender_of-from.ensures (tables c.loop-i.ram c.loop-i.owners) (orphan_run c.lender_of-from.result c.loop-i.i c.args.loan.holder) c.loop-i.i b c.loop-i.invariant)
     c.orphan_page.ensures.agrees
-    (subst (λ p. Steps (orphan_run p 1 (place_after c.args.loan.holder c.loop-i.i)) (tables c.loop-i.ram c.loop-i.owners) (tables c.orphan_page.new.ram c.orphan_page.new.owners)) c.above-in-loop-i.ensures
-    (subst (λ q. Steps (orphan_run c.above-in-loop-i.result 1 q) (tables c.loop-i.ram c.loop-i.owners) (tables c.orphan_page.new.ram c.orphan_page.new.owners)) (sym holder) c.orphan_page.ensures.step))
+    (subst (λ p. IsLedgerStep (orphan_run p 1 (place_after c.args.loan.holder c.loop-i.i)) (tables c.loop-i.ram c.loop-i.owners) (tables c.orphan_page.new.ram c.orphan_page.new.owners)) c.above-in-loop-i.ensures
+    (subst (λ q. IsLedgerStep (orphan_run c.above-in-loop-i.result 1 q) (tables c.loop-i.ram c.loop-i.owners) (tables c.orphan_page.new.ram c.orphan_page.new.owners)) (sym holder) c.orphan_page.ensures.step))
     (λ p home again. c.orphan_page.ensures.others p (λ e. home (e ∙ c.above-in-loop-i.ensures)))
     c.orphan_page.ensures.infos
     c.orphan_page.ensures.keeps
@@ -60,14 +60,14 @@ pub returns-clause-step : goal.returns-clause-step
 returns-clause-step c =
     let n : c.count-i-end.result ≡ c.args.loan.count = c.count-i-end.ensures in
     let done : c.loop-i.i ≡ c.args.loan.count = omega arith in
-    orphaned_steps (tables c.args.ram.now c.args.owners.now) c.requires.agrees c.args.loan c.requires.stands c.lender_of-from.result c.lender_of-from.ensures (tables c.loop-i.ram c.loop-i.owners) (subst (λ k. Steps (orphan_run c.lender_of-from.result k c.args.loan.holder) (tables c.args.ram.now c.args.owners.now) (tables c.loop-i.ram c.loop-i.owners)) done c.loop-i.invariant.steps)
+    orphaned_steps (tables c.args.ram.now c.args.owners.now) c.requires.agrees c.args.loan c.requires.stands c.lender_of-from.result c.lender_of-from.ensures (tables c.loop-i.ram c.loop-i.owners) (subst (λ k. IsLedgerStep (orphan_run c.lender_of-from.result k c.args.loan.holder) (tables c.args.ram.now c.args.owners.now) (tables c.loop-i.ram c.loop-i.owners)) done c.loop-i.invariant.steps)
 
 pub returns-clause-stands : goal.returns-clause-stands
 returns-clause-stands c =
     let n : c.count-i-end.result ≡ c.args.loan.count = c.count-i-end.ensures in
     let done : c.loop-i.i ≡ c.args.loan.count = omega arith in
     subst (StandsIn (entries_of (tables c.loop-i.ram c.loop-i.owners)) (infos c.loop-i.owners)) (sym c.orphaned.ensures)
-    (orphaned_stands_in (tables c.args.ram.now c.args.owners.now) c.requires.agrees c.args.loan c.requires.stands c.lender_of-from.result c.lender_of-from.ensures (tables c.loop-i.ram c.loop-i.owners) c.loop-i.invariant.agree (subst (λ k. Steps (orphan_run c.lender_of-from.result k c.args.loan.holder) (tables c.args.ram.now c.args.owners.now) (tables c.loop-i.ram c.loop-i.owners)) done c.loop-i.invariant.steps))
+    (orphaned_stands_in (tables c.args.ram.now c.args.owners.now) c.requires.agrees c.args.loan c.requires.stands c.lender_of-from.result c.lender_of-from.ensures (tables c.loop-i.ram c.loop-i.owners) c.loop-i.invariant.agree (subst (λ k. IsLedgerStep (orphan_run c.lender_of-from.result k c.args.loan.holder) (tables c.args.ram.now c.args.owners.now) (tables c.loop-i.ram c.loop-i.owners)) done c.loop-i.invariant.steps))
 
 pub returns-clause-others : goal.returns-clause-others
 returns-clause-others c = λ from lent p outside.

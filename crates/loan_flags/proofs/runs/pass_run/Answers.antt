@@ -6,7 +6,7 @@ use Rattle.sv32_space.specs.Agreement.{seat_in}
 use Rattle.sv32_space.specs.EntryLoans.{StandsIn, loan_info}
 use Rattle.sv32_space.specs.PageSteps.{pass_run}
 use Rattle.sv32_space.proofs.RunLemmas.{pass_next, pass_none}
-use Rattle.loan_flags.specs.Keeping.{Steps, entries_of, tables}
+use Rattle.loan_flags.specs.Keeping.{IsLedgerStep, entries_of, tables}
 use Rattle.loan_flags.specs.PageLoans.{IsLentFrom}
 use Rattle.loan_flags.proofs.StandingRunLemmas.{RunsSo, holder_fits, lender_fits, pass_to_fits, passed_stands, passed_steps, passing_free, passing_lent, passing_seat, runs_next, runs_none}
 use Rattle.loan_flags.proofs.runs.pass_run.Goals as goal
@@ -61,8 +61,8 @@ loop-i-preserved c =
     (pass_next c.lender_of-from.result c.args.to c.loop-i.i)
     (ap (λ p. seat_in (entries_of (tables c.loop-i.ram c.loop-i.owners) p)) c.above-in-loop-i.ensures ∙ passing_seat (tables c.args.ram.now c.args.owners.now) c.requires.agrees c.args.loan c.requires.stands c.lender_of-from.result c.lender_of-from.ensures c.args.to c.requires.free (tables c.loop-i.ram c.loop-i.owners) (pass_run c.lender_of-from.result c.loop-i.i c.args.to) c.loop-i.i b c.loop-i.invariant)
     c.pass_page.ensures.agrees
-    (subst (λ p. Steps (pass_run p 1 (place_after c.args.to c.loop-i.i)) (tables c.loop-i.ram c.loop-i.owners) (tables c.pass_page.new.ram c.pass_page.new.owners)) c.above-in-loop-i.ensures
-    (subst (λ q. Steps (pass_run c.above-in-loop-i.result 1 q) (tables c.loop-i.ram c.loop-i.owners) (tables c.pass_page.new.ram c.pass_page.new.owners)) c.above-in-loop-i-2.ensures c.pass_page.ensures.step))
+    (subst (λ p. IsLedgerStep (pass_run p 1 (place_after c.args.to c.loop-i.i)) (tables c.loop-i.ram c.loop-i.owners) (tables c.pass_page.new.ram c.pass_page.new.owners)) c.above-in-loop-i.ensures
+    (subst (λ q. IsLedgerStep (pass_run c.above-in-loop-i.result 1 q) (tables c.loop-i.ram c.loop-i.owners) (tables c.pass_page.new.ram c.pass_page.new.owners)) c.above-in-loop-i-2.ensures c.pass_page.ensures.step))
     (λ p home free. c.pass_page.ensures.others p (λ e. home (e ∙ sym holder)) (λ e. free (e ∙ c.above-in-loop-i-2.ensures)))
     c.pass_page.ensures.infos
     c.pass_page.ensures.keeps
@@ -71,14 +71,14 @@ pub returns-clause-step : goal.returns-clause-step
 returns-clause-step c =
     let n : c.count-i-end.result ≡ c.args.loan.count = c.count-i-end.ensures in
     let done : c.loop-i.i ≡ c.args.loan.count = omega arith in
-    passed_steps (tables c.args.ram.now c.args.owners.now) c.requires.agrees c.args.loan c.requires.stands c.lender_of-from.result c.lender_of-from.ensures c.args.to c.requires.free (tables c.loop-i.ram c.loop-i.owners) (subst (λ k. Steps (pass_run c.lender_of-from.result k c.args.to) (tables c.args.ram.now c.args.owners.now) (tables c.loop-i.ram c.loop-i.owners)) done c.loop-i.invariant.steps)
+    passed_steps (tables c.args.ram.now c.args.owners.now) c.requires.agrees c.args.loan c.requires.stands c.lender_of-from.result c.lender_of-from.ensures c.args.to c.requires.free (tables c.loop-i.ram c.loop-i.owners) (subst (λ k. IsLedgerStep (pass_run c.lender_of-from.result k c.args.to) (tables c.args.ram.now c.args.owners.now) (tables c.loop-i.ram c.loop-i.owners)) done c.loop-i.invariant.steps)
 
 pub returns-clause-stands : goal.returns-clause-stands
 returns-clause-stands c =
     let n : c.count-i-end.result ≡ c.args.loan.count = c.count-i-end.ensures in
     let done : c.loop-i.i ≡ c.args.loan.count = omega arith in
     subst (StandsIn (entries_of (tables c.loop-i.ram c.loop-i.owners)) (infos c.loop-i.owners)) (sym c.moved_to.ensures)
-    (passed_stands (tables c.args.ram.now c.args.owners.now) c.requires.agrees c.args.loan c.requires.stands c.lender_of-from.result c.lender_of-from.ensures c.args.to c.requires.free (tables c.loop-i.ram c.loop-i.owners) c.loop-i.invariant.agree (subst (λ k. Steps (pass_run c.lender_of-from.result k c.args.to) (tables c.args.ram.now c.args.owners.now) (tables c.loop-i.ram c.loop-i.owners)) done c.loop-i.invariant.steps) c.requires.lies)
+    (passed_stands (tables c.args.ram.now c.args.owners.now) c.requires.agrees c.args.loan c.requires.stands c.lender_of-from.result c.lender_of-from.ensures c.args.to c.requires.free (tables c.loop-i.ram c.loop-i.owners) c.loop-i.invariant.agree (subst (λ k. IsLedgerStep (pass_run c.lender_of-from.result k c.args.to) (tables c.args.ram.now c.args.owners.now) (tables c.loop-i.ram c.loop-i.owners)) done c.loop-i.invariant.steps) c.requires.lies)
 
 pub returns-clause-others : goal.returns-clause-others
 returns-clause-others c =

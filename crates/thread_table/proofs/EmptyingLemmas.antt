@@ -1,0 +1,88 @@
+-- The places of one process emptied.
+use Rattle.std.proofs.Common.{◌≡◌, ℕ, ◌+◌, ◌-◌, ◌*◌, ◌<◌, ◌≤◌, true, false, List, [], ◌∷◌, ◌++◌, length, take, drop, replicate, Option, None, refl, sym, ap, ◌∙◌, inl, inr, arith}
+use Rattle.std.specs.Prelude.{◌==◌}
+use Rattle.std.specs.List.{FoldsTo}
+use Rattle.std.proofs.lemmas.Bool.{cases_Bool, cases_lt, cond-true, cond-false}
+use Rattle.std.proofs.lemmas.Bool.Decides.{nat_tests}
+use Rattle.std.proofs.lemmas.List.{get_or_append_left, get_or-append_right, get_or-take, get_or-drop, get_or-replicate, length-replicate, length-take-le}
+use Rattle.xk_base.specs.declared.ids.Pid.{Pid}
+use Rattle.xk_base.specs.declared.ids.ThreadId.{ThreadId}
+use Rattle.xk_base.specs.Tables.Circle.{IsPid, is_thread_id, thread_ids, place_of}
+use Rattle.xk_base.specs.Tables.RowMap.{row_map}
+use Rattle.thread_table.specs.declared.thread.Thread.{Thread}
+use Rattle.thread_table.specs.ThreadMap.{thread_map, without_process}
+use Rattle.thread_table.proofs.PlaceLemmas.{thread_map_read, thread_map_outside}
+
+-- what calls that answer one value leave in what they fill
+pub filled : {F X : Type 0} (R : F → X → F → Type 0) (v : X) (f last : F) (xs : List X) → ((p : F) (x : X) (q : F) → R p x q → x ≡ v) → FoldsTo R f xs last
+    → xs ≡ replicate (length xs) v
+filled R v f last [] same ran = refl
+filled R v f last (x ∷ xs) same ran =
+    ap (λ y. y ∷ xs) (same f x ran.0 ran.1) ∙ ap (λ ys. v ∷ ys) (filled R v ran.0 last xs same ran.2)
+
+abbrev empty : Option Thread
+empty = None
+
+-- the list with the places from `first` on, as many as a process has, empty
+abbrev emptied : ℕ → List (Option Thread) → List (Option Thread)
+emptied first xs = take first xs ++ (replicate 31 None ++ drop (first + 31) xs)
+
+module _ (first : ℕ) (xs : List (Option Thread)) (within : first ≤ length xs) where
+  before : (p : ℕ) → p < first → row_map (emptied first xs) p ≡ row_map xs p
+  before p low =
+      let size : length (take first xs) ≡ first = length-take-le first xs within in
+      get_or_append_left (take first xs) (replicate 31 None ++ drop (first + 31) xs) None p (omega arith) ∙ get_or-take first xs p None low
+
+  rest : (p : ℕ) → first ≤ p → row_map (emptied first xs) p ≡ row_map (replicate 31 None ++ drop (first + 31) xs) (p - first)
+  rest p low = get_or-append_right (take first xs) (replicate 31 None ++ drop (first + 31) xs) first p None (length-take-le first xs within) low
+
+  inside : (p : ℕ) → first ≤ p → p < first + 31 → row_map (emptied first xs) p ≡ None
+  inside p low high =
+      let none : List (Option Thread) = replicate 31 empty in
+      let size : length none ≡ 31 = length-replicate 31 empty in
+      rest p low
+      ∙ get_or_append_left none (drop (first + 31) xs) None (p - first) (omega arith)
+      ∙ get_or-replicate 31 (p - first) None None (omega arith)
+
+  behind : (p : ℕ) → first + 31 ≤ p → row_map (emptied first xs) p ≡ row_map xs p
+  behind p low =
+      let none : List (Option Thread) = replicate 31 empty in
+      let size : length none ≡ 31 = length-replicate 31 empty in
+      rest p (omega arith)
+      ∙ get_or-append_right none (drop (first + 31) xs) 31 (p - first) None size (omega arith)
+      ∙ get_or-drop (first + 31) xs (p - first - 31) None
+      ∙ ap (row_map xs) (omega arith)
+
+-- the table without the threads of the process whose places are emptied
+pub thread_map_without : (n first : ℕ) (xs ys : List (Option Thread)) (pid : Pid) → length xs ≡ thread_ids n → IsPid n pid.0 → first ≡ (pid.0 - 2) * 31
+    → ys ≡ replicate 31 None → thread_map n (take first xs ++ (ys ++ drop (first + 31) xs)) ≡ without_process pid (thread_map n xs)
+thread_map_without n first xs ys pid size is at same =
+    ap (λ zs. thread_map n (take first xs ++ (zs ++ drop (first + 31) xs))) same ∙ (λ i d. of d i)
+  where
+    within : first ≤ length xs
+    within = let low : 2 ≤ pid.0 = is.0 in let high : pid.0 < n + 2 = is.1 in omega arith
+
+    own : (d : ThreadId) → is_thread_id n d ≡ true → d.pid.0 ≡ pid.0 → row_map (emptied first xs) (place_of d) ≡ None
+    own d valid here = inside first xs within (place_of d) (grind (arith, nat_tests)) (grind (arith, nat_tests))
+
+    other : (d : ThreadId) → is_thread_id n d ≡ true → (d.pid.0 ≡ pid.0 → ⊥) → row_map (emptied first xs) (place_of d) ≡ row_map xs (place_of d)
+    other d valid apart = elim (cases_lt (place_of d) first) [
+      | inl low ↦ before first xs within (place_of d) low
+      | inr high ↦ behind first xs within (place_of d) (grind (arith, nat_tests))
+    ]
+
+    of : (d : ThreadId) → thread_map n (emptied first xs) d ≡ without_process pid (thread_map n xs) d
+    of d = elim (cases_Bool (is_thread_id n d)) [
+      | inl valid ↦ thread_map_read n (emptied first xs) d valid ∙ elim (cases_Bool (d.pid.0 == pid.0)) [
+        | inl here ↦ own d valid (grind (arith, nat_tests)) ∙ sym (cond-true (d.pid.0 == pid.0) None (thread_map n xs d) here)
+        | inr apart ↦ other d valid (λ e. grind (arith, nat_tests)) ∙ sym (thread_map_read n xs d valid)
+            ∙ sym (cond-false (d.pid.0 == pid.0) None (thread_map n xs d) apart)
+      ]
+      | inr outside ↦ thread_map_outside n (emptied first xs) d outside ∙ sym (gone d outside)
+    ]
+      where
+        gone : (e : ThreadId) → is_thread_id n e ≡ false → without_process pid (thread_map n xs) e ≡ None
+        gone e out = elim (cases_Bool (e.pid.0 == pid.0)) [
+          | inl here ↦ cond-true (e.pid.0 == pid.0) None (thread_map n xs e) here
+          | inr apart ↦ cond-false (e.pid.0 == pid.0) None (thread_map n xs e) apart ∙ thread_map_outside n xs e out
+        ]
