@@ -117,4 +117,12 @@ impl Owners {
             Seat::Slot(s) => self.slots[s.0 as usize] = info,
         }
     }
+
+    /// Law: the table has at most 16,384 slots, and its frames end at or below frame 16,384.
+    pub fn seats_are_few(&self)
+        ensures frames { (extent self.now).first + (extent self.now).frames ≤ 16384 }
+        ensures slots { (extent self.now).slots ≤ 16384 }
+    {
+        let _ = &self.slots;
+    }
 }

@@ -9,3 +9,4 @@ pub mod RenamingLemmas
 pub mod RoleLemmas
 pub mod SeatCountingLemmas
 pub mod StandingLemmas
+pub mod TieLemmas

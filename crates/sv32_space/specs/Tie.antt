@@ -1,7 +1,9 @@
 -- The bytes of RAM and the owner table: whether they agree, the ledger that they make, and which ledger they stand for.
 use Rattle.std.specs.Prelude.{ℕ, List, Option, unwrap_or}
+use Rattle.xk_base.specs.declared.ids.Place.{Place}
 use Rattle.phys_pages.specs.Owners.{OwnerTable, extent, infos}
 use Rattle.phys_pages.specs.Ram.{RamBytes, area, pages}
+use Rattle.phys_pages.specs.declared.infos.Seat.{Seat}
 use Rattle.phys_pages.specs.declared.infos.Seat.TheVariants.{Frame, Slot}
 use Rattle.ledger_model.specs.Ledger.{Ledger}
 use Rattle.ledger_model.specs.Steps.{zero_page}
@@ -9,7 +11,7 @@ use Rattle.sv32_space.specs.Agreement.{Agrees, procs_of}
 use Rattle.sv32_space.specs.EntryLedger.{SeatBytes, ledger_of}
 use Rattle.sv32_space.specs.Spaces.{IsMade}
 use Rattle.sv32_space.specs.SpelledEntries.{entries}
-use Rattle.sv32_space.specs.StandsFor.{StandsFor, told_slot, told_bytes}
+use Rattle.sv32_space.specs.StandsFor.{StandsAt, StandsFor, told_slot, told_bytes}
 
 -- The entries in RAM agree with the owners.
 abbrev pub agrees : RamBytes → OwnerTable → Type 0
@@ -35,3 +37,8 @@ ledger_in ram owners held = ledger_of (entries (procs_of (extent owners)) ram) (
 -- STANDS FOR: the bytes of RAM, with what the store's slots hold, stand for the ledger of `procs` processes.
 abbrev pub stands_for : RamBytes → ℕ → Held → Ledger → Type 0
 stands_for ram procs held ledger = StandsFor (IsMade ram) procs (area ram).frames (entries procs ram) (told_bytes (pages ram) held) ledger
+
+-- .. but for the last sentence of part 5: no frame need be free
+abbrev pub stands_without_room : RamBytes → ℕ → Held → Ledger → Type 0
+stands_without_room ram procs held ledger =
+    (seat : Place → Seat) × StandsAt (IsMade ram) procs (area ram).frames (entries procs ram) (told_bytes (pages ram) held) ledger seat

@@ -1,5 +1,5 @@
 -- Where pages are, and when their bytes are known.
-use Rattle.std.specs.Prelude.{◌≡◌, ℕ, ◌+◌, ◌≤◌, ◌==◌, Bool, true, false, ◌&&◌, ◌||◌, is_some, IsTrue, Option, Some, None}
+use Rattle.std.specs.Prelude.{ℕ, ◌+◌, ◌==◌, Bool, true, false, ◌&&◌, ◌||◌, is_some, IsTrue, Option, Some, None}
 use Rattle.xk_base.specs.Tables.Counting.{count_below}
 use Rattle.xk_base.specs.declared.ids.Place.{Place}
 use Rattle.phys_pages.specs.declared.infos.Seat.{Seat}
@@ -9,6 +9,7 @@ use Rattle.sv32_space.specs.declared.sides.Entry.{Entry}
 use Rattle.sv32_space.specs.declared.sides.Entry.TheVariants.{Free, At, OnConsole}
 use Rattle.sv32_space.specs.SpelledEntries.{entries}
 use Rattle.sv32_space.specs.Tie.{Held}
+use Rattle.xk_ports.specs.Keeping.{tells_truly}
 use Rattle.vm_memory.specs.declared.memory.Memory.{Memory}
 use Rattle.vm_memory.specs.Memory.{processes}
 
@@ -59,7 +60,7 @@ none_out m = used_slots m.owners == 0
 
 -- the store is honest and tells what its slots hold
 abbrev pub is_known : {W : Type 0} → (W → Bool) → (W → Held) → Memory W → Bool
-is_known honest held m = honest m.store && is_some (held m.store)
+is_known honest held m = tells_truly honest held m.store
 
 -- the ledger's bytes mean something: the store is honest and tells, or no page is out
 abbrev pub means_bytes : {W : Type 0} → (W → Bool) → (W → Held) → Memory W → Bool
@@ -71,14 +72,3 @@ MeansBytes honest held m = IsTrue (means_bytes honest held m)
 -- they mean something over a call that may put pages out: the store is honest and tells, or no page is out before and after
 abbrev pub MeansBytesOver : {W : Type 0} → (W → Bool) → (W → Held) → Memory W → Memory W → Type 0
 MeansBytesOver honest held old new = IsTrue (is_known honest held old || (none_out old && none_out new))
-
--- ---- what each call keeps of the store
-
--- it is honest where it was, tells where it told, its slots and the preparations that it was asked for stay, and its
--- count of faults doesn't fall
-pub record KeepsStore {W P : Type 0} (is_honest : W → Bool) (held : W → Held) (slot_count : W → ℕ) (asked : W → P) (faults : W → ℕ) (old new : W) : Type 0 where
-  pub honest : is_honest new ≡ is_honest old
-  pub told : is_some (held new) ≡ is_some (held old)
-  pub slots : slot_count new ≡ slot_count old
-  pub preparations : asked new ≡ asked old
-  pub never_falls : faults old ≤ faults new

@@ -7,7 +7,7 @@ use Rattle.process_table.specs.ProcessesOf.{process_count as processes_made}
 use Rattle.server_table.specs.ServersOf.{servers_of}
 use Rattle.sv32_space.specs.Tie.{Held}
 use Rattle.thread_table.specs.ThreadsOf.{process_count as processes_threaded}
-use Rattle.vm_memory.specs.Bytes.{KeepsStore}
+use Rattle.xk_ports.specs.Keeping.{KeepsStore}
 use Rattle.vm_memory.specs.Memory.{IsUsable as IsMemoryUsable, ledger, processes, size, store_of}
 use Rattle.vm_memory.specs.Sound.{IsSound as IsMemorySound}
 use Rattle.vm_memory.specs.Starting.{IsUnlent}

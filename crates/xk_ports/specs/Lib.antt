@@ -2,6 +2,7 @@ pub mod AskedFiles
 pub mod AskedView
 pub mod Calls
 pub mod Host
+pub mod Keeping
 pub mod MemHost
 pub mod MemHostView
 pub mod MemSink

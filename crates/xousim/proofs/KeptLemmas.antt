@@ -1,6 +1,6 @@
 -- What is kept of a kernel and of a store, one call after another.
 use Rattle.std.proofs.Common.{ℕ, Bool, Option, refl, ◌∙◌, arith}
-use Rattle.vm_memory.specs.Bytes.{KeepsStore}
+use Rattle.xk_ports.specs.Keeping.{KeepsStore}
 use Rattle.xk_kernel.specs.Sound.{Keeps}
 use Rattle.xk_kernel.specs.declared.kernel.Kernel.{Kernel}
 use Rattle.xk_ports.specs.Store.{Contents}

@@ -1,7 +1,7 @@
 //! The top call: words in, a status and a transcript out.
 
 ghost use Rattle.std.specs.Prelude.{⊤, ◌≡◌, ◌≤◌, [], MatchOption};
-ghost use Rattle.vm_memory.specs.Bytes.{KeepsStore};
+ghost use Rattle.xk_ports.specs.Keeping.{KeepsStore};
 ghost use Rattle.xk_base.specs.Outside.{Rose};
 ghost use Rattle.xk_kernel.specs.Sound.{IsSound, IsUsable, Keeps};
 ghost use Rattle.xk_kernel.specs.State.{machine_of};

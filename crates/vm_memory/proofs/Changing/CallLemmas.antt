@@ -6,7 +6,8 @@ use Rattle.xk_base.specs.Tables.Counting.{count_below}
 use Rattle.phys_pages.specs.Owners.{extent, infos, slot_seat}
 use Rattle.sv32_space.specs.Tie.{Held}
 use Rattle.vm_memory.specs.declared.memory.Memory.{Memory}
-use Rattle.vm_memory.specs.Bytes.{KeepsStore, MeansBytes, is_known, none_out}
+use Rattle.vm_memory.specs.Bytes.{MeansBytes, is_known, none_out}
+use Rattle.xk_ports.specs.Keeping.{KeepsStore}
 use Rattle.vm_memory.specs.Sound.{IsSound}
 
 -- a table without slots has no page out

@@ -6,7 +6,7 @@ use Rattle.ledger_model.specs.Ledger.{PageName}
 use Rattle.ledger_model.specs.Loans.{bare}
 use Rattle.sv32_space.specs.Tie.{Held}
 use Rattle.vm_memory.specs.declared.memory.Memory.{Memory}
-use Rattle.vm_memory.specs.Bytes.{KeepsStore}
+use Rattle.xk_ports.specs.Keeping.{KeepsStore}
 use Rattle.vm_memory.specs.Memory.{Size, processes, ledger, store_of}
 use Rattle.vm_memory.specs.Using.UserView.{KeepsRest, IsUnseen}
 

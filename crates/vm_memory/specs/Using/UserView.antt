@@ -10,7 +10,8 @@ use Rattle.ledger_model.specs.Reach.{reach}
 use Rattle.sv32_space.specs.Tie.{Held}
 use Rattle.vm_memory.specs.declared.memory.Memory.{Memory}
 use Rattle.vm_memory.specs.Using.Access.{contents_reached}
-use Rattle.vm_memory.specs.Bytes.{KeepsStore, means_bytes, none_out, MeansBytes}
+use Rattle.vm_memory.specs.Bytes.{means_bytes, none_out, MeansBytes}
+use Rattle.xk_ports.specs.Keeping.{KeepsStore}
 use Rattle.xk_base.specs.Numbers.Windows.{page_of}
 use Rattle.vm_memory.specs.Memory.{IsUsable, size, processes, ledger, store_of}
 use Rattle.vm_memory.specs.Sound.{IsSound}

@@ -10,7 +10,7 @@ ghost use Rattle.server_table.specs.ServerState.{no_servers};
 ghost use Rattle.server_table.specs.ServersOf.{servers_of};
 ghost use Rattle.thread_table.specs.ThreadMap.{no_threads};
 ghost use Rattle.thread_table.specs.ThreadsOf.{process_count, threads_of};
-ghost use Rattle.vm_memory.specs.Bytes.{KeepsStore};
+ghost use Rattle.xk_ports.specs.Keeping.{KeepsStore};
 ghost use Rattle.vm_memory.specs.Memory.{size, store_of};
 ghost use Rattle.vm_memory.specs.Tie.{IsTied};
 ghost use Rattle.xk_base.specs.Tables.Circle.{IsPid};
