@@ -1,0 +1,7 @@
+-- Words of a state file: 32 bits in four bytes, the lowest first.
+use Rattle.std.specs.Prelude.{ℕ, List}
+use Rattle.byteorder.specs.Endian.{little_bytes}
+
+-- the four bytes of a word
+abbrev pub word : ℕ → List ℕ
+word n = little_bytes 4 n
