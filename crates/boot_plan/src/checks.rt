@@ -51,13 +51,7 @@ fn section_fault(pid: u32, earlier: &[Section], section: &Section) -> Option<Arg
 fn sections_fault(pid: u32, sections: &[Section]) -> Option<ArgFault>
     ensures { result ≡ first_fault (sections_faults pid [] sections.now) }
 {
-    for (i, section) in sections.iter().enumerate() {
-        let found = section_fault(pid, &sections[..i], section);
-        if found.is_some() {
-            return found;
-        }
-    }
-    None
+    (0..sections.len()).find_map(|i| section_fault(pid, &sections[..i], &sections[i]))
 }
 
 /// How many bytes of the file sections have.
