@@ -10,3 +10,5 @@ pub mod ListLemmas
 pub mod NoFaultLemmas
 pub mod RangeLemmas
 pub mod RowLemmas
+pub mod SectionFaultLemmas
+pub mod FirstFoundLemmas

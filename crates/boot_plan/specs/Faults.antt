@@ -1,5 +1,5 @@
 -- The faults of a plan, in the order in which they are looked for. A fault of a process is at its pid.
-use Rattle.std.specs.Prelude.{◌≡◌, ℕ, ◌+◌, ◌*◌, ◌/◌, ◌%◌, Bool, not, ◌&&◌, ◌||◌, ◌==◌, nat_lt, List, [], ◌∷◌, ◌++◌, length, Option, Some}
+use Rattle.std.specs.Prelude.{◌≡◌, ℕ, ◌+◌, ◌*◌, ◌/◌, ◌%◌, Bool, not, ◌&&◌, ◌||◌, ◌==◌, nat_lt, List, [], ◌∷◌, ◌++◌, length, take, slice_index_or, Option, Some}
 use Rattle.std.specs.List.{list_any}
 use Rattle.xk_base.specs.Numbers.Limits.{table_frames}
 use Rattle.xk_base.specs.Numbers.Windows.{in_window}
@@ -29,6 +29,10 @@ section_faults pid earlier s =
 abbrev pub sections_faults : ℕ → List Section → List Section → List Check
 sections_faults pid earlier [] = []
 sections_faults pid earlier (s ∷ ss) = section_faults pid earlier s ++ sections_faults pid (earlier ++ s ∷ []) ss
+
+-- this is the first fault of the section at place k, behind these and those before it
+abbrev pub IsFaultAt : ℕ → List Section → List Section → ℕ → Option ArgFault → Type 0
+IsFaultAt pid earlier ss k fault = (d : Section) → fault ≡ first_fault (section_faults pid (earlier ++ take k ss) (slice_index_or ss k d))
 
 -- the load offset lies before the end of the row of tags, or the bytes of the sections pass the end of the file
 abbrev pub is_load_outside : ℕ → ℕ → ProcArgs → Bool

@@ -1,11 +1,11 @@
 //! The faults of a plan.
 
-ghost use Rattle.std.specs.Prelude.{◌≡◌, ◌≤◌, ◌+◌, ◌*◌, ◌&&◌, [], length, map, sum_by, All, Some};
+ghost use Rattle.std.specs.Prelude.{◌≡◌, ◌<◌, ◌≤◌, ◌+◌, ◌*◌, ◌&&◌, [], length, map, sum_by, All, Some};
 ghost use Rattle.std.specs.List.{list_any};
 ghost use Rattle.kernel_args.specs.Faults.{first_fault};
 ghost use Rattle.kernel_args.specs.Image.{IsSoundArgs};
 ghost use Rattle.boot_plan.specs.Sections.{shares_page, has_page, is_executable, file_sizes};
-ghost use Rattle.boot_plan.specs.Faults.{section_faults, sections_faults, is_load_outside, is_entry_outside, process_faults, processes_faults, is_ram_too_small, plan_fault};
+ghost use Rattle.boot_plan.specs.Faults.{IsFaultAt, section_faults, sections_faults, is_load_outside, is_entry_outside, process_faults, processes_faults, is_ram_too_small, plan_fault};
 ghost use Rattle.boot_plan.specs.FirstPages.{process_pages, process_plan};
 
 use crate::capacity::capacity_of;
@@ -47,17 +47,19 @@ fn section_fault(pid: u32, earlier: &[Section], section: &Section) -> Option<Arg
     None
 }
 
+/// The first fault of the section at this place, behind those before it.
+fn fault_at(pid: u32, sections: &[Section], i: usize) -> Option<ArgFault>
+    requires { i < length sections.now }
+    ensures { IsFaultAt pid [] sections.now i result }
+{
+    section_fault(pid, &sections[..i], &sections[i])
+}
+
 /// The first fault of the sections of a process.
 fn sections_fault(pid: u32, sections: &[Section]) -> Option<ArgFault>
     ensures { result ≡ first_fault (sections_faults pid [] sections.now) }
 {
-    for (i, section) in sections.iter().enumerate() {
-        let found = section_fault(pid, &sections[..i], section);
-        if found.is_some() {
-            return found;
-        }
-    }
-    None
+    (0..sections.len()).find_map(|i| fault_at(pid, sections, i))
 }
 
 /// How many bytes of the file sections have.

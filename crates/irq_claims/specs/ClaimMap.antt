@@ -5,6 +5,7 @@ use Rattle.std.specs.Prelude.{ℕ, ◌==◌, Bool, true, false, ◌&&◌, Option
 use Rattle.std.specs.Option.{option_map, option_and_then}
 use Rattle.xk_base.specs.declared.ids.Pid.{Pid}
 use Rattle.xk_base.specs.declared.limits.TheConstants.{INTERRUPT_LIMIT}
+use Rattle.xk_base.specs.Tables.Sids.{is_owned_by}
 use Rattle.xk_base.specs.Tables.Counting.{least_below, listed_below, put_at}
 use Rattle.irq_claims.specs.declared.claims.Claim.{Claim}
 use Rattle.irq_claims.specs.declared.claims.Due.{Due}
@@ -23,8 +24,7 @@ new_claim pid handler arg = record { pid = pid; handler = handler; arg = arg; pe
 
 -- the claim is that of the process
 abbrev pub is_of : Pid → Option Claim → Bool
-is_of pid None = false
-is_of pid (Some c) = c.pid.0 == pid.0
+is_of pid claim = is_owned_by pid (option_map (λ c. c.pid) claim)
 
 -- the claim is that of the process and its number is pending
 abbrev pub is_due_to : Pid → Option Claim → Bool

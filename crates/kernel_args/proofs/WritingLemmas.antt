@@ -1,9 +1,10 @@
 -- What is written spells the arguments.
-use Rattle.std.proofs.Common.{◌≡◌, ℕ, ◌+◌, ◌-◌, ◌*◌, ◌%◌, ◌^◌, ◌<◌, ◌≤◌, List, [], ◌∷◌, ◌++◌, length, map, take, get_or, refl, sym, ap, subst, ◌∙◌, append_assoc, arith}
+use Rattle.std.proofs.Common.{◌≡◌, ℕ, ◌+◌, ◌-◌, ◌*◌, sum_by, ◌%◌, ◌^◌, ◌<◌, ◌≤◌, List, [], ◌∷◌, ◌++◌, length, map, take, get_or, refl, sym, ap, subst, ◌∙◌, append_assoc, arith}
 use Rattle.std.specs.Prelude.{codes, All, replicate}
 use Rattle.std.specs.List.{flat_map, AllByRecursion}
 use Rattle.std.proofs.lemmas.List.{length-append, append-nil, take_more, length-replicate}
 use Rattle.std.proofs.lemmas.List.Folds.{length-flat_map-take}
+use Rattle.std.proofs.lemmas.List.Sums.{sum_by-cons}
 use Rattle.std.proofs.lemmas.List.Elements.{All-from_recursion, All-weaker, recursion_from_All}
 use Rattle.std.proofs.lemmas.Grind.{flat_map-append}
 use Rattle.kernel_args.specs.declared.args.Args.{Args}
@@ -12,7 +13,7 @@ use Rattle.kernel_args.specs.declared.args.ProcName.{ProcName}
 use Rattle.kernel_args.specs.Tags.{tag_bytes}
 use Rattle.kernel_args.specs.Contents.{header_contents, IsSection, process_contents, IsProcess, IsEntry, padded, entry_bytes, name_of}
 use Rattle.kernel_args.specs.Image.{IsRam, IsSoundProcess, IsRightTag, header_tag, SpellsTags, Spells}
-use Rattle.kernel_args.specs.Writing.{right_tag, process_tag, written_entry, names_contents, names_tags, written_tags, header_row, process_row, names_row, written, HasPid, HasFittingNumbers, IsWritable}
+use Rattle.kernel_args.specs.Writing.{right_tag, process_tag, written_entry, names_contents, names_tags, written_tags, header_row, process_row, row_size, names_row, written, HasPid, HasFittingNumbers, IsWritable}
 use Rattle.kernel_args.proofs.CheckLemmas.{check_number_fits}
 use Rattle.kernel_args.proofs.TagLemmas.{length-tag_bytes}
 use Rattle.kernel_args.proofs.ProcessLemmas.{length-sections}
@@ -59,12 +60,18 @@ names_step ns i d within =
     ∙ length-append (names_contents (take i ns)) (entry_bytes (written_entry (get_or ns i d)))
     ∙ ap (λ (k : ℕ). length (names_contents (take i ns)) + k) (length-entry (get_or ns i d))
 
-pub processes_step : (ps : List ProcArgs) (i : ℕ) (d : ProcArgs) → i < length ps
-    → length (flat_map process_row (take (i + 1) ps)) ≡ length (flat_map process_row (take i ps)) + (16 + 8 * length (get_or ps i d).sections)
-processes_step ps i d within =
-    ap (λ (l : List ℕ). length l) (joined_step process_row ps i d within)
-    ∙ length-append (flat_map process_row (take i ps)) (process_row (get_or ps i d))
-    ∙ ap (λ (k : ℕ). length (flat_map process_row (take i ps)) + k) (length-process (get_or ps i d))
+-- processes that can be written: how long their rows are together, and how long at most
+pub sizes_added : (ps : List ProcArgs) → AllByRecursion IsProcess ps → (sum_by row_size ps ≡ length (flat_map process_row ps)) × (sum_by row_size ps ≤ 272 * length ps)
+sizes_added [] each = (refl, omega arith)
+sizes_added (p ∷ ps) each =
+    let few : length p.sections ≤ 32 = (each.0).few in
+    let rest = sizes_added ps each.1 in
+    let same = rest.0 in
+    let most = rest.1 in
+    let added : sum_by row_size (p ∷ ps) ≡ row_size p + sum_by row_size ps = sum_by-cons row_size p ps in
+    let joined : length (flat_map process_row (p ∷ ps)) ≡ length (process_row p) + length (flat_map process_row ps) = length-append (process_row p) (flat_map process_row ps) in
+    let size = length-process p in
+    (omega arith, omega arith)
 
 joined_processes : (ps : List ProcArgs) → flat_map tag_bytes (map process_tag ps) ≡ flat_map process_row ps
 unfolding process_row

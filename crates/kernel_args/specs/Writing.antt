@@ -1,5 +1,5 @@
 -- The row of tags that is written for arguments.
-use Rattle.std.specs.Prelude.{◌≡◌, ◌<◌, ℕ, ◌*◌, ◌-◌, ◌^◌, List, [], ◌∷◌, ◌++◌, length, map, replicate, None, codes, All}
+use Rattle.std.specs.Prelude.{◌≡◌, ◌<◌, ℕ, ◌+◌, ◌*◌, ◌-◌, ◌^◌, min, List, [], ◌∷◌, ◌++◌, length, map, replicate, None, codes, All}
 use Rattle.std.specs.List.{flat_map}
 use Rattle.kernel_args.specs.declared.args.Args.{Args}
 use Rattle.kernel_args.specs.declared.args.ProcArgs.{ProcArgs}
@@ -47,6 +47,10 @@ names_row ns = flat_map tag_bytes (names_tags ns)
 
 unfoldable pub written : Args → List ℕ
 written args = flat_map tag_bytes (header_tag args ∷ written_tags args)
+
+-- the size in bytes of the row of a process that has at most 32 sections
+abbrev pub row_size : ProcArgs → ℕ
+row_size p = 16 + 8 * min (length p.sections) 32
 
 -- a word holds the pid
 abbrev pub HasPid : ProcName → Type 0

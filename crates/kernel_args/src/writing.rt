@@ -4,7 +4,7 @@ ghost use Rattle.std.specs.Prelude.{◌≡◌, ◌<◌, ◌≤◌, ◌+◌, ◌*
 ghost use Rattle.std.specs.List.{flat_map, AllByRecursion};
 ghost use Rattle.kernel_args.specs.Contents.{IsSection, IsProcess};
 ghost use Rattle.kernel_args.specs.Image.{Spells};
-ghost use Rattle.kernel_args.specs.Writing.{header_row, process_row, names_row, names_contents as names_contents_of, HasPid, IsWritable, written};
+ghost use Rattle.kernel_args.specs.Writing.{header_row, process_row, row_size, names_row, names_contents as names_contents_of, HasPid, IsWritable, written};
 
 use crate::appending::{append_tag, header_contents, names_contents, process_contents};
 use crate::args::{Args, KNOWN_FLAGS, ProcArgs, ProcName, Section};
@@ -45,20 +45,33 @@ fn is_process(process: &ProcArgs) -> bool
     (1..=SECTION_LIMIT as usize).contains(&sections.len()) && are_sections(sections)
 }
 
+/// The size in bytes of the `IniE` of a process that can be written, which has few sections.
+fn row_size(process: &ProcArgs) -> u32
+    ensures { result ≡ row_size process.now }
+{
+    let sections = process
+        .sections
+        .as_slice()
+        .len()
+        .min(SECTION_LIMIT as usize);
+    16 + 8 * sections as u32
+}
+
 /// The size in bytes of the `IniE` of at most 32 processes, or None where one can't be written.
 fn processes_size(processes: &[ProcArgs]) -> Option<usize>
     requires { length processes.now ≤ 32 }
     ensures { MatchOption result (¬ All IsProcess processes.now)
         (λ n. All IsProcess processes.now × (n ≡ length (flat_map process_row processes.now)) × (n ≤ 272 * 32)) }
 {
-    let mut size = 0;
-    for process in processes {
-        if !is_process(process) {
-            return None;
-        }
-        size += 16 + 8 * process.sections.as_slice().len();
+    if !processes.iter().all(is_process) {
+        return None;
     }
-    Some(size)
+    Some(
+        processes
+            .iter()
+            .map(|process| row_size(process) as usize)
+            .sum(),
+    )
 }
 
 /// The size in bytes of the contents of a `PNam`, or None where its length field doesn't hold it.

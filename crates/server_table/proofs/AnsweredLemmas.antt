@@ -1,24 +1,22 @@
 -- What searches over the seats find, said of the servers by serial.
-use Rattle.std.proofs.Common.{◌≡◌, ℕ, zero, suc, ◌+◌, ◌<◌, ◌≤◌, ◌==◌, Bool, true, false, nat_le, if◌then◌else◌, List, length, Option, Some, None, Ok, Err, is_some, is_none, refl, ap, sym, subst, ◌∙◌, inl, inr, arith}
+use Rattle.std.proofs.Common.{◌≡◌, ℕ, zero, suc, ◌+◌, ◌<◌, ◌≤◌, ◌==◌, Bool, true, false, if◌then◌else◌, min, List, [], ◌∷◌, length, Option, Some, None, Ok, Err, is_some, is_none, refl, ap, sym, subst, ◌∙◌, ◌⊎◌, inl, inr, arith}
 use Rattle.std.specs.Option.{option_map, option_and_then}
 use Rattle.std.proofs.lemmas.Bool.{cases_lt, both_ways, false_from_ne_true, eq-eqb, ne_eqb, eqb-true, cond_both, cond-true, cond-false}
-use Rattle.std.proofs.lemmas.Bool.Decides.{nat_tests}
-use Rattle.std.specs.List.{position}
+use Rattle.std.specs.List.{position, cons_option, filter_map, fold, reduce}
 use Rattle.std.proofs.lemmas.List.Quantifiers.{position-Some}
 use Rattle.std.proofs.lemmas.Option.{none-some, same_Some}
 use Rattle.std.proofs.lemmas.Slice.Eq.{bytes_eq-Decides}
 use Rattle.xk_base.specs.declared.errors.XousError.TheVariants.{ServerExists, InvalidLimit}
 use Rattle.xk_base.specs.declared.ids.Pid.{Pid}
-use Rattle.xk_base.specs.declared.ids.Serial.{Serial}
 use Rattle.xk_base.specs.declared.ids.Sid.{Sid}
 use Rattle.xk_base.specs.declared.limits.TheConstants.{SERVER_LIMIT}
 use Rattle.xk_base.specs.Tables.Counting.{count_below, least_below}
 use Rattle.xk_base.specs.Tables.RowMap.{row_map}
 use Rattle.xk_base.proofs.CountingLemmas.{least_below-none, least_below-same, least_below-passes, count_below-bound}
 use Rattle.server_table.specs.declared.table.ServerSeat.{ServerSeat}
-use Rattle.server_table.specs.Seats.{seat_has_sid, by_serial, AreApart, AreCounted, lower}
+use Rattle.server_table.specs.Seats.{seat_has_sid, by_serial, own_serial, AreApart, AreCounted}
 use Rattle.xk_base.specs.Tables.Sids.{same_sid, is_sid, serial_of}
-use Rattle.server_table.specs.ServerState.{ServerState, Server, has_seat, is_of, with_sid, least_of, seat_view, at_seat, free_seat, live_count, made_answer}
+use Rattle.server_table.specs.ServerState.{ServerState, Server, has_seat, is_of, with_sid, least_of, least_serial, seat_view, at_seat, free_seat, live_count, made_answer}
 use Rattle.server_table.proofs.SerialLemmas.{within, position_is_least, least_is, least_none, by_serial_is}
 
 -- the servers of a list of seats
@@ -169,82 +167,123 @@ answer_ok sid s new few =
 
 -- ---- the least server of a process
 
--- `o` is the least serial of the servers of the process at the first k seats
-abbrev pub IsLeast : List (Option ServerSeat) → Pid → ℕ → Option Serial → Type 0
-IsLeast xs pid k None = (j : ℕ) (b : ServerSeat) → j < k → row_map xs j ≡ Some b → (b.pid.0 == pid.0) ≡ false
-IsLeast xs pid k (Some s) = (i : ℕ) × (e : ServerSeat) × (row_map xs i ≡ Some e) × (e.serial ≡ s) × ((e.pid.0 == pid.0) ≡ true)
-    × ((j : ℕ) (b : ServerSeat) → j < k → row_map xs j ≡ Some b → (b.pid.0 == pid.0) ≡ true → s.0 ≤ b.serial.0)
+-- a server of the process with the number m as its serial stands among the seats
+record Found (xs : List (Option ServerSeat)) (pid : Pid) (m : ℕ) : Type 0 where
+  seat : ℕ
+  server : ServerSeat
+  here : row_map xs seat ≡ Some server
+  number : server.serial.0 ≡ m
+  of : (server.pid.0 == pid.0) ≡ true
 
--- the next seat isn't of the process
-pub least_stays : (xs : List (Option ServerSeat)) (pid : Pid) (k : ℕ) (o : Option Serial) → IsLeast xs pid k o
-    → ((b : ServerSeat) → row_map xs k ≡ Some b → (b.pid.0 == pid.0) ≡ false) → IsLeast xs pid (k + 1) o
-least_stays xs pid k None h other = λ j b l g. elim (cases_lt j k) [
-  | inl before ↦ h j b before g
-  | inr last ↦ let same : j ≡ k = omega arith in other b (ap (row_map xs) (sym same) ∙ g)
-]
-least_stays xs pid k (Some s) h other = (
-  h.0,
-  h.1,
-  h.2,
-  h.3,
-  h.4,
-  λ j b l g t. elim (cases_lt j k) [
-    | inl before ↦ h.5 j b before g t
-    | inr last ↦ let same : j ≡ k = omega arith in absurd (both_ways (b.pid.0 == pid.0) (other b (ap (row_map xs) (sym same) ∙ g)) t)
-  ],
-)
+-- m is no more than the serial of any server of the process among the seats
+abbrev IsBelow : List (Option ServerSeat) → Pid → ℕ → Type 0
+IsBelow xs pid m = (j : ℕ) (b : ServerSeat) → row_map xs j ≡ Some b → (b.pid.0 == pid.0) ≡ true → m ≤ b.serial.0
 
--- the next seat is of the process
-pub least_lowers : (xs : List (Option ServerSeat)) (pid : Pid) (k : ℕ) (o : Option Serial) (e : ServerSeat) → IsLeast xs pid k o
-    → row_map xs k ≡ Some e → (e.pid.0 == pid.0) ≡ true → IsLeast xs pid (k + 1) (lower o e.serial)
-least_lowers xs pid k None e h here of = (
-  k,
-  e,
-  here,
-  refl,
-  of,
-  λ j b l g t. elim (cases_lt j k) [
-    | inl before ↦ absurd (both_ways (b.pid.0 == pid.0) (h j b before g) t)
-    | inr last ↦ let same : k ≡ j = omega arith in let s : e.serial.0 ≡ b.serial.0 = ap (λ x. x.serial.0) (one_seat xs k j e b here g same) in omega arith
-  ],
-)
-least_lowers xs pid k (Some s) e h here of = go (nat_le s.0 e.serial.0) refl
+-- no server of the process stands among the seats
+abbrev HasNone : List (Option ServerSeat) → Pid → Type 0
+HasNone xs pid = (j : ℕ) (b : ServerSeat) → row_map xs j ≡ Some b → (b.pid.0 == pid.0) ≡ false
+
+-- one seat more in front
+found_behind : (x : Option ServerSeat) (xs : List (Option ServerSeat)) (pid : Pid) (m : ℕ) → Found xs pid m → Found (x ∷ xs) pid m
+found_behind x xs pid m f = record { seat = suc f.seat; server = f.server; here = f.here; number = f.number; of = f.of }
+
+below_behind : (x : Option ServerSeat) (xs : List (Option ServerSeat)) (pid : Pid) (m : ℕ) → ((b : ServerSeat) → x ≡ Some b → (b.pid.0 == pid.0) ≡ true → m ≤ b.serial.0)
+    → IsBelow xs pid m → IsBelow (x ∷ xs) pid m
+below_behind x xs pid m first rest zero b e t = first b e t
+below_behind x xs pid m first rest (suc j) b e t = rest j b e t
+
+none_behind : (x : Option ServerSeat) (xs : List (Option ServerSeat)) (pid : Pid) → ((b : ServerSeat) → x ≡ Some b → (b.pid.0 == pid.0) ≡ false)
+    → HasNone xs pid → HasNone (x ∷ xs) pid
+none_behind x xs pid first rest zero b e = first b e
+none_behind x xs pid first rest (suc j) b e = rest j b e
+
+-- the least of a number and of the serials of the process
+record IsLow (xs : List (Option ServerSeat)) (pid : Pid) (a m : ℕ) : Type 0 where
+  low : m ≤ a
+  reached : (m ≡ a) ⊎ Found xs pid m
+  below : IsBelow xs pid m
+
+low_behind : (x : Option ServerSeat) (xs : List (Option ServerSeat)) (pid : Pid) (a m : ℕ) → ((b : ServerSeat) → x ≡ Some b → (b.pid.0 == pid.0) ≡ false)
+    → IsLow xs pid a m → IsLow (x ∷ xs) pid a m
+low_behind x xs pid a m other l = record {
+  low = l.low;
+  reached = elim l.reached [
+    | inl same ↦ inl same
+    | inr found ↦ inr (found_behind x xs pid m found)
+  ];
+  below = below_behind x xs pid m (λ b e t. absurd (both_ways (b.pid.0 == pid.0) (other b e) t)) l.below;
+}
+
+folded_low : (pid : Pid) (xs : List (Option ServerSeat)) (a : ℕ) → IsLow xs pid a (fold min a (filter_map (own_serial pid) xs))
+folded_low pid [] a = record { low = omega arith; reached = inl refl; below = λ j b e t. absurd (none-some b e) }
+folded_low pid (None ∷ xs) a = low_behind None xs pid a (fold min a (filter_map (own_serial pid) xs)) (λ b e. absurd (none-some b e)) (folded_low pid xs a)
+folded_low pid (Some s ∷ xs) a = go (s.pid.0 == pid.0) refl (folded_low pid xs)
   where
-    last : (j : ℕ) (b : ServerSeat) → j < k + 1 → k ≤ j → row_map xs j ≡ Some b → e.serial.0 ≡ b.serial.0
-    last j b l m g = ap (λ x. x.serial.0) (one_seat xs k j e b here g (omega arith))
+    rest : List ℕ
+    rest = filter_map (own_serial pid) xs
 
-    go : (c : Bool) → nat_le s.0 e.serial.0 ≡ c → IsLeast xs pid (k + 1) (if c then Some s else Some e.serial)
-    go true q =
-        let low : s.0 ≤ e.serial.0 = grind (arith, nat_tests) in (
-          h.0,
-          h.1,
-          h.2,
-          h.3,
-          h.4,
-          λ j b l g t. elim (cases_lt j k) [
-            | inl before ↦ h.5 j b before g t
-            | inr after ↦ let one : e.serial.0 ≡ b.serial.0 = last j b l after g in omega arith
-          ],
-        )
-    go false q =
-        let low : e.serial.0 < s.0 = grind (arith, nat_tests) in (
-          k,
-          e,
-          here,
-          refl,
-          of,
-          λ j b l g t. elim (cases_lt j k) [
-            | inl before ↦ let least : s.0 ≤ b.serial.0 = h.5 j b before g t in omega arith
-            | inr after ↦ let one : e.serial.0 ≡ b.serial.0 = last j b l after g in omega arith
-          ],
-        )
+    go : (c : Bool) → (s.pid.0 == pid.0) ≡ c → ((n : ℕ) → IsLow xs pid n (fold min n rest)) → IsLow (Some s ∷ xs) pid a (fold min a (cons_option (if c then Some s.serial.0 else None) rest))
+    go false q lower = low_behind (Some s) xs pid a (fold min a rest) (λ b e. ap (λ x. x.pid.0 == pid.0) (sym (same_Some s b e)) ∙ q) (lower a)
+    go true q lower =
+        let l : IsLow xs pid (min a s.serial.0) (fold min (min a s.serial.0) rest) = lower (min a s.serial.0) in
+        let least : fold min (min a s.serial.0) rest ≤ min a s.serial.0 = l.low in
+        record {
+          low = omega arith;
+          reached = elim l.reached [
+            | inl same ↦ elim (cases_lt a s.serial.0) [
+              | inl less ↦ inl (omega arith)
+              | inr other ↦ inr (record { seat = 0; server = s; here = refl; number = omega arith; of = q })
+            ]
+            | inr found ↦ inr (found_behind (Some s) xs pid (fold min (min a s.serial.0) rest) found)
+          ];
+          below = below_behind (Some s) xs pid (fold min (min a s.serial.0) rest)
+              (λ b e t. let same : s.serial.0 ≡ b.serial.0 = ap (λ x. x.serial.0) (same_Some s b e) in omega arith) l.below;
+        }
 
-pub least_of_is : (xs : List (Option ServerSeat)) (next : ℕ) (pid : Pid) (o : Option Serial) → AreApart xs next → length xs ≡ SERVER_LIMIT
-    → IsLeast xs pid SERVER_LIMIT o → least_of pid (state xs next) ≡ o
-least_of_is xs next pid None apart size h =
-    ap (option_map serial_of) (least_none xs next (is_of pid) refl (λ j b g. h j b (let l : j < length xs = within xs j b g in omega arith) g))
-least_of_is xs next pid (Some s) apart size h =
-    ap (option_map serial_of) (least_is xs next h.0 h.1 (is_of pid) apart size refl h.2 h.4
-    (λ j b g t. let low : s.0 ≤ b.serial.0 = h.5 j b (let l : j < length xs = within xs j b g in omega arith) g t in
-    let same : h.1.serial.0 ≡ s.0 = ap (λ x. x.0) h.3 in omega arith))
-    ∙ ap Some h.3
+-- the least of the serials of the process, if there is one
+abbrev IsLeastOf : List (Option ServerSeat) → Pid → Option ℕ → Type 0
+IsLeastOf xs pid None = HasNone xs pid
+IsLeastOf xs pid (Some m) = Found xs pid m × IsBelow xs pid m
+
+reduced_least : (pid : Pid) (xs : List (Option ServerSeat)) → IsLeastOf xs pid (reduce min (filter_map (own_serial pid) xs))
+reduced_least pid [] = λ j b e. absurd (none-some b e)
+reduced_least pid (x ∷ xs) = first x refl (reduced_least pid xs)
+  where
+    passed : (o : Option ℕ) → ((b : ServerSeat) → x ≡ Some b → (b.pid.0 == pid.0) ≡ false) → IsLeastOf xs pid o → IsLeastOf (x ∷ xs) pid o
+    passed None other none = none_behind x xs pid other none
+    passed (Some m) other least =
+        (found_behind x xs pid m least.0, below_behind x xs pid m (λ b e t. absurd (both_ways (b.pid.0 == pid.0) (other b e) t)) least.1)
+
+    first : (y : Option ServerSeat) → x ≡ y → IsLeastOf xs pid (reduce min (filter_map (own_serial pid) xs)) → IsLeastOf (x ∷ xs) pid (reduce min (cons_option (own_serial pid y) (filter_map (own_serial pid) xs)))
+    first None e least = passed (reduce min (filter_map (own_serial pid) xs)) (λ b g. absurd (none-some b (sym e ∙ g))) least
+    first (Some s) e least = go (s.pid.0 == pid.0) refl
+      where
+        rest : List ℕ
+        rest = filter_map (own_serial pid) xs
+
+        go : (c : Bool) → (s.pid.0 == pid.0) ≡ c → IsLeastOf (x ∷ xs) pid (reduce min (cons_option (if c then Some s.serial.0 else None) rest))
+        go false q = passed (reduce min rest) (λ b g. ap (λ y. y.pid.0 == pid.0) (sym (same_Some s b (sym e ∙ g))) ∙ q) least
+        go true q =
+            let l : IsLow xs pid s.serial.0 (fold min s.serial.0 rest) = folded_low pid xs s.serial.0 in
+            let low : fold min s.serial.0 rest ≤ s.serial.0 = l.low in (
+              elim l.reached [
+                | inl same ↦ record { seat = 0; server = s; here = e; number = sym same; of = q }
+                | inr found ↦ found_behind x xs pid (fold min s.serial.0 rest) found
+              ],
+              below_behind x xs pid (fold min s.serial.0 rest)
+                  (λ b g t. let one : s.serial.0 ≡ b.serial.0 = ap (λ y. y.serial.0) (same_Some s b (sym e ∙ g)) in omega arith) l.below,
+            )
+
+-- .. is that of the least server of the process
+pub least_of_is : (xs : List (Option ServerSeat)) (next : ℕ) (pid : Pid) → AreApart xs next → length xs ≡ SERVER_LIMIT
+    → least_of pid (state xs next) ≡ option_map serial_of (reduce min (filter_map (own_serial pid) xs))
+least_of_is xs next pid apart size = ap (option_map serial_of) (go (reduce min (filter_map (own_serial pid) xs)) (reduced_least pid xs))
+  where
+    go : (o : Option ℕ) → IsLeastOf xs pid o → least_serial (is_of pid) (state xs next) ≡ o
+    go None none = least_none xs next (is_of pid) refl none
+    go (Some m) least =
+        let f = least.0 in
+        let low : IsBelow xs pid m = least.1 in
+        least_is xs next f.seat f.server (is_of pid) apart size refl f.here f.of
+        (λ j b g t. let no_more : m ≤ b.serial.0 = low j b g t in let same : f.server.serial.0 ≡ m = f.number in omega arith)
+        ∙ ap Some f.number

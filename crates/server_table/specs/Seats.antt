@@ -1,8 +1,8 @@
 -- The seats of servers, and how a serial is found among them. These words are for the table itself; callers see the
 -- map of ServerState.
-use Rattle.std.specs.Prelude.{ℕ, ◌<◌, ◌≡◌, ◌==◌, Bool, true, false, List, Option, Some, None, is_some, nat_le, position, if◌then◌else◌}
+use Rattle.std.specs.Prelude.{ℕ, ◌<◌, ◌≡◌, ◌==◌, Bool, true, false, List, Option, Some, None, is_some, position, if◌then◌else◌}
 use Rattle.std.specs.Option.{option_map, option_and_then}
-use Rattle.xk_base.specs.declared.ids.Serial.{Serial}
+use Rattle.xk_base.specs.declared.ids.Pid.{Pid}
 use Rattle.xk_base.specs.declared.ids.Sid.{Sid}
 use Rattle.xk_base.specs.declared.limits.TheConstants.{SERVER_LIMIT}
 use Rattle.xk_base.specs.Tables.Counting.{count_below}
@@ -42,7 +42,7 @@ pub record AreApart (seats : List (Option ServerSeat)) (next : ℕ) : Type 0 whe
 abbrev pub AreCounted : List (Option ServerSeat) → ℕ → Type 0
 AreCounted seats next = count_below next (λ n. is_some (by_serial seats n)) ≡ count_below SERVER_LIMIT (λ i. is_some (row_map seats i))
 
--- the lower of two serials, where the first may be missing
-abbrev pub lower : Option Serial → Serial → Option Serial
-lower None t = Some t
-lower (Some s) t = if nat_le s.0 t.0 then Some s else Some t
+-- the number of the server's serial, where there is one of the process
+abbrev pub own_serial : Pid → Option ServerSeat → Option ℕ
+own_serial pid None = None
+own_serial pid (Some e) = if e.pid.0 == pid.0 then Some e.serial.0 else None

@@ -8,8 +8,8 @@ use Rattle.xk_base.specs.declared.ids.Pid.{Pid}
 use Rattle.xk_base.specs.declared.ids.Serial.{Serial}
 use Rattle.xk_base.specs.declared.ids.Sid.{Sid}
 use Rattle.xk_base.specs.declared.limits.TheConstants.{SERVER_LIMIT}
-use Rattle.xk_base.specs.Tables.Sids.{serial_of, serial_with}
-use Rattle.xk_base.specs.Tables.Counting.{count_below, least_below, listed_below, put_at}
+use Rattle.xk_base.specs.Tables.Sids.{serial_of, serial_with, is_owned_by, live_below}
+use Rattle.xk_base.specs.Tables.Counting.{least_below, listed_below, put_at}
 use Rattle.server_table.specs.declared.table.ServerSeat.{ServerSeat}
 
 -- a living server, as its serial finds it
@@ -29,8 +29,7 @@ no_servers = record { next = 1; live = λ _. None }
 
 -- there is a server, and it is one of the process
 abbrev pub is_of : Pid → Option Server → Bool
-is_of pid None = false
-is_of pid (Some s) = s.pid.0 == pid.0
+is_of pid server = is_owned_by pid (option_map (λ s. s.pid) server)
 
 -- there is a server, and it has that seat
 abbrev pub has_seat : ℕ → Option Server → Bool
@@ -63,7 +62,7 @@ free_seat s = least_below SERVER_LIMIT (λ seat. is_none (at_seat seat s))
 
 -- how many servers are alive
 abbrev pub live_count : ServerState → ℕ
-live_count s = count_below s.next (λ n. is_some (s.live n))
+live_count s = live_below s.next s.live
 
 -- the answer to a new server
 abbrev pub made_answer : Sid → ServerState → Result Serial XousError

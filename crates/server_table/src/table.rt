@@ -3,7 +3,7 @@
 ghost use Rattle.std.specs.Prelude.{◌≡◌, ◌<◌, Option, IfOk, IfSome, OnOk, OnErr, is_none, position, vec_len};
 ghost use Rattle.std.specs.Option.{option_map};
 ghost use Rattle.xk_base.specs.declared.limits.TheConstants.{SERVER_LIMIT};
-ghost use Rattle.server_table.specs.Seats.{has_serial, seat_has_sid, seat_with, lower, AreApart, AreCounted};
+ghost use Rattle.server_table.specs.Seats.{has_serial, seat_has_sid, seat_with, own_serial, AreApart, AreCounted};
 ghost use Rattle.server_table.specs.ServerState.{no_servers, with_sid, least_of, at_seat, free_seat, made_answer, with_server, without_server};
 
 use std::alloc::Global;
@@ -33,20 +33,12 @@ pub struct Servers {
     ghost counted: { AreCounted seats.items next },
 }
 
-/// The lower of two serials, where the first may be missing.
-fn lower(least: Option<Serial>, serial: Serial) -> Option<Serial>
-    ensures { result ≡ lower least serial }
+/// The number of the server's serial, where a server of the process stands at the seat.
+fn own_serial(seat: &Option<ServerSeat>, pid: Pid) -> Option<u32>
+    ensures { result ≡ own_serial pid seat.now }
 {
-    match least {
-        Some(lowest) => {
-            if lowest.0 <= serial.0 {
-                Some(lowest)
-            } else {
-                Some(serial)
-            }
-        }
-        None => Some(serial),
-    }
+    let server = seat.filter(|server| server.pid == pid)?;
+    Some(server.serial.0)
 }
 
 /// Whether the server with that serial stands at the seat.
@@ -138,15 +130,8 @@ impl Servers {
     pub fn any_of(&self, pid: Pid) -> Option<Serial>
         ensures { result ≡ least_of pid (servers_of self.now) }
     {
-        let mut least = None;
-        for k in 0..SEATS {
-            if let Some(server) = self.seats[k]
-                && server.pid == pid
-            {
-                least = lower(least, server.serial);
-            }
-        }
-        least
+        let serials = self.seats.iter().filter_map(|seat| own_serial(seat, pid));
+        serials.min().map(Serial)
     }
 
     /// The living server at the seat; `None` exactly where the seat is empty.

@@ -1,13 +1,13 @@
 -- Servers: how one is found by its identifier or by a connection, and how one is changed.
-use Rattle.std.specs.Prelude.{ℕ, ◌+◌, ◌==◌, Bool, false, List, length, ◌++◌, Option, Some, None, is_some, nat_eq}
+use Rattle.std.specs.Prelude.{ℕ, ◌+◌, ◌==◌, Bool, false, List, length, ◌++◌, Option, Some, None, nat_eq}
 use Rattle.std.specs.Option.{option_and_then, option_map}
 use Rattle.xk_base.specs.declared.ids.Pid.{Pid}
 use Rattle.xk_base.specs.declared.ids.Serial.{Serial}
 use Rattle.xk_base.specs.declared.ids.Sid.{Sid}
 use Rattle.xk_base.specs.declared.messages.Message.{Message}
 use Rattle.xk_base.specs.declared.limits.TheConstants.{MESSAGE_LIMIT}
-use Rattle.xk_base.specs.Tables.Sids.{serial_with}
-use Rattle.xk_base.specs.Tables.Counting.{count_below, put_at}
+use Rattle.xk_base.specs.Tables.Sids.{serial_with, is_owned_by, live_below}
+use Rattle.xk_base.specs.Tables.Counting.{put_at}
 use Rattle.machine_model.specs.State.Connections.{own_connections}
 use Rattle.xk_base.specs.Tables.Connections.{connected_to}
 use Rattle.machine_model.specs.State.Machine.{Machine, Server}
@@ -16,8 +16,7 @@ use Rattle.machine_model.specs.State.Machine.{Machine, Server}
 
 -- there is such a server, and it is one of that process
 abbrev pub is_server_of : Pid → Option Server → Bool
-is_server_of pid None = false
-is_server_of pid (Some server) = server.pid.0 == pid.0
+is_server_of pid server = is_owned_by pid (option_map (λ s. s.pid) server)
 
 -- the live server with that identifier
 unfoldable pub with_sid : Machine → Sid → Option Serial
@@ -34,7 +33,7 @@ server_at m cid = option_and_then (λ serial. m.servers serial.0) (connected_to 
 
 -- how many servers are alive
 unfoldable pub live_servers : Machine → ℕ
-live_servers m = count_below m.next_serial (λ n. is_some (m.servers n))
+live_servers m = live_below m.next_serial m.servers
 
 -- ---- their messages
 

@@ -1,20 +1,20 @@
-use Rattle.std.proofs.Common.{length, ap, arith, subst}
-use Rattle.std.proofs.lemmas.List.Elements.{All-more}
-use Rattle.kernel_args.specs.declared.args.ProcArgs.{ProcArgs}
+use Rattle.std.proofs.Common.{rules, tests, ◌≡◌, sum_by, arith, ◌∙◌}
+use Rattle.std.proofs.lemmas.Iterator.{YieldsList-from_slice, YieldsList-from_map}
+use Rattle.std.proofs.lemmas.Iterator.Consumers.{sum_by_from_yields_List}
+use Rattle.std.proofs.lemmas.List.Elements.{recursion_from_All}
+use Rattle.std.specs.Prelude.{All}
 use Rattle.kernel_args.specs.Contents.{IsProcess}
-use Rattle.kernel_args.proofs.WritingLemmas.{processes_step}
+use Rattle.kernel_args.specs.Writing.{row_size}
+use Rattle.kernel_args.proofs.WritingLemmas.{sizes_added}
 use Rattle.kernel_args.proofs.writing.processes_size.Goals as goal
 
-pub loop-process-preserved : goal.loop-process-preserved
-loop-process-preserved c =
-    let is = c.is_process.ensures.0 c.if-not-is_process.false in
-    let few = is.few in
-    let count = ap (λ (p : ProcArgs). length p.sections) c.process-item.is in
-    let step = processes_step c.args.processes.now c.loop-process.process-index c.process-item.result c.loop-process-test.true in
-    let size = c.loop-process.invariant.size in
-    let so_far = c.loop-process.invariant.few in
-    record {
-      each = All-more IsProcess c.args.processes.now c.loop-process.process-index c.process-item.result c.loop-process-test.true c.loop-process.invariant.each (subst IsProcess c.process-item.is is);
-      size = omega (arith, ap length c.as_slice.ensures);
-      few = omega (arith, ap length c.as_slice.ensures);
-    }
+pub returns : goal.returns
+returns c =
+    let ps = c.args.processes.now in
+    let each : All IsProcess ps = search (rules, tests) in
+    let sum : c.sum.result ≡ sum_by row_size ps = sum_by_from_yields_List row_size ps _ c.sum.result c.sum.ensures.ran
+    (YieldsList-from_map _ row_size (YieldsList-from_slice ps (search rules)) c.map.ensures.closure (λ x r q k. search (rules, tests))) in
+    let sizes = sizes_added ps (recursion_from_All IsProcess ps each) in
+    let same = sizes.0 in
+    let most = sizes.1 in
+    (each, sum ∙ same, omega arith)
