@@ -1,3 +1,4 @@
+pub mod Arrivals
 pub mod Parts
 pub mod Rows
 pub mod Seats

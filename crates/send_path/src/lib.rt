@@ -1,6 +1,7 @@
 //! The calls that carry messages between processes: a message is sent, received, given back and forwarded.
 #![tactic(auto)]
 
+mod carrying;
 mod holding;
 mod receiving;
 mod returning;
