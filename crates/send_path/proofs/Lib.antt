@@ -1,6 +1,8 @@
+pub mod ArriveLemmas
 pub mod HeldListLemmas
 pub mod HolderLemmas
 pub mod MachineLemmas
+pub mod ReachedLemmas
 pub mod ReceiveLemmas
 pub mod ReplyLemmas
 pub mod ReturnLemmas
