@@ -2,6 +2,7 @@ pub mod ArriveLemmas
 pub mod HeldListLemmas
 pub mod HolderLemmas
 pub mod MachineLemmas
+pub mod MatchedSendLemmas
 pub mod ReachedLemmas
 pub mod ReceiveLemmas
 pub mod ReplyLemmas
@@ -9,5 +10,8 @@ pub mod ReturnLemmas
 pub mod RowLemmas
 pub mod SeatLemmas
 pub mod SeatSearchLemmas
+pub mod SendRowLemmas
+pub mod SentLemmas
+pub mod SentSoundLemmas
 pub mod SoundLemmas
 pub mod ThreadLemmas

@@ -2,5 +2,6 @@ pub mod Arrivals
 pub mod Parts
 pub mod Rows
 pub mod Seats
+pub mod Sending
 pub mod Sound
 pub mod Threads

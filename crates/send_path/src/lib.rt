@@ -3,10 +3,13 @@
 
 mod carrying;
 mod holding;
+mod pages;
 mod receiving;
 mod returning;
 mod seats;
+mod sending;
 mod threads;
 
 pub use receiving::receive;
 pub use returning::give_back;
+pub use sending::{Sent, send};
