@@ -10,6 +10,7 @@ pub mod ReturnLemmas
 pub mod RowLemmas
 pub mod SeatLemmas
 pub mod SeatSearchLemmas
+pub mod SendLemmas
 pub mod SendRowLemmas
 pub mod SentLemmas
 pub mod SentSoundLemmas

@@ -2,7 +2,7 @@
 use Rattle.std.proofs.Common.{◌≡◌, ℕ, ◌+◌, ◌<◌, ◌≤◌, Bool, true, false, List, length, map, Option, Some, None, IsTrue, refl, sym, ap, subst, ◌∙◌, arith}
 use Rattle.std.specs.Prelude.{◌==◌, ◌&&◌, ◌≢◌, ◌↔◌}
 use Rattle.std.specs.Option.{option_map, option_map_or}
-use Rattle.std.proofs.lemmas.Bool.{eqb-true, false≢true}
+use Rattle.std.proofs.lemmas.Bool.{and_parts, eqb-true, false≢true}
 use Rattle.std.proofs.lemmas.List.{length-map}
 use Rattle.machine_laws.proofs.Calling.AnsweredCallLemmas.{Keeps}
 use Rattle.machine_laws.proofs.Sending.SendStepLemmas.{MayWait, send_keeps}
@@ -13,7 +13,9 @@ use Rattle.machine_model.specs.State.Machine.{Machine, Process, Server, Receivin
 use Rattle.machine_model.specs.State.Order.{ready_at}
 use Rattle.ledger_model.specs.Loans.{IsFresh, loans}
 use Rattle.msg_queue.specs.Seats.{message_of, seat_of, used_of}
+use Rattle.process_table.specs.ProcessesOf.{process_count as made_for}
 use Rattle.process_table.specs.declared.table.Processes.{Processes}
+use Rattle.server_table.specs.ServersOf.{servers_of}
 use Rattle.sv32_space.specs.Tie.{Held as HeldBytes}
 use Rattle.thread_table.specs.States.{is_receiving_state}
 use Rattle.thread_table.specs.ThreadMap.{is_ready as is_table_ready, is_receiving as is_table_receiving}
@@ -24,9 +26,10 @@ use Rattle.thread_table.specs.declared.thread.ThreadState.TheVariants as table
 use Rattle.vm_memory.specs.Memory.{ledger, processes}
 use Rattle.xk_base.specs.Calls.CallWords.{send_kind}
 use Rattle.xk_base.specs.Calls.Kinds.{is_answered, is_waiting_kind, kind_at}
-use Rattle.xk_base.specs.Tables.Circle.{IsPid, is_pid, is_thread_id}
+use Rattle.xk_base.specs.Tables.Circle.{IsPid, is_pid, is_tid}
 use Rattle.xk_base.proofs.CircleLemmas.{is_pid-bounds}
 use Rattle.xk_base.specs.declared.ids.Number.{Number}
+use Rattle.xk_base.specs.declared.ids.Pid.{Pid}
 use Rattle.xk_base.specs.declared.ids.Serial.{Serial}
 use Rattle.xk_base.specs.declared.ids.ThreadId.{ThreadId}
 use Rattle.xk_base.specs.declared.messages.MsgKind.{MsgKind}
@@ -36,7 +39,7 @@ use Rattle.send_path.specs.Seats.{IsSeatOf}
 use Rattle.send_path.specs.Sending.{with_next}
 use Rattle.send_path.specs.Sound.{IsAboveMessages, IsSound, IsSoundOver}
 use Rattle.send_path.proofs.SeatLemmas.{server_there}
-use Rattle.send_path.proofs.ThreadLemmas.{ready_there}
+use Rattle.send_path.proofs.ThreadLemmas.{ready_id, ready_there}
 
 receiving_then : (serial : Serial) (s : TableState) → is_receiving_state serial s ≡ true → state_of s ≡ Receiving serial
 receiving_then serial table.Ready e = absurd (false≢true e)
@@ -76,6 +79,18 @@ module _ {W : Type 0} (slot_count : W → ℕ) (held : W → HeldBytes) (who : T
           timer = was.rest.timer;
         };
       })
+
+  -- the caller's process is there
+  module _ (ready : is_table_ready (threads_of old.tables.threads who) ≡ true) where
+    pub caller_pid : is_pid (process_count old.tables.threads) who.pid.0 ≡ true
+    caller_pid =
+        (and_parts (is_pid (process_count old.tables.threads) who.pid.0) (is_tid who.tid.0) (ready_id old.tables.threads who ready)).0
+
+    pub caller_in_mem : is_pid (processes old.mem) who.pid.0 ≡ true
+    caller_in_mem = ap (λ n. is_pid n who.pid.0) (sym sound.sound.processes) ∙ caller_pid
+
+    pub caller_bounds : IsPid (made_for procs) who.pid.0
+    caller_bounds = is_pid-bounds (made_for procs) who.pid.0 (ap (λ n. is_pid n who.pid.0) sound.count ∙ caller_pid)
 
   pub fresh : IsFresh (loans (ledger held old.mem)) number
   unfolding with_parts with_tables

@@ -3,7 +3,6 @@ use Rattle.std.proofs.Common.{◌≡◌, ℕ, ◌+◌, ◌<◌, Bool, true, fals
 use Rattle.std.specs.Prelude.{◌==◌, nat_eq, unwrap_or, if◌then◌else◌}
 use Rattle.std.specs.Option.{option_and_then, option_map, option_map_or}
 use Rattle.ledger_model.specs.Ledger.{Ledger}
-use Rattle.machine_model.specs.Calling.MemoryCalls.{caller_place}
 use Rattle.machine_model.specs.Messaging.Messages.{new_message}
 use Rattle.machine_model.specs.Messaging.Receivers.{receiver}
 use Rattle.machine_model.specs.Messaging.ReturnCalls.{sender_gets as thread_gets}
@@ -28,6 +27,7 @@ use Rattle.vm_memory.specs.Memory.{capacity_of, ledger}
 use Rattle.xk_base.specs.Calls.CallWords.{send_address, send_cid}
 use Rattle.xk_base.specs.Calls.Kinds.{is_answered}
 use Rattle.xk_base.specs.Calls.Replies.{message_words}
+use Rattle.xk_base.specs.Numbers.Windows.{page_of}
 use Rattle.xk_base.specs.Tables.Connections.{connected_to}
 use Rattle.xk_base.specs.Tables.Counting.{put_at}
 use Rattle.xk_base.specs.Tables.Sids.{serial_of}
@@ -82,6 +82,13 @@ module _ {W : Type 0} (held : W → HeldBytes) (who : ThreadId) (procs : Process
   unfolding with_parts with_tables
   live_is m n = refl
 
+  -- what a message of the caller is in every such machine
+  pub message_at : (x : Message) (kind : MsgKind) (w : List ℕ) (first : Vpn)
+      → ((m : Machine) → m.cursor ≡ who → m.next_number ≡ number.0 → x ≡ new_message m kind w first) → (m : Machine)
+      → x ≡ new_message (at_send m) kind w first
+  unfolding with_parts with_tables
+  message_at x kind w first is m = is (at_send m) refl refl
+
   pub unreached : (cid : ℕ) → IsUnreached own cid (servers_of old.tables.servers) → (m : Machine) → server_at (at_send m) cid ≡ None
   unreached cid none m =
       ap (λ o. option_and_then (λ (serial : Serial). (at_send m).servers serial.0) o) (connected_is m cid) ∙ go (connected_to own cid) refl
@@ -133,14 +140,14 @@ module _ {W : Type 0} (held : W → HeldBytes) (who : ThreadId) (procs : Process
 
       abbrev pub ledger_then : Ledger
       ledger_then =
-          sent_ledger kind (caller_place (at_send m) (send_address w)) (sent_pages w) place number (ledger held old.mem)
+          sent_ledger kind (page_of who.pid (send_address w)) (sent_pages w) place number (ledger held old.mem)
 
       -- what an accepted send leaves
       pub record Left (new : Parts W) : Type 0 where
         pub threads : threads_shown new.tables.threads
             ≡ answered (arrival_answers got h.msg waits who) (changed_thread who passed (waiting_if waits who (threads_shown old.tables.threads)))
         pub log : new.tables.log ≡ log_with (replies (process_count old.tables.threads) (arrival_answers got h.msg waits who)) old.tables.log
-        pub procs : process_count new.tables.threads ≡ process_count old.tables.threads
+        pub same_count : process_count new.tables.threads ≡ process_count old.tables.threads
         pub servers : new.tables.servers ≡ old.tables.servers
         pub queues : new.tables.queues ≡ changed_at to.seat (with_arrived got h) old.tables.queues
         pub capacity : capacity_of new.mem ≡ capacity_of old.mem
@@ -178,7 +185,7 @@ module _ {W : Type 0} (held : W → HeldBytes) (who : ThreadId) (procs : Process
             (with_parts held who new (with_next procs (number.0 + 1) m)) (arrival_answers got h.msg (Some number) who) (outcome true) old.tables.log
             new.tables.log refl
             (λ i. record m {
-              processes = g.procs i;
+              processes = g.same_count i;
               cursor = who;
               threads = threads i;
               process = processes_shown procs;
@@ -194,7 +201,7 @@ module _ {W : Type 0} (held : W → HeldBytes) (who : ThreadId) (procs : Process
             (with_parts held who new (with_next procs (number.0 + 1) m)) (arrival_answers got h.msg None who) (outcome false) old.tables.log
             new.tables.log refl
             (λ i. record m {
-              processes = g.procs i;
+              processes = g.same_count i;
               cursor = who;
               threads = threads i;
               process = processes_shown procs;
@@ -207,12 +214,12 @@ module _ {W : Type 0} (held : W → HeldBytes) (who : ThreadId) (procs : Process
             log
 
         sent_so : Served (sent (at_send m) kind w first) ≡ outcome (is_answered kind)
-        unfolding with_parts with_tables
+        unfolding with_parts with_tables receiver
         sent_so =
             ap Served (sent_is (at_send m) w kind first got (ap (receiver (at_send m)) serial_is ∙ receiver_alike who old.tables (with_next procs number.0 m) to.serial))
             ∙ (λ i. Served (answering (both_answers (thread_gets (message_words (sym msg i)) got) (sender_answered (is_answered kind) who))
             (change_server (serial_is i) (arrived_shown got (sym msg i)) (sender_left (is_answered kind) number (record (at_send m) {
-              ledger = sent_ledger kind (caller_place (at_send m) (send_address w)) (sent_pages w) (place_is i) number (ledger held old.mem);
+              ledger = sent_ledger kind (page_of who.pid (send_address w)) (sent_pages w) (place_is i) number (ledger held old.mem);
               next_number = number.0 + 1;
             })))))
 

@@ -1,6 +1,6 @@
 //! SendMessage and TrySendMessage.
 
-ghost use Rattle.std.specs.Prelude.{◌≡◌, ◌+◌, ◌<◌, ◌≤◌, ◌==◌, ◌||◌, ◌&&◌, ◌^◌, length, true, IsFalse};
+ghost use Rattle.std.specs.Prelude.{◌≡◌, ◌+◌, ◌<◌, ◌≤◌, ◌==◌, ◌||◌, ◌&&◌, ◌^◌, length, true, IsFalse, if◌then◌else◌};
 ghost use Rattle.machine_model.specs.Messaging.Messages.{carries_pages as has_pages, new_message};
 ghost use Rattle.machine_model.specs.State.Machine.{Machine};
 ghost use Rattle.thread_table.specs.ThreadMap.{is_ready};
@@ -8,7 +8,7 @@ ghost use Rattle.thread_table.specs.ThreadsOf.{threads_of};
 ghost use Rattle.vm_memory.specs.Memory.{IsUsable};
 ghost use Rattle.xk_base.specs.Calls.CallNumbers.{send_message, try_send_message};
 ghost use Rattle.xk_base.specs.Calls.CallWords.{call_number, send_kind};
-ghost use Rattle.xk_base.specs.Calls.Kinds.{is_waiting_kind, kind_at};
+ghost use Rattle.xk_base.specs.Calls.Kinds.{is_answered as is_kind_answered, is_waiting_kind, kind_at};
 ghost use Rattle.send_path.specs.Parts.{parts_of};
 ghost use Rattle.send_path.specs.Sending.{IsSendRow, asked_row, asked_words, send_row};
 ghost use Rattle.send_path.specs.Sound.{IsAboveMessages, IsSoundOver, KeepsMemory};
@@ -152,13 +152,20 @@ fn send_asked<W: SwapStore>(
     let from = page_of(who.pid, address);
     let loan = carry(mem, kind, from, count, place, number);
     let msg = new_message(&asked, number, who, kind, first);
-    let waits = if is_answered(kind) {
+    let waits = awaited(kind, number);
+    arrive_and_answer(threads, queues, log, who, waits, to, Held { msg, loan });
+    Sent::Accepted
+}
+
+// The message that the sender waits to have answered, if one of the kind is answered.
+fn awaited(kind: MsgKind, number: Number) -> Option<Number>
+    ensures { result ≡ (if is_kind_answered kind then Some number else None) }
+{
+    if is_answered(kind) {
         Some(number)
     } else {
         None
-    };
-    arrive_and_answer(threads, queues, log, who, waits, to, Held { msg, loan });
-    Sent::Accepted
+    }
 }
 
 // The kind with that number.
