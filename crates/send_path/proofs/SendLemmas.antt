@@ -1,20 +1,22 @@
 -- What the tests of a send find in the parts, and which outcome in the machine that is.
 use Rattle.std.proofs.Common.{◌≡◌, ℕ, ◌+◌, ◌*◌, ◌/◌, ◌<◌, ◌≤◌, Bool, true, false, List, length, map, Option, Some, None, IsTrue, refl, sym, ap, subst, ◌∙◌, arith}
-use Rattle.std.specs.Prelude.{◌==◌, ◌&&◌, ◌||◌, ◌%◌, ◌≢◌, ◌↔◌, not, slice_index_or, Result, Ok, Err, if◌then◌else◌}
+use Rattle.std.specs.Prelude.{IfSome, ◌==◌, ◌&&◌, ◌||◌, ◌%◌, ◌≢◌, ◌↔◌, not, slice_index_or, Result, Ok, Err, if◌then◌else◌}
 use Rattle.std.proofs.lemmas.Bool.{eq-eqb, eqb-false, eqb-true, false≢true, or_parts}
 use Rattle.std.proofs.lemmas.List.{length-map}
 use Rattle.ledger_model.proofs.Runs.LeastRunLemmas.{least_run-Some}
 use Rattle.ledger_model.specs.Ledger.{Ledger}
 use Rattle.ledger_model.specs.LeastRun.{least_run}
+use Rattle.ledger_model.specs.Loans.{LoanRun, Loans, Stands}
 use Rattle.ledger_model.specs.RunTests.{any_free, any_not_sent}
 use Rattle.machine_laws.proofs.Calling.RunRefusalLemmas.{not_false}
 use Rattle.machine_model.specs.Calling.MemoryCalls.{is_aligned, is_bad_range}
-use Rattle.machine_model.specs.Messaging.Messages.{carries_pages}
-use Rattle.machine_model.specs.Messaging.SendCalls.{is_lend_mut, send_call, sent}
+use Rattle.machine_model.specs.Messaging.Messages.{carries_pages, new_message}
+use Rattle.machine_model.specs.Messaging.SendCalls.{is_lend_mut, send_call, sent, sent_pages}
 use Rattle.machine_model.specs.State.Changes.{Refused, Retried, Served}
 use Rattle.machine_model.specs.State.Machine.{Machine}
 use Rattle.machine_model.specs.State.Servers.{is_full}
 use Rattle.msg_queue.specs.Seats.{Seat, message_of, seat_of, used_of}
+use Rattle.msg_queue.specs.declared.held.Held.{Held}
 use Rattle.process_table.specs.ProcessMap.{connections_of}
 use Rattle.process_table.specs.ProcessesOf.{processes_of}
 use Rattle.process_table.specs.declared.table.Processes.{Processes}
@@ -32,20 +34,23 @@ use Rattle.xk_base.specs.declared.errors.XousError.{XousError}
 use Rattle.xk_base.specs.declared.errors.XousError.TheVariants.{BadAddress, BadAlignment, InvalidSyscall, MemoryInUse, ServerNotFound, ServerQueueFull, ShareViolation}
 use Rattle.xk_base.specs.declared.ids.Number.{Number}
 use Rattle.xk_base.specs.declared.ids.Pid.{Pid}
+use Rattle.xk_base.specs.declared.ids.Place.{Place}
 use Rattle.xk_base.specs.declared.ids.ThreadId.{ThreadId}
 use Rattle.xk_base.specs.declared.ids.Vpn.{Vpn}
+use Rattle.xk_base.specs.declared.messages.Message.{Message}
 use Rattle.xk_base.specs.declared.messages.MsgKind.{MsgKind}
 use Rattle.xk_base.specs.declared.windows.Window.TheVariants.{Message as MessageWindow}
 use Rattle.send_path.specs.Arrivals.{IsReached, IsUnreached}
 use Rattle.send_path.specs.Parts.{Parts, with_parts, with_tables}
 use Rattle.send_path.specs.Sending.{MayGo, arrival_of, asked_words, pages_answer}
-use Rattle.send_path.specs.Sound.{IsAboveMessages, IsSoundOver}
+use Rattle.send_path.specs.Sound.{IsAboveMessages, IsLoanOf, IsSoundOver}
 use Rattle.send_path.specs.declared.seats.Reached.{Reached}
 use Rattle.send_path.specs.declared.sending.Asked.{Asked}
 use Rattle.send_path.proofs.MatchedSendLemmas.{fresh, receivers_own, server_pid}
 use Rattle.send_path.proofs.SeatLemmas.{seat_in_limit}
 use Rattle.send_path.proofs.SendRowLemmas.{full, no_kind, no_run, no_server, pages_refused, run_found}
 use Rattle.send_path.proofs.SentLemmas.{at_send, reached_there, server, unreached}
+use Rattle.send_path.proofs.SentSoundLemmas.{loan_made, made_is}
 
 -- ---- the answer of the tests of pages
 
@@ -242,3 +247,17 @@ module _ {W : Type 0} (slot_count : W → ℕ) (held : W → HeldBytes) (who : T
               first_low =
                   let run = least_run-Some (processes old.mem) (ledger held old.mem) to.pid MessageWindow (size / 4096) first least in
                   omega (arith, run.high)
+
+-- ---- the loan of what is sent
+
+module _ {W : Type 0} (held : W → HeldBytes) (who : ThreadId) (procs : Processes) (number : Number) (old : Parts W) (kind : MsgKind)
+    (w : List ℕ) (from to : Place) (own : from.pid ≡ who.pid) (all : Loans) (h : Held) (m : Machine)
+    (msg : h.msg ≡ new_message (at_send held who procs number old m) kind w to.vpn)
+    (made : h.loan ≡ loan_made kind from (sent_pages w) to number) (stands : IfSome h.loan (λ run. Stands all run)) where
+  pub held_loan : (pid : Pid) → pid ≡ to.pid → (run : LoanRun) → h.loan ≡ Some run → IsLoanOf all pid h.msg run
+  unfolding with_parts with_tables
+  held_loan pid there run e =
+      subst (λ (p : Pid). IsLoanOf all p h.msg run) (sym there)
+      (subst (λ (x : Message). IsLoanOf all to.pid x run) (sym msg)
+      (made_is all (at_send held who procs number old m) w from to number own refl kind
+      (subst (λ (o : Option LoanRun). IfSome o (λ run. Stands all run)) made stands) run (sym made ∙ e)))
