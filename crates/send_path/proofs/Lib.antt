@@ -16,3 +16,4 @@ pub mod SentLemmas
 pub mod SentSoundLemmas
 pub mod SoundLemmas
 pub mod ThreadLemmas
+pub mod TrySendLemmas

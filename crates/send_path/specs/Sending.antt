@@ -13,7 +13,7 @@ use Rattle.process_table.specs.declared.table.Processes.{Processes}
 use Rattle.sv32_space.specs.Tie.{Held}
 use Rattle.vm_memory.specs.Loaning.Sending.{IsFreeArrival}
 use Rattle.xk_base.specs.Calls.CallNumbers.{try_send_message}
-use Rattle.xk_base.specs.Calls.CallWords.{call_number}
+use Rattle.xk_base.specs.Calls.CallWords.{call_number, send_cid, send_id, send_kind, send_words}
 use Rattle.xk_base.specs.Numbers.Windows.{page_of}
 use Rattle.xk_base.specs.declared.errors.XousError.{XousError}
 use Rattle.xk_base.specs.declared.errors.XousError.TheVariants.{BadAlignment, BadAddress, ServerQueueFull, ShareViolation}
@@ -33,6 +33,11 @@ use Rattle.send_path.specs.Rows.{IsServed, table_row}
 use Rattle.send_path.specs.declared.sending.Asked.{Asked}
 use Rattle.send_path.specs.declared.sending.Sent.{Sent}
 use Rattle.send_path.specs.declared.sending.Sent.TheVariants as sent
+
+-- the words of a send ask for this
+abbrev pub AreAsked : List ℕ → Asked → Type 0
+AreAsked words asked =
+    (send_cid words ≡ asked.cid.0) × (send_kind words ≡ asked.kind) × (send_id words ≡ asked.id) × (send_words words ≡ asked.words)
 
 -- the words of a send that asks for this, but for the number of the call, which no test looks at
 abbrev pub asked_words : Asked → List ℕ

@@ -10,7 +10,7 @@ ghost use Rattle.xk_base.specs.Calls.CallNumbers.{send_message, try_send_message
 ghost use Rattle.xk_base.specs.Calls.CallWords.{call_number, send_kind};
 ghost use Rattle.xk_base.specs.Calls.Kinds.{is_answered as is_kind_answered, is_waiting_kind, kind_at};
 ghost use Rattle.send_path.specs.Parts.{parts_of};
-ghost use Rattle.send_path.specs.Sending.{IsSendRow, asked_row, asked_words, send_row};
+ghost use Rattle.send_path.specs.Sending.{AreAsked, IsSendRow, asked_row, asked_words, send_row};
 ghost use Rattle.send_path.specs.Sound.{IsAboveMessages, IsSoundOver, KeepsMemory};
 
 use crate::carrying::arrive_and_answer;
@@ -77,6 +77,17 @@ pub fn send<W: SwapStore>(
     ensures sound { let new = parts_of mem.new threads.new servers.now queues.new log.new in IsFalse (is_waiting_kind (send_kind words) && (who.tid.0 == 1)) → IsSoundOver W.slot_count W.held who procs.now new }
     ensures mem { KeepsMemory W.is_honest W.held mem.old mem.new }
 {
+    let asked = asked_in(words);
+    send_asked(
+        mem, threads, procs, servers, queues, log, who, number, asked,
+    )
+}
+
+// What the words of a send ask for.
+fn asked_in(words: [u32; 8]) -> Asked
+    requires { (call_number words == send_message || call_number words == try_send_message) ≡ true }
+    ensures { AreAsked words result }
+{
     match read_call(words) {
         Ok(
             Call::SendMessage {
@@ -91,17 +102,12 @@ pub fn send<W: SwapStore>(
                 id,
                 words,
             },
-        ) => {
-            let asked = Asked {
-                cid: Cid(cid),
-                kind,
-                id,
-                words,
-            };
-            send_asked(
-                mem, threads, procs, servers, queues, log, who, number, asked,
-            )
-        }
+        ) => Asked {
+            cid: Cid(cid),
+            kind,
+            id,
+            words,
+        },
         _ => unreachable!(),
     }
 }
