@@ -1,5 +1,7 @@
+pub mod Arrivals
 pub mod Parts
 pub mod Rows
 pub mod Seats
+pub mod Sending
 pub mod Sound
 pub mod Threads

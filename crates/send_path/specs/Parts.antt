@@ -70,6 +70,9 @@ pub record Tables : Type 0 where
   pub queues : List Seat
   pub log : LogState
 
+abbrev pub tables_of : Threads → Servers → List Seat → LogState → Tables
+tables_of threads servers queues log = record { threads = threads; servers = servers; queues = queues; log = log }
+
 -- The machine at the turn of a thread, whose threads, servers and messages are those of the parts. All else is as in `m`.
 unfoldable pub with_tables : ThreadId → Tables → Machine → Machine
 with_tables who parts m = record m {
@@ -84,6 +87,9 @@ with_tables who parts m = record m {
 pub record Parts (W : Type 0) : Type 0 where
   pub mem : Memory W
   pub tables : Tables
+
+abbrev pub parts_of : {W : Type 0} → Memory W → Threads → Servers → List Seat → LogState → Parts W
+parts_of mem threads servers queues log = record { mem = mem; tables = tables_of threads servers queues log }
 
 -- the same with the ledger of the memory
 unfoldable pub with_parts : {W : Type 0} → (W → Held) → ThreadId → Parts W → Machine → Machine

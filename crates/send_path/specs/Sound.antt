@@ -3,8 +3,12 @@ use Rattle.std.specs.Prelude.{◌≡◌, ℕ, ◌<◌, Bool, true, All, List, le
 use Rattle.ledger_model.specs.Loans.{LoanRun, Loans, Stands, loans}
 use Rattle.machine_model.specs.Messaging.Messages.{loan_kind}
 use Rattle.machine_model.specs.Runs.Matched.{Matched}
-use Rattle.machine_model.specs.State.Machine.{Machine}
+use Rattle.machine_model.specs.State.Machine.{Machine, Server as MachineServer}
+use Rattle.machine_model.specs.State.Servers.{messages_of}
 use Rattle.msg_queue.specs.Seats.{Seat, empty_seat, seat_of}
+use Rattle.process_table.specs.ProcessesOf.{process_count as made_for}
+use Rattle.process_table.specs.declared.table.Processes.{Processes}
+use Rattle.server_table.specs.declared.table.Servers.{Servers}
 use Rattle.server_table.specs.ServersOf.{servers_of}
 use Rattle.server_table.specs.ServerState.{Server, ServerState}
 use Rattle.sv32_space.specs.Tie.{Held}
@@ -13,12 +17,13 @@ use Rattle.vm_memory.specs.Bytes.{MeansBytes, none_out}
 use Rattle.vm_memory.specs.Memory.{has_failed, ledger, processes, size, store_of}
 use Rattle.vm_memory.specs.Sound.{IsSound as IsMemorySound}
 use Rattle.vm_memory.specs.declared.memory.Memory.{Memory}
+use Rattle.xk_base.specs.declared.ids.Number.{Number}
 use Rattle.xk_base.specs.declared.ids.Pid.{Pid}
 use Rattle.xk_base.specs.declared.ids.Place.{Place}
 use Rattle.xk_base.specs.declared.ids.ThreadId.{ThreadId}
 use Rattle.xk_base.specs.declared.limits.TheConstants.{SERVER_LIMIT}
 use Rattle.xk_base.specs.declared.messages.Message.{Message}
-use Rattle.send_path.specs.Parts.{Parts, Tables, with_parts, with_tables}
+use Rattle.send_path.specs.Parts.{Parts, Tables, processes_shown, servers_shown, with_parts, with_tables}
 use Rattle.send_path.specs.Seats.{HasLoanIfLend, HasNoServer, messages_at}
 
 -- of the seats
@@ -72,6 +77,18 @@ pub record IsSound {W : Type 0} (slot_count : W → ℕ) (held : W → Held) (wh
   pub processes : process_count parts.tables.threads ≡ processes parts.mem
   pub seats : AreSeatsSound (servers_of parts.tables.servers) parts.tables.queues
   pub loans : AreLoansSound (loans (ledger held parts.mem)) (servers_of parts.tables.servers) parts.tables.queues
+
+-- Of the parts of a call that looks at connections too: the processes are those of the machine, and were made for as many.
+pub record IsSoundOver {W : Type 0} (slot_count : W → ℕ) (held : W → Held) (who : ThreadId) (procs : Processes) (parts : Parts W)
+    : Type 0 where
+  pub sound : IsSound slot_count held who parts
+  pub same : sound.machine.process ≡ processes_shown procs
+  pub count : made_for procs ≡ process_count parts.tables.threads
+
+-- the number is above those of all messages
+abbrev pub IsAboveMessages : Number → Servers → List Seat → Type 0
+IsAboveMessages number servers seats =
+    (n : ℕ) (server : MachineServer) → servers_shown servers seats n ≡ Some server → All (λ message. message.number.0 < number.0) (messages_of server)
 
 -- What a call keeps of the memory, however it ends: how large it is, its store, and whether a call has failed. No page goes out, and
 -- its bytes mean something where they did.

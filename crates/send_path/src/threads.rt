@@ -56,6 +56,17 @@ pub(crate) fn answer(threads: &mut Threads, id: ThreadId, words: [u32; 8])
     }
 }
 
+// The thread, where it is there, is answered, of which a record tells.
+pub(crate) fn answer_and_tell(threads: &mut Threads, log: &mut Log, id: ThreadId, words: [u32; 8])
+    requires { length log.old.records < log.old.room }
+    ensures after { threads_shown threads.new ≡ answered (answer_to id words) (threads_shown threads.old) }
+    ensures log { log.new ≡ log_with (Replied id words ∷ []) log.old }
+    ensures count { process_count threads.new ≡ process_count threads.old }
+{
+    answer(threads, id, words);
+    log.push(What::Reply(id, words));
+}
+
 // The caller goes past its call and is answered, of which a record tells.
 pub(crate) fn answer_caller(threads: &mut Threads, log: &mut Log, who: ThreadId, words: [u32; 8])
     requires { length log.old.records < log.old.room }
@@ -64,8 +75,7 @@ pub(crate) fn answer_caller(threads: &mut Threads, log: &mut Log, who: ThreadId,
     ensures count { process_count threads.new ≡ process_count threads.old }
 {
     pass(threads, who);
-    answer(threads, who, words);
-    log.push(What::Reply(who, words));
+    answer_and_tell(threads, log, who, words);
 }
 
 // The caller and another thread are answered, of which two records tell, in ascending order of thread.

@@ -1,0 +1,144 @@
+-- The machine in which a send takes place is matched, and so is what an accepted send leaves. What the calls of a send need of it.
+use Rattle.std.proofs.Common.{◌≡◌, ℕ, ◌+◌, ◌<◌, ◌≤◌, Bool, true, false, List, length, map, Option, Some, None, IsTrue, refl, sym, ap, subst, ◌∙◌, arith}
+use Rattle.std.specs.Prelude.{◌==◌, ◌&&◌, ◌≢◌, ◌↔◌}
+use Rattle.std.specs.Option.{option_map, option_map_or}
+use Rattle.std.proofs.lemmas.Bool.{and_parts, eqb-true, false≢true}
+use Rattle.std.proofs.lemmas.List.{length-map}
+use Rattle.machine_laws.proofs.Calling.AnsweredCallLemmas.{Keeps}
+use Rattle.machine_laws.proofs.Sending.SendStepLemmas.{MayWait, send_keeps}
+use Rattle.machine_model.proofs.Matching.MatchedLemmas.{number_is_fresh}
+use Rattle.machine_model.specs.Messaging.SendCalls.{named_kind, send_call}
+use Rattle.machine_model.specs.Runs.Matched.{IsBodyMatched, IsServerAwaited, Matched}
+use Rattle.machine_model.specs.State.Machine.{Machine, Process, Server, Receiving}
+use Rattle.machine_model.specs.State.Order.{ready_at}
+use Rattle.ledger_model.specs.Loans.{IsFresh, loans}
+use Rattle.msg_queue.specs.Seats.{message_of, seat_of, used_of}
+use Rattle.process_table.specs.ProcessesOf.{process_count as made_for}
+use Rattle.process_table.specs.declared.table.Processes.{Processes}
+use Rattle.server_table.specs.ServersOf.{servers_of}
+use Rattle.sv32_space.specs.Tie.{Held as HeldBytes}
+use Rattle.thread_table.specs.States.{is_receiving_state}
+use Rattle.thread_table.specs.ThreadMap.{is_ready as is_table_ready, is_receiving as is_table_receiving}
+use Rattle.thread_table.specs.ThreadsOf.{process_count, threads_of}
+use Rattle.thread_table.specs.declared.thread.Thread.{Thread as TableThread}
+use Rattle.thread_table.specs.declared.thread.ThreadState.{ThreadState as TableState}
+use Rattle.thread_table.specs.declared.thread.ThreadState.TheVariants as table
+use Rattle.vm_memory.specs.Memory.{ledger, processes}
+use Rattle.xk_base.specs.Calls.CallWords.{send_kind}
+use Rattle.xk_base.specs.Calls.Kinds.{is_answered, is_waiting_kind, kind_at}
+use Rattle.xk_base.specs.Tables.Circle.{IsPid, is_pid, is_tid}
+use Rattle.xk_base.proofs.CircleLemmas.{is_pid-bounds}
+use Rattle.xk_base.specs.declared.ids.Number.{Number}
+use Rattle.xk_base.specs.declared.ids.Pid.{Pid}
+use Rattle.xk_base.specs.declared.ids.Serial.{Serial}
+use Rattle.xk_base.specs.declared.ids.ThreadId.{ThreadId}
+use Rattle.xk_base.specs.declared.messages.MsgKind.{MsgKind}
+use Rattle.send_path.specs.Parts.{Parts, processes_shown, server_with, state_of, thread_of, threads_shown, with_parts, with_tables}
+use Rattle.send_path.specs.Rows.{IsServed}
+use Rattle.send_path.specs.Seats.{IsSeatOf}
+use Rattle.send_path.specs.Sending.{with_next}
+use Rattle.send_path.specs.Sound.{IsAboveMessages, IsSound, IsSoundOver}
+use Rattle.send_path.proofs.SeatLemmas.{server_there}
+use Rattle.send_path.proofs.ThreadLemmas.{ready_id, ready_there}
+
+receiving_then : (serial : Serial) (s : TableState) → is_receiving_state serial s ≡ true → state_of s ≡ Receiving serial
+receiving_then serial table.Ready e = absurd (false≢true e)
+receiving_then serial (table.Receiving other) e =
+    let same : other.0 ≡ serial.0 = eqb-true other.0 serial.0 e in λ i. Receiving (record { 0 = same i })
+receiving_then serial (table.Waiting number) e = absurd (false≢true e)
+receiving_then serial (table.Joining tid) e = absurd (false≢true e)
+receiving_then serial table.Idle e = absurd (false≢true e)
+
+module _ {W : Type 0} (slot_count : W → ℕ) (held : W → HeldBytes) (who : ThreadId) (procs : Processes) (number : Number) (old : Parts W)
+    (sound : IsSoundOver slot_count held who procs old) (above : IsAboveMessages number old.tables.servers old.tables.queues) where
+  -- the rest of a machine of these parts, late enough for the number
+  abbrev pub rest : Machine
+  rest = record sound.sound.machine { steps = sound.sound.machine.steps + number.0 }
+
+  abbrev pub m0 : Machine
+  m0 = with_parts held who old (with_next procs number.0 rest)
+
+  pub matched : Matched m0
+  unfolding with_parts with_tables
+  matched =
+      let was = sound.sound.matched in
+      let first : sound.sound.machine.next_number ≤ sound.sound.machine.steps + 1 = was.rest.stepped.number_steps in
+      subst (λ (p : ℕ → Process). Matched (record m0 { process = p })) sound.same (record {
+        body = was.body;
+        rest = record {
+          handlers = was.rest.handlers;
+          claims = was.rest.claims;
+          above = record { numbers = above; serials = was.rest.above.serials; connections = was.rest.above.connections };
+          stepped = record {
+            number_steps = omega arith;
+            serial_steps =
+                let serial : m0.next_serial ≤ sound.sound.machine.steps + 1 = was.rest.stepped.serial_steps in
+                let later : m0.next_serial ≤ sound.sound.machine.steps + number.0 + 1 = omega (arith, serial) in
+                later;
+          };
+          timer = was.rest.timer;
+        };
+      })
+
+  -- the caller's process is there
+  module _ (ready : is_table_ready (threads_of old.tables.threads who) ≡ true) where
+    pub caller_pid : is_pid (process_count old.tables.threads) who.pid.0 ≡ true
+    caller_pid =
+        (and_parts (is_pid (process_count old.tables.threads) who.pid.0) (is_tid who.tid.0) (ready_id old.tables.threads who ready)).0
+
+    pub caller_in_mem : is_pid (processes old.mem) who.pid.0 ≡ true
+    caller_in_mem = ap (λ n. is_pid n who.pid.0) (sym sound.sound.processes) ∙ caller_pid
+
+    pub caller_bounds : IsPid (made_for procs) who.pid.0
+    caller_bounds = is_pid-bounds (made_for procs) who.pid.0 (ap (λ n. is_pid n who.pid.0) sound.count ∙ caller_pid)
+
+  pub fresh : IsFresh (loans (ledger held old.mem)) number
+  unfolding with_parts with_tables
+  fresh = number_is_fresh m0 matched number (let low : number.0 ≤ number.0 = omega arith in low)
+
+  module _ (serial k : ℕ) (its : IsSeatOf (servers_of old.tables.servers) serial k) where
+    abbrev server : Server
+    server = server_with (seat_of old.tables.queues k) its.server
+
+    live : m0.servers serial ≡ Some server
+    unfolding with_parts with_tables
+    live = server_there old.tables.servers old.tables.queues serial k its sound.sound.seats.all
+
+    pub server_pid : is_pid (process_count old.tables.threads) its.server.pid.0 ≡ true
+    unfolding with_parts with_tables
+    server_pid = matched.body.processes.pids its.server.pid (matched.body.servers.living serial server live)
+
+    pub receivers_own : (id : ThreadId) → is_table_receiving (record { 0 = serial }) (threads_of old.tables.threads id) ≡ true → id.pid.0 ≡ its.server.pid.0
+    unfolding with_parts with_tables
+    receivers_own id e = go (threads_of old.tables.threads id) refl e
+      where
+        go : (o : Option TableThread) → threads_of old.tables.threads id ≡ o → is_table_receiving (record { 0 = serial }) o ≡ true → id.pid.0 ≡ its.server.pid.0
+        go None q r = absurd (false≢true r)
+        go (Some t) q r =
+            let awaited : IsServerAwaited m0.servers id.pid (record { 0 = serial }) =
+            matched.body.receivers id (thread_of t) (record { 0 = serial }) (ap (option_map thread_of) q) (receiving_then (record { 0 = serial }) t.state r) in
+            sym (ap (λ o. option_map_or (λ (s : Server). s.pid.0) o 0) (sym live ∙ awaited.live) ∙ ap (λ (p : Pid). p.0) awaited.own)
+
+  module _ (ready : is_table_ready (threads_of old.tables.threads who) ≡ true) (w : List ℕ)
+      (no_wait : (is_waiting_kind (send_kind w) && (who.tid.0 == 1)) ≡ false) where
+    is_ready : ready_at m0 m0.cursor ≡ true
+    unfolding with_parts with_tables
+    is_ready = ready_there (threads_of old.tables.threads who) ready
+
+    may_wait : MayWait m0 matched is_ready w
+    unfolding with_parts with_tables
+    may_wait kind named answered = go (who.tid.0 == 1) (sym (ap (λ b. b && (who.tid.0 == 1)) waiting) ∙ no_wait)
+      where
+        waiting : is_waiting_kind (send_kind w) ≡ true
+        waiting = ap (λ o. option_map_or is_answered o false) named ∙ answered
+
+        go : (b : Bool) → (true && b) ≡ false → b ≡ false
+        go b e = e
+
+    pub sent_matched : (new : Parts W)
+        → IsServed (send_call m0 w) m0 (with_parts held who new (with_next procs (number.0 + 1) rest)) old.tables.log new.tables.log
+        → Matched (with_parts held who new (record (with_next procs (number.0 + 1) rest) { steps = rest.steps + 1 }))
+    unfolding with_parts with_tables
+    sent_matched new served =
+        subst (λ (x : Machine). Matched (record x { steps = rest.steps + 1 })) (sym served.machine)
+        (send_keeps m0 matched is_ready w may_wait)
