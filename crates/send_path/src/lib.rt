@@ -9,3 +9,4 @@ mod threads;
 
 pub use receiving::receive;
 pub use returning::give_back;
+pub use threads::{answer, pass};
