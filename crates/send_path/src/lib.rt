@@ -13,3 +13,4 @@ mod threads;
 pub use receiving::receive;
 pub use returning::give_back;
 pub use sending::{Sent, send};
+pub use threads::{answer, pass};

@@ -19,8 +19,8 @@ use xk_base::{Log, ThreadId, What};
 /// How far the pc goes at each instruction.
 const INSTRUCTION_SIZE: u32 = 4;
 
-// The thread goes past the call at its pc, where it is there.
-pub(crate) fn pass(threads: &mut Threads, id: ThreadId)
+/// The thread goes past the call at its pc, where it is there, and stays so else. All other threads stay.
+pub fn pass(threads: &mut Threads, id: ThreadId)
     ensures after { threads_shown threads.new ≡ changed_thread id passed (threads_shown threads.old) }
     ensures count { process_count threads.new ≡ process_count threads.old }
 {
@@ -43,8 +43,9 @@ pub(crate) fn wait(threads: &mut Threads, id: ThreadId, state: ThreadState)
     }
 }
 
-// The thread, where it is there, has the words in a0 to a7, and is Ready.
-pub(crate) fn answer(threads: &mut Threads, id: ThreadId, words: [u32; 8])
+/// The thread, where it is there, has the words in a0 to a7 and is Ready, whatever it waited for. Its pc stays,
+/// and so do all other threads.
+pub fn answer(threads: &mut Threads, id: ThreadId, words: [u32; 8])
     ensures after { threads_shown threads.new ≡ answered (answer_to id words) (threads_shown threads.old) }
     ensures count { process_count threads.new ≡ process_count threads.old }
 {

@@ -153,10 +153,15 @@ module _ (m : Machine) (h : Matched m) (serial : Serial) where
         subst (λ t. Matched (record counted_left { threads = t })) (λ i id. sym (thread_same id (same_thread id m.cursor) refl) i)
         (answered_matched m.cursor plain_words counted_left (matched_later left left_matched (m.steps + 1) (omega arith)) still_ready)
 
+-- the end of a server by a call of the thread that is answered that it was served
+pub destroyed_keeps : (m : Machine) → Matched m → ready_at m m.cursor ≡ true → (serial : Serial)
+    → Keeps m (Served (record (destroyed serial m) { answers = both_answers (answer_to m.cursor plain_words) (destroyed serial m).answers }))
+unfolding call_settled settled destroyed closed
+destroyed_keeps m h ready serial = destroyed_at m h serial ready
+
 module _ (m : Machine) (h : Matched m) (ready : ready_at m m.cursor ≡ true) (w : List ℕ) where
   served_keeps : (sid : Sid) → Keeps m (Served (destroy_served m sid))
-  unfolding call_settled settled destroyed closed
-  served_keeps sid = destroyed_at m h (named_server m sid) ready
+  served_keeps sid = destroyed_keeps m h ready (named_server m sid)
 
   destroy_keeps : Keeps m (destroy_call m w)
   unfolding destroy_call

@@ -1,0 +1,33 @@
+-- What stays of the memory over one call and over two.
+use Rattle.std.proofs.Common.{◌≡◌, Bool, ℕ, refl, ◌∙◌}
+use Rattle.send_path.specs.Sound.{KeepsMemory}
+use Rattle.sv32_space.specs.Tie.{Held}
+use Rattle.vm_memory.specs.Loaning.Loans.{KeepsSeats}
+use Rattle.vm_memory.specs.Sound.{IsSound}
+use Rattle.vm_memory.specs.declared.memory.Memory.{Memory}
+use Rattle.kill_path.specs.Keeping.{Stays}
+
+module _ {W : Type 0} (slot_count : W → ℕ) (honest : W → Bool) (held : W → Held) where
+  pub same_memory : (m : Memory W) → IsSound slot_count m → Stays slot_count honest held m m
+  same_memory m sound = record {
+    sound = sound;
+    keeps = record { size = refl; store = refl; failed = refl; none = λ e. e; means = λ e. e };
+  }
+
+  pub after_loan : (old new : Memory W) → KeepsSeats slot_count honest held old new → Stays slot_count honest held old new
+  after_loan old new k = record {
+    sound = k.sound;
+    keeps = record { size = k.size; store = k.store; failed = k.failed; none = k.none; means = k.means };
+  }
+
+  pub kept_both : (a b c : Memory W) → KeepsMemory honest held a b → KeepsMemory honest held b c → KeepsMemory honest held a c
+  kept_both a b c x y = record {
+    size = y.size ∙ x.size;
+    store = y.store ∙ x.store;
+    failed = y.failed ∙ x.failed;
+    none = λ e. y.none (x.none e);
+    means = λ e. y.means (x.means e);
+  }
+
+  pub after_both : (a b c : Memory W) → Stays slot_count honest held a b → Stays slot_count honest held b c → Stays slot_count honest held a c
+  after_both a b c x y = record { sound = y.sound; keeps = kept_both a b c x.keeps y.keeps }

@@ -1,0 +1,4 @@
+pub mod ThreadSets
+pub mod Noted
+pub mod Ending
+pub mod Keeping

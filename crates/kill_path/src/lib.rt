@@ -1,0 +1,6 @@
+//! The ends of servers and of processes: what they do to messages, loans and threads.
+#![tactic(auto)]
+
+mod answered;
+mod closing;
+
