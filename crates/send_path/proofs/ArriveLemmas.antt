@@ -1,16 +1,14 @@
 -- A message arrives at a server: who receives it, what its seat gets, and who is answered.
-use Rattle.std.proofs.Common.{◌≡◌, ℕ, ◌<◌, Bool, true, false, List, [], ◌++◌, length, Option, Some, None, IsSome, refl, sym, ap, ◌∙◌, append-nil}
+use Rattle.std.proofs.Common.{◌≡◌, ℕ, Bool, true, false, List, [], Option, Some, None, IsSome, refl, sym, ap, ◌∙◌, append-nil}
 use Rattle.std.specs.Prelude.{IfSome, if◌then◌else◌}
-use Rattle.std.specs.Option.{option_map, option_map_or, option_or}
+use Rattle.std.specs.Option.{option_map, option_map_or}
 use Rattle.std.proofs.lemmas.Bool.{false≢true}
 use Rattle.std.proofs.lemmas.Option.{none-some, same_Some}
 use Rattle.machine_laws.proofs.Threading.ThreadPutLemmas.{alike}
-use Rattle.machine_model.specs.Messaging.ReturnCalls.{sender_gets as thread_gets}
 use Rattle.machine_model.specs.Messaging.Receivers.{is_receiving, receiver}
-use Rattle.machine_model.specs.State.Changes.{replies}
 use Rattle.machine_model.specs.State.Machine.{Machine, Thread}
-use Rattle.machine_model.specs.State.Threads.{Answers, answer_to, both_answers, no_answers, with_answer}
-use Rattle.msg_queue.specs.Seats.{Seat, changed_at, seat_of, with_held, with_queued}
+use Rattle.machine_model.specs.State.Threads.{both_answers, no_answers, with_answer}
+use Rattle.msg_queue.specs.Seats.{Seat, changed_at, with_held}
 use Rattle.msg_queue.specs.declared.held.Held.{Held}
 use Rattle.thread_table.proofs.PlaceLemmas.{thread_map_valid}
 use Rattle.thread_table.specs.States.{is_ready_state, is_receiving_state}
@@ -27,7 +25,6 @@ use Rattle.xk_base.specs.Tables.Circle.{id_by_tid, is_thread_id, same_thread, th
 use Rattle.xk_base.specs.Tables.Counting.{least_below}
 use Rattle.xk_base.specs.declared.ids.Serial.{Serial}
 use Rattle.xk_base.specs.declared.ids.ThreadId.{ThreadId}
-use Rattle.send_path.specs.Arrivals.{with_arrived}
 use Rattle.send_path.specs.Parts.{Tables, state_of, thread_of, with_tables}
 use Rattle.send_path.specs.Rows.{log_with}
 use Rattle.send_path.specs.Seats.{with_received}

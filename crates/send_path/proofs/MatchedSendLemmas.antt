@@ -1,18 +1,16 @@
 -- The machine in which a send takes place is matched, and so is what an accepted send leaves. What the calls of a send need of it.
-use Rattle.std.proofs.Common.{◌≡◌, ℕ, ◌+◌, ◌<◌, ◌≤◌, Bool, true, false, List, length, map, Option, Some, None, IsTrue, refl, sym, ap, subst, ◌∙◌, arith}
-use Rattle.std.specs.Prelude.{◌==◌, ◌&&◌, ◌≢◌, ◌↔◌}
+use Rattle.std.proofs.Common.{◌≡◌, ℕ, ◌+◌, ◌≤◌, Bool, true, false, List, Option, Some, None, refl, sym, ap, subst, ◌∙◌, arith}
+use Rattle.std.specs.Prelude.{◌==◌, ◌&&◌}
 use Rattle.std.specs.Option.{option_map, option_map_or}
 use Rattle.std.proofs.lemmas.Bool.{and_parts, eqb-true, false≢true}
-use Rattle.std.proofs.lemmas.List.{length-map}
-use Rattle.machine_laws.proofs.Calling.AnsweredCallLemmas.{Keeps}
 use Rattle.machine_laws.proofs.Sending.SendStepLemmas.{MayWait, send_keeps}
 use Rattle.machine_model.proofs.Matching.MatchedLemmas.{number_is_fresh}
-use Rattle.machine_model.specs.Messaging.SendCalls.{named_kind, send_call}
-use Rattle.machine_model.specs.Runs.Matched.{IsBodyMatched, IsServerAwaited, Matched}
+use Rattle.machine_model.specs.Messaging.SendCalls.{send_call}
+use Rattle.machine_model.specs.Runs.Matched.{IsServerAwaited, Matched}
 use Rattle.machine_model.specs.State.Machine.{Machine, Process, Server, Receiving}
 use Rattle.machine_model.specs.State.Order.{ready_at}
 use Rattle.ledger_model.specs.Loans.{IsFresh, loans}
-use Rattle.msg_queue.specs.Seats.{message_of, seat_of, used_of}
+use Rattle.msg_queue.specs.Seats.{seat_of}
 use Rattle.process_table.specs.ProcessesOf.{process_count as made_for}
 use Rattle.process_table.specs.declared.table.Processes.{Processes}
 use Rattle.server_table.specs.ServersOf.{servers_of}
@@ -25,19 +23,18 @@ use Rattle.thread_table.specs.declared.thread.ThreadState.{ThreadState as TableS
 use Rattle.thread_table.specs.declared.thread.ThreadState.TheVariants as table
 use Rattle.vm_memory.specs.Memory.{ledger, processes}
 use Rattle.xk_base.specs.Calls.CallWords.{send_kind}
-use Rattle.xk_base.specs.Calls.Kinds.{is_answered, is_waiting_kind, kind_at}
+use Rattle.xk_base.specs.Calls.Kinds.{is_answered, is_waiting_kind}
 use Rattle.xk_base.specs.Tables.Circle.{IsPid, is_pid, is_tid}
 use Rattle.xk_base.proofs.CircleLemmas.{is_pid-bounds}
 use Rattle.xk_base.specs.declared.ids.Number.{Number}
 use Rattle.xk_base.specs.declared.ids.Pid.{Pid}
 use Rattle.xk_base.specs.declared.ids.Serial.{Serial}
 use Rattle.xk_base.specs.declared.ids.ThreadId.{ThreadId}
-use Rattle.xk_base.specs.declared.messages.MsgKind.{MsgKind}
-use Rattle.send_path.specs.Parts.{Parts, processes_shown, server_with, state_of, thread_of, threads_shown, with_parts, with_tables}
+use Rattle.send_path.specs.Parts.{Parts, server_with, state_of, thread_of, with_parts, with_tables}
 use Rattle.send_path.specs.Rows.{IsServed}
 use Rattle.send_path.specs.Seats.{IsSeatOf}
 use Rattle.send_path.specs.Sending.{with_next}
-use Rattle.send_path.specs.Sound.{IsAboveMessages, IsSound, IsSoundOver}
+use Rattle.send_path.specs.Sound.{IsAboveMessages, IsSoundOver}
 use Rattle.send_path.proofs.SeatLemmas.{server_there}
 use Rattle.send_path.proofs.ThreadLemmas.{ready_id, ready_there}
 

@@ -1,10 +1,9 @@
 -- What the tests of a send find in the parts, and which outcome in the machine that is.
-use Rattle.std.proofs.Common.{◌≡◌, ℕ, ◌+◌, ◌*◌, ◌/◌, ◌<◌, ◌≤◌, Bool, true, false, List, length, map, Option, Some, None, IsTrue, refl, sym, ap, subst, ◌∙◌, arith}
+use Rattle.std.proofs.Common.{◌≡◌, ℕ, ◌+◌, ◌/◌, ◌<◌, ◌≤◌, Bool, true, false, List, length, map, Option, Some, None, IsTrue, refl, sym, ap, subst, ◌∙◌, arith}
 use Rattle.std.specs.Prelude.{IfSome, ◌==◌, ◌&&◌, ◌||◌, ◌%◌, ◌≢◌, ◌↔◌, not, slice_index_or, Result, Ok, Err, if◌then◌else◌}
 use Rattle.std.proofs.lemmas.Bool.{eq-eqb, eqb-false, eqb-true, false≢true, or_parts}
 use Rattle.std.proofs.lemmas.List.{length-map}
 use Rattle.ledger_model.proofs.Runs.LeastRunLemmas.{least_run-Some}
-use Rattle.ledger_model.specs.Ledger.{Ledger}
 use Rattle.ledger_model.specs.LeastRun.{least_run}
 use Rattle.ledger_model.specs.Loans.{LoanRun, Loans, Stands}
 use Rattle.ledger_model.specs.RunTests.{any_free, any_not_sent}
@@ -14,7 +13,6 @@ use Rattle.machine_model.specs.Messaging.Messages.{carries_pages, new_message}
 use Rattle.machine_model.specs.Messaging.SendCalls.{is_lend_mut, send_call, sent, sent_pages}
 use Rattle.machine_model.specs.State.Changes.{Refused, Retried, Served}
 use Rattle.machine_model.specs.State.Machine.{Machine}
-use Rattle.machine_model.specs.State.Servers.{is_full}
 use Rattle.msg_queue.specs.Seats.{Seat, message_of, seat_of, used_of}
 use Rattle.msg_queue.specs.declared.held.Held.{Held}
 use Rattle.process_table.specs.ProcessMap.{connections_of}

@@ -1,16 +1,14 @@
 -- SendMessage by its tests: what is found decides which test refuses it, and else what is sent.
-use Rattle.std.proofs.Common.{◌≡◌, ℕ, ◌/◌, Bool, true, false, List, [], ◌∷◌, Option, Some, None, refl, sym, ap, ◌∙◌}
-use Rattle.std.specs.Prelude.{◌==◌, ◌&&◌, is_none, unwrap_or, Result, Ok, Err, if◌then◌else◌}
+use Rattle.std.proofs.Common.{◌≡◌, ℕ, Bool, true, false, List, [], ◌∷◌, Option, Some, None, refl, sym, ap, ◌∙◌}
+use Rattle.std.specs.Prelude.{◌&&◌, is_none, unwrap_or, Result, Ok, Err, if◌then◌else◌}
 use Rattle.std.specs.Option.{option_and_then, option_map_or}
-use Rattle.std.proofs.lemmas.Bool.{false≢true}
-use Rattle.std.proofs.lemmas.Option.{none-some, same_Some}
-use Rattle.ledger_model.specs.Ledger.{Ledger}
+use Rattle.std.proofs.lemmas.Option.{none-some}
 use Rattle.ledger_model.specs.RunTests.{any_free, any_not_sent}
 use Rattle.machine_model.specs.Calling.MemoryCalls.{caller_place, is_bad_range}
 use Rattle.machine_model.specs.Messaging.Messages.{carries_pages, new_message, new_number, with_queued, with_received}
 use Rattle.machine_model.specs.Messaging.Receivers.{receiver}
 use Rattle.machine_model.specs.Messaging.ReturnCalls.{sender_gets as thread_gets}
-use Rattle.machine_model.specs.Messaging.SendCalls.{arrival, arrived, arrival_refusals, is_full_for, is_lend_mut, message_run, named_kind, send_call, send_refusals, send_served, sender_answered, sender_left, sends_lend_mut, sends_pages, sent, sent_pages, sent_place, sent_serial, sent_to, with_sent}
+use Rattle.machine_model.specs.Messaging.SendCalls.{arrival, arrived, is_full_for, is_lend_mut, message_run, named_kind, send_call, sender_answered, sender_left, sent, sent_pages, sent_place, sent_serial, sent_to, with_sent}
 use Rattle.machine_model.specs.State.Changes.{Change, Outcome, Refused, Retried, Served, answering, unless_refused, unless_retried}
 use Rattle.machine_model.specs.State.Machine.{Machine, Server}
 use Rattle.machine_model.specs.State.Servers.{change_server, is_full, server_at}

@@ -1,6 +1,6 @@
 -- An accepted send over the parts: what it leaves is what comes of it in the machine.
-use Rattle.std.proofs.Common.{◌≡◌, ℕ, ◌+◌, ◌<◌, Bool, true, false, List, [], ◌∷◌, ◌++◌, length, map, Option, Some, None, refl, sym, ap, subst, ◌∙◌}
-use Rattle.std.specs.Prelude.{◌==◌, nat_eq, unwrap_or, if◌then◌else◌}
+use Rattle.std.proofs.Common.{◌≡◌, ℕ, ◌+◌, Bool, true, false, List, [], ◌∷◌, ◌++◌, length, map, Option, Some, None, refl, sym, ap, subst, ◌∙◌}
+use Rattle.std.specs.Prelude.{nat_eq, unwrap_or, if◌then◌else◌}
 use Rattle.std.specs.Option.{option_and_then, option_map, option_map_or}
 use Rattle.ledger_model.specs.Ledger.{Ledger}
 use Rattle.machine_model.specs.Messaging.Messages.{new_message}
@@ -9,10 +9,10 @@ use Rattle.machine_model.specs.Messaging.ReturnCalls.{sender_gets as thread_gets
 use Rattle.machine_model.specs.Messaging.SendCalls.{sender_answered, sender_left, sent, sent_ledger, sent_pages, sent_place, sent_serial}
 use Rattle.machine_model.specs.State.Changes.{Outcome, Served, answering, replies}
 use Rattle.machine_model.specs.State.Connections.{own_connections}
-use Rattle.machine_model.specs.State.Machine.{Machine, Server, Waiting}
-use Rattle.machine_model.specs.State.Servers.{change_server, server_at, slots_used}
+use Rattle.machine_model.specs.State.Machine.{Machine, Server}
+use Rattle.machine_model.specs.State.Servers.{change_server, server_at}
 use Rattle.machine_model.specs.State.Threads.{both_answers, passed}
-use Rattle.msg_queue.specs.Seats.{Seat, changed_at, message_of, seat_of, used_of, with_held}
+use Rattle.msg_queue.specs.Seats.{Seat, changed_at, message_of, seat_of}
 use Rattle.msg_queue.specs.declared.held.Held.{Held}
 use Rattle.process_table.specs.ProcessMap.{connections_of}
 use Rattle.process_table.specs.ProcessesOf.{processes_of}

@@ -1,7 +1,7 @@
 -- The rows of SendMessage and TrySendMessage by their words. TrySendMessage is SendMessage, but for a server that is full.
 use Rattle.std.proofs.Common.{◌≡◌, ℕ, ◌+◌, Bool, true, false, List, [], ◌∷◌, ◌++◌, refl, sym, ap, subst, ◌∙◌}
 use Rattle.std.specs.Prelude.{◌==◌, ◌||◌, ◌&&◌, is_none, if◌then◌else◌}
-use Rattle.std.proofs.lemmas.Bool.{eqb-true, false≢true}
+use Rattle.std.proofs.lemmas.Bool.{eqb-true}
 use Rattle.machine_model.specs.Calling.Calls.{call_at, call_table}
 use Rattle.machine_model.specs.Calling.MemoryCalls.{caller_place, is_bad_range}
 use Rattle.machine_model.specs.Messaging.SendCalls.{arrival, is_full_for, named_kind, send_call, send_served, sends_lend_mut, sends_pages, sent_pages, try_send_call}

@@ -47,7 +47,6 @@ struct Asked {
     words: [u32; 4],
 }
 
-
 /// A thread sends a message to the live server that its connection leads to. It is refused as
 /// `ServerNotFound` where there is none, as `InvalidSyscall` where the kind is unknown, and for pages
 /// that may not go or for which no run is free at the receiver; the server is full where those tests
@@ -189,13 +188,7 @@ fn kind_of(number: u32) -> Option<MsgKind>
 }
 
 // The message of a send, whose first page at the receiver is this one.
-fn new_message(
-    asked: &Asked,
-    number: Number,
-    who: ThreadId,
-    kind: MsgKind,
-    first: Vpn,
-) -> Message
+fn new_message(asked: &Asked, number: Number, who: ThreadId, kind: MsgKind, first: Vpn) -> Message
     requires { has_pages kind ≡ true → first.0 < 2 ^ 20 }
     ensures { (m : Machine) → m.cursor ≡ who → m.next_number ≡ number.0 → result ≡ new_message m kind (asked_words asked.now) first }
 {

@@ -1,6 +1,5 @@
 use Rattle.std.proofs.Common.{◌≡◌, true, false, sym, ap, subst, ◌∙◌}
 use Rattle.std.specs.Prelude.{IfSome}
-use Rattle.thread_table.specs.ThreadsOf.{process_count}
 use Rattle.xk_base.specs.Tables.Circle.{is_thread_id, same_thread}
 use Rattle.send_path.proofs.ArriveLemmas.{receiver_fits}
 use Rattle.send_path.proofs.ThreadLemmas.{ready_id}

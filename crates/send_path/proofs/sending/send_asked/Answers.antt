@@ -1,7 +1,7 @@
-use Rattle.std.proofs.Common.{◌≡◌, ◌+◌, ◌/◌, Option, Some, None, refl, sym, ap, subst, ◌∙◌}
-use Rattle.std.specs.Prelude.{IfSome, slice_index_or}
+use Rattle.std.proofs.Common.{◌+◌, ◌/◌, refl, sym, ap, subst, ◌∙◌}
+use Rattle.std.specs.Prelude.{slice_index_or}
 use Rattle.boot_plan.specs.Capacity.{capacity}
-use Rattle.ledger_model.specs.Loans.{LoanRun, Stands, loans}
+use Rattle.ledger_model.specs.Loans.{Stands, loans}
 use Rattle.machine_model.specs.Messaging.SendCalls.{send_call, sent_ledger}
 use Rattle.machine_model.specs.State.Changes.{replies}
 use Rattle.machine_model.specs.State.Threads.{passed}
@@ -10,20 +10,18 @@ use Rattle.server_table.specs.ServersOf.{servers_of}
 use Rattle.thread_table.specs.ThreadMap.{receiver}
 use Rattle.thread_table.specs.ThreadsOf.{process_count, threads_of}
 use Rattle.vm_memory.specs.Memory.{Size, ledger, processes}
-use Rattle.xk_base.specs.Numbers.Windows.{page_of}
-use Rattle.xk_base.specs.declared.ids.Number.{Number}
 use Rattle.xk_base.specs.declared.ids.Place.{Place}
 use Rattle.xk_base.specs.declared.errors.XousError.TheVariants.{InvalidSyscall, MemoryInUse, ServerNotFound}
 use Rattle.send_path.specs.Arrivals.{arrival_answers, waiting_if}
 use Rattle.send_path.specs.Parts.{parts_of, threads_shown}
 use Rattle.send_path.specs.Rows.{log_with}
 use Rattle.send_path.specs.Sending.{MayGo, asked_words, with_next}
-use Rattle.send_path.specs.Sound.{AreLoansSound, AreSeatsSound, IsLoanOf}
+use Rattle.send_path.specs.Sound.{AreLoansSound, AreSeatsSound}
 use Rattle.send_path.specs.Threads.{answered, changed_thread}
 use Rattle.send_path.proofs.MatchedSendLemmas.{caller_bounds, caller_in_mem, rest, sent_matched}
 use Rattle.send_path.proofs.SendLemmas.{first_low, full_row, held_loan, may_go, no_kind_row, no_run_row, no_server_row, other_error, pages_error, pages_row, room_left, run_row, to_bounds, to_in_mem, to_receivers, to_seat}
 use Rattle.send_path.proofs.SentLemmas.{at_send, message_at, sent_row}
-use Rattle.send_path.proofs.SentSoundLemmas.{arrived_loans, arrived_seats, loan_made, made_if_lend, made_is, others_stand_after}
+use Rattle.send_path.proofs.SentSoundLemmas.{arrived_loans, arrived_seats, made_if_lend, others_stand_after}
 use Rattle.send_path.proofs.sending.send_asked.Goals as goal
 
 pub connected_server-requires : goal.connected_server-requires
