@@ -1,4 +1,7 @@
 pub mod ArriveLemmas
+pub mod ForwardLemmas
+pub mod ForwardSeatLemmas
+pub mod ForwardSoundLemmas
 pub mod HeldListLemmas
 pub mod HolderLemmas
 pub mod MachineLemmas

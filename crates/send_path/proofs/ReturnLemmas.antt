@@ -184,8 +184,11 @@ module _ {W : Type 0} (slot_count : W → ℕ) (held : W → HeldBytes) (who : T
     place : (j : ℕ) × (d : Message) × (j < length server.held) × (get_or server.held j d ≡ at.message) × (of_it at.message ≡ true)
     place = found_at of_it server.held at.message found
 
+    pub message_number : at.message.number ≡ number
+    message_number = λ i. record { 0 = eqb-true at.message.number.0 number.0 place.4 i }
+
     its_number : (get_or server.held place.0 place.1).number ≡ number
-    its_number = ap (λ (y : Message). y.number) place.3 ∙ (λ i. record { 0 = eqb-true at.message.number.0 number.0 place.4 i })
+    its_number = ap (λ (y : Message). y.number) place.3 ∙ message_number
 
     -- its sender is another thread
     pub sender_fits : (o : Option ThreadId) → at.message.sender ≡ o
@@ -354,9 +357,7 @@ module _ {W : Type 0} (slot_count : W → ℕ) (held : W → HeldBytes) (who : T
         ∙ ap (λ (x : Message). is_lend x.kind) shown.message
 
     pub loan_number : (run : LoanRun) → shown.held.loan ≡ Some run → run.number ≡ number
-    loan_number run e =
-        (its_loan run e).number ∙ ap (λ (x : Message). x.number) shown.message
-        ∙ (λ i. record { 0 = eqb-true at.message.number.0 number.0 place.4 i })
+    loan_number run e = (its_loan run e).number ∙ ap (λ (x : Message). x.number) shown.message ∙ message_number
 
     -- ---- matched still
 

@@ -1,4 +1,5 @@
 pub mod Arrivals
+pub mod Forwarding
 pub mod Parts
 pub mod Rows
 pub mod Seats

@@ -2,6 +2,7 @@
 #![tactic(auto)]
 
 mod carrying;
+mod forwarding;
 mod holding;
 mod pages;
 mod receiving;
@@ -10,6 +11,7 @@ mod seats;
 mod sending;
 mod threads;
 
+pub use forwarding::forward;
 pub use receiving::receive;
 pub use returning::give_back;
 pub use sending::{Sent, send};

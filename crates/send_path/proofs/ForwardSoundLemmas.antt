@@ -1,0 +1,305 @@
+-- What a forward asks of its parts, and what it leaves sound.
+use Rattle.std.proofs.Common.{◌≡◌, ℕ, ◌+◌, ◌<◌, ◌≤◌, Bool, true, false, List, [], ◌∷◌, get_or, length, map, Option, Some, None, refl, sym, ap, subst, ◌∙◌, arith}
+use Rattle.std.specs.Prelude.{◌≢◌, ◌==◌, ◌↔◌, IsTrue, is_some}
+use Rattle.std.specs.Option.{option_map}
+use Rattle.std.proofs.lemmas.Bool.{and_parts, eq-eqb, eqb-true, false≢true}
+use Rattle.std.proofs.lemmas.Option.{none-some, same_Some}
+use Rattle.ledger_model.proofs.Loans.OfNumberLemmas.{stands_still}
+use Rattle.ledger_model.proofs.Runs.LeastRunLemmas.{least_run-Some}
+use Rattle.ledger_model.proofs.Stepping.PassingLemmas.{pass_other}
+use Rattle.ledger_model.specs.Ledger.{Ledger}
+use Rattle.ledger_model.specs.LeastRun.{IsLeastRun, least_run}
+use Rattle.ledger_model.specs.Loans.{LoanRun, Stands, loans, same_number, with_holder}
+use Rattle.ledger_model.specs.Steps.{pass}
+use Rattle.machine_laws.proofs.Calling.AnsweredCallLemmas.{Keeps}
+use Rattle.machine_laws.proofs.Forwarding.ForwardCallLemmas.{forward_keeps}
+use Rattle.machine_laws.proofs.Messaging.MessageRunLemmas.{run_free, run_lies}
+use Rattle.machine_laws.proofs.Returning.GivenBackLemmas.{found_at}
+use Rattle.machine_model.proofs.Matching.CountLemmas.{all_right}
+use Rattle.machine_model.specs.Messaging.ForwardCalls.{forward_call, with_first}
+use Rattle.machine_model.specs.Messaging.Messages.{is_lend, is_of_number, loan_kind}
+use Rattle.machine_model.specs.Runs.Matched.{IsLendMatched, IsMessageLent, IsServerAwaited, Matched, is_living}
+use Rattle.machine_model.specs.State.Machine.{Machine, Receiving, Server, Thread}
+use Rattle.machine_model.specs.State.Order.{ready_at}
+use Rattle.msg_queue.specs.Seats.{Seat, changed_at, message_of, seat_of, used_of, without_held}
+use Rattle.msg_queue.specs.declared.held.Held.{Held}
+use Rattle.process_table.specs.ProcessMap.{connections_of}
+use Rattle.process_table.specs.ProcessesOf.{process_count as made_for, processes_of}
+use Rattle.process_table.specs.declared.table.Processes.{Processes}
+use Rattle.server_table.proofs.Lemmas.{seats_differ}
+use Rattle.server_table.specs.ServersOf.{servers_of}
+use Rattle.sv32_space.specs.Tie.{Held as HeldBytes}
+use Rattle.thread_table.specs.States.{is_receiving_state}
+use Rattle.thread_table.specs.ThreadMap.{is_ready as is_table_ready, is_receiving as is_table_receiving}
+use Rattle.thread_table.specs.ThreadsOf.{process_count, threads_of}
+use Rattle.thread_table.specs.declared.thread.Thread.{Thread as TableThread}
+use Rattle.thread_table.specs.declared.thread.ThreadState.{ThreadState as TableState}
+use Rattle.thread_table.specs.declared.thread.ThreadState.TheVariants as table
+use Rattle.vm_memory.specs.Loaning.Sending.{IsFreeArrival}
+use Rattle.vm_memory.specs.Memory.{ledger, processes}
+use Rattle.xk_base.proofs.CircleLemmas.{is_pid-bounds}
+use Rattle.xk_base.specs.Tables.Circle.{IsPid, is_pid, is_tid}
+use Rattle.xk_base.specs.declared.ids.Number.{Number}
+use Rattle.xk_base.specs.declared.ids.Place.{Place}
+use Rattle.xk_base.specs.declared.ids.Serial.{Serial}
+use Rattle.xk_base.specs.declared.ids.ThreadId.{ThreadId}
+use Rattle.xk_base.specs.declared.ids.Vpn.{Vpn}
+use Rattle.xk_base.specs.declared.limits.TheConstants.{MESSAGE_LIMIT, SERVER_LIMIT}
+use Rattle.xk_base.specs.declared.messages.Message.{Message}
+use Rattle.xk_base.specs.declared.pages.LoanKind.{LoanKind}
+use Rattle.xk_base.specs.declared.windows.Window.TheVariants.{Message as MessageWindow}
+use Rattle.send_path.specs.Arrivals.{IsReached, with_arrived}
+use Rattle.send_path.specs.Forwarding.{forward_row, with_all, with_processes}
+use Rattle.send_path.specs.Parts.{Parts, server_with, thread_of, with_parts, with_tables}
+use Rattle.send_path.specs.Rows.{IsServed}
+use Rattle.send_path.specs.Seats.{HasLoanIfLend, IsHeldAt, IsSeatOf}
+use Rattle.send_path.specs.Sound.{AreLoansSound, AreSeatsSound, IsLenderOf, IsLoanOf, IsSound, IsSoundOver}
+use Rattle.send_path.specs.declared.holding.HeldAt.{HeldAt}
+use Rattle.send_path.specs.declared.seats.Reached.{Reached}
+use Rattle.send_path.proofs.ForwardLemmas.{goes_on}
+use Rattle.send_path.proofs.ForwardSeatLemmas.{loans_arrived, seats_arrived}
+use Rattle.send_path.proofs.HeldListLemmas.{find_shown}
+use Rattle.send_path.proofs.ReturnLemmas.{has_loan, its_loan, loan_number, loans_left, message_number, seats_left, shown}
+use Rattle.send_path.proofs.SeatLemmas.{seat_in_limit, seat_other, seats_counted, server_there}
+use Rattle.send_path.proofs.ThreadLemmas.{ready_id, ready_there}
+
+-- the loan of another number stands when this one is passed on
+passed_stand : (l : Ledger) (number : Number) (from to : Place) (run : LoanRun) → same_number run.number number ≡ false → Stands (loans l) run
+    → Stands (loans (pass number from to l)) run
+passed_stand l number from to run other h =
+    stands_still (loans l) (loans (pass number from to l)) run
+    (pass_other number run.number from to l (λ same. false≢true (sym other ∙ eq-eqb run.number.0 number.0 (ap (λ (n : Number). n.0) same)))) h
+
+-- a run that stands in the one ledger stands as it is called in the other
+pub stood_on : {l m : Ledger} {r q : LoanRun} → l ≡ m → r ≡ q → Stands (loans l) r → Stands (loans m) q
+stood_on {l} {m} {r} {q} e f h = subst (λ k. Stands (loans k) q) e (subst (Stands (loans l)) f h)
+
+-- not all slots are in use
+pub has_room_left : (full : Bool) (used : ℕ) → IsTrue full ↔ (used ≡ MESSAGE_LIMIT) → used ≤ MESSAGE_LIMIT → full ≡ false → used < MESSAGE_LIMIT
+has_room_left full used is most not_full =
+    let apart : used ≢ MESSAGE_LIMIT = λ e. false≢true (sym not_full ∙ is.1 e) in
+    omega arith
+
+is_there : {A : Type 0} (o : Option A) (a : A) → o ≡ Some a → is_some o ≡ true
+is_there o a e = ap is_some e
+
+-- ---- matched still
+
+module _ {W : Type 0} (slot_count : W → ℕ) (held : W → HeldBytes) (who : ThreadId) (procs : Processes) (old : Parts W)
+    (sound : IsSoundOver slot_count held who procs old) (ready : is_table_ready (threads_of old.tables.threads who) ≡ true)
+    (number : Number) (cid : ℕ) where
+  abbrev m0 : Machine
+  m0 = sound.sound.machine
+
+  -- the caller's process is one of the table
+  pub caller_pid : IsPid (made_for procs) who.pid.0
+  caller_pid =
+      let n : ℕ = process_count old.tables.threads in
+      let parts : (is_pid n who.pid.0 ≡ true) × (is_tid who.tid.0 ≡ true) = and_parts (is_pid n who.pid.0) (is_tid who.tid.0) (ready_id old.tables.threads who ready) in
+      subst (λ k. IsPid k who.pid.0) (sym sound.count) (is_pid-bounds n who.pid.0 parts.0)
+
+  matched_over : Matched (with_all held who procs old m0)
+  matched_over = subst Matched (λ i. with_parts held who old (record m0 { process = sound.same i })) sound.sound.matched
+
+  forward_row_keeps : Keeps (with_all held who procs old m0) (forward_row number cid (with_all held who procs old m0))
+  unfolding forward_call with_parts with_tables
+  forward_row_keeps =
+      forward_keeps (with_all held who procs old m0) (0 ∷ number.0 ∷ cid ∷ []) matched_over (ready_there (threads_of old.tables.threads who) ready)
+
+  pub still_matched : (new : Parts W)
+      → IsServed (forward_row number cid (with_all held who procs old m0)) (with_all held who procs old m0) (with_all held who procs new m0) old.tables.log new.tables.log
+      → Matched (with_parts held who new (record (with_processes procs m0) { steps = m0.steps + 1 }))
+  unfolding with_parts with_tables
+  still_matched new served = subst (λ (x : Machine). Matched (record x { steps = m0.steps + 1 })) (sym served.machine) forward_row_keeps
+
+-- ---- the message and the two servers
+
+module _ {W : Type 0} (slot_count : W → ℕ) (held : W → HeldBytes) (procs : Processes) (who : ThreadId) (old : Parts W)
+    (sound : IsSound slot_count held who old) (ready : is_table_ready (threads_of old.tables.threads who) ≡ true) (number : Number)
+    (at : HeldAt) (its : IsHeldAt who.pid number (servers_of old.tables.servers) old.tables.queues at) (can : goes_on at.message ≡ true)
+    (cid : ℕ) (to : Reached) (there : IsReached (connections_of (processes_of procs who.pid.0)) cid (servers_of old.tables.servers) to) where
+  abbrev seats : List Seat
+  seats = old.tables.queues
+
+  abbrev all : Machine
+  all = with_parts held who old sound.machine
+
+  abbrev x : Message
+  x = at.message
+
+  abbrev a : Server
+  a = server_with (seat_of seats at.seat) its.seat.server
+
+  abbrev b : Server
+  b = server_with (seat_of seats to.seat) there.seat.server
+
+  from_live : all.servers at.serial.0 ≡ Some a
+  unfolding with_parts with_tables
+  from_live = server_there old.tables.servers seats at.serial.0 at.seat its.seat sound.seats.all
+
+  to_live : all.servers to.serial.0 ≡ Some b
+  unfolding with_parts with_tables
+  to_live = server_there old.tables.servers seats to.serial.0 to.seat there.seat sound.seats.all
+
+  parts : (is_lend x.kind ≡ true) × (is_some x.sender ≡ true)
+  parts = and_parts (is_lend x.kind) (is_some x.sender) can
+
+  -- ---- the other server's process
+
+  lives : is_living all to.pid ≡ true
+  lives = subst (λ pid. is_living all pid ≡ true) there.own (sound.matched.body.servers.living to.serial.0 b to_live)
+
+  pub has_pid : is_pid (processes old.mem) to.pid.0 ≡ true
+  unfolding with_parts with_tables
+  has_pid = subst (λ n. is_pid n to.pid.0 ≡ true) sound.processes (sound.matched.body.processes.pids to.pid lives)
+
+  pub has_thread_pid : IsPid (process_count old.tables.threads) to.pid.0
+  unfolding with_parts with_tables
+  has_thread_pid = is_pid-bounds (process_count old.tables.threads) to.pid.0 (sound.matched.body.processes.pids to.pid lives)
+
+  -- who is Receiving there is of that process
+  pub receivers_own : (id : ThreadId) → is_table_receiving to.serial (threads_of old.tables.threads id) ≡ true → id.pid.0 ≡ to.pid.0
+  unfolding with_parts with_tables
+  receivers_own id e = by_thread (threads_of old.tables.threads id) refl e
+    where
+      by_server : (other : Serial) → (other.0 == to.serial.0) ≡ true → IsServerAwaited all.servers id.pid other → id.pid.0 ≡ to.pid.0
+      by_server other same awaited =
+          let is : awaited.server ≡ b = same_Some awaited.server b (sym awaited.live ∙ ap all.servers (eqb-true other.0 to.serial.0 same) ∙ to_live) in
+          ap (λ p. p.0) (sym awaited.own ∙ ap (λ (s : Server). s.pid) is ∙ there.own)
+
+      by_state : (t : TableThread) → threads_of old.tables.threads id ≡ Some t → (s : TableState) → t.state ≡ s
+          → is_receiving_state to.serial s ≡ true → id.pid.0 ≡ to.pid.0
+      by_state t f table.Ready g q = absurd (false≢true q)
+      by_state t f (table.Receiving other) g q =
+          by_server other q (sound.matched.body.receivers id (thread_of t) other (ap (option_map thread_of) f)
+          (ap (λ s. (thread_of (record t { state = s })).state) g))
+      by_state t f (table.Waiting other) g q = absurd (false≢true q)
+      by_state t f (table.Joining tid) g q = absurd (false≢true q)
+      by_state t f table.Idle g q = absurd (false≢true q)
+
+      by_thread : (o : Option TableThread) → threads_of old.tables.threads id ≡ o → is_table_receiving to.serial o ≡ true → id.pid.0 ≡ to.pid.0
+      by_thread None f q = absurd (false≢true q)
+      by_thread (Some t) f q = by_state t f t.state refl q
+
+  -- ---- the pages
+
+  pub has_pages : 1 ≤ x.count
+  has_pages = by_kind (loan_kind x.kind) refl parts.0
+    where
+      place : (j : ℕ) × (d : Message) × (j < length a.held) × (get_or a.held j d ≡ x) × (is_of_number number x ≡ true)
+      place = found_at (is_of_number number) a.held x (find_shown (is_of_number number) (seat_of seats at.seat).held ∙ its.message)
+
+      lent : IsMessageLent (loans all.ledger) a (get_or a.held place.0 place.1)
+      lent = all_right (IsMessageLent (loans all.ledger) a) a.queued a.held (sound.matched.body.loans.lends at.serial.0 a from_live) place.0 place.1 place.2
+
+      by_kind : (o : Option LoanKind) → loan_kind x.kind ≡ o → is_some o ≡ true → 1 ≤ x.count
+      by_kind None e q = absurd (false≢true q)
+      by_kind (Some kind) e q =
+          subst (λ (z : Message). 1 ≤ z.count) place.3 (lent kind (ap (λ (z : Message). loan_kind z.kind) place.3 ∙ e)).count
+
+  pub free_arrival : (first : Vpn) → least_run (processes old.mem) (ledger held old.mem) to.pid MessageWindow x.count ≡ Some first
+      → IsFreeArrival (processes old.mem) (ledger held old.mem) (record { pid = to.pid; vpn = first }) x.count
+  unfolding with_parts with_tables
+  free_arrival first run =
+      subst (λ n. least_run n (ledger held old.mem) to.pid MessageWindow x.count ≡ Some first
+      → IsFreeArrival n (ledger held old.mem) (record { pid = to.pid; vpn = first }) x.count) sound.processes
+      (λ found. record {
+        free = run_free all sound.matched to.pid lives x.count first found;
+        lies = run_lies all sound.matched to.pid lives x.count first found;
+      }) run
+
+  pub first_low : (first : Vpn) → least_run (processes old.mem) (ledger held old.mem) to.pid MessageWindow x.count ≡ Some first → first.0 < 1048576
+  first_low first run =
+      let found : IsLeastRun (processes old.mem) (ledger held old.mem) to.pid MessageWindow x.count first =
+      least_run-Some (processes old.mem) (ledger held old.mem) to.pid MessageWindow x.count first run in
+      let high : first.0 + x.count ≤ 266240 = found.high in
+      omega arith
+
+  -- ---- the loan
+
+  module _ (run : LoanRun) (is : (shown slot_count held who old sound ready number at its).held.loan ≡ Some run) where
+    loan : IsLoanOf (loans (ledger held old.mem)) its.seat.server.pid x run
+    loan =
+        subst (λ message. IsLoanOf (loans (ledger held old.mem)) its.seat.server.pid message run)
+        (shown slot_count held who old sound ready number at its).message
+        (its_loan slot_count held who old sound ready number at its run is)
+
+    pub its_run_stands : Stands (loans (ledger held old.mem)) run
+    its_run_stands = loan.stands
+
+    pub its_count : run.count ≡ x.count
+    its_count = loan.count
+
+    pub has_lender : is_some run.lender ≡ true
+    has_lender = go x.sender parts.1 loan.lender
+      where
+        go : (o : Option ThreadId) → is_some o ≡ true → IsLenderOf o run.lender → is_some run.lender ≡ true
+        go None q e = absurd (false≢true q)
+        go (Some sender) q e = is_there run.lender e.0 e.1
+
+    -- its step of the ledger is that of the row
+    pub pass_is : (first : Vpn) → pass run.number run.holder (record { pid = to.pid; vpn = first }) (ledger held old.mem)
+        ≡ pass number (record { pid = who.pid; vpn = x.first }) (record { pid = to.pid; vpn = first }) (ledger held old.mem)
+    pass_is first =
+        let own : its.seat.server.pid ≡ who.pid = λ i. record { 0 = its.own i } in
+        λ i. pass (loan_number slot_count held who old sound ready number at its run is i)
+        ((loan.first ∙ (λ j. record { pid = own j; vpn = x.first })) i) (record { pid = to.pid; vpn = first }) (ledger held old.mem)
+
+    -- ---- what is sound afterwards
+
+    module _ (apart : (to.serial.0 == at.serial.0) ≡ false) where
+      seats_apart : to.seat ≢ at.seat
+      seats_apart same =
+          false≢true (sym apart
+          ∙ eq-eqb to.serial.0 at.serial.0
+          (seats_differ old.tables.servers to.serial.0 at.serial.0 there.seat.server its.seat.server there.seat.live its.seat.live
+          (there.seat.its ∙ same ∙ sym its.seat.its)))
+
+      abbrev between : List Seat
+      between = changed_at at.seat (without_held number) seats
+
+      counted : length between ≡ SERVER_LIMIT
+      counted = seats_counted seats at.seat (without_held number) ∙ sound.seats.all
+
+      pub seat_low : to.seat < SERVER_LIMIT
+      seat_low = seat_in_limit old.tables.servers seats to.serial.0 to.seat there.seat sound.seats.all
+
+      pub has_room : used_of (seat_of seats to.seat) < MESSAGE_LIMIT → used_of (seat_of between to.seat) < MESSAGE_LIMIT
+      has_room room =
+          subst (λ seat. used_of seat < MESSAGE_LIMIT) (sym (seat_other seats at.seat to.seat (without_held number) seats_apart)) room
+
+      module _ (first : Vpn) (h : Held) (message : h.msg ≡ with_first first x)
+          (lent : h.loan ≡ Some (with_holder (record { pid = to.pid; vpn = first }) run)) (got : Option ThreadId) where
+        abbrev place : Place
+        place = record { pid = to.pid; vpn = first }
+
+        abbrev after : Ledger
+        after = pass number (record { pid = who.pid; vpn = x.first }) place (ledger held old.mem)
+
+        pub has_loan_on : HasLoanIfLend h
+        has_loan_on = ap is_some lent ∙ sym parts.0 ∙ ap (λ (z : Message). is_lend z.kind) (sym message)
+
+        pub seats_on : AreSeatsSound (servers_of old.tables.servers) (changed_at to.seat (with_arrived got h) between)
+        seats_on =
+            seats_arrived old.tables.servers between to.serial.0 to.seat there.seat got h has_loan_on
+            (seats_left slot_count held who old sound ready number at its)
+
+        its_loan_on : Stands (loans after) (with_holder place run) → IsLoanOf (loans after) there.seat.server.pid (with_first first x) (with_holder place run)
+        its_loan_on stands = record {
+          stands = stands;
+          number = loan.number;
+          kind = loan.kind;
+          first = λ i. record { pid = sym there.own i; vpn = first };
+          count = loan.count;
+          lender = loan.lender;
+        }
+
+        pub loans_on : Stands (loans after) (with_holder place run)
+            → AreLoansSound (loans after) (servers_of old.tables.servers) (changed_at to.seat (with_arrived got h) between)
+        loans_on stands =
+            loans_arrived old.tables.servers between to.serial.0 to.seat there.seat counted (loans after)
+            (loans_left slot_count held who old sound ready number at its after
+            (passed_stand (ledger held old.mem) number (record { pid = who.pid; vpn = x.first }) place))
+            got h
+            (λ other e. subst (IsLoanOf (loans after) there.seat.server.pid h.msg) (same_Some (with_holder place run) other (sym lent ∙ e))
+            (subst (λ z. IsLoanOf (loans after) there.seat.server.pid z (with_holder place run)) (sym message) (its_loan_on stands)))
