@@ -1,9 +1,9 @@
 -- Servers that close one after another.
-use Rattle.std.proofs.Common.{◌≡◌, ℕ, zero, suc, ◌+◌, ◌<◌, ◌≤◌, Bool, true, false, List, inl, inr, Option, Some, None, refl, sym, ap, subst, ◌∙◌, arith}
-use Rattle.std.specs.Prelude.{◌≢◌, ◌==◌, ◌||◌, ◌&&◌, IsSome, if◌then◌else◌, is_none, is_some, nat_eq}
+use Rattle.std.proofs.Common.{◌≡◌, ℕ, ◌+◌, ◌<◌, Bool, true, false, List, Option, Some, None, refl, sym, ap, subst, ◌∙◌, arith}
+use Rattle.std.specs.Prelude.{◌≢◌, ◌==◌, ◌||◌, ◌&&◌, IsSome, if◌then◌else◌, is_none, is_some}
 use Rattle.std.specs.List.{list_any}
 use Rattle.std.specs.Option.{option_map, option_or}
-use Rattle.std.proofs.lemmas.Bool.{cases_lt, eq-eqb, eqb-true, false≢true}
+use Rattle.std.proofs.lemmas.Bool.{eq-eqb, eqb-true, false≢true}
 use Rattle.std.proofs.lemmas.Option.{none-some, same_Some}
 use Rattle.machine_laws.proofs.Messaging.AnyServerLemmas.{no_server}
 use Rattle.machine_model.proofs.Ending.CloseManyLemmas.{one_more_closes, one_more_is_told}
@@ -15,7 +15,7 @@ use Rattle.machine_model.specs.State.Machine.{Machine, Server}
 use Rattle.machine_model.specs.State.Servers.{is_server_of, messages_of}
 use Rattle.msg_queue.specs.Seats.{Seat}
 use Rattle.send_path.proofs.MachineLemmas.{same_owner_test}
-use Rattle.send_path.specs.Parts.{server_of, servers_shown}
+use Rattle.send_path.specs.Parts.{servers_shown}
 use Rattle.server_table.proofs.Lemmas.{live_below}
 use Rattle.server_table.specs.ServersOf.{servers_of}
 use Rattle.server_table.specs.ServerState.{Server as TableServer, is_of, least_of}
@@ -23,7 +23,6 @@ use Rattle.server_table.specs.declared.table.Servers.{Servers}
 use Rattle.xk_base.proofs.CountingLemmas.{count_below-one, least_below-none, least_below-passes}
 use Rattle.xk_base.specs.Tables.Counting.{count_below, least_below}
 use Rattle.xk_base.specs.Tables.Sids.{serial_of}
-use Rattle.xk_base.specs.declared.errors.XousError.TheVariants.{ServerNotFound}
 use Rattle.xk_base.specs.declared.ids.Number.{Number}
 use Rattle.xk_base.specs.declared.ids.Pid.{Pid}
 use Rattle.xk_base.specs.declared.ids.Serial.{Serial}

@@ -1,11 +1,10 @@
 -- The end of a server by its row, and what it leaves sound.
-use Rattle.std.proofs.Common.{◌≡◌, ℕ, ◌+◌, ◌<◌, ◌≤◌, Bool, true, false, List, get_or, length, Option, Some, None, refl, sym, ap, subst, ◌∙◌}
+use Rattle.std.proofs.Common.{◌≡◌, ℕ, ◌+◌, ◌<◌, Bool, true, false, get_or, length, Option, Some, None, refl, sym, ap, subst, ◌∙◌}
 use Rattle.std.specs.Prelude.{◌==◌, ◌||◌, ◌&&◌, IsSome, if◌then◌else◌}
 use Rattle.std.specs.List.{list_any}
 use Rattle.std.specs.Option.{option_map, option_map_or, option_or}
 use Rattle.std.proofs.lemmas.Bool.{and_parts, eq-eqb, eqb-true, false≢true}
-use Rattle.std.proofs.lemmas.Option.{none-some, same_Some}
-use Rattle.ledger_model.specs.Ledger.{Ledger}
+use Rattle.std.proofs.lemmas.Option.{same_Some}
 use Rattle.ledger_model.specs.Loans.{loans}
 use Rattle.machine_laws.proofs.Messaging.ListedLemmas.{PassingServer, listed_at, passing_server}
 use Rattle.machine_laws.proofs.Serving.DestroyCallLemmas.{destroyed_keeps}
@@ -17,30 +16,28 @@ use Rattle.machine_model.specs.Messaging.Messages.{is_sent_by}
 use Rattle.machine_model.specs.Messaging.Receivers.{is_receiving as is_machine_receiving, receiving_at}
 use Rattle.machine_model.specs.Runs.Matched.{IsServerAwaited, Matched}
 use Rattle.machine_model.specs.State.Changes.{Served, answering, replies}
-use Rattle.machine_model.specs.State.Machine.{Machine, Server, Thread, Receiving}
+use Rattle.machine_model.specs.State.Machine.{Machine, Server, Thread}
 use Rattle.machine_model.specs.State.Order.{ready_at}
 use Rattle.machine_model.specs.State.Servers.{messages_of}
 use Rattle.machine_model.specs.State.Threads.{Answers, answer_to, both_answers, passed}
-use Rattle.msg_queue.specs.Seats.{Seat, seat_of}
+use Rattle.msg_queue.specs.Seats.{seat_of}
 use Rattle.send_path.proofs.RowLemmas.{served_so}
 use Rattle.send_path.proofs.ThreadLemmas.{ready_id, ready_there}
 use Rattle.send_path.specs.Parts.{Parts, server_of, server_with, servers_shown, state_of, thread_of, threads_shown, with_parts, with_tables}
 use Rattle.send_path.specs.Rows.{IsServed, log_with}
-use Rattle.send_path.specs.Sound.{IsSound, KeepsMemory}
+use Rattle.send_path.specs.Sound.{IsSound}
 use Rattle.send_path.specs.Threads.{answered, changed_thread}
 use Rattle.server_table.specs.ServersOf.{servers_of}
 use Rattle.server_table.specs.ServerState.{Server as TableServer}
 use Rattle.sv32_space.specs.Tie.{Held}
-use Rattle.thread_table.proofs.PlaceLemmas.{thread_map_valid}
 use Rattle.thread_table.specs.States.{is_receiving_state}
 use Rattle.thread_table.specs.ThreadMap.{is_ready as is_table_ready, is_receiving}
 use Rattle.thread_table.specs.ThreadsOf.{process_count, threads_of}
 use Rattle.thread_table.specs.declared.thread.Thread.{Thread as TableThread}
 use Rattle.thread_table.specs.declared.thread.ThreadState.{ThreadState as TableState}
 use Rattle.thread_table.specs.declared.thread.ThreadState.TheVariants as table
-use Rattle.vm_memory.specs.Memory.{Size, capacity_of, ledger, processes, size}
+use Rattle.vm_memory.specs.Memory.{Size, capacity_of, ledger}
 use Rattle.boot_plan.specs.Capacity.{capacity}
-use Rattle.vm_memory.specs.Sound.{IsSound as IsMemorySound}
 use Rattle.xk_base.specs.Calls.Replies.{plain_words, refused_words}
 use Rattle.xk_base.specs.Tables.Circle.{is_pid, is_thread_id, is_tid, same_thread}
 use Rattle.xk_base.specs.Tables.Counting.{put_at}
@@ -49,10 +46,10 @@ use Rattle.xk_base.specs.declared.ids.Pid.{Pid}
 use Rattle.xk_base.specs.declared.ids.Serial.{Serial}
 use Rattle.xk_base.specs.declared.ids.ThreadId.{ThreadId}
 use Rattle.xk_base.specs.declared.messages.Message.{Message}
-use Rattle.kill_path.specs.Closing.{AreClosed, Closable, with_servers}
+use Rattle.kill_path.specs.Closing.{AreClosed}
 use Rattle.kill_path.specs.Keeping.{Stays}
 use Rattle.kill_path.specs.Open.{AreOpen}
-use Rattle.kill_path.specs.Rows.{destroy_change, destroy_row}
+use Rattle.kill_path.specs.Rows.{destroy_row}
 use Rattle.kill_path.specs.Telling.{is_receiver_of, told_to}
 use Rattle.kill_path.specs.ThreadSets.{ThreadSet, nobody}
 use Rattle.kill_path.proofs.FitLemmas.{few_processes, known_of_all, known_pid_of_all, open_loans}

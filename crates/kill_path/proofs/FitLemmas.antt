@@ -1,10 +1,10 @@
 -- In a matched machine each message's loan is its own, and by the number of a message without one nothing is on loan.
-use Rattle.std.proofs.Common.{◌≡◌, ℕ, ◌+◌, ◌<◌, ◌≤◌, Bool, true, false, List, get_or, length, map, inl, inr, Option, Some, None, refl, sym, ap, subst, ◌∙◌, arith}
-use Rattle.std.specs.Prelude.{◌≢◌, ◌⊎◌, ◌==◌, ◌&&◌, All, IfSome, if◌then◌else◌, is_some, nat_le, nat_lt}
+use Rattle.std.proofs.Common.{◌≡◌, ℕ, ◌+◌, ◌<◌, ◌≤◌, Bool, true, false, List, get_or, length, inl, inr, Option, Some, None, refl, sym, ap, subst, ◌∙◌, arith}
+use Rattle.std.specs.Prelude.{All, IfSome, if◌then◌else◌, is_some, nat_le, nat_lt}
 use Rattle.std.specs.List.{list_any}
 use Rattle.std.specs.Option.{option_map}
 use Rattle.std.proofs.lemmas.Bool.{and_from, and_parts, eqb-true, false≢true, le-leb, lt-ltb}
-use Rattle.std.proofs.lemmas.Option.{none-some, same_Some}
+use Rattle.std.proofs.lemmas.Option.{same_Some}
 use Rattle.ledger_model.specs.Ledger.{PageLoan}
 use Rattle.ledger_model.specs.Loans.{IsFresh, LoanRun, Loans, OrphanLoan, loans, of_number, orphan_of_number, same_number}
 use Rattle.machine_laws.proofs.Messaging.AnyServerLemmas.{messages_apart, number_counted, one_listed, only_at}
@@ -12,17 +12,17 @@ use Rattle.machine_laws.proofs.Messaging.ListedLemmas.{at_listed}
 use Rattle.machine_model.proofs.Matching.CountLemmas.{first_in, none_pass}
 use Rattle.machine_model.proofs.Matching.MatchedLemmas.{senders_known}
 use Rattle.machine_model.proofs.Matching.OneMessageLemmas.{HasServer, one_server, same_or_not}
-use Rattle.machine_model.specs.Messaging.MessageCounts.{HasOne, count_at, count_in}
+use Rattle.machine_model.specs.Messaging.MessageCounts.{HasOne, count_at}
 use Rattle.machine_model.specs.Messaging.Messages.{is_lend, is_lend_of, is_of_number}
 use Rattle.machine_model.specs.Runs.Matched.{Matched}
 use Rattle.machine_model.specs.State.Machine.{Machine, Server}
 use Rattle.machine_model.specs.State.Servers.{messages_of}
-use Rattle.msg_queue.specs.Seats.{Seat, message_of, seat_of}
+use Rattle.msg_queue.specs.Seats.{Seat, seat_of}
 use Rattle.msg_queue.specs.declared.held.Held.{Held}
 use Rattle.send_path.proofs.HeldListLemmas.{of_shown}
 use Rattle.send_path.specs.Parts.{Parts, server_of, server_with, with_parts, with_tables}
-use Rattle.send_path.specs.Seats.{HasLoanIfLend, messages_at}
-use Rattle.send_path.specs.Sound.{AreLoansSound, IsLoanOf, IsSound}
+use Rattle.send_path.specs.Seats.{messages_at}
+use Rattle.send_path.specs.Sound.{AreLoansSound, IsSound}
 use Rattle.server_table.specs.ServersOf.{servers_of}
 use Rattle.server_table.specs.ServerState.{Server as TableServer}
 use Rattle.server_table.specs.declared.table.Servers.{Servers}
@@ -32,12 +32,10 @@ use Rattle.vm_memory.specs.Memory.{ledger}
 use Rattle.xk_base.proofs.CircleLemmas.{is_pid-bounds}
 use Rattle.xk_base.specs.Tables.Circle.{is_pid, is_thread_id, is_tid}
 use Rattle.xk_base.specs.declared.ids.Number.{Number}
-use Rattle.xk_base.specs.declared.ids.Pid.{Pid}
 use Rattle.xk_base.specs.declared.ids.Place.{Place}
 use Rattle.xk_base.specs.declared.ids.ThreadId.{ThreadId}
 use Rattle.xk_base.specs.declared.messages.Message.{Message}
-use Rattle.kill_path.specs.Ending.{HasKnownSender}
-use Rattle.kill_path.specs.Open.{AreOpen, IsLoanFit, IsLoanFitOf}
+use Rattle.kill_path.specs.Open.{AreOpen, IsLoanFitOf}
 use Rattle.kill_path.proofs.OpenLemmas.{messages_shown}
 
 module _ (m : Machine) (h : Matched m) (n : ℕ) (server : Server) (e : m.servers n ≡ Some server) where

@@ -1,6 +1,6 @@
 -- The messages of the other servers stay as they are where one server closes.
-use Rattle.std.proofs.Common.{◌≡◌, ℕ, zero, suc, ◌+◌, ◌<◌, ◌≤◌, Bool, true, false, List, [], ◌∷◌, ◌++◌, get_or, inl, inr, length, map, Option, Some, None, refl, sym, ap, subst, ◌∙◌, arith}
-use Rattle.std.specs.Prelude.{◌≢◌, ◌⊎◌, ◌==◌, ◌||◌, ◌&&◌, All, if◌then◌else◌, nat_eq}
+use Rattle.std.proofs.Common.{◌≡◌, ℕ, zero, suc, ◌<◌, ◌≤◌, Bool, true, false, List, [], ◌∷◌, get_or, inl, inr, length, map, Option, Some, None, refl, sym, ap, subst, ◌∙◌, arith}
+use Rattle.std.specs.Prelude.{◌≢◌, ◌==◌, ◌||◌, ◌&&◌, All, if◌then◌else◌, nat_eq}
 use Rattle.std.specs.List.{list_any}
 use Rattle.std.specs.Option.{option_map}
 use Rattle.std.proofs.lemmas.Bool.{eq-eqb, eqb-true, false≢true}
@@ -11,12 +11,12 @@ use Rattle.ledger_model.proofs.LedgerLemmas.{same_number-true}
 use Rattle.ledger_model.proofs.Loans.OfNumberLemmas.{SameOf, fresh_still, stands_still}
 use Rattle.ledger_model.specs.Ledger.{Ledger, Orphan, Page, PageLoan, loan_of}
 use Rattle.ledger_model.specs.Loans.{LoanRun, Loans, loan_of_orphan, loans, of_number, orphan_of_number, same_number}
-use Rattle.machine_laws.proofs.Messaging.AnyServerLemmas.{AreApart, messages_apart, number_counted, only_at, only_server}
+use Rattle.machine_laws.proofs.Messaging.AnyServerLemmas.{messages_apart, number_counted, only_at, only_server}
 use Rattle.machine_laws.proofs.Messaging.ListedLemmas.{not_counted}
 use Rattle.machine_model.proofs.Matching.OneMessageLemmas.{same_or_not}
 use Rattle.machine_model.specs.Ending.Closing.{any_server}
 use Rattle.machine_model.specs.Messaging.LoanSets.{end_loans, freed_but, loan_but, orphan_but}
-use Rattle.machine_model.specs.Messaging.MessageCounts.{HasAtMostOne, HasOne, count_at, count_in}
+use Rattle.machine_model.specs.Messaging.MessageCounts.{HasAtMostOne, count_at, count_in}
 use Rattle.machine_model.specs.Messaging.Messages.{is_of_number as is_message_of, is_sent_by}
 use Rattle.machine_model.specs.State.Machine.{Machine, Server}
 use Rattle.machine_model.specs.State.Servers.{messages_of}
@@ -25,15 +25,13 @@ use Rattle.msg_queue.specs.declared.held.Held.{Held}
 use Rattle.send_path.proofs.SeatLemmas.{seat_changed, seat_is_there, seat_other, seats_counted, server_there}
 use Rattle.send_path.specs.Parts.{server_of, server_with, servers_shown}
 use Rattle.send_path.specs.Seats.{HasLoanIfLend, HasNoServer, IsSeatOf, messages_at}
-use Rattle.send_path.specs.Sound.{AreSeatsSound, IsLoanOf}
+use Rattle.send_path.specs.Sound.{AreSeatsSound}
 use Rattle.server_table.proofs.Lemmas.{live_below, seats_differ}
 use Rattle.server_table.specs.ServersOf.{servers_of}
 use Rattle.server_table.specs.ServerState.{Server as TableServer, ServerState, without_server}
 use Rattle.server_table.specs.declared.table.Servers.{Servers}
-use Rattle.xk_base.specs.Tables.Counting.{put_at}
 use Rattle.xk_base.specs.declared.ids.Number.{Number}
 use Rattle.xk_base.specs.declared.ids.Pid.{Pid}
-use Rattle.xk_base.specs.declared.ids.Place.{Place}
 use Rattle.xk_base.specs.declared.ids.ThreadId.{ThreadId}
 use Rattle.xk_base.specs.declared.limits.TheConstants.{SERVER_LIMIT}
 use Rattle.xk_base.specs.declared.messages.Message.{Message}

@@ -1,4 +1,4 @@
-use Rattle.std.proofs.Common.{◌==◌, Some, sym, ap, subst, ◌∙◌}
+use Rattle.std.proofs.Common.{◌==◌, Some, ap, subst, ◌∙◌}
 use Rattle.machine_model.specs.State.Changes.{replies}
 use Rattle.send_path.proofs.ThreadLemmas.{ready_id}
 use Rattle.send_path.specs.Rows.{log_with}
