@@ -1,17 +1,16 @@
 -- Messages that end one after another.
 use Rattle.std.proofs.Common.{◌≡◌, ℕ, suc, ◌+◌, ◌<◌, ◌≤◌, Bool, true, false, List, [], ◌∷◌, cond, get_or, length, map, Option, Some, None, refl, sym, ap, subst, ◌∙◌, arith}
-use Rattle.std.specs.Prelude.{◌≢◌, All, ◌||◌, find, if◌then◌else◌, not, slice_get}
+use Rattle.std.specs.Prelude.{◌≢◌, ◌||◌, find, if◌then◌else◌, not, slice_get}
 use Rattle.std.specs.List.{list_any, remove}
 use Rattle.std.specs.Option.{option_map, option_map_or}
 use Rattle.std.proofs.lemmas.Bool.{eq-eqb, eqb-true, false≢true}
 use Rattle.std.proofs.lemmas.List.{get_or-map, length-map}
-use Rattle.std.proofs.lemmas.List.Elements.{All-head, All-tail}
+use Rattle.std.proofs.lemmas.List.Elements.{All-tail}
 use Rattle.std.proofs.lemmas.Option.{none-some, same_Some}
 use Rattle.ledger_model.proofs.Loans.OfNumberLemmas.{SameOf, fresh_still, stands_still}
-use Rattle.ledger_model.proofs.LedgerLemmas.{same_number-false}
 use Rattle.ledger_model.proofs.Stepping.EndingLemmas.{end_loan_other}
-use Rattle.ledger_model.specs.Ledger.{Ledger, Orphan, PageLoan, loan_at}
-use Rattle.ledger_model.specs.Loans.{IsFresh, LoanRun, Loans, Stands, loan_of_orphan, loans, of_number, orphan_of_number, same_number}
+use Rattle.ledger_model.specs.Ledger.{Ledger, Orphan, PageLoan}
+use Rattle.ledger_model.specs.Loans.{IsFresh, LoanRun, Loans, loan_of_orphan, loans, of_number, orphan_of_number, same_number}
 use Rattle.ledger_model.specs.Steps.{end_loan}
 use Rattle.machine_laws.proofs.Messaging.AnyServerLemmas.{number_counted}
 use Rattle.machine_laws.proofs.Returning.NoLoanLemmas.{no_loan_ends}
@@ -26,7 +25,6 @@ use Rattle.send_path.proofs.SeatLemmas.{changed_twice, seat_changed, seats_count
 use Rattle.send_path.specs.Seats.{messages_at}
 use Rattle.xk_base.specs.Tables.Circle.{same_thread}
 use Rattle.xk_base.specs.declared.ids.Number.{Number}
-use Rattle.xk_base.specs.declared.ids.Place.{Place}
 use Rattle.xk_base.specs.declared.ids.ThreadId.{ThreadId}
 use Rattle.xk_base.specs.declared.messages.Message.{Message}
 use Rattle.kill_path.specs.Ending.{AreEndable, HasKnownSender, IsEndable, IsLoanEndable, emptied, is_number_in, with_sender, with_senders, without_first, without_first_of}

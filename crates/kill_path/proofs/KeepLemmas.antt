@@ -1,5 +1,5 @@
 -- What stays of the memory over one call and over two.
-use Rattle.std.proofs.Common.{◌≡◌, Bool, ℕ, refl, ◌∙◌}
+use Rattle.std.proofs.Common.{Bool, ℕ, refl, ◌∙◌}
 use Rattle.send_path.specs.Sound.{KeepsMemory}
 use Rattle.sv32_space.specs.Tie.{Held}
 use Rattle.vm_memory.specs.Loaning.Loans.{KeepsSeats}

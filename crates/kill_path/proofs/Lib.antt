@@ -1,3 +1,9 @@
 pub mod MarkLemmas
 pub mod KeepLemmas
 pub mod EndingLemmas
+pub mod OpenLemmas
+pub mod CloseLemmas
+pub mod TellLemmas
+pub mod ReceivingLemmas
+pub mod FitLemmas
+pub mod DestroyLemmas

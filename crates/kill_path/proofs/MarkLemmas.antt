@@ -1,5 +1,5 @@
 -- Marks of threads, read and written as a set of ids.
-use Rattle.std.proofs.Common.{◌≡◌, ℕ, ◌<◌, ◌≤◌, Bool, true, false, List, length, set, replicate, get_or, ap, sym, refl, ◌∙◌, arith, inl, inr}
+use Rattle.std.proofs.Common.{◌≡◌, ℕ, ◌<◌, Bool, true, false, List, length, set, replicate, get_or, ap, sym, refl, ◌∙◌, arith, inl, inr}
 use Rattle.std.specs.Prelude.{◌&&◌, slice_index_or, if◌then◌else◌}
 use Rattle.std.proofs.lemmas.Bool.{cases_lt, false≢true}
 use Rattle.std.proofs.lemmas.List.{get_or-replicate, get_or-set_same, get_or-set_other, get_or_past, length-replicate}
@@ -10,7 +10,7 @@ use Rattle.xk_base.specs.Tables.Circle.{id_at, is_thread_id, place_of, same_thre
 use Rattle.xk_base.specs.Tables.Counting.{put_at}
 use Rattle.xk_base.specs.declared.ids.ThreadId.{ThreadId}
 use Rattle.xk_base.specs.declared.limits.TheConstants.{PROCESS_LIMIT}
-use Rattle.kill_path.specs.ThreadSets.{ThreadSet, ids_of_all, marked, nobody}
+use Rattle.kill_path.specs.ThreadSets.{ids_of_all, marked, nobody}
 
 and_false : (a : Bool) → (a && false) ≡ false
 and_false true = refl

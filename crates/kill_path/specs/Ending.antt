@@ -1,5 +1,5 @@
 -- Messages that end, each with its loan.
-use Rattle.std.specs.Prelude.{◌≡◌, ℕ, ◌≤◌, Bool, true, false, ◌||◌, IfSome, All, List, [], ◌∷◌, map, Option, Some, None}
+use Rattle.std.specs.Prelude.{◌≡◌, ◌≤◌, Bool, true, ◌||◌, IfSome, All, List, [], ◌∷◌, map, Option, Some, None}
 use Rattle.std.specs.List.{list_any, remove}
 use Rattle.ledger_model.specs.Loans.{IsFresh, LoanRun, Loans, Stands}
 use Rattle.machine_model.specs.Messaging.MessageCounts.{count_in}

@@ -3,4 +3,7 @@
 
 mod answered;
 mod closing;
+mod destroying;
+mod telling;
 
+pub use destroying::destroy;

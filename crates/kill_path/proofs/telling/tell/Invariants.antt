@@ -1,0 +1,17 @@
+use Rattle.std.proofs.Common.{◌≡◌}
+use Rattle.send_path.specs.Parts.{threads_shown}
+use Rattle.send_path.specs.Rows.{log_with}
+use Rattle.send_path.specs.Threads.{answered}
+use Rattle.thread_table.specs.ThreadsOf.{process_count}
+use Rattle.kill_path.specs.Noted.{noted}
+use Rattle.kill_path.specs.Telling.{told_to}
+use Rattle.kill_path.proofs.TellLemmas.{below, replies_below}
+use Rattle.kill_path.proofs.telling.tell.Given as goal
+
+-- the threads at the places before this one are answered
+abbrev pub invariant-loop-place : goal.invariant-loop-place
+invariant-loop-place l = record {
+  threads : threads_shown l.threads ≡ answered (below l.place (told_to l.served (noted l.noted_ids))) (threads_shown l.initial.threads);
+  log : l.log ≡ log_with (replies_below l.place (told_to l.served (noted l.noted_ids))) l.initial.log;
+  count : process_count l.threads ≡ process_count l.initial.threads;
+}
