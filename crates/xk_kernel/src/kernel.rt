@@ -5,6 +5,8 @@ mod boot;
 mod calls;
 mod deaths;
 mod events;
+mod interrupt_calls;
+mod interrupts;
 mod memory_calls;
 mod readers;
 mod running;

@@ -124,7 +124,7 @@ cursor_whole slot_count held k d h valid = record {
   unlent = h.unlent;
   no_servers = h.no_servers;
   no_messages = h.no_messages;
-  unclaimed = h.unclaimed;
+  untimed = h.untimed;
 }
 
 -- no other state is ready

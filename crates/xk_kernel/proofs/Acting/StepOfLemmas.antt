@@ -55,7 +55,7 @@ module _ {W : Type 0} (slot_count : W → ℕ) (held : W → Held) (old new : Ke
       unlent = h.unlent;
       no_servers = h.no_servers;
       no_messages = h.no_messages;
-      unclaimed = h.unclaimed;
+      untimed = h.untimed;
     }
 
     -- the timer of a kernel isn't armed

@@ -44,7 +44,7 @@ pushed_whole slot_count held k log whole e = record {
   unlent = whole.unlent;
   no_servers = whole.no_servers;
   no_messages = whole.no_messages;
-  unclaimed = whole.unclaimed;
+  untimed = whole.untimed;
 }
 
 -- .. and with no reservation
@@ -58,7 +58,7 @@ unreserved_whole slot_count held k whole = record {
   unlent = whole.unlent;
   no_servers = whole.no_servers;
   no_messages = whole.no_messages;
-  unclaimed = whole.unclaimed;
+  untimed = whole.untimed;
 }
 
 -- ---- a process that lives

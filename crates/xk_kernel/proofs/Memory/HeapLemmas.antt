@@ -116,7 +116,7 @@ module _ {W : Type 0} (slot_count : W → ℕ) (held : W → Held) (k : Kernel W
         unlent = unlent;
         no_servers = whole.no_servers;
         no_messages = whole.no_messages;
-        unclaimed = whole.unclaimed;
+        untimed = whole.untimed;
       }
 
 -- ---- lists of three refusals

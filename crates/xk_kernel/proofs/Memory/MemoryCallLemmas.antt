@@ -70,7 +70,7 @@ whole_with_mem slot_count held k mem whole s sound unlent =
       unlent = unlent;
       no_servers = whole.no_servers;
       no_messages = whole.no_messages;
-      unclaimed = whole.unclaimed;
+      untimed = whole.untimed;
     }
 
 -- ---- a ledger without loans keeps none
