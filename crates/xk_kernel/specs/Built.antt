@@ -25,9 +25,9 @@ step_built m = option_map_or (λ who. option_map_or (thread_built m who) (m.thre
 abbrev pub kill_built : Pid → Machine → Bool
 kill_built pid m = not (is_living m pid) || is_alone pid m
 
--- every event is, but for an interrupt and such a kill
+-- every event is, but for such a kill
 abbrev pub event_built : Event → Machine → Bool
 event_built (Tick n) m = true
 event_built (Pick pid tid) m = true
-event_built (Irq k) m = false
+event_built (Irq k) m = true
 event_built (Kill pid) m = kill_built pid m

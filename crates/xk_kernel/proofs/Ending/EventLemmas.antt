@@ -2,11 +2,12 @@
 use Rattle.std.proofs.Common.{◌≡◌, ℕ, ◌≤◌, Bool, true, false, [], ◌∷◌, ◌++◌, map, Option, Some, None, refl, sym, ap, subst, ◌∙◌}
 use Rattle.std.specs.Prelude.{IsTrue}
 use Rattle.machine_laws.proofs.Dying.DeathLemmas.{kill_keeps}
+use Rattle.machine_laws.proofs.Interrupting.IrqDeliveryLemmas.{irq_keeps}
 use Rattle.machine_model.proofs.Ending.DeathLemmas.{death_without_servers}
 use Rattle.machine_model.proofs.Runs.KeptLemmas.{pick_keeps}
 use Rattle.machine_model.specs.State.Changes.{Change, settled}
 use Rattle.machine_model.specs.Ending.Ends.{forgotten}
-use Rattle.machine_model.specs.Stepping.Events.{at_event, killed, killed_if, nothing, picked}
+use Rattle.machine_model.specs.Stepping.Events.{at_event, killed, killed_if, nothing, picked, raised}
 use Rattle.machine_model.specs.State.Machine.{Machine}
 use Rattle.machine_model.specs.Stepping.Reservations.{unreserved}
 use Rattle.machine_model.specs.Runs.Matched.{Matched}
@@ -91,6 +92,9 @@ module _ {W : Type 0} (slot_count : W → ℕ) (held : W → Held) (old new : Ke
 
   pub pick_matched : (who : ThreadId) → Matched (picked who (machine_of held old)).machine
   pick_matched who = pick_keeps who (machine_of held old) left_matched
+
+  pub irq_matched : (k : ℕ) → Matched (raised k (machine_of held old)).machine
+  irq_matched k = irq_keeps k (machine_of held old) left_matched
 
   pub kill_matched : (pid : Pid) → Matched (killed pid (machine_of held old)).machine
   kill_matched pid = kill_keeps pid (machine_of held old) left_matched
