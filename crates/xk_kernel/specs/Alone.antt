@@ -2,16 +2,21 @@
 use Rattle.std.specs.Prelude.{◌≡◌, ◌+◌, Bool, true, false, not, ◌&&◌, is_some, Option, Some, None}
 use Rattle.xk_base.specs.Tables.Counting.{least_below}
 use Rattle.xk_base.specs.declared.ids.Pid.{Pid}
+use Rattle.xk_base.specs.declared.ids.ThreadId.{ThreadId}
 use Rattle.xk_base.specs.declared.limits.TheConstants.{TID_LIMIT}
-use Rattle.machine_model.specs.Ending.Ends.{death, forgotten}
+use Rattle.machine_model.specs.Ending.Ends.{death, forgotten, has_threads}
 use Rattle.machine_model.specs.State.Changes.{only}
 use Rattle.machine_model.specs.State.Machine.{Machine, Thread, ThreadState, Ready, Receiving, Waiting, Joining, Idle}
 use Rattle.machine_model.specs.State.Servers.{is_server_of}
-use Rattle.machine_model.specs.State.Threads.{thread_id}
+use Rattle.machine_model.specs.State.Threads.{put_thread, thread_id}
 
 -- the death of the process is to be forgotten: nobody is answered, and nothing else changes
 abbrev pub DiesPlainly : Pid → Machine → Type 0
 DiesPlainly pid m = death pid m ≡ record (only (forgotten pid m)) { gone = Some pid }
+
+-- where the process dies with this thread, which ends, it dies plainly
+abbrev pub EndsPlainly : ThreadId → Machine → Type 0
+EndsPlainly who m = has_threads (put_thread who None m) who.pid ≡ false → DiesPlainly who.pid (put_thread who None m)
 
 -- a live server is one of the process
 abbrev pub owns_server : Pid → Machine → Bool

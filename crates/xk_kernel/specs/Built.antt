@@ -1,21 +1,44 @@
 -- Which steps and events are built. Any other is named as not built, and isn't done.
-use Rattle.std.specs.Prelude.{Bool, true, false, not, ◌&&◌, ◌||◌}
+use Rattle.std.specs.Prelude.{ℕ, Bool, true, false, not, ◌&&◌, ◌||◌, ◌==◌, List, None, if◌then◌else◌}
 use Rattle.std.specs.Option.{option_map_or}
 use Rattle.event_text.specs.declared.event.Event.{Event}
 use Rattle.event_text.specs.declared.event.Event.TheVariants.{Tick, Pick, Irq, Kill}
 use Rattle.machine_laws.specs.WithoutServers.{is_plain_call}
-use Rattle.machine_model.specs.Stepping.Acts.{call_by}
+use Rattle.machine_model.specs.Ending.Ends.{has_threads}
+use Rattle.machine_model.specs.Hart.Instructions.{Executed, CallsKernel, Traps}
 use Rattle.machine_model.specs.State.Machine.{Machine, Thread}
 use Rattle.machine_model.specs.State.Order.{actor}
-use Rattle.machine_model.specs.Stepping.Step.{ends_handler}
+use Rattle.machine_model.specs.State.Threads.{put_thread}
+use Rattle.machine_model.specs.Stepping.Step.{ends_handler, ends_thread, performed}
 use Rattle.machine_model.specs.Runs.Matched.{is_living}
+use Rattle.xk_base.specs.Calls.CallNumbers.{terminate_process}
+use Rattle.xk_base.specs.Calls.CallWords.{call_number}
+use Rattle.xk_base.specs.Calls.Registers.{arguments_of}
 use Rattle.xk_base.specs.declared.ids.Pid.{Pid}
 use Rattle.xk_base.specs.declared.ids.ThreadId.{ThreadId}
 use Rattle.xk_kernel.specs.Alone.{is_alone}
 
--- a thread above tid 1, whose system call, if it makes one, is on memory, threads or its process, or has no number of the table
+-- the end of a thread: another one of its process lives on, or the process stands alone
+abbrev pub end_built : Machine → ThreadId → Bool
+end_built m who = has_threads (put_thread who None m) who.pid || is_alone who.pid m
+
+-- a system call: it is on memory, threads or its process, or has no number of the table; TerminateProcess where the process stands
+-- alone
+abbrev pub call_built : Machine → ThreadId → List ℕ → Bool
+call_built m who words = is_plain_call words && (not (call_number words == terminate_process) || is_alone who.pid m)
+
+-- an instruction is built, and a trap where the process stands alone
+abbrev pub executed_built : Machine → ThreadId → Thread → Executed → Bool
+executed_built m who t CallsKernel = call_built m who (arguments_of t.regs)
+executed_built m who t (Traps cause value) = is_alone who.pid m
+executed_built m who t _ = true
+
+-- what the thread does: the end of a handler isn't built
 abbrev pub thread_built : Machine → ThreadId → Thread → Bool
-thread_built m who t = not (ends_handler who t.pc) && option_map_or is_plain_call (call_by m who) true
+thread_built m who t =
+    if ends_thread who t.pc then end_built m who else (
+    if ends_handler who t.pc then false else
+    executed_built m who t (performed m who t).executed)
 
 -- there is a next step, and it is built
 unfoldable pub step_built : Machine → Bool

@@ -4,7 +4,6 @@ use Rattle.irq_claims.specs.ClaimsOf.{claims_of}
 use Rattle.machine_model.specs.Runs.Matched.{Matched}
 use Rattle.msg_queue.specs.Seats.{used_of}
 use Rattle.process_table.specs.ProcessesOf.{process_count as processes_made}
-use Rattle.server_table.specs.ServersOf.{servers_of}
 use Rattle.sv32_space.specs.Tie.{Held}
 use Rattle.thread_table.specs.ThreadsOf.{process_count as processes_threaded}
 use Rattle.vm_memory.specs.Bytes.{KeepsStore}
@@ -27,9 +26,8 @@ pub record IsWhole {W : Type 0} (slot_count : W → ℕ) (held : W → Held) (k 
   pub procs : processes_made k.procs ≡ processes k.mem
   pub cursor : IsTrue (is_thread_id (processes k.mem) k.cursor)
   pub room : RECORD_LIMIT ≤ k.log.room
-  -- These three go when servers and messages are built.
+  -- These two go when messages are built.
   pub unlent : IsUnlent (ledger held k.mem)
-  pub no_servers : (n : ℕ) → (servers_of k.servers).live n ≡ None
   pub no_messages : All (λ seat. used_of seat ≡ 0) k.queues
   -- This one goes when the timer is built. Until then no process can claim its interrupt, so that none has the timer's page, and
   -- the timer is never armed.

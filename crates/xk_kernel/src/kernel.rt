@@ -2,6 +2,7 @@
 
 mod alone;
 mod boot;
+mod built;
 mod calls;
 mod deaths;
 mod events;

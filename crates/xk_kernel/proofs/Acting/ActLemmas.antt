@@ -1,21 +1,22 @@
 -- What the thread whose step it is does is what the machine makes of it.
-use Rattle.std.proofs.Common.{◌≡◌, ℕ, ◌+◌, Bool, true, false, List, [], ◌++◌, map, Option, Some, None, refl, sym, ap, ◌∙◌, arith}
-use Rattle.std.specs.Prelude.{◌==◌, ◌&&◌, nat_lt, not, if◌then◌else◌}
-use Rattle.std.specs.Option.{option_and_then, option_map_or}
+use Rattle.std.proofs.Common.{◌≡◌, ℕ, ◌+◌, ◌<◌, Bool, true, false, List, [], ◌++◌, map, Option, Some, None, refl, sym, ap, ◌∙◌, arith, subst}
+use Rattle.std.specs.Prelude.{◌==◌, ◌&&◌, ◌||◌, nat_lt, not, if◌then◌else◌}
+use Rattle.std.specs.Option.{option_map_or}
 use Rattle.std.proofs.lemmas.Bool.Decides.{nat_tests}
+use Rattle.std.proofs.lemmas.Bool.{and_parts}
 use Rattle.std.proofs.lemmas.Option.{same_Some}
 use Rattle.machine_laws.specs.WithoutServers.{is_plain_call}
 use Rattle.machine_laws.proofs.Threading.ThreadStepLemmas.{actor_ready}
-use Rattle.machine_model.specs.Stepping.Acts.{call_by, executes, is_call, words_if_call}
+use Rattle.machine_model.proofs.Runs.KeptLemmas.{matched_at}
 use Rattle.machine_model.specs.Calling.Calls.{call}
 use Rattle.machine_model.specs.State.Changes.{Told, call_settled, settled}
-use Rattle.machine_model.specs.Ending.Ends.{death, handler_ended, thread_ended}
+use Rattle.machine_model.specs.Ending.Ends.{death, handler_ended, has_threads, thread_ended}
 use Rattle.machine_model.specs.Hart.Instructions.{CallsKernel, Executed, Next, Stores, StoresToConsole, StoresToTimer, Traps}
 use Rattle.machine_model.specs.State.Machine.{Machine, Reservation, Thread}
 use Rattle.machine_model.specs.Runs.Matched.{Matched}
 use Rattle.machine_model.specs.State.Order.{actor, ready_at}
 use Rattle.machine_model.specs.Stepping.Step.{acted_if_there, after, console_told, ends_handler, ends_thread, executed, performed, record_of, reservation_left_if_there, step}
-use Rattle.machine_model.specs.State.Threads.{handler_return, thread_return}
+use Rattle.machine_model.specs.State.Threads.{thread_return}
 use Rattle.machine_model.specs.State.Views.{memory_of, stored, timer_set}
 use Rattle.machine_model.specs.Stepping.Reservations.{reservation_of}
 use Rattle.rv32_hart.specs.Running.{ran_of}
@@ -24,16 +25,20 @@ use Rattle.rv32_hart.specs.declared.ran.Ran.TheVariants.{Device, Ecall, Failed, 
 use Rattle.rv32_hart.specs.declared.ran.Ran.TheVariants as ran
 use Rattle.sv32_space.specs.Tie.{Held}
 use Rattle.xk_base.specs.Tables.Circle.{is_thread_id}
+use Rattle.xk_base.specs.Calls.CallNumbers.{terminate_process}
+use Rattle.xk_base.specs.Calls.CallWords.{call_number}
 use Rattle.xk_base.specs.Calls.Registers.{arguments_of, reg_at}
 use Rattle.xk_base.specs.declared.ids.ThreadId.{ThreadId}
 use Rattle.xk_base.specs.declared.records.What.{What}
 use Rattle.xk_base.specs.declared.records.What.TheVariants.{Call, End, Fault}
 use Rattle.xk_kernel.specs.Acting.{IsDone, reservation_by, told_by}
-use Rattle.xk_kernel.specs.Built.{step_built}
+use Rattle.xk_kernel.specs.Alone.{DiesPlainly, EndsPlainly, is_alone}
+use Rattle.xk_kernel.specs.Built.{call_built, end_built, executed_built, step_built, thread_built}
 use Rattle.xk_kernel.specs.Running.{machine_after}
 use Rattle.xk_kernel.specs.State.{machine_of}
 use Rattle.xk_kernel.specs.Telling.{Tells}
 use Rattle.xk_kernel.specs.declared.kernel.Kernel.{Kernel}
+use Rattle.xk_kernel.proofs.Ending.AloneLemmas.{alone_death, ends_plainly}
 
 -- the machine with its cursor at that thread
 abbrev pub at : ThreadId → Machine → Machine
@@ -43,7 +48,7 @@ at who m = record m { cursor = who }
 
 module _ (m : Machine) (who : ThreadId) (t : Thread) where
   pub next_executed : (x : Executed) (pc : ℕ) → ran_of x ≡ ran.Next pc
-      → (executed (at who m) t x ≡ record { machine = at who (machine_after who m x); told = [] }) × (is_call x ≡ false)
+      → (executed (at who m) t x ≡ record { machine = at who (machine_after who m x); told = [] }) × (executed_built m who t x ≡ true)
   unfolding stored timer_set
   next_executed (Next regs pc) p e = (refl, refl)
   next_executed (Stores address width value regs pc) p e = (refl, refl)
@@ -53,7 +58,7 @@ module _ (m : Machine) (who : ThreadId) (t : Thread) where
   next_executed (Traps cause value) p e = cc
 
   pub device_executed : (x : Executed) (offset value pc : ℕ) → ran_of x ≡ Device offset value pc
-      → (executed (at who m) t x ≡ record { machine = at who (machine_after who m x); told = console_told who offset value }) × (is_call x ≡ false)
+      → (executed (at who m) t x ≡ record { machine = at who (machine_after who m x); told = console_told who offset value }) × (executed_built m who t x ≡ true)
   device_executed (Next regs pc) o v p e = cc
   device_executed (Stores address width value regs pc) o v p e = cc
   device_executed (StoresToConsole offset value regs pc) o v p e =
@@ -72,7 +77,7 @@ module _ (m : Machine) (who : ThreadId) (t : Thread) where
 
   -- a trap and a call of the kernel leave the machine so far
   pub trap_executed : (x : Executed) (cause value : ℕ) → ran_of x ≡ Trap cause value
-      → (executed (at who m) t x ≡ after (Fault who cause value) (settled (death who.pid (at who m)))) × (machine_after who m x ≡ m) × (is_call x ≡ false)
+      → (executed (at who m) t x ≡ after (Fault who cause value) (settled (death who.pid (at who m)))) × (machine_after who m x ≡ m) × (executed_built m who t x ≡ is_alone who.pid m)
   trap_executed (Next regs pc) a v e = cc
   trap_executed (Stores address width value regs pc) a v e = cc
   trap_executed (StoresToConsole offset value regs pc) a v e = cc
@@ -91,7 +96,7 @@ module _ (m : Machine) (who : ThreadId) (t : Thread) where
 
   pub call_executed : (x : Executed) → ran_of x ≡ Ecall
       → (executed (at who m) t x ≡ after (Call who (arguments_of t.regs)) (call_settled (at who m) (call (at who m) (arguments_of t.regs))))
-      × (machine_after who m x ≡ m) × (is_call x ≡ true)
+      × (machine_after who m x ≡ m) × (executed_built m who t x ≡ call_built m who (arguments_of t.regs))
   call_executed (Next regs pc) e = cc
   call_executed (Stores address width value regs pc) e = cc
   call_executed (StoresToConsole offset value regs pc) e = cc
@@ -114,10 +119,6 @@ never_fails CallsKernel e = cc
 never_fails (Traps cause value) e = cc
 
 -- ---- what the thread does, and whether it is built
-
--- no thread ends where a handler does
-apart : (tid pc : ℕ) → (nat_lt 1 tid && (pc == thread_return)) ≡ true → ((tid == 1) && (pc == handler_return)) ≡ false
-apart tid pc e = grind (arith, nat_tests)
 
 module _ (m : Machine) (who : ThreadId) (t : Thread) (there : m.threads who ≡ Some t) where
   -- what its instruction comes to
@@ -157,36 +158,24 @@ module _ (m : Machine) (who : ThreadId) (t : Thread) (there : m.threads who ≡ 
   left_executed a b reserved e = ap (reservation_of who) e ∙ sym (left_is ∙ (λ i. left_by (a i) (b i)))
 
   module _ (acts : actor m ≡ Some who) where
-    abbrev words_by : Bool → Bool → Executed → Option (List ℕ)
-    words_by a b x = option_and_then (words_if_call t) (if a then None else (if b then None else Some x))
-
     abbrev built_by : Bool → Bool → Executed → Bool
-    built_by a b x = not b && option_map_or is_plain_call (words_by a b x) true
+    built_by a b x = if a then end_built m who else (if b then false else executed_built m who t x)
 
     built_is : step_built m ≡ built_by (ends_thread who t.pc) (ends_handler who t.pc) fetched
-    unfolding step_built call_by
+    unfolding step_built
     built_is =
-        ap (λ o. option_map_or (λ who. option_map_or (λ t. not (ends_handler who t.pc) && option_map_or is_plain_call (option_and_then (λ thread. option_and_then (words_if_call thread) (executes m who thread)) (m.threads who)) true) (m.threads who) false) o false) acts
-        ∙ ap (λ o. option_map_or (λ t. not (ends_handler who t.pc) && option_map_or is_plain_call (option_and_then (λ thread. option_and_then (words_if_call thread) (executes m who thread)) o) true) o false) there
+        ap (λ o. option_map_or (λ who. option_map_or (thread_built m who) (m.threads who) false) o false) acts
+        ∙ ap (λ o. option_map_or (thread_built m who) o false) there
 
-    pub built_end : ends_thread who t.pc ≡ true → step_built m ≡ true
-    built_end e = built_is ∙ (λ i. built_by (e i) (no_handler i) fetched)
-      where
-        no_handler : ends_handler who t.pc ≡ false
-        no_handler = apart who.tid.0 t.pc e
+    pub built_end : ends_thread who t.pc ≡ true → step_built m ≡ end_built m who
+    built_end e = built_is ∙ ap (λ a. built_by a (ends_handler who t.pc) fetched) e
 
-    pub unbuilt_handler : ends_handler who t.pc ≡ true → step_built m ≡ false
-    unbuilt_handler e = built_is ∙ ap (λ b. built_by (ends_thread who t.pc) b fetched) e
+    module _ (a : ends_thread who t.pc ≡ false) where
+      pub unbuilt_handler : ends_handler who t.pc ≡ true → step_built m ≡ false
+      unbuilt_handler e = built_is ∙ (λ i. built_by (a i) (e i) fetched)
 
-    module _ (a : ends_thread who t.pc ≡ false) (b : ends_handler who t.pc ≡ false) where
-      runs : step_built m ≡ option_map_or is_plain_call (words_if_call t fetched) true
-      runs = built_is ∙ (λ i. built_by (a i) (b i) fetched)
-
-      pub built_instruction : is_call fetched ≡ false → step_built m ≡ true
-      built_instruction e = runs ∙ ap (λ c. option_map_or is_plain_call (if c then Some (arguments_of t.regs) else None) true) e
-
-      pub built_call : is_call fetched ≡ true → step_built m ≡ is_plain_call (arguments_of t.regs)
-      built_call e = runs ∙ ap (λ c. option_map_or is_plain_call (if c then Some (arguments_of t.regs) else None) true) e
+      pub built_executed : ends_handler who t.pc ≡ false → step_built m ≡ executed_built m who t fetched
+      built_executed e = built_is ∙ (λ i. built_by (a i) (e i) fetched)
 
 -- ---- the kernel tells so
 
@@ -235,10 +224,34 @@ module _ {W : Type 0} (held : W → Held) (old mid new : Kernel W) (who : Thread
         ∙ sym (ap (λ (t : Told). record old.log { step = old.steps + 1; records = map (record_of (old.steps + 1)) t.told }) is);
   }
 
+  -- where its process stands alone, the death of that one is to be forgotten, also once the thread has gone
+  module _ (h : Matched (machine_of held old)) (begun : machine_of held mid ≡ at who (machine_of held old)) where
+    turned : Matched (at who (machine_of held old))
+    turned = matched_at who (machine_of held old) h
+
+    pub begun_plain : is_alone who.pid (machine_of held old) ≡ true → DiesPlainly mid.cursor.pid (machine_of held mid)
+    unfolding machine_of
+    begun_plain alone = subst (λ (m : Machine). DiesPlainly m.cursor.pid m) (sym begun) (alone_death (at who (machine_of held old)) turned who.pid alone)
+
+    pub begun_ends : end_built (machine_of held old) who ≡ true → EndsPlainly mid.cursor (machine_of held mid)
+    unfolding machine_of has_threads
+    begun_ends built = subst (λ (m : Machine). EndsPlainly m.cursor m) (sym begun) (ends_plainly (at who (machine_of held old)) turned who built)
+
   -- the thread of a begun step is Ready
   pub begun_ready : actor (machine_of held old) ≡ Some who → machine_of held mid ≡ at who (machine_of held old) → ready_at (machine_of held mid) mid.cursor ≡ true
   begun_ready acts e = (λ i. ready_at (e i) (cursor_at e i)) ∙ actor_ready (machine_of held old) who acts
 
+-- a thread that stands where threads end is above tid 1
+pub above_one : (tid pc : ℕ) → (nat_lt 1 tid && (pc == thread_return)) ≡ true → 1 < tid
+above_one tid pc e = grind (arith, nat_tests)
+
 -- the thread that acts is one of the processes'
 pub actor_known : (m : Machine) (who : ThreadId) (t : Thread) → Matched m → m.threads who ≡ Some t → is_thread_id m.processes who ≡ true
 actor_known m who t h there = h.body.ids.known who t there
+
+-- a process that dies by a call that is built stands alone
+pub call_alone : (m : Machine) (who : ThreadId) (w : List ℕ) → call_number w ≡ terminate_process → call_built m who w ≡ true → is_alone who.pid m ≡ true
+call_alone m who w ends built =
+    let parts : (is_plain_call w ≡ true) × ((not (call_number w == terminate_process) || is_alone who.pid m) ≡ true) =
+    and_parts (is_plain_call w) (not (call_number w == terminate_process) || is_alone who.pid m) built in
+    sym (ap (λ n. not (n == terminate_process) || is_alone who.pid m) ends) ∙ parts.1

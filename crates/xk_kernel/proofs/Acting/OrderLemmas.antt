@@ -122,7 +122,6 @@ cursor_whole slot_count held k d h valid = record {
   cursor = valid;
   room = h.room;
   unlent = h.unlent;
-  no_servers = h.no_servers;
   no_messages = h.no_messages;
   untimed = h.untimed;
 }

@@ -2,7 +2,6 @@
 use Rattle.std.proofs.Common.{◌≡◌, ℕ, ◌+◌, map, Option, Some, None, sym, ap, subst, ◌∙◌}
 use Rattle.std.specs.Prelude.{is_some}
 use Rattle.std.specs.Option.{option_map}
-use Rattle.machine_laws.specs.WithoutServers.{HasNoServers}
 use Rattle.machine_laws.proofs.Stepping.EveryStepLemmas.{every_step_keeps}
 use Rattle.machine_model.specs.State.Machine.{Machine}
 use Rattle.machine_model.specs.Runs.Matched.{Matched}
@@ -15,7 +14,6 @@ use Rattle.sv32_space.specs.Tie.{Held}
 use Rattle.xk_base.specs.declared.ids.ThreadId.{ThreadId}
 use Rattle.xk_kernel.specs.Acting.{Acts, IsDone, reservation_by, told_by}
 use Rattle.xk_kernel.specs.Sound.{IsSound, IsUsable, IsWhole}
-use Rattle.send_path.specs.Parts.{server_of}
 use Rattle.xk_kernel.specs.State.{as_reservation, machine_of}
 use Rattle.xk_kernel.specs.Stepping.{Becomes, DoesStep}
 use Rattle.xk_kernel.specs.declared.kernel.Kernel.{Kernel}
@@ -34,11 +32,6 @@ step_is : (m : Machine) (who : ThreadId) → actor m ≡ Some who → (told_by w
 unfolding step step_by
 step_is m who acts unarmed = ap (λ a. step_by_if a m) acts ∙ ap (stepped_to (m.steps + 1)) (timed_unarmed (counted_by who m) unarmed)
 
--- a whole kernel has no servers
-pub without_servers : {W : Type 0} (slot_count : W → ℕ) (held : W → Held) (k : Kernel W) → IsWhole slot_count held k → HasNoServers (machine_of held k)
-unfolding machine_of
-without_servers slot_count held k whole n = ap (option_map (server_of k.queues)) (whole.no_servers n)
-
 module _ {W : Type 0} (slot_count : W → ℕ) (held : W → Held) (old new : Kernel W) (who : ThreadId) (acts : actor (machine_of held old) ≡ Some who) where
   module _ (address : Option ℕ) (kept : Option (ThreadId × ℕ)) (same : option_map as_reservation kept ≡ reservation_of who address) where
     -- the kernel once the step is counted, with the reservation that it leaves
@@ -53,7 +46,6 @@ module _ {W : Type 0} (slot_count : W → ℕ) (held : W → Held) (old new : Ke
       cursor = h.cursor;
       room = h.room;
       unlent = h.unlent;
-      no_servers = h.no_servers;
       no_messages = h.no_messages;
       untimed = h.untimed;
     }

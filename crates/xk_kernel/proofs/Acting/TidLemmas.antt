@@ -1,17 +1,22 @@
 -- The tids of a process, counted from 2 in the table and from 0 in the machine.
 use Rattle.std.proofs.Common.{◌≡◌, ℕ, ◌+◌, ◌-◌, ◌<◌, ◌≤◌, Bool, true, false, Option, Some, None, refl, sym, ap, ◌∙◌, arith, inl, inr, subst}
-use Rattle.std.specs.Prelude.{◌&&◌, ◌≢◌, nat_le, is_none, is_some}
+use Rattle.std.specs.Prelude.{◌&&◌, ◌≢◌, nat_le, is_none, is_some, if◌then◌else◌}
 use Rattle.std.specs.Option.{option_map}
 use Rattle.std.proofs.lemmas.Bool.{cases_lt}
 use Rattle.std.proofs.lemmas.Bool.Decides.{nat_tests}
 use Rattle.xk_base.specs.declared.ids.Pid.{Pid}
 use Rattle.xk_base.specs.declared.ids.ThreadId.{ThreadId}
 use Rattle.xk_base.specs.declared.ids.Tid.{Tid}
-use Rattle.xk_base.specs.Tables.Counting.{least_below}
-use Rattle.xk_base.proofs.CountingLemmas.{least_below-same, least_below-Some, least_below-None, least_below-none, least_below-passes, least_below-first, least_below-bound, count_below-none, none_from_count_below}
+use Rattle.xk_base.specs.Tables.Counting.{count_below, least_below}
+use Rattle.xk_base.specs.Tables.Circle.{same_thread}
+use Rattle.xk_base.proofs.CircleLemmas.{same_ids}
+use Rattle.machine_laws.proofs.Threading.ThreadAnswerLemmas.{same_thread-self}
+use Rattle.machine_laws.proofs.Threading.ThreadPutLemmas.{alike}
+use Rattle.xk_base.proofs.CountingLemmas.{least_below-same, least_below-Some, least_below-None, least_below-none, least_below-passes, least_below-first, least_below-bound, count_below-none, count_below-one, count_below-same, none_from_count_below}
 use Rattle.machine_model.specs.Ending.Ends.{has_threads}
 use Rattle.machine_model.specs.Calling.ThreadCalls.{free_tid}
-use Rattle.machine_model.specs.State.Threads.{thread_id}
+use Rattle.machine_model.specs.State.Machine.{Machine}
+use Rattle.machine_model.specs.State.Threads.{put_thread, thread_id}
 use Rattle.sv32_space.specs.Tie.{Held}
 use Rattle.thread_table.specs.ThreadMap.{free_tid as table_free_tid, live_threads, thread_above, tid_above}
 use Rattle.thread_table.specs.ThreadsOf.{threads_of}
@@ -142,3 +147,57 @@ module _ {W : Type 0} (held : W → Held) (k : Kernel W) (pid : Pid) where
       go : (o : Option ℕ) → least_below 30 (λ j. there (j + 2)) ≡ o → is_some o ≡ true
       go (Some j) f = refl
       go None f = absurd (ne (count_below-none 30 (λ j. is_some (threads_of k.threads (thread_above pid j))) (λ j l. sym (there_in_table j) ∙ least_below-none 30 (λ j. there (j + 2)) f j l)))
+
+-- ---- whether another thread is left
+
+module _ (m : Machine) (who : ThreadId) (there : is_some (m.threads who) ≡ true) (above : 1 < who.tid.0) (within : who.tid.0 < 32) where
+  abbrev pub now : ℕ → Bool
+  now j = is_some (m.threads (thread_above who.pid j))
+
+  abbrev left : ℕ → Bool
+  left j = is_some ((put_thread who None m).threads (thread_above who.pid j))
+
+  here : thread_above who.pid (who.tid.0 - 2) ≡ who
+  here = same_ids (thread_above who.pid (who.tid.0 - 2)) who refl (omega arith)
+
+  one_less : count_below 30 now ≡ count_below 30 left + 1
+  one_less =
+      count_below-one 30 (who.tid.0 - 2) now left (omega arith)
+      (ap (λ id. is_some (m.threads id)) here ∙ there)
+      (ap (λ id. is_some ((put_thread who None m).threads id)) here ∙ ap (λ b. is_some (if b then None else m.threads who)) (same_thread-self who))
+      (λ j low other. go j other (same_thread (thread_above who.pid j) who) refl)
+    where
+      go : (j : ℕ) → (j ≡ who.tid.0 - 2 → ⊥) → (b : Bool) → same_thread (thread_above who.pid j) who ≡ b
+          → now j ≡ is_some (if b then None else m.threads (thread_above who.pid j))
+      go j other true e =
+          let same : j + 2 ≡ who.tid.0 = ap (λ (id : ThreadId). id.tid.0) (alike (thread_above who.pid j) who e) in
+          absurd (other (omega arith))
+      go j other false e = refl
+
+  left_is : has_threads (put_thread who None m) who.pid ≡ is_some (least_below 30 left)
+  unfolding has_threads
+  left_is = ap is_some (least_from_two 30 (λ tid. is_some ((put_thread who None m).threads (thread_id who.pid tid)))) ∙ some_mapped (least_below 30 left)
+    where
+      some_mapped : (o : Option ℕ) → is_some (option_map (λ j. j + 2) o) ≡ is_some o
+      some_mapped None = refl
+      some_mapped (Some j) = refl
+
+  -- as more than one live, or not
+  pub others_left : 1 < count_below 30 now → has_threads (put_thread who None m) who.pid ≡ true
+  others_left more = left_is ∙ go (least_below 30 left) refl
+    where
+      go : (o : Option ℕ) → least_below 30 left ≡ o → is_some o ≡ true
+      go (Some j) e = refl
+      go None e =
+          let none : count_below 30 left ≡ 0 = count_below-none 30 left (least_below-none 30 left e) in
+          absurd (omega (arith, one_less))
+
+  pub none_is_left : count_below 30 now ≤ 1 → has_threads (put_thread who None m) who.pid ≡ false
+  none_is_left few =
+      let none : count_below 30 left ≡ 0 = omega (arith, one_less) in
+      left_is ∙ ap is_some (least_below-None 30 left (none_from_count_below 30 left none))
+
+-- .. by the table
+module _ {W : Type 0} (held : W → Held) (k : Kernel W) (pid : Pid) where
+  pub live_now : live_threads pid (threads_of k.threads) ≡ count_below 30 (λ j. is_some ((machine_of held k).threads (thread_above pid j)))
+  live_now = count_below-same 30 _ _ (λ j low. sym (there_in_table held k pid j))

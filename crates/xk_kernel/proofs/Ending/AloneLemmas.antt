@@ -1,6 +1,6 @@
 -- The death of a process that stands alone, as the machine and its parts tell it.
 use Rattle.std.proofs.Common.{◌≡◌, ◌<◌, ◌≤◌, ◌+◌, ◌-◌, ℕ, Bool, true, false, Option, Some, None, refl, sym, ap, ◌∙◌, arith}
-use Rattle.std.specs.Prelude.{◌==◌, ◌&&◌, is_some, is_none, not}
+use Rattle.std.specs.Prelude.{◌==◌, ◌&&◌, ◌||◌, is_some, is_none, not}
 use Rattle.std.specs.Option.{option_map}
 use Rattle.std.proofs.lemmas.Bool.{and_parts, eqb-true, false≢true}
 use Rattle.std.proofs.lemmas.Bool.Decides.{nat_tests}
@@ -16,10 +16,10 @@ use Rattle.xk_base.proofs.CountingLemmas.{least_below-none}
 use Rattle.machine_model.specs.Runs.Matched.{Matched, is_living, is_waiting_for, waits_for}
 use Rattle.machine_model.specs.State.Machine.{Machine, Server, Thread, ThreadState, Ready, Receiving, Waiting, Joining, Idle}
 use Rattle.machine_model.specs.State.Servers.{is_server_of}
-use Rattle.machine_model.specs.State.Threads.{thread_id}
+use Rattle.machine_model.specs.State.Threads.{put_thread, thread_id}
 use Rattle.machine_laws.proofs.Dying.DeathForgetLemmas.{IsForgettable}
-use Rattle.machine_laws.proofs.Dying.DeathLoanLemmas.{plain_forgettable}
-use Rattle.machine_laws.proofs.Dying.LoneDeathLemmas.{lone_death}
+use Rattle.machine_laws.proofs.Dying.DeathLoanLemmas.{plain_forgettable, unsent}
+use Rattle.machine_laws.proofs.Dying.LoneDeathLemmas.{foreign_death, lone_death}
 use Rattle.process_table.specs.ProcessMap.{is_alive}
 use Rattle.process_table.specs.ProcessesOf.{processes_of}
 use Rattle.process_table.specs.State.{ProcessState}
@@ -28,7 +28,8 @@ use Rattle.server_table.specs.ServerState.{Server as TableServer, is_of, least_o
 use Rattle.sv32_space.specs.Tie.{Held}
 use Rattle.thread_table.specs.declared.thread.ThreadState.{ThreadState as TableState}
 use Rattle.thread_table.specs.declared.thread.ThreadState.TheVariants as table
-use Rattle.xk_kernel.specs.Alone.{DiesPlainly, has_waiting, is_alone, is_waiting, is_waiting_state, owns_server}
+use Rattle.xk_kernel.specs.Alone.{DiesPlainly, EndsPlainly, has_waiting, is_alone, is_waiting, is_waiting_state, owns_server}
+use Rattle.xk_kernel.specs.Built.{end_built}
 use Rattle.send_path.specs.Parts.{process_of, server_of, state_of}
 use Rattle.xk_kernel.specs.State.{machine_of}
 use Rattle.xk_kernel.specs.declared.kernel.Kernel.{Kernel}
@@ -127,5 +128,13 @@ module _ (m : Machine) (h : Matched m) (pid : Pid) (alone : is_alone pid m ≡ t
   pub alone_death : DiesPlainly pid m
   alone_death = lone_death m h pid strange unwaiting
 
+  -- .. also once a thread of it has gone
+  pub alone_after : (who : ThreadId) → DiesPlainly pid (put_thread who None m)
+  alone_after who = foreign_death (put_thread who None m) pid strange (unsent m h pid strange unwaiting)
+
   pub alone_forgettable : IsForgettable m pid
   alone_forgettable = plain_forgettable m h pid strange unwaiting
+
+-- where the end of a thread is built, its process dies plainly if it does
+pub ends_plainly : (m : Machine) → Matched m → (who : ThreadId) → end_built m who ≡ true → EndsPlainly who m
+ends_plainly m h who built last = alone_after m h who.pid (sym (ap (λ b. b || is_alone who.pid m) last) ∙ built) who

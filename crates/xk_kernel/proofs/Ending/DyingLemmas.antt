@@ -1,21 +1,15 @@
 -- A process dies, and its death is to be forgotten.
-use Rattle.std.proofs.Common.{◌≡◌, ℕ, [], ◌∷◌, ◌++◌, Some, None, sym, ap, ◌∙◌}
-use Rattle.std.specs.Option.{option_map}
+use Rattle.std.proofs.Common.{◌≡◌, [], ◌∷◌, ◌++◌, Some, sym, ap, ◌∙◌}
 use Rattle.machine_model.specs.State.Changes.{Told, only, settled}
 use Rattle.machine_model.specs.Ending.Ends.{death, forgotten}
 use Rattle.machine_model.specs.State.Machine.{Machine}
-use Rattle.machine_model.specs.State.Threads.{put_thread}
 use Rattle.machine_model.specs.Stepping.Step.{after}
-use Rattle.machine_model.proofs.Ending.DeathLemmas.{HasNoServer, death_without_servers}
-use Rattle.server_table.specs.ServersOf.{servers_of}
 use Rattle.sv32_space.specs.Tie.{Held}
 use Rattle.xk_base.specs.Log.{LogState}
 use Rattle.xk_base.specs.declared.ids.Pid.{Pid}
-use Rattle.xk_base.specs.declared.ids.ThreadId.{ThreadId}
 use Rattle.xk_base.specs.declared.records.What.{What}
 use Rattle.xk_base.specs.declared.records.What.TheVariants.{Gone}
 use Rattle.xk_kernel.specs.Alone.{DiesPlainly}
-use Rattle.send_path.specs.Parts.{server_of}
 use Rattle.xk_kernel.specs.State.{machine_of}
 use Rattle.xk_kernel.specs.Telling.{Tells, log_with}
 use Rattle.xk_kernel.specs.declared.kernel.Kernel.{Kernel}
@@ -35,19 +29,6 @@ pub settled_death : (m : Machine) (pid : Pid) → DiesPlainly pid m → settled 
 settled_death m pid plain = ap settled plain ∙ settled_gone (forgotten pid m) pid
 
 module _ {W : Type 0} (held : W → Held) where
-  machine_has_no_server : (k : Kernel W) → ((n : ℕ) → (servers_of k.servers).live n ≡ None) → HasNoServer (machine_of held k)
-  unfolding machine_of
-  machine_has_no_server k none = λ n. ap (option_map (server_of k.queues)) (none n)
-
-  -- .. and until servers are made a process dies so
-  pub plain_without_servers : (k : Kernel W) → ((n : ℕ) → (servers_of k.servers).live n ≡ None) → (pid : Pid) → DiesPlainly pid (machine_of held k)
-  plain_without_servers k none pid = death_without_servers (machine_of held k) (machine_has_no_server k none) pid
-
-  -- .. also once a thread of it has gone
-  pub plain_without_thread : (k : Kernel W) → ((n : ℕ) → (servers_of k.servers).live n ≡ None) → (who : ThreadId) (pid : Pid)
-      → DiesPlainly pid (put_thread who None (machine_of held k))
-  plain_without_thread k none who pid = death_without_servers (put_thread who None (machine_of held k)) (machine_has_no_server k none) pid
-
   pub dies : (old new : Kernel W) (first last : LogState) (cause : What) (pid : Pid) → DiesPlainly pid (machine_of held old)
       → first ≡ log_with (cause ∷ []) old.log → machine_of held new ≡ forgotten pid (machine_of held (record old { log = first })) → new.log ≡ first
       → last ≡ log_with (Gone pid ∷ []) new.log

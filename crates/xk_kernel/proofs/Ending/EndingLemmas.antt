@@ -22,7 +22,7 @@ use Rattle.xk_base.specs.Calls.Replies.{scalar1_words}
 use Rattle.xk_base.specs.declared.ids.Pid.{Pid}
 use Rattle.xk_base.specs.declared.ids.ThreadId.{ThreadId}
 use Rattle.xk_base.specs.declared.records.What.TheVariants.{End, Gone}
-use Rattle.xk_kernel.specs.Alone.{DiesPlainly}
+use Rattle.xk_kernel.specs.Alone.{DiesPlainly, EndsPlainly}
 use Rattle.xk_kernel.specs.State.{machine_of}
 use Rattle.xk_kernel.specs.Telling.{Tells, log_with}
 use Rattle.xk_kernel.specs.declared.kernel.Kernel.{Kernel}
@@ -166,11 +166,11 @@ module _ {W : Type 0} (held : W → Held) (old : Kernel W) (first : LogState) (t
     unfolding settled
     gone_told = ap (λ x. End who ∷ (x ++ Gone who.pid ∷ [])) (append-nil (replies m.processes (joiners_answered m who a0)))
 
-    pub end_with_process : (dead : Kernel W) (last : LogState) → has_threads (machine_of held new) who.pid ≡ false → DiesPlainly who.pid (put_thread who None m)
+    pub end_with_process : (dead : Kernel W) (last : LogState) → has_threads (machine_of held new) who.pid ≡ false → EndsPlainly who m
         → machine_of held dead ≡ forgotten who.pid (machine_of held new) → dead.log ≡ new.log → last ≡ log_with (Gone who.pid ∷ []) dead.log
         → Tells held old (record dead { log = last }) (after (End who) (settled (thread_ended who a0 m)))
     end_with_process dead last alone plain forgot same gone =
-        let e : settled (thread_ended who a0 m) ≡ last_told m who a0 = ended_last m who a0 (threads_left ∙ alone) plain in
+        let e : settled (thread_ended who a0 m) ≡ last_told m who a0 = ended_last m who a0 (threads_left ∙ alone) (plain (threads_left ∙ alone)) in
         record {
           machine = machine_of_log held dead last ∙ forgot ∙ ap (forgotten who.pid) machine_is ∙ forgets ∙ sym (ap (λ (t : Told). t.machine) e);
           log =

@@ -1,9 +1,9 @@
 -- What a pick and a kill do, and that a kernel stays sound.
 use Rattle.std.proofs.Common.{◌≡◌, ℕ, ◌≤◌, Bool, true, false, [], ◌∷◌, ◌++◌, map, Option, Some, None, refl, sym, ap, subst, ◌∙◌}
-use Rattle.std.specs.Prelude.{IsTrue}
+use Rattle.std.specs.Prelude.{IsTrue, ◌||◌, not}
 use Rattle.machine_laws.proofs.Dying.DeathLemmas.{kill_keeps}
 use Rattle.machine_laws.proofs.Interrupting.IrqDeliveryLemmas.{irq_keeps}
-use Rattle.machine_model.proofs.Ending.DeathLemmas.{death_without_servers}
+use Rattle.machine_laws.proofs.Threading.ThreadMoveLemmas.{matched_reserved}
 use Rattle.machine_model.proofs.Runs.KeptLemmas.{pick_keeps}
 use Rattle.machine_model.specs.State.Changes.{Change, settled}
 use Rattle.machine_model.specs.Ending.Ends.{forgotten}
@@ -23,15 +23,16 @@ use Rattle.xk_base.specs.declared.ids.Pid.{Pid}
 use Rattle.xk_base.specs.declared.ids.ThreadId.{ThreadId}
 use Rattle.xk_base.specs.declared.limits.TheConstants.{RECORD_LIMIT}
 use Rattle.xk_base.specs.declared.records.What.TheVariants.{Gone}
-use Rattle.xk_kernel.specs.Alone.{DiesPlainly}
+use Rattle.xk_kernel.specs.Alone.{DiesPlainly, is_alone}
+use Rattle.xk_kernel.specs.Built.{kill_built}
 use Rattle.xk_kernel.specs.Sound.{IsSound, IsUsable, IsWhole}
 use Rattle.send_path.specs.Parts.{process_of}
 use Rattle.xk_kernel.specs.State.{machine_of}
 use Rattle.xk_kernel.specs.Stepping.{Becomes}
 use Rattle.xk_kernel.specs.Telling.{log_with}
 use Rattle.xk_kernel.specs.declared.kernel.Kernel.{Kernel}
+use Rattle.xk_kernel.proofs.Ending.AloneLemmas.{alone_death}
 use Rattle.xk_kernel.proofs.Calling.SettleLemmas.{nobody_answered, no_reply}
-use Rattle.xk_kernel.proofs.Acting.StepOfLemmas.{without_servers}
 
 -- a whole kernel is whole with another log of as much room
 pub pushed_whole : {W : Type 0} (slot_count : W → ℕ) (held : W → Held) (k : Kernel W) (log : LogState) → IsWhole slot_count held k → log.room ≡ k.log.room
@@ -43,7 +44,6 @@ pushed_whole slot_count held k log whole e = record {
   cursor = whole.cursor;
   room = subst (λ room. RECORD_LIMIT ≤ room) (sym e) whole.room;
   unlent = whole.unlent;
-  no_servers = whole.no_servers;
   no_messages = whole.no_messages;
   untimed = whole.untimed;
 }
@@ -57,7 +57,6 @@ unreserved_whole slot_count held k whole = record {
   cursor = whole.cursor;
   room = whole.room;
   unlent = whole.unlent;
-  no_servers = whole.no_servers;
   no_messages = whole.no_messages;
   untimed = whole.untimed;
 }
@@ -122,12 +121,19 @@ module _ {W : Type 0} (slot_count : W → ℕ) (held : W → Held) (old new : Ke
   unfolding machine_of
   known pid alive = left_matched.body.processes.pids pid alive
 
-  pub killed_done : (pid : Pid) → ((machine_of held old).process pid.0).alive ≡ true → machine_of held new ≡ forgotten pid (unreserved (machine_of held old))
+  -- one that lives, and whose kill is built, dies plainly
+  plainly : (pid : Pid) → ((machine_of held old).process pid.0).alive ≡ true → kill_built pid (machine_of held old) ≡ true
+      → DiesPlainly pid (unreserved (machine_of held old))
+  plainly pid alive built =
+      alone_death (unreserved (machine_of held old)) (matched_reserved (machine_of held old) left_matched None) pid
+      (sym (ap (λ b. not b || is_alone pid (machine_of held old)) alive) ∙ built)
+
+  pub killed_done : (pid : Pid) → ((machine_of held old).process pid.0).alive ≡ true → kill_built pid (machine_of held old) ≡ true → machine_of held new ≡ forgotten pid (unreserved (machine_of held old))
       → new.log ≡ log_with (Gone pid ∷ []) begun → Becomes held new (killed pid (machine_of held old))
   unfolding machine_of
-  killed_done pid alive machine log =
+  killed_done pid alive built machine log =
       let is : killed pid (machine_of held old) ≡ record { machine = forgotten pid (unreserved (machine_of held old)); records = record_of old.steps (Gone pid) ∷ [] } =
-      killed_is (machine_of held old) pid (death_without_servers (unreserved (machine_of held old)) (without_servers slot_count held old sound.whole) pid) alive in
+      killed_is (machine_of held old) pid (plainly pid alive built) alive in
       record {
         machine = machine ∙ sym (ap (λ (s : Recorded). s.machine) is);
         records = ap (λ (l : LogState). l.records) log ∙ sym (ap (λ (s : Recorded). s.records) is);

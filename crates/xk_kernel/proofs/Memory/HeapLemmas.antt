@@ -114,7 +114,6 @@ module _ {W : Type 0} (slot_count : W → ℕ) (held : W → Held) (k : Kernel W
         cursor = ap (λ n. is_thread_id n k.cursor) same ∙ whole.cursor;
         room = whole.room;
         unlent = unlent;
-        no_servers = whole.no_servers;
         no_messages = whole.no_messages;
         untimed = whole.untimed;
       }

@@ -68,7 +68,6 @@ whole_with_mem slot_count held k mem whole s sound unlent =
       cursor = ap (λ n. is_thread_id n k.cursor) same ∙ whole.cursor;
       room = whole.room;
       unlent = unlent;
-      no_servers = whole.no_servers;
       no_messages = whole.no_messages;
       untimed = whole.untimed;
     }

@@ -96,7 +96,6 @@ module _ {W P : Type 0} (is_honest : W → Bool) (held : W → Held) (slot_count
     cursor = ap (λ n. is_thread_id n k.cursor) procs ∙ whole.cursor;
     room = whole.room;
     unlent = unlent_stays (ledger held k.mem) (ledger held mem) rest.rights whole.unlent;
-    no_servers = whole.no_servers;
     no_messages = whole.no_messages;
     untimed = whole.untimed;
   }

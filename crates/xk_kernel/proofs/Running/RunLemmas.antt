@@ -195,7 +195,6 @@ whole_lent slot_count held k threads count whole = record {
   cursor = whole.cursor;
   room = whole.room;
   unlent = whole.unlent;
-  no_servers = whole.no_servers;
   no_messages = whole.no_messages;
   untimed = whole.untimed;
 }

@@ -183,7 +183,6 @@ module _ {W : Type 0} (slot_count : W → ℕ) (held : W → Held) (plan : BootP
       cursor = subst (λ (id : ThreadId). IsTrue (is_thread_id (processes k.mem) id)) (sym h.cursor) (subst (λ (n : ℕ). IsTrue (is_thread_id n first_turn)) (sym count) (first_lies (length plan.procs) some));
       room = room;
       unlent = subst IsUnlent (sym h.ledger) (first_unlent plan file);
-      no_servers = λ n. ap (λ (s : ServerState). s.live n) h.servers;
       no_messages = h.messages;
       untimed = ap (λ (m : ClaimMap). m TIMER_INTERRUPT) h.claims;
     };

@@ -8,7 +8,11 @@ ghost use Rattle.machine_model.specs.Runs.Matched.{Matched};
 ghost use Rattle.machine_model.specs.State.Order.{ready_at};
 ghost use Rattle.machine_model.specs.Stepping.Step.{after};
 ghost use Rattle.syscall_codec.specs.Calls.{Asks};
+ghost use Rattle.syscall_codec.specs.declared.calls.Call.TheVariants.{TerminateProcess};
+ghost use Rattle.xk_base.specs.Calls.CallNumbers.{terminate_process};
+ghost use Rattle.xk_base.specs.Calls.CallWords.{call_number};
 ghost use Rattle.xk_base.specs.declared.records.What.TheVariants.{Call as Called};
+ghost use Rattle.xk_kernel.specs.Alone.{DiesPlainly};
 ghost use Rattle.xk_kernel.specs.Calling.{outcome_of};
 ghost use Rattle.xk_kernel.specs.Sound.{IsUsable, IsWhole, Keeps};
 ghost use Rattle.xk_kernel.specs.State.{machine_of};
@@ -30,30 +34,6 @@ pub enum CallerFate {
     Died,
 }
 
-/// Whether the call with these words is built: it is on memory, threads or the caller's process, or
-/// no call has its number.
-pub fn is_built(words: &[u32; 8]) -> bool
-    ensures { result ≡ is_plain_call words.now }
-{
-    match read_call(*words) {
-        Ok(
-            Call::MapMemory { .. }
-            | Call::Yield
-            | Call::IncreaseHeap { .. }
-            | Call::DecreaseHeap { .. }
-            | Call::UpdateMemoryFlags { .. }
-            | Call::CreateThread { .. }
-            | Call::UnmapMemory { .. }
-            | Call::TerminateProcess { .. }
-            | Call::JoinThread { .. }
-            | Call::GetThreadId
-            | Call::GetProcessId,
-        )
-        | Err(_) => true,
-        Ok(_) => false,
-    }
-}
-
 impl<W: SwapStore> Kernel<W> {
     // The thread whose turn it is makes the call with these words, which is built.
     pub(super) fn call(&mut self, words: [u32; 8]) -> Result<(), SwapFault>
@@ -61,6 +41,7 @@ impl<W: SwapStore> Kernel<W> {
         requires usable { IsUsable self.old }
         requires matched { Matched (machine_of W.held self.old) }
         requires built { is_plain_call words ≡ true }
+        requires plain { call_number words ≡ terminate_process → DiesPlainly self.old.cursor.pid (machine_of W.held self.old) }
         requires ready { ready_at (machine_of W.held self.old) self.old.cursor ≡ true }
         requires room { length self.old.log.records + 2 ≤ self.old.log.room }
         ensures whole { IsWhole W.slot_count W.held self.new }
@@ -89,6 +70,7 @@ impl<W: SwapStore> Kernel<W> {
         requires ready { ready_at (machine_of W.held self.old) self.old.cursor ≡ true }
         requires matched { Matched (machine_of W.held self.old) }
         requires built { is_plain_call words ≡ true }
+        requires plain { call_number words ≡ terminate_process → DiesPlainly self.old.cursor.pid (machine_of W.held self.old) }
         ensures whole { IsWhole W.slot_count W.held self.new }
         ensures usable { OnOk result (IsUsable self.new) }
         ensures outcome { IfOk result (λ served. outcome_of self.old.cursor (machine_of W.held self.new) served ≡ call (machine_of W.held self.old) words) }
@@ -110,6 +92,7 @@ impl<W: SwapStore> Kernel<W> {
         requires ready { ready_at (machine_of W.held self.old) self.old.cursor ≡ true }
         requires matched { Matched (machine_of W.held self.old) }
         requires built { (words : List ℕ) × Asks words asked × (is_plain_call words ≡ true) }
+        requires plain { (exit : ℕ) → asked ≡ TerminateProcess exit → DiesPlainly self.old.cursor.pid (machine_of W.held self.old) }
         ensures whole { IsWhole W.slot_count W.held self.new }
         ensures usable { OnOk result (IsUsable self.new) }
         ensures outcome { IfOk result (λ served. (words : List ℕ) → Asks words asked → outcome_of self.old.cursor (machine_of W.held self.new) served ≡ call (machine_of W.held self.old) words) }

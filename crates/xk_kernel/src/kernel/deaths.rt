@@ -9,6 +9,7 @@ ghost use Rattle.machine_model.specs.Stepping.Step.{after};
 ghost use Rattle.vm_memory.specs.Memory.{processes};
 ghost use Rattle.xk_base.specs.Tables.Circle.{is_pid};
 ghost use Rattle.xk_base.specs.declared.records.What.TheVariants.{End};
+ghost use Rattle.xk_kernel.specs.Alone.{DiesPlainly, EndsPlainly};
 ghost use Rattle.xk_kernel.specs.Sound.{IsUsable, IsWhole, Keeps};
 ghost use Rattle.xk_kernel.specs.State.{machine_of};
 ghost use Rattle.xk_kernel.specs.Telling.{Tells};
@@ -43,6 +44,7 @@ impl<W: SwapStore> Kernel<W> {
     pub(super) fn die(&mut self, cause: What)
         requires whole { IsWhole W.slot_count W.held self.old }
         requires usable { IsUsable self.old }
+        requires plain { DiesPlainly self.old.cursor.pid (machine_of W.held self.old) }
         requires room { length self.old.log.records + 2 ≤ self.old.log.room }
         ensures whole { IsWhole W.slot_count W.held self.new }
         ensures usable { IsUsable self.new }
@@ -95,6 +97,7 @@ impl<W: SwapStore> Kernel<W> {
         requires whole { IsWhole W.slot_count W.held self.old }
         requires usable { IsUsable self.old }
         requires ready { ready_at (machine_of W.held self.old) self.old.cursor ≡ true }
+        requires plain { EndsPlainly self.old.cursor (machine_of W.held self.old) }
         requires room { length self.old.log.records + 33 ≤ self.old.log.room }
         ensures whole { IsWhole W.slot_count W.held self.new }
         ensures usable { IsUsable self.new }

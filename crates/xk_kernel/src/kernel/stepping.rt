@@ -1,7 +1,8 @@
 //! One step.
 
-ghost use Rattle.std.specs.Prelude.{◌≡◌, ◌<◌, ◌⊎◌, false, IfOk, IsOk, OnErr, OnOk, Some, length, ◌+◌, ◌≤◌, IsTrue, [], map};
+ghost use Rattle.std.specs.Prelude.{◌≡◌, ◌<◌, ◌⊎◌, true, false, IfOk, IsOk, OnErr, OnOk, Some, length, ◌+◌, ◌≤◌, IsTrue, [], map};
 ghost use Rattle.ledger_model.specs.Ledger.{pages};
+ghost use Rattle.machine_model.specs.State.Machine.{Thread as ModelThread};
 ghost use Rattle.machine_model.specs.State.Order.{actor};
 ghost use Rattle.std.specs.Option.{option_map};
 ghost use Rattle.machine_model.specs.Stepping.Reservations.{reservation_of};
@@ -10,6 +11,7 @@ ghost use Rattle.vm_memory.specs.Bytes.{none_out};
 ghost use Rattle.vm_memory.specs.Memory.{processes, frames_for_pages, store_of};
 ghost use Rattle.vm_memory.specs.Tie.{IsTied};
 ghost use Rattle.xk_base.specs.Tables.Circle.{is_thread_id};
+ghost use Rattle.xk_base.specs.Calls.Registers.{reg_at};
 ghost use Rattle.xk_base.specs.Outside.{Rose};
 ghost use Rattle.xk_kernel.specs.Acting.{Acts};
 ghost use Rattle.xk_kernel.specs.Sound.{IsSound, IsUsable, IsWhole, Keeps};
@@ -17,7 +19,6 @@ ghost use Rattle.xk_kernel.specs.State.{as_reservation, machine_of};
 ghost use Rattle.xk_kernel.specs.Stepping.{DoesStep};
 ghost use Rattle.xk_kernel.specs.Telling.{log_with};
 
-use crate::kernel::calls::is_built;
 use crate::kernel::threads::THREAD_RETURN;
 use crate::kernel::{Kernel, Stepped, SwapFault};
 use rv32_hart::Ran;
@@ -123,9 +124,7 @@ impl<W: SwapStore> Kernel<W> {
         let thread = self.thread(who);
         if ends_thread(who, thread.pc) {
             let a0 = thread.regs.get(A0);
-            self.begin(who);
-            self.end_thread(a0);
-            return Ok(Acted::Done(None));
+            return Ok(self.act_end(who, a0));
         }
         if ends_handler(who, thread.pc) {
             return Ok(Acted::Unbuilt);
@@ -141,13 +140,16 @@ impl<W: SwapStore> Kernel<W> {
                 Ok(Acted::Done(reserved))
             }
             Ran::Trap { cause, value } => {
+                if !self.is_alone(who.pid) {
+                    return Ok(Acted::Unbuilt);
+                }
                 self.begin(who);
                 self.die(What::Fault(who, cause, value));
                 Ok(Acted::Done(reserved))
             }
             Ran::Ecall => {
                 let words = self.thread(who).regs.arguments();
-                if !is_built(&words) {
+                if !self.call_built(who, &words) {
                     return Ok(Acted::Unbuilt);
                 }
                 self.begin(who);
@@ -156,6 +158,27 @@ impl<W: SwapStore> Kernel<W> {
             }
             Ran::Failed => Err(SwapFault),
         }
+    }
+
+    // The thread, whose step it is and which stands where threads end, ends with this in a0, where that
+    // is built.
+    fn act_end(&mut self, who: ThreadId, a0: u32) -> Acted
+        requires sound { IsSound W.slot_count W.held self.old }
+        requires usable { IsUsable self.old }
+        requires few { self.old.steps < 4000000000 }
+        requires who { actor (machine_of W.held self.old) ≡ Some who }
+        requires ends { (t : ModelThread) → (machine_of W.held self.old).threads who ≡ Some t → (ends_thread who t.pc ≡ true) × (reg_at t.regs 10 ≡ a0) }
+        ensures whole { IsWhole W.slot_count W.held self.new }
+        ensures usable { IsUsable self.new }
+        ensures acts { Acts W.held self.old self.new who result }
+        ensures keeps { Keeps W.is_honest W.held W.slot_count W.asked W.faults self.old self.new }
+    {
+        if !self.end_built(who) {
+            return Acted::Unbuilt;
+        }
+        self.begin(who);
+        self.end_thread(a0);
+        Acted::Done(None)
     }
 
     // A step of the thread begins, which stored the low byte of a value at an offset of the console's

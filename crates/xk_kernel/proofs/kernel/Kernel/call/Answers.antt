@@ -22,6 +22,10 @@ pub outcome-requires-clause-matched : goal.outcome-requires-clause-matched
 unfolding machine_of
 outcome-requires-clause-matched g c = c.requires.matched
 
+pub outcome-requires-clause-plain : goal.outcome-requires-clause-plain
+unfolding machine_of
+outcome-requires-clause-plain g c = c.requires.plain
+
 -- ---- answered
 
 pub answer-requires-clause-there : goal.answer-requires-clause-there

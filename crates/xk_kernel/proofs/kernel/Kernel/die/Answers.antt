@@ -1,8 +1,8 @@
-use Rattle.xk_kernel.proofs.Ending.DyingLemmas.{dies, plain_without_servers}
+use Rattle.xk_kernel.proofs.Ending.DyingLemmas.{dies}
 use Rattle.xk_kernel.proofs.kernel.Kernel.die.Goals as goal
 
 pub returns-clause-tells : goal.returns-clause-tells
 returns-clause-tells g c =
     dies g.W.SwapStore.held c.args.self.now c.forget.new.self c.push.new.self c.push-2.new.self c.args.cause c.args.self.now.cursor.pid
-    (plain_without_servers g.W.SwapStore.held c.args.self.now c.requires.whole.no_servers c.args.self.now.cursor.pid)
+    c.requires.plain
     c.push.ensures c.forget.ensures.machine c.forget.ensures.log c.push-2.ensures

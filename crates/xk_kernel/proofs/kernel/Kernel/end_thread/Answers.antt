@@ -1,5 +1,4 @@
 use Rattle.std.proofs.Common.{sym, ◌∙◌}
-use Rattle.xk_kernel.proofs.Ending.DyingLemmas.{plain_without_thread}
 use Rattle.xk_kernel.proofs.Ending.EndingLemmas.{end_with_others, end_with_process, ready_is_there}
 use Rattle.xk_kernel.proofs.Acting.TidLemmas.{none_live, some_live}
 use Rattle.xk_kernel.proofs.kernel.Kernel.end_thread.Goals as goal
@@ -13,7 +12,7 @@ returns-then-live-eq0-clause-tells g c =
     (record { ready = c.requires.ready; pushed = c.push.ensures; ended = c.end.ensures.after; tells = c.answer_joiners.ensures.tells })
     c.forget.new.self c.push-then-live-eq0.new.self
     (none_live g.W.SwapStore.held c.answer_joiners.new.self c.args.self.now.cursor.pid (sym c.live.ensures ∙ c.if-live-eq0.true))
-    (plain_without_thread g.W.SwapStore.held c.args.self.now c.requires.whole.no_servers c.args.self.now.cursor c.args.self.now.cursor.pid)
+    c.requires.plain
     c.forget.ensures.machine c.forget.ensures.log c.push-then-live-eq0.ensures
 
 pub returns-else-live-eq0-clause-tells : goal.returns-else-live-eq0-clause-tells

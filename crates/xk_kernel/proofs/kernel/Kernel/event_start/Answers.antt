@@ -1,8 +1,9 @@
 -- The event does what the machine makes of it.
-use Rattle.std.proofs.Common.{None, [], ◌∷◌, sym, ap, subst, ◌∙◌}
+use Rattle.std.proofs.Common.{◌≡◌, true, None, [], ◌∷◌, sym, ap, subst, ◌∙◌}
 use Rattle.machine_model.specs.Stepping.Events.{killed, nothing, picked, raised}
 use Rattle.vm_memory.proofs.Changing.SoundMemoryLemmas.{sound-tied}
 use Rattle.xk_base.specs.declared.records.What.TheVariants.{Gone}
+use Rattle.xk_kernel.specs.Built.{event_built}
 use Rattle.xk_kernel.specs.State.{machine_of}
 use Rattle.xk_kernel.specs.Stepping.{Becomes, event_done}
 use Rattle.xk_kernel.specs.Telling.{log_with}
@@ -81,14 +82,14 @@ unfolding machine_of
 returns-then-alive-clause-sound g c =
     became_sound g.W.SwapStore.slot_count g.W.SwapStore.held c.args.self.now (record c.forget.new.self { log = c.push.new.self }) c.requires.sound c.requires.usable (killed c.in-Kill.pid (machine_of g.W.SwapStore.held c.args.self.now))
     (pushed_whole g.W.SwapStore.slot_count g.W.SwapStore.held c.forget.new.self c.push.new.self c.forget.ensures.whole (ap (λ log. log.room) c.push.ensures))
-    (killed_done g.W.SwapStore.slot_count g.W.SwapStore.held c.args.self.now (record c.forget.new.self { log = c.push.new.self }) c.requires.sound c.requires.usable c.in-Kill.pid (lives g.W.SwapStore.slot_count g.W.SwapStore.held c.args.self.now c.args.self.now c.requires.sound c.requires.usable c.in-Kill.pid c.alive.result c.alive.ensures ∙ c.if-alive.true) c.forget.ensures.machine (c.push.ensures ∙ ap (log_with (Gone c.in-Kill.pid ∷ [])) (c.forget.ensures.log ∙ c.clear.ensures)))
+    (killed_done g.W.SwapStore.slot_count g.W.SwapStore.held c.args.self.now (record c.forget.new.self { log = c.push.new.self }) c.requires.sound c.requires.usable c.in-Kill.pid (lives g.W.SwapStore.slot_count g.W.SwapStore.held c.args.self.now c.args.self.now c.requires.sound c.requires.usable c.in-Kill.pid c.alive.result c.alive.ensures ∙ c.if-alive.true) (subst (λ e. event_built e (machine_of g.W.SwapStore.held c.args.self.now) ≡ true) c.in-Kill.is c.requires.built) c.forget.ensures.machine (c.push.ensures ∙ ap (log_with (Gone c.in-Kill.pid ∷ [])) (c.forget.ensures.log ∙ c.clear.ensures)))
     (kill_matched g.W.SwapStore.slot_count g.W.SwapStore.held c.args.self.now c.args.self.now c.requires.sound c.requires.usable c.in-Kill.pid)
 
 pub returns-then-alive-clause-does : goal.returns-then-alive-clause-does
 unfolding machine_of
 returns-then-alive-clause-does g c =
     subst (λ e. Becomes g.W.SwapStore.held (record c.forget.new.self { log = c.push.new.self }) (event_done e (machine_of g.W.SwapStore.held c.args.self.now))) (sym c.in-Kill.is)
-    (killed_done g.W.SwapStore.slot_count g.W.SwapStore.held c.args.self.now (record c.forget.new.self { log = c.push.new.self }) c.requires.sound c.requires.usable c.in-Kill.pid (lives g.W.SwapStore.slot_count g.W.SwapStore.held c.args.self.now c.args.self.now c.requires.sound c.requires.usable c.in-Kill.pid c.alive.result c.alive.ensures ∙ c.if-alive.true) c.forget.ensures.machine (c.push.ensures ∙ ap (log_with (Gone c.in-Kill.pid ∷ [])) (c.forget.ensures.log ∙ c.clear.ensures)))
+    (killed_done g.W.SwapStore.slot_count g.W.SwapStore.held c.args.self.now (record c.forget.new.self { log = c.push.new.self }) c.requires.sound c.requires.usable c.in-Kill.pid (lives g.W.SwapStore.slot_count g.W.SwapStore.held c.args.self.now c.args.self.now c.requires.sound c.requires.usable c.in-Kill.pid c.alive.result c.alive.ensures ∙ c.if-alive.true) (subst (λ e. event_built e (machine_of g.W.SwapStore.held c.args.self.now) ≡ true) c.in-Kill.is c.requires.built) c.forget.ensures.machine (c.push.ensures ∙ ap (log_with (Gone c.in-Kill.pid ∷ [])) (c.forget.ensures.log ∙ c.clear.ensures)))
 
 pub returns-then-alive-clause-tie : goal.returns-then-alive-clause-tie
 returns-then-alive-clause-tie g c = sound-tied g.W.SwapStore.slot_count g.W.SwapStore.held c.forget.new.self.mem c.forget.ensures.whole.mem

@@ -15,7 +15,6 @@ returns-clause-whole g c =
       cursor = subst (λ n. IsTrue (is_thread_id n c.args.self.now.cursor)) (sym same) old.cursor;
       room = old.room;
       unlent = forget_unlent (ledger g.W.SwapStore.held c.args.self.now.mem) (ledger g.W.SwapStore.held c.forget_process.new.self) c.args.pid c.forget_process.ensures.ledger old.unlent;
-      no_servers = old.no_servers;
       no_messages = old.no_messages;
       untimed = forget_untimed c.args.pid c.args.self.now.claims c.end-2.new.self c.end-2.ensures old.untimed;
     }

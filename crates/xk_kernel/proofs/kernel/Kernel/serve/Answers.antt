@@ -8,7 +8,6 @@ use Rattle.xk_base.specs.Calls.Replies.{plain_words}
 use Rattle.xk_kernel.specs.Calling.{change_by}
 use Rattle.xk_kernel.specs.State.{machine_of}
 use Rattle.xk_kernel.specs.declared.kernel.calls.CallerFate.TheVariants.{Died}
-use Rattle.xk_kernel.proofs.Ending.DyingLemmas.{plain_without_servers}
 use Rattle.xk_kernel.proofs.Calling.CallTableLemmas.{create_is, decrease_is, free_by_call, free_by_tid, increase_is, join_is, map_is, none_left, plain_asked, process_id_is, refused_to_handler, terminate_is, thread_id_is, unmap_is, update_is, yield_is}
 use Rattle.xk_kernel.proofs.kernel.Kernel.serve.Goals.{else-self-eq1-via-then-self-eq1+else-can_wait, else-self-eq1-via-else-self-eq1}
 use Rattle.xk_kernel.proofs.kernel.Kernel.serve.Goals as goal
@@ -131,7 +130,7 @@ returns-in-TerminateProcess-clause-outcome g c words asks =
       | else-self-eq1-via-then-self-eq1+else-can_wait w ↦ free_by_call (machine_of g.W.SwapStore.held c.args.self.now) words (sym (w.can_wait.ensures words asks) ∙ w.if-can_wait.false)
       | else-self-eq1-via-else-self-eq1 w ↦ free_by_tid (machine_of g.W.SwapStore.held c.args.self.now) words w.if-self-eq1.false
     ])
-    c.in-TerminateProcess.exit (plain_without_servers g.W.SwapStore.held c.args.self.now c.requires.whole.no_servers c.args.self.now.cursor.pid) (subst (Asks words) c.in-TerminateProcess.is asks)
+    c.in-TerminateProcess.exit (c.requires.plain c.in-TerminateProcess.exit c.in-TerminateProcess.is) (subst (Asks words) c.in-TerminateProcess.is asks)
 
 pub returns-in-GetThreadId-clause-outcome : goal.returns-in-GetThreadId-clause-outcome
 unfolding machine_of
