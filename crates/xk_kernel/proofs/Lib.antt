@@ -1,6 +1,7 @@
 pub mod Acting
 pub mod Calling
 pub mod Ending
+pub mod Interrupting
 pub mod Memory
 pub mod Running
 pub mod Starting

@@ -11,21 +11,30 @@ use Rattle.machine_model.specs.State.Order.{actor}
 use Rattle.machine_model.specs.State.Threads.{put_thread}
 use Rattle.machine_model.specs.Stepping.Step.{ends_handler, ends_thread, performed}
 use Rattle.machine_model.specs.Runs.Matched.{is_living}
-use Rattle.xk_base.specs.Calls.CallNumbers.{terminate_process}
-use Rattle.xk_base.specs.Calls.CallWords.{call_number}
+use Rattle.xk_base.specs.Calls.CallNumbers.{claim_interrupt, free_interrupt, terminate_process}
+use Rattle.xk_base.specs.Calls.CallWords.{call_number, interrupt_number}
 use Rattle.xk_base.specs.Calls.Registers.{arguments_of}
 use Rattle.xk_base.specs.declared.ids.Pid.{Pid}
 use Rattle.xk_base.specs.declared.ids.ThreadId.{ThreadId}
+use Rattle.xk_base.specs.declared.limits.TheConstants.{TIMER_INTERRUPT}
 use Rattle.xk_kernel.specs.Alone.{is_alone}
 
 -- the end of a thread: another one of its process lives on, or the process stands alone
 abbrev pub end_built : Machine → ThreadId → Bool
 end_built m who = has_threads (put_thread who None m) who.pid || is_alone who.pid m
 
--- a system call: it is on memory, threads or its process, or has no number of the table; TerminateProcess where the process stands
--- alone
+-- it claims an interrupt, which isn't the timer's, or frees one
+abbrev pub is_interrupt_call : List ℕ → Bool
+is_interrupt_call words =
+    ((call_number words == claim_interrupt) && not (interrupt_number words == TIMER_INTERRUPT)) || (call_number words == free_interrupt)
+
+-- it is on memory, threads or its process, or on interrupts, or has no number of the table
+abbrev pub is_built_call : List ℕ → Bool
+is_built_call words = is_plain_call words || is_interrupt_call words
+
+-- a system call; TerminateProcess where the process stands alone
 abbrev pub call_built : Machine → ThreadId → List ℕ → Bool
-call_built m who words = is_plain_call words && (not (call_number words == terminate_process) || is_alone who.pid m)
+call_built m who words = is_built_call words && (not (call_number words == terminate_process) || is_alone who.pid m)
 
 -- an instruction is built, and a trap where the process stands alone
 abbrev pub executed_built : Machine → ThreadId → Thread → Executed → Bool
@@ -33,11 +42,11 @@ executed_built m who t CallsKernel = call_built m who (arguments_of t.regs)
 executed_built m who t (Traps cause value) = is_alone who.pid m
 executed_built m who t _ = true
 
--- what the thread does: the end of a handler isn't built
+-- what the thread does; the end of a handler is built
 abbrev pub thread_built : Machine → ThreadId → Thread → Bool
 thread_built m who t =
     if ends_thread who t.pc then end_built m who else (
-    if ends_handler who t.pc then false else
+    if ends_handler who t.pc then true else
     executed_built m who t (performed m who t).executed)
 
 -- there is a next step, and it is built
@@ -48,9 +57,9 @@ step_built m = option_map_or (λ who. option_map_or (thread_built m who) (m.thre
 abbrev pub kill_built : Pid → Machine → Bool
 kill_built pid m = not (is_living m pid) || is_alone pid m
 
--- every event is, but for an interrupt and such a kill
+-- every event is, but for such a kill
 abbrev pub event_built : Event → Machine → Bool
 event_built (Tick n) m = true
 event_built (Pick pid tid) m = true
-event_built (Irq k) m = false
+event_built (Irq k) m = true
 event_built (Kill pid) m = kill_built pid m

@@ -6,6 +6,8 @@ mod built;
 mod calls;
 mod deaths;
 mod events;
+mod interrupt_calls;
+mod interrupts;
 mod memory_calls;
 mod readers;
 mod running;

@@ -5,7 +5,6 @@ use Rattle.std.specs.Option.{option_map_or}
 use Rattle.std.proofs.lemmas.Bool.Decides.{nat_tests}
 use Rattle.std.proofs.lemmas.Bool.{and_parts}
 use Rattle.std.proofs.lemmas.Option.{same_Some}
-use Rattle.machine_laws.specs.WithoutServers.{is_plain_call}
 use Rattle.machine_laws.proofs.Threading.ThreadStepLemmas.{actor_ready}
 use Rattle.machine_model.proofs.Runs.KeptLemmas.{matched_at}
 use Rattle.machine_model.specs.Calling.Calls.{call}
@@ -16,7 +15,7 @@ use Rattle.machine_model.specs.State.Machine.{Machine, Reservation, Thread}
 use Rattle.machine_model.specs.Runs.Matched.{Matched}
 use Rattle.machine_model.specs.State.Order.{actor, ready_at}
 use Rattle.machine_model.specs.Stepping.Step.{acted_if_there, after, console_told, ends_handler, ends_thread, executed, performed, record_of, reservation_left_if_there, step}
-use Rattle.machine_model.specs.State.Threads.{thread_return}
+use Rattle.machine_model.specs.State.Threads.{handler_return, thread_return}
 use Rattle.machine_model.specs.State.Views.{memory_of, stored, timer_set}
 use Rattle.machine_model.specs.Stepping.Reservations.{reservation_of}
 use Rattle.rv32_hart.specs.Running.{ran_of}
@@ -33,7 +32,7 @@ use Rattle.xk_base.specs.declared.records.What.{What}
 use Rattle.xk_base.specs.declared.records.What.TheVariants.{Call, End, Fault}
 use Rattle.xk_kernel.specs.Acting.{IsDone, reservation_by, told_by}
 use Rattle.xk_kernel.specs.Alone.{DiesPlainly, EndsPlainly, is_alone}
-use Rattle.xk_kernel.specs.Built.{call_built, end_built, executed_built, step_built, thread_built}
+use Rattle.xk_kernel.specs.Built.{call_built, end_built, executed_built, is_built_call, step_built, thread_built}
 use Rattle.xk_kernel.specs.Running.{machine_after}
 use Rattle.xk_kernel.specs.State.{machine_of}
 use Rattle.xk_kernel.specs.Telling.{Tells}
@@ -139,6 +138,9 @@ module _ (m : Machine) (who : ThreadId) (t : Thread) (there : m.threads who ≡ 
   pub told_end : ends_thread who t.pc ≡ true → told_by who m ≡ after (End who) (settled (thread_ended who (reg_at t.regs 10) (at who m)))
   told_end e = told_is ∙ ap (λ a. acted_by a (ends_handler who t.pc) fetched) e
 
+  pub told_handler : ends_thread who t.pc ≡ false → ends_handler who t.pc ≡ true → told_by who m ≡ after (End who) (settled (handler_ended who.pid (at who m)))
+  told_handler a b = told_is ∙ (λ i. acted_by (a i) (b i) fetched)
+
   pub told_executed : ends_thread who t.pc ≡ false → ends_handler who t.pc ≡ false → told_by who m ≡ executed (at who m) t fetched
   told_executed a b = told_is ∙ (λ i. acted_by (a i) (b i) fetched)
 
@@ -153,13 +155,16 @@ module _ (m : Machine) (who : ThreadId) (t : Thread) (there : m.threads who ≡ 
   pub left_at_end : ends_thread who t.pc ≡ true → reservation_of who None ≡ reservation_by who m
   left_at_end e = sym (left_is ∙ ap (λ a. left_by a (ends_handler who t.pc)) e)
 
+  pub left_at_handler : ends_thread who t.pc ≡ false → ends_handler who t.pc ≡ true → reservation_of who None ≡ reservation_by who m
+  left_at_handler a b = sym (left_is ∙ (λ i. left_by (a i) (b i)))
+
   pub left_executed : ends_thread who t.pc ≡ false → ends_handler who t.pc ≡ false → (reserved : Option ℕ) → reserved ≡ (performed m who t).reserved
       → reservation_of who reserved ≡ reservation_by who m
   left_executed a b reserved e = ap (reservation_of who) e ∙ sym (left_is ∙ (λ i. left_by (a i) (b i)))
 
   module _ (acts : actor m ≡ Some who) where
     abbrev built_by : Bool → Bool → Executed → Bool
-    built_by a b x = if a then end_built m who else (if b then false else executed_built m who t x)
+    built_by a b x = if a then end_built m who else (if b then true else executed_built m who t x)
 
     built_is : step_built m ≡ built_by (ends_thread who t.pc) (ends_handler who t.pc) fetched
     unfolding step_built
@@ -171,8 +176,8 @@ module _ (m : Machine) (who : ThreadId) (t : Thread) (there : m.threads who ≡ 
     built_end e = built_is ∙ ap (λ a. built_by a (ends_handler who t.pc) fetched) e
 
     module _ (a : ends_thread who t.pc ≡ false) where
-      pub unbuilt_handler : ends_handler who t.pc ≡ true → step_built m ≡ false
-      unbuilt_handler e = built_is ∙ (λ i. built_by (a i) (e i) fetched)
+      pub built_handler : ends_handler who t.pc ≡ true → step_built m ≡ true
+      built_handler e = built_is ∙ (λ i. built_by (a i) (e i) fetched)
 
       pub built_executed : ends_handler who t.pc ≡ false → step_built m ≡ executed_built m who t fetched
       built_executed e = built_is ∙ (λ i. built_by (a i) (e i) fetched)
@@ -196,6 +201,10 @@ module _ {W : Type 0} (held : W → Held) (old mid new : Kernel W) (who : Thread
             tells.log
             ∙ (λ i. record (log i) { records = (log i).records ++ map (record_of (log i).step) (same i).told });
       }
+
+  -- the thread of a begun step is still the interrupt thread
+  pub begun_handler : machine_of held mid ≡ at who (machine_of held old) → who.tid.0 ≡ 1 → mid.cursor.tid.0 ≡ 1
+  begun_handler begun one = ap (λ (id : ThreadId). id.tid.0) (cursor_at begun) ∙ one
 
   -- an instruction counts no step
   pub run_steps : (x : Executed) → machine_of held mid ≡ machine_after who (machine_of held old) x → mid.steps ≡ old.steps
@@ -245,6 +254,10 @@ module _ {W : Type 0} (held : W → Held) (old mid new : Kernel W) (who : Thread
 pub above_one : (tid pc : ℕ) → (nat_lt 1 tid && (pc == thread_return)) ≡ true → 1 < tid
 above_one tid pc e = grind (arith, nat_tests)
 
+-- a thread that stands where handlers end is tid 1
+pub at_one : (tid pc : ℕ) → ((tid == 1) && (pc == handler_return)) ≡ true → tid ≡ 1
+at_one tid pc e = grind (arith, nat_tests)
+
 -- the thread that acts is one of the processes'
 pub actor_known : (m : Machine) (who : ThreadId) (t : Thread) → Matched m → m.threads who ≡ Some t → is_thread_id m.processes who ≡ true
 actor_known m who t h there = h.body.ids.known who t there
@@ -252,6 +265,6 @@ actor_known m who t h there = h.body.ids.known who t there
 -- a process that dies by a call that is built stands alone
 pub call_alone : (m : Machine) (who : ThreadId) (w : List ℕ) → call_number w ≡ terminate_process → call_built m who w ≡ true → is_alone who.pid m ≡ true
 call_alone m who w ends built =
-    let parts : (is_plain_call w ≡ true) × ((not (call_number w == terminate_process) || is_alone who.pid m) ≡ true) =
-    and_parts (is_plain_call w) (not (call_number w == terminate_process) || is_alone who.pid m) built in
+    let parts : (is_built_call w ≡ true) × ((not (call_number w == terminate_process) || is_alone who.pid m) ≡ true) =
+    and_parts (is_built_call w) (not (call_number w == terminate_process) || is_alone who.pid m) built in
     sym (ap (λ n. not (n == terminate_process) || is_alone who.pid m) ends) ∙ parts.1

@@ -5,8 +5,9 @@ use Rattle.std.specs.List.{list_any}
 use Rattle.std.proofs.lemmas.Bool.{false≢true, ne_eqb}
 use Rattle.std.proofs.Math.Bool.{and-false}
 use Rattle.machine_laws.proofs.Stepping.PlainServerLemmas.{outside_refused}
-use Rattle.machine_laws.specs.WithoutServers.{is_plain_call, plain_numbers}
+use Rattle.machine_laws.specs.WithoutServers.{plain_numbers}
 use Rattle.machine_model.specs.Calling.Calls.{call, call_at, call_table}
+use Rattle.machine_model.specs.Calling.InterruptCalls.{claim_call, claim_refusals, claim_served, free_call, free_refusals, free_served}
 use Rattle.machine_model.specs.State.Changes.{Refused, Served, answering, refused_or, unless_refused}
 use Rattle.machine_model.specs.Ending.Ends.{forgotten}
 use Rattle.machine_model.specs.State.Machine.{Machine}
@@ -15,13 +16,15 @@ use Rattle.machine_model.specs.State.Order.{turn}
 use Rattle.machine_model.specs.Calling.ThreadCalls.{create_call, create_refusals, create_served, join_call, join_refusals, join_served, process_id_call, terminate_call, thread_id_call, yield_call}
 use Rattle.machine_model.specs.State.Threads.{answer_to, no_answers}
 use Rattle.xk_kernel.specs.Alone.{DiesPlainly}
+use Rattle.xk_kernel.specs.Built.{is_built_call}
 use Rattle.syscall_codec.specs.Calls.{Asks}
 use Rattle.syscall_codec.specs.declared.calls.Call.{Call}
 use Rattle.syscall_codec.specs.declared.calls.Call.TheVariants.{MapMemory, Yield, ClaimInterrupt, FreeInterrupt, IncreaseHeap, DecreaseHeap, UpdateMemoryFlags, CreateServerWithAddress, ReceiveMessage, SendMessage, Connect, CreateThread, UnmapMemory, ReturnMemory, TerminateProcess, TrySendMessage, TryConnect, ReturnScalar1, ReturnScalar2, TryReceiveMessage, JoinThread, DestroyServer, GetThreadId, GetProcessId, ForwardMessage}
-use Rattle.xk_base.specs.Calls.CallNumbers.{is_call_number}
-use Rattle.xk_base.specs.Calls.CallWords.{call_number, is_refused_to_handler}
+use Rattle.xk_base.specs.Calls.CallNumbers.{claim_interrupt, free_interrupt, is_call_number}
+use Rattle.xk_base.specs.Calls.CallWords.{call_number, interrupt_number, is_refused_to_handler}
 use Rattle.xk_base.specs.Calls.Replies.{plain_words, scalar1_words, thread_words}
 use Rattle.xk_base.specs.declared.errors.XousError.{XousError}
+use Rattle.xk_base.specs.declared.limits.TheConstants.{TIMER_INTERRUPT}
 use Rattle.xk_base.specs.declared.errors.XousError.TheVariants.{InvalidSyscall, UnhandledSyscall}
 
 -- the caller is the interrupt thread, and the call can make it wait
@@ -90,6 +93,17 @@ module _ (m : Machine) (w : List ℕ) (free : is_refused_caller m w ≡ false) w
   unfolding process_id_call
   process_id_is n = sym (by_number m w 43 n refl free)
 
+  pub claim_is : (number handler arg : ℕ) → Asks w (ClaimInterrupt number handler arg)
+      → unless_refused (claim_refusals m number handler) (Served (claim_served m number handler arg)) ≡ call m w
+  unfolding claim_call
+  claim_is number handler arg (n, a, b, d) =
+      sym (by_number m w 5 n refl free ∙ (λ i. unless_refused (claim_refusals m (a i) (b i)) (Served (claim_served m (a i) (b i) (d i)))))
+
+  pub free_is : (number : ℕ) → Asks w (FreeInterrupt number)
+      → unless_refused (free_refusals m number) (Served (free_served m number)) ≡ call m w
+  unfolding free_call
+  free_is number (n, a) = sym (by_number m w 6 n refl free ∙ (λ i. unless_refused (free_refusals m (a i)) (Served (free_served m (a i)))))
+
   pub terminate_is : (exit : ℕ) → DiesPlainly m.cursor.pid m → Asks w (TerminateProcess exit)
       → Served (record { machine = forgotten m.cursor.pid m; answers = no_answers; delivery = None; gone = Some m.cursor.pid }) ≡ call m w
   unfolding terminate_call
@@ -143,10 +157,12 @@ refused_to_handler m w asked h handler waits = λ i.
     refused_or (if not (known w asked h i) then Some UnhandledSyscall else (if (handler i == 1) && waits i then Some InvalidSyscall else None))
     (call_at (call_number w) call_table m w)
 
--- it is on memory, threads or the caller's process
+-- it is on memory, threads or the caller's process, or on interrupts
 abbrev pub is_plain : Call → Bool
 is_plain (MapMemory a b d e) = true
 is_plain Yield = true
+is_plain (ClaimInterrupt a b d) = true
+is_plain (FreeInterrupt a) = true
 is_plain (IncreaseHeap a) = true
 is_plain (DecreaseHeap a) = true
 is_plain (UpdateMemoryFlags a b d) = true
@@ -158,42 +174,51 @@ is_plain GetThreadId = true
 is_plain GetProcessId = true
 is_plain _ = false
 
--- the test of a number
-abbrev is_plain_number : ℕ → Bool
-is_plain_number k = list_any (λ n. n == k) plain_numbers || not (is_call_number k)
+-- the test of a number, and of the interrupt that is claimed by it
+abbrev is_built_number : ℕ → ℕ → Bool
+is_built_number interrupt k =
+    (list_any (λ n. n == k) plain_numbers || not (is_call_number k))
+    || (((k == claim_interrupt) && not (interrupt == TIMER_INTERRUPT)) || (k == free_interrupt))
 
--- plain words ask for such a call
-pub plain_asked : (w : List ℕ) (asked : Call) → Asks w asked → is_plain_call w ≡ true → is_plain asked ≡ true
+-- words that are built ask for such a call
+pub plain_asked : (w : List ℕ) (asked : Call) → Asks w asked → is_built_call w ≡ true → is_plain asked ≡ true
 plain_asked w (MapMemory a b d e) h plain = refl
 plain_asked w Yield h plain = refl
-plain_asked w (ClaimInterrupt a b d) h plain = sym (ap is_plain_number h.0) ∙ plain
-plain_asked w (FreeInterrupt a) h plain = sym (ap is_plain_number h.0) ∙ plain
+plain_asked w (ClaimInterrupt a b d) h plain = refl
+plain_asked w (FreeInterrupt a) h plain = refl
 plain_asked w (IncreaseHeap a) h plain = refl
 plain_asked w (DecreaseHeap a) h plain = refl
 plain_asked w (UpdateMemoryFlags a b d) h plain = refl
-plain_asked w (CreateServerWithAddress a) h plain = sym (ap is_plain_number h.0) ∙ plain
-plain_asked w (ReceiveMessage a) h plain = sym (ap is_plain_number h.0) ∙ plain
-plain_asked w (SendMessage a b d e) h plain = sym (ap is_plain_number h.0) ∙ plain
-plain_asked w (Connect a) h plain = sym (ap is_plain_number h.0) ∙ plain
+plain_asked w (CreateServerWithAddress a) h plain = sym (ap (is_built_number (interrupt_number w)) h.0) ∙ plain
+plain_asked w (ReceiveMessage a) h plain = sym (ap (is_built_number (interrupt_number w)) h.0) ∙ plain
+plain_asked w (SendMessage a b d e) h plain = sym (ap (is_built_number (interrupt_number w)) h.0) ∙ plain
+plain_asked w (Connect a) h plain = sym (ap (is_built_number (interrupt_number w)) h.0) ∙ plain
 plain_asked w (CreateThread a b d) h plain = refl
 plain_asked w (UnmapMemory a b) h plain = refl
-plain_asked w (ReturnMemory a b d e f) h plain = sym (ap is_plain_number h.0) ∙ plain
+plain_asked w (ReturnMemory a b d e f) h plain = sym (ap (is_built_number (interrupt_number w)) h.0) ∙ plain
 plain_asked w (TerminateProcess a) h plain = refl
-plain_asked w (TrySendMessage a b d e) h plain = sym (ap is_plain_number h.0) ∙ plain
-plain_asked w (TryConnect a) h plain = sym (ap is_plain_number h.0) ∙ plain
-plain_asked w (ReturnScalar1 a b) h plain = sym (ap is_plain_number h.0) ∙ plain
-plain_asked w (ReturnScalar2 a b d) h plain = sym (ap is_plain_number h.0) ∙ plain
-plain_asked w (TryReceiveMessage a) h plain = sym (ap is_plain_number h.0) ∙ plain
+plain_asked w (TrySendMessage a b d e) h plain = sym (ap (is_built_number (interrupt_number w)) h.0) ∙ plain
+plain_asked w (TryConnect a) h plain = sym (ap (is_built_number (interrupt_number w)) h.0) ∙ plain
+plain_asked w (ReturnScalar1 a b) h plain = sym (ap (is_built_number (interrupt_number w)) h.0) ∙ plain
+plain_asked w (ReturnScalar2 a b d) h plain = sym (ap (is_built_number (interrupt_number w)) h.0) ∙ plain
+plain_asked w (TryReceiveMessage a) h plain = sym (ap (is_built_number (interrupt_number w)) h.0) ∙ plain
 plain_asked w (JoinThread a) h plain = refl
-plain_asked w (DestroyServer a) h plain = sym (ap is_plain_number h.0) ∙ plain
+plain_asked w (DestroyServer a) h plain = sym (ap (is_built_number (interrupt_number w)) h.0) ∙ plain
 plain_asked w GetThreadId h plain = refl
 plain_asked w GetProcessId h plain = refl
-plain_asked w (ForwardMessage a b) h plain = sym (ap is_plain_number h.0) ∙ plain
+plain_asked w (ForwardMessage a b) h plain = sym (ap (is_built_number (interrupt_number w)) h.0) ∙ plain
+
+-- a claim that is built is that of another interrupt than the timer's
+pub claim_untimed : (w : List ℕ) (number handler arg : ℕ) → Asks w (ClaimInterrupt number handler arg) → is_built_call w ≡ true → number ≢ TIMER_INTERRUPT
+claim_untimed w number handler arg (n, a, b, d) built timed =
+    false≢true (sym (ap (λ k. is_built_number k claim_interrupt) timed) ∙ sym (λ i. is_built_number (a i) (n i)) ∙ built)
 
 -- it is one of these
 pub record IsNoneOf (asked : Call) : Type 0 where
   pub map : (a b d e : ℕ) → asked ≢ MapMemory a b d e
   pub yield : asked ≢ Yield
+  pub claim : (a b d : ℕ) → asked ≢ ClaimInterrupt a b d
+  pub free : (a : ℕ) → asked ≢ FreeInterrupt a
   pub increase : (a : ℕ) → asked ≢ IncreaseHeap a
   pub decrease : (a : ℕ) → asked ≢ DecreaseHeap a
   pub update : (a b d : ℕ) → asked ≢ UpdateMemoryFlags a b d
@@ -207,8 +232,8 @@ pub record IsNoneOf (asked : Call) : Type 0 where
 pub none_left : (asked : Call) → IsNoneOf asked → is_plain asked ≡ true → ⊥
 none_left (MapMemory a b d e) none plain = none.map a b d e refl
 none_left Yield none plain = none.yield refl
-none_left (ClaimInterrupt a b d) none plain = false≢true plain
-none_left (FreeInterrupt a) none plain = false≢true plain
+none_left (ClaimInterrupt a b d) none plain = none.claim a b d refl
+none_left (FreeInterrupt a) none plain = none.free a refl
 none_left (IncreaseHeap a) none plain = none.increase a refl
 none_left (DecreaseHeap a) none plain = none.decrease a refl
 none_left (UpdateMemoryFlags a b d) none plain = none.update a b d refl

@@ -1,12 +1,14 @@
--- A plain call leaves its caller there, unless the caller's process dies.
+-- A call that is built leaves its caller there, unless the caller's process dies.
 use Rattle.std.proofs.Common.{◌≡◌, ℕ, Bool, true, false, List, Option, Some, None, refl, sym, subst}
-use Rattle.std.specs.Prelude.{is_some, if◌then◌else◌}
+use Rattle.std.specs.Prelude.{◌==◌, ◌&&◌, ◌||◌, not, is_some, if◌then◌else◌}
 use Rattle.std.specs.Bool.{⊤}
 use Rattle.std.specs.Option.{option_map}
+use Rattle.std.proofs.lemmas.Bool.{eqb-true, false≢true}
 use Rattle.std.proofs.lemmas.Option.{none-some}
 use Rattle.machine_laws.proofs.Stepping.PlainServerLemmas.{outside_refused, plain_cases}
 use Rattle.machine_laws.specs.WithoutServers.{is_plain_call}
 use Rattle.machine_model.specs.Calling.Calls.{any_refusals, call, call_at, call_table}
+use Rattle.machine_model.specs.Calling.InterruptCalls.{claim_call, claim_refusals, claim_served, free_call, free_refusals, free_served}
 use Rattle.machine_model.specs.State.Changes.{Change, Outcome, Refused, Retried, Served, first_refusal, refused_or, unless_refused}
 use Rattle.machine_model.specs.Ending.Ends.{death}
 use Rattle.machine_model.specs.State.Machine.{Joining, Machine, Thread}
@@ -15,8 +17,11 @@ use Rattle.machine_model.specs.State.Order.{turn}
 use Rattle.machine_model.specs.Calling.ThreadCalls.{create_call, create_refusals, create_served, join_call, join_refusals, join_served, process_id_call, terminate_call, thread_id_call, yield_call}
 use Rattle.machine_model.specs.State.Threads.{with_state}
 use Rattle.xk_base.specs.Tables.Circle.{same_thread}
-use Rattle.xk_base.specs.Calls.CallWords.{call_number, heap_bytes, join_tid, map_flags, map_phys, map_size, map_virt, range_address, range_flags, range_size, thread_arguments, thread_entry, thread_sp}
+use Rattle.xk_base.specs.Calls.CallWords.{call_number, heap_bytes, interrupt_argument, interrupt_handler, interrupt_number, join_tid, map_flags, map_phys, map_size, map_virt, range_address, range_flags, range_size, thread_arguments, thread_entry, thread_sp}
+use Rattle.xk_base.specs.Calls.CallNumbers.{claim_interrupt, free_interrupt}
 use Rattle.xk_base.specs.declared.errors.XousError.{XousError}
+use Rattle.xk_base.specs.declared.limits.TheConstants.{TIMER_INTERRUPT}
+use Rattle.xk_kernel.specs.Built.{is_built_call}
 
 -- what comes of the call leaves its caller, where no process dies
 abbrev LeavesCaller : Machine → Outcome → Type 0
@@ -113,6 +118,34 @@ module _ (m : Machine) (w : List ℕ) (there : is_some (m.threads m.cursor) ≡ 
       })
       plain
 
+  claim_leaves : LeavesCaller m (claim_call m w)
+  unfolding claim_call
+  claim_leaves =
+      either (claim_refusals m (interrupt_number w) (interrupt_handler w))
+      (Served (claim_served m (interrupt_number w) (interrupt_handler w) (interrupt_argument w))) (λ e. there)
+
+  free_leaves : LeavesCaller m (free_call m w)
+  unfolding free_call
+  free_leaves = either (free_refusals m (interrupt_number w)) (Served (free_served m (interrupt_number w))) (λ e. there)
+
+  -- by the number of the call
+  numbered : (k : ℕ) → call_number w ≡ k → LeavesCaller m (call_at k call_table m w) → LeavesCaller m (call m w)
+  unfolding call
+  numbered k n leaves =
+      subst (λ j. LeavesCaller m (unless_refused (any_refusals m w) (call_at j call_table m w))) (sym n)
+      (either (any_refusals m w) (call_at k call_table m w) leaves)
+
+  built_leaves : is_built_call w ≡ true → LeavesCaller m (call m w)
+  built_leaves built =
+      go (is_plain_call w) (call_number w == claim_interrupt) (call_number w == free_interrupt) (not (interrupt_number w == TIMER_INTERRUPT)) refl refl refl built
+    where
+      go : (a b d e : Bool) → is_plain_call w ≡ a → (call_number w == claim_interrupt) ≡ b → (call_number w == free_interrupt) ≡ d
+          → (a || ((b && e) || d)) ≡ true → LeavesCaller m (call m w)
+      go true b d e p q r h = plain_leaves p
+      go false true d e p q r h = numbered claim_interrupt (eqb-true (call_number w) claim_interrupt q) claim_leaves
+      go false false true e p q r h = numbered free_interrupt (eqb-true (call_number w) free_interrupt r) free_leaves
+      go false false false e p q r h = absurd (false≢true h)
+
   -- a served caller is there, unless its process died
-  pub served_there : (change : Change) → is_plain_call w ≡ true → Served change ≡ call m w → change.gone ≡ None → is_some (change.machine.threads m.cursor) ≡ true
-  served_there change plain e = subst (LeavesCaller m) (sym e) (plain_leaves plain)
+  pub served_there : (change : Change) → is_built_call w ≡ true → Served change ≡ call m w → change.gone ≡ None → is_some (change.machine.threads m.cursor) ≡ true
+  served_there change built e = subst (LeavesCaller m) (sym e) (built_leaves built)

@@ -27,6 +27,7 @@ use Rattle.vm_memory.specs.Pages.Removing.{HasNoLoan}
 use Rattle.vm_memory.specs.Starting.{IsUnlent}
 use Rattle.vm_memory.specs.declared.memory.Memory.{Memory}
 use Rattle.xk_base.specs.declared.ids.Pid.{Pid}
+use Rattle.xk_base.specs.declared.limits.TheConstants.{TIMER_INTERRUPT}
 use Rattle.send_path.specs.Parts.{thread_of, process_of}
 use Rattle.xk_kernel.specs.State.{machine_of, claim_of}
 use Rattle.xk_kernel.specs.declared.kernel.Kernel.{Kernel}
@@ -70,9 +71,12 @@ end_nothing : (b : Bool) (o : Option TableClaim) → o ≡ None → (if b then N
 end_nothing true o e = refl
 end_nothing false o e = e
 
--- nothing is claimed after the end of a process where nothing was
-pub forget_unclaimed : (pid : Pid) (old new : Claims) → claims_of new ≡ end_claims pid (claims_of old) → ((n : ℕ) → claims_of old n ≡ None) → (n : ℕ) → claims_of new n ≡ None
-forget_unclaimed pid old new e none n = ap (λ (m : ClaimMap). m n) e ∙ end_nothing (is_of pid (claims_of old n)) (claims_of old n) (none n)
+-- the timer's interrupt isn't claimed after the end of a process where it wasn't
+pub forget_untimed : (pid : Pid) (old new : Claims) → claims_of new ≡ end_claims pid (claims_of old) → claims_of old TIMER_INTERRUPT ≡ None
+    → claims_of new TIMER_INTERRUPT ≡ None
+forget_untimed pid old new e none =
+    ap (λ (m : ClaimMap). m TIMER_INTERRUPT) e
+    ∙ end_nothing (is_of pid (claims_of old TIMER_INTERRUPT)) (claims_of old TIMER_INTERRUPT) none
 
 -- ---- the parts
 

@@ -2,11 +2,12 @@
 use Rattle.std.proofs.Common.{◌≡◌, ℕ, ◌≤◌, Bool, true, false, [], ◌∷◌, ◌++◌, map, Option, Some, None, refl, sym, ap, subst, ◌∙◌}
 use Rattle.std.specs.Prelude.{IsTrue, ◌||◌, not}
 use Rattle.machine_laws.proofs.Dying.DeathLemmas.{kill_keeps}
+use Rattle.machine_laws.proofs.Interrupting.IrqDeliveryLemmas.{irq_keeps}
 use Rattle.machine_laws.proofs.Threading.ThreadMoveLemmas.{matched_reserved}
 use Rattle.machine_model.proofs.Runs.KeptLemmas.{pick_keeps}
 use Rattle.machine_model.specs.State.Changes.{Change, settled}
 use Rattle.machine_model.specs.Ending.Ends.{forgotten}
-use Rattle.machine_model.specs.Stepping.Events.{at_event, killed, killed_if, nothing, picked}
+use Rattle.machine_model.specs.Stepping.Events.{at_event, killed, killed_if, nothing, picked, raised}
 use Rattle.machine_model.specs.State.Machine.{Machine}
 use Rattle.machine_model.specs.Stepping.Reservations.{unreserved}
 use Rattle.machine_model.specs.Runs.Matched.{Matched}
@@ -44,7 +45,7 @@ pushed_whole slot_count held k log whole e = record {
   room = subst (λ room. RECORD_LIMIT ≤ room) (sym e) whole.room;
   unlent = whole.unlent;
   no_messages = whole.no_messages;
-  unclaimed = whole.unclaimed;
+  untimed = whole.untimed;
 }
 
 -- .. and with no reservation
@@ -57,7 +58,7 @@ unreserved_whole slot_count held k whole = record {
   room = whole.room;
   unlent = whole.unlent;
   no_messages = whole.no_messages;
-  unclaimed = whole.unclaimed;
+  untimed = whole.untimed;
 }
 
 -- ---- a process that lives
@@ -90,6 +91,9 @@ module _ {W : Type 0} (slot_count : W → ℕ) (held : W → Held) (old new : Ke
 
   pub pick_matched : (who : ThreadId) → Matched (picked who (machine_of held old)).machine
   pick_matched who = pick_keeps who (machine_of held old) left_matched
+
+  pub irq_matched : (k : ℕ) → Matched (raised k (machine_of held old)).machine
+  irq_matched k = irq_keeps k (machine_of held old) left_matched
 
   pub kill_matched : (pid : Pid) → Matched (killed pid (machine_of held old)).machine
   kill_matched pid = kill_keeps pid (machine_of held old) left_matched

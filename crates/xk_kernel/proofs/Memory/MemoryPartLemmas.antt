@@ -74,12 +74,12 @@ timer_none : (m : Machine) (pid : Pid) → m.claims TIMER_INTERRUPT ≡ None →
 timer_none m pid e = ap (λ (o : Option Claim). if is_claim_of pid o then Some (record { steps = m.steps; compare = m.compare }) else None) e
 
 -- memory as a process sees it
-pub memory_seen : {W : Type 0} (held : W → Held) (k : Kernel W) (pid : Pid) → ((n : ℕ) → claims_of k.claims n ≡ None)
+pub memory_seen : {W : Type 0} (held : W → Held) (k : Kernel W) (pid : Pid) → claims_of k.claims TIMER_INTERRUPT ≡ None
     → memory_of (machine_of held k) pid ≡ user_view held k.mem pid
 unfolding machine_of memory_of seen_memory timer_seen
-memory_seen held k pid unclaimed =
+memory_seen held k pid untimed =
     timer_is (machine_of held k) pid
-    ∙ ap (timer_seen (machine_of held k) pid) (timer_none (machine_of held k) pid (ap (option_map claim_of) (unclaimed TIMER_INTERRUPT)))
+    ∙ ap (timer_seen (machine_of held k) pid) (timer_none (machine_of held k) pid (ap (option_map claim_of) untimed))
 
 -- ---- soundness
 
@@ -97,7 +97,7 @@ module _ {W P : Type 0} (is_honest : W → Bool) (held : W → Held) (slot_count
     room = whole.room;
     unlent = unlent_stays (ledger held k.mem) (ledger held mem) rest.rights whole.unlent;
     no_messages = whole.no_messages;
-    unclaimed = whole.unclaimed;
+    untimed = whole.untimed;
   }
 
   pub keeps_with : Keeps is_honest held slot_count asked faults k (with_memory mem k)

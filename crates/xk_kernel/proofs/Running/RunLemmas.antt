@@ -155,7 +155,7 @@ module _ {W P : Type 0} (is_honest : W → Bool) (held : W → Held) (slot_count
       let e : IsPerformed x told view_after before new answer =
       is_performed (execute_at before.regs pc before.reserved) byte view_before view_after before new answer (IsSound slot_count mem × IsUsable mem) (rest.sound whole.mem, stays_usable) f known in
       let same_x : execute_at before.regs pc before.reserved (memory_of (machine_of held k) pid) ≡ x =
-      ap (execute_at before.regs pc before.reserved) (memory_seen held k pid whole.unclaimed) in
+      ap (execute_at before.regs pc before.reserved) (memory_seen held k pid whole.untimed) in
       let lawful : StoresLawfully view x.executed = stores_lawfully view before.regs pc before.reserved in
       record {
         answered = e.executed.answer ∙ ap (λ (p : Performed). ran_of p.executed) (sym same_x);
@@ -196,7 +196,7 @@ whole_lent slot_count held k threads count whole = record {
   room = whole.room;
   unlent = whole.unlent;
   no_messages = whole.no_messages;
-  unclaimed = whole.unclaimed;
+  untimed = whole.untimed;
 }
 
 -- a thread that stays has its registers as before

@@ -36,7 +36,7 @@ use Rattle.vm_memory.proofs.Changing.SoundMemoryLemmas.{bare-ledger}
 use Rattle.xk_base.specs.Tables.Circle.{is_pid, is_thread_id}
 use Rattle.xk_base.specs.declared.ids.Pid.{Pid}
 use Rattle.xk_base.specs.declared.ids.ThreadId.{ThreadId}
-use Rattle.xk_base.specs.declared.limits.TheConstants.{RECORD_LIMIT}
+use Rattle.xk_base.specs.declared.limits.TheConstants.{RECORD_LIMIT, TIMER_INTERRUPT}
 use Rattle.xk_kernel.proofs.Starting.FirstLedgerLemmas.{IsPlanned, first_no_heap, first_unlent, pid_of_planned, planned_of_pid}
 use Rattle.xk_kernel.specs.Sound.{IsSound}
 use Rattle.xk_kernel.specs.Start.{first_threads, start, threads_at_start}
@@ -184,7 +184,7 @@ module _ {W : Type 0} (slot_count : W → ℕ) (held : W → Held) (plan : BootP
       room = room;
       unlent = subst IsUnlent (sym h.ledger) (first_unlent plan file);
       no_messages = h.messages;
-      unclaimed = λ n. ap (λ (m : ClaimMap). m n) h.claims;
+      untimed = ap (λ (m : ClaimMap). m TIMER_INTERRUPT) h.claims;
     };
     matched = λ usable. booted_matched;
   }

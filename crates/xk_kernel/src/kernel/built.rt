@@ -8,6 +8,7 @@ ghost use Rattle.xk_kernel.specs.State.{machine_of};
 use crate::kernel::Kernel;
 use syscall_codec::{Call, read_call};
 use xk_base::ThreadId;
+use xk_base::limits::TIMER_INTERRUPT;
 use xk_ports::SwapStore;
 
 impl<W: SwapStore> Kernel<W> {
@@ -23,15 +24,18 @@ impl<W: SwapStore> Kernel<W> {
     }
 
     // Whether the call of the thread with these words is built: it is on memory, threads or the
-    // caller's process, which stands alone where it dies by it; or no call has its number.
+    // caller's process, which stands alone where it dies by it, or on interrupts, but for a claim of the
+    // timer's; or no call has its number.
     pub(super) fn call_built(&self, who: ThreadId, words: &[u32; 8]) -> bool
         ensures { result ≡ call_built (machine_of W.held self.now) who words.now }
     {
         match read_call(*words) {
             Ok(Call::TerminateProcess { .. }) => self.is_alone(who.pid),
+            Ok(Call::ClaimInterrupt { number, .. }) => number != TIMER_INTERRUPT as u32,
             Ok(
                 Call::MapMemory { .. }
                 | Call::Yield
+                | Call::FreeInterrupt { .. }
                 | Call::IncreaseHeap { .. }
                 | Call::DecreaseHeap { .. }
                 | Call::UpdateMemoryFlags { .. }

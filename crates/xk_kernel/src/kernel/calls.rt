@@ -1,7 +1,6 @@
 //! System calls.
 
 ghost use Rattle.std.specs.Prelude.{ℕ, List, ◌≡◌, ◌+◌, ◌≤◌, true, length, IsOk, OnErr, OnOk, IfOk};
-ghost use Rattle.machine_laws.specs.WithoutServers.{is_plain_call};
 ghost use Rattle.machine_model.specs.Calling.Calls.{call};
 ghost use Rattle.machine_model.specs.State.Changes.{call_settled};
 ghost use Rattle.machine_model.specs.Runs.Matched.{Matched};
@@ -13,6 +12,7 @@ ghost use Rattle.xk_base.specs.Calls.CallNumbers.{terminate_process};
 ghost use Rattle.xk_base.specs.Calls.CallWords.{call_number};
 ghost use Rattle.xk_base.specs.declared.records.What.TheVariants.{Call as Called};
 ghost use Rattle.xk_kernel.specs.Alone.{DiesPlainly};
+ghost use Rattle.xk_kernel.specs.Built.{is_built_call};
 ghost use Rattle.xk_kernel.specs.Calling.{outcome_of};
 ghost use Rattle.xk_kernel.specs.Sound.{IsUsable, IsWhole, Keeps};
 ghost use Rattle.xk_kernel.specs.State.{machine_of};
@@ -40,7 +40,7 @@ impl<W: SwapStore> Kernel<W> {
         requires whole { IsWhole W.slot_count W.held self.old }
         requires usable { IsUsable self.old }
         requires matched { Matched (machine_of W.held self.old) }
-        requires built { is_plain_call words ≡ true }
+        requires built { is_built_call words ≡ true }
         requires plain { call_number words ≡ terminate_process → DiesPlainly self.old.cursor.pid (machine_of W.held self.old) }
         requires ready { ready_at (machine_of W.held self.old) self.old.cursor ≡ true }
         requires room { length self.old.log.records + 2 ≤ self.old.log.room }
@@ -69,7 +69,7 @@ impl<W: SwapStore> Kernel<W> {
         requires usable { IsUsable self.old }
         requires ready { ready_at (machine_of W.held self.old) self.old.cursor ≡ true }
         requires matched { Matched (machine_of W.held self.old) }
-        requires built { is_plain_call words ≡ true }
+        requires built { is_built_call words ≡ true }
         requires plain { call_number words ≡ terminate_process → DiesPlainly self.old.cursor.pid (machine_of W.held self.old) }
         ensures whole { IsWhole W.slot_count W.held self.new }
         ensures usable { OnOk result (IsUsable self.new) }
@@ -91,7 +91,7 @@ impl<W: SwapStore> Kernel<W> {
         requires usable { IsUsable self.old }
         requires ready { ready_at (machine_of W.held self.old) self.old.cursor ≡ true }
         requires matched { Matched (machine_of W.held self.old) }
-        requires built { (words : List ℕ) × Asks words asked × (is_plain_call words ≡ true) }
+        requires built { (words : List ℕ) × Asks words asked × (is_built_call words ≡ true) }
         requires plain { (exit : ℕ) → asked ≡ TerminateProcess exit → DiesPlainly self.old.cursor.pid (machine_of W.held self.old) }
         ensures whole { IsWhole W.slot_count W.held self.new }
         ensures usable { OnOk result (IsUsable self.new) }
@@ -123,6 +123,12 @@ impl<W: SwapStore> Kernel<W> {
                 self.turn();
                 Ok(Ok(CallerFate::Answered(Reply::Plain)))
             }
+            Call::ClaimInterrupt {
+                number,
+                handler,
+                arg,
+            } => Ok(self.claim_interrupt(number, handler, arg)),
+            Call::FreeInterrupt { number } => Ok(self.free_interrupt(number)),
             Call::CreateThread { entry, sp, args } => Ok(self.create_thread(entry, sp, args)),
             Call::JoinThread { tid } => Ok(self.join_thread(tid)),
             Call::TerminateProcess { .. } => {

@@ -14,14 +14,13 @@ use xk_base::{Pid, ThreadId, What};
 use xk_ports::SwapStore;
 
 impl<W: SwapStore> Kernel<W> {
-    /// Whether the event is built: all are, but for an interrupt, and for the kill of a living process
-    /// that owns a live server or has a thread that waits for an answer.
+    /// Whether the event is built: all are, but for the kill of a living process that owns a live server
+    /// or has a thread that waits for an answer.
     pub fn event_built(&self, e: Event) -> bool
         ensures { result ≡ event_built e (machine_of W.held self.now) }
     {
         match e {
-            Event::Tick(_) | Event::Pick(_, _) => true,
-            Event::Irq(_) => false,
+            Event::Tick(_) | Event::Pick(_, _) | Event::Irq(_) => true,
             Event::Kill(pid) => self.kill_built(pid),
         }
     }
@@ -49,8 +48,8 @@ impl<W: SwapStore> Kernel<W> {
         }
     }
 
-    /// Does the whole of `pick` and `kill`, and nothing for `tick`, whose steps are done one by one.
-    /// Its records are the last ones then. A `kill` ends a reservation.
+    /// Does the whole of `pick`, `irq` and `kill`, and nothing for `tick`, whose steps are done one by
+    /// one. Its records are the last ones then. An `irq` and a `kill` end a reservation.
     pub fn event_start(&mut self, e: Event)
         requires sound { IsSound W.slot_count W.held self.old }
         requires usable { IsUsable self.old }
@@ -72,7 +71,7 @@ impl<W: SwapStore> Kernel<W> {
                     self.log.push(What::Gone(pid));
                 }
             }
-            Event::Irq(_) => unreachable!(),
+            Event::Irq(number) => self.raise(number),
         }
     }
 }

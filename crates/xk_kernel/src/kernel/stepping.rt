@@ -19,14 +19,12 @@ ghost use Rattle.xk_kernel.specs.State.{as_reservation, machine_of};
 ghost use Rattle.xk_kernel.specs.Stepping.{DoesStep};
 ghost use Rattle.xk_kernel.specs.Telling.{log_with};
 
+use crate::kernel::interrupts::HANDLER_RETURN;
 use crate::kernel::threads::THREAD_RETURN;
 use crate::kernel::{Kernel, Stepped, SwapFault};
 use rv32_hart::Ran;
 use xk_base::{ThreadId, What};
 use xk_ports::SwapStore;
-
-/// The address at which an interrupt handler ends.
-const HANDLER_RETURN: u32 = 0xFF80_2000;
 
 /// The register a0.
 const A0: u8 = 10;
@@ -62,8 +60,8 @@ fn ends_handler(who: ThreadId, pc: u32) -> bool
 }
 
 impl<W: SwapStore> Kernel<W> {
-    /// Does the next step: one instruction, one whole system call, one end of a thread or one fatal
-    /// trap. `Idle` comes exactly where no thread is Ready, `NotBuilt` exactly where the next step
+    /// Does the next step: one instruction, one whole system call, one end of a thread or of an
+    /// interrupt handler, or one fatal trap. `Idle` comes exactly where no thread is Ready, `NotBuilt` exactly where the next step
     /// isn't built. A step of a thread that goes on searches nothing, and no step takes memory.
     pub fn step(&mut self) -> Result<Stepped, SwapFault>
         requires sound { IsSound W.slot_count W.held self.old }
@@ -127,7 +125,7 @@ impl<W: SwapStore> Kernel<W> {
             return Ok(self.act_end(who, a0));
         }
         if ends_handler(who, thread.pc) {
-            return Ok(Acted::Unbuilt);
+            return Ok(self.act_handler(who));
         }
         let mut reserved = self.reserved_by(who);
         match self.run(who, &mut reserved) {
@@ -178,6 +176,23 @@ impl<W: SwapStore> Kernel<W> {
         }
         self.begin(who);
         self.end_thread(a0);
+        Acted::Done(None)
+    }
+
+    // The thread, whose step it is and which stands where handlers end, ends its handler.
+    fn act_handler(&mut self, who: ThreadId) -> Acted
+        requires sound { IsSound W.slot_count W.held self.old }
+        requires usable { IsUsable self.old }
+        requires few { self.old.steps < 4000000000 }
+        requires who { actor (machine_of W.held self.old) ≡ Some who }
+        requires ends { (t : ModelThread) → (machine_of W.held self.old).threads who ≡ Some t → (ends_thread who t.pc ≡ false) × (ends_handler who t.pc ≡ true) }
+        ensures whole { IsWhole W.slot_count W.held self.new }
+        ensures usable { IsUsable self.new }
+        ensures acts { Acts W.held self.old self.new who result }
+        ensures keeps { Keeps W.is_honest W.held W.slot_count W.asked W.faults self.old self.new }
+    {
+        self.begin(who);
+        self.end_handler();
         Acted::Done(None)
     }
 

@@ -3,23 +3,22 @@ use Rattle.std.proofs.Common.{◌≡◌, ◌+◌, ◌<◌, true, false, [], is_s
 use Rattle.machine_laws.proofs.Threading.ThreadStepLemmas.{actor_ready}
 use Rattle.std.proofs.lemmas.Bool.{and_parts}
 use Rattle.std.proofs.lemmas.Option.{same_Some}
-use Rattle.machine_laws.specs.WithoutServers.{is_plain_call}
 use Rattle.machine_model.proofs.Runs.KeptLemmas.{matched_at}
 use Rattle.machine_model.specs.Calling.Calls.{call}
 use Rattle.machine_model.specs.State.Changes.{call_settled, settled}
 use Rattle.machine_model.specs.Ending.Ends.{death}
 use Rattle.machine_model.specs.Runs.Matched.{Matched}
 use Rattle.machine_model.specs.State.Machine.{Thread}
-use Rattle.machine_model.specs.Stepping.Step.{after, console_told, ends_thread, executed}
+use Rattle.machine_model.specs.Stepping.Step.{after, console_told, ends_handler, ends_thread, executed}
 use Rattle.xk_base.specs.Tables.Circle.{is_thread_id}
 use Rattle.xk_base.specs.Calls.Registers.{arguments_of, reg_at}
 use Rattle.xk_base.specs.declared.records.What.TheVariants.{Call, Fault}
 use Rattle.xk_kernel.specs.Alone.{is_alone}
-use Rattle.xk_kernel.specs.Built.{call_built, executed_built}
+use Rattle.xk_kernel.specs.Built.{call_built, executed_built, is_built_call}
 use Rattle.xk_kernel.specs.Running.{machine_after}
 use Rattle.send_path.specs.Parts.{thread_of}
 use Rattle.xk_kernel.specs.State.{machine_of}
-use Rattle.xk_kernel.proofs.Acting.ActLemmas.{actor_known, at, begun_done, begun_plain, begun_ready, built_executed, call_alone, call_executed, device_executed, fetched, left_executed, never_fails, next_executed, run_done, run_steps, told_executed, trap_executed, unbuilt_handler, words_stay}
+use Rattle.xk_kernel.proofs.Acting.ActLemmas.{actor_known, at, begun_done, begun_plain, begun_ready, built_executed, call_alone, call_executed, device_executed, fetched, left_executed, never_fails, next_executed, run_done, run_steps, told_executed, trap_executed, words_stay}
 use Rattle.xk_kernel.proofs.Calling.SettleLemmas.{ready_there}
 use Rattle.xk_kernel.proofs.kernel.Kernel.act.Goals as goal
 
@@ -34,9 +33,11 @@ act_end-requires-clause-ends g c t there =
     subst (λ (u : Thread). (ends_thread c.args.who u.pc ≡ true) × (reg_at u.regs 10 ≡ c.get-a0.result)) same
     (sym c.ends_thread.ensures ∙ c.if-ends_thread.true, sym c.get-a0.ensures.value)
 
-pub returns-then-ends_handler-clause-acts : goal.returns-then-ends_handler-clause-acts
-returns-then-ends_handler-clause-acts g c =
-    (unbuilt_handler (machine_of g.W.SwapStore.held c.args.self.now) c.args.who (thread_of c.thread-thread.result.now) c.thread-thread.ensures c.requires.who (sym c.ends_thread.ensures ∙ c.if-ends_thread.false) (sym c.ends_handler.ensures ∙ c.if-ends_handler.true), refl, refl)
+pub act_handler-requires-clause-ends : goal.act_handler-requires-clause-ends
+act_handler-requires-clause-ends g c t there =
+    let same : (thread_of c.thread-thread.result.now) ≡ t = same_Some (thread_of c.thread-thread.result.now) t (sym c.thread-thread.ensures ∙ there) in
+    subst (λ (u : Thread). (ends_thread c.args.who u.pc ≡ false) × (ends_handler c.args.who u.pc ≡ true)) same
+    (sym c.ends_thread.ensures ∙ c.if-ends_thread.false, sym c.ends_handler.ensures ∙ c.if-ends_handler.true)
 
 -- ---- goes on
 
@@ -139,7 +140,7 @@ returns-then-not-call_built-clause-acts g c =
     )
 
 pub call-requires-clause-built : goal.call-requires-clause-built
-call-requires-clause-built g c = (and_parts (is_plain_call c.arguments-words.result) _ (sym c.call_built.ensures ∙ c.if-not-call_built.false)).0
+call-requires-clause-built g c = (and_parts (is_built_call c.arguments-words.result) _ (sym c.call_built.ensures ∙ c.if-not-call_built.false)).0
 
 pub call-requires-clause-plain : goal.call-requires-clause-plain
 call-requires-clause-plain g c ends =

@@ -1,13 +1,13 @@
 -- The event does what the machine makes of it.
 use Rattle.std.proofs.Common.{◌≡◌, true, None, [], ◌∷◌, sym, ap, subst, ◌∙◌}
-use Rattle.machine_model.specs.Stepping.Events.{killed, nothing, picked}
+use Rattle.machine_model.specs.Stepping.Events.{killed, nothing, picked, raised}
 use Rattle.vm_memory.proofs.Changing.SoundMemoryLemmas.{sound-tied}
 use Rattle.xk_base.specs.declared.records.What.TheVariants.{Gone}
 use Rattle.xk_kernel.specs.Built.{event_built}
 use Rattle.xk_kernel.specs.State.{machine_of}
 use Rattle.xk_kernel.specs.Stepping.{Becomes, event_done}
 use Rattle.xk_kernel.specs.Telling.{log_with}
-use Rattle.xk_kernel.proofs.Ending.EventLemmas.{became_sound, kill_matched, killed_done, known, left_matched, lives, logged_whole, nothing_done, pick_matched, picked_done, pushed_whole, spared_done, unreserved_whole}
+use Rattle.xk_kernel.proofs.Ending.EventLemmas.{became_sound, irq_matched, kill_matched, killed_done, known, left_matched, lives, logged_whole, nothing_done, pick_matched, picked_done, pushed_whole, spared_done, unreserved_whole}
 use Rattle.xk_kernel.proofs.kernel.Kernel.event_start.Goals as goal
 
 -- ---- tick
@@ -40,6 +40,31 @@ returns-in-Pick-clause-does g c =
 
 pub returns-in-Pick-clause-tie : goal.returns-in-Pick-clause-tie
 returns-in-Pick-clause-tie g c = sound-tied g.W.SwapStore.slot_count g.W.SwapStore.held c.pick.new.self.mem c.pick.ensures.whole.mem
+
+-- ---- irq
+
+pub raise-requires-clause-whole : goal.raise-requires-clause-whole
+raise-requires-clause-whole g c =
+    logged_whole g.W.SwapStore.slot_count g.W.SwapStore.held c.args.self.now c.args.self.now c.requires.sound c.requires.usable c.clear.new.self c.clear.ensures
+
+pub raise-requires-clause-matched : goal.raise-requires-clause-matched
+unfolding machine_of
+raise-requires-clause-matched g c = left_matched g.W.SwapStore.slot_count g.W.SwapStore.held c.args.self.now c.args.self.now c.requires.sound c.requires.usable
+
+pub returns-in-Irq-clause-sound : goal.returns-in-Irq-clause-sound
+unfolding machine_of
+returns-in-Irq-clause-sound g c =
+    became_sound g.W.SwapStore.slot_count g.W.SwapStore.held c.args.self.now c.raise.new.self c.requires.sound c.requires.usable
+    (raised c.in-Irq.number (machine_of g.W.SwapStore.held c.args.self.now)) c.raise.ensures.whole c.raise.ensures.becomes
+    (irq_matched g.W.SwapStore.slot_count g.W.SwapStore.held c.args.self.now c.args.self.now c.requires.sound c.requires.usable c.in-Irq.number)
+
+pub returns-in-Irq-clause-does : goal.returns-in-Irq-clause-does
+unfolding machine_of
+returns-in-Irq-clause-does g c =
+    subst (λ e. Becomes g.W.SwapStore.held c.raise.new.self (event_done e (machine_of g.W.SwapStore.held c.args.self.now))) (sym c.in-Irq.is) c.raise.ensures.becomes
+
+pub returns-in-Irq-clause-tie : goal.returns-in-Irq-clause-tie
+returns-in-Irq-clause-tie g c = sound-tied g.W.SwapStore.slot_count g.W.SwapStore.held c.raise.new.self.mem c.raise.ensures.whole.mem
 
 -- ---- kill
 

@@ -1,7 +1,7 @@
 use Rattle.std.proofs.Common.{ap, sym, ◌∙◌, subst, IsTrue}
 use Rattle.vm_memory.specs.Memory.{Size, ledger}
 use Rattle.xk_base.specs.Tables.Circle.{is_thread_id}
-use Rattle.xk_kernel.proofs.Ending.DeathOfLemmas.{forget_unclaimed, forget_unlent, machine_forgotten}
+use Rattle.xk_kernel.proofs.Ending.DeathOfLemmas.{forget_unlent, forget_untimed, machine_forgotten}
 use Rattle.xk_kernel.proofs.kernel.Kernel.forget.Goals as goal
 
 pub returns-clause-whole : goal.returns-clause-whole
@@ -16,7 +16,7 @@ returns-clause-whole g c =
       room = old.room;
       unlent = forget_unlent (ledger g.W.SwapStore.held c.args.self.now.mem) (ledger g.W.SwapStore.held c.forget_process.new.self) c.args.pid c.forget_process.ensures.ledger old.unlent;
       no_messages = old.no_messages;
-      unclaimed = forget_unclaimed c.args.pid c.args.self.now.claims c.end-2.new.self c.end-2.ensures old.unclaimed;
+      untimed = forget_untimed c.args.pid c.args.self.now.claims c.end-2.new.self c.end-2.ensures old.untimed;
     }
 
 pub returns-clause-machine : goal.returns-clause-machine

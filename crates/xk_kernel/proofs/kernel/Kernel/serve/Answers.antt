@@ -8,7 +8,7 @@ use Rattle.xk_base.specs.Calls.Replies.{plain_words}
 use Rattle.xk_kernel.specs.Calling.{change_by}
 use Rattle.xk_kernel.specs.State.{machine_of}
 use Rattle.xk_kernel.specs.declared.kernel.calls.CallerFate.TheVariants.{Died}
-use Rattle.xk_kernel.proofs.Calling.CallTableLemmas.{create_is, decrease_is, free_by_call, free_by_tid, increase_is, join_is, map_is, none_left, plain_asked, process_id_is, refused_to_handler, terminate_is, thread_id_is, unmap_is, update_is, yield_is}
+use Rattle.xk_kernel.proofs.Calling.CallTableLemmas.{claim_is, claim_untimed, create_is, decrease_is, free_by_call, free_by_tid, free_is, increase_is, join_is, map_is, none_left, plain_asked, process_id_is, refused_to_handler, terminate_is, thread_id_is, unmap_is, update_is, yield_is}
 use Rattle.xk_kernel.proofs.kernel.Kernel.serve.Goals.{else-self-eq1-via-then-self-eq1+else-can_wait, else-self-eq1-via-else-self-eq1}
 use Rattle.xk_kernel.proofs.kernel.Kernel.serve.Goals as goal
 
@@ -24,6 +24,8 @@ unreachable-requires g c =
     (record {
       map = c.in_default.not-MapMemory;
       yield = c.in_default.not-Yield;
+      claim = c.in_default.not-ClaimInterrupt;
+      free = c.in_default.not-FreeInterrupt;
       increase = c.in_default.not-IncreaseHeap;
       decrease = c.in_default.not-DecreaseHeap;
       update = c.in_default.not-UpdateMemoryFlags;
@@ -85,6 +87,31 @@ returns-in-JoinThread-clause-outcome g c words asks =
       | else-self-eq1-via-else-self-eq1 w ↦ free_by_tid (machine_of g.W.SwapStore.held c.args.self.now) words w.if-self-eq1.false
     ])
     c.in-JoinThread.tid (subst (Asks words) c.in-JoinThread.is asks)
+
+pub claim_interrupt-requires-clause-untimed : goal.claim_interrupt-requires-clause-untimed
+claim_interrupt-requires-clause-untimed g c =
+    let built = c.requires.built in
+    claim_untimed built.0 c.in-ClaimInterrupt.number c.in-ClaimInterrupt.handler c.in-ClaimInterrupt.arg (subst (Asks built.0) c.in-ClaimInterrupt.is built.1) built.2
+
+pub returns-in-ClaimInterrupt-clause-outcome : goal.returns-in-ClaimInterrupt-clause-outcome
+unfolding machine_of
+returns-in-ClaimInterrupt-clause-outcome g c words asks =
+    c.claim_interrupt.ensures.outcome ∙ claim_is (machine_of g.W.SwapStore.held c.args.self.now) words
+    (elim c.else-self-eq1.branch [
+      | else-self-eq1-via-then-self-eq1+else-can_wait w ↦ free_by_call (machine_of g.W.SwapStore.held c.args.self.now) words (sym (w.can_wait.ensures words asks) ∙ w.if-can_wait.false)
+      | else-self-eq1-via-else-self-eq1 w ↦ free_by_tid (machine_of g.W.SwapStore.held c.args.self.now) words w.if-self-eq1.false
+    ])
+    c.in-ClaimInterrupt.number c.in-ClaimInterrupt.handler c.in-ClaimInterrupt.arg (subst (Asks words) c.in-ClaimInterrupt.is asks)
+
+pub returns-in-FreeInterrupt-clause-outcome : goal.returns-in-FreeInterrupt-clause-outcome
+unfolding machine_of
+returns-in-FreeInterrupt-clause-outcome g c words asks =
+    c.free_interrupt.ensures.outcome ∙ free_is (machine_of g.W.SwapStore.held c.args.self.now) words
+    (elim c.else-self-eq1.branch [
+      | else-self-eq1-via-then-self-eq1+else-can_wait w ↦ free_by_call (machine_of g.W.SwapStore.held c.args.self.now) words (sym (w.can_wait.ensures words asks) ∙ w.if-can_wait.false)
+      | else-self-eq1-via-else-self-eq1 w ↦ free_by_tid (machine_of g.W.SwapStore.held c.args.self.now) words w.if-self-eq1.false
+    ])
+    c.in-FreeInterrupt.number (subst (Asks words) c.in-FreeInterrupt.is asks)
 
 pub returns-in-MapMemory-clause-outcome : goal.returns-in-MapMemory-clause-outcome
 unfolding machine_of

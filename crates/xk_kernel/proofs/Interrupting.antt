@@ -1,0 +1,3 @@
+pub mod ClaimLemmas
+pub mod DeliveryLemmas
+pub mod RaiseLemmas
