@@ -43,9 +43,13 @@ pub(crate) fn arrive_and_answer(
     requires seat { to.seat < SERVER_LIMIT }
     requires room { used_of (seat_of queues.old to.seat) < MESSAGE_LIMIT }
     requires loan { HasLoanIfLend message }
-    ensures threads { let got = receiver (process_count threads.old) to.serial (threads_of threads.old) in threads_shown threads.new ≡ answered (arrival_answers got message.msg waits who) (changed_thread who passed (waiting_if waits who (threads_shown threads.old))) }
-    ensures log { let got = receiver (process_count threads.old) to.serial (threads_of threads.old) in log.new ≡ log_with (replies (process_count threads.old) (arrival_answers got message.msg waits who)) log.old }
-    ensures queues { let got = receiver (process_count threads.old) to.serial (threads_of threads.old) in queues.new ≡ changed_at to.seat (with_arrived got message) queues.old }
+    ensures threads { let got = receiver (process_count threads.old) to.serial (threads_of threads.old) in
+        let past = changed_thread who passed (waiting_if waits who (threads_shown threads.old)) in
+        threads_shown threads.new ≡ answered (arrival_answers got message.msg waits who) past }
+    ensures log { let got = receiver (process_count threads.old) to.serial (threads_of threads.old) in
+        log.new ≡ log_with (replies (process_count threads.old) (arrival_answers got message.msg waits who)) log.old }
+    ensures queues { let got = receiver (process_count threads.old) to.serial (threads_of threads.old) in
+        queues.new ≡ changed_at to.seat (with_arrived got message) queues.old }
     ensures count { process_count threads.new ≡ process_count threads.old }
 {
     let receiver = threads.receiver_in(to.pid, to.serial);

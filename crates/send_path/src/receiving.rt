@@ -3,6 +3,7 @@
 ghost use Rattle.std.specs.Prelude.{◌≡◌, ◌+◌, ◌≤◌, ◌==◌, ◌&&◌, length, true, IsFalse};
 ghost use Rattle.thread_table.specs.ThreadMap.{is_ready};
 ghost use Rattle.thread_table.specs.ThreadsOf.{threads_of};
+ghost use Rattle.send_path.specs.Parts.{tables_of};
 ghost use Rattle.send_path.specs.Rows.{IsTableRow, receive_row};
 ghost use Rattle.send_path.specs.Sound.{AreTablesSound};
 
@@ -30,9 +31,12 @@ pub fn receive(
 ) -> Result<(), XousError>
     requires ready { is_ready (threads_of threads.old who) ≡ true }
     requires room { length log.old.records + 2 ≤ log.old.room }
-    requires sound { AreTablesSound who (record { threads = threads.old; servers = servers.now; queues = queues.old; log = log.old }) }
-    ensures row { IsTableRow (receive_row sid wait_for_one) who (record { threads = threads.old; servers = servers.now; queues = queues.old; log = log.old }) (record { threads = threads.new; servers = servers.now; queues = queues.new; log = log.new }) result }
-    ensures sound { IsFalse (wait_for_one && (who.tid.0 == 1)) → AreTablesSound who (record { threads = threads.new; servers = servers.now; queues = queues.new; log = log.new }) }
+    requires sound { AreTablesSound who (tables_of threads.old servers.now queues.old log.old) }
+    ensures row { let old = tables_of threads.old servers.now queues.old log.old in
+        let new = tables_of threads.new servers.now queues.new log.new in
+        IsTableRow (receive_row sid wait_for_one) who old new result }
+    ensures sound { let new = tables_of threads.new servers.now queues.new log.new in
+        IsFalse (wait_for_one && (who.tid.0 == 1)) → AreTablesSound who new }
 {
     let Some(Seated { serial, seat }) = own_server(servers, who.pid, sid) else {
         return Err(XousError::ServerNotFound);

@@ -6,6 +6,7 @@ ghost use Rattle.thread_table.specs.ThreadMap.{is_ready};
 ghost use Rattle.thread_table.specs.ThreadsOf.{threads_of};
 ghost use Rattle.xk_base.specs.Calls.CallNumbers.{return_memory as memory_number, return_scalar1 as scalar1_number, return_scalar2 as scalar2_number};
 ghost use Rattle.xk_base.specs.Calls.CallWords.{call_number};
+ghost use Rattle.send_path.specs.Parts.{parts_of};
 ghost use Rattle.send_path.specs.Rows.{IsRow, memory_row, scalar_row, table_row};
 ghost use Rattle.send_path.specs.Sound.{IsSound, KeepsMemory};
 
@@ -45,9 +46,11 @@ pub fn give_back<W: SwapStore>(
     requires ready { is_ready (threads_of threads.old who) ≡ true }
     requires room { length log.old.records + 2 ≤ log.old.room }
     requires served { (call_number words == memory_number || call_number words == scalar1_number || call_number words == scalar2_number) ≡ true }
-    requires sound { IsSound W.slot_count W.held who (record { mem = mem.old; tables = record { threads = threads.old; servers = servers.now; queues = queues.old; log = log.old } }) }
-    ensures row { IsRow W.held (table_row words) who (record { mem = mem.old; tables = record { threads = threads.old; servers = servers.now; queues = queues.old; log = log.old } }) (record { mem = mem.new; tables = record { threads = threads.new; servers = servers.now; queues = queues.new; log = log.new } }) result }
-    ensures sound { IsSound W.slot_count W.held who (record { mem = mem.new; tables = record { threads = threads.new; servers = servers.now; queues = queues.new; log = log.new } }) }
+    requires sound { IsSound W.slot_count W.held who (parts_of mem.old threads.old servers.now queues.old log.old) }
+    ensures row { let old = parts_of mem.old threads.old servers.now queues.old log.old in
+        let new = parts_of mem.new threads.new servers.now queues.new log.new in
+        IsRow W.held (table_row words) who old new result }
+    ensures sound { IsSound W.slot_count W.held who (parts_of mem.new threads.new servers.now queues.new log.new) }
     ensures mem { KeepsMemory W.is_honest W.held mem.old mem.new }
 {
     match read_call(words) {
@@ -117,9 +120,11 @@ fn return_memory<W: SwapStore>(
 ) -> Result<(), XousError>
     requires ready { is_ready (threads_of threads.old who) ≡ true }
     requires room { length log.old.records + 2 ≤ log.old.room }
-    requires sound { IsSound W.slot_count W.held who (record { mem = mem.old; tables = record { threads = threads.old; servers = servers.now; queues = queues.old; log = log.old } }) }
-    ensures row { IsRow W.held (memory_row returned.number returned.address returned.size returned.offset returned.valid) who (record { mem = mem.old; tables = record { threads = threads.old; servers = servers.now; queues = queues.old; log = log.old } }) (record { mem = mem.new; tables = record { threads = threads.new; servers = servers.now; queues = queues.new; log = log.new } }) result }
-    ensures sound { IsSound W.slot_count W.held who (record { mem = mem.new; tables = record { threads = threads.new; servers = servers.now; queues = queues.new; log = log.new } }) }
+    requires sound { IsSound W.slot_count W.held who (parts_of mem.old threads.old servers.now queues.old log.old) }
+    ensures row { let old = parts_of mem.old threads.old servers.now queues.old log.old in
+        let new = parts_of mem.new threads.new servers.now queues.new log.new in
+        IsRow W.held (memory_row returned.number returned.address returned.size returned.offset returned.valid) who old new result }
+    ensures sound { IsSound W.slot_count W.held who (parts_of mem.new threads.new servers.now queues.new log.new) }
     ensures mem { KeepsMemory W.is_honest W.held mem.old mem.new }
 {
     let Some(HeldAt { seat, message, .. }) = held_by(servers, queues, who.pid, returned.number)
@@ -154,9 +159,11 @@ fn return_scalar<W: SwapStore>(
 ) -> Result<(), XousError>
     requires ready { is_ready (threads_of threads.old who) ≡ true }
     requires room { length log.old.records + 2 ≤ log.old.room }
-    requires sound { IsSound W.slot_count W.held who (record { mem = mem.now; tables = record { threads = threads.old; servers = servers.now; queues = queues.old; log = log.old } }) }
-    ensures row { IsRow W.held (scalar_row number (words_of reply)) who (record { mem = mem.now; tables = record { threads = threads.old; servers = servers.now; queues = queues.old; log = log.old } }) (record { mem = mem.now; tables = record { threads = threads.new; servers = servers.now; queues = queues.new; log = log.new } }) result }
-    ensures sound { IsSound W.slot_count W.held who (record { mem = mem.now; tables = record { threads = threads.new; servers = servers.now; queues = queues.new; log = log.new } }) }
+    requires sound { IsSound W.slot_count W.held who (parts_of mem.now threads.old servers.now queues.old log.old) }
+    ensures row { let old = parts_of mem.now threads.old servers.now queues.old log.old in
+        let new = parts_of mem.now threads.new servers.now queues.new log.new in
+        IsRow W.held (scalar_row number (words_of reply)) who old new result }
+    ensures sound { IsSound W.slot_count W.held who (parts_of mem.now threads.new servers.now queues.new log.new) }
 {
     let Some(HeldAt { seat, message, .. }) = held_by(servers, queues, who.pid, number) else {
         return Err(XousError::DoubleFree);

@@ -47,14 +47,17 @@ struct Asked {
     words: [u32; 4],
 }
 
-/// A thread sends a message to the live server that its connection leads to. It is refused as
-/// `ServerNotFound` where there is none, as `InvalidSyscall` where the kind is unknown, and for pages
-/// that may not go or for which no run is free at the receiver; the server is full where those tests
-/// pass but the last, and all its slots are in use. Then nothing changes. An accepted message has this
-/// number, and its pages are at the receiver at once. Of the threads that are Receiving at the server
-/// the one of least tid gets it, and where there is none it is queued. The sender waits for the answer
-/// to a lend or a blocking scalar; else it is answered. Tid 1 may not wait: where it does the parts aren't those of
-/// a matched machine any more.
+/// A thread sends a message to the live server that its connection leads to, by SendMessage or by
+/// TrySendMessage. It is refused as `ServerNotFound` where there is no such server, as `InvalidSyscall`
+/// where no kind has the number, as the tests of its pages answer, where it has pages, and as
+/// `MemoryInUse` where no run is free for them at the receiver. The server is full where the tests
+/// before that of the run pass, and all its slots are in use. A send that is refused, or finds the
+/// server full, changes nothing.
+///
+/// An accepted message gets the number, and its pages are at the receiver at once. Of the threads that
+/// are Receiving at the server the one of least tid gets it; where there is none it is queued. The
+/// sender of a lend or a blocking scalar waits for its answer, and any other is answered. Tid 1 may not
+/// wait: where it does the parts aren't those of a matched machine any more.
 pub fn send<W: SwapStore>(
     mem: &mut Memory<W>,
     threads: &mut Threads,
@@ -71,9 +74,13 @@ pub fn send<W: SwapStore>(
     requires served { (call_number words == send_message || call_number words == try_send_message) ≡ true }
     requires usable { IsUsable mem.old }
     requires above { IsAboveMessages number servers.now queues.old }
-    requires sound { let old = parts_of mem.old threads.old servers.now queues.old log.old in IsSoundOver W.slot_count W.held who procs.now old }
-    ensures row { let old = parts_of mem.old threads.old servers.now queues.old log.old in let new = parts_of mem.new threads.new servers.now queues.new log.new in IsSendRow W.held (send_row words) who procs.now number old new result }
-    ensures sound { let new = parts_of mem.new threads.new servers.now queues.new log.new in IsFalse (is_waiting_kind (send_kind words) && (who.tid.0 == 1)) → IsSoundOver W.slot_count W.held who procs.now new }
+    requires sound { let old = parts_of mem.old threads.old servers.now queues.old log.old in
+        IsSoundOver W.slot_count W.held who procs.now old }
+    ensures row { let old = parts_of mem.old threads.old servers.now queues.old log.old in
+        let new = parts_of mem.new threads.new servers.now queues.new log.new in
+        IsSendRow W.held (send_row words) who procs.now number old new result }
+    ensures sound { let new = parts_of mem.new threads.new servers.now queues.new log.new in
+        IsFalse (is_waiting_kind (send_kind words) && (who.tid.0 == 1)) → IsSoundOver W.slot_count W.held who procs.now new }
     ensures mem { KeepsMemory W.is_honest W.held mem.old mem.new }
 {
     let asked = asked_in(words);
@@ -127,9 +134,13 @@ fn send_asked<W: SwapStore>(
     requires room { length log.old.records + 2 ≤ log.old.room }
     requires usable { IsUsable mem.old }
     requires above { IsAboveMessages number servers.now queues.old }
-    requires sound { let old = parts_of mem.old threads.old servers.now queues.old log.old in IsSoundOver W.slot_count W.held who procs.now old }
-    ensures row { let old = parts_of mem.old threads.old servers.now queues.old log.old in let new = parts_of mem.new threads.new servers.now queues.new log.new in IsSendRow W.held (asked_row asked) who procs.now number old new result }
-    ensures sound { let new = parts_of mem.new threads.new servers.now queues.new log.new in IsFalse (is_waiting_kind asked.kind && (who.tid.0 == 1)) → IsSoundOver W.slot_count W.held who procs.now new }
+    requires sound { let old = parts_of mem.old threads.old servers.now queues.old log.old in
+        IsSoundOver W.slot_count W.held who procs.now old }
+    ensures row { let old = parts_of mem.old threads.old servers.now queues.old log.old in
+        let new = parts_of mem.new threads.new servers.now queues.new log.new in
+        IsSendRow W.held (asked_row asked) who procs.now number old new result }
+    ensures sound { let new = parts_of mem.new threads.new servers.now queues.new log.new in
+        IsFalse (is_waiting_kind asked.kind && (who.tid.0 == 1)) → IsSoundOver W.slot_count W.held who procs.now new }
     ensures mem { KeepsMemory W.is_honest W.held mem.old mem.new }
 {
     let Some(to) = connected_server(procs, servers, who.pid, asked.cid) else {

@@ -125,7 +125,8 @@ pub(crate) fn answer_with_sender(
     requires room { length log.old.records + 2 ≤ log.old.room }
     requires who { is_thread_id (process_count threads.old) who ≡ true }
     requires sender { IfSome sender (λ id. (is_thread_id (process_count threads.old) id ≡ true) × (same_thread who id ≡ false)) }
-    ensures after { threads_shown threads.new ≡ answered (both_answers (answer_to who plain_words) (sender_gets words sender)) (changed_thread who passed (threads_shown threads.old)) }
+    ensures after { let past = changed_thread who passed (threads_shown threads.old) in
+        threads_shown threads.new ≡ answered (both_answers (answer_to who plain_words) (sender_gets words sender)) past }
     ensures log { log.new ≡ log_with (replies (process_count threads.old) (both_answers (answer_to who plain_words) (sender_gets words sender))) log.old }
     ensures count { process_count threads.new ≡ process_count threads.old }
 {
