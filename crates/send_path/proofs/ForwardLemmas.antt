@@ -55,10 +55,11 @@ use Rattle.send_path.specs.Threads.{answered, changed_thread}
 use Rattle.send_path.specs.declared.holding.HeldAt.{HeldAt}
 use Rattle.send_path.specs.declared.seats.Reached.{Reached}
 use Rattle.send_path.proofs.ArriveLemmas.{receiver_alike}
-use Rattle.send_path.proofs.ForwardSeatLemmas.{arrived_at, arrived_shown}
 use Rattle.send_path.proofs.ReturnLemmas.{held_alike, holder_alike, its_holder, its_kind, left_shown, message_number}
 use Rattle.send_path.proofs.RowLemmas.{served_so}
 use Rattle.send_path.proofs.SeatLemmas.{seats_counted, server_changed, server_there}
+use Rattle.send_path.proofs.SendRowLemmas.{arrived_shown}
+use Rattle.send_path.proofs.SentLemmas.{arrival_shown}
 
 and_assoc : (a b c : Bool) → ((a && b) && c) ≡ (a && (b && c))
 and_assoc true b c = refl
@@ -247,7 +248,7 @@ module _ {W : Type 0} (slot_count : W → ℕ) (held : W → HeldBytes) (procs :
           gone m n k = record (change_server (serial_of at.serial.0) (without_held n) (all m)) { ledger = k }
 
           abbrev next : Machine → Machine
-          next m = change_server to.serial (arrived_at got y) (gone m number l)
+          next m = change_server to.serial (arrived_shown got y) (gone m number l)
 
           abbrev answered_too : Change → Change
           answered_too left = record left { answers = both_answers left.answers (answer_to who plain_words) }
@@ -263,7 +264,7 @@ module _ {W : Type 0} (slot_count : W → ℕ) (held : W → HeldBytes) (procs :
 
           by_receiver : (o : Option ThreadId) (m : Machine)
               → answered_too (arrived o to.serial y m)
-              ≡ answering (both_answers (sender_gets (message_words y) o) (answer_to who plain_words)) (change_server to.serial (arrived_at o y) m)
+              ≡ answering (both_answers (sender_gets (message_words y) o) (answer_to who plain_words)) (change_server to.serial (arrived_shown o y) m)
           by_receiver None m = refl
           by_receiver (Some id) m = refl
 
@@ -301,12 +302,12 @@ module _ {W : Type 0} (slot_count : W → ℕ) (held : W → HeldBytes) (procs :
                 server_changed old.tables.servers seats at.serial.0 at.seat its.seat sound.seats.all (without_held_at number) (without_held number)
                 (left_shown slot_count held who old sound ready number at its)
 
-            servers_are : servers_shown new.tables.servers new.tables.queues ≡ put_at nat_eq left to.serial.0 (option_map (arrived_at got y) (left to.serial.0))
+            servers_are : servers_shown new.tables.servers new.tables.queues ≡ put_at nat_eq left to.serial.0 (option_map (arrived_shown got y) (left to.serial.0))
             servers_are =
                 (λ i. servers_shown (p.servers i) (p.queues i))
                 ∙ server_changed old.tables.servers between to.serial.0 to.seat there.seat (seats_counted seats at.seat (without_held_at number) ∙ sound.seats.all)
-                (with_arrived got h) (arrived_at got h.msg) (arrived_shown got h (seat_of between to.seat) there.seat.server)
-                ∙ (λ i. put_at nat_eq (left_is i) to.serial.0 (option_map (arrived_at got (p.message i)) (left_is i to.serial.0)))
+                (with_arrived got h) (arrived_shown got h.msg) (arrival_shown got h (seat_of between to.seat) there.seat.server)
+                ∙ (λ i. put_at nat_eq (left_is i) to.serial.0 (option_map (arrived_shown got (p.message i)) (left_is i to.serial.0)))
 
             pub passed_on : (m : Machine)
                 → IsServed (forward_row number cid (all m)) (all m) (with_all held who procs new m) old.tables.log new.tables.log

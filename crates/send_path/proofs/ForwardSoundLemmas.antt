@@ -57,10 +57,10 @@ use Rattle.send_path.specs.Sound.{AreLoansSound, AreSeatsSound, IsLenderOf, IsLo
 use Rattle.send_path.specs.declared.holding.HeldAt.{HeldAt}
 use Rattle.send_path.specs.declared.seats.Reached.{Reached}
 use Rattle.send_path.proofs.ForwardLemmas.{goes_on}
-use Rattle.send_path.proofs.ForwardSeatLemmas.{loans_arrived, seats_arrived}
 use Rattle.send_path.proofs.HeldListLemmas.{find_shown}
 use Rattle.send_path.proofs.ReturnLemmas.{has_loan, its_loan, loan_number, loans_left, message_number, seats_left, shown}
 use Rattle.send_path.proofs.SeatLemmas.{seat_in_limit, seat_other, seats_counted, server_there}
+use Rattle.send_path.proofs.SentSoundLemmas.{arrived_seats, loans_arrived}
 use Rattle.send_path.proofs.ThreadLemmas.{ready_id, ready_there}
 
 -- the loan of another number stands when this one is passed on
@@ -74,15 +74,6 @@ passed_stand l number from to run other h =
 pub stood_on : {l m : Ledger} {r q : LoanRun} → l ≡ m → r ≡ q → Stands (loans l) r → Stands (loans m) q
 stood_on {l} {m} {r} {q} e f h = subst (λ k. Stands (loans k) q) e (subst (Stands (loans l)) f h)
 
--- not all slots are in use
-pub has_room_left : (full : Bool) (used : ℕ) → IsTrue full ↔ (used ≡ MESSAGE_LIMIT) → used ≤ MESSAGE_LIMIT → full ≡ false → used < MESSAGE_LIMIT
-has_room_left full used is most not_full =
-    let apart : used ≢ MESSAGE_LIMIT = λ e. false≢true (sym not_full ∙ is.1 e) in
-    omega arith
-
-is_there : {A : Type 0} (o : Option A) (a : A) → o ≡ Some a → is_some o ≡ true
-is_there o a e = ap is_some e
-
 -- ---- matched still
 
 module _ {W : Type 0} (slot_count : W → ℕ) (held : W → HeldBytes) (who : ThreadId) (procs : Processes) (old : Parts W)
@@ -90,13 +81,6 @@ module _ {W : Type 0} (slot_count : W → ℕ) (held : W → HeldBytes) (who : T
     (number : Number) (cid : ℕ) where
   abbrev m0 : Machine
   m0 = sound.sound.machine
-
-  -- the caller's process is one of the table
-  pub caller_pid : IsPid (made_for procs) who.pid.0
-  caller_pid =
-      let n : ℕ = process_count old.tables.threads in
-      let parts : (is_pid n who.pid.0 ≡ true) × (is_tid who.tid.0 ≡ true) = and_parts (is_pid n who.pid.0) (is_tid who.tid.0) (ready_id old.tables.threads who ready) in
-      subst (λ k. IsPid k who.pid.0) (sym sound.count) (is_pid-bounds n who.pid.0 parts.0)
 
   matched_over : Matched (with_all held who procs old m0)
   matched_over = subst Matched (λ i. with_parts held who old (record m0 { process = sound.same i })) sound.sound.matched
@@ -130,56 +114,12 @@ module _ {W : Type 0} (slot_count : W → ℕ) (held : W → HeldBytes) (procs :
   abbrev a : Server
   a = server_with (seat_of seats at.seat) its.seat.server
 
-  abbrev b : Server
-  b = server_with (seat_of seats to.seat) there.seat.server
-
   from_live : all.servers at.serial.0 ≡ Some a
   unfolding with_parts with_tables
   from_live = server_there old.tables.servers seats at.serial.0 at.seat its.seat sound.seats.all
 
-  to_live : all.servers to.serial.0 ≡ Some b
-  unfolding with_parts with_tables
-  to_live = server_there old.tables.servers seats to.serial.0 to.seat there.seat sound.seats.all
-
   parts : (is_lend x.kind ≡ true) × (is_some x.sender ≡ true)
   parts = and_parts (is_lend x.kind) (is_some x.sender) can
-
-  -- ---- the other server's process
-
-  lives : is_living all to.pid ≡ true
-  lives = subst (λ pid. is_living all pid ≡ true) there.own (sound.matched.body.servers.living to.serial.0 b to_live)
-
-  pub has_pid : is_pid (processes old.mem) to.pid.0 ≡ true
-  unfolding with_parts with_tables
-  has_pid = subst (λ n. is_pid n to.pid.0 ≡ true) sound.processes (sound.matched.body.processes.pids to.pid lives)
-
-  pub has_thread_pid : IsPid (process_count old.tables.threads) to.pid.0
-  unfolding with_parts with_tables
-  has_thread_pid = is_pid-bounds (process_count old.tables.threads) to.pid.0 (sound.matched.body.processes.pids to.pid lives)
-
-  -- who is Receiving there is of that process
-  pub receivers_own : (id : ThreadId) → is_table_receiving to.serial (threads_of old.tables.threads id) ≡ true → id.pid.0 ≡ to.pid.0
-  unfolding with_parts with_tables
-  receivers_own id e = by_thread (threads_of old.tables.threads id) refl e
-    where
-      by_server : (other : Serial) → (other.0 == to.serial.0) ≡ true → IsServerAwaited all.servers id.pid other → id.pid.0 ≡ to.pid.0
-      by_server other same awaited =
-          let is : awaited.server ≡ b = same_Some awaited.server b (sym awaited.live ∙ ap all.servers (eqb-true other.0 to.serial.0 same) ∙ to_live) in
-          ap (λ p. p.0) (sym awaited.own ∙ ap (λ (s : Server). s.pid) is ∙ there.own)
-
-      by_state : (t : TableThread) → threads_of old.tables.threads id ≡ Some t → (s : TableState) → t.state ≡ s
-          → is_receiving_state to.serial s ≡ true → id.pid.0 ≡ to.pid.0
-      by_state t f table.Ready g q = absurd (false≢true q)
-      by_state t f (table.Receiving other) g q =
-          by_server other q (sound.matched.body.receivers id (thread_of t) other (ap (option_map thread_of) f)
-          (ap (λ s. (thread_of (record t { state = s })).state) g))
-      by_state t f (table.Waiting other) g q = absurd (false≢true q)
-      by_state t f (table.Joining tid) g q = absurd (false≢true q)
-      by_state t f table.Idle g q = absurd (false≢true q)
-
-      by_thread : (o : Option TableThread) → threads_of old.tables.threads id ≡ o → is_table_receiving to.serial o ≡ true → id.pid.0 ≡ to.pid.0
-      by_thread None f q = absurd (false≢true q)
-      by_thread (Some t) f q = by_state t f t.state refl q
 
   -- ---- the pages
 
@@ -196,24 +136,6 @@ module _ {W : Type 0} (slot_count : W → ℕ) (held : W → HeldBytes) (procs :
       by_kind None e q = absurd (false≢true q)
       by_kind (Some kind) e q =
           subst (λ (z : Message). 1 ≤ z.count) place.3 (lent kind (ap (λ (z : Message). loan_kind z.kind) place.3 ∙ e)).count
-
-  pub free_arrival : (first : Vpn) → least_run (processes old.mem) (ledger held old.mem) to.pid MessageWindow x.count ≡ Some first
-      → IsFreeArrival (processes old.mem) (ledger held old.mem) (record { pid = to.pid; vpn = first }) x.count
-  unfolding with_parts with_tables
-  free_arrival first run =
-      subst (λ n. least_run n (ledger held old.mem) to.pid MessageWindow x.count ≡ Some first
-      → IsFreeArrival n (ledger held old.mem) (record { pid = to.pid; vpn = first }) x.count) sound.processes
-      (λ found. record {
-        free = run_free all sound.matched to.pid lives x.count first found;
-        lies = run_lies all sound.matched to.pid lives x.count first found;
-      }) run
-
-  pub first_low : (first : Vpn) → least_run (processes old.mem) (ledger held old.mem) to.pid MessageWindow x.count ≡ Some first → first.0 < 1048576
-  first_low first run =
-      let found : IsLeastRun (processes old.mem) (ledger held old.mem) to.pid MessageWindow x.count first =
-      least_run-Some (processes old.mem) (ledger held old.mem) to.pid MessageWindow x.count first run in
-      let high : first.0 + x.count ≤ 266240 = found.high in
-      omega arith
 
   -- ---- the loan
 
@@ -235,7 +157,7 @@ module _ {W : Type 0} (slot_count : W → ℕ) (held : W → HeldBytes) (procs :
       where
         go : (o : Option ThreadId) → is_some o ≡ true → IsLenderOf o run.lender → is_some run.lender ≡ true
         go None q e = absurd (false≢true q)
-        go (Some sender) q e = is_there run.lender e.0 e.1
+        go (Some sender) q e = ap is_some e.1
 
     -- its step of the ledger is that of the row
     pub pass_is : (first : Vpn) → pass run.number run.holder (record { pid = to.pid; vpn = first }) (ledger held old.mem)
@@ -261,9 +183,6 @@ module _ {W : Type 0} (slot_count : W → ℕ) (held : W → HeldBytes) (procs :
       counted : length between ≡ SERVER_LIMIT
       counted = seats_counted seats at.seat (without_held number) ∙ sound.seats.all
 
-      pub seat_low : to.seat < SERVER_LIMIT
-      seat_low = seat_in_limit old.tables.servers seats to.serial.0 to.seat there.seat sound.seats.all
-
       pub has_room : used_of (seat_of seats to.seat) < MESSAGE_LIMIT → used_of (seat_of between to.seat) < MESSAGE_LIMIT
       has_room room =
           subst (λ seat. used_of seat < MESSAGE_LIMIT) (sym (seat_other seats at.seat to.seat (without_held number) seats_apart)) room
@@ -281,8 +200,7 @@ module _ {W : Type 0} (slot_count : W → ℕ) (held : W → HeldBytes) (procs :
 
         pub seats_on : AreSeatsSound (servers_of old.tables.servers) (changed_at to.seat (with_arrived got h) between)
         seats_on =
-            seats_arrived old.tables.servers between to.serial.0 to.seat there.seat got h has_loan_on
-            (seats_left slot_count held who old sound ready number at its)
+            arrived_seats old.tables.servers between to.serial.0 to.seat (seats_left slot_count held who old sound ready number at its) there.seat got h has_loan_on
 
         its_loan_on : Stands (loans after) (with_holder place run) → IsLoanOf (loans after) there.seat.server.pid (with_first first x) (with_holder place run)
         its_loan_on stands = record {

@@ -1,6 +1,5 @@
 pub mod ArriveLemmas
 pub mod ForwardLemmas
-pub mod ForwardSeatLemmas
 pub mod ForwardSoundLemmas
 pub mod HeldListLemmas
 pub mod HolderLemmas

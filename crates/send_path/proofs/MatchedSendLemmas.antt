@@ -38,14 +38,6 @@ use Rattle.send_path.specs.Sound.{IsAboveMessages, IsSoundOver}
 use Rattle.send_path.proofs.SeatLemmas.{server_there}
 use Rattle.send_path.proofs.ThreadLemmas.{ready_id, ready_there}
 
-receiving_then : (serial : Serial) (s : TableState) → is_receiving_state serial s ≡ true → state_of s ≡ Receiving serial
-receiving_then serial table.Ready e = absurd (false≢true e)
-receiving_then serial (table.Receiving other) e =
-    let same : other.0 ≡ serial.0 = eqb-true other.0 serial.0 e in λ i. Receiving (record { 0 = same i })
-receiving_then serial (table.Waiting number) e = absurd (false≢true e)
-receiving_then serial (table.Joining tid) e = absurd (false≢true e)
-receiving_then serial table.Idle e = absurd (false≢true e)
-
 module _ {W : Type 0} (slot_count : W → ℕ) (held : W → HeldBytes) (who : ThreadId) (procs : Processes) (number : Number) (old : Parts W)
     (sound : IsSoundOver slot_count held who procs old) (above : IsAboveMessages number old.tables.servers old.tables.queues) where
   -- the rest of a machine of these parts, late enough for the number
@@ -77,44 +69,9 @@ module _ {W : Type 0} (slot_count : W → ℕ) (held : W → HeldBytes) (who : T
         };
       })
 
-  -- the caller's process is there
-  module _ (ready : is_table_ready (threads_of old.tables.threads who) ≡ true) where
-    pub caller_pid : is_pid (process_count old.tables.threads) who.pid.0 ≡ true
-    caller_pid =
-        (and_parts (is_pid (process_count old.tables.threads) who.pid.0) (is_tid who.tid.0) (ready_id old.tables.threads who ready)).0
-
-    pub caller_in_mem : is_pid (processes old.mem) who.pid.0 ≡ true
-    caller_in_mem = ap (λ n. is_pid n who.pid.0) (sym sound.sound.processes) ∙ caller_pid
-
-    pub caller_bounds : IsPid (made_for procs) who.pid.0
-    caller_bounds = is_pid-bounds (made_for procs) who.pid.0 (ap (λ n. is_pid n who.pid.0) sound.count ∙ caller_pid)
-
   pub fresh : IsFresh (loans (ledger held old.mem)) number
   unfolding with_parts with_tables
   fresh = number_is_fresh m0 matched number (let low : number.0 ≤ number.0 = omega arith in low)
-
-  module _ (serial k : ℕ) (its : IsSeatOf (servers_of old.tables.servers) serial k) where
-    abbrev server : Server
-    server = server_with (seat_of old.tables.queues k) its.server
-
-    live : m0.servers serial ≡ Some server
-    unfolding with_parts with_tables
-    live = server_there old.tables.servers old.tables.queues serial k its sound.sound.seats.all
-
-    pub server_pid : is_pid (process_count old.tables.threads) its.server.pid.0 ≡ true
-    unfolding with_parts with_tables
-    server_pid = matched.body.processes.pids its.server.pid (matched.body.servers.living serial server live)
-
-    pub receivers_own : (id : ThreadId) → is_table_receiving (record { 0 = serial }) (threads_of old.tables.threads id) ≡ true → id.pid.0 ≡ its.server.pid.0
-    unfolding with_parts with_tables
-    receivers_own id e = go (threads_of old.tables.threads id) refl e
-      where
-        go : (o : Option TableThread) → threads_of old.tables.threads id ≡ o → is_table_receiving (record { 0 = serial }) o ≡ true → id.pid.0 ≡ its.server.pid.0
-        go None q r = absurd (false≢true r)
-        go (Some t) q r =
-            let awaited : IsServerAwaited m0.servers id.pid (record { 0 = serial }) =
-            matched.body.receivers id (thread_of t) (record { 0 = serial }) (ap (option_map thread_of) q) (receiving_then (record { 0 = serial }) t.state r) in
-            sym (ap (λ o. option_map_or (λ (s : Server). s.pid.0) o 0) (sym live ∙ awaited.live) ∙ ap (λ (p : Pid). p.0) awaited.own)
 
   module _ (ready : is_table_ready (threads_of old.tables.threads who) ≡ true) (w : List ℕ)
       (no_wait : (is_waiting_kind (send_kind w) && (who.tid.0 == 1)) ≡ false) where

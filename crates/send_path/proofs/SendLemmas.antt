@@ -44,8 +44,8 @@ use Rattle.send_path.specs.Sending.{MayGo, arrival_of, asked_words, pages_answer
 use Rattle.send_path.specs.Sound.{IsAboveMessages, IsLoanOf, IsSoundOver}
 use Rattle.send_path.specs.declared.seats.Reached.{Reached}
 use Rattle.send_path.specs.declared.sending.Asked.{Asked}
-use Rattle.send_path.proofs.MatchedSendLemmas.{fresh, receivers_own, server_pid}
-use Rattle.send_path.proofs.SeatLemmas.{seat_in_limit}
+use Rattle.send_path.proofs.MatchedSendLemmas.{fresh}
+use Rattle.send_path.proofs.ReachedLemmas.{arrival_low}
 use Rattle.send_path.proofs.SendRowLemmas.{full, no_kind, no_run, no_server, pages_refused, run_found}
 use Rattle.send_path.proofs.SentLemmas.{at_send, reached_there, server, unreached}
 use Rattle.send_path.proofs.SentSoundLemmas.{loan_made, made_is}
@@ -93,13 +93,6 @@ other_error error f = λ e. false≢true (sym f ∙ ap (λ x. is_queue_full (Err
 
 -- ---- the slots of a seat
 
-pub room_left : (b : Bool) (used : ℕ) → (IsTrue b ↔ (used ≡ 128)) → used ≤ 128 → b ≡ false → used < 128
-room_left b used both few f = go (used == 128) refl
-  where
-    go : (t : Bool) → (used == 128) ≡ t → used < 128
-    go true q = absurd (false≢true (sym f ∙ both.1 (eqb-true used 128 q)))
-    go false q = let ne : used ≢ 128 = eqb-false used 128 q in omega (arith, ne, few)
-
 shown_used : (seat : Seat) → length (map message_of seat.queued) + length (map message_of seat.held) ≡ used_of seat
 shown_used seat = λ i. length-map seat.queued message_of i + length-map seat.held message_of i
 
@@ -124,24 +117,6 @@ module _ {W : Type 0} (slot_count : W → ℕ) (held : W → HeldBytes) (who : T
   module _ (to : Reached) (its : IsReached (connections_of (processes_of procs who.pid.0)) asked.cid.0 (servers_of old.tables.servers) to) where
     abbrev seat : Seat
     seat = seat_of old.tables.queues to.seat
-
-    pub to_pid : is_pid (process_count old.tables.threads) to.pid.0 ≡ true
-    to_pid =
-        ap (λ (p : Pid). is_pid (process_count old.tables.threads) p.0) (sym its.own)
-        ∙ server_pid slot_count held who procs number old sound above to.serial.0 to.seat its.seat
-
-    pub to_in_mem : is_pid (processes old.mem) to.pid.0 ≡ true
-    to_in_mem = ap (λ n. is_pid n to.pid.0) (sym sound.sound.processes) ∙ to_pid
-
-    pub to_bounds : IsPid (process_count old.tables.threads) to.pid.0
-    to_bounds = is_pid-bounds (process_count old.tables.threads) to.pid.0 to_pid
-
-    pub to_receivers : (id : ThreadId) → is_receiving to.serial (threads_of old.tables.threads id) ≡ true → id.pid.0 ≡ to.pid.0
-    to_receivers id e =
-        receivers_own slot_count held who procs number old sound above to.serial.0 to.seat its.seat id e ∙ ap (λ (p : Pid). p.0) its.own
-
-    pub to_seat : to.seat < 64
-    to_seat = seat_in_limit old.tables.servers old.tables.queues to.serial.0 to.seat its.seat sound.sound.seats.all
 
     pub no_kind_row : kind_at asked.kind ≡ None → (m : Machine) → send_call (M m) w ≡ Refused InvalidSyscall
     no_kind_row none m =
@@ -242,9 +217,7 @@ module _ {W : Type 0} (slot_count : W → ℕ) (held : W → HeldBytes) (who : T
               }
 
               pub first_low : first.0 < 1048576
-              first_low =
-                  let run = least_run-Some (processes old.mem) (ledger held old.mem) to.pid MessageWindow (size / 4096) first least in
-                  omega (arith, run.high)
+              first_low = arrival_low (processes old.mem) (ledger held old.mem) to.pid (size / 4096) first least
 
 -- ---- the loan of what is sent
 

@@ -141,6 +141,39 @@ module _ (all : Loans) (m : Machine) (w : List ℕ) (from : Place) (to : Place) 
 
 -- ---- all loans
 
+module _ (servers : Servers) (seats : List Seat) (serial k : ℕ) (its : IsSeatOf (servers_of servers) serial k) (count : length seats ≡ SERVER_LIMIT)
+    (all : Loans) (sound : AreLoansSound all (servers_of servers) seats) where
+  -- the loans of a seat that changes are sound
+  pub loans_changed : (f : Seat → Seat) → AreLoansAt all its.server.pid (f (seat_of seats k))
+      → AreLoansSound all (servers_of servers) (changed_at k f seats)
+  loans_changed f changed n v e = go (nat_eq n serial) refl
+    where
+      here : n ≡ serial → AreLoansAt all v.pid (seat_of (changed_at k f seats) v.seat)
+      here same =
+          let is : its.server ≡ v = same_Some its.server v (sym its.live ∙ ap (servers_of servers).live (sym same) ∙ e) in
+          let at_its : v.seat ≡ k = ap (λ (w : TableServer). w.seat) (sym is) ∙ its.its in
+          subst (λ s. AreLoansAt all v.pid s)
+          (sym (ap (seat_of (changed_at k f seats)) at_its ∙ seat_changed seats k f (seat_is_there servers seats serial k its count)))
+          (subst (λ (w : TableServer). AreLoansAt all w.pid (f (seat_of seats k))) is changed)
+
+      there : n ≢ serial → AreLoansAt all v.pid (seat_of (changed_at k f seats) v.seat)
+      there ne =
+          subst (λ s. AreLoansAt all v.pid s)
+          (sym (seat_other seats k v.seat f (λ same. ne (seats_differ servers n serial v its.server e its.live (same ∙ sym its.its)))))
+          (sound n v e)
+
+      go : (b : Bool) → nat_eq n serial ≡ b → AreLoansAt all v.pid (seat_of (changed_at k f seats) v.seat)
+      go true q = here (eqb-true n serial q)
+      go false q = there (λ same. false≢true (sym q ∙ eq-eqb n serial same))
+
+  -- .. and so they are where a message arrives with its loan
+  pub loans_arrived : (got : Option ThreadId) (h : Held) → ((run : LoanRun) → h.loan ≡ Some run → IsLoanOf all its.server.pid h.msg run)
+      → AreLoansSound all (servers_of servers) (changed_at k (with_arrived got h) seats)
+  loans_arrived got h its_loan =
+      loans_changed (with_arrived got h)
+      (arrived_all (λ x. (run : LoanRun) → x.loan ≡ Some run → IsLoanOf all its.server.pid x.msg run) got h (seat_of seats k) its_loan
+      (subst (λ j. AreLoansAt all its.server.pid (seat_of seats j)) its.its (sound serial its.server its.live)))
+
 module _ (servers : Servers) (seats : List Seat) (number : Number) (above : IsAboveMessages number servers seats) (before after : Loans)
     (stand : (run : LoanRun) → run.number ≢ number → Stands before run → Stands after run) where
   abbrev Below : Held → Type 0
@@ -171,28 +204,5 @@ module _ (servers : Servers) (seats : List Seat) (number : Number) (above : IsAb
       → length seats ≡ 64 → (o : Option ThreadId) (h : Held)
       → ((run : LoanRun) → h.loan ≡ Some run → IsLoanOf after its.server.pid h.msg run)
       → AreLoansSound after (servers_of servers) (changed_at k (with_arrived o h) seats)
-  arrived_loans sound serial k its count o h here n v e = go (nat_eq n serial) refl
-    where
-      old : AreLoansAt after v.pid (seat_of seats v.seat)
-      old = kept v.pid (messages_at (seat_of seats v.seat)) (below n v e) (sound n v e)
-
-      at : n ≡ serial → AreLoansAt after v.pid (seat_of (changed_at k (with_arrived o h) seats) v.seat)
-      at same =
-          let is : v ≡ its.server = same_Some v its.server (sym e ∙ ap (servers_of servers).live same ∙ its.live) in
-          let at_its : v.seat ≡ k = ap (λ (w : TableServer). w.seat) is ∙ its.its in
-          subst (λ s. AreLoansAt after v.pid s)
-          (sym (ap (seat_of (changed_at k (with_arrived o h) seats)) at_its
-          ∙ seat_changed seats k (with_arrived o h) (seat_is_there servers seats serial k its count)))
-          (arrived_all (λ y. (run : LoanRun) → y.loan ≡ Some run → IsLoanOf after v.pid y.msg run) o h (seat_of seats k)
-          (subst (λ (w : TableServer). (run : LoanRun) → h.loan ≡ Some run → IsLoanOf after w.pid h.msg run) (sym is) here)
-          (subst (λ j. AreLoansAt after v.pid (seat_of seats j)) at_its old))
-
-      other : n ≢ serial → AreLoansAt after v.pid (seat_of (changed_at k (with_arrived o h) seats) v.seat)
-      other ne =
-          subst (λ s. AreLoansAt after v.pid s)
-          (sym (seat_other seats k v.seat (with_arrived o h) (λ same. ne (seats_differ servers n serial v its.server e its.live (same ∙ sym its.its)))))
-          old
-
-      go : (b : Bool) → nat_eq n serial ≡ b → AreLoansAt after v.pid (seat_of (changed_at k (with_arrived o h) seats) v.seat)
-      go true q = at (eqb-true n serial q)
-      go false q = other (λ same. false≢true (sym q ∙ eq-eqb n serial same))
+  arrived_loans sound serial k its count o h here =
+      loans_arrived servers seats serial k its count after (λ n v e. kept v.pid (messages_at (seat_of seats v.seat)) (below n v e) (sound n v e)) o h here

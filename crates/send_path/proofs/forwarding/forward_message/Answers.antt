@@ -8,6 +8,7 @@ use Rattle.msg_queue.specs.Seats.{changed_at, seat_of, used_of, without_held}
 use Rattle.server_table.specs.ServersOf.{servers_of}
 use Rattle.thread_table.specs.ThreadMap.{receiver}
 use Rattle.thread_table.specs.ThreadsOf.{process_count, threads_of}
+use Rattle.vm_memory.proofs.Changing.LoanCallLemmas.{found_arrival}
 use Rattle.vm_memory.specs.Loaning.Sending.{IsFreeArrival}
 use Rattle.vm_memory.specs.Memory.{Size, ledger, processes}
 use Rattle.xk_base.specs.declared.limits.TheConstants.{MESSAGE_LIMIT}
@@ -16,7 +17,8 @@ use Rattle.send_path.specs.Forwarding.{with_processes}
 use Rattle.send_path.specs.Parts.{parts_of}
 use Rattle.send_path.specs.Sound.{AreLoansSound, AreSeatsSound}
 use Rattle.send_path.proofs.ForwardLemmas.{goes_on, no_run, not_passable, not_reached, passed_on, to_full, to_holder}
-use Rattle.send_path.proofs.ForwardSoundLemmas.{caller_pid, first_low, free_arrival, has_lender, has_loan_on, has_pages, has_pid, has_room, has_room_left, has_thread_pid, its_count, its_run_stands, loans_on, pass_is, receivers_own, seats_on, still_matched, stood_on}
+use Rattle.send_path.proofs.ForwardSoundLemmas.{has_lender, has_loan_on, has_pages, has_room, its_count, its_run_stands, loans_on, pass_is, seats_on, still_matched, stood_on}
+use Rattle.send_path.proofs.ReachedLemmas.{arrival_low, caller_bounds, room_left, to_bounds, to_in_mem, to_receivers, to_seat}
 use Rattle.send_path.proofs.ReturnLemmas.{has_loan, its_kind, none_held, other_kind, shown}
 use Rattle.send_path.proofs.SeatLemmas.{seat_in_limit}
 use Rattle.send_path.proofs.forwarding.forward_message.Goals as goal
@@ -79,7 +81,7 @@ returns-then-not-is_passable-clause-row g c =
 
 pub connected_server-requires : goal.connected_server-requires
 connected_server-requires g c =
-    caller_pid g.W.SwapStore.slot_count g.W.SwapStore.held c.args.who c.args.procs.now (parts_of c.args.mem.now c.args.threads.now c.args.servers.now c.args.queues.now c.args.log.now) c.requires.sound c.requires.ready c.args.number c.args.cid.0
+    caller_bounds g.W.SwapStore.slot_count g.W.SwapStore.held c.args.who c.args.procs.now (parts_of c.args.mem.now c.args.threads.now c.args.servers.now c.args.queues.now c.args.log.now) c.requires.sound c.requires.ready
 
 pub returns-in_default-connected_server-clause-row : goal.returns-in_default-connected_server-clause-row
 returns-in_default-connected_server-clause-row g c =
@@ -91,7 +93,7 @@ returns-then-eq-clause-row g c =
 
 pub is_full-requires : goal.is_full-requires
 is_full-requires g c =
-    seat_in_limit c.args.servers.now c.args.queues.now c.in-Some-connected_server.to.serial.0 c.in-Some-connected_server.to.seat c.in-Some-connected_server.ensures.seat c.requires.sound.sound.seats.all
+    to_seat g.W.SwapStore.slot_count g.W.SwapStore.held c.args.who (parts_of c.args.mem.now c.args.threads.now c.args.servers.now c.args.queues.now c.args.log.now) c.requires.sound.sound c.in-Some-connected_server.to c.in-Some-connected_server.ensures
 
 pub returns-then-is_full-clause-row : goal.returns-then-is_full-clause-row
 returns-then-is_full-clause-row g c =
@@ -107,7 +109,7 @@ free_run-requires-clause-usable g c =
 
 pub free_run-requires-clause-process : goal.free_run-requires-clause-process
 free_run-requires-clause-process g c =
-    has_pid g.W.SwapStore.slot_count g.W.SwapStore.held c.args.procs.now c.args.who (parts_of c.args.mem.now c.args.threads.now c.args.servers.now c.args.queues.now c.args.log.now) c.requires.sound.sound c.requires.ready c.args.number c.in-Some.field-0 c.in-Some.ensures (sym c.is_passable.ensures ∙ c.if-not-is_passable.false) c.args.cid.0 c.in-Some-connected_server.to c.in-Some-connected_server.ensures
+    to_in_mem g.W.SwapStore.slot_count g.W.SwapStore.held c.args.who (parts_of c.args.mem.now c.args.threads.now c.args.servers.now c.args.queues.now c.args.log.now) c.requires.sound.sound c.in-Some-connected_server.to c.in-Some-connected_server.ensures
 
 pub free_run-requires-clause-some : goal.free_run-requires-clause-some
 free_run-requires-clause-some g c =
@@ -115,7 +117,7 @@ free_run-requires-clause-some g c =
 
 pub returns-in_default-free_run-clause-row : goal.returns-in_default-free_run-clause-row
 returns-in_default-free_run-clause-row g c =
-    (refl, no_run g.W.SwapStore.slot_count g.W.SwapStore.held c.args.procs.now c.args.who (parts_of c.args.mem.now c.args.threads.now c.args.servers.now c.args.queues.now c.args.log.now) c.requires.sound.sound c.requires.ready c.args.number c.args.cid.0 c.in-Some.field-0 c.in-Some.ensures (sym c.is_passable.ensures ∙ c.if-not-is_passable.false) c.in-Some-connected_server.to c.in-Some-connected_server.ensures (sym c.eq.ensures ∙ c.if-eq.false) (has_room_left c.is_full.result (used_of (seat_of c.args.queues.now c.in-Some-connected_server.to.seat)) c.is_full.ensures.full c.is_full.ensures.few c.if-is_full.false) (sym c.in_default-free_run.ensures))
+    (refl, no_run g.W.SwapStore.slot_count g.W.SwapStore.held c.args.procs.now c.args.who (parts_of c.args.mem.now c.args.threads.now c.args.servers.now c.args.queues.now c.args.log.now) c.requires.sound.sound c.requires.ready c.args.number c.args.cid.0 c.in-Some.field-0 c.in-Some.ensures (sym c.is_passable.ensures ∙ c.if-not-is_passable.false) c.in-Some-connected_server.to c.in-Some-connected_server.ensures (sym c.eq.ensures ∙ c.if-eq.false) (room_left c.is_full.result (used_of (seat_of c.args.queues.now c.in-Some-connected_server.to.seat)) c.is_full.ensures.full c.is_full.ensures.few c.if-is_full.false) (sym c.in_default-free_run.ensures))
 
 pub take-requires-clause-seat : goal.take-requires-clause-seat
 take-requires-clause-seat g c =
@@ -143,7 +145,7 @@ pass-loan-requires-clause-lent g c =
 
 pub pass-loan-requires-clause-arrival : goal.pass-loan-requires-clause-arrival
 pass-loan-requires-clause-arrival g c =
-    subst (IsFreeArrival (processes c.args.mem.now) (ledger g.W.SwapStore.held c.args.mem.now) (record { pid = c.in-Some-connected_server.to.pid; vpn = c.in-Some-free_run.first })) (sym (its_count g.W.SwapStore.slot_count g.W.SwapStore.held c.args.procs.now c.args.who (parts_of c.args.mem.now c.args.threads.now c.args.servers.now c.args.queues.now c.args.log.now) c.requires.sound.sound c.requires.ready c.args.number c.in-Some.field-0 c.in-Some.ensures (sym c.is_passable.ensures ∙ c.if-not-is_passable.false) c.args.cid.0 c.in-Some-connected_server.to c.in-Some-connected_server.ensures c.in-Some-take.loan (sym (c.take.ensures.loan (shown g.W.SwapStore.slot_count g.W.SwapStore.held c.args.who (parts_of c.args.mem.now c.args.threads.now c.args.servers.now c.args.queues.now c.args.log.now) c.requires.sound.sound c.requires.ready c.args.number c.in-Some.field-0 c.in-Some.ensures).held (shown g.W.SwapStore.slot_count g.W.SwapStore.held c.args.who (parts_of c.args.mem.now c.args.threads.now c.args.servers.now c.args.queues.now c.args.log.now) c.requires.sound.sound c.requires.ready c.args.number c.in-Some.field-0 c.in-Some.ensures).is) ∙ c.in-Some-take.is))) (free_arrival g.W.SwapStore.slot_count g.W.SwapStore.held c.args.procs.now c.args.who (parts_of c.args.mem.now c.args.threads.now c.args.servers.now c.args.queues.now c.args.log.now) c.requires.sound.sound c.requires.ready c.args.number c.in-Some.field-0 c.in-Some.ensures (sym c.is_passable.ensures ∙ c.if-not-is_passable.false) c.args.cid.0 c.in-Some-connected_server.to c.in-Some-connected_server.ensures c.in-Some-free_run.first (sym c.in-Some-free_run.ensures))
+    subst (IsFreeArrival (processes c.args.mem.now) (ledger g.W.SwapStore.held c.args.mem.now) (record { pid = c.in-Some-connected_server.to.pid; vpn = c.in-Some-free_run.first })) (sym (its_count g.W.SwapStore.slot_count g.W.SwapStore.held c.args.procs.now c.args.who (parts_of c.args.mem.now c.args.threads.now c.args.servers.now c.args.queues.now c.args.log.now) c.requires.sound.sound c.requires.ready c.args.number c.in-Some.field-0 c.in-Some.ensures (sym c.is_passable.ensures ∙ c.if-not-is_passable.false) c.args.cid.0 c.in-Some-connected_server.to c.in-Some-connected_server.ensures c.in-Some-take.loan (sym (c.take.ensures.loan (shown g.W.SwapStore.slot_count g.W.SwapStore.held c.args.who (parts_of c.args.mem.now c.args.threads.now c.args.servers.now c.args.queues.now c.args.log.now) c.requires.sound.sound c.requires.ready c.args.number c.in-Some.field-0 c.in-Some.ensures).held (shown g.W.SwapStore.slot_count g.W.SwapStore.held c.args.who (parts_of c.args.mem.now c.args.threads.now c.args.servers.now c.args.queues.now c.args.log.now) c.requires.sound.sound c.requires.ready c.args.number c.in-Some.field-0 c.in-Some.ensures).is) ∙ c.in-Some-take.is))) (found_arrival (processes c.args.mem.now) (ledger g.W.SwapStore.held c.args.mem.now) c.in-Some-connected_server.to.pid c.in-Some.field-0.message.count c.in-Some-free_run.first (to_in_mem g.W.SwapStore.slot_count g.W.SwapStore.held c.args.who (parts_of c.args.mem.now c.args.threads.now c.args.servers.now c.args.queues.now c.args.log.now) c.requires.sound.sound c.in-Some-connected_server.to c.in-Some-connected_server.ensures) (sym c.in-Some-free_run.ensures))
 
 pub unreachable-requires : goal.unreachable-requires
 unreachable-requires g c =
@@ -151,7 +153,7 @@ unreachable-requires g c =
 
 pub moved_to-requires : goal.moved_to-requires
 moved_to-requires g c =
-    first_low g.W.SwapStore.slot_count g.W.SwapStore.held c.args.procs.now c.args.who (parts_of c.args.mem.now c.args.threads.now c.args.servers.now c.args.queues.now c.args.log.now) c.requires.sound.sound c.requires.ready c.args.number c.in-Some.field-0 c.in-Some.ensures (sym c.is_passable.ensures ∙ c.if-not-is_passable.false) c.args.cid.0 c.in-Some-connected_server.to c.in-Some-connected_server.ensures c.in-Some-free_run.first (sym c.in-Some-free_run.ensures)
+    arrival_low (processes c.args.mem.now) (ledger g.W.SwapStore.held c.args.mem.now) c.in-Some-connected_server.to.pid c.in-Some.field-0.message.count c.in-Some-free_run.first (sym c.in-Some-free_run.ensures)
 
 pub arrive_and_answer-requires-clause-ready : goal.arrive_and_answer-requires-clause-ready
 arrive_and_answer-requires-clause-ready g c =
@@ -163,19 +165,19 @@ arrive_and_answer-requires-clause-log_room g c =
 
 pub arrive_and_answer-requires-clause-pid : goal.arrive_and_answer-requires-clause-pid
 arrive_and_answer-requires-clause-pid g c =
-    has_thread_pid g.W.SwapStore.slot_count g.W.SwapStore.held c.args.procs.now c.args.who (parts_of c.args.mem.now c.args.threads.now c.args.servers.now c.args.queues.now c.args.log.now) c.requires.sound.sound c.requires.ready c.args.number c.in-Some.field-0 c.in-Some.ensures (sym c.is_passable.ensures ∙ c.if-not-is_passable.false) c.args.cid.0 c.in-Some-connected_server.to c.in-Some-connected_server.ensures
+    to_bounds g.W.SwapStore.slot_count g.W.SwapStore.held c.args.who (parts_of c.args.mem.now c.args.threads.now c.args.servers.now c.args.queues.now c.args.log.now) c.requires.sound.sound c.in-Some-connected_server.to c.in-Some-connected_server.ensures
 
 pub arrive_and_answer-requires-clause-its : goal.arrive_and_answer-requires-clause-its
 arrive_and_answer-requires-clause-its g c =
-    receivers_own g.W.SwapStore.slot_count g.W.SwapStore.held c.args.procs.now c.args.who (parts_of c.args.mem.now c.args.threads.now c.args.servers.now c.args.queues.now c.args.log.now) c.requires.sound.sound c.requires.ready c.args.number c.in-Some.field-0 c.in-Some.ensures (sym c.is_passable.ensures ∙ c.if-not-is_passable.false) c.args.cid.0 c.in-Some-connected_server.to c.in-Some-connected_server.ensures
+    to_receivers g.W.SwapStore.slot_count g.W.SwapStore.held c.args.who (parts_of c.args.mem.now c.args.threads.now c.args.servers.now c.args.queues.now c.args.log.now) c.requires.sound.sound c.in-Some-connected_server.to c.in-Some-connected_server.ensures
 
 pub arrive_and_answer-requires-clause-seat : goal.arrive_and_answer-requires-clause-seat
 arrive_and_answer-requires-clause-seat g c =
-    seat_in_limit c.args.servers.now c.args.queues.now c.in-Some-connected_server.to.serial.0 c.in-Some-connected_server.to.seat c.in-Some-connected_server.ensures.seat c.requires.sound.sound.seats.all
+    to_seat g.W.SwapStore.slot_count g.W.SwapStore.held c.args.who (parts_of c.args.mem.now c.args.threads.now c.args.servers.now c.args.queues.now c.args.log.now) c.requires.sound.sound c.in-Some-connected_server.to c.in-Some-connected_server.ensures
 
 pub arrive_and_answer-requires-clause-room : goal.arrive_and_answer-requires-clause-room
 arrive_and_answer-requires-clause-room g c =
-    subst (λ q. used_of (seat_of q c.in-Some-connected_server.to.seat) < MESSAGE_LIMIT) (sym c.take.ensures.rest) (has_room g.W.SwapStore.slot_count g.W.SwapStore.held c.args.procs.now c.args.who (parts_of c.args.mem.now c.args.threads.now c.args.servers.now c.args.queues.now c.args.log.now) c.requires.sound.sound c.requires.ready c.args.number c.in-Some.field-0 c.in-Some.ensures (sym c.is_passable.ensures ∙ c.if-not-is_passable.false) c.args.cid.0 c.in-Some-connected_server.to c.in-Some-connected_server.ensures c.in-Some-take.loan (sym (c.take.ensures.loan (shown g.W.SwapStore.slot_count g.W.SwapStore.held c.args.who (parts_of c.args.mem.now c.args.threads.now c.args.servers.now c.args.queues.now c.args.log.now) c.requires.sound.sound c.requires.ready c.args.number c.in-Some.field-0 c.in-Some.ensures).held (shown g.W.SwapStore.slot_count g.W.SwapStore.held c.args.who (parts_of c.args.mem.now c.args.threads.now c.args.servers.now c.args.queues.now c.args.log.now) c.requires.sound.sound c.requires.ready c.args.number c.in-Some.field-0 c.in-Some.ensures).is) ∙ c.in-Some-take.is) (sym c.eq.ensures ∙ c.if-eq.false) (has_room_left c.is_full.result (used_of (seat_of c.args.queues.now c.in-Some-connected_server.to.seat)) c.is_full.ensures.full c.is_full.ensures.few c.if-is_full.false))
+    subst (λ q. used_of (seat_of q c.in-Some-connected_server.to.seat) < MESSAGE_LIMIT) (sym c.take.ensures.rest) (has_room g.W.SwapStore.slot_count g.W.SwapStore.held c.args.procs.now c.args.who (parts_of c.args.mem.now c.args.threads.now c.args.servers.now c.args.queues.now c.args.log.now) c.requires.sound.sound c.requires.ready c.args.number c.in-Some.field-0 c.in-Some.ensures (sym c.is_passable.ensures ∙ c.if-not-is_passable.false) c.args.cid.0 c.in-Some-connected_server.to c.in-Some-connected_server.ensures c.in-Some-take.loan (sym (c.take.ensures.loan (shown g.W.SwapStore.slot_count g.W.SwapStore.held c.args.who (parts_of c.args.mem.now c.args.threads.now c.args.servers.now c.args.queues.now c.args.log.now) c.requires.sound.sound c.requires.ready c.args.number c.in-Some.field-0 c.in-Some.ensures).held (shown g.W.SwapStore.slot_count g.W.SwapStore.held c.args.who (parts_of c.args.mem.now c.args.threads.now c.args.servers.now c.args.queues.now c.args.log.now) c.requires.sound.sound c.requires.ready c.args.number c.in-Some.field-0 c.in-Some.ensures).is) ∙ c.in-Some-take.is) (sym c.eq.ensures ∙ c.if-eq.false) (room_left c.is_full.result (used_of (seat_of c.args.queues.now c.in-Some-connected_server.to.seat)) c.is_full.ensures.full c.is_full.ensures.few c.if-is_full.false))
 
 pub arrive_and_answer-requires-clause-loan : goal.arrive_and_answer-requires-clause-loan
 arrive_and_answer-requires-clause-loan g c =
@@ -183,7 +185,7 @@ arrive_and_answer-requires-clause-loan g c =
 
 pub returns-clause-row : goal.returns-clause-row
 returns-clause-row g c =
-    passed_on g.W.SwapStore.slot_count g.W.SwapStore.held c.args.procs.now c.args.who (parts_of c.args.mem.now c.args.threads.now c.args.servers.now c.args.queues.now c.args.log.now) c.requires.sound.sound c.requires.ready c.args.number c.args.cid.0 c.in-Some.field-0 c.in-Some.ensures (sym c.is_passable.ensures ∙ c.if-not-is_passable.false) c.in-Some-connected_server.to c.in-Some-connected_server.ensures (sym c.eq.ensures ∙ c.if-eq.false) (has_room_left c.is_full.result (used_of (seat_of c.args.queues.now c.in-Some-connected_server.to.seat)) c.is_full.ensures.full c.is_full.ensures.few c.if-is_full.false) c.in-Some-free_run.first (sym c.in-Some-free_run.ensures) (record { msg = c.moved_to.result; loan = Some c.pass-loan.result }) (parts_of c.pass-loan.new.self c.arrive_and_answer.new.threads c.args.servers.now c.arrive_and_answer.new.queues c.arrive_and_answer.new.log)
+    passed_on g.W.SwapStore.slot_count g.W.SwapStore.held c.args.procs.now c.args.who (parts_of c.args.mem.now c.args.threads.now c.args.servers.now c.args.queues.now c.args.log.now) c.requires.sound.sound c.requires.ready c.args.number c.args.cid.0 c.in-Some.field-0 c.in-Some.ensures (sym c.is_passable.ensures ∙ c.if-not-is_passable.false) c.in-Some-connected_server.to c.in-Some-connected_server.ensures (sym c.eq.ensures ∙ c.if-eq.false) (room_left c.is_full.result (used_of (seat_of c.args.queues.now c.in-Some-connected_server.to.seat)) c.is_full.ensures.full c.is_full.ensures.few c.if-is_full.false) c.in-Some-free_run.first (sym c.in-Some-free_run.ensures) (record { msg = c.moved_to.result; loan = Some c.pass-loan.result }) (parts_of c.pass-loan.new.self c.arrive_and_answer.new.threads c.args.servers.now c.arrive_and_answer.new.queues c.arrive_and_answer.new.log)
     (record {
       message = c.moved_to.ensures;
       threads = c.arrive_and_answer.ensures.threads;
