@@ -1,1 +1,2 @@
+pub mod RowLoopLemmas
 pub mod SheetLemmas

@@ -2,9 +2,21 @@
 //! from.
 #![tactic(auto)]
 
+mod broken;
+mod claims;
+mod faults;
+mod numbers;
+mod pages;
+mod procs;
+mod reading;
+mod servers;
 mod sheet;
 mod state;
+mod threads;
+mod words;
 
+pub use faults::{NOT_STATE, STATE_CHECK, STATE_FORM, STATE_LENGTH, StateError};
+pub use reading::read_state;
 pub use sheet::Sheet;
 pub use state::{ClaimRow, MessageRow, OrphanRow, PageRow, ProcRow, ServerRow, State, ThreadRow};
 
