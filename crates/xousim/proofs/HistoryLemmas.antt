@@ -16,7 +16,7 @@ use Rattle.xousim.specs.declared.ending.Ending.{Ending}
 use Rattle.xousim.specs.declared.ending.Ending.TheVariants.{Played, LimitMet, Unbuilt, BadLine}
 use Rattle.xousim.specs.History.{History, at_once, ended, behind, ticks, history, history_to, play, played, followed_by, go_on}
 use Rattle.xk_kernel.specs.Stepping.{event_done}
-use Rattle.xk_kernel.proofs.Running.LimitLemmas.{kill_steps, pick_steps}
+use Rattle.xk_kernel.proofs.Running.LimitLemmas.{irq_steps, kill_steps, pick_steps}
 use Rattle.event_text.specs.declared.event.Event.TheVariants.{Tick, Pick, Irq, Kill}
 use Rattle.xk_base.specs.declared.ids.Pid.{Pid}
 use Rattle.xk_base.specs.declared.ids.Tid.{Tid}
@@ -178,7 +178,7 @@ at_once_built event m built = rw built refl
 pub at_once_steps : (event : Event) (m : Machine) → (at_once event m).machine.steps ≡ m.steps
 at_once_steps (Tick n) m = refl
 at_once_steps (Pick pid tid) m = pick_steps (record { pid = pid; tid = tid }) m
-at_once_steps (Irq k) m = refl
+at_once_steps (Irq k) m = irq_steps k m
 at_once_steps (Kill pid) m = go (event_built (Kill pid) m)
   where
     go : (b : Bool) → (if b then played (event_done (Kill pid) m) else ended Unbuilt m).machine.steps ≡ m.steps

@@ -42,7 +42,7 @@ play_agrees : (event : Event) (limit : ℕ) (m : Machine) → (play event limit 
 unfolding play kernel.play
 play_agrees (Tick n) limit m built = ticks_agree n limit m built
 play_agrees (Pick pid tid) limit m built = refl
-play_agrees (Irq k) limit m built = absurd (built refl)
+play_agrees (Irq k) limit m built = refl
 play_agrees (Kill pid) limit m built = go (event_built (Kill pid) m) built
   where
     ours : Bool → History

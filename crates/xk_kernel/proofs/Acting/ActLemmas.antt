@@ -14,7 +14,7 @@ use Rattle.machine_model.specs.Hart.Instructions.{CallsKernel, Executed, Next, S
 use Rattle.machine_model.specs.State.Machine.{Machine, Reservation, Thread}
 use Rattle.machine_model.specs.Runs.Matched.{Matched}
 use Rattle.machine_model.specs.State.Order.{actor, ready_at}
-use Rattle.machine_model.specs.Stepping.Step.{acted_if_there, after, console_told, ends_handler, ends_thread, executed, performed, record_of, reservation_left_if_there, step}
+use Rattle.machine_model.specs.Stepping.Step.{acted_if_there, after, console_told, ends_handler, ends_thread, executed, performed, record_of, reservation_left_if_there}
 use Rattle.machine_model.specs.State.Threads.{handler_return, thread_return}
 use Rattle.machine_model.specs.State.Views.{memory_of, stored, timer_set}
 use Rattle.machine_model.specs.Stepping.Reservations.{reservation_of}

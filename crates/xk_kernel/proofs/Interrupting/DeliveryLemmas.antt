@@ -1,8 +1,8 @@
 -- What comes due in the table of claims is what the machine delivers.
-use Rattle.std.proofs.Common.{◌≡◌, ℕ, ◌<◌, Bool, true, false, [], ◌∷◌, ◌++◌, Option, Some, None, refl, sym, ap, ◌∙◌, nat_eq}
+use Rattle.std.proofs.Common.{◌≡◌, ℕ, Bool, true, false, [], ◌∷◌, ◌++◌, Option, Some, None, refl, sym, ap, ◌∙◌, nat_eq}
 use Rattle.std.specs.Prelude.{◌==◌, ◌&&◌, is_some, if◌then◌else◌}
 use Rattle.std.specs.Option.{option_and_then, option_map, option_map_or}
-use Rattle.std.proofs.lemmas.Bool.{eqb-true, false≢true}
+use Rattle.std.proofs.lemmas.Bool.{false≢true}
 use Rattle.std.proofs.lemmas.Option.{none-some, same_Some}
 use Rattle.irq_claims.specs.ClaimMap.{ClaimMap, delivery, is_due_to, lowest_delivery, lowest_due, settle_any, with_pending}
 use Rattle.irq_claims.specs.ClaimsOf.{claims_of}
@@ -10,7 +10,7 @@ use Rattle.irq_claims.specs.declared.claims.Claim.{Claim as TableClaim}
 use Rattle.irq_claims.specs.declared.claims.Claims.{Claims}
 use Rattle.irq_claims.specs.declared.claims.Due.{Due}
 use Rattle.machine_model.specs.State.Changes.{Change, Delivery, Told, delivery_told, only, settled}
-use Rattle.machine_model.specs.State.Machine.{Claim, Machine, Ready, Thread}
+use Rattle.machine_model.specs.State.Machine.{Machine, Ready, Thread}
 use Rattle.machine_model.specs.State.Threads.{fresh_registers, handler_return, handler_stack, handler_thread, no_answers, put_thread, thread_id}
 use Rattle.machine_model.specs.Stepping.Interrupts.{delivered, delivered_lowest, handler_started, is_claim_of, is_free_for_interrupt, is_idle, lowest_pending}
 use Rattle.send_path.specs.Parts.{state_of, thread_of}
@@ -25,7 +25,7 @@ use Rattle.xk_base.specs.Log.{LogState}
 use Rattle.xk_base.specs.Tables.Circle.{same_thread}
 use Rattle.xk_base.specs.Tables.Counting.{put_at}
 use Rattle.xk_base.specs.declared.ids.Pid.{Pid}
-use Rattle.xk_base.specs.declared.limits.TheConstants.{INTERRUPT_LIMIT, TIMER_INTERRUPT}
+use Rattle.xk_base.specs.declared.limits.TheConstants.{INTERRUPT_LIMIT}
 use Rattle.xk_base.specs.declared.records.What.TheVariants.{Irq}
 use Rattle.xk_kernel.specs.State.{claim_of, machine_of}
 use Rattle.xk_kernel.specs.Telling.{Tells, log_with}

@@ -1,10 +1,10 @@
 -- An interrupt comes, and a handler ends.
 use Rattle.std.proofs.Common.{◌≡◌, ℕ, ◌≤◌, Bool, true, false, [], ◌∷◌, ◌++◌, map, Option, Some, None, refl, sym, ap, subst, ◌∙◌, arith, nat_eq}
-use Rattle.std.specs.Prelude.{◌<◌, ◌==◌, IsTrue, is_some, if◌then◌else◌}
+use Rattle.std.specs.Prelude.{◌<◌, IsTrue, is_some, if◌then◌else◌}
 use Rattle.std.specs.Option.{option_map}
 use Rattle.std.proofs.lemmas.Bool.{eqb-true}
 use Rattle.std.proofs.lemmas.Option.{none-some, same_Some}
-use Rattle.irq_claims.specs.ClaimMap.{ClaimMap, pend, with_pending}
+use Rattle.irq_claims.specs.ClaimMap.{pend, with_pending}
 use Rattle.irq_claims.specs.ClaimsOf.{claims_of}
 use Rattle.irq_claims.specs.declared.claims.Claim.{Claim as TableClaim}
 use Rattle.irq_claims.specs.declared.claims.Claims.{Claims}
@@ -15,8 +15,7 @@ use Rattle.machine_model.specs.Runs.Matched.{Matched}
 use Rattle.machine_model.specs.Runs.Moments.{ByIrq}
 use Rattle.machine_model.specs.State.Changes.{Change, Delivery, Told, settled}
 use Rattle.machine_model.specs.State.Machine.{Claim, Machine, Idle}
-use Rattle.machine_model.specs.State.Order.{ready_at}
-use Rattle.machine_model.specs.State.Threads.{change_thread, put_thread, thread_id, with_state}
+use Rattle.machine_model.specs.State.Threads.{change_thread, thread_id, with_state}
 use Rattle.machine_model.specs.Stepping.Events.{at_event, raised, raised_if}
 use Rattle.machine_model.specs.Stepping.Interrupts.{cursor_after, delivered, delivered_lowest, handler_started, is_free_for_interrupt, lowest_pending, pended, with_handler_next}
 use Rattle.machine_model.specs.Stepping.Reservations.{unreserved}

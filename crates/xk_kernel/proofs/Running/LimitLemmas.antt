@@ -51,7 +51,7 @@ kill_steps pid m = go (m.process pid.0).alive
     go true = refl
     go false = refl
 
-irq_steps : (k : ℕ) (m : Machine) → (raised k m).machine.steps ≡ m.steps
+pub irq_steps : (k : ℕ) (m : Machine) → (raised k m).machine.steps ≡ m.steps
 unfolding raised
 irq_steps k m = go (m.claims k)
   where

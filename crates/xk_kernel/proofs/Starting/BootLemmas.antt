@@ -24,7 +24,7 @@ use Rattle.msg_queue.specs.Seats.{used_of}
 use Rattle.process_table.specs.ProcessMap.{ProcessMap, new_processes}
 use Rattle.process_table.specs.ProcessesOf.{process_count as processes_made, processes_of}
 use Rattle.process_table.specs.State.{new_process}
-use Rattle.server_table.specs.ServerState.{ServerState, no_servers}
+use Rattle.server_table.specs.ServerState.{no_servers}
 use Rattle.server_table.specs.ServersOf.{servers_of}
 use Rattle.sv32_space.specs.Tie.{Held}
 use Rattle.thread_table.specs.ThreadsOf.{process_count as processes_threaded, threads_of}

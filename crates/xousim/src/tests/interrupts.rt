@@ -122,7 +122,10 @@ fn event_lines(rt: HostRuntime) -> Result<(), Fail> {
     let rows: [(&[u8], u32); 4] = [
         (b"irq 31\nirq 32\n", 2),
         (b"tick 0\ntick 4294967296\n", 2),
-        (b"# a line of 65 bytes is bad, though it is no event, as it is one \n", 1),
+        (
+            b"# a line of 65 bytes is bad, though it is no event, as it is one \n",
+            1,
+        ),
         (b"irq\n", 1),
     ];
     for (events, line) in rows {

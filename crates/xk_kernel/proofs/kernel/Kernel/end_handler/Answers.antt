@@ -1,9 +1,9 @@
-use Rattle.std.proofs.Common.{Some, refl, ◌∙◌}
+use Rattle.std.proofs.Common.{refl, ◌∙◌}
 use Rattle.machine_model.specs.State.Machine.{Idle}
 use Rattle.machine_model.specs.State.Threads.{with_state}
 use Rattle.send_path.specs.Parts.{thread_of}
 use Rattle.xk_kernel.specs.State.{machine_of}
-use Rattle.xk_kernel.proofs.Acting.ThreadLemmas.{change_there, machine_of_log, machine_put, thread_found}
+use Rattle.xk_kernel.proofs.Acting.ThreadLemmas.{change_there, machine_put, thread_found}
 use Rattle.xk_kernel.proofs.Ending.EndingLemmas.{ready_is_there}
 use Rattle.xk_kernel.proofs.Interrupting.RaiseLemmas.{handler_ends}
 use Rattle.xk_kernel.proofs.kernel.Kernel.end_handler.Goals as goal
