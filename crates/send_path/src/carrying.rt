@@ -96,3 +96,6 @@ fn answer_arrival(
         None => answer_and_tell(threads, log, who, plain),
     }
 }
+
+#[cfg(test)]
+mod tests;

@@ -221,3 +221,6 @@ fn new_message(asked: &Asked, number: Number, who: ThreadId, kind: MsgKind, firs
         count,
     }
 }
+
+#[cfg(test)]
+mod tests;
