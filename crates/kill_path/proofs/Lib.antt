@@ -7,3 +7,5 @@ pub mod TellLemmas
 pub mod ReceivingLemmas
 pub mod FitLemmas
 pub mod DestroyLemmas
+pub mod OrphanLemmas
+pub mod LeavingLemmas
