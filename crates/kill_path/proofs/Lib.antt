@@ -9,3 +9,4 @@ pub mod FitLemmas
 pub mod DestroyLemmas
 pub mod OrphanLemmas
 pub mod LeavingLemmas
+pub mod LeaveStepLemmas
