@@ -175,6 +175,8 @@ module _ (seats : List Seat) (k : ℕ) (there : k < length seats) (number : Numb
       → last ≡ changed_at k (with_held_at place left) new → last ≡ changed_at k (with_alone number) seats
   left_alone_there place left last is same put =
       put ∙ ap (changed_at k (with_held_at place left)) taken ∙ changed_twice seats k (without_held number) (with_held_at place left) there
-      ∙ ap (λ s. set seats k s) (λ i. record seat { held = (
-        (λ j. insert (remove seat.held (place_of number seat.held)) (is j) (same j)) ∙ put_back number seat.held h found
-      ) i })
+      ∙ ap (λ s. set seats k s) (λ i. record seat {
+        held = (
+            (λ j. insert (remove seat.held (place_of number seat.held)) (is j) (same j)) ∙ put_back number seat.held h found
+            ) i;
+      })

@@ -10,3 +10,4 @@ pub mod DestroyLemmas
 pub mod OrphanLemmas
 pub mod LeavingLemmas
 pub mod LeaveStepLemmas
+pub mod LeaveSetLemmas
