@@ -51,7 +51,7 @@ fresh_ends number l fresh =
     of_orphan orphan true q r = absurd (none-some (loan_of_orphan orphan) (sym r))
     of_orphan orphan false q r = refl
 
-same_back : (a b : Number) → same_number a b ≡ same_number b a
+pub same_back : (a b : Number) → same_number a b ≡ same_number b a
 same_back a b = go (same_number a b) (same_number b a) refl refl
   where
     go : (x y : Bool) → same_number a b ≡ x → same_number b a ≡ y → x ≡ y

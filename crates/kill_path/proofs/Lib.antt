@@ -7,3 +7,7 @@ pub mod TellLemmas
 pub mod ReceivingLemmas
 pub mod FitLemmas
 pub mod DestroyLemmas
+pub mod OrphanLemmas
+pub mod LeavingLemmas
+pub mod LeaveStepLemmas
+pub mod LeaveSetLemmas

@@ -6,3 +6,4 @@ pub mod Open
 pub mod Closing
 pub mod Telling
 pub mod Rows
+pub mod Leaving

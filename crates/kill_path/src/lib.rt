@@ -4,6 +4,7 @@
 mod answered;
 mod closing;
 mod destroying;
+mod leaving;
 mod telling;
 
 pub use destroying::destroy;

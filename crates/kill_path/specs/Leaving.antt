@@ -1,0 +1,57 @@
+-- What the death of a process does to its messages at the servers of others: a held one loses its sender, and its loan its lender.
+use Rattle.std.specs.Prelude.{◌≡◌, ℕ, Bool, false, IsSome, List, [], ◌∷◌, slice_get, Option, Some, None, if◌then◌else◌}
+use Rattle.std.specs.Option.{option_map, option_map_or}
+use Rattle.ledger_model.specs.Loans.{IsFresh, LoanRun, Loans, Stands, without_lender}
+use Rattle.machine_model.specs.Ending.Closing.{is_held_from, is_queued_from, with_senderless_from, without_queued_from}
+use Rattle.machine_model.specs.Messaging.LoanSets.{end_loans, orphan_loans}
+use Rattle.machine_model.specs.State.Machine.{Machine, Server}
+use Rattle.msg_queue.specs.Seats.{Seat, is_of_number}
+use Rattle.msg_queue.specs.declared.held.Held.{Held}
+use Rattle.send_path.specs.Parts.{servers_shown}
+use Rattle.xk_base.specs.declared.ids.Number.{Number}
+use Rattle.xk_base.specs.declared.ids.Pid.{Pid}
+use Rattle.kill_path.specs.Closing.{Closable, with_servers}
+
+-- The loan of a message of that number stands, is of that number, and has a lender. Where there is none, nothing is on loan by the
+-- number.
+abbrev pub IsLoanOrphanable : Loans → Number → Option LoanRun → Type 0
+IsLoanOrphanable all number None = IsFresh all number
+IsLoanOrphanable all number (Some run) = Stands all run × (run.number ≡ number) × IsSome run.lender
+
+abbrev pub IsOrphanable : Loans → Held → Type 0
+IsOrphanable all h = IsLoanOrphanable all h.msg.number h.loan
+
+-- the message without a sender, and its loan without a lender
+abbrev pub alone : Held → Held
+alone h = record { msg = record h.msg { sender = None }; loan = option_map without_lender h.loan }
+
+-- the first message of that number is left alone in its place
+abbrev pub first_alone : Number → List Held → List Held
+first_alone number [] = []
+first_alone number (h ∷ hs) = if is_of_number number h then alone h ∷ hs else h ∷ first_alone number hs
+
+abbrev pub with_alone : Number → Seat → Seat
+with_alone number seat = record seat { held = first_alone number seat.held }
+
+-- what stands at that place of the list has that number
+abbrev pub has_number_at : Number → List Held → ℕ → Bool
+has_number_at number hs place = option_map_or (is_of_number number) (slice_get hs place) false
+
+-- what stands of the loan that is left
+abbrev pub IsLeftStanding : Loans → Option LoanRun → Type 0
+IsLeftStanding all None = Unit {0}
+IsLeftStanding all (Some run) = Stands all (without_lender run)
+
+-- ---- at all servers
+
+-- the server without what the process waits for: queued messages are taken out, held ones have no sender
+abbrev pub left_by : Pid → Server → Server
+left_by pid server = with_senderless_from pid (without_queued_from pid server)
+
+-- From the new parts the death of the process makes what it makes from the old ones: of the ledger, and of the servers.
+pub record LeavesAlike (procs : ℕ) (pid : Pid) (old new : Closable) : Type 0 where
+  pub ledger : (m : Machine)
+      → orphan_loans procs (is_held_from pid (with_servers new m)) (end_loans (is_queued_from pid (with_servers new m)) new.ledger)
+      ≡ orphan_loans procs (is_held_from pid (with_servers old m)) (end_loans (is_queued_from pid (with_servers old m)) old.ledger)
+  pub servers : (n : ℕ) → option_map (left_by pid) (servers_shown new.servers new.seats n)
+      ≡ option_map (left_by pid) (servers_shown old.servers old.seats n)
