@@ -1,67 +1,53 @@
 -- What a forward asks of its parts, and what it leaves sound.
-use Rattle.std.proofs.Common.{◌≡◌, ℕ, ◌+◌, ◌<◌, ◌≤◌, Bool, true, false, List, [], ◌∷◌, get_or, length, map, Option, Some, None, refl, sym, ap, subst, ◌∙◌, arith}
-use Rattle.std.specs.Prelude.{◌≢◌, ◌==◌, ◌↔◌, IsTrue, is_some}
-use Rattle.std.specs.Option.{option_map}
-use Rattle.std.proofs.lemmas.Bool.{and_parts, eq-eqb, eqb-true, false≢true}
-use Rattle.std.proofs.lemmas.Option.{none-some, same_Some}
+use Rattle.std.proofs.Common.{◌≡◌, ℕ, ◌+◌, ◌<◌, ◌≤◌, true, false, List, [], ◌∷◌, get_or, length, Option, Some, None, refl, sym, ap, subst, ◌∙◌}
+use Rattle.std.specs.Prelude.{◌≢◌, ◌==◌, is_some}
+use Rattle.std.proofs.lemmas.Bool.{and_parts, eq-eqb, false≢true}
+use Rattle.std.proofs.lemmas.Option.{same_Some}
 use Rattle.ledger_model.proofs.Loans.OfNumberLemmas.{stands_still}
-use Rattle.ledger_model.proofs.Runs.LeastRunLemmas.{least_run-Some}
 use Rattle.ledger_model.proofs.Stepping.PassingLemmas.{pass_other}
 use Rattle.ledger_model.specs.Ledger.{Ledger}
-use Rattle.ledger_model.specs.LeastRun.{IsLeastRun, least_run}
 use Rattle.ledger_model.specs.Loans.{LoanRun, Stands, loans, same_number, with_holder}
 use Rattle.ledger_model.specs.Steps.{pass}
 use Rattle.machine_laws.proofs.Calling.AnsweredCallLemmas.{Keeps}
 use Rattle.machine_laws.proofs.Forwarding.ForwardCallLemmas.{forward_keeps}
-use Rattle.machine_laws.proofs.Messaging.MessageRunLemmas.{run_free, run_lies}
 use Rattle.machine_laws.proofs.Returning.GivenBackLemmas.{found_at}
 use Rattle.machine_model.proofs.Matching.CountLemmas.{all_right}
 use Rattle.machine_model.specs.Messaging.ForwardCalls.{forward_call, with_first}
 use Rattle.machine_model.specs.Messaging.Messages.{is_lend, is_of_number, loan_kind}
-use Rattle.machine_model.specs.Runs.Matched.{IsLendMatched, IsMessageLent, IsServerAwaited, Matched, is_living}
-use Rattle.machine_model.specs.State.Machine.{Machine, Receiving, Server, Thread}
-use Rattle.machine_model.specs.State.Order.{ready_at}
-use Rattle.msg_queue.specs.Seats.{Seat, changed_at, message_of, seat_of, used_of, without_held}
+use Rattle.machine_model.specs.Runs.Matched.{IsMessageLent, Matched}
+use Rattle.machine_model.specs.State.Machine.{Machine, Server}
+use Rattle.msg_queue.specs.Seats.{Seat, changed_at, seat_of, used_of, without_held}
 use Rattle.msg_queue.specs.declared.held.Held.{Held}
 use Rattle.process_table.specs.ProcessMap.{connections_of}
-use Rattle.process_table.specs.ProcessesOf.{process_count as made_for, processes_of}
+use Rattle.process_table.specs.ProcessesOf.{processes_of}
 use Rattle.process_table.specs.declared.table.Processes.{Processes}
 use Rattle.server_table.proofs.Lemmas.{seats_differ}
 use Rattle.server_table.specs.ServersOf.{servers_of}
 use Rattle.sv32_space.specs.Tie.{Held as HeldBytes}
-use Rattle.thread_table.specs.States.{is_receiving_state}
-use Rattle.thread_table.specs.ThreadMap.{is_ready as is_table_ready, is_receiving as is_table_receiving}
-use Rattle.thread_table.specs.ThreadsOf.{process_count, threads_of}
-use Rattle.thread_table.specs.declared.thread.Thread.{Thread as TableThread}
-use Rattle.thread_table.specs.declared.thread.ThreadState.{ThreadState as TableState}
-use Rattle.thread_table.specs.declared.thread.ThreadState.TheVariants as table
-use Rattle.vm_memory.specs.Loaning.Sending.{IsFreeArrival}
-use Rattle.vm_memory.specs.Memory.{ledger, processes}
-use Rattle.xk_base.proofs.CircleLemmas.{is_pid-bounds}
-use Rattle.xk_base.specs.Tables.Circle.{IsPid, is_pid, is_tid}
+use Rattle.thread_table.specs.ThreadMap.{is_ready as is_table_ready}
+use Rattle.thread_table.specs.ThreadsOf.{threads_of}
+use Rattle.vm_memory.specs.Memory.{ledger}
 use Rattle.xk_base.specs.declared.ids.Number.{Number}
 use Rattle.xk_base.specs.declared.ids.Place.{Place}
-use Rattle.xk_base.specs.declared.ids.Serial.{Serial}
 use Rattle.xk_base.specs.declared.ids.ThreadId.{ThreadId}
 use Rattle.xk_base.specs.declared.ids.Vpn.{Vpn}
 use Rattle.xk_base.specs.declared.limits.TheConstants.{MESSAGE_LIMIT, SERVER_LIMIT}
 use Rattle.xk_base.specs.declared.messages.Message.{Message}
 use Rattle.xk_base.specs.declared.pages.LoanKind.{LoanKind}
-use Rattle.xk_base.specs.declared.windows.Window.TheVariants.{Message as MessageWindow}
 use Rattle.send_path.specs.Arrivals.{IsReached, with_arrived}
 use Rattle.send_path.specs.Forwarding.{forward_row, with_all, with_processes}
-use Rattle.send_path.specs.Parts.{Parts, server_with, thread_of, with_parts, with_tables}
+use Rattle.send_path.specs.Parts.{Parts, server_with, with_parts, with_tables}
 use Rattle.send_path.specs.Rows.{IsServed}
-use Rattle.send_path.specs.Seats.{HasLoanIfLend, IsHeldAt, IsSeatOf}
+use Rattle.send_path.specs.Seats.{HasLoanIfLend, IsHeldAt}
 use Rattle.send_path.specs.Sound.{AreLoansSound, AreSeatsSound, IsLenderOf, IsLoanOf, IsSound, IsSoundOver}
 use Rattle.send_path.specs.declared.holding.HeldAt.{HeldAt}
 use Rattle.send_path.specs.declared.seats.Reached.{Reached}
 use Rattle.send_path.proofs.ForwardLemmas.{goes_on}
 use Rattle.send_path.proofs.HeldListLemmas.{find_shown}
-use Rattle.send_path.proofs.ReturnLemmas.{has_loan, its_loan, loan_number, loans_left, message_number, seats_left, shown}
-use Rattle.send_path.proofs.SeatLemmas.{seat_in_limit, seat_other, seats_counted, server_there}
+use Rattle.send_path.proofs.ReturnLemmas.{its_loan, loan_number, loans_left, seats_left, shown}
+use Rattle.send_path.proofs.SeatLemmas.{seat_other, seats_counted, server_there}
 use Rattle.send_path.proofs.SentSoundLemmas.{arrived_seats, loans_arrived}
-use Rattle.send_path.proofs.ThreadLemmas.{ready_id, ready_there}
+use Rattle.send_path.proofs.ThreadLemmas.{ready_there}
 
 -- the loan of another number stands when this one is passed on
 passed_stand : (l : Ledger) (number : Number) (from to : Place) (run : LoanRun) → same_number run.number number ≡ false → Stands (loans l) run

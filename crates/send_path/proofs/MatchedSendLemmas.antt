@@ -1,42 +1,28 @@
 -- The machine in which a send takes place is matched, and so is what an accepted send leaves. What the calls of a send need of it.
-use Rattle.std.proofs.Common.{◌≡◌, ℕ, ◌+◌, ◌≤◌, Bool, true, false, List, Option, Some, None, refl, sym, ap, subst, ◌∙◌, arith}
+use Rattle.std.proofs.Common.{◌≡◌, ℕ, ◌+◌, ◌≤◌, Bool, true, false, List, sym, ap, subst, ◌∙◌, arith}
 use Rattle.std.specs.Prelude.{◌==◌, ◌&&◌}
-use Rattle.std.specs.Option.{option_map, option_map_or}
-use Rattle.std.proofs.lemmas.Bool.{and_parts, eqb-true, false≢true}
+use Rattle.std.specs.Option.{option_map_or}
 use Rattle.machine_laws.proofs.Sending.SendStepLemmas.{MayWait, send_keeps}
 use Rattle.machine_model.proofs.Matching.MatchedLemmas.{number_is_fresh}
 use Rattle.machine_model.specs.Messaging.SendCalls.{send_call}
-use Rattle.machine_model.specs.Runs.Matched.{IsServerAwaited, Matched}
-use Rattle.machine_model.specs.State.Machine.{Machine, Process, Server, Receiving}
+use Rattle.machine_model.specs.Runs.Matched.{Matched}
+use Rattle.machine_model.specs.State.Machine.{Machine, Process}
 use Rattle.machine_model.specs.State.Order.{ready_at}
 use Rattle.ledger_model.specs.Loans.{IsFresh, loans}
-use Rattle.msg_queue.specs.Seats.{seat_of}
-use Rattle.process_table.specs.ProcessesOf.{process_count as made_for}
 use Rattle.process_table.specs.declared.table.Processes.{Processes}
-use Rattle.server_table.specs.ServersOf.{servers_of}
 use Rattle.sv32_space.specs.Tie.{Held as HeldBytes}
-use Rattle.thread_table.specs.States.{is_receiving_state}
-use Rattle.thread_table.specs.ThreadMap.{is_ready as is_table_ready, is_receiving as is_table_receiving}
-use Rattle.thread_table.specs.ThreadsOf.{process_count, threads_of}
-use Rattle.thread_table.specs.declared.thread.Thread.{Thread as TableThread}
-use Rattle.thread_table.specs.declared.thread.ThreadState.{ThreadState as TableState}
-use Rattle.thread_table.specs.declared.thread.ThreadState.TheVariants as table
-use Rattle.vm_memory.specs.Memory.{ledger, processes}
+use Rattle.thread_table.specs.ThreadMap.{is_ready as is_table_ready}
+use Rattle.thread_table.specs.ThreadsOf.{threads_of}
+use Rattle.vm_memory.specs.Memory.{ledger}
 use Rattle.xk_base.specs.Calls.CallWords.{send_kind}
 use Rattle.xk_base.specs.Calls.Kinds.{is_answered, is_waiting_kind}
-use Rattle.xk_base.specs.Tables.Circle.{IsPid, is_pid, is_tid}
-use Rattle.xk_base.proofs.CircleLemmas.{is_pid-bounds}
 use Rattle.xk_base.specs.declared.ids.Number.{Number}
-use Rattle.xk_base.specs.declared.ids.Pid.{Pid}
-use Rattle.xk_base.specs.declared.ids.Serial.{Serial}
 use Rattle.xk_base.specs.declared.ids.ThreadId.{ThreadId}
-use Rattle.send_path.specs.Parts.{Parts, server_with, state_of, thread_of, with_parts, with_tables}
+use Rattle.send_path.specs.Parts.{Parts, with_parts, with_tables}
 use Rattle.send_path.specs.Rows.{IsServed}
-use Rattle.send_path.specs.Seats.{IsSeatOf}
 use Rattle.send_path.specs.Sending.{with_next}
 use Rattle.send_path.specs.Sound.{IsAboveMessages, IsSoundOver}
-use Rattle.send_path.proofs.SeatLemmas.{server_there}
-use Rattle.send_path.proofs.ThreadLemmas.{ready_id, ready_there}
+use Rattle.send_path.proofs.ThreadLemmas.{ready_there}
 
 module _ {W : Type 0} (slot_count : W → ℕ) (held : W → HeldBytes) (who : ThreadId) (procs : Processes) (number : Number) (old : Parts W)
     (sound : IsSoundOver slot_count held who procs old) (above : IsAboveMessages number old.tables.servers old.tables.queues) where

@@ -1,9 +1,8 @@
 -- What the tests of a send find in the parts, and which outcome in the machine that is.
-use Rattle.std.proofs.Common.{◌≡◌, ℕ, ◌+◌, ◌/◌, ◌<◌, ◌≤◌, Bool, true, false, List, length, map, Option, Some, None, IsTrue, refl, sym, ap, subst, ◌∙◌, arith}
-use Rattle.std.specs.Prelude.{IfSome, ◌==◌, ◌&&◌, ◌||◌, ◌%◌, ◌≢◌, ◌↔◌, not, slice_index_or, Result, Ok, Err, if◌then◌else◌}
+use Rattle.std.proofs.Common.{◌≡◌, ℕ, ◌+◌, ◌/◌, ◌<◌, ◌≤◌, Bool, true, false, List, length, map, Option, Some, None, refl, sym, ap, subst, ◌∙◌, arith}
+use Rattle.std.specs.Prelude.{IfSome, ◌==◌, ◌&&◌, ◌||◌, ◌%◌, ◌≢◌, not, slice_index_or, Result, Ok, Err, if◌then◌else◌}
 use Rattle.std.proofs.lemmas.Bool.{eq-eqb, eqb-false, eqb-true, false≢true, or_parts}
 use Rattle.std.proofs.lemmas.List.{length-map}
-use Rattle.ledger_model.proofs.Runs.LeastRunLemmas.{least_run-Some}
 use Rattle.ledger_model.specs.LeastRun.{least_run}
 use Rattle.ledger_model.specs.Loans.{LoanRun, Loans, Stands}
 use Rattle.ledger_model.specs.RunTests.{any_free, any_not_sent}
@@ -20,14 +19,12 @@ use Rattle.process_table.specs.ProcessesOf.{processes_of}
 use Rattle.process_table.specs.declared.table.Processes.{Processes}
 use Rattle.server_table.specs.ServersOf.{servers_of}
 use Rattle.sv32_space.specs.Tie.{Held as HeldBytes}
-use Rattle.thread_table.specs.ThreadMap.{is_receiving}
-use Rattle.thread_table.specs.ThreadsOf.{process_count, threads_of}
+use Rattle.thread_table.specs.ThreadsOf.{process_count}
 use Rattle.vm_memory.proofs.Changing.LoanCallLemmas.{found_arrival}
 use Rattle.vm_memory.specs.Memory.{ledger, processes}
-use Rattle.xk_base.proofs.CircleLemmas.{is_pid-bounds}
 use Rattle.xk_base.specs.Calls.Kinds.{kind_at}
 use Rattle.xk_base.specs.Numbers.Windows.{page_of}
-use Rattle.xk_base.specs.Tables.Circle.{IsPid, is_pid}
+use Rattle.xk_base.specs.Tables.Circle.{is_pid}
 use Rattle.xk_base.specs.declared.errors.XousError.{XousError}
 use Rattle.xk_base.specs.declared.errors.XousError.TheVariants.{BadAddress, BadAlignment, InvalidSyscall, MemoryInUse, ServerNotFound, ServerQueueFull, ShareViolation}
 use Rattle.xk_base.specs.declared.ids.Number.{Number}

@@ -141,7 +141,7 @@ module _ (all : Loans) (m : Machine) (w : List ℕ) (from : Place) (to : Place) 
 
 -- ---- all loans
 
-module _ (servers : Servers) (seats : List Seat) (serial k : ℕ) (its : IsSeatOf (servers_of servers) serial k) (count : length seats ≡ SERVER_LIMIT)
+module _ (servers : Servers) (seats : List Seat) (serial k : ℕ) (its : IsSeatOf (servers_of servers) serial k) (count : length seats ≡ 64)
     (all : Loans) (sound : AreLoansSound all (servers_of servers) seats) where
   -- the loans of a seat that changes are sound
   pub loans_changed : (f : Seat → Seat) → AreLoansAt all its.server.pid (f (seat_of seats k))

@@ -14,7 +14,7 @@ ghost use Rattle.send_path.specs.Rows.{table_row};
 ghost use Rattle.send_path.specs.Sound.{IsSoundOver, KeepsMemory};
 
 use crate::carrying::arrive_and_answer;
-use crate::holding::{HeldAt, held_by, is_lend, take};
+use crate::holding::{held_by, is_lend, take};
 use crate::seats::connected_server;
 use msg_queue::{Held, Queues};
 use process_table::Processes;
@@ -47,9 +47,13 @@ pub fn forward<W: SwapStore>(
     requires room { length log.old.records + 2 ≤ log.old.room }
     requires served { call_number words ≡ forward_number }
     requires usable { IsUsable mem.old }
-    requires sound { let old = parts_of mem.old threads.old servers.now queues.old log.old in IsSoundOver W.slot_count W.held who procs.now old }
-    ensures row { let old = parts_of mem.old threads.old servers.now queues.old log.old in let new = parts_of mem.new threads.new servers.now queues.new log.new in IsRowOver W.held (table_row words) who procs.now old new result }
-    ensures sound { let new = parts_of mem.new threads.new servers.now queues.new log.new in IsSoundOver W.slot_count W.held who procs.now new }
+    requires sound { let old = parts_of mem.old threads.old servers.now queues.old log.old in
+        IsSoundOver W.slot_count W.held who procs.now old }
+    ensures row { let old = parts_of mem.old threads.old servers.now queues.old log.old in
+        let new = parts_of mem.new threads.new servers.now queues.new log.new in
+        IsRowOver W.held (table_row words) who procs.now old new result }
+    ensures sound { let new = parts_of mem.new threads.new servers.now queues.new log.new in
+        IsSoundOver W.slot_count W.held who procs.now new }
     ensures mem { KeepsMemory W.is_honest W.held mem.old mem.new }
 {
     match read_call(words) {
@@ -83,44 +87,43 @@ fn forward_message<W: SwapStore>(
     requires ready { is_ready (threads_of threads.old who) ≡ true }
     requires room { length log.old.records + 2 ≤ log.old.room }
     requires usable { IsUsable mem.old }
-    requires sound { let old = parts_of mem.old threads.old servers.now queues.old log.old in IsSoundOver W.slot_count W.held who procs.now old }
-    ensures row { let old = parts_of mem.old threads.old servers.now queues.old log.old in let new = parts_of mem.new threads.new servers.now queues.new log.new in IsRowOver W.held (forward_row number cid.0) who procs.now old new result }
-    ensures sound { let new = parts_of mem.new threads.new servers.now queues.new log.new in IsSoundOver W.slot_count W.held who procs.now new }
+    requires sound { let old = parts_of mem.old threads.old servers.now queues.old log.old in
+        IsSoundOver W.slot_count W.held who procs.now old }
+    ensures row { let old = parts_of mem.old threads.old servers.now queues.old log.old in
+        let new = parts_of mem.new threads.new servers.now queues.new log.new in
+        IsRowOver W.held (forward_row number cid.0) who procs.now old new result }
+    ensures sound { let new = parts_of mem.new threads.new servers.now queues.new log.new in
+        IsSoundOver W.slot_count W.held who procs.now new }
     ensures mem { KeepsMemory W.is_honest W.held mem.old mem.new }
 {
-    let Some(HeldAt {
-        serial,
-        seat,
-        message,
-    }) = held_by(servers, queues, who.pid, number)
-    else {
+    let Some(from) = held_by(servers, queues, who.pid, number) else {
         return Err(XousError::DoubleFree);
     };
-    if !is_passable(&message) {
+    if !is_passable(&from.message) {
         return Err(XousError::DoubleFree);
     }
     let Some(to) = connected_server(procs, servers, who.pid, cid) else {
         return Err(XousError::ServerNotFound);
     };
-    if to.serial == serial {
+    if to.serial == from.serial {
         return Err(XousError::InvalidSyscall);
     }
     if queues.is_full(to.seat) {
         return Err(XousError::ServerQueueFull);
     }
-    let Some(first) = mem.free_run(to.pid, Window::Message, message.count) else {
+    let Some(first) = mem.free_run(to.pid, Window::Message, from.message.count) else {
         return Err(XousError::MemoryInUse);
     };
     let place = Place {
         pid: to.pid,
         vpn: first,
     };
-    let loan = match take(queues, seat, number) {
+    let loan = match take(queues, from.seat, number) {
         Some(loan) => mem.pass(loan, place),
         None => unreachable!(),
     };
     let passed = Held {
-        msg: moved_to(message, first),
+        msg: moved_to(from.message, first),
         loan: Some(loan),
     };
     arrive_and_answer(threads, queues, log, who, None, to, passed);
@@ -144,3 +147,6 @@ fn moved_to(mut message: Message, first: Vpn) -> Message
     message.first = first;
     message
 }
+
+#[cfg(test)]
+mod tests;
