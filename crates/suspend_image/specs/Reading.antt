@@ -1,6 +1,6 @@
 -- Reading from left to right: the value at the front of bytes and the bytes after it, or the first word that breaks the form, said by
 -- how many bytes stand from it on. A part of a word at the end of the bytes is a word that is missing.
-use Rattle.std.specs.Prelude.{◌≡◌, ℕ, zero, suc, ◌+◌, ◌-◌, ◌==◌, Bool, ◌||◌, nat_lt, if◌then◌else◌, List, [], ◌∷◌, length, take, drop, Option, Some, None, Result, Ok, Err}
+use Rattle.std.specs.Prelude.{◌≡◌, ℕ, zero, suc, ◌+◌, ◌==◌, Bool, ◌||◌, nat_lt, if◌then◌else◌, List, [], ◌∷◌, length, take, drop, Option, Some, None, Result, Ok, Err}
 use Rattle.byteorder.specs.Endian.{little_number}
 use Rattle.suspend_image.specs.declared.broken.Broken.{Broken}
 use Rattle.suspend_image.specs.declared.broken.Broken.TheVariants as broken

@@ -1,6 +1,10 @@
-//! A sheet is written.
+//! A sheet is written, and a small state is read from it. The check number was computed by another
+//! program.
 
+use crate::faults::{NOT_STATE, STATE_CHECK, STATE_FORM, STATE_LENGTH, StateError};
+use crate::reading::read_state;
 use crate::sheet::Sheet;
+use kernel_args::ArgFault;
 
 #[test]
 fn words_are_little_endian(rt: HostRuntime) {
@@ -15,4 +19,50 @@ fn words_are_little_endian(rt: HostRuntime) {
     } else {
         assert!(rt; false);
     }
+}
+
+/// A state of one process with a heap of one page, at step 5.
+const FILE: [u8; 100] = *b"XousSt01d\x00\x00\x00{\x8d\x00\x00\
+\x07\x00\x00\x00\x01\x00\x00\x00\x05\x00\x00\x00\x02\x00\x00\x00\x03\x00\x00\x00\x09\x00\x00\x00\x04\x00\x00\x00\
+\x00\x00\x00\x00\x00\x00\x00\x00\x00\x00\x00\x00\x00\x00\x00\x00\x00\x00\x00\x00\x00\x00\x00\x00\
+\x01\x00\x00\x00\x00\x10\x00\x00\x00\x00\x00\x00\
+\x00\x00\x00\x00\x00\x00\x00\x00\x00\x00\x00\x00\x00\x00\x00\x00\x00\x00\x00\x00";
+
+fn has_fault(bytes: &[u8], rt: &HostRuntime, what: u8, at: u32) -> bool {
+    match read_state(rt.alloc(), bytes) {
+        Ok(_) => false,
+        Err(e) => e == StateError::Fault(ArgFault { what, at }),
+    }
+}
+
+#[test]
+fn small_state_is_read(rt: HostRuntime) {
+    match read_state(rt.alloc(), FILE.as_slice()) {
+        Ok(state) => {
+            assert_eq!(rt; (state.cap, state.n, state.steps), (7, 1, 5));
+            assert_eq!(rt; (state.cursor_pid, state.cursor_tid), (2, 3));
+            assert_eq!(rt; (state.next_number, state.next_serial), (9, 4));
+            assert_eq!(rt; state.procs.as_slice().len(), 1);
+            for row in state.procs.as_slice() {
+                assert_eq!(rt; (row.alive, row.heap), (1, 4096));
+            }
+            assert!(rt; state.orphans.as_slice().is_empty());
+        }
+        Err(_) => assert!(rt; false),
+    }
+}
+
+#[test]
+fn first_fault_is_named(rt: HostRuntime) {
+    assert!(rt; has_fault(&[], &rt, NOT_STATE, 0));
+    assert!(rt; has_fault(&FILE[..99], &rt, STATE_LENGTH, 8));
+    let mut damaged = FILE;
+    damaged[99] = 1;
+    assert!(rt; has_fault(damaged.as_slice(), &rt, STATE_CHECK, 12));
+    // A cursor of tid 0, with its check number.
+    let mut without_cursor = FILE;
+    without_cursor[32] = 0;
+    without_cursor[12] = 0x5c;
+    without_cursor[13] = 0xc5;
+    assert!(rt; has_fault(without_cursor.as_slice(), &rt, STATE_FORM, 32));
 }
