@@ -9,6 +9,7 @@ mod events;
 mod memory_calls;
 mod readers;
 mod running;
+mod server_calls;
 mod stepping;
 mod thread_calls;
 mod threads;

@@ -5,6 +5,7 @@ mod image;
 mod lines;
 mod memory_calls;
 mod processes;
+mod servers;
 
 use crate::adapters::{ErrSink, FileHost, StdSink};
 use crate::status::{Ended, Status};

@@ -5,7 +5,6 @@ use Rattle.std.specs.Option.{option_map_or}
 use Rattle.std.proofs.lemmas.Bool.Decides.{nat_tests}
 use Rattle.std.proofs.lemmas.Bool.{and_parts}
 use Rattle.std.proofs.lemmas.Option.{same_Some}
-use Rattle.machine_laws.specs.WithoutServers.{is_plain_call}
 use Rattle.machine_laws.proofs.Threading.ThreadStepLemmas.{actor_ready}
 use Rattle.machine_model.proofs.Runs.KeptLemmas.{matched_at}
 use Rattle.machine_model.specs.Calling.Calls.{call}
@@ -33,7 +32,7 @@ use Rattle.xk_base.specs.declared.records.What.{What}
 use Rattle.xk_base.specs.declared.records.What.TheVariants.{Call, End, Fault}
 use Rattle.xk_kernel.specs.Acting.{IsDone, reservation_by, told_by}
 use Rattle.xk_kernel.specs.Alone.{DiesPlainly, EndsPlainly, is_alone}
-use Rattle.xk_kernel.specs.Built.{call_built, end_built, executed_built, step_built, thread_built}
+use Rattle.xk_kernel.specs.Built.{call_built, is_call_built, end_built, executed_built, step_built, thread_built}
 use Rattle.xk_kernel.specs.Running.{machine_after}
 use Rattle.xk_kernel.specs.State.{machine_of}
 use Rattle.xk_kernel.specs.Telling.{Tells}
@@ -252,6 +251,6 @@ actor_known m who t h there = h.body.ids.known who t there
 -- a process that dies by a call that is built stands alone
 pub call_alone : (m : Machine) (who : ThreadId) (w : List ℕ) → call_number w ≡ terminate_process → call_built m who w ≡ true → is_alone who.pid m ≡ true
 call_alone m who w ends built =
-    let parts : (is_plain_call w ≡ true) × ((not (call_number w == terminate_process) || is_alone who.pid m) ≡ true) =
-    and_parts (is_plain_call w) (not (call_number w == terminate_process) || is_alone who.pid m) built in
+    let parts : (is_call_built w ≡ true) × ((not (call_number w == terminate_process) || is_alone who.pid m) ≡ true) =
+    and_parts (is_call_built w) (not (call_number w == terminate_process) || is_alone who.pid m) built in
     sym (ap (λ n. not (n == terminate_process) || is_alone who.pid m) ends) ∙ parts.1
