@@ -7,5 +7,6 @@ pub mod JoinerLemmas
 pub mod JoiningLemmas
 pub mod LogLemmas
 pub mod ReplyLemmas
+pub mod ServerCallLemmas
 pub mod SettleLemmas
 pub mod TellingLemmas

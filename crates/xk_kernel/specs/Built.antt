@@ -1,9 +1,9 @@
 -- Which steps and events are built. Any other is named as not built, and isn't done.
-use Rattle.std.specs.Prelude.{ℕ, Bool, true, false, not, ◌&&◌, ◌||◌, ◌==◌, List, None, if◌then◌else◌}
+use Rattle.std.specs.Prelude.{ℕ, Bool, true, false, not, ◌&&◌, ◌||◌, ◌==◌, List, [], ◌∷◌, None, if◌then◌else◌}
+use Rattle.std.specs.List.{list_any}
 use Rattle.std.specs.Option.{option_map_or}
 use Rattle.event_text.specs.declared.event.Event.{Event}
 use Rattle.event_text.specs.declared.event.Event.TheVariants.{Tick, Pick, Irq, Kill}
-use Rattle.machine_laws.specs.WithoutServers.{is_plain_call}
 use Rattle.machine_model.specs.Ending.Ends.{has_threads}
 use Rattle.machine_model.specs.Hart.Instructions.{Executed, CallsKernel, Traps}
 use Rattle.machine_model.specs.State.Machine.{Machine, Thread}
@@ -11,7 +11,7 @@ use Rattle.machine_model.specs.State.Order.{actor}
 use Rattle.machine_model.specs.State.Threads.{put_thread}
 use Rattle.machine_model.specs.Stepping.Step.{ends_handler, ends_thread, performed}
 use Rattle.machine_model.specs.Runs.Matched.{is_living}
-use Rattle.xk_base.specs.Calls.CallNumbers.{claim_interrupt, free_interrupt, terminate_process}
+use Rattle.xk_base.specs.Calls.CallNumbers.{map_memory, yield_turn, claim_interrupt, free_interrupt, increase_heap, decrease_heap, update_memory_flags, create_server_with_address, connect, create_thread, unmap_memory, terminate_process, try_connect, join_thread, get_thread_id, get_process_id, is_call_number}
 use Rattle.xk_base.specs.Calls.CallWords.{call_number, interrupt_number}
 use Rattle.xk_base.specs.Calls.Registers.{arguments_of}
 use Rattle.xk_base.specs.declared.ids.Pid.{Pid}
@@ -23,18 +23,28 @@ use Rattle.xk_kernel.specs.Alone.{is_alone}
 abbrev pub end_built : Machine → ThreadId → Bool
 end_built m who = has_threads (put_thread who None m) who.pid || is_alone who.pid m
 
--- it claims an interrupt, which isn't the timer's, or frees one
+-- the numbers of the calls that are built, whatever their other words are
+abbrev pub built_numbers : List ℕ
+built_numbers =
+    map_memory ∷ yield_turn ∷ increase_heap ∷ decrease_heap ∷ update_memory_flags ∷ create_server_with_address ∷ connect ∷ create_thread
+    ∷ unmap_memory ∷ terminate_process ∷ try_connect ∷ join_thread ∷ get_thread_id ∷ get_process_id ∷ []
+
+-- it is one of these, or none of the table
+abbrev pub is_number_built : ℕ → Bool
+is_number_built k = list_any (λ n. n == k) built_numbers || not (is_call_number k)
+
+-- the call claims an interrupt, which isn't the timer's, or frees one
 abbrev pub is_interrupt_call : List ℕ → Bool
 is_interrupt_call words =
     ((call_number words == claim_interrupt) && not (interrupt_number words == TIMER_INTERRUPT)) || (call_number words == free_interrupt)
 
--- it is on memory, threads or its process, or on interrupts, or has no number of the table
-abbrev pub is_built_call : List ℕ → Bool
-is_built_call words = is_plain_call words || is_interrupt_call words
+-- a call with these words is built: by its number, or as a call on interrupts
+abbrev pub is_call_built : List ℕ → Bool
+is_call_built words = is_number_built (call_number words) || is_interrupt_call words
 
--- a system call; TerminateProcess where the process stands alone
+-- a system call: TerminateProcess only where the process stands alone
 abbrev pub call_built : Machine → ThreadId → List ℕ → Bool
-call_built m who words = is_built_call words && (not (call_number words == terminate_process) || is_alone who.pid m)
+call_built m who words = is_call_built words && (not (call_number words == terminate_process) || is_alone who.pid m)
 
 -- an instruction is built, and a trap where the process stands alone
 abbrev pub executed_built : Machine → ThreadId → Thread → Executed → Bool

@@ -1,21 +1,43 @@
 -- What came of a system call, before its caller is past it: the one outcome of the call, by its row of the table.
-use Rattle.std.specs.Prelude.{Result, Ok, Err, Some, None}
-use Rattle.machine_model.specs.State.Changes.{Change, Outcome, Refused, Served, only, answering}
+use Rattle.std.specs.Prelude.{Result, Ok, Err, Some, None, [], ◌∷◌, not}
+use Rattle.std.specs.Bool.{⊤}
+use Rattle.machine_model.specs.State.Changes.{Outcome, Refused, Retried, Served, only, answering, unless_refused}
+use Rattle.machine_model.specs.State.Connections.{connect_caller, own_connections}
 use Rattle.machine_model.specs.State.Machine.{Machine}
 use Rattle.machine_model.specs.State.Threads.{answer_to, no_answers}
 use Rattle.syscall_codec.specs.Replies.{words_of}
+use Rattle.xk_base.specs.Calls.Replies.{connection_words}
+use Rattle.xk_base.specs.Tables.Connections.{cid_for, has_room}
 use Rattle.xk_base.specs.declared.errors.XousError.{XousError}
+use Rattle.xk_base.specs.declared.errors.XousError.TheVariants.{InvalidLimit}
+use Rattle.xk_base.specs.declared.ids.Serial.{Serial}
 use Rattle.xk_base.specs.declared.ids.ThreadId.{ThreadId}
 use Rattle.xk_kernel.specs.declared.kernel.calls.CallerFate.{CallerFate}
-use Rattle.xk_kernel.specs.declared.kernel.calls.CallerFate.TheVariants.{Answered, Waits, Died}
+use Rattle.xk_kernel.specs.declared.kernel.calls.CallerFate.TheVariants.{Answered, Waits, Died, Retries}
 
--- the change that a served call of the thread made of the machine: the caller is answered, or waits, or its process died
-abbrev pub change_by : ThreadId → Machine → CallerFate → Change
-change_by who m (Answered reply) = answering (answer_to who (words_of reply)) m
-change_by who m Waits = only m
-change_by who m Died = record { machine = m; answers = no_answers; delivery = None; gone = Some who.pid }
+-- the outcome of a call of the thread whose caller fares so, where the machine is this one after it: the caller is answered, or
+-- waits, or its process died, or it will make the call again
+abbrev pub outcome_by : ThreadId → Machine → CallerFate → Outcome
+outcome_by who m (Answered reply) = Served (answering (answer_to who (words_of reply)) m)
+outcome_by who m Waits = Served (only m)
+outcome_by who m Died = Served (record { machine = m; answers = no_answers; delivery = None; gone = Some who.pid })
+outcome_by who m Retries = Retried
 
 -- the outcome of a call of the thread that was answered so, where the machine is this one after it
 abbrev pub outcome_of : ThreadId → Machine → Result CallerFate XousError → Outcome
 outcome_of who m (Err error) = Refused error
-outcome_of who m (Ok served) = Served (change_by who m served)
+outcome_of who m (Ok fate) = outcome_by who m fate
+
+-- this holds after a call that isn't done, as it is refused or will be made again
+abbrev pub IfUndone : Result CallerFate XousError → Type 0 → Type 0
+IfUndone (Err error) P = P
+IfUndone (Ok Retries) P = P
+IfUndone (Ok (Answered reply)) P = ⊤
+IfUndone (Ok Waits) P = ⊤
+IfUndone (Ok Died) P = ⊤
+
+-- the outcome of a connection to a server that is alive: there may be no room for one
+abbrev pub connected_outcome : Machine → Serial → Outcome
+connected_outcome m serial =
+    unless_refused ((not (has_room serial (own_connections m)), InvalidLimit) ∷ [])
+    (Served (answering (answer_to m.cursor (connection_words (cid_for serial (own_connections m)))) (connect_caller serial m)))

@@ -11,6 +11,7 @@ mod interrupts;
 mod memory_calls;
 mod readers;
 mod running;
+mod server_calls;
 mod stepping;
 mod thread_calls;
 mod threads;

@@ -6,6 +6,7 @@ mod interrupts;
 mod lines;
 mod memory_calls;
 mod processes;
+mod servers;
 
 use crate::adapters::{ErrSink, FileHost, StdSink};
 use crate::status::{Ended, Status};

@@ -32,7 +32,7 @@ use Rattle.xk_base.specs.declared.records.What.{What}
 use Rattle.xk_base.specs.declared.records.What.TheVariants.{Call, End, Fault}
 use Rattle.xk_kernel.specs.Acting.{IsDone, reservation_by, told_by}
 use Rattle.xk_kernel.specs.Alone.{DiesPlainly, EndsPlainly, is_alone}
-use Rattle.xk_kernel.specs.Built.{call_built, end_built, executed_built, is_built_call, step_built, thread_built}
+use Rattle.xk_kernel.specs.Built.{call_built, is_call_built, end_built, executed_built, step_built, thread_built}
 use Rattle.xk_kernel.specs.Running.{machine_after}
 use Rattle.xk_kernel.specs.State.{machine_of}
 use Rattle.xk_kernel.specs.Telling.{Tells}
@@ -265,6 +265,6 @@ actor_known m who t h there = h.body.ids.known who t there
 -- a process that dies by a call that is built stands alone
 pub call_alone : (m : Machine) (who : ThreadId) (w : List ℕ) → call_number w ≡ terminate_process → call_built m who w ≡ true → is_alone who.pid m ≡ true
 call_alone m who w ends built =
-    let parts : (is_built_call w ≡ true) × ((not (call_number w == terminate_process) || is_alone who.pid m) ≡ true) =
-    and_parts (is_built_call w) (not (call_number w == terminate_process) || is_alone who.pid m) built in
+    let parts : (is_call_built w ≡ true) × ((not (call_number w == terminate_process) || is_alone who.pid m) ≡ true) =
+    and_parts (is_call_built w) (not (call_number w == terminate_process) || is_alone who.pid m) built in
     sym (ap (λ n. not (n == terminate_process) || is_alone who.pid m) ends) ∙ parts.1

@@ -1,22 +1,21 @@
--- What comes of each plain call, by the words that ask for it.
+-- What comes of each call that is built, by the words that ask for it.
 use Rattle.std.proofs.Common.{◌≡◌, ℕ, Bool, true, false, List, ◌∷◌, [], None, Some, refl, sym, ap, ◌∙◌}
 use Rattle.std.specs.Prelude.{◌==◌, ◌&&◌, ◌||◌, ◌≢◌, not, if◌then◌else◌, Result, Ok, Err}
 use Rattle.std.specs.List.{list_any}
 use Rattle.std.proofs.lemmas.Bool.{false≢true, ne_eqb}
 use Rattle.std.proofs.Math.Bool.{and-false}
 use Rattle.machine_laws.proofs.Stepping.PlainServerLemmas.{outside_refused}
-use Rattle.machine_laws.specs.WithoutServers.{plain_numbers}
 use Rattle.machine_model.specs.Calling.Calls.{call, call_at, call_table}
 use Rattle.machine_model.specs.Calling.InterruptCalls.{claim_call, claim_refusals, claim_served, free_call, free_refusals, free_served}
-use Rattle.machine_model.specs.State.Changes.{Refused, Served, answering, refused_or, unless_refused}
+use Rattle.machine_model.specs.State.Changes.{Refused, Served, answering, refused_or, unless_refused, unless_retried}
 use Rattle.machine_model.specs.Ending.Ends.{forgotten}
 use Rattle.machine_model.specs.State.Machine.{Machine}
 use Rattle.machine_model.specs.Calling.MemoryCalls.{decrease_call, decrease_refusals, decrease_served, increase_call, increase_refusals, increase_served, map_call, map_refusals, map_served, unmap_call, unmap_refusals, unmap_served, update_call, update_refusals, update_served}
 use Rattle.machine_model.specs.State.Order.{turn}
+use Rattle.machine_model.specs.Calling.ServerCalls.{connect_call, connect_refusals, connect_served, create_server_call, create_server_refusals, create_server_served, is_missing, try_connect_call}
 use Rattle.machine_model.specs.Calling.ThreadCalls.{create_call, create_refusals, create_served, join_call, join_refusals, join_served, process_id_call, terminate_call, thread_id_call, yield_call}
 use Rattle.machine_model.specs.State.Threads.{answer_to, no_answers}
 use Rattle.xk_kernel.specs.Alone.{DiesPlainly}
-use Rattle.xk_kernel.specs.Built.{is_built_call}
 use Rattle.syscall_codec.specs.Calls.{Asks}
 use Rattle.syscall_codec.specs.declared.calls.Call.{Call}
 use Rattle.syscall_codec.specs.declared.calls.Call.TheVariants.{MapMemory, Yield, ClaimInterrupt, FreeInterrupt, IncreaseHeap, DecreaseHeap, UpdateMemoryFlags, CreateServerWithAddress, ReceiveMessage, SendMessage, Connect, CreateThread, UnmapMemory, ReturnMemory, TerminateProcess, TrySendMessage, TryConnect, ReturnScalar1, ReturnScalar2, TryReceiveMessage, JoinThread, DestroyServer, GetThreadId, GetProcessId, ForwardMessage}
@@ -25,7 +24,9 @@ use Rattle.xk_base.specs.Calls.CallWords.{call_number, interrupt_number, is_refu
 use Rattle.xk_base.specs.Calls.Replies.{plain_words, scalar1_words, thread_words}
 use Rattle.xk_base.specs.declared.errors.XousError.{XousError}
 use Rattle.xk_base.specs.declared.limits.TheConstants.{TIMER_INTERRUPT}
-use Rattle.xk_base.specs.declared.errors.XousError.TheVariants.{InvalidSyscall, UnhandledSyscall}
+use Rattle.xk_base.specs.declared.errors.XousError.TheVariants.{InvalidSyscall, ServerNotFound, UnhandledSyscall}
+use Rattle.xk_base.specs.declared.ids.Sid.{Sid}
+use Rattle.xk_kernel.specs.Built.{is_call_built, is_number_built}
 
 -- the caller is the interrupt thread, and the call can make it wait
 abbrev pub is_refused_caller : Machine → List ℕ → Bool
@@ -109,6 +110,27 @@ module _ (m : Machine) (w : List ℕ) (free : is_refused_caller m w ≡ false) w
   unfolding terminate_call
   terminate_is exit plain (n, a) = sym (by_number m w 22 n refl free ∙ ap Served plain)
 
+  pub create_server_is : (sid : Sid) → Asks w (CreateServerWithAddress sid)
+      → unless_refused (create_server_refusals m sid) (Served (create_server_served m sid)) ≡ call m w
+  unfolding create_server_call
+  create_server_is sid (n, a) =
+      sym (by_number m w 14 n refl free
+      ∙ (λ i. unless_refused (create_server_refusals m (record { 0 = a i })) (Served (create_server_served m (record { 0 = a i })))))
+
+  pub connect_is : (sid : Sid) → Asks w (Connect sid)
+      → unless_retried (is_missing m sid) (unless_refused (connect_refusals m sid) (Served (connect_served m sid))) ≡ call m w
+  unfolding connect_call
+  connect_is sid (n, a) =
+      sym (by_number m w 17 n refl free
+      ∙ (λ i. unless_retried (is_missing m (record { 0 = a i })) (unless_refused (connect_refusals m (record { 0 = a i })) (Served (connect_served m (record { 0 = a i }))))))
+
+  pub try_connect_is : (sid : Sid) → Asks w (TryConnect sid)
+      → unless_refused ((is_missing m sid, ServerNotFound) ∷ connect_refusals m sid) (Served (connect_served m sid)) ≡ call m w
+  unfolding try_connect_call
+  try_connect_is sid (n, a) =
+      sym (by_number m w 25 n refl free
+      ∙ (λ i. unless_refused ((is_missing m (record { 0 = a i }), ServerNotFound) ∷ connect_refusals m (record { 0 = a i })) (Served (connect_served m (record { 0 = a i })))))
+
 -- ---- who may make it
 
 -- another thread than the interrupt thread may make every call
@@ -157,59 +179,61 @@ refused_to_handler m w asked h handler waits = λ i.
     refused_or (if not (known w asked h i) then Some UnhandledSyscall else (if (handler i == 1) && waits i then Some InvalidSyscall else None))
     (call_at (call_number w) call_table m w)
 
--- it is on memory, threads or the caller's process, or on interrupts
-abbrev pub is_plain : Call → Bool
-is_plain (MapMemory a b d e) = true
-is_plain Yield = true
-is_plain (ClaimInterrupt a b d) = true
-is_plain (FreeInterrupt a) = true
-is_plain (IncreaseHeap a) = true
-is_plain (DecreaseHeap a) = true
-is_plain (UpdateMemoryFlags a b d) = true
-is_plain (CreateThread a b d) = true
-is_plain (UnmapMemory a b) = true
-is_plain (TerminateProcess a) = true
-is_plain (JoinThread a) = true
-is_plain GetThreadId = true
-is_plain GetProcessId = true
-is_plain _ = false
+-- it is one of those that are built
+abbrev pub is_built_one : Call → Bool
+is_built_one (MapMemory a b d e) = true
+is_built_one Yield = true
+is_built_one (ClaimInterrupt a b d) = true
+is_built_one (FreeInterrupt a) = true
+is_built_one (IncreaseHeap a) = true
+is_built_one (DecreaseHeap a) = true
+is_built_one (UpdateMemoryFlags a b d) = true
+is_built_one (CreateServerWithAddress a) = true
+is_built_one (Connect a) = true
+is_built_one (CreateThread a b d) = true
+is_built_one (UnmapMemory a b) = true
+is_built_one (TerminateProcess a) = true
+is_built_one (TryConnect a) = true
+is_built_one (JoinThread a) = true
+is_built_one GetThreadId = true
+is_built_one GetProcessId = true
+is_built_one _ = false
 
 -- the test of a number, and of the interrupt that is claimed by it
 abbrev is_built_number : ℕ → ℕ → Bool
 is_built_number interrupt k =
-    (list_any (λ n. n == k) plain_numbers || not (is_call_number k))
-    || (((k == claim_interrupt) && not (interrupt == TIMER_INTERRUPT)) || (k == free_interrupt))
+    is_number_built k || (((k == claim_interrupt) && not (interrupt == TIMER_INTERRUPT)) || (k == free_interrupt))
 
--- words that are built ask for such a call
-pub plain_asked : (w : List ℕ) (asked : Call) → Asks w asked → is_built_call w ≡ true → is_plain asked ≡ true
-plain_asked w (MapMemory a b d e) h plain = refl
-plain_asked w Yield h plain = refl
-plain_asked w (ClaimInterrupt a b d) h plain = refl
-plain_asked w (FreeInterrupt a) h plain = refl
-plain_asked w (IncreaseHeap a) h plain = refl
-plain_asked w (DecreaseHeap a) h plain = refl
-plain_asked w (UpdateMemoryFlags a b d) h plain = refl
-plain_asked w (CreateServerWithAddress a) h plain = sym (ap (is_built_number (interrupt_number w)) h.0) ∙ plain
-plain_asked w (ReceiveMessage a) h plain = sym (ap (is_built_number (interrupt_number w)) h.0) ∙ plain
-plain_asked w (SendMessage a b d e) h plain = sym (ap (is_built_number (interrupt_number w)) h.0) ∙ plain
-plain_asked w (Connect a) h plain = sym (ap (is_built_number (interrupt_number w)) h.0) ∙ plain
-plain_asked w (CreateThread a b d) h plain = refl
-plain_asked w (UnmapMemory a b) h plain = refl
-plain_asked w (ReturnMemory a b d e f) h plain = sym (ap (is_built_number (interrupt_number w)) h.0) ∙ plain
-plain_asked w (TerminateProcess a) h plain = refl
-plain_asked w (TrySendMessage a b d e) h plain = sym (ap (is_built_number (interrupt_number w)) h.0) ∙ plain
-plain_asked w (TryConnect a) h plain = sym (ap (is_built_number (interrupt_number w)) h.0) ∙ plain
-plain_asked w (ReturnScalar1 a b) h plain = sym (ap (is_built_number (interrupt_number w)) h.0) ∙ plain
-plain_asked w (ReturnScalar2 a b d) h plain = sym (ap (is_built_number (interrupt_number w)) h.0) ∙ plain
-plain_asked w (TryReceiveMessage a) h plain = sym (ap (is_built_number (interrupt_number w)) h.0) ∙ plain
-plain_asked w (JoinThread a) h plain = refl
-plain_asked w (DestroyServer a) h plain = sym (ap (is_built_number (interrupt_number w)) h.0) ∙ plain
-plain_asked w GetThreadId h plain = refl
-plain_asked w GetProcessId h plain = refl
-plain_asked w (ForwardMessage a b) h plain = sym (ap (is_built_number (interrupt_number w)) h.0) ∙ plain
+-- words of a call that is built ask for such a one
+pub built_asked : (w : List ℕ) (asked : Call) → Asks w asked → is_call_built w ≡ true → is_built_one asked ≡ true
+built_asked w (MapMemory a b d e) h built = refl
+built_asked w Yield h built = refl
+built_asked w (ClaimInterrupt a b d) h built = refl
+built_asked w (FreeInterrupt a) h built = refl
+built_asked w (IncreaseHeap a) h built = refl
+built_asked w (DecreaseHeap a) h built = refl
+built_asked w (UpdateMemoryFlags a b d) h built = refl
+built_asked w (CreateServerWithAddress a) h built = refl
+built_asked w (ReceiveMessage a) h built = sym (ap (is_built_number (interrupt_number w)) h.0) ∙ built
+built_asked w (SendMessage a b d e) h built = sym (ap (is_built_number (interrupt_number w)) h.0) ∙ built
+built_asked w (Connect a) h built = refl
+built_asked w (CreateThread a b d) h built = refl
+built_asked w (UnmapMemory a b) h built = refl
+built_asked w (ReturnMemory a b d e f) h built = sym (ap (is_built_number (interrupt_number w)) h.0) ∙ built
+built_asked w (TerminateProcess a) h built = refl
+built_asked w (TrySendMessage a b d e) h built = sym (ap (is_built_number (interrupt_number w)) h.0) ∙ built
+built_asked w (TryConnect a) h built = refl
+built_asked w (ReturnScalar1 a b) h built = sym (ap (is_built_number (interrupt_number w)) h.0) ∙ built
+built_asked w (ReturnScalar2 a b d) h built = sym (ap (is_built_number (interrupt_number w)) h.0) ∙ built
+built_asked w (TryReceiveMessage a) h built = sym (ap (is_built_number (interrupt_number w)) h.0) ∙ built
+built_asked w (JoinThread a) h built = refl
+built_asked w (DestroyServer a) h built = sym (ap (is_built_number (interrupt_number w)) h.0) ∙ built
+built_asked w GetThreadId h built = refl
+built_asked w GetProcessId h built = refl
+built_asked w (ForwardMessage a b) h built = sym (ap (is_built_number (interrupt_number w)) h.0) ∙ built
 
 -- a claim that is built is that of another interrupt than the timer's
-pub claim_untimed : (w : List ℕ) (number handler arg : ℕ) → Asks w (ClaimInterrupt number handler arg) → is_built_call w ≡ true → number ≢ TIMER_INTERRUPT
+pub claim_untimed : (w : List ℕ) (number handler arg : ℕ) → Asks w (ClaimInterrupt number handler arg) → is_call_built w ≡ true → number ≢ TIMER_INTERRUPT
 claim_untimed w number handler arg (n, a, b, d) built timed =
     false≢true (sym (ap (λ k. is_built_number k claim_interrupt) timed) ∙ sym (λ i. is_built_number (a i) (n i)) ∙ built)
 
@@ -222,6 +246,9 @@ pub record IsNoneOf (asked : Call) : Type 0 where
   pub increase : (a : ℕ) → asked ≢ IncreaseHeap a
   pub decrease : (a : ℕ) → asked ≢ DecreaseHeap a
   pub update : (a b d : ℕ) → asked ≢ UpdateMemoryFlags a b d
+  pub create_server : (sid : Sid) → asked ≢ CreateServerWithAddress sid
+  pub connect : (sid : Sid) → asked ≢ Connect sid
+  pub try_connect : (sid : Sid) → asked ≢ TryConnect sid
   pub create : (a b : ℕ) (d : List ℕ) → asked ≢ CreateThread a b d
   pub unmap : (a b : ℕ) → asked ≢ UnmapMemory a b
   pub terminate : (a : ℕ) → asked ≢ TerminateProcess a
@@ -229,32 +256,32 @@ pub record IsNoneOf (asked : Call) : Type 0 where
   pub thread_id : asked ≢ GetThreadId
   pub process_id : asked ≢ GetProcessId
 
-pub none_left : (asked : Call) → IsNoneOf asked → is_plain asked ≡ true → ⊥
-none_left (MapMemory a b d e) none plain = none.map a b d e refl
-none_left Yield none plain = none.yield refl
-none_left (ClaimInterrupt a b d) none plain = none.claim a b d refl
-none_left (FreeInterrupt a) none plain = none.free a refl
-none_left (IncreaseHeap a) none plain = none.increase a refl
-none_left (DecreaseHeap a) none plain = none.decrease a refl
-none_left (UpdateMemoryFlags a b d) none plain = none.update a b d refl
-none_left (CreateServerWithAddress a) none plain = false≢true plain
-none_left (ReceiveMessage a) none plain = false≢true plain
-none_left (SendMessage a b d e) none plain = false≢true plain
-none_left (Connect a) none plain = false≢true plain
-none_left (CreateThread a b d) none plain = none.create a b d refl
-none_left (UnmapMemory a b) none plain = none.unmap a b refl
-none_left (ReturnMemory a b d e f) none plain = false≢true plain
-none_left (TerminateProcess a) none plain = none.terminate a refl
-none_left (TrySendMessage a b d e) none plain = false≢true plain
-none_left (TryConnect a) none plain = false≢true plain
-none_left (ReturnScalar1 a b) none plain = false≢true plain
-none_left (ReturnScalar2 a b d) none plain = false≢true plain
-none_left (TryReceiveMessage a) none plain = false≢true plain
-none_left (JoinThread a) none plain = none.join a refl
-none_left (DestroyServer a) none plain = false≢true plain
-none_left GetThreadId none plain = none.thread_id refl
-none_left GetProcessId none plain = none.process_id refl
-none_left (ForwardMessage a b) none plain = false≢true plain
+pub none_left : (asked : Call) → IsNoneOf asked → is_built_one asked ≡ true → ⊥
+none_left (MapMemory a b d e) none built = none.map a b d e refl
+none_left Yield none built = none.yield refl
+none_left (ClaimInterrupt a b d) none built = none.claim a b d refl
+none_left (FreeInterrupt a) none built = none.free a refl
+none_left (IncreaseHeap a) none built = none.increase a refl
+none_left (DecreaseHeap a) none built = none.decrease a refl
+none_left (UpdateMemoryFlags a b d) none built = none.update a b d refl
+none_left (CreateServerWithAddress a) none built = none.create_server a refl
+none_left (ReceiveMessage a) none built = false≢true built
+none_left (SendMessage a b d e) none built = false≢true built
+none_left (Connect a) none built = none.connect a refl
+none_left (CreateThread a b d) none built = none.create a b d refl
+none_left (UnmapMemory a b) none built = none.unmap a b refl
+none_left (ReturnMemory a b d e f) none built = false≢true built
+none_left (TerminateProcess a) none built = none.terminate a refl
+none_left (TrySendMessage a b d e) none built = false≢true built
+none_left (TryConnect a) none built = none.try_connect a refl
+none_left (ReturnScalar1 a b) none built = false≢true built
+none_left (ReturnScalar2 a b d) none built = false≢true built
+none_left (TryReceiveMessage a) none built = false≢true built
+none_left (JoinThread a) none built = none.join a refl
+none_left (DestroyServer a) none built = false≢true built
+none_left GetThreadId none built = none.thread_id refl
+none_left GetProcessId none built = none.process_id refl
+none_left (ForwardMessage a b) none built = false≢true built
 
 -- ---- no call has the number
 

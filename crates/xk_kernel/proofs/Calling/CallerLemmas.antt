@@ -1,27 +1,58 @@
 -- A call that is built leaves its caller there, unless the caller's process dies.
 use Rattle.std.proofs.Common.{◌≡◌, ℕ, Bool, true, false, List, Option, Some, None, refl, sym, subst}
-use Rattle.std.specs.Prelude.{◌==◌, ◌&&◌, ◌||◌, not, is_some, if◌then◌else◌}
+use Rattle.std.specs.Prelude.{◌==◌, ◌&&◌, ◌||◌, [], ◌∷◌, is_some, not, if◌then◌else◌}
 use Rattle.std.specs.Bool.{⊤}
+use Rattle.std.specs.List.{AllByRecursion, list_any}
 use Rattle.std.specs.Option.{option_map}
 use Rattle.std.proofs.lemmas.Bool.{eqb-true, false≢true}
 use Rattle.std.proofs.lemmas.Option.{none-some}
-use Rattle.machine_laws.proofs.Stepping.PlainServerLemmas.{outside_refused, plain_cases}
-use Rattle.machine_laws.specs.WithoutServers.{is_plain_call}
+use Rattle.machine_laws.proofs.Stepping.PlainServerLemmas.{in_list, outside_refused}
 use Rattle.machine_model.specs.Calling.Calls.{any_refusals, call, call_at, call_table}
 use Rattle.machine_model.specs.Calling.InterruptCalls.{claim_call, claim_refusals, claim_served, free_call, free_refusals, free_served}
-use Rattle.machine_model.specs.State.Changes.{Change, Outcome, Refused, Retried, Served, first_refusal, refused_or, unless_refused}
+use Rattle.machine_model.specs.State.Changes.{Change, Outcome, Refused, Retried, Served, first_refusal, refused_or, unless_refused, unless_retried}
 use Rattle.machine_model.specs.Ending.Ends.{death}
 use Rattle.machine_model.specs.State.Machine.{Joining, Machine, Thread}
 use Rattle.machine_model.specs.Calling.MemoryCalls.{decrease_call, decrease_refusals, decrease_served, increase_call, increase_refusals, increase_served, map_call, map_refusals, map_served, unmap_call, unmap_refusals, unmap_served, update_call, update_refusals, update_served}
+use Rattle.machine_model.specs.Calling.ServerCalls.{connect_call, connect_refusals, connect_served, create_server_call, create_server_refusals, create_server_served, is_missing, named_sid, try_connect_call}
 use Rattle.machine_model.specs.State.Order.{turn}
 use Rattle.machine_model.specs.Calling.ThreadCalls.{create_call, create_refusals, create_served, join_call, join_refusals, join_served, process_id_call, terminate_call, thread_id_call, yield_call}
 use Rattle.machine_model.specs.State.Threads.{with_state}
 use Rattle.xk_base.specs.Tables.Circle.{same_thread}
+use Rattle.xk_base.specs.Calls.CallNumbers.{map_memory, yield_turn, increase_heap, decrease_heap, update_memory_flags, create_server_with_address, connect as connect_number, create_thread, unmap_memory, terminate_process, claim_interrupt, free_interrupt, try_connect as try_connect_number, join_thread, get_thread_id, get_process_id, is_call_number}
 use Rattle.xk_base.specs.Calls.CallWords.{call_number, heap_bytes, interrupt_argument, interrupt_handler, interrupt_number, join_tid, map_flags, map_phys, map_size, map_virt, range_address, range_flags, range_size, thread_arguments, thread_entry, thread_sp}
-use Rattle.xk_base.specs.Calls.CallNumbers.{claim_interrupt, free_interrupt}
 use Rattle.xk_base.specs.declared.errors.XousError.{XousError}
+use Rattle.xk_base.specs.declared.errors.XousError.TheVariants.{ServerNotFound}
 use Rattle.xk_base.specs.declared.limits.TheConstants.{TIMER_INTERRUPT}
-use Rattle.xk_kernel.specs.Built.{is_built_call}
+use Rattle.xk_kernel.specs.Built.{built_numbers, is_call_built, is_number_built}
+
+-- what is to be shown of the number of each call that is built, and of those that are not in the table
+record OfBuiltCalls (P : ℕ → Type 0) (k : ℕ) : Type 0 where
+  pub map : P map_memory
+  pub yield : P yield_turn
+  pub increase : P increase_heap
+  pub decrease : P decrease_heap
+  pub update : P update_memory_flags
+  pub create_server : P create_server_with_address
+  pub connect : P connect_number
+  pub create : P create_thread
+  pub unmap : P unmap_memory
+  pub terminate : P terminate_process
+  pub try_connect : P try_connect_number
+  pub join : P join_thread
+  pub thread_id : P get_thread_id
+  pub process_id : P get_process_id
+  pub outside : is_call_number k ≡ false → P k
+
+built_cases : (P : ℕ → Type 0) (k : ℕ) → OfBuiltCalls P k → is_number_built k ≡ true → P k
+built_cases P k of e = go (list_any (λ j. j == k) built_numbers) (is_call_number k) refl refl e
+  where
+    all : AllByRecursion P built_numbers
+    all = (of.map, (of.yield, (of.increase, (of.decrease, (of.update, (of.create_server, (of.connect, (of.create, (of.unmap, (of.terminate, (of.try_connect, (of.join, (of.thread_id, (of.process_id, tt))))))))))))))
+
+    go : (a b : Bool) → list_any (λ j. j == k) built_numbers ≡ a → is_call_number k ≡ b → (a || not b) ≡ true → P k
+    go true b p q e = in_list P k built_numbers all p
+    go false false p q e = of.outside q
+    go false true p q e = absurd (false≢true e)
 
 -- what comes of the call leaves its caller, where no process dies
 abbrev LeavesCaller : Machine → Outcome → Type 0
@@ -98,25 +129,48 @@ module _ (m : Machine) (w : List ℕ) (there : is_some (m.threads m.cursor) ≡ 
   unfolding terminate_call death
   terminate_leaves = λ e. absurd (none-some m.cursor.pid (sym e))
 
-  plain_leaves : is_plain_call w ≡ true → LeavesCaller m (call m w)
+  create_server_leaves : LeavesCaller m (create_server_call m w)
+  unfolding create_server_call
+  create_server_leaves = either (create_server_refusals m (named_sid w)) (Served (create_server_served m (named_sid w))) (λ e. there)
+
+  -- a retry leaves it too
+  perhaps_retried : (b : Bool) (outcome : Outcome) → LeavesCaller m outcome → LeavesCaller m (unless_retried b outcome)
+  perhaps_retried true outcome leaves = tt
+  perhaps_retried false outcome leaves = leaves
+
+  connect_leaves : LeavesCaller m (connect_call m w)
+  unfolding connect_call
+  connect_leaves =
+      perhaps_retried (is_missing m (named_sid w)) (unless_refused (connect_refusals m (named_sid w)) (Served (connect_served m (named_sid w))))
+      (either (connect_refusals m (named_sid w)) (Served (connect_served m (named_sid w))) (λ e. there))
+
+  try_connect_leaves : LeavesCaller m (try_connect_call m w)
+  unfolding try_connect_call
+  try_connect_leaves =
+      either ((is_missing m (named_sid w), ServerNotFound) ∷ connect_refusals m (named_sid w)) (Served (connect_served m (named_sid w))) (λ e. there)
+
+  number_leaves : is_number_built (call_number w) ≡ true → LeavesCaller m (call m w)
   unfolding call
-  plain_leaves plain =
-      plain_cases (λ k. LeavesCaller m (unless_refused (any_refusals m w) (call_at k call_table m w))) (call_number w)
+  number_leaves built =
+      built_cases (λ k. LeavesCaller m (unless_refused (any_refusals m w) (call_at k call_table m w))) (call_number w)
       (record {
         map = either (any_refusals m w) (map_call m w) map_leaves;
         yield = either (any_refusals m w) (yield_call m w) yield_leaves;
         increase = either (any_refusals m w) (increase_call m w) increase_leaves;
         decrease = either (any_refusals m w) (decrease_call m w) decrease_leaves;
         update = either (any_refusals m w) (update_call m w) update_leaves;
+        create_server = either (any_refusals m w) (create_server_call m w) create_server_leaves;
+        connect = either (any_refusals m w) (connect_call m w) connect_leaves;
         create = either (any_refusals m w) (create_call m w) create_leaves;
         unmap = either (any_refusals m w) (unmap_call m w) unmap_leaves;
         terminate = either (any_refusals m w) (terminate_call m w) terminate_leaves;
+        try_connect = either (any_refusals m w) (try_connect_call m w) try_connect_leaves;
         join = either (any_refusals m w) (join_call m w) join_leaves;
         thread_id = either (any_refusals m w) (thread_id_call m w) thread_id_leaves;
         process_id = either (any_refusals m w) (process_id_call m w) process_id_leaves;
         outside = λ outside. subst (LeavesCaller m) (sym (outside_refused m w outside)) tt;
       })
-      plain
+      built
 
   claim_leaves : LeavesCaller m (claim_call m w)
   unfolding claim_call
@@ -135,17 +189,17 @@ module _ (m : Machine) (w : List ℕ) (there : is_some (m.threads m.cursor) ≡ 
       subst (λ j. LeavesCaller m (unless_refused (any_refusals m w) (call_at j call_table m w))) (sym n)
       (either (any_refusals m w) (call_at k call_table m w) leaves)
 
-  built_leaves : is_built_call w ≡ true → LeavesCaller m (call m w)
+  built_leaves : is_call_built w ≡ true → LeavesCaller m (call m w)
   built_leaves built =
-      go (is_plain_call w) (call_number w == claim_interrupt) (call_number w == free_interrupt) (not (interrupt_number w == TIMER_INTERRUPT)) refl refl refl built
+      go (is_number_built (call_number w)) (call_number w == claim_interrupt) (call_number w == free_interrupt) (not (interrupt_number w == TIMER_INTERRUPT)) refl refl refl built
     where
-      go : (a b d e : Bool) → is_plain_call w ≡ a → (call_number w == claim_interrupt) ≡ b → (call_number w == free_interrupt) ≡ d
+      go : (a b d e : Bool) → is_number_built (call_number w) ≡ a → (call_number w == claim_interrupt) ≡ b → (call_number w == free_interrupt) ≡ d
           → (a || ((b && e) || d)) ≡ true → LeavesCaller m (call m w)
-      go true b d e p q r h = plain_leaves p
+      go true b d e p q r h = number_leaves p
       go false true d e p q r h = numbered claim_interrupt (eqb-true (call_number w) claim_interrupt q) claim_leaves
       go false false true e p q r h = numbered free_interrupt (eqb-true (call_number w) free_interrupt r) free_leaves
       go false false false e p q r h = absurd (false≢true h)
 
   -- a served caller is there, unless its process died
-  pub served_there : (change : Change) → is_built_call w ≡ true → Served change ≡ call m w → change.gone ≡ None → is_some (change.machine.threads m.cursor) ≡ true
+  pub served_there : (change : Change) → is_call_built w ≡ true → Served change ≡ call m w → change.gone ≡ None → is_some (change.machine.threads m.cursor) ≡ true
   served_there change built e = subst (LeavesCaller m) (sym e) (built_leaves built)

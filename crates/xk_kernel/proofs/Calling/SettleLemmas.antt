@@ -6,9 +6,9 @@ use Rattle.std.proofs.lemmas.Bool.{cases_lt}
 use Rattle.std.proofs.lemmas.List.{append-nil, append_assoc}
 use Rattle.machine_laws.proofs.Threading.ThreadAnswerLemmas.{same_thread-self, IsReadyThread, ready_thread}
 use Rattle.machine_laws.proofs.Threading.ThreadPutLemmas.{alike}
-use Rattle.machine_model.specs.State.Changes.{Outcome, Refused, Served, Told, answering, call_settled, only, replies, settled, with_refusal}
+use Rattle.machine_model.specs.State.Changes.{Outcome, Refused, Retried, Served, Told, answering, call_settled, only, replies, settled, with_refusal}
 use Rattle.machine_model.specs.State.Machine.{Machine, Thread}
-use Rattle.machine_model.specs.State.Order.{ready_at}
+use Rattle.machine_model.specs.State.Order.{ready_at, turn}
 use Rattle.machine_model.specs.Stepping.Step.{after}
 use Rattle.machine_model.specs.State.Threads.{answer_to, change_thread, give_answers, no_answers, passed, with_answer}
 use Rattle.sv32_space.specs.Tie.{Held}
@@ -21,7 +21,7 @@ use Rattle.xk_base.specs.declared.errors.XousError.{XousError}
 use Rattle.xk_base.specs.declared.ids.Pid.{Pid}
 use Rattle.xk_base.specs.declared.ids.ThreadId.{ThreadId}
 use Rattle.xk_base.specs.declared.records.What.{What}
-use Rattle.xk_base.specs.declared.records.What.TheVariants.{Gone, Reply}
+use Rattle.xk_base.specs.declared.records.What.TheVariants.{Gone, Reply, Retry}
 use Rattle.xk_kernel.specs.State.{machine_of}
 use Rattle.xk_kernel.specs.Telling.{Tells, log_with}
 use Rattle.xk_kernel.specs.declared.kernel.Kernel.{Kernel}
@@ -108,6 +108,11 @@ unfolding call_settled settled
 died_is m next pid o e =
     ap (call_settled m) (sym e)
     ∙ (λ i. record { machine = nobody_answered (change_thread m.cursor passed next) i; told = no_reply next.processes i ++ ([] ++ Gone pid ∷ []) })
+
+-- the call will be made again: the turn ends
+pub retried_is : (m : Machine) (o : Outcome) → Retried ≡ o → call_settled m o ≡ record { machine = turn m; told = Retry m.cursor ∷ [] }
+unfolding call_settled
+retried_is m o e = ap (call_settled m) (sym e)
 
 -- a Ready caller is past its call, and is answered the error
 pub refused_is : (m : Machine) (error : XousError) (o : Outcome) → ready_at m m.cursor ≡ true → Refused error ≡ o

@@ -42,7 +42,7 @@ use Rattle.xk_kernel.specs.declared.kernel.calls.CallerFate.TheVariants.{Answere
 -- ---- the caller's process
 
 -- each pid of the table is that of a process
-process_there : (t : Processes) (pid : ℕ) → is_pid (process_count t) pid ≡ true → (p : ProcessState) × (processes_of t pid ≡ Some p)
+pub process_there : (t : Processes) (pid : ℕ) → is_pid (process_count t) pid ≡ true → (p : ProcessState) × (processes_of t pid ≡ Some p)
 unfolding processes_of process_count
 process_there t pid e =
     let parts = and_parts (nat_le 2 pid) (nat_lt pid (length t.by_pid.items + 2)) e in
@@ -72,7 +72,7 @@ abbrev pub on_heap : ℕ → Ledger → Machine → Machine
 on_heap heap l m = record m { ledger = l; process = put_at nat_eq m.process m.cursor.pid.0 (record (m.process m.cursor.pid.0) { heap = heap }) }
 
 module _ {W : Type 0} (slot_count : W → ℕ) (held : W → Held) (k : Kernel W) (whole : IsWhole slot_count held k) where
-  caller : is_pid (process_count k.procs) k.cursor.pid.0 ≡ true
+  pub caller : is_pid (process_count k.procs) k.cursor.pid.0 ≡ true
   caller = (and_parts (is_pid (process_count k.procs) k.cursor.pid.0) (is_tid k.cursor.tid.0) (ap (λ n. is_thread_id n k.cursor) whole.procs ∙ whole.cursor)).0
 
   pub caller_pid : IsPid (process_count k.procs) k.cursor.pid.0

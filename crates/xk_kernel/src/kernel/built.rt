@@ -23,9 +23,9 @@ impl<W: SwapStore> Kernel<W> {
         self.threads.live(who.pid) > 1 || self.is_alone(who.pid)
     }
 
-    // Whether the call of the thread with these words is built: it is on memory, threads or the
-    // caller's process, which stands alone where it dies by it, or on interrupts, but for a claim of the
-    // timer's; or no call has its number.
+    // Whether the call of the thread with these words is built: its number is that of a call
+    // that is built, or of none, or it frees an interrupt or claims one, but for the timer's; by
+    // TerminateProcess a process dies that stands alone.
     pub(super) fn call_built(&self, who: ThreadId, words: &[u32; 8]) -> bool
         ensures { result ≡ call_built (machine_of W.held self.now) who words.now }
     {
@@ -39,8 +39,11 @@ impl<W: SwapStore> Kernel<W> {
                 | Call::IncreaseHeap { .. }
                 | Call::DecreaseHeap { .. }
                 | Call::UpdateMemoryFlags { .. }
+                | Call::CreateServerWithAddress { .. }
+                | Call::Connect { .. }
                 | Call::CreateThread { .. }
                 | Call::UnmapMemory { .. }
+                | Call::TryConnect { .. }
                 | Call::JoinThread { .. }
                 | Call::GetThreadId
                 | Call::GetProcessId,

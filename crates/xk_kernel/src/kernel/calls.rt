@@ -1,6 +1,6 @@
 //! System calls.
 
-ghost use Rattle.std.specs.Prelude.{ℕ, List, ◌≡◌, ◌+◌, ◌≤◌, true, length, IsOk, OnErr, OnOk, IfOk};
+ghost use Rattle.std.specs.Prelude.{ℕ, List, ◌≡◌, ◌+◌, ◌<◌, ◌≤◌, true, length, IsOk, OnOk, IfOk};
 ghost use Rattle.machine_model.specs.Calling.Calls.{call};
 ghost use Rattle.machine_model.specs.State.Changes.{call_settled};
 ghost use Rattle.machine_model.specs.Runs.Matched.{Matched};
@@ -12,8 +12,8 @@ ghost use Rattle.xk_base.specs.Calls.CallNumbers.{terminate_process};
 ghost use Rattle.xk_base.specs.Calls.CallWords.{call_number};
 ghost use Rattle.xk_base.specs.declared.records.What.TheVariants.{Call as Called};
 ghost use Rattle.xk_kernel.specs.Alone.{DiesPlainly};
-ghost use Rattle.xk_kernel.specs.Built.{is_built_call};
-ghost use Rattle.xk_kernel.specs.Calling.{outcome_of};
+ghost use Rattle.xk_kernel.specs.Built.{is_call_built};
+ghost use Rattle.xk_kernel.specs.Calling.{IfUndone, outcome_of};
 ghost use Rattle.xk_kernel.specs.Sound.{IsUsable, IsWhole, Keeps};
 ghost use Rattle.xk_kernel.specs.State.{machine_of};
 ghost use Rattle.xk_kernel.specs.Telling.{Tells};
@@ -32,6 +32,8 @@ pub enum CallerFate {
     Waits,
     /// The caller's process died.
     Died,
+    /// The caller will make the call again, which did nothing.
+    Retries,
 }
 
 impl<W: SwapStore> Kernel<W> {
@@ -40,7 +42,8 @@ impl<W: SwapStore> Kernel<W> {
         requires whole { IsWhole W.slot_count W.held self.old }
         requires usable { IsUsable self.old }
         requires matched { Matched (machine_of W.held self.old) }
-        requires built { is_built_call words ≡ true }
+        requires few { self.old.steps < 4000000000 }
+        requires built { is_call_built words ≡ true }
         requires plain { call_number words ≡ terminate_process → DiesPlainly self.old.cursor.pid (machine_of W.held self.old) }
         requires ready { ready_at (machine_of W.held self.old) self.old.cursor ≡ true }
         requires room { length self.old.log.records + 2 ≤ self.old.log.room }
@@ -53,12 +56,24 @@ impl<W: SwapStore> Kernel<W> {
         let who = self.cursor;
         self.log.push(What::Call(who, words));
         let outcome = self.outcome(words)?;
-        self.pass(who);
         match outcome {
-            Ok(CallerFate::Answered(reply)) => self.answer(who, reply_words(&reply)),
-            Ok(CallerFate::Waits) => {}
-            Ok(CallerFate::Died) => self.log.push(What::Gone(who.pid)),
-            Err(error) => self.answer(who, reply_words(&Reply::Refused(error))),
+            Ok(CallerFate::Answered(reply)) => {
+                self.pass(who);
+                self.answer(who, reply_words(&reply));
+            }
+            Ok(CallerFate::Waits) => self.pass(who),
+            Ok(CallerFate::Died) => {
+                self.pass(who);
+                self.log.push(What::Gone(who.pid));
+            }
+            Ok(CallerFate::Retries) => {
+                self.log.push(What::Retry(who));
+                self.turn();
+            }
+            Err(error) => {
+                self.pass(who);
+                self.answer(who, reply_words(&Reply::Refused(error)));
+            }
         }
         Ok(())
     }
@@ -69,12 +84,13 @@ impl<W: SwapStore> Kernel<W> {
         requires usable { IsUsable self.old }
         requires ready { ready_at (machine_of W.held self.old) self.old.cursor ≡ true }
         requires matched { Matched (machine_of W.held self.old) }
-        requires built { is_built_call words ≡ true }
+        requires few { self.old.steps < 4000000000 }
+        requires built { is_call_built words ≡ true }
         requires plain { call_number words ≡ terminate_process → DiesPlainly self.old.cursor.pid (machine_of W.held self.old) }
         ensures whole { IsWhole W.slot_count W.held self.new }
         ensures usable { OnOk result (IsUsable self.new) }
         ensures outcome { IfOk result (λ served. outcome_of self.old.cursor (machine_of W.held self.new) served ≡ call (machine_of W.held self.old) words) }
-        ensures refused { IfOk result (λ served. OnErr served (self.new ≡ self.old)) }
+        ensures undone { IfOk result (λ served. IfUndone served (self.new ≡ self.old)) }
         ensures log { self.new.log ≡ self.old.log }
         ensures keeps { Keeps W.is_honest W.held W.slot_count W.asked W.faults self.old self.new }
         ensures sure { IsOk result }
@@ -91,12 +107,13 @@ impl<W: SwapStore> Kernel<W> {
         requires usable { IsUsable self.old }
         requires ready { ready_at (machine_of W.held self.old) self.old.cursor ≡ true }
         requires matched { Matched (machine_of W.held self.old) }
-        requires built { (words : List ℕ) × Asks words asked × (is_built_call words ≡ true) }
+        requires few { self.old.steps < 4000000000 }
+        requires built { (words : List ℕ) × Asks words asked × (is_call_built words ≡ true) }
         requires plain { (exit : ℕ) → asked ≡ TerminateProcess exit → DiesPlainly self.old.cursor.pid (machine_of W.held self.old) }
         ensures whole { IsWhole W.slot_count W.held self.new }
         ensures usable { OnOk result (IsUsable self.new) }
         ensures outcome { IfOk result (λ served. (words : List ℕ) → Asks words asked → outcome_of self.old.cursor (machine_of W.held self.new) served ≡ call (machine_of W.held self.old) words) }
-        ensures refused { IfOk result (λ served. OnErr served (self.new ≡ self.old)) }
+        ensures undone { IfOk result (λ served. IfUndone served (self.new ≡ self.old)) }
         ensures log { self.new.log ≡ self.old.log }
         ensures keeps { Keeps W.is_honest W.held W.slot_count W.asked W.faults self.old self.new }
         ensures sure { IsOk result }
@@ -129,6 +146,9 @@ impl<W: SwapStore> Kernel<W> {
                 arg,
             } => Ok(self.claim_interrupt(number, handler, arg)),
             Call::FreeInterrupt { number } => Ok(self.free_interrupt(number)),
+            Call::CreateServerWithAddress { sid } => Ok(self.create_server(sid)),
+            Call::Connect { sid } => Ok(self.connect(sid)),
+            Call::TryConnect { sid } => Ok(self.try_connect(sid)),
             Call::CreateThread { entry, sp, args } => Ok(self.create_thread(entry, sp, args)),
             Call::JoinThread { tid } => Ok(self.join_thread(tid)),
             Call::TerminateProcess { .. } => {

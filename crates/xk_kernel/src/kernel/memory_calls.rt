@@ -1,12 +1,12 @@
 //! The five calls on memory. The caller is the thread whose turn it is.
 
-ghost use Rattle.std.specs.Prelude.{◌≡◌, ◌==◌, ◌/◌, if◌then◌else◌, None, Some, IfOk, IsOk, OnErr, OnOk};
+ghost use Rattle.std.specs.Prelude.{◌≡◌, ◌==◌, ◌/◌, if◌then◌else◌, None, Some, IfOk, IsOk, OnOk};
 ghost use Rattle.machine_model.specs.State.Changes.{Served, unless_refused};
 ghost use Rattle.machine_model.specs.Runs.Matched.{AreHeapsMatched};
 ghost use Rattle.machine_model.specs.Calling.MemoryCalls.{are_bad_flags, is_bad_range, decrease_refusals, decrease_served, increase_refusals, increase_served, map_refusals, map_served, unmap_refusals, unmap_served, update_refusals, update_served};
 ghost use Rattle.xk_base.specs.Numbers.Windows.{page_of};
 ghost use Rattle.xk_base.specs.Calls.Flags.{right_of};
-ghost use Rattle.xk_kernel.specs.Calling.{outcome_of};
+ghost use Rattle.xk_kernel.specs.Calling.{IfUndone, outcome_of};
 ghost use Rattle.xk_kernel.specs.Sound.{IsUsable, IsWhole, Keeps};
 ghost use Rattle.xk_kernel.specs.State.{machine_of};
 
@@ -78,7 +78,7 @@ impl<W: SwapStore> Kernel<W> {
         ensures whole { IsWhole W.slot_count W.held self.new }
         ensures usable { OnOk result (IsUsable self.new) }
         ensures outcome { IfOk result (λ served. outcome_of self.old.cursor (machine_of W.held self.new) served ≡ unless_refused (map_refusals (machine_of W.held self.old) phys virt size flags) (Served (map_served (machine_of W.held self.old) phys virt size flags))) }
-        ensures refused { IfOk result (λ served. OnErr served (self.new ≡ self.old)) }
+        ensures undone { IfOk result (λ served. IfUndone served (self.new ≡ self.old)) }
         ensures log { self.new.log ≡ self.old.log }
         ensures keeps { Keeps W.is_honest W.held W.slot_count W.asked W.faults self.old self.new }
         ensures sure { IsOk result }
@@ -119,7 +119,7 @@ impl<W: SwapStore> Kernel<W> {
         ensures whole { IsWhole W.slot_count W.held self.new }
         ensures usable { IsUsable self.new }
         ensures outcome { outcome_of self.old.cursor (machine_of W.held self.new) result ≡ unless_refused (unmap_refusals (machine_of W.held self.old) address size) (Served (unmap_served (machine_of W.held self.old) address size)) }
-        ensures refused { OnErr result (self.new ≡ self.old) }
+        ensures undone { IfUndone result (self.new ≡ self.old) }
         ensures log { self.new.log ≡ self.old.log }
         ensures keeps { Keeps W.is_honest W.held W.slot_count W.asked W.faults self.old self.new }
     {
@@ -145,7 +145,7 @@ impl<W: SwapStore> Kernel<W> {
         ensures whole { IsWhole W.slot_count W.held self.new }
         ensures usable { IsUsable self.new }
         ensures outcome { outcome_of self.old.cursor (machine_of W.held self.new) result ≡ unless_refused (update_refusals (machine_of W.held self.old) address size flags) (Served (update_served (machine_of W.held self.old) address size flags)) }
-        ensures refused { OnErr result (self.new ≡ self.old) }
+        ensures undone { IfUndone result (self.new ≡ self.old) }
         ensures log { self.new.log ≡ self.old.log }
         ensures keeps { Keeps W.is_honest W.held W.slot_count W.asked W.faults self.old self.new }
     {
@@ -173,7 +173,7 @@ impl<W: SwapStore> Kernel<W> {
         ensures whole { IsWhole W.slot_count W.held self.new }
         ensures usable { OnOk result (IsUsable self.new) }
         ensures outcome { IfOk result (λ served. outcome_of self.old.cursor (machine_of W.held self.new) served ≡ unless_refused (increase_refusals (machine_of W.held self.old) bytes) (Served (increase_served (machine_of W.held self.old) bytes))) }
-        ensures refused { IfOk result (λ served. OnErr served (self.new ≡ self.old)) }
+        ensures undone { IfOk result (λ served. IfUndone served (self.new ≡ self.old)) }
         ensures log { self.new.log ≡ self.old.log }
         ensures keeps { Keeps W.is_honest W.held W.slot_count W.asked W.faults self.old self.new }
         ensures sure { IsOk result }
@@ -210,7 +210,7 @@ impl<W: SwapStore> Kernel<W> {
         ensures whole { IsWhole W.slot_count W.held self.new }
         ensures usable { IsUsable self.new }
         ensures outcome { outcome_of self.old.cursor (machine_of W.held self.new) result ≡ unless_refused (decrease_refusals (machine_of W.held self.old) bytes) (Served (decrease_served (machine_of W.held self.old) bytes)) }
-        ensures refused { OnErr result (self.new ≡ self.old) }
+        ensures undone { IfUndone result (self.new ≡ self.old) }
         ensures log { self.new.log ≡ self.old.log }
         ensures keeps { Keeps W.is_honest W.held W.slot_count W.asked W.faults self.old self.new }
     {

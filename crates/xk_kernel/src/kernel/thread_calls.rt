@@ -1,10 +1,10 @@
 //! The calls that make a thread and wait for one. The caller is the thread whose turn it is.
 
-ghost use Rattle.std.specs.Prelude.{◌≡◌, true, OnErr};
+ghost use Rattle.std.specs.Prelude.{◌≡◌, true};
 ghost use Rattle.machine_model.specs.State.Changes.{Served, unless_refused};
 ghost use Rattle.machine_model.specs.State.Order.{ready_at};
 ghost use Rattle.machine_model.specs.Calling.ThreadCalls.{create_refusals, create_served, join_refusals, join_served};
-ghost use Rattle.xk_kernel.specs.Calling.{outcome_of};
+ghost use Rattle.xk_kernel.specs.Calling.{IfUndone, outcome_of};
 ghost use Rattle.xk_kernel.specs.Sound.{IsWhole};
 ghost use Rattle.xk_kernel.specs.State.{machine_of};
 
@@ -28,7 +28,7 @@ impl<W: SwapStore> Kernel<W> {
         requires whole { IsWhole W.slot_count W.held self.old }
         ensures whole { IsWhole W.slot_count W.held self.new }
         ensures outcome { outcome_of self.old.cursor (machine_of W.held self.new) result ≡ unless_refused (create_refusals (machine_of W.held self.old) entry) (Served (create_served (machine_of W.held self.old) entry sp args)) }
-        ensures refused { OnErr result (self.new ≡ self.old) }
+        ensures undone { IfUndone result (self.new ≡ self.old) }
         ensures mem { self.new.mem ≡ self.old.mem }
         ensures log { self.new.log ≡ self.old.log }
     {
@@ -50,7 +50,7 @@ impl<W: SwapStore> Kernel<W> {
         requires ready { ready_at (machine_of W.held self.old) self.old.cursor ≡ true }
         ensures whole { IsWhole W.slot_count W.held self.new }
         ensures outcome { outcome_of self.old.cursor (machine_of W.held self.new) result ≡ unless_refused (join_refusals (machine_of W.held self.old) tid) (Served (join_served (machine_of W.held self.old) tid)) }
-        ensures refused { OnErr result (self.new ≡ self.old) }
+        ensures undone { IfUndone result (self.new ≡ self.old) }
         ensures mem { self.new.mem ≡ self.old.mem }
         ensures log { self.new.log ≡ self.old.log }
     {

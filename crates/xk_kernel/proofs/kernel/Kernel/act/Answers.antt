@@ -8,13 +8,13 @@ use Rattle.machine_model.specs.Calling.Calls.{call}
 use Rattle.machine_model.specs.State.Changes.{call_settled, settled}
 use Rattle.machine_model.specs.Ending.Ends.{death}
 use Rattle.machine_model.specs.Runs.Matched.{Matched}
-use Rattle.machine_model.specs.State.Machine.{Thread}
+use Rattle.machine_model.specs.State.Machine.{Machine, Thread}
 use Rattle.machine_model.specs.Stepping.Step.{after, console_told, ends_handler, ends_thread, executed}
 use Rattle.xk_base.specs.Tables.Circle.{is_thread_id}
 use Rattle.xk_base.specs.Calls.Registers.{arguments_of, reg_at}
 use Rattle.xk_base.specs.declared.records.What.TheVariants.{Call, Fault}
 use Rattle.xk_kernel.specs.Alone.{is_alone}
-use Rattle.xk_kernel.specs.Built.{call_built, executed_built, is_built_call}
+use Rattle.xk_kernel.specs.Built.{call_built, executed_built, is_call_built}
 use Rattle.xk_kernel.specs.Running.{machine_after}
 use Rattle.send_path.specs.Parts.{thread_of}
 use Rattle.xk_kernel.specs.State.{machine_of}
@@ -140,7 +140,15 @@ returns-then-not-call_built-clause-acts g c =
     )
 
 pub call-requires-clause-built : goal.call-requires-clause-built
-call-requires-clause-built g c = (and_parts (is_built_call c.arguments-words.result) _ (sym c.call_built.ensures ∙ c.if-not-call_built.false)).0
+call-requires-clause-built g c = (and_parts (is_call_built c.arguments-words.result) _ (sym c.call_built.ensures ∙ c.if-not-call_built.false)).0
+
+pub call-requires-clause-few : goal.call-requires-clause-few
+unfolding machine_of
+call-requires-clause-few g c =
+    let called : (executed (at c.args.who (machine_of g.W.SwapStore.held c.args.self.now)) (thread_of c.thread-thread.result.now) (fetched (machine_of g.W.SwapStore.held c.args.self.now) c.args.who (thread_of c.thread-thread.result.now) c.thread-thread.ensures) ≡ after (Call c.args.who (arguments_of (thread_of c.thread-thread.result.now).regs)) (call_settled (at c.args.who (machine_of g.W.SwapStore.held c.args.self.now)) (call (at c.args.who (machine_of g.W.SwapStore.held c.args.self.now)) (arguments_of (thread_of c.thread-thread.result.now).regs)))) × (machine_after c.args.who (machine_of g.W.SwapStore.held c.args.self.now) (fetched (machine_of g.W.SwapStore.held c.args.self.now) c.args.who (thread_of c.thread-thread.result.now) c.thread-thread.ensures) ≡ (machine_of g.W.SwapStore.held c.args.self.now)) × (executed_built (machine_of g.W.SwapStore.held c.args.self.now) c.args.who (thread_of c.thread-thread.result.now) (fetched (machine_of g.W.SwapStore.held c.args.self.now) c.args.who (thread_of c.thread-thread.result.now) c.thread-thread.ensures) ≡ call_built (machine_of g.W.SwapStore.held c.args.self.now) c.args.who (arguments_of (thread_of c.thread-thread.result.now).regs)) = call_executed (machine_of g.W.SwapStore.held c.args.self.now) c.args.who (thread_of c.thread-thread.result.now) (fetched (machine_of g.W.SwapStore.held c.args.self.now) c.args.who (thread_of c.thread-thread.result.now) c.thread-thread.ensures) (sym (c.run.ensures.answer (thread_of c.thread-thread.result.now) c.thread-thread.ensures) ∙ c.in-Ecall.is) in
+    let left : machine_of g.W.SwapStore.held c.run.new.self ≡ (machine_of g.W.SwapStore.held c.args.self.now) = (c.run.ensures.machine (thread_of c.thread-thread.result.now) c.thread-thread.ensures) ∙ called.1 in
+    let begun : machine_of g.W.SwapStore.held c.begin-in-Ecall.new.self ≡ at c.args.who (machine_of g.W.SwapStore.held c.args.self.now) = c.begin-in-Ecall.ensures.machine ∙ ap (at c.args.who) left in
+    subst (λ s. s < 4000000000) (sym (ap (λ (m : Machine). m.steps) begun)) c.requires.few
 
 pub call-requires-clause-plain : goal.call-requires-clause-plain
 call-requires-clause-plain g c ends =

@@ -1,14 +1,15 @@
 -- What a served call comes to is its row of the table.
-use Rattle.std.proofs.Common.{◌∙◌, sym, ap, subst}
+use Rattle.std.proofs.Common.{◌≤◌, ◌<◌, ◌+◌, ◌∙◌, sym, ap, subst, arith}
 use Rattle.std.proofs.lemmas.Result.{IfOk-weaker}
 use Rattle.machine_model.specs.State.Changes.{Served, answering}
 use Rattle.machine_model.specs.State.Threads.{answer_to}
+use Rattle.server_table.specs.ServersOf.{servers_of}
 use Rattle.syscall_codec.specs.Calls.{Asks}
 use Rattle.xk_base.specs.Calls.Replies.{plain_words}
-use Rattle.xk_kernel.specs.Calling.{change_by}
+use Rattle.xk_kernel.specs.Calling.{outcome_by}
 use Rattle.xk_kernel.specs.State.{machine_of}
 use Rattle.xk_kernel.specs.declared.kernel.calls.CallerFate.TheVariants.{Died}
-use Rattle.xk_kernel.proofs.Calling.CallTableLemmas.{claim_is, claim_untimed, create_is, decrease_is, free_by_call, free_by_tid, free_is, increase_is, join_is, map_is, none_left, plain_asked, process_id_is, refused_to_handler, terminate_is, thread_id_is, unmap_is, update_is, yield_is}
+use Rattle.xk_kernel.proofs.Calling.CallTableLemmas.{claim_is, claim_untimed, connect_is, create_is, create_server_is, decrease_is, free_by_call, free_by_tid, free_is, increase_is, join_is, map_is, built_asked, none_left, process_id_is, refused_to_handler, terminate_is, thread_id_is, try_connect_is, unmap_is, update_is, yield_is}
 use Rattle.xk_kernel.proofs.kernel.Kernel.serve.Goals.{else-self-eq1-via-then-self-eq1+else-can_wait, else-self-eq1-via-else-self-eq1}
 use Rattle.xk_kernel.proofs.kernel.Kernel.serve.Goals as goal
 
@@ -19,7 +20,7 @@ returns-then-can_wait-clause-outcome g c words asks =
 
 pub unreachable-requires : goal.unreachable-requires
 unreachable-requires g c =
-    let plain = c.requires.built in
+    let built = c.requires.built in
     none_left c.args.asked
     (record {
       map = c.in_default.not-MapMemory;
@@ -29,6 +30,9 @@ unreachable-requires g c =
       increase = c.in_default.not-IncreaseHeap;
       decrease = c.in_default.not-DecreaseHeap;
       update = c.in_default.not-UpdateMemoryFlags;
+      create_server = c.in_default.not-CreateServerWithAddress;
+      connect = c.in_default.not-Connect;
+      try_connect = c.in_default.not-TryConnect;
       create = c.in_default.not-CreateThread;
       unmap = c.in_default.not-UnmapMemory;
       terminate = c.in_default.not-TerminateProcess;
@@ -36,7 +40,7 @@ unreachable-requires g c =
       thread_id = c.in_default.not-GetThreadId;
       process_id = c.in_default.not-GetProcessId;
     })
-    (plain_asked plain.0 c.args.asked plain.1 plain.2)
+    (built_asked built.0 c.args.asked built.1 built.2)
 
 pub returns-in-UnmapMemory-clause-outcome : goal.returns-in-UnmapMemory-clause-outcome
 unfolding machine_of
@@ -151,7 +155,7 @@ returns-in-Yield-clause-outcome g c words asks =
 pub returns-in-TerminateProcess-clause-outcome : goal.returns-in-TerminateProcess-clause-outcome
 unfolding machine_of
 returns-in-TerminateProcess-clause-outcome g c words asks =
-    ap (λ m. Served (change_by c.args.self.now.cursor m Died)) c.forget.ensures.machine
+    ap (λ m. outcome_by c.args.self.now.cursor m Died) c.forget.ensures.machine
     ∙ terminate_is (machine_of g.W.SwapStore.held c.args.self.now) words
     (elim c.else-self-eq1.branch [
       | else-self-eq1-via-then-self-eq1+else-can_wait w ↦ free_by_call (machine_of g.W.SwapStore.held c.args.self.now) words (sym (w.can_wait.ensures words asks) ∙ w.if-can_wait.false)
@@ -178,3 +182,41 @@ returns-in-GetProcessId-clause-outcome g c words asks =
       | else-self-eq1-via-else-self-eq1 w ↦ free_by_tid (machine_of g.W.SwapStore.held c.args.self.now) words w.if-self-eq1.false
     ])
     (subst (Asks words) c.in-GetProcessId.is asks)
+
+pub returns-in-CreateServerWithAddress-clause-outcome : goal.returns-in-CreateServerWithAddress-clause-outcome
+unfolding machine_of
+returns-in-CreateServerWithAddress-clause-outcome g c words asks =
+    c.create_server.ensures.outcome ∙ create_server_is (machine_of g.W.SwapStore.held c.args.self.now) words
+    (elim c.else-self-eq1.branch [
+      | else-self-eq1-via-then-self-eq1+else-can_wait w ↦ free_by_call (machine_of g.W.SwapStore.held c.args.self.now) words (sym (w.can_wait.ensures words asks) ∙ w.if-can_wait.false)
+      | else-self-eq1-via-else-self-eq1 w ↦ free_by_tid (machine_of g.W.SwapStore.held c.args.self.now) words w.if-self-eq1.false
+    ])
+    c.in-CreateServerWithAddress.sid (subst (Asks words) c.in-CreateServerWithAddress.is asks)
+
+pub returns-in-Connect-clause-outcome : goal.returns-in-Connect-clause-outcome
+unfolding machine_of
+returns-in-Connect-clause-outcome g c words asks =
+    c.connect.ensures.outcome ∙ connect_is (machine_of g.W.SwapStore.held c.args.self.now) words
+    (elim c.else-self-eq1.branch [
+      | else-self-eq1-via-then-self-eq1+else-can_wait w ↦ free_by_call (machine_of g.W.SwapStore.held c.args.self.now) words (sym (w.can_wait.ensures words asks) ∙ w.if-can_wait.false)
+      | else-self-eq1-via-else-self-eq1 w ↦ free_by_tid (machine_of g.W.SwapStore.held c.args.self.now) words w.if-self-eq1.false
+    ])
+    c.in-Connect.sid (subst (Asks words) c.in-Connect.is asks)
+
+pub returns-in-TryConnect-clause-outcome : goal.returns-in-TryConnect-clause-outcome
+unfolding machine_of
+returns-in-TryConnect-clause-outcome g c words asks =
+    c.try_connect.ensures.outcome ∙ try_connect_is (machine_of g.W.SwapStore.held c.args.self.now) words
+    (elim c.else-self-eq1.branch [
+      | else-self-eq1-via-then-self-eq1+else-can_wait w ↦ free_by_call (machine_of g.W.SwapStore.held c.args.self.now) words (sym (w.can_wait.ensures words asks) ∙ w.if-can_wait.false)
+      | else-self-eq1-via-else-self-eq1 w ↦ free_by_tid (machine_of g.W.SwapStore.held c.args.self.now) words w.if-self-eq1.false
+    ])
+    c.in-TryConnect.sid (subst (Asks words) c.in-TryConnect.is asks)
+
+-- each server that was made took a step
+pub create_server-requires-clause-serials : goal.create_server-requires-clause-serials
+unfolding machine_of
+create_server-requires-clause-serials g c =
+    let serials : (servers_of c.args.self.now.servers).next ≤ c.args.self.now.steps + 1 = c.requires.matched.rest.stepped.serial_steps in
+    let few : c.args.self.now.steps < 4000000000 = c.requires.few in
+    omega arith

@@ -1,0 +1,311 @@
+-- The calls that make a server and connect to one: what their parts hold is what the machine has.
+use Rattle.std.proofs.Common.{◌≡◌, ℕ, ◌+◌, ◌<◌, ◌≤◌, Bool, true, false, not, List, [], ◌∷◌, length, map, get_or, Option, Some, None, refl, sym, ap, ◌∙◌, arith, nat_eq, subst, inl, inr}
+use Rattle.std.specs.Prelude.{◌==◌, if◌then◌else◌, is_none, is_some, unwrap_or, All, Result, Ok, Err}
+use Rattle.std.specs.Option.{option_map}
+use Rattle.std.proofs.lemmas.Bool.{cases_lt, false≢true}
+use Rattle.std.proofs.lemmas.List.{get_or_past}
+use Rattle.std.proofs.lemmas.Option.{none-some}
+use Rattle.xk_base.specs.declared.errors.XousError.{XousError}
+use Rattle.xk_base.specs.declared.errors.XousError.TheVariants.{InvalidLimit, ServerExists, ServerNotFound}
+use Rattle.xk_base.specs.declared.ids.Cid.{Cid}
+use Rattle.xk_base.specs.declared.ids.Serial.{Serial}
+use Rattle.xk_base.specs.declared.ids.Sid.{Sid}
+use Rattle.xk_base.specs.declared.limits.TheConstants.{SERVER_LIMIT}
+use Rattle.xk_base.specs.Tables.Connections.{cid_for, connected, has_room}
+use Rattle.xk_base.specs.Tables.Counting.{count_below, least_below, put_at}
+use Rattle.xk_base.specs.Tables.RowMap.{row_map}
+use Rattle.xk_base.proofs.CountingLemmas.{least_below-none}
+use Rattle.xk_base.specs.Tables.Sids.{serial_of, serial_with}
+use Rattle.machine_model.specs.Calling.ServerCalls.{connect_refusals, connect_served, create_server_refusals, create_server_served, is_missing, new_serial, new_server, with_server as machine_with_server}
+use Rattle.machine_model.specs.State.Changes.{Outcome, Refused, Retried, Served, answering, unless_refused, unless_retried}
+use Rattle.machine_model.specs.State.Connections.{connect_caller, own_connections}
+use Rattle.machine_model.specs.State.Machine.{Machine}
+use Rattle.machine_model.specs.State.Servers.{live_servers, with_sid as machine_with_sid}
+use Rattle.machine_model.specs.State.Threads.{answer_to}
+use Rattle.msg_queue.specs.declared.held.Held.{Held as HeldMessage}
+use Rattle.msg_queue.specs.Seats.{Seat, empty_seat, message_of, seat_of, used_of}
+use Rattle.process_table.specs.ProcessMap.{change, connections_of}
+use Rattle.process_table.specs.ProcessesOf.{process_count, processes_of}
+use Rattle.process_table.specs.State.{ProcessState, connection, with_connection}
+use Rattle.process_table.specs.declared.table.Processes.{Processes}
+use Rattle.send_path.specs.Parts.{process_of, server_of}
+use Rattle.server_table.specs.ServersOf.{servers_of}
+use Rattle.server_table.specs.ServerState.{Server as TableServer, ServerState, free_seat, live_count, made_answer, with_server, with_sid}
+use Rattle.server_table.specs.declared.table.Servers.{Servers}
+use Rattle.server_table.proofs.AnsweredLemmas.{free_seat_is, full, state}
+use Rattle.sv32_space.specs.Tie.{Held}
+use Rattle.xk_base.specs.Calls.Replies.{connection_words, new_server_words}
+use Rattle.xk_kernel.specs.Calling.{connected_outcome}
+use Rattle.xk_kernel.specs.Sound.{IsWhole}
+use Rattle.xk_kernel.specs.State.{machine_of}
+use Rattle.xk_kernel.specs.declared.kernel.Kernel.{Kernel}
+use Rattle.xk_kernel.proofs.Memory.HeapLemmas.{caller, first_of_three, none_of_three, process_there, second_of_three}
+
+-- ---- connections
+
+same_connections : (o : Option ProcessState) → connections_of o ≡ (process_of o).connections
+same_connections None = refl
+same_connections (Some p) = refl
+
+process_connected : (b : Bool) (o other : Option ProcessState) (p : ProcessState) (serial : Serial) → o ≡ Some p
+    → process_of (if b then option_map (with_connection serial) o else other)
+    ≡ (if b then record (process_of o) { connections = connected serial (process_of o).connections } else process_of other)
+process_connected b None other p serial e = absurd (none-some p e)
+process_connected true (Some q) other p serial e = refl
+process_connected false (Some q) other p serial e = refl
+
+-- ---- servers
+
+same_sids : (seats : List Seat) (o : Option TableServer) → option_map (λ server. server.sid) (option_map (server_of seats) o) ≡ option_map (λ server. server.sid) o
+same_sids seats None = refl
+same_sids seats (Some s) = refl
+
+same_live : (seats : List Seat) (o : Option TableServer) → is_some (option_map (server_of seats) o) ≡ is_some o
+same_live seats None = refl
+same_live seats (Some s) = refl
+
+at_or_default : {X : Type 0} (P : X → Type 0) (xs : List X) → All P xs → (d : X) → P d → (k : ℕ) → P (get_or xs k d)
+at_or_default P xs all d p k = elim (cases_lt k (length xs)) [
+  | inl low ↦ all k d low
+  | inr high ↦ subst P (sym (get_or_past xs k d high)) p
+]
+
+-- a seat without a message shows none
+no_message : (seat : Seat) → used_of seat ≡ 0 → seat ≡ empty_seat
+no_message seat e = go seat.queued seat.held e
+  where
+    go : (queued holds : List HeldMessage) → length queued + length holds ≡ 0 → record { queued = queued; held = holds } ≡ empty_seat
+    go [] [] e = refl
+    go [] (h ∷ hs) e = absurd (omega arith)
+    go (q ∷ qs) hs e = absurd (omega arith)
+
+module _ {W : Type 0} (held : W → Held) (k : Kernel W) where
+  pub connections_told : connections_of (processes_of k.procs k.cursor.pid.0) ≡ own_connections (machine_of held k)
+  unfolding machine_of
+  connections_told = same_connections (processes_of k.procs k.cursor.pid.0)
+
+  -- the server with an identifier, and how many there are
+  pub named_told : (sid : Sid) → with_sid sid (servers_of k.servers) ≡ machine_with_sid (machine_of held k) sid
+  unfolding machine_of machine_with_sid
+  named_told sid = ap (serial_with sid (servers_of k.servers).next) (λ i n. sym (same_sids k.queues ((servers_of k.servers).live n)) i)
+
+  pub count_told : live_count (servers_of k.servers) ≡ live_servers (machine_of held k)
+  unfolding machine_of live_servers
+  count_told = ap (count_below (servers_of k.servers).next) (λ i n. sym (same_live k.queues ((servers_of k.servers).live n)) i)
+
+-- ---- in a whole kernel
+
+module _ {W : Type 0} (slot_count : W → ℕ) (held : W → Held) (k : Kernel W) (whole : IsWhole slot_count held k) where
+  -- the caller's process is connected
+  pub machine_connected : (procs : Processes) (serial : Serial) → processes_of procs ≡ change k.cursor.pid.0 (with_connection serial) (processes_of k.procs)
+      → machine_of held (record k { procs = procs }) ≡ connect_caller serial (machine_of held k)
+  unfolding machine_of
+  machine_connected procs serial e =
+      let there = process_there k.procs k.cursor.pid.0 (caller slot_count held k whole) in
+      λ i. record (machine_of held k) {
+        process = λ q. (ap (λ f. process_of (f q)) e
+            ∙ process_connected (nat_eq q k.cursor.pid.0) (processes_of k.procs k.cursor.pid.0) (processes_of k.procs q) there.0 serial there.1) i;
+      }
+
+  pub connected_whole : (procs : Processes) → process_count procs ≡ process_count k.procs → IsWhole slot_count held (record k { procs = procs })
+  connected_whole procs n = record {
+    mem = whole.mem;
+    threads = whole.threads;
+    procs = n ∙ whole.procs;
+    cursor = whole.cursor;
+    room = whole.room;
+    unlent = whole.unlent;
+    no_messages = whole.no_messages;
+    unclaimed = whole.unclaimed;
+  }
+
+  -- no seat has a message
+  empty_there : (seat : ℕ) → seat_of k.queues seat ≡ empty_seat
+  empty_there seat = no_message (seat_of k.queues seat) (at_or_default (λ s. used_of s ≡ 0) k.queues whole.no_messages empty_seat refl seat)
+
+  shown_new : (sid : Sid) (seat : ℕ) → server_of k.queues (record { sid = sid; pid = k.cursor.pid; seat = seat })
+      ≡ record { sid = sid; pid = k.cursor.pid; queued = []; held = [] }
+  shown_new sid seat = λ i. record { sid = sid; pid = k.cursor.pid; queued = map message_of (empty_there seat i).queued; held = map message_of (empty_there seat i).held }
+
+  shown_at : (b : Bool) (new : TableServer) (o : Option TableServer) → option_map (server_of k.queues) (if b then Some new else o)
+      ≡ (if b then Some (server_of k.queues new) else option_map (server_of k.queues) o)
+  shown_at true new o = refl
+  shown_at false new o = refl
+
+  -- a server was made
+  pub machine_served : (servers : Servers) (sid : Sid) (seat : ℕ) → free_seat (servers_of k.servers) ≡ Some seat
+      → servers_of servers ≡ with_server sid k.cursor.pid (free_seat (servers_of k.servers)) (servers_of k.servers)
+      → machine_of held (record k { servers = servers }) ≡ machine_with_server (new_server (machine_of held k) sid) (machine_of held k)
+  unfolding machine_of
+  machine_served servers sid seat f e =
+      let made : servers_of servers ≡ with_server sid k.cursor.pid (Some seat) (servers_of k.servers) =
+      e ∙ ap (λ o. with_server sid k.cursor.pid o (servers_of k.servers)) f in
+      λ i. record (machine_of held k) {
+        servers = λ n. (ap (λ (s : ServerState). option_map (server_of k.queues) (s.live n)) made
+            ∙ shown_at (nat_eq n (servers_of k.servers).next) (record { sid = sid; pid = k.cursor.pid; seat = seat }) ((servers_of k.servers).live n)
+            ∙ ap (λ s. if nat_eq n (servers_of k.servers).next then Some s else option_map (server_of k.queues) ((servers_of k.servers).live n)) (shown_new sid seat)) i;
+        next_serial = (made i).next;
+      }
+
+  pub served_whole : (servers : Servers) → IsWhole slot_count held (record k { servers = servers })
+  served_whole servers = record {
+    mem = whole.mem;
+    threads = whole.threads;
+    procs = whole.procs;
+    cursor = whole.cursor;
+    room = whole.room;
+    unlent = whole.unlent;
+    no_messages = whole.no_messages;
+    unclaimed = whole.unclaimed;
+  }
+
+-- ---- lists of refusals
+
+-- one of two tests with one error, after a first that fails
+pub second_or_third : (a b c : Bool) (x y : XousError) (o : Outcome) → a ≡ false → c ≡ true
+    → Refused y ≡ unless_refused ((a, x) ∷ (b, y) ∷ (c, y) ∷ []) o
+second_or_third true b c x y o e f = absurd (false≢true (sym e))
+second_or_third false true c x y o e f = refl
+second_or_third false false true x y o e f = refl
+second_or_third false false false x y o e f = absurd (false≢true f)
+
+-- ---- the answer to a connection
+
+module _ (serial : Serial) (connections : List Serial) where
+  connection_made : has_room serial connections ≡ true → connection serial connections ≡ Ok (record { 0 = cid_for serial connections })
+  connection_made room = ap (λ b. if b then Ok (record { 0 = cid_for serial connections }) else Err InvalidLimit) room
+
+  abbrev number_of : Result Cid XousError → ℕ
+  number_of (Ok cid) = cid.0
+  number_of (Err error) = 0
+
+  abbrev is_ok : Result Cid XousError → Bool
+  is_ok (Ok cid) = true
+  is_ok (Err error) = false
+
+  pub connected_cid : (cid : Cid) → Ok cid ≡ connection serial connections → has_room serial connections ≡ true → cid.0 ≡ cid_for serial connections
+  connected_cid cid e room = ap number_of (e ∙ connection_made room)
+
+  pub not_unconnected : (error : XousError) → Err error ≡ connection serial connections → has_room serial connections ≡ true → ⊥
+  not_unconnected error e room = false≢true (ap is_ok (e ∙ connection_made room))
+
+module _ (m : Machine) (serial : Serial) where
+  pub has_no_room : has_room serial (own_connections m) ≡ false → Refused InvalidLimit ≡ connected_outcome m serial
+  has_no_room e =
+      ap (λ b. unless_refused ((not b, InvalidLimit) ∷ []) (Served (answering (answer_to m.cursor (connection_words (cid_for serial (own_connections m)))) (connect_caller serial m))))
+      (sym e)
+
+  pub has_room_for : has_room serial (own_connections m) ≡ true
+      → Served (answering (answer_to m.cursor (connection_words (cid_for serial (own_connections m)))) (connect_caller serial m)) ≡ connected_outcome m serial
+  has_room_for e =
+      ap (λ b. unless_refused ((not b, InvalidLimit) ∷ []) (Served (answering (answer_to m.cursor (connection_words (cid_for serial (own_connections m)))) (connect_caller serial m))))
+      (sym e)
+
+-- ---- a server that is found, or not
+
+module _ (m : Machine) (sid : Sid) where
+  abbrev connect_outcome : Option Serial → Outcome
+  connect_outcome found =
+      unless_retried (is_none found) (connected_outcome m (unwrap_or found (serial_of 0)))
+
+  pub connects : (serial : Serial) → machine_with_sid m sid ≡ Some serial
+      → connected_outcome m serial ≡ unless_retried (is_missing m sid) (unless_refused (connect_refusals m sid) (Served (connect_served m sid)))
+  connects serial e = ap connect_outcome (sym e)
+
+  pub retries : machine_with_sid m sid ≡ None
+      → Retried ≡ unless_retried (is_missing m sid) (unless_refused (connect_refusals m sid) (Served (connect_served m sid)))
+  retries e = ap connect_outcome (sym e)
+
+  abbrev try_outcome : Option Serial → Outcome
+  try_outcome found =
+      unless_refused ((is_none found, ServerNotFound) ∷ (not (has_room (unwrap_or found (serial_of 0)) (own_connections m)), InvalidLimit) ∷ [])
+      (Served (answering (answer_to m.cursor (connection_words (cid_for (unwrap_or found (serial_of 0)) (own_connections m)))) (connect_caller (unwrap_or found (serial_of 0)) m)))
+
+  pub tries : (serial : Serial) → machine_with_sid m sid ≡ Some serial
+      → connected_outcome m serial ≡ unless_refused ((is_missing m sid, ServerNotFound) ∷ connect_refusals m sid) (Served (connect_served m sid))
+  tries serial e = ap try_outcome (sym e)
+
+  pub tries_none : machine_with_sid m sid ≡ None
+      → Refused ServerNotFound ≡ unless_refused ((is_missing m sid, ServerNotFound) ∷ connect_refusals m sid) (Served (connect_served m sid))
+  tries_none e = ap try_outcome (sym e)
+
+-- ---- the answer to a new server
+
+module _ (sid : Sid) (s : ServerState) (new : is_some (with_sid sid s) ≡ false) where
+  made_by : (b : Bool) → (live_count s == SERVER_LIMIT) ≡ b → made_answer sid s ≡ (if b then Err InvalidLimit else Ok (serial_of s.next))
+  made_by b e = λ i. if new i then Err ServerExists else (if e i then Err InvalidLimit else Ok (serial_of s.next))
+
+  abbrev is_made : Result Serial XousError → Bool
+  is_made (Ok serial) = true
+  is_made (Err error) = false
+
+  abbrev serial_in : Result Serial XousError → Serial
+  serial_in (Ok serial) = serial
+  serial_in (Err error) = serial_of 0
+
+  abbrev error_in : Result Serial XousError → XousError
+  error_in (Ok serial) = ServerExists
+  error_in (Err error) = error
+
+  pub made_ok : (serial : Serial) → Ok serial ≡ made_answer sid s → ((live_count s == SERVER_LIMIT) ≡ false) × (serial ≡ serial_of s.next)
+  made_ok serial e = go (live_count s == SERVER_LIMIT) refl
+    where
+      go : (b : Bool) → (live_count s == SERVER_LIMIT) ≡ b → ((live_count s == SERVER_LIMIT) ≡ false) × (serial ≡ serial_of s.next)
+      go true q = absurd (false≢true (sym (ap is_made (e ∙ made_by true q))))
+      go false q = (q, ap serial_in (e ∙ made_by false q))
+
+  pub made_err : (error : XousError) → Err error ≡ made_answer sid s → ((live_count s == SERVER_LIMIT) ≡ true) × (error ≡ InvalidLimit)
+  made_err error e = go (live_count s == SERVER_LIMIT) refl
+    where
+      go : (b : Bool) → (live_count s == SERVER_LIMIT) ≡ b → ((live_count s == SERVER_LIMIT) ≡ true) × (error ≡ InvalidLimit)
+      go true q = (q, ap error_in (e ∙ made_by true q))
+      go false q = absurd (false≢true (ap is_made (e ∙ made_by false q)))
+
+-- where fewer servers than the limit are alive, a seat is free
+pub seat_left : (t : Servers) → (live_count (servers_of t) == SERVER_LIMIT) ≡ false → (seat : ℕ) × (free_seat (servers_of t) ≡ Some seat)
+unfolding servers_of
+seat_left t few = go (free_seat (state t.seats.items t.next)) refl
+  where
+    go : (o : Option ℕ) → free_seat (state t.seats.items t.next) ≡ o → (seat : ℕ) × (free_seat (state t.seats.items t.next) ≡ Some seat)
+    go (Some seat) e = (seat, e)
+    go None e =
+        let size : length t.seats.items ≡ SERVER_LIMIT = omega arith in
+        let none : least_below SERVER_LIMIT (λ i. is_none (row_map t.seats.items i)) ≡ None =
+        sym (free_seat_is t.seats.items t.next t.apart size) ∙ e in
+        absurd (false≢true (sym few ∙ full t.seats.items t.next t.counted (least_below-none SERVER_LIMIT (λ i. is_none (row_map t.seats.items i)) none)))
+
+-- ---- what comes of a new server
+
+module _ (m : Machine) (sid : Sid) where
+  abbrev create_outcome : Outcome
+  create_outcome = unless_refused (create_server_refusals m sid) (Served (create_server_served m sid))
+
+  pub exists_already : is_some (machine_with_sid m sid) ≡ true → Refused ServerExists ≡ create_outcome
+  exists_already e =
+      first_of_three (is_some (machine_with_sid m sid)) (live_servers m == SERVER_LIMIT) (not (has_room (new_serial m) (own_connections m)))
+      ServerExists InvalidLimit InvalidLimit (Served (create_server_served m sid)) e
+
+  module _ (new : is_some (machine_with_sid m sid) ≡ false) where
+    pub unconnected : has_room (new_serial m) (own_connections m) ≡ false → Refused InvalidLimit ≡ create_outcome
+    unconnected e =
+        second_or_third (is_some (machine_with_sid m sid)) (live_servers m == SERVER_LIMIT) (not (has_room (new_serial m) (own_connections m)))
+        ServerExists InvalidLimit (Served (create_server_served m sid)) new (ap not e)
+
+    pub too_many : (live_servers m == SERVER_LIMIT) ≡ true → Refused InvalidLimit ≡ create_outcome
+    too_many e =
+        second_of_three (is_some (machine_with_sid m sid)) (live_servers m == SERVER_LIMIT) (not (has_room (new_serial m) (own_connections m)))
+        ServerExists InvalidLimit InvalidLimit (Served (create_server_served m sid)) new e
+
+    pub created : (live_servers m == SERVER_LIMIT) ≡ false → has_room (new_serial m) (own_connections m) ≡ true
+        → Served (create_server_served m sid) ≡ create_outcome
+    created few room =
+        none_of_three (is_some (machine_with_sid m sid)) (live_servers m == SERVER_LIMIT) (not (has_room (new_serial m) (own_connections m)))
+        ServerExists InvalidLimit InvalidLimit (Served (create_server_served m sid)) new few (ap not room)
+
+-- the server was made, and the caller connected to it
+pub created_is : (m mid after : Machine) (sid : Sid) (serial : Serial) (cid : ℕ) → mid ≡ machine_with_server (new_server m sid) m → serial ≡ new_serial m
+    → cid ≡ cid_for serial (own_connections mid) → after ≡ connect_caller serial mid
+    → Served (answering (answer_to m.cursor (new_server_words sid cid)) after) ≡ Served (create_server_served m sid)
+created_is m mid after sid serial cid made e c a =
+    (λ i. Served (answering (answer_to m.cursor (new_server_words sid (c i))) (a i)))
+    ∙ (λ i. Served (answering (answer_to m.cursor (new_server_words sid (cid_for (e i) (own_connections (made i))))) (connect_caller (e i) (made i))))

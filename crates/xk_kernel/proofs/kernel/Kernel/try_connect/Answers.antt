@@ -1,0 +1,17 @@
+-- The server of the identifier is found, or the call is refused.
+use Rattle.std.proofs.Common.{sym, ap, ◌∙◌}
+use Rattle.xk_kernel.specs.State.{machine_of}
+use Rattle.xk_kernel.proofs.Calling.ServerCallLemmas.{named_told, tries, tries_none}
+use Rattle.xk_kernel.proofs.kernel.Kernel.try_connect.Goals as goal
+
+-- src/kernel/server_calls.rt
+pub returns-in-Some-clause-outcome : goal.returns-in-Some-clause-outcome
+returns-in-Some-clause-outcome g c =
+    c.connect_to.ensures.outcome
+    ∙ tries (machine_of g.W.SwapStore.held c.args.self.now) c.args.sid c.in-Some.serial
+    (sym (named_told g.W.SwapStore.held c.args.self.now c.args.sid) ∙ sym c.find.ensures ∙ c.in-Some.is)
+
+pub returns-in-None-clause-outcome : goal.returns-in-None-clause-outcome
+returns-in-None-clause-outcome g c =
+    tries_none (machine_of g.W.SwapStore.held c.args.self.now) c.args.sid
+    (sym (named_told g.W.SwapStore.held c.args.self.now c.args.sid) ∙ sym c.find.ensures ∙ c.in-None.is)
