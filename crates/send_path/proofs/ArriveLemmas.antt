@@ -1,15 +1,12 @@
--- A message arrives at a server: who receives it, what its seat gets, and who is answered.
-use Rattle.std.proofs.Common.{◌≡◌, ℕ, Bool, true, false, List, [], Option, Some, None, IsSome, refl, sym, ap, ◌∙◌, append-nil}
-use Rattle.std.specs.Prelude.{IfSome, if◌then◌else◌}
+-- A message arrives at a server: who receives it, and what is told where nobody is answered.
+use Rattle.std.proofs.Common.{◌≡◌, ℕ, Bool, true, false, [], Option, Some, None, IsSome, refl, sym, ap, ◌∙◌, append-nil}
+use Rattle.std.specs.Prelude.{IfSome}
 use Rattle.std.specs.Option.{option_map, option_map_or}
 use Rattle.std.proofs.lemmas.Bool.{false≢true}
 use Rattle.std.proofs.lemmas.Option.{none-some, same_Some}
 use Rattle.machine_laws.proofs.Threading.ThreadPutLemmas.{alike}
 use Rattle.machine_model.specs.Messaging.Receivers.{is_receiving, receiver}
 use Rattle.machine_model.specs.State.Machine.{Machine, Thread}
-use Rattle.machine_model.specs.State.Threads.{both_answers, no_answers, with_answer}
-use Rattle.msg_queue.specs.Seats.{Seat, changed_at, with_held}
-use Rattle.msg_queue.specs.declared.held.Held.{Held}
 use Rattle.thread_table.proofs.PlaceLemmas.{thread_map_valid}
 use Rattle.thread_table.specs.States.{is_ready_state, is_receiving_state}
 use Rattle.thread_table.specs.ThreadMap.{is_ready as is_table_ready, is_receiving as is_table_receiving, receiver as table_receiver}
@@ -19,7 +16,6 @@ use Rattle.thread_table.specs.declared.thread.Thread.{Thread as TableThread}
 use Rattle.thread_table.specs.declared.thread.ThreadState.{ThreadState as TableState}
 use Rattle.thread_table.specs.declared.thread.ThreadState.TheVariants as table
 use Rattle.xk_base.proofs.CountingLemmas.{least_below-passes}
-use Rattle.xk_base.specs.Calls.Kinds.{is_answered}
 use Rattle.xk_base.specs.Log.{LogState}
 use Rattle.xk_base.specs.Tables.Circle.{id_by_tid, is_thread_id, same_thread, thread_ids}
 use Rattle.xk_base.specs.Tables.Counting.{least_below}
@@ -27,21 +23,6 @@ use Rattle.xk_base.specs.declared.ids.Serial.{Serial}
 use Rattle.xk_base.specs.declared.ids.ThreadId.{ThreadId}
 use Rattle.send_path.specs.Parts.{Tables, state_of, thread_of, with_tables}
 use Rattle.send_path.specs.Rows.{log_with}
-use Rattle.send_path.specs.Seats.{with_received}
-use Rattle.send_path.specs.Threads.{ThreadMap, answered}
-use Rattle.send_path.proofs.SoundLemmas.{unchanged_at}
-
--- ---- at a seat
-
--- a thread received the message
-pub received_at : (seats : List Seat) (k : ℕ) (h : Held)
-    → (if is_answered h.msg.kind then changed_at k (with_held h) seats else seats) ≡ changed_at k (with_received h) seats
-received_at seats k h = go (is_answered h.msg.kind)
-  where
-    go : (b : Bool) → (if b then changed_at k (with_held h) seats else seats)
-        ≡ changed_at k (λ seat. record seat { held = if b then (with_held h seat).held else seat.held }) seats
-    go true = refl
-    go false = sym (unchanged_at seats k (λ seat. record seat { held = seat.held }) refl)
 
 -- ---- the receiver
 
@@ -112,14 +93,6 @@ module _ (threads : Threads) (who : ThreadId) (ready : is_table_ready (threads_o
           by (ap (λ x. is_table_receiving serial (threads_of threads x)) (sym (same_Some (id_by_tid n k) id r)) ∙ least_below-passes (thread_ids n) receives k q)
 
 -- ---- answers
-
-unanswered : (o : Option Thread) → option_map (with_answer None) o ≡ o
-unanswered None = refl
-unanswered (Some t) = refl
-
--- nobody is answered
-pub none_answered : (threads : ThreadMap) → threads ≡ answered (both_answers no_answers no_answers) threads
-none_answered threads = λ i id. sym (unanswered (threads id)) i
 
 pub none_told : (log : LogState) → log ≡ log_with [] log
 none_told log = λ i. record log { records = sym (append-nil log.records) i }

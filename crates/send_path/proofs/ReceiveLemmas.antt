@@ -7,13 +7,13 @@ use Rattle.xk_base.specs.Calls.Kinds.{is_answered}
 use Rattle.machine_model.specs.Messaging.Messages.{oldest, with_received, without_oldest}
 use Rattle.machine_model.specs.Messaging.ReceiveCalls.{oldest_queued, receive_served, received, try_receive_served, waits_at}
 use Rattle.machine_model.specs.State.Changes.{Change, Refused, Served, answering, only}
-use Rattle.machine_model.specs.State.Machine.{Machine, Receiving, Server, Thread}
+use Rattle.machine_model.specs.State.Machine.{Machine, Receiving, Server}
 use Rattle.machine_laws.proofs.Calling.AnsweredCallLemmas.{Keeps}
 use Rattle.machine_laws.proofs.Receiving.ReceiveStepLemmas.{receive_named_keeps, try_receive_named_keeps}
 use Rattle.machine_model.specs.Runs.Matched.{Matched}
 use Rattle.machine_model.specs.State.Order.{ready_at}
 use Rattle.machine_model.specs.State.Servers.{change_server, is_own, with_sid}
-use Rattle.machine_model.specs.State.Threads.{answer_to, change_thread, no_answers, passed, with_answer, with_state}
+use Rattle.machine_model.specs.State.Threads.{answer_to, change_thread, no_answers, passed, with_state}
 use Rattle.msg_queue.specs.Seats.{Seat, changed_at, message_of, seat_of, with_held, without_queued_at}
 use Rattle.msg_queue.specs.declared.held.Held.{Held}
 use Rattle.server_table.specs.ServersOf.{servers_of}
@@ -39,7 +39,7 @@ use Rattle.send_path.proofs.ReplyLemmas.{no_reply, one_reply}
 use Rattle.send_path.proofs.RowLemmas.{first_passes, first_refuses, served_so}
 use Rattle.send_path.proofs.SeatLemmas.{changed_twice, oldest_left, one_more, server_changed, server_there}
 use Rattle.send_path.proofs.SoundLemmas.{held_lent, oldest_lent, others_lent, seats_changed}
-use Rattle.send_path.proofs.ThreadLemmas.{ready_there}
+use Rattle.send_path.proofs.ThreadLemmas.{ready_there, unanswered}
 
 -- ---- at a seat
 
@@ -68,10 +68,6 @@ taken_from seats mid new k h low took kept = go (is_answered h.msg.kind) kept
         → new ≡ changed_at k (λ seat. if b then with_held h (without_queued_at 0 seat) else without_queued_at 0 seat) seats
     go true e = e ∙ ap (changed_at k (with_held h)) took ∙ changed_twice seats k (without_queued_at 0) (with_held h) low
     go false e = e ∙ took
-
-unanswered : (o : Option Thread) → o ≡ option_map (with_answer None) o
-unanswered None = refl
-unanswered (Some t) = refl
 
 -- ---- the row
 

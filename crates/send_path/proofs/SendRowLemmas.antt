@@ -32,7 +32,8 @@ abbrev pub after_tests : Result (Unit {0}) XousError → Outcome → Outcome
 after_tests (Err error) outcome = Refused error
 after_tests (Ok done) outcome = outcome
 
-abbrev tests : Bool → Bool → Bool → Bool → Bool → List (Bool × XousError)
+-- those up to where the slots are looked at
+abbrev pub tests : Bool → Bool → Bool → Bool → Bool → List (Bool × XousError)
 tests a b c d e =
     (a, ServerNotFound) ∷ (b, InvalidSyscall) ∷ (c, BadAlignment) ∷ (d, BadAddress) ∷ (e, ShareViolation) ∷ []
 

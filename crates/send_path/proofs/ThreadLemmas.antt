@@ -22,7 +22,8 @@ use Rattle.send_path.specs.Threads.{ThreadMap, answered, changed_thread}
 
 -- ---- one thread changed
 
-unanswered : (o : Option Thread) → o ≡ option_map (with_answer None) o
+-- a thread that isn't answered stays
+pub unanswered : (o : Option Thread) → o ≡ option_map (with_answer None) o
 unanswered None = refl
 unanswered (Some t) = refl
 

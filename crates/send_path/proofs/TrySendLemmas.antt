@@ -13,8 +13,7 @@ use Rattle.process_table.specs.declared.table.Processes.{Processes}
 use Rattle.sv32_space.specs.Tie.{Held as HeldBytes}
 use Rattle.xk_base.specs.Calls.CallNumbers.{send_message, try_send_message}
 use Rattle.xk_base.specs.Calls.CallWords.{call_number, send_address, send_cid, send_id, send_kind, send_length, send_words}
-use Rattle.xk_base.specs.declared.errors.XousError.{XousError}
-use Rattle.xk_base.specs.declared.errors.XousError.TheVariants.{BadAddress, BadAlignment, InvalidSyscall, MemoryInUse, ServerNotFound, ServerQueueFull, ShareViolation}
+use Rattle.xk_base.specs.declared.errors.XousError.TheVariants.{MemoryInUse, ServerQueueFull}
 use Rattle.xk_base.specs.declared.ids.Number.{Number}
 use Rattle.xk_base.specs.declared.ids.ThreadId.{ThreadId}
 use Rattle.send_path.specs.Parts.{Parts, with_parts}
@@ -23,16 +22,13 @@ use Rattle.send_path.specs.Sending.{AreAsked, IsSendRow, asked_row, asked_words,
 use Rattle.send_path.specs.declared.sending.Asked.{Asked}
 use Rattle.send_path.specs.declared.sending.Sent.{Sent}
 use Rattle.send_path.specs.declared.sending.Sent.TheVariants as sent
+use Rattle.send_path.proofs.SendRowLemmas.{tests}
 
 -- what comes of TrySendMessage where that comes of SendMessage
 abbrev tried : Outcome → Outcome
 tried (Refused error) = Refused error
 tried Retried = Refused ServerQueueFull
 tried (Served change) = Served change
-
-abbrev tests : Bool → Bool → Bool → Bool → Bool → List (Bool × XousError)
-tests a b c d e =
-    (a, ServerNotFound) ∷ (b, InvalidSyscall) ∷ (c, BadAlignment) ∷ (d, BadAddress) ∷ (e, ShareViolation) ∷ []
 
 abbrev placed : Bool → Change → Outcome
 placed none change = unless_refused ((none, MemoryInUse) ∷ []) (Served change)
