@@ -1,2 +1,3 @@
 pub mod ExchangeLemmas
 pub mod MoveLemmas
+pub mod TestLemmas

@@ -6,3 +6,6 @@ mod exchanges;
 mod moves;
 
 pub use exchanges::{bring, evict};
+
+#[cfg(test)]
+mod tests;
