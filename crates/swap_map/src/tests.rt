@@ -187,7 +187,7 @@ fn end(s: &mut Space, loan: Loan)
 }
 
 /// Puts the page of frame 22 out to slot 5, where there is one and the slot is free.
-fn out(s: &mut Space, store: &mut MemStore) -> bool
+fn goes_out(s: &mut Space, store: &mut MemStore) -> bool
     ensures loans { (loan : LoanRun) → StandsIn (entries_of s.old) (infos s.old.owners) loan → StandsIn (entries_of s.new) (infos s.new.owners) loan }
 {
     if s.owners.info(Seat::Frame(Frame(22))).is_none()
@@ -200,7 +200,7 @@ fn out(s: &mut Space, store: &mut MemStore) -> bool
 }
 
 /// Brings the page of slot 5 to frame 30, where there is one and the frame is free.
-fn back(s: &mut Space, store: &mut MemStore) -> bool
+fn comes_back(s: &mut Space, store: &mut MemStore) -> bool
     ensures loans { (loan : LoanRun) → StandsIn (entries_of s.old) (infos s.old.owners) loan → StandsIn (entries_of s.new) (infos s.new.owners) loan }
 {
     if s.owners.info(Seat::Slot(Slot(5))).is_none()
@@ -222,16 +222,16 @@ fn page_goes_out_and_comes_back(rt: HostRuntime) -> Result<(), Fail> {
         assert!(rt; false);
         return Ok(());
     };
-    assert!(rt; !out(&mut s, &mut store));
+    assert!(rt; !goes_out(&mut s, &mut store));
     assert_eq!(rt; words(&s, FIRST), [0x1000_58D7, 0x1000_5CD7]);
     assert!(rt; is_free(&s, Seat::Slot(Slot(5))));
-    assert!(rt; out(&mut s, &mut store));
+    assert!(rt; goes_out(&mut s, &mut store));
     assert_eq!(rt; words(&s, FIRST), [0x0000_14F6, 0x1000_5CD7]);
     assert!(rt; is_free(&s, Seat::Frame(Frame(22))));
-    assert!(rt; !back(&mut s, &mut store));
+    assert!(rt; !comes_back(&mut s, &mut store));
     assert_eq!(rt; words(&s, FIRST), [0x0000_14F6, 0x1000_5CD7]);
     assert!(rt; is_free(&s, Seat::Frame(Frame(30))));
-    assert!(rt; back(&mut s, &mut store));
+    assert!(rt; comes_back(&mut s, &mut store));
     assert_eq!(rt; words(&s, FIRST), [0x1000_78D7, 0x1000_5CD7]);
     assert!(rt; is_free(&s, Seat::Slot(Slot(5))));
     assert!(rt; bytes(&s) == [7; 4096].as_slice());
@@ -250,13 +250,13 @@ fn lent_page_goes_out_with_both_entries(rt: HostRuntime) -> Result<(), Fail> {
         assert!(rt; false);
         return Ok(());
     };
-    assert!(rt; out(&mut s, &mut store));
+    assert!(rt; goes_out(&mut s, &mut store));
     assert_eq!(rt; words(&s, FIRST), [0x0000_17F2, 0x1000_5FD3]);
     assert_eq!(rt; words(&s, MESSAGE), [0x0000_1572, 0x1000_5D53]);
     let orphans = orphan(&mut s, loan);
     assert_eq!(rt; words(&s, FIRST), FREE);
     assert_eq!(rt; words(&s, MESSAGE), [0x0000_1572, 0x1000_5D53]);
-    assert!(rt; back(&mut s, &mut store));
+    assert!(rt; comes_back(&mut s, &mut store));
     assert_eq!(rt; words(&s, FIRST), FREE);
     assert_eq!(rt; words(&s, MESSAGE), [0x1000_7953, 0x1000_5D53]);
     end(&mut s, orphans);
@@ -275,10 +275,10 @@ fn mutably_lent_page_goes_out_with_both_entries(rt: HostRuntime) -> Result<(), F
         assert!(rt; false);
         return Ok(());
     };
-    assert!(rt; out(&mut s, &mut store));
+    assert!(rt; goes_out(&mut s, &mut store));
     assert_eq!(rt; words(&s, FIRST), [0x0000_1726, 0x1000_5F06]);
     assert_eq!(rt; words(&s, MESSAGE), [0x0000_15F6, 0x1000_5DD7]);
-    assert!(rt; back(&mut s, &mut store));
+    assert!(rt; comes_back(&mut s, &mut store));
     assert_eq!(rt; words(&s, FIRST), [0x1000_7B06, 0x1000_5F06]);
     assert_eq!(rt; words(&s, MESSAGE), [0x1000_79D7, 0x1000_5DD7]);
     end(&mut s, loan);
