@@ -1,6 +1,6 @@
 -- Whose numbers are queued or held from a process, once one message of a seat ended or was left alone.
-use Rattle.std.proofs.Common.{◌≡◌, ℕ, suc, ◌+◌, ◌<◌, ◌≤◌, Bool, true, false, List, [], ◌∷◌, cond, filter, length, map, Option, Some, None, refl, sym, ap, subst, ◌∙◌, arith}
-use Rattle.std.specs.Prelude.{◌≢◌, ◌||◌, ◌&&◌, if◌then◌else◌, is_some, nat_eq, not}
+use Rattle.std.proofs.Common.{◌≡◌, ℕ, suc, ◌+◌, ◌<◌, Bool, true, false, List, [], ◌∷◌, cond, filter, length, map, Option, Some, None, refl, sym, ap, ◌∙◌, arith}
+use Rattle.std.specs.Prelude.{◌≢◌, ◌||◌, ◌&&◌, is_some, nat_eq, not}
 use Rattle.std.specs.List.{list_any, remove}
 use Rattle.std.specs.Option.{option_map}
 use Rattle.std.proofs.lemmas.Bool.{eq-eqb, eqb-true, false≢true}
@@ -9,7 +9,7 @@ use Rattle.ledger_model.specs.Ledger.{Ledger}
 use Rattle.ledger_model.specs.Loans.{same_number}
 use Rattle.ledger_model.specs.Steps.{end_loan}
 use Rattle.machine_model.proofs.Messaging.LoanSetLemmas.{both_end, only_one_ends}
-use Rattle.machine_model.specs.Ending.Closing.{any_server, is_held_from, is_queued_from, senderless_from, server_passes}
+use Rattle.machine_model.specs.Ending.Closing.{any_server, is_held_from, is_queued_from, server_passes}
 use Rattle.machine_model.specs.Messaging.LoanSets.{end_loans, orphan_loans}
 use Rattle.machine_model.specs.Messaging.Messages.{is_of_number as is_message_of, is_sent_from}
 use Rattle.machine_model.specs.State.Machine.{Machine, Server}

@@ -1,6 +1,6 @@
 -- One message of a seat ends or is left alone: what holds of all messages still does.
 use Rattle.std.proofs.Common.{◌≡◌, ℕ, zero, suc, ◌+◌, ◌<◌, ◌≤◌, Bool, true, false, List, [], ◌∷◌, ◌++◌, cond, get_or, length, map, Option, Some, None, refl, sym, ap, subst, ◌∙◌, arith}
-use Rattle.std.specs.Prelude.{◌≢◌, All, IfSome, IsSome, if◌then◌else◌, is_some, nat_eq, not}
+use Rattle.std.specs.Prelude.{◌≢◌, All, if◌then◌else◌, is_some, nat_eq}
 use Rattle.std.specs.List.{remove}
 use Rattle.std.specs.Option.{option_map}
 use Rattle.std.proofs.lemmas.Bool.{eq-eqb, eqb-true, false≢true}
@@ -17,9 +17,8 @@ use Rattle.ledger_model.specs.Loans.{IsFresh, LoanRun, Loans, Stands, loans, wit
 use Rattle.ledger_model.specs.Steps.{end_loan, orphan_loan}
 use Rattle.machine_laws.proofs.Messaging.AnyServerLemmas.{messages_apart, only_at}
 use Rattle.machine_model.proofs.Matching.CountLemmas.{count_in-append, none_pass, one_if}
-use Rattle.machine_model.specs.Messaging.MessageCounts.{HasAtMostOne, count_at, count_in}
+use Rattle.machine_model.specs.Messaging.MessageCounts.{count_at, count_in}
 use Rattle.machine_model.specs.Messaging.Messages.{is_of_number as is_message_of}
-use Rattle.machine_model.specs.State.Machine.{Server}
 use Rattle.msg_queue.specs.Seats.{Seat, changed_at, is_of_number, message_of, of_number, place_of, seat_of, without_queued}
 use Rattle.msg_queue.specs.declared.held.Held.{Held}
 use Rattle.send_path.proofs.HeldListLemmas.{of_shown, others_fail}
@@ -27,13 +26,12 @@ use Rattle.send_path.proofs.SeatLemmas.{seat_changed, seat_is_there, seat_other,
 use Rattle.send_path.proofs.SoundLemmas.{seats_changed}
 use Rattle.send_path.specs.Parts.{server_of, server_with, servers_shown}
 use Rattle.send_path.specs.Seats.{HasLoanIfLend, IsSeatOf, messages_at}
-use Rattle.send_path.specs.Sound.{IsLenderOf, IsLoanOf}
+use Rattle.send_path.specs.Sound.{IsLenderOf}
 use Rattle.server_table.proofs.Lemmas.{seats_differ}
 use Rattle.server_table.specs.ServersOf.{servers_of}
 use Rattle.server_table.specs.ServerState.{Server as TableServer}
 use Rattle.server_table.specs.declared.table.Servers.{Servers}
 use Rattle.xk_base.specs.declared.ids.Number.{Number}
-use Rattle.xk_base.specs.declared.ids.Pid.{Pid}
 use Rattle.xk_base.specs.declared.ids.Place.{Place}
 use Rattle.xk_base.specs.declared.ids.ThreadId.{ThreadId}
 use Rattle.xk_base.specs.declared.messages.Message.{Message}

@@ -1,9 +1,9 @@
 -- Loans that become orphans before other loans end, and before others become orphans.
-use Rattle.std.proofs.Common.{◌≡◌, ℕ, suc, ◌<◌, ◌≤◌, Bool, true, false, Option, Some, None, refl, sym, ap, subst, ◌∙◌, arith, inl, inr}
-use Rattle.std.specs.Prelude.{◌⊎◌, ◌==◌, ◌&&◌, ◌||◌, if◌then◌else◌, nat_lt}
+use Rattle.std.proofs.Common.{◌≡◌, ℕ, suc, Bool, true, false, Option, Some, None, refl, sym, ap, ◌∙◌, arith, inl, inr}
+use Rattle.std.specs.Prelude.{◌&&◌, ◌||◌, if◌then◌else◌, nat_lt}
 use Rattle.std.specs.Option.{option_and_then, option_map, option_or}
 use Rattle.std.proofs.lemmas.Bool.{cases_order, eq-eqb, false≢true, le-ltb, lt-ltb, ne_eqb}
-use Rattle.std.proofs.lemmas.Option.{none-some, same_Some}
+use Rattle.std.proofs.lemmas.Option.{same_Some}
 use Rattle.ledger_model.proofs.LedgerLemmas.{cases_Option, is_held_at-Some, is_held_at-true, lender_of-None, lender_of-loan, lender_of-none, loan_at-page, same_ledger, same_number-true}
 use Rattle.ledger_model.proofs.Loans.NumberingLemmas.{first_place-only}
 use Rattle.ledger_model.proofs.Stepping.OrphaningLemmas.{orphan_loan_lawful}
@@ -11,7 +11,7 @@ use Rattle.ledger_model.specs.Lawful.{IsLawful}
 use Rattle.ledger_model.specs.Ledger.{Bytes, Console, Contents, Ledger, Orphan, Page, PageLoan, loan_at, loan_of}
 use Rattle.ledger_model.specs.Loans.{same_number}
 use Rattle.ledger_model.specs.Reach.{is_held_at, lender_of}
-use Rattle.ledger_model.specs.Steps.{has_number, orphan_from, orphan_loan, orphan_with, page_without}
+use Rattle.ledger_model.specs.Steps.{orphan_from, orphan_loan, orphan_with, page_without}
 use Rattle.machine_model.proofs.Matching.LoanSetLawLemmas.{ended_loan}
 use Rattle.machine_model.proofs.Matching.LoanSetStepLemmas.{AreBelow, after_orphans, at_number}
 use Rattle.machine_model.proofs.Messaging.LoanSetLemmas.{only_one_is_orphaned}
