@@ -1,5 +1,5 @@
 -- The server of the identifier is found, or the call will be made again.
-use Rattle.std.proofs.Common.{sym, ap, ◌∙◌}
+use Rattle.std.proofs.Common.{sym, ◌∙◌}
 use Rattle.xk_kernel.specs.State.{machine_of}
 use Rattle.xk_kernel.proofs.Calling.ServerCallLemmas.{connects, named_told, retries}
 use Rattle.xk_kernel.proofs.kernel.Kernel.connect.Goals as goal

@@ -1,5 +1,5 @@
 -- A connection, where there is room for one.
-use Rattle.std.proofs.Common.{◌≡◌, true, false, refl, sym, ap, ◌∙◌}
+use Rattle.std.proofs.Common.{sym, ◌∙◌}
 use Rattle.machine_model.specs.State.Changes.{Served, answering}
 use Rattle.machine_model.specs.State.Threads.{answer_to}
 use Rattle.xk_base.specs.Calls.Replies.{connection_words}

@@ -1,16 +1,15 @@
 -- A server is made, and the caller is connected to it.
-use Rattle.std.proofs.Common.{◌≡◌, ◌+◌, true, false, not, is_some, Some, refl, sym, ap, ◌∙◌}
+use Rattle.std.proofs.Common.{◌≡◌, true, false, is_some, sym, ap, ◌∙◌}
 use Rattle.std.specs.Prelude.{◌==◌}
-use Rattle.machine_model.specs.Calling.ServerCalls.{create_server_refusals, create_server_served, new_serial}
-use Rattle.machine_model.specs.State.Changes.{Refused, Served, unless_refused}
+use Rattle.machine_model.specs.Calling.ServerCalls.{new_serial}
+use Rattle.machine_model.specs.State.Changes.{Refused}
 use Rattle.machine_model.specs.State.Connections.{own_connections}
 use Rattle.machine_model.specs.State.Machine.{Machine}
 use Rattle.machine_model.specs.State.Servers.{live_servers, with_sid as machine_with_sid}
 use Rattle.server_table.specs.ServersOf.{servers_of}
-use Rattle.server_table.specs.ServerState.{free_seat, live_count, with_sid}
+use Rattle.server_table.specs.ServerState.{live_count, with_sid}
 use Rattle.xk_base.specs.Tables.Connections.{has_room}
 use Rattle.xk_base.specs.Tables.Sids.{serial_of}
-use Rattle.xk_base.specs.declared.ids.Serial.{Serial}
 use Rattle.xk_base.specs.declared.limits.TheConstants.{SERVER_LIMIT}
 use Rattle.xk_kernel.specs.State.{machine_of}
 use Rattle.xk_kernel.proofs.Calling.ServerCallLemmas.{count_told, created, created_is, exists_already, machine_served, made_err, made_ok, named_told, seat_left, too_many, unconnected}

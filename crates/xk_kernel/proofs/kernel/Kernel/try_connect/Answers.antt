@@ -1,5 +1,5 @@
 -- The server of the identifier is found, or the call is refused.
-use Rattle.std.proofs.Common.{sym, ap, ◌∙◌}
+use Rattle.std.proofs.Common.{sym, ◌∙◌}
 use Rattle.xk_kernel.specs.State.{machine_of}
 use Rattle.xk_kernel.proofs.Calling.ServerCallLemmas.{named_told, tries, tries_none}
 use Rattle.xk_kernel.proofs.kernel.Kernel.try_connect.Goals as goal
