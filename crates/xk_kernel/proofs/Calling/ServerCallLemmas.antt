@@ -116,7 +116,7 @@ module _ {W : Type 0} (slot_count : W → ℕ) (held : W → Held) (k : Kernel W
     room = whole.room;
     unlent = whole.unlent;
     no_messages = whole.no_messages;
-    unclaimed = whole.unclaimed;
+    untimed = whole.untimed;
   }
 
   -- no seat has a message
@@ -156,7 +156,7 @@ module _ {W : Type 0} (slot_count : W → ℕ) (held : W → Held) (k : Kernel W
     room = whole.room;
     unlent = whole.unlent;
     no_messages = whole.no_messages;
-    unclaimed = whole.unclaimed;
+    untimed = whole.untimed;
   }
 
 -- ---- lists of refusals
