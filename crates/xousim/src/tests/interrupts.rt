@@ -47,8 +47,8 @@ fn pending_is_a_set(rt: HostRuntime) -> Result<(), Fail> {
     Ok(())
 }
 
-/// Claims that are refused, and one that isn't where nobody has claimed number 4. Its handler asks
-/// for a message, which it may not wait for.
+/// Claims that are refused, and one that isn't where nobody has claimed number 4. Its handler joins a
+/// thread, for whose end it may not wait.
 const CLAIMS: [u32; 21] = [
     0x0060_0513, // a0 = 6, FreeInterrupt
     0x0040_0593, // a1 = 4
@@ -68,7 +68,7 @@ const CLAIMS: [u32; 21] = [
     0x0486_0613, // a2 = 0x10048, the nineteenth word
     0x0000_0073, // call
     0x0000_006F, // loop
-    0x00F0_0513, // the handler: a0 = 15, ReceiveMessage
+    0x0240_0513, // the handler: a0 = 36, JoinThread
     0x0000_0073, // call
     0x0000_8067, // return
 ];
@@ -91,7 +91,7 @@ const CLAIM_LINES: [&str; 22] = [
     "34 3.2 call 5 4 10048",
     "34 3.2 reply 1 6",
     "34 2.1 irq 4",
-    "36 2.1 call f",
+    "36 2.1 call 24",
     "36 2.1 reply 1 12",
     "38 2.1 end",
     "38 2 gone",
