@@ -1,8 +1,9 @@
 -- What holds of messages and loans while servers close and threads aren't told yet.
-use Rattle.std.specs.Prelude.{◌≡◌, ℕ, All, List, Option, Some, None}
+use Rattle.std.specs.Prelude.{◌≡◌, ℕ, All, IsTrue, List, Option, Some, None}
 use Rattle.ledger_model.specs.Loans.{IsFresh, LoanRun, Loans}
 use Rattle.machine_model.specs.Messaging.MessageCounts.{HasAtMostOne}
 use Rattle.machine_model.specs.Messaging.Messages.{is_of_number}
+use Rattle.machine_model.specs.Runs.Matched.{AreLoansMatched}
 use Rattle.msg_queue.specs.Seats.{Seat, seat_of}
 use Rattle.msg_queue.specs.declared.held.Held.{Held}
 use Rattle.send_path.specs.Parts.{servers_shown}
@@ -11,6 +12,7 @@ use Rattle.send_path.specs.Sound.{AreSeatsSound, IsLoanOf}
 use Rattle.server_table.specs.ServersOf.{servers_of}
 use Rattle.server_table.specs.ServerState.{Server}
 use Rattle.server_table.specs.declared.table.Servers.{Servers}
+use Rattle.xk_base.specs.Tables.Circle.{is_pid}
 use Rattle.xk_base.specs.declared.ids.Number.{Number}
 use Rattle.xk_base.specs.declared.ids.Pid.{Pid}
 use Rattle.xk_base.specs.declared.messages.Message.{Message}
@@ -31,3 +33,11 @@ pub record AreOpen (all : Loans) (t : Servers) (q : List Seat) : Type 0 where
   pub senders : (n : ℕ) (server : Server) → (servers_of t).live n ≡ Some server → All HasKnownSender (messages_at (seat_of q server.seat))
   -- no two messages have one number
   pub numbers : (number : Number) → HasAtMostOne (servers_shown t q) (is_of_number number)
+
+-- Of all servers, their messages and all loans of a memory that was made for so many processes. With this every loan can be spent,
+-- whatever threads are about: each message ends with its own loan, and no loan is left then.
+pub record AreServersSound (procs : ℕ) (all : Loans) (t : Servers) (q : List Seat) : Type 0 where
+  pub messages : AreOpen all t q
+  pub loans : AreLoansMatched all (servers_shown t q)
+  -- each server is one of a process that there can be
+  pub owners : (n : ℕ) (server : Server) → (servers_of t).live n ≡ Some server → IsTrue (is_pid procs server.pid.0)
