@@ -43,8 +43,7 @@ pushed_whole slot_count held k log whole e = record {
   procs = whole.procs;
   cursor = whole.cursor;
   room = subst (λ room. RECORD_LIMIT ≤ room) (sym e) whole.room;
-  unlent = whole.unlent;
-  no_messages = whole.no_messages;
+  servers = whole.servers;
   untimed = whole.untimed;
 }
 
@@ -56,8 +55,7 @@ unreserved_whole slot_count held k whole = record {
   procs = whole.procs;
   cursor = whole.cursor;
   room = whole.room;
-  unlent = whole.unlent;
-  no_messages = whole.no_messages;
+  servers = whole.servers;
   untimed = whole.untimed;
 }
 
