@@ -1,9 +1,9 @@
 -- The soundness of a kernel, which each call needs and keeps.
 use Rattle.std.specs.Prelude.{◌≡◌, ℕ, ◌≤◌, Bool, IsTrue, None}
 use Rattle.irq_claims.specs.ClaimsOf.{claims_of}
+use Rattle.machine_model.specs.Runs.Matched.{Matched}
 use Rattle.kill_path.specs.Open.{AreServersSound}
 use Rattle.ledger_model.specs.Loans.{loans}
-use Rattle.machine_model.specs.Runs.Matched.{Matched}
 use Rattle.process_table.specs.ProcessesOf.{process_count as processes_made}
 use Rattle.sv32_space.specs.Tie.{Held}
 use Rattle.thread_table.specs.ThreadsOf.{process_count as processes_threaded}
@@ -26,6 +26,7 @@ pub record IsWhole {W : Type 0} (slot_count : W → ℕ) (held : W → Held) (k 
   pub procs : processes_made k.procs ≡ processes k.mem
   pub cursor : IsTrue (is_thread_id (processes k.mem) k.cursor)
   pub room : RECORD_LIMIT ≤ k.log.room
+  -- of servers, messages and loans: with this every loan can be spent
   pub servers : AreServersSound (processes k.mem) (loans (ledger held k.mem)) k.servers k.queues
   -- This one goes when the timer is built. Until then no process can claim its interrupt, so that none has the timer's page, and
   -- the timer is never armed.

@@ -114,8 +114,7 @@ module _ {W : Type 0} (slot_count : W → ℕ) (held : W → Held) (k : Kernel W
     procs = n ∙ whole.procs;
     cursor = whole.cursor;
     room = whole.room;
-    unlent = whole.unlent;
-    no_messages = whole.no_messages;
+    servers = whole.servers;
     untimed = whole.untimed;
   }
 
