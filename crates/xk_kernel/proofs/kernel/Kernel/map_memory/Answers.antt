@@ -5,7 +5,7 @@ use Rattle.xk_base.specs.Calls.Flags.{right_of}
 use Rattle.xk_base.specs.declared.windows.Window.TheVariants.{Map}
 use Rattle.vm_memory.specs.Memory.{capacity_of, ledger, processes}
 use Rattle.xk_kernel.proofs.Memory.MapLemmas.{console_done, console_low, console_refused, made_low, map_done, map_refused, narrow}
-use Rattle.xk_kernel.proofs.Memory.KeptLoanLemmas.{make_console_keeps, make_keeps}
+use Rattle.xk_kernel.proofs.Memory.KeptLoanLemmas.{made_first_keeps, make_console_keeps, make_keeps}
 use Rattle.xk_kernel.proofs.Memory.MemoryCallLemmas.{caller_process, means_over, right_told, whole_with_mem}
 use Rattle.xk_kernel.proofs.kernel.Kernel.map_memory.Goals as goal
 
@@ -66,3 +66,10 @@ returns-in-Ok-Err-clause-outcome g c =
     map_refused g.W.SwapStore.held c.args.self.now c.args.phys c.args.virt c.args.size c.args.flags c.in-Some.right (sym c.is_bad_range.ensures ∙ c.if-is_bad_range.false) (right_told (are_bad_flags c.args.flags) (right_of c.args.flags) c.in-Some.right (sym c.in-Some.is ∙ c.right_asked.ensures))
     (eq-eqb c.args.phys 0 c.if-phys-ne0.false) (ne_eqb c.args.phys 4026531840 c.if-phys-eq-CONSOLE_ADDRESS.false)
     c.in-Ok-Err.error (rw (c.page_asked-at.ensures, c.in-Ok-Err.field-0-is) at c.in-Ok-Err.ensures.answer)
+
+pub returns-in-Err-make-clause-whole : goal.returns-in-Err-make-clause-whole
+returns-in-Err-make-clause-whole g c =
+    whole_with_mem g.W.SwapStore.slot_count g.W.SwapStore.held c.args.self.now c.make.new.self c.requires.whole c.make.ensures.size c.make.ensures.sound
+    (made_first_keeps (processes c.args.self.now.mem) (capacity_of c.args.self.now.mem) c.args.self.now.cursor.pid Map c.page_asked-at.result (c.args.size / 4096)
+    c.in-Some.right (ledger g.W.SwapStore.held c.args.self.now.mem) (ledger g.W.SwapStore.held c.make.new.self)
+    (caller_process g.W.SwapStore.slot_count g.W.SwapStore.held c.args.self.now c.requires.whole) c.in-Err-make.ensures.partial)
