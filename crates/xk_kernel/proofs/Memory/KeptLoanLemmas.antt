@@ -32,7 +32,7 @@ use Rattle.msg_queue.specs.Seats.{Seat}
 use Rattle.server_table.specs.declared.table.Servers.{Servers}
 use Rattle.sv32_space.specs.Tie.{Held}
 use Rattle.vm_memory.specs.Memory.{blank_ledger, capacity_of, ledger, processes}
-use Rattle.vm_memory.specs.Pages.Making.{HasMadeFirst, after_console, after_make, console_answer, make_answer, place_of, run_place}
+use Rattle.vm_memory.specs.Pages.Making.{HasMadeFirst, after_console, after_make, console_answer, make_answer, page_place, run_place}
 use Rattle.vm_memory.specs.Pages.Removing.{after_reduce, after_remove, clear_answer, remove_answer}
 use Rattle.vm_memory.specs.Sound.{IsSound as IsMemorySound}
 use Rattle.vm_memory.specs.declared.memory.Memory.{Memory}
@@ -85,7 +85,7 @@ pub make_keeps : (procs capacity : ℕ) (pid : Pid) (window : Window) (at : Opti
 make_keeps procs capacity pid window at n right r old new process a e = ap loans e ∙ go r a
   where
     go : (r : Result Vpn XousError) → r ≡ make_answer procs capacity old pid window at n → loans (after_make pid n right r old) ≡ loans old
-    go (Ok first) a = make_loans procs capacity (place_of pid first) n right old (can_answered procs capacity old pid window at n first process (sym a))
+    go (Ok first) a = make_loans procs capacity (page_place pid first) n right old (can_answered procs capacity old pid window at n first process (sym a))
     go (Err error) a = refl
 
 in_wider : (first : Place) (i n : ℕ) (p : Place) → i ≤ n → in_run first i p ≡ true → in_run first n p ≡ true
@@ -98,7 +98,7 @@ in_wider first i n p few e =
 pub made_first_keeps : (procs capacity : ℕ) (pid : Pid) (window : Window) (at : Option Vpn) (n : ℕ) (right : Right) (old new : Ledger)
     → is_pid procs pid.0 ≡ true → HasMadeFirst (make_answer procs capacity old pid window at n) pid n right old new → loans new ≡ loans old
 made_first_keeps procs capacity pid window at n right old new process h =
-    let at_first = place_of pid h.first in
+    let at_first = page_place pid h.first in
     let can : CanMake procs capacity old at_first n = can_answered procs capacity old pid window at n h.first process h.served in
     bare-loans (make at_first h.count right old) new h.rights
     ∙ make_loans procs capacity at_first h.count right old (record {
@@ -119,7 +119,7 @@ make_console_keeps slot_count held mem sound pid at w r new process a e = ap loa
     go : (r : Result Vpn XousError) → r ≡ console_answer (processes mem) (ledger held mem) pid at → loans (after_console pid w r (ledger held mem)) ≡ loans (ledger held mem)
     go (Ok first) a =
         let found = console_free (console_mapped (processes mem) (ledger held mem)) (run_place (processes mem) (ledger held mem) pid Map at 1) first a in
-        make_console_loans (processes mem) (place_of pid first) w (ledger held mem) (can_console slot_count held mem sound pid at first process found.0 found.1)
+        make_console_loans (processes mem) (page_place pid first) w (ledger held mem) (can_console slot_count held mem sound pid at first process found.0 found.1)
     go (Err error) a = refl
 
 -- ---- holders and orphans lie in the Message window
