@@ -137,9 +137,9 @@ pub free_below_messages : (procs capacity : ℕ) (l : Ledger) (p : Place) → Is
 free_below_messages procs capacity l p lawful low none =
     is_free-all procs l p none (no_orphan (l.orphan p) refl)
     (λ q loan e same.
-        let high : 262144 ≤ loan.holder.vpn.0 = message_page procs loan.holder (lawful.holder_lies q loan e) in
-        let there : loan.holder.vpn.0 ≡ p.vpn.0 = ap (λ (x : Place). x.vpn.0) same in
-        absurd (omega (arith, high, there, low)))
+    let high : 262144 ≤ loan.holder.vpn.0 = message_page procs loan.holder (lawful.holder_lies q loan e) in
+    let there : loan.holder.vpn.0 ≡ p.vpn.0 = ap (λ (x : Place). x.vpn.0) same in
+    absurd (omega (arith, high, there, low)))
   where
     no_orphan : (o : Option Orphan) → l.orphan p ≡ o → o ≡ None
     no_orphan None e = refl

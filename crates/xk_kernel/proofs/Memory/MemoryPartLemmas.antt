@@ -81,7 +81,7 @@ module _ {W P : Type 0} (is_honest : W → Bool) (held : W → Held) (slot_count
     cursor = ap (λ n. is_thread_id n k.cursor) procs ∙ whole.cursor;
     room = whole.room;
     servers = servers_over k.servers k.queues (processes k.mem) (processes mem) (loans (ledger held k.mem)) (loans (ledger held mem)) procs
-    (bare-loans (ledger held k.mem) (ledger held mem) rest.rights) whole.servers;
+        (bare-loans (ledger held k.mem) (ledger held mem) rest.rights) whole.servers;
     untimed = whole.untimed;
   }
 
