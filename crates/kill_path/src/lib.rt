@@ -4,9 +4,7 @@
 mod answered;
 mod closing;
 mod destroying;
-mod killing;
 mod leaving;
 mod telling;
 
 pub use destroying::destroy;
-pub use killing::kill;
