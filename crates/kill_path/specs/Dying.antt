@@ -1,5 +1,5 @@
 -- The death of a process over the parts: what it takes, when that is sound, and which change of the machine it is.
-use Rattle.std.specs.Prelude.{◌≡◌, ℕ, Bool}
+use Rattle.std.specs.Prelude.{◌≡◌, ℕ}
 use Rattle.irq_claims.specs.declared.claims.Claims.{Claims}
 use Rattle.ledger_model.specs.Loans.{loans}
 use Rattle.machine_model.specs.Ending.Ends.{death}
