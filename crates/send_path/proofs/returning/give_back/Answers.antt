@@ -3,7 +3,7 @@ use Rattle.machine_model.specs.State.Changes.{Outcome}
 use Rattle.machine_model.specs.State.Machine.{Machine}
 use Rattle.syscall_codec.specs.Calls.{Asks}
 use Rattle.send_path.specs.Rows.{IsRow}
-use Rattle.send_path.proofs.ReturnLemmas.{memory_is, scalar1_is, scalar2_is}
+use Rattle.send_path.proofs.Receivers.ReturnLemmas.{memory_is, scalar1_is, scalar2_is}
 use Rattle.send_path.proofs.returning.give_back.Goals as goal
 
 pub returns-in-Ok-ReturnMemory-clause-row : goal.returns-in-Ok-ReturnMemory-clause-row
