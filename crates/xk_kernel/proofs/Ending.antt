@@ -3,3 +3,5 @@ pub mod DeathOfLemmas
 pub mod DyingLemmas
 pub mod EndingLemmas
 pub mod EventLemmas
+pub mod KillLemmas
+pub mod LastThreadLemmas

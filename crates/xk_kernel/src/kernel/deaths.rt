@@ -1,21 +1,23 @@
 //! Processes die, and threads end.
 
 ghost use Rattle.std.specs.Option.{option_map_or};
-ghost use Rattle.std.specs.Prelude.{◌≡◌, ◌+◌, ◌≤◌, true, false, length, IsTrue};
+ghost use Rattle.std.specs.Prelude.{◌≡◌, ◌+◌, ◌<◌, ◌≤◌, true, false, length, IsTrue};
 ghost use Rattle.machine_model.specs.State.Changes.{answering, settled};
 ghost use Rattle.machine_model.specs.Ending.Ends.{death, forgotten, is_joining, joiners_answered, thread_ended};
+ghost use Rattle.machine_model.specs.Runs.Matched.{Matched, is_living};
 ghost use Rattle.machine_model.specs.State.Order.{ready_at};
 ghost use Rattle.machine_model.specs.Stepping.Step.{after};
 ghost use Rattle.vm_memory.specs.Memory.{ledger, processes};
 ghost use Rattle.vm_memory.specs.Pages.Removing.{HasNoLoan};
-ghost use Rattle.xk_base.specs.Tables.Circle.{is_pid};
+ghost use Rattle.xk_base.specs.Tables.Circle.{is_pid, thread_ids};
+ghost use Rattle.xk_base.specs.declared.limits.TheConstants.{PROCESS_LIMIT};
 ghost use Rattle.xk_base.specs.declared.records.What.TheVariants.{End};
-ghost use Rattle.xk_kernel.specs.Alone.{DiesPlainly, EndsPlainly};
 ghost use Rattle.xk_kernel.specs.Sound.{IsUsable, IsWhole, Keeps};
 ghost use Rattle.xk_kernel.specs.State.{machine_of};
 ghost use Rattle.xk_kernel.specs.Telling.{Tells};
 
 use crate::kernel::Kernel;
+use kill_path::kill;
 use syscall_codec::{Reply, reply_words};
 use thread_table::ThreadState;
 use xk_base::limits::TID_LIMIT;
@@ -42,21 +44,45 @@ impl<W: SwapStore> Kernel<W> {
         self.claims.end(pid);
     }
 
-    // The process whose turn it is dies of this, which is told first.
+    // The living process dies, which is told last. Who waits at its servers is answered before.
+    pub(super) fn kill(&mut self, pid: Pid)
+        requires whole { IsWhole W.slot_count W.held self.old }
+        requires usable { IsUsable self.old }
+        requires matched { Matched (machine_of W.held self.old) }
+        requires alive { is_living (machine_of W.held self.old) pid ≡ true }
+        requires room { length self.old.log.records + thread_ids PROCESS_LIMIT + 1 ≤ self.old.log.room }
+        ensures whole { IsWhole W.slot_count W.held self.new }
+        ensures usable { IsUsable self.new }
+        ensures tells { Tells W.held self.old self.new (settled (death pid (machine_of W.held self.old))) }
+        ensures keeps { Keeps W.is_honest W.held W.slot_count W.asked W.faults self.old self.new }
+    {
+        kill(
+            &mut self.mem,
+            &mut self.threads,
+            &mut self.procs,
+            &mut self.servers,
+            &mut self.queues,
+            &mut self.claims,
+            &mut self.log,
+            pid,
+        );
+        self.log.push(What::Gone(pid));
+    }
+
+    // The process of the thread whose turn it is dies of this, which is told first.
     pub(super) fn die(&mut self, cause: What)
         requires whole { IsWhole W.slot_count W.held self.old }
         requires usable { IsUsable self.old }
-        requires plain { DiesPlainly self.old.cursor.pid (machine_of W.held self.old) }
-        requires room { length self.old.log.records + 2 ≤ self.old.log.room }
+        requires matched { Matched (machine_of W.held self.old) }
+        requires ready { ready_at (machine_of W.held self.old) self.old.cursor ≡ true }
+        requires room { length self.old.log.records + thread_ids PROCESS_LIMIT + 2 ≤ self.old.log.room }
         ensures whole { IsWhole W.slot_count W.held self.new }
         ensures usable { IsUsable self.new }
         ensures tells { Tells W.held self.old self.new (after cause (settled (death self.old.cursor.pid (machine_of W.held self.old)))) }
         ensures keeps { Keeps W.is_honest W.held W.slot_count W.asked W.faults self.old self.new }
     {
-        let pid = self.cursor.pid;
         self.log.push(cause);
-        self.forget(pid);
-        self.log.push(What::Gone(pid));
+        self.kill(self.cursor.pid);
     }
 
     // Each thread that joined the one of that id, which has ended, is answered the a0 of its end.
@@ -98,9 +124,10 @@ impl<W: SwapStore> Kernel<W> {
     pub(super) fn end_thread(&mut self, a0: u32)
         requires whole { IsWhole W.slot_count W.held self.old }
         requires usable { IsUsable self.old }
+        requires matched { Matched (machine_of W.held self.old) }
         requires ready { ready_at (machine_of W.held self.old) self.old.cursor ≡ true }
-        requires plain { EndsPlainly self.old.cursor (machine_of W.held self.old) }
-        requires room { length self.old.log.records + 33 ≤ self.old.log.room }
+        requires above { 1 < self.old.cursor.tid.0 }
+        requires room { length self.old.log.records + thread_ids PROCESS_LIMIT + 2 ≤ self.old.log.room }
         ensures whole { IsWhole W.slot_count W.held self.new }
         ensures usable { IsUsable self.new }
         ensures tells { Tells W.held self.old self.new (after (End self.old.cursor) (settled (thread_ended self.old.cursor a0 (machine_of W.held self.old)))) }
@@ -108,11 +135,11 @@ impl<W: SwapStore> Kernel<W> {
     {
         let who = self.cursor;
         self.log.push(What::End(who));
-        self.threads.end(who);
-        self.answer_joiners(who, a0);
-        if self.threads.live(who.pid) == 0 {
-            self.forget(who.pid);
-            self.log.push(What::Gone(who.pid));
+        if self.threads.live(who.pid) > 1 {
+            self.threads.end(who);
+            self.answer_joiners(who, a0);
+        } else {
+            self.kill(who.pid);
         }
     }
 }

@@ -53,7 +53,6 @@ impl<W: SwapStore> Kernel<W> {
     pub fn event_start(&mut self, e: Event)
         requires sound { IsSound W.slot_count W.held self.old }
         requires usable { IsUsable self.old }
-        requires built { event_built e (machine_of W.held self.old) ≡ true }
         ensures sound { IsSound W.slot_count W.held self.new }
         ensures usable { IsUsable self.new }
         ensures does { Becomes W.held self.new (event_done e (machine_of W.held self.old)) }
@@ -67,8 +66,7 @@ impl<W: SwapStore> Kernel<W> {
             Event::Kill(pid) => {
                 self.reserved = None;
                 if self.procs.alive(pid) {
-                    self.forget(pid);
-                    self.log.push(What::Gone(pid));
+                    self.kill(pid);
                 }
             }
             Event::Irq(number) => self.raise(number),

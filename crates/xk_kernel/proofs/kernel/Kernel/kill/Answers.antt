@@ -1,0 +1,46 @@
+-- The death over the parts is the machine's, and its end is told last.
+use Rattle.std.proofs.Common.{◌≡◌, ◌+◌, ◌<◌, length, refl, sym, ap, ◌∙◌, arith}
+use Rattle.process_table.specs.ProcessMap.{is_alive}
+use Rattle.process_table.specs.ProcessesOf.{processes_of}
+use Rattle.send_path.specs.Parts.{parts_of}
+use Rattle.kill_path.specs.Dying.{AllParts}
+use Rattle.xk_kernel.proofs.Ending.AloneLemmas.{alive_told}
+use Rattle.xk_kernel.proofs.Ending.EventLemmas.{pushed_whole}
+use Rattle.xk_kernel.proofs.Ending.KillLemmas.{all_sound, dead_keeps, dead_usable, dead_whole, death_tells, room_left, with_all}
+use Rattle.xk_kernel.proofs.kernel.Kernel.kill.Goals as goal
+
+pub kill-requires-clause-stub : goal.kill-requires-clause-stub
+kill-requires-clause-stub g c = ?
+
+pub kill-requires-clause-alive : goal.kill-requires-clause-alive
+kill-requires-clause-alive g c =
+    sym (alive_told g.W.SwapStore.held c.args.self.now c.args.pid (is_alive (processes_of c.args.self.now.procs c.args.pid.0)) refl) ∙ c.requires.alive
+
+pub kill-requires-clause-sound : goal.kill-requires-clause-sound
+kill-requires-clause-sound g c = all_sound g.W.SwapStore.slot_count g.W.SwapStore.held c.args.self.now c.requires.whole c.requires.matched
+
+pub push-requires : goal.push-requires
+push-requires g c =
+    let new : AllParts _ = record { parts = parts_of c.kill.new.mem c.kill.new.threads c.kill.new.servers c.kill.new.queues c.kill.new.log; procs = c.kill.new.procs; claims = c.kill.new.claims } in
+    room_left g.W.SwapStore.slot_count g.W.SwapStore.held c.args.self.now c.requires.whole g.W.SwapStore.is_honest c.args.pid new
+    c.kill.ensures.death c.kill.ensures.sound c.kill.ensures.mem (omega arith)
+
+pub returns-clause-whole : goal.returns-clause-whole
+returns-clause-whole g c =
+    let new : AllParts _ = record { parts = parts_of c.kill.new.mem c.kill.new.threads c.kill.new.servers c.kill.new.queues c.kill.new.log; procs = c.kill.new.procs; claims = c.kill.new.claims } in
+    pushed_whole g.W.SwapStore.slot_count g.W.SwapStore.held (with_all c.args.self.now new) c.push.new.self
+    (dead_whole g.W.SwapStore.slot_count g.W.SwapStore.held c.args.self.now c.requires.whole g.W.SwapStore.is_honest c.args.pid new
+    c.kill.ensures.death c.kill.ensures.sound c.kill.ensures.mem) (ap (λ log. log.room) c.push.ensures)
+
+pub returns-clause-tells : goal.returns-clause-tells
+returns-clause-tells g c =
+    let new : AllParts _ = record { parts = parts_of c.kill.new.mem c.kill.new.threads c.kill.new.servers c.kill.new.queues c.kill.new.log; procs = c.kill.new.procs; claims = c.kill.new.claims } in
+    death_tells g.W.SwapStore.slot_count g.W.SwapStore.held c.args.self.now c.requires.whole g.W.SwapStore.is_honest c.args.pid new
+    c.kill.ensures.death c.kill.ensures.sound c.kill.ensures.mem c.push.new.self c.push.ensures
+
+pub returns-clause-keeps : goal.returns-clause-keeps
+returns-clause-keeps g c =
+    let new : AllParts _ = record { parts = parts_of c.kill.new.mem c.kill.new.threads c.kill.new.servers c.kill.new.queues c.kill.new.log; procs = c.kill.new.procs; claims = c.kill.new.claims } in
+    let keeps = dead_keeps g.W.SwapStore.slot_count g.W.SwapStore.held c.args.self.now c.requires.whole g.W.SwapStore.is_honest c.args.pid new
+    c.kill.ensures.death c.kill.ensures.sound c.kill.ensures.mem g.W.SwapStore.asked g.W.SwapStore.faults in
+    record { size = keeps.size; store = keeps.store; room = ap (λ log. log.room) c.push.ensures ∙ keeps.room }
