@@ -3,7 +3,7 @@
 ghost use Rattle.std.specs.Prelude.{◌≡◌, ◌<◌, ◌≤◌, length, IsSome};
 ghost use Rattle.ledger_model.specs.Loans.{loans};
 ghost use Rattle.ledger_model.specs.Steps.{orphan_loan};
-ghost use Rattle.msg_queue.specs.Seats.{changed_at, of_number, place_of, seat_of, used_of};
+ghost use Rattle.msg_queue.specs.Seats.{changed_at, of_number, message_place, seat_of, used_of};
 ghost use Rattle.msg_queue.specs.declared.held.Held.{Held as HeldMessage};
 ghost use Rattle.vm_memory.specs.Memory.{IsUsable, ledger, processes};
 ghost use Rattle.vm_memory.specs.Sound.{IsSound as IsMemorySound};
@@ -65,7 +65,7 @@ fn held_place(queues: &Queues, seat: u8, number: Number) -> u32
     requires seat { seat < SERVER_LIMIT }
     requires there { IsSome (of_number number (seat_of queues.now seat).held) }
     requires few { used_of (seat_of queues.now seat) ≤ MESSAGE_LIMIT }
-    ensures { result ≡ place_of number (seat_of queues.now seat).held }
+    ensures { result ≡ message_place number (seat_of queues.now seat).held }
 {
     for place in 0..MESSAGE_LIMIT {
         if is_held_at(queues, seat, number, place) {

@@ -7,7 +7,7 @@ use Rattle.std.specs.List.{slice_get, position_or_len}
 use Rattle.xk_base.specs.Tables.RowMap.{row_map}
 use Rattle.xk_base.specs.declared.ids.Number.{Number}
 use Rattle.msg_queue.specs.Chains.{no_slot}
-use Rattle.msg_queue.specs.Seats.{is_of_number, place_of}
+use Rattle.msg_queue.specs.Seats.{is_of_number, message_place}
 use Rattle.msg_queue.specs.Shown.{messages}
 use Rattle.msg_queue.specs.Spots.{slot_has}
 use Rattle.msg_queue.specs.declared.held.Held.{Held}
@@ -49,21 +49,21 @@ message_at slots xs i used within =
     let here = the_content (row_map slots (get_or xs i no_slot)) (used (get_or xs i no_slot) (among_at xs i within)) in
     (here.0, here.1, get-contents i no_slot slots xs used within ∙ here.1)
 
-pub found_slot : (slots : List (Option Held)) (xs : List ℕ) (i : ℕ) (number : Number) → AreUsed slots xs → i < length xs → i ≤ place_of number (messages slots xs)
-    → slot_has number (row_map slots (get_or xs i no_slot)) ≡ true → i ≡ place_of number (messages slots xs)
+pub found_slot : (slots : List (Option Held)) (xs : List ℕ) (i : ℕ) (number : Number) → AreUsed slots xs → i < length xs → i ≤ message_place number (messages slots xs)
+    → slot_has number (row_map slots (get_or xs i no_slot)) ≡ true → i ≡ message_place number (messages slots xs)
 found_slot slots xs i number used within low has =
     let here = message_at slots xs i used within in
     found_place (is_of_number number) (messages slots xs) i here.0 here.2 low (sym (ap (slot_has number) here.1) ∙ has)
 
-pub passed_slot : (slots : List (Option Held)) (xs : List ℕ) (i : ℕ) (number : Number) → AreUsed slots xs → i < length xs → i ≤ place_of number (messages slots xs)
-    → slot_has number (row_map slots (get_or xs i no_slot)) ≡ false → i + 1 ≤ place_of number (messages slots xs)
+pub passed_slot : (slots : List (Option Held)) (xs : List ℕ) (i : ℕ) (number : Number) → AreUsed slots xs → i < length xs → i ≤ message_place number (messages slots xs)
+    → slot_has number (row_map slots (get_or xs i no_slot)) ≡ false → i + 1 ≤ message_place number (messages slots xs)
 passed_slot slots xs i number used within low has =
     let here = message_at slots xs i used within in
     passed_place (is_of_number number) (messages slots xs) i here.0 here.2 low (sym (ap (slot_has number) here.1) ∙ has)
 
 -- past the last slot no message has it
-pub past_slots : (slots : List (Option Held)) (xs : List ℕ) (i : ℕ) (number : Number) → AreUsed slots xs → i ≡ length xs → i ≤ place_of number (messages slots xs)
-    → i ≡ place_of number (messages slots xs)
+pub past_slots : (slots : List (Option Held)) (xs : List ℕ) (i : ℕ) (number : Number) → AreUsed slots xs → i ≡ length xs → i ≤ message_place number (messages slots xs)
+    → i ≡ message_place number (messages slots xs)
 past_slots slots xs i number used end low =
     omega (arith, place_is_few (is_of_number number) (messages slots xs), length-contents slots xs used)
 
