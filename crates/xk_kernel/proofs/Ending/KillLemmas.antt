@@ -23,7 +23,7 @@ use Rattle.send_path.specs.Parts.{parts_of, with_parts, with_tables}
 use Rattle.send_path.specs.Sound.{KeepsMemory}
 use Rattle.sv32_space.specs.Tie.{Held}
 use Rattle.thread_table.specs.ThreadsOf.{process_count}
-use Rattle.vm_memory.specs.Memory.{Size, ledger, processes, size, store_of}
+use Rattle.vm_memory.specs.Memory.{Size, ledger, processes}
 use Rattle.xk_base.specs.Log.{LogState}
 use Rattle.xk_base.specs.Tables.Circle.{id_at, is_thread_id, listed_ids, thread_ids}
 use Rattle.xk_base.specs.Tables.Counting.{count_below, listed_below}
@@ -31,7 +31,6 @@ use Rattle.xk_base.proofs.CountingLemmas.{count_below-bound, length-listed_below
 use Rattle.xk_base.specs.declared.ids.Pid.{Pid}
 use Rattle.xk_base.specs.declared.limits.TheConstants.{RECORD_LIMIT, TIMER_INTERRUPT}
 use Rattle.xk_base.specs.declared.records.What.TheVariants.{Gone, Reply}
-use Rattle.xk_ports.specs.Keeping.{KeepsStore}
 use Rattle.xk_kernel.specs.Sound.{IsUsable, IsWhole, Keeps}
 use Rattle.xk_kernel.specs.State.{machine_of}
 use Rattle.xk_kernel.specs.Telling.{Tells, log_with}
@@ -39,6 +38,7 @@ use Rattle.xk_kernel.specs.declared.kernel.Kernel.{Kernel}
 use Rattle.xk_kernel.proofs.Acting.ThreadLemmas.{machine_of_log}
 use Rattle.xk_kernel.proofs.Calling.LogLemmas.{log_with-next}
 use Rattle.xk_kernel.proofs.Calling.TellingLemmas.{told_length}
+use Rattle.xk_kernel.proofs.Messaging.PartsLemmas.{new_keeps, new_usable}
 
 -- ---- records
 
@@ -150,20 +150,10 @@ module _ {W : Type 0} (slot_count : W → ℕ) (held : W → Held) (k : Kernel W
     }
 
     pub dead_keeps : {P : Type 0} (asked : W → P) (faults : W → ℕ) → Keeps honest held slot_count asked faults k dead
-    dead_keeps asked faults = record {
-      size = keeps.size;
-      store = subst (λ s. KeepsStore honest held slot_count asked faults (store_of k.mem) s) (sym keeps.store) (record {
-        honest = refl;
-        told = refl;
-        slots = refl;
-        preparations = refl;
-        never_falls = omega arith;
-      });
-      room = room_stays;
-    }
+    dead_keeps asked faults = new_keeps honest held slot_count asked faults k dead keeps room_stays
 
     pub dead_usable : IsUsable k → IsUsable dead
-    dead_usable usable = keeps.failed ∙ usable
+    dead_usable usable = new_usable honest held k dead keeps usable
 
     -- the replies, and then that the process is gone
     death_told : (settled (death pid m)).told ≡ replies m.processes (death pid m).answers ++ Gone pid ∷ []

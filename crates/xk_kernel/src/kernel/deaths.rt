@@ -2,16 +2,16 @@
 
 ghost use Rattle.std.specs.Option.{option_map_or};
 ghost use Rattle.std.specs.Prelude.{◌≡◌, ◌+◌, ◌<◌, ◌≤◌, true, false, length, IsTrue};
-ghost use Rattle.machine_model.specs.State.Changes.{answering, settled};
+ghost use Rattle.machine_model.specs.State.Changes.{Served, answering, call_settled, settled};
 ghost use Rattle.machine_model.specs.Ending.Ends.{death, forgotten, is_joining, joiners_answered, thread_ended};
 ghost use Rattle.machine_model.specs.Runs.Matched.{Matched, is_living};
-ghost use Rattle.machine_model.specs.State.Order.{ready_at};
 ghost use Rattle.machine_model.specs.Stepping.Step.{after};
 ghost use Rattle.vm_memory.specs.Memory.{ledger, processes};
 ghost use Rattle.vm_memory.specs.Pages.Removing.{HasNoLoan};
 ghost use Rattle.xk_base.specs.Tables.Circle.{is_pid, thread_ids};
 ghost use Rattle.xk_base.specs.declared.limits.TheConstants.{PROCESS_LIMIT};
 ghost use Rattle.xk_base.specs.declared.records.What.TheVariants.{End};
+ghost use Rattle.xk_kernel.specs.Calling.{IsCaller};
 ghost use Rattle.xk_kernel.specs.Sound.{IsUsable, IsWhole, Keeps};
 ghost use Rattle.xk_kernel.specs.State.{machine_of};
 ghost use Rattle.xk_kernel.specs.Telling.{Tells};
@@ -71,10 +71,7 @@ impl<W: SwapStore> Kernel<W> {
 
     // The process of the thread whose turn it is dies of this, which is told first.
     pub(super) fn die(&mut self, cause: What)
-        requires whole { IsWhole W.slot_count W.held self.old }
-        requires usable { IsUsable self.old }
-        requires matched { Matched (machine_of W.held self.old) }
-        requires ready { ready_at (machine_of W.held self.old) self.old.cursor ≡ true }
+        requires calls { IsCaller W.slot_count W.held self.old }
         requires room { length self.old.log.records + thread_ids PROCESS_LIMIT + 2 ≤ self.old.log.room }
         ensures whole { IsWhole W.slot_count W.held self.new }
         ensures usable { IsUsable self.new }
@@ -82,6 +79,18 @@ impl<W: SwapStore> Kernel<W> {
         ensures keeps { Keeps W.is_honest W.held W.slot_count W.asked W.faults self.old self.new }
     {
         self.log.push(cause);
+        self.kill(self.cursor.pid);
+    }
+
+    // TerminateProcess: the process of the thread whose turn it is dies.
+    pub(super) fn terminate(&mut self)
+        requires calls { IsCaller W.slot_count W.held self.old }
+        requires room { length self.old.log.records + thread_ids PROCESS_LIMIT + 1 ≤ self.old.log.room }
+        ensures whole { IsWhole W.slot_count W.held self.new }
+        ensures usable { IsUsable self.new }
+        ensures tells { let m = machine_of W.held self.old in Tells W.held self.old self.new (call_settled m (Served (death self.old.cursor.pid m))) }
+        ensures keeps { Keeps W.is_honest W.held W.slot_count W.asked W.faults self.old self.new }
+    {
         self.kill(self.cursor.pid);
     }
 
@@ -122,10 +131,7 @@ impl<W: SwapStore> Kernel<W> {
     // The thread whose turn it is ends, with this in a0: who joined it is answered, and the process
     // dies with its last thread above tid 1.
     pub(super) fn end_thread(&mut self, a0: u32)
-        requires whole { IsWhole W.slot_count W.held self.old }
-        requires usable { IsUsable self.old }
-        requires matched { Matched (machine_of W.held self.old) }
-        requires ready { ready_at (machine_of W.held self.old) self.old.cursor ≡ true }
+        requires calls { IsCaller W.slot_count W.held self.old }
         requires above { 1 < self.old.cursor.tid.0 }
         requires room { length self.old.log.records + thread_ids PROCESS_LIMIT + 2 ≤ self.old.log.room }
         ensures whole { IsWhole W.slot_count W.held self.new }
