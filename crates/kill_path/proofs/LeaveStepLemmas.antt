@@ -43,15 +43,15 @@ use Rattle.kill_path.proofs.OpenLemmas.{at_number_counted, fit_still, messages_s
 
 -- ---- lists of messages
 
-abbrev number_count : Number → List Held → ℕ
+abbrev pub number_count : Number → List Held → ℕ
 number_count number hs = count_in (is_message_of number) (map message_of hs)
 
-count_both : (number : Number) (xs ys : List Held) → number_count number (xs ++ ys) ≡ number_count number xs + number_count number ys
+pub count_both : (number : Number) (xs ys : List Held) → number_count number (xs ++ ys) ≡ number_count number xs + number_count number ys
 count_both number xs ys =
     ap (count_in (is_message_of number)) (map-append message_of xs ys) ∙ count_in-append (is_message_of number) (map message_of xs) (map message_of ys)
 
 -- what is found is counted
-found_counts : (number : Number) (hs : List Held) (h : Held) → of_number number hs ≡ Some h → 1 ≤ number_count number hs
+pub found_counts : (number : Number) (hs : List Held) (h : Held) → of_number number hs ≡ Some h → 1 ≤ number_count number hs
 unfolding count_in
 found_counts number [] h e = absurd (none-some h e)
 found_counts number (x ∷ xs) h e = go (is_of_number number x) (λ later. found_counts number xs h later) e
@@ -229,7 +229,7 @@ module _ (servers : Servers) (seats : List Seat) (s k : ℕ) (its : IsSeatOf (se
 
 module _ (servers : Servers) (seats : List Seat) (s k : ℕ) (its : IsSeatOf (servers_of servers) s k) (l : Ledger)
     (was_open : AreOpen (loans l) servers seats) (number : Number) (h : Held) where
-  most : (other : Number) → number_count other (messages_at (seat_of seats k)) ≤ 1
+  pub most : (other : Number) → number_count other (messages_at (seat_of seats k)) ≤ 1
   most other =
       subst (λ (ms : List Message). count_in (is_message_of other) ms ≤ 1) (messages_shown (seat_of seats k) its.server)
       (messages_apart (servers_shown servers seats) was_open.numbers s (server_with (seat_of seats k) its.server)

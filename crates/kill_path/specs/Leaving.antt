@@ -1,6 +1,6 @@
 -- What the death of a process does to its messages at the servers of others: a held one loses its sender, and its loan its lender.
-use Rattle.std.specs.Prelude.{◌≡◌, ℕ, Bool, false, IsSome, List, [], ◌∷◌, slice_get, Option, Some, None, if◌then◌else◌}
-use Rattle.std.specs.Option.{option_map, option_map_or}
+use Rattle.std.specs.Prelude.{◌≡◌, ℕ, IsSome, List, [], ◌∷◌, Option, Some, None, if◌then◌else◌}
+use Rattle.std.specs.Option.{option_map}
 use Rattle.ledger_model.specs.Loans.{IsFresh, LoanRun, Loans, Stands, without_lender}
 use Rattle.machine_model.specs.Ending.Closing.{is_held_from, is_queued_from, with_senderless_from, without_queued_from}
 use Rattle.machine_model.specs.Messaging.LoanSets.{end_loans, orphan_loans}
@@ -32,10 +32,6 @@ first_alone number (h ∷ hs) = if is_of_number number h then alone h ∷ hs els
 
 abbrev pub with_alone : Number → Seat → Seat
 with_alone number seat = record seat { held = first_alone number seat.held }
-
--- what stands at that place of the list has that number
-abbrev pub has_number_at : Number → List Held → ℕ → Bool
-has_number_at number hs place = option_map_or (is_of_number number) (slice_get hs place) false
 
 -- what stands of the loan that is left
 abbrev pub IsLeftStanding : Loans → Option LoanRun → Type 0

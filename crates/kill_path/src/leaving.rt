@@ -1,19 +1,18 @@
 //! The messages of a process that dies leave the servers of others.
 
-ghost use Rattle.std.specs.Prelude.{◌≡◌, ◌<◌, ◌≤◌, length, IsSome};
+ghost use Rattle.std.specs.Prelude.{◌≡◌, ◌<◌, length, IsSome};
 ghost use Rattle.ledger_model.specs.Loans.{loans};
 ghost use Rattle.ledger_model.specs.Steps.{orphan_loan};
-ghost use Rattle.msg_queue.specs.Seats.{changed_at, of_number, place_of, seat_of, used_of};
+ghost use Rattle.msg_queue.specs.Seats.{changed_at, of_number, seat_of};
 ghost use Rattle.msg_queue.specs.declared.held.Held.{Held as HeldMessage};
 ghost use Rattle.vm_memory.specs.Memory.{IsUsable, ledger, processes};
 ghost use Rattle.vm_memory.specs.Sound.{IsSound as IsMemorySound};
-ghost use Rattle.xk_base.specs.declared.limits.TheConstants.{MESSAGE_LIMIT, SERVER_LIMIT};
+ghost use Rattle.xk_base.specs.declared.limits.TheConstants.{SERVER_LIMIT};
 ghost use Rattle.kill_path.specs.Keeping.{Stays};
-ghost use Rattle.kill_path.specs.Leaving.{IsLeftStanding, IsOrphanable, alone, has_number_at, with_alone};
+ghost use Rattle.kill_path.specs.Leaving.{IsLeftStanding, IsOrphanable, alone, with_alone};
 
 use msg_queue::{Held, Queues};
 use vm_memory::Memory;
-use xk_base::limits::MESSAGE_LIMIT;
 use xk_base::{Message, Number};
 use xk_ports::SwapStore;
 
@@ -49,57 +48,24 @@ fn leave_alone<W: SwapStore>(mem: &mut Memory<W>, held: Held) -> Held
     }
 }
 
-// Whether the message at a place of the held has that number.
-fn is_held_at(queues: &Queues, seat: u8, number: Number, place: u32) -> bool
-    requires { seat < SERVER_LIMIT }
-    ensures { result ≡ has_number_at number (seat_of queues.now seat).held place }
-{
-    match queues.held_at(seat, place) {
-        Some(message) => message.number == number,
-        None => false,
-    }
-}
-
-// The place of the first held message of that number.
-fn held_place(queues: &Queues, seat: u8, number: Number) -> u32
-    requires seat { seat < SERVER_LIMIT }
-    requires there { IsSome (of_number number (seat_of queues.now seat).held) }
-    requires few { used_of (seat_of queues.now seat) ≤ MESSAGE_LIMIT }
-    ensures { result ≡ place_of number (seat_of queues.now seat).held }
-{
-    for place in 0..MESSAGE_LIMIT {
-        if is_held_at(queues, seat, number, place) {
-            return place;
-        }
-    }
-    unreachable!()
-}
-
 // The first held message of that number loses its sender, keeps its place, and its pages become orphans.
-pub(crate) fn leave_held<W: SwapStore>(
-    mem: &mut Memory<W>,
-    queues: &mut Queues,
-    seat: u8,
-    number: Number,
-)
+fn leave_held<W: SwapStore>(mem: &mut Memory<W>, queues: &mut Queues, seat: u8, number: Number)
     requires sound { IsMemorySound W.slot_count mem.old }
     requires usable { IsUsable mem.old }
     requires seat { seat < SERVER_LIMIT }
     requires seats { length queues.old ≡ SERVER_LIMIT }
     requires there { IsSome (of_number number (seat_of queues.old seat).held) }
-    requires few { used_of (seat_of queues.old seat) ≤ MESSAGE_LIMIT }
     requires loan { (h : HeldMessage) → of_number number (seat_of queues.old seat).held ≡ Some h → IsOrphanable (loans (ledger W.held mem.old)) h }
     ensures queues { queues.new ≡ changed_at seat (with_alone number) queues.old }
     ensures ledger { ledger W.held mem.new ≡ orphan_loan (processes mem.old) number (ledger W.held mem.old) }
-    ensures stands { (h : HeldMessage) → of_number number (seat_of queues.old seat).held ≡ Some h → IsLeftStanding (loans (ledger W.held mem.new)) h.loan }
     ensures stays { Stays W.slot_count W.is_honest W.held mem.old mem.new }
 {
-    let place = held_place(queues, seat, number);
-    match queues.take_held(seat, number) {
-        Some(held) => {
-            let left = leave_alone(mem, held);
-            queues.hold_at(seat, place, left);
-        }
-        None => unreachable!(),
-    }
+    let Some(place) = queues.held_place(seat, number) else {
+        unreachable!()
+    };
+    let Some(held) = queues.take_held(seat, number) else {
+        unreachable!()
+    };
+    let left = leave_alone(mem, held);
+    queues.hold_at(seat, place, left);
 }
