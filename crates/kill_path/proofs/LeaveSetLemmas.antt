@@ -277,7 +277,7 @@ module _ (servers : Servers) (seats : List Seat) (s k : ℕ) (its : IsSeatOf (se
       here =
           let sum : number_count number (messages_at (seat_of seats k)) ≡ number_count number (seat_of seats k).queued + number_count number (seat_of seats k).held =
           count_both number (seat_of seats k).queued (seat_of seats k).held in
-          let few : number_count number (messages_at (seat_of seats k)) ≤ 1 = most servers seats s k its l was_open number h number in
+          let few : number_count number (messages_at (seat_of seats k)) ≤ 1 = most servers seats s k its l was_open number in
           let one : 1 ≤ number_count number (seat_of seats k).held = some in
           omega arith
 

@@ -12,3 +12,6 @@ pub mod OrphanLemmas
 pub mod LeavingLemmas
 pub mod LeaveStepLemmas
 pub mod LeaveSetLemmas
+pub mod LeaveFoundLemmas
+pub mod LeaveSeatLemmas
+pub mod LeftLemmas
