@@ -15,3 +15,5 @@ pub mod LeaveSetLemmas
 pub mod LeaveFoundLemmas
 pub mod LeaveSeatLemmas
 pub mod LeftLemmas
+pub mod ForgottenLemmas
+pub mod KillLemmas
