@@ -11,7 +11,7 @@ use Rattle.ledger_model.specs.Loans.{LoanRun, Loans}
 use Rattle.machine_model.proofs.Matching.CountLemmas.{count_in-append, one_if}
 use Rattle.machine_model.specs.Messaging.MessageCounts.{count_in}
 use Rattle.machine_model.specs.Messaging.Messages.{is_sent_from}
-use Rattle.msg_queue.specs.Seats.{IsFirstOf, Seat, changed_at, empty_seat, is_awaited_in, is_of_number, message_of, of_number, place_of, seat_of, without_queued}
+use Rattle.msg_queue.specs.Seats.{IsFirstOf, Seat, changed_at, empty_seat, is_awaited_in, is_of_number, message_of, of_number, message_place, seat_of, without_queued}
 use Rattle.msg_queue.specs.declared.held.Held.{Held}
 use Rattle.send_path.specs.Seats.{messages_at}
 use Rattle.send_path.specs.Sound.{IsLenderOf}
@@ -137,15 +137,15 @@ found_second number (x ∷ xs) ys e = go (is_of_number number x) e (found_second
 
 -- ---- none of the number is queued
 
-pub nothing_removed : (number : Number) (hs : List Held) → of_number number hs ≡ None → remove hs (place_of number hs) ≡ hs
+pub nothing_removed : (number : Number) (hs : List Held) → of_number number hs ≡ None → remove hs (message_place number hs) ≡ hs
 nothing_removed number [] e = refl
 nothing_removed number (x ∷ xs) e = go (is_of_number number x) e (nothing_removed number xs)
   where
-    go : (b : Bool) → cond b (Some x) (of_number number xs) ≡ None → (of_number number xs ≡ None → remove xs (place_of number xs) ≡ xs)
-        → remove (x ∷ xs) (cond (not b) (1 + place_of number xs) 0) ≡ x ∷ xs
+    go : (b : Bool) → cond b (Some x) (of_number number xs) ≡ None → (of_number number xs ≡ None → remove xs (message_place number xs) ≡ xs)
+        → remove (x ∷ xs) (cond (not b) (1 + message_place number xs) 0) ≡ x ∷ xs
     go true f rest = absurd (none-some x (sym f))
     go false f rest =
-        let next : 1 + place_of number xs ≡ suc (place_of number xs) = omega arith in
+        let next : 1 + message_place number xs ≡ suc (message_place number xs) = omega arith in
         ap (remove (x ∷ xs)) next ∙ ap (λ ys. x ∷ ys) (rest f)
 
 pub seat_unchanged : (seats : List Seat) (k : ℕ) (number : Number) → of_number number (seat_of seats k).queued ≡ None → changed_at k (without_queued number) seats ≡ seats
@@ -210,21 +210,21 @@ abbrev pub sent_count : Pid → List Held → ℕ
 sent_count pid hs = count_in (is_sent_from pid) (map message_of hs)
 
 removed_counts : (pid : Pid) (number : Number) (hs : List Held) (h : Held) → of_number number hs ≡ Some h
-    → sent_count pid hs ≡ one_if (is_sent_from pid h.msg) + sent_count pid (remove hs (place_of number hs))
+    → sent_count pid hs ≡ one_if (is_sent_from pid h.msg) + sent_count pid (remove hs (message_place number hs))
 unfolding count_in
 removed_counts pid number [] h e = absurd (none-some h e)
 removed_counts pid number (x ∷ xs) h e = go (is_of_number number x) e (removed_counts pid number xs h)
   where
     go : (b : Bool) → cond b (Some x) (of_number number xs) ≡ Some h
-        → (of_number number xs ≡ Some h → sent_count pid xs ≡ one_if (is_sent_from pid h.msg) + sent_count pid (remove xs (place_of number xs)))
+        → (of_number number xs ≡ Some h → sent_count pid xs ≡ one_if (is_sent_from pid h.msg) + sent_count pid (remove xs (message_place number xs)))
         → one_if (is_sent_from pid x.msg) + sent_count pid xs
-        ≡ one_if (is_sent_from pid h.msg) + sent_count pid (remove (x ∷ xs) (cond (not b) (1 + place_of number xs) 0))
+        ≡ one_if (is_sent_from pid h.msg) + sent_count pid (remove (x ∷ xs) (cond (not b) (1 + message_place number xs) 0))
     go true f rest = ap (λ (y : Held). one_if (is_sent_from pid y.msg) + sent_count pid xs) (same_Some x h f)
     go false f rest =
-        let next : 1 + place_of number xs ≡ suc (place_of number xs) = omega arith in
-        let same : sent_count pid (remove (x ∷ xs) (1 + place_of number xs)) ≡ one_if (is_sent_from pid x.msg) + sent_count pid (remove xs (place_of number xs)) =
+        let next : 1 + message_place number xs ≡ suc (message_place number xs) = omega arith in
+        let same : sent_count pid (remove (x ∷ xs) (1 + message_place number xs)) ≡ one_if (is_sent_from pid x.msg) + sent_count pid (remove xs (message_place number xs)) =
         ap (λ k. sent_count pid (remove (x ∷ xs) k)) next in
-        let others : sent_count pid xs ≡ one_if (is_sent_from pid h.msg) + sent_count pid (remove xs (place_of number xs)) = rest f in
+        let others : sent_count pid xs ≡ one_if (is_sent_from pid h.msg) + sent_count pid (remove xs (message_place number xs)) = rest f in
         omega arith
 
 alone_counts : (pid : Pid) (number : Number) (hs : List Held) (h : Held) → of_number number hs ≡ Some h
@@ -253,7 +253,7 @@ module _ (pid : Pid) (number : Number) (seat : Seat) where
   pub fewer_queued : (h : Held) → of_number number seat.queued ≡ Some h → is_sent_from pid h.msg ≡ true
       → sent_count pid (messages_at (without_queued number seat)) < sent_count pid (messages_at seat)
   fewer_queued h e sent =
-      let left = remove seat.queued (place_of number seat.queued) in
+      let left = remove seat.queued (message_place number seat.queued) in
       let before : sent_count pid (messages_at seat) ≡ sent_count pid seat.queued + sent_count pid seat.held = both_counts pid seat.queued seat.held in
       let after : sent_count pid (messages_at (without_queued number seat)) ≡ sent_count pid left + sent_count pid seat.held = both_counts pid left seat.held in
       let one : sent_count pid seat.queued ≡ one_if (is_sent_from pid h.msg) + sent_count pid left = removed_counts pid number seat.queued h e in

@@ -11,8 +11,8 @@ use Rattle.msg_queue.specs.Seats.{IsFirstOf, Seat, changed_at, is_of_number, of_
 use Rattle.machine_model.proofs.Matching.OneMessageLemmas.{same_or_not}
 use Rattle.machine_model.specs.Messaging.Messages.{is_sent_from}
 use Rattle.msg_queue.specs.declared.held.Held.{Held}
-use Rattle.send_path.proofs.SeatLemmas.{seat_changed, seat_is_there, seat_other}
-use Rattle.send_path.proofs.SeatSearchLemmas.{found_seat, seat_found}
+use Rattle.send_path.proofs.Servers.SeatLemmas.{seat_changed, seat_is_there, seat_other}
+use Rattle.send_path.proofs.Servers.SeatSearchLemmas.{found_seat, seat_found}
 use Rattle.send_path.specs.Seats.{IsSeatOf, messages_at}
 use Rattle.send_path.specs.Sound.{AreSeatsSound}
 use Rattle.server_table.specs.ServersOf.{servers_of}

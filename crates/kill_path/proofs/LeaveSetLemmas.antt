@@ -18,9 +18,9 @@ use Rattle.machine_model.specs.Messaging.MessageCounts.{count_at, count_in}
 use Rattle.machine_model.specs.Messaging.Messages.{is_of_number as is_message_of, is_sent_from}
 use Rattle.machine_model.specs.State.Machine.{Machine, Server}
 use Rattle.machine_model.specs.State.Servers.{messages_of}
-use Rattle.msg_queue.specs.Seats.{Seat, changed_at, is_of_number, message_of, of_number, place_of, seat_of, without_queued}
+use Rattle.msg_queue.specs.Seats.{Seat, changed_at, is_of_number, message_of, of_number, message_place, seat_of, without_queued}
 use Rattle.msg_queue.specs.declared.held.Held.{Held}
-use Rattle.send_path.proofs.SeatLemmas.{seat_changed, seat_is_there, seat_other, server_there}
+use Rattle.send_path.proofs.Servers.SeatLemmas.{seat_changed, seat_is_there, seat_other, server_there}
 use Rattle.send_path.specs.Parts.{server_of, server_with, servers_shown}
 use Rattle.send_path.specs.Seats.{IsSeatOf, messages_at}
 use Rattle.server_table.proofs.Lemmas.{live_below, seats_differ}
@@ -66,36 +66,36 @@ or_swap false true c = refl
 or_swap false false c = refl
 
 pub any_removed : (test : Message → Bool) (number : Number) (hs : List Held) (h : Held) → of_number number hs ≡ Some h
-    → list_any test (map message_of hs) ≡ (test h.msg || list_any test (map message_of (remove hs (place_of number hs))))
+    → list_any test (map message_of hs) ≡ (test h.msg || list_any test (map message_of (remove hs (message_place number hs))))
 any_removed test number [] h e = absurd (none-some h e)
 any_removed test number (x ∷ xs) h e = go (is_of_number number x) (λ later. any_removed test number xs h later) e
   where
-    go : (b : Bool) → (of_number number xs ≡ Some h → list_any test (map message_of xs) ≡ (test h.msg || list_any test (map message_of (remove xs (place_of number xs)))))
+    go : (b : Bool) → (of_number number xs ≡ Some h → list_any test (map message_of xs) ≡ (test h.msg || list_any test (map message_of (remove xs (message_place number xs)))))
         → cond b (Some x) (of_number number xs) ≡ Some h
         → (test x.msg || list_any test (map message_of xs))
-        ≡ (test h.msg || list_any test (map message_of (remove (x ∷ xs) (cond (not b) (1 + place_of number xs) 0))))
+        ≡ (test h.msg || list_any test (map message_of (remove (x ∷ xs) (cond (not b) (1 + message_place number xs) 0))))
     go true rest q = ap (λ (y : Held). test y.msg || list_any test (map message_of xs)) (same_Some x h q)
     go false rest q =
-        let next : 1 + place_of number xs ≡ suc (place_of number xs) = omega arith in
+        let next : 1 + message_place number xs ≡ suc (message_place number xs) = omega arith in
         ap (λ b. test x.msg || b) (rest q)
-        ∙ or_swap (test x.msg) (test h.msg) (list_any test (map message_of (remove xs (place_of number xs))))
+        ∙ or_swap (test x.msg) (test h.msg) (list_any test (map message_of (remove xs (message_place number xs))))
         ∙ ap (λ k. test h.msg || list_any test (map message_of (remove (x ∷ xs) k))) (sym next)
 
 -- what a filter drops may be taken out before
 pub filter_removed : (keep : Message → Bool) (number : Number) (hs : List Held) (h : Held) → of_number number hs ≡ Some h → keep h.msg ≡ false
-    → filter keep (map message_of (remove hs (place_of number hs))) ≡ filter keep (map message_of hs)
+    → filter keep (map message_of (remove hs (message_place number hs))) ≡ filter keep (map message_of hs)
 filter_removed keep number [] h e drops = absurd (none-some h e)
 filter_removed keep number (x ∷ xs) h e drops = go (is_of_number number x) (λ later. filter_removed keep number xs h later drops) e
   where
-    go : (b : Bool) → (of_number number xs ≡ Some h → filter keep (map message_of (remove xs (place_of number xs))) ≡ filter keep (map message_of xs))
+    go : (b : Bool) → (of_number number xs ≡ Some h → filter keep (map message_of (remove xs (message_place number xs))) ≡ filter keep (map message_of xs))
         → cond b (Some x) (of_number number xs) ≡ Some h
-        → filter keep (map message_of (remove (x ∷ xs) (cond (not b) (1 + place_of number xs) 0)))
+        → filter keep (map message_of (remove (x ∷ xs) (cond (not b) (1 + message_place number xs) 0)))
         ≡ cond (keep x.msg) (x.msg ∷ filter keep (map message_of xs)) (filter keep (map message_of xs))
     go true rest q =
         sym (ap (λ b. cond b (x.msg ∷ filter keep (map message_of xs)) (filter keep (map message_of xs)))
         (ap (λ (y : Held). keep y.msg) (same_Some x h q) ∙ drops))
     go false rest q =
-        let next : 1 + place_of number xs ≡ suc (place_of number xs) = omega arith in
+        let next : 1 + message_place number xs ≡ suc (message_place number xs) = omega arith in
         ap (λ k. filter keep (map message_of (remove (x ∷ xs) k))) next
         ∙ ap (λ ys. cond (keep x.msg) (x.msg ∷ ys) ys) (rest q)
 
@@ -173,7 +173,7 @@ module _ (servers : Servers) (seats : List Seat) (s k : ℕ) (its : IsSeatOf (se
       any_at servers seats s k its all (without_queued number) l (end_loan number l) noted noted x
       (λ server. list_any (λ y. is_message_of n y && is_sent_from pid y) server.queued) (same_number n number)
       (any_removed (λ y. is_message_of n y && is_sent_from pid y) number (seat_of seats k).queued h found
-      ∙ ap (λ b. b || list_any (λ y. is_message_of n y && is_sent_from pid y) (map message_of (remove (seat_of seats k).queued (place_of number (seat_of seats k).queued))))
+      ∙ ap (λ b. b || list_any (λ y. is_message_of n y && is_sent_from pid y) (map message_of (remove (seat_of seats k).queued (message_place number (seat_of seats k).queued))))
       (its_test n))
     where
       and_true : (b : Bool) → (b && true) ≡ b

@@ -19,11 +19,11 @@ use Rattle.machine_laws.proofs.Messaging.AnyServerLemmas.{messages_apart, only_a
 use Rattle.machine_model.proofs.Matching.CountLemmas.{count_in-append, none_pass, one_if}
 use Rattle.machine_model.specs.Messaging.MessageCounts.{count_at, count_in}
 use Rattle.machine_model.specs.Messaging.Messages.{is_of_number as is_message_of}
-use Rattle.msg_queue.specs.Seats.{Seat, changed_at, is_of_number, message_of, of_number, place_of, seat_of, without_queued}
+use Rattle.msg_queue.specs.Seats.{Seat, changed_at, is_of_number, message_of, of_number, message_place, seat_of, without_queued}
 use Rattle.msg_queue.specs.declared.held.Held.{Held}
-use Rattle.send_path.proofs.HeldListLemmas.{of_shown, others_fail}
-use Rattle.send_path.proofs.SeatLemmas.{seat_changed, seat_is_there, seat_other, server_there}
-use Rattle.send_path.proofs.SoundLemmas.{seats_changed}
+use Rattle.send_path.proofs.Servers.HeldListLemmas.{of_shown, others_fail}
+use Rattle.send_path.proofs.Servers.SeatLemmas.{seat_changed, seat_is_there, seat_other, server_there}
+use Rattle.send_path.proofs.Servers.SoundLemmas.{seats_changed}
 use Rattle.send_path.specs.Parts.{server_of, server_with, servers_shown}
 use Rattle.send_path.specs.Seats.{HasLoanIfLend, IsSeatOf, messages_at}
 use Rattle.send_path.specs.Sound.{IsLenderOf}
@@ -66,14 +66,14 @@ none_of number hs e = of_shown (λ x. is_message_of number x ≡ false) hs (none
 
 -- without the first of a number, where there is one of it, none is left
 pub rest_fails : (number : Number) (xs ys : List Held) (h : Held) → of_number number xs ≡ Some h → number_count number (xs ++ ys) ≤ 1
-    → All (λ x. is_of_number number x ≡ false) (remove xs (place_of number xs) ++ ys)
+    → All (λ x. is_of_number number x ≡ false) (remove xs (message_place number xs) ++ ys)
 rest_fails number xs ys h found most =
     let both : number_count number (xs ++ ys) ≡ number_count number xs + number_count number ys = count_both number xs ys in
     let some : 1 ≤ number_count number xs = found_counts number xs h found in
     let few : number_count number xs ≤ 1 = omega arith in
     let none : number_count number ys ≡ 0 = omega arith in
-    All-append (λ x. is_of_number number x ≡ false) (remove xs (place_of number xs)) ys
-    (of_shown (λ x. is_message_of number x ≡ false) (remove xs (place_of number xs)) (others_fail (is_message_of number) xs few))
+    All-append (λ x. is_of_number number x ≡ false) (remove xs (message_place number xs)) ys
+    (of_shown (λ x. is_message_of number x ≡ false) (remove xs (message_place number xs)) (others_fail (is_message_of number) xs few))
     (none_of number ys none)
 
 -- what is left of a list was there
@@ -267,7 +267,7 @@ module _ (servers : Servers) (seats : List Seat) (s k : ℕ) (its : IsSeatOf (se
       seat = seat_of seats k
 
       place : ℕ
-      place = place_of number (seat_of seats k).queued
+      place = message_place number (seat_of seats k).queued
 
       left : List Held
       left = messages_at (without_queued number (seat_of seats k))

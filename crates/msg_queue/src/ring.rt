@@ -7,7 +7,7 @@ ghost use Rattle.msg_queue.specs.Seats.{with_queued, with_held, with_held_at, wi
 
 use crate::held::Held;
 use crate::links::{NONE, SLOTS, put_in, take_out};
-use crate::walks::{Spot, least_of, length_of, message_in, place_of, spot_at, spot_of};
+use crate::walks::{Spot, least_of, length_of, message_in, message_place, spot_at, spot_of};
 use std::alloc::Global;
 use std::marker::Model;
 use xk_base::{Message, NoMemory, Number, Pid};
@@ -256,7 +256,7 @@ impl Ring {
         ensures place { result ≡ place_found number self.now.held }
         ensures few { used_of self.now ≤ 128 }
     {
-        place_of(
+        message_place(
             self.slots.as_slice(),
             self.next.as_slice(),
             self.held,

@@ -27,7 +27,7 @@ use Rattle.sv32_space.specs.Tie.{Held}
 use Rattle.syscall_codec.specs.declared.replies.Reply.TheVariants.{Plain}
 use Rattle.vm_memory.specs.declared.memory.Memory.{Memory}
 use Rattle.vm_memory.specs.Bytes.{MeansBytesOver, is_known, none_out}
-use Rattle.vm_memory.specs.Pages.Making.{after_console, after_make, place_of}
+use Rattle.vm_memory.specs.Pages.Making.{after_console, after_make, page_place}
 use Rattle.vm_memory.specs.Memory.{ledger, processes, size}
 use Rattle.vm_memory.specs.Pages.Removing.{after_reduce, after_remove, reduce_answer, remove_answer}
 use Rattle.vm_memory.specs.Sound.{IsSound as IsMemorySound}
@@ -117,14 +117,14 @@ pub make_unlent : (pid : Pid) (n : ℕ) (right : Right) (r : Result Vpn XousErro
 make_unlent pid n right r old new e h = subst IsUnlent (sym e) (go r)
   where
     go : (r : Result Vpn XousError) → IsUnlent (after_make pid n right r old)
-    go (Ok first) = made_unlent (place_of pid first) n right old h
+    go (Ok first) = made_unlent (page_place pid first) n right old h
     go (Err error) = h
 
 pub make_console_unlent : (pid : Pid) (w : Bool) (r : Result Vpn XousError) (old new : Ledger) → new ≡ after_console pid w r old → IsUnlent old → IsUnlent new
 make_console_unlent pid w r old new e h = subst IsUnlent (sym e) (go r)
   where
     go : (r : Result Vpn XousError) → IsUnlent (after_console pid w r old)
-    go (Ok first) = console_unlent (place_of pid first) w old h
+    go (Ok first) = console_unlent (page_place pid first) w old h
     go (Err error) = h
 
 pub reduce_unlent : (r : Result (Unit {0}) XousError) (first : Place) (n : ℕ) (right : Right) (old new : Ledger) → new ≡ after_reduce r first n right old → IsUnlent old → IsUnlent new

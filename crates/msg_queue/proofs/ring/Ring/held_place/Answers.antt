@@ -7,7 +7,7 @@ use Rattle.msg_queue.proofs.ring.Ring.held_place.Goals as goal
 
 pub returns-clause-place : goal.returns-clause-place
 returns-clause-place c =
-    c.place_of.ensures
+    c.message_place.ensures
     ∙ ap (λ next. place_found c.args.number (messages c.as_slice.result.now (chain next c.self.inside.held))) c.as_slice-2.ensures.value
     ∙ ap (λ slots. place_found c.args.number (messages slots (chain c.self.inside.next.items c.self.inside.held))) c.as_slice.ensures.value
     ∙ ap (λ seat. place_found c.args.number seat.held) c.self.view_is

@@ -32,7 +32,7 @@ use Rattle.machine_model.specs.State.Order.{ready_at}
 use Rattle.xk_base.specs.Tables.Sids.{serial_of}
 use Rattle.machine_model.specs.State.Servers.{change_server, messages_of}
 use Rattle.machine_model.specs.State.Threads.{answer_to, both_answers, passed}
-use Rattle.msg_queue.specs.Seats.{Seat, changed_at, message_of, of_number, place_of, seat_of, without_held as without_held_at}
+use Rattle.msg_queue.specs.Seats.{Seat, changed_at, message_of, of_number, message_place, seat_of, without_held as without_held_at}
 use Rattle.msg_queue.specs.declared.held.Held.{Held}
 use Rattle.server_table.proofs.Lemmas.{seats_differ}
 use Rattle.server_table.specs.ServersOf.{servers_of}
@@ -60,13 +60,13 @@ use Rattle.send_path.specs.Seats.{HasLoanIfLend, IsHeldAt, IsNotHeldAt, messages
 use Rattle.send_path.specs.Sound.{AreLoansAt, AreLoansSound, AreSeatsSound, IsLoanOf, IsSound}
 use Rattle.send_path.specs.Threads.{answered, changed_thread}
 use Rattle.send_path.specs.declared.holding.HeldAt.{HeldAt}
-use Rattle.send_path.proofs.HeldListLemmas.{find_shown, of_shown, others_fail, removed_shown}
-use Rattle.send_path.proofs.HolderLemmas.{held_nowhere, held_otherwise, holder_is, message_is, none_elsewhere}
-use Rattle.send_path.proofs.RowLemmas.{first_refuses, first_passes, served_so}
-use Rattle.send_path.proofs.SeatLemmas.{seat_changed, seat_is_there, seat_other, server_changed, server_there}
-use Rattle.send_path.proofs.SeatSearchLemmas.{IsShown, seat_found, shown_message}
-use Rattle.send_path.proofs.SoundLemmas.{seats_changed}
-use Rattle.send_path.proofs.ThreadLemmas.{ready_there}
+use Rattle.send_path.proofs.Servers.HeldListLemmas.{find_shown, of_shown, others_fail, removed_shown}
+use Rattle.send_path.proofs.Servers.HolderLemmas.{held_nowhere, held_otherwise, holder_is, message_is, none_elsewhere}
+use Rattle.send_path.proofs.Rows.RowLemmas.{first_refuses, first_passes, served_so}
+use Rattle.send_path.proofs.Servers.SeatLemmas.{seat_changed, seat_is_there, seat_other, server_changed, server_there}
+use Rattle.send_path.proofs.Servers.SeatSearchLemmas.{IsShown, seat_found, shown_message}
+use Rattle.send_path.proofs.Servers.SoundLemmas.{seats_changed}
+use Rattle.send_path.proofs.Rows.ThreadLemmas.{ready_there}
 
 -- ---- lists without one of the second part
 
@@ -233,7 +233,7 @@ module _ {W : Type 0} (slot_count : W → ℕ) (held : W → HeldBytes) (who : T
     pub seats_left : AreSeatsSound (servers_of old.tables.servers) (changed_at at.seat (without_held_at number) seats)
     seats_left =
         seats_changed old.tables.servers seats k at.seat sound.seats its.seat (without_held_at number)
-        (removed_all HasLoanIfLend seat.queued seat.held (place_of number seat.held) (sound.seats.loans at.seat))
+        (removed_all HasLoanIfLend seat.queued seat.held (message_place number seat.held) (sound.seats.loans at.seat))
 
     -- ---- the outcome
 
@@ -283,9 +283,9 @@ module _ {W : Type 0} (slot_count : W → ℕ) (held : W → HeldBytes) (who : T
 
     others_here : All Others (messages_at (without_held_at number seat))
     others_here =
-        All-append Others seat.queued (remove seat.held (place_of number seat.held))
+        All-append Others seat.queued (remove seat.held (message_place number seat.held))
         (of_shown (λ x. of_it x ≡ false) seat.queued (none_pass of_it (map message_of seat.queued) not_queued))
-        (of_shown (λ x. of_it x ≡ false) (remove seat.held (place_of number seat.held)) (others_fail of_it seat.held apart_held))
+        (of_shown (λ x. of_it x ≡ false) (remove seat.held (message_place number seat.held)) (others_fail of_it seat.held apart_held))
       where
         not_queued : count_in of_it (map message_of seat.queued) ≡ 0
         not_queued =
@@ -329,7 +329,7 @@ module _ {W : Type 0} (slot_count : W → ℕ) (held : W → HeldBytes) (who : T
             ∙ seat_changed seats at.seat (without_held_at number) (seat_is_there old.tables.servers seats k at.seat its.seat sound.seats.all)))
             (loans_kept l keeps v.pid (messages_at (without_held_at number seat)) others_here
             (removed_all (λ h. (run : LoanRun) → h.loan ≡ Some run → IsLoanOf (loans (ledger held old.mem)) v.pid h.msg run) seat.queued seat.held
-            (place_of number seat.held)
+            (message_place number seat.held)
             (subst (λ j. AreLoansAt (loans (ledger held old.mem)) v.pid (seat_of seats j)) at_its (sound.loans n v e))))
 
         there : n ≢ k → AreLoansAt (loans l) v.pid (seat_of (changed_at at.seat (without_held_at number) seats) v.seat)

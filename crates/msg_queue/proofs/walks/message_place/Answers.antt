@@ -3,7 +3,7 @@ use Rattle.msg_queue.specs.Chains.{chain}
 use Rattle.msg_queue.specs.Spots.{slot_has}
 use Rattle.msg_queue.proofs.Rings.SpotLemmas.{at_end, at_slot, at_next, at_within, spot_read}
 use Rattle.msg_queue.proofs.PlaceLemmas.{found_there, none_there, passed_slot}
-use Rattle.msg_queue.proofs.walks.place_of.Goals as goal
+use Rattle.msg_queue.proofs.walks.message_place.Goals as goal
 
 pub returns-then-spot : goal.returns-then-spot
 returns-then-spot c =

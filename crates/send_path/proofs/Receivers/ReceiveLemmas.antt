@@ -1,7 +1,8 @@
 -- ReceiveMessage and TryReceiveMessage by their rows.
 use Rattle.std.proofs.Common.{◌≡◌, ℕ, ◌<◌, Bool, true, false, List, [], ◌∷◌, ◌++◌, length, map, Option, Some, None, refl, sym, ap, subst, ◌∙◌, append-nil, ◌+◌}
-use Rattle.std.specs.Prelude.{All, ◌==◌, ◌&&◌, nat_eq, not, slice_get, unwrap_or, if◌then◌else◌}
+use Rattle.std.specs.Prelude.{◌==◌, ◌&&◌, nat_eq, not, slice_get, unwrap_or, if◌then◌else◌}
 use Rattle.std.specs.Option.{option_and_then, option_map}
+use Rattle.ledger_model.specs.Loans.{LoanRun, Loans}
 use Rattle.machine_model.specs.Calling.ServerCalls.{named_server}
 use Rattle.xk_base.specs.Calls.Kinds.{is_answered}
 use Rattle.machine_model.specs.Messaging.Messages.{oldest, with_received, without_oldest}
@@ -18,6 +19,7 @@ use Rattle.msg_queue.specs.Seats.{Seat, changed_at, message_of, seat_of, with_he
 use Rattle.msg_queue.specs.declared.held.Held.{Held}
 use Rattle.server_table.specs.ServersOf.{servers_of}
 use Rattle.server_table.specs.ServerState.{Server as TableServer}
+use Rattle.server_table.specs.declared.table.Servers.{Servers}
 use Rattle.thread_table.specs.ThreadMap.{is_ready as is_table_ready}
 use Rattle.thread_table.specs.ThreadsOf.{process_count, threads_of}
 use Rattle.xk_base.specs.Tables.Circle.{is_thread_id}
@@ -31,25 +33,22 @@ use Rattle.xk_base.specs.declared.messages.Message.{Message}
 use Rattle.xk_base.specs.declared.records.What.TheVariants.{Reply}
 use Rattle.send_path.specs.Parts.{Tables, server_with, servers_shown, threads_shown, with_tables}
 use Rattle.send_path.specs.Rows.{IsServed, log_with, receive_row}
-use Rattle.send_path.specs.Seats.{HasLoanIfLend, IsSeatOf, messages_at, own_serial}
-use Rattle.send_path.specs.Sound.{AreSeatsSound, AreTablesSound}
+use Rattle.send_path.specs.Seats.{HasLoanIfLend, IsSeatOf, own_serial}
+use Rattle.send_path.specs.Sound.{AreLoansAt, AreLoansSound, AreSeatsSound, AreTablesSound, IsLoanOf}
 use Rattle.send_path.specs.Threads.{answered, changed_thread}
-use Rattle.send_path.proofs.MachineLemmas.{IsOwn, not_own, own_found}
-use Rattle.send_path.proofs.ReplyLemmas.{no_reply, one_reply}
-use Rattle.send_path.proofs.RowLemmas.{first_passes, first_refuses, served_so}
-use Rattle.send_path.proofs.SeatLemmas.{changed_twice, oldest_left, one_more, server_changed, server_there}
-use Rattle.send_path.proofs.SoundLemmas.{held_lent, oldest_lent, others_lent, seats_changed}
-use Rattle.send_path.proofs.ThreadLemmas.{ready_there, unanswered}
+use Rattle.send_path.proofs.Servers.MachineLemmas.{IsOwn, not_own, own_found}
+use Rattle.send_path.proofs.Rows.ReplyLemmas.{no_reply, one_reply}
+use Rattle.send_path.proofs.Rows.RowLemmas.{first_passes, first_refuses, served_so}
+use Rattle.send_path.proofs.Servers.SeatLemmas.{changed_twice, oldest_left, one_more, server_changed, server_there}
+use Rattle.send_path.proofs.Sends.SentSoundLemmas.{loans_changed}
+use Rattle.send_path.proofs.Servers.SoundLemmas.{seats_changed, taken, taken_all}
+use Rattle.send_path.proofs.Rows.ThreadLemmas.{ready_there, unanswered}
 
 -- ---- at a seat
 
 oldest_shown : (xs : List Held) → oldest (map message_of xs) ≡ option_map message_of (slice_get xs 0)
 oldest_shown [] = refl
 oldest_shown (x ∷ xs) = refl
-
--- the oldest queued is taken out, and held where it is to be answered
-abbrev pub taken : Held → Seat → Seat
-taken h seat = if is_answered h.msg.kind then with_held h (without_queued_at 0 seat) else without_queued_at 0 seat
 
 pub taken_shown : (h : Held) (seat : Seat) (v : TableServer) → server_with (taken h seat) v ≡ with_received h.msg (without_oldest (server_with seat v))
 taken_shown h seat v = go (is_answered h.msg.kind)
@@ -234,11 +233,14 @@ still_matched who old new sid wait m h ready above served =
 pub taken_sound : (who : ThreadId) (old : Tables) (serial k : ℕ) (h : Held) → AreTablesSound who old → IsSeatOf (servers_of old.servers) serial k
     → slice_get (seat_of old.queues k).queued 0 ≡ Some h → AreSeatsSound (servers_of old.servers) (changed_at k (taken h) old.queues)
 taken_sound who old serial k h sound its first =
-    seats_changed old.servers old.queues serial k sound.seats its (taken h) (go (is_answered h.msg.kind))
-  where
-    others : All HasLoanIfLend (messages_at (without_queued_at 0 (seat_of old.queues k)))
-    others = others_lent (seat_of old.queues k) (sound.seats.loans k)
+    seats_changed old.servers old.queues serial k sound.seats its (taken h)
+    (taken_all HasLoanIfLend h (seat_of old.queues k) first (sound.seats.loans k))
 
-    go : (b : Bool) → All HasLoanIfLend (messages_at (if b then with_held h (without_queued_at 0 (seat_of old.queues k)) else without_queued_at 0 (seat_of old.queues k)))
-    go true = held_lent (without_queued_at 0 (seat_of old.queues k)) h (oldest_lent (seat_of old.queues k) h first (sound.seats.loans k)) others
-    go false = others
+-- .. with their loans, of which none changes
+pub taken_loans : (servers : Servers) (seats : List Seat) (serial k : ℕ) (its : IsSeatOf (servers_of servers) serial k) → length seats ≡ 64
+    → (h : Held) → slice_get (seat_of seats k).queued 0 ≡ Some h → (all : Loans) → AreLoansSound all (servers_of servers) seats
+    → AreLoansSound all (servers_of servers) (changed_at k (taken h) seats)
+taken_loans servers seats serial k its count h first all sound =
+    loans_changed servers seats serial k its count all sound (taken h)
+    (taken_all (λ x. (run : LoanRun) → x.loan ≡ Some run → IsLoanOf all its.server.pid x.msg run) h (seat_of seats k) first
+    (subst (λ j. AreLoansAt all its.server.pid (seat_of seats j)) its.its (sound serial its.server its.live)))

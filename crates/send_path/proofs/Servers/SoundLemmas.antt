@@ -1,6 +1,6 @@
 -- Seats stay sound where one of them changes.
 use Rattle.std.proofs.Common.{◌≡◌, ℕ, suc, ◌+◌, ◌<◌, ◌≤◌, Bool, true, false, List, [], ◌∷◌, ◌++◌, length, map, Some, None, refl, sym, ap, subst, ◌∙◌, arith, append_assoc, set}
-use Rattle.std.specs.Prelude.{All, nat_eq, slice_get}
+use Rattle.std.specs.Prelude.{All, nat_eq, slice_get, if◌then◌else◌}
 use Rattle.std.specs.List.{remove}
 use Rattle.std.proofs.lemmas.Bool.{eqb-true, eq-eqb, false≢true}
 use Rattle.std.proofs.lemmas.List.{length-map, set-get_or}
@@ -10,11 +10,12 @@ use Rattle.msg_queue.specs.Seats.{Seat, changed_at, empty_seat, message_of, seat
 use Rattle.msg_queue.specs.declared.held.Held.{Held}
 use Rattle.server_table.specs.ServersOf.{servers_of}
 use Rattle.server_table.specs.declared.table.Servers.{Servers}
+use Rattle.xk_base.specs.Calls.Kinds.{is_answered}
 use Rattle.xk_base.specs.declared.ids.ThreadId.{ThreadId}
 use Rattle.send_path.specs.Seats.{HasLoanIfLend, IsSeatOf, messages_at}
 use Rattle.send_path.specs.Parts.{Tables, server_with, with_tables}
 use Rattle.send_path.specs.Sound.{AreSeatsSound, AreTablesSound}
-use Rattle.send_path.proofs.SeatLemmas.{seat_changed, seat_is_there, seat_other, seats_counted, server_there}
+use Rattle.send_path.proofs.Servers.SeatLemmas.{seat_changed, seat_is_there, seat_other, seats_counted, server_there}
 
 pub seats_changed : (servers : Servers) (seats : List Seat) (serial k : ℕ) → AreSeatsSound (servers_of servers) seats
     → IsSeatOf (servers_of servers) serial k → (f : Seat → Seat) → All HasLoanIfLend (messages_at (f (seat_of seats k)))
@@ -58,24 +59,36 @@ one_fewer seat h first few = go seat.queued first few
         let held : length (map message_of seat.held) ≡ length seat.held = length-map seat.held message_of in
         omega arith
 
--- it has a loan where it is a lend, and so have those that stay
-pub oldest_lent : (seat : Seat) (h : Held) → slice_get seat.queued 0 ≡ Some h → All HasLoanIfLend (messages_at seat) → HasLoanIfLend h
-oldest_lent seat h first all = go seat.queued first all
+-- what holds of all messages of the seat holds of it, and of those that stay
+pub oldest_too : (P : Held → Type 0) (seat : Seat) (h : Held) → slice_get seat.queued 0 ≡ Some h → All P (messages_at seat) → P h
+oldest_too P seat h first all = go seat.queued first all
   where
-    go : (xs : List Held) → slice_get xs 0 ≡ Some h → All HasLoanIfLend (xs ++ seat.held) → HasLoanIfLend h
+    go : (xs : List Held) → slice_get xs 0 ≡ Some h → All P (xs ++ seat.held) → P h
     go [] e a = absurd (none-some h e)
-    go (x ∷ xs) e a = subst HasLoanIfLend (same_Some x h e) (a 0 h (omega arith))
+    go (x ∷ xs) e a = subst P (same_Some x h e) (a 0 h (omega arith))
 
-pub others_lent : (seat : Seat) → All HasLoanIfLend (messages_at seat) → All HasLoanIfLend (messages_at (without_queued_at 0 seat))
-others_lent seat all = go seat.queued all
+others_too : (P : Held → Type 0) (seat : Seat) → All P (messages_at seat) → All P (messages_at (without_queued_at 0 seat))
+others_too P seat all = go seat.queued all
   where
-    go : (xs : List Held) → All HasLoanIfLend (xs ++ seat.held) → All HasLoanIfLend (remove xs 0 ++ seat.held)
+    go : (xs : List Held) → All P (xs ++ seat.held) → All P (remove xs 0 ++ seat.held)
     go [] a = a
     go (x ∷ xs) a = λ k d l. let low : k < length (xs ++ seat.held) = l in a (suc k) d (omega arith)
 
-pub held_lent : (seat : Seat) (h : Held) → HasLoanIfLend h → All HasLoanIfLend (messages_at seat) → All HasLoanIfLend (messages_at (with_held h seat))
-held_lent seat h its all =
-    subst (All HasLoanIfLend) (append_assoc seat.queued seat.held (h ∷ [])) (All-push HasLoanIfLend (messages_at seat) h all its)
+held_too : (P : Held → Type 0) (seat : Seat) (h : Held) → P h → All P (messages_at seat) → All P (messages_at (with_held h seat))
+held_too P seat h its all =
+    subst (All P) (append_assoc seat.queued seat.held (h ∷ [])) (All-push P (messages_at seat) h all its)
+
+-- it is taken out, and held where it is to be answered
+abbrev pub taken : Held → Seat → Seat
+taken h seat = if is_answered h.msg.kind then with_held h (without_queued_at 0 seat) else without_queued_at 0 seat
+
+pub taken_all : (P : Held → Type 0) (h : Held) (seat : Seat) → slice_get seat.queued 0 ≡ Some h → All P (messages_at seat)
+    → All P (messages_at (taken h seat))
+taken_all P h seat first all = go (is_answered h.msg.kind)
+  where
+    go : (b : Bool) → All P (messages_at (if b then with_held h (without_queued_at 0 seat) else without_queued_at 0 seat))
+    go true = held_too P (without_queued_at 0 seat) h (oldest_too P seat h first all) (others_too P seat all)
+    go false = others_too P seat all
 
 -- a server's messages are few
 pub slots_few : (who : ThreadId) (parts : Tables) (serial k : ℕ) → AreTablesSound who parts → IsSeatOf (servers_of parts.servers) serial k
