@@ -21,7 +21,7 @@ use Rattle.machine_model.specs.Messaging.MessageCounts.{count_in}
 use Rattle.machine_model.specs.Messaging.Messages.{is_of_number as is_message_of, is_sent_by}
 use Rattle.msg_queue.specs.Seats.{Seat, changed_at, is_of_number, message_of, seat_of, of_number as first_of_number, message_place, without_held_at, without_queued_at}
 use Rattle.msg_queue.specs.declared.held.Held.{Held}
-use Rattle.send_path.proofs.SeatLemmas.{changed_twice, seat_changed, seats_counted}
+use Rattle.send_path.proofs.Servers.SeatLemmas.{changed_twice, seat_changed, seats_counted}
 use Rattle.send_path.specs.Seats.{messages_at}
 use Rattle.xk_base.specs.Tables.Circle.{same_thread}
 use Rattle.xk_base.specs.declared.ids.Number.{Number}

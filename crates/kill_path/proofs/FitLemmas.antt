@@ -20,7 +20,7 @@ use Rattle.machine_model.specs.State.Machine.{Machine, Server}
 use Rattle.machine_model.specs.State.Servers.{messages_of}
 use Rattle.msg_queue.specs.Seats.{Seat, seat_of}
 use Rattle.msg_queue.specs.declared.held.Held.{Held}
-use Rattle.send_path.proofs.HeldListLemmas.{of_shown}
+use Rattle.send_path.proofs.Servers.HeldListLemmas.{of_shown}
 use Rattle.send_path.specs.Parts.{Parts, Tables, server_of, server_with, servers_shown, with_parts, with_tables}
 use Rattle.send_path.specs.Seats.{messages_at}
 use Rattle.send_path.specs.Sound.{AreLoansSound, AreSeatsSound, AreTablesSound, IsSound}

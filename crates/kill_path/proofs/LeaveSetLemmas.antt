@@ -15,7 +15,7 @@ use Rattle.machine_model.specs.Messaging.Messages.{is_of_number as is_message_of
 use Rattle.machine_model.specs.State.Machine.{Machine, Server}
 use Rattle.msg_queue.specs.Seats.{Seat, changed_at, is_of_number, message_of, of_number, message_place, seat_of, without_queued}
 use Rattle.msg_queue.specs.declared.held.Held.{Held}
-use Rattle.send_path.proofs.SeatLemmas.{seat_changed, seat_is_there, seat_other, server_there}
+use Rattle.send_path.proofs.Servers.SeatLemmas.{seat_changed, seat_is_there, seat_other, server_there}
 use Rattle.send_path.specs.Parts.{server_of, server_with, servers_shown}
 use Rattle.send_path.specs.Seats.{IsSeatOf}
 use Rattle.server_table.proofs.Lemmas.{live_below, seats_differ}

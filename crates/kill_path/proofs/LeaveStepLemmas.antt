@@ -21,9 +21,9 @@ use Rattle.machine_model.specs.Messaging.MessageCounts.{count_at, count_in}
 use Rattle.machine_model.specs.Messaging.Messages.{is_of_number as is_message_of}
 use Rattle.msg_queue.specs.Seats.{Seat, changed_at, is_of_number, message_of, of_number, message_place, seat_of, without_queued}
 use Rattle.msg_queue.specs.declared.held.Held.{Held}
-use Rattle.send_path.proofs.HeldListLemmas.{of_shown, others_fail}
-use Rattle.send_path.proofs.SeatLemmas.{seat_changed, seat_is_there, seat_other, server_there}
-use Rattle.send_path.proofs.SoundLemmas.{seats_changed}
+use Rattle.send_path.proofs.Servers.HeldListLemmas.{of_shown, others_fail}
+use Rattle.send_path.proofs.Servers.SeatLemmas.{seat_changed, seat_is_there, seat_other, server_there}
+use Rattle.send_path.proofs.Servers.SoundLemmas.{seats_changed}
 use Rattle.send_path.specs.Parts.{server_of, server_with, servers_shown}
 use Rattle.send_path.specs.Seats.{HasLoanIfLend, IsSeatOf, messages_at}
 use Rattle.send_path.specs.Sound.{IsLenderOf}

@@ -12,7 +12,7 @@ use Rattle.ledger_model.specs.Reach.{lender_of}
 use Rattle.ledger_model.specs.Steps.{orphan_from, orphan_loan, orphan_with, page_without}
 use Rattle.msg_queue.specs.Seats.{Seat, changed_at, is_of_number, of_number, message_place, seat_of, used_of, with_held_at, without_held}
 use Rattle.msg_queue.specs.declared.held.Held.{Held}
-use Rattle.send_path.proofs.SeatLemmas.{changed_twice, seat_changed}
+use Rattle.send_path.proofs.Servers.SeatLemmas.{changed_twice, seat_changed}
 use Rattle.xk_base.specs.declared.ids.Number.{Number}
 use Rattle.xk_base.specs.declared.ids.Place.{Place}
 use Rattle.kill_path.specs.Leaving.{alone, first_alone, has_number_at, with_alone}

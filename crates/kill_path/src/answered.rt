@@ -11,7 +11,7 @@ use xk_base::ThreadId;
 use xk_base::limits::{PROCESS_LIMIT, TID_LIMIT};
 
 /// How many threads there are at most.
-pub(crate) const PLACES: usize = (PROCESS_LIMIT * TID_LIMIT as u32) as usize;
+pub(crate) const PLACES: usize = PROCESS_LIMIT as usize * TID_LIMIT as usize;
 
 /// Threads that are to be answered: each has a mark at its place in ascending order of (pid, tid).
 #[derive(Drop)]

@@ -9,10 +9,10 @@ use Rattle.send_path.specs.Sound.{AreLoansSound, AreSeatsSound}
 use Rattle.send_path.specs.Threads.{answered, changed_thread}
 use Rattle.server_table.specs.ServersOf.{servers_of}
 use Rattle.machine_model.specs.State.Threads.{answer_to}
-use Rattle.send_path.proofs.ReceiveLemmas.{message_got, not_found, still_matched, taken_from, taken_loans, taken_sound, told_none, waited}
-use Rattle.send_path.proofs.SeatLemmas.{seat_changed, seat_in_limit, seat_is_there}
-use Rattle.send_path.proofs.SoundLemmas.{nothing_taken, oldest_too, one_fewer, slots_few, unchanged_at}
-use Rattle.send_path.proofs.ThreadLemmas.{ready_id}
+use Rattle.send_path.proofs.Receivers.ReceiveLemmas.{message_got, not_found, still_matched, taken_from, taken_loans, taken_sound, told_none, waited}
+use Rattle.send_path.proofs.Servers.SeatLemmas.{seat_changed, seat_in_limit, seat_is_there}
+use Rattle.send_path.proofs.Servers.SoundLemmas.{nothing_taken, oldest_too, one_fewer, slots_few, unchanged_at}
+use Rattle.send_path.proofs.Rows.ThreadLemmas.{ready_id}
 use Rattle.send_path.proofs.receiving.receive.Goals as goal
 
 pub returns-in_default-clause-row : goal.returns-in_default-clause-row

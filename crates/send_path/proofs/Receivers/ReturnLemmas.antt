@@ -60,13 +60,13 @@ use Rattle.send_path.specs.Seats.{HasLoanIfLend, IsHeldAt, IsNotHeldAt, messages
 use Rattle.send_path.specs.Sound.{AreLoansAt, AreLoansSound, AreSeatsSound, IsLoanOf, IsSound}
 use Rattle.send_path.specs.Threads.{answered, changed_thread}
 use Rattle.send_path.specs.declared.holding.HeldAt.{HeldAt}
-use Rattle.send_path.proofs.HeldListLemmas.{find_shown, of_shown, others_fail, removed_shown}
-use Rattle.send_path.proofs.HolderLemmas.{held_nowhere, held_otherwise, holder_is, message_is, none_elsewhere}
-use Rattle.send_path.proofs.RowLemmas.{first_refuses, first_passes, served_so}
-use Rattle.send_path.proofs.SeatLemmas.{seat_changed, seat_is_there, seat_other, server_changed, server_there}
-use Rattle.send_path.proofs.SeatSearchLemmas.{IsShown, seat_found, shown_message}
-use Rattle.send_path.proofs.SoundLemmas.{seats_changed}
-use Rattle.send_path.proofs.ThreadLemmas.{ready_there}
+use Rattle.send_path.proofs.Servers.HeldListLemmas.{find_shown, of_shown, others_fail, removed_shown}
+use Rattle.send_path.proofs.Servers.HolderLemmas.{held_nowhere, held_otherwise, holder_is, message_is, none_elsewhere}
+use Rattle.send_path.proofs.Rows.RowLemmas.{first_refuses, first_passes, served_so}
+use Rattle.send_path.proofs.Servers.SeatLemmas.{seat_changed, seat_is_there, seat_other, server_changed, server_there}
+use Rattle.send_path.proofs.Servers.SeatSearchLemmas.{IsShown, seat_found, shown_message}
+use Rattle.send_path.proofs.Servers.SoundLemmas.{seats_changed}
+use Rattle.send_path.proofs.Rows.ThreadLemmas.{ready_there}
 
 -- ---- lists without one of the second part
 

@@ -36,13 +36,13 @@ use Rattle.send_path.specs.Rows.{IsServed, log_with, receive_row}
 use Rattle.send_path.specs.Seats.{HasLoanIfLend, IsSeatOf, own_serial}
 use Rattle.send_path.specs.Sound.{AreLoansAt, AreLoansSound, AreSeatsSound, AreTablesSound, IsLoanOf}
 use Rattle.send_path.specs.Threads.{answered, changed_thread}
-use Rattle.send_path.proofs.MachineLemmas.{IsOwn, not_own, own_found}
-use Rattle.send_path.proofs.ReplyLemmas.{no_reply, one_reply}
-use Rattle.send_path.proofs.RowLemmas.{first_passes, first_refuses, served_so}
-use Rattle.send_path.proofs.SeatLemmas.{changed_twice, oldest_left, one_more, server_changed, server_there}
-use Rattle.send_path.proofs.SentSoundLemmas.{loans_changed}
-use Rattle.send_path.proofs.SoundLemmas.{seats_changed, taken, taken_all}
-use Rattle.send_path.proofs.ThreadLemmas.{ready_there, unanswered}
+use Rattle.send_path.proofs.Servers.MachineLemmas.{IsOwn, not_own, own_found}
+use Rattle.send_path.proofs.Rows.ReplyLemmas.{no_reply, one_reply}
+use Rattle.send_path.proofs.Rows.RowLemmas.{first_passes, first_refuses, served_so}
+use Rattle.send_path.proofs.Servers.SeatLemmas.{changed_twice, oldest_left, one_more, server_changed, server_there}
+use Rattle.send_path.proofs.Sends.SentSoundLemmas.{loans_changed}
+use Rattle.send_path.proofs.Servers.SoundLemmas.{seats_changed, taken, taken_all}
+use Rattle.send_path.proofs.Rows.ThreadLemmas.{ready_there, unanswered}
 
 -- ---- at a seat
 

@@ -42,12 +42,12 @@ use Rattle.send_path.specs.Seats.{HasLoanIfLend, IsHeldAt}
 use Rattle.send_path.specs.Sound.{AreLoansSound, AreSeatsSound, IsLenderOf, IsLoanOf, IsSound, IsSoundOver}
 use Rattle.send_path.specs.declared.holding.HeldAt.{HeldAt}
 use Rattle.send_path.specs.declared.seats.Reached.{Reached}
-use Rattle.send_path.proofs.ForwardLemmas.{goes_on}
-use Rattle.send_path.proofs.HeldListLemmas.{find_shown}
-use Rattle.send_path.proofs.ReturnLemmas.{its_loan, loan_number, loans_left, seats_left, shown}
-use Rattle.send_path.proofs.SeatLemmas.{seat_other, seats_counted, server_there}
-use Rattle.send_path.proofs.SentSoundLemmas.{arrived_seats, loans_arrived}
-use Rattle.send_path.proofs.ThreadLemmas.{ready_there}
+use Rattle.send_path.proofs.Forwards.ForwardLemmas.{goes_on}
+use Rattle.send_path.proofs.Servers.HeldListLemmas.{find_shown}
+use Rattle.send_path.proofs.Receivers.ReturnLemmas.{its_loan, loan_number, loans_left, seats_left, shown}
+use Rattle.send_path.proofs.Servers.SeatLemmas.{seat_other, seats_counted, server_there}
+use Rattle.send_path.proofs.Sends.SentSoundLemmas.{arrived_seats, loans_arrived}
+use Rattle.send_path.proofs.Rows.ThreadLemmas.{ready_there}
 
 -- the loan of another number stands when this one is passed on
 passed_stand : (l : Ledger) (number : Number) (from to : Place) (run : LoanRun) → same_number run.number number ≡ false → Stands (loans l) run

@@ -37,9 +37,9 @@ use Rattle.send_path.specs.Parts.{server_of, server_with}
 use Rattle.send_path.specs.Seats.{HasLoanIfLend, IsSeatOf, messages_at}
 use Rattle.send_path.specs.Sending.{MayGo}
 use Rattle.send_path.specs.Sound.{AreLoansAt, AreLoansSound, AreSeatsSound, IsAboveMessages, IsLoanOf}
-use Rattle.send_path.proofs.HeldListLemmas.{of_shown}
-use Rattle.send_path.proofs.SeatLemmas.{seat_changed, seat_is_there, seat_other}
-use Rattle.send_path.proofs.SoundLemmas.{seats_changed}
+use Rattle.send_path.proofs.Servers.HeldListLemmas.{of_shown}
+use Rattle.send_path.proofs.Servers.SeatLemmas.{seat_changed, seat_is_there, seat_other}
+use Rattle.send_path.proofs.Servers.SoundLemmas.{seats_changed}
 
 -- ---- all messages of a seat, with one that arrives
 

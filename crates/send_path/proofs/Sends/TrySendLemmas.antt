@@ -22,7 +22,7 @@ use Rattle.send_path.specs.Sending.{AreAsked, IsSendRow, asked_row, asked_words,
 use Rattle.send_path.specs.declared.sending.Asked.{Asked}
 use Rattle.send_path.specs.declared.sending.Sent.{Sent}
 use Rattle.send_path.specs.declared.sending.Sent.TheVariants as sent
-use Rattle.send_path.proofs.SendRowLemmas.{tests}
+use Rattle.send_path.proofs.Sends.SendRowLemmas.{tests}
 
 -- what comes of TrySendMessage where that comes of SendMessage
 abbrev tried : Outcome → Outcome

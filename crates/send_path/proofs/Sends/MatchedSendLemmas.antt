@@ -22,7 +22,7 @@ use Rattle.send_path.specs.Parts.{Parts, with_parts, with_tables}
 use Rattle.send_path.specs.Rows.{IsServed}
 use Rattle.send_path.specs.Sending.{with_next}
 use Rattle.send_path.specs.Sound.{IsAboveMessages, IsSoundOver}
-use Rattle.send_path.proofs.ThreadLemmas.{ready_there}
+use Rattle.send_path.proofs.Rows.ThreadLemmas.{ready_there}
 
 module _ {W : Type 0} (slot_count : W → ℕ) (held : W → HeldBytes) (who : ThreadId) (procs : Processes) (number : Number) (old : Parts W)
     (sound : IsSoundOver slot_count held who procs old) (above : IsAboveMessages number old.tables.servers old.tables.queues) where

@@ -44,10 +44,10 @@ use Rattle.send_path.specs.Rows.{IsServed, log_with}
 use Rattle.send_path.specs.Sending.{with_next}
 use Rattle.send_path.specs.Threads.{answered, changed_thread}
 use Rattle.send_path.specs.declared.seats.Reached.{Reached}
-use Rattle.send_path.proofs.ArriveLemmas.{receiver_alike}
-use Rattle.send_path.proofs.RowLemmas.{served_so}
-use Rattle.send_path.proofs.SeatLemmas.{one_more, server_changed, server_there}
-use Rattle.send_path.proofs.SendRowLemmas.{arrived_shown, sent_is}
+use Rattle.send_path.proofs.Sends.ArriveLemmas.{receiver_alike}
+use Rattle.send_path.proofs.Rows.RowLemmas.{served_so}
+use Rattle.send_path.proofs.Servers.SeatLemmas.{one_more, server_changed, server_there}
+use Rattle.send_path.proofs.Sends.SendRowLemmas.{arrived_shown, sent_is}
 
 -- ---- at a seat
 

@@ -18,7 +18,7 @@ use Rattle.machine_model.specs.State.Servers.{is_server_of, messages_of}
 use Rattle.xk_base.proofs.CountingLemmas.{least_below-None, least_below-Some}
 use Rattle.xk_base.specs.declared.ids.Number.{Number}
 use Rattle.xk_base.specs.declared.messages.Message.{Message}
-use Rattle.send_path.proofs.HeldListLemmas.{find_both, none_both}
+use Rattle.send_path.proofs.Servers.HeldListLemmas.{find_both, none_both}
 
 and_false : (a : Bool) → (a && false) ≡ false
 and_false true = refl

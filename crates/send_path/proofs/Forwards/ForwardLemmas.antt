@@ -51,12 +51,12 @@ use Rattle.send_path.specs.Sound.{IsSound}
 use Rattle.send_path.specs.Threads.{answered, changed_thread}
 use Rattle.send_path.specs.declared.holding.HeldAt.{HeldAt}
 use Rattle.send_path.specs.declared.seats.Reached.{Reached}
-use Rattle.send_path.proofs.ArriveLemmas.{receiver_alike}
-use Rattle.send_path.proofs.ReturnLemmas.{held_alike, holder_alike, its_holder, its_kind, left_shown, message_number}
-use Rattle.send_path.proofs.RowLemmas.{served_so}
-use Rattle.send_path.proofs.SeatLemmas.{seats_counted, server_changed, server_there}
-use Rattle.send_path.proofs.SendRowLemmas.{arrived_shown}
-use Rattle.send_path.proofs.SentLemmas.{arrival_shown}
+use Rattle.send_path.proofs.Sends.ArriveLemmas.{receiver_alike}
+use Rattle.send_path.proofs.Receivers.ReturnLemmas.{held_alike, holder_alike, its_holder, its_kind, left_shown, message_number}
+use Rattle.send_path.proofs.Rows.RowLemmas.{served_so}
+use Rattle.send_path.proofs.Servers.SeatLemmas.{seats_counted, server_changed, server_there}
+use Rattle.send_path.proofs.Sends.SendRowLemmas.{arrived_shown}
+use Rattle.send_path.proofs.Sends.SentLemmas.{arrival_shown}
 
 and_assoc : (a b c : Bool) → ((a && b) && c) ≡ (a && (b && c))
 and_assoc true b c = refl

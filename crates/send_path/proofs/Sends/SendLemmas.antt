@@ -41,11 +41,11 @@ use Rattle.send_path.specs.Sending.{MayGo, arrival_of, asked_words, pages_answer
 use Rattle.send_path.specs.Sound.{IsAboveMessages, IsLoanOf, IsSoundOver}
 use Rattle.send_path.specs.declared.seats.Reached.{Reached}
 use Rattle.send_path.specs.declared.sending.Asked.{Asked}
-use Rattle.send_path.proofs.MatchedSendLemmas.{fresh}
-use Rattle.send_path.proofs.ReachedLemmas.{arrival_low}
-use Rattle.send_path.proofs.SendRowLemmas.{full, no_kind, no_run, no_server, pages_refused, run_found}
-use Rattle.send_path.proofs.SentLemmas.{at_send, reached_there, server, unreached}
-use Rattle.send_path.proofs.SentSoundLemmas.{loan_made, made_is}
+use Rattle.send_path.proofs.Sends.MatchedSendLemmas.{fresh}
+use Rattle.send_path.proofs.Servers.ReachedLemmas.{arrival_low}
+use Rattle.send_path.proofs.Sends.SendRowLemmas.{full, no_kind, no_run, no_server, pages_refused, run_found}
+use Rattle.send_path.proofs.Sends.SentLemmas.{at_send, reached_there, server, unreached}
+use Rattle.send_path.proofs.Sends.SentSoundLemmas.{loan_made, made_is}
 
 -- ---- the answer of the tests of pages
 

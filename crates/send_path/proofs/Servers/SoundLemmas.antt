@@ -15,7 +15,7 @@ use Rattle.xk_base.specs.declared.ids.ThreadId.{ThreadId}
 use Rattle.send_path.specs.Seats.{HasLoanIfLend, IsSeatOf, messages_at}
 use Rattle.send_path.specs.Parts.{Tables, server_with, with_tables}
 use Rattle.send_path.specs.Sound.{AreSeatsSound, AreTablesSound}
-use Rattle.send_path.proofs.SeatLemmas.{seat_changed, seat_is_there, seat_other, seats_counted, server_there}
+use Rattle.send_path.proofs.Servers.SeatLemmas.{seat_changed, seat_is_there, seat_other, seats_counted, server_there}
 
 pub seats_changed : (servers : Servers) (seats : List Seat) (serial k : ℕ) → AreSeatsSound (servers_of servers) seats
     → IsSeatOf (servers_of servers) serial k → (f : Seat → Seat) → All HasLoanIfLend (messages_at (f (seat_of seats k)))

@@ -34,8 +34,8 @@ use Rattle.send_path.specs.Arrivals.{IsReached}
 use Rattle.send_path.specs.Parts.{Parts, server_with, state_of, thread_of, with_parts, with_tables}
 use Rattle.send_path.specs.Sound.{IsSound, IsSoundOver}
 use Rattle.send_path.specs.declared.seats.Reached.{Reached}
-use Rattle.send_path.proofs.SeatLemmas.{seat_in_limit, server_there}
-use Rattle.send_path.proofs.ThreadLemmas.{ready_id}
+use Rattle.send_path.proofs.Servers.SeatLemmas.{seat_in_limit, server_there}
+use Rattle.send_path.proofs.Rows.ThreadLemmas.{ready_id}
 
 pub reached : (connections : List Serial) (cid : ℕ) (servers : ServerState) (to : Reached) → connected_to connections cid ≡ Some to.serial
     → option_map (λ v. v.pid) (servers.live to.serial.0) ≡ Some to.pid → option_map (λ v. v.seat) (servers.live to.serial.0) ≡ Some to.seat
