@@ -107,7 +107,7 @@ module _ (m : Machine) (w : List ℕ) (free : is_refused_caller m w ≡ false) w
   pub terminate_is : (exit : ℕ) → DiesPlainly m.cursor.pid m → Asks w (TerminateProcess exit)
       → Served (record { machine = forgotten m.cursor.pid m; answers = no_answers; delivery = None; gone = Some m.cursor.pid }) ≡ call m w
   unfolding terminate_call
-  terminate_is exit plain (n, a) = sym (by_number m w 22 n refl free ∙ ap Served plain)
+  terminate_is exit plain (n, a) = sym (by_number m w 22 n refl free ∙ ap Served plain.death)
 
   pub create_server_is : (sid : Sid) → Asks w (CreateServerWithAddress sid)
       → unless_refused (create_server_refusals m sid) (Served (create_server_served m sid)) ≡ call m w

@@ -32,7 +32,7 @@ use Rattle.process_table.specs.ProcessMap.{change, connections_of}
 use Rattle.process_table.specs.ProcessesOf.{process_count, processes_of}
 use Rattle.process_table.specs.State.{ProcessState, connection, with_connection}
 use Rattle.process_table.specs.declared.table.Processes.{Processes}
-use Rattle.send_path.proofs.SeatSearchLemmas.{seat_found}
+use Rattle.send_path.proofs.Servers.SeatSearchLemmas.{seat_found}
 use Rattle.send_path.specs.Parts.{process_of, server_of}
 use Rattle.send_path.specs.Seats.{HasNoServer}
 use Rattle.send_path.specs.Sound.{AreLoansAt, AreLoansSound, AreSeatsSound}

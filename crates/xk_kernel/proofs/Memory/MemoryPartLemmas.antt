@@ -1,5 +1,5 @@
 -- The kernel with a memory that has the same rights and loans.
-use Rattle.std.proofs.Common.{◌≡◌, ℕ, Bool, ◌&&◌, IsSome, Option, Some, None, is_some, refl, sym, ap, subst, ◌∙◌}
+use Rattle.std.proofs.Common.{◌≡◌, ℕ, Bool, ◌&&◌, IsSome, Option, Some, None, is_some, refl, sym, ap, ◌∙◌}
 use Rattle.std.specs.Prelude.{◌||◌, if◌then◌else◌}
 use Rattle.std.specs.Option.{option_map}
 use Rattle.boot_plan.specs.Capacity.{capacity}
@@ -8,8 +8,7 @@ use Rattle.xk_base.specs.declared.ids.ThreadId.{ThreadId}
 use Rattle.xk_base.specs.Tables.Circle.{is_thread_id}
 use Rattle.xk_base.specs.declared.limits.TheConstants.{TIMER_INTERRUPT}
 use Rattle.xk_base.specs.UserMemory.{Memory as SeenMemory, Timer, timer_at}
-use Rattle.kill_path.specs.Open.{AreServersSound}
-use Rattle.ledger_model.specs.Loans.{Loans, loans}
+use Rattle.ledger_model.specs.Loans.{loans}
 use Rattle.ledger_model.proofs.Stepping.WritingLemmas.{bare-loans}
 use Rattle.irq_claims.specs.ClaimsOf.{claims_of}
 use Rattle.machine_model.specs.State.Machine.{Claim, Machine}
@@ -22,6 +21,7 @@ use Rattle.vm_memory.specs.Using.UserView.{KeepsRest, seen_memory, user_view}
 use Rattle.xk_kernel.specs.Sound.{IsWhole, Keeps}
 use Rattle.xk_kernel.specs.State.{claim_of, machine_of}
 use Rattle.xk_kernel.specs.declared.kernel.Kernel.{Kernel}
+use Rattle.xk_kernel.proofs.Memory.KeptLoanLemmas.{servers_over}
 
 -- ---- the machine
 
@@ -80,9 +80,8 @@ module _ {W P : Type 0} (is_honest : W → Bool) (held : W → Held) (slot_count
     procs = whole.procs ∙ sym procs;
     cursor = ap (λ n. is_thread_id n k.cursor) procs ∙ whole.cursor;
     room = whole.room;
-    servers =
-        subst (λ (n : ℕ). AreServersSound n (loans (ledger held mem)) k.servers k.queues) (sym procs)
-        (subst (λ (l : Loans). AreServersSound (processes k.mem) l k.servers k.queues) (sym (bare-loans (ledger held k.mem) (ledger held mem) rest.rights)) whole.servers);
+    servers = servers_over k.servers k.queues (processes k.mem) (processes mem) (loans (ledger held k.mem)) (loans (ledger held mem)) procs
+        (bare-loans (ledger held k.mem) (ledger held mem) rest.rights) whole.servers;
     untimed = whole.untimed;
   }
 

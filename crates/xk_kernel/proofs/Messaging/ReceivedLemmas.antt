@@ -9,7 +9,7 @@ use Rattle.machine_model.specs.State.Changes.{Change, Outcome, Refused, Retried,
 use Rattle.machine_model.specs.State.Machine.{Machine}
 use Rattle.machine_model.specs.State.Order.{ready_at}
 use Rattle.machine_model.specs.State.Threads.{answer_to}
-use Rattle.send_path.proofs.ReceiveLemmas.{still_matched}
+use Rattle.send_path.proofs.Receivers.ReceiveLemmas.{still_matched}
 use Rattle.send_path.specs.Parts.{Tables, with_parts, with_tables}
 use Rattle.send_path.specs.Rows.{IsServed, IsTableRow, receive_row}
 use Rattle.send_path.specs.Sound.{AreLoansSound, AreSeatsSound, IsSound as ArePartsSound}

@@ -116,6 +116,10 @@ returns-in-Yield-clause-outcome g c words asks =
     (c.requires.free words asks)
     (subst (Asks words) c.in-Yield.is asks)
 
+pub forget-requires-clause-no_loan : goal.forget-requires-clause-no_loan
+unfolding machine_of
+forget-requires-clause-no_loan g c = (c.requires.plain c.in-TerminateProcess.exit c.in-TerminateProcess.is).no_loan
+
 pub returns-in-TerminateProcess-clause-outcome : goal.returns-in-TerminateProcess-clause-outcome
 unfolding machine_of
 returns-in-TerminateProcess-clause-outcome g c words asks =
