@@ -1,5 +1,6 @@
 pub mod HeapGrowthLemmas
 pub mod HeapLemmas
+pub mod KeptLoanLemmas
 pub mod LedgerAfterLemmas
 pub mod LoanLemmas
 pub mod MapLemmas

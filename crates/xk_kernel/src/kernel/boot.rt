@@ -1,9 +1,9 @@
 //! A kernel is booted.
 
 ghost use Rattle.std.specs.Option.{option_map};
-ghost use Rattle.std.specs.Prelude.{◌≡◌, ◌≤◌, ◌==◌, if◌then◌else◌, [], All, None, IfErr, IfOk, length};
+ghost use Rattle.std.specs.Prelude.{◌≡◌, ◌≤◌, ◌==◌, if◌then◌else◌, [], All, None, IfErr, IfOk, length, replicate};
 ghost use Rattle.boot_plan.specs.Lawful.{CanStart, IsLawfulPlan};
-ghost use Rattle.msg_queue.specs.Seats.{used_of};
+ghost use Rattle.msg_queue.specs.Seats.{empty_seat};
 ghost use Rattle.process_table.specs.ProcessMap.{new_processes};
 ghost use Rattle.process_table.specs.ProcessesOf.{process_count as processes_made, processes_of};
 ghost use Rattle.server_table.specs.ServerState.{no_servers};
@@ -16,7 +16,7 @@ ghost use Rattle.vm_memory.specs.Tie.{IsTied};
 ghost use Rattle.xk_base.specs.Tables.Circle.{IsPid};
 ghost use Rattle.xk_base.specs.declared.ids.ThreadId.{ThreadId as Id};
 ghost use Rattle.xk_base.specs.declared.ids.Tid.{Tid as TidNumber};
-ghost use Rattle.xk_base.specs.declared.limits.TheConstants.{RECORD_LIMIT};
+ghost use Rattle.xk_base.specs.declared.limits.TheConstants.{RECORD_LIMIT, SERVER_LIMIT};
 ghost use Rattle.xk_kernel.specs.Sound.{IsSound, IsUsable};
 ghost use Rattle.xk_kernel.specs.Start.{first_threads, start, threads_at_start};
 ghost use Rattle.send_path.specs.Parts.{thread_of};
@@ -83,7 +83,7 @@ fn tables(alloc: Global, plan: &BootPlan) -> Result<Tables, NoMemory>
     ensures made { IfOk result (λ t. processes_made t.1 ≡ length plan.now.procs) }
     ensures servers { IfOk result (λ t. servers_of t.2 ≡ no_servers) }
     ensures log { IfOk result (λ t. t.3 ≡ record { step = 0; records = []; room = RECORD_LIMIT }) }
-    ensures queues { IfOk result (λ t. All (λ seat. used_of seat ≡ 0) t.4) }
+    ensures queues { IfOk result (λ t. t.4 ≡ replicate SERVER_LIMIT empty_seat) }
 {
     let count = plan.procs.as_slice().len() as u32;
     let mut threads = Threads::new(alloc, count)?;

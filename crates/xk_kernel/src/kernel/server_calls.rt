@@ -2,8 +2,10 @@
 
 ghost use Rattle.std.specs.Prelude.{◌≡◌, ◌<◌, ◌∷◌, true};
 ghost use Rattle.machine_model.specs.Calling.ServerCalls.{connect_refusals, connect_served, create_server_refusals, create_server_served, is_missing};
+ghost use Rattle.machine_model.specs.Runs.Matched.{Matched};
 ghost use Rattle.machine_model.specs.State.Changes.{Served, unless_refused, unless_retried};
 ghost use Rattle.machine_model.specs.State.Connections.{connect_caller, own_connections};
+ghost use Rattle.machine_model.specs.State.Order.{ready_at};
 ghost use Rattle.server_table.specs.ServersOf.{servers_of};
 ghost use Rattle.xk_base.specs.Tables.Connections.{cid_for, has_room};
 ghost use Rattle.xk_base.specs.declared.errors.XousError.TheVariants.{ServerNotFound as NotFound};
@@ -45,6 +47,8 @@ impl<W: SwapStore> Kernel<W> {
     // CreateServerWithAddress: a server of the caller's process, to which the caller is connected.
     pub(super) fn create_server(&mut self, sid: Sid) -> Result<CallerFate, XousError>
         requires whole { IsWhole W.slot_count W.held self.old }
+        requires matched { Matched (machine_of W.held self.old) }
+        requires ready { ready_at (machine_of W.held self.old) self.old.cursor ≡ true }
         requires serials { (servers_of self.old.servers).next < 4294967295 }
         ensures whole { IsWhole W.slot_count W.held self.new }
         ensures outcome { outcome_of self.old.cursor (machine_of W.held self.new) result ≡ unless_refused (create_server_refusals (machine_of W.held self.old) sid) (Served (create_server_served (machine_of W.held self.old) sid)) }
