@@ -3,6 +3,7 @@ pub mod KeepLemmas
 pub mod EndingLemmas
 pub mod OpenLemmas
 pub mod CloseLemmas
+pub mod CloseAllLemmas
 pub mod TellLemmas
 pub mod ReceivingLemmas
 pub mod FitLemmas

@@ -3,8 +3,10 @@
 
 mod answered;
 mod closing;
+mod closing_all;
 mod destroying;
 mod leaving;
 mod telling;
 
+pub use closing_all::close_all;
 pub use destroying::destroy;
