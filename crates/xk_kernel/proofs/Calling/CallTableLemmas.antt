@@ -2,8 +2,7 @@
 use Rattle.std.proofs.Common.{◌≡◌, ℕ, Bool, true, false, List, ◌∷◌, [], None, Some, refl, sym, ap, ◌∙◌}
 use Rattle.std.specs.Prelude.{◌==◌, ◌&&◌, ◌||◌, ◌≢◌, not, if◌then◌else◌, Result, Ok, Err}
 use Rattle.std.specs.List.{list_any}
-use Rattle.std.proofs.lemmas.Bool.{false≢true, ne_eqb}
-use Rattle.std.proofs.Math.Bool.{and-false}
+use Rattle.std.proofs.lemmas.Bool.{false≢true}
 use Rattle.machine_laws.proofs.Stepping.PlainServerLemmas.{outside_refused}
 use Rattle.machine_model.specs.Calling.Calls.{call, call_at, call_table}
 use Rattle.machine_model.specs.Calling.InterruptCalls.{claim_call, claim_refusals, claim_served, free_call, free_refusals, free_served}
@@ -21,8 +20,9 @@ use Rattle.xk_kernel.specs.Alone.{DiesPlainly}
 use Rattle.syscall_codec.specs.Calls.{Asks}
 use Rattle.syscall_codec.specs.declared.calls.Call.{Call}
 use Rattle.syscall_codec.specs.declared.calls.Call.TheVariants.{MapMemory, Yield, ClaimInterrupt, FreeInterrupt, IncreaseHeap, DecreaseHeap, UpdateMemoryFlags, CreateServerWithAddress, ReceiveMessage, SendMessage, Connect, CreateThread, UnmapMemory, ReturnMemory, TerminateProcess, TrySendMessage, TryConnect, ReturnScalar1, ReturnScalar2, TryReceiveMessage, JoinThread, DestroyServer, GetThreadId, GetProcessId, ForwardMessage}
-use Rattle.xk_base.specs.Calls.CallNumbers.{claim_interrupt, free_interrupt, is_call_number}
-use Rattle.xk_base.specs.Calls.CallWords.{call_number, interrupt_number, is_refused_to_handler}
+use Rattle.xk_base.specs.Calls.CallNumbers.{claim_interrupt, connect, free_interrupt, is_call_number, join_thread, receive_message, send_message, try_send_message}
+use Rattle.xk_base.specs.Calls.CallWords.{call_number, interrupt_number, is_refused_to_handler, send_kind}
+use Rattle.xk_base.specs.Calls.Kinds.{is_waiting_kind}
 use Rattle.xk_base.specs.Calls.Replies.{plain_words, scalar1_words, thread_words}
 use Rattle.xk_base.specs.declared.errors.XousError.{XousError}
 use Rattle.xk_base.specs.declared.limits.TheConstants.{TIMER_INTERRUPT}
@@ -130,16 +130,6 @@ module _ (m : Machine) (w : List ℕ) (free : is_refused_caller m w ≡ false) w
       sym (by_number m w 25 n refl free
       ∙ (λ i. unless_refused ((is_missing m (record { 0 = a i }), ServerNotFound) ∷ connect_refusals m (record { 0 = a i })) (Served (connect_served m (record { 0 = a i })))))
 
--- ---- who may make it
-
--- another thread than the interrupt thread may make every call
-pub free_by_tid : (m : Machine) (w : List ℕ) → m.cursor.tid.0 ≢ 1 → is_refused_caller m w ≡ false
-free_by_tid m w other = ap (λ b. b && is_refused_to_handler w) (ne_eqb m.cursor.tid.0 1 other)
-
--- every thread may make a call that can't wait
-pub free_by_call : (m : Machine) (w : List ℕ) → is_refused_to_handler w ≡ false → is_refused_caller m w ≡ false
-free_by_call m w e = ap (λ b. m.cursor.tid.0 == 1 && b) e ∙ and-false (m.cursor.tid.0 == 1)
-
 -- ---- which calls there are
 
 -- the number of words that ask for a call is one of the table
@@ -171,11 +161,10 @@ known w GetProcessId h = ap is_call_number h
 known w (ForwardMessage a b) h = ap is_call_number h.0
 
 -- one that is refused to its caller, the interrupt thread
-pub refused_to_handler : (m : Machine) (w : List ℕ) (asked : Call) → Asks w asked → m.cursor.tid.0 ≡ 1 → is_refused_to_handler w ≡ true
-    → call m w ≡ Refused InvalidSyscall
+pub refused_to_handler : (m : Machine) (w : List ℕ) (asked : Call) → Asks w asked → is_refused_caller m w ≡ true → call m w ≡ Refused InvalidSyscall
 unfolding call
-refused_to_handler m w asked h handler waits = λ i.
-    refused_or (if not (known w asked h i) then Some UnhandledSyscall else (if (handler i == 1) && waits i then Some InvalidSyscall else None))
+refused_to_handler m w asked h refused = λ i.
+    refused_or (if not (known w asked h i) then Some UnhandledSyscall else (if refused i then Some InvalidSyscall else None))
     (call_at (call_number w) call_table m w)
 
 -- it is one of those that are built, and none on messages
@@ -346,6 +335,19 @@ module _ (m : Machine) (w : List ℕ) (free : is_refused_caller m w ≡ false) w
   receive_is sid (n, a) =
       sym (by_number m w 15 n refl free
       ∙ (λ i. unless_refused (own_server_refusals m (record { 0 = a i })) (Served (receive_served m (record { 0 = a i })))))
+
+  -- the interrupt thread can't make that one
+  pub receiver_waits : (sid : Sid) → Asks w (ReceiveMessage sid) → (m.cursor.tid.0 == 1) ≡ false
+  receiver_waits sid (n, a) = go (m.cursor.tid.0 == 1) refl
+    where
+      waits : is_refused_to_handler w ≡ true
+      waits =
+          ap (λ k. k == receive_message || call_number w == send_message || call_number w == connect || call_number w == join_thread
+          || (call_number w == try_send_message && is_waiting_kind (send_kind w))) n
+
+      go : (b : Bool) → (m.cursor.tid.0 == 1) ≡ b → (m.cursor.tid.0 == 1) ≡ false
+      go false e = e
+      go true e = absurd (false≢true (sym free ∙ (λ i. e i && waits i)))
 
   pub try_receive_is : (sid : Sid) → Asks w (TryReceiveMessage sid) → receive_row sid false m ≡ call m w
   unfolding try_receive_call

@@ -3,7 +3,7 @@ use Rattle.std.proofs.Common.{◌≡◌, ℕ, ◌<◌, Bool, true, false, inl, i
 use Rattle.std.specs.Prelude.{◌≢◌, is_some, unwrap_or, if◌then◌else◌, Option}
 use Rattle.std.specs.Option.{option_map}
 use Rattle.std.proofs.lemmas.Bool.{cases_lt}
-use Rattle.std.proofs.lemmas.List.{append-nil, append_assoc}
+use Rattle.std.proofs.lemmas.List.{append_assoc}
 use Rattle.machine_laws.proofs.Threading.ThreadAnswerLemmas.{same_thread-self, IsReadyThread, ready_thread}
 use Rattle.machine_laws.proofs.Threading.ThreadPutLemmas.{alike}
 use Rattle.machine_model.specs.State.Changes.{Outcome, Refused, Retried, Served, Told, answering, call_settled, only, replies, settled, with_refusal}

@@ -1,6 +1,6 @@
 -- The parts of a kernel that a call on messages takes: they are sound, the machine that they stand for is the kernel's, and a kernel
 -- with sound parts is whole.
-use Rattle.std.proofs.Common.{◌≡◌, ℕ, ◌+◌, ◌≤◌, Bool, true, refl, sym, ap, subst, ◌∙◌, arith}
+use Rattle.std.proofs.Common.{◌≡◌, ℕ, ◌≤◌, Bool, true, refl, sym, ap, subst, ◌∙◌, arith}
 use Rattle.kill_path.proofs.FitLemmas.{open_loans, sound_servers}
 use Rattle.ledger_model.specs.Loans.{loans}
 use Rattle.machine_model.specs.Runs.Matched.{Matched}
@@ -9,14 +9,12 @@ use Rattle.send_path.specs.Forwarding.{with_all}
 use Rattle.send_path.specs.Parts.{Parts, Tables, parts_of, tables_of, with_parts, with_tables}
 use Rattle.send_path.specs.Sending.{with_next}
 use Rattle.send_path.specs.Sound.{AreTablesSound, IsSound as ArePartsSound, IsSoundOver, KeepsMemory}
-use Rattle.server_table.specs.ServersOf.{servers_of}
 use Rattle.sv32_space.specs.Tie.{Held}
 use Rattle.thread_table.specs.ThreadsOf.{process_count}
 use Rattle.vm_memory.specs.Memory.{ledger, processes, size, store_of}
 use Rattle.xk_base.specs.Tables.Circle.{is_thread_id}
 use Rattle.xk_base.specs.declared.limits.TheConstants.{RECORD_LIMIT}
 use Rattle.xk_ports.specs.Keeping.{KeepsStore}
-use Rattle.xk_kernel.specs.Calling.{IsCaller}
 use Rattle.xk_kernel.specs.Sound.{IsUsable, IsWhole, Keeps}
 use Rattle.xk_kernel.specs.State.{machine_of}
 use Rattle.xk_kernel.specs.declared.kernel.Kernel.{Kernel}

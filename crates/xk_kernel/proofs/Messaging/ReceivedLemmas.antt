@@ -1,13 +1,11 @@
 -- The parts that a receive leaves are sound.
-use Rattle.std.proofs.Common.{◌≡◌, ℕ, ◌+◌, Bool, true, false, Option, Some, None, Ok, sym, ap, subst, ◌∙◌, refl}
+use Rattle.std.proofs.Common.{◌≡◌, ℕ, ◌+◌, Bool, true, false, Option, Some, None, Ok, sym, ap, ◌∙◌, refl}
 use Rattle.std.specs.Prelude.{◌==◌, ◌&&◌, if◌then◌else◌}
 use Rattle.ledger_model.specs.Loans.{loans}
 use Rattle.machine_model.specs.Calling.ServerCalls.{named_server, own_server_refusals}
 use Rattle.machine_model.specs.Messaging.ReceiveCalls.{oldest_queued, receive_served, received, try_receive_served, waits_at}
-use Rattle.machine_model.specs.Runs.Matched.{Matched}
 use Rattle.machine_model.specs.State.Changes.{Change, Outcome, Refused, Retried, Served, answering, call_settled, first_refusal, only, refused_or, settled}
 use Rattle.machine_model.specs.State.Machine.{Machine}
-use Rattle.machine_model.specs.State.Order.{ready_at}
 use Rattle.machine_model.specs.State.Threads.{answer_to}
 use Rattle.send_path.proofs.Receivers.ReceiveLemmas.{still_matched}
 use Rattle.send_path.specs.Parts.{Tables, with_parts, with_tables}
@@ -19,7 +17,6 @@ use Rattle.thread_table.specs.ThreadsOf.{process_count}
 use Rattle.vm_memory.specs.Memory.{ledger}
 use Rattle.xk_base.specs.Calls.Replies.{plain_words}
 use Rattle.xk_base.specs.declared.errors.XousError.{XousError}
-use Rattle.xk_base.specs.declared.ids.Serial.{Serial}
 use Rattle.xk_base.specs.declared.ids.Sid.{Sid}
 use Rattle.xk_base.specs.declared.messages.Message.{Message}
 use Rattle.xk_kernel.specs.Calling.{IsCaller}
@@ -39,7 +36,7 @@ module _ (m : Machine) (sid : Sid) where
     where
       by : (b : Bool) (o : Option Message)
           → (if b then received m (named_server m sid) o (waits_at (named_server m sid) m)
-             else received m (named_server m sid) o (answering (answer_to m.cursor plain_words) m)).machine.processes ≡ m.processes
+          else received m (named_server m sid) o (answering (answer_to m.cursor plain_words) m)).machine.processes ≡ m.processes
       by true None = refl
       by true (Some message) = refl
       by false None = refl

@@ -1,8 +1,8 @@
 -- What the words of a send say: that it is one, that its caller may make it, and what it means that its server is full.
-use Rattle.std.proofs.Common.{◌≡◌, ℕ, Bool, true, false, List, refl, sym, ap, subst, ◌∙◌}
+use Rattle.std.proofs.Common.{◌≡◌, ℕ, Bool, true, false, List, refl, sym, ap, ◌∙◌}
 use Rattle.std.specs.Prelude.{◌==◌, ◌&&◌, ◌||◌, if◌then◌else◌}
 use Rattle.std.proofs.lemmas.Bool.{false≢true}
-use Rattle.machine_model.specs.State.Changes.{Outcome, Refused, Retried}
+use Rattle.machine_model.specs.State.Changes.{Refused, Retried}
 use Rattle.machine_model.specs.State.Machine.{Machine}
 use Rattle.send_path.specs.Sending.{send_row}
 use Rattle.xk_base.specs.Calls.CallNumbers.{connect, join_thread, receive_message, send_message, try_send_message}

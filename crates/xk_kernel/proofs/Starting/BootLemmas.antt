@@ -1,6 +1,6 @@
 -- The kernel that is booted is sound, and stands for the machine at the start.
 use Rattle.std.proofs.Common.{◌≡◌, ◌⊎◌, ℕ, ◌≤◌, Bool, true, false, List, [], length, Option, Some, None, refl, sym, ap, subst, ◌∙◌, arith, inl, inr}
-use Rattle.std.specs.Prelude.{◌<◌, ◌==◌, if◌then◌else◌, IsTrue, replicate}
+use Rattle.std.specs.Prelude.{◌==◌, if◌then◌else◌, IsTrue, replicate}
 use Rattle.std.specs.List.{All}
 use Rattle.std.specs.Option.{option_and_then, option_map, option_map_or}
 use Rattle.std.proofs.lemmas.Bool.{cases_Bool, cases_lt, cond-false, eqb-true}

@@ -59,6 +59,13 @@ impl<W: SwapStore> Kernel<W> {
         }
     }
 
+    // Whether the caller is the interrupt thread, and the call can make it wait.
+    fn is_refused(&self, asked: &Call) -> bool
+        ensures { (words : List ℕ) → Asks words asked.now → result ≡ is_refused_caller (machine_of W.held self.now) words }
+    {
+        self.cursor.tid.0 == 1 && can_wait(asked)
+    }
+
     // The call that these words ask for takes place. A call on messages answers its caller itself.
     fn call_asked(&mut self, words: [u32; 8], asked: Call) -> Result<(), SwapFault>
         requires calls { IsCaller W.slot_count W.held self.old }
@@ -72,7 +79,7 @@ impl<W: SwapStore> Kernel<W> {
         ensures keeps { Keeps W.is_honest W.held W.slot_count W.asked W.faults self.old self.new }
         ensures sure { IsOk result }
     {
-        if self.cursor.tid.0 == 1 && can_wait(&asked) {
+        if self.is_refused(&asked) {
             self.refuse(XousError::InvalidSyscall);
             return Ok(());
         }

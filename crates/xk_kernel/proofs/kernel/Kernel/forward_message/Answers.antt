@@ -1,5 +1,5 @@
 -- A message is forwarded, or the caller refused.
-use Rattle.std.proofs.Common.{◌≡◌, ap, subst, sym, ◌∙◌}
+use Rattle.std.proofs.Common.{◌∙◌}
 use Rattle.machine_model.specs.State.Changes.{Refused}
 use Rattle.send_path.specs.Forwarding.{with_all}
 use Rattle.send_path.specs.Parts.{parts_of}

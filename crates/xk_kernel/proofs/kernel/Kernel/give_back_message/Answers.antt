@@ -1,5 +1,5 @@
 -- A message is given back, or the caller refused.
-use Rattle.std.proofs.Common.{◌≡◌, ap, subst, sym, ◌∙◌}
+use Rattle.std.proofs.Common.{◌∙◌}
 use Rattle.machine_model.specs.State.Changes.{Refused}
 use Rattle.send_path.specs.Parts.{parts_of, with_parts}
 use Rattle.send_path.specs.Rows.{table_row}

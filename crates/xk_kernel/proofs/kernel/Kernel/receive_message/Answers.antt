@@ -1,17 +1,16 @@
 -- A message is received or waited for, or the caller refused.
-use Rattle.std.proofs.Common.{◌≡◌, refl, ap, subst, sym, ◌∙◌}
+use Rattle.std.proofs.Common.{refl, ap, ◌∙◌}
 use Rattle.ledger_model.specs.Loans.{loans}
 use Rattle.kill_path.proofs.FitLemmas.{open_loans}
 use Rattle.machine_model.specs.State.Changes.{Refused}
 use Rattle.send_path.specs.Parts.{Parts, Tables, tables_of, with_tables}
 use Rattle.send_path.specs.Rows.{receive_row}
 use Rattle.send_path.specs.Sound.{IsSound as ArePartsSound}
-use Rattle.sv32_space.specs.Tie.{Held}
 use Rattle.vm_memory.specs.Memory.{ledger}
 use Rattle.xk_kernel.specs.State.{machine_of}
 use Rattle.xk_kernel.proofs.Acting.OrderLemmas.{ready_is}
-use Rattle.xk_kernel.proofs.Messaging.PartsLemmas.{left_alone, left_ready, machine_tables, new_whole, parts, tables, tables_sound, with_new}
-use Rattle.xk_kernel.proofs.Messaging.ReceivedLemmas.{received_count, received_sound}
+use Rattle.xk_kernel.proofs.Messaging.PartsLemmas.{left_alone, left_ready, machine_tables, new_whole, tables, tables_sound, with_new}
+use Rattle.xk_kernel.proofs.Messaging.ReceivedLemmas.{received_sound}
 use Rattle.xk_kernel.proofs.Messaging.RowLemmas.{served_room, served_settles, undone_settles}
 use Rattle.xk_kernel.proofs.kernel.Kernel.receive_message.Given.{Over}
 use Rattle.xk_kernel.proofs.kernel.Kernel.receive_message.Goals as goal

@@ -1,5 +1,5 @@
 -- A refused caller is past its call and has the error.
-use Rattle.std.proofs.Common.{◌≡◌, [], ◌∷◌, refl, ap, ◌∙◌}
+use Rattle.std.proofs.Common.{[], ◌∷◌, refl, ◌∙◌}
 use Rattle.machine_model.specs.State.Changes.{Refused, call_settled}
 use Rattle.machine_model.specs.State.Threads.{answer_to, change_thread, give_answers, passed}
 use Rattle.xk_base.specs.Calls.Replies.{refused_words}

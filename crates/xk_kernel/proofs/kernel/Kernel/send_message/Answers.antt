@@ -1,11 +1,10 @@
 -- A message is sent, or its server is full, or the caller refused.
-use Rattle.std.proofs.Common.{◌≡◌, ◌+◌, ◌<◌, ◌≤◌, true, false, refl, ap, subst, sym, ◌∙◌, arith}
+use Rattle.std.proofs.Common.{◌≡◌, ◌+◌, ◌<◌, ◌≤◌, ap, ◌∙◌, arith}
 use Rattle.std.specs.Prelude.{if◌then◌else◌}
 use Rattle.machine_model.specs.State.Changes.{Refused, Retried}
-use Rattle.machine_model.specs.State.Machine.{Machine}
-use Rattle.send_path.specs.Parts.{Parts, parts_of, with_parts}
+use Rattle.send_path.specs.Parts.{parts_of, with_parts}
 use Rattle.send_path.specs.Rows.{table_row}
-use Rattle.send_path.specs.Sending.{send_row, with_next}
+use Rattle.send_path.specs.Sending.{with_next}
 use Rattle.xk_base.specs.Calls.CallNumbers.{send_message, try_send_message}
 use Rattle.xk_base.specs.Calls.CallWords.{call_number}
 use Rattle.xk_base.specs.declared.errors.XousError.TheVariants.{ServerQueueFull}

@@ -1,5 +1,5 @@
 -- What a served call comes to is its row of the table.
-use Rattle.std.proofs.Common.{◌≤◌, ◌<◌, ◌+◌, ◌∙◌, sym, ap, subst, arith}
+use Rattle.std.proofs.Common.{◌≤◌, ◌<◌, ◌+◌, ◌∙◌, ap, subst, arith}
 use Rattle.std.proofs.lemmas.Result.{IfOk-weaker}
 use Rattle.machine_model.specs.State.Changes.{Served, answering}
 use Rattle.machine_model.specs.State.Threads.{answer_to}
