@@ -1,5 +1,3 @@
-pub mod AloneLemmas
-pub mod DeathOfLemmas
 pub mod DyingLemmas
 pub mod EndingLemmas
 pub mod EventLemmas

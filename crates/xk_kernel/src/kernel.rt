@@ -1,6 +1,5 @@
 //! The kernel.
 
-mod alone;
 mod boot;
 mod built;
 mod calls;

@@ -101,14 +101,6 @@ waits_is m next o e =
     ap (call_settled m) (sym e)
     ∙ (λ i. record { machine = nobody_answered (change_thread m.cursor passed next) i; told = no_reply next.processes i ++ ([] ++ []) })
 
--- its process died
-pub died_is : (m next : Machine) (pid : Pid) (o : Outcome) → Served (record (only next) { gone = Some pid }) ≡ o
-    → call_settled m o ≡ record { machine = change_thread m.cursor passed next; told = Gone pid ∷ [] }
-unfolding call_settled settled
-died_is m next pid o e =
-    ap (call_settled m) (sym e)
-    ∙ (λ i. record { machine = nobody_answered (change_thread m.cursor passed next) i; told = no_reply next.processes i ++ ([] ++ Gone pid ∷ []) })
-
 -- the call will be made again: the turn ends
 pub retried_is : (m : Machine) (o : Outcome) → Retried ≡ o → call_settled m o ≡ record { machine = turn m; told = Retry m.cursor ∷ [] }
 unfolding call_settled

@@ -56,7 +56,7 @@ unreserved_whole slot_count held k whole = record {
 
 -- ---- a process that lives
 
-alive_of : (o : Option ProcessState) → (process_of o).alive ≡ is_alive o
+pub alive_of : (o : Option ProcessState) → (process_of o).alive ≡ is_alive o
 alive_of None = refl
 alive_of (Some p) = refl
 

@@ -19,6 +19,8 @@ use Rattle.machine_model.specs.State.Changes.{Told, replies, settled}
 use Rattle.machine_model.specs.State.Machine.{Claim, Machine}
 use Rattle.machine_model.specs.State.Threads.{Answers}
 use Rattle.machine_model.specs.Stepping.Interrupts.{is_claim_of}
+use Rattle.process_table.specs.ProcessMap.{is_alive}
+use Rattle.process_table.specs.ProcessesOf.{processes_of}
 use Rattle.send_path.specs.Parts.{parts_of, with_parts, with_tables}
 use Rattle.send_path.specs.Sound.{KeepsMemory}
 use Rattle.sv32_space.specs.Tie.{Held}
@@ -38,6 +40,7 @@ use Rattle.xk_kernel.specs.declared.kernel.Kernel.{Kernel}
 use Rattle.xk_kernel.proofs.Acting.ThreadLemmas.{machine_of_log}
 use Rattle.xk_kernel.proofs.Calling.LogLemmas.{log_with-next}
 use Rattle.xk_kernel.proofs.Calling.TellingLemmas.{told_length}
+use Rattle.xk_kernel.proofs.Ending.EventLemmas.{alive_of}
 use Rattle.xk_kernel.proofs.Messaging.PartsLemmas.{new_keeps, new_usable}
 
 -- ---- records
@@ -76,6 +79,11 @@ all_machine : {W : Type 0} (held : W → Held) (k : Kernel W) (new : AllParts W)
     → with_all_parts held new (machine_of held k) ≡ machine_of held (with_all k new)
 unfolding machine_of with_all_parts with_parts with_tables
 all_machine held k new e = λ i. record (machine_of held (with_all k new)) { processes = e i }
+
+-- whether the process lives
+pub alive_told : {W : Type 0} (held : W → Held) (k : Kernel W) (pid : Pid) → is_living (machine_of held k) pid ≡ is_alive (processes_of k.procs pid.0)
+unfolding machine_of
+alive_told held k pid = alive_of (processes_of k.procs pid.0)
 
 -- ---- before
 

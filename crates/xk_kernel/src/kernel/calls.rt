@@ -7,13 +7,11 @@ ghost use Rattle.machine_model.specs.Runs.Matched.{Matched};
 ghost use Rattle.machine_model.specs.State.Order.{ready_at};
 ghost use Rattle.machine_model.specs.Stepping.Step.{after};
 ghost use Rattle.syscall_codec.specs.Calls.{Asks};
-ghost use Rattle.syscall_codec.specs.declared.calls.Call.TheVariants.{TerminateProcess};
-ghost use Rattle.xk_base.specs.Calls.CallNumbers.{terminate_process};
-ghost use Rattle.xk_base.specs.Calls.CallWords.{call_number};
+ghost use Rattle.xk_base.specs.Tables.Circle.{thread_ids};
+ghost use Rattle.xk_base.specs.declared.limits.TheConstants.{PROCESS_LIMIT};
 ghost use Rattle.xk_base.specs.declared.records.What.TheVariants.{Call as Called};
-ghost use Rattle.xk_kernel.specs.Alone.{DiesPlainly};
-ghost use Rattle.xk_kernel.specs.Built.{is_call_built, is_plain_call};
-ghost use Rattle.xk_kernel.specs.Calling.{IfUndone, IsCaller, is_refused_caller, outcome_of};
+ghost use Rattle.xk_kernel.specs.Built.{is_timer_claim};
+ghost use Rattle.xk_kernel.specs.Calling.{IfUndone, IsCaller, is_plain_call, is_refused_caller, outcome_of};
 ghost use Rattle.xk_kernel.specs.Sound.{IsUsable, IsWhole, Keeps};
 ghost use Rattle.xk_kernel.specs.State.{machine_of};
 ghost use Rattle.xk_kernel.specs.Telling.{Tells};
@@ -30,19 +28,16 @@ pub enum CallerFate {
     Answered(Reply),
     /// The caller waits.
     Waits,
-    /// The caller's process died.
-    Died,
     /// The caller will make the call again, which did nothing.
     Retries,
 }
 
 impl<W: SwapStore> Kernel<W> {
-    // The thread whose turn it is makes the call with these words, which is built.
+    // The thread whose turn it is makes the call with these words. It doesn't claim the timer's interrupt.
     pub(super) fn call(&mut self, words: [u32; 8]) -> Result<(), SwapFault>
         requires calls { IsCaller W.slot_count W.held self.old }
-        requires built { is_call_built words ≡ true }
-        requires plain { call_number words ≡ terminate_process → DiesPlainly self.old.cursor.pid (machine_of W.held self.old) }
-        requires room { length self.old.log.records + 3 ≤ self.old.log.room }
+        requires untimed { is_timer_claim words ≡ false }
+        requires room { length self.old.log.records + thread_ids PROCESS_LIMIT + 2 ≤ self.old.log.room }
         ensures whole { IsWhole W.slot_count W.held self.new }
         ensures usable { OnOk result (IsUsable self.new) }
         ensures tells { OnOk result (Tells W.held self.old self.new (after (Called self.old.cursor words) (call_settled (machine_of W.held self.old) (call (machine_of W.held self.old) words)))) }
@@ -66,13 +61,13 @@ impl<W: SwapStore> Kernel<W> {
         self.cursor.tid.0 == 1 && can_wait(asked)
     }
 
-    // The call that these words ask for takes place. A call on messages answers its caller itself.
+    // The call that these words ask for takes place. A call on messages, and one that ends a process or
+    // a server, answers who is to be answered itself.
     fn call_asked(&mut self, words: [u32; 8], asked: Call) -> Result<(), SwapFault>
         requires calls { IsCaller W.slot_count W.held self.old }
         requires asks { Asks words asked }
-        requires built { is_call_built words ≡ true }
-        requires plain { call_number words ≡ terminate_process → DiesPlainly self.old.cursor.pid (machine_of W.held self.old) }
-        requires room { length self.old.log.records + 2 ≤ self.old.log.room }
+        requires untimed { is_timer_claim words ≡ false }
+        requires room { length self.old.log.records + thread_ids PROCESS_LIMIT + 1 ≤ self.old.log.room }
         ensures whole { IsWhole W.slot_count W.held self.new }
         ensures usable { OnOk result (IsUsable self.new) }
         ensures tells { OnOk result (Tells W.held self.old self.new (call_settled (machine_of W.held self.old) (call (machine_of W.held self.old) words))) }
@@ -92,19 +87,21 @@ impl<W: SwapStore> Kernel<W> {
                 self.give_back_message(words);
             }
             Call::ForwardMessage { .. } => self.forward_message(words),
+            Call::TerminateProcess { .. } => self.terminate(),
+            Call::DestroyServer { sid } => self.destroy_server(sid),
             _ => return self.call_plain(words, asked),
         }
         Ok(())
     }
 
-    // The call that these words ask for, which is none on messages, is served, and its caller is past it
-    // and has its answer.
+    // The call that these words ask for, which is none of those, is served, and its caller is past it and
+    // has its answer.
     fn call_plain(&mut self, words: [u32; 8], asked: Call) -> Result<(), SwapFault>
         requires calls { IsCaller W.slot_count W.held self.old }
         requires asks { Asks words asked }
         requires free { is_refused_caller (machine_of W.held self.old) words ≡ false }
-        requires built { is_plain_call words ≡ true }
-        requires plain { call_number words ≡ terminate_process → DiesPlainly self.old.cursor.pid (machine_of W.held self.old) }
+        requires plain { is_plain_call words ≡ true }
+        requires untimed { is_timer_claim words ≡ false }
         requires room { length self.old.log.records + 2 ≤ self.old.log.room }
         ensures whole { IsWhole W.slot_count W.held self.new }
         ensures usable { OnOk result (IsUsable self.new) }
@@ -120,10 +117,6 @@ impl<W: SwapStore> Kernel<W> {
                 self.answer(who, reply_words(&reply));
             }
             Ok(CallerFate::Waits) => self.pass(who),
-            Ok(CallerFate::Died) => {
-                self.pass(who);
-                self.log.push(What::Gone(who.pid));
-            }
             Ok(CallerFate::Retries) => self.retry(),
             Err(error) => self.refuse(error),
         }
@@ -165,8 +158,8 @@ impl<W: SwapStore> Kernel<W> {
         requires matched { Matched (machine_of W.held self.old) }
         requires few { self.old.steps < 4000000000 }
         requires free { (words : List ℕ) → Asks words asked → is_refused_caller (machine_of W.held self.old) words ≡ false }
-        requires built { (words : List ℕ) × Asks words asked × (is_plain_call words ≡ true) }
-        requires plain { (exit : ℕ) → asked ≡ TerminateProcess exit → DiesPlainly self.old.cursor.pid (machine_of W.held self.old) }
+        requires plain { (words : List ℕ) × Asks words asked × (is_plain_call words ≡ true) }
+        requires untimed { (words : List ℕ) → Asks words asked → is_timer_claim words ≡ false }
         ensures whole { IsWhole W.slot_count W.held self.new }
         ensures usable { OnOk result (IsUsable self.new) }
         ensures outcome { IfOk result (λ served. (words : List ℕ) → Asks words asked → outcome_of self.old.cursor (machine_of W.held self.new) served ≡ call (machine_of W.held self.old) words) }
@@ -205,10 +198,6 @@ impl<W: SwapStore> Kernel<W> {
             Call::TryConnect { sid } => Ok(self.try_connect(sid)),
             Call::CreateThread { entry, sp, args } => Ok(self.create_thread(entry, sp, args)),
             Call::JoinThread { tid } => Ok(self.join_thread(tid)),
-            Call::TerminateProcess { .. } => {
-                self.forget(self.cursor.pid);
-                Ok(Ok(CallerFate::Died))
-            }
             Call::GetThreadId => Ok(Ok(CallerFate::Answered(Reply::Thread(self.cursor.tid)))),
             Call::GetProcessId => {
                 let pid = self.cursor.pid.0 as u32;

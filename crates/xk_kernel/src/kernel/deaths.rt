@@ -3,11 +3,10 @@
 ghost use Rattle.std.specs.Option.{option_map_or};
 ghost use Rattle.std.specs.Prelude.{◌≡◌, ◌+◌, ◌<◌, ◌≤◌, true, false, length, IsTrue};
 ghost use Rattle.machine_model.specs.State.Changes.{Served, answering, call_settled, settled};
-ghost use Rattle.machine_model.specs.Ending.Ends.{death, forgotten, is_joining, joiners_answered, thread_ended};
+ghost use Rattle.machine_model.specs.Ending.Ends.{death, is_joining, joiners_answered, thread_ended};
 ghost use Rattle.machine_model.specs.Runs.Matched.{Matched, is_living};
 ghost use Rattle.machine_model.specs.Stepping.Step.{after};
-ghost use Rattle.vm_memory.specs.Memory.{ledger, processes};
-ghost use Rattle.vm_memory.specs.Pages.Removing.{HasNoLoan};
+ghost use Rattle.vm_memory.specs.Memory.{processes};
 ghost use Rattle.xk_base.specs.Tables.Circle.{is_pid, thread_ids};
 ghost use Rattle.xk_base.specs.declared.limits.TheConstants.{PROCESS_LIMIT};
 ghost use Rattle.xk_base.specs.declared.records.What.TheVariants.{End};
@@ -25,25 +24,6 @@ use xk_base::{Pid, ThreadId, Tid, What};
 use xk_ports::SwapStore;
 
 impl<W: SwapStore> Kernel<W> {
-    // The pages, threads, connections, claims and pending interrupts of the process go, and it is
-    // dead. It lends nothing, and nothing is held at its places.
-    pub(super) fn forget(&mut self, pid: Pid)
-        requires whole { IsWhole W.slot_count W.held self.old }
-        requires usable { IsUsable self.old }
-        requires pid { IsTrue (is_pid (processes self.old.mem) pid.0) }
-        requires no_loan { HasNoLoan (ledger W.held self.old.mem) pid }
-        ensures whole { IsWhole W.slot_count W.held self.new }
-        ensures usable { IsUsable self.new }
-        ensures machine { machine_of W.held self.new ≡ forgotten pid (machine_of W.held self.old) }
-        ensures log { self.new.log ≡ self.old.log }
-        ensures keeps { Keeps W.is_honest W.held W.slot_count W.asked W.faults self.old self.new }
-    {
-        self.mem.forget_process(pid);
-        self.threads.end_process(pid);
-        self.procs.end(pid);
-        self.claims.end(pid);
-    }
-
     // The living process dies, which is told last. Who waits at its servers is answered before.
     pub(super) fn kill(&mut self, pid: Pid)
         requires whole { IsWhole W.slot_count W.held self.old }

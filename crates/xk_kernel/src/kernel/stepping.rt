@@ -19,6 +19,7 @@ ghost use Rattle.xk_kernel.specs.State.{as_reservation, machine_of};
 ghost use Rattle.xk_kernel.specs.Stepping.{DoesStep};
 ghost use Rattle.xk_kernel.specs.Telling.{log_with};
 
+use crate::kernel::built::call_built;
 use crate::kernel::interrupts::HANDLER_RETURN;
 use crate::kernel::threads::THREAD_RETURN;
 use crate::kernel::{Kernel, Stepped, SwapFault};
@@ -138,16 +139,13 @@ impl<W: SwapStore> Kernel<W> {
                 Ok(Acted::Done(reserved))
             }
             Ran::Trap { cause, value } => {
-                if !self.is_alone(who.pid) {
-                    return Ok(Acted::Unbuilt);
-                }
                 self.begin(who);
                 self.die(What::Fault(who, cause, value));
                 Ok(Acted::Done(reserved))
             }
             Ran::Ecall => {
                 let words = self.thread(who).regs.arguments();
-                if !self.call_built(who, &words) {
+                if !call_built(&words) {
                     return Ok(Acted::Unbuilt);
                 }
                 self.begin(who);
@@ -158,8 +156,7 @@ impl<W: SwapStore> Kernel<W> {
         }
     }
 
-    // The thread, whose step it is and which stands where threads end, ends with this in a0, where that
-    // is built.
+    // The thread, whose step it is and which stands where threads end, ends with this in a0.
     fn act_end(&mut self, who: ThreadId, a0: u32) -> Acted
         requires sound { IsSound W.slot_count W.held self.old }
         requires usable { IsUsable self.old }
@@ -171,9 +168,6 @@ impl<W: SwapStore> Kernel<W> {
         ensures acts { Acts W.held self.old self.new who result }
         ensures keeps { Keeps W.is_honest W.held W.slot_count W.asked W.faults self.old self.new }
     {
-        if !self.end_built(who) {
-            return Acted::Unbuilt;
-        }
         self.begin(who);
         self.end_thread(a0);
         Acted::Done(None)

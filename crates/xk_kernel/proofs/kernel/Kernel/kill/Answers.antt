@@ -1,20 +1,14 @@
 -- The death over the parts is the machine's, and its end is told last.
 use Rattle.std.proofs.Common.{◌≡◌, ◌+◌, ◌<◌, length, refl, sym, ap, ◌∙◌, arith}
-use Rattle.process_table.specs.ProcessMap.{is_alive}
-use Rattle.process_table.specs.ProcessesOf.{processes_of}
 use Rattle.send_path.specs.Parts.{parts_of}
 use Rattle.kill_path.specs.Dying.{AllParts}
-use Rattle.xk_kernel.proofs.Ending.AloneLemmas.{alive_told}
 use Rattle.xk_kernel.proofs.Ending.EventLemmas.{pushed_whole}
-use Rattle.xk_kernel.proofs.Ending.KillLemmas.{all_sound, dead_keeps, dead_usable, dead_whole, death_tells, room_left, with_all}
+use Rattle.xk_kernel.proofs.Ending.KillLemmas.{alive_told, all_sound, dead_keeps, dead_usable, dead_whole, death_tells, room_left, with_all}
 use Rattle.xk_kernel.proofs.kernel.Kernel.kill.Goals as goal
-
-pub kill-requires-clause-stub : goal.kill-requires-clause-stub
-kill-requires-clause-stub g c = ?
 
 pub kill-requires-clause-alive : goal.kill-requires-clause-alive
 kill-requires-clause-alive g c =
-    sym (alive_told g.W.SwapStore.held c.args.self.now c.args.pid (is_alive (processes_of c.args.self.now.procs c.args.pid.0)) refl) ∙ c.requires.alive
+    sym (alive_told g.W.SwapStore.held c.args.self.now c.args.pid) ∙ c.requires.alive
 
 pub kill-requires-clause-sound : goal.kill-requires-clause-sound
 kill-requires-clause-sound g c = all_sound g.W.SwapStore.slot_count g.W.SwapStore.held c.args.self.now c.requires.whole c.requires.matched
