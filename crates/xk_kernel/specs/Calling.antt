@@ -1,5 +1,5 @@
 -- Who makes a system call, and what came of it before its caller is past it: the one outcome of the call, by its row of the table.
-use Rattle.std.specs.Prelude.{◌≡◌, ℕ, ◌<◌, ◌==◌, ◌&&◌, Bool, true, List, Result, Ok, Err, Some, None, [], ◌∷◌, not}
+use Rattle.std.specs.Prelude.{◌≡◌, ℕ, ◌<◌, ◌==◌, ◌&&◌, Bool, true, List, Result, Ok, Err, [], ◌∷◌, not}
 use Rattle.std.specs.Bool.{⊤}
 use Rattle.std.specs.List.{list_any}
 use Rattle.machine_model.specs.State.Changes.{Outcome, Refused, Retried, Served, only, answering, unless_refused}

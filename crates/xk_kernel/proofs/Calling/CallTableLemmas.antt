@@ -1,7 +1,6 @@
 -- What comes of each call, by the words that ask for it.
 use Rattle.std.proofs.Common.{◌≡◌, ℕ, Bool, true, false, List, ◌∷◌, [], None, Some, refl, sym, ap, ◌∙◌}
 use Rattle.std.specs.Prelude.{◌==◌, ◌&&◌, ◌||◌, ◌≢◌, not, if◌then◌else◌, Result, Ok, Err}
-use Rattle.std.specs.List.{list_any}
 use Rattle.std.proofs.lemmas.Bool.{false≢true}
 use Rattle.machine_laws.proofs.Stepping.PlainServerLemmas.{outside_refused}
 use Rattle.machine_model.specs.Calling.Calls.{call, call_at, call_table}
@@ -19,8 +18,8 @@ use Rattle.machine_model.specs.State.Threads.{answer_to}
 use Rattle.syscall_codec.specs.Calls.{Asks}
 use Rattle.syscall_codec.specs.declared.calls.Call.{Call}
 use Rattle.syscall_codec.specs.declared.calls.Call.TheVariants.{MapMemory, Yield, ClaimInterrupt, FreeInterrupt, IncreaseHeap, DecreaseHeap, UpdateMemoryFlags, CreateServerWithAddress, ReceiveMessage, SendMessage, Connect, CreateThread, UnmapMemory, ReturnMemory, TerminateProcess, TrySendMessage, TryConnect, ReturnScalar1, ReturnScalar2, TryReceiveMessage, JoinThread, DestroyServer, GetThreadId, GetProcessId, ForwardMessage}
-use Rattle.xk_base.specs.Calls.CallNumbers.{claim_interrupt, connect, free_interrupt, is_call_number, join_thread, receive_message, send_message, try_send_message}
-use Rattle.xk_base.specs.Calls.CallWords.{call_number, interrupt_number, is_refused_to_handler, send_kind}
+use Rattle.xk_base.specs.Calls.CallNumbers.{claim_interrupt, connect, is_call_number, join_thread, receive_message, send_message, try_send_message}
+use Rattle.xk_base.specs.Calls.CallWords.{call_number, is_refused_to_handler, send_kind}
 use Rattle.xk_base.specs.Calls.Kinds.{is_waiting_kind}
 use Rattle.xk_base.specs.Calls.Replies.{plain_words, scalar1_words, thread_words}
 use Rattle.xk_base.specs.declared.errors.XousError.{XousError}

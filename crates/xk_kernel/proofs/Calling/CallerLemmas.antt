@@ -1,8 +1,8 @@
 -- A call whose caller is answered once it is served leaves the caller there.
 use Rattle.std.proofs.Common.{◌≡◌, ℕ, Bool, true, false, List, Option, Some, None, refl, sym, subst}
-use Rattle.std.specs.Prelude.{◌==◌, ◌&&◌, ◌||◌, ◌∷◌, is_some, not, if◌then◌else◌}
+use Rattle.std.specs.Prelude.{◌∷◌, is_some, if◌then◌else◌}
 use Rattle.std.specs.Bool.{⊤}
-use Rattle.std.specs.List.{AllByRecursion, list_any}
+use Rattle.std.specs.List.{AllByRecursion}
 use Rattle.std.specs.Option.{option_map}
 use Rattle.machine_laws.proofs.Stepping.PlainServerLemmas.{in_list}
 use Rattle.machine_model.specs.Calling.Calls.{any_refusals, call, call_at, call_table}

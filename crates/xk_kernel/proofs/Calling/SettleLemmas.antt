@@ -18,10 +18,9 @@ use Rattle.xk_base.specs.Tables.Counting.{listed_below}
 use Rattle.xk_base.specs.Log.{LogState}
 use Rattle.xk_base.specs.Calls.Replies.{refused_words}
 use Rattle.xk_base.specs.declared.errors.XousError.{XousError}
-use Rattle.xk_base.specs.declared.ids.Pid.{Pid}
 use Rattle.xk_base.specs.declared.ids.ThreadId.{ThreadId}
 use Rattle.xk_base.specs.declared.records.What.{What}
-use Rattle.xk_base.specs.declared.records.What.TheVariants.{Gone, Reply, Retry}
+use Rattle.xk_base.specs.declared.records.What.TheVariants.{Reply, Retry}
 use Rattle.xk_kernel.specs.State.{machine_of}
 use Rattle.xk_kernel.specs.Telling.{Tells, log_with}
 use Rattle.xk_kernel.specs.declared.kernel.Kernel.{Kernel}

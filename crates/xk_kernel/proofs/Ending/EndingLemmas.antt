@@ -1,27 +1,25 @@
 -- A thread ends, and another one of its process lives on: those who joined it are answered.
-use Rattle.std.proofs.Common.{◌≡◌, ℕ, Bool, true, false, List, [], ◌∷◌, ◌++◌, Option, Some, None, refl, sym, ap, ◌∙◌, append-nil}
-use Rattle.std.specs.Prelude.{◌==◌, ◌&&◌, nat_le, IsSome, is_some, if◌then◌else◌}
-use Rattle.std.specs.Option.{option_map, option_map_or}
+use Rattle.std.proofs.Common.{◌≡◌, ℕ, Bool, true, false, [], ◌∷◌, Option, Some, None, refl, sym, ap, ◌∙◌}
+use Rattle.std.specs.Prelude.{◌==◌, ◌&&◌, IsSome, if◌then◌else◌}
+use Rattle.std.specs.Option.{option_map_or}
 use Rattle.std.proofs.lemmas.Bool.{false≢true}
 use Rattle.machine_laws.proofs.Threading.ThreadAnswerLemmas.{IsReadyThread, ready_thread}
-use Rattle.machine_model.specs.State.Changes.{Change, Told, answering, replies, settled}
-use Rattle.machine_model.specs.Ending.Ends.{end_with_last_thread, forgotten, has_threads, is_joining, joiners_answered, thread_ended, waits_for_end}
+use Rattle.machine_model.specs.State.Changes.{Change, Told, answering, settled}
+use Rattle.machine_model.specs.Ending.Ends.{end_with_last_thread, has_threads, is_joining, joiners_answered, thread_ended, waits_for_end}
 use Rattle.machine_model.specs.State.Machine.{Machine, Thread}
 use Rattle.machine_model.specs.State.Order.{is_ready, ready_at}
 use Rattle.machine_model.specs.Stepping.Step.{after}
-use Rattle.machine_model.specs.State.Threads.{Answers, both_answers, give_answers, put_thread, thread_id, with_answer}
+use Rattle.machine_model.specs.State.Threads.{Answers, both_answers, put_thread}
 use Rattle.sv32_space.specs.Tie.{Held}
 use Rattle.thread_table.proofs.PlaceLemmas.{same_thread-true}
 use Rattle.thread_table.specs.ThreadsOf.{threads_of}
 use Rattle.thread_table.specs.declared.table.Threads.{Threads}
-use Rattle.xk_base.proofs.CountingLemmas.{least_below-same}
 use Rattle.xk_base.specs.Tables.Circle.{same_thread}
 use Rattle.xk_base.specs.Tables.Counting.{put_at}
 use Rattle.xk_base.specs.Log.{LogState}
 use Rattle.xk_base.specs.Calls.Replies.{scalar1_words}
-use Rattle.xk_base.specs.declared.ids.Pid.{Pid}
 use Rattle.xk_base.specs.declared.ids.ThreadId.{ThreadId}
-use Rattle.xk_base.specs.declared.records.What.TheVariants.{End, Gone}
+use Rattle.xk_base.specs.declared.records.What.TheVariants.{End}
 use Rattle.xk_kernel.specs.State.{machine_of}
 use Rattle.xk_kernel.specs.Telling.{Tells, log_with}
 use Rattle.xk_kernel.specs.declared.kernel.Kernel.{Kernel}

@@ -1,6 +1,6 @@
 -- What a pick and a kill do, and that a kernel stays sound.
-use Rattle.std.proofs.Common.{◌≡◌, ℕ, ◌≤◌, Bool, true, false, [], ◌∷◌, ◌++◌, map, Option, Some, None, refl, sym, ap, subst, ◌∙◌}
-use Rattle.std.specs.Prelude.{IsTrue, ◌||◌, not}
+use Rattle.std.proofs.Common.{◌≡◌, ℕ, ◌≤◌, Bool, true, false, [], Option, Some, None, refl, sym, ap, subst, ◌∙◌}
+use Rattle.std.specs.Prelude.{IsTrue}
 use Rattle.machine_laws.proofs.Dying.DeathLemmas.{kill_keeps}
 use Rattle.machine_laws.proofs.Interrupting.IrqDeliveryLemmas.{irq_keeps}
 use Rattle.machine_laws.proofs.Threading.ThreadMoveLemmas.{matched_reserved}

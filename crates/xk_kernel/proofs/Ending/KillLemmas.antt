@@ -1,13 +1,12 @@
 -- A process dies: its death over the parts of the kernel is that of the machine that the kernel stands for.
-use Rattle.std.proofs.Common.{◌≡◌, ℕ, ◌≤◌, ◌+◌, ◌<◌, Bool, true, false, List, [], ◌∷◌, ◌++◌, length, Option, Some, None, is_some, refl, sym, ap, subst, ◌∙◌, arith}
+use Rattle.std.proofs.Common.{◌≡◌, ℕ, ◌≤◌, ◌+◌, ◌<◌, Bool, [], ◌∷◌, ◌++◌, length, Option, Some, None, is_some, refl, sym, ap, subst, ◌∙◌, arith}
 use Rattle.std.specs.Prelude.{if◌then◌else◌, unwrap_or}
 use Rattle.std.specs.Option.{option_map}
 use Rattle.std.proofs.lemmas.List.{length-map}
 use Rattle.std.proofs.lemmas.Option.{none-some}
 use Rattle.irq_claims.specs.ClaimsOf.{claims_of}
 use Rattle.irq_claims.specs.declared.claims.Claim.{Claim as TableClaim}
-use Rattle.irq_claims.specs.declared.claims.Claims.{Claims}
-use Rattle.kill_path.specs.Claims.{claim_of, claims_shown}
+use Rattle.kill_path.specs.Claims.{claim_of}
 use Rattle.kill_path.specs.Dying.{AllParts, AreAllSound, Dies, IsDeath, disarmed_with, with_all_parts}
 use Rattle.kill_path.specs.Open.{AreServersSound}
 use Rattle.kill_path.proofs.FitLemmas.{open_loans, servers_of_matched}
@@ -15,7 +14,7 @@ use Rattle.ledger_model.specs.Loans.{loans}
 use Rattle.machine_model.specs.Ending.Closing.{closed, senders_held_gone, senders_queued_gone, servers_closed}
 use Rattle.machine_model.specs.Ending.Ends.{death, forgotten}
 use Rattle.machine_model.specs.Runs.Matched.{Matched, is_living}
-use Rattle.machine_model.specs.State.Changes.{Told, replies, settled}
+use Rattle.machine_model.specs.State.Changes.{replies, settled}
 use Rattle.machine_model.specs.State.Machine.{Claim, Machine}
 use Rattle.machine_model.specs.State.Threads.{Answers}
 use Rattle.machine_model.specs.Stepping.Interrupts.{is_claim_of}

@@ -196,8 +196,7 @@ returns-then-not-call_built-clause-acts g c =
     call_executed m who t x (sym (c.run.ensures.answer t c.thread-thread.ensures) ∙ c.in-Ecall.is) in
     let left : machine_of held c.run.new.self ≡ m = c.run.ensures.machine t c.thread-thread.ensures ∙ called.1 in
     let words : c.arguments-words.result ≡ arguments_of t.regs =
-    c.arguments-words.ensures.are ∙ words_stay m (machine_of held c.run.new.self) who t (thread_of c.thread.result.now) left c.thread-thread.ensures c.thread.ensures in
-    (
+    c.arguments-words.ensures.are ∙ words_stay m (machine_of held c.run.new.self) who t (thread_of c.thread.result.now) left c.thread-thread.ensures c.thread.ensures in (
       built_executed m who t c.thread-thread.ensures c.requires.who goes_on is_none ∙ called.2 ∙ ap (λ w. not (is_timer_claim w)) (sym words)
           ∙ sym c.call_built.ensures ∙ c.if-not-call_built.true,
       left,

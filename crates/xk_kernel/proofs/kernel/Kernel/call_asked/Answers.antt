@@ -1,5 +1,5 @@
 -- A call is refused to its caller, is one on messages, or is served before its caller is answered.
-use Rattle.std.proofs.Common.{◌≡◌, ◌≤◌, ◌+◌, false, sym, subst, ◌∙◌, arith}
+use Rattle.std.proofs.Common.{◌≡◌, false, sym, subst, ◌∙◌, arith}
 use Rattle.machine_model.specs.State.Changes.{call_settled}
 use Rattle.syscall_codec.specs.Calls.{Asks}
 use Rattle.xk_kernel.specs.Calling.{is_refused_caller}

@@ -1,5 +1,5 @@
 -- Each outcome of a call leaves and tells what the machine makes of it.
-use Rattle.std.proofs.Common.{◌≡◌, [], ◌∷◌, refl, sym, ap, subst, ◌∙◌, Ok, Some}
+use Rattle.std.proofs.Common.{◌≡◌, [], ◌∷◌, sym, ap, subst, ◌∙◌, Ok}
 use Rattle.machine_model.specs.Calling.Calls.{call}
 use Rattle.machine_model.specs.State.Changes.{Served, answering, call_settled, only}
 use Rattle.machine_model.specs.State.Threads.{answer_to, change_thread, give_answers, passed}

@@ -1,5 +1,5 @@
 -- The server is destroyed, or the caller refused.
-use Rattle.std.proofs.Common.{◌≡◌, subst, sym, ap, ◌∙◌}
+use Rattle.std.proofs.Common.{subst, sym, ◌∙◌}
 use Rattle.kill_path.specs.Rows.{destroy_row}
 use Rattle.machine_model.specs.State.Changes.{Outcome, call_settled}
 use Rattle.send_path.specs.Parts.{parts_of, with_parts}

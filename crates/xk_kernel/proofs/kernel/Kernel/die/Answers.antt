@@ -1,10 +1,9 @@
 use Rattle.std.proofs.Common.{subst, sym}
 use Rattle.machine_model.specs.Ending.Ends.{death}
-use Rattle.machine_model.specs.Runs.Matched.{Matched, is_living}
+use Rattle.machine_model.specs.Runs.Matched.{Matched}
 use Rattle.machine_model.specs.State.Changes.{settled}
 use Rattle.xk_kernel.proofs.Acting.ThreadLemmas.{machine_of_log}
 use Rattle.xk_kernel.proofs.Ending.DyingLemmas.{tells_after}
-use Rattle.xk_kernel.proofs.Ending.EventLemmas.{pushed_whole}
 use Rattle.xk_kernel.proofs.Ending.LastThreadLemmas.{ready_lives}
 use Rattle.xk_kernel.specs.State.{machine_of}
 use Rattle.xk_kernel.proofs.kernel.Kernel.die.Goals as goal

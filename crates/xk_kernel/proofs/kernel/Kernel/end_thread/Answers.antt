@@ -1,9 +1,9 @@
 -- Another thread of the process lives on, or its process dies.
-use Rattle.std.proofs.Common.{◌≡◌, ◌≤◌, ◌<◌, true, false, None, refl, subst, sym, ap, ◌∙◌, arith}
+use Rattle.std.proofs.Common.{◌≡◌, ◌<◌, true, false, None, refl, subst, sym, ◌∙◌, arith}
 use Rattle.std.specs.Prelude.{IsSome}
 use Rattle.std.proofs.lemmas.Bool.{and_parts}
 use Rattle.std.proofs.lemmas.Bool.Decides.{nat_tests}
-use Rattle.machine_model.specs.Ending.Ends.{death, has_threads, thread_ended}
+use Rattle.machine_model.specs.Ending.Ends.{death, has_threads}
 use Rattle.machine_model.specs.Runs.Matched.{Matched}
 use Rattle.machine_model.specs.State.Changes.{settled}
 use Rattle.machine_model.specs.State.Machine.{Machine}

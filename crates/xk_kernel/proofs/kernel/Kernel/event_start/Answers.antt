@@ -1,10 +1,10 @@
 -- The event does what the machine makes of it.
-use Rattle.std.proofs.Common.{◌≡◌, true, None, sym, ap, subst, ◌∙◌}
+use Rattle.std.proofs.Common.{None, sym, subst, ◌∙◌}
 use Rattle.machine_model.specs.Stepping.Events.{killed, nothing, picked, raised}
 use Rattle.vm_memory.proofs.Changing.SoundMemoryLemmas.{sound-tied}
 use Rattle.xk_kernel.specs.State.{machine_of}
 use Rattle.xk_kernel.specs.Stepping.{Becomes, event_done}
-use Rattle.xk_kernel.proofs.Ending.EventLemmas.{became_sound, dying_matched, irq_matched, kill_matched, killed_done, left_matched, lives, logged_whole, nothing_done, pick_matched, picked_done, pushed_whole, spared_done, unreserved_whole}
+use Rattle.xk_kernel.proofs.Ending.EventLemmas.{became_sound, dying_matched, irq_matched, kill_matched, killed_done, left_matched, lives, logged_whole, nothing_done, pick_matched, picked_done, spared_done, unreserved_whole}
 use Rattle.xk_kernel.proofs.kernel.Kernel.event_start.Goals as goal
 
 -- ---- tick

@@ -1,9 +1,9 @@
 -- The death over the parts is the machine's, and its end is told last.
-use Rattle.std.proofs.Common.{◌≡◌, ◌+◌, ◌<◌, length, refl, sym, ap, ◌∙◌, arith}
+use Rattle.std.proofs.Common.{sym, ap, ◌∙◌, arith}
 use Rattle.send_path.specs.Parts.{parts_of}
 use Rattle.kill_path.specs.Dying.{AllParts}
 use Rattle.xk_kernel.proofs.Ending.EventLemmas.{pushed_whole}
-use Rattle.xk_kernel.proofs.Ending.KillLemmas.{alive_told, all_sound, dead_keeps, dead_usable, dead_whole, death_tells, room_left, with_all}
+use Rattle.xk_kernel.proofs.Ending.KillLemmas.{alive_told, all_sound, dead_keeps, dead_whole, death_tells, room_left, with_all}
 use Rattle.xk_kernel.proofs.kernel.Kernel.kill.Goals as goal
 
 pub kill-requires-clause-alive : goal.kill-requires-clause-alive

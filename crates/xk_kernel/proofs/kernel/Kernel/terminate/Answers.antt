@@ -1,6 +1,5 @@
 -- Nobody of the dead process is left to go past the call.
 use Rattle.std.proofs.Common.{subst, sym}
-use Rattle.machine_model.specs.State.Machine.{Machine}
 use Rattle.xk_kernel.specs.State.{machine_of}
 use Rattle.xk_kernel.specs.Telling.{Tells}
 use Rattle.xk_kernel.proofs.Ending.LastThreadLemmas.{ready_lives, terminate_settles}
