@@ -7,7 +7,7 @@ use Rattle.vm_memory.specs.Memory.{ledger}
 use Rattle.kill_path.specs.Closing.{AreClosed}
 use Rattle.kill_path.specs.Noted.{noted}
 use Rattle.kill_path.specs.Open.{AreOpen}
-use Rattle.kill_path.proofs.OpenLemmas.{can_end, open_left, server_closed}
+use Rattle.kill_path.proofs.Servers.OpenLemmas.{can_end, open_left, server_closed}
 use Rattle.kill_path.proofs.closing.close_server.Goals as goal
 
 pub end_seat-requires-clause-seat : goal.end_seat-requires-clause-seat

@@ -4,7 +4,7 @@ use Rattle.server_table.specs.ServersOf.{servers_of}
 use Rattle.vm_memory.specs.Memory.{ledger}
 use Rattle.kill_path.specs.Closing.{Closable}
 use Rattle.kill_path.specs.Noted.{noted}
-use Rattle.kill_path.proofs.CloseLemmas.{all_gone, fewer_owned, least_is_of, least_is_owned, none_is_owned, none_so_far, one_more_gone, owned_lives}
+use Rattle.kill_path.proofs.Servers.CloseLemmas.{all_gone, fewer_owned, least_is_of, least_is_owned, none_is_owned, none_so_far, one_more_gone, owned_lives}
 use Rattle.kill_path.proofs.KeepLemmas.{after_both, same_memory}
 use Rattle.kill_path.proofs.closing.close_servers.Goals as goal
 

@@ -6,7 +6,7 @@ use Rattle.kill_path.specs.Closing.{AreClosed, Closable}
 use Rattle.kill_path.specs.Keeping.{Stays}
 use Rattle.kill_path.specs.Noted.{noted}
 use Rattle.kill_path.specs.Open.{AreOpen}
-use Rattle.kill_path.proofs.CloseLemmas.{gone_so_far, owned}
+use Rattle.kill_path.proofs.Servers.CloseLemmas.{gone_so_far, owned}
 use Rattle.kill_path.proofs.closing.close_servers.Given as goal
 
 -- the servers of the process that aren't there any more closed

@@ -3,7 +3,7 @@ use Rattle.vm_memory.specs.Memory.{ledger, processes}
 use Rattle.xk_base.specs.declared.ids.Pid.{Pid}
 use Rattle.kill_path.specs.Closing.{Closable}
 use Rattle.kill_path.specs.Noted.{noted}
-use Rattle.kill_path.proofs.CloseAllLemmas.{AreFrom, all_empty, all_fresh, all_from, left_from, more_gone, none_gone}
+use Rattle.kill_path.proofs.Servers.CloseAllLemmas.{AreFrom, all_empty, all_fresh, all_from, left_from, more_gone, none_gone}
 use Rattle.kill_path.proofs.KeepLemmas.{after_both, same_memory}
 use Rattle.kill_path.proofs.closing_all.close_all.Goals as goal
 

@@ -5,7 +5,7 @@ use Rattle.kill_path.specs.Closing.{AreClosed, Closable}
 use Rattle.kill_path.specs.Keeping.{Stays}
 use Rattle.kill_path.specs.Noted.{noted}
 use Rattle.kill_path.specs.Open.{AreOpen}
-use Rattle.kill_path.proofs.CloseAllLemmas.{AreFrom, gone}
+use Rattle.kill_path.proofs.Servers.CloseAllLemmas.{AreFrom, gone}
 use Rattle.kill_path.proofs.closing_all.close_all.Given as goal
 
 -- the servers that aren't there any more closed, and none of the pids so far is left

@@ -11,7 +11,7 @@ use Rattle.kill_path.specs.Closing.{AreClosed}
 use Rattle.kill_path.specs.Noted.{noted}
 use Rattle.kill_path.specs.Telling.{told_to}
 use Rattle.kill_path.specs.ThreadSets.{ThreadSet}
-use Rattle.kill_path.proofs.DestroyLemmas.{destroyed_row, destroyed_sound, first_noted, its_owner, live_there, noted_known}
+use Rattle.kill_path.proofs.Deaths.DestroyLemmas.{destroyed_row, destroyed_sound, first_noted, its_owner, live_there, noted_known}
 use Rattle.kill_path.proofs.FitLemmas.{few_processes, known_of_all, sound_open}
 use Rattle.kill_path.proofs.destroying.destroy.Goals as goal
 

@@ -11,7 +11,7 @@ use Rattle.kill_path.specs.Noted.{noted}
 use Rattle.kill_path.specs.Telling.{told_to}
 use Rattle.kill_path.specs.ThreadSets.{ThreadSet}
 use Rattle.kill_path.proofs.KeepLemmas.{kept_both}
-use Rattle.kill_path.proofs.KillLemmas.{HasForgotten, all_of, all_open, at_first, died, died_sound, few, no_loan, noted_known, own, pid_known}
+use Rattle.kill_path.proofs.Deaths.KillLemmas.{HasForgotten, all_of, all_open, at_first, died, died_sound, few, no_loan, noted_known, own, pid_known}
 use Rattle.kill_path.proofs.killing.kill.Goals as goal
 
 pub close_servers-requires-clause-messages : goal.close_servers-requires-clause-messages

@@ -4,8 +4,8 @@ use Rattle.ledger_model.specs.Steps.{end_loan, orphan_loan}
 use Rattle.msg_queue.specs.Seats.{changed_at, seat_of, without_queued}
 use Rattle.vm_memory.specs.Memory.{ledger, processes}
 use Rattle.kill_path.specs.Leaving.{is_queued, with_alone}
-use Rattle.kill_path.proofs.LeaveFoundLemmas.{seat_unchanged}
-use Rattle.kill_path.proofs.LeavingLemmas.{found_number}
+use Rattle.kill_path.proofs.Messages.LeaveFoundLemmas.{seat_unchanged}
+use Rattle.kill_path.proofs.Messages.LeavingLemmas.{found_number}
 use Rattle.kill_path.proofs.leaving.leave_message.Goals as goal
 
 pub returns-in-Some-clause-ledger : goal.returns-in-Some-clause-ledger

@@ -59,7 +59,7 @@ use Rattle.kill_path.specs.Open.{AreOpen}
 use Rattle.kill_path.specs.Telling.{told_to}
 use Rattle.kill_path.specs.ThreadSets.{nobody}
 use Rattle.kill_path.proofs.FitLemmas.{matched_open, open_loans}
-use Rattle.kill_path.proofs.ForgottenLemmas.{alive_shown, claim_gone, pending_gone, pending_of, process_ended, thread_gone}
+use Rattle.kill_path.proofs.Deaths.ForgottenLemmas.{alive_shown, claim_gone, pending_gone, pending_of, process_ended, thread_gone}
 
 abbrev pub all_of : {W : Type 0} → Parts W → Processes → Claims → AllParts W
 all_of parts procs claims = record { parts = parts; procs = procs; claims = claims }

@@ -23,9 +23,9 @@ use Rattle.xk_base.specs.declared.ids.ThreadId.{ThreadId}
 use Rattle.kill_path.specs.Ending.{HasKnownSender}
 use Rattle.kill_path.specs.Leaving.{IsLeavable, IsLoanOrphanable, IsOrphanable, alone, first_alone, with_alone}
 use Rattle.kill_path.specs.Open.{IsLoanFit, IsLoanFitOf}
-use Rattle.kill_path.proofs.LeaveStepLemmas.{none_of, number_count}
-use Rattle.kill_path.proofs.LeavingLemmas.{placed}
-use Rattle.kill_path.proofs.OpenLemmas.{fit_endable}
+use Rattle.kill_path.proofs.Messages.LeaveStepLemmas.{none_of, number_count}
+use Rattle.kill_path.proofs.Messages.LeavingLemmas.{placed}
+use Rattle.kill_path.proofs.Servers.OpenLemmas.{fit_endable}
 
 -- ---- who waits
 

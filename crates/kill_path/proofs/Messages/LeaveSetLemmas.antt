@@ -37,10 +37,10 @@ use Rattle.kill_path.specs.Closing.{Closable, with_servers}
 use Rattle.kill_path.specs.Leaving.{LeavesAlike, alone, first_alone, left_by, with_alone}
 use Rattle.kill_path.specs.Open.{AreOpen}
 use Rattle.kill_path.specs.ThreadSets.{ThreadSet}
-use Rattle.kill_path.proofs.EndingLemmas.{same_back}
-use Rattle.kill_path.proofs.LeaveStepLemmas.{count_both, found_counts, most, number_count}
-use Rattle.kill_path.proofs.OpenLemmas.{messages_shown}
-use Rattle.kill_path.proofs.OrphanLemmas.{both_orphaned, ended_apart, ends_after_orphan}
+use Rattle.kill_path.proofs.Servers.EndingLemmas.{same_back}
+use Rattle.kill_path.proofs.Messages.LeaveStepLemmas.{count_both, found_counts, most, number_count}
+use Rattle.kill_path.proofs.Servers.OpenLemmas.{messages_shown}
+use Rattle.kill_path.proofs.Messages.OrphanLemmas.{both_orphaned, ended_apart, ends_after_orphan}
 
 -- ---- a test that holds besides at one number
 
