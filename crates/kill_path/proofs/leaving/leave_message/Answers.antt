@@ -1,11 +1,9 @@
-use Rattle.std.proofs.Common.{rules, ◌≡◌, true, false, set, sym, ap, ◌∙◌}
+use Rattle.std.proofs.Common.{rules, ◌≡◌, false, set, sym, ap, ◌∙◌}
 use Rattle.std.specs.Prelude.{if◌then◌else◌, is_some}
-use Rattle.ledger_model.specs.Steps.{end_loan, orphan_loan}
 use Rattle.msg_queue.specs.Seats.{changed_at, seat_of, without_queued}
 use Rattle.vm_memory.specs.Memory.{ledger, processes}
 use Rattle.kill_path.specs.Leaving.{is_queued, with_alone}
 use Rattle.kill_path.proofs.Messages.LeaveFoundLemmas.{queued_leaves, seat_unchanged}
-use Rattle.kill_path.proofs.Messages.LeavingLemmas.{found_number}
 use Rattle.kill_path.proofs.leaving.leave_message.Goals as goal
 
 pub returns-in-Some-clause-ledger : goal.returns-in-Some-clause-ledger
