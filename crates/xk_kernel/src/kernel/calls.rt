@@ -45,7 +45,8 @@ impl<W: SwapStore> Kernel<W> {
         requires room { length self.old.log.records + 3 ≤ self.old.log.room }
         ensures whole { IsWhole W.slot_count W.held self.new }
         ensures usable { OnOk result (IsUsable self.new) }
-        ensures tells { OnOk result (Tells W.held self.old self.new (after (Called self.old.cursor words) (call_settled (machine_of W.held self.old) (call (machine_of W.held self.old) words)))) }
+        ensures tells { let m = machine_of W.held self.old in
+            OnOk result (Tells W.held self.old self.new (after (Called self.old.cursor words) (call_settled m (call m words)))) }
         ensures keeps { Keeps W.is_honest W.held W.slot_count W.asked W.faults self.old self.new }
         ensures sure { IsOk result }
     {
@@ -75,7 +76,8 @@ impl<W: SwapStore> Kernel<W> {
         requires room { length self.old.log.records + 2 ≤ self.old.log.room }
         ensures whole { IsWhole W.slot_count W.held self.new }
         ensures usable { OnOk result (IsUsable self.new) }
-        ensures tells { OnOk result (Tells W.held self.old self.new (call_settled (machine_of W.held self.old) (call (machine_of W.held self.old) words))) }
+        ensures tells { let m = machine_of W.held self.old in
+            OnOk result (Tells W.held self.old self.new (call_settled m (call m words))) }
         ensures keeps { Keeps W.is_honest W.held W.slot_count W.asked W.faults self.old self.new }
         ensures sure { IsOk result }
     {
@@ -108,7 +110,8 @@ impl<W: SwapStore> Kernel<W> {
         requires room { length self.old.log.records + 2 ≤ self.old.log.room }
         ensures whole { IsWhole W.slot_count W.held self.new }
         ensures usable { OnOk result (IsUsable self.new) }
-        ensures tells { OnOk result (Tells W.held self.old self.new (call_settled (machine_of W.held self.old) (call (machine_of W.held self.old) words))) }
+        ensures tells { let m = machine_of W.held self.old in
+            OnOk result (Tells W.held self.old self.new (call_settled m (call m words))) }
         ensures keeps { Keeps W.is_honest W.held W.slot_count W.asked W.faults self.old self.new }
         ensures sure { IsOk result }
     {
@@ -169,7 +172,9 @@ impl<W: SwapStore> Kernel<W> {
         requires plain { (exit : ℕ) → asked ≡ TerminateProcess exit → DiesPlainly self.old.cursor.pid (machine_of W.held self.old) }
         ensures whole { IsWhole W.slot_count W.held self.new }
         ensures usable { OnOk result (IsUsable self.new) }
-        ensures outcome { IfOk result (λ served. (words : List ℕ) → Asks words asked → outcome_of self.old.cursor (machine_of W.held self.new) served ≡ call (machine_of W.held self.old) words) }
+        ensures outcome { let old = machine_of W.held self.old in
+            let new = machine_of W.held self.new in
+            IfOk result (λ served. (words : List ℕ) → Asks words asked → outcome_of self.old.cursor new served ≡ call old words) }
         ensures undone { IfOk result (λ served. IfUndone served (self.new ≡ self.old)) }
         ensures log { self.new.log ≡ self.old.log }
         ensures keeps { Keeps W.is_honest W.held W.slot_count W.asked W.faults self.old self.new }
