@@ -2,7 +2,7 @@
 use Rattle.std.proofs.Common.{◌≡◌, ℕ, zero, suc, ◌+◌, ◌<◌, ◌≤◌, Bool, true, false, List, [], ◌∷◌, cond, length, set, Option, Some, None, refl, sym, ap, ◌∙◌, arith, inl, inr}
 use Rattle.std.specs.Prelude.{◌≢◌, IsSome, if◌then◌else◌, is_some, not, slice_get}
 use Rattle.std.specs.List.{insert, remove}
-use Rattle.std.specs.Option.{option_and_then, option_map_or, option_or}
+use Rattle.std.specs.Option.{option_and_then, option_map, option_or}
 use Rattle.std.proofs.lemmas.Bool.{false≢true}
 use Rattle.std.proofs.lemmas.Option.{none-some, same_Some}
 use Rattle.ledger_model.proofs.LedgerLemmas.{cases_Option, lender_of-loan, loan_at-page, same_ledger, same_number-true}
@@ -10,12 +10,12 @@ use Rattle.ledger_model.specs.Ledger.{Ledger, Page, PageLoan, loan_at, loan_of}
 use Rattle.ledger_model.specs.Loans.{IsFresh, loans, of_number as loan_of_number, same_number}
 use Rattle.ledger_model.specs.Reach.{lender_of}
 use Rattle.ledger_model.specs.Steps.{orphan_from, orphan_loan, orphan_with, page_without}
-use Rattle.msg_queue.specs.Seats.{Seat, changed_at, is_of_number, of_number, message_place, seat_of, used_of, with_held_at, without_held}
+use Rattle.msg_queue.specs.Seats.{Seat, changed_at, is_of_number, of_number, place_found, message_place, seat_of, used_of, with_held_at, without_held}
 use Rattle.msg_queue.specs.declared.held.Held.{Held}
 use Rattle.send_path.proofs.Servers.SeatLemmas.{changed_twice, seat_changed}
 use Rattle.xk_base.specs.declared.ids.Number.{Number}
 use Rattle.xk_base.specs.declared.ids.Place.{Place}
-use Rattle.kill_path.specs.Leaving.{alone, first_alone, has_number_at, with_alone}
+use Rattle.kill_path.specs.Leaving.{alone, first_alone, with_alone}
 
 -- ---- nothing becomes an orphan by a number by which nothing is on loan
 
@@ -94,23 +94,10 @@ placed number (h ∷ hs) e = go (is_of_number number h) refl (λ later. placed n
           its = later.its;
         }
 
--- none of the number stands before its place
-pub first_of_its : (number : Number) (hs : List Held) (place : ℕ) → has_number_at number hs place ≡ true → message_place number hs ≤ place
-first_of_its number [] place e = absurd (false≢true e)
-first_of_its number (h ∷ hs) zero e = let none : message_place number (h ∷ hs) ≡ 0 = ap (λ b. cond (not b) (1 + message_place number hs) 0) e in omega arith
-first_of_its number (h ∷ hs) (suc place) e = go (is_of_number number h) refl (first_of_its number hs place e)
-  where
-    go : (b : Bool) → is_of_number number h ≡ b → message_place number hs ≤ place → message_place number (h ∷ hs) ≤ suc place
-    go true q low = let none : message_place number (h ∷ hs) ≡ 0 = ap (λ b. cond (not b) (1 + message_place number hs) 0) q in omega arith
-    go false q low =
-        let next : message_place number (h ∷ hs) ≡ 1 + message_place number hs = ap (λ b. cond (not b) (1 + message_place number hs) 0) q in
-        omega arith
-
-pub not_its_place : (number : Number) (hs : List Held) (place : ℕ) → IsSome (of_number number hs) → has_number_at number hs place ≡ false
-    → message_place number hs ≢ place
-not_its_place number hs place some e same =
-    let p : IsPlaced number hs = placed number hs some in
-    false≢true (sym e ∙ ap (has_number_at number hs) (sym same) ∙ ap (λ o. option_map_or (is_of_number number) o false) p.at ∙ p.its)
+pub place_is : (number : Number) (hs : List Held) (h : Held) (place : ℕ) → of_number number hs ≡ Some h → place_found number hs ≡ Some place
+    → place ≡ message_place number hs
+place_is number hs h place found e =
+    sym (same_Some (message_place number hs) place (sym (ap (option_map (λ (x : Held). message_place number hs)) found) ∙ e))
 
 -- the number of what is found
 pub found_number : (number : Number) (hs : List Held) (h : Held) → of_number number hs ≡ Some h → h.msg.number ≡ number

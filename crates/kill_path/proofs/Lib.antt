@@ -12,3 +12,8 @@ pub mod OrphanLemmas
 pub mod LeavingLemmas
 pub mod LeaveStepLemmas
 pub mod LeaveSetLemmas
+pub mod LeaveFoundLemmas
+pub mod LeaveSeatLemmas
+pub mod LeftLemmas
+pub mod ForgottenLemmas
+pub mod KillLemmas

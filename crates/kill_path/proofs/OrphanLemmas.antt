@@ -1,6 +1,6 @@
 -- Loans that become orphans before other loans end, and before other loans become orphans.
 use Rattle.std.proofs.Common.{◌≡◌, ℕ, Bool, true, false, Option, Some, None, refl, sym, ap, ◌∙◌, inl, inr}
-use Rattle.std.specs.Prelude.{◌||◌, if◌then◌else◌}
+use Rattle.std.specs.Prelude.{◌||◌, IsTrue, if◌then◌else◌}
 use Rattle.std.specs.Option.{option_and_then, option_map, option_or}
 use Rattle.std.proofs.lemmas.Bool.{false≢true}
 use Rattle.std.proofs.lemmas.Option.{none-some, same_Some}
@@ -11,7 +11,8 @@ use Rattle.ledger_model.specs.Ledger.{Bytes, Console, Contents, Ledger, Orphan, 
 use Rattle.ledger_model.specs.Loans.{same_number}
 use Rattle.ledger_model.specs.Reach.{is_held_at, lender_of}
 use Rattle.ledger_model.specs.Steps.{orphan_from, orphan_loan, orphan_with, page_without}
-use Rattle.machine_model.proofs.Matching.LoanSetLawLemmas.{ended_loan}
+use Rattle.ledger_model.specs.Places.{is_user_place}
+use Rattle.machine_model.proofs.Matching.LoanSetLawLemmas.{ended_home, ended_loan}
 use Rattle.machine_model.specs.Messaging.LoanSets.{end_loans, freed_but, is_lent_by, loan_but, orphan_but, orphan_loans, orphan_of_page, page_but}
 use Rattle.xk_base.specs.declared.ids.Number.{Number}
 use Rattle.xk_base.specs.declared.ids.Place.{Place}
@@ -192,7 +193,19 @@ orphan_by : (goes : Number → Bool) (b : Bool) (page : Page) (loan : PageLoan) 
 orphan_by goes b page loan e g =
     ap (option_and_then (λ x. if goes x.number then orphan_with x page.contents else None)) e ∙ ap (λ c. if c then orphan_with loan page.contents else None) g
 
-module _ (procs capacity : ℕ) (some others : Number → Bool) (l : Ledger) (lawful : IsLawful procs capacity l) where
+-- what of a lawful ledger keeps its loans apart
+pub record AreLentApart (procs : ℕ) (l : Ledger) : Type 0 where
+  pub lies : (p : Place) (page : Page) → l.home p ≡ Some page → IsTrue (is_user_place procs p)
+  pub differ : (p q : Place) (a b : PageLoan) → loan_at l p ≡ Some a → loan_at l q ≡ Some b → a.holder ≡ b.holder → p ≡ q
+
+-- it stays where loans end
+pub ended_apart : (procs capacity : ℕ) (ends : Number → Bool) (l : Ledger) → IsLawful procs capacity l → AreLentApart procs (end_loans ends l)
+ended_apart procs capacity ends l lawful = record {
+  lies = λ p page e. let was : (old : Page) × (l.home p ≡ Some old) = ended_home ends l p page e in lawful.home_lies p was.0 was.1;
+  differ = λ p q a b e f. lawful.holders_differ p q a b (ended_loan ends l p a e).0 (ended_loan ends l q b f).0;
+}
+
+module _ (procs : ℕ) (some others : Number → Bool) (l : Ledger) (lent : AreLentApart procs l) where
   abbrev kept_loans : Ledger
   kept_loans = orphan_loans procs some l
 
@@ -208,12 +221,12 @@ module _ (procs capacity : ℕ) (some others : Number → Bool) (l : Ledger) (la
   lender_none q none = lender_of-None procs kept_loans q (λ r loan e.
       let was : (loan_at l r ≡ Some loan) × (some loan.number ≡ false) = loan_kept r loan e in
       let page : (page : Page) × (l.home r ≡ Some page) × (page.loan ≡ Some loan) = loan_at-page l r loan was.0 in
-      lender_of-none procs l q r loan none (lawful.home_lies r page.0 page.1) was.0)
+      lender_of-none procs l q r loan none (lent.lies r page.0 page.1) was.0)
 
   lender_gone : (p q : Place) (loan : PageLoan) → loan_at l p ≡ Some loan → loan.holder ≡ q → some loan.number ≡ true → lender_of procs kept_loans q ≡ None
   lender_gone p q loan e held g = lender_of-None procs kept_loans q (λ r other f same.
       let was : (loan_at l r ≡ Some other) × (some other.number ≡ false) = loan_kept r other f in
-      let one : r ≡ p = lawful.holders_differ r p other loan was.0 e (same ∙ sym held) in
+      let one : r ≡ p = lent.differ r p other loan was.0 e (same ∙ sym held) in
       let alike : other ≡ loan = same_Some other loan (sym was.0 ∙ ap (loan_at l) one ∙ e) in
       false≢true (sym was.1 ∙ ap (λ (x : PageLoan). some x.number) alike ∙ g))
 
@@ -224,11 +237,11 @@ module _ (procs capacity : ℕ) (some others : Number → Bool) (l : Ledger) (la
   lender_kept p q page loan e f held g =
       let there : kept_loans.home p ≡ Some page = home_kept p ∙ page_stays some (l.home p) page loan e f g in
       let at : loan_at l p ≡ Some loan = ap loan_of e ∙ f in
-      first_place-only procs (λ r. is_held_at q (loan_at kept_loans r)) p (lawful.home_lies p page e)
+      first_place-only procs (λ r. is_held_at q (loan_at kept_loans r)) p (lent.lies p page e)
       (is_held_at-Some q (loan_at kept_loans p) loan (ap loan_of there ∙ f) held)
       (λ r h.
       let other : (b : PageLoan) × (loan_at kept_loans r ≡ Some b) × (b.holder ≡ q) = is_held_at-true q (loan_at kept_loans r) h in
-      lawful.holders_differ r p other.0 loan (loan_kept r other.0 other.1).0 at (other.2 ∙ sym held))
+      lent.differ r p other.0 loan (loan_kept r other.0 other.1).0 at (other.2 ∙ sym held))
 
   -- the orphan at a place after both, one after the other and at once
   abbrev in_turn : Option Place → (Place → Option Page) → Option Place → Option Orphan → Option Orphan
