@@ -18,8 +18,8 @@ use xk_base::{Number, Sid, XousError};
 use xk_ports::SwapStore;
 
 impl<W: SwapStore> Kernel<W> {
-    // SendMessage, and TrySendMessage where the caller doesn't want to try again: an accepted message
-    // takes the next number. At a full server the one will be made again, and the other is refused.
+    // SendMessage, and TrySendMessage where the caller only tries: an accepted message takes the next
+    // number. At a full server the one will be made again, and the other is refused.
     pub(super) fn send_message(&mut self, words: [u32; 8], tries: bool)
         requires calls { IsCaller W.slot_count W.held self.old }
         requires number { call_number words ≡ (if tries then try_number else send_number) }
@@ -50,7 +50,7 @@ impl<W: SwapStore> Kernel<W> {
         }
     }
 
-    // ReceiveMessage, and TryReceiveMessage where the caller doesn't want to wait.
+    // ReceiveMessage, and TryReceiveMessage where the caller doesn't wait for a message.
     pub(super) fn receive_message(&mut self, sid: Sid, waits: bool)
         requires calls { IsCaller W.slot_count W.held self.old }
         requires free { (waits && (self.old.cursor.tid.0 == 1)) ≡ false }
