@@ -3,7 +3,6 @@
 ghost use Rattle.std.specs.Prelude.{ℕ, List, ◌≡◌, ◌+◌, ◌<◌, ◌≤◌, true, false, length, IsOk, OnOk, IfOk};
 ghost use Rattle.machine_model.specs.Calling.Calls.{call};
 ghost use Rattle.machine_model.specs.State.Changes.{Refused, Retried, call_settled};
-ghost use Rattle.machine_model.specs.Runs.Matched.{Matched};
 ghost use Rattle.machine_model.specs.State.Order.{ready_at};
 ghost use Rattle.machine_model.specs.Stepping.Step.{after};
 ghost use Rattle.syscall_codec.specs.Calls.{Asks};
@@ -162,11 +161,7 @@ impl<W: SwapStore> Kernel<W> {
 
     // What comes of the call that is asked for.
     fn serve(&mut self, asked: Call) -> Result<Result<CallerFate, XousError>, SwapFault>
-        requires whole { IsWhole W.slot_count W.held self.old }
-        requires usable { IsUsable self.old }
-        requires ready { ready_at (machine_of W.held self.old) self.old.cursor ≡ true }
-        requires matched { Matched (machine_of W.held self.old) }
-        requires few { self.old.steps < 4000000000 }
+        requires calls { IsCaller W.slot_count W.held self.old }
         requires free { (words : List ℕ) → Asks words asked → is_refused_caller (machine_of W.held self.old) words ≡ false }
         requires built { (words : List ℕ) × Asks words asked × (is_plain_call words ≡ true) }
         requires plain { (exit : ℕ) → asked ≡ TerminateProcess exit → DiesPlainly self.old.cursor.pid (machine_of W.held self.old) }
