@@ -1,6 +1,6 @@
--- A call that is built leaves its caller there, unless the caller's process dies.
+-- A call that is built, and is none on messages, leaves its caller there, unless the caller's process dies.
 use Rattle.std.proofs.Common.{◌≡◌, ℕ, Bool, true, false, List, Option, Some, None, refl, sym, subst}
-use Rattle.std.specs.Prelude.{◌==◌, ◌&&◌, ◌||◌, [], ◌∷◌, is_some, not, if◌then◌else◌}
+use Rattle.std.specs.Prelude.{◌==◌, ◌&&◌, ◌||◌, ◌∷◌, is_some, not, if◌then◌else◌}
 use Rattle.std.specs.Bool.{⊤}
 use Rattle.std.specs.List.{AllByRecursion, list_any}
 use Rattle.std.specs.Option.{option_map}
@@ -23,7 +23,7 @@ use Rattle.xk_base.specs.Calls.CallWords.{call_number, heap_bytes, interrupt_arg
 use Rattle.xk_base.specs.declared.errors.XousError.{XousError}
 use Rattle.xk_base.specs.declared.errors.XousError.TheVariants.{ServerNotFound}
 use Rattle.xk_base.specs.declared.limits.TheConstants.{TIMER_INTERRUPT}
-use Rattle.xk_kernel.specs.Built.{built_numbers, is_call_built, is_number_built}
+use Rattle.xk_kernel.specs.Built.{built_numbers, is_number_built, is_plain_call}
 
 -- what is to be shown of the number of each call that is built, and of those that are not in the table
 record OfBuiltCalls (P : ℕ → Type 0) (k : ℕ) : Type 0 where
@@ -189,7 +189,7 @@ module _ (m : Machine) (w : List ℕ) (there : is_some (m.threads m.cursor) ≡ 
       subst (λ j. LeavesCaller m (unless_refused (any_refusals m w) (call_at j call_table m w))) (sym n)
       (either (any_refusals m w) (call_at k call_table m w) leaves)
 
-  built_leaves : is_call_built w ≡ true → LeavesCaller m (call m w)
+  built_leaves : is_plain_call w ≡ true → LeavesCaller m (call m w)
   built_leaves built =
       go (is_number_built (call_number w)) (call_number w == claim_interrupt) (call_number w == free_interrupt) (not (interrupt_number w == TIMER_INTERRUPT)) refl refl refl built
     where
@@ -201,5 +201,5 @@ module _ (m : Machine) (w : List ℕ) (there : is_some (m.threads m.cursor) ≡ 
       go false false false e p q r h = absurd (false≢true h)
 
   -- a served caller is there, unless its process died
-  pub served_there : (change : Change) → is_call_built w ≡ true → Served change ≡ call m w → change.gone ≡ None → is_some (change.machine.threads m.cursor) ≡ true
+  pub served_there : (change : Change) → is_plain_call w ≡ true → Served change ≡ call m w → change.gone ≡ None → is_some (change.machine.threads m.cursor) ≡ true
   served_there change built e = subst (LeavesCaller m) (sym e) (built_leaves built)

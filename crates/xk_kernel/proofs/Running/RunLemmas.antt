@@ -194,8 +194,7 @@ whole_lent slot_count held k threads count whole = record {
   procs = whole.procs;
   cursor = whole.cursor;
   room = whole.room;
-  unlent = whole.unlent;
-  no_messages = whole.no_messages;
+  servers = whole.servers;
   untimed = whole.untimed;
 }
 
