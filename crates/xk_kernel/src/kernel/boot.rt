@@ -47,7 +47,9 @@ type Tables = (Threads, Processes, Servers, Log, Queues);
 fn start_process(threads: &mut Threads, pid: Pid, entry: u32)
     requires pid { IsPid (process_count threads.old) pid.0 }
     requires none { (tid : TidNumber) → threads_of threads.old (record { pid = pid; tid = tid }) ≡ None }
-    ensures after { (id : Id) → option_map thread_of (threads_of threads.new id) ≡ (if id.pid.0 == pid.0 then first_threads entry id.tid.0 else option_map thread_of (threads_of threads.old id)) }
+    ensures after { let old = threads_of threads.old in
+        let new = threads_of threads.new in
+        (id : Id) → option_map thread_of (new id) ≡ (if id.pid.0 == pid.0 then first_threads entry id.tid.0 else option_map thread_of (old id)) }
     ensures count { process_count threads.new ≡ process_count threads.old }
 {
     let idle = Thread {
@@ -115,7 +117,9 @@ impl<W: SwapStore> Kernel<W> {
         ensures start { IfOk result (λ k. machine_of W.held k ≡ start plan.now file.now) }
         ensures records { IfOk result (λ k. last_of k ≡ []) }
         ensures tie { IfOk result (λ k. IsTied W.held k.mem) }
-        ensures size { IfOk result (λ k. size k.mem ≡ record { procs = length plan.now.procs; area = record { start = plan.now.ram_start; frames = plan.now.frames }; slots = plan.now.slots }) }
+        ensures size { let first = plan.now.ram_start in
+            let frames = plan.now.frames in
+            IfOk result (λ k. size k.mem ≡ record { procs = length plan.now.procs; area = record { start = first; frames = frames }; slots = plan.now.slots }) }
         ensures store { IfOk result (λ k. KeepsStore W.is_honest W.held W.slot_count W.asked W.faults store (store_of k.mem)) }
         ensures back { IfErr result (λ fault. KeepsStore W.is_honest W.held W.slot_count W.asked W.faults store fault.store) }
         // Until pages can be out, want of memory is all that can come.

@@ -3,7 +3,6 @@
 ghost use Rattle.std.specs.Prelude.{ℕ, List, ◌≡◌, ◌+◌, ◌<◌, ◌≤◌, true, false, length, IsOk, OnOk, IfOk};
 ghost use Rattle.machine_model.specs.Calling.Calls.{call};
 ghost use Rattle.machine_model.specs.State.Changes.{Refused, Retried, call_settled};
-ghost use Rattle.machine_model.specs.Runs.Matched.{Matched};
 ghost use Rattle.machine_model.specs.State.Order.{ready_at};
 ghost use Rattle.machine_model.specs.Stepping.Step.{after};
 ghost use Rattle.syscall_codec.specs.Calls.{Asks};
@@ -40,7 +39,8 @@ impl<W: SwapStore> Kernel<W> {
         requires room { length self.old.log.records + thread_ids PROCESS_LIMIT + 2 ≤ self.old.log.room }
         ensures whole { IsWhole W.slot_count W.held self.new }
         ensures usable { OnOk result (IsUsable self.new) }
-        ensures tells { OnOk result (Tells W.held self.old self.new (after (Called self.old.cursor words) (call_settled (machine_of W.held self.old) (call (machine_of W.held self.old) words)))) }
+        ensures tells { let m = machine_of W.held self.old in
+            OnOk result (Tells W.held self.old self.new (after (Called self.old.cursor words) (call_settled m (call m words)))) }
         ensures keeps { Keeps W.is_honest W.held W.slot_count W.asked W.faults self.old self.new }
         ensures sure { IsOk result }
     {
@@ -70,7 +70,8 @@ impl<W: SwapStore> Kernel<W> {
         requires room { length self.old.log.records + thread_ids PROCESS_LIMIT + 1 ≤ self.old.log.room }
         ensures whole { IsWhole W.slot_count W.held self.new }
         ensures usable { OnOk result (IsUsable self.new) }
-        ensures tells { OnOk result (Tells W.held self.old self.new (call_settled (machine_of W.held self.old) (call (machine_of W.held self.old) words))) }
+        ensures tells { let m = machine_of W.held self.old in
+            OnOk result (Tells W.held self.old self.new (call_settled m (call m words))) }
         ensures keeps { Keeps W.is_honest W.held W.slot_count W.asked W.faults self.old self.new }
         ensures sure { IsOk result }
     {
@@ -105,7 +106,8 @@ impl<W: SwapStore> Kernel<W> {
         requires room { length self.old.log.records + 2 ≤ self.old.log.room }
         ensures whole { IsWhole W.slot_count W.held self.new }
         ensures usable { OnOk result (IsUsable self.new) }
-        ensures tells { OnOk result (Tells W.held self.old self.new (call_settled (machine_of W.held self.old) (call (machine_of W.held self.old) words))) }
+        ensures tells { let m = machine_of W.held self.old in
+            OnOk result (Tells W.held self.old self.new (call_settled m (call m words))) }
         ensures keeps { Keeps W.is_honest W.held W.slot_count W.asked W.faults self.old self.new }
         ensures sure { IsOk result }
     {
@@ -152,17 +154,15 @@ impl<W: SwapStore> Kernel<W> {
 
     // What comes of the call that is asked for.
     fn serve(&mut self, asked: Call) -> Result<Result<CallerFate, XousError>, SwapFault>
-        requires whole { IsWhole W.slot_count W.held self.old }
-        requires usable { IsUsable self.old }
-        requires ready { ready_at (machine_of W.held self.old) self.old.cursor ≡ true }
-        requires matched { Matched (machine_of W.held self.old) }
-        requires few { self.old.steps < 4000000000 }
+        requires calls { IsCaller W.slot_count W.held self.old }
         requires free { (words : List ℕ) → Asks words asked → is_refused_caller (machine_of W.held self.old) words ≡ false }
         requires plain { (words : List ℕ) × Asks words asked × (is_plain_call words ≡ true) }
         requires untimed { (words : List ℕ) → Asks words asked → is_timer_claim words ≡ false }
         ensures whole { IsWhole W.slot_count W.held self.new }
         ensures usable { OnOk result (IsUsable self.new) }
-        ensures outcome { IfOk result (λ served. (words : List ℕ) → Asks words asked → outcome_of self.old.cursor (machine_of W.held self.new) served ≡ call (machine_of W.held self.old) words) }
+        ensures outcome { let old = machine_of W.held self.old in
+            let new = machine_of W.held self.new in
+            IfOk result (λ served. (words : List ℕ) → Asks words asked → outcome_of self.old.cursor new served ≡ call old words) }
         ensures undone { IfOk result (λ served. IfUndone served (self.new ≡ self.old)) }
         ensures log { self.new.log ≡ self.old.log }
         ensures keeps { Keeps W.is_honest W.held W.slot_count W.asked W.faults self.old self.new }

@@ -80,7 +80,8 @@ impl<W: SwapStore> Kernel<W> {
         requires pid { IsTrue (is_pid (processes self.old.mem) who.pid.0) }
         requires room { length self.old.log.records + 31 ≤ self.old.log.room }
         ensures whole { IsWhole W.slot_count W.held self.new }
-        ensures tells { Tells W.held self.old self.new (settled (answering (joiners_answered (machine_of W.held self.old) who a0) (machine_of W.held self.old))) }
+        ensures tells { let m = machine_of W.held self.old in
+            Tells W.held self.old self.new (settled (answering (joiners_answered m who a0) m)) }
         ensures mem { self.new.mem ≡ self.old.mem }
         ensures few { length self.new.log.records ≤ length self.old.log.records + 31 }
     {

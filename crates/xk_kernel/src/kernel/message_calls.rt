@@ -4,7 +4,8 @@
 ghost use Rattle.std.specs.Prelude.{◌≡◌, ◌+◌, ◌≤◌, ◌==◌, ◌&&◌, ◌||◌, length, true, false, if◌then◌else◌};
 ghost use Rattle.machine_model.specs.State.Changes.{call_settled};
 ghost use Rattle.send_path.specs.Rows.{receive_row, table_row};
-ghost use Rattle.xk_base.specs.Calls.CallNumbers.{forward_message as forward_number, return_memory, return_scalar1, return_scalar2, send_message as send_number, try_send_message as try_number};
+ghost use Rattle.xk_base.specs.Calls.CallNumbers.{forward_message as forward_number, return_memory, return_scalar1, return_scalar2};
+ghost use Rattle.xk_base.specs.Calls.CallNumbers.{send_message as send_number, try_send_message as try_number};
 ghost use Rattle.xk_base.specs.Calls.CallWords.{call_number};
 ghost use Rattle.xk_kernel.specs.Calling.{IsCaller, is_refused_caller};
 ghost use Rattle.xk_kernel.specs.Sound.{IsUsable, IsWhole, Keeps};
@@ -17,8 +18,8 @@ use xk_base::{Number, Sid, XousError};
 use xk_ports::SwapStore;
 
 impl<W: SwapStore> Kernel<W> {
-    // SendMessage, and TrySendMessage where the caller doesn't want to try again: an accepted message
-    // takes the next number. At a full server the one will be made again, and the other is refused.
+    // SendMessage, and TrySendMessage where the caller only tries: an accepted message takes the next
+    // number. At a full server the one will be made again, and the other is refused.
     pub(super) fn send_message(&mut self, words: [u32; 8], tries: bool)
         requires calls { IsCaller W.slot_count W.held self.old }
         requires number { call_number words ≡ (if tries then try_number else send_number) }
@@ -26,7 +27,8 @@ impl<W: SwapStore> Kernel<W> {
         requires room { length self.old.log.records + 2 ≤ self.old.log.room }
         ensures whole { IsWhole W.slot_count W.held self.new }
         ensures usable { IsUsable self.new }
-        ensures tells { Tells W.held self.old self.new (call_settled (machine_of W.held self.old) (table_row words (machine_of W.held self.old))) }
+        ensures tells { let m = machine_of W.held self.old in
+            Tells W.held self.old self.new (call_settled m (table_row words m)) }
         ensures keeps { Keeps W.is_honest W.held W.slot_count W.asked W.faults self.old self.new }
     {
         let sent = send(
@@ -48,14 +50,15 @@ impl<W: SwapStore> Kernel<W> {
         }
     }
 
-    // ReceiveMessage, and TryReceiveMessage where the caller doesn't want to wait.
+    // ReceiveMessage, and TryReceiveMessage where the caller doesn't wait for a message.
     pub(super) fn receive_message(&mut self, sid: Sid, waits: bool)
         requires calls { IsCaller W.slot_count W.held self.old }
         requires free { (waits && (self.old.cursor.tid.0 == 1)) ≡ false }
         requires room { length self.old.log.records + 2 ≤ self.old.log.room }
         ensures whole { IsWhole W.slot_count W.held self.new }
         ensures usable { IsUsable self.new }
-        ensures tells { Tells W.held self.old self.new (call_settled (machine_of W.held self.old) (receive_row sid waits (machine_of W.held self.old))) }
+        ensures tells { let m = machine_of W.held self.old in
+            Tells W.held self.old self.new (call_settled m (receive_row sid waits m)) }
         ensures keeps { Keeps W.is_honest W.held W.slot_count W.asked W.faults self.old self.new }
     {
         let received = receive(
@@ -80,7 +83,8 @@ impl<W: SwapStore> Kernel<W> {
         requires room { length self.old.log.records + 2 ≤ self.old.log.room }
         ensures whole { IsWhole W.slot_count W.held self.new }
         ensures usable { IsUsable self.new }
-        ensures tells { Tells W.held self.old self.new (call_settled (machine_of W.held self.old) (table_row words (machine_of W.held self.old))) }
+        ensures tells { let m = machine_of W.held self.old in
+            Tells W.held self.old self.new (call_settled m (table_row words m)) }
         ensures keeps { Keeps W.is_honest W.held W.slot_count W.asked W.faults self.old self.new }
     {
         let returned = give_back(
@@ -105,7 +109,8 @@ impl<W: SwapStore> Kernel<W> {
         requires room { length self.old.log.records + 2 ≤ self.old.log.room }
         ensures whole { IsWhole W.slot_count W.held self.new }
         ensures usable { IsUsable self.new }
-        ensures tells { Tells W.held self.old self.new (call_settled (machine_of W.held self.old) (table_row words (machine_of W.held self.old))) }
+        ensures tells { let m = machine_of W.held self.old in
+            Tells W.held self.old self.new (call_settled m (table_row words m)) }
         ensures keeps { Keeps W.is_honest W.held W.slot_count W.asked W.faults self.old self.new }
     {
         let forwarded = forward(

@@ -56,7 +56,9 @@ impl<W: SwapStore> Kernel<W> {
         requires ready { ready_at (machine_of W.held self.old) self.old.cursor ≡ true }
         requires serials { (servers_of self.old.servers).next < 4294967295 }
         ensures whole { IsWhole W.slot_count W.held self.new }
-        ensures outcome { outcome_of self.old.cursor (machine_of W.held self.new) result ≡ unless_refused (create_server_refusals (machine_of W.held self.old) sid) (Served (create_server_served (machine_of W.held self.old) sid)) }
+        ensures outcome { let old = machine_of W.held self.old in
+            let new = machine_of W.held self.new in
+            outcome_of self.old.cursor new result ≡ unless_refused (create_server_refusals old sid) (Served (create_server_served old sid)) }
         ensures undone { IfUndone result (self.new ≡ self.old) }
         ensures mem { self.new.mem ≡ self.old.mem }
         ensures log { self.new.log ≡ self.old.log }
@@ -95,7 +97,9 @@ impl<W: SwapStore> Kernel<W> {
     pub(super) fn connect(&mut self, sid: Sid) -> Result<CallerFate, XousError>
         requires whole { IsWhole W.slot_count W.held self.old }
         ensures whole { IsWhole W.slot_count W.held self.new }
-        ensures outcome { outcome_of self.old.cursor (machine_of W.held self.new) result ≡ unless_retried (is_missing (machine_of W.held self.old) sid) (unless_refused (connect_refusals (machine_of W.held self.old) sid) (Served (connect_served (machine_of W.held self.old) sid))) }
+        ensures outcome { let old = machine_of W.held self.old in
+            let new = machine_of W.held self.new in
+            outcome_of self.old.cursor new result ≡ unless_retried (is_missing old sid) (unless_refused (connect_refusals old sid) (Served (connect_served old sid))) }
         ensures undone { IfUndone result (self.new ≡ self.old) }
         ensures mem { self.new.mem ≡ self.old.mem }
         ensures log { self.new.log ≡ self.old.log }
@@ -110,7 +114,9 @@ impl<W: SwapStore> Kernel<W> {
     pub(super) fn try_connect(&mut self, sid: Sid) -> Result<CallerFate, XousError>
         requires whole { IsWhole W.slot_count W.held self.old }
         ensures whole { IsWhole W.slot_count W.held self.new }
-        ensures outcome { outcome_of self.old.cursor (machine_of W.held self.new) result ≡ unless_refused ((is_missing (machine_of W.held self.old) sid, NotFound) ∷ connect_refusals (machine_of W.held self.old) sid) (Served (connect_served (machine_of W.held self.old) sid)) }
+        ensures outcome { let old = machine_of W.held self.old in
+            let new = machine_of W.held self.new in
+            outcome_of self.old.cursor new result ≡ unless_refused ((is_missing old sid, NotFound) ∷ connect_refusals old sid) (Served (connect_served old sid)) }
         ensures undone { IfUndone result (self.new ≡ self.old) }
         ensures mem { self.new.mem ≡ self.old.mem }
         ensures log { self.new.log ≡ self.old.log }

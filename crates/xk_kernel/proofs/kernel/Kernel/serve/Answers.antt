@@ -153,10 +153,10 @@ returns-in-TryConnect-clause-outcome g c words asks =
 pub create_server-requires-clause-serials : goal.create_server-requires-clause-serials
 unfolding machine_of
 create_server-requires-clause-serials g c =
-    let serials : (servers_of c.args.self.now.servers).next ≤ c.args.self.now.steps + 1 = c.requires.matched.rest.stepped.serial_steps in
-    let few : c.args.self.now.steps < 4000000000 = c.requires.few in
+    let serials : (servers_of c.args.self.now.servers).next ≤ c.args.self.now.steps + 1 = c.requires.calls.matched.rest.stepped.serial_steps in
+    let few : c.args.self.now.steps < 4000000000 = c.requires.calls.few in
     omega arith
 
 pub create_server-requires-clause-ready : goal.create_server-requires-clause-ready
 unfolding machine_of
-create_server-requires-clause-ready g c = c.requires.ready
+create_server-requires-clause-ready g c = c.requires.calls.ready
