@@ -2,7 +2,6 @@ pub mod History
 pub mod HistoryMoments
 pub mod Interleaving
 pub mod Acting
-pub mod Built
 pub mod Calling
 pub mod Running
 pub mod Sound

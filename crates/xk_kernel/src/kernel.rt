@@ -1,7 +1,6 @@
 //! The kernel.
 
 mod boot;
-mod built;
 mod calls;
 mod deaths;
 mod events;
@@ -32,8 +31,6 @@ pub enum Stepped {
     Did,
     /// No thread is ready.
     Idle,
-    /// The next step isn't built; nothing was done.
-    NotBuilt,
 }
 
 /// The store failed as a page was brought in or put out; it has counted it. The kernel is closed

@@ -28,7 +28,6 @@ use Rattle.xk_base.specs.declared.ids.ThreadId.{ThreadId}
 use Rattle.xk_base.specs.declared.records.What.{What}
 use Rattle.xk_base.specs.declared.records.What.TheVariants.{Call, End, Fault}
 use Rattle.xk_kernel.specs.Acting.{IsDone, reservation_by, told_by}
-use Rattle.xk_kernel.specs.Built.{executed_built, is_timer_claim, step_built, thread_built}
 use Rattle.xk_kernel.specs.Calling.{IsCaller}
 use Rattle.xk_kernel.specs.Running.{machine_after}
 use Rattle.xk_kernel.specs.Sound.{IsUsable, IsWhole}
@@ -44,21 +43,21 @@ at who m = record m { cursor = who }
 
 module _ (m : Machine) (who : ThreadId) (t : Thread) where
   pub next_executed : (x : Executed) (pc : ℕ) → ran_of x ≡ ran.Next pc
-      → (executed (at who m) t x ≡ record { machine = at who (machine_after who m x); told = [] }) × (executed_built t x ≡ true)
+      → executed (at who m) t x ≡ record { machine = at who (machine_after who m x); told = [] }
   unfolding stored timer_set
-  next_executed (Next regs pc) p e = (refl, refl)
-  next_executed (Stores address width value regs pc) p e = (refl, refl)
+  next_executed (Next regs pc) p e = refl
+  next_executed (Stores address width value regs pc) p e = refl
   next_executed (StoresToConsole offset value regs pc) p e = cc
-  next_executed (StoresToTimer offset width value regs pc) p e = (refl, refl)
+  next_executed (StoresToTimer offset width value regs pc) p e = refl
   next_executed CallsKernel p e = cc
   next_executed (Traps cause value) p e = cc
 
   pub device_executed : (x : Executed) (offset value pc : ℕ) → ran_of x ≡ Device offset value pc
-      → (executed (at who m) t x ≡ record { machine = at who (machine_after who m x); told = console_told who offset value }) × (executed_built t x ≡ true)
+      → executed (at who m) t x ≡ record { machine = at who (machine_after who m x); told = console_told who offset value }
   device_executed (Next regs pc) o v p e = cc
   device_executed (Stores address width value regs pc) o v p e = cc
   device_executed (StoresToConsole offset value regs pc) o v p e =
-      ((λ i. record { machine = at who (machine_after who m (StoresToConsole offset value regs pc)); told = console_told who (offset_of (e i)) (value_of (e i)) }), refl)
+      (λ i. record { machine = at who (machine_after who m (StoresToConsole offset value regs pc)); told = console_told who (offset_of (e i)) (value_of (e i)) })
     where
       offset_of : Ran → ℕ
       offset_of (Device o v p) = o
@@ -73,14 +72,14 @@ module _ (m : Machine) (who : ThreadId) (t : Thread) where
 
   -- a trap and a call of the kernel leave the machine so far
   pub trap_executed : (x : Executed) (cause value : ℕ) → ran_of x ≡ Trap cause value
-      → (executed (at who m) t x ≡ after (Fault who cause value) (settled (death who.pid (at who m)))) × (machine_after who m x ≡ m) × (executed_built t x ≡ true)
+      → (executed (at who m) t x ≡ after (Fault who cause value) (settled (death who.pid (at who m)))) × (machine_after who m x ≡ m)
   trap_executed (Next regs pc) a v e = cc
   trap_executed (Stores address width value regs pc) a v e = cc
   trap_executed (StoresToConsole offset value regs pc) a v e = cc
   trap_executed (StoresToTimer offset width value regs pc) a v e = cc
   trap_executed CallsKernel a v e = cc
   trap_executed (Traps cause value) a v e =
-      ((λ i. after (Fault who (cause_of (e i)) (value_of (e i))) (settled (death who.pid (at who m)))), refl, refl)
+      ((λ i. after (Fault who (cause_of (e i)) (value_of (e i))) (settled (death who.pid (at who m)))), refl)
     where
       cause_of : Ran → ℕ
       cause_of (Trap c v) = c
@@ -92,12 +91,12 @@ module _ (m : Machine) (who : ThreadId) (t : Thread) where
 
   pub call_executed : (x : Executed) → ran_of x ≡ Ecall
       → (executed (at who m) t x ≡ after (Call who (arguments_of t.regs)) (call_settled (at who m) (call (at who m) (arguments_of t.regs))))
-      × (machine_after who m x ≡ m) × (executed_built t x ≡ not (is_timer_claim (arguments_of t.regs)))
+      × (machine_after who m x ≡ m)
   call_executed (Next regs pc) e = cc
   call_executed (Stores address width value regs pc) e = cc
   call_executed (StoresToConsole offset value regs pc) e = cc
   call_executed (StoresToTimer offset width value regs pc) e = cc
-  call_executed CallsKernel e = (refl, refl, refl)
+  call_executed CallsKernel e = (refl, refl)
   call_executed (Traps cause value) e = cc
 
 -- a thread of a machine that stays makes its call with the words that it had
@@ -114,7 +113,7 @@ never_fails (StoresToTimer offset width value regs pc) e = cc
 never_fails CallsKernel e = cc
 never_fails (Traps cause value) e = cc
 
--- ---- what the thread does, and whether it is built
+-- ---- what the thread does
 
 module _ (m : Machine) (who : ThreadId) (t : Thread) (there : m.threads who ≡ Some t) where
   -- what its instruction comes to
@@ -158,26 +157,6 @@ module _ (m : Machine) (who : ThreadId) (t : Thread) (there : m.threads who ≡ 
   pub left_executed : ends_thread who t.pc ≡ false → ends_handler who t.pc ≡ false → (reserved : Option ℕ) → reserved ≡ (performed m who t).reserved
       → reservation_of who reserved ≡ reservation_by who m
   left_executed a b reserved e = ap (reservation_of who) e ∙ sym (left_is ∙ (λ i. left_by (a i) (b i)))
-
-  module _ (acts : actor m ≡ Some who) where
-    abbrev built_by : Bool → Bool → Executed → Bool
-    built_by a b x = if a then true else (if b then true else executed_built t x)
-
-    built_is : step_built m ≡ built_by (ends_thread who t.pc) (ends_handler who t.pc) fetched
-    unfolding step_built
-    built_is =
-        ap (λ o. option_map_or (λ who. option_map_or (thread_built m who) (m.threads who) false) o false) acts
-        ∙ ap (λ o. option_map_or (thread_built m who) o false) there
-
-    pub built_end : ends_thread who t.pc ≡ true → step_built m ≡ true
-    built_end e = built_is ∙ ap (λ a. built_by a (ends_handler who t.pc) fetched) e
-
-    module _ (a : ends_thread who t.pc ≡ false) where
-      pub built_handler : ends_handler who t.pc ≡ true → step_built m ≡ true
-      built_handler e = built_is ∙ (λ i. built_by (a i) (e i) fetched)
-
-      pub built_executed : ends_handler who t.pc ≡ false → step_built m ≡ executed_built t fetched
-      built_executed e = built_is ∙ (λ i. built_by (a i) (e i) fetched)
 
 -- ---- the kernel tells so
 

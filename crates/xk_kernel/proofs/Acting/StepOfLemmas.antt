@@ -17,8 +17,7 @@ use Rattle.xk_kernel.specs.Sound.{IsSound, IsUsable, IsWhole}
 use Rattle.xk_kernel.specs.State.{as_reservation, machine_of}
 use Rattle.xk_kernel.specs.Stepping.{Becomes, DoesStep}
 use Rattle.xk_kernel.specs.declared.kernel.Kernel.{Kernel}
-use Rattle.xk_kernel.specs.declared.kernel.Stepped.TheVariants.{Did, NotBuilt}
-use Rattle.xk_kernel.specs.declared.kernel.stepping.Acted.TheVariants.{Done, Unbuilt}
+use Rattle.xk_kernel.specs.declared.kernel.Stepped.TheVariants.{Did}
 
 -- what its actor did, counted, with the reservation that it leaves
 abbrev counted_by : ThreadId → Machine → Told
@@ -66,19 +65,13 @@ module _ {W : Type 0} (slot_count : W → ℕ) (held : W → Held) (old new : Ke
           records = ap (λ log. log.records) done.log ∙ sym (ap (λ (s : Recorded). s.records) is);
         }
 
-    pub did : Acts held old new who (Done address) → DoesStep held old counting Did
-    did h = (ap is_some acts, h.0, step_done h.1 h.2)
+    pub did : Acts held old new who address → DoesStep held old counting Did
+    did h = (ap is_some acts, step_done h.done h.leaves)
 
-    pub did_sound : IsSound slot_count held old → IsUsable old → IsWhole slot_count held new → Acts held old new who (Done address) → IsSound slot_count held counting
+    pub did_sound : IsSound slot_count held old → IsUsable old → IsWhole slot_count held new → Acts held old new who address → IsSound slot_count held counting
     did_sound sound usable whole h = record {
       whole = counting_whole whole;
       matched = λ _.
-          subst Matched (sym (step_done h.1 h.2).machine)
+          subst Matched (sym (step_done h.done h.leaves).machine)
           (every_step_keeps (machine_of held old) (sound.matched usable));
     }
-
-  pub did_not : Acts held old new who Unbuilt → DoesStep held old new NotBuilt
-  did_not h = (ap is_some acts, h.0, h.1, ap (λ log. log.records) h.2)
-
-  pub left_sound : IsSound slot_count held old → IsUsable old → IsWhole slot_count held new → Acts held old new who Unbuilt → IsSound slot_count held new
-  left_sound sound usable whole h = record { whole = whole; matched = λ _. subst Matched (sym h.1) (sound.matched usable) }

@@ -26,7 +26,6 @@ use Rattle.xk_base.specs.declared.errors.XousError.{XousError}
 use Rattle.xk_base.specs.declared.limits.TheConstants.{TIMER_INTERRUPT}
 use Rattle.xk_base.specs.declared.errors.XousError.TheVariants.{InvalidSyscall, ServerNotFound, UnhandledSyscall}
 use Rattle.xk_base.specs.declared.ids.Sid.{Sid}
-use Rattle.xk_kernel.specs.Built.{is_timer_claim}
 use Rattle.xk_kernel.specs.Calling.{is_plain_call, is_plain_number, is_refused_caller}
 
 -- a call that its number has in the table, and that isn't refused to its caller, is that row
@@ -216,11 +215,6 @@ plain_asked w (DestroyServer a) h plain = sym (ap is_plain_number h.0) ∙ plain
 plain_asked w GetThreadId h plain = refl
 plain_asked w GetProcessId h plain = refl
 plain_asked w (ForwardMessage a b) h plain = sym (ap is_plain_number h.0) ∙ plain
-
--- the interrupt that is claimed is another one than the timer's
-pub claim_untimed : (w : List ℕ) (number handler arg : ℕ) → Asks w (ClaimInterrupt number handler arg) → is_timer_claim w ≡ false → number ≢ TIMER_INTERRUPT
-claim_untimed w number handler arg (n, a, b, d) untimed timed =
-    false≢true (sym untimed ∙ (λ i. (n i == claim_interrupt) && (a i == TIMER_INTERRUPT)) ∙ ap (λ k. k == TIMER_INTERRUPT) timed)
 
 -- it is one of these
 pub record IsNoneOf (asked : Call) : Type 0 where

@@ -9,7 +9,6 @@ ghost use Rattle.syscall_codec.specs.Calls.{Asks};
 ghost use Rattle.xk_base.specs.Tables.Circle.{thread_ids};
 ghost use Rattle.xk_base.specs.declared.limits.TheConstants.{PROCESS_LIMIT};
 ghost use Rattle.xk_base.specs.declared.records.What.TheVariants.{Call as Called};
-ghost use Rattle.xk_kernel.specs.Built.{is_timer_claim};
 ghost use Rattle.xk_kernel.specs.Calling.{IfUndone, IsCaller, is_plain_call, is_refused_caller, outcome_of};
 ghost use Rattle.xk_kernel.specs.Sound.{IsUsable, IsWhole, Keeps};
 ghost use Rattle.xk_kernel.specs.State.{machine_of};
@@ -32,10 +31,9 @@ pub enum CallerFate {
 }
 
 impl<W: SwapStore> Kernel<W> {
-    // The thread whose turn it is makes the call with these words. It doesn't claim the timer's interrupt.
+    // The thread whose turn it is makes the call with these words.
     pub(super) fn call(&mut self, words: [u32; 8]) -> Result<(), SwapFault>
         requires calls { IsCaller W.slot_count W.held self.old }
-        requires untimed { is_timer_claim words ≡ false }
         requires room { length self.old.log.records + thread_ids PROCESS_LIMIT + 2 ≤ self.old.log.room }
         ensures whole { IsWhole W.slot_count W.held self.new }
         ensures usable { OnOk result (IsUsable self.new) }
@@ -66,7 +64,6 @@ impl<W: SwapStore> Kernel<W> {
     fn call_asked(&mut self, words: [u32; 8], asked: Call) -> Result<(), SwapFault>
         requires calls { IsCaller W.slot_count W.held self.old }
         requires asks { Asks words asked }
-        requires untimed { is_timer_claim words ≡ false }
         requires room { length self.old.log.records + thread_ids PROCESS_LIMIT + 1 ≤ self.old.log.room }
         ensures whole { IsWhole W.slot_count W.held self.new }
         ensures usable { OnOk result (IsUsable self.new) }
@@ -102,7 +99,6 @@ impl<W: SwapStore> Kernel<W> {
         requires asks { Asks words asked }
         requires free { is_refused_caller (machine_of W.held self.old) words ≡ false }
         requires plain { is_plain_call words ≡ true }
-        requires untimed { is_timer_claim words ≡ false }
         requires room { length self.old.log.records + 2 ≤ self.old.log.room }
         ensures whole { IsWhole W.slot_count W.held self.new }
         ensures usable { OnOk result (IsUsable self.new) }
@@ -157,7 +153,6 @@ impl<W: SwapStore> Kernel<W> {
         requires calls { IsCaller W.slot_count W.held self.old }
         requires free { (words : List ℕ) → Asks words asked → is_refused_caller (machine_of W.held self.old) words ≡ false }
         requires plain { (words : List ℕ) × Asks words asked × (is_plain_call words ≡ true) }
-        requires untimed { (words : List ℕ) → Asks words asked → is_timer_claim words ≡ false }
         ensures whole { IsWhole W.slot_count W.held self.new }
         ensures usable { OnOk result (IsUsable self.new) }
         ensures outcome { let old = machine_of W.held self.old in

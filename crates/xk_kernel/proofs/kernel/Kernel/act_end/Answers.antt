@@ -11,7 +11,7 @@ use Rattle.vm_memory.specs.Memory.{IsUsable as IsMemoryUsable}
 use Rattle.xk_base.specs.declared.ids.ThreadId.{ThreadId}
 use Rattle.xk_base.specs.declared.records.What.TheVariants.{End}
 use Rattle.xk_kernel.specs.State.{machine_of}
-use Rattle.xk_kernel.proofs.Acting.ActLemmas.{above_one, actor_known, at, begun_caller, begun_cursor, begun_done, built_end, left_at_end, told_end}
+use Rattle.xk_kernel.proofs.Acting.ActLemmas.{above_one, actor_known, at, begun_caller, begun_cursor, begun_done, left_at_end, told_end}
 use Rattle.xk_kernel.proofs.kernel.Kernel.act_end.Goals as goal
 
 pub begin-requires-clause-id : goal.begin-requires-clause-id
@@ -37,10 +37,10 @@ pub returns-clause-acts : goal.returns-clause-acts
 returns-clause-acts g c =
     let m : Machine = machine_of g.W.SwapStore.held c.args.self.now in
     let r : IsReadyThread m c.args.who = ready_thread m c.args.who (actor_ready m c.args.who c.requires.who) in
-    let ends : (ends_thread c.args.who r.thread.pc ≡ true) × (reg_at r.thread.regs 10 ≡ c.args.a0) = c.requires.ends r.thread r.there in (
-      built_end m c.args.who r.thread r.there c.requires.who ends.0,
-      begun_done g.W.SwapStore.held c.args.self.now c.begin.new.self c.end_thread.new.self c.args.who (λ w m. after (End w) (settled (thread_ended w c.args.a0 m)))
+    let ends : (ends_thread c.args.who r.thread.pc ≡ true) × (reg_at r.thread.regs 10 ≡ c.args.a0) = c.requires.ends r.thread r.there in
+    record {
+      done = begun_done g.W.SwapStore.held c.args.self.now c.begin.new.self c.end_thread.new.self c.args.who (λ w m. after (End w) (settled (thread_ended w c.args.a0 m)))
           (told_end m c.args.who r.thread r.there ends.0 ∙ ap (λ a0. after (End c.args.who) (settled (thread_ended c.args.who a0 (at c.args.who m)))) ends.1)
-          c.begin.ensures.machine c.begin.ensures.log c.end_thread.ensures.tells,
-      left_at_end m c.args.who r.thread r.there ends.0,
-    )
+          c.begin.ensures.machine c.begin.ensures.log c.end_thread.ensures.tells;
+      leaves = left_at_end m c.args.who r.thread r.there ends.0;
+    }

@@ -110,6 +110,5 @@ call_plain-requires g c = record {
         terminate = c.in_default.not-TerminateProcess;
         destroy = c.in_default.not-DestroyServer;
       });
-  untimed = c.requires.untimed;
   room = omega arith;
 }

@@ -7,7 +7,7 @@ use Rattle.server_table.specs.ServersOf.{servers_of}
 use Rattle.syscall_codec.specs.Calls.{Asks}
 use Rattle.xk_base.specs.Calls.Replies.{plain_words}
 use Rattle.xk_kernel.specs.State.{machine_of}
-use Rattle.xk_kernel.proofs.Calling.CallTableLemmas.{claim_is, claim_untimed, connect_is, create_is, create_server_is, decrease_is, free_is, increase_is, join_is, map_is, none_left, plain_asked, process_id_is, thread_id_is, try_connect_is, unmap_is, update_is, yield_is}
+use Rattle.xk_kernel.proofs.Calling.CallTableLemmas.{claim_is, connect_is, create_is, create_server_is, decrease_is, free_is, increase_is, join_is, map_is, none_left, plain_asked, process_id_is, thread_id_is, try_connect_is, unmap_is, update_is, yield_is}
 use Rattle.xk_kernel.proofs.kernel.Kernel.serve.Goals as goal
 
 pub unreachable-requires : goal.unreachable-requires
@@ -67,12 +67,6 @@ returns-in-JoinThread-clause-outcome g c words asks =
     c.join_thread.ensures.outcome ∙ join_is (machine_of g.W.SwapStore.held c.args.self.now) words
     (c.requires.free words asks)
     c.in-JoinThread.tid (subst (Asks words) c.in-JoinThread.is asks)
-
-pub claim_interrupt-requires-clause-untimed : goal.claim_interrupt-requires-clause-untimed
-claim_interrupt-requires-clause-untimed g c =
-    let asks = c.requires.plain.1 in
-    claim_untimed c.requires.plain.0 c.in-ClaimInterrupt.number c.in-ClaimInterrupt.handler c.in-ClaimInterrupt.arg
-    (subst (Asks c.requires.plain.0) c.in-ClaimInterrupt.is asks) (c.requires.untimed c.requires.plain.0 asks)
 
 pub returns-in-ClaimInterrupt-clause-outcome : goal.returns-in-ClaimInterrupt-clause-outcome
 unfolding machine_of
