@@ -12,11 +12,10 @@ use Rattle.machine_model.specs.State.Threads.{put_thread}
 use Rattle.machine_model.specs.Stepping.Step.{ends_handler, ends_thread, performed}
 use Rattle.machine_model.specs.Runs.Matched.{is_living}
 use Rattle.xk_base.specs.Calls.CallNumbers.{map_memory, yield_turn, claim_interrupt, free_interrupt, increase_heap, decrease_heap, update_memory_flags, create_server_with_address, connect, create_thread, unmap_memory, terminate_process, try_connect, join_thread, get_thread_id, get_process_id, is_call_number}
-use Rattle.xk_base.specs.Calls.CallWords.{call_number, interrupt_number}
+use Rattle.xk_base.specs.Calls.CallWords.{call_number}
 use Rattle.xk_base.specs.Calls.Registers.{arguments_of}
 use Rattle.xk_base.specs.declared.ids.Pid.{Pid}
 use Rattle.xk_base.specs.declared.ids.ThreadId.{ThreadId}
-use Rattle.xk_base.specs.declared.limits.TheConstants.{TIMER_INTERRUPT}
 use Rattle.xk_kernel.specs.Alone.{is_alone}
 
 -- the end of a thread: another one of its process lives on, or the process stands alone
@@ -26,21 +25,16 @@ end_built m who = has_threads (put_thread who None m) who.pid || is_alone who.pi
 -- the numbers of the calls that are built, whatever their other words are
 abbrev pub built_numbers : List ℕ
 built_numbers =
-    map_memory ∷ yield_turn ∷ increase_heap ∷ decrease_heap ∷ update_memory_flags ∷ create_server_with_address ∷ connect ∷ create_thread
+    map_memory ∷ yield_turn ∷ claim_interrupt ∷ free_interrupt ∷ increase_heap ∷ decrease_heap ∷ update_memory_flags ∷ create_server_with_address ∷ connect ∷ create_thread
     ∷ unmap_memory ∷ terminate_process ∷ try_connect ∷ join_thread ∷ get_thread_id ∷ get_process_id ∷ []
 
 -- it is one of these, or none of the table
 abbrev pub is_number_built : ℕ → Bool
 is_number_built k = list_any (λ n. n == k) built_numbers || not (is_call_number k)
 
--- the call claims an interrupt, which isn't the timer's, or frees one
-abbrev pub is_interrupt_call : List ℕ → Bool
-is_interrupt_call words =
-    ((call_number words == claim_interrupt) && not (interrupt_number words == TIMER_INTERRUPT)) || (call_number words == free_interrupt)
-
--- a call with these words is built: by its number, or as a call on interrupts
+-- a call with these words is built, by its number
 abbrev pub is_call_built : List ℕ → Bool
-is_call_built words = is_number_built (call_number words) || is_interrupt_call words
+is_call_built words = is_number_built (call_number words)
 
 -- a system call: TerminateProcess only where the process stands alone
 abbrev pub call_built : Machine → ThreadId → List ℕ → Bool

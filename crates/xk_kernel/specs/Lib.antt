@@ -5,6 +5,7 @@ pub mod Acting
 pub mod Alone
 pub mod Built
 pub mod Calling
+pub mod Ringing
 pub mod Running
 pub mod Sound
 pub mod Start

@@ -1,6 +1,5 @@
 -- The soundness of a kernel, which each call needs and keeps.
-use Rattle.std.specs.Prelude.{◌≡◌, ℕ, ◌≤◌, Bool, IsTrue, None, All}
-use Rattle.irq_claims.specs.ClaimsOf.{claims_of}
+use Rattle.std.specs.Prelude.{◌≡◌, ℕ, ◌≤◌, Bool, IsTrue, All}
 use Rattle.machine_model.specs.Runs.Matched.{Matched}
 use Rattle.msg_queue.specs.Seats.{used_of}
 use Rattle.process_table.specs.ProcessesOf.{process_count as processes_made}
@@ -11,7 +10,7 @@ use Rattle.vm_memory.specs.Memory.{IsUsable as IsMemoryUsable, ledger, processes
 use Rattle.vm_memory.specs.Sound.{IsSound as IsMemorySound}
 use Rattle.vm_memory.specs.Starting.{IsUnlent}
 use Rattle.xk_base.specs.Tables.Circle.{is_thread_id}
-use Rattle.xk_base.specs.declared.limits.TheConstants.{RECORD_LIMIT, TIMER_INTERRUPT}
+use Rattle.xk_base.specs.declared.limits.TheConstants.{RECORD_LIMIT}
 use Rattle.xk_kernel.specs.State.{machine_of}
 use Rattle.xk_kernel.specs.declared.kernel.Kernel.{Kernel}
 
@@ -29,9 +28,6 @@ pub record IsWhole {W : Type 0} (slot_count : W → ℕ) (held : W → Held) (k 
   -- These two go when messages are built.
   pub unlent : IsUnlent (ledger held k.mem)
   pub no_messages : All (λ seat. used_of seat ≡ 0) k.queues
-  -- This one goes when the timer is built. Until then no process can claim its interrupt, so that none has the timer's page, and
-  -- the timer is never armed.
-  pub untimed : claims_of k.claims TIMER_INTERRUPT ≡ None
 
 -- .. and until a call answers SwapFault the machine is matched
 pub record IsSound {W : Type 0} (slot_count : W → ℕ) (held : W → Held) (k : Kernel W) : Type 0 where

@@ -17,7 +17,6 @@ claim_of c = record { pid = c.pid; handler = c.handler; argument = c.arg }
 abbrev pub as_reservation : ThreadId × ℕ → Reservation
 as_reservation r = record { who = r.0; address = r.1 }
 
--- The timer isn't armed, as no process can claim its interrupt yet.
 unfoldable pub machine_of : {W : Type 0} → (W → Held) → Kernel W → Machine
 machine_of held k = record {
   capacity = capacity_of k.mem;
@@ -32,6 +31,6 @@ machine_of held k = record {
   pending = λ n. option_map_or (λ c. c.pending) (claims_of k.claims n) false;
   next_number = k.next;
   next_serial = (servers_of k.servers).next;
-  compare = None;
+  compare = k.timer;
   reserved = option_map as_reservation k.reserved;
 }

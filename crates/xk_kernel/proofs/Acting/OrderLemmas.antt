@@ -123,7 +123,6 @@ cursor_whole slot_count held k d h valid = record {
   room = h.room;
   unlent = h.unlent;
   no_messages = h.no_messages;
-  untimed = h.untimed;
 }
 
 -- no other state is ready

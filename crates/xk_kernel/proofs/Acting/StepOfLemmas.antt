@@ -47,7 +47,6 @@ module _ {W : Type 0} (slot_count : W → ℕ) (held : W → Held) (old new : Ke
       room = h.room;
       unlent = h.unlent;
       no_messages = h.no_messages;
-      untimed = h.untimed;
     }
 
     -- the timer of a kernel isn't armed

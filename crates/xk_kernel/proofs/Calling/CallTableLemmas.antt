@@ -199,11 +199,6 @@ is_built_one GetThreadId = true
 is_built_one GetProcessId = true
 is_built_one _ = false
 
--- the test of a number, and of the interrupt that is claimed by it
-abbrev is_built_number : ℕ → ℕ → Bool
-is_built_number interrupt k =
-    is_number_built k || (((k == claim_interrupt) && not (interrupt == TIMER_INTERRUPT)) || (k == free_interrupt))
-
 -- words of a call that is built ask for such a one
 pub built_asked : (w : List ℕ) (asked : Call) → Asks w asked → is_call_built w ≡ true → is_built_one asked ≡ true
 built_asked w (MapMemory a b d e) h built = refl
@@ -214,28 +209,23 @@ built_asked w (IncreaseHeap a) h built = refl
 built_asked w (DecreaseHeap a) h built = refl
 built_asked w (UpdateMemoryFlags a b d) h built = refl
 built_asked w (CreateServerWithAddress a) h built = refl
-built_asked w (ReceiveMessage a) h built = sym (ap (is_built_number (interrupt_number w)) h.0) ∙ built
-built_asked w (SendMessage a b d e) h built = sym (ap (is_built_number (interrupt_number w)) h.0) ∙ built
+built_asked w (ReceiveMessage a) h built = sym (ap is_number_built h.0) ∙ built
+built_asked w (SendMessage a b d e) h built = sym (ap is_number_built h.0) ∙ built
 built_asked w (Connect a) h built = refl
 built_asked w (CreateThread a b d) h built = refl
 built_asked w (UnmapMemory a b) h built = refl
-built_asked w (ReturnMemory a b d e f) h built = sym (ap (is_built_number (interrupt_number w)) h.0) ∙ built
+built_asked w (ReturnMemory a b d e f) h built = sym (ap is_number_built h.0) ∙ built
 built_asked w (TerminateProcess a) h built = refl
-built_asked w (TrySendMessage a b d e) h built = sym (ap (is_built_number (interrupt_number w)) h.0) ∙ built
+built_asked w (TrySendMessage a b d e) h built = sym (ap is_number_built h.0) ∙ built
 built_asked w (TryConnect a) h built = refl
-built_asked w (ReturnScalar1 a b) h built = sym (ap (is_built_number (interrupt_number w)) h.0) ∙ built
-built_asked w (ReturnScalar2 a b d) h built = sym (ap (is_built_number (interrupt_number w)) h.0) ∙ built
-built_asked w (TryReceiveMessage a) h built = sym (ap (is_built_number (interrupt_number w)) h.0) ∙ built
+built_asked w (ReturnScalar1 a b) h built = sym (ap is_number_built h.0) ∙ built
+built_asked w (ReturnScalar2 a b d) h built = sym (ap is_number_built h.0) ∙ built
+built_asked w (TryReceiveMessage a) h built = sym (ap is_number_built h.0) ∙ built
 built_asked w (JoinThread a) h built = refl
-built_asked w (DestroyServer a) h built = sym (ap (is_built_number (interrupt_number w)) h.0) ∙ built
+built_asked w (DestroyServer a) h built = sym (ap is_number_built h.0) ∙ built
 built_asked w GetThreadId h built = refl
 built_asked w GetProcessId h built = refl
-built_asked w (ForwardMessage a b) h built = sym (ap (is_built_number (interrupt_number w)) h.0) ∙ built
-
--- a claim that is built is that of another interrupt than the timer's
-pub claim_untimed : (w : List ℕ) (number handler arg : ℕ) → Asks w (ClaimInterrupt number handler arg) → is_call_built w ≡ true → number ≢ TIMER_INTERRUPT
-claim_untimed w number handler arg (n, a, b, d) built timed =
-    false≢true (sym (ap (λ k. is_built_number k claim_interrupt) timed) ∙ sym (λ i. is_built_number (a i) (n i)) ∙ built)
+built_asked w (ForwardMessage a b) h built = sym (ap is_number_built h.0) ∙ built
 
 -- it is one of these
 pub record IsNoneOf (asked : Call) : Type 0 where

@@ -29,6 +29,8 @@ use Rattle.xk_kernel.specs.Built.{built_numbers, is_call_built, is_number_built}
 record OfBuiltCalls (P : ℕ → Type 0) (k : ℕ) : Type 0 where
   pub map : P map_memory
   pub yield : P yield_turn
+  pub claim : P claim_interrupt
+  pub free : P free_interrupt
   pub increase : P increase_heap
   pub decrease : P decrease_heap
   pub update : P update_memory_flags
@@ -47,7 +49,7 @@ built_cases : (P : ℕ → Type 0) (k : ℕ) → OfBuiltCalls P k → is_number_
 built_cases P k of e = go (list_any (λ j. j == k) built_numbers) (is_call_number k) refl refl e
   where
     all : AllByRecursion P built_numbers
-    all = (of.map, (of.yield, (of.increase, (of.decrease, (of.update, (of.create_server, (of.connect, (of.create, (of.unmap, (of.terminate, (of.try_connect, (of.join, (of.thread_id, (of.process_id, tt))))))))))))))
+    all = (of.map, (of.yield, (of.claim, (of.free, (of.increase, (of.decrease, (of.update, (of.create_server, (of.connect, (of.create, (of.unmap, (of.terminate, (of.try_connect, (of.join, (of.thread_id, (of.process_id, tt))))))))))))))))
 
     go : (a b : Bool) → list_any (λ j. j == k) built_numbers ≡ a → is_call_number k ≡ b → (a || not b) ≡ true → P k
     go true b p q e = in_list P k built_numbers all p
@@ -129,6 +131,16 @@ module _ (m : Machine) (w : List ℕ) (there : is_some (m.threads m.cursor) ≡ 
   unfolding terminate_call death
   terminate_leaves = λ e. absurd (none-some m.cursor.pid (sym e))
 
+  claim_leaves : LeavesCaller m (claim_call m w)
+  unfolding claim_call
+  claim_leaves =
+      either (claim_refusals m (interrupt_number w) (interrupt_handler w))
+      (Served (claim_served m (interrupt_number w) (interrupt_handler w) (interrupt_argument w))) (λ e. there)
+
+  free_leaves : LeavesCaller m (free_call m w)
+  unfolding free_call
+  free_leaves = either (free_refusals m (interrupt_number w)) (Served (free_served m (interrupt_number w))) (λ e. there)
+
   create_server_leaves : LeavesCaller m (create_server_call m w)
   unfolding create_server_call
   create_server_leaves = either (create_server_refusals m (named_sid w)) (Served (create_server_served m (named_sid w))) (λ e. there)
@@ -149,13 +161,15 @@ module _ (m : Machine) (w : List ℕ) (there : is_some (m.threads m.cursor) ≡ 
   try_connect_leaves =
       either ((is_missing m (named_sid w), ServerNotFound) ∷ connect_refusals m (named_sid w)) (Served (connect_served m (named_sid w))) (λ e. there)
 
-  number_leaves : is_number_built (call_number w) ≡ true → LeavesCaller m (call m w)
+  built_leaves : is_call_built w ≡ true → LeavesCaller m (call m w)
   unfolding call
-  number_leaves built =
+  built_leaves built =
       built_cases (λ k. LeavesCaller m (unless_refused (any_refusals m w) (call_at k call_table m w))) (call_number w)
       (record {
         map = either (any_refusals m w) (map_call m w) map_leaves;
         yield = either (any_refusals m w) (yield_call m w) yield_leaves;
+        claim = either (any_refusals m w) (claim_call m w) claim_leaves;
+        free = either (any_refusals m w) (free_call m w) free_leaves;
         increase = either (any_refusals m w) (increase_call m w) increase_leaves;
         decrease = either (any_refusals m w) (decrease_call m w) decrease_leaves;
         update = either (any_refusals m w) (update_call m w) update_leaves;
@@ -171,34 +185,6 @@ module _ (m : Machine) (w : List ℕ) (there : is_some (m.threads m.cursor) ≡ 
         outside = λ outside. subst (LeavesCaller m) (sym (outside_refused m w outside)) tt;
       })
       built
-
-  claim_leaves : LeavesCaller m (claim_call m w)
-  unfolding claim_call
-  claim_leaves =
-      either (claim_refusals m (interrupt_number w) (interrupt_handler w))
-      (Served (claim_served m (interrupt_number w) (interrupt_handler w) (interrupt_argument w))) (λ e. there)
-
-  free_leaves : LeavesCaller m (free_call m w)
-  unfolding free_call
-  free_leaves = either (free_refusals m (interrupt_number w)) (Served (free_served m (interrupt_number w))) (λ e. there)
-
-  -- by the number of the call
-  numbered : (k : ℕ) → call_number w ≡ k → LeavesCaller m (call_at k call_table m w) → LeavesCaller m (call m w)
-  unfolding call
-  numbered k n leaves =
-      subst (λ j. LeavesCaller m (unless_refused (any_refusals m w) (call_at j call_table m w))) (sym n)
-      (either (any_refusals m w) (call_at k call_table m w) leaves)
-
-  built_leaves : is_call_built w ≡ true → LeavesCaller m (call m w)
-  built_leaves built =
-      go (is_number_built (call_number w)) (call_number w == claim_interrupt) (call_number w == free_interrupt) (not (interrupt_number w == TIMER_INTERRUPT)) refl refl refl built
-    where
-      go : (a b d e : Bool) → is_number_built (call_number w) ≡ a → (call_number w == claim_interrupt) ≡ b → (call_number w == free_interrupt) ≡ d
-          → (a || ((b && e) || d)) ≡ true → LeavesCaller m (call m w)
-      go true b d e p q r h = number_leaves p
-      go false true d e p q r h = numbered claim_interrupt (eqb-true (call_number w) claim_interrupt q) claim_leaves
-      go false false true e p q r h = numbered free_interrupt (eqb-true (call_number w) free_interrupt r) free_leaves
-      go false false false e p q r h = absurd (false≢true h)
 
   -- a served caller is there, unless its process died
   pub served_there : (change : Change) → is_call_built w ≡ true → Served change ≡ call m w → change.gone ≡ None → is_some (change.machine.threads m.cursor) ≡ true

@@ -116,7 +116,6 @@ module _ {W : Type 0} (slot_count : W → ℕ) (held : W → Held) (k : Kernel W
     room = whole.room;
     unlent = whole.unlent;
     no_messages = whole.no_messages;
-    untimed = whole.untimed;
   }
 
   -- no seat has a message
@@ -156,7 +155,6 @@ module _ {W : Type 0} (slot_count : W → ℕ) (held : W → Held) (k : Kernel W
     room = whole.room;
     unlent = whole.unlent;
     no_messages = whole.no_messages;
-    untimed = whole.untimed;
   }
 
 -- ---- lists of refusals

@@ -1,5 +1,5 @@
 -- A process is forgotten: what each part lets go is what the machine does.
-use Rattle.std.proofs.Common.{◌≡◌, Bool, true, false, nat_eq, Option, Some, None, refl, sym, ap, ◌∙◌, subst}
+use Rattle.std.proofs.Common.{◌≡◌, ℕ, Bool, true, false, nat_eq, Option, Some, None, refl, sym, ap, ◌∙◌, subst}
 use Rattle.std.specs.Prelude.{◌==◌, ◌&&◌, not, if◌then◌else◌}
 use Rattle.std.specs.Option.{option_map, option_map_or}
 use Rattle.std.proofs.lemmas.Option.{none-some}
@@ -12,7 +12,7 @@ use Rattle.ledger_model.specs.Conditions.{is_lent}
 use Rattle.ledger_model.specs.Ledger.{Ledger, Page, PageLoan, loan_of}
 use Rattle.ledger_model.specs.Steps.{forget}
 use Rattle.machine_model.specs.Ending.Ends.{dead_process, forgotten}
-use Rattle.machine_model.specs.Stepping.Interrupts.{is_claim_of}
+use Rattle.machine_model.specs.Stepping.Interrupts.{disarmed_if, is_claim_of}
 use Rattle.process_table.specs.ProcessMap.{change}
 use Rattle.process_table.specs.ProcessesOf.{processes_of}
 use Rattle.process_table.specs.State.{ProcessState, dead_process as dead_state}
@@ -65,19 +65,6 @@ stays_unlent l pid h = record {
 pub forget_unlent : (l new : Ledger) (pid : Pid) → new ≡ forget pid l → IsUnlent l → IsUnlent new
 forget_unlent l new pid e h = subst IsUnlent (sym e) (stays_unlent l pid h)
 
--- ---- claims
-
-end_nothing : (b : Bool) (o : Option TableClaim) → o ≡ None → (if b then None else o) ≡ None
-end_nothing true o e = refl
-end_nothing false o e = e
-
--- the timer's interrupt isn't claimed after the end of a process where it wasn't
-pub forget_untimed : (pid : Pid) (old new : Claims) → claims_of new ≡ end_claims pid (claims_of old) → claims_of old TIMER_INTERRUPT ≡ None
-    → claims_of new TIMER_INTERRUPT ≡ None
-forget_untimed pid old new e none =
-    ap (λ (m : ClaimMap). m TIMER_INTERRUPT) e
-    ∙ end_nothing (is_of pid (claims_of old TIMER_INTERRUPT)) (claims_of old TIMER_INTERRUPT) none
-
 -- ---- the parts
 
 thread_gone : (b : Bool) (o : Option TableThread) → option_map thread_of (if b then None else o) ≡ (if b then None else option_map thread_of o)
@@ -123,16 +110,17 @@ pub record HasForgotten {W : Type 0} (held : W → Held) (pid : Pid) (old new : 
   pub threads : threads_of new.threads ≡ without_process pid (threads_of old.threads)
   pub process : processes_of new.procs ≡ change pid.0 (λ _. dead_state) (processes_of old.procs)
   pub claims : claims_of new.claims ≡ end_claims pid (claims_of old.claims)
+  pub timer : new.timer ≡ disarmed_if (is_claim_of pid ((machine_of held old).claims TIMER_INTERRUPT)) old.timer
 
 -- the rest is as it was
-abbrev forgetting : {W : Type 0} → Kernel W → Memory W → Threads → Processes → Claims → Kernel W
-forgetting k mem threads procs claims = record k { mem = mem; threads = threads; procs = procs; claims = claims }
+abbrev forgetting : {W : Type 0} → Kernel W → Memory W → Threads → Processes → Claims → Option ℕ → Kernel W
+forgetting k mem threads procs claims timer = record k { mem = mem; threads = threads; procs = procs; claims = claims; timer = timer }
 
-pub machine_forgotten : {W : Type 0} (held : W → Held) (pid : Pid) (k : Kernel W) (mem : Memory W) (threads : Threads) (procs : Processes) (claims : Claims)
-    → HasForgotten held pid k (forgetting k mem threads procs claims)
-    → machine_of held (forgetting k mem threads procs claims) ≡ forgotten pid (machine_of held k)
+pub machine_forgotten : {W : Type 0} (held : W → Held) (pid : Pid) (k : Kernel W) (mem : Memory W) (threads : Threads) (procs : Processes) (claims : Claims) (timer : Option ℕ)
+    → HasForgotten held pid k (forgetting k mem threads procs claims timer)
+    → machine_of held (forgetting k mem threads procs claims timer) ≡ forgotten pid (machine_of held k)
 unfolding machine_of forgotten
-machine_forgotten held pid k mem threads procs claims h = λ i. record (machine_of held k) {
+machine_forgotten held pid k mem threads procs claims timer h = λ i. record (machine_of held k) {
   capacity = ap (λ (s : Size). capacity s.area.frames s.procs s.slots) h.size i;
   processes = ap (λ (s : Size). s.procs) h.size i;
   ledger = h.ledger i;
@@ -140,4 +128,5 @@ machine_forgotten held pid k mem threads procs claims h = λ i. record (machine_
   process = λ q. (ap (λ (f : _). process_of (f q)) h.process ∙ process_ended (nat_eq q pid.0) (processes_of k.procs pid.0) (processes_of k.procs q)) i;
   claims = λ n. (ap (λ (f : _). option_map claim_of (f n)) h.claims ∙ claim_gone pid (claims_of k.claims n)) i;
   pending = λ n. (ap (λ (f : _). pending_of (f n)) h.claims ∙ pending_gone pid (claims_of k.claims n)) i;
+  compare = h.timer i;
 }

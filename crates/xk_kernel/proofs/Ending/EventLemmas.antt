@@ -45,7 +45,6 @@ pushed_whole slot_count held k log whole e = record {
   room = subst (λ room. RECORD_LIMIT ≤ room) (sym e) whole.room;
   unlent = whole.unlent;
   no_messages = whole.no_messages;
-  untimed = whole.untimed;
 }
 
 -- .. and with no reservation
@@ -58,7 +57,6 @@ unreserved_whole slot_count held k whole = record {
   room = whole.room;
   unlent = whole.unlent;
   no_messages = whole.no_messages;
-  untimed = whole.untimed;
 }
 
 -- ---- a process that lives

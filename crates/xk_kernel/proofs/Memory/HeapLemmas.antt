@@ -115,7 +115,6 @@ module _ {W : Type 0} (slot_count : W → ℕ) (held : W → Held) (k : Kernel W
         room = whole.room;
         unlent = unlent;
         no_messages = whole.no_messages;
-        untimed = whole.untimed;
       }
 
 -- ---- lists of three refusals

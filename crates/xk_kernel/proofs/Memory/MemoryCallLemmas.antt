@@ -69,7 +69,6 @@ whole_with_mem slot_count held k mem whole s sound unlent =
       room = whole.room;
       unlent = unlent;
       no_messages = whole.no_messages;
-      untimed = whole.untimed;
     }
 
 -- ---- a ledger without loans keeps none

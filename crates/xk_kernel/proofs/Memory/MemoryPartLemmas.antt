@@ -58,29 +58,6 @@ pub there_with : {W : Type 0} (held : W → Held) (k : Kernel W) (mem : Memory W
 unfolding machine_of
 there_with held k mem who h = h
 
--- memory as a process sees it with this timer
-timer_seen : (m : Machine) (pid : Pid) → Option Timer → SeenMemory
-timer_seen m pid timer = record (memory_of m pid) {
-  may = λ access address. (is_some (timer_at timer address) && is_of_timer_page access) || is_some (page_reached m pid access address);
-  timer = timer;
-}
-
-timer_is : (m : Machine) (pid : Pid) → memory_of m pid ≡ timer_seen m pid (timer_of m pid)
-unfolding memory_of timer_seen
-timer_is m pid = refl
-
--- who has claimed nothing sees no timer
-timer_none : (m : Machine) (pid : Pid) → m.claims TIMER_INTERRUPT ≡ None → timer_of m pid ≡ None
-timer_none m pid e = ap (λ (o : Option Claim). if is_claim_of pid o then Some (record { steps = m.steps; compare = m.compare }) else None) e
-
--- memory as a process sees it
-pub memory_seen : {W : Type 0} (held : W → Held) (k : Kernel W) (pid : Pid) → claims_of k.claims TIMER_INTERRUPT ≡ None
-    → memory_of (machine_of held k) pid ≡ user_view held k.mem pid
-unfolding machine_of memory_of seen_memory timer_seen
-memory_seen held k pid untimed =
-    timer_is (machine_of held k) pid
-    ∙ ap (timer_seen (machine_of held k) pid) (timer_none (machine_of held k) pid (ap (option_map claim_of) untimed))
-
 -- ---- soundness
 
 module _ {W P : Type 0} (is_honest : W → Bool) (held : W → Held) (slot_count : W → ℕ) (asked : W → P) (faults : W → ℕ)
@@ -97,7 +74,6 @@ module _ {W P : Type 0} (is_honest : W → Bool) (held : W → Held) (slot_count
     room = whole.room;
     unlent = unlent_stays (ledger held k.mem) (ledger held mem) rest.rights whole.unlent;
     no_messages = whole.no_messages;
-    untimed = whole.untimed;
   }
 
   pub keeps_with : Keeps is_honest held slot_count asked faults k (with_memory mem k)

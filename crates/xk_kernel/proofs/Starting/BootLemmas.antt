@@ -141,6 +141,7 @@ pub record IsBooted {W : Type 0} (held : W → Held) (plan : BootPlan) (file : L
   pub cursor : k.cursor ≡ first_turn
   pub next : k.next ≡ 1
   pub steps : k.steps ≡ 0
+  pub timer : k.timer ≡ None
   pub reserved : k.reserved ≡ None
 
 pub booted_machine : {W : Type 0} (held : W → Held) (plan : BootPlan) (file : List ℕ) (k : Kernel W) → IsBooted held plan file k → machine_of held k ≡ start plan file
@@ -158,7 +159,7 @@ booted_machine held plan file k h = λ i. record {
   pending = λ n. option_map_or (λ c. c.pending) (h.claims i n) false;
   next_number = h.next i;
   next_serial = (h.servers i).next;
-  compare = None;
+  compare = h.timer i;
   reserved = option_map as_reservation (h.reserved i);
 }
 
@@ -184,7 +185,6 @@ module _ {W : Type 0} (slot_count : W → ℕ) (held : W → Held) (plan : BootP
       room = room;
       unlent = subst IsUnlent (sym h.ledger) (first_unlent plan file);
       no_messages = h.messages;
-      untimed = ap (λ (m : ClaimMap). m TIMER_INTERRUPT) h.claims;
     };
     matched = λ usable. booted_matched;
   }

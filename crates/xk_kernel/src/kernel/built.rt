@@ -8,7 +8,6 @@ ghost use Rattle.xk_kernel.specs.State.{machine_of};
 use crate::kernel::Kernel;
 use syscall_codec::{Call, read_call};
 use xk_base::ThreadId;
-use xk_base::limits::TIMER_INTERRUPT;
 use xk_ports::SwapStore;
 
 impl<W: SwapStore> Kernel<W> {
@@ -24,17 +23,16 @@ impl<W: SwapStore> Kernel<W> {
     }
 
     // Whether the call of the thread with these words is built: its number is that of a call
-    // that is built, or of none, or it frees an interrupt or claims one, but for the timer's; by
-    // TerminateProcess a process dies that stands alone.
+    // that is built, or of none; by TerminateProcess a process dies that stands alone.
     pub(super) fn call_built(&self, who: ThreadId, words: &[u32; 8]) -> bool
         ensures { result ≡ call_built (machine_of W.held self.now) who words.now }
     {
         match read_call(*words) {
             Ok(Call::TerminateProcess { .. }) => self.is_alone(who.pid),
-            Ok(Call::ClaimInterrupt { number, .. }) => number != TIMER_INTERRUPT as u32,
             Ok(
                 Call::MapMemory { .. }
                 | Call::Yield
+                | Call::ClaimInterrupt { .. }
                 | Call::FreeInterrupt { .. }
                 | Call::IncreaseHeap { .. }
                 | Call::DecreaseHeap { .. }

@@ -15,6 +15,7 @@ ghost use Rattle.xk_kernel.specs.State.{machine_of};
 ghost use Rattle.xk_kernel.specs.Telling.{Tells};
 
 use crate::kernel::Kernel;
+use crate::kernel::ringing::end_claim;
 use syscall_codec::{Reply, reply_words};
 use thread_table::ThreadState;
 use xk_base::limits::TID_LIMIT;
@@ -23,7 +24,7 @@ use xk_ports::SwapStore;
 
 impl<W: SwapStore> Kernel<W> {
     // The pages, threads, connections, claims and pending interrupts of the process go, and it is
-    // dead.
+    // dead. The timer is disarmed where it had claimed its interrupt.
     pub(super) fn forget(&mut self, pid: Pid)
         requires whole { IsWhole W.slot_count W.held self.old }
         requires usable { IsUsable self.old }
@@ -34,6 +35,8 @@ impl<W: SwapStore> Kernel<W> {
         ensures log { self.new.log ≡ self.old.log }
         ensures keeps { Keeps W.is_honest W.held W.slot_count W.asked W.faults self.old self.new }
     {
+        let timed = self.has_timer(pid);
+        end_claim(&mut self.timer, timed);
         self.mem.forget_process(pid);
         self.threads.end_process(pid);
         self.procs.end(pid);

@@ -122,6 +122,7 @@ impl<W: SwapStore> Kernel<W> {
             cursor: _,
             next: _,
             steps: _,
+            timer: _,
             reserved: _,
         } = self;
         queues.close();

@@ -100,6 +100,7 @@ impl<W: SwapStore> Kernel<W> {
             Acted::Done(reserved) => {
                 self.steps = number;
                 self.reserved = reservation(who, reserved);
+                self.ring();
                 Ok(Stepped::Did)
             }
             Acted::Unbuilt => Ok(Stepped::NotBuilt),

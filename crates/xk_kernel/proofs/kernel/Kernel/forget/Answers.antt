@@ -1,7 +1,8 @@
 use Rattle.std.proofs.Common.{ap, sym, ◌∙◌, subst, IsTrue}
+use Rattle.machine_model.specs.Stepping.Interrupts.{disarmed_if}
 use Rattle.vm_memory.specs.Memory.{Size, ledger}
 use Rattle.xk_base.specs.Tables.Circle.{is_thread_id}
-use Rattle.xk_kernel.proofs.Ending.DeathOfLemmas.{forget_unlent, forget_untimed, machine_forgotten}
+use Rattle.xk_kernel.proofs.Ending.DeathOfLemmas.{forget_unlent, machine_forgotten}
 use Rattle.xk_kernel.proofs.kernel.Kernel.forget.Goals as goal
 
 pub returns-clause-whole : goal.returns-clause-whole
@@ -16,15 +17,15 @@ returns-clause-whole g c =
       room = old.room;
       unlent = forget_unlent (ledger g.W.SwapStore.held c.args.self.now.mem) (ledger g.W.SwapStore.held c.forget_process.new.self) c.args.pid c.forget_process.ensures.ledger old.unlent;
       no_messages = old.no_messages;
-      untimed = forget_untimed c.args.pid c.args.self.now.claims c.end-2.new.self c.end-2.ensures old.untimed;
     }
 
 pub returns-clause-machine : goal.returns-clause-machine
 returns-clause-machine g c =
-    machine_forgotten g.W.SwapStore.held c.args.pid c.args.self.now c.forget_process.new.self c.end_process.new.self c.end.new.self c.end-2.new.self (record {
+    machine_forgotten g.W.SwapStore.held c.args.pid c.args.self.now c.forget_process.new.self c.end_process.new.self c.end.new.self c.end-2.new.self c.end_claim.new.timer (record {
       ledger = c.forget_process.ensures.ledger;
       size = c.forget_process.ensures.size;
       threads = c.end_process.ensures.after;
       process = c.end.ensures.after;
       claims = c.end-2.ensures;
+      timer = c.end_claim.ensures ∙ ap (λ b. disarmed_if b c.args.self.now.timer) c.has_timer-timed.ensures;
     })

@@ -9,7 +9,7 @@ use Rattle.xk_base.specs.Calls.Replies.{plain_words}
 use Rattle.xk_kernel.specs.Calling.{outcome_by}
 use Rattle.xk_kernel.specs.State.{machine_of}
 use Rattle.xk_kernel.specs.declared.kernel.calls.CallerFate.TheVariants.{Died}
-use Rattle.xk_kernel.proofs.Calling.CallTableLemmas.{claim_is, claim_untimed, connect_is, create_is, create_server_is, decrease_is, free_by_call, free_by_tid, free_is, increase_is, join_is, map_is, built_asked, none_left, process_id_is, refused_to_handler, terminate_is, thread_id_is, try_connect_is, unmap_is, update_is, yield_is}
+use Rattle.xk_kernel.proofs.Calling.CallTableLemmas.{claim_is, connect_is, create_is, create_server_is, decrease_is, free_by_call, free_by_tid, free_is, increase_is, join_is, map_is, built_asked, none_left, process_id_is, refused_to_handler, terminate_is, thread_id_is, try_connect_is, unmap_is, update_is, yield_is}
 use Rattle.xk_kernel.proofs.kernel.Kernel.serve.Goals.{else-self-eq1-via-then-self-eq1+else-can_wait, else-self-eq1-via-else-self-eq1}
 use Rattle.xk_kernel.proofs.kernel.Kernel.serve.Goals as goal
 
@@ -91,11 +91,6 @@ returns-in-JoinThread-clause-outcome g c words asks =
       | else-self-eq1-via-else-self-eq1 w ↦ free_by_tid (machine_of g.W.SwapStore.held c.args.self.now) words w.if-self-eq1.false
     ])
     c.in-JoinThread.tid (subst (Asks words) c.in-JoinThread.is asks)
-
-pub claim_interrupt-requires-clause-untimed : goal.claim_interrupt-requires-clause-untimed
-claim_interrupt-requires-clause-untimed g c =
-    let built = c.requires.built in
-    claim_untimed built.0 c.in-ClaimInterrupt.number c.in-ClaimInterrupt.handler c.in-ClaimInterrupt.arg (subst (Asks built.0) c.in-ClaimInterrupt.is built.1) built.2
 
 pub returns-in-ClaimInterrupt-clause-outcome : goal.returns-in-ClaimInterrupt-clause-outcome
 unfolding machine_of
