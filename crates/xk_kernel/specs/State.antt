@@ -1,5 +1,5 @@
 -- The machine that a kernel stands for: one definition over what its parts hold.
-use Rattle.std.specs.Prelude.{ℕ, false, None}
+use Rattle.std.specs.Prelude.{ℕ, false}
 use Rattle.std.specs.Option.{option_map, option_map_or}
 use Rattle.irq_claims.specs.ClaimsOf.{claims_of}
 use Rattle.irq_claims.specs.declared.claims.Claim.{Claim as TableClaim}

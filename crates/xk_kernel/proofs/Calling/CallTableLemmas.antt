@@ -1,7 +1,6 @@
 -- What comes of each call that is built, by the words that ask for it.
 use Rattle.std.proofs.Common.{◌≡◌, ℕ, Bool, true, false, List, ◌∷◌, [], None, Some, refl, sym, ap, ◌∙◌}
-use Rattle.std.specs.Prelude.{◌==◌, ◌&&◌, ◌||◌, ◌≢◌, not, if◌then◌else◌, Result, Ok, Err}
-use Rattle.std.specs.List.{list_any}
+use Rattle.std.specs.Prelude.{◌==◌, ◌&&◌, ◌≢◌, not, if◌then◌else◌, Result, Ok, Err}
 use Rattle.std.proofs.lemmas.Bool.{false≢true, ne_eqb}
 use Rattle.std.proofs.Math.Bool.{and-false}
 use Rattle.machine_laws.proofs.Stepping.PlainServerLemmas.{outside_refused}
@@ -19,11 +18,10 @@ use Rattle.xk_kernel.specs.Alone.{DiesPlainly}
 use Rattle.syscall_codec.specs.Calls.{Asks}
 use Rattle.syscall_codec.specs.declared.calls.Call.{Call}
 use Rattle.syscall_codec.specs.declared.calls.Call.TheVariants.{MapMemory, Yield, ClaimInterrupt, FreeInterrupt, IncreaseHeap, DecreaseHeap, UpdateMemoryFlags, CreateServerWithAddress, ReceiveMessage, SendMessage, Connect, CreateThread, UnmapMemory, ReturnMemory, TerminateProcess, TrySendMessage, TryConnect, ReturnScalar1, ReturnScalar2, TryReceiveMessage, JoinThread, DestroyServer, GetThreadId, GetProcessId, ForwardMessage}
-use Rattle.xk_base.specs.Calls.CallNumbers.{claim_interrupt, free_interrupt, is_call_number}
-use Rattle.xk_base.specs.Calls.CallWords.{call_number, interrupt_number, is_refused_to_handler}
+use Rattle.xk_base.specs.Calls.CallNumbers.{is_call_number}
+use Rattle.xk_base.specs.Calls.CallWords.{call_number, is_refused_to_handler}
 use Rattle.xk_base.specs.Calls.Replies.{plain_words, scalar1_words, thread_words}
 use Rattle.xk_base.specs.declared.errors.XousError.{XousError}
-use Rattle.xk_base.specs.declared.limits.TheConstants.{TIMER_INTERRUPT}
 use Rattle.xk_base.specs.declared.errors.XousError.TheVariants.{InvalidSyscall, ServerNotFound, UnhandledSyscall}
 use Rattle.xk_base.specs.declared.ids.Sid.{Sid}
 use Rattle.xk_kernel.specs.Built.{is_call_built, is_number_built}

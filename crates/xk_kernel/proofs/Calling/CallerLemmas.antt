@@ -1,10 +1,10 @@
 -- A call that is built leaves its caller there, unless the caller's process dies.
 use Rattle.std.proofs.Common.{◌≡◌, ℕ, Bool, true, false, List, Option, Some, None, refl, sym, subst}
-use Rattle.std.specs.Prelude.{◌==◌, ◌&&◌, ◌||◌, [], ◌∷◌, is_some, not, if◌then◌else◌}
+use Rattle.std.specs.Prelude.{◌==◌, ◌||◌, ◌∷◌, is_some, not, if◌then◌else◌}
 use Rattle.std.specs.Bool.{⊤}
 use Rattle.std.specs.List.{AllByRecursion, list_any}
 use Rattle.std.specs.Option.{option_map}
-use Rattle.std.proofs.lemmas.Bool.{eqb-true, false≢true}
+use Rattle.std.proofs.lemmas.Bool.{false≢true}
 use Rattle.std.proofs.lemmas.Option.{none-some}
 use Rattle.machine_laws.proofs.Stepping.PlainServerLemmas.{in_list, outside_refused}
 use Rattle.machine_model.specs.Calling.Calls.{any_refusals, call, call_at, call_table}
@@ -22,7 +22,6 @@ use Rattle.xk_base.specs.Calls.CallNumbers.{map_memory, yield_turn, increase_hea
 use Rattle.xk_base.specs.Calls.CallWords.{call_number, heap_bytes, interrupt_argument, interrupt_handler, interrupt_number, join_tid, map_flags, map_phys, map_size, map_virt, range_address, range_flags, range_size, thread_arguments, thread_entry, thread_sp}
 use Rattle.xk_base.specs.declared.errors.XousError.{XousError}
 use Rattle.xk_base.specs.declared.errors.XousError.TheVariants.{ServerNotFound}
-use Rattle.xk_base.specs.declared.limits.TheConstants.{TIMER_INTERRUPT}
 use Rattle.xk_kernel.specs.Built.{built_numbers, is_call_built, is_number_built}
 
 -- what is to be shown of the number of each call that is built, and of those that are not in the table

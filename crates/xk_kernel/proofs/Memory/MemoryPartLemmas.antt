@@ -1,28 +1,21 @@
 -- The kernel with a memory that has the same rights and loans.
-use Rattle.std.proofs.Common.{◌≡◌, ℕ, Bool, ◌&&◌, IsSome, Option, Some, None, is_some, refl, sym, ap, ◌∙◌}
-use Rattle.std.specs.Prelude.{◌||◌, if◌then◌else◌}
+use Rattle.std.proofs.Common.{◌≡◌, ℕ, Bool, IsSome, Option, Some, None, refl, sym, ap, ◌∙◌}
 use Rattle.std.specs.Option.{option_map}
 use Rattle.std.proofs.lemmas.Option.{none-some}
 use Rattle.boot_plan.specs.Capacity.{capacity}
 use Rattle.xk_base.specs.declared.ids.Pid.{Pid}
 use Rattle.xk_base.specs.declared.ids.ThreadId.{ThreadId}
 use Rattle.xk_base.specs.Tables.Circle.{is_thread_id}
-use Rattle.xk_base.specs.declared.limits.TheConstants.{TIMER_INTERRUPT}
-use Rattle.xk_base.specs.UserMemory.{Memory as SeenMemory, Timer, timer_at}
 use Rattle.ledger_model.specs.Ledger.{Ledger, Orphan}
 use Rattle.ledger_model.specs.Loans.{Loans, bare, bare_orphan, loans}
 use Rattle.ledger_model.proofs.Stepping.WritingLemmas.{bare-loans}
-use Rattle.irq_claims.specs.ClaimsOf.{claims_of}
-use Rattle.machine_model.specs.State.Machine.{Claim, Machine}
-use Rattle.machine_model.specs.State.Views.{is_of_timer_page, memory_of, page_reached, timer_of}
-use Rattle.machine_model.specs.Stepping.Interrupts.{is_claim_of}
 use Rattle.sv32_space.specs.Tie.{Held}
 use Rattle.vm_memory.specs.declared.memory.Memory.{Memory}
 use Rattle.vm_memory.specs.Memory.{Size, size, processes, capacity_of, ledger}
 use Rattle.vm_memory.specs.Starting.{IsUnlent}
-use Rattle.vm_memory.specs.Using.UserView.{KeepsRest, seen_memory, user_view}
+use Rattle.vm_memory.specs.Using.UserView.{KeepsRest}
 use Rattle.xk_kernel.specs.Sound.{IsWhole, Keeps}
-use Rattle.xk_kernel.specs.State.{claim_of, machine_of}
+use Rattle.xk_kernel.specs.State.{machine_of}
 use Rattle.xk_kernel.specs.declared.kernel.Kernel.{Kernel}
 
 -- ---- loans

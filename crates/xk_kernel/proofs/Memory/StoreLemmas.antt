@@ -1,5 +1,5 @@
 -- A store is made only where it may be.
-use Rattle.std.proofs.Common.{◌≡◌, ℕ, ◌%◌, Bool, true, false, ◌&&◌, List, Option, Some, None, is_some, refl, sym, ap, ◌∙◌}
+use Rattle.std.proofs.Common.{◌≡◌, ℕ, ◌%◌, Bool, true, false, ◌&&◌, List, Option, Some, None, is_some, refl}
 use Rattle.std.specs.Prelude.{◌==◌, not, if◌then◌else◌, ℤ}
 use Rattle.std.proofs.lemmas.Bool.{eqb-true, false≢true}
 use Rattle.xk_base.specs.declared.pages.Access.{Access}
@@ -12,7 +12,7 @@ use Rattle.rv32_words.specs.declared.insn.Insn.{Insn}
 use Rattle.rv32_words.specs.declared.insn.Insn.TheVariants.{Jal, Jalr, Beq, Bne, Blt, Bge, Bltu, Bgeu, Lb, Lh, Lw, Lbu, Lhu, Sb, Sh, Sw}
 use Rattle.rv32_words.specs.Reading.{insn_at}
 use Rattle.machine_model.specs.Hart.Atomics.{Atomic, LoadReserved, StoreConditional, Amo, atomic_at, execute, execute_at, is_reserved, leaving, operates, perform, result_of, stores_conditionally}
-use Rattle.machine_model.specs.Hart.Instructions.{Executed, Next, Stores, StoresToConsole, StoresToTimer, CallsKernel, Traps, target_misaligned, load_misaligned, load_page_fault, store_misaligned, store_page_fault, fetch_page_fault, as_word, address_of, sign_extended_byte, sign_extended_half, writes, stores, jumps, branches, loads, effect, effect_if_any, execute_base, puts, sum_of, following, x}
+use Rattle.machine_model.specs.Hart.Instructions.{Executed, Next, Stores, StoresToConsole, StoresToTimer, Traps, target_misaligned, load_misaligned, load_page_fault, store_misaligned, store_page_fault, fetch_page_fault, as_word, address_of, sign_extended_byte, sign_extended_half, writes, stores, jumps, branches, loads, effect, effect_if_any, execute_base, puts, sum_of, following, x}
 
 -- The process may store there by these rights, it isn't this console, and the address is aligned.
 abbrev pub StoresAllowed : (Access → ℕ → Bool) → (ℕ → Bool) → Executed → Type 0

@@ -19,7 +19,6 @@ use Rattle.vm_memory.specs.Using.UserView.{seen_memory, user_view}
 use Rattle.xk_base.specs.UserMemory.{Memory as SeenMemory, Timer, compare_stored, in_timer_page, timer_at}
 use Rattle.xk_base.specs.declared.ids.Pid.{Pid}
 use Rattle.xk_base.specs.declared.limits.TheConstants.{TIMER_INTERRUPT}
-use Rattle.xk_base.specs.declared.pages.Access.{Access}
 use Rattle.xk_base.specs.declared.pages.Access.TheVariants.{Store}
 use Rattle.xk_kernel.specs.State.{machine_of}
 use Rattle.xk_kernel.specs.declared.kernel.Kernel.{Kernel}

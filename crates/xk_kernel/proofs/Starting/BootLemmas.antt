@@ -10,7 +10,7 @@ use Rattle.boot_plan.specs.Capacity.{capacity}
 use Rattle.boot_plan.specs.Lawful.{CanStart}
 use Rattle.boot_plan.specs.declared.plans.BootPlan.{BootPlan}
 use Rattle.boot_plan.specs.declared.plans.ProcPlan.{ProcPlan}
-use Rattle.irq_claims.specs.ClaimMap.{ClaimMap, no_claims}
+use Rattle.irq_claims.specs.ClaimMap.{no_claims}
 use Rattle.irq_claims.specs.ClaimsOf.{claims_of}
 use Rattle.ledger_model.specs.Lawful.{IsLawful}
 use Rattle.ledger_model.proofs.Pages.BareLemmas.{bare-lawful}
@@ -36,7 +36,7 @@ use Rattle.vm_memory.proofs.Changing.SoundMemoryLemmas.{bare-ledger}
 use Rattle.xk_base.specs.Tables.Circle.{is_pid, is_thread_id}
 use Rattle.xk_base.specs.declared.ids.Pid.{Pid}
 use Rattle.xk_base.specs.declared.ids.ThreadId.{ThreadId}
-use Rattle.xk_base.specs.declared.limits.TheConstants.{RECORD_LIMIT, TIMER_INTERRUPT}
+use Rattle.xk_base.specs.declared.limits.TheConstants.{RECORD_LIMIT}
 use Rattle.xk_kernel.proofs.Starting.FirstLedgerLemmas.{IsPlanned, first_no_heap, first_unlent, pid_of_planned, planned_of_pid}
 use Rattle.xk_kernel.specs.Sound.{IsSound}
 use Rattle.xk_kernel.specs.Start.{first_threads, start, threads_at_start}

@@ -71,7 +71,8 @@ fn move_last(log: &mut Log, place: usize)
     requires few { length log.old.records ≤ RECORD_LIMIT }
     requires room { length log.old.records ≤ log.old.room }
     requires step { All (λ rec. rec.step ≡ log.old.step) log.old.records }
-    ensures { (xs : List Record) (x : Record) → log.old.records ≡ xs ++ x ∷ [] → log.new ≡ record log.old { records = moved_to place x xs } }
+    ensures place { (xs : List Record) (x : Record) → log.old.records ≡ xs ++ x ∷ [] → log.new ≡ record log.old { records = moved_to place x xs } }
+    ensures room { log.new.room ≡ log.old.room }
 {
     let records = log.as_slice();
     let last = records.len() - 1;
@@ -82,6 +83,20 @@ fn move_last(log: &mut Log, place: usize)
     push_all(log, &all[..place]);
     log.push(moved.what);
     push_all(log, &all[place..last]);
+}
+
+// The last record goes to the place of one that the process gets an interrupt.
+fn place_irq(log: &mut Log, pid: Pid)
+    requires few { length log.old.records ≤ RECORD_LIMIT }
+    requires room { length log.old.records ≤ log.old.room }
+    requires step { All (λ rec. rec.step ≡ log.old.step) log.old.records }
+    ensures place { (xs : List Record) (x : Record) → log.old.records ≡ xs ++ x ∷ [] → log.new ≡ record log.old { records = moved_to (irq_place pid log.old.records) x xs } }
+    ensures room { log.new.room ≡ log.old.room }
+{
+    let place = irq_place(pid, log.as_slice());
+    if place < log.as_slice().len() {
+        move_last(log, place);
+    }
 }
 
 impl<W: SwapStore> Kernel<W> {
@@ -116,10 +131,7 @@ impl<W: SwapStore> Kernel<W> {
         };
         if self.deliver(pid) {
             self.cursor = handler_id(pid);
-            let place = irq_place(pid, self.log.as_slice());
-            if place < self.log.as_slice().len() {
-                move_last(&mut self.log, place);
-            }
+            place_irq(&mut self.log, pid);
         }
     }
 }

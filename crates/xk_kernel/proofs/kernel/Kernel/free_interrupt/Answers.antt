@@ -1,6 +1,5 @@
 use Rattle.std.proofs.Common.{ap, ◌∙◌}
 use Rattle.std.proofs.lemmas.Result.{err_from_is_err_and}
-use Rattle.machine_model.specs.Stepping.Interrupts.{disarmed_if}
 use Rattle.irq_claims.specs.ClaimMap.{is_of}
 use Rattle.irq_claims.specs.ClaimsOf.{claims_of}
 use Rattle.xk_kernel.specs.Calling.{outcome_of}

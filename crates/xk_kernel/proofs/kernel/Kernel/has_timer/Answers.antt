@@ -1,4 +1,4 @@
-use Rattle.std.proofs.Common.{◌≡◌, false, Option, Some, sym, ap, ◌∙◌}
+use Rattle.std.proofs.Common.{sym, ap, ◌∙◌}
 use Rattle.std.specs.Option.{option_map}
 use Rattle.machine_model.specs.Stepping.Interrupts.{is_claim_of}
 use Rattle.xk_kernel.specs.State.{claim_of, machine_of}

@@ -5,7 +5,6 @@ use Rattle.machine_model.specs.State.Threads.{put_thread}
 use Rattle.rv32_hart.specs.Running.{ran_of}
 use Rattle.thread_table.specs.Lending.{with_thread}
 use Rattle.thread_table.specs.declared.thread.Thread.{Thread}
-use Rattle.thread_table.specs.declared.thread.ThreadState.{ThreadState}
 use Rattle.vm_memory.proofs.Using.UserKeepLemmas.{rest_same}
 use Rattle.vm_memory.specs.Memory.{IsUsable}
 use Rattle.xk_kernel.specs.Running.{machine_after}
