@@ -1,20 +1,19 @@
 -- Servers that close one after another.
-use Rattle.std.proofs.Common.{◌≡◌, ℕ, ◌+◌, ◌<◌, Bool, true, false, List, Option, Some, None, refl, sym, ap, subst, ◌∙◌, arith}
+use Rattle.std.proofs.Common.{◌≡◌, ℕ, zero, suc, ◌+◌, ◌<◌, Bool, true, false, List, Option, Some, None, refl, sym, ap, subst, ◌∙◌, arith}
 use Rattle.std.specs.Prelude.{◌≢◌, ◌==◌, ◌||◌, ◌&&◌, IsSome, if◌then◌else◌, is_none, is_some}
 use Rattle.std.specs.List.{list_any}
 use Rattle.std.specs.Option.{option_map, option_or}
 use Rattle.std.proofs.lemmas.Bool.{eq-eqb, eqb-true, false≢true}
 use Rattle.std.proofs.lemmas.Option.{none-some, same_Some}
 use Rattle.machine_laws.proofs.Messaging.AnyServerLemmas.{no_server}
-use Rattle.machine_model.proofs.Ending.CloseManyLemmas.{one_more_closes, one_more_is_told}
-use Rattle.machine_model.proofs.Messaging.LoanSetLemmas.{none_ends}
-use Rattle.machine_model.specs.Ending.Closing.{any_server, closed, is_message_at, is_sender_at, refused_server}
+use Rattle.machine_model.proofs.Messaging.LoanSetLemmas.{both_end, none_ends}
+use Rattle.machine_model.specs.Ending.Closing.{any_server, is_message_at, is_sender_at, server_passes}
 use Rattle.machine_model.specs.Messaging.LoanSets.{end_loans}
 use Rattle.machine_model.specs.Messaging.Messages.{is_of_number, is_sent_by}
 use Rattle.machine_model.specs.State.Machine.{Machine, Server}
 use Rattle.machine_model.specs.State.Servers.{is_server_of, messages_of}
 use Rattle.msg_queue.specs.Seats.{Seat}
-use Rattle.send_path.proofs.MachineLemmas.{same_owner_test}
+use Rattle.send_path.proofs.Servers.MachineLemmas.{same_owner_test}
 use Rattle.send_path.specs.Parts.{servers_shown}
 use Rattle.server_table.proofs.Lemmas.{live_below}
 use Rattle.server_table.specs.ServersOf.{servers_of}
@@ -23,10 +22,8 @@ use Rattle.server_table.specs.declared.table.Servers.{Servers}
 use Rattle.xk_base.proofs.CountingLemmas.{count_below-one, least_below-none, least_below-passes}
 use Rattle.xk_base.specs.Tables.Counting.{count_below, least_below}
 use Rattle.xk_base.specs.Tables.Sids.{serial_of}
-use Rattle.xk_base.specs.declared.ids.Number.{Number}
 use Rattle.xk_base.specs.declared.ids.Pid.{Pid}
 use Rattle.xk_base.specs.declared.ids.Serial.{Serial}
-use Rattle.xk_base.specs.declared.ids.ThreadId.{ThreadId}
 use Rattle.kill_path.specs.Closing.{AreClosed, Closable, with_servers}
 
 -- ---- none closes
@@ -46,68 +43,71 @@ nothing_closed which a none = record {
     nothing : (m : Machine) (test : Server → Bool) → any_server (with_servers a m) (λ n server. which n && test server) ≡ false
     nothing m test = no_server (with_servers a m) (λ n server. which n && test server) (λ n server e. ap (λ b. b && test server) (none n))
 
--- ---- one more closes
+-- ---- some close, and then others
 
-some_refused : (test : ThreadId → Bool) (id : ThreadId) → is_some (refused_server test id) ≡ test id
-some_refused test id = go (test id) refl
-  where
-    go : (b : Bool) → test id ≡ b → is_some (refused_server test id) ≡ test id
-    go true e = ap (λ c. is_some (refused_server (λ x. c) id)) e ∙ sym e
-    go false e = ap (λ c. is_some (refused_server (λ x. c) id)) e ∙ sym e
+found_or : (o : Option ℕ) (b : Bool) (n : ℕ) → is_some (option_or o (if b then Some n else None)) ≡ (is_some o || b)
+found_or None true n = refl
+found_or None false n = refl
+found_or (Some k) b n = refl
 
-either_some : (a b : Option (List ℕ)) → is_some (option_or a b) ≡ (is_some a || is_some b)
-either_some None b = refl
-either_some (Some x) b = refl
+swapped : (a b c d : Bool) → ((a || b) || (c || d)) ≡ ((a || c) || (b || d))
+swapped true b true d = refl
+swapped true b false d = refl
+swapped false true true d = refl
+swapped false true false d = refl
+swapped false false c d = refl
+
+-- one below passes one of two tests
+below_or : (n : ℕ) (f g h : ℕ → Bool) → ((k : ℕ) → f k ≡ (g k || h k))
+    → is_some (least_below n f) ≡ (is_some (least_below n g) || is_some (least_below n h))
+unfolding least_below
+below_or zero f g h e = refl
+below_or (suc n) f g h e =
+    found_or (least_below n f) (f n) n
+    ∙ (λ i. below_or n f g h e i || e n i)
+    ∙ swapped (is_some (least_below n g)) (is_some (least_below n h)) (g n) (h n)
+    ∙ sym (λ i. found_or (least_below n g) (g n) n i || found_or (least_below n h) (h n) n i)
+
+passes_or : (test : Server → Bool) (o : Option Server) (a b : Bool)
+    → server_passes (λ server. (a || b) && test server) o
+    ≡ (server_passes (λ server. a && test server) o || server_passes (λ server. b && test server) (if a then None else o))
+passes_or test None true b = refl
+passes_or test None false b = refl
+passes_or test (Some server) true b = or_false (test server)
+passes_or test (Some server) false b = refl
 
 or_or : (a b c : Bool) → ((a || b) || c) ≡ (a || (b || c))
 or_or true b c = refl
 or_or false b c = refl
 
-module _ (which : ℕ → Bool) (s : Serial) (a b c : Closable) (first : AreClosed which a b) (second : AreClosed (λ n. n == s.0) b c) where
-  abbrev more : ℕ → Bool
-  more n = which n || (n == s.0)
-
-  module _ (m : Machine) where
-    abbrev all : Machine
-    all = record (with_servers a m) { ledger = a.ledger }
-
-    -- the machine after the first is that of the parts
-    same_messages : (number : Number) → is_message_at (λ n. n == s.0) (closed which all).machine number ≡ is_message_at (λ n. n == s.0) (with_servers b m) number
-    unfolding any_server closed
-    same_messages number = λ i. is_message_at (λ n. n == s.0) (record m { servers = λ n. sym (first.servers n) i; next_serial = sym first.next i }) number
-
-    same_senders : (id : ThreadId) → is_sender_at (λ n. n == s.0) (closed which all).machine id ≡ is_sender_at (λ n. n == s.0) (with_servers b m) id
-    unfolding any_server closed
-    same_senders id = λ i. is_sender_at (λ n. n == s.0) (record m { servers = λ n. sym (first.servers n) i; next_serial = sym first.next i }) id
-
-    ledgers : end_loans (is_message_at more (with_servers a m)) a.ledger
-        ≡ end_loans (is_message_at (λ n. n == s.0) (closed which all).machine) (end_loans (is_message_at which (with_servers a m)) a.ledger)
-    unfolding any_server closed
-    ledgers = ap (λ (x : Machine). x.ledger) (one_more_closes which s all)
-
-    senders : (id : ThreadId) → is_sender_at more (with_servers a m) id
-        ≡ (is_sender_at which (with_servers a m) id || is_sender_at (λ n. n == s.0) (closed which all).machine id)
-    unfolding any_server closed
-    senders id =
-        sym (some_refused (is_sender_at more all) id) ∙ ap (λ (f : ThreadId → Option (List ℕ)). is_some (f id)) (one_more_is_told which s all)
-        ∙ either_some (refused_server (is_sender_at which all) id) (refused_server (is_sender_at (λ n. n == s.0) (closed which all).machine) id)
-        ∙ (λ i. some_refused (is_sender_at which all) id i || some_refused (is_sender_at (λ n. n == s.0) (closed which all).machine) id i)
+module _ (p q : ℕ → Bool) (a b c : Closable) (first : AreClosed p a b) (second : AreClosed q b c) where
+  -- a server of either that passes is one of the first, or one of the second that the first left
+  any_either : (m : Machine) (test : Server → Bool) → any_server (with_servers a m) (λ n server. (p n || q n) && test server)
+      ≡ (any_server (with_servers a m) (λ n server. p n && test server) || any_server (with_servers b m) (λ n server. q n && test server))
+  unfolding any_server
+  any_either m test =
+      below_or (servers_of a.servers).next
+      (λ n. server_passes (λ server. (p n || q n) && test server) (servers_shown a.servers a.seats n))
+      (λ n. server_passes (λ server. p n && test server) (servers_shown a.servers a.seats n))
+      (λ n. server_passes (λ server. q n && test server) (if p n then None else servers_shown a.servers a.seats n))
+      (λ n. passes_or test (servers_shown a.servers a.seats n) (p n) (q n))
+      ∙ (λ i. is_some (least_below (servers_of a.servers).next (λ n. server_passes (λ server. p n && test server) (servers_shown a.servers a.seats n)))
+      || is_some (least_below (sym first.next i) (λ n. server_passes (λ server. q n && test server) (sym (first.servers n) i))))
 
   gone_or : (o : Option Server) (x y : Bool) → (if y then None else (if x then None else o)) ≡ (if x || y then None else o)
   gone_or o true true = refl
   gone_or o true false = refl
   gone_or o false y = refl
 
-  pub one_more : AreClosed more a c
-  one_more = record {
-    ledger = λ m. second.ledger m ∙ ap (end_loans (is_message_at (λ n. n == s.0) (with_servers b m))) (first.ledger m)
-        ∙ (λ i. end_loans (λ number. sym (same_messages m number) i) (end_loans (is_message_at which (with_servers a m)) a.ledger))
-        ∙ sym (ledgers m);
-    noted = λ m id. second.noted m id ∙ ap (λ x. x || is_sender_at (λ n. n == s.0) (with_servers b m) id) (first.noted m id)
-        ∙ or_or (a.noted id) (is_sender_at which (with_servers a m) id) (is_sender_at (λ n. n == s.0) (with_servers b m) id)
-        ∙ ap (λ x. a.noted id || (is_sender_at which (with_servers a m) id || x)) (sym (same_senders m id))
-        ∙ ap (λ x. a.noted id || x) (sym (senders m id));
-    servers = λ n. second.servers n ∙ ap (λ o. if n == s.0 then None else o) (first.servers n) ∙ gone_or (servers_shown a.servers a.seats n) (which n) (n == s.0);
+  pub both_closed : AreClosed (λ n. p n || q n) a c
+  both_closed = record {
+    ledger = λ m. second.ledger m ∙ ap (end_loans (is_message_at q (with_servers b m))) (first.ledger m)
+        ∙ both_end (is_message_at p (with_servers a m)) (is_message_at q (with_servers b m)) a.ledger
+        ∙ (λ i. end_loans (λ number. sym (any_either m (λ server. list_any (is_of_number number) (messages_of server))) i) a.ledger);
+    noted = λ m id. second.noted m id ∙ ap (λ x. x || is_sender_at q (with_servers b m) id) (first.noted m id)
+        ∙ or_or (a.noted id) (is_sender_at p (with_servers a m) id) (is_sender_at q (with_servers b m) id)
+        ∙ ap (λ x. a.noted id || x) (sym (any_either m (λ server. list_any (is_sent_by id) (messages_of server))));
+    servers = λ n. second.servers n ∙ ap (λ o. if q n then None else o) (first.servers n) ∙ gone_or (servers_shown a.servers a.seats n) (p n) (q n);
     next = second.next ∙ first.next;
   }
 
@@ -133,7 +133,7 @@ none_so_far pid a = nothing_closed (gone_so_far pid a a) a (λ n. none_owned pid
 pub one_more_gone : (pid : Pid) (s : Serial) (a b c : Closable) → AreClosed (gone_so_far pid a b) a b → AreClosed (λ n. n == s.0) b c
     → owned pid b s.0 ≡ true → AreClosed (gone_so_far pid a c) a c
 one_more_gone pid s a b c first second own =
-    subst (λ (set : ℕ → Bool). AreClosed set a c) (λ i n. same n (n == s.0) refl i) (one_more (gone_so_far pid a b) s a b c first second)
+    subst (λ (set : ℕ → Bool). AreClosed set a c) (λ i n. same n (n == s.0) refl i) (both_closed (gone_so_far pid a b) (λ n. n == s.0) a b c first second)
   where
     was_owned : owned pid a s.0 ≡ true
     was_owned = go (gone_so_far pid a b s.0) (sym (ap (is_server_of pid) (first.servers s.0)) ∙ own)

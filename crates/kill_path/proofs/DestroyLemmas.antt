@@ -21,8 +21,8 @@ use Rattle.machine_model.specs.State.Order.{ready_at}
 use Rattle.machine_model.specs.State.Servers.{messages_of}
 use Rattle.machine_model.specs.State.Threads.{Answers, answer_to, both_answers, passed}
 use Rattle.msg_queue.specs.Seats.{seat_of}
-use Rattle.send_path.proofs.RowLemmas.{served_so}
-use Rattle.send_path.proofs.ThreadLemmas.{ready_id, ready_there}
+use Rattle.send_path.proofs.Rows.RowLemmas.{served_so}
+use Rattle.send_path.proofs.Rows.ThreadLemmas.{ready_id, ready_there}
 use Rattle.send_path.specs.Parts.{Parts, server_of, server_with, servers_shown, state_of, thread_of, threads_shown, with_parts, with_tables}
 use Rattle.send_path.specs.Rows.{IsServed, log_with}
 use Rattle.send_path.specs.Sound.{IsSound}

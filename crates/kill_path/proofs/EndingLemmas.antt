@@ -19,9 +19,9 @@ use Rattle.machine_model.proofs.Messaging.LoanSetLemmas.{both_end, none_ends, on
 use Rattle.machine_model.specs.Messaging.LoanSets.{end_loans}
 use Rattle.machine_model.specs.Messaging.MessageCounts.{count_in}
 use Rattle.machine_model.specs.Messaging.Messages.{is_of_number as is_message_of, is_sent_by}
-use Rattle.msg_queue.specs.Seats.{Seat, changed_at, is_of_number, message_of, seat_of, of_number as first_of_number, place_of, without_held_at, without_queued_at}
+use Rattle.msg_queue.specs.Seats.{Seat, changed_at, is_of_number, message_of, seat_of, of_number as first_of_number, message_place, without_held_at, without_queued_at}
 use Rattle.msg_queue.specs.declared.held.Held.{Held}
-use Rattle.send_path.proofs.SeatLemmas.{changed_twice, seat_changed, seats_counted}
+use Rattle.send_path.proofs.Servers.SeatLemmas.{changed_twice, seat_changed, seats_counted}
 use Rattle.send_path.specs.Seats.{messages_at}
 use Rattle.xk_base.specs.Tables.Circle.{same_thread}
 use Rattle.xk_base.specs.declared.ids.Number.{Number}
@@ -180,11 +180,11 @@ found_first (x ∷ xs) h e =
     ap (λ (y : Held). first_of_number y.msg.number (x ∷ xs)) (sym (same_Some x h e))
     ∙ ap (λ b. cond b (Some x) (find (is_of_number x.msg.number) xs)) (eq-eqb x.msg.number.0 x.msg.number.0 refl) ∙ e
 
-pub placed_first : (hs : List Held) (h : Held) → slice_get hs 0 ≡ Some h → place_of h.msg.number hs ≡ 0
+pub placed_first : (hs : List Held) (h : Held) → slice_get hs 0 ≡ Some h → message_place h.msg.number hs ≡ 0
 placed_first [] h e = absurd (none-some h e)
 placed_first (x ∷ xs) h e =
-    ap (λ (y : Held). place_of y.msg.number (x ∷ xs)) (sym (same_Some x h e))
-    ∙ ap (λ b. cond (not b) (1 + place_of x.msg.number xs) 0) (eq-eqb x.msg.number.0 x.msg.number.0 refl)
+    ap (λ (y : Held). message_place y.msg.number (x ∷ xs)) (sym (same_Some x h e))
+    ∙ ap (λ b. cond (not b) (1 + message_place x.msg.number xs) 0) (eq-eqb x.msg.number.0 x.msg.number.0 refl)
 
 -- ---- one after another out of a seat
 

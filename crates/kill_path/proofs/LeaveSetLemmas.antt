@@ -1,23 +1,28 @@
 -- Whose numbers are queued or held from a process, once one message of a seat ended or was left alone.
-use Rattle.std.proofs.Common.{◌≡◌, ℕ, suc, ◌+◌, ◌<◌, Bool, true, false, List, [], ◌∷◌, cond, filter, length, map, Option, Some, None, refl, sym, ap, ◌∙◌, arith}
-use Rattle.std.specs.Prelude.{◌≢◌, ◌||◌, ◌&&◌, is_some, nat_eq, not}
+use Rattle.std.proofs.Common.{◌≡◌, ℕ, suc, ◌+◌, ◌<◌, ◌≤◌, Bool, true, false, List, [], ◌∷◌, cond, filter, length, map, Option, Some, None, refl, sym, ap, subst, ◌∙◌, arith}
+use Rattle.std.specs.Prelude.{◌≢◌, ◌||◌, ◌&&◌, if◌then◌else◌, is_some, nat_eq, not}
 use Rattle.std.specs.List.{list_any, remove}
 use Rattle.std.specs.Option.{option_map}
 use Rattle.std.proofs.lemmas.Bool.{eq-eqb, eqb-true, false≢true}
 use Rattle.std.proofs.lemmas.Option.{none-some, same_Some}
+use Rattle.ledger_model.specs.Lawful.{IsLawful}
 use Rattle.ledger_model.specs.Ledger.{Ledger}
-use Rattle.ledger_model.specs.Loans.{same_number}
-use Rattle.ledger_model.specs.Steps.{end_loan}
-use Rattle.machine_model.proofs.Messaging.LoanSetLemmas.{both_end, only_one_ends}
-use Rattle.machine_model.specs.Ending.Closing.{any_server, is_held_from, is_queued_from, server_passes}
+use Rattle.ledger_model.specs.Loans.{loans, same_number}
+use Rattle.ledger_model.specs.Steps.{end_loan, orphan_loan}
+use Rattle.machine_laws.proofs.Messaging.AnyServerLemmas.{no_server, none_listed, only_at}
+use Rattle.machine_model.proofs.Matching.CountLemmas.{count_in-append}
+use Rattle.machine_model.proofs.Messaging.LoanSetLemmas.{both_end, only_one_ends, only_one_is_orphaned}
+use Rattle.machine_model.specs.Ending.Closing.{any_server, is_held_from, is_queued_from, senderless_from, server_passes}
 use Rattle.machine_model.specs.Messaging.LoanSets.{end_loans, orphan_loans}
+use Rattle.machine_model.specs.Messaging.MessageCounts.{count_at, count_in}
 use Rattle.machine_model.specs.Messaging.Messages.{is_of_number as is_message_of, is_sent_from}
 use Rattle.machine_model.specs.State.Machine.{Machine, Server}
-use Rattle.msg_queue.specs.Seats.{Seat, changed_at, is_of_number, message_of, of_number, place_of, seat_of, without_queued}
+use Rattle.machine_model.specs.State.Servers.{messages_of}
+use Rattle.msg_queue.specs.Seats.{Seat, changed_at, is_of_number, message_of, of_number, message_place, seat_of, without_queued}
 use Rattle.msg_queue.specs.declared.held.Held.{Held}
-use Rattle.send_path.proofs.SeatLemmas.{seat_changed, seat_is_there, seat_other, server_there}
+use Rattle.send_path.proofs.Servers.SeatLemmas.{seat_changed, seat_is_there, seat_other, server_there}
 use Rattle.send_path.specs.Parts.{server_of, server_with, servers_shown}
-use Rattle.send_path.specs.Seats.{IsSeatOf}
+use Rattle.send_path.specs.Seats.{IsSeatOf, messages_at}
 use Rattle.server_table.proofs.Lemmas.{live_below, seats_differ}
 use Rattle.server_table.specs.ServersOf.{servers_of}
 use Rattle.server_table.specs.ServerState.{Server as TableServer}
@@ -29,9 +34,13 @@ use Rattle.xk_base.specs.declared.ids.Pid.{Pid}
 use Rattle.xk_base.specs.declared.limits.TheConstants.{SERVER_LIMIT}
 use Rattle.xk_base.specs.declared.messages.Message.{Message}
 use Rattle.kill_path.specs.Closing.{Closable, with_servers}
-use Rattle.kill_path.specs.Leaving.{LeavesAlike, left_by}
+use Rattle.kill_path.specs.Leaving.{LeavesAlike, alone, first_alone, left_by, with_alone}
+use Rattle.kill_path.specs.Open.{AreOpen}
 use Rattle.kill_path.specs.ThreadSets.{ThreadSet}
 use Rattle.kill_path.proofs.EndingLemmas.{same_back}
+use Rattle.kill_path.proofs.LeaveStepLemmas.{count_both, found_counts, most, number_count}
+use Rattle.kill_path.proofs.OpenLemmas.{messages_shown}
+use Rattle.kill_path.proofs.OrphanLemmas.{both_orphaned, ended_apart, ends_after_orphan}
 
 -- ---- a test that holds besides at one number
 
@@ -57,36 +66,36 @@ or_swap false true c = refl
 or_swap false false c = refl
 
 pub any_removed : (test : Message → Bool) (number : Number) (hs : List Held) (h : Held) → of_number number hs ≡ Some h
-    → list_any test (map message_of hs) ≡ (test h.msg || list_any test (map message_of (remove hs (place_of number hs))))
+    → list_any test (map message_of hs) ≡ (test h.msg || list_any test (map message_of (remove hs (message_place number hs))))
 any_removed test number [] h e = absurd (none-some h e)
 any_removed test number (x ∷ xs) h e = go (is_of_number number x) (λ later. any_removed test number xs h later) e
   where
-    go : (b : Bool) → (of_number number xs ≡ Some h → list_any test (map message_of xs) ≡ (test h.msg || list_any test (map message_of (remove xs (place_of number xs)))))
+    go : (b : Bool) → (of_number number xs ≡ Some h → list_any test (map message_of xs) ≡ (test h.msg || list_any test (map message_of (remove xs (message_place number xs)))))
         → cond b (Some x) (of_number number xs) ≡ Some h
         → (test x.msg || list_any test (map message_of xs))
-        ≡ (test h.msg || list_any test (map message_of (remove (x ∷ xs) (cond (not b) (1 + place_of number xs) 0))))
+        ≡ (test h.msg || list_any test (map message_of (remove (x ∷ xs) (cond (not b) (1 + message_place number xs) 0))))
     go true rest q = ap (λ (y : Held). test y.msg || list_any test (map message_of xs)) (same_Some x h q)
     go false rest q =
-        let next : 1 + place_of number xs ≡ suc (place_of number xs) = omega arith in
+        let next : 1 + message_place number xs ≡ suc (message_place number xs) = omega arith in
         ap (λ b. test x.msg || b) (rest q)
-        ∙ or_swap (test x.msg) (test h.msg) (list_any test (map message_of (remove xs (place_of number xs))))
+        ∙ or_swap (test x.msg) (test h.msg) (list_any test (map message_of (remove xs (message_place number xs))))
         ∙ ap (λ k. test h.msg || list_any test (map message_of (remove (x ∷ xs) k))) (sym next)
 
 -- what a filter drops may be taken out before
 pub filter_removed : (keep : Message → Bool) (number : Number) (hs : List Held) (h : Held) → of_number number hs ≡ Some h → keep h.msg ≡ false
-    → filter keep (map message_of (remove hs (place_of number hs))) ≡ filter keep (map message_of hs)
+    → filter keep (map message_of (remove hs (message_place number hs))) ≡ filter keep (map message_of hs)
 filter_removed keep number [] h e drops = absurd (none-some h e)
 filter_removed keep number (x ∷ xs) h e drops = go (is_of_number number x) (λ later. filter_removed keep number xs h later drops) e
   where
-    go : (b : Bool) → (of_number number xs ≡ Some h → filter keep (map message_of (remove xs (place_of number xs))) ≡ filter keep (map message_of xs))
+    go : (b : Bool) → (of_number number xs ≡ Some h → filter keep (map message_of (remove xs (message_place number xs))) ≡ filter keep (map message_of xs))
         → cond b (Some x) (of_number number xs) ≡ Some h
-        → filter keep (map message_of (remove (x ∷ xs) (cond (not b) (1 + place_of number xs) 0)))
+        → filter keep (map message_of (remove (x ∷ xs) (cond (not b) (1 + message_place number xs) 0)))
         ≡ cond (keep x.msg) (x.msg ∷ filter keep (map message_of xs)) (filter keep (map message_of xs))
     go true rest q =
         sym (ap (λ b. cond b (x.msg ∷ filter keep (map message_of xs)) (filter keep (map message_of xs)))
         (ap (λ (y : Held). keep y.msg) (same_Some x h q) ∙ drops))
     go false rest q =
-        let next : 1 + place_of number xs ≡ suc (place_of number xs) = omega arith in
+        let next : 1 + message_place number xs ≡ suc (message_place number xs) = omega arith in
         ap (λ k. filter keep (map message_of (remove (x ∷ xs) k))) next
         ∙ ap (λ ys. cond (keep x.msg) (x.msg ∷ ys) ys) (rest q)
 
@@ -164,7 +173,7 @@ module _ (servers : Servers) (seats : List Seat) (s k : ℕ) (its : IsSeatOf (se
       any_at servers seats s k its all (without_queued number) l (end_loan number l) noted noted x
       (λ server. list_any (λ y. is_message_of n y && is_sent_from pid y) server.queued) (same_number n number)
       (any_removed (λ y. is_message_of n y && is_sent_from pid y) number (seat_of seats k).queued h found
-      ∙ ap (λ b. b || list_any (λ y. is_message_of n y && is_sent_from pid y) (map message_of (remove (seat_of seats k).queued (place_of number (seat_of seats k).queued))))
+      ∙ ap (λ b. b || list_any (λ y. is_message_of n y && is_sent_from pid y) (map message_of (remove (seat_of seats k).queued (message_place number (seat_of seats k).queued))))
       (its_test n))
     where
       and_true : (b : Bool) → (b && true) ≡ b
@@ -187,4 +196,122 @@ module _ (servers : Servers) (seats : List Seat) (s k : ℕ) (its : IsSeatOf (se
         (λ i. record (left_by pid (server_with (seat_of seats k) its.server)) {
           queued = filter_removed (λ y. not (is_sent_from pid y)) number (seat_of seats k).queued h found (ap not sent) i;
         });
+  }
+
+-- ---- lists with the first of a number left alone
+
+pub any_alone : (test : Message → Bool) (number : Number) (hs : List Held) (h : Held) → of_number number hs ≡ Some h → test (alone h).msg ≡ false
+    → list_any test (map message_of hs) ≡ (test h.msg || list_any test (map message_of (first_alone number hs)))
+any_alone test number [] h e fails = absurd (none-some h e)
+any_alone test number (x ∷ xs) h e fails = go (is_of_number number x) (λ later. any_alone test number xs h later fails) e
+  where
+    go : (b : Bool) → (of_number number xs ≡ Some h → list_any test (map message_of xs) ≡ (test h.msg || list_any test (map message_of (first_alone number xs))))
+        → cond b (Some x) (of_number number xs) ≡ Some h
+        → (test x.msg || list_any test (map message_of xs))
+        ≡ (test h.msg || list_any test (map message_of (if b then alone x ∷ xs else x ∷ first_alone number xs)))
+    go true rest q =
+        let same : x ≡ h = same_Some x h q in
+        ap (λ (y : Held). test y.msg || list_any test (map message_of xs)) same
+        ∙ ap (λ b. test h.msg || (b || list_any test (map message_of xs))) (sym (ap (λ (y : Held). test (alone y).msg) same ∙ fails))
+    go false rest q = ap (λ b. test x.msg || b) (rest q) ∙ or_swap (test x.msg) (test h.msg) (list_any test (map message_of (first_alone number xs)))
+
+-- what is without a sender from the process may be left alone before
+pub senderless_alone : (pid : Pid) (number : Number) (hs : List Held) (h : Held) → of_number number hs ≡ Some h → is_sent_from pid h.msg ≡ true
+    → map (senderless_from pid) (map message_of (first_alone number hs)) ≡ map (senderless_from pid) (map message_of hs)
+senderless_alone pid number [] h e sent = absurd (none-some h e)
+senderless_alone pid number (x ∷ xs) h e sent = go (is_of_number number x) (λ later. senderless_alone pid number xs h later sent) e
+  where
+    go : (b : Bool) → (of_number number xs ≡ Some h → map (senderless_from pid) (map message_of (first_alone number xs)) ≡ map (senderless_from pid) (map message_of xs))
+        → cond b (Some x) (of_number number xs) ≡ Some h
+        → map (senderless_from pid) (map message_of (if b then alone x ∷ xs else x ∷ first_alone number xs))
+        ≡ senderless_from pid x.msg ∷ map (senderless_from pid) (map message_of xs)
+    go true rest q =
+        λ i. record x.msg { sender = if sym (ap (λ (y : Held). is_sent_from pid y.msg) (same_Some x h q) ∙ sent) i then None else x.msg.sender }
+        ∷ map (senderless_from pid) (map message_of xs)
+    go false rest q = ap (λ ys. senderless_from pid x.msg ∷ ys) (rest q)
+
+-- ---- a held message of the process is left alone
+
+module _ (servers : Servers) (seats : List Seat) (s k : ℕ) (its : IsSeatOf (servers_of servers) s k) (procs capacity : ℕ) (pid : Pid) (number : Number) (h : Held)
+    (found : of_number number (seat_of seats k).held ≡ Some h) (its_number : h.msg.number ≡ number) (sent : is_sent_from pid h.msg ≡ true) (l : Ledger)
+    (lawful : IsLawful procs capacity l) (was_open : AreOpen (loans l) servers seats) (noted : ThreadSet) where
+  abbrev standing : Closable
+  standing = record { ledger = l; servers = servers; seats = seats; noted = noted }
+
+  abbrev orphaned : Closable
+  orphaned = record { ledger = orphan_loan procs number l; servers = servers; seats = changed_at k (with_alone number) seats; noted = noted }
+
+  queued_same : (x : Machine) (n : Number) → is_queued_from pid (with_servers standing x) n ≡ is_queued_from pid (with_servers orphaned x) n
+  queued_same x n =
+      any_at servers seats s k its was_open.seats.all (with_alone number) l (orphan_loan procs number l) noted noted x
+      (λ server. list_any (λ y. is_message_of n y && is_sent_from pid y) server.queued) false refl
+
+  held_more : (x : Machine) (n : Number) → is_held_from pid (with_servers standing x) n ≡ (same_number n number || is_held_from pid (with_servers orphaned x) n)
+  held_more x n =
+      any_at servers seats s k its was_open.seats.all (with_alone number) l (orphan_loan procs number l) noted noted x
+      (λ server. list_any (λ y. is_message_of n y && is_sent_from pid y) server.held) (same_number n number)
+      (any_alone (λ y. is_message_of n y && is_sent_from pid y) number (seat_of seats k).held h found (and_false (is_message_of n h.msg))
+      ∙ ap (λ b. b || list_any (λ y. is_message_of n y && is_sent_from pid y) (map message_of (first_alone number (seat_of seats k).held))) (its_test n))
+    where
+      and_true : (b : Bool) → (b && true) ≡ b
+      and_true true = refl
+      and_true false = refl
+
+      and_false : (b : Bool) → (b && false) ≡ false
+      and_false true = refl
+      and_false false = refl
+
+      its_test : (q : Number) → (is_message_of q h.msg && is_sent_from pid h.msg) ≡ same_number q number
+      its_test q =
+          ap (λ b. is_message_of q h.msg && b) sent ∙ and_true (is_message_of q h.msg) ∙ ap (λ z. same_number z q) its_number ∙ same_back number q
+
+  -- its number isn't queued
+  not_queued : (x : Machine) → is_queued_from pid (with_servers standing x) number ≡ false
+  not_queued x = no_server (with_servers standing x) (λ n server. list_any (λ y. is_message_of number y && is_sent_from pid y) server.queued) (λ n server e.
+      none_listed number (is_sent_from pid) server.queued (at n server e (nat_eq n s) refl))
+    where
+      some : 1 ≤ number_count number (seat_of seats k).held
+      some = found_counts number (seat_of seats k).held h found
+
+      here : number_count number (seat_of seats k).queued ≡ 0
+      here =
+          let sum : number_count number (messages_at (seat_of seats k)) ≡ number_count number (seat_of seats k).queued + number_count number (seat_of seats k).held =
+          count_both number (seat_of seats k).queued (seat_of seats k).held in
+          let few : number_count number (messages_at (seat_of seats k)) ≤ 1 = most servers seats s k its l was_open number in
+          let one : 1 ≤ number_count number (seat_of seats k).held = some in
+          omega arith
+
+      its_server : 1 ≤ count_at (is_message_of number) (servers_shown servers seats s)
+      its_server =
+          let sum : number_count number (messages_at (seat_of seats k)) ≡ number_count number (seat_of seats k).queued + number_count number (seat_of seats k).held =
+          count_both number (seat_of seats k).queued (seat_of seats k).held in
+          let one : 1 ≤ number_count number (seat_of seats k).held = some in
+          subst (λ o. 1 ≤ count_at (is_message_of number) o) (sym (server_there servers seats s k its was_open.seats.all))
+          (subst (λ (ms : List Message). 1 ≤ count_in (is_message_of number) ms) (sym (messages_shown (seat_of seats k) its.server)) (omega arith))
+
+      at : (n : ℕ) (server : Server) → servers_shown servers seats n ≡ Some server → (b : Bool) → nat_eq n s ≡ b → count_in (is_message_of number) server.queued ≡ 0
+      at n server e true q =
+          ap (λ (v : Server). count_in (is_message_of number) v.queued)
+          (same_Some server (server_with (seat_of seats k) its.server)
+          (sym e ∙ ap (servers_shown servers seats) (eqb-true n s q) ∙ server_there servers seats s k its was_open.seats.all))
+          ∙ here
+      at n server e false q =
+          let none : count_at (is_message_of number) (servers_shown servers seats n) ≡ 0 =
+          only_at (servers_shown servers seats) was_open.numbers number s its_server n (λ same. false≢true (sym q ∙ eq-eqb n s same)) in
+          let all : count_in (is_message_of number) (messages_of server) ≡ 0 = sym (ap (count_at (is_message_of number)) e) ∙ none in
+          let sum : count_in (is_message_of number) (messages_of server) ≡ count_in (is_message_of number) server.queued + count_in (is_message_of number) server.held =
+          count_in-append (is_message_of number) server.queued server.held in
+          omega arith
+
+  pub held_alike : LeavesAlike procs pid standing orphaned
+  held_alike = record {
+    ledger = λ x.
+        let queued = is_queued_from pid (with_servers standing x) in
+        let held = is_held_from pid (with_servers orphaned x) in
+        (λ i. orphan_loans procs held (end_loans (λ n. sym (queued_same x n) i) (orphan_loan procs number l)))
+        ∙ ap (orphan_loans procs held) (ends_after_orphan procs capacity queued number l lawful (not_queued x) ∙ sym (only_one_is_orphaned procs number (end_loans queued l)))
+        ∙ both_orphaned procs (λ n. same_number n number) held (end_loans queued l) (ended_apart procs capacity queued l lawful)
+        ∙ (λ i. orphan_loans procs (λ n. sym (held_more x n) i) (end_loans queued l));
+    servers = servers_alike servers seats s k its was_open.seats.all (with_alone number) l (orphan_loan procs number l) noted noted pid
+        (λ i. record (left_by pid (server_with (seat_of seats k) its.server)) { held = senderless_alone pid number (seat_of seats k).held h found sent i });
   }

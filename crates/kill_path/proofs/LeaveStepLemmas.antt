@@ -19,11 +19,11 @@ use Rattle.machine_laws.proofs.Messaging.AnyServerLemmas.{messages_apart, only_a
 use Rattle.machine_model.proofs.Matching.CountLemmas.{count_in-append, none_pass, one_if}
 use Rattle.machine_model.specs.Messaging.MessageCounts.{count_at, count_in}
 use Rattle.machine_model.specs.Messaging.Messages.{is_of_number as is_message_of}
-use Rattle.msg_queue.specs.Seats.{Seat, changed_at, is_of_number, message_of, of_number, place_of, seat_of, without_queued}
+use Rattle.msg_queue.specs.Seats.{Seat, changed_at, is_of_number, message_of, of_number, message_place, seat_of, without_queued}
 use Rattle.msg_queue.specs.declared.held.Held.{Held}
-use Rattle.send_path.proofs.HeldListLemmas.{of_shown, others_fail}
-use Rattle.send_path.proofs.SeatLemmas.{seat_changed, seat_is_there, seat_other, server_there}
-use Rattle.send_path.proofs.SoundLemmas.{seats_changed}
+use Rattle.send_path.proofs.Servers.HeldListLemmas.{of_shown, others_fail}
+use Rattle.send_path.proofs.Servers.SeatLemmas.{seat_changed, seat_is_there, seat_other, server_there}
+use Rattle.send_path.proofs.Servers.SoundLemmas.{seats_changed}
 use Rattle.send_path.specs.Parts.{server_of, server_with, servers_shown}
 use Rattle.send_path.specs.Seats.{HasLoanIfLend, IsSeatOf, messages_at}
 use Rattle.send_path.specs.Sound.{IsLenderOf}
@@ -43,15 +43,15 @@ use Rattle.kill_path.proofs.OpenLemmas.{at_number_counted, fit_still, messages_s
 
 -- ---- lists of messages
 
-abbrev number_count : Number → List Held → ℕ
+abbrev pub number_count : Number → List Held → ℕ
 number_count number hs = count_in (is_message_of number) (map message_of hs)
 
-count_both : (number : Number) (xs ys : List Held) → number_count number (xs ++ ys) ≡ number_count number xs + number_count number ys
+pub count_both : (number : Number) (xs ys : List Held) → number_count number (xs ++ ys) ≡ number_count number xs + number_count number ys
 count_both number xs ys =
     ap (count_in (is_message_of number)) (map-append message_of xs ys) ∙ count_in-append (is_message_of number) (map message_of xs) (map message_of ys)
 
 -- what is found is counted
-found_counts : (number : Number) (hs : List Held) (h : Held) → of_number number hs ≡ Some h → 1 ≤ number_count number hs
+pub found_counts : (number : Number) (hs : List Held) (h : Held) → of_number number hs ≡ Some h → 1 ≤ number_count number hs
 unfolding count_in
 found_counts number [] h e = absurd (none-some h e)
 found_counts number (x ∷ xs) h e = go (is_of_number number x) (λ later. found_counts number xs h later) e
@@ -61,19 +61,19 @@ found_counts number (x ∷ xs) h e = go (is_of_number number x) (λ later. found
     go true rest q = omega arith
     go false rest q = let later : 1 ≤ number_count number xs = rest q in omega arith
 
-none_of : (number : Number) (hs : List Held) → number_count number hs ≡ 0 → All (λ h. is_of_number number h ≡ false) hs
+pub none_of : (number : Number) (hs : List Held) → number_count number hs ≡ 0 → All (λ h. is_of_number number h ≡ false) hs
 none_of number hs e = of_shown (λ x. is_message_of number x ≡ false) hs (none_pass (is_message_of number) (map message_of hs) e)
 
 -- without the first of a number, where there is one of it, none is left
 pub rest_fails : (number : Number) (xs ys : List Held) (h : Held) → of_number number xs ≡ Some h → number_count number (xs ++ ys) ≤ 1
-    → All (λ x. is_of_number number x ≡ false) (remove xs (place_of number xs) ++ ys)
+    → All (λ x. is_of_number number x ≡ false) (remove xs (message_place number xs) ++ ys)
 rest_fails number xs ys h found most =
     let both : number_count number (xs ++ ys) ≡ number_count number xs + number_count number ys = count_both number xs ys in
     let some : 1 ≤ number_count number xs = found_counts number xs h found in
     let few : number_count number xs ≤ 1 = omega arith in
     let none : number_count number ys ≡ 0 = omega arith in
-    All-append (λ x. is_of_number number x ≡ false) (remove xs (place_of number xs)) ys
-    (of_shown (λ x. is_message_of number x ≡ false) (remove xs (place_of number xs)) (others_fail (is_message_of number) xs few))
+    All-append (λ x. is_of_number number x ≡ false) (remove xs (message_place number xs)) ys
+    (of_shown (λ x. is_message_of number x ≡ false) (remove xs (message_place number xs)) (others_fail (is_message_of number) xs few))
     (none_of number ys none)
 
 -- what is left of a list was there
@@ -126,11 +126,11 @@ first_alone_counts test same number (h ∷ hs) = go (is_of_number number h) (fir
     go true rest = ap (λ b. one_if b + count_in test (map message_of hs)) (same h)
     go false rest = ap (λ n. one_if (test h.msg) + n) rest
 
-left_all : (P : Held → Type 0) (xs ys : List Held) → All P (xs ++ ys) → All P xs
+pub left_all : (P : Held → Type 0) (xs ys : List Held) → All P (xs ++ ys) → All P xs
 left_all P [] ys a = All-nil P
 left_all P (x ∷ xs) ys a = All-cons P x xs (All-head P x (xs ++ ys) a) (left_all P xs ys (All-tail P x (xs ++ ys) a))
 
-right_all : (P : Held → Type 0) (xs ys : List Held) → All P (xs ++ ys) → All P ys
+pub right_all : (P : Held → Type 0) (xs ys : List Held) → All P (xs ++ ys) → All P ys
 right_all P [] ys a = a
 right_all P (x ∷ xs) ys a = right_all P xs ys (All-tail P x (xs ++ ys) a)
 
@@ -225,22 +225,26 @@ module _ (servers : Servers) (seats : List Seat) (s k : ℕ) (its : IsSeatOf (se
           (ap (λ (x : TableServer). x.seat) is) (omega arith)))
           n v e refl
 
--- ---- a queued message ends
+-- ---- the messages at a seat
 
 module _ (servers : Servers) (seats : List Seat) (s k : ℕ) (its : IsSeatOf (servers_of servers) s k) (l : Ledger)
-    (was_open : AreOpen (loans l) servers seats) (number : Number) (h : Held) where
-  most : (other : Number) → number_count other (messages_at (seat_of seats k)) ≤ 1
+    (was_open : AreOpen (loans l) servers seats) where
+  pub most : (other : Number) → number_count other (messages_at (seat_of seats k)) ≤ 1
   most other =
       subst (λ (ms : List Message). count_in (is_message_of other) ms ≤ 1) (messages_shown (seat_of seats k) its.server)
       (messages_apart (servers_shown servers seats) was_open.numbers s (server_with (seat_of seats k) its.server)
       (server_there servers seats s k its was_open.seats.all) other)
 
-  fit_here : All (IsLoanFit (loans l) its.server.pid) (messages_at (seat_of seats k))
+  pub fit_here : All (IsLoanFit (loans l) its.server.pid) (messages_at (seat_of seats k))
   fit_here = subst (λ i. All (IsLoanFit (loans l) its.server.pid) (messages_at (seat_of seats i))) its.its (was_open.fit s its.server its.live)
 
-  known_here : All HasKnownSender (messages_at (seat_of seats k))
+  pub known_here : All HasKnownSender (messages_at (seat_of seats k))
   known_here = subst (λ i. All HasKnownSender (messages_at (seat_of seats i))) its.its (was_open.senders s its.server its.live)
 
+-- ---- a queued message ends
+
+module _ (servers : Servers) (seats : List Seat) (s k : ℕ) (its : IsSeatOf (servers_of servers) s k) (l : Ledger)
+    (was_open : AreOpen (loans l) servers seats) (number : Number) (h : Held) where
   -- the number is another where the test fails
   not_number : (x : Held) → is_of_number number x ≡ false → x.msg.number ≢ number
   not_number x e at = false≢true (sym e ∙ eq-eqb x.msg.number.0 number.0 (ap (λ (n : Number). n.0) at))
@@ -254,16 +258,16 @@ module _ (servers : Servers) (seats : List Seat) (s k : ℕ) (its : IsSeatOf (se
       (λ j d low.
       fit_still (loans l) (loans (end_loan number l)) its.server.pid (get_or left j d).msg (get_or left j d).loan
       (end_loan_other number (get_or left j d).msg.number l
-      (not_number (get_or left j d) (rest_fails number seat.queued seat.held h found (most number) j d low)))
-      (rest_all (IsLoanFit (loans l) its.server.pid) seat.queued seat.held place fit_here j d low))
-      (rest_all HasKnownSender seat.queued seat.held place known_here)
+      (not_number (get_or left j d) (rest_fails number seat.queued seat.held h found (most servers seats s k its l was_open number) j d low)))
+      (rest_all (IsLoanFit (loans l) its.server.pid) seat.queued seat.held place (fit_here servers seats s k its l was_open) j d low))
+      (rest_all HasKnownSender seat.queued seat.held place (known_here servers seats s k its l was_open))
       (λ other. fewer_left (is_message_of other) seat.queued seat.held place)
     where
       seat : Seat
       seat = seat_of seats k
 
       place : ℕ
-      place = place_of number (seat_of seats k).queued
+      place = message_place number (seat_of seats k).queued
 
       left : List Held
       left = messages_at (without_queued number (seat_of seats k))
@@ -323,11 +327,11 @@ module _ (servers : Servers) (seats : List Seat) (s k : ℕ) (its : IsSeatOf (se
         (All-append HasLoanIfLend seat.queued (first_alone number seat.held) (front HasLoanIfLend (was_open.seats.loans k))
         (first_alone_all number HasLoanIfLend HasLoanIfLend (λ x e p. p) (λ x e p. same_loan x.loan ∙ p) seat.held few (back HasLoanIfLend (was_open.seats.loans k))))
         (All-append (IsLoanFit after its.server.pid) seat.queued (first_alone number seat.held)
-        (λ j d low. still (get_or seat.queued j d) (none_of number seat.queued none j d low) (front (IsLoanFit (loans l) its.server.pid) fit_here j d low))
+        (λ j d low. still (get_or seat.queued j d) (none_of number seat.queued none j d low) (front (IsLoanFit (loans l) its.server.pid) (fit_here servers seats s k its l was_open) j d low))
         (first_alone_all number Both (IsLoanFit after its.server.pid) (λ x e p. still x e p.0) (λ x e p. left_fit x e (p.1 e) p.0) seat.held few
-        (λ j d low. (back (IsLoanFit (loans l) its.server.pid) fit_here j d low, sent j d low))))
-        (All-append HasKnownSender seat.queued (first_alone number seat.held) (front HasKnownSender known_here)
-        (first_alone_all number HasKnownSender HasKnownSender (λ x e p. p) (λ x e p. tt) seat.held few (back HasKnownSender known_here)))
+        (λ j d low. (back (IsLoanFit (loans l) its.server.pid) (fit_here servers seats s k its l was_open) j d low, sent j d low))))
+        (All-append HasKnownSender seat.queued (first_alone number seat.held) (front HasKnownSender (known_here servers seats s k its l was_open))
+        (first_alone_all number HasKnownSender HasKnownSender (λ x e p. p) (λ x e p. tt) seat.held few (back HasKnownSender (known_here servers seats s k its l was_open))))
         (λ other.
         let a : number_count other (messages_at (with_alone number seat)) ≡ number_count other seat.queued + number_count other (first_alone number seat.held) =
         count_both other seat.queued (first_alone number seat.held) in
@@ -352,10 +356,10 @@ module _ (servers : Servers) (seats : List Seat) (s k : ℕ) (its : IsSeatOf (se
         here = omega (arith, some, sum)
 
         none : number_count number (seat_of seats k).queued ≡ 0
-        none = omega (arith, some, sum, most number)
+        none = omega (arith, some, sum, most servers seats s k its l was_open number)
 
         few : number_count number (seat_of seats k).held ≤ 1
-        few = omega (arith, some, sum, most number)
+        few = omega (arith, some, sum, most servers seats s k its l was_open number)
 
         front : (P : Held → Type 0) → All P (messages_at (seat_of seats k)) → All P (seat_of seats k).queued
         front P all = left_all P (seat_of seats k).queued (seat_of seats k).held all

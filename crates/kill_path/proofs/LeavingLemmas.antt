@@ -2,7 +2,7 @@
 use Rattle.std.proofs.Common.{◌≡◌, ℕ, zero, suc, ◌+◌, ◌<◌, ◌≤◌, Bool, true, false, List, [], ◌∷◌, cond, length, set, Option, Some, None, refl, sym, ap, ◌∙◌, arith, inl, inr}
 use Rattle.std.specs.Prelude.{◌≢◌, IsSome, if◌then◌else◌, is_some, not, slice_get}
 use Rattle.std.specs.List.{insert, remove}
-use Rattle.std.specs.Option.{option_and_then, option_map_or, option_or}
+use Rattle.std.specs.Option.{option_and_then, option_map, option_or}
 use Rattle.std.proofs.lemmas.Bool.{false≢true}
 use Rattle.std.proofs.lemmas.Option.{none-some, same_Some}
 use Rattle.ledger_model.proofs.LedgerLemmas.{cases_Option, lender_of-loan, loan_at-page, same_ledger, same_number-true}
@@ -10,12 +10,12 @@ use Rattle.ledger_model.specs.Ledger.{Ledger, Page, PageLoan, loan_at, loan_of}
 use Rattle.ledger_model.specs.Loans.{IsFresh, loans, of_number as loan_of_number, same_number}
 use Rattle.ledger_model.specs.Reach.{lender_of}
 use Rattle.ledger_model.specs.Steps.{orphan_from, orphan_loan, orphan_with, page_without}
-use Rattle.msg_queue.specs.Seats.{Seat, changed_at, is_of_number, of_number, place_of, seat_of, used_of, with_held_at, without_held}
+use Rattle.msg_queue.specs.Seats.{Seat, changed_at, is_of_number, of_number, place_found, message_place, seat_of, used_of, with_held_at, without_held}
 use Rattle.msg_queue.specs.declared.held.Held.{Held}
-use Rattle.send_path.proofs.SeatLemmas.{changed_twice, seat_changed}
+use Rattle.send_path.proofs.Servers.SeatLemmas.{changed_twice, seat_changed}
 use Rattle.xk_base.specs.declared.ids.Number.{Number}
 use Rattle.xk_base.specs.declared.ids.Place.{Place}
-use Rattle.kill_path.specs.Leaving.{alone, first_alone, has_number_at, with_alone}
+use Rattle.kill_path.specs.Leaving.{alone, first_alone, with_alone}
 
 -- ---- nothing becomes an orphan by a number by which nothing is on loan
 
@@ -62,8 +62,8 @@ module _ (procs : ℕ) (number : Number) (l : Ledger) (fresh : IsFresh (loans l)
 pub record IsPlaced (number : Number) (hs : List Held) : Type 0 where
   pub message : Held
   pub found : of_number number hs ≡ Some message
-  pub at : slice_get hs (place_of number hs) ≡ Some message
-  pub within : place_of number hs < length hs
+  pub at : slice_get hs (message_place number hs) ≡ Some message
+  pub within : message_place number hs < length hs
   pub its : is_of_number number message ≡ true
 
 pub placed : (number : Number) (hs : List Held) → IsSome (of_number number hs) → IsPlaced number hs
@@ -73,7 +73,7 @@ placed number (h ∷ hs) e = go (is_of_number number h) refl (λ later. placed n
     go : (b : Bool) → is_of_number number h ≡ b → (IsSome (of_number number hs) → IsPlaced number hs)
         → is_some (cond b (Some h) (of_number number hs)) ≡ true → IsPlaced number (h ∷ hs)
     go true q rest r =
-        let none : place_of number (h ∷ hs) ≡ 0 = ap (λ b. cond (not b) (1 + place_of number hs) 0) q in
+        let none : message_place number (h ∷ hs) ≡ 0 = ap (λ b. cond (not b) (1 + message_place number hs) 0) q in
         record {
           message = h;
           found = ap (λ b. cond b (Some h) (of_number number hs)) q;
@@ -83,9 +83,9 @@ placed number (h ∷ hs) e = go (is_of_number number h) refl (λ later. placed n
         }
     go false q rest r =
         let later : IsPlaced number hs = rest r in
-        let one : 1 + place_of number hs ≡ suc (place_of number hs) = omega arith in
-        let next : place_of number (h ∷ hs) ≡ suc (place_of number hs) = ap (λ b. cond (not b) (1 + place_of number hs) 0) q ∙ one in
-        let low : place_of number hs < length hs = later.within in
+        let one : 1 + message_place number hs ≡ suc (message_place number hs) = omega arith in
+        let next : message_place number (h ∷ hs) ≡ suc (message_place number hs) = ap (λ b. cond (not b) (1 + message_place number hs) 0) q ∙ one in
+        let low : message_place number hs < length hs = later.within in
         record {
           message = later.message;
           found = ap (λ b. cond b (Some h) (of_number number hs)) q ∙ later.found;
@@ -94,23 +94,10 @@ placed number (h ∷ hs) e = go (is_of_number number h) refl (λ later. placed n
           its = later.its;
         }
 
--- none of the number stands before its place
-pub first_of_its : (number : Number) (hs : List Held) (place : ℕ) → has_number_at number hs place ≡ true → place_of number hs ≤ place
-first_of_its number [] place e = absurd (false≢true e)
-first_of_its number (h ∷ hs) zero e = let none : place_of number (h ∷ hs) ≡ 0 = ap (λ b. cond (not b) (1 + place_of number hs) 0) e in omega arith
-first_of_its number (h ∷ hs) (suc place) e = go (is_of_number number h) refl (first_of_its number hs place e)
-  where
-    go : (b : Bool) → is_of_number number h ≡ b → place_of number hs ≤ place → place_of number (h ∷ hs) ≤ suc place
-    go true q low = let none : place_of number (h ∷ hs) ≡ 0 = ap (λ b. cond (not b) (1 + place_of number hs) 0) q in omega arith
-    go false q low =
-        let next : place_of number (h ∷ hs) ≡ 1 + place_of number hs = ap (λ b. cond (not b) (1 + place_of number hs) 0) q in
-        omega arith
-
-pub not_its_place : (number : Number) (hs : List Held) (place : ℕ) → IsSome (of_number number hs) → has_number_at number hs place ≡ false
-    → place_of number hs ≢ place
-not_its_place number hs place some e same =
-    let p : IsPlaced number hs = placed number hs some in
-    false≢true (sym e ∙ ap (has_number_at number hs) (sym same) ∙ ap (λ o. option_map_or (is_of_number number) o false) p.at ∙ p.its)
+pub place_is : (number : Number) (hs : List Held) (h : Held) (place : ℕ) → of_number number hs ≡ Some h → place_found number hs ≡ Some place
+    → place ≡ message_place number hs
+place_is number hs h place found e =
+    sym (same_Some (message_place number hs) place (sym (ap (option_map (λ (x : Held). message_place number hs)) found) ∙ e))
 
 -- the number of what is found
 pub found_number : (number : Number) (hs : List Held) (h : Held) → of_number number hs ≡ Some h → h.msg.number ≡ number
@@ -121,18 +108,18 @@ found_number number hs h e =
 -- ---- taken out and put back
 
 pub put_back : (number : Number) (hs : List Held) (h : Held) → of_number number hs ≡ Some h
-    → insert (remove hs (place_of number hs)) (place_of number hs) (alone h) ≡ first_alone number hs
+    → insert (remove hs (message_place number hs)) (message_place number hs) (alone h) ≡ first_alone number hs
 put_back number [] h e = absurd (none-some h e)
 put_back number (x ∷ xs) h e = go (is_of_number number x) refl (λ later. put_back number xs h later) e
   where
     go : (b : Bool) → is_of_number number x ≡ b
-        → (of_number number xs ≡ Some h → insert (remove xs (place_of number xs)) (place_of number xs) (alone h) ≡ first_alone number xs)
+        → (of_number number xs ≡ Some h → insert (remove xs (message_place number xs)) (message_place number xs) (alone h) ≡ first_alone number xs)
         → cond b (Some x) (of_number number xs) ≡ Some h
-        → insert (remove (x ∷ xs) (cond (not b) (1 + place_of number xs) 0)) (cond (not b) (1 + place_of number xs) 0) (alone h)
+        → insert (remove (x ∷ xs) (cond (not b) (1 + message_place number xs) 0)) (cond (not b) (1 + message_place number xs) 0) (alone h)
         ≡ (if b then alone x ∷ xs else x ∷ first_alone number xs)
     go true q rest r = ap (λ y. alone y ∷ xs) (sym (same_Some x h r))
     go false q rest r =
-        let next : 1 + place_of number xs ≡ suc (place_of number xs) = omega arith in
+        let next : 1 + message_place number xs ≡ suc (message_place number xs) = omega arith in
         ap (λ k. insert (remove (x ∷ xs) k) k (alone h)) next ∙ ap (λ ys. x ∷ ys) (rest r)
 
 pub fewer_held : (hs : List Held) (place : ℕ) → place < length hs → length (remove hs place) < length hs
@@ -155,15 +142,15 @@ module _ (seats : List Seat) (k : ℕ) (there : k < length seats) (number : Numb
 
   pub room_there : used_of seat ≤ 128 → used_of (seat_of new k) < 128
   room_there few =
-      let same : used_of (seat_of new k) ≡ length seat.queued + length (remove seat.held (place_of number seat.held)) = ap used_of left_there in
-      let fewer : length (remove seat.held (place_of number seat.held)) < length seat.held = fewer_held seat.held (place_of number seat.held) its_place.within in
+      let same : used_of (seat_of new k) ≡ length seat.queued + length (remove seat.held (message_place number seat.held)) = ap used_of left_there in
+      let fewer : length (remove seat.held (message_place number seat.held)) < length seat.held = fewer_held seat.held (message_place number seat.held) its_place.within in
       omega arith
 
-  pub place_there : (place : ℕ) → place ≡ place_of number seat.held → place ≤ length (seat_of new k).held
+  pub place_there : (place : ℕ) → place ≡ message_place number seat.held → place ≤ length (seat_of new k).held
   place_there place is =
-      let same : length (seat_of new k).held ≡ length (remove seat.held (place_of number seat.held)) = ap (λ (s : Seat). length s.held) left_there in
-      let fewer : length seat.held ≡ suc (length (remove seat.held (place_of number seat.held))) = one_fewer seat.held (place_of number seat.held) its_place.within in
-      let low : place_of number seat.held < length seat.held = its_place.within in
+      let same : length (seat_of new k).held ≡ length (remove seat.held (message_place number seat.held)) = ap (λ (s : Seat). length s.held) left_there in
+      let fewer : length seat.held ≡ suc (length (remove seat.held (message_place number seat.held))) = one_fewer seat.held (message_place number seat.held) its_place.within in
+      let low : message_place number seat.held < length seat.held = its_place.within in
       omega arith
     where
       one_fewer : (hs : List Held) (place : ℕ) → place < length hs → length hs ≡ suc (length (remove hs place))
@@ -171,12 +158,12 @@ module _ (seats : List Seat) (k : ℕ) (there : k < length seats) (number : Numb
       one_fewer (x ∷ xs) zero l = refl
       one_fewer (x ∷ xs) (suc p) l = let rest : length xs ≡ suc (length (remove xs p)) = one_fewer xs p (omega arith) in omega arith
 
-  pub left_alone_there : (place : ℕ) (left : Held) (last : List Seat) → place ≡ place_of number seat.held → left ≡ alone h
+  pub left_alone_there : (place : ℕ) (left : Held) (last : List Seat) → place ≡ message_place number seat.held → left ≡ alone h
       → last ≡ changed_at k (with_held_at place left) new → last ≡ changed_at k (with_alone number) seats
   left_alone_there place left last is same put =
       put ∙ ap (changed_at k (with_held_at place left)) taken ∙ changed_twice seats k (without_held number) (with_held_at place left) there
       ∙ ap (λ s. set seats k s) (λ i. record seat {
         held = (
-            (λ j. insert (remove seat.held (place_of number seat.held)) (is j) (same j)) ∙ put_back number seat.held h found
+            (λ j. insert (remove seat.held (message_place number seat.held)) (is j) (same j)) ∙ put_back number seat.held h found
             ) i;
       })

@@ -3,6 +3,7 @@ pub mod KeepLemmas
 pub mod EndingLemmas
 pub mod OpenLemmas
 pub mod CloseLemmas
+pub mod CloseAllLemmas
 pub mod TellLemmas
 pub mod ReceivingLemmas
 pub mod FitLemmas
@@ -11,3 +12,8 @@ pub mod OrphanLemmas
 pub mod LeavingLemmas
 pub mod LeaveStepLemmas
 pub mod LeaveSetLemmas
+pub mod LeaveFoundLemmas
+pub mod LeaveSeatLemmas
+pub mod LeftLemmas
+pub mod ForgottenLemmas
+pub mod KillLemmas

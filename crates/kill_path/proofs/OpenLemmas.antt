@@ -22,7 +22,7 @@ use Rattle.machine_model.specs.State.Machine.{Machine, Server}
 use Rattle.machine_model.specs.State.Servers.{messages_of}
 use Rattle.msg_queue.specs.Seats.{Seat, changed_at, empty_seat, message_of, seat_of}
 use Rattle.msg_queue.specs.declared.held.Held.{Held}
-use Rattle.send_path.proofs.SeatLemmas.{seat_changed, seat_is_there, seat_other, seats_counted, server_there}
+use Rattle.send_path.proofs.Servers.SeatLemmas.{seat_changed, seat_is_there, seat_other, seats_counted, server_there}
 use Rattle.send_path.specs.Parts.{server_of, server_with, servers_shown}
 use Rattle.send_path.specs.Seats.{HasLoanIfLend, HasNoServer, IsSeatOf, messages_at}
 use Rattle.send_path.specs.Sound.{AreSeatsSound}

@@ -7,3 +7,5 @@ pub mod Closing
 pub mod Telling
 pub mod Rows
 pub mod Leaving
+pub mod Claims
+pub mod Dying

@@ -27,7 +27,7 @@ use xk_base::{Pid, Serial, ThreadId};
 use xk_ports::SwapStore;
 
 // The message ends, and with it its loan, where it has one. What is left is its sender.
-fn spend<W: SwapStore>(mem: &mut Memory<W>, ended: Held) -> Option<ThreadId>
+pub(crate) fn spend<W: SwapStore>(mem: &mut Memory<W>, ended: Held) -> Option<ThreadId>
     requires sound { IsMemorySound W.slot_count mem.old }
     requires loan { IsEndable (loans (ledger W.held mem.old)) ended }
     ensures sender { result ≡ ended.msg.sender }

@@ -7,7 +7,6 @@ ghost use Rattle.send_path.specs.Parts.{threads_shown};
 ghost use Rattle.send_path.specs.Rows.{log_with};
 ghost use Rattle.send_path.specs.Threads.{answered};
 ghost use Rattle.thread_table.specs.ThreadMap.{is_receiving as is_receiving_at};
-ghost use Rattle.thread_table.specs.States.{is_receiving_state};
 ghost use Rattle.thread_table.specs.ThreadsOf.{process_count, threads_of};
 ghost use Rattle.xk_base.specs.Tables.Circle.{id_at, is_pid, is_thread_id, same_thread, thread_ids};
 ghost use Rattle.xk_base.specs.Tables.Counting.{put_at};
@@ -18,25 +17,12 @@ ghost use Rattle.kill_path.specs.Noted.{noted};
 ghost use Rattle.kill_path.specs.Telling.{is_receiver_of, is_served, told_to, words_for};
 ghost use Rattle.kill_path.specs.ThreadSets.{ids_of_all};
 
-use crate::answered::{Answered, PLACES, id_at};
+use crate::answered::{Answered, PLACES};
 use send_path::answer;
 use syscall_codec::{Reply, reply_words};
-use thread_table::{ThreadState, Threads};
+use thread_table::{Threads, id_at};
 use xk_base::limits::TID_LIMIT;
 use xk_base::{Log, Pid, Serial, ThreadId, Tid, What, XousError};
-
-// Whether a thread of this state waits for a message at the server.
-fn is_receiving(state: ThreadState, serial: Serial) -> bool
-    ensures { result ≡ is_receiving_state serial state }
-{
-    match state {
-        ThreadState::Receiving(at) => at == serial,
-        ThreadState::Ready
-        | ThreadState::Waiting(_)
-        | ThreadState::Joining(_)
-        | ThreadState::Idle => false,
-    }
-}
 
 // The thread is to be answered, if it is Receiving at the server.
 fn note_if_receiving(threads: &Threads, id: ThreadId, serial: Serial, noted_ids: &mut Answered)
@@ -44,7 +30,7 @@ fn note_if_receiving(threads: &Threads, id: ThreadId, serial: Serial, noted_ids:
     ensures { noted noted_ids.new ≡ (if is_receiving_at serial (threads_of threads.now id) then put_at same_thread (noted noted_ids.old) id true else noted noted_ids.old) }
 {
     if let Some(thread) = threads.get(id)
-        && is_receiving(thread.state, serial)
+        && thread.state.is_receiving(serial)
     {
         noted_ids.note(id);
     }

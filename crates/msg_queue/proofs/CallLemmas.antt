@@ -7,7 +7,7 @@ use Rattle.xk_base.specs.Tables.RowMap.{row_map}
 use Rattle.xk_base.specs.declared.ids.Number.{Number}
 use Rattle.msg_queue.specs.Chains.{no_slot, chain, times, last_from, IsChain}
 use Rattle.msg_queue.specs.Rings.{Links, IsRing}
-use Rattle.msg_queue.specs.Seats.{Seat, used_of, place_of, without_queued_at, without_held_at}
+use Rattle.msg_queue.specs.Seats.{Seat, used_of, message_place, without_queued_at, without_held_at}
 use Rattle.msg_queue.specs.Shown.{messages, seat_shown}
 use Rattle.msg_queue.specs.Spots.{spot_in}
 use Rattle.msg_queue.specs.declared.held.Held.{Held}
@@ -99,10 +99,10 @@ first_spot next first h = ap (λ s. record { before = no_slot; slot = s }) (firs
 
 -- the spot that a walk over these words and slots found
 pub spot_of_same : (slots slots' : List (Option Held)) (next next' : List ℕ) (first : ℕ) (number : Number) (spot : Spot) → slots' ≡ slots → next' ≡ next
-    → spot ≡ spot_in (chain next' first) (place_of number (messages slots' (chain next' first))) → spot ≡ spot_in (chain next first) (place_of number (messages slots (chain next first)))
+    → spot ≡ spot_in (chain next' first) (message_place number (messages slots' (chain next' first))) → spot ≡ spot_in (chain next first) (message_place number (messages slots (chain next first)))
 spot_of_same slots slots' next next' first number spot es en h =
-    h ∙ ap (λ ns. spot_in (chain ns first) (place_of number (messages slots' (chain ns first)))) en
-    ∙ ap (λ ss. spot_in (chain next first) (place_of number (messages ss (chain next first)))) es
+    h ∙ ap (λ ns. spot_in (chain ns first) (message_place number (messages slots' (chain ns first)))) en
+    ∙ ap (λ ss. spot_in (chain next first) (message_place number (messages ss (chain next first)))) es
 
 pub spot_at_same : (next next' : List ℕ) (first place : ℕ) (spot : Spot) → next' ≡ next → spot ≡ spot_in (chain next' first) place → spot ≡ spot_in (chain next first) place
 spot_at_same next next' first place spot en h = h ∙ ap (λ ns. spot_in (chain ns first) place) en

@@ -1,6 +1,7 @@
 -- What a seat shows: the messages that wait for a server, and those that it received and owes an answer, each with its loan.
 use Rattle.std.specs.Prelude.{◌≡◌, ℕ, ◌+◌, ◌≤◌, ◌==◌, Bool, ◌&&◌, true, false, List, [], ◌∷◌, ◌++◌, length, All, Option, Some, None, slice_index_or, slice_set}
 use Rattle.std.specs.List.{insert, remove, find, position_or_len, list_any}
+use Rattle.std.specs.Option.{option_map}
 use Rattle.xk_base.specs.declared.ids.Number.{Number}
 use Rattle.xk_base.specs.declared.ids.Pid.{Pid}
 use Rattle.xk_base.specs.declared.ids.ThreadId.{ThreadId}
@@ -35,12 +36,16 @@ abbrev pub is_of_number : Number → Held → Bool
 is_of_number number h = same_number h.msg.number number
 
 -- the place of the first message of that number; past the end where none has it
-abbrev pub place_of : Number → List Held → ℕ
-place_of number messages = position_or_len (is_of_number number) messages
+abbrev pub message_place : Number → List Held → ℕ
+message_place number messages = position_or_len (is_of_number number) messages
 
 -- the first message of that number
 abbrev pub of_number : Number → List Held → Option Held
 of_number number messages = find (is_of_number number) messages
+
+-- the place of that message, where there is one
+abbrev pub place_found : Number → List Held → Option ℕ
+place_found number messages = option_map (λ _. message_place number messages) (of_number number messages)
 
 -- ---- what calls change
 
@@ -69,10 +74,10 @@ without_held_at place seat = record seat { held = remove seat.held place }
 
 -- without the first message of that number, if one has it
 abbrev pub without_queued : Number → Seat → Seat
-without_queued number seat = without_queued_at (place_of number seat.queued) seat
+without_queued number seat = without_queued_at (message_place number seat.queued) seat
 
 abbrev pub without_held : Number → Seat → Seat
-without_held number seat = without_held_at (place_of number seat.held) seat
+without_held number seat = without_held_at (message_place number seat.held) seat
 
 -- ---- the first message of a process
 

@@ -1,11 +1,13 @@
 //! ReceiveMessage and TryReceiveMessage.
 
 ghost use Rattle.std.specs.Prelude.{◌≡◌, ◌+◌, ◌≤◌, ◌==◌, ◌&&◌, length, true, IsFalse};
+ghost use Rattle.ledger_model.specs.Loans.{Loans};
 ghost use Rattle.thread_table.specs.ThreadMap.{is_ready};
 ghost use Rattle.thread_table.specs.ThreadsOf.{threads_of};
 ghost use Rattle.send_path.specs.Parts.{tables_of};
 ghost use Rattle.send_path.specs.Rows.{IsTableRow, receive_row};
-ghost use Rattle.send_path.specs.Sound.{AreTablesSound};
+ghost use Rattle.send_path.specs.Sound.{AreLoansSound, AreTablesSound};
+ghost use Rattle.server_table.specs.ServersOf.{servers_of};
 
 use crate::seats::{Seated, keep_received, own_server};
 use crate::threads::{answer_caller, pass, wait};
@@ -37,6 +39,8 @@ pub fn receive(
         IsTableRow (receive_row sid wait_for_one) who old new result }
     ensures sound { let new = tables_of threads.new servers.now queues.new log.new in
         IsFalse (wait_for_one && (who.tid.0 == 1)) → AreTablesSound who new }
+    ensures loans { let live = servers_of servers.now in
+        (all : Loans) → AreLoansSound all live queues.old → AreLoansSound all live queues.new }
 {
     let Some(Seated { serial, seat }) = own_server(servers, who.pid, sid) else {
         return Err(XousError::ServerNotFound);

@@ -4,5 +4,5 @@
 mod table;
 mod thread;
 
-pub use table::Threads;
+pub use table::{Threads, id_at, place_of};
 pub use thread::{Thread, ThreadState};

@@ -26,8 +26,8 @@ pub struct Threads {
     ghost whole: { vec_len by_place ≡ thread_ids procs },
 }
 
-/// The place of the id.
-fn place_of(id: ThreadId) -> usize
+/// The place of the id: how many ids of a pid of 2 or more stand before it in ascending order of (pid, tid).
+pub fn place_of(id: ThreadId) -> usize
     requires pid { 2 ≤ id.pid.0 }
     requires tid { 1 ≤ id.tid.0 }
     ensures { result ≡ place_of id }
@@ -35,8 +35,8 @@ fn place_of(id: ThreadId) -> usize
     (id.pid.0 as usize - 2) * TIDS + (id.tid.0 as usize - 1)
 }
 
-/// The id at the place.
-fn id_at(place: usize) -> ThreadId
+/// The id at the place, in ascending order of (pid, tid) from pid 2 on.
+pub fn id_at(place: usize) -> ThreadId
     requires { place < thread_ids PROCESS_LIMIT }
     ensures { result ≡ id_at place }
 {

@@ -41,7 +41,7 @@ impl ThreadState {
     }
 
     /// Whether the thread waits for a message at the server.
-    pub(crate) fn is_receiving(self, serial: Serial) -> bool
+    pub fn is_receiving(self, serial: Serial) -> bool
         ensures { result ≡ is_receiving_state serial self }
     {
         matches!(self, ThreadState::Receiving(at) if at == serial)

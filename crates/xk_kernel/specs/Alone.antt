@@ -9,10 +9,13 @@ use Rattle.machine_model.specs.State.Changes.{only}
 use Rattle.machine_model.specs.State.Machine.{Machine, Thread, ThreadState, Ready, Receiving, Waiting, Joining, Idle}
 use Rattle.machine_model.specs.State.Servers.{is_server_of}
 use Rattle.machine_model.specs.State.Threads.{put_thread, thread_id}
+use Rattle.vm_memory.specs.Pages.Removing.{HasNoLoan}
 
--- the death of the process is to be forgotten: nobody is answered, and nothing else changes
-abbrev pub DiesPlainly : Pid → Machine → Type 0
-DiesPlainly pid m = death pid m ≡ record (only (forgotten pid m)) { gone = Some pid }
+-- The death of the process is to be forgotten: nobody is answered, and nothing else changes. It lends nothing then, and nothing is
+-- held at its places.
+pub record DiesPlainly (pid : Pid) (m : Machine) : Type 0 where
+  pub death : death pid m ≡ record (only (forgotten pid m)) { gone = Some pid }
+  pub no_loan : HasNoLoan m.ledger pid
 
 -- where the process dies with this thread, which ends, it dies plainly
 abbrev pub EndsPlainly : ThreadId → Machine → Type 0

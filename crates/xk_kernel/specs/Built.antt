@@ -12,6 +12,7 @@ use Rattle.machine_model.specs.State.Threads.{put_thread}
 use Rattle.machine_model.specs.Stepping.Step.{ends_handler, ends_thread, performed}
 use Rattle.machine_model.specs.Runs.Matched.{is_living}
 use Rattle.xk_base.specs.Calls.CallNumbers.{map_memory, yield_turn, claim_interrupt, free_interrupt, increase_heap, decrease_heap, update_memory_flags, create_server_with_address, connect, create_thread, unmap_memory, terminate_process, try_connect, join_thread, get_thread_id, get_process_id, is_call_number}
+use Rattle.xk_base.specs.Calls.CallNumbers.{receive_message, send_message, return_memory, try_send_message, return_scalar1, return_scalar2, try_receive_message, forward_message}
 use Rattle.xk_base.specs.Calls.CallWords.{call_number}
 use Rattle.xk_base.specs.Calls.Registers.{arguments_of}
 use Rattle.xk_base.specs.declared.ids.Pid.{Pid}
@@ -22,7 +23,13 @@ use Rattle.xk_kernel.specs.Alone.{is_alone}
 abbrev pub end_built : Machine → ThreadId → Bool
 end_built m who = has_threads (put_thread who None m) who.pid || is_alone who.pid m
 
--- the numbers of the calls that are built, whatever their other words are
+-- the numbers of the calls that send, receive, give back and forward messages
+abbrev pub message_numbers : List ℕ
+message_numbers =
+    receive_message ∷ send_message ∷ return_memory ∷ try_send_message ∷ return_scalar1 ∷ return_scalar2 ∷ try_receive_message
+    ∷ forward_message ∷ []
+
+-- .. and those of other calls that are built, whatever their other words are
 abbrev pub built_numbers : List ℕ
 built_numbers =
     map_memory ∷ yield_turn ∷ claim_interrupt ∷ free_interrupt ∷ increase_heap ∷ decrease_heap ∷ update_memory_flags ∷ create_server_with_address ∷ connect ∷ create_thread
@@ -32,9 +39,13 @@ built_numbers =
 abbrev pub is_number_built : ℕ → Bool
 is_number_built k = list_any (λ n. n == k) built_numbers || not (is_call_number k)
 
--- a call with these words is built, by its number
+-- a call with these words is built that is none on messages, by its number
+abbrev pub is_plain_call : List ℕ → Bool
+is_plain_call words = is_number_built (call_number words)
+
+-- .. or it is one on messages
 abbrev pub is_call_built : List ℕ → Bool
-is_call_built words = is_number_built (call_number words)
+is_call_built words = is_plain_call words || list_any (λ n. n == call_number words) message_numbers
 
 -- a system call: TerminateProcess only where the process stands alone
 abbrev pub call_built : Machine → ThreadId → List ℕ → Bool

@@ -1,19 +1,38 @@
--- What came of a system call, before its caller is past it: the one outcome of the call, by its row of the table.
-use Rattle.std.specs.Prelude.{Result, Ok, Err, Some, None, [], ◌∷◌, not}
+-- Who makes a system call, and what came of it before its caller is past it: the one outcome of the call, by its row of the table.
+use Rattle.std.specs.Prelude.{◌≡◌, ℕ, ◌<◌, ◌==◌, ◌&&◌, Bool, true, List, Result, Ok, Err, Some, None, [], ◌∷◌, not}
 use Rattle.std.specs.Bool.{⊤}
 use Rattle.machine_model.specs.State.Changes.{Outcome, Refused, Retried, Served, only, answering, unless_refused}
 use Rattle.machine_model.specs.State.Connections.{connect_caller, own_connections}
+use Rattle.machine_model.specs.Runs.Matched.{Matched}
 use Rattle.machine_model.specs.State.Machine.{Machine}
+use Rattle.machine_model.specs.State.Order.{ready_at}
 use Rattle.machine_model.specs.State.Threads.{answer_to, no_answers}
+use Rattle.sv32_space.specs.Tie.{Held}
 use Rattle.syscall_codec.specs.Replies.{words_of}
+use Rattle.xk_base.specs.Calls.CallWords.{is_refused_to_handler}
 use Rattle.xk_base.specs.Calls.Replies.{connection_words}
 use Rattle.xk_base.specs.Tables.Connections.{cid_for, has_room}
 use Rattle.xk_base.specs.declared.errors.XousError.{XousError}
 use Rattle.xk_base.specs.declared.errors.XousError.TheVariants.{InvalidLimit}
 use Rattle.xk_base.specs.declared.ids.Serial.{Serial}
 use Rattle.xk_base.specs.declared.ids.ThreadId.{ThreadId}
+use Rattle.xk_kernel.specs.Sound.{IsUsable, IsWhole}
+use Rattle.xk_kernel.specs.State.{machine_of}
+use Rattle.xk_kernel.specs.declared.kernel.Kernel.{Kernel}
 use Rattle.xk_kernel.specs.declared.kernel.calls.CallerFate.{CallerFate}
 use Rattle.xk_kernel.specs.declared.kernel.calls.CallerFate.TheVariants.{Answered, Waits, Died, Retries}
+
+-- the kernel is sound and usable, and the thread whose turn it is can make a call
+pub record IsCaller {W : Type 0} (slot_count : W → ℕ) (held : W → Held) (k : Kernel W) : Type 0 where
+  pub whole : IsWhole slot_count held k
+  pub usable : IsUsable k
+  pub matched : Matched (machine_of held k)
+  pub few : k.steps < 4000000000
+  pub ready : ready_at (machine_of held k) k.cursor ≡ true
+
+-- the caller is the interrupt thread, and the call can make it wait
+abbrev pub is_refused_caller : Machine → List ℕ → Bool
+is_refused_caller m words = m.cursor.tid.0 == 1 && is_refused_to_handler words
 
 -- the outcome of a call of the thread whose caller fares so, where the machine is this one after it: the caller is answered, or
 -- waits, or its process died, or it will make the call again

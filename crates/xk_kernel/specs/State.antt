@@ -1,18 +1,15 @@
 -- The machine that a kernel stands for: one definition over what its parts hold.
-use Rattle.std.specs.Prelude.{ℕ, false}
-use Rattle.std.specs.Option.{option_map, option_map_or}
-use Rattle.irq_claims.specs.ClaimsOf.{claims_of}
-use Rattle.irq_claims.specs.declared.claims.Claim.{Claim as TableClaim}
-use Rattle.machine_model.specs.State.Machine.{Machine, Claim, Reservation}
+use Rattle.std.specs.Prelude.{ℕ}
+use Rattle.std.specs.Option.{option_map}
+use Rattle.kill_path.specs.Claims.{claims_shown, pending_shown}
+use Rattle.machine_model.specs.State.Machine.{Machine, Reservation}
 use Rattle.send_path.specs.Parts.{processes_shown, servers_shown, threads_shown}
 use Rattle.server_table.specs.ServersOf.{servers_of}
 use Rattle.sv32_space.specs.Tie.{Held}
 use Rattle.vm_memory.specs.Memory.{capacity_of, ledger, processes}
 use Rattle.xk_base.specs.declared.ids.ThreadId.{ThreadId}
 use Rattle.xk_kernel.specs.declared.kernel.Kernel.{Kernel}
-
-abbrev pub claim_of : TableClaim → Claim
-claim_of c = record { pid = c.pid; handler = c.handler; argument = c.arg }
+pub use Rattle.kill_path.specs.Claims.{claim_of}
 
 abbrev pub as_reservation : ThreadId × ℕ → Reservation
 as_reservation r = record { who = r.0; address = r.1 }
@@ -27,8 +24,8 @@ machine_of held k = record {
   threads = threads_shown k.threads;
   process = processes_shown k.procs;
   servers = servers_shown k.servers k.queues;
-  claims = λ n. option_map claim_of (claims_of k.claims n);
-  pending = λ n. option_map_or (λ c. c.pending) (claims_of k.claims n) false;
+  claims = claims_shown k.claims;
+  pending = pending_shown k.claims;
   next_number = k.next;
   next_serial = (servers_of k.servers).next;
   compare = k.timer;

@@ -9,6 +9,7 @@ mod events;
 mod interrupt_calls;
 mod interrupts;
 mod memory_calls;
+mod message_calls;
 mod readers;
 mod ringing;
 mod running;

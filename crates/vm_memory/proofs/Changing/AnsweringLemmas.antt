@@ -24,7 +24,7 @@ use Rattle.ledger_model.proofs.Loans.NumberingLemmas.{first_place-none, is_place
 use Rattle.ledger_model.proofs.PlaceLemmas.{in_run-index, place_from}
 use Rattle.sv32_space.specs.Tie.{Held}
 use Rattle.vm_memory.specs.declared.memory.Memory.{Memory}
-use Rattle.vm_memory.specs.Pages.Making.{if_room, make_answer, place_of, run_found, run_place}
+use Rattle.vm_memory.specs.Pages.Making.{if_room, make_answer, page_place, run_found, run_place}
 use Rattle.vm_memory.specs.Memory.{ledger, processes}
 use Rattle.vm_memory.specs.Sound.{IsSound}
 use Rattle.vm_memory.proofs.Changing.ConsoleRunLemmas.{console_in_map}
@@ -43,10 +43,10 @@ served_found (Some v) = refl
 pub record IsRunPlace (procs : ℕ) (l : Ledger) (pid : Pid) (window : Window) (n : ℕ) (first : Vpn) : Type 0 where
   pub low : first_page window ≤ first.0
   pub high : first.0 + n ≤ last_page window + 1
-  pub free : (i : ℕ) → i < n → is_free procs l (place_after (place_of pid first) i) ≡ true
+  pub free : (i : ℕ) → i < n → is_free procs l (place_after (page_place pid first) i) ≡ true
 
 by_name : (procs : ℕ) (l : Ledger) (pid : Pid) (window : Window) (n : ℕ) (v first : Vpn) (f u : Bool)
-    → fits_window window v.0 n ≡ f → any_used procs l (place_of pid v) n ≡ u
+    → fits_window window v.0 n ≡ f → any_used procs l (page_place pid v) n ≡ u
     → (if not f then Err BadAddress else (if u then Err MemoryInUse else Ok v)) ≡ Ok first → IsRunPlace procs l pid window n first
 unfolding served
 by_name procs l pid window n v first false u p q e = absurd (none-some first (ap served e))
@@ -58,7 +58,7 @@ by_name procs l pid window n v first true false p q e =
     subst (λ x. IsRunPlace procs l pid window n x) same (record {
       low = leb-true (first_page window) v.0 parts.0;
       high = leb-true (v.0 + n) (last_page window + 1) parts.1;
-      free = λ i low. each_used procs l (place_of pid v) n q i low;
+      free = λ i low. each_used procs l (page_place pid v) n q i low;
     })
 
 pub run_answered : (procs : ℕ) (l : Ledger) (pid : Pid) (window : Window) (at : Option Vpn) (n : ℕ) (first : Vpn)
@@ -67,9 +67,9 @@ unfolding served
 run_answered procs l pid window None n first e =
     let there : least_run procs l pid window n ≡ Some first = sym (served_found (least_run procs l pid window n)) ∙ ap served e in
     let least : IsLeastRun procs l pid window n first = least_run-Some procs l pid window n first there in
-    record { low = least.low; high = least.high; free = λ i low. is_free_run-each procs l (place_of pid first) n least.free i low }
+    record { low = least.low; high = least.high; free = λ i low. is_free_run-each procs l (page_place pid first) n least.free i low }
 run_answered procs l pid window (Some v) n first e =
-    by_name procs l pid window n v first (fits_window window v.0 n) (any_used procs l (place_of pid v) n) refl refl e
+    by_name procs l pid window n v first (fits_window window v.0 n) (any_used procs l (page_place pid v) n) refl refl e
 
 room_of : (over : Bool) (r : Result Vpn XousError) (first : Vpn) → if_room over r ≡ Ok first → (over ≡ false) × (r ≡ Ok first)
 unfolding served
@@ -85,19 +85,19 @@ place_in procs pid window vpn process low high =
 
 -- MAKE may make what it answered
 pub can_answered : (procs capacity : ℕ) (l : Ledger) (pid : Pid) (window : Window) (at : Option Vpn) (n : ℕ) (first : Vpn)
-    → is_pid procs pid.0 ≡ true → make_answer procs capacity l pid window at n ≡ Ok first → CanMake procs capacity l (place_of pid first) n
+    → is_pid procs pid.0 ≡ true → make_answer procs capacity l pid window at n ≡ Ok first → CanMake procs capacity l (page_place pid first) n
 can_answered procs capacity l pid window at n first process e =
     let parts : (nat_lt capacity (pages procs l + n) ≡ false) × (run_place procs l pid window at n ≡ Ok first) =
     room_of (nat_lt capacity (pages procs l + n)) (run_place procs l pid window at n) first e in
     let run : IsRunPlace procs l pid window n first = run_answered procs l pid window at n first parts.1 in
     record {
       lies = λ p there.
-          let up : (p.vpn.0 - first.0 < n) × (p ≡ place_after (place_of pid first) (p.vpn.0 - first.0)) = in_run-index (place_of pid first) n p there in
+          let up : (p.vpn.0 - first.0 < n) × (p ≡ place_after (page_place pid first) (p.vpn.0 - first.0)) = in_run-index (page_place pid first) n p there in
           subst (λ q. is_user_place procs q ≡ true) (sym up.1)
-          (is_place_in-user procs window (place_after (place_of pid first) (p.vpn.0 - first.0))
+          (is_place_in-user procs window (place_after (page_place pid first) (p.vpn.0 - first.0))
           (place_in procs pid window (first.0 + (p.vpn.0 - first.0)) process (omega (arith, run.low)) (omega (arith, run.high, up.0))));
       free = λ p there.
-          let up : (p.vpn.0 - first.0 < n) × (p ≡ place_after (place_of pid first) (p.vpn.0 - first.0)) = in_run-index (place_of pid first) n p there in
+          let up : (p.vpn.0 - first.0 < n) × (p ≡ place_after (page_place pid first) (p.vpn.0 - first.0)) = in_run-index (page_place pid first) n p there in
           subst (λ q. is_free procs l q ≡ true) (sym up.1) (run.free (p.vpn.0 - first.0) up.0);
       room = ltb-false capacity (pages procs l + n) parts.0;
     }
@@ -105,11 +105,11 @@ can_answered procs capacity l pid window at n first process e =
 -- .. and so may MAKE_CONSOLE
 pub can_console : {W : Type 0} (slot_count : W → ℕ) (held : W → Held) (m : Memory W) → IsSound slot_count m → (pid : Pid) (at : Option Vpn) (first : Vpn)
     → is_pid (processes m) pid.0 ≡ true → console_mapped (processes m) (ledger held m) ≡ false → run_place (processes m) (ledger held m) pid Map at 1 ≡ Ok first
-    → CanMakeConsole (processes m) (ledger held m) (place_of pid first)
+    → CanMakeConsole (processes m) (ledger held m) (page_place pid first)
 unfolding console_mapped
 can_console slot_count held m sound pid at first process none e =
     let run : IsRunPlace (processes m) (ledger held m) pid Map 1 first = run_answered (processes m) (ledger held m) pid Map at 1 first e in
-    let here : place_after (place_of pid first) 0 ≡ place_of pid first = place_from (place_after (place_of pid first) 0) (place_of pid first) refl (omega arith) in
+    let here : place_after (page_place pid first) 0 ≡ page_place pid first = place_from (place_after (page_place pid first) 0) (page_place pid first) refl (omega arith) in
     record {
       lies = place_in (processes m) pid Map first.0 process run.low (omega (arith, run.high));
       free = subst (λ q. is_free (processes m) (ledger held m) q ≡ true) here (run.free 0 (omega arith));

@@ -15,8 +15,8 @@ use Rattle.ledger_model.specs.Loans.{bare}
 use Rattle.ledger_model.specs.RunTests.{fits_window, any_used, console_mapped}
 use Rattle.ledger_model.specs.Steps.{make, make_console}
 
-abbrev pub place_of : Pid → Vpn → Place
-place_of pid vpn = record { pid = pid; vpn = vpn }
+abbrev pub page_place : Pid → Vpn → Place
+page_place pid vpn = record { pid = pid; vpn = vpn }
 
 -- ---- the place of a run of n pages in a window of a process
 
@@ -30,7 +30,7 @@ abbrev pub run_place : ℕ → Ledger → Pid → Window → Option Vpn → ℕ 
 run_place procs ledger pid window None n = run_found (least_run procs ledger pid window n)
 run_place procs ledger pid window (Some first) n =
     if not (fits_window window first.0 n) then Err BadAddress else (
-    if any_used procs ledger (place_of pid first) n then Err MemoryInUse else Ok first)
+    if any_used procs ledger (page_place pid first) n then Err MemoryInUse else Ok first)
 
 -- ---- make
 
@@ -45,7 +45,7 @@ make_answer procs capacity ledger pid window at n =
 
 -- n pages of zeros at the place that was answered; nothing on a refusal
 abbrev pub after_make : Pid → ℕ → Right → Result Vpn XousError → Ledger → Ledger
-after_make pid n right (Ok first) ledger = make (place_of pid first) n right ledger
+after_make pid n right (Ok first) ledger = make (page_place pid first) n right ledger
 after_make pid n right (Err error) ledger = ledger
 
 -- What `make` leaves where it answers Failed: the call would have been served, and the first pages of its run may be made.
@@ -55,7 +55,7 @@ pub record HasMadeFirst (answer : Result Vpn XousError) (pid : Pid) (n : ℕ) (r
   pub count : ℕ
   pub served : answer ≡ Ok first
   pub few : count ≤ n
-  pub rights : bare new ≡ bare (make (place_of pid first) count right old)
+  pub rights : bare new ≡ bare (make (page_place pid first) count right old)
 
 -- ---- the console
 
@@ -65,5 +65,5 @@ console_answer procs ledger pid at =
     if console_mapped procs ledger then Err MemoryInUse else run_place procs ledger pid Map at 1
 
 abbrev pub after_console : Pid → Bool → Result Vpn XousError → Ledger → Ledger
-after_console pid w (Ok first) ledger = make_console (place_of pid first) w ledger
+after_console pid w (Ok first) ledger = make_console (page_place pid first) w ledger
 after_console pid w (Err error) ledger = ledger

@@ -60,8 +60,7 @@ module _ {W : Type 0} (slot_count : W → ℕ) (held : W → Held) (old new : Ke
       procs = h.procs;
       cursor = h.cursor;
       room = h.room;
-      unlent = h.unlent;
-      no_messages = h.no_messages;
+      servers = h.servers;
     }
 
     module _ (h : Acts held old new who (Done address)) where

@@ -1,8 +1,8 @@
--- What comes of each call that is built, by the words that ask for it.
+-- What comes of each call, by the words that ask for it.
 use Rattle.std.proofs.Common.{◌≡◌, ℕ, Bool, true, false, List, ◌∷◌, [], None, Some, refl, sym, ap, ◌∙◌}
-use Rattle.std.specs.Prelude.{◌==◌, ◌&&◌, ◌≢◌, not, if◌then◌else◌, Result, Ok, Err}
-use Rattle.std.proofs.lemmas.Bool.{false≢true, ne_eqb}
-use Rattle.std.proofs.Math.Bool.{and-false}
+use Rattle.std.specs.Prelude.{◌==◌, ◌&&◌, ◌||◌, ◌≢◌, not, if◌then◌else◌, Result, Ok, Err}
+use Rattle.std.specs.List.{list_any}
+use Rattle.std.proofs.lemmas.Bool.{false≢true}
 use Rattle.machine_laws.proofs.Stepping.PlainServerLemmas.{outside_refused}
 use Rattle.machine_model.specs.Calling.Calls.{call, call_at, call_table}
 use Rattle.machine_model.specs.Calling.InterruptCalls.{claim_call, claim_refusals, claim_served, free_call, free_refusals, free_served}
@@ -10,25 +10,25 @@ use Rattle.machine_model.specs.State.Changes.{Refused, Served, answering, refuse
 use Rattle.machine_model.specs.Ending.Ends.{forgotten}
 use Rattle.machine_model.specs.State.Machine.{Machine}
 use Rattle.machine_model.specs.Calling.MemoryCalls.{decrease_call, decrease_refusals, decrease_served, increase_call, increase_refusals, increase_served, map_call, map_refusals, map_served, unmap_call, unmap_refusals, unmap_served, update_call, update_refusals, update_served}
+use Rattle.machine_model.specs.Messaging.ReceiveCalls.{receive_call, receive_served, try_receive_call, try_receive_served}
 use Rattle.machine_model.specs.State.Order.{turn}
-use Rattle.machine_model.specs.Calling.ServerCalls.{connect_call, connect_refusals, connect_served, create_server_call, create_server_refusals, create_server_served, is_missing, try_connect_call}
+use Rattle.machine_model.specs.Calling.ServerCalls.{connect_call, connect_refusals, connect_served, create_server_call, create_server_refusals, create_server_served, is_missing, own_server_refusals, try_connect_call}
+use Rattle.send_path.specs.Rows.{receive_row, table_row}
 use Rattle.machine_model.specs.Calling.ThreadCalls.{create_call, create_refusals, create_served, join_call, join_refusals, join_served, process_id_call, terminate_call, thread_id_call, yield_call}
 use Rattle.machine_model.specs.State.Threads.{answer_to, no_answers}
 use Rattle.xk_kernel.specs.Alone.{DiesPlainly}
 use Rattle.syscall_codec.specs.Calls.{Asks}
 use Rattle.syscall_codec.specs.declared.calls.Call.{Call}
 use Rattle.syscall_codec.specs.declared.calls.Call.TheVariants.{MapMemory, Yield, ClaimInterrupt, FreeInterrupt, IncreaseHeap, DecreaseHeap, UpdateMemoryFlags, CreateServerWithAddress, ReceiveMessage, SendMessage, Connect, CreateThread, UnmapMemory, ReturnMemory, TerminateProcess, TrySendMessage, TryConnect, ReturnScalar1, ReturnScalar2, TryReceiveMessage, JoinThread, DestroyServer, GetThreadId, GetProcessId, ForwardMessage}
-use Rattle.xk_base.specs.Calls.CallNumbers.{is_call_number}
-use Rattle.xk_base.specs.Calls.CallWords.{call_number, is_refused_to_handler}
+use Rattle.xk_base.specs.Calls.CallNumbers.{connect, is_call_number, join_thread, receive_message, send_message, try_send_message}
+use Rattle.xk_base.specs.Calls.CallWords.{call_number, is_refused_to_handler, send_kind}
+use Rattle.xk_base.specs.Calls.Kinds.{is_waiting_kind}
 use Rattle.xk_base.specs.Calls.Replies.{plain_words, scalar1_words, thread_words}
 use Rattle.xk_base.specs.declared.errors.XousError.{XousError}
 use Rattle.xk_base.specs.declared.errors.XousError.TheVariants.{InvalidSyscall, ServerNotFound, UnhandledSyscall}
 use Rattle.xk_base.specs.declared.ids.Sid.{Sid}
-use Rattle.xk_kernel.specs.Built.{is_call_built, is_number_built}
-
--- the caller is the interrupt thread, and the call can make it wait
-abbrev pub is_refused_caller : Machine → List ℕ → Bool
-is_refused_caller m w = m.cursor.tid.0 == 1 && is_refused_to_handler w
+use Rattle.xk_kernel.specs.Built.{is_call_built, is_number_built, is_plain_call, message_numbers}
+use Rattle.xk_kernel.specs.Calling.{is_refused_caller}
 
 -- a call that its number has in the table, and that isn't refused to its caller, is that row
 by_number : (m : Machine) (w : List ℕ) (k : ℕ) → call_number w ≡ k → is_call_number k ≡ true → is_refused_caller m w ≡ false
@@ -106,7 +106,7 @@ module _ (m : Machine) (w : List ℕ) (free : is_refused_caller m w ≡ false) w
   pub terminate_is : (exit : ℕ) → DiesPlainly m.cursor.pid m → Asks w (TerminateProcess exit)
       → Served (record { machine = forgotten m.cursor.pid m; answers = no_answers; delivery = None; gone = Some m.cursor.pid }) ≡ call m w
   unfolding terminate_call
-  terminate_is exit plain (n, a) = sym (by_number m w 22 n refl free ∙ ap Served plain)
+  terminate_is exit plain (n, a) = sym (by_number m w 22 n refl free ∙ ap Served plain.death)
 
   pub create_server_is : (sid : Sid) → Asks w (CreateServerWithAddress sid)
       → unless_refused (create_server_refusals m sid) (Served (create_server_served m sid)) ≡ call m w
@@ -128,16 +128,6 @@ module _ (m : Machine) (w : List ℕ) (free : is_refused_caller m w ≡ false) w
   try_connect_is sid (n, a) =
       sym (by_number m w 25 n refl free
       ∙ (λ i. unless_refused ((is_missing m (record { 0 = a i }), ServerNotFound) ∷ connect_refusals m (record { 0 = a i })) (Served (connect_served m (record { 0 = a i })))))
-
--- ---- who may make it
-
--- another thread than the interrupt thread may make every call
-pub free_by_tid : (m : Machine) (w : List ℕ) → m.cursor.tid.0 ≢ 1 → is_refused_caller m w ≡ false
-free_by_tid m w other = ap (λ b. b && is_refused_to_handler w) (ne_eqb m.cursor.tid.0 1 other)
-
--- every thread may make a call that can't wait
-pub free_by_call : (m : Machine) (w : List ℕ) → is_refused_to_handler w ≡ false → is_refused_caller m w ≡ false
-free_by_call m w e = ap (λ b. m.cursor.tid.0 == 1 && b) e ∙ and-false (m.cursor.tid.0 == 1)
 
 -- ---- which calls there are
 
@@ -170,14 +160,13 @@ known w GetProcessId h = ap is_call_number h
 known w (ForwardMessage a b) h = ap is_call_number h.0
 
 -- one that is refused to its caller, the interrupt thread
-pub refused_to_handler : (m : Machine) (w : List ℕ) (asked : Call) → Asks w asked → m.cursor.tid.0 ≡ 1 → is_refused_to_handler w ≡ true
-    → call m w ≡ Refused InvalidSyscall
+pub refused_to_handler : (m : Machine) (w : List ℕ) (asked : Call) → Asks w asked → is_refused_caller m w ≡ true → call m w ≡ Refused InvalidSyscall
 unfolding call
-refused_to_handler m w asked h handler waits = λ i.
-    refused_or (if not (known w asked h i) then Some UnhandledSyscall else (if (handler i == 1) && waits i then Some InvalidSyscall else None))
+refused_to_handler m w asked h refused = λ i.
+    refused_or (if not (known w asked h i) then Some UnhandledSyscall else (if refused i then Some InvalidSyscall else None))
     (call_at (call_number w) call_table m w)
 
--- it is one of those that are built
+-- it is one of those that are built, and none on messages
 abbrev pub is_built_one : Call → Bool
 is_built_one (MapMemory a b d e) = true
 is_built_one Yield = true
@@ -197,8 +186,8 @@ is_built_one GetThreadId = true
 is_built_one GetProcessId = true
 is_built_one _ = false
 
--- words of a call that is built ask for such a one
-pub built_asked : (w : List ℕ) (asked : Call) → Asks w asked → is_call_built w ≡ true → is_built_one asked ≡ true
+-- words of such a call ask for such a one
+pub built_asked : (w : List ℕ) (asked : Call) → Asks w asked → is_plain_call w ≡ true → is_built_one asked ≡ true
 built_asked w (MapMemory a b d e) h built = refl
 built_asked w Yield h built = refl
 built_asked w (ClaimInterrupt a b d) h built = refl
@@ -270,6 +259,90 @@ none_left (DestroyServer a) none built = false≢true built
 none_left GetThreadId none built = none.thread_id refl
 none_left GetProcessId none built = none.process_id refl
 none_left (ForwardMessage a b) none built = false≢true built
+
+-- ---- calls on messages
+
+-- it is none of these
+pub record IsNoMessage (asked : Call) : Type 0 where
+  pub send : (cid kind id : ℕ) (words : List ℕ) → asked ≢ SendMessage cid kind id words
+  pub try_send : (cid kind id : ℕ) (words : List ℕ) → asked ≢ TrySendMessage cid kind id words
+  pub receive : (sid : Sid) → asked ≢ ReceiveMessage sid
+  pub try_receive : (sid : Sid) → asked ≢ TryReceiveMessage sid
+  pub return_memory : (a b d e f : ℕ) → asked ≢ ReturnMemory a b d e f
+  pub return_scalar1 : (a b : ℕ) → asked ≢ ReturnScalar1 a b
+  pub return_scalar2 : (a b d : ℕ) → asked ≢ ReturnScalar2 a b d
+  pub forward : (a b : ℕ) → asked ≢ ForwardMessage a b
+
+abbrev is_message_number : ℕ → Bool
+is_message_number k = list_any (λ n. n == k) message_numbers
+
+no_message_number : (w : List ℕ) (asked : Call) → Asks w asked → IsNoMessage asked → is_message_number (call_number w) ≡ false
+no_message_number w (MapMemory a b d e) h none = ap is_message_number h.0
+no_message_number w Yield h none = ap is_message_number h
+no_message_number w (ClaimInterrupt a b d) h none = ap is_message_number h.0
+no_message_number w (FreeInterrupt a) h none = ap is_message_number h.0
+no_message_number w (IncreaseHeap a) h none = ap is_message_number h.0
+no_message_number w (DecreaseHeap a) h none = ap is_message_number h.0
+no_message_number w (UpdateMemoryFlags a b d) h none = ap is_message_number h.0
+no_message_number w (CreateServerWithAddress a) h none = ap is_message_number h.0
+no_message_number w (ReceiveMessage a) h none = absurd (none.receive a refl)
+no_message_number w (SendMessage a b d e) h none = absurd (none.send a b d e refl)
+no_message_number w (Connect a) h none = ap is_message_number h.0
+no_message_number w (CreateThread a b d) h none = ap is_message_number h.0
+no_message_number w (UnmapMemory a b) h none = ap is_message_number h.0
+no_message_number w (ReturnMemory a b d e f) h none = absurd (none.return_memory a b d e f refl)
+no_message_number w (TerminateProcess a) h none = ap is_message_number h.0
+no_message_number w (TrySendMessage a b d e) h none = absurd (none.try_send a b d e refl)
+no_message_number w (TryConnect a) h none = ap is_message_number h.0
+no_message_number w (ReturnScalar1 a b) h none = absurd (none.return_scalar1 a b refl)
+no_message_number w (ReturnScalar2 a b d) h none = absurd (none.return_scalar2 a b d refl)
+no_message_number w (TryReceiveMessage a) h none = absurd (none.try_receive a refl)
+no_message_number w (JoinThread a) h none = ap is_message_number h.0
+no_message_number w (DestroyServer a) h none = ap is_message_number h.0
+no_message_number w GetThreadId h none = ap is_message_number h
+no_message_number w GetProcessId h none = ap is_message_number h
+no_message_number w (ForwardMessage a b) h none = absurd (none.forward a b refl)
+
+-- a call that is built, and none of these, is built as one that is none on messages
+pub plain_built : (w : List ℕ) (asked : Call) → Asks w asked → IsNoMessage asked → is_call_built w ≡ true → is_plain_call w ≡ true
+plain_built w asked h none built = go (is_plain_call w) (is_message_number (call_number w)) refl (no_message_number w asked h none) built
+  where
+    go : (a b : Bool) → is_plain_call w ≡ a → b ≡ false → (a || b) ≡ true → is_plain_call w ≡ true
+    go true b e f g = e
+    go false true e f g = absurd (false≢true (sym f))
+    go false false e f g = absurd (false≢true g)
+
+-- the row of a call that isn't refused to its caller
+module _ (m : Machine) (w : List ℕ) (free : is_refused_caller m w ≡ false) where
+  pub row_is : (asked : Call) → Asks w asked → table_row w m ≡ call m w
+  unfolding call
+  row_is asked h =
+      sym (λ i. refused_or (if not (known w asked h i) then Some UnhandledSyscall else (if free i then Some InvalidSyscall else None)) (table_row w m))
+
+  pub receive_is : (sid : Sid) → Asks w (ReceiveMessage sid) → receive_row sid true m ≡ call m w
+  unfolding receive_call
+  receive_is sid (n, a) =
+      sym (by_number m w 15 n refl free
+      ∙ (λ i. unless_refused (own_server_refusals m (record { 0 = a i })) (Served (receive_served m (record { 0 = a i })))))
+
+  -- the interrupt thread can't make that one
+  pub receiver_waits : (sid : Sid) → Asks w (ReceiveMessage sid) → (m.cursor.tid.0 == 1) ≡ false
+  receiver_waits sid (n, a) = go (m.cursor.tid.0 == 1) refl
+    where
+      waits : is_refused_to_handler w ≡ true
+      waits =
+          ap (λ k. k == receive_message || call_number w == send_message || call_number w == connect || call_number w == join_thread
+          || (call_number w == try_send_message && is_waiting_kind (send_kind w))) n
+
+      go : (b : Bool) → (m.cursor.tid.0 == 1) ≡ b → (m.cursor.tid.0 == 1) ≡ false
+      go false e = e
+      go true e = absurd (false≢true (sym free ∙ (λ i. e i && waits i)))
+
+  pub try_receive_is : (sid : Sid) → Asks w (TryReceiveMessage sid) → receive_row sid false m ≡ call m w
+  unfolding try_receive_call
+  try_receive_is sid (n, a) =
+      sym (by_number m w 28 n refl free
+      ∙ (λ i. unless_refused (own_server_refusals m (record { 0 = a i })) (Served (try_receive_served m (record { 0 = a i })))))
 
 -- ---- no call has the number
 

@@ -1,4 +1,4 @@
--- A call that is built leaves its caller there, unless the caller's process dies.
+-- A call that is built, and is none on messages, leaves its caller there, unless the caller's process dies.
 use Rattle.std.proofs.Common.{◌≡◌, ℕ, Bool, true, false, List, Option, Some, None, refl, sym, subst}
 use Rattle.std.specs.Prelude.{◌==◌, ◌||◌, ◌∷◌, is_some, not, if◌then◌else◌}
 use Rattle.std.specs.Bool.{⊤}
@@ -22,7 +22,7 @@ use Rattle.xk_base.specs.Calls.CallNumbers.{map_memory, yield_turn, increase_hea
 use Rattle.xk_base.specs.Calls.CallWords.{call_number, heap_bytes, interrupt_argument, interrupt_handler, interrupt_number, join_tid, map_flags, map_phys, map_size, map_virt, range_address, range_flags, range_size, thread_arguments, thread_entry, thread_sp}
 use Rattle.xk_base.specs.declared.errors.XousError.{XousError}
 use Rattle.xk_base.specs.declared.errors.XousError.TheVariants.{ServerNotFound}
-use Rattle.xk_kernel.specs.Built.{built_numbers, is_call_built, is_number_built}
+use Rattle.xk_kernel.specs.Built.{built_numbers, is_number_built, is_plain_call}
 
 -- what is to be shown of the number of each call that is built, and of those that are not in the table
 record OfBuiltCalls (P : ℕ → Type 0) (k : ℕ) : Type 0 where
@@ -160,7 +160,7 @@ module _ (m : Machine) (w : List ℕ) (there : is_some (m.threads m.cursor) ≡ 
   try_connect_leaves =
       either ((is_missing m (named_sid w), ServerNotFound) ∷ connect_refusals m (named_sid w)) (Served (connect_served m (named_sid w))) (λ e. there)
 
-  built_leaves : is_call_built w ≡ true → LeavesCaller m (call m w)
+  built_leaves : is_plain_call w ≡ true → LeavesCaller m (call m w)
   unfolding call
   built_leaves built =
       built_cases (λ k. LeavesCaller m (unless_refused (any_refusals m w) (call_at k call_table m w))) (call_number w)
@@ -186,5 +186,5 @@ module _ (m : Machine) (w : List ℕ) (there : is_some (m.threads m.cursor) ≡ 
       built
 
   -- a served caller is there, unless its process died
-  pub served_there : (change : Change) → is_call_built w ≡ true → Served change ≡ call m w → change.gone ≡ None → is_some (change.machine.threads m.cursor) ≡ true
+  pub served_there : (change : Change) → is_plain_call w ≡ true → Served change ≡ call m w → change.gone ≡ None → is_some (change.machine.threads m.cursor) ≡ true
   served_there change built e = subst (LeavesCaller m) (sym e) (built_leaves built)

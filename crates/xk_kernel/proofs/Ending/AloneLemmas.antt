@@ -2,17 +2,19 @@
 use Rattle.std.proofs.Common.{◌≡◌, ◌<◌, ◌≤◌, ◌+◌, ◌-◌, ℕ, Bool, true, false, Option, Some, None, refl, sym, ap, ◌∙◌, arith}
 use Rattle.std.specs.Prelude.{◌==◌, ◌&&◌, ◌||◌, is_some, is_none, not}
 use Rattle.std.specs.Option.{option_map}
-use Rattle.std.proofs.lemmas.Bool.{and_parts, eqb-true, false≢true}
+use Rattle.std.proofs.lemmas.Bool.{and_parts, eq-eqb, eqb-true, false≢true}
 use Rattle.std.proofs.lemmas.Bool.Decides.{nat_tests}
 use Rattle.xk_base.specs.Tables.Circle.{is_thread_id}
 use Rattle.xk_base.specs.Tables.Counting.{least_below}
 use Rattle.xk_base.specs.declared.ids.Number.{Number}
 use Rattle.xk_base.specs.declared.ids.Pid.{Pid}
+use Rattle.xk_base.specs.declared.ids.Place.{Place}
 use Rattle.xk_base.specs.declared.ids.Serial.{Serial}
 use Rattle.xk_base.specs.declared.ids.ThreadId.{ThreadId}
 use Rattle.xk_base.specs.declared.limits.TheConstants.{TID_LIMIT}
 use Rattle.xk_base.proofs.CircleLemmas.{same_ids}
 use Rattle.xk_base.proofs.CountingLemmas.{least_below-none}
+use Rattle.ledger_model.specs.Ledger.{Orphan}
 use Rattle.machine_model.specs.Runs.Matched.{Matched, is_living, is_waiting_for, waits_for}
 use Rattle.machine_model.specs.State.Machine.{Machine, Server, Thread, ThreadState, Ready, Receiving, Waiting, Joining, Idle}
 use Rattle.machine_model.specs.State.Servers.{is_server_of}
@@ -28,6 +30,7 @@ use Rattle.server_table.specs.ServerState.{Server as TableServer, is_of, least_o
 use Rattle.sv32_space.specs.Tie.{Held}
 use Rattle.thread_table.specs.declared.thread.ThreadState.{ThreadState as TableState}
 use Rattle.thread_table.specs.declared.thread.ThreadState.TheVariants as table
+use Rattle.vm_memory.specs.Pages.Removing.{HasNoLoan}
 use Rattle.xk_kernel.specs.Alone.{DiesPlainly, EndsPlainly, has_waiting, is_alone, is_waiting, is_waiting_state, owns_server}
 use Rattle.xk_kernel.specs.Built.{end_built}
 use Rattle.send_path.specs.Parts.{process_of, server_of, state_of}
@@ -97,6 +100,18 @@ not_waiting_for number (Waiting other) e = absurd (false≢true (sym e))
 not_waiting_for number (Joining tid) e = refl
 not_waiting_for number Idle e = refl
 
+-- a process that can be forgotten lends nothing and holds nothing
+forgettable_unlent : (m : Machine) (pid : Pid) → IsForgettable m pid → HasNoLoan m.ledger pid
+forgettable_unlent m pid f = record {
+  lender = f.can.not_lent;
+  holder = λ p loan e same. false≢true (sym (f.holders p loan e) ∙ eq-eqb loan.holder.pid.0 pid.0 same);
+  orphan = λ p same. none_there p same (m.ledger.orphan p) refl;
+}
+  where
+    none_there : (p : Place) → p.pid.0 ≡ pid.0 → (o : Option Orphan) → m.ledger.orphan p ≡ o → o ≡ None
+    none_there p same None e = refl
+    none_there p same (Some orphan) e = absurd (false≢true (sym (f.orphans p orphan e) ∙ eq-eqb p.pid.0 pid.0 same))
+
 module _ (m : Machine) (h : Matched m) (pid : Pid) (alone : is_alone pid m ≡ true) where
   parts : (not (owns_server pid m) ≡ true) × (not (has_waiting pid m) ≡ true)
   parts = and_parts (not (owns_server pid m)) (not (has_waiting pid m)) alone
@@ -125,15 +140,15 @@ module _ (m : Machine) (h : Matched m) (pid : Pid) (alone : is_alone pid m ≡ t
       go None e = refl
       go (Some t) e = not_waiting_for number t.state (idle t e)
 
+  unlent : HasNoLoan m.ledger pid
+  unlent = forgettable_unlent m pid (plain_forgettable m h pid strange unwaiting)
+
   pub alone_death : DiesPlainly pid m
-  alone_death = lone_death m h pid strange unwaiting
+  alone_death = record { death = lone_death m h pid strange unwaiting; no_loan = unlent }
 
   -- .. also once a thread of it has gone
   pub alone_after : (who : ThreadId) → DiesPlainly pid (put_thread who None m)
-  alone_after who = foreign_death (put_thread who None m) pid strange (unsent m h pid strange unwaiting)
-
-  pub alone_forgettable : IsForgettable m pid
-  alone_forgettable = plain_forgettable m h pid strange unwaiting
+  alone_after who = record { death = foreign_death (put_thread who None m) pid strange (unsent m h pid strange unwaiting); no_loan = unlent }
 
 -- where the end of a thread is built, its process dies plainly if it does
 pub ends_plainly : (m : Machine) → Matched m → (who : ThreadId) → end_built m who ≡ true → EndsPlainly who m

@@ -1,16 +1,16 @@
 -- A process is forgotten: what each part lets go is what the machine does.
-use Rattle.std.proofs.Common.{◌≡◌, ℕ, Bool, true, false, nat_eq, Option, Some, None, refl, sym, ap, ◌∙◌, subst}
+use Rattle.std.proofs.Common.{◌≡◌, ℕ, Bool, true, false, nat_eq, Option, Some, None, refl, ap, ◌∙◌}
 use Rattle.std.specs.Prelude.{◌==◌, ◌&&◌, not, if◌then◌else◌}
 use Rattle.std.specs.Option.{option_map, option_map_or}
-use Rattle.std.proofs.lemmas.Option.{none-some}
 use Rattle.boot_plan.specs.Capacity.{capacity}
 use Rattle.irq_claims.specs.ClaimMap.{end_claims, is_of}
 use Rattle.irq_claims.specs.ClaimsOf.{claims_of}
 use Rattle.irq_claims.specs.declared.claims.Claim.{Claim as TableClaim}
 use Rattle.irq_claims.specs.declared.claims.Claims.{Claims}
-use Rattle.ledger_model.specs.Conditions.{is_lent}
-use Rattle.ledger_model.specs.Ledger.{Ledger, Page, PageLoan, loan_of}
+use Rattle.ledger_model.specs.Ledger.{Ledger}
+use Rattle.ledger_model.specs.Loans.{loans}
 use Rattle.ledger_model.specs.Steps.{forget}
+use Rattle.ledger_model.proofs.Stepping.RemovingLemmas.{forget_loans}
 use Rattle.machine_model.specs.Ending.Ends.{dead_process, forgotten}
 use Rattle.machine_model.specs.Stepping.Interrupts.{disarmed_if, is_claim_of}
 use Rattle.process_table.specs.ProcessMap.{change}
@@ -24,7 +24,6 @@ use Rattle.thread_table.specs.declared.table.Threads.{Threads}
 use Rattle.thread_table.specs.declared.thread.Thread.{Thread as TableThread}
 use Rattle.vm_memory.specs.Memory.{Size, ledger, size}
 use Rattle.vm_memory.specs.Pages.Removing.{HasNoLoan}
-use Rattle.vm_memory.specs.Starting.{IsUnlent}
 use Rattle.vm_memory.specs.declared.memory.Memory.{Memory}
 use Rattle.xk_base.specs.declared.ids.Pid.{Pid}
 use Rattle.xk_base.specs.declared.limits.TheConstants.{TIMER_INTERRUPT}
@@ -32,38 +31,11 @@ use Rattle.send_path.specs.Parts.{thread_of, process_of}
 use Rattle.xk_kernel.specs.State.{machine_of, claim_of}
 use Rattle.xk_kernel.specs.declared.kernel.Kernel.{Kernel}
 
--- ---- a ledger without loans
+-- ---- the ledger
 
--- no page on loan is lent
-unlent_page : (o : Option Page) → loan_of o ≡ None → is_lent o ≡ false
-unlent_page None e = refl
-unlent_page (Some page) e = by_loan page.loan e
-  where
-    by_loan : (o : Option PageLoan) → o ≡ None → is_lent (Some (record page { loan = o })) ≡ false
-    by_loan None q = refl
-    by_loan (Some loan) q = cc
-
-pub unlent_has_no_loan : (l : Ledger) (pid : Pid) → IsUnlent l → HasNoLoan l pid
-unlent_has_no_loan l pid h = record {
-  lender = λ p e. unlent_page (l.home p) (h.loans p);
-  holder = λ p loan e same. none-some loan (sym (h.loans p) ∙ e);
-  orphan = λ p e. h.orphans p;
-}
-
-page_stays_unlent : (b : Bool) (o : Option Page) → loan_of o ≡ None → loan_of (if b then None else o) ≡ None
-page_stays_unlent true o e = refl
-page_stays_unlent false o e = e
-
-stays_unlent : (l : Ledger) (pid : Pid) → IsUnlent l → IsUnlent (forget pid l)
-unfolding forget
-stays_unlent l pid h = record {
-  loans = λ p. page_stays_unlent (p.pid.0 == pid.0) (l.home p) (h.loans p);
-  orphans = h.orphans;
-}
-
--- it stays so as pages go
-pub forget_unlent : (l new : Ledger) (pid : Pid) → new ≡ forget pid l → IsUnlent l → IsUnlent new
-forget_unlent l new pid e h = subst IsUnlent (sym e) (stays_unlent l pid h)
+-- the pages of a process that lends nothing go, and every loan is as it was
+pub forget_keeps : (pid : Pid) (old new : Ledger) → HasNoLoan old pid → new ≡ forget pid old → loans new ≡ loans old
+forget_keeps pid old new none e = ap loans e ∙ forget_loans pid old (record { not_lent = none.lender })
 
 -- ---- the parts
 

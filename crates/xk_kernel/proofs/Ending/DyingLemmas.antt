@@ -26,7 +26,7 @@ settled_gone m pid = λ i. record {
 }
 
 pub settled_death : (m : Machine) (pid : Pid) → DiesPlainly pid m → settled (death pid m) ≡ record { machine = forgotten pid m; told = Gone pid ∷ [] }
-settled_death m pid plain = ap settled plain ∙ settled_gone (forgotten pid m) pid
+settled_death m pid plain = ap settled plain.death ∙ settled_gone (forgotten pid m) pid
 
 module _ {W : Type 0} (held : W → Held) where
   pub dies : (old new : Kernel W) (first last : LogState) (cause : What) (pid : Pid) → DiesPlainly pid (machine_of held old)

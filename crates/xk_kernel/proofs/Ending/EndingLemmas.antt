@@ -103,7 +103,7 @@ module _ (m : Machine) (who : ThreadId) (a0 : ℕ) where
   unfolding thread_ended
   ended_last e plain =
       ap (λ b. settled (with_joiners (end_with_last_thread b who.pid without))) e
-      ∙ ap (λ left. settled (with_joiners left)) plain
+      ∙ ap (λ left. settled (with_joiners left)) plain.death
       ∙ ap (λ a. settled (record (answering a (forgotten who.pid without)) { gone = Some who.pid })) (both_with_none joiners)
       ∙ settled_last
 
@@ -144,7 +144,7 @@ module _ {W : Type 0} (held : W → Held) (old : Kernel W) (first : LogState) (t
         log_with-next (End who ∷ []) _ old.log first new.log h.pushed h.tells.log
         ∙ ap (λ (t : Told). log_with (End who ∷ t.told) old.log) answered_is
 
-    threads_left : has_threads (put_thread who None m) who.pid ≡ has_threads (machine_of held new) who.pid
+    pub threads_left : has_threads (put_thread who None m) who.pid ≡ has_threads (machine_of held new) who.pid
     unfolding settled
     threads_left =
         sym (ap (λ x. has_threads x who.pid) machine_is ∙ has_threads-answered (joiners_answered m who a0) (put_thread who None m) who.pid)

@@ -43,8 +43,7 @@ pushed_whole slot_count held k log whole e = record {
   procs = whole.procs;
   cursor = whole.cursor;
   room = subst (λ room. RECORD_LIMIT ≤ room) (sym e) whole.room;
-  unlent = whole.unlent;
-  no_messages = whole.no_messages;
+  servers = whole.servers;
 }
 
 -- .. and with no reservation
@@ -55,8 +54,7 @@ unreserved_whole slot_count held k whole = record {
   procs = whole.procs;
   cursor = whole.cursor;
   room = whole.room;
-  unlent = whole.unlent;
-  no_messages = whole.no_messages;
+  servers = whole.servers;
 }
 
 -- ---- a process that lives
@@ -72,7 +70,7 @@ killed_is : (m : Machine) (pid : Pid) → DiesPlainly pid (unreserved m) → (m.
 unfolding killed settled forgotten
 killed_is m pid plain alive =
     ap (λ b. killed_if b pid (unreserved m)) alive
-    ∙ ap (λ (change : Change). at_event m.steps (settled change)) plain
+    ∙ ap (λ (change : Change). at_event m.steps (settled change)) plain.death
     ∙ (λ i. record { machine = nobody_answered (forgotten pid (unreserved m)) i; records = map (record_of m.steps) (no_reply m.processes i ++ ([] ++ Gone pid ∷ [])) })
 
 spared : (m : Machine) (pid : Pid) → (m.process pid.0).alive ≡ false → killed pid m ≡ nothing (unreserved m)
@@ -120,7 +118,7 @@ module _ {W : Type 0} (slot_count : W → ℕ) (held : W → Held) (old new : Ke
   known pid alive = left_matched.body.processes.pids pid alive
 
   -- one that lives, and whose kill is built, dies plainly
-  plainly : (pid : Pid) → ((machine_of held old).process pid.0).alive ≡ true → kill_built pid (machine_of held old) ≡ true
+  pub plainly : (pid : Pid) → ((machine_of held old).process pid.0).alive ≡ true → kill_built pid (machine_of held old) ≡ true
       → DiesPlainly pid (unreserved (machine_of held old))
   plainly pid alive built =
       alone_death (unreserved (machine_of held old)) (matched_reserved (machine_of held old) left_matched None) pid

@@ -3,7 +3,6 @@ use Rattle.std.proofs.Common.{◌≡◌, ℕ, ◌+◌, ◌/◌, ◌<◌, ◌≤�
 use Rattle.std.specs.Prelude.{◌%◌, Result, Ok, Err}
 use Rattle.std.proofs.lemmas.Bool.{false≢true, and_from, eqb-true, le-leb, lt-ltb}
 use Rattle.std.proofs.lemmas.List.Folds.{list_any_none}
-use Rattle.std.proofs.lemmas.Option.{none-some}
 use Rattle.xk_base.specs.declared.errors.XousError.{XousError}
 use Rattle.xk_base.specs.declared.errors.XousError.TheVariants.{BadAlignment, BadAddress, InvalidLimit, MemoryInUse, OutOfMemory}
 use Rattle.xk_base.specs.declared.ids.Place.{Place}
@@ -18,7 +17,6 @@ use Rattle.ledger_model.specs.Reach.{is_free}
 use Rattle.ledger_model.specs.RunTests.{any_used, fits_window}
 use Rattle.ledger_model.specs.Steps.{make, new_page, zero_page}
 use Rattle.ledger_model.proofs.PlaceLemmas.{IsInRun, in_run-true, length-run, run-at}
-use Rattle.ledger_model.proofs.ReachingLemmas.{is_free-all}
 use Rattle.machine_model.specs.State.Changes.{Outcome, Refused, Served, unless_refused}
 use Rattle.machine_model.specs.State.Machine.{Machine}
 use Rattle.machine_model.specs.Runs.Matched.{AreHeapsMatched}
@@ -30,7 +28,7 @@ use Rattle.process_table.specs.declared.table.Processes.{Processes}
 use Rattle.sv32_space.specs.Tie.{Held}
 use Rattle.syscall_codec.specs.declared.replies.Reply.TheVariants.{Range}
 use Rattle.vm_memory.specs.declared.memory.Memory.{Memory}
-use Rattle.vm_memory.specs.Pages.Making.{if_room, make_answer, place_of, run_place}
+use Rattle.vm_memory.specs.Pages.Making.{if_room, make_answer, page_place, run_place}
 use Rattle.vm_memory.specs.Memory.{capacity_of, ledger, processes, size}
 use Rattle.vm_memory.proofs.Changing.SoundMemoryLemmas.{pages-ledger}
 use Rattle.xk_kernel.specs.Calling.{outcome_of}
@@ -38,6 +36,7 @@ use Rattle.xk_kernel.specs.Sound.{IsWhole}
 use Rattle.xk_kernel.specs.State.{machine_of}
 use Rattle.xk_kernel.specs.declared.kernel.Kernel.{Kernel}
 use Rattle.xk_kernel.specs.declared.kernel.calls.CallerFate.TheVariants.{Answered}
+use Rattle.xk_kernel.proofs.Memory.KeptLoanLemmas.{free_below_messages, sound-lawful}
 use Rattle.xk_kernel.proofs.Memory.HeapLemmas.{aligned, machine_with_parts, none_of_three, not_above, on_heap, second_of_three, third_of_three, with_parts}
 
 abbrev pub heap_right : Right
@@ -113,11 +112,12 @@ module _ {W : Type 0} (slot_count : W → ℕ) (held : W → Held) (k : Kernel W
         let same : heap / 4096 ≡ heap_of m / 4096 = ap (λ x. x / 4096) told in
         absurd (omega (arith, low, same, h.from))
 
-    free_above : (i : ℕ) → i < bytes / 4096 → is_free (processes k.mem) (ledger held k.mem) (place_after (place_of k.cursor.pid first) i) ≡ true
+    free_above : (i : ℕ) → i < bytes / 4096 → is_free (processes k.mem) (ledger held k.mem) (place_after (page_place k.cursor.pid first) i) ≡ true
     free_above i low =
-        let p = place_after (place_of k.cursor.pid first) i in
-        is_free-all (processes k.mem) (ledger held k.mem) p (no_home (first.0 + i) (above i low) ((ledger held k.mem).home p) refl) (whole.unlent.orphans p)
-        (λ q loan e same. none-some loan (sym (whole.unlent.loans q) ∙ e))
+        let p = place_after (page_place k.cursor.pid first) i in
+        let below : first.0 + i < 262144 = omega (arith, (above i low).to) in
+        free_below_messages (processes k.mem) (capacity_of k.mem) (ledger held k.mem) p (sound-lawful slot_count held k.mem whole.mem) below
+        (no_home (first.0 + i) (above i low) ((ledger held k.mem).home p) refl)
 
     fits : fits_window Heap first.0 (bytes / 4096) ≡ true
     fits =
@@ -129,8 +129,8 @@ module _ {W : Type 0} (slot_count : W → ℕ) (held : W → Held) (k : Kernel W
 
     run_above : run_place (processes k.mem) (ledger held k.mem) k.cursor.pid Heap (Some first) (bytes / 4096) ≡ Ok first
     run_above =
-        placed (fits_window Heap first.0 (bytes / 4096)) (any_used (processes k.mem) (ledger held k.mem) (place_of k.cursor.pid first) (bytes / 4096)) first fits
-        (none_used (processes k.mem) (ledger held k.mem) (place_of k.cursor.pid first) (bytes / 4096) free_above)
+        placed (fits_window Heap first.0 (bytes / 4096)) (any_used (processes k.mem) (ledger held k.mem) (page_place k.cursor.pid first) (bytes / 4096)) first fits
+        (none_used (processes k.mem) (ledger held k.mem) (page_place k.cursor.pid first) (bytes / 4096) free_above)
 
     abbrev over : Bool
     over = nat_lt (capacity_of k.mem) (pages (processes k.mem) (ledger held k.mem) + bytes / 4096)
@@ -168,14 +168,14 @@ module _ {W : Type 0} (slot_count : W → ℕ) (held : W → Held) (k : Kernel W
         (Served (increase_served m bytes)) (aligned bytes al) (not_above heap_limit (heap_of m + bytes) (omega (arith, le, told))) room
 
     pub increase_done : (mem : Memory W) (procs : Processes) (v : Vpn) → size mem ≡ size k.mem → Ok v ≡ answer
-        → ledger held mem ≡ make (place_of k.cursor.pid v) (bytes / 4096) heap_right (ledger held k.mem)
+        → ledger held mem ≡ make (page_place k.cursor.pid v) (bytes / 4096) heap_right (ledger held k.mem)
         → processes_of procs ≡ change k.cursor.pid.0 (heap_set (heap + bytes)) (processes_of k.procs)
         → outcome_of k.cursor (machine_of held (with_parts mem procs k)) (Ok (Answered (Range (536870912 + heap) bytes))) ≡ row
     increase_done mem procs v s a e p =
         let done = ok_told over v (a ∙ answered) in
         ap (λ n. outcome_of k.cursor n (Ok (Answered (Range (536870912 + heap) bytes))))
-        (machine_with_parts slot_count held k whole mem procs (make (place_of k.cursor.pid first) (bytes / 4096) heap_right (ledger held k.mem)) (heap + bytes) s
-        (e ∙ ap (λ x. make (place_of k.cursor.pid x) (bytes / 4096) heap_right (ledger held k.mem)) done.1) p)
+        (machine_with_parts slot_count held k whole mem procs (make (page_place k.cursor.pid first) (bytes / 4096) heap_right (ledger held k.mem)) (heap + bytes) s
+        (e ∙ ap (λ x. make (page_place k.cursor.pid x) (bytes / 4096) heap_right (ledger held k.mem)) done.1) p)
         ∙ served done.0
 
     -- ---- nothing

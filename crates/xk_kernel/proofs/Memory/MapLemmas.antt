@@ -22,7 +22,7 @@ use Rattle.machine_model.specs.Calling.MemoryCalls.{are_bad_flags, are_too_many,
 use Rattle.sv32_space.specs.Tie.{Held}
 use Rattle.syscall_codec.specs.declared.replies.Reply.TheVariants.{Range}
 use Rattle.vm_memory.specs.declared.memory.Memory.{Memory}
-use Rattle.vm_memory.specs.Pages.Making.{console_answer, if_room, make_answer, place_of, run_found, run_place}
+use Rattle.vm_memory.specs.Pages.Making.{console_answer, if_room, make_answer, page_place, run_found, run_place}
 use Rattle.vm_memory.specs.Memory.{capacity_of, ledger, processes, size}
 use Rattle.vm_memory.proofs.Changing.AnsweringLemmas.{run_answered}
 use Rattle.xk_kernel.specs.Calling.{outcome_of}
@@ -61,7 +61,7 @@ run_by false fits used least v = if not fits then Err BadAddress else (if used t
 
 run_asked : (procs : ℕ) (l : Ledger) (pid : Pid) (n : ℕ) (v : Vpn) (b : Bool)
     → run_place procs l pid Map (if b then None else Some v) n
-    ≡ run_by b (fits_window Map v.0 n) (any_used procs l (place_of pid v) n) (least_run procs l pid Map n) v
+    ≡ run_by b (fits_window Map v.0 n) (any_used procs l (page_place pid v) n) (least_run procs l pid Map n) v
 run_asked procs l pid n v true = refl
 run_asked procs l pid n v false = refl
 
@@ -170,7 +170,7 @@ module _ {W : Type 0} (held : W → Held) (k : Kernel W) (phys virt bytes flags 
   done console address place = Served (with_ledger m (mapped_ledger console place (bytes / 4096) (right_of flags) m.ledger) (range_words address bytes))
 
   served_is : (console : Bool) (first : Vpn) → (phys == CONSOLE_ADDRESS) ≡ console → Ok first ≡ run_by (virt == 0) fits used least (record { 0 = virt / 4096 })
-      → done console (4096 * first.0) (place_of k.cursor.pid first) ≡ served
+      → done console (4096 * first.0) (page_place k.cursor.pid first) ≡ served
   unfolding machine_of
   served_is console first f e =
       let address = address_is (virt == 0) fits used least virt first e (good_range virt bytes range).begins in
@@ -199,13 +199,13 @@ module _ {W : Type 0} (held : W → Held) (k : Kernel W) (phys virt bytes flags 
     map_refused error e = ap (λ r. told r served) e ∙ pages_row
 
     pub map_done : (mem : Memory W) (first : Vpn) → size mem ≡ size k.mem → Ok first ≡ answer
-        → ledger held mem ≡ make (place_of k.cursor.pid first) (bytes / 4096) right (ledger held k.mem)
+        → ledger held mem ≡ make (page_place k.cursor.pid first) (bytes / 4096) right (ledger held k.mem)
         → outcome_of k.cursor (machine_of held (with_mem mem k)) (Ok (Answered (Range (4096 * first.0) bytes))) ≡ row
     unfolding machine_of
     map_done mem first s a e =
         ap (λ n. outcome_of k.cursor n (Ok (Answered (Range (4096 * first.0) bytes))))
-        (machine_with_mem held k mem (make (place_of k.cursor.pid first) (bytes / 4096) (right_of flags) (ledger held k.mem)) s
-        (e ∙ ap (λ r. make (place_of k.cursor.pid first) (bytes / 4096) r (ledger held k.mem)) asked.1))
+        (machine_with_mem held k mem (make (page_place k.cursor.pid first) (bytes / 4096) (right_of flags) (ledger held k.mem)) s
+        (e ∙ ap (λ r. make (page_place k.cursor.pid first) (bytes / 4096) r (ledger held k.mem)) asked.1))
         ∙ served_is false first other (not_room (are_too_many m (bytes / 4096)) (run_place (processes k.mem) (ledger held k.mem) k.cursor.pid Map at (bytes / 4096)) first a ∙ run_is)
         ∙ ap (λ r. told r served) a ∙ pages_row
 
@@ -240,13 +240,13 @@ module _ {W : Type 0} (held : W → Held) (k : Kernel W) (phys virt bytes flags 
       not_mapped false r first e = e
 
       pub console_done : (mem : Memory W) (first : Vpn) → size mem ≡ size k.mem → Ok first ≡ console
-          → ledger held mem ≡ make_console (place_of k.cursor.pid first) right.w (ledger held k.mem)
+          → ledger held mem ≡ make_console (page_place k.cursor.pid first) right.w (ledger held k.mem)
           → outcome_of k.cursor (machine_of held (with_mem mem k)) (Ok (Answered (Range (4096 * first.0) bytes))) ≡ row
       unfolding machine_of
       console_done mem first s a e =
           ap (λ n. outcome_of k.cursor n (Ok (Answered (Range (4096 * first.0) bytes))))
-          (machine_with_mem held k mem (make_console (place_of k.cursor.pid first) (right_of flags).w (ledger held k.mem)) s
-          (e ∙ ap (λ (r : Right). make_console (place_of k.cursor.pid first) r.w (ledger held k.mem)) asked.1))
+          (machine_with_mem held k mem (make_console (page_place k.cursor.pid first) (right_of flags).w (ledger held k.mem)) s
+          (e ∙ ap (λ (r : Right). make_console (page_place k.cursor.pid first) r.w (ledger held k.mem)) asked.1))
           ∙ served_is true first other (not_mapped mapped (run_by (virt == 0) fits used least (record { 0 = virt / 4096 })) first (a ∙ console_run))
           ∙ ap (λ r. told r served) a ∙ console_row
 

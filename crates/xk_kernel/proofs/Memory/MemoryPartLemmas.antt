@@ -1,35 +1,19 @@
 -- The kernel with a memory that has the same rights and loans.
-use Rattle.std.proofs.Common.{◌≡◌, ℕ, Bool, IsSome, Option, Some, None, refl, sym, ap, ◌∙◌}
-use Rattle.std.specs.Option.{option_map}
-use Rattle.std.proofs.lemmas.Option.{none-some}
+use Rattle.std.proofs.Common.{◌≡◌, ℕ, Bool, IsSome, refl, sym, ap, ◌∙◌}
 use Rattle.boot_plan.specs.Capacity.{capacity}
 use Rattle.xk_base.specs.declared.ids.Pid.{Pid}
 use Rattle.xk_base.specs.declared.ids.ThreadId.{ThreadId}
 use Rattle.xk_base.specs.Tables.Circle.{is_thread_id}
-use Rattle.ledger_model.specs.Ledger.{Ledger, Orphan}
-use Rattle.ledger_model.specs.Loans.{Loans, bare, bare_orphan, loans}
+use Rattle.ledger_model.specs.Loans.{loans}
 use Rattle.ledger_model.proofs.Stepping.WritingLemmas.{bare-loans}
 use Rattle.sv32_space.specs.Tie.{Held}
 use Rattle.vm_memory.specs.declared.memory.Memory.{Memory}
 use Rattle.vm_memory.specs.Memory.{Size, size, processes, capacity_of, ledger}
-use Rattle.vm_memory.specs.Starting.{IsUnlent}
 use Rattle.vm_memory.specs.Using.UserView.{KeepsRest}
 use Rattle.xk_kernel.specs.Sound.{IsWhole, Keeps}
 use Rattle.xk_kernel.specs.State.{machine_of}
 use Rattle.xk_kernel.specs.declared.kernel.Kernel.{Kernel}
-
--- ---- loans
-
-none_bare : (o : Option Orphan) → option_map bare_orphan o ≡ None → o ≡ None
-none_bare None e = refl
-none_bare (Some orphan) e = absurd (none-some (bare_orphan orphan) (sym e))
-
-pub unlent_stays : (l m : Ledger) → bare m ≡ bare l → IsUnlent l → IsUnlent m
-unfolding bare loans
-unlent_stays l m e h = record {
-  loans = λ q. ap (λ (x : Loans). x.home q) (bare-loans l m e) ∙ h.loans q;
-  orphans = λ q. none_bare (m.orphan q) (ap (λ (b : Ledger). b.orphan q) e ∙ ap (option_map bare_orphan) (h.orphans q));
-}
+use Rattle.xk_kernel.proofs.Memory.KeptLoanLemmas.{servers_over}
 
 -- ---- the machine
 
@@ -65,8 +49,8 @@ module _ {W P : Type 0} (is_honest : W → Bool) (held : W → Held) (slot_count
     procs = whole.procs ∙ sym procs;
     cursor = ap (λ n. is_thread_id n k.cursor) procs ∙ whole.cursor;
     room = whole.room;
-    unlent = unlent_stays (ledger held k.mem) (ledger held mem) rest.rights whole.unlent;
-    no_messages = whole.no_messages;
+    servers = servers_over k.servers k.queues (processes k.mem) (processes mem) (loans (ledger held k.mem)) (loans (ledger held mem)) procs
+        (bare-loans (ledger held k.mem) (ledger held mem) rest.rights) whole.servers;
   }
 
   pub keeps_with : Keeps is_honest held slot_count asked faults k (with_memory mem k)

@@ -215,8 +215,7 @@ whole_lent slot_count held k threads count whole = record {
   procs = whole.procs;
   cursor = whole.cursor;
   room = whole.room;
-  unlent = whole.unlent;
-  no_messages = whole.no_messages;
+  servers = whole.servers;
 }
 
 -- a memory that was lent is given back as it is behind the reference, where that is the one that was lent
@@ -235,8 +234,7 @@ whole_ran is_honest held slot_count asked faults k mem timer whole pid rest =
       procs = with.procs;
       cursor = with.cursor;
       room = with.room;
-      unlent = with.unlent;
-      no_messages = with.no_messages;
+      servers = with.servers;
     }
 
 -- a thread that stays has its registers as before

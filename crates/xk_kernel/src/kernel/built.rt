@@ -38,16 +38,24 @@ impl<W: SwapStore> Kernel<W> {
                 | Call::DecreaseHeap { .. }
                 | Call::UpdateMemoryFlags { .. }
                 | Call::CreateServerWithAddress { .. }
+                | Call::ReceiveMessage { .. }
+                | Call::SendMessage { .. }
                 | Call::Connect { .. }
                 | Call::CreateThread { .. }
                 | Call::UnmapMemory { .. }
+                | Call::ReturnMemory { .. }
+                | Call::TrySendMessage { .. }
                 | Call::TryConnect { .. }
+                | Call::ReturnScalar1 { .. }
+                | Call::ReturnScalar2 { .. }
+                | Call::TryReceiveMessage { .. }
                 | Call::JoinThread { .. }
                 | Call::GetThreadId
-                | Call::GetProcessId,
+                | Call::GetProcessId
+                | Call::ForwardMessage { .. },
             )
             | Err(_) => true,
-            Ok(_) => false,
+            Ok(Call::DestroyServer { .. }) => false,
         }
     }
 }

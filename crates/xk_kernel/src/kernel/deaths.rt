@@ -6,7 +6,8 @@ ghost use Rattle.machine_model.specs.State.Changes.{answering, settled};
 ghost use Rattle.machine_model.specs.Ending.Ends.{death, forgotten, is_joining, joiners_answered, thread_ended};
 ghost use Rattle.machine_model.specs.State.Order.{ready_at};
 ghost use Rattle.machine_model.specs.Stepping.Step.{after};
-ghost use Rattle.vm_memory.specs.Memory.{processes};
+ghost use Rattle.vm_memory.specs.Memory.{ledger, processes};
+ghost use Rattle.vm_memory.specs.Pages.Removing.{HasNoLoan};
 ghost use Rattle.xk_base.specs.Tables.Circle.{is_pid};
 ghost use Rattle.xk_base.specs.declared.records.What.TheVariants.{End};
 ghost use Rattle.xk_kernel.specs.Alone.{DiesPlainly, EndsPlainly};
@@ -24,11 +25,13 @@ use xk_ports::SwapStore;
 
 impl<W: SwapStore> Kernel<W> {
     // The pages, threads, connections, claims and pending interrupts of the process go, and it is
-    // dead. The timer is disarmed where it had claimed its interrupt.
+    // dead. The timer is disarmed where it had claimed its interrupt. It lends nothing, and nothing is held
+    // at its places.
     pub(super) fn forget(&mut self, pid: Pid)
         requires whole { IsWhole W.slot_count W.held self.old }
         requires usable { IsUsable self.old }
         requires pid { IsTrue (is_pid (processes self.old.mem) pid.0) }
+        requires no_loan { HasNoLoan (ledger W.held self.old.mem) pid }
         ensures whole { IsWhole W.slot_count W.held self.new }
         ensures usable { IsUsable self.new }
         ensures machine { machine_of W.held self.new ≡ forgotten pid (machine_of W.held self.old) }
@@ -66,7 +69,8 @@ impl<W: SwapStore> Kernel<W> {
         requires pid { IsTrue (is_pid (processes self.old.mem) who.pid.0) }
         requires room { length self.old.log.records + 31 ≤ self.old.log.room }
         ensures whole { IsWhole W.slot_count W.held self.new }
-        ensures tells { Tells W.held self.old self.new (settled (answering (joiners_answered (machine_of W.held self.old) who a0) (machine_of W.held self.old))) }
+        ensures tells { let m = machine_of W.held self.old in
+            Tells W.held self.old self.new (settled (answering (joiners_answered m who a0) m)) }
         ensures mem { self.new.mem ≡ self.old.mem }
         ensures few { length self.new.log.records ≤ length self.old.log.records + 31 }
     {

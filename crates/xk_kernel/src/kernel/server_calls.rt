@@ -2,8 +2,10 @@
 
 ghost use Rattle.std.specs.Prelude.{◌≡◌, ◌<◌, ◌∷◌, true};
 ghost use Rattle.machine_model.specs.Calling.ServerCalls.{connect_refusals, connect_served, create_server_refusals, create_server_served, is_missing};
+ghost use Rattle.machine_model.specs.Runs.Matched.{Matched};
 ghost use Rattle.machine_model.specs.State.Changes.{Served, unless_refused, unless_retried};
 ghost use Rattle.machine_model.specs.State.Connections.{connect_caller, own_connections};
+ghost use Rattle.machine_model.specs.State.Order.{ready_at};
 ghost use Rattle.server_table.specs.ServersOf.{servers_of};
 ghost use Rattle.xk_base.specs.Tables.Connections.{cid_for, has_room};
 ghost use Rattle.xk_base.specs.declared.errors.XousError.TheVariants.{ServerNotFound as NotFound};
@@ -45,9 +47,13 @@ impl<W: SwapStore> Kernel<W> {
     // CreateServerWithAddress: a server of the caller's process, to which the caller is connected.
     pub(super) fn create_server(&mut self, sid: Sid) -> Result<CallerFate, XousError>
         requires whole { IsWhole W.slot_count W.held self.old }
+        requires matched { Matched (machine_of W.held self.old) }
+        requires ready { ready_at (machine_of W.held self.old) self.old.cursor ≡ true }
         requires serials { (servers_of self.old.servers).next < 4294967295 }
         ensures whole { IsWhole W.slot_count W.held self.new }
-        ensures outcome { outcome_of self.old.cursor (machine_of W.held self.new) result ≡ unless_refused (create_server_refusals (machine_of W.held self.old) sid) (Served (create_server_served (machine_of W.held self.old) sid)) }
+        ensures outcome { let old = machine_of W.held self.old in
+            let new = machine_of W.held self.new in
+            outcome_of self.old.cursor new result ≡ unless_refused (create_server_refusals old sid) (Served (create_server_served old sid)) }
         ensures undone { IfUndone result (self.new ≡ self.old) }
         ensures mem { self.new.mem ≡ self.old.mem }
         ensures log { self.new.log ≡ self.old.log }
@@ -86,7 +92,9 @@ impl<W: SwapStore> Kernel<W> {
     pub(super) fn connect(&mut self, sid: Sid) -> Result<CallerFate, XousError>
         requires whole { IsWhole W.slot_count W.held self.old }
         ensures whole { IsWhole W.slot_count W.held self.new }
-        ensures outcome { outcome_of self.old.cursor (machine_of W.held self.new) result ≡ unless_retried (is_missing (machine_of W.held self.old) sid) (unless_refused (connect_refusals (machine_of W.held self.old) sid) (Served (connect_served (machine_of W.held self.old) sid))) }
+        ensures outcome { let old = machine_of W.held self.old in
+            let new = machine_of W.held self.new in
+            outcome_of self.old.cursor new result ≡ unless_retried (is_missing old sid) (unless_refused (connect_refusals old sid) (Served (connect_served old sid))) }
         ensures undone { IfUndone result (self.new ≡ self.old) }
         ensures mem { self.new.mem ≡ self.old.mem }
         ensures log { self.new.log ≡ self.old.log }
@@ -101,7 +109,9 @@ impl<W: SwapStore> Kernel<W> {
     pub(super) fn try_connect(&mut self, sid: Sid) -> Result<CallerFate, XousError>
         requires whole { IsWhole W.slot_count W.held self.old }
         ensures whole { IsWhole W.slot_count W.held self.new }
-        ensures outcome { outcome_of self.old.cursor (machine_of W.held self.new) result ≡ unless_refused ((is_missing (machine_of W.held self.old) sid, NotFound) ∷ connect_refusals (machine_of W.held self.old) sid) (Served (connect_served (machine_of W.held self.old) sid)) }
+        ensures outcome { let old = machine_of W.held self.old in
+            let new = machine_of W.held self.new in
+            outcome_of self.old.cursor new result ≡ unless_refused ((is_missing old sid, NotFound) ∷ connect_refusals old sid) (Served (connect_served old sid)) }
         ensures undone { IfUndone result (self.new ≡ self.old) }
         ensures mem { self.new.mem ≡ self.old.mem }
         ensures log { self.new.log ≡ self.old.log }

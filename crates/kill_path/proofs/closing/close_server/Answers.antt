@@ -2,7 +2,7 @@ use Rattle.std.proofs.Common.{◌==◌, sym, subst}
 use Rattle.ledger_model.specs.Loans.{loans}
 use Rattle.msg_queue.specs.Seats.{changed_at}
 use Rattle.kill_path.specs.Ending.{emptied}
-use Rattle.send_path.proofs.SeatLemmas.{seat_in_limit}
+use Rattle.send_path.proofs.Servers.SeatLemmas.{seat_in_limit}
 use Rattle.vm_memory.specs.Memory.{ledger}
 use Rattle.kill_path.specs.Closing.{AreClosed}
 use Rattle.kill_path.specs.Noted.{noted}

@@ -1,6 +1,6 @@
 use Rattle.std.proofs.Common.{◌==◌, Some, ap, subst, ◌∙◌}
 use Rattle.machine_model.specs.State.Changes.{replies}
-use Rattle.send_path.proofs.ThreadLemmas.{ready_id}
+use Rattle.send_path.proofs.Rows.ThreadLemmas.{ready_id}
 use Rattle.send_path.specs.Rows.{log_with}
 use Rattle.send_path.specs.Threads.{answered}
 use Rattle.server_table.specs.ServersOf.{servers_of}

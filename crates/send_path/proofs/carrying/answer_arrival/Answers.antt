@@ -9,8 +9,8 @@ use Rattle.thread_table.specs.ThreadsOf.{process_count}
 use Rattle.xk_base.specs.Calls.Replies.{plain_words}
 use Rattle.xk_base.specs.declared.records.What.TheVariants.{Reply}
 use Rattle.send_path.specs.Rows.{log_with}
-use Rattle.send_path.proofs.ArriveLemmas.{none_told}
-use Rattle.send_path.proofs.ReplyLemmas.{both_with_none, no_reply, one_reply}
+use Rattle.send_path.proofs.Sends.ArriveLemmas.{none_told}
+use Rattle.send_path.proofs.Rows.ReplyLemmas.{both_with_none, no_reply, one_reply}
 use Rattle.send_path.proofs.carrying.answer_arrival.Goals as goal
 
 pub returns-in-Some-clause-log : goal.returns-in-Some-clause-log

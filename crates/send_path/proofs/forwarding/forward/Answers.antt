@@ -4,7 +4,7 @@ use Rattle.machine_model.specs.State.Machine.{Machine}
 use Rattle.syscall_codec.specs.Calls.{Asks}
 use Rattle.send_path.specs.Forwarding.{IsRowOver}
 use Rattle.send_path.specs.Parts.{parts_of}
-use Rattle.send_path.proofs.ForwardLemmas.{forward_is}
+use Rattle.send_path.proofs.Forwards.ForwardLemmas.{forward_is}
 use Rattle.send_path.proofs.forwarding.forward.Goals as goal
 
 pub returns-clause-row : goal.returns-clause-row

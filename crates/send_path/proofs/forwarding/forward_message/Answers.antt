@@ -16,11 +16,11 @@ use Rattle.send_path.specs.Arrivals.{with_arrived}
 use Rattle.send_path.specs.Forwarding.{with_processes}
 use Rattle.send_path.specs.Parts.{parts_of}
 use Rattle.send_path.specs.Sound.{AreLoansSound, AreSeatsSound}
-use Rattle.send_path.proofs.ForwardLemmas.{goes_on, no_run, not_passable, not_reached, passed_on, to_full, to_holder}
-use Rattle.send_path.proofs.ForwardSoundLemmas.{has_lender, has_loan_on, has_pages, has_room, its_count, its_run_stands, loans_on, pass_is, seats_on, still_matched, stood_on}
-use Rattle.send_path.proofs.ReachedLemmas.{arrival_low, caller_bounds, room_left, to_bounds, to_in_mem, to_receivers, to_seat}
-use Rattle.send_path.proofs.ReturnLemmas.{has_loan, its_kind, none_held, other_kind, shown}
-use Rattle.send_path.proofs.SeatLemmas.{seat_in_limit}
+use Rattle.send_path.proofs.Forwards.ForwardLemmas.{goes_on, no_run, not_passable, not_reached, passed_on, to_full, to_holder}
+use Rattle.send_path.proofs.Forwards.ForwardSoundLemmas.{has_lender, has_loan_on, has_pages, has_room, its_count, its_run_stands, loans_on, pass_is, seats_on, still_matched, stood_on}
+use Rattle.send_path.proofs.Servers.ReachedLemmas.{arrival_low, caller_bounds, room_left, to_bounds, to_in_mem, to_receivers, to_seat}
+use Rattle.send_path.proofs.Receivers.ReturnLemmas.{has_loan, its_kind, none_held, other_kind, shown}
+use Rattle.send_path.proofs.Servers.SeatLemmas.{seat_in_limit}
 use Rattle.send_path.proofs.forwarding.forward_message.Goals as goal
 
 pub returns-in_default-clause-sound : goal.returns-in_default-clause-sound

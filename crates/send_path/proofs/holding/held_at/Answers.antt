@@ -4,7 +4,7 @@ use Rattle.std.specs.Option.{option_copied}
 use Rattle.std.proofs.lemmas.Bool.{eqb-true}
 use Rattle.xk_base.specs.declared.ids.Pid.{Pid}
 use Rattle.machine_laws.proofs.Calling.RunRefusalLemmas.{not_false}
-use Rattle.send_path.proofs.SeatSearchLemmas.{found_seat}
+use Rattle.send_path.proofs.Servers.SeatSearchLemmas.{found_seat}
 use Rattle.send_path.proofs.holding.held_at.Goals as goal
 
 pub returns : goal.returns

@@ -3,7 +3,7 @@ use Rattle.std.proofs.lemmas.Bool.{cases_lt}
 use Rattle.server_table.proofs.Lemmas.{seat_within}
 use Rattle.server_table.specs.ServersOf.{servers_of}
 use Rattle.send_path.specs.Seats.{IsNotHeldAt}
-use Rattle.send_path.proofs.SeatSearchLemmas.{found_seat}
+use Rattle.send_path.proofs.Servers.SeatSearchLemmas.{found_seat}
 use Rattle.send_path.proofs.holding.held_by.Goals as goal
 
 pub loop-seat-preserved : goal.loop-seat-preserved

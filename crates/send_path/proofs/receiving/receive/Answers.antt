@@ -4,14 +4,15 @@ use Rattle.msg_queue.specs.Seats.{seat_of, used_of, without_queued_at}
 use Rattle.xk_base.specs.declared.records.What.TheVariants.{Reply}
 use Rattle.send_path.specs.Parts.{Tables, threads_shown}
 use Rattle.send_path.specs.Rows.{log_with}
-use Rattle.send_path.specs.Sound.{AreSeatsSound}
+use Rattle.send_path.specs.Seats.{HasLoanIfLend}
+use Rattle.send_path.specs.Sound.{AreLoansSound, AreSeatsSound}
 use Rattle.send_path.specs.Threads.{answered, changed_thread}
 use Rattle.server_table.specs.ServersOf.{servers_of}
 use Rattle.machine_model.specs.State.Threads.{answer_to}
-use Rattle.send_path.proofs.ReceiveLemmas.{message_got, not_found, still_matched, taken_from, taken_sound, told_none, waited}
-use Rattle.send_path.proofs.SeatLemmas.{seat_changed, seat_in_limit, seat_is_there}
-use Rattle.send_path.proofs.SoundLemmas.{nothing_taken, oldest_lent, one_fewer, slots_few, unchanged_at}
-use Rattle.send_path.proofs.ThreadLemmas.{ready_id}
+use Rattle.send_path.proofs.Receivers.ReceiveLemmas.{message_got, not_found, still_matched, taken_from, taken_loans, taken_sound, told_none, waited}
+use Rattle.send_path.proofs.Servers.SeatLemmas.{seat_changed, seat_in_limit, seat_is_there}
+use Rattle.send_path.proofs.Servers.SoundLemmas.{nothing_taken, oldest_too, one_fewer, slots_few, unchanged_at}
+use Rattle.send_path.proofs.Rows.ThreadLemmas.{ready_id}
 use Rattle.send_path.proofs.receiving.receive.Goals as goal
 
 pub returns-in_default-clause-row : goal.returns-in_default-clause-row
@@ -40,7 +41,7 @@ keep_received-requires-clause-room c =
 
 pub keep_received-requires-clause-loan : goal.keep_received-requires-clause-loan
 keep_received-requires-clause-loan c =
-    oldest_lent (seat_of c.args.queues.now c.in-Some.field-0.seat) c.in-Some-take_oldest.message (sym c.in-Some-take_oldest.ensures.message)
+    oldest_too HasLoanIfLend (seat_of c.args.queues.now c.in-Some.field-0.seat) c.in-Some-take_oldest.message (sym c.in-Some-take_oldest.ensures.message)
     (c.requires.sound.seats.loans c.in-Some.field-0.seat)
 
 pub returns-in-Some-take_oldest-clause-row : goal.returns-in-Some-take_oldest-clause-row
@@ -80,6 +81,18 @@ returns-in-Some-take_oldest-clause-sound c = λ above.
           (taken_sound c.args.who old c.in-Some.field-0.serial.0 k h c.requires.sound c.in-Some.ensures.seat (sym c.in-Some-take_oldest.ensures.message));
     }
 
+pub returns-in-Some-take_oldest-clause-loans : goal.returns-in-Some-take_oldest-clause-loans
+returns-in-Some-take_oldest-clause-loans c = λ all sound.
+    let k = c.in-Some.field-0.seat in
+    let h = c.in-Some-take_oldest.message in
+    let q = c.args.queues.now in
+    subst (λ seats. AreLoansSound all (servers_of c.args.servers.now) seats)
+    (sym (taken_from q c.take_oldest.new.self c.keep_received.new.queues k h
+    (seat_is_there c.args.servers.now q c.in-Some.field-0.serial.0 k c.in-Some.ensures.seat c.requires.sound.seats.all)
+    c.take_oldest.ensures.rest c.keep_received.ensures))
+    (taken_loans c.args.servers.now q c.in-Some.field-0.serial.0 k c.in-Some.ensures.seat c.requires.sound.seats.all h
+    (sym c.in-Some-take_oldest.ensures.message) all sound)
+
 pub returns-then-wait_for_one-clause-row : goal.returns-then-wait_for_one-clause-row
 returns-then-wait_for_one-clause-row c =
     let k = c.in-Some.field-0.seat in
@@ -106,6 +119,14 @@ returns-then-wait_for_one-clause-sound c = λ above.
           (sym (c.take_oldest.ensures.rest ∙ unchanged_at c.args.queues.now k (without_queued_at 0) (nothing_taken (seat_of c.args.queues.now k) none)))
           c.requires.sound.seats;
     }
+
+pub returns-then-wait_for_one-clause-loans : goal.returns-then-wait_for_one-clause-loans
+returns-then-wait_for_one-clause-loans c = λ all sound.
+    let k = c.in-Some.field-0.seat in
+    subst (λ q. AreLoansSound all (servers_of c.args.servers.now) q)
+    (sym (c.take_oldest.ensures.rest
+    ∙ unchanged_at c.args.queues.now k (without_queued_at 0) (nothing_taken (seat_of c.args.queues.now k) (sym c.in_default-take_oldest.ensures.message))))
+    sound
 
 pub returns-else-wait_for_one-clause-row : goal.returns-else-wait_for_one-clause-row
 returns-else-wait_for_one-clause-row c =
@@ -136,3 +157,11 @@ returns-else-wait_for_one-clause-sound c = λ above.
           (sym (c.take_oldest.ensures.rest ∙ unchanged_at c.args.queues.now k (without_queued_at 0) (nothing_taken (seat_of c.args.queues.now k) none)))
           c.requires.sound.seats;
     }
+
+pub returns-else-wait_for_one-clause-loans : goal.returns-else-wait_for_one-clause-loans
+returns-else-wait_for_one-clause-loans c = λ all sound.
+    let k = c.in-Some.field-0.seat in
+    subst (λ q. AreLoansSound all (servers_of c.args.servers.now) q)
+    (sym (c.take_oldest.ensures.rest
+    ∙ unchanged_at c.args.queues.now k (without_queued_at 0) (nothing_taken (seat_of c.args.queues.now k) (sym c.in_default-take_oldest.ensures.message))))
+    sound

@@ -17,8 +17,8 @@ use Rattle.send_path.specs.Parts.{threads_shown, with_parts}
 use Rattle.send_path.specs.Rows.{log_with, memory_row}
 use Rattle.send_path.specs.Sound.{AreLoansSound, AreSeatsSound}
 use Rattle.send_path.specs.Threads.{answered, changed_thread}
-use Rattle.send_path.proofs.ReturnLemmas.{gave_back, has_loan, held_alike, holder_alike, its_holder, its_kind, its_loan, loan_number, loans_left, memory_change_is, memory_elsewhere, memory_keeps, memory_refused, memory_served, none_held, other_kind, others_stand, seats_left, sender_fits, shown, still_matched}
-use Rattle.send_path.proofs.ThreadLemmas.{ready_id}
+use Rattle.send_path.proofs.Receivers.ReturnLemmas.{gave_back, has_loan, held_alike, holder_alike, its_holder, its_kind, its_loan, loan_number, loans_left, memory_change_is, memory_elsewhere, memory_keeps, memory_refused, memory_served, none_held, other_kind, others_stand, seats_left, sender_fits, shown, still_matched}
+use Rattle.send_path.proofs.Rows.ThreadLemmas.{ready_id}
 use Rattle.send_path.proofs.returning.return_memory.Goals as goal
 
 pub returns-in_default-clause-row : goal.returns-in_default-clause-row

@@ -16,8 +16,8 @@ use Rattle.send_path.specs.Parts.{threads_shown, with_parts}
 use Rattle.send_path.specs.Rows.{log_with, scalar_row}
 use Rattle.send_path.specs.Sound.{AreLoansSound, AreSeatsSound}
 use Rattle.send_path.specs.Threads.{answered, changed_thread}
-use Rattle.send_path.proofs.ReturnLemmas.{blocking_no_lend, change_is, gave_back, has_loan, held_alike, holder_alike, its_holder, its_kind, loans_left, none_held, other_kind, row_keeps, scalar_refused, scalar_served, seats_left, sender_fits, shown, still_matched}
-use Rattle.send_path.proofs.ThreadLemmas.{ready_id}
+use Rattle.send_path.proofs.Receivers.ReturnLemmas.{blocking_no_lend, change_is, gave_back, has_loan, held_alike, holder_alike, its_holder, its_kind, loans_left, none_held, other_kind, row_keeps, scalar_refused, scalar_served, seats_left, sender_fits, shown, still_matched}
+use Rattle.send_path.proofs.Rows.ThreadLemmas.{ready_id}
 use Rattle.send_path.proofs.returning.return_scalar.Goals as goal
 
 pub returns-in_default-clause-row : goal.returns-in_default-clause-row

@@ -2,7 +2,7 @@ use Rattle.std.proofs.Common.{sym, ap, ◌∙◌}
 use Rattle.std.specs.Prelude.{◌==◌, ◌&&◌}
 use Rattle.xk_base.specs.Calls.Kinds.{is_waiting_kind}
 use Rattle.send_path.specs.Parts.{parts_of}
-use Rattle.send_path.proofs.TrySendLemmas.{row_of}
+use Rattle.send_path.proofs.Sends.TrySendLemmas.{row_of}
 use Rattle.send_path.proofs.sending.send.Goals as goal
 
 pub returns-clause-row : goal.returns-clause-row

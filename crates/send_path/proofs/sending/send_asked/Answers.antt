@@ -18,11 +18,11 @@ use Rattle.send_path.specs.Rows.{log_with}
 use Rattle.send_path.specs.Sending.{MayGo, asked_words, with_next}
 use Rattle.send_path.specs.Sound.{AreLoansSound, AreSeatsSound}
 use Rattle.send_path.specs.Threads.{answered, changed_thread}
-use Rattle.send_path.proofs.MatchedSendLemmas.{rest, sent_matched}
-use Rattle.send_path.proofs.SendLemmas.{first_low, full_row, held_loan, may_go, no_kind_row, no_run_row, no_server_row, other_error, pages_error, pages_row, run_row}
-use Rattle.send_path.proofs.ReachedLemmas.{caller_bounds, caller_in_mem, room_left, to_bounds, to_in_mem, to_receivers, to_seat}
-use Rattle.send_path.proofs.SentLemmas.{at_send, message_at, sent_row}
-use Rattle.send_path.proofs.SentSoundLemmas.{arrived_loans, arrived_seats, made_if_lend, others_stand_after}
+use Rattle.send_path.proofs.Sends.MatchedSendLemmas.{rest, sent_matched}
+use Rattle.send_path.proofs.Sends.SendLemmas.{first_low, full_row, held_loan, may_go, no_kind_row, no_run_row, no_server_row, other_error, pages_error, pages_row, run_row}
+use Rattle.send_path.proofs.Servers.ReachedLemmas.{caller_bounds, caller_in_mem, room_left, to_bounds, to_in_mem, to_receivers, to_seat}
+use Rattle.send_path.proofs.Sends.SentLemmas.{at_send, message_at, sent_row}
+use Rattle.send_path.proofs.Sends.SentSoundLemmas.{arrived_loans, arrived_seats, made_if_lend, others_stand_after}
 use Rattle.send_path.proofs.sending.send_asked.Goals as goal
 
 pub connected_server-requires : goal.connected_server-requires

@@ -5,7 +5,7 @@ use Rattle.std.specs.Option.{option_copied}
 use Rattle.std.proofs.Common.{sym}
 use Rattle.thread_table.specs.declared.thread.ThreadState.TheVariants as table
 use Rattle.send_path.specs.Parts.{threads_shown}
-use Rattle.send_path.proofs.ThreadLemmas.{answered_one, put_shown}
+use Rattle.send_path.proofs.Rows.ThreadLemmas.{answered_one, put_shown}
 use Rattle.send_path.proofs.threads.answer.Goals as goal
 
 pub returns-in-Some-clause-after : goal.returns-in-Some-clause-after

@@ -5,7 +5,7 @@ use Rattle.xk_base.specs.declared.records.What.TheVariants.{Reply}
 use Rattle.send_path.specs.Parts.{threads_shown}
 use Rattle.send_path.specs.Rows.{log_with}
 use Rattle.send_path.specs.Threads.{answered}
-use Rattle.send_path.proofs.ReplyLemmas.{both_given, both_told, both_told_back, pushed_two}
+use Rattle.send_path.proofs.Rows.ReplyLemmas.{both_given, both_told, both_told_back, pushed_two}
 use Rattle.send_path.proofs.threads.answer_both.Goals as goal
 
 pub returns-then-is_before-clause-after : goal.returns-then-is_before-clause-after

@@ -8,7 +8,7 @@ use Rattle.xk_base.specs.declared.records.What.TheVariants.{Reply}
 use Rattle.send_path.specs.Parts.{threads_shown}
 use Rattle.send_path.specs.Rows.{log_with}
 use Rattle.send_path.specs.Threads.{answered, changed_thread}
-use Rattle.send_path.proofs.ReplyLemmas.{both_with_none, one_reply}
+use Rattle.send_path.proofs.Rows.ReplyLemmas.{both_with_none, one_reply}
 use Rattle.send_path.proofs.threads.answer_with_sender.Goals as goal
 
 pub returns-in-None-clause-after : goal.returns-in-None-clause-after

@@ -8,5 +8,5 @@ pub returns : goal.returns
 unfolding noted
 returns c =
     let size : length c.args.self.now.marks ≡ 992 = omega arith in
-    ap (λ k. marked (set c.args.self.now.marks k true)) c.place_of.ensures.place
+    ap (λ k. marked (set c.args.self.now.marks k true)) c.place_of.ensures
     ∙ marked-set c.args.self.now.marks c.args.id size c.requires

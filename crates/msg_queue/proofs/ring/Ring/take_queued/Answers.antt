@@ -1,7 +1,7 @@
 use Rattle.std.proofs.Common.{◌≤◌, length, ap, sym, subst, ◌∙◌}
 use Rattle.std.proofs.lemmas.List.Folds.{find_at}
 use Rattle.std.specs.List.{slice_get}
-use Rattle.msg_queue.specs.Seats.{is_of_number, place_of, without_queued_at}
+use Rattle.msg_queue.specs.Seats.{is_of_number, message_place, without_queued_at}
 use Rattle.msg_queue.specs.Shown.{links_of, seat_shown}
 use Rattle.msg_queue.proofs.CallLemmas.{queued_taken, get_past, spot_of_same}
 use Rattle.msg_queue.proofs.AfterLemmas.{after_take_queued, queued_taken_out, with_queued_words, none_queued, queued_as_it_was}
@@ -10,27 +10,27 @@ use Rattle.msg_queue.proofs.ring.Ring.take_queued.Goals as goal
 pub returns-then-spot-clause-message : goal.returns-then-spot-clause-message
 returns-then-spot-clause-message c =
     let l = links_of c.self.inside in
-    let place = place_of c.args.number (seat_shown c.self.inside.slots.items l).queued in
+    let place = message_place c.args.number (seat_shown c.self.inside.slots.items l).queued in
     let at = spot_of_same c.self.inside.slots.items c.as_slice.result.now l.next c.as_slice-2.result.now l.queued c.args.number c.spot_of-spot.result
     c.as_slice.ensures.value c.as_slice-2.ensures.value c.spot_of-spot.ensures in
     let none = none_queued c.self.inside.slots.items l place c.spot_of-spot.result c.self.invariant at c.if-spot.true in
-    sym (find_at (is_of_number c.args.number) c.args.self.now.queued ∙ get_past c.args.self.now.queued (place_of c.args.number c.args.self.now.queued)
-    (subst (λ seat. length seat.queued ≤ place_of c.args.number seat.queued) c.self.view_is none))
+    sym (find_at (is_of_number c.args.number) c.args.self.now.queued ∙ get_past c.args.self.now.queued (message_place c.args.number c.args.self.now.queued)
+    (subst (λ seat. length seat.queued ≤ message_place c.args.number seat.queued) c.self.view_is none))
 
 pub returns-then-spot-clause-rest : goal.returns-then-spot-clause-rest
 returns-then-spot-clause-rest c =
     let l = links_of c.self.inside in
-    let place = place_of c.args.number (seat_shown c.self.inside.slots.items l).queued in
+    let place = message_place c.args.number (seat_shown c.self.inside.slots.items l).queued in
     let at = spot_of_same c.self.inside.slots.items c.as_slice.result.now l.next c.as_slice-2.result.now l.queued c.args.number c.spot_of-spot.result
     c.as_slice.ensures.value c.as_slice-2.ensures.value c.spot_of-spot.ensures in
     let none = none_queued c.self.inside.slots.items l place c.spot_of-spot.result c.self.invariant at c.if-spot.true in
-    queued_as_it_was c.args.self.now (place_of c.args.number c.args.self.now.queued)
-    (subst (λ seat. length seat.queued ≤ place_of c.args.number seat.queued) c.self.view_is none)
+    queued_as_it_was c.args.self.now (message_place c.args.number c.args.self.now.queued)
+    (subst (λ seat. length seat.queued ≤ message_place c.args.number seat.queued) c.self.view_is none)
 
 pub take_out-requires-clause-slot : goal.take_out-requires-clause-slot
 take_out-requires-clause-slot c =
     let l = links_of c.self.inside in
-    let place = place_of c.args.number (seat_shown c.self.inside.slots.items l).queued in
+    let place = message_place c.args.number (seat_shown c.self.inside.slots.items l).queued in
     let at = spot_of_same c.self.inside.slots.items c.as_slice.result.now l.next c.as_slice-2.result.now l.queued c.args.number c.spot_of-spot.result
     c.as_slice.ensures.value c.as_slice-2.ensures.value c.spot_of-spot.ensures in
     (queued_taken c.self.inside.slots.items l place c.spot_of-spot.result c.self.invariant at c.if-spot.false).slot
@@ -38,7 +38,7 @@ take_out-requires-clause-slot c =
 pub take_out-requires-clause-before : goal.take_out-requires-clause-before
 take_out-requires-clause-before c =
     let l = links_of c.self.inside in
-    let place = place_of c.args.number (seat_shown c.self.inside.slots.items l).queued in
+    let place = message_place c.args.number (seat_shown c.self.inside.slots.items l).queued in
     let at = spot_of_same c.self.inside.slots.items c.as_slice.result.now l.next c.as_slice-2.result.now l.queued c.args.number c.spot_of-spot.result
     c.as_slice.ensures.value c.as_slice-2.ensures.value c.spot_of-spot.ensures in
     (queued_taken c.self.inside.slots.items l place c.spot_of-spot.result c.self.invariant at c.if-spot.false).before
@@ -46,7 +46,7 @@ take_out-requires-clause-before c =
 pub invariant_of-self : goal.invariant_of-self
 invariant_of-self c =
     let l = links_of c.self.inside in
-    let place = place_of c.args.number (seat_shown c.self.inside.slots.items l).queued in
+    let place = message_place c.args.number (seat_shown c.self.inside.slots.items l).queued in
     let at = spot_of_same c.self.inside.slots.items c.as_slice.result.now l.next c.as_slice-2.result.now l.queued c.args.number c.spot_of-spot.result
     c.as_slice.ensures.value c.as_slice-2.ensures.value c.spot_of-spot.ensures in
     let words = queued_taken_out l c.spot_of-spot.result c.take_out.new.next.items c.take_out.new.free c.take_out.new.first c.take_out.new.last
@@ -58,18 +58,18 @@ invariant_of-self c =
 pub returns-clause-message : goal.returns-clause-message
 returns-clause-message c =
     let l = links_of c.self.inside in
-    let place = place_of c.args.number (seat_shown c.self.inside.slots.items l).queued in
+    let place = message_place c.args.number (seat_shown c.self.inside.slots.items l).queued in
     let at = spot_of_same c.self.inside.slots.items c.as_slice.result.now l.next c.as_slice-2.result.now l.queued c.args.number c.spot_of-spot.result
     c.as_slice.ensures.value c.as_slice-2.ensures.value c.spot_of-spot.ensures in
     c.take_out.ensures.message
     ∙ (queued_taken c.self.inside.slots.items l place c.spot_of-spot.result c.self.invariant at c.if-spot.false).message
-    ∙ ap (λ seat. slice_get seat.queued (place_of c.args.number seat.queued)) c.self.view_is
+    ∙ ap (λ seat. slice_get seat.queued (message_place c.args.number seat.queued)) c.self.view_is
     ∙ sym (find_at (is_of_number c.args.number) c.args.self.now.queued)
 
 pub returns-clause-rest : goal.returns-clause-rest
 returns-clause-rest c =
     let l = links_of c.self.inside in
-    let place = place_of c.args.number (seat_shown c.self.inside.slots.items l).queued in
+    let place = message_place c.args.number (seat_shown c.self.inside.slots.items l).queued in
     let at = spot_of_same c.self.inside.slots.items c.as_slice.result.now l.next c.as_slice-2.result.now l.queued c.args.number c.spot_of-spot.result
     c.as_slice.ensures.value c.as_slice-2.ensures.value c.spot_of-spot.ensures in
     let words = queued_taken_out l c.spot_of-spot.result c.take_out.new.next.items c.take_out.new.free c.take_out.new.first c.take_out.new.last
@@ -77,4 +77,4 @@ returns-clause-rest c =
     (after_take_queued c.self.inside.slots.items c.take_out.new.slots.items l
     (with_queued_words l c.take_out.new.next.items c.take_out.new.free c.take_out.new.first c.take_out.new.last) place c.spot_of-spot.result c.self.invariant
     at c.if-spot.false c.take_out.ensures.slots words).shows
-    ∙ ap (λ seat. without_queued_at (place_of c.args.number seat.queued) seat) c.self.view_is
+    ∙ ap (λ seat. without_queued_at (message_place c.args.number seat.queued) seat) c.self.view_is

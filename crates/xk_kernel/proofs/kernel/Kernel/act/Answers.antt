@@ -1,5 +1,5 @@
 -- The thread ends, or its instruction is executed: what the kernel became and told is what the machine makes of it.
-use Rattle.std.proofs.Common.{◌≡◌, ◌+◌, ◌<◌, true, false, [], is_some, sym, ap, subst, ◌∙◌}
+use Rattle.std.proofs.Common.{rules, ◌≡◌, ◌+◌, ◌<◌, true, false, [], is_some, sym, ap, subst, ◌∙◌}
 use Rattle.machine_laws.proofs.Threading.ThreadStepLemmas.{actor_ready}
 use Rattle.std.proofs.lemmas.Bool.{and_parts}
 use Rattle.std.proofs.lemmas.Option.{same_Some}
@@ -142,13 +142,19 @@ returns-then-not-call_built-clause-acts g c =
 pub call-requires-clause-built : goal.call-requires-clause-built
 call-requires-clause-built g c = (and_parts (is_call_built c.arguments-words.result) _ (sym c.call_built.ensures ∙ c.if-not-call_built.false)).0
 
-pub call-requires-clause-few : goal.call-requires-clause-few
+pub call-requires-clause-calls : goal.call-requires-clause-calls
 unfolding machine_of
-call-requires-clause-few g c =
+call-requires-clause-calls g c =
     let called : (executed (at c.args.who (machine_of g.W.SwapStore.held c.args.self.now)) (thread_of c.thread-thread.result.now) (fetched (machine_of g.W.SwapStore.held c.args.self.now) c.args.who (thread_of c.thread-thread.result.now) c.thread-thread.ensures) ≡ after (Call c.args.who (arguments_of (thread_of c.thread-thread.result.now).regs)) (call_settled (at c.args.who (machine_of g.W.SwapStore.held c.args.self.now)) (call (at c.args.who (machine_of g.W.SwapStore.held c.args.self.now)) (arguments_of (thread_of c.thread-thread.result.now).regs)))) × (machine_after c.args.who (machine_of g.W.SwapStore.held c.args.self.now) (fetched (machine_of g.W.SwapStore.held c.args.self.now) c.args.who (thread_of c.thread-thread.result.now) c.thread-thread.ensures) ≡ (machine_of g.W.SwapStore.held c.args.self.now)) × (executed_built (machine_of g.W.SwapStore.held c.args.self.now) c.args.who (thread_of c.thread-thread.result.now) (fetched (machine_of g.W.SwapStore.held c.args.self.now) c.args.who (thread_of c.thread-thread.result.now) c.thread-thread.ensures) ≡ call_built (machine_of g.W.SwapStore.held c.args.self.now) c.args.who (arguments_of (thread_of c.thread-thread.result.now).regs)) = call_executed (machine_of g.W.SwapStore.held c.args.self.now) c.args.who (thread_of c.thread-thread.result.now) (fetched (machine_of g.W.SwapStore.held c.args.self.now) c.args.who (thread_of c.thread-thread.result.now) c.thread-thread.ensures) (sym (c.run.ensures.answer (thread_of c.thread-thread.result.now) c.thread-thread.ensures) ∙ c.in-Ecall.is) in
     let left : machine_of g.W.SwapStore.held c.run.new.self ≡ (machine_of g.W.SwapStore.held c.args.self.now) = (c.run.ensures.machine (thread_of c.thread-thread.result.now) c.thread-thread.ensures) ∙ called.1 in
     let begun : machine_of g.W.SwapStore.held c.begin-in-Ecall.new.self ≡ at c.args.who (machine_of g.W.SwapStore.held c.args.self.now) = c.begin-in-Ecall.ensures.machine ∙ ap (at c.args.who) left in
-    subst (λ s. s < 4000000000) (sym (ap (λ (m : Machine). m.steps) begun)) c.requires.few
+    record {
+      whole = c.begin-in-Ecall.ensures.whole;
+      usable = search rules;
+      matched = subst Matched (sym begun) (matched_at c.args.who (machine_of g.W.SwapStore.held c.args.self.now) (c.requires.sound.matched c.requires.usable));
+      few = subst (λ s. s < 4000000000) (sym (ap (λ (m : Machine). m.steps) begun)) c.requires.few;
+      ready = begun_ready g.W.SwapStore.held c.args.self.now c.begin-in-Ecall.new.self c.begin-in-Ecall.new.self c.args.who c.requires.who begun;
+    }
 
 pub call-requires-clause-plain : goal.call-requires-clause-plain
 call-requires-clause-plain g c ends =
@@ -157,20 +163,6 @@ call-requires-clause-plain g c ends =
     let begun : machine_of g.W.SwapStore.held c.begin-in-Ecall.new.self ≡ at c.args.who (machine_of g.W.SwapStore.held c.args.self.now) = c.begin-in-Ecall.ensures.machine ∙ ap (at c.args.who) left in
     begun_plain g.W.SwapStore.held c.args.self.now c.begin-in-Ecall.new.self c.begin-in-Ecall.new.self c.args.who (c.requires.sound.matched c.requires.usable) begun
     (call_alone (machine_of g.W.SwapStore.held c.args.self.now) c.args.who c.arguments-words.result ends (sym (c.call_built.ensures ∙ ap (λ m. call_built m c.args.who c.arguments-words.result) left) ∙ c.if-not-call_built.false))
-
-pub call-requires-clause-matched : goal.call-requires-clause-matched
-call-requires-clause-matched g c =
-    let called : (executed (at c.args.who (machine_of g.W.SwapStore.held c.args.self.now)) (thread_of c.thread-thread.result.now) (fetched (machine_of g.W.SwapStore.held c.args.self.now) c.args.who (thread_of c.thread-thread.result.now) c.thread-thread.ensures) ≡ after (Call c.args.who (arguments_of (thread_of c.thread-thread.result.now).regs)) (call_settled (at c.args.who (machine_of g.W.SwapStore.held c.args.self.now)) (call (at c.args.who (machine_of g.W.SwapStore.held c.args.self.now)) (arguments_of (thread_of c.thread-thread.result.now).regs)))) × (machine_after c.args.who (machine_of g.W.SwapStore.held c.args.self.now) (fetched (machine_of g.W.SwapStore.held c.args.self.now) c.args.who (thread_of c.thread-thread.result.now) c.thread-thread.ensures) ≡ (machine_of g.W.SwapStore.held c.args.self.now)) × (executed_built (machine_of g.W.SwapStore.held c.args.self.now) c.args.who (thread_of c.thread-thread.result.now) (fetched (machine_of g.W.SwapStore.held c.args.self.now) c.args.who (thread_of c.thread-thread.result.now) c.thread-thread.ensures) ≡ call_built (machine_of g.W.SwapStore.held c.args.self.now) c.args.who (arguments_of (thread_of c.thread-thread.result.now).regs)) = call_executed (machine_of g.W.SwapStore.held c.args.self.now) c.args.who (thread_of c.thread-thread.result.now) (fetched (machine_of g.W.SwapStore.held c.args.self.now) c.args.who (thread_of c.thread-thread.result.now) c.thread-thread.ensures) (sym (c.run.ensures.answer (thread_of c.thread-thread.result.now) c.thread-thread.ensures) ∙ c.in-Ecall.is) in
-    let left : machine_of g.W.SwapStore.held c.run.new.self ≡ (machine_of g.W.SwapStore.held c.args.self.now) = (c.run.ensures.machine (thread_of c.thread-thread.result.now) c.thread-thread.ensures) ∙ called.1 in
-    let begun : machine_of g.W.SwapStore.held c.begin-in-Ecall.new.self ≡ at c.args.who (machine_of g.W.SwapStore.held c.args.self.now) = c.begin-in-Ecall.ensures.machine ∙ ap (at c.args.who) left in
-    subst Matched (sym begun) (matched_at c.args.who (machine_of g.W.SwapStore.held c.args.self.now) (c.requires.sound.matched c.requires.usable))
-
-pub call-requires-clause-ready : goal.call-requires-clause-ready
-call-requires-clause-ready g c =
-    let called : (executed (at c.args.who (machine_of g.W.SwapStore.held c.args.self.now)) (thread_of c.thread-thread.result.now) (fetched (machine_of g.W.SwapStore.held c.args.self.now) c.args.who (thread_of c.thread-thread.result.now) c.thread-thread.ensures) ≡ after (Call c.args.who (arguments_of (thread_of c.thread-thread.result.now).regs)) (call_settled (at c.args.who (machine_of g.W.SwapStore.held c.args.self.now)) (call (at c.args.who (machine_of g.W.SwapStore.held c.args.self.now)) (arguments_of (thread_of c.thread-thread.result.now).regs)))) × (machine_after c.args.who (machine_of g.W.SwapStore.held c.args.self.now) (fetched (machine_of g.W.SwapStore.held c.args.self.now) c.args.who (thread_of c.thread-thread.result.now) c.thread-thread.ensures) ≡ (machine_of g.W.SwapStore.held c.args.self.now)) × (executed_built (machine_of g.W.SwapStore.held c.args.self.now) c.args.who (thread_of c.thread-thread.result.now) (fetched (machine_of g.W.SwapStore.held c.args.self.now) c.args.who (thread_of c.thread-thread.result.now) c.thread-thread.ensures) ≡ call_built (machine_of g.W.SwapStore.held c.args.self.now) c.args.who (arguments_of (thread_of c.thread-thread.result.now).regs)) = call_executed (machine_of g.W.SwapStore.held c.args.self.now) c.args.who (thread_of c.thread-thread.result.now) (fetched (machine_of g.W.SwapStore.held c.args.self.now) c.args.who (thread_of c.thread-thread.result.now) c.thread-thread.ensures) (sym (c.run.ensures.answer (thread_of c.thread-thread.result.now) c.thread-thread.ensures) ∙ c.in-Ecall.is) in
-    let left : machine_of g.W.SwapStore.held c.run.new.self ≡ (machine_of g.W.SwapStore.held c.args.self.now) = (c.run.ensures.machine (thread_of c.thread-thread.result.now) c.thread-thread.ensures) ∙ called.1 in
-    let begun : machine_of g.W.SwapStore.held c.begin-in-Ecall.new.self ≡ at c.args.who (machine_of g.W.SwapStore.held c.args.self.now) = c.begin-in-Ecall.ensures.machine ∙ ap (at c.args.who) left in
-    begun_ready g.W.SwapStore.held c.args.self.now c.begin-in-Ecall.new.self c.begin-in-Ecall.new.self c.args.who c.requires.who begun
 
 pub returns-in_ok-call-in-Ecall-clause-acts : goal.returns-in_ok-call-in-Ecall-clause-acts
 returns-in_ok-call-in-Ecall-clause-acts g c =

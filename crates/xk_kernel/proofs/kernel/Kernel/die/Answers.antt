@@ -1,5 +1,10 @@
+use Rattle.xk_kernel.specs.State.{machine_of}
 use Rattle.xk_kernel.proofs.Ending.DyingLemmas.{dies}
 use Rattle.xk_kernel.proofs.kernel.Kernel.die.Goals as goal
+
+pub forget-requires-clause-no_loan : goal.forget-requires-clause-no_loan
+unfolding machine_of
+forget-requires-clause-no_loan g c = c.requires.plain.no_loan
 
 pub returns-clause-tells : goal.returns-clause-tells
 returns-clause-tells g c =

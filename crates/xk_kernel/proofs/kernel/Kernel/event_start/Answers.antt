@@ -7,7 +7,7 @@ use Rattle.xk_kernel.specs.Built.{event_built}
 use Rattle.xk_kernel.specs.State.{machine_of}
 use Rattle.xk_kernel.specs.Stepping.{Becomes, event_done}
 use Rattle.xk_kernel.specs.Telling.{log_with}
-use Rattle.xk_kernel.proofs.Ending.EventLemmas.{became_sound, irq_matched, kill_matched, killed_done, known, left_matched, lives, logged_whole, nothing_done, pick_matched, picked_done, pushed_whole, spared_done, unreserved_whole}
+use Rattle.xk_kernel.proofs.Ending.EventLemmas.{became_sound, irq_matched, kill_matched, killed_done, known, left_matched, lives, logged_whole, nothing_done, plainly, pick_matched, picked_done, pushed_whole, spared_done, unreserved_whole}
 use Rattle.xk_kernel.proofs.kernel.Kernel.event_start.Goals as goal
 
 -- ---- tick
@@ -76,6 +76,13 @@ forget-requires-clause-whole g c =
 
 pub forget-requires-clause-pid : goal.forget-requires-clause-pid
 forget-requires-clause-pid g c = known g.W.SwapStore.slot_count g.W.SwapStore.held c.args.self.now c.args.self.now c.requires.sound c.requires.usable c.in-Kill.pid (lives g.W.SwapStore.slot_count g.W.SwapStore.held c.args.self.now c.args.self.now c.requires.sound c.requires.usable c.in-Kill.pid c.alive.result c.alive.ensures ∙ c.if-alive.true)
+
+pub forget-requires-clause-no_loan : goal.forget-requires-clause-no_loan
+unfolding machine_of
+forget-requires-clause-no_loan g c =
+    (plainly g.W.SwapStore.slot_count g.W.SwapStore.held c.args.self.now c.args.self.now c.requires.sound c.requires.usable c.in-Kill.pid
+    (lives g.W.SwapStore.slot_count g.W.SwapStore.held c.args.self.now c.args.self.now c.requires.sound c.requires.usable c.in-Kill.pid c.alive.result c.alive.ensures ∙ c.if-alive.true)
+    (subst (λ e. event_built e (machine_of g.W.SwapStore.held c.args.self.now) ≡ true) c.in-Kill.is c.requires.built)).no_loan
 
 pub returns-then-alive-clause-sound : goal.returns-then-alive-clause-sound
 unfolding machine_of

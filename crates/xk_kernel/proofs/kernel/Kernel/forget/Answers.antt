@@ -1,8 +1,10 @@
 use Rattle.std.proofs.Common.{ap, sym, ◌∙◌, subst, IsTrue}
+use Rattle.ledger_model.specs.Loans.{loans}
 use Rattle.machine_model.specs.Stepping.Interrupts.{disarmed_if}
-use Rattle.vm_memory.specs.Memory.{Size, ledger}
+use Rattle.vm_memory.specs.Memory.{Size, ledger, processes}
 use Rattle.xk_base.specs.Tables.Circle.{is_thread_id}
-use Rattle.xk_kernel.proofs.Ending.DeathOfLemmas.{forget_unlent, machine_forgotten}
+use Rattle.xk_kernel.proofs.Ending.DeathOfLemmas.{forget_keeps, machine_forgotten}
+use Rattle.xk_kernel.proofs.Memory.KeptLoanLemmas.{servers_over}
 use Rattle.xk_kernel.proofs.kernel.Kernel.forget.Goals as goal
 
 pub returns-clause-whole : goal.returns-clause-whole
@@ -15,8 +17,12 @@ returns-clause-whole g c =
       procs = c.end.ensures.count ∙ old.procs ∙ sym same;
       cursor = subst (λ n. IsTrue (is_thread_id n c.args.self.now.cursor)) (sym same) old.cursor;
       room = old.room;
-      unlent = forget_unlent (ledger g.W.SwapStore.held c.args.self.now.mem) (ledger g.W.SwapStore.held c.forget_process.new.self) c.args.pid c.forget_process.ensures.ledger old.unlent;
-      no_messages = old.no_messages;
+      servers =
+          servers_over c.args.self.now.servers c.args.self.now.queues (processes c.args.self.now.mem) (processes c.forget_process.new.self)
+          (loans (ledger g.W.SwapStore.held c.args.self.now.mem)) (loans (ledger g.W.SwapStore.held c.forget_process.new.self)) same
+          (forget_keeps c.args.pid (ledger g.W.SwapStore.held c.args.self.now.mem) (ledger g.W.SwapStore.held c.forget_process.new.self) c.requires.no_loan
+          c.forget_process.ensures.ledger)
+          old.servers;
     }
 
 pub returns-clause-machine : goal.returns-clause-machine

@@ -1,0 +1,2 @@
+pub mod ReceiveLemmas
+pub mod ReturnLemmas
