@@ -40,7 +40,7 @@ use Rattle.xk_base.specs.declared.ids.ThreadId.{ThreadId}
 use Rattle.xk_base.specs.declared.messages.Message.{Message}
 use Rattle.kill_path.specs.Ending.{HasKnownSender}
 use Rattle.kill_path.specs.Open.{AreOpen, AreServersSound, IsLoanFitOf}
-use Rattle.kill_path.proofs.OpenLemmas.{messages_shown}
+use Rattle.kill_path.proofs.Servers.OpenLemmas.{messages_shown}
 
 module _ (s : ℕ → Option Server) (all : Loans) (lent : AreLoansMatched all s) (numbers : (number : Number) → HasAtMostOne s (is_of_number number))
     (n : ℕ) (server : Server) (e : s n ≡ Some server) where

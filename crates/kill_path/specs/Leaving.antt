@@ -14,7 +14,7 @@ use Rattle.send_path.specs.Seats.{messages_at}
 use Rattle.server_table.specs.declared.table.Servers.{Servers}
 use Rattle.xk_base.specs.declared.ids.Number.{Number}
 use Rattle.xk_base.specs.declared.ids.Pid.{Pid}
-use Rattle.kill_path.specs.Closing.{Closable, with_servers}
+use Rattle.kill_path.specs.Closing.{Closable, closable, with_servers}
 use Rattle.kill_path.specs.Ending.{IsEndable}
 use Rattle.kill_path.specs.ThreadSets.{nobody}
 
@@ -53,11 +53,6 @@ pub record IsLeavable (all : Loans) (number : Number) (seat : Seat) : Type 0 whe
   pub there : of_number number seat.queued ≡ None → IsSome (of_number number seat.held)
   pub held : of_number number seat.queued ≡ None → (h : Held) → of_number number seat.held ≡ Some h → IsOrphanable all h
 
--- what stands of the loan that is left
-abbrev pub IsLeftStanding : Loans → Option LoanRun → Type 0
-IsLeftStanding all None = Unit {0}
-IsLeftStanding all (Some run) = Stands all (without_lender run)
-
 -- ---- at all servers
 
 -- the server without what the process waits for: queued messages are taken out, held ones have no sender
@@ -72,9 +67,9 @@ pub record LeavesAlike (procs : ℕ) (pid : Pid) (old new : Closable) : Type 0 w
   pub servers : (n : ℕ) → option_map (left_by pid) (servers_shown new.servers new.seats n)
       ≡ option_map (left_by pid) (servers_shown old.servers old.seats n)
 
--- the parts that leaving changes
+-- the parts that leaving changes: nobody is to be answered
 abbrev pub standing : Ledger → Servers → List Seat → Closable
-standing ledger servers seats = record { ledger = ledger; servers = servers; seats = seats; noted = nobody }
+standing ledger servers seats = closable ledger servers seats nobody
 
 -- no message at the seat is from the process
 abbrev pub AreOfOthers : Pid → Seat → Type 0

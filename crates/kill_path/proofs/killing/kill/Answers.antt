@@ -1,4 +1,4 @@
-use Rattle.std.proofs.Common.{◌≡◌, None, refl, ap, sym, subst, ◌∙◌}
+use Rattle.std.proofs.Common.{◌≡◌, None, refl, ap, sym, ◌∙◌}
 use Rattle.process_table.specs.ProcessesOf.{process_count as made_for}
 use Rattle.send_path.specs.Parts.{parts_of}
 use Rattle.thread_table.specs.ThreadsOf.{process_count}
@@ -6,12 +6,11 @@ use Rattle.vm_memory.proofs.Changing.CallLemmas.{sound-none_out}
 use Rattle.vm_memory.specs.Memory.{Size, ledger, processes}
 use Rattle.xk_base.proofs.CircleLemmas.{is_pid-bounds}
 use Rattle.xk_base.specs.Tables.Circle.{is_pid}
-use Rattle.kill_path.specs.Closing.{AreClosed, Closable}
+use Rattle.kill_path.specs.Closing.{Closable, closable}
 use Rattle.kill_path.specs.Noted.{noted}
 use Rattle.kill_path.specs.Telling.{told_to}
-use Rattle.kill_path.specs.ThreadSets.{ThreadSet}
 use Rattle.kill_path.proofs.KeepLemmas.{kept_both}
-use Rattle.kill_path.proofs.KillLemmas.{HasForgotten, all_of, all_open, at_first, died, died_sound, few, no_loan, noted_known, own, pid_known}
+use Rattle.kill_path.proofs.Deaths.KillLemmas.{HasForgotten, all_of, all_open, closed_first, died, died_sound, few, no_loan, noted_known, pid_known}
 use Rattle.kill_path.proofs.killing.kill.Goals as goal
 
 pub close_servers-requires-clause-messages : goal.close_servers-requires-clause-messages
@@ -22,10 +21,8 @@ close_servers-requires-clause-messages g c =
 pub tell-requires-clause-known : goal.tell-requires-clause-known
 tell-requires-clause-known g c =
     let old = all_of (parts_of c.args.mem.now c.args.threads.now c.args.servers.now c.args.queues.now c.args.log.now) c.args.procs.now c.args.claims.now in
-    let after : Closable = record { ledger = ledger g.W.SwapStore.held c.close_servers.new.mem; servers = c.close_servers.new.servers; seats = c.close_servers.new.queues; noted = noted c.close_servers.new.answered } in
-    let closed : AreClosed (own g.W.SwapStore.slot_count g.W.SwapStore.held c.args.pid old c.requires.sound c.requires.alive) (at_first g.W.SwapStore.slot_count g.W.SwapStore.held c.args.pid old c.requires.sound c.requires.alive) after =
-    subst (λ (set : ThreadSet). AreClosed (own g.W.SwapStore.slot_count g.W.SwapStore.held c.args.pid old c.requires.sound c.requires.alive)
-    (record { ledger = ledger g.W.SwapStore.held c.args.mem.now; servers = c.args.servers.now; seats = c.args.queues.now; noted = set }) after)
+    let after : Closable = closable (ledger g.W.SwapStore.held c.close_servers.new.mem) c.close_servers.new.servers c.close_servers.new.queues (noted c.close_servers.new.answered) in
+    let closed = closed_first g.W.SwapStore.slot_count g.W.SwapStore.held c.args.pid old c.requires.sound c.requires.alive (noted c.new-noted_ids.result) after
     c.new-noted_ids.ensures c.close_servers.ensures.closed in
     noted_known g.W.SwapStore.slot_count g.W.SwapStore.held c.args.pid old c.requires.sound c.requires.alive after closed
 
@@ -50,10 +47,8 @@ forget_process-requires-clause-process g c =
 pub forget_process-requires-clause-no_loan : goal.forget_process-requires-clause-no_loan
 forget_process-requires-clause-no_loan g c =
     let old = all_of (parts_of c.args.mem.now c.args.threads.now c.args.servers.now c.args.queues.now c.args.log.now) c.args.procs.now c.args.claims.now in
-    let after : Closable = record { ledger = ledger g.W.SwapStore.held c.close_servers.new.mem; servers = c.close_servers.new.servers; seats = c.close_servers.new.queues; noted = noted c.close_servers.new.answered } in
-    let closed : AreClosed (own g.W.SwapStore.slot_count g.W.SwapStore.held c.args.pid old c.requires.sound c.requires.alive) (at_first g.W.SwapStore.slot_count g.W.SwapStore.held c.args.pid old c.requires.sound c.requires.alive) after =
-    subst (λ (set : ThreadSet). AreClosed (own g.W.SwapStore.slot_count g.W.SwapStore.held c.args.pid old c.requires.sound c.requires.alive)
-    (record { ledger = ledger g.W.SwapStore.held c.args.mem.now; servers = c.args.servers.now; seats = c.args.queues.now; noted = set }) after)
+    let after : Closable = closable (ledger g.W.SwapStore.held c.close_servers.new.mem) c.close_servers.new.servers c.close_servers.new.queues (noted c.close_servers.new.answered) in
+    let closed = closed_first g.W.SwapStore.slot_count g.W.SwapStore.held c.args.pid old c.requires.sound c.requires.alive (noted c.new-noted_ids.result) after
     c.new-noted_ids.ensures c.close_servers.ensures.closed in
     let procs : processes c.close_servers.new.mem ≡ process_count c.args.threads.now =
     ap (λ (s : Size). s.procs) c.close_servers.ensures.stays.keeps.size ∙ sym c.requires.sound.threads in
@@ -69,10 +64,8 @@ pub returns-clause-death : goal.returns-clause-death
 returns-clause-death g c =
     let old = all_of (parts_of c.args.mem.now c.args.threads.now c.args.servers.now c.args.queues.now c.args.log.now) c.args.procs.now c.args.claims.now in
     let new = all_of (parts_of c.forget_process.new.self c.end_process.new.self c.close_servers.new.servers c.leave_servers.new.queues c.tell.new.log) c.end-2.new.self c.end.new.self in
-    let after : Closable = record { ledger = ledger g.W.SwapStore.held c.close_servers.new.mem; servers = c.close_servers.new.servers; seats = c.close_servers.new.queues; noted = noted c.close_servers.new.answered } in
-    let closed : AreClosed (own g.W.SwapStore.slot_count g.W.SwapStore.held c.args.pid old c.requires.sound c.requires.alive) (at_first g.W.SwapStore.slot_count g.W.SwapStore.held c.args.pid old c.requires.sound c.requires.alive) after =
-    subst (λ (set : ThreadSet). AreClosed (own g.W.SwapStore.slot_count g.W.SwapStore.held c.args.pid old c.requires.sound c.requires.alive)
-    (record { ledger = ledger g.W.SwapStore.held c.args.mem.now; servers = c.args.servers.now; seats = c.args.queues.now; noted = set }) after)
+    let after : Closable = closable (ledger g.W.SwapStore.held c.close_servers.new.mem) c.close_servers.new.servers c.close_servers.new.queues (noted c.close_servers.new.answered) in
+    let closed = closed_first g.W.SwapStore.slot_count g.W.SwapStore.held c.args.pid old c.requires.sound c.requires.alive (noted c.new-noted_ids.result) after
     c.new-noted_ids.ensures c.close_servers.ensures.closed in
     let procs : processes c.close_servers.new.mem ≡ process_count c.args.threads.now =
     ap (λ (s : Size). s.procs) c.close_servers.ensures.stays.keeps.size ∙ sym c.requires.sound.threads in
@@ -93,10 +86,8 @@ pub returns-clause-sound : goal.returns-clause-sound
 returns-clause-sound g c =
     let old = all_of (parts_of c.args.mem.now c.args.threads.now c.args.servers.now c.args.queues.now c.args.log.now) c.args.procs.now c.args.claims.now in
     let new = all_of (parts_of c.forget_process.new.self c.end_process.new.self c.close_servers.new.servers c.leave_servers.new.queues c.tell.new.log) c.end-2.new.self c.end.new.self in
-    let after : Closable = record { ledger = ledger g.W.SwapStore.held c.close_servers.new.mem; servers = c.close_servers.new.servers; seats = c.close_servers.new.queues; noted = noted c.close_servers.new.answered } in
-    let closed : AreClosed (own g.W.SwapStore.slot_count g.W.SwapStore.held c.args.pid old c.requires.sound c.requires.alive) (at_first g.W.SwapStore.slot_count g.W.SwapStore.held c.args.pid old c.requires.sound c.requires.alive) after =
-    subst (λ (set : ThreadSet). AreClosed (own g.W.SwapStore.slot_count g.W.SwapStore.held c.args.pid old c.requires.sound c.requires.alive)
-    (record { ledger = ledger g.W.SwapStore.held c.args.mem.now; servers = c.args.servers.now; seats = c.args.queues.now; noted = set }) after)
+    let after : Closable = closable (ledger g.W.SwapStore.held c.close_servers.new.mem) c.close_servers.new.servers c.close_servers.new.queues (noted c.close_servers.new.answered) in
+    let closed = closed_first g.W.SwapStore.slot_count g.W.SwapStore.held c.args.pid old c.requires.sound c.requires.alive (noted c.new-noted_ids.result) after
     c.new-noted_ids.ensures c.close_servers.ensures.closed in
     let procs : processes c.close_servers.new.mem ≡ process_count c.args.threads.now =
     ap (λ (s : Size). s.procs) c.close_servers.ensures.stays.keeps.size ∙ sym c.requires.sound.threads in

@@ -2,7 +2,7 @@ use Rattle.std.proofs.Common.{◌<◌, length, sym, ap, subst, ◌∙◌}
 use Rattle.ledger_model.specs.Steps.{orphan_loan}
 use Rattle.msg_queue.specs.Seats.{seat_of}
 use Rattle.vm_memory.specs.Memory.{ledger, processes}
-use Rattle.kill_path.proofs.LeavingLemmas.{found_number, left_alone_there, place_is, place_there, room_there}
+use Rattle.kill_path.proofs.Messages.LeavingLemmas.{found_number, left_alone_there, place_is, place_there, room_there}
 use Rattle.kill_path.proofs.leaving.leave_held.Goals as goal
 
 pub hold_at-requires-clause-room : goal.hold_at-requires-clause-room

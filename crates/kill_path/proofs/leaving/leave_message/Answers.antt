@@ -1,21 +1,15 @@
-use Rattle.std.proofs.Common.{◌≡◌, true, false, set, sym, ap, ◌∙◌}
+use Rattle.std.proofs.Common.{rules, ◌≡◌, false, set, sym, ap, ◌∙◌}
 use Rattle.std.specs.Prelude.{if◌then◌else◌, is_some}
-use Rattle.ledger_model.specs.Steps.{end_loan, orphan_loan}
 use Rattle.msg_queue.specs.Seats.{changed_at, seat_of, without_queued}
 use Rattle.vm_memory.specs.Memory.{ledger, processes}
 use Rattle.kill_path.specs.Leaving.{is_queued, with_alone}
-use Rattle.kill_path.proofs.LeaveFoundLemmas.{seat_unchanged}
-use Rattle.kill_path.proofs.LeavingLemmas.{found_number}
+use Rattle.kill_path.proofs.Messages.LeaveFoundLemmas.{queued_leaves, seat_unchanged}
 use Rattle.kill_path.proofs.leaving.leave_message.Goals as goal
 
 pub returns-in-Some-clause-ledger : goal.returns-in-Some-clause-ledger
 returns-in-Some-clause-ledger g c =
-    let seat = seat_of c.args.queues.now c.args.seat in
-    let old = ledger g.W.SwapStore.held c.args.mem.now in
-    let queued : is_queued c.args.number seat ≡ true = ap is_some (sym c.in-Some.ensures.message) in
-    c.spend.ensures.ledger
-    ∙ ap (λ n. end_loan n old) (found_number c.args.number seat.queued c.in-Some.ended (sym c.in-Some.ensures.message))
-    ∙ sym (ap (λ b. if b then end_loan c.args.number old else orphan_loan (processes c.args.mem.now) c.args.number old) queued)
+    queued_leaves (processes c.args.mem.now) c.args.number (seat_of c.args.queues.now c.args.seat) c.in-Some.ended (ledger g.W.SwapStore.held c.args.mem.now) _
+    (sym c.in-Some.ensures.message) (search rules)
 
 pub returns-in-None-clause-queues : goal.returns-in-None-clause-queues
 returns-in-None-clause-queues g c =

@@ -5,9 +5,9 @@ use Rattle.send_path.specs.Seats.{messages_at}
 use Rattle.vm_memory.specs.Memory.{Size, capacity_of, ledger, processes}
 use Rattle.kill_path.specs.Leaving.{LeavesAlike, standing}
 use Rattle.kill_path.proofs.KeepLemmas.{after_both, sound_lawful}
-use Rattle.kill_path.proofs.LeaveFoundLemmas.{none_sent}
-use Rattle.kill_path.proofs.LeaveSeatLemmas.{alike_both, empty_of_others, has_left, leaves, others_same, taken_seat}
-use Rattle.kill_path.proofs.LeaveStepLemmas.{known_here}
+use Rattle.kill_path.proofs.Messages.LeaveFoundLemmas.{none_sent}
+use Rattle.kill_path.proofs.Messages.LeaveSeatLemmas.{alike_both, empty_of_others, has_left, leaves, others_same, taken_seat}
+use Rattle.kill_path.proofs.Messages.LeaveStepLemmas.{known_here}
 use Rattle.kill_path.proofs.leaving.leave_seat.Goals as goal
 
 pub returns-then-is_none-clause-left : goal.returns-then-is_none-clause-left

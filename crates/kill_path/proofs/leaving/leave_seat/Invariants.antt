@@ -7,7 +7,7 @@ use Rattle.vm_memory.specs.Memory.{ledger, processes}
 use Rattle.kill_path.specs.Keeping.{Stays}
 use Rattle.kill_path.specs.Leaving.{LeavesAlike, standing}
 use Rattle.kill_path.specs.Open.{AreOpen}
-use Rattle.kill_path.proofs.LeaveFoundLemmas.{sent_count}
+use Rattle.kill_path.proofs.Messages.LeaveFoundLemmas.{sent_count}
 use Rattle.kill_path.proofs.leaving.leave_seat.Given as goal
 
 -- what the death makes of what is left is what it made at first, and the other seats are as they were

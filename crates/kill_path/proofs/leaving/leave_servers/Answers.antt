@@ -3,8 +3,8 @@ use Rattle.server_table.proofs.Lemmas.{seat_within}
 use Rattle.vm_memory.specs.Memory.{Size, ledger, processes}
 use Rattle.kill_path.specs.Leaving.{LeavesAlike, standing}
 use Rattle.kill_path.proofs.KeepLemmas.{after_both, same_memory}
-use Rattle.kill_path.proofs.LeaveSeatLemmas.{alike_both, alike_itself, seats_so_far}
-use Rattle.kill_path.proofs.LeftLemmas.{all_left}
+use Rattle.kill_path.proofs.Messages.LeaveSeatLemmas.{alike_both, alike_itself, seats_so_far}
+use Rattle.kill_path.proofs.Messages.LeftLemmas.{all_left}
 use Rattle.kill_path.proofs.leaving.leave_servers.Goals as goal
 
 pub loop-seat-init : goal.loop-seat-init

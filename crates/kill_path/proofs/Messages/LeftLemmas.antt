@@ -21,7 +21,7 @@ use Rattle.xk_base.specs.declared.ids.Number.{Number}
 use Rattle.xk_base.specs.declared.ids.Pid.{Pid}
 use Rattle.kill_path.specs.Closing.{Closable, with_servers}
 use Rattle.kill_path.specs.Leaving.{AreOfOthers, HasLeft, LeavesAlike, left_by}
-use Rattle.kill_path.proofs.LeaveStepLemmas.{left_all, right_all}
+use Rattle.kill_path.proofs.Messages.LeaveStepLemmas.{left_all, right_all}
 
 -- ---- lists without a message of the process
 

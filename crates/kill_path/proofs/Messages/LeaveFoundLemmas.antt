@@ -7,6 +7,8 @@ use Rattle.std.proofs.lemmas.Bool.{false≢true}
 use Rattle.std.proofs.lemmas.List.{map-append, set-get_or}
 use Rattle.std.proofs.lemmas.List.Elements.{All-cons, All-head, All-tail}
 use Rattle.std.proofs.lemmas.Option.{none-some, same_Some}
+use Rattle.ledger_model.specs.Ledger.{Ledger}
+use Rattle.ledger_model.specs.Steps.{end_loan, orphan_loan}
 use Rattle.ledger_model.specs.Loans.{LoanRun, Loans}
 use Rattle.machine_model.proofs.Matching.CountLemmas.{count_in-append, one_if}
 use Rattle.machine_model.specs.Messaging.MessageCounts.{count_in}
@@ -21,11 +23,11 @@ use Rattle.xk_base.specs.declared.ids.Number.{Number}
 use Rattle.xk_base.specs.declared.ids.Pid.{Pid}
 use Rattle.xk_base.specs.declared.ids.ThreadId.{ThreadId}
 use Rattle.kill_path.specs.Ending.{HasKnownSender}
-use Rattle.kill_path.specs.Leaving.{IsLeavable, IsLoanOrphanable, IsOrphanable, alone, first_alone, with_alone}
+use Rattle.kill_path.specs.Leaving.{IsLeavable, IsLoanOrphanable, IsOrphanable, alone, first_alone, is_queued, with_alone}
 use Rattle.kill_path.specs.Open.{IsLoanFit, IsLoanFitOf}
-use Rattle.kill_path.proofs.LeaveStepLemmas.{none_of, number_count}
-use Rattle.kill_path.proofs.LeavingLemmas.{placed}
-use Rattle.kill_path.proofs.OpenLemmas.{fit_endable}
+use Rattle.kill_path.proofs.Messages.LeaveStepLemmas.{none_of, number_count}
+use Rattle.kill_path.proofs.Messages.LeavingLemmas.{found_number, placed}
+use Rattle.kill_path.proofs.Servers.OpenLemmas.{fit_endable}
 
 -- ---- who waits
 
@@ -152,6 +154,13 @@ pub seat_unchanged : (seats : List Seat) (k : ℕ) (number : Number) → of_numb
 seat_unchanged seats k number e =
     (λ i. set seats k (record (seat_of seats k) { queued = nothing_removed number (seat_of seats k).queued e i }))
     ∙ set-get_or seats k empty_seat
+
+-- a queued message that ends leaves
+pub queued_leaves : (procs : ℕ) (number : Number) (seat : Seat) (h : Held) (old new : Ledger) → of_number number seat.queued ≡ Some h
+    → new ≡ end_loan h.msg.number old → new ≡ (if is_queued number seat then end_loan number old else orphan_loan procs number old)
+queued_leaves procs number seat h old new e ends =
+    ends ∙ ap (λ n. end_loan n old) (found_number number seat.queued h e)
+    ∙ sym (ap (λ b. if b then end_loan number old else orphan_loan procs number old) (ap is_some e))
 
 -- ---- the first of a process can leave
 

@@ -35,7 +35,7 @@ use Rattle.xk_base.specs.declared.ids.Pid.{Pid}
 use Rattle.xk_base.specs.declared.ids.ThreadId.{ThreadId}
 use Rattle.xk_base.specs.declared.limits.TheConstants.{SERVER_LIMIT}
 use Rattle.xk_base.specs.declared.messages.Message.{Message}
-use Rattle.kill_path.specs.Closing.{AreClosed, Closable, with_servers}
+use Rattle.kill_path.specs.Closing.{AreClosed, Closable, closable, with_servers}
 use Rattle.kill_path.specs.Ending.{AreEndable, HasKnownSender, IsEndable, IsLoanEndable, emptied, is_number_in, with_senders}
 use Rattle.kill_path.specs.Open.{AreOpen, IsLoanFit, IsLoanFitOf}
 
@@ -270,7 +270,7 @@ module _ (servers new : Servers) (seats : List Seat) (s k : ℕ) (its : IsSeatOf
 
   module _ (noted after : ThreadId → Bool) (told : after ≡ with_senders xs noted) (ended : Ledger) (ends : ended ≡ end_loans (is_number_in xs) l) where
     abbrev old : Closable
-    old = record { ledger = l; servers = servers; seats = seats; noted = noted }
+    old = closable l servers seats noted
 
     abbrev which : ℕ → Bool
     which n = n == s
@@ -290,7 +290,7 @@ module _ (servers new : Servers) (seats : List Seat) (s k : ℕ) (its : IsSeatOf
             go true q = absurd (ne (eqb-true n s q))
             go false q = refl
 
-    pub server_closed : AreClosed which old (record { ledger = ended; servers = new; seats = left; noted = after })
+    pub server_closed : AreClosed which old (closable ended new left after)
     server_closed = record {
       ledger = λ m. ends ∙ (λ i. end_loans (λ number. sym (only_here m (is_message_of number)) i) l);
       noted = λ m id. ap (λ (f : ThreadId → Bool). f id) told ∙ ap (λ b. noted id || b) (sym (only_here m (is_sent_by id)));

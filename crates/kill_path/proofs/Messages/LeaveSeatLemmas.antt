@@ -27,10 +27,10 @@ use Rattle.kill_path.specs.Ending.{HasKnownSender}
 use Rattle.kill_path.specs.Leaving.{AreOfOthers, IsLeavable, LeavesAlike, is_queued, standing, with_alone, without_message}
 use Rattle.kill_path.specs.Open.{AreOpen, IsLoanFit}
 use Rattle.kill_path.specs.ThreadSets.{nobody}
-use Rattle.kill_path.proofs.LeaveFoundLemmas.{can_leave, each_sent, fewer_alone, fewer_queued, found_both, found_second, found_sent, sent_count, sent_is_some}
-use Rattle.kill_path.proofs.LeaveSetLemmas.{held_alike, queued_alike}
-use Rattle.kill_path.proofs.LeaveStepLemmas.{fit_here, held_left, known_here, most, number_count, queued_ended, right_all}
-use Rattle.kill_path.proofs.LeavingLemmas.{found_number, placed}
+use Rattle.kill_path.proofs.Messages.LeaveFoundLemmas.{can_leave, each_sent, fewer_alone, fewer_queued, found_both, found_second, found_sent, sent_count, sent_is_some}
+use Rattle.kill_path.proofs.Messages.LeaveSetLemmas.{held_alike, queued_alike}
+use Rattle.kill_path.proofs.Messages.LeaveStepLemmas.{fit_here, held_left, known_here, most, number_count, queued_ended, right_all}
+use Rattle.kill_path.proofs.Messages.LeavingLemmas.{found_number, placed}
 
 -- ---- alike
 

@@ -35,8 +35,8 @@ use Rattle.xk_base.specs.declared.ids.Place.{Place}
 use Rattle.xk_base.specs.declared.messages.Message.{Message}
 use Rattle.kill_path.specs.Closing.{AreClosed, Closable, with_servers}
 use Rattle.kill_path.specs.Open.{AreOpen, AreServersSound}
-use Rattle.kill_path.proofs.CloseLemmas.{both_closed, nothing_closed, owned}
-use Rattle.kill_path.proofs.OpenLemmas.{ended_same}
+use Rattle.kill_path.proofs.Servers.CloseLemmas.{both_closed, nothing_closed, owned}
+use Rattle.kill_path.proofs.Servers.OpenLemmas.{ended_same}
 
 -- a machine with that ledger and nothing else: what closes is the same in every machine
 abbrev machine_with : Ledger → Machine

@@ -38,8 +38,8 @@ use Rattle.xk_base.specs.declared.messages.Message.{Message}
 use Rattle.kill_path.specs.Ending.{HasKnownSender}
 use Rattle.kill_path.specs.Leaving.{alone, first_alone, with_alone}
 use Rattle.kill_path.specs.Open.{AreOpen, IsLoanFit, IsLoanFitOf}
-use Rattle.kill_path.proofs.LeavingLemmas.{fresh_orphans}
-use Rattle.kill_path.proofs.OpenLemmas.{at_number_counted, fit_still, messages_shown, most_fewer}
+use Rattle.kill_path.proofs.Messages.LeavingLemmas.{fresh_orphans}
+use Rattle.kill_path.proofs.Servers.OpenLemmas.{at_number_counted, fit_still, messages_shown, most_fewer}
 
 -- ---- lists of messages
 

@@ -33,14 +33,14 @@ use Rattle.xk_base.specs.declared.ids.Number.{Number}
 use Rattle.xk_base.specs.declared.ids.Pid.{Pid}
 use Rattle.xk_base.specs.declared.limits.TheConstants.{SERVER_LIMIT}
 use Rattle.xk_base.specs.declared.messages.Message.{Message}
-use Rattle.kill_path.specs.Closing.{Closable, with_servers}
+use Rattle.kill_path.specs.Closing.{Closable, closable, with_servers}
 use Rattle.kill_path.specs.Leaving.{LeavesAlike, alone, first_alone, left_by, with_alone}
 use Rattle.kill_path.specs.Open.{AreOpen}
 use Rattle.kill_path.specs.ThreadSets.{ThreadSet}
-use Rattle.kill_path.proofs.EndingLemmas.{same_back}
-use Rattle.kill_path.proofs.LeaveStepLemmas.{count_both, found_counts, most, number_count}
-use Rattle.kill_path.proofs.OpenLemmas.{messages_shown}
-use Rattle.kill_path.proofs.OrphanLemmas.{both_orphaned, ended_apart, ends_after_orphan}
+use Rattle.kill_path.proofs.Servers.EndingLemmas.{same_back}
+use Rattle.kill_path.proofs.Messages.LeaveStepLemmas.{count_both, found_counts, most, number_count}
+use Rattle.kill_path.proofs.Servers.OpenLemmas.{messages_shown}
+use Rattle.kill_path.proofs.Messages.OrphanLemmas.{both_orphaned, ended_apart, ends_after_orphan}
 
 -- ---- a test that holds besides at one number
 
@@ -127,10 +127,10 @@ module _ (servers : Servers) (seats : List Seat) (s k : ℕ) (its : IsSeatOf (se
 
   module _ (l m : Ledger) (noted after : ThreadSet) where
     abbrev before : Closable
-    before = record { ledger = l; servers = servers; seats = seats; noted = noted }
+    before = closable l servers seats noted
 
     abbrev later : Closable
-    later = record { ledger = m; servers = servers; seats = new; noted = after }
+    later = closable m servers new after
 
     -- a test of servers that holds besides, or just as before
     pub any_at : (x : Machine) (test : Server → Bool) (c : Bool)
@@ -158,10 +158,10 @@ module _ (servers : Servers) (seats : List Seat) (s k : ℕ) (its : IsSeatOf (se
     (procs : ℕ) (pid : Pid) (number : Number) (h : Held) (found : of_number number (seat_of seats k).queued ≡ Some h)
     (its_number : h.msg.number ≡ number) (sent : is_sent_from pid h.msg ≡ true) (l : Ledger) (noted : ThreadSet) where
   abbrev old : Closable
-  old = record { ledger = l; servers = servers; seats = seats; noted = noted }
+  old = closable l servers seats noted
 
   abbrev left : Closable
-  left = record { ledger = end_loan number l; servers = servers; seats = changed_at k (without_queued number) seats; noted = noted }
+  left = closable (end_loan number l) servers (changed_at k (without_queued number) seats) noted
 
   held_same : (x : Machine) (n : Number) → is_held_from pid (with_servers old x) n ≡ is_held_from pid (with_servers left x) n
   held_same x n =
@@ -236,10 +236,10 @@ module _ (servers : Servers) (seats : List Seat) (s k : ℕ) (its : IsSeatOf (se
     (found : of_number number (seat_of seats k).held ≡ Some h) (its_number : h.msg.number ≡ number) (sent : is_sent_from pid h.msg ≡ true) (l : Ledger)
     (lawful : IsLawful procs capacity l) (was_open : AreOpen (loans l) servers seats) (noted : ThreadSet) where
   abbrev standing : Closable
-  standing = record { ledger = l; servers = servers; seats = seats; noted = noted }
+  standing = closable l servers seats noted
 
   abbrev orphaned : Closable
-  orphaned = record { ledger = orphan_loan procs number l; servers = servers; seats = changed_at k (with_alone number) seats; noted = noted }
+  orphaned = closable (orphan_loan procs number l) servers (changed_at k (with_alone number) seats) noted
 
   queued_same : (x : Machine) (n : Number) → is_queued_from pid (with_servers standing x) n ≡ is_queued_from pid (with_servers orphaned x) n
   queued_same x n =

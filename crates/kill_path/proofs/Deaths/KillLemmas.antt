@@ -52,14 +52,14 @@ use Rattle.xk_base.specs.declared.ids.Place.{Place}
 use Rattle.xk_base.specs.declared.ids.ThreadId.{ThreadId}
 use Rattle.xk_base.specs.declared.messages.Message.{Message}
 use Rattle.kill_path.specs.Claims.{claim_of}
-use Rattle.kill_path.specs.Closing.{AreClosed, Closable}
+use Rattle.kill_path.specs.Closing.{AreClosed, Closable, closable}
 use Rattle.kill_path.specs.Dying.{AllParts, AreAllSound, Dies, disarmed_with, with_all_parts}
 use Rattle.kill_path.specs.Leaving.{HasLeft, left_by, standing}
 use Rattle.kill_path.specs.Open.{AreOpen}
 use Rattle.kill_path.specs.Telling.{told_to}
-use Rattle.kill_path.specs.ThreadSets.{nobody}
+use Rattle.kill_path.specs.ThreadSets.{ThreadSet, nobody}
 use Rattle.kill_path.proofs.FitLemmas.{matched_open, open_loans}
-use Rattle.kill_path.proofs.ForgottenLemmas.{alive_shown, claim_gone, pending_gone, pending_of, process_ended, thread_gone}
+use Rattle.kill_path.proofs.Deaths.ForgottenLemmas.{alive_shown, claim_gone, pending_gone, pending_of, process_ended, thread_gone}
 
 abbrev pub all_of : {W : Type 0} → Parts W → Processes → Claims → AllParts W
 all_of parts procs claims = record { parts = parts; procs = procs; claims = claims }
@@ -132,7 +132,12 @@ module _ {W : Type 0} (slot_count : W → ℕ) (held : W → Held) (pid : Pid) (
   own k = is_server_of pid (servers_shown old.parts.tables.servers old.parts.tables.queues k)
 
   abbrev pub at_first : Closable
-  at_first = record { ledger = ledger held old.parts.mem; servers = old.parts.tables.servers; seats = old.parts.tables.queues; noted = nobody }
+  at_first = closable (ledger held old.parts.mem) old.parts.tables.servers old.parts.tables.queues nobody
+
+  pub closed_first : (start : ThreadSet) (after : Closable) → start ≡ nobody
+      → AreClosed own (closable (ledger held old.parts.mem) old.parts.tables.servers old.parts.tables.queues start) after → AreClosed own at_first after
+  closed_first start after none closed =
+      subst (λ (set : ThreadSet). AreClosed own (closable (ledger held old.parts.mem) old.parts.tables.servers old.parts.tables.queues set) after) none closed
 
   module _ (after : Closable) (is_closed : AreClosed own at_first after) where
     noted_is : (m : Machine) (id : ThreadId) → after.noted id ≡ is_sender_at own (with_all_parts held old m) id

@@ -46,7 +46,7 @@ use Rattle.xk_base.specs.declared.ids.Pid.{Pid}
 use Rattle.xk_base.specs.declared.ids.Serial.{Serial}
 use Rattle.xk_base.specs.declared.ids.ThreadId.{ThreadId}
 use Rattle.xk_base.specs.declared.messages.Message.{Message}
-use Rattle.kill_path.specs.Closing.{AreClosed}
+use Rattle.kill_path.specs.Closing.{AreClosed, closable}
 use Rattle.kill_path.specs.Keeping.{Stays}
 use Rattle.kill_path.specs.Open.{AreOpen}
 use Rattle.kill_path.specs.Rows.{destroy_row}
@@ -199,8 +199,8 @@ module _ {W : Type 0} (slot_count : W → ℕ) (honest : W → Bool) (held : W �
 
   module _ (new : Parts W) (noted : ThreadSet)
       (is_closed : AreClosed (λ k. k == s.0)
-      (record { ledger = ledger held old.mem; servers = old.tables.servers; seats = old.tables.queues; noted = second })
-      (record { ledger = ledger held new.mem; servers = new.tables.servers; seats = new.tables.queues; noted = noted })) where
+      (closable (ledger held old.mem) old.tables.servers old.tables.queues second)
+      (closable (ledger held new.mem) new.tables.servers new.tables.queues noted)) where
     noted_is : (m : Machine) (id : ThreadId) → noted id ≡ (second id || is_sender_at (λ k. k == s.0) (with_parts held who old m) id)
     unfolding any_server with_parts with_tables
     noted_is m id = is_closed.noted m id
