@@ -4,5 +4,6 @@ pub mod Ending
 pub mod Interrupting
 pub mod Memory
 pub mod Messaging
+pub mod Ringing
 pub mod Running
 pub mod Starting

@@ -6,3 +6,4 @@ pub mod MapLemmas
 pub mod MemoryCallLemmas
 pub mod MemoryPartLemmas
 pub mod StoreLemmas
+pub mod TimerViewLemmas

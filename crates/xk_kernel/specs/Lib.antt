@@ -3,6 +3,7 @@ pub mod HistoryMoments
 pub mod Interleaving
 pub mod Acting
 pub mod Calling
+pub mod Ringing
 pub mod Running
 pub mod Sound
 pub mod Start

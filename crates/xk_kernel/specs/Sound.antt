@@ -1,6 +1,5 @@
 -- The soundness of a kernel, which each call needs and keeps.
-use Rattle.std.specs.Prelude.{◌≡◌, ℕ, ◌≤◌, Bool, IsTrue, None}
-use Rattle.irq_claims.specs.ClaimsOf.{claims_of}
+use Rattle.std.specs.Prelude.{◌≡◌, ℕ, ◌≤◌, Bool, IsTrue}
 use Rattle.machine_model.specs.Runs.Matched.{Matched}
 use Rattle.kill_path.specs.Open.{AreServersSound}
 use Rattle.ledger_model.specs.Loans.{loans}
@@ -11,7 +10,7 @@ use Rattle.xk_ports.specs.Keeping.{KeepsStore}
 use Rattle.vm_memory.specs.Memory.{IsUsable as IsMemoryUsable, ledger, processes, size, store_of}
 use Rattle.vm_memory.specs.Sound.{IsSound as IsMemorySound}
 use Rattle.xk_base.specs.Tables.Circle.{is_thread_id}
-use Rattle.xk_base.specs.declared.limits.TheConstants.{RECORD_LIMIT, TIMER_INTERRUPT}
+use Rattle.xk_base.specs.declared.limits.TheConstants.{RECORD_LIMIT}
 use Rattle.xk_kernel.specs.State.{machine_of}
 use Rattle.xk_kernel.specs.declared.kernel.Kernel.{Kernel}
 
@@ -28,9 +27,6 @@ pub record IsWhole {W : Type 0} (slot_count : W → ℕ) (held : W → Held) (k 
   pub room : RECORD_LIMIT ≤ k.log.room
   -- of servers, messages and loans: with this every loan can be spent
   pub servers : AreServersSound (processes k.mem) (loans (ledger held k.mem)) k.servers k.queues
-  -- This one goes when the timer is built. Until then no process can claim its interrupt, so that none has the timer's page, and
-  -- the timer is never armed.
-  pub untimed : claims_of k.claims TIMER_INTERRUPT ≡ None
 
 -- .. and until a call answers SwapFault the machine is matched
 pub record IsSound {W : Type 0} (slot_count : W → ℕ) (held : W → Held) (k : Kernel W) : Type 0 where

@@ -9,6 +9,7 @@ mod interrupts;
 mod memory_calls;
 mod message_calls;
 mod readers;
+mod ringing;
 mod running;
 mod server_calls;
 mod stepping;
@@ -20,6 +21,7 @@ use msg_queue::Queues;
 use process_table::Processes;
 use server_table::Servers;
 use thread_table::Threads;
+use timer_device::Timer;
 use vm_memory::Memory;
 use xk_base::{Log, ThreadId};
 use xk_ports::SwapStore;
@@ -54,6 +56,8 @@ pub struct Kernel<W: SwapStore> {
     next: u32,
     // Steps done.
     steps: u32,
+    // It raises its interrupt at the end of the step whose number is its compare value.
+    timer: Timer,
     // The thread that has reserved an address, and that address.
     reserved: Option<(ThreadId, u32)>,
 }

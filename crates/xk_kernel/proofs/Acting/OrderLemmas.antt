@@ -122,7 +122,6 @@ cursor_whole slot_count held k d h valid = record {
   cursor = valid;
   room = h.room;
   servers = h.servers;
-  untimed = h.untimed;
 }
 
 -- no other state is ready

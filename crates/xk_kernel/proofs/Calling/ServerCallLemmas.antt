@@ -109,7 +109,6 @@ module _ {W : Type 0} (slot_count : W → ℕ) (held : W → Held) (k : Kernel W
     cursor = whole.cursor;
     room = whole.room;
     servers = whole.servers;
-    untimed = whole.untimed;
   }
 
   -- a free seat is that of no server, and has no message
@@ -203,7 +202,6 @@ module _ {W : Type 0} (slot_count : W → ℕ) (held : W → Held) (k : Kernel W
               servers_of_matched (record (machine_with_server (new_server m sid) m) { steps = m.steps + 1 }) settles servers k.queues
               (ap (λ (x : Machine). x.servers) shown) seats_made (loans (ledger held k.mem))
               (subst (λ (x : Machine). AreLoansMatched (loans (ledger held k.mem)) x.servers) shown settles.body.loans) loans_made;
-          untimed = whole.untimed;
         }
 
 -- ---- lists of refusals

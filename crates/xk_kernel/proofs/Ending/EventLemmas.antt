@@ -39,7 +39,6 @@ pushed_whole slot_count held k log whole e = record {
   cursor = whole.cursor;
   room = subst (λ room. RECORD_LIMIT ≤ room) (sym e) whole.room;
   servers = whole.servers;
-  untimed = whole.untimed;
 }
 
 -- .. and with no reservation
@@ -51,7 +50,6 @@ unreserved_whole slot_count held k whole = record {
   cursor = whole.cursor;
   room = whole.room;
   servers = whole.servers;
-  untimed = whole.untimed;
 }
 
 -- ---- a process that lives

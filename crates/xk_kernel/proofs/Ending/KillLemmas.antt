@@ -1,9 +1,7 @@
 -- A process dies: its death over the parts of the kernel is that of the machine that the kernel stands for.
 use Rattle.std.proofs.Common.{◌≡◌, ℕ, ◌≤◌, ◌+◌, ◌<◌, Bool, [], ◌∷◌, ◌++◌, length, Option, Some, None, is_some, refl, sym, ap, subst, ◌∙◌, arith}
 use Rattle.std.specs.Prelude.{if◌then◌else◌, unwrap_or}
-use Rattle.std.specs.Option.{option_map}
 use Rattle.std.proofs.lemmas.List.{length-map}
-use Rattle.std.proofs.lemmas.Option.{none-some}
 use Rattle.irq_claims.specs.ClaimsOf.{claims_of}
 use Rattle.irq_claims.specs.declared.claims.Claim.{Claim as TableClaim}
 use Rattle.kill_path.specs.Claims.{claim_of}
@@ -15,9 +13,9 @@ use Rattle.machine_model.specs.Ending.Closing.{closed, senders_held_gone, sender
 use Rattle.machine_model.specs.Ending.Ends.{death, forgotten}
 use Rattle.machine_model.specs.Runs.Matched.{Matched, is_living}
 use Rattle.machine_model.specs.State.Changes.{replies, settled}
-use Rattle.machine_model.specs.State.Machine.{Claim, Machine}
+use Rattle.machine_model.specs.State.Machine.{Machine}
 use Rattle.machine_model.specs.State.Threads.{Answers}
-use Rattle.machine_model.specs.Stepping.Interrupts.{is_claim_of}
+use Rattle.machine_model.specs.Stepping.Interrupts.{disarmed_if, is_claim_of}
 use Rattle.process_table.specs.ProcessMap.{is_alive}
 use Rattle.process_table.specs.ProcessesOf.{processes_of}
 use Rattle.send_path.specs.Parts.{parts_of, with_parts, with_tables}
@@ -61,9 +59,9 @@ few_replies n answers =
 abbrev pub all_parts : {W : Type 0} → Kernel W → AllParts W
 all_parts k = record { parts = parts_of k.mem k.threads k.servers k.queues k.log; procs = k.procs; claims = k.claims }
 
--- the kernel with such parts
-abbrev pub with_all : {W : Type 0} → Kernel W → AllParts W → Kernel W
-with_all k new = record k {
+-- the kernel with such parts, and this timer
+abbrev pub with_all : {W : Type 0} → Kernel W → Option ℕ → AllParts W → Kernel W
+with_all k timer new = record k {
   mem = new.parts.mem;
   threads = new.parts.tables.threads;
   procs = new.procs;
@@ -71,13 +69,15 @@ with_all k new = record k {
   queues = new.parts.tables.queues;
   claims = new.claims;
   log = new.parts.tables.log;
+  timer = timer;
 }
 
--- THE MACHINE of these parts, all else as in the kernel, is that of the kernel with them
-all_machine : {W : Type 0} (held : W → Held) (k : Kernel W) (new : AllParts W) → process_count new.parts.tables.threads ≡ processes new.parts.mem
-    → with_all_parts held new (machine_of held k) ≡ machine_of held (with_all k new)
+-- THE MACHINE of these parts, all else as in the kernel but for the timer, is that of the kernel with them
+all_machine : {W : Type 0} (held : W → Held) (k : Kernel W) (timer : Option ℕ) (new : AllParts W)
+    → process_count new.parts.tables.threads ≡ processes new.parts.mem
+    → with_all_parts held new (record (machine_of held k) { compare = timer }) ≡ machine_of held (with_all k timer new)
 unfolding machine_of with_all_parts with_parts with_tables
-all_machine held k new e = λ i. record (machine_of held (with_all k new)) { processes = e i }
+all_machine held k timer new e = λ i. record (machine_of held (with_all k timer new)) { processes = e i }
 
 -- whether the process lives
 pub alive_told : {W : Type 0} (held : W → Held) (k : Kernel W) (pid : Pid) → is_living (machine_of held k) pid ≡ is_alive (processes_of k.procs pid.0)
@@ -88,7 +88,8 @@ alive_told held k pid = alive_of (processes_of k.procs pid.0)
 
 module _ {W : Type 0} (slot_count : W → ℕ) (held : W → Held) (k : Kernel W) (whole : IsWhole slot_count held k) where
   own_machine : with_all_parts held (all_parts k) (machine_of held k) ≡ machine_of held k
-  own_machine = all_machine held k (all_parts k) whole.threads
+  unfolding machine_of
+  own_machine = all_machine held k k.timer (all_parts k) whole.threads
 
   pub all_sound : Matched (machine_of held k) → AreAllSound slot_count held (all_parts k)
   all_sound matched = record {
@@ -104,36 +105,25 @@ module _ {W : Type 0} (slot_count : W → ℕ) (held : W → Held) (k : Kernel W
   -- ---- after
 
   module _ (honest : W → Bool) (pid : Pid) (new : AllParts W) (dies : Dies held pid (all_parts k) new) (sound : AreAllSound slot_count held new)
-      (keeps : KeepsMemory honest held k.mem new.parts.mem) where
+      (keeps : KeepsMemory honest held k.mem new.parts.mem) (timer : Option ℕ)
+      (disarmed : timer ≡ disarmed_if (is_claim_of pid ((machine_of held k).claims TIMER_INTERRUPT)) k.timer) where
     abbrev m : Machine
     m = machine_of held k
 
     abbrev dead : Kernel W
-    dead = with_all k new
+    dead = with_all k timer new
 
-    unarmed : disarmed_with pid k.claims m ≡ m
+    unarmed : disarmed_with pid k.claims m ≡ record m { compare = timer }
     unfolding machine_of
-    unarmed = refl
+    unarmed = λ i. record m { compare = sym disarmed i }
 
     did : IsDeath pid m (machine_of held dead) k.log new.parts.tables.log
     did =
-        subst (λ (a : Machine). IsDeath pid m a k.log new.parts.tables.log) (ap (with_all_parts held new) unarmed ∙ all_machine held k new sound.threads)
+        subst (λ (a : Machine). IsDeath pid m a k.log new.parts.tables.log) (ap (with_all_parts held new) unarmed ∙ all_machine held k timer new sound.threads)
         (subst (λ (b : Machine). IsDeath pid b (with_all_parts held new (disarmed_with pid k.claims m)) k.log new.parts.tables.log) own_machine (dies m))
 
     procs_stay : processes new.parts.mem ≡ processes k.mem
     procs_stay = ap (λ (s : Size). s.procs) keeps.size
-
-    -- the timer's interrupt stays unclaimed
-    none_shown : (o : Option TableClaim) → option_map claim_of o ≡ None → o ≡ None
-    none_shown None e = refl
-    none_shown (Some claim) e = absurd (none-some (claim_of claim) (sym e))
-
-    untimed : claims_of new.claims TIMER_INTERRUPT ≡ None
-    unfolding machine_of settled death servers_closed closed senders_queued_gone senders_held_gone forgotten
-    untimed =
-        none_shown (claims_of new.claims TIMER_INTERRUPT)
-        (ap (λ (x : Machine). x.claims TIMER_INTERRUPT) did.machine
-        ∙ ap (λ (o : Option Claim). if is_claim_of pid o then None else o) (ap (option_map claim_of) whole.untimed))
 
     room_stays : new.parts.tables.log.room ≡ k.log.room
     room_stays = ap (λ (log : LogState). log.room) did.replies
@@ -153,7 +143,6 @@ module _ {W : Type 0} (slot_count : W → ℕ) (held : W → Held) (k : Kernel W
       cursor = ap (λ n. is_thread_id n k.cursor) procs_stay ∙ whole.cursor;
       room = subst (λ n. RECORD_LIMIT ≤ n) (sym room_stays) whole.room;
       servers = servers_stay;
-      untimed = untimed;
     }
 
     pub dead_keeps : {P : Type 0} (asked : W → P) (faults : W → ℕ) → Keeps honest held slot_count asked faults k dead

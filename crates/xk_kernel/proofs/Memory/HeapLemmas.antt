@@ -116,7 +116,6 @@ module _ {W : Type 0} (slot_count : W → ℕ) (held : W → Held) (k : Kernel W
         cursor = ap (λ n. is_thread_id n k.cursor) same ∙ whole.cursor;
         room = whole.room;
         servers = servers_over k.servers k.queues (processes k.mem) (processes mem) (loans (ledger held k.mem)) (loans (ledger held mem)) same kept whole.servers;
-        untimed = whole.untimed;
       }
 
 -- ---- lists of three refusals

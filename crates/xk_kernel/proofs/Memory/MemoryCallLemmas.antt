@@ -62,7 +62,6 @@ whole_with_mem slot_count held k mem whole s sound kept =
       cursor = ap (λ n. is_thread_id n k.cursor) same ∙ whole.cursor;
       room = whole.room;
       servers = servers_over k.servers k.queues (processes k.mem) (processes mem) (loans (ledger held k.mem)) (loans (ledger held mem)) same kept whole.servers;
-      untimed = whole.untimed;
     }
 
 -- no page is out, so that the ledger's bytes mean something

@@ -100,7 +100,6 @@ new_whole slot_count held k new next whole sound s room =
       cursor = ap (λ n. is_thread_id n k.cursor) same ∙ whole.cursor;
       room = subst (λ n. RECORD_LIMIT ≤ n) (sym room) whole.room;
       servers = sound_servers slot_count held k.cursor new sound;
-      untimed = whole.untimed;
     }
 
 -- what a call keeps of the memory, it keeps of the kernel

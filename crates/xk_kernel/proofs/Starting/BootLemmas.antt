@@ -12,7 +12,7 @@ use Rattle.boot_plan.specs.Capacity.{capacity}
 use Rattle.boot_plan.specs.Lawful.{CanStart}
 use Rattle.boot_plan.specs.declared.plans.BootPlan.{BootPlan}
 use Rattle.boot_plan.specs.declared.plans.ProcPlan.{ProcPlan}
-use Rattle.irq_claims.specs.ClaimMap.{ClaimMap, no_claims}
+use Rattle.irq_claims.specs.ClaimMap.{no_claims}
 use Rattle.irq_claims.specs.ClaimsOf.{claims_of}
 use Rattle.ledger_model.specs.Lawful.{IsLawful}
 use Rattle.ledger_model.proofs.Pages.BareLemmas.{bare-lawful}
@@ -38,7 +38,7 @@ use Rattle.vm_memory.proofs.Changing.SoundMemoryLemmas.{bare-ledger}
 use Rattle.xk_base.specs.Tables.Circle.{is_pid, is_thread_id}
 use Rattle.xk_base.specs.declared.ids.Pid.{Pid}
 use Rattle.xk_base.specs.declared.ids.ThreadId.{ThreadId}
-use Rattle.xk_base.specs.declared.limits.TheConstants.{RECORD_LIMIT, SERVER_LIMIT, TIMER_INTERRUPT}
+use Rattle.xk_base.specs.declared.limits.TheConstants.{RECORD_LIMIT, SERVER_LIMIT}
 use Rattle.xk_kernel.proofs.Starting.FirstLedgerLemmas.{IsPlanned, first_no_heap, first_unlent, pid_of_planned, planned_of_pid}
 use Rattle.xk_kernel.specs.Sound.{IsSound}
 use Rattle.xk_kernel.specs.Start.{first_threads, start, threads_at_start}
@@ -151,6 +151,7 @@ pub record IsBooted {W : Type 0} (held : W → Held) (plan : BootPlan) (file : L
   pub cursor : k.cursor ≡ first_turn
   pub next : k.next ≡ 1
   pub steps : k.steps ≡ 0
+  pub timer : k.timer ≡ None
   pub reserved : k.reserved ≡ None
 
 pub booted_machine : {W : Type 0} (held : W → Held) (plan : BootPlan) (file : List ℕ) (k : Kernel W) → IsBooted held plan file k → machine_of held k ≡ start plan file
@@ -168,7 +169,7 @@ booted_machine held plan file k h = λ i. record {
   pending = λ n. option_map_or (λ c. c.pending) (h.claims i n) false;
   next_number = h.next i;
   next_serial = (h.servers i).next;
-  compare = None;
+  compare = h.timer i;
   reserved = option_map as_reservation (h.reserved i);
 }
 
@@ -217,7 +218,6 @@ module _ {W : Type 0} (slot_count : W → ℕ) (held : W → Held) (plan : BootP
       cursor = subst (λ (id : ThreadId). IsTrue (is_thread_id (processes k.mem) id)) (sym h.cursor) (subst (λ (n : ℕ). IsTrue (is_thread_id n first_turn)) (sym count) (first_lies (length plan.procs) some));
       room = room;
       servers = servers_at_start;
-      untimed = ap (λ (m : ClaimMap). m TIMER_INTERRUPT) h.claims;
     };
     matched = λ usable. booted_matched;
   }

@@ -32,6 +32,7 @@ use process_table::Processes;
 use server_table::Servers;
 use std::alloc::Global;
 use thread_table::{Thread, ThreadState, Threads};
+use timer_device::Timer;
 use vm_memory::{BootError, BootFault, Memory};
 use xk_base::limits::RECORD_LIMIT;
 use xk_base::{Log, NoMemory, Pid, Regs, ThreadId, Tid};
@@ -155,6 +156,7 @@ impl<W: SwapStore> Kernel<W> {
             },
             next: 1,
             steps: 0,
+            timer: Timer::new(),
             reserved: None,
         })
     }

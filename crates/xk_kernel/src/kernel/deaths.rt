@@ -16,6 +16,7 @@ ghost use Rattle.xk_kernel.specs.State.{machine_of};
 ghost use Rattle.xk_kernel.specs.Telling.{Tells};
 
 use crate::kernel::Kernel;
+use crate::kernel::ringing::end_claim;
 use kill_path::kill;
 use syscall_codec::{Reply, reply_words};
 use thread_table::ThreadState;
@@ -24,7 +25,8 @@ use xk_base::{Pid, ThreadId, Tid, What};
 use xk_ports::SwapStore;
 
 impl<W: SwapStore> Kernel<W> {
-    // The living process dies, which is told last. Who waits at its servers is answered before.
+    // The living process dies, which is told last. Who waits at its servers is answered before. The timer
+    // is disarmed where the process had claimed its interrupt.
     pub(super) fn kill(&mut self, pid: Pid)
         requires whole { IsWhole W.slot_count W.held self.old }
         requires usable { IsUsable self.old }
@@ -36,6 +38,8 @@ impl<W: SwapStore> Kernel<W> {
         ensures tells { Tells W.held self.old self.new (settled (death pid (machine_of W.held self.old))) }
         ensures keeps { Keeps W.is_honest W.held W.slot_count W.asked W.faults self.old self.new }
     {
+        let timed = self.has_timer(pid);
+        end_claim(&mut self.timer, timed);
         kill(
             &mut self.mem,
             &mut self.threads,

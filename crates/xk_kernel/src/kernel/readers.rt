@@ -123,6 +123,7 @@ impl<W: SwapStore> Kernel<W> {
             cursor: _,
             next: _,
             steps: _,
+            timer: _,
             reserved: _,
         } = self;
         close_all(&mut mem, &mut servers, &mut queues);

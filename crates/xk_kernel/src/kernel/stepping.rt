@@ -90,6 +90,7 @@ impl<W: SwapStore> Kernel<W> {
         let reserved = self.act(who)?;
         self.steps = number;
         self.reserved = reservation(who, reserved);
+        self.ring();
         Ok(Stepped::Did)
     }
 
