@@ -1,10 +1,7 @@
 -- A process dies: its death over the parts of the kernel is that of the machine that the kernel stands for.
-use Rattle.std.proofs.Common.{◌≡◌, ℕ, ◌≤◌, ◌+◌, ◌<◌, Bool, [], ◌∷◌, ◌++◌, length, Option, Some, None, is_some, refl, sym, ap, subst, ◌∙◌, arith}
-use Rattle.std.specs.Prelude.{if◌then◌else◌, unwrap_or}
+use Rattle.std.proofs.Common.{◌≡◌, ℕ, ◌≤◌, ◌+◌, ◌<◌, Bool, [], ◌∷◌, ◌++◌, length, Option, is_some, refl, sym, ap, subst, ◌∙◌, arith}
+use Rattle.std.specs.Prelude.{unwrap_or}
 use Rattle.std.proofs.lemmas.List.{length-map}
-use Rattle.irq_claims.specs.ClaimsOf.{claims_of}
-use Rattle.irq_claims.specs.declared.claims.Claim.{Claim as TableClaim}
-use Rattle.kill_path.specs.Claims.{claim_of}
 use Rattle.kill_path.specs.Dying.{AllParts, AreAllSound, Dies, IsDeath, disarmed_with, with_all_parts}
 use Rattle.kill_path.specs.Open.{AreServersSound}
 use Rattle.kill_path.proofs.FitLemmas.{open_loans, servers_of_matched}

@@ -1,6 +1,5 @@
 -- What the thread did is the step of the machine, once it is counted.
-use Rattle.std.proofs.Common.{◌<◌, subst, arith}
-use Rattle.xk_kernel.specs.Acting.{Acts}
+use Rattle.std.proofs.Common.{◌<◌, arith}
 use Rattle.xk_kernel.specs.State.{machine_of}
 use Rattle.xk_kernel.proofs.Acting.StepOfLemmas.{claim_there, counting_whole, did, did_sound, few_records, of_its_step}
 use Rattle.xk_kernel.proofs.kernel.Kernel.step_of.Goals as goal
