@@ -1,5 +1,5 @@
 -- The cases of a tick, and what is written for each.
-use Rattle.std.proofs.Common.{◌≡◌, ◌≢◌, ◌<◌, ◌==◌, ◌+◌, ℕ, zero, suc, Bool, true, false, List, [], ◌∷◌, ◌++◌, Option, Result, Ok, Err, IsErr, OnOk, is_some, refl, sym, ap, ◌∙◌, subst, arith, append_assoc, ◌≤◌, ◌⊎◌, inl, inr}
+use Rattle.std.proofs.Common.{◌≡◌, ◌≢◌, ◌<◌, ◌==◌, ℕ, zero, suc, Bool, true, false, List, [], ◌∷◌, ◌++◌, Option, Result, Ok, Err, IsErr, OnOk, is_some, refl, sym, ap, ◌∙◌, subst, arith, append_assoc, ◌≤◌, ◌⊎◌, inl, inr}
 use Rattle.std.specs.Prelude.{if◌then◌else◌}
 use Rattle.std.proofs.lemmas.Bool.Decides.{nat_tests}
 use Rattle.std.proofs.lemmas.Grind.{flat_map-append}
@@ -7,7 +7,8 @@ use Rattle.xk_base.specs.declared.records.Rec.{Rec}
 use Rattle.xk_base.specs.declared.errors.Failed.{Failed}
 use Rattle.xk_ports.specs.Told.{Grows, GrowsByPrefix}
 use Rattle.xk_ports.proofs.ToldLemmas.{Grows-append, Grows-none}
-use Rattle.trace_text.specs.Lines.{line_of, text_of}
+use Rattle.xousim.specs.declared.command.Telling.{Telling}
+use Rattle.xousim.specs.Telling.{told, told_of}
 use Rattle.machine_model.specs.State.Machine.{Machine}
 use Rattle.machine_model.specs.State.Order.{actor, turn}
 use Rattle.machine_model.specs.Stepping.Step.{step}
@@ -54,38 +55,38 @@ ticks_step n limit m ready more built =
 
 -- ---- what is written
 
-pub wrote_same : (before after : Option (List ℕ)) (g h : History) (result : Result Ending Failed) → g ≡ h → Wrote before after h result → Wrote before after g result
-wrote_same before after g h result same wrote =
-    let P : History → Type 0 = λ x. Wrote before after x result in subst P (sym same) wrote
+pub wrote_same : (tells : Telling) (before after : Option (List ℕ)) (g h : History) (result : Result Ending Failed) → g ≡ h → Wrote tells before after h result → Wrote tells before after g result
+wrote_same tells before after g h result same wrote =
+    let P : History → Type 0 = λ x. Wrote tells before after x result in subst P (sym same) wrote
 
-pub wrote_err : (before after : Option (List ℕ)) (h : History) (result : Result Ending Failed) → IsErr result → ((failed : Failed) → Wrote before after h (Err failed)) → Wrote before after h result
-wrote_err before after h (Ok ending) is wrote = cc
-wrote_err before after h (Err failed) is wrote = wrote failed
+pub wrote_err : (tells : Telling) (before after : Option (List ℕ)) (h : History) (result : Result Ending Failed) → IsErr result → ((failed : Failed) → Wrote tells before after h (Err failed)) → Wrote tells before after h result
+wrote_err tells before after h (Ok ending) is wrote = cc
+wrote_err tells before after h (Err failed) is wrote = wrote failed
 
 -- a history of no record
-pub wrote_ended : (out : Option (List ℕ)) (ending : Ending) (m : Machine) → Wrote out out (ended ending m) (Ok ending)
-wrote_ended out ending m = (refl, Grows-none out)
+pub wrote_ended : (tells : Telling) (out : Option (List ℕ)) (ending : Ending) (m : Machine) → Wrote tells out out (ended ending m) (Ok ending)
+wrote_ended tells out ending m = (refl, Grows-none out)
 
 -- the records of a step, and then the rest
-pub wrote_behind : (before mid after : Option (List ℕ)) (records : List Rec) (h : History) (result : Result Ending Failed)
-    → Grows before mid (text_of records) → Wrote mid after h result → Wrote before after (behind records h) result
-wrote_behind before mid after records h (Ok ending) first second =
+pub wrote_behind : (tells : Telling) (before mid after : Option (List ℕ)) (records : List Rec) (h : History) (result : Result Ending Failed)
+    → Grows before mid (told tells records) → Wrote tells mid after h result → Wrote tells before after (behind records h) result
+wrote_behind tells before mid after records h (Ok ending) first second =
     let P : List ℕ → Type 0 = λ text. Grows before after text in
-    (second.0, subst P (sym (flat_map-append line_of records h.records)) (Grows-append before mid after (text_of records) (text_of h.records) first second.1))
-wrote_behind before mid after records h (Err failed) first second = (
-  text_of records ++ second.0,
+    (second.0, subst P (sym (flat_map-append (told_of tells) records h.records)) (Grows-append before mid after (told tells records) (told tells h.records) first second.1))
+wrote_behind tells before mid after records h (Err failed) first second = (
+  told tells records ++ second.0,
   second.1,
-  flat_map-append line_of records h.records ∙ (ap (λ (text : List ℕ). text_of records ++ text) second.2 ∙ sym (append_assoc (text_of records) second.0 second.1)),
-  Grows-append before mid after (text_of records) second.0 first second.3,
+  flat_map-append (told_of tells) records h.records ∙ (ap (λ (text : List ℕ). told tells records ++ text) second.2 ∙ sym (append_assoc (told tells records) second.0 second.1)),
+  Grows-append before mid after (told tells records) second.0 first second.3,
 )
 
 -- a part of the records of a step
-pub wrote_front : (before after : Option (List ℕ)) (records : List Rec) (h : History) (failed : Failed)
-    → GrowsByPrefix before after (text_of records) → Wrote before after (behind records h) (Err failed)
-wrote_front before after records h failed front = (
+pub wrote_front : (tells : Telling) (before after : Option (List ℕ)) (records : List Rec) (h : History) (failed : Failed)
+    → GrowsByPrefix before after (told tells records) → Wrote tells before after (behind records h) (Err failed)
+wrote_front tells before after records h failed front = (
   front.0,
-  front.1 ++ text_of h.records,
-  flat_map-append line_of records h.records ∙ (ap (λ (text : List ℕ). text ++ text_of h.records) front.2 ∙ append_assoc front.0 front.1 (text_of h.records)),
+  front.1 ++ told tells h.records,
+  flat_map-append (told_of tells) records h.records ∙ (ap (λ (text : List ℕ). text ++ told tells h.records) front.2 ∙ append_assoc front.0 front.1 (told tells h.records)),
   front.3,
 )
 
@@ -103,17 +104,17 @@ stopped h next (BadLine line) other = refl
 go_on_stopped : (h : History) (next : Machine → History) → h.ending ≢ Played → followed_by h next ≡ h
 go_on_stopped h next other = stopped h next h.ending other
 
-part : (before after : Option (List ℕ)) (h : History) (next : Machine → History) (failed : Failed)
-    → GrowsByPrefix before after (text_of h.records) → (ending : Ending) → Wrote before after (go_on ending h next) (Err failed)
-part before after h next failed front Played = wrote_front before after h.records (next h.machine) failed front
-part before after h next failed front LimitMet = front
-part before after h next failed front Unbuilt = front
-part before after h next failed front (BadLine line) = front
+part : (tells : Telling) (before after : Option (List ℕ)) (h : History) (next : Machine → History) (failed : Failed)
+    → GrowsByPrefix before after (told tells h.records) → (ending : Ending) → Wrote tells before after (go_on ending h next) (Err failed)
+part tells before after h next failed front Played = wrote_front tells before after h.records (next h.machine) failed front
+part tells before after h next failed front LimitMet = front
+part tells before after h next failed front Unbuilt = front
+part tells before after h next failed front (BadLine line) = front
 
 -- a part of the lines of an event that isn't the last is a part of the lines of all
-pub wrote_part : (before after : Option (List ℕ)) (h : History) (next : Machine → History) (failed : Failed)
-    → GrowsByPrefix before after (text_of h.records) → Wrote before after (followed_by h next) (Err failed)
-wrote_part before after h next failed front = part before after h next failed front h.ending
+pub wrote_part : (tells : Telling) (before after : Option (List ℕ)) (h : History) (next : Machine → History) (failed : Failed)
+    → GrowsByPrefix before after (told tells h.records) → Wrote tells before after (followed_by h next) (Err failed)
+wrote_part tells before after h next failed front = part tells before after h next failed front h.ending
 
 pub history_none : (last : Ending) (limit : ℕ) (m : Machine) → history_to last [] limit m ≡ ended last m
 unfolding history_to

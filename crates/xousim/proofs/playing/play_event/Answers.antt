@@ -19,7 +19,7 @@ returns-in-Pick g c =
     let next : Machine = machine_of g.W.SwapStore.held c.play_at_once.new.kernel in
     let same : play c.args.event c.args.limit m ≡ at_once c.args.event m = play_other c.args.event c.args.limit m c.in-Pick.is in
     record {
-      wrote = wrote_same (g.K.Sink.written c.args.out.now) (g.K.Sink.written c.play_at_once.new.out) (play c.args.event c.args.limit m) (at_once c.args.event m) c.play_at_once.result same c.play_at_once.ensures.wrote;
+      wrote = wrote_same c.args.tells (g.K.Sink.written c.args.out.now) (g.K.Sink.written c.play_at_once.new.out) (play c.args.event c.args.limit m) (at_once c.args.event m) c.play_at_once.result same c.play_at_once.ensures.wrote;
       machine = ok_machine c.play_at_once.result next (play c.args.event c.args.limit m) (at_once c.args.event m) same c.play_at_once.ensures.machine;
       sound = c.play_at_once.ensures.sound;
       usable = c.play_at_once.ensures.usable;
