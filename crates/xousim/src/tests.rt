@@ -187,26 +187,6 @@ fn damage_in_an_unused_part(rt: HostRuntime) -> Result<(), Fail> {
     Ok(())
 }
 
-/// A process asks for its pid, and then claims the timer's interrupt.
-#[test]
-fn what_is_not_built(rt: HostRuntime) -> Result<(), Fail> {
-    let alloc = rt.alloc();
-    let code = [
-        0x02B0_0513, // a0 = 43, GetProcessId
-        0x0000_0073, // call
-        0x0050_0513, // a0 = 5, ClaimInterrupt
-        0x0140_0593, // a1 = 20
-        0x0000_0073, // call
-    ];
-    let one = image::image(alloc, 1, &code)?;
-    let run = trace(alloc, one.as_slice(), b"irq 20\ntick 9\n", &[], &[])?;
-    assert_eq!(rt; run.status, Status::NotBuilt);
-    let lines = transcript(alloc, &["2 2.2 call 2b", "2 2.2 reply e 2"])?;
-    assert_eq!(rt; run.out.as_slice(), lines.as_slice());
-    assert_eq!(rt; run.notes.as_slice(), b"not built\n".as_slice());
-    Ok(())
-}
-
 /// A trap ends the process, and so does the end of its thread.
 #[test]
 fn ends_of_the_process(rt: HostRuntime) -> Result<(), Fail> {
