@@ -2,6 +2,7 @@
 
 mod atomics;
 mod commands;
+mod deaths;
 mod forwards;
 mod image;
 mod interrupts;
