@@ -65,7 +65,8 @@ fn push_all(log: &mut Log, records: &[Rec])
     }
 }
 
-// The last record goes to a place before it, ahead of those that stand there.
+// The last record goes to a place before it, ahead of those that stand there. A log can only be appended
+// to, so it is read out and filled again.
 fn move_last(log: &mut Log, place: usize)
     requires place { place < length log.old.records }
     requires few { length log.old.records ≤ RECORD_LIMIT }
