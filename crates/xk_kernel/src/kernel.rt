@@ -1,8 +1,6 @@
 //! The kernel.
 
-mod alone;
 mod boot;
-mod built;
 mod calls;
 mod deaths;
 mod events;
@@ -35,8 +33,6 @@ pub enum Stepped {
     Did,
     /// No thread is ready.
     Idle,
-    /// The next step isn't built; nothing was done.
-    NotBuilt,
 }
 
 /// The store failed as a page was brought in or put out; it has counted it. The kernel is closed

@@ -26,8 +26,7 @@ use Rattle.xk_kernel.specs.Sound.{IsSound, IsUsable, IsWhole}
 use Rattle.xk_kernel.specs.State.{as_reservation, machine_of}
 use Rattle.xk_kernel.specs.Stepping.{Becomes, DoesStep}
 use Rattle.xk_kernel.specs.declared.kernel.Kernel.{Kernel}
-use Rattle.xk_kernel.specs.declared.kernel.Stepped.TheVariants.{Did, NotBuilt}
-use Rattle.xk_kernel.specs.declared.kernel.stepping.Acted.TheVariants.{Done, Unbuilt}
+use Rattle.xk_kernel.specs.declared.kernel.Stepped.TheVariants.{Did}
 use Rattle.xk_kernel.proofs.Ringing.FewLemmas.{few_acted}
 use Rattle.xk_kernel.proofs.Ringing.RingLemmas.{all_of_step}
 
@@ -63,20 +62,20 @@ module _ {W : Type 0} (slot_count : W → ℕ) (held : W → Held) (old new : Ke
       servers = h.servers;
     }
 
-    module _ (h : Acts held old new who (Done address)) where
+    module _ (h : Acts held old new who address) where
       -- before the timer it is what the thread did, counted
       counted_is : so_far (machine_of held counting) did_tell ≡ counted_by who (machine_of held old)
       unfolding machine_of
       counted_is = λ i. record {
-        machine = record (h.1.machine i) { steps = old.steps + 1; reserved = (same ∙ h.2) i };
+        machine = record (h.done.machine i) { steps = old.steps + 1; reserved = (same ∙ h.leaves) i };
         told = did_tell;
       }
 
       its_step : new.log.step ≡ old.steps + 1
-      its_step = ap (λ (l : LogState). l.step) h.1.log
+      its_step = ap (λ (l : LogState). l.step) h.done.log
 
       tells : LogTells new.log did_tell
-      tells = ap (λ (l : LogState). l.records) h.1.log ∙ (λ i. map (record_of (sym its_step i)) did_tell)
+      tells = ap (λ (l : LogState). l.records) h.done.log ∙ (λ i. map (record_of (sym its_step i)) did_tell)
 
       pub of_its_step : All (λ (rec : Rec). rec.step ≡ new.log.step) new.log.records
       of_its_step =
@@ -88,7 +87,7 @@ module _ {W : Type 0} (slot_count : W → ℕ) (held : W → Held) (old new : Ke
           let long : length new.log.records ≡ length did_tell = ap length tells ∙ length-map did_tell (record_of new.log.step) in
           let told : length did_tell ≤ thread_ids (told_by who (machine_of held old)).machine.processes + 3 =
           few_acted (record (machine_of held old) { cursor = who }) ((machine_of held old).threads who) in
-          let procs : processes new.mem ≡ (told_by who (machine_of held old)).machine.processes = ap (λ (m : Machine). m.processes) h.1.machine in
+          let procs : processes new.mem ≡ (told_by who (machine_of held old)).machine.processes = ap (λ (m : Machine). m.processes) h.done.machine in
           let few : processes new.mem ≤ 32 = whole.mem.few in
           omega (arith, long, told, procs, few)
 
@@ -137,10 +136,4 @@ module _ {W : Type 0} (slot_count : W → ℕ) (held : W → Held) (old new : Ke
         }
 
       pub did : (rung : Kernel W) → ((told : List What) → LogTells new.log told → Rings held counting rung told) → DoesStep held old rung Did
-      did rung rings = (ap is_some acts, h.0, step_done rung (rings did_tell tells))
-
-  pub did_not : Acts held old new who Unbuilt → DoesStep held old new NotBuilt
-  did_not h = (ap is_some acts, h.0, h.1, ap (λ log. log.records) h.2)
-
-  pub left_sound : IsSound slot_count held old → IsUsable old → IsWhole slot_count held new → Acts held old new who Unbuilt → IsSound slot_count held new
-  left_sound sound usable whole h = record { whole = whole; matched = λ _. subst Matched (sym h.1) (sound.matched usable) }
+      did rung rings = (ap is_some acts, step_done rung (rings did_tell tells))

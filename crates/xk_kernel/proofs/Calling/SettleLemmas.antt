@@ -18,10 +18,9 @@ use Rattle.xk_base.specs.Tables.Counting.{listed_below}
 use Rattle.xk_base.specs.Log.{LogState}
 use Rattle.xk_base.specs.Calls.Replies.{refused_words}
 use Rattle.xk_base.specs.declared.errors.XousError.{XousError}
-use Rattle.xk_base.specs.declared.ids.Pid.{Pid}
 use Rattle.xk_base.specs.declared.ids.ThreadId.{ThreadId}
 use Rattle.xk_base.specs.declared.records.What.{What}
-use Rattle.xk_base.specs.declared.records.What.TheVariants.{Gone, Reply, Retry}
+use Rattle.xk_base.specs.declared.records.What.TheVariants.{Reply, Retry}
 use Rattle.xk_kernel.specs.State.{machine_of}
 use Rattle.xk_kernel.specs.Telling.{Tells, log_with}
 use Rattle.xk_kernel.specs.declared.kernel.Kernel.{Kernel}
@@ -100,14 +99,6 @@ unfolding call_settled settled
 waits_is m next o e =
     ap (call_settled m) (sym e)
     ∙ (λ i. record { machine = nobody_answered (change_thread m.cursor passed next) i; told = no_reply next.processes i ++ ([] ++ []) })
-
--- its process died
-pub died_is : (m next : Machine) (pid : Pid) (o : Outcome) → Served (record (only next) { gone = Some pid }) ≡ o
-    → call_settled m o ≡ record { machine = change_thread m.cursor passed next; told = Gone pid ∷ [] }
-unfolding call_settled settled
-died_is m next pid o e =
-    ap (call_settled m) (sym e)
-    ∙ (λ i. record { machine = nobody_answered (change_thread m.cursor passed next) i; told = no_reply next.processes i ++ ([] ++ Gone pid ∷ []) })
 
 -- the call will be made again: the turn ends
 pub retried_is : (m : Machine) (o : Outcome) → Retried ≡ o → call_settled m o ≡ record { machine = turn m; told = Retry m.cursor ∷ [] }

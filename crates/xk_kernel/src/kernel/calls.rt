@@ -6,13 +6,10 @@ ghost use Rattle.machine_model.specs.State.Changes.{Refused, Retried, call_settl
 ghost use Rattle.machine_model.specs.State.Order.{ready_at};
 ghost use Rattle.machine_model.specs.Stepping.Step.{after};
 ghost use Rattle.syscall_codec.specs.Calls.{Asks};
-ghost use Rattle.syscall_codec.specs.declared.calls.Call.TheVariants.{TerminateProcess};
-ghost use Rattle.xk_base.specs.Calls.CallNumbers.{terminate_process};
-ghost use Rattle.xk_base.specs.Calls.CallWords.{call_number};
+ghost use Rattle.xk_base.specs.Tables.Circle.{thread_ids};
+ghost use Rattle.xk_base.specs.declared.limits.TheConstants.{PROCESS_LIMIT};
 ghost use Rattle.xk_base.specs.declared.records.What.TheVariants.{Call as Called};
-ghost use Rattle.xk_kernel.specs.Alone.{DiesPlainly};
-ghost use Rattle.xk_kernel.specs.Built.{is_call_built, is_plain_call};
-ghost use Rattle.xk_kernel.specs.Calling.{IfUndone, IsCaller, is_refused_caller, outcome_of};
+ghost use Rattle.xk_kernel.specs.Calling.{IfUndone, IsCaller, is_plain_call, is_refused_caller, outcome_of};
 ghost use Rattle.xk_kernel.specs.Sound.{IsUsable, IsWhole, Keeps};
 ghost use Rattle.xk_kernel.specs.State.{machine_of};
 ghost use Rattle.xk_kernel.specs.Telling.{Tells};
@@ -29,19 +26,15 @@ pub enum CallerFate {
     Answered(Reply),
     /// The caller waits.
     Waits,
-    /// The caller's process died.
-    Died,
     /// The caller will make the call again, which did nothing.
     Retries,
 }
 
 impl<W: SwapStore> Kernel<W> {
-    // The thread whose turn it is makes the call with these words, which is built.
+    // The thread whose turn it is makes the call with these words.
     pub(super) fn call(&mut self, words: [u32; 8]) -> Result<(), SwapFault>
         requires calls { IsCaller W.slot_count W.held self.old }
-        requires built { is_call_built words ≡ true }
-        requires plain { call_number words ≡ terminate_process → DiesPlainly self.old.cursor.pid (machine_of W.held self.old) }
-        requires room { length self.old.log.records + 3 ≤ self.old.log.room }
+        requires room { length self.old.log.records + thread_ids PROCESS_LIMIT + 2 ≤ self.old.log.room }
         ensures whole { IsWhole W.slot_count W.held self.new }
         ensures usable { OnOk result (IsUsable self.new) }
         ensures tells { let m = machine_of W.held self.old in
@@ -66,13 +59,12 @@ impl<W: SwapStore> Kernel<W> {
         self.cursor.tid.0 == 1 && can_wait(asked)
     }
 
-    // The call that these words ask for takes place. A call on messages answers its caller itself.
+    // The call that these words ask for takes place. A call on messages, and one that ends a process or
+    // a server, answers who is to be answered itself.
     fn call_asked(&mut self, words: [u32; 8], asked: Call) -> Result<(), SwapFault>
         requires calls { IsCaller W.slot_count W.held self.old }
         requires asks { Asks words asked }
-        requires built { is_call_built words ≡ true }
-        requires plain { call_number words ≡ terminate_process → DiesPlainly self.old.cursor.pid (machine_of W.held self.old) }
-        requires room { length self.old.log.records + 2 ≤ self.old.log.room }
+        requires room { length self.old.log.records + thread_ids PROCESS_LIMIT + 1 ≤ self.old.log.room }
         ensures whole { IsWhole W.slot_count W.held self.new }
         ensures usable { OnOk result (IsUsable self.new) }
         ensures tells { let m = machine_of W.held self.old in
@@ -93,19 +85,20 @@ impl<W: SwapStore> Kernel<W> {
                 self.give_back_message(words);
             }
             Call::ForwardMessage { .. } => self.forward_message(words),
+            Call::TerminateProcess { .. } => self.terminate(),
+            Call::DestroyServer { sid } => self.destroy_server(sid),
             _ => return self.call_plain(words, asked),
         }
         Ok(())
     }
 
-    // The call that these words ask for, which is none on messages, is served, and its caller is past it
-    // and has its answer.
+    // The call that these words ask for, which is none of those, is served, and its caller is past it and
+    // has its answer.
     fn call_plain(&mut self, words: [u32; 8], asked: Call) -> Result<(), SwapFault>
         requires calls { IsCaller W.slot_count W.held self.old }
         requires asks { Asks words asked }
         requires free { is_refused_caller (machine_of W.held self.old) words ≡ false }
-        requires built { is_plain_call words ≡ true }
-        requires plain { call_number words ≡ terminate_process → DiesPlainly self.old.cursor.pid (machine_of W.held self.old) }
+        requires plain { is_plain_call words ≡ true }
         requires room { length self.old.log.records + 2 ≤ self.old.log.room }
         ensures whole { IsWhole W.slot_count W.held self.new }
         ensures usable { OnOk result (IsUsable self.new) }
@@ -122,10 +115,6 @@ impl<W: SwapStore> Kernel<W> {
                 self.answer(who, reply_words(&reply));
             }
             Ok(CallerFate::Waits) => self.pass(who),
-            Ok(CallerFate::Died) => {
-                self.pass(who);
-                self.log.push(What::Gone(who.pid));
-            }
             Ok(CallerFate::Retries) => self.retry(),
             Err(error) => self.refuse(error),
         }
@@ -163,8 +152,7 @@ impl<W: SwapStore> Kernel<W> {
     fn serve(&mut self, asked: Call) -> Result<Result<CallerFate, XousError>, SwapFault>
         requires calls { IsCaller W.slot_count W.held self.old }
         requires free { (words : List ℕ) → Asks words asked → is_refused_caller (machine_of W.held self.old) words ≡ false }
-        requires built { (words : List ℕ) × Asks words asked × (is_plain_call words ≡ true) }
-        requires plain { (exit : ℕ) → asked ≡ TerminateProcess exit → DiesPlainly self.old.cursor.pid (machine_of W.held self.old) }
+        requires plain { (words : List ℕ) × Asks words asked × (is_plain_call words ≡ true) }
         ensures whole { IsWhole W.slot_count W.held self.new }
         ensures usable { OnOk result (IsUsable self.new) }
         ensures outcome { let old = machine_of W.held self.old in
@@ -205,10 +193,6 @@ impl<W: SwapStore> Kernel<W> {
             Call::TryConnect { sid } => Ok(self.try_connect(sid)),
             Call::CreateThread { entry, sp, args } => Ok(self.create_thread(entry, sp, args)),
             Call::JoinThread { tid } => Ok(self.join_thread(tid)),
-            Call::TerminateProcess { .. } => {
-                self.forget(self.cursor.pid);
-                Ok(Ok(CallerFate::Died))
-            }
             Call::GetThreadId => Ok(Ok(CallerFate::Answered(Reply::Thread(self.cursor.tid)))),
             Call::GetProcessId => {
                 let pid = self.cursor.pid.0 as u32;

@@ -23,10 +23,6 @@ call_asked-requires-clause-calls g c = record {
   ready = c.requires.calls.ready;
 }
 
-pub call_asked-requires-clause-plain : goal.call_asked-requires-clause-plain
-unfolding machine_of
-call_asked-requires-clause-plain g c = c.requires.plain
-
 pub refuse-requires-clause-ready : goal.refuse-requires-clause-ready
 unfolding machine_of
 refuse-requires-clause-ready g c = c.requires.calls.ready

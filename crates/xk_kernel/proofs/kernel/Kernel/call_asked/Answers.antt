@@ -1,11 +1,11 @@
 -- A call is refused to its caller, is one on messages, or is served before its caller is answered.
-use Rattle.std.proofs.Common.{◌≡◌, false, sym, subst, ◌∙◌}
+use Rattle.std.proofs.Common.{◌≡◌, false, sym, subst, ◌∙◌, arith}
 use Rattle.machine_model.specs.State.Changes.{call_settled}
 use Rattle.syscall_codec.specs.Calls.{Asks}
 use Rattle.xk_kernel.specs.Calling.{is_refused_caller}
 use Rattle.xk_kernel.specs.State.{machine_of}
 use Rattle.xk_kernel.specs.Telling.{Tells}
-use Rattle.xk_kernel.proofs.Calling.CallTableLemmas.{plain_built, receive_is, receiver_waits, refused_to_handler, row_is, try_receive_is}
+use Rattle.xk_kernel.proofs.Calling.CallTableLemmas.{destroy_is, others_plain, receive_is, receiver_waits, refused_to_handler, row_is, terminate_is, try_receive_is}
 use Rattle.xk_kernel.proofs.kernel.Kernel.call_asked.Goals as goal
 
 pub returns-then-is_refused-clause-tells : goal.returns-then-is_refused-clause-tells
@@ -73,6 +73,23 @@ returns-in-ForwardMessage-clause-tells g c =
     subst (λ o. Tells g.W.SwapStore.held c.args.self.now c.forward_message.new.self (call_settled m o))
     (row_is m c.args.words free c.args.asked c.requires.asks) c.forward_message.ensures.tells
 
+-- ---- ends
+
+pub returns-in-TerminateProcess-clause-tells : goal.returns-in-TerminateProcess-clause-tells
+unfolding machine_of
+returns-in-TerminateProcess-clause-tells g c =
+    let m = machine_of g.W.SwapStore.held c.args.self.now in
+    let free : is_refused_caller m c.args.words ≡ false = sym (c.is_refused.ensures c.args.words c.requires.asks) ∙ c.if-is_refused.false in
+    subst (λ o. Tells g.W.SwapStore.held c.args.self.now c.terminate.new.self (call_settled m o))
+    (terminate_is m c.args.words free c.in-TerminateProcess.exit (subst (Asks c.args.words) c.in-TerminateProcess.is c.requires.asks)) c.terminate.ensures.tells
+
+pub returns-in-DestroyServer-clause-tells : goal.returns-in-DestroyServer-clause-tells
+returns-in-DestroyServer-clause-tells g c =
+    let m = machine_of g.W.SwapStore.held c.args.self.now in
+    let free : is_refused_caller m c.args.words ≡ false = sym (c.is_refused.ensures c.args.words c.requires.asks) ∙ c.if-is_refused.false in
+    subst (λ o. Tells g.W.SwapStore.held c.args.self.now c.destroy_server.new.self (call_settled m o))
+    (destroy_is m c.args.words free c.in-DestroyServer.sid (subst (Asks c.args.words) c.in-DestroyServer.is c.requires.asks)) c.destroy_server.ensures.tells
+
 -- ---- other calls
 
 pub call_plain-requires : goal.call_plain-requires
@@ -80,7 +97,7 @@ call_plain-requires g c = record {
   calls = c.requires.calls;
   asks = c.requires.asks;
   free = sym (c.is_refused.ensures c.args.words c.requires.asks) ∙ c.if-is_refused.false;
-  built = plain_built c.args.words c.args.asked c.requires.asks
+  plain = others_plain c.args.words c.args.asked c.requires.asks
       (record {
         send = c.in_default.not-SendMessage;
         try_send = c.in_default.not-TrySendMessage;
@@ -90,8 +107,8 @@ call_plain-requires g c = record {
         return_scalar1 = c.in_default.not-ReturnScalar1;
         return_scalar2 = c.in_default.not-ReturnScalar2;
         forward = c.in_default.not-ForwardMessage;
-      })
-      c.requires.built;
-  plain = c.requires.plain;
-  room = c.requires.room;
+        terminate = c.in_default.not-TerminateProcess;
+        destroy = c.in_default.not-DestroyServer;
+      });
+  room = omega arith;
 }

@@ -6,15 +6,13 @@ use Rattle.machine_model.specs.State.Threads.{answer_to}
 use Rattle.server_table.specs.ServersOf.{servers_of}
 use Rattle.syscall_codec.specs.Calls.{Asks}
 use Rattle.xk_base.specs.Calls.Replies.{plain_words}
-use Rattle.xk_kernel.specs.Calling.{outcome_by}
 use Rattle.xk_kernel.specs.State.{machine_of}
-use Rattle.xk_kernel.specs.declared.kernel.calls.CallerFate.TheVariants.{Died}
-use Rattle.xk_kernel.proofs.Calling.CallTableLemmas.{claim_is, connect_is, create_is, create_server_is, decrease_is, free_is, increase_is, join_is, map_is, built_asked, none_left, process_id_is, terminate_is, thread_id_is, try_connect_is, unmap_is, update_is, yield_is}
+use Rattle.xk_kernel.proofs.Calling.CallTableLemmas.{claim_is, connect_is, create_is, create_server_is, decrease_is, free_is, increase_is, join_is, map_is, none_left, plain_asked, process_id_is, thread_id_is, try_connect_is, unmap_is, update_is, yield_is}
 use Rattle.xk_kernel.proofs.kernel.Kernel.serve.Goals as goal
 
 pub unreachable-requires : goal.unreachable-requires
 unreachable-requires g c =
-    let built = c.requires.built in
+    let plain = c.requires.plain in
     none_left c.args.asked
     (record {
       map = c.in_default.not-MapMemory;
@@ -29,12 +27,11 @@ unreachable-requires g c =
       try_connect = c.in_default.not-TryConnect;
       create = c.in_default.not-CreateThread;
       unmap = c.in_default.not-UnmapMemory;
-      terminate = c.in_default.not-TerminateProcess;
       join = c.in_default.not-JoinThread;
       thread_id = c.in_default.not-GetThreadId;
       process_id = c.in_default.not-GetProcessId;
     })
-    (built_asked built.0 c.args.asked built.1 built.2)
+    (plain_asked plain.0 c.args.asked plain.1 plain.2)
 
 pub returns-in-UnmapMemory-clause-outcome : goal.returns-in-UnmapMemory-clause-outcome
 unfolding machine_of
@@ -110,18 +107,6 @@ returns-in-Yield-clause-outcome g c words asks =
     ∙ yield_is (machine_of g.W.SwapStore.held c.args.self.now) words
     (c.requires.free words asks)
     (subst (Asks words) c.in-Yield.is asks)
-
-pub forget-requires-clause-no_loan : goal.forget-requires-clause-no_loan
-unfolding machine_of
-forget-requires-clause-no_loan g c = (c.requires.plain c.in-TerminateProcess.exit c.in-TerminateProcess.is).no_loan
-
-pub returns-in-TerminateProcess-clause-outcome : goal.returns-in-TerminateProcess-clause-outcome
-unfolding machine_of
-returns-in-TerminateProcess-clause-outcome g c words asks =
-    ap (λ m. outcome_by c.args.self.now.cursor m Died) c.forget.ensures.machine
-    ∙ terminate_is (machine_of g.W.SwapStore.held c.args.self.now) words
-    (c.requires.free words asks)
-    c.in-TerminateProcess.exit (c.requires.plain c.in-TerminateProcess.exit c.in-TerminateProcess.is) (subst (Asks words) c.in-TerminateProcess.is asks)
 
 pub returns-in-GetThreadId-clause-outcome : goal.returns-in-GetThreadId-clause-outcome
 unfolding machine_of
