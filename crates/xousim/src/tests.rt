@@ -13,6 +13,7 @@ mod processes;
 mod programs;
 mod scalars;
 mod servers;
+mod timer;
 
 use crate::adapters::{ErrSink, FileHost, StdSink};
 use crate::status::{Ended, Status};
