@@ -1,6 +1,7 @@
 //! The program over files and streams in memory, and each real adapter once.
 
 mod atomics;
+mod commands;
 mod forwards;
 mod image;
 mod interrupts;
