@@ -12,6 +12,7 @@ mod processes;
 mod programs;
 mod scalars;
 mod servers;
+mod timer;
 
 use crate::adapters::{ErrSink, FileHost, StdSink};
 use crate::status::{Ended, Status};
@@ -187,15 +188,14 @@ fn damage_in_an_unused_part(rt: HostRuntime) -> Result<(), Fail> {
     Ok(())
 }
 
-/// A process asks for its pid, and then claims the timer's interrupt.
+/// A process asks for its pid, and then destroys a server.
 #[test]
 fn what_is_not_built(rt: HostRuntime) -> Result<(), Fail> {
     let alloc = rt.alloc();
     let code = [
         0x02B0_0513, // a0 = 43, GetProcessId
         0x0000_0073, // call
-        0x0050_0513, // a0 = 5, ClaimInterrupt
-        0x0140_0593, // a1 = 20
+        0x0290_0513, // a0 = 41, DestroyServer
         0x0000_0073, // call
     ];
     let one = image::image(alloc, 1, &code)?;

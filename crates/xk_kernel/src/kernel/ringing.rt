@@ -65,7 +65,8 @@ fn push_all(log: &mut Log, records: &[Rec])
     }
 }
 
-// The last record goes to a place before it, ahead of those that stand there.
+// The last record goes to a place before it, ahead of those that stand there. A log can only be appended
+// to, so it is read out and filled again.
 fn move_last(log: &mut Log, place: usize)
     requires place { place < length log.old.records }
     requires few { length log.old.records ≤ RECORD_LIMIT }
@@ -90,7 +91,8 @@ fn place_irq(log: &mut Log, pid: Pid)
     requires few { length log.old.records ≤ RECORD_LIMIT }
     requires room { length log.old.records ≤ log.old.room }
     requires step { All (λ rec. rec.step ≡ log.old.step) log.old.records }
-    ensures place { (xs : List Record) (x : Record) → log.old.records ≡ xs ++ x ∷ [] → log.new ≡ record log.old { records = moved_to (irq_place pid log.old.records) x xs } }
+    ensures place { let place = irq_place pid log.old.records in
+        (xs : List Record) (x : Record) → log.old.records ≡ xs ++ x ∷ [] → log.new ≡ record log.old { records = moved_to place x xs } }
     ensures room { log.new.room ≡ log.old.room }
 {
     let place = irq_place(pid, log.as_slice());

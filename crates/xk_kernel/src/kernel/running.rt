@@ -1,5 +1,5 @@
-//! The instruction of a thread is executed over the memory of its process, with the timer's page over it where the
-//! process has claimed the timer's interrupt.
+//! The instruction of a thread is executed over the memory of its process, with the timer's page over it
+//! where the process has claimed the timer's interrupt.
 
 ghost use Rattle.std.specs.Prelude.{◌≡◌, ◌%◌, false, IsSome, Some};
 ghost use Rattle.machine_model.specs.Runs.Matched.{Matched};
@@ -23,7 +23,7 @@ use xk_base::{ThreadId, UserMemory};
 use xk_ports::SwapStore;
 
 // Executes the instruction at the pc over a memory with the timer's page over it, and hands the memory
-// back. What it keeps besides stays.
+// back, alone, so that what was lent for it is known to come back. What it keeps besides stays.
 fn run_over<U: UserMemory>(
     thread: &mut Thread,
     reserved: &mut Option<u32>,
@@ -88,9 +88,12 @@ impl<W: SwapStore> Kernel<W> {
         ensures whole { IsWhole W.slot_count W.held self.new }
         // No page is out yet, so memory doesn't fail.
         ensures usable { IsUsable self.new }
-        ensures answer { (t : ModelThread) → (machine_of W.held self.old).threads who ≡ Some t → result ≡ ran_of (performed (machine_of W.held self.old) who t).executed }
-        ensures machine { (t : ModelThread) → (machine_of W.held self.old).threads who ≡ Some t → machine_of W.held self.new ≡ machine_after who (machine_of W.held self.old) (performed (machine_of W.held self.old) who t).executed }
-        ensures reserved { (t : ModelThread) → (machine_of W.held self.old).threads who ≡ Some t → reserved.new ≡ (performed (machine_of W.held self.old) who t).reserved }
+        ensures answer { let m = machine_of W.held self.old in
+            (t : ModelThread) → m.threads who ≡ Some t → result ≡ ran_of (performed m who t).executed }
+        ensures machine { let m = machine_of W.held self.old in
+            (t : ModelThread) → m.threads who ≡ Some t → machine_of W.held self.new ≡ machine_after who m (performed m who t).executed }
+        ensures reserved { let m = machine_of W.held self.old in
+            (t : ModelThread) → m.threads who ≡ Some t → reserved.new ≡ (performed m who t).reserved }
         ensures log { self.new.log ≡ self.old.log }
         ensures keeps { Keeps W.is_honest W.held W.slot_count W.asked W.faults self.old self.new }
     {
