@@ -189,6 +189,33 @@ fn damage_in_an_unused_part(rt: HostRuntime) -> Result<(), Fail> {
     Ok(())
 }
 
+/// A process asks for its pid, destroys a server that there isn't, and executes a word of 0.
+#[test]
+fn calls_and_a_trap(rt: HostRuntime) -> Result<(), Fail> {
+    let alloc = rt.alloc();
+    let code = [
+        0x02B0_0513, // a0 = 43, GetProcessId
+        0x0000_0073, // call
+        0x0290_0513, // a0 = 41, DestroyServer
+        0x0000_0073, // call
+    ];
+    let one = image::image(alloc, 1, &code)?;
+    let run = trace(alloc, one.as_slice(), b"irq 20\ntick 9\n", &[], &[])?;
+    assert_eq!(rt; run.status, Status::Done);
+    let lines = [
+        "2 2.2 call 2b",
+        "2 2.2 reply e 2",
+        "4 2.2 call 29 2",
+        "4 2.2 reply 1 9",
+        "5 2.2 fault 2 00000000",
+        "5 2 gone",
+        "end 5 done",
+    ];
+    assert_eq!(rt; run.out.as_slice(), transcript(alloc, &lines)?.as_slice());
+    assert_eq!(rt; run.notes.as_slice(), b"".as_slice());
+    Ok(())
+}
+
 /// A trap ends the process, and so does the end of its thread.
 #[test]
 fn ends_of_the_process(rt: HostRuntime) -> Result<(), Fail> {
