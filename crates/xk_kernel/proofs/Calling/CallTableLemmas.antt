@@ -2,7 +2,7 @@
 use Rattle.std.proofs.Common.{◌≡◌, ℕ, Bool, true, false, List, ◌∷◌, [], None, Some, refl, sym, ap, ◌∙◌}
 use Rattle.std.specs.Prelude.{◌==◌, ◌&&◌, ◌||◌, ◌≢◌, not, if◌then◌else◌, Result, Ok, Err}
 use Rattle.std.proofs.lemmas.Bool.{false≢true}
-use Rattle.machine_laws.proofs.Stepping.PlainServerLemmas.{outside_refused}
+use Rattle.machine_laws.proofs.Stepping.CallNumberLemmas.{outside_refused}
 use Rattle.machine_model.specs.Calling.Calls.{call, call_at, call_table}
 use Rattle.machine_model.specs.Calling.InterruptCalls.{claim_call, claim_refusals, claim_served, free_call, free_refusals, free_served}
 use Rattle.machine_model.specs.State.Changes.{Refused, Served, answering, refused_or, unless_refused, unless_retried}

@@ -4,7 +4,7 @@ use Rattle.std.specs.Prelude.{◌∷◌, is_some, if◌then◌else◌}
 use Rattle.std.specs.Bool.{⊤}
 use Rattle.std.specs.List.{AllByRecursion}
 use Rattle.std.specs.Option.{option_map}
-use Rattle.machine_laws.proofs.Stepping.PlainServerLemmas.{in_list}
+use Rattle.machine_laws.proofs.Stepping.CallNumberLemmas.{in_list}
 use Rattle.machine_model.specs.Calling.Calls.{any_refusals, call, call_at, call_table}
 use Rattle.machine_model.specs.Calling.InterruptCalls.{claim_call, claim_refusals, claim_served, free_call, free_refusals, free_served}
 use Rattle.machine_model.specs.State.Changes.{Change, Outcome, Refused, Retried, Served, first_refusal, refused_or, unless_refused, unless_retried}
