@@ -1,52 +1,31 @@
--- The cases of a tick, and what is written for each.
-use Rattle.std.proofs.Common.{◌≡◌, ◌≢◌, ◌<◌, ◌==◌, ℕ, zero, suc, Bool, true, false, List, [], ◌∷◌, ◌++◌, Option, Result, Ok, Err, IsErr, OnOk, is_some, refl, sym, ap, ◌∙◌, subst, arith, append_assoc, ◌≤◌, ◌⊎◌, inl, inr}
+-- What is written of a history, and histories one after the other.
+use Rattle.std.proofs.Common.{◌≡◌, ◌≢◌, ℕ, Bool, true, false, List, [], ◌∷◌, ◌++◌, Option, Result, Ok, Err, IsErr, OnOk, refl, sym, ap, ◌∙◌, subst, append_assoc, ◌≤◌, ◌⊎◌, inl, inr}
 use Rattle.std.specs.Prelude.{if◌then◌else◌}
-use Rattle.std.proofs.lemmas.Bool.Decides.{nat_tests}
 use Rattle.std.proofs.lemmas.Grind.{flat_map-append}
 use Rattle.xk_base.specs.declared.records.Rec.{Rec}
 use Rattle.xk_base.specs.declared.errors.Failed.{Failed}
+use Rattle.xk_base.specs.declared.ids.Pid.{Pid}
+use Rattle.xk_base.specs.declared.ids.Tid.{Tid}
 use Rattle.xk_ports.specs.Told.{Grows, GrowsByPrefix}
 use Rattle.xk_ports.proofs.ToldLemmas.{Grows-append, Grows-none}
 use Rattle.xousim.specs.declared.command.Telling.{Telling}
 use Rattle.xousim.specs.Telling.{told, told_of}
-use Rattle.machine_model.specs.State.Machine.{Machine}
-use Rattle.machine_model.specs.State.Order.{actor, turn}
-use Rattle.machine_model.specs.Stepping.Step.{step}
-use Rattle.xk_kernel.specs.History as kernel
-use Rattle.xousim.specs.declared.ending.Ending.{Ending}
-use Rattle.xousim.specs.declared.ending.Ending.TheVariants.{Played, LimitMet, BadLine}
-use Rattle.xousim.specs.History.{History, at_once, behind, ended, history, history_to, of_kernel, play, played, ticks}
-use Rattle.xk_kernel.specs.Stepping.{event_done}
-use Rattle.xk_kernel.proofs.Running.LimitLemmas.{irq_steps, kill_steps, pick_steps}
-use Rattle.event_text.specs.declared.event.Event.TheVariants.{Tick, Pick, Irq, Kill}
-use Rattle.xk_base.specs.declared.ids.Pid.{Pid}
-use Rattle.xk_base.specs.declared.ids.Tid.{Tid}
 use Rattle.event_text.specs.declared.event.Event.{Event}
+use Rattle.event_text.specs.declared.event.Event.TheVariants.{Tick, Pick, Irq, Kill}
+use Rattle.machine_model.specs.State.Machine.{Machine}
+use Rattle.machine_model.specs.Stepping.Events.{nothing}
+use Rattle.xk_kernel.specs.History as kernel
+use Rattle.xk_kernel.specs.Stepping.{event_done}
+use Rattle.xk_kernel.proofs.Running.HistoryLemmas.{history_append, history_first, history_none, irq_plays, kill_plays, pick_plays}
+use Rattle.xk_kernel.proofs.Running.LimitLemmas.{irq_steps, kill_steps, pick_steps}
+use Rattle.xousim.specs.declared.ending.Ending.{Ending}
+use Rattle.xousim.specs.declared.ending.Ending.TheVariants.{Played, LimitMet}
+use Rattle.xousim.specs.History.{History, with_ending}
 use Rattle.xousim.specs.Writing.{Wrote}
 
--- ---- a tick
-
-pub ticks_zero : (limit : ℕ) (m : Machine) → ticks 0 limit m ≡ ended Played (turn m)
-unfolding kernel.ticks
-ticks_zero limit m = refl
-
-pub ticks_idle : (n limit : ℕ) (m : Machine) → is_some (actor m) ≡ false → ticks n limit m ≡ ended Played (turn m)
-unfolding kernel.ticks
-ticks_idle zero limit m idle = refl
-ticks_idle (suc n) limit m idle = rw idle refl
-
-pub ticks_met : (n limit : ℕ) (m : Machine) → 0 < n → is_some (actor m) ≡ true → m.steps ≡ limit → ticks n limit m ≡ ended LimitMet m
-unfolding kernel.ticks
-ticks_met zero limit m some ready met = absurd (omega arith)
-ticks_met (suc n) limit m some ready met =
-    let same : (m.steps == limit) ≡ true = grind (arith, nat_tests) in
-    rw (ready, same) refl
-
-pub ticks_step : (n limit : ℕ) (m : Machine) → is_some (actor m) ≡ true → m.steps ≢ limit → ticks (suc n) limit m ≡ behind (step m).records (ticks n limit (step m).machine)
-unfolding kernel.ticks
-ticks_step n limit m ready more =
-    let other : (m.steps == limit) ≡ false = grind (arith, nat_tests) in
-    rw (ready, other) refl
+-- the same history after some records
+abbrev pub behind : List Rec → History → History
+behind records h = record h { records = records ++ h.records }
 
 -- ---- what is written
 
@@ -58,9 +37,13 @@ pub wrote_err : (tells : Telling) (before after : Option (List ℕ)) (h : Histor
 wrote_err tells before after h (Ok ending) is wrote = cc
 wrote_err tells before after h (Err failed) is wrote = wrote failed
 
--- a history of no record
-pub wrote_ended : (tells : Telling) (out : Option (List ℕ)) (ending : Ending) (m : Machine) → Wrote tells out out (ended ending m) (Ok ending)
-wrote_ended tells out ending m = (refl, Grows-none out)
+-- nothing is written where nothing was recorded: the history ends as it would anyway
+pub wrote_nothing : (tells : Telling) (out : Option (List ℕ)) (last : Ending) (m : Machine) → Wrote tells out out (with_ending last (kernel.reached (nothing m))) (Ok last)
+wrote_nothing tells out last m = (refl, Grows-none out)
+
+-- .. or at the limit
+pub wrote_stopped : (tells : Telling) (out : Option (List ℕ)) (last : Ending) (m : Machine) → Wrote tells out out (with_ending last (kernel.stopped m)) (Ok LimitMet)
+wrote_stopped tells out last m = (refl, Grows-none out)
 
 -- the records of a step, and then the rest
 pub wrote_behind : (tells : Telling) (before mid after : Option (List ℕ)) (records : List Rec) (h : History) (result : Result Ending Failed)
@@ -85,123 +68,85 @@ wrote_front tells before after records h failed front = (
   front.3,
 )
 
+-- a part of the lines of an event that isn't the last is a part of the lines of all
+pub wrote_part : (tells : Telling) (before after : Option (List ℕ)) (last : Ending) (h : kernel.History) (next : Machine → kernel.History) (failed : Failed)
+    → GrowsByPrefix before after (told tells h.records) → Wrote tells before after (with_ending last (kernel.followed_by h next)) (Err failed)
+wrote_part tells before after last h next failed front = go h.met
+  where
+    go : (met : Bool) → Wrote tells before after (with_ending last (kernel.go_on met h next)) (Err failed)
+    go true = front
+    go false = wrote_front tells before after h.records (with_ending last (next h.machine)) failed front
+
+-- ---- how a history ends
+
+unmet_by : (met : Bool) → (if met then LimitMet else Played) ≡ Played → met ≡ false
+unmet_by true is = cc
+unmet_by false is = refl
+
+met_by : (met : Bool) → (if met then LimitMet else Played) ≢ Played → met ≡ true
+met_by true other = refl
+met_by false other = absurd (other refl)
+
+-- where it ends with its events, the limit isn't met
+pub played_unmet : (h : kernel.History) → (with_ending Played h).ending ≡ Played → h.met ≡ false
+played_unmet h is = unmet_by h.met is
+
+-- .. and else it is
+pub other_met : (h : kernel.History) (ending : Ending) → (with_ending Played h).ending ≡ ending → ending ≢ Played → h.met ≡ true
+other_met h ending is other = met_by h.met (λ e. other (sym is ∙ e))
+
+-- where the limit isn't met, it ends as is said
+pub unmet_ends : (last : Ending) (h : kernel.History) → h.met ≡ false → (with_ending last h).ending ≡ last
+unmet_ends last h unmet = ap (λ (met : Bool). if met then LimitMet else last) unmet
+
+-- where the limit is met, nothing else ends it
+pub met_ends : (one other : Ending) (h : kernel.History) → h.met ≡ true → with_ending one h ≡ with_ending other h
+met_ends one other h met = rw met refl
+
 -- ---- events in order
 
--- a history and what comes after it, where it didn't end early
-abbrev go_on : Ending → History → (Machine → History) → History
-go_on Played h next = behind h.records (next h.machine)
-go_on LimitMet h next = h
-go_on (BadLine line) h next = h
-
-abbrev pub followed_by : History → (Machine → History) → History
-followed_by h next = go_on h.ending h next
-
--- so it is with the kernel's
-kernel_followed : (last : Ending) (h : kernel.History) (next : Machine → kernel.History)
-    → of_kernel last (kernel.followed_by h next) ≡ followed_by (of_kernel Played h) (λ m. of_kernel last (next m))
-kernel_followed last h next = go h.met
-  where
-    go : (b : Bool) → of_kernel last (kernel.followed_by (record h { met = b }) next) ≡ followed_by (of_kernel Played (record h { met = b })) (λ m. of_kernel last (next m))
-    go true = refl
-    go false = refl
-
-go_on_played : (h : History) (next : Machine → History) → h.ending ≡ Played → followed_by h next ≡ behind h.records (next h.machine)
-go_on_played h next played = ap (λ (e : Ending). go_on e h next) played
-
-stopped : (h : History) (next : Machine → History) (ending : Ending) → ending ≢ Played → go_on ending h next ≡ h
-stopped h next Played other = absurd (other refl)
-stopped h next LimitMet other = refl
-stopped h next (BadLine line) other = refl
-
-go_on_stopped : (h : History) (next : Machine → History) → h.ending ≢ Played → followed_by h next ≡ h
-go_on_stopped h next other = stopped h next h.ending other
-
-part : (tells : Telling) (before after : Option (List ℕ)) (h : History) (next : Machine → History) (failed : Failed)
-    → GrowsByPrefix before after (told tells h.records) → (ending : Ending) → Wrote tells before after (go_on ending h next) (Err failed)
-part tells before after h next failed front Played = wrote_front tells before after h.records (next h.machine) failed front
-part tells before after h next failed front LimitMet = front
-part tells before after h next failed front (BadLine line) = front
-
--- a part of the lines of an event that isn't the last is a part of the lines of all
-pub wrote_part : (tells : Telling) (before after : Option (List ℕ)) (h : History) (next : Machine → History) (failed : Failed)
-    → GrowsByPrefix before after (told tells h.records) → Wrote tells before after (followed_by h next) (Err failed)
-wrote_part tells before after h next failed front = part tells before after h next failed front h.ending
-
-pub history_none : (last : Ending) (limit : ℕ) (m : Machine) → history_to last [] limit m ≡ ended last m
-unfolding kernel.history
-history_none last limit m = refl
-
-pub history_first : (last : Ending) (event : Event) (events : List Event) (limit : ℕ) (m : Machine)
-    → history_to last (event ∷ events) limit m ≡ followed_by (play event limit m) (history_to last events limit)
-unfolding kernel.history
-history_first last event events limit m = kernel_followed last (kernel.play event limit m) (kernel.history events limit)
-
 -- an event at which the history ends
-pub history_stops : (last : Ending) (event : Event) (events : List Event) (limit : ℕ) (m : Machine) → (play event limit m).ending ≢ Played
-    → history_to last (event ∷ events) limit m ≡ play event limit m
-history_stops last event events limit m other =
-    history_first last event events limit m ∙ go_on_stopped (play event limit m) (history_to last events limit) other
+pub history_stops : (event : Event) (events : List Event) (limit : ℕ) (m : Machine) → (kernel.play event limit m).met ≡ true
+    → kernel.history (event ∷ events) limit m ≡ kernel.play event limit m
+history_stops event events limit m met =
+    history_first event events limit m ∙ ap (λ (b : Bool). kernel.go_on b (kernel.play event limit m) (kernel.history events limit)) met
 
--- an event that was played
-pub history_goes_on : (last : Ending) (event : Event) (events : List Event) (limit : ℕ) (m : Machine) → (play event limit m).ending ≡ Played
-    → history_to last (event ∷ events) limit m ≡ behind (play event limit m).records (history_to last events limit (play event limit m).machine)
-history_goes_on last event events limit m played =
-    history_first last event events limit m ∙ go_on_played (play event limit m) (history_to last events limit) played
-
-behind_behind : (first second : List Rec) (h : History) → behind first (behind second h) ≡ behind (first ++ second) h
-behind_behind first second h = rw append_assoc refl
-
-other_ending : (event : Event) (events : List Event) (limit : ℕ) (m : Machine) (e : Ending) → (history (event ∷ events) limit m).ending ≡ Played → e ≢ Played → (play event limit m).ending ≡ e → e ≡ Played
-other_ending event events limit m e played other is =
-    let stops : (play event limit m).ending ≢ Played = λ q. other (sym is ∙ q) in
-    sym is ∙ (sym (ap (λ (h : History). h.ending) (history_stops Played event events limit m stops)) ∙ played)
+-- an event alone
+pub history_one : (event : Event) (limit : ℕ) (m : Machine) → (kernel.play event limit m).met ≡ false
+    → kernel.history (event ∷ []) limit m ≡ kernel.behind (kernel.play event limit m).records (kernel.reached (nothing (kernel.play event limit m).machine))
+history_one event limit m unmet =
+    history_first event [] limit m
+    ∙ (ap (λ (b : Bool). kernel.go_on b (kernel.play event limit m) (kernel.history [] limit)) unmet
+    ∙ ap (kernel.behind (kernel.play event limit m).records) (history_none limit (kernel.play event limit m).machine))
 
 -- events behind those that were played
-pub history_after : (last : Ending) (events more : List Event) (limit : ℕ) (m : Machine) → (history events limit m).ending ≡ Played
-    → history_to last (events ++ more) limit m ≡ behind (history events limit m).records (history_to last more limit (history events limit m).machine)
-history_after last [] more limit m played = ap (λ (h : History). behind h.records (history_to last more limit h.machine)) (sym (history_none Played limit m))
-history_after last (event ∷ events) more limit m played =
-    go (play event limit m).ending refl (λ h. history_after last events more limit (play event limit m).machine h)
-  where
-    p : History
-    p = play event limit m
-
-    go : (e : Ending) → (play event limit m).ending ≡ e
-        → ((history events limit (play event limit m).machine).ending ≡ Played
-        → history_to last (events ++ more) limit (play event limit m).machine ≡ behind (history events limit (play event limit m).machine).records (history_to last more limit (history events limit (play event limit m).machine).machine))
-        → history_to last (event ∷ events ++ more) limit m ≡ behind (history (event ∷ events) limit m).records (history_to last more limit (history (event ∷ events) limit m).machine)
-    go Played is later =
-        let whole : history (event ∷ events) limit m ≡ behind (play event limit m).records (history events limit (play event limit m).machine) = history_goes_on Played event events limit m is in
-        let rest : (history events limit (play event limit m).machine).ending ≡ Played = sym (ap (λ (h : History). h.ending) whole) ∙ played in
-        history_goes_on last event (events ++ more) limit m is
-        ∙ (ap (behind (play event limit m).records) (later rest)
-        ∙ (behind_behind (play event limit m).records (history events limit (play event limit m).machine).records (history_to last more limit (history events limit (play event limit m).machine).machine)
-        ∙ ap (λ (h : History). behind h.records (history_to last more limit h.machine)) (sym whole)))
-    go LimitMet is later = let no : LimitMet ≡ Played = other_ending event events limit m LimitMet played (λ e. cc) is in cc
-    go (BadLine line) is later = let no : BadLine line ≡ Played = other_ending event events limit m (BadLine line) played (λ e. cc) is in cc
+pub history_after : (events more : List Event) (limit : ℕ) (m : Machine) → (kernel.history events limit m).met ≡ false
+    → kernel.history (events ++ more) limit m ≡ kernel.behind (kernel.history events limit m).records (kernel.history more limit (kernel.history events limit m).machine)
+history_after events more limit m unmet =
+    history_append events more limit m
+    ∙ ap (λ (b : Bool). kernel.go_on b (kernel.history events limit m) (kernel.history more limit)) unmet
 
 -- ---- an event without steps
 
 -- it is no step
-pub at_once_steps : (event : Event) (m : Machine) → (at_once event m).machine.steps ≡ m.steps
-at_once_steps (Tick n) m = refl
-at_once_steps (Pick pid tid) m = pick_steps (record { pid = pid; tid = tid }) m
-at_once_steps (Irq k) m = irq_steps k m
-at_once_steps (Kill pid) m = kill_steps pid m
+pub done_steps : (event : Event) (m : Machine) → (event_done event m).machine.steps ≡ m.steps
+done_steps (Tick n) m = refl
+done_steps (Pick pid tid) m = pick_steps (record { pid = pid; tid = tid }) m
+done_steps (Irq k) m = irq_steps k m
+done_steps (Kill pid) m = kill_steps pid m
 
 pub play_other : (event : Event) (limit : ℕ) (m : Machine)
     → (((pid : Pid) × (tid : Tid) × (event ≡ Pick pid tid)) ⊎ (((k : ℕ) × (event ≡ Irq k)) ⊎ ((pid : Pid) × (event ≡ Kill pid))))
-    → play event limit m ≡ at_once event m
-unfolding kernel.play
-play_other event limit m (inl (pid, tid, is)) = rw is refl
-play_other event limit m (inr (inl (k, is))) = rw is refl
-play_other event limit m (inr (inr (pid, is))) = rw is refl
+    → kernel.play event limit m ≡ kernel.reached (event_done event m)
+play_other event limit m (inl (pid, tid, is)) = rw is (pick_plays pid tid limit m)
+play_other event limit m (inr (inl (k, is))) = rw is (irq_plays k limit m)
+play_other event limit m (inr (inr (pid, is))) = rw is (kill_plays pid limit m)
 
-pub ok_machine : (result : Result Ending Failed) (m : Machine) (g h : History) → g ≡ h → OnOk result (m ≡ h.machine) → OnOk result (m ≡ g.machine)
-ok_machine (Ok ending) m g h same is = is ∙ sym (ap (λ (x : History). x.machine) same)
-ok_machine (Err failed) m g h same is = tt
+pub ok_machine : (result : Result Ending Failed) (m one other : Machine) → one ≡ other → OnOk result (m ≡ one) → OnOk result (m ≡ other)
+ok_machine (Ok ending) m one other same is = is ∙ same
+ok_machine (Err failed) m one other same is = tt
 
-pub ok_within : (result : Result Ending Failed) (event : Event) (m next : Machine) (limit : ℕ) → m.steps ≤ limit → OnOk result (next ≡ (at_once event m).machine)
+pub ok_within : (result : Result Ending Failed) (event : Event) (m next : Machine) (limit : ℕ) → m.steps ≤ limit → OnOk result (next ≡ (event_done event m).machine)
     → OnOk result (next.steps ≤ limit)
-ok_within (Ok ending) event m next limit within is = rw (is, at_once_steps event m) within
+ok_within (Ok ending) event m next limit within is = rw (is, done_steps event m) within
 ok_within (Err failed) event m next limit within is = tt

@@ -7,6 +7,7 @@ use Rattle.xk_ports.proofs.ToldLemmas.{Grows-none}
 use Rattle.xousim.specs.declared.command.Telling.{Telling}
 use Rattle.xousim.specs.Telling.{told}
 use Rattle.machine_model.specs.State.Machine.{Machine}
+use Rattle.machine_model.specs.Stepping.Events.{nothing}
 use Rattle.event_text.specs.declared.event.Event.{Event}
 use Rattle.event_text.specs.declared.event.NextEvent.{NextEvent}
 use Rattle.event_text.specs.declared.event.NextEvent.TheVariants as answer
@@ -18,18 +19,21 @@ use Rattle.event_text.proofs.PlayLemmas.{play_left, left_next, left_bad, left_en
 use Rattle.event_text.proofs.WholeLemmas.{play_whole}
 use Rattle.xousim.specs.declared.ending.Ending.{Ending}
 use Rattle.xousim.specs.declared.ending.Ending.TheVariants.{Played, BadLine}
-use Rattle.xousim.specs.History.{History, ended, behind, history, history_to, history_of, end_of, play}
+use Rattle.xk_kernel.specs.History as kernel
+use Rattle.xk_kernel.specs.History.{history, play}
+use Rattle.xousim.specs.History.{History, with_ending, history_of, end_of}
 use Rattle.xousim.specs.declared.playing.Advance.{Advance}
 use Rattle.xousim.specs.Playing.{HasPlayed, EndsSo, FailsSo, Advances, Goes}
 use Rattle.xousim.specs.Writing.{Wrote}
-use Rattle.xousim.proofs.HistoryLemmas.{history_none, history_first, history_stops, history_goes_on, history_after, wrote_same, wrote_behind, wrote_ended, wrote_part}
+use Rattle.xk_kernel.proofs.Running.HistoryLemmas.{history_first, history_none}
+use Rattle.xousim.proofs.HistoryLemmas.{behind, history_after, history_one, history_stops, met_ends, other_met, played_unmet, unmet_ends, wrote_same, wrote_behind, wrote_nothing, wrote_part}
 
 -- ---- the start
 
-start_with : (tells : Telling) (limit : ℕ) (start : Machine) (out : Option (List ℕ)) (h : History) → h ≡ ended Played start
-    → (h.ending ≡ Played) × (h.machine ≡ start) × Grows out out (told tells h.records)
-start_with tells limit start out h is =
-    let P : History → Type 0 = λ x. (x.ending ≡ Played) × (x.machine ≡ start) × Grows out out (told tells x.records) in
+start_with : (tells : Telling) (start : Machine) (out : Option (List ℕ)) (h : kernel.History) → h ≡ kernel.reached (nothing start)
+    → (h.met ≡ false) × (h.machine ≡ start) × Grows out out (told tells h.records)
+start_with tells start out h is =
+    let P : kernel.History → Type 0 = λ x. (x.met ≡ false) × (x.machine ≡ start) × Grows out out (told tells x.records) in
     subst P (sym is) (refl, refl, Grows-none out)
 
 new_is : (play_of []).reader ≡ new_reader
@@ -47,9 +51,10 @@ new_answered = refl
 -- nothing was played yet
 pub played_none : (tells : Telling) (limit : ℕ) (start : Machine) (out : Option (List ℕ)) → HasPlayed tells limit start out [] new_reader start out
 played_none tells limit start out =
-    let is : history (play_of []).answered limit start ≡ ended Played start = ap (λ (events : List Event). history events limit start) new_answered ∙ history_none Played limit start in
-    let all = start_with tells limit start out (history (play_of []).answered limit start) is in
-    record { calls = []; is_reader = new_is; took = new_took; played = all.0; there = all.1; written = all.2 }
+    let is : history (play_of []).answered limit start ≡ kernel.reached (nothing start) =
+    ap (λ (events : List Event). history events limit start) new_answered ∙ history_none limit start in
+    let all = start_with tells start out (history (play_of []).answered limit start) is in
+    record { calls = []; is_reader = new_is; took = new_took; unmet = all.0; there = all.1; written = all.2 }
 
 -- ---- bytes, and the end
 
@@ -64,13 +69,13 @@ pub played_bytes : (tells : Telling) (limit : ℕ) (start m : Machine) (begun ou
 played_bytes tells limit start m begun out taken r bytes unsaid p =
     let is = took_bytes bytes p.calls (ap (λ (x : Reader). x.finished) p.is_reader ∙ unsaid) in
     let same : (play_of (takes bytes ∷ p.calls)).answered ≡ (play_of p.calls).answered = ap (λ (x : Play). x.answered) is in
-    let H : List Event → History = λ events. history events limit start in
+    let H : List Event → kernel.History = λ events. history events limit start in
     let W : List Event → Type 0 = λ events. Grows begun out (told tells (H events).records) in
     record {
       calls = takes bytes ∷ p.calls;
       is_reader = ap (λ (x : Play). x.reader) is ∙ ap (λ (x : Reader). with_bytes x bytes) p.is_reader;
       took = ap (λ (x : Play). x.taken) is ∙ ap (λ (l : List ℕ). l ++ bytes) p.took;
-      played = ap (λ (events : List Event). (H events).ending) same ∙ p.played;
+      unmet = ap (λ (events : List Event). (H events).met) same ∙ p.unmet;
       there = ap (λ (events : List Event). (H events).machine) same ∙ p.there;
       written = subst W (sym same) p.written;
     }
@@ -85,13 +90,13 @@ pub played_end : (tells : Telling) (limit : ℕ) (start m : Machine) (begun out 
 played_end tells limit start m begun out taken r p =
     let is = said_end p.calls in
     let same : (play_of (ends ∷ p.calls)).answered ≡ (play_of p.calls).answered = ap (λ (x : Play). x.answered) is in
-    let H : List Event → History = λ events. history events limit start in
+    let H : List Event → kernel.History = λ events. history events limit start in
     let W : List Event → Type 0 = λ events. Grows begun out (told tells (H events).records) in
     record {
       calls = ends ∷ p.calls;
       is_reader = ap (λ (x : Play). x.reader) is ∙ ap finished_reader p.is_reader;
       took = ap (λ (x : Play). x.taken) is ∙ p.took;
-      played = ap (λ (events : List Event). (H events).ending) same ∙ p.played;
+      unmet = ap (λ (events : List Event). (H events).met) same ∙ p.unmet;
       there = ap (λ (events : List Event). (H events).machine) same ∙ p.there;
       written = subst W (sym same) p.written;
     }
@@ -112,39 +117,38 @@ played_no_event tells limit start m begun out taken r none p =
     ap (λ (x : Play). x.answered) is
     ∙ (ap (λ (events : List Event). (play_of p.calls).answered ++ events) (ap (λ (x : Reader). events_in (answer_of x)) p.is_reader ∙ none)
     ∙ append-nil (play_of p.calls).answered) in
-    let H : List Event → History = λ events. history events limit start in
+    let H : List Event → kernel.History = λ events. history events limit start in
     let W : List Event → Type 0 = λ events. Grows begun out (told tells (H events).records) in
     record {
       calls = asks ∷ p.calls;
       is_reader = ap (λ (x : Play). x.reader) is ∙ ap after_next p.is_reader;
       took = ap (λ (x : Play). x.taken) is ∙ p.took;
-      played = ap (λ (events : List Event). (H events).ending) same ∙ p.played;
+      unmet = ap (λ (events : List Event). (H events).met) same ∙ p.unmet;
       there = ap (λ (events : List Event). (H events).machine) same ∙ p.there;
       written = subst W (sym same) p.written;
     }
 
--- what is played behind a history that was played to its end
+-- what is played behind a history that didn't meet the limit
 one_more : (tells : Telling) (limit : ℕ) (start m next : Machine) (begun mid out : Option (List ℕ)) (answered : List Event) (event : Event)
-    → (history answered limit start).ending ≡ Played → (history answered limit start).machine ≡ m → Grows begun mid (told tells (history answered limit start).records)
-    → (play event limit m).ending ≡ Played → (play event limit m).machine ≡ next → Grows mid out (told tells (play event limit m).records)
-    → (h : History) → h ≡ history (answered ++ event ∷ []) limit start
-    → (h.ending ≡ Played) × (h.machine ≡ next) × Grows begun out (told tells h.records)
-one_more tells limit start m next begun mid out answered event played there written over to grown h is =
-    let A : History = history answered limit start in
-    let p : History = play event limit m in
-    let last : history (event ∷ []) limit m ≡ behind p.records (ended Played p.machine) =
-    history_goes_on Played event [] limit m over ∙ ap (behind p.records) (history_none Played limit p.machine) in
-    let whole : h ≡ behind A.records (behind p.records (ended Played p.machine)) =
+    → (history answered limit start).met ≡ false → (history answered limit start).machine ≡ m → Grows begun mid (told tells (history answered limit start).records)
+    → (play event limit m).met ≡ false → (play event limit m).machine ≡ next → Grows mid out (told tells (play event limit m).records)
+    → (h : kernel.History) → h ≡ history (answered ++ event ∷ []) limit start
+    → (h.met ≡ false) × (h.machine ≡ next) × Grows begun out (told tells h.records)
+one_more tells limit start m next begun mid out answered event unmet there written over to grown h is =
+    let A : kernel.History = history answered limit start in
+    let p : kernel.History = play event limit m in
+    let last : kernel.History = kernel.reached (nothing p.machine) in
+    let whole : h ≡ kernel.behind A.records (kernel.behind p.records last) =
     is
-    ∙ (history_after Played answered (event ∷ []) limit start played
-    ∙ (ap (λ (x : Machine). behind A.records (history (event ∷ []) limit x)) there
-    ∙ ap (behind A.records) last)) in
-    let W : History → Type 0 = λ x. Wrote tells begun out x (Ok Played) in
+    ∙ (history_after answered (event ∷ []) limit start unmet
+    ∙ (ap (λ (x : Machine). kernel.behind A.records (history (event ∷ []) limit x)) there
+    ∙ ap (kernel.behind A.records) (history_one event limit m over))) in
+    let W : kernel.History → Type 0 = λ x. Wrote tells begun out (with_ending Played x) (Ok Played) in
     let wrote : W h = subst W (sym whole)
-    (wrote_behind tells begun mid out A.records (behind p.records (ended Played p.machine)) (Ok Played) written
-    (wrote_behind tells mid out out p.records (ended Played p.machine) (Ok Played) grown (wrote_ended tells out Played p.machine))) in (
-      wrote.0,
-      ap (λ (x : History). x.machine) whole ∙ to,
+    (wrote_behind tells begun mid out A.records (with_ending Played (kernel.behind p.records last)) (Ok Played) written
+    (wrote_behind tells mid out out p.records (with_ending Played last) (Ok Played) grown (wrote_nothing tells out Played p.machine))) in (
+      ap (λ (x : kernel.History). x.met) whole,
+      ap (λ (x : kernel.History). x.machine) whole ∙ to,
       wrote.1,
     )
 
@@ -154,20 +158,21 @@ events_one found event is = rw is refl
 -- an event that was played
 pub played_event : (tells : Telling) (limit : ℕ) (start m next : Machine) (begun mid out : Option (List ℕ)) (taken : List ℕ) (r : Reader) (event : Event) → answer_of r ≡ answer.Event event
     → HasPlayed tells limit start begun taken r m mid
-    → (play event limit m).ending ≡ Played → (play event limit m).machine ≡ next → Grows mid out (told tells (play event limit m).records)
+    → (with_ending Played (play event limit m)).ending ≡ Played → (play event limit m).machine ≡ next → Grows mid out (told tells (play event limit m).records)
     → HasPlayed tells limit start begun taken (after_next r) next out
 played_event tells limit start m next begun mid out taken r event found p over to grown =
     let is = asked_next p.calls in
     let more : (play_of (asks ∷ p.calls)).answered ≡ (play_of p.calls).answered ++ event ∷ [] =
     ap (λ (x : Play). x.answered) is
     ∙ ap (λ (events : List Event). (play_of p.calls).answered ++ events) (ap (λ (x : Reader). events_in (answer_of x)) p.is_reader ∙ events_one (answer_of r) event found) in
-    let all = one_more tells limit start m next begun mid out (play_of p.calls).answered event p.played p.there p.written over to grown
+    let all = one_more tells limit start m next begun mid out (play_of p.calls).answered event p.unmet p.there p.written
+    (played_unmet (play event limit m) over) to grown
     (history (play_of (asks ∷ p.calls)).answered limit start) (ap (λ (events : List Event). history events limit start) more) in
     record {
       calls = asks ∷ p.calls;
       is_reader = ap (λ (x : Play). x.reader) is ∙ ap after_next p.is_reader;
       took = ap (λ (x : Play). x.taken) is ∙ p.took;
-      played = all.0;
+      unmet = all.0;
       there = all.1;
       written = all.2;
     }
@@ -186,7 +191,7 @@ whole_is tells limit start m begun out taken r more may p =
     ∙ (play_left p.calls more follows
     ∙ ap (λ (l : List ℕ). input_of (l ++ more)) p.took) in
     ap (λ (input : Input). history_of input limit start) (sym left)
-    ∙ (history_after (end_of (left_of r more).bad) answered (left_of r more).events limit start p.played
+    ∙ (ap (with_ending (end_of (left_of r more).bad)) (history_after answered (left_of r more).events limit start p.unmet)
     ∙ ap (λ (x : Machine). behind (history answered limit start).records (history_of (left_of r more) limit x)) p.there)
 
 -- whatever is written for the rest completes the whole
@@ -194,7 +199,7 @@ completes : (tells : Telling) (limit : ℕ) (start m : Machine) (begun mid out :
     → HasPlayed tells limit start begun taken r m mid → (h : History) → history_of (left_of r more) limit m ≡ h → Wrote tells mid out h result
     → Wrote tells begun out (history_of (input_of (taken ++ more)) limit start) result
 completes tells limit start m begun mid out taken r more result may p h is wrote =
-    let A : History = history (play_of p.calls).answered limit start in
+    let A : kernel.History = history (play_of p.calls).answered limit start in
     wrote_same tells begun out (history_of (input_of (taken ++ more)) limit start) (behind A.records h) result
     (whole_is tells limit start m begun mid taken r more may p ∙ ap (behind A.records) is)
     (wrote_behind tells begun mid out A.records h result p.written wrote)
@@ -209,10 +214,11 @@ ends_on tells limit start m begun mid taken r more may p h is =
 pub ends_bad : (tells : Telling) (limit : ℕ) (start m : Machine) (begun out : Option (List ℕ)) (taken : List ℕ) (r : Reader) (line : ℕ) → answer_of r ≡ answer.Bad line
     → HasPlayed tells limit start begun taken r m out → EndsSo tells limit start begun taken r.finished m out (BadLine line)
 ends_bad tells limit start m begun out taken r line bad p = λ more may.
-    let is : history_of (left_of r more) limit m ≡ ended (BadLine line) m =
-    ap (λ (input : Input). history_of input limit m) (left_bad r more line may bad) ∙ history_none (BadLine line) limit m in (
-      completes tells limit start m begun out out taken r more (Ok (BadLine line)) may p (ended (BadLine line) m) is (wrote_ended tells out (BadLine line) m),
-      ends_on tells limit start m begun out taken r more may p (ended (BadLine line) m) is,
+    let none : History = with_ending (BadLine line) (kernel.reached (nothing m)) in
+    let is : history_of (left_of r more) limit m ≡ none =
+    ap (λ (input : Input). history_of input limit m) (left_bad r more line may bad) ∙ ap (with_ending (BadLine line)) (history_none limit m) in (
+      completes tells limit start m begun out out taken r more (Ok (BadLine line)) may p none is (wrote_nothing tells out (BadLine line) m),
+      ends_on tells limit start m begun out taken r more may p none is,
     )
 
 -- .. and so does the end of the file
@@ -221,10 +227,11 @@ pub ends_whole : (tells : Telling) (limit : ℕ) (start m : Machine) (begun out 
 ends_whole tells limit start m begun out taken r end p = λ more may.
     let both = left_end r end in
     let left : left_of r more ≡ record { events = []; bad = None } = ap (left_of r) (may both.0) ∙ both.1 in
-    let is : history_of (left_of r more) limit m ≡ ended Played m =
-    ap (λ (input : Input). history_of input limit m) left ∙ history_none Played limit m in (
-      completes tells limit start m begun out out taken r more (Ok Played) may p (ended Played m) is (wrote_ended tells out Played m),
-      ends_on tells limit start m begun out taken r more may p (ended Played m) is,
+    let none : History = with_ending Played (kernel.reached (nothing m)) in
+    let is : history_of (left_of r more) limit m ≡ none =
+    ap (λ (input : Input). history_of input limit m) left ∙ ap (with_ending Played) (history_none limit m) in (
+      completes tells limit start m begun out out taken r more (Ok Played) may p none is (wrote_nothing tells out Played m),
+      ends_on tells limit start m begun out taken r more may p none is,
     )
 
 left_event : (r : Reader) (more : List ℕ) (event : Event) → (r.finished ≡ true → more ≡ []) → answer_of r ≡ answer.Event event
@@ -234,26 +241,30 @@ left_event r more event may found =
 
 -- an event at which the history ends
 pub ends_event : (tells : Telling) (limit : ℕ) (start m next : Machine) (begun mid out : Option (List ℕ)) (taken : List ℕ) (r : Reader) (event : Event) (ending : Ending) → answer_of r ≡ answer.Event event
-    → ending ≢ Played → Wrote tells mid out (play event limit m) (Ok ending) → next ≡ (play event limit m).machine
+    → ending ≢ Played → Wrote tells mid out (with_ending Played (play event limit m)) (Ok ending) → next ≡ (play event limit m).machine
     → HasPlayed tells limit start begun taken r m mid → EndsSo tells limit start begun taken r.finished next out ending
 ends_event tells limit start m next begun mid out taken r event ending found other wrote to p = λ more may.
     let rest : Input = left_of (after_next r) more in
-    let is : history_of (left_of r more) limit m ≡ play event limit m =
+    let played : kernel.History = play event limit m in
+    let met : played.met ≡ true = other_met played ending wrote.0 other in
+    let is : history_of (left_of r more) limit m ≡ with_ending Played played =
     ap (λ (input : Input). history_of input limit m) (left_event r more event may found)
-    ∙ history_stops (end_of rest.bad) event rest.events limit m (λ e. other (sym wrote.0 ∙ e)) in (
-      completes tells limit start m begun mid out taken r more (Ok ending) may p (play event limit m) is wrote,
-      to ∙ ends_on tells limit start m begun mid taken r more may p (play event limit m) is,
+    ∙ (ap (with_ending (end_of rest.bad)) (history_stops event rest.events limit m met)
+    ∙ met_ends (end_of rest.bad) Played played met) in (
+      completes tells limit start m begun mid out taken r more (Ok ending) may p (with_ending Played played) is wrote,
+      to ∙ ends_on tells limit start m begun mid taken r more may p (with_ending Played played) is,
     )
 
 -- an event whose records couldn't be written
 pub fails_event : (tells : Telling) (limit : ℕ) (start m : Machine) (begun mid out : Option (List ℕ)) (taken : List ℕ) (r : Reader) (event : Event) (failed : Failed) → answer_of r ≡ answer.Event event
-    → Wrote tells mid out (play event limit m) (Err failed)
+    → Wrote tells mid out (with_ending Played (play event limit m)) (Err failed)
     → HasPlayed tells limit start begun taken r m mid → FailsSo tells limit start begun taken r.finished out failed
 fails_event tells limit start m begun mid out taken r event failed found wrote p = λ more may.
     let rest : Input = left_of (after_next r) more in
-    let is = ap (λ (input : Input). history_of input limit m) (left_event r more event may found) ∙ history_first (end_of rest.bad) event rest.events limit m in
+    let is = ap (λ (input : Input). history_of input limit m) (left_event r more event may found)
+    ∙ ap (with_ending (end_of rest.bad)) (history_first event rest.events limit m) in
     completes tells limit start m begun mid out taken r more (Err failed) may p _ is
-    (wrote_part tells mid out (play event limit m) (history_to (end_of rest.bad) rest.events limit) failed wrote)
+    (wrote_part tells mid out (end_of rest.bad) (play event limit m) (history rest.events limit) failed wrote)
 
 -- ---- more bytes of the same file
 
@@ -307,9 +318,10 @@ whole_lines_played tells limit start m begun out taken r waiting p =
     let waits : IsWaiting (play_of p.calls).reader = subst (λ x. IsWaiting x) (sym p.is_reader) waiting in
     let input : input_of (whole_lines taken) ≡ record { events = (play_of p.calls).answered; bad = None } =
     ap (λ (l : List ℕ). input_of (whole_lines l)) (sym p.took) ∙ play_whole p.calls waits in
-    wrote_same tells begun out (history_of (input_of (whole_lines taken)) limit start) (history (play_of p.calls).answered limit start) (Ok Played)
+    let h : kernel.History = history (play_of p.calls).answered limit start in
+    wrote_same tells begun out (history_of (input_of (whole_lines taken)) limit start) (with_ending Played h) (Ok Played)
     (ap (λ (i : Input). history_of i limit start) input)
-    (p.played, p.written)
+    (unmet_ends Played h p.unmet, p.written)
 
 -- ---- a whole file
 

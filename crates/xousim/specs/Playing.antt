@@ -1,5 +1,5 @@
 -- Events are played while the bytes of their file come in.
-use Rattle.std.specs.Prelude.{◌≡◌, ℕ, Bool, true, List, [], ◌++◌, Option, Some, None, Result, Ok, Err}
+use Rattle.std.specs.Prelude.{◌≡◌, ℕ, Bool, true, false, List, [], ◌++◌, Option, Some, None, Result, Ok, Err}
 use Rattle.event_text.specs.EventFile.{input_of}
 use Rattle.event_text.specs.Held.{Reader}
 use Rattle.event_text.specs.Lines.{whole_lines}
@@ -13,19 +13,20 @@ use Rattle.xousim.specs.declared.event_file.RunFault.{RunFault}
 use Rattle.xousim.specs.declared.event_file.RunFault.TheVariants.{Read, Write}
 use Rattle.xousim.specs.declared.playing.Advance.{Advance}
 use Rattle.xousim.specs.declared.playing.Advance.TheVariants.{Played, Waits, Ended}
-use Rattle.xousim.specs.History.{History, history, history_of}
+use Rattle.xk_kernel.specs.History.{history}
+use Rattle.xousim.specs.History.{History, history_of}
 use Rattle.xousim.specs.Reading.{IsTold}
 use Rattle.xousim.specs.Telling.{told}
 use Rattle.xousim.specs.declared.command.Telling.{Telling}
 use Rattle.xousim.specs.Writing.{Wrote}
 
 -- What was played so far: after some calls of a reader, with which it took these bytes, the events that it answered were
--- played in order from `start`, and exactly what is told as their records come was written.
+-- played in order from `start`, the limit wasn't met, and exactly what is told as their records come was written.
 pub record HasPlayed (tells : Telling) (limit : ℕ) (start : Machine) (begun : Option (List ℕ)) (taken : List ℕ) (reader : Reader) (machine : Machine) (out : Option (List ℕ)) : Type 0 where
   pub calls : List Call
   pub is_reader : (play_of calls).reader ≡ reader
   pub took : (play_of calls).taken ≡ taken
-  pub played : (history (play_of calls).answered limit start).ending ≡ why.Played
+  pub unmet : (history (play_of calls).answered limit start).met ≡ false
   pub there : (history (play_of calls).answered limit start).machine ≡ machine
   pub written : Grows begun out (told tells (history (play_of calls).answered limit start).records)
 

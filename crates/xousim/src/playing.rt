@@ -5,9 +5,11 @@ ghost use Rattle.event_text.specs.Held.{IsWaiting};
 ghost use Rattle.machine_model.specs.State.Machine.{Machine};
 ghost use Rattle.xk_base.specs.declared.limits.TheConstants.{EVENT_FILE_LIMIT};
 ghost use Rattle.xk_base.specs.Outside.{Rose};
+ghost use Rattle.xk_kernel.specs.History.{play, reached};
 ghost use Rattle.xk_kernel.specs.Sound.{IsSound, IsUsable, Keeps};
 ghost use Rattle.xk_kernel.specs.State.{machine_of};
-ghost use Rattle.xousim.specs.History.{at_once, play, ticks};
+ghost use Rattle.xk_kernel.specs.Stepping.{event_done};
+ghost use Rattle.xousim.specs.History.{with_ending};
 ghost use Rattle.xousim.specs.Playing.{Advances, Goes, HasPlayed};
 ghost use Rattle.xousim.specs.Writing.{Wrote};
 
@@ -31,8 +33,9 @@ fn play_tick<K: Sink, W: SwapStore>(
     requires usable { IsUsable kernel.old }
     requires limit { limit ≤ 4000000000 }
     requires within { (machine_of W.held kernel.old).steps ≤ limit }
-    ensures wrote { Wrote tells (K.written out.old) (K.written out.new) (ticks count limit (machine_of W.held kernel.old)) result }
-    ensures machine { OnOk result (machine_of W.held kernel.new ≡ (ticks count limit (machine_of W.held kernel.old)).machine) }
+    ensures wrote { let tick = play (Event.Tick count) limit (machine_of W.held kernel.old) in
+        Wrote tells (K.written out.old) (K.written out.new) (with_ending Ending.Played tick) result }
+    ensures machine { OnOk result (machine_of W.held kernel.new ≡ (play (Event.Tick count) limit (machine_of W.held kernel.old)).machine) }
     ensures sound { IsSound W.slot_count W.held kernel.new }
     ensures usable { IsUsable kernel.new }
     ensures keeps { Keeps W.is_honest W.held W.slot_count W.asked W.faults kernel.old kernel.new }
@@ -63,7 +66,7 @@ fn play_tick<K: Sink, W: SwapStore>(
     Ok(Ending::Played)
 }
 
-/// Plays an event without steps.
+/// Plays an event that has no steps.
 fn play_at_once<K: Sink, W: SwapStore>(
     kernel: &mut Kernel<W>,
     event: Event,
@@ -72,8 +75,9 @@ fn play_at_once<K: Sink, W: SwapStore>(
 ) -> Result<Ending, Failed>
     requires sound { IsSound W.slot_count W.held kernel.old }
     requires usable { IsUsable kernel.old }
-    ensures wrote { Wrote tells (K.written out.old) (K.written out.new) (at_once event (machine_of W.held kernel.old)) result }
-    ensures machine { OnOk result (machine_of W.held kernel.new ≡ (at_once event (machine_of W.held kernel.old)).machine) }
+    ensures wrote { let done = event_done event (machine_of W.held kernel.old) in
+        Wrote tells (K.written out.old) (K.written out.new) (with_ending Ending.Played (reached done)) result }
+    ensures machine { OnOk result (machine_of W.held kernel.new ≡ (event_done event (machine_of W.held kernel.old)).machine) }
     ensures sound { IsSound W.slot_count W.held kernel.new }
     ensures usable { IsUsable kernel.new }
     ensures keeps { Keeps W.is_honest W.held W.slot_count W.asked W.faults kernel.old kernel.new }
@@ -97,7 +101,8 @@ fn play_event<K: Sink, W: SwapStore>(
     requires usable { IsUsable kernel.old }
     requires limit { limit ≤ 4000000000 }
     requires within { (machine_of W.held kernel.old).steps ≤ limit }
-    ensures wrote { Wrote tells (K.written out.old) (K.written out.new) (play event limit (machine_of W.held kernel.old)) result }
+    ensures wrote { let played = play event limit (machine_of W.held kernel.old) in
+        Wrote tells (K.written out.old) (K.written out.new) (with_ending Ending.Played played) result }
     ensures machine { OnOk result (machine_of W.held kernel.new ≡ (play event limit (machine_of W.held kernel.old)).machine) }
     ensures sound { IsSound W.slot_count W.held kernel.new }
     ensures usable { IsUsable kernel.new }

@@ -1,7 +1,10 @@
 use Rattle.std.proofs.Common.{◌≡◌, ◌≤◌, ◌-◌, Option, List, ℕ, Result}
 use Rattle.xk_base.specs.declared.errors.Failed.{Failed}
 use Rattle.xousim.specs.declared.ending.Ending.{Ending}
-use Rattle.xousim.specs.History.{ticks}
+use Rattle.event_text.specs.declared.event.Event.TheVariants.{Tick}
+use Rattle.xk_kernel.specs.History.{play}
+use Rattle.xousim.specs.declared.ending.Ending.TheVariants.{Played}
+use Rattle.xousim.specs.History.{with_ending}
 use Rattle.xk_kernel.specs.Sound.{IsSound, IsUsable, Keeps}
 use Rattle.xk_kernel.specs.State.{machine_of}
 use Rattle.xousim.specs.Writing.{Wrote}
@@ -11,9 +14,10 @@ use Rattle.xousim.proofs.playing.play_tick.Given as goal
 abbrev pub invariant-steps : goal.invariant-steps
 invariant-steps g l = record {
   rest : (result : Result Ending Failed) (after : Option (List ℕ))
-      → Wrote l.tells (g.K.Sink.written l.out) after (ticks (l.count - l.done) l.limit (machine_of g.W.SwapStore.held l.kernel)) result
-      → Wrote l.tells (g.K.Sink.written l.fn.out) after (ticks l.count l.limit (machine_of g.W.SwapStore.held l.fn.kernel)) result;
-  machine : (ticks (l.count - l.done) l.limit (machine_of g.W.SwapStore.held l.kernel)).machine ≡ (ticks l.count l.limit (machine_of g.W.SwapStore.held l.fn.kernel)).machine;
+      → Wrote l.tells (g.K.Sink.written l.out) after (with_ending Played (play (Tick (l.count - l.done)) l.limit (machine_of g.W.SwapStore.held l.kernel))) result
+      → Wrote l.tells (g.K.Sink.written l.fn.out) after (with_ending Played (play (Tick l.count) l.limit (machine_of g.W.SwapStore.held l.fn.kernel))) result;
+  machine : (play (Tick (l.count - l.done)) l.limit (machine_of g.W.SwapStore.held l.kernel)).machine
+      ≡ (play (Tick l.count) l.limit (machine_of g.W.SwapStore.held l.fn.kernel)).machine;
   later : g.K.Sink.faults l.fn.out ≤ g.K.Sink.faults l.out;
   sound : IsSound g.W.SwapStore.slot_count g.W.SwapStore.held l.kernel;
   usable : IsUsable l.kernel;
