@@ -5,6 +5,7 @@
 mod broken;
 mod claims;
 mod faults;
+mod laws;
 mod numbers;
 mod pages;
 mod procs;
@@ -16,6 +17,7 @@ mod threads;
 mod words;
 
 pub use faults::{NOT_STATE, STATE_CHECK, STATE_FORM, STATE_LENGTH, StateError};
+pub use laws::spelled_once;
 pub use reading::read_state;
 pub use sheet::Sheet;
 pub use state::{ClaimRow, MessageRow, OrphanRow, PageRow, ProcRow, ServerRow, State, ThreadRow};
