@@ -3,6 +3,8 @@ pub mod RowAgainLemmas
 pub mod RowLoopLemmas
 pub mod RowsAgainLemmas
 pub mod SheetLemmas
+pub mod SpellingLemmas
 pub mod SpellsLemmas
 pub mod StateAgainLemmas
 pub mod WordAgainLemmas
+pub mod WritingLemmas

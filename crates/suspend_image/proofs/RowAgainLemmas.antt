@@ -12,7 +12,7 @@ use Rattle.suspend_image.specs.declared.numbers.Numbers.{Numbers}
 use Rattle.suspend_image.specs.declared.numbers.Timer.{Timer}
 use Rattle.suspend_image.specs.declared.numbers.Reserved.{Reserved}
 use Rattle.suspend_image.specs.Words.{word_bytes}
-use Rattle.suspend_image.specs.Spelling.{numbers_bytes, timer_bytes, reserved_bytes, proc_bytes, thread_bytes, message_bytes, server_bytes, claim_bytes}
+use Rattle.suspend_image.specs.Spelling.{timer_words, reserved_words, machine_bytes, proc_bytes, thread_bytes, message_bytes, server_bytes, claim_bytes}
 use Rattle.suspend_image.specs.Reading.{Found, greatest, word_at, word_in, items_at}
 use Rattle.suspend_image.specs.Rows.{numbers_at, timer_at, reserved_at, proc_at, waits_at, thread_at, sender_pid_at, message_at, server_at, claim_at}
 use Rattle.suspend_image.specs.Forms.{IsWithin, IsWord, IsField, waits_bounds, IsProcRow, IsThreadRow, IsMessageRow, IsServerRow, IsClaimRow, HasForm}
@@ -152,26 +152,27 @@ timer_of s = record { armed = s.armed; compare = s.compare }
 abbrev pub reserved_of : State → Reserved
 reserved_of s = record { reserved = s.reserved; pid = s.reserved_pid; tid = s.reserved_tid; address = s.reserved_address }
 
-pub numbers_again : (file : List ℕ) (s : State) (rest : List ℕ) → HasForm file s → numbers_at (numbers_bytes s ++ rest) ≡ Ok (numbers_of s, rest)
-unfolding numbers_at numbers_bytes
+pub numbers_again : (file : List ℕ) (s : State) (rest : List ℕ) → HasForm file s → numbers_at (machine_bytes s ++ rest) ≡ Ok (numbers_of s, word_bytes (timer_words s) ++ rest)
+unfolding numbers_at machine_bytes
 numbers_again file s rest is =
     let few = is.n.at_most in
-    then_ok _ _ _ _ (word_first s.cap (s.n ∷ s.steps ∷ s.cursor_pid ∷ s.cursor_tid ∷ s.next_number ∷ s.next_serial ∷ []) rest is.cap)
-    (then_ok _ _ _ _ (in_first 1 64 s.n (s.steps ∷ s.cursor_pid ∷ s.cursor_tid ∷ s.next_number ∷ s.next_serial ∷ []) rest (omega arith) is.n)
-    (then_ok _ _ _ _ (in_first 0 4000000000 s.steps (s.cursor_pid ∷ s.cursor_tid ∷ s.next_number ∷ s.next_serial ∷ []) rest (omega arith) is.steps)
-    (then_ok _ _ _ _ (in_first 2 (s.n + 1) s.cursor_pid (s.cursor_tid ∷ s.next_number ∷ s.next_serial ∷ []) rest (omega arith) is.cursor_pid)
-    (then_ok _ _ _ _ (in_first 1 31 s.cursor_tid (s.next_number ∷ s.next_serial ∷ []) rest (omega arith) is.cursor_tid)
-    (then_ok _ _ _ _ (word_first s.next_number (s.next_serial ∷ []) rest is.next_number)
-    (then_ok _ _ _ _ (word_first s.next_serial [] rest is.next_serial) (found (numbers_of s) rest _ (words_end rest))))))))
+    let behind = timer_words s in
+    then_ok _ _ _ _ (word_first s.cap (s.n ∷ s.steps ∷ s.cursor_pid ∷ s.cursor_tid ∷ s.next_number ∷ s.next_serial ∷ behind) rest is.cap)
+    (then_ok _ _ _ _ (in_first 1 64 s.n (s.steps ∷ s.cursor_pid ∷ s.cursor_tid ∷ s.next_number ∷ s.next_serial ∷ behind) rest (omega arith) is.n)
+    (then_ok _ _ _ _ (in_first 0 4000000000 s.steps (s.cursor_pid ∷ s.cursor_tid ∷ s.next_number ∷ s.next_serial ∷ behind) rest (omega arith) is.steps)
+    (then_ok _ _ _ _ (in_first 2 (s.n + 1) s.cursor_pid (s.cursor_tid ∷ s.next_number ∷ s.next_serial ∷ behind) rest (omega arith) is.cursor_pid)
+    (then_ok _ _ _ _ (in_first 1 31 s.cursor_tid (s.next_number ∷ s.next_serial ∷ behind) rest (omega arith) is.cursor_tid)
+    (then_ok _ _ _ _ (word_first s.next_number (s.next_serial ∷ behind) rest is.next_number)
+    (then_ok _ _ _ _ (word_first s.next_serial behind rest is.next_serial) refl))))))
 
-pub timer_again : (file : List ℕ) (s : State) (rest : List ℕ) → HasForm file s → timer_at (timer_bytes s ++ rest) ≡ Ok (timer_of s, rest)
-unfolding timer_at timer_bytes
+pub timer_again : (file : List ℕ) (s : State) (rest : List ℕ) → HasForm file s → timer_at (word_bytes (timer_words s) ++ rest) ≡ Ok (timer_of s, word_bytes (reserved_words s) ++ rest)
+unfolding timer_at
 timer_again file s rest is =
-    then_ok _ _ _ _ (in_first 0 1 s.armed (s.compare ∷ []) rest (omega arith) is.armed)
-    (then_ok _ _ _ _ (if_first (eqb s.armed 1) 0 greatest s.compare [] rest (omega arith) is.compare) (found (timer_of s) rest _ (words_end rest)))
+    then_ok _ _ _ _ (in_first 0 1 s.armed (s.compare ∷ reserved_words s) rest (omega arith) is.armed)
+    (then_ok _ _ _ _ (if_first (eqb s.armed 1) 0 greatest s.compare (reserved_words s) rest (omega arith) is.compare) refl)
 
-pub reserved_again : (file : List ℕ) (s : State) (rest : List ℕ) → HasForm file s → reserved_at s.n (reserved_bytes s ++ rest) ≡ Ok (reserved_of s, rest)
-unfolding reserved_at reserved_bytes
+pub reserved_again : (file : List ℕ) (s : State) (rest : List ℕ) → HasForm file s → reserved_at s.n (word_bytes (reserved_words s) ++ rest) ≡ Ok (reserved_of s, rest)
+unfolding reserved_at
 reserved_again file s rest is =
     let few = is.n.at_most in
     then_ok _ _ _ _ (in_first 0 1 s.reserved (s.reserved_pid ∷ s.reserved_tid ∷ s.reserved_address ∷ []) rest (omega arith) is.reserved)

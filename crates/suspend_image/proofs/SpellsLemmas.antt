@@ -1,6 +1,5 @@
 -- A file that spells a state is read as that state and has no fault; so it spells no other.
 use Rattle.std.proofs.Common.{◌≡◌, ℕ, ◌+◌, ◌<◌, ◌^◌, true, false, eqb, ltb, List, ◌++◌, length, drop, Option, None, Result, Ok, refl, sym, ap, ◌∙◌, arith}
-use Rattle.std.specs.Prelude.{codes}
 use Rattle.std.specs.Option.{option_or}
 use Rattle.std.proofs.lemmas.Bool.{le-ltb, eq-eqb}
 use Rattle.kernel_args.specs.declared.faults.ArgFault.{ArgFault}
@@ -10,14 +9,10 @@ use Rattle.kernel_args.proofs.CheckLemmas.{check_number_fits}
 use Rattle.kernel_args.proofs.NumberLemmas.{word_front}
 use Rattle.suspend_image.specs.declared.state.State.{State}
 use Rattle.suspend_image.specs.Words.{word}
-use Rattle.suspend_image.specs.Spelling.{parts_bytes, with_header, state_bytes}
+use Rattle.suspend_image.specs.Spelling.{parts_bytes, headed, with_header, state_bytes}
 use Rattle.suspend_image.specs.StateFaults.{state_at, state_of, is_not_state, is_bad_state_check, header_faults, form_fault, state_fault}
 use Rattle.suspend_image.specs.Forms.{Spells}
 use Rattle.suspend_image.proofs.StateAgainLemmas.{parts_again}
-
--- the name of state files, two words, and parts
-abbrev headed : ℕ → ℕ → List ℕ → List ℕ
-headed size check parts = codes "XousSt01" ++ (word size ++ (word check ++ parts))
 
 headed_is_state : (size check : ℕ) (parts : List ℕ) → is_not_state (headed size check parts) ≡ false
 unfolding is_not_state

@@ -3,7 +3,7 @@ use Rattle.std.proofs.Common.{◌≡◌, ℕ, List, [], ◌++◌, length, None, 
 use Rattle.std.specs.List.{flat_map}
 use Rattle.std.proofs.lemmas.List.{append-nil}
 use Rattle.suspend_image.specs.declared.state.State.{State}
-use Rattle.suspend_image.specs.Spelling.{timer_bytes, reserved_bytes, proc_bytes, thread_bytes, server_bytes, claim_bytes, page_bytes, orphan_bytes, rows_bytes, parts_bytes}
+use Rattle.suspend_image.specs.Spelling.{proc_bytes, thread_bytes, server_bytes, claim_bytes, page_bytes, orphan_bytes, rows_bytes, parts_bytes}
 use Rattle.suspend_image.specs.Reading.{rows_at, items_at}
 use Rattle.suspend_image.specs.Rows.{proc_at, thread_at, thread_key, server_at, server_key, claim_at, claim_key, page_at, page_key, orphan_at, orphan_key}
 use Rattle.suspend_image.specs.StateFaults.{state_at}
@@ -66,8 +66,8 @@ parts_again file s is =
     let servers = rows_bytes server_bytes s.servers ++ claims in
     let threads = rows_bytes thread_bytes s.threads ++ servers in
     let procs = flat_map proc_bytes s.procs ++ threads in
-    then_ok _ _ _ _ (numbers_again file s (timer_bytes s ++ (reserved_bytes s ++ procs)) is)
-    (then_ok _ _ _ _ (timer_again file s (reserved_bytes s ++ procs) is)
+    then_ok _ _ _ _ (numbers_again file s procs is)
+    (then_ok _ _ _ _ (timer_again file s procs is)
     (then_ok _ _ _ _ (reserved_again file s procs is)
     (then_ok _ _ _ _ (procs_again file s threads is)
     (then_ok _ _ _ _ (many_read thread_bytes s.threads servers is.many_threads)

@@ -1,5 +1,5 @@
 -- The form of a state: what each number of it may be, and where the bytes of its pages stand in a file.
-use Rattle.std.specs.Prelude.{◌≡◌, ℕ, ◌+◌, ◌≤◌, ◌<◌, ◌==◌, Bool, true, false, not, ◌||◌, nat_lt, nat_le, if◌then◌else◌, ⊤, List, [], ◌∷◌, length, Option, Some, None}
+use Rattle.std.specs.Prelude.{◌≡◌, ℕ, ◌+◌, ◌≤◌, ◌<◌, ◌==◌, Bool, true, false, not, ◌||◌, nat_lt, nat_le, if◌then◌else◌, ⊤, List, [], ◌∷◌, length, Option, Some, None, All}
 use Rattle.std.specs.List.{flat_map, AllByRecursion}
 use Rattle.suspend_image.specs.declared.state.State.{State}
 use Rattle.suspend_image.specs.declared.state.ProcRow.{ProcRow}
@@ -93,6 +93,13 @@ abbrev pub StandsBefore : Bool → ℕ → ℕ → ℕ → Type 0
 StandsBefore true size left from = from + 4096 + left ≡ size
 StandsBefore false size left from = from ≡ 0
 
+-- the bytes of a page and of an orphan stand in a file; the console has none
+abbrev pub StandsIn : List ℕ → PageRow → Type 0
+StandsIn file p = p.right < 4 → p.from + 4096 ≤ length file
+
+abbrev pub OrphanStandsIn : List ℕ → OrphanRow → Type 0
+OrphanStandsIn file o = o.from + 4096 ≤ length file
+
 -- a holder is there exactly where the kind of the loan isn't 0
 pub record IsPageRow (size n : ℕ) (before : Option (ℕ × ℕ)) (left : ℕ) (p : PageRow) : Type 0 where
   pub pid : IsWithin (least_first 2 before) (n + 1) p.pid
@@ -122,6 +129,11 @@ AreInOrder form key before (x ∷ xs) = form before x × AreInOrder form key (So
 abbrev pub ArePlaced : {A K : Type 0} → (Option K → ℕ → A → Type 0) → (A → K) → (A → List ℕ) → ℕ → Option K → List A → Type 0
 ArePlaced form key spell left before [] = ⊤
 ArePlaced form key spell left before (x ∷ xs) = form before (length (flat_map spell xs) + left) x × ArePlaced form key spell left (Some (key x)) xs
+
+-- the bytes of each page and orphan stand in a file
+pub record StandsInFile (file : List ℕ) (s : State) : Type 0 where
+  pub pages : All (StandsIn file) s.pages
+  pub orphans : All (OrphanStandsIn file) s.orphans
 
 pub record HasForm (file : List ℕ) (s : State) : Type 0 where
   pub cap : IsWord s.cap

@@ -15,14 +15,15 @@ use Rattle.suspend_image.specs.Words.{word, word_bytes}
 
 -- ---- 1. the machine
 
-unfoldable pub numbers_bytes : State → List ℕ
-numbers_bytes s = word_bytes (s.cap ∷ s.n ∷ s.steps ∷ s.cursor_pid ∷ s.cursor_tid ∷ s.next_number ∷ s.next_serial ∷ [])
+-- the words behind the timer, the words behind the numbers, and all of them
+abbrev pub reserved_words : State → List ℕ
+reserved_words s = s.reserved ∷ s.reserved_pid ∷ s.reserved_tid ∷ s.reserved_address ∷ []
 
-unfoldable pub timer_bytes : State → List ℕ
-timer_bytes s = word_bytes (s.armed ∷ s.compare ∷ [])
+abbrev pub timer_words : State → List ℕ
+timer_words s = s.armed ∷ s.compare ∷ reserved_words s
 
-unfoldable pub reserved_bytes : State → List ℕ
-reserved_bytes s = word_bytes (s.reserved ∷ s.reserved_pid ∷ s.reserved_tid ∷ s.reserved_address ∷ [])
+unfoldable pub machine_bytes : State → List ℕ
+machine_bytes s = word_bytes (s.cap ∷ s.n ∷ s.steps ∷ s.cursor_pid ∷ s.cursor_tid ∷ s.next_number ∷ s.next_serial ∷ timer_words s)
 
 -- ---- 2. to 5. a process, a thread, a message, a server and a claim
 
@@ -50,14 +51,19 @@ claim_bytes c = word_bytes (c.number ∷ c.pid ∷ c.handler ∷ c.arg ∷ c.pen
 abbrev pub contents_at : List ℕ → ℕ → List ℕ
 contents_at file from = take 4096 (drop from file)
 
+-- the words of a page and of an orphan
+abbrev pub page_words : PageRow → List ℕ
+page_words p = word_bytes (p.pid ∷ p.page ∷ p.right ∷ p.holder_pid ∷ p.holder_page ∷ p.kind ∷ p.number ∷ [])
+
+abbrev pub orphan_words : OrphanRow → List ℕ
+orphan_words o = word_bytes (o.pid ∷ o.page ∷ o.kind ∷ o.number ∷ [])
+
 -- the console, whose right has the 4, has no bytes
 unfoldable pub page_bytes : List ℕ → PageRow → List ℕ
-page_bytes file p =
-    word_bytes (p.pid ∷ p.page ∷ p.right ∷ p.holder_pid ∷ p.holder_page ∷ p.kind ∷ p.number ∷ [])
-    ++ (if nat_lt p.right 4 then contents_at file p.from else [])
+page_bytes file p = page_words p ++ (if nat_lt p.right 4 then contents_at file p.from else [])
 
 unfoldable pub orphan_bytes : List ℕ → OrphanRow → List ℕ
-orphan_bytes file o = word_bytes (o.pid ∷ o.page ∷ o.kind ∷ o.number ∷ []) ++ contents_at file o.from
+orphan_bytes file o = orphan_words o ++ contents_at file o.from
 
 -- ---- the whole
 
@@ -68,13 +74,16 @@ rows_bytes spell rows = word_bytes (length rows ∷ []) ++ flat_map spell rows
 -- the seven parts; parts 3 to 7 begin with their number of rows
 unfoldable pub parts_bytes : List ℕ → State → List ℕ
 parts_bytes file s =
-    numbers_bytes s ++ (timer_bytes s ++ (reserved_bytes s ++ (flat_map proc_bytes s.procs ++ (rows_bytes thread_bytes s.threads
-    ++ (rows_bytes server_bytes s.servers ++ (rows_bytes claim_bytes s.claims ++ (rows_bytes (page_bytes file) s.pages
-    ++ rows_bytes (orphan_bytes file) s.orphans)))))))
+    machine_bytes s ++ (flat_map proc_bytes s.procs ++ (rows_bytes thread_bytes s.threads ++ (rows_bytes server_bytes s.servers
+    ++ (rows_bytes claim_bytes s.claims ++ (rows_bytes (page_bytes file) s.pages ++ rows_bytes (orphan_bytes file) s.orphans)))))
 
--- the name of state files, the length of the whole and the check number of the parts, and the parts
+-- the name of state files, two words, and parts
+abbrev pub headed : ℕ → ℕ → List ℕ → List ℕ
+headed size check parts = codes "XousSt01" ++ (word size ++ (word check ++ parts))
+
+-- the words are the length of the whole and the check number of the parts
 abbrev pub with_header : List ℕ → List ℕ
-with_header parts = codes "XousSt01" ++ (word (16 + length parts) ++ (word (check_number parts) ++ parts))
+with_header parts = headed (16 + length parts) (check_number parts) parts
 
 -- a state whose pages have their bytes in `file`
 unfoldable pub state_bytes : List ℕ → State → List ℕ

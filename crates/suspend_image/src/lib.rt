@@ -7,20 +7,26 @@ mod claims;
 mod faults;
 mod laws;
 mod numbers;
+mod page_writing;
 mod pages;
 mod procs;
 mod reading;
+mod rows;
 mod servers;
 mod sheet;
 mod state;
+mod tables;
 mod threads;
 mod words;
+mod writing;
 
 pub use faults::{NOT_STATE, STATE_CHECK, STATE_FORM, STATE_LENGTH, StateError};
 pub use laws::spelled_once;
 pub use reading::read_state;
+pub use rows::{write_claim, write_message, write_orphan_words, write_page_words, write_thread};
 pub use sheet::Sheet;
 pub use state::{ClaimRow, MessageRow, OrphanRow, PageRow, ProcRow, ServerRow, State, ThreadRow};
+pub use writing::{begin_state, finish_state, write_state};
 
 #[cfg(test)]
 mod tests;
