@@ -1,10 +1,12 @@
 pub mod PageAgainLemmas
 pub mod RowAgainLemmas
 pub mod RowLoopLemmas
+pub mod RowTakenLemmas
 pub mod RowsAgainLemmas
 pub mod SheetLemmas
 pub mod SpellingLemmas
 pub mod SpellsLemmas
 pub mod StateAgainLemmas
+pub mod TakenLemmas
 pub mod WordAgainLemmas
 pub mod WritingLemmas
