@@ -1,4 +1,5 @@
 pub mod PageAgainLemmas
+pub mod PageTakenLemmas
 pub mod RowAgainLemmas
 pub mod RowLoopLemmas
 pub mod RowTakenLemmas
@@ -7,6 +8,7 @@ pub mod SheetLemmas
 pub mod SpellingLemmas
 pub mod SpellsLemmas
 pub mod StateAgainLemmas
+pub mod StateTakenLemmas
 pub mod TakenLemmas
 pub mod WordAgainLemmas
 pub mod WritingLemmas

@@ -36,7 +36,7 @@ contents_again false file rest from stands = ap (λ (place : ℕ). read place re
 
 -- ---- the holder
 
-drop_word : (number : ℕ) (numbers rest : List ℕ) → drop 4 (word_bytes (number ∷ numbers) ++ rest) ≡ word_bytes numbers ++ rest
+pub drop_word : (number : ℕ) (numbers rest : List ℕ) → drop 4 (word_bytes (number ∷ numbers) ++ rest) ≡ word_bytes numbers ++ rest
 drop_word number numbers rest = ap (drop 4) (words_split number numbers rest) ∙ drop_at (word number) (word_bytes numbers ++ rest) 4 refl
 
 front_is : (front rest : List ℕ) (number : ℕ) → length front ≡ 4 → little_number 4 front ≡ number → front_word (front ++ rest) ≡ Some number
@@ -44,13 +44,13 @@ front_is front rest number four is =
     let long : ltb (length (front ++ rest)) 4 ≡ false = le-ltb _ _ (omega (arith, length-append front rest)) in
     rw (long, take_at front rest 4 four, is) refl
 
-front_again : (number : ℕ) (numbers rest : List ℕ) → IsWord number → front_word (word_bytes (number ∷ numbers) ++ rest) ≡ Some number
+pub front_again : (number : ℕ) (numbers rest : List ℕ) → IsWord number → front_word (word_bytes (number ∷ numbers) ++ rest) ≡ Some number
 front_again number numbers rest fits =
     let most = fits.at_most in
     ap front_word (words_split number numbers rest) ∙ front_is (word number) (word_bytes numbers ++ rest) number refl (number_again 4 number (omega arith))
 
 -- whether there is a loan, told by the holder's pid
-holder_tells : (none : Bool) (n pid : ℕ) → IsField (not none) 2 (n + 1) pid → eqb pid 0 ≡ none
+pub holder_tells : (none : Bool) (n pid : ℕ) → IsField (not none) 2 (n + 1) pid → eqb pid 0 ≡ none
 holder_tells true n pid is = let most = is.at_most in let nothing : pid ≡ 0 = omega arith in ap (λ (p : ℕ). eqb p 0) nothing
 holder_tells false n pid is = let least = is.at_least in ne_eqb pid 0 (λ same. omega arith)
 

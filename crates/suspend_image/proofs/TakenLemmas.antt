@@ -1,5 +1,5 @@
 -- What was read from the front of bytes is what its spelling says: words, and rows one after the other.
-use Rattle.std.proofs.Common.{◌≡◌, ℕ, zero, suc, ◌+◌, ◌-◌, ◌≤◌, ◌<◌, ◌^◌, Bool, true, false, cond, ltb, List, [], ◌∷◌, ◌++◌, length, take, drop, Option, Some, None, Result, Ok, Err, refl, sym, ap, subst, ◌∙◌, append_assoc, arith}
+use Rattle.std.proofs.Common.{◌≡◌, ℕ, zero, suc, ◌+◌, ◌≤◌, Bool, true, false, cond, ltb, List, [], ◌∷◌, ◌++◌, length, take, drop, Option, Some, None, Result, Ok, Err, refl, sym, ap, subst, ◌∙◌, append_assoc, arith}
 use Rattle.std.specs.Prelude.{◌||◌}
 use Rattle.std.specs.List.{flat_map, AllByRecursion}
 use Rattle.std.proofs.lemmas.Bool.{ltb-false}
@@ -8,7 +8,7 @@ use Rattle.std.proofs.lemmas.List.Concat.{flat_map-cons}
 use Rattle.byteorder.specs.Endian.{little_number}
 use Rattle.kernel_args.proofs.NumberLemmas.{IsBytes, IsBytes-take, IsBytes-right, word_split, number_lt}
 use Rattle.suspend_image.specs.Words.{word, word_bytes}
-use Rattle.suspend_image.specs.Reading.{Found, ◌>>=◌, greatest, word_at, word_in, word_if, four_at, rows_at, items_at}
+use Rattle.suspend_image.specs.Reading.{Found, ◌>>=◌, word_at, word_in, word_if, four_at, rows_at, items_at}
 use Rattle.suspend_image.specs.Forms.{IsWithin, IsWord, IsField, AreInOrder, ArePlaced}
 use Rattle.suspend_image.proofs.SpellingLemmas.{word_bytes-nil, word_bytes-append}
 
@@ -94,7 +94,7 @@ word_alone file bytes x ended e =
     let small = number_lt front fits in
     let is_word : IsWord (little_number 4 front) = record { at_least = omega arith; at_most = omega arith } in
     subst (λ (y : ℕ × List ℕ). Words file bytes (y.0 ∷ []) y.1 × IsWord y.0) g.1
-        (taken file bytes (word_bytes (little_number 4 front ∷ [])) (drop 4 bytes) ended parts, is_word)
+    (taken file bytes (word_bytes (little_number 4 front ∷ [])) (drop 4 bytes) ended parts, is_word)
 
 pub word_taken : (file bytes numbers rest : List ℕ) (x : ℕ × List ℕ) → Words file bytes numbers rest → word_at rest ≡ Ok x
     → Words file bytes (numbers ++ x.0 ∷ []) x.1 × IsWord x.0
@@ -111,7 +111,7 @@ in_taken file bytes numbers rest least most x so_far e =
     let both = neither (ltb a.0.0 least) (ltb most a.0.0) g.0 in
     let within : IsWithin least most a.0.0 = record { at_least = ltb-false _ _ both.0; at_most = ltb-false _ _ both.1 } in
     subst (λ (y : ℕ × List ℕ). Words file bytes (numbers ++ y.0 ∷ []) y.1 × IsWithin least most y.0) g.1
-        ((word_taken file bytes numbers rest a.0 so_far a.1).0, within)
+    ((word_taken file bytes numbers rest a.0 so_far a.1).0, within)
 
 pub if_taken : (file bytes numbers rest : List ℕ) (applies : Bool) (least most : ℕ) (x : ℕ × List ℕ) → Words file bytes numbers rest → word_if applies least most rest ≡ Ok x
     → Words file bytes (numbers ++ x.0 ∷ []) x.1 × IsField applies least most x.0
@@ -128,14 +128,14 @@ pub four_taken : (file bytes numbers rest : List ℕ) (x : List ℕ × List ℕ)
 unfolding four_at
 four_taken file bytes numbers rest x so_far e =
     step _ _ _ e (λ a ra ea. step _ _ _ ea (λ b rb eb. step _ _ _ eb (λ c rc ec. step _ _ _ ec (λ d rd ed. (
-      let t1 = word_taken file rest [] rest a (no_words file rest so_far.ended) ra in
-      let t2 = word_taken file rest (a.0 ∷ []) a.1 b t1.0 rb in
-      let t3 = word_taken file rest (a.0 ∷ b.0 ∷ []) b.1 c t2.0 rc in
-      let t4 = word_taken file rest (a.0 ∷ b.0 ∷ c.0 ∷ []) c.1 d t3.0 rd in
-      let four = a.0 ∷ b.0 ∷ c.0 ∷ d.0 ∷ [] in
-      let made : List ℕ × List ℕ = (four, d.1) in
-      subst (Four file bytes numbers) (ok_is made x ed)
-          (record { words = more_words file bytes numbers four rest d.1 so_far t4.0; four = refl; fit = (t1.1, (t2.1, (t3.1, (t4.1, tt)))) })
+    let t1 = word_taken file rest [] rest a (no_words file rest so_far.ended) ra in
+    let t2 = word_taken file rest (a.0 ∷ []) a.1 b t1.0 rb in
+    let t3 = word_taken file rest (a.0 ∷ b.0 ∷ []) b.1 c t2.0 rc in
+    let t4 = word_taken file rest (a.0 ∷ b.0 ∷ c.0 ∷ []) c.1 d t3.0 rd in
+    let four = a.0 ∷ b.0 ∷ c.0 ∷ d.0 ∷ [] in
+    let made : List ℕ × List ℕ = (four, d.1) in
+    subst (Four file bytes numbers) (ok_is made x ed)
+    (record { words = more_words file bytes numbers four rest d.1 so_far t4.0; four = refl; fit = (t1.1, (t2.1, (t3.1, (t4.1, tt)))) })
     )))))
 
 -- ---- rows

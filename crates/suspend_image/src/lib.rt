@@ -21,7 +21,7 @@ mod words;
 mod writing;
 
 pub use faults::{NOT_STATE, STATE_CHECK, STATE_FORM, STATE_LENGTH, StateError};
-pub use laws::spelled_once;
+pub use laws::spelled_once_or_faulty;
 pub use reading::read_state;
 pub use rows::{write_claim, write_message, write_orphan_words, write_page_words, write_thread};
 pub use sheet::Sheet;
