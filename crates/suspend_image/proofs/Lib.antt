@@ -11,4 +11,5 @@ pub mod StateAgainLemmas
 pub mod StateTakenLemmas
 pub mod TakenLemmas
 pub mod WordAgainLemmas
+pub mod WriteAgainLemmas
 pub mod WritingLemmas

@@ -4,6 +4,7 @@
 use crate::faults::{NOT_STATE, STATE_CHECK, STATE_FORM, STATE_LENGTH, StateError};
 use crate::reading::read_state;
 use crate::sheet::Sheet;
+use crate::writing::write_state;
 use kernel_args::ArgFault;
 
 #[test]
@@ -49,6 +50,20 @@ fn small_state_is_read(rt: HostRuntime) {
             assert!(rt; state.orphans.as_slice().is_empty());
         }
         Err(_) => assert!(rt; false),
+    }
+}
+
+#[test]
+#[tactic(auto, using(crate::proofs::WriteAgainLemmas::spelled_stands, crate::proofs::WriteAgainLemmas::spelled_has_room))]
+fn small_state_is_written(rt: HostRuntime) {
+    if let (Ok(state), Ok(mut sheet)) = (
+        read_state(rt.alloc(), FILE.as_slice()),
+        Sheet::new(rt.alloc(), 1, 7),
+    ) {
+        write_state(&mut sheet, FILE.as_slice(), &state);
+        assert_eq!(rt; sheet.as_slice(), FILE.as_slice());
+    } else {
+        assert!(rt; false);
     }
 }
 

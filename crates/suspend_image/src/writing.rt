@@ -73,7 +73,8 @@ pub fn finish_state(sheet: &mut Sheet)
     sheet.set_word(12, check);
 }
 
-/// Writes a state whose pages have their bytes in `file`, in place of what the sheet held.
+/// Writes a state whose pages have their bytes in `file`, in place of what the sheet held. A state that
+/// `file` spells gives that file again.
 pub fn write_state(sheet: &mut Sheet, file: &[u8], state: &State)
     requires there { StandsInFile file.now state.now }
     requires room { HasRoom (with_bytes [] sheet.old) (state_bytes file.now state.now) }
