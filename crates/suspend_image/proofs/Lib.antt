@@ -1,3 +1,5 @@
+pub mod KeyLemmas
+pub mod MatchingLemmas
 pub mod PageAgainLemmas
 pub mod PageTakenLemmas
 pub mod RowAgainLemmas

@@ -1,4 +1,6 @@
 pub mod Forms
+pub mod Machines
+pub mod Parts
 pub mod Reading
 pub mod Rows
 pub mod Sheets

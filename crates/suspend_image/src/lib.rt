@@ -6,6 +6,7 @@ mod broken;
 mod claims;
 mod faults;
 mod laws;
+mod matching;
 mod numbers;
 mod page_writing;
 mod pages;
@@ -22,6 +23,9 @@ mod writing;
 
 pub use faults::{NOT_STATE, STATE_CHECK, STATE_FORM, STATE_LENGTH, StateError};
 pub use laws::spelled_once_or_faulty;
+pub use matching::{
+    are_handlers_matched, are_heaps_matched, are_numbers_stepped, is_timer_matched,
+};
 pub use reading::read_state;
 pub use rows::{write_claim, write_message, write_orphan_words, write_page_words, write_thread};
 pub use sheet::Sheet;
