@@ -1,10 +1,10 @@
 -- Rows by their keys: what the row of a key is, where keys stand in order.
-use Rattle.std.proofs.Common.{◌≡◌, ℕ, zero, suc, ◌≤◌, ◌<◌, Bool, true, false, cond, eqb, List, [], ◌∷◌, get_or, Option, Some, None, refl, sym, ap, subst, ◌∙◌, arith, inl, inr}
-use Rattle.std.specs.Prelude.{is_some}
+use Rattle.std.proofs.Common.{◌≡◌, ℕ, zero, suc, ◌+◌, ◌≤◌, ◌<◌, Bool, true, cond, eqb, List, [], ◌∷◌, get_or, Option, Some, None, refl, sym, ap, subst, ◌∙◌, arith, inl, inr, ◌⊎◌}
+use Rattle.std.specs.Prelude.{◌&&◌, is_some}
 use Rattle.std.specs.List.{find, list_any, list_all}
 use Rattle.std.specs.Option.{option_map}
-use Rattle.std.proofs.lemmas.Bool.{cases_Bool, eqb-true, eq-eqb, ne_eqb, and_parts}
-use Rattle.suspend_image.specs.Reading.{after}
+use Rattle.std.proofs.lemmas.Bool.{cases_Bool, eqb-true, eq-eqb, eqb-false, and_parts}
+use Rattle.suspend_image.specs.Reading.{least_first, least_second}
 use Rattle.suspend_image.specs.Forms.{AreInOrder}
 
 abbrev pub some : {A : Type 0} → A → Option A
@@ -54,30 +54,80 @@ all_from_places good d (x ∷ rows) each = rw (each 0, all_from_places good d ro
 
 -- ---- in order of their keys
 
-module _ {A : Type 0} (key : A → ℕ) (form : Option ℕ → A → Type 0) (behind : (before : Option ℕ) (x : A) → form before x → after before ≤ key x) where
+-- A key that a test looks for, and an order of keys; the form of a row says that its key is behind the one before.
+module _ {A K : Type 0} (key : A → K) (test : K → A → Bool) (less : K → K → Type 0) (form : Option K → A → Type 0)
+    (behind : (before : K) (x : A) → form (Some before) x → less before (key x)) (is_key : (k : K) (x : A) → test k x ≡ true → key x ≡ k)
+    (own : (x : A) → test (key x) x ≡ true) (apart : (k : K) → less k k → ⊥) (through : (a b c : K) → less a b → less b c → less a c) where
   -- what stands behind a key has a greater one
-  pub key_above : (before k : ℕ) (rows : List A) (x : A) → AreInOrder form key (Some before) rows → find (λ r. eqb (key r) k) rows ≡ Some x → before < k
+  pub key_above : (before k : K) (rows : List A) (x : A) → AreInOrder form key (Some before) rows → find (test k) rows ≡ Some x → less before k
   key_above before k [] x forms e = absurd cc
   key_above before k (y ∷ rows) x forms e =
-      let low = behind (Some before) y forms.0 in
-      elim (cases_Bool (eqb (key y) k)) [
-        | inl does ↦ (let same = eqb-true (key y) k does in omega arith)
+      let low = behind before y forms.0 in
+      elim (cases_Bool (test k y)) [
+        | inl does ↦ subst (λ (z : K). less before z) (is_key k y does) low
         | inr doesnt ↦ (
-            let rest : find (λ r. eqb (key r) k) rows ≡ Some x = sym (ap (λ (b : Bool). cond b (some y) (find (λ r. eqb (key r) k) rows)) doesnt) ∙ e in
-            let above = key_above (key y) k rows x forms.1 rest in
-            omega arith
+            let rest : find (test k) rows ≡ Some x = sym (ap (λ (b : Bool). cond b (some y) (find (test k) rows)) doesnt) ∙ e in
+            through before (key y) k low (key_above (key y) k rows x forms.1 rest)
             )
       ]
 
+  -- a row is the one of its key, and stands there behind another one too
+  pub found_first : (y : A) (rows : List A) → find (test (key y)) (y ∷ rows) ≡ Some y
+  found_first y rows = ap (λ (b : Bool). cond b (some y) (find (test (key y)) rows)) (own y)
+
+  pub found_behind : (k : K) (y : A) (rows : List A) (x : A) → AreInOrder form key (Some (key y)) rows → find (test k) rows ≡ Some x → find (test k) (y ∷ rows) ≡ Some x
+  found_behind k y rows x forms e =
+      elim (cases_Bool (test k y)) [
+        | inl does ↦ absurd (apart k (subst (λ (z : K). less z k) (is_key k y does) (key_above (key y) k rows x forms e)))
+        | inr doesnt ↦ ap (λ (b : Bool). cond b (some y) (find (test k) rows)) doesnt ∙ e
+      ]
+
   -- where the row of each key passes a test, all rows do
-  pub all_pass : (good : A → Bool) (before : Option ℕ) (rows : List A) → AreInOrder form key before rows
-      → ((k : ℕ) (x : A) → find (λ r. eqb (key r) k) rows ≡ Some x → good x ≡ true) → list_all good rows ≡ true
+  pub all_pass : (good : A → Bool) (before : Option K) (rows : List A) → AreInOrder form key before rows
+      → ((k : K) (x : A) → find (test k) rows ≡ Some x → good x ≡ true) → list_all good rows ≡ true
   all_pass good before [] forms each = refl
   all_pass good before (y ∷ rows) forms each =
-      let first : good y ≡ true = each (key y) y (ap (λ (b : Bool). cond b (some y) (find (λ r. eqb (key r) (key y)) rows)) (eq-eqb (key y) (key y) refl)) in
-      let others = all_pass good (Some (key y)) rows forms.1 (λ (k : ℕ) (x : A) (e : find (λ r. eqb (key r) k) rows ≡ Some x). (
-      let above = key_above (key y) k rows x forms.1 e in
-      let other : eqb (key y) k ≡ false = ne_eqb (key y) k (λ same. omega arith) in
-      each k x (ap (λ (b : Bool). cond b (some y) (find (λ r. eqb (key r) k) rows)) other ∙ e)
-      )) in
-      rw (first, others) refl
+      let others = all_pass good (Some (key y)) rows forms.1 (λ k x e. each k x (found_behind k y rows x forms.1 e)) in
+      rw (each (key y) y (found_first y rows), others) refl
+
+-- ---- keys of one number and of two
+
+pub number_is : {A : Type 0} (key : A → ℕ) (k : ℕ) (x : A) → eqb (key x) k ≡ true → key x ≡ k
+number_is key k x same = eqb-true (key x) k same
+
+pub number_own : {A : Type 0} (key : A → ℕ) (x : A) → eqb (key x) (key x) ≡ true
+number_own key x = eq-eqb (key x) (key x) refl
+
+-- the first number is lower, or the same and the second is lower
+abbrev pub Less : ℕ × ℕ → ℕ × ℕ → Type 0
+Less a b = (a.0 < b.0) ⊎ ((a.0 ≡ b.0) × (a.1 < b.1))
+
+pub pair_is : {A : Type 0} (key : A → ℕ × ℕ) (k : ℕ × ℕ) (x : A) → (eqb (key x).0 k.0 && eqb (key x).1 k.1) ≡ true → key x ≡ k
+pair_is key k x same =
+    let both = and_parts (eqb (key x).0 k.0) (eqb (key x).1 k.1) same in
+    let first = eqb-true (key x).0 k.0 both.0 in
+    let second = eqb-true (key x).1 k.1 both.1 in
+    ap (λ (n : ℕ). (n, (key x).1)) first ∙ ap (λ (n : ℕ). (k.0, n)) second
+
+pub pair_own : {A : Type 0} (key : A → ℕ × ℕ) (x : A) → (eqb (key x).0 (key x).0 && eqb (key x).1 (key x).1) ≡ true
+pair_own key x = rw (eq-eqb (key x).0 (key x).0 refl, eq-eqb (key x).1 (key x).1 refl) refl
+
+pub less_apart : (k : ℕ × ℕ) → Less k k → ⊥
+less_apart k (inl low) = omega arith
+less_apart k (inr same) = let low = same.1 in omega arith
+
+pub less_through : (a b c : ℕ × ℕ) → Less a b → Less b c → Less a c
+less_through a b c (inl p) (inl q) = inl (omega arith)
+less_through a b c (inl p) (inr q) = let same = q.0 in inl (omega arith)
+less_through a b c (inr p) (inl q) = let same = p.0 in inl (omega arith)
+less_through a b c (inr p) (inr q) = let low = p.1 in let next = q.1 in inr (p.0 ∙ q.0, omega arith)
+
+pub less_behind : (least_one least_two : ℕ) (before x : ℕ × ℕ) → least_first least_one (Some before) ≤ x.0 → least_second least_two (Some before) x.0 ≤ x.1 → Less before x
+less_behind least_one least_two before x first second =
+    elim (cases_Bool (eqb before.0 x.0)) [
+      | inl same ↦ (
+          let next : before.1 + 1 ≤ x.1 = subst (λ (b : Bool). cond b (before.1 + 1) least_two ≤ x.1) same second in
+          inr (eqb-true before.0 x.0 same, omega arith)
+          )
+      | inr other ↦ (let differ = eqb-false before.0 x.0 other in inl (omega (arith, differ)))
+    ]

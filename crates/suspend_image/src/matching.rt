@@ -3,13 +3,16 @@
 
 ghost use Rattle.std.specs.Prelude.{◌≡◌, ◌↔◌, ◌==◌, ◌%◌, ◌&&◌, nat_le, IsTrue};
 ghost use Rattle.std.specs.List.{list_any, list_all};
-ghost use Rattle.machine_model.specs.Runs.Matched.{AreNextStepped, AreHandlersMatched, IsTimerMatched};
-ghost use Rattle.suspend_image.specs.Rows.{claim_key};
-ghost use Rattle.suspend_image.specs.Machines.{claims_of, processes_of, compare_of};
-ghost use Rattle.suspend_image.specs.Parts.{Ascend, AreHeapsWhole};
+ghost use Rattle.machine_model.specs.Runs.Matched.{AreJoinersMatched, AreNextStepped, AreHandlersMatched, IsTimerMatched};
+ghost use Rattle.suspend_image.specs.Rows.{thread_key, claim_key};
+ghost use Rattle.suspend_image.specs.Machines.{threads_of, claims_of, processes_of, compare_of};
+ghost use Rattle.suspend_image.specs.Parts.{Ascend, AscendInTwo, joins_another as joins_another_of, AreHeapsWhole};
 
-use crate::state::{ClaimRow, ProcRow, State};
+use crate::state::{ClaimRow, ProcRow, State, ThreadRow};
 use xk_base::limits::{PAGE_SIZE, TIMER_INTERRUPT};
+
+/// The number of the state Joining.
+const JOINING: u32 = 3;
 
 /// The greatest length of a heap: 16 MiB.
 const HEAP_LIMIT: u32 = 0x100_0000;
@@ -33,6 +36,40 @@ fn are_heaps_whole(procs: &[ProcRow]) -> bool
     ensures { result ≡ list_all (λ p. p.heap % 4096 == 0 && nat_le p.heap 16777216) procs.now }
 {
     procs.iter().all(|process| process.heap % PAGE_SIZE == 0 && process.heap <= HEAP_LIMIT)
+}
+
+/// Whether there is a thread of this id.
+fn is_thread(threads: &[ThreadRow], pid: u32, tid: u32) -> bool
+    ensures { result ≡ list_any (λ t. t.pid == pid && t.tid == tid) threads.now }
+{
+    threads
+        .iter()
+        .any(|thread| thread.pid == pid && thread.tid == tid)
+}
+
+/// Whether a thread that is Joining waits for another thread of its process, above tid 1.
+fn joins_another(threads: &[ThreadRow], thread: &ThreadRow) -> bool
+    ensures { result ≡ joins_another_of threads.now thread.now }
+{
+    thread.state != JOINING
+        || (thread.waits != thread.tid
+            && 2 <= thread.waits
+            && is_thread(threads, thread.pid, thread.waits))
+}
+
+/// Whether each does.
+fn all_join_others(threads: &[ThreadRow]) -> bool
+    ensures { result ≡ list_all (joins_another_of threads.now) threads.now }
+{
+    threads.iter().all(|thread| joins_another(threads, thread))
+}
+
+/// Part 5: a thread that is Joining waits for another thread of its process, above tid 1.
+pub fn are_joiners_matched(threads: &[ThreadRow]) -> bool
+    requires { AscendInTwo thread_key threads.now }
+    ensures { IsTrue result ↔ AreJoinersMatched (threads_of threads.now) }
+{
+    all_join_others(threads)
 }
 
 /// Part 6, of the claims: each claimed handler is the address of an instruction.
