@@ -3,20 +3,29 @@ use Rattle.std.proofs.Common.{◌≡◌, ℕ, ◌+◌, ◌-◌, ◌%◌, ◌≤�
 use Rattle.std.specs.Prelude.{◌&&◌, ◌||◌, is_some, IsTrue}
 use Rattle.std.specs.List.{find, list_any, list_all}
 use Rattle.std.specs.Option.{option_map}
-use Rattle.std.proofs.lemmas.Bool.{eqb-true, eq-eqb, and_parts, leb-true, le-leb, le-ltb, cases_Bool}
+use Rattle.std.proofs.lemmas.Bool.{eqb-true, eqb-false, eq-eqb, ne_eqb, and_parts, leb-true, le-leb, le-ltb, ltb-false, ltb-true, lt-ltb, cases_Bool}
 use Rattle.xk_base.specs.declared.ids.Pid.{Pid}
 use Rattle.machine_model.specs.State.Machine.{Claim, Thread, ThreadState, Ready, Receiving, Waiting, Joining, Idle}
 use Rattle.xk_base.specs.declared.ids.Tid.{Tid}
-use Rattle.machine_model.specs.Runs.Matched.{AreJoinersMatched, AreHandlersMatched, IsTimerMatched}
+use Rattle.xk_base.specs.declared.ids.ThreadId.{ThreadId}
+use Rattle.xk_base.specs.Tables.Circle.{is_thread_id}
+use Rattle.machine_model.specs.Runs.Matched.{AreJoinersMatched, AreThreadIdsMatched, AreClaimsMatched, AreHandlersMatched, IsTimerMatched}
 use Rattle.suspend_image.specs.declared.state.State.{State}
 use Rattle.suspend_image.specs.declared.state.ClaimRow.{ClaimRow}
 use Rattle.suspend_image.specs.declared.state.ProcRow.{ProcRow}
 use Rattle.suspend_image.specs.declared.state.ThreadRow.{ThreadRow}
 use Rattle.suspend_image.specs.Reading.{after, least_first, least_second}
 use Rattle.suspend_image.specs.Rows.{thread_key, claim_key}
-use Rattle.suspend_image.specs.Machines.{thread_at_id, thread_state, thread_of, threads_of, claim_of, claims_of, no_process, processes_of, compare_of}
-use Rattle.suspend_image.specs.Parts.{Ascend, AscendInTwo, joins_another, AreHeapsWhole}
+use Rattle.suspend_image.specs.Machines.{thread_at_id, thread_state, thread_of, threads_of, claim_of, claims_of, pending_of, no_process, processes_of, compare_of}
+use Rattle.suspend_image.specs.Parts.{Ascend, AscendInTwo, joins_another, is_thread_living, is_thread_right, is_claim_living, AreThreadsRight, AreHeapsWhole}
 use Rattle.suspend_image.proofs.KeyLemmas.{some, some_same, mapped, found_any, found_passes, passes_at, all_from_places, all_pass, number_is, number_own, Less, pair_is, pair_own, less_apart, less_through, less_behind}
+
+-- where the claim of each number passes a test, all claims do
+claims_pass : (good : ClaimRow → Bool) (rows : List ClaimRow) → Ascend claim_key rows
+    → ((k : ℕ) (c : ClaimRow) → find (λ r. eqb (claim_key r) k) rows ≡ Some c → good c ≡ true) → list_all good rows ≡ true
+claims_pass good rows ascend each =
+    all_pass claim_key (λ k r. eqb (claim_key r) k) (λ a b. a < b) (λ before c. after before ≤ claim_key c) (λ before c low. omega arith) (number_is claim_key) (number_own claim_key)
+    (λ k low. omega arith) (λ a b c low next. omega arith) good None rows ascend each
 
 -- ---- handlers
 
@@ -31,8 +40,7 @@ handlers_right rows all k claim e =
 
 handlers_all : (rows : List ClaimRow) → Ascend claim_key rows → AreHandlersMatched (claims_of rows) → list_all is_whole rows ≡ true
 handlers_all rows ascend matched =
-    all_pass claim_key (λ k r. eqb (claim_key r) k) (λ a b. a < b) (λ before c. after before ≤ claim_key c) (λ before c low. omega arith) (number_is claim_key) (number_own claim_key)
-    (λ k low. omega arith) (λ a b c low next. omega arith) is_whole None rows ascend
+    claims_pass is_whole rows ascend
     (λ (k : ℕ) (c : ClaimRow) (e : find (λ r. eqb (claim_key r) k) rows ≡ Some c). eq-eqb (c.handler % 4) 0 (matched k (claim_of c) (ap (option_map claim_of) e)))
 
 pub handlers_told : (rows : List ClaimRow) (told : Bool) → Ascend claim_key rows → told ≡ list_all is_whole rows → IsTrue told ↔ AreHandlersMatched (claims_of rows)
@@ -64,6 +72,25 @@ found_key k (y ∷ rows) t e =
           )
       | inr doesnt ↦ found_key k rows t (sym (ap (λ (b : Bool). cond b (some y) (find (is_thread k) rows)) doesnt) ∙ e)
     ]
+
+-- What a test of each row tells of each thread that there is.
+threads_told : (good : ThreadRow → Bool) (P : ThreadId → Thread → Type 0) → ((t : ThreadRow) → IsTrue (good t) ↔ P (thread_at_id t.pid t.tid) (thread_of t))
+    → (rows : List ThreadRow) → AscendInTwo thread_key rows
+    → IsTrue (list_all good rows) ↔ ((id : ThreadId) (t : Thread) → threads_of rows id ≡ Some t → P id t)
+threads_told good P tells rows ascend = (
+  λ all id t e. (
+      let k : ℕ × ℕ = (id.pid.0, id.tid.0) in
+      let m = mapped thread_of (find (is_thread k) rows) t e in
+      let key = found_key k rows m.0 m.1 in
+      let row = (tells m.0).0 (found_passes (is_thread k) good rows m.0 all m.1) in
+      subst (λ (u : Thread). P id u) m.2 (subst (λ (z : ℕ × ℕ). P (thread_at_id z.0 z.1) (thread_of m.0)) key row)
+      ),
+  λ each.
+      threads_pass good rows ascend (λ (k : ℕ × ℕ) (t : ThreadRow) (e : find (is_thread k) rows ≡ Some t). (
+      let own : find (is_thread (thread_key t)) rows ≡ Some t = subst (λ (z : ℕ × ℕ). find (is_thread z) rows ≡ Some t) (sym (found_key k rows t e)) e in
+      (tells t).1 (each (thread_at_id t.pid t.tid) (thread_of t) (ap (option_map thread_of) own))
+      )),
+)
 
 -- ---- threads that are Joining
 
@@ -136,6 +163,128 @@ joiners_all rows ascend matched =
 
 pub joiners_told : (rows : List ThreadRow) (told : Bool) → AscendInTwo thread_key rows → told ≡ list_all (joins_another rows) rows → IsTrue told ↔ AreJoinersMatched (threads_of rows)
 joiners_told rows told ascend is = (λ holds. joiners_right rows (sym is ∙ holds), λ matched. is ∙ joiners_all rows ascend matched)
+
+-- ---- threads, each for itself
+
+idle_by : (a b c d : Bool) (waits : ℕ) → state_by a b c d waits ≡ Idle → (a ≡ false) × (b ≡ false) × (c ≡ false) × (d ≡ false)
+idle_by true b c d waits e = absurd cc
+idle_by false true c d waits e = absurd cc
+idle_by false false true d waits e = absurd cc
+idle_by false false false true waits e = absurd cc
+idle_by false false false false waits e = (refl, refl, refl, refl)
+
+-- 4 and above
+idle_high : (state waits : ℕ) → thread_state state waits ≡ Idle → ltb state 4 ≡ false
+idle_high state waits e =
+    let none = idle_by (eqb state 0) (eqb state 1) (eqb state 2) (eqb state 3) waits e in
+    let n0 = eqb-false state 0 none.0 in
+    let n1 = eqb-false state 1 none.1 in
+    let n2 = eqb-false state 2 none.2 in
+    let n3 = eqb-false state 3 none.3 in
+    le-ltb _ _ (omega (arith, n0, n1, n2, n3))
+
+high_idle : (state waits : ℕ) → ltb state 4 ≡ false → thread_state state waits ≡ Idle
+high_idle state waits high =
+    let low = ltb-false state 4 high in
+    let n0 : eqb state 0 ≡ false = ne_eqb state 0 (λ same. omega arith) in
+    let n1 : eqb state 1 ≡ false = ne_eqb state 1 (λ same. omega arith) in
+    let n2 : eqb state 2 ≡ false = ne_eqb state 2 (λ same. omega arith) in
+    let n3 : eqb state 3 ≡ false = ne_eqb state 3 (λ same. omega arith) in
+    rw (n0, n1, n2, n3) refl
+
+either : (a b : Bool) → a ≡ false → (a || b) ≡ true → b ≡ true
+either true b is e = absurd cc
+either false b is e = e
+
+IsRight : ThreadId → Thread → Type 0
+IsRight id t = (t.pc % 4 ≡ 0) × (t.state ≡ Idle → id.tid.0 ≡ 1)
+
+right_told : (t : ThreadRow) → IsTrue (is_thread_right t) ↔ IsRight (thread_at_id t.pid t.tid) (thread_of t)
+unfolding IsRight
+right_told t = (
+  λ good. (
+      let both = and_parts (eqb (t.pc % 4) 0) (ltb t.state 4 || eqb t.tid 1) good in
+      (eqb-true _ _ both.0, λ idle. eqb-true _ _ (either (ltb t.state 4) (eqb t.tid 1) (idle_high t.state t.waits idle) both.1))
+      ),
+  λ right. (
+      elim (cases_Bool (ltb t.state 4)) [
+        | inl low ↦ rw (eq-eqb (t.pc % 4) 0 right.0, low) refl
+        | inr high ↦ rw (eq-eqb (t.pc % 4) 0 right.0, high, eq-eqb t.tid 1 (right.1 (high_idle t.state t.waits high))) refl
+      ]
+      ),
+)
+
+pub threads_right_told : (rows : List ThreadRow) (told : Bool) → AscendInTwo thread_key rows → told ≡ list_all is_thread_right rows → IsTrue told ↔ AreThreadsRight (threads_of rows)
+unfolding IsRight
+threads_right_told rows told ascend is =
+    let each = threads_told is_thread_right IsRight right_told rows ascend in (
+      λ holds. record { pcs = λ id t e. (each.0 (sym is ∙ holds) id t e).0; idle = λ id t e. (each.0 (sym is ∙ holds) id t e).1 },
+      λ right. is ∙ each.1 (λ id t e. (right.pcs id t e, right.idle id t e)),
+    )
+
+IsLivingIn : ℕ → List ProcRow → ThreadId → Thread → Type 0
+IsLivingIn n procs id t = IsTrue (is_thread_id n id) × IsTrue (processes_of procs id.pid.0).alive
+
+living_told : (n : ℕ) (procs : List ProcRow) (t : ThreadRow) → IsTrue (is_thread_living n procs t) ↔ IsLivingIn n procs (thread_at_id t.pid t.tid) (thread_of t)
+unfolding IsLivingIn
+living_told n procs t = (λ good. and_parts _ _ good, λ both. rw (both.0, both.1) refl)
+
+pub thread_ids_told : (n : ℕ) (procs : List ProcRow) (rows : List ThreadRow) (told : Bool) → AscendInTwo thread_key rows → told ≡ list_all (is_thread_living n procs) rows
+    → IsTrue told ↔ AreThreadIdsMatched n (processes_of procs) (threads_of rows)
+unfolding IsLivingIn
+thread_ids_told n procs rows told ascend is =
+    let each = threads_told (is_thread_living n procs) (IsLivingIn n procs) (living_told n procs) rows ascend in (
+      λ holds. record { known = λ id t e. (each.0 (sym is ∙ holds) id t e).0; living = λ id t e. (each.0 (sym is ∙ holds) id t e).1 },
+      λ matched. is ∙ each.1 (λ id t e. (matched.known id t e, matched.living id t e)),
+    )
+
+-- ---- claims
+
+found_claim : (k : ℕ) (rows : List ClaimRow) (c : ClaimRow) → find (λ r. eqb (claim_key r) k) rows ≡ Some c → c.number ≡ k
+found_claim k [] c e = absurd cc
+found_claim k (y ∷ rows) c e =
+    elim (cases_Bool (eqb (claim_key y) k)) [
+      | inl does ↦ (
+          let here : some y ≡ some c = sym (ap (λ (b : Bool). cond b (some y) (find (λ r. eqb (claim_key r) k) rows)) does) ∙ e in
+          subst (λ (z : ClaimRow). z.number ≡ k) (some_same y c here) (eqb-true y.number k does)
+          )
+      | inr doesnt ↦ found_claim k rows c (sym (ap (λ (b : Bool). cond b (some y) (find (λ r. eqb (claim_key r) k) rows)) doesnt) ∙ e)
+    ]
+
+-- a pending number has a claim
+any_claim : (k : ℕ) (rows : List ClaimRow) → list_any (λ c. eqb c.number k && eqb c.pending 1) rows ≡ true → list_any (λ c. eqb c.number k) rows ≡ true
+any_claim k [] e = absurd cc
+any_claim k (c ∷ rows) e =
+    elim (cases_Bool (eqb c.number k)) [
+      | inl does ↦ rw does refl
+      | inr doesnt ↦ rw doesnt (any_claim k rows (sym (ap (λ (b : Bool). (b && eqb c.pending 1) || list_any (λ c. eqb c.number k && eqb c.pending 1) rows) doesnt) ∙ e))
+    ]
+
+claims_right : (procs : List ProcRow) (rows : List ClaimRow) → list_all (is_claim_living procs) rows ≡ true → AreClaimsMatched (processes_of procs) (claims_of rows) (pending_of rows)
+claims_right procs rows all =
+    let row = λ (k : ℕ) (claim : Claim) (e : claims_of rows k ≡ Some claim). mapped claim_of (find (λ c. eqb c.number k) rows) claim e in
+    let good = λ (k : ℕ) (claim : Claim) (e : claims_of rows k ≡ Some claim). (
+    let m = row k claim e in
+    and_parts (ltb m.0.number 32) (processes_of procs m.0.pid).alive (found_passes (λ (c : ClaimRow). eqb c.number k) (is_claim_living procs) rows m.0 all m.1)
+    ) in
+    record {
+      living = λ k claim e. subst (λ (c : Claim). IsTrue (processes_of procs c.pid.0).alive) (row k claim e).2 (good k claim e).1;
+      numbers = λ k claim e. subst (λ (n : ℕ). n < 32) (found_claim k rows (row k claim e).0 (row k claim e).1) (ltb-true _ _ (good k claim e).0);
+      pending_claimed = λ k on. found_any claim_of (λ (c : ClaimRow). eqb c.number k) rows ∙ any_claim k rows on;
+    }
+
+claims_all : (procs : List ProcRow) (rows : List ClaimRow) → Ascend claim_key rows → AreClaimsMatched (processes_of procs) (claims_of rows) (pending_of rows)
+    → list_all (is_claim_living procs) rows ≡ true
+claims_all procs rows ascend matched =
+    claims_pass (is_claim_living procs) rows ascend (λ (k : ℕ) (c : ClaimRow) (e : find (λ r. eqb (claim_key r) k) rows ≡ Some c). (
+    let here : claims_of rows k ≡ Some (claim_of c) = ap (option_map claim_of) e in
+    let low = subst (λ (n : ℕ). n < 32) (sym (found_claim k rows c e)) (matched.numbers k (claim_of c) here) in
+    rw (lt-ltb c.number 32 low, matched.living k (claim_of c) here) refl
+    ))
+
+pub claims_told : (procs : List ProcRow) (rows : List ClaimRow) (told : Bool) → Ascend claim_key rows → told ≡ list_all (is_claim_living procs) rows
+    → IsTrue told ↔ AreClaimsMatched (processes_of procs) (claims_of rows) (pending_of rows)
+claims_told procs rows told ascend is = (λ holds. claims_right procs rows (sym is ∙ holds), λ matched. is ∙ claims_all procs rows ascend matched)
 
 -- ---- heaps
 

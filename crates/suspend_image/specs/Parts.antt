@@ -1,11 +1,16 @@
 -- Parts of the invariant of the machine, as far as the rows of one kind decide them.
-use Rattle.std.specs.Prelude.{◌≡◌, ℕ, ◌%◌, ◌≤◌, ◌==◌, ◌&&◌, ◌||◌, not, nat_le, Bool, List, None}
+use Rattle.std.specs.Prelude.{◌≡◌, ℕ, ◌%◌, ◌≤◌, ◌==◌, ◌&&◌, ◌||◌, not, nat_le, nat_lt, Bool, List, Option, Some, None}
 use Rattle.std.specs.List.{list_any}
 use Rattle.xk_base.specs.declared.ids.Pid.{Pid}
 use Rattle.xk_base.specs.declared.limits.TheConstants.{PAGE_SIZE}
-use Rattle.machine_model.specs.State.Machine.{Process}
+use Rattle.xk_base.specs.declared.ids.ThreadId.{ThreadId}
+use Rattle.xk_base.specs.Tables.Circle.{is_thread_id}
+use Rattle.machine_model.specs.State.Machine.{Process, Thread, Idle}
 use Rattle.machine_model.specs.Calling.MemoryCalls.{heap_limit}
+use Rattle.suspend_image.specs.declared.state.ProcRow.{ProcRow}
 use Rattle.suspend_image.specs.declared.state.ThreadRow.{ThreadRow}
+use Rattle.suspend_image.specs.declared.state.ClaimRow.{ClaimRow}
+use Rattle.suspend_image.specs.Machines.{thread_at_id, processes_of}
 use Rattle.suspend_image.specs.Reading.{after, least_first, least_second}
 use Rattle.suspend_image.specs.Forms.{AreInOrder}
 
@@ -20,6 +25,23 @@ AscendInTwo key rows = AreInOrder (λ before x. (least_first 0 before ≤ (key x
 abbrev pub joins_another : List ThreadRow → ThreadRow → Bool
 joins_another rows t =
     not (t.state == 3) || (not (t.waits == t.tid) && (nat_le 2 t.waits && list_any (λ other. other.pid == t.pid && other.tid == t.waits) rows))
+
+-- a thread of an id that there may be, and of a living process
+abbrev pub is_thread_living : ℕ → List ProcRow → ThreadRow → Bool
+is_thread_living n procs t = is_thread_id n (thread_at_id t.pid t.tid) && (processes_of procs t.pid).alive
+
+-- its pc is the address of an instruction, and only tid 1 is Idle
+abbrev pub is_thread_right : ThreadRow → Bool
+is_thread_right t = t.pc % 4 == 0 && (nat_lt t.state 4 || t.tid == 1)
+
+-- a claim of an interrupt that there is, by a living process
+abbrev pub is_claim_living : List ProcRow → ClaimRow → Bool
+is_claim_living procs c = nat_lt c.number 32 && (processes_of procs c.pid).alive
+
+-- every pc is the address of an instruction, and no thread above tid 1 is Idle: part 6 of threads, each for itself
+pub record AreThreadsRight (threads : ThreadId → Option Thread) : Type 0 where
+  pub pcs : (id : ThreadId) (t : Thread) → threads id ≡ Some t → t.pc % 4 ≡ 0
+  pub idle : (id : ThreadId) (t : Thread) → threads id ≡ Some t → t.state ≡ Idle → id.tid.0 ≡ 1
 
 -- heaps are whole pages up to 16 MiB: part 7 without the pages
 pub record AreHeapsWhole (process : ℕ → Process) : Type 0 where

@@ -3,16 +3,19 @@
 
 ghost use Rattle.std.specs.Prelude.{◌≡◌, ◌↔◌, ◌==◌, ◌%◌, ◌&&◌, nat_le, IsTrue};
 ghost use Rattle.std.specs.List.{list_any, list_all};
-ghost use Rattle.machine_model.specs.Runs.Matched.{AreJoinersMatched, AreNextStepped, AreHandlersMatched, IsTimerMatched};
+ghost use Rattle.machine_model.specs.Runs.Matched.{AreJoinersMatched, AreThreadIdsMatched, AreClaimsMatched, AreNextStepped, AreHandlersMatched, IsTimerMatched};
 ghost use Rattle.suspend_image.specs.Rows.{thread_key, claim_key};
-ghost use Rattle.suspend_image.specs.Machines.{threads_of, claims_of, processes_of, compare_of};
-ghost use Rattle.suspend_image.specs.Parts.{Ascend, AscendInTwo, joins_another as joins_another_of, AreHeapsWhole};
+ghost use Rattle.suspend_image.specs.Machines.{threads_of, claims_of, pending_of, processes_of, compare_of};
+ghost use Rattle.suspend_image.specs.Parts.{Ascend, AscendInTwo, joins_another as joins_another_of, is_thread_living as is_thread_living_of, is_thread_right, is_claim_living as is_claim_living_of, AreThreadsRight, AreHeapsWhole};
 
 use crate::state::{ClaimRow, ProcRow, State, ThreadRow};
-use xk_base::limits::{PAGE_SIZE, TIMER_INTERRUPT};
+use xk_base::limits::{INTERRUPT_LIMIT, PAGE_SIZE, TID_LIMIT, TIMER_INTERRUPT};
 
 /// The number of the state Joining.
 const JOINING: u32 = 3;
+
+/// The number of the state Idle.
+const IDLE: u32 = 4;
 
 /// The greatest length of a heap: 16 MiB.
 const HEAP_LIMIT: u32 = 0x100_0000;
@@ -70,6 +73,80 @@ pub fn are_joiners_matched(threads: &[ThreadRow]) -> bool
     ensures { IsTrue result ↔ AreJoinersMatched (threads_of threads.now) }
 {
     all_join_others(threads)
+}
+
+/// Whether there is a process of this pid, and it is alive.
+fn is_alive(procs: &[ProcRow], pid: u32) -> bool
+    ensures { result ≡ (processes_of procs.now pid).alive }
+{
+    if pid < 2 {
+        return false;
+    }
+    match procs.get(pid as usize - 2) {
+        Some(process) => process.alive == 1,
+        None => false,
+    }
+}
+
+fn is_thread_living(n: u32, procs: &[ProcRow], thread: &ThreadRow) -> bool
+    ensures { result ≡ is_thread_living_of n procs.now thread.now }
+{
+    2 <= thread.pid
+        && (thread.pid as u64) < n as u64 + 2
+        && 1 <= thread.tid
+        && thread.tid <= TID_LIMIT as u32
+        && is_alive(procs, thread.pid)
+}
+
+fn all_threads_living(n: u32, procs: &[ProcRow], threads: &[ThreadRow]) -> bool
+    ensures { result ≡ list_all (is_thread_living_of n procs.now) threads.now }
+{
+    threads
+        .iter()
+        .all(|thread| is_thread_living(n, procs, thread))
+}
+
+fn all_threads_right(threads: &[ThreadRow]) -> bool
+    ensures { result ≡ list_all is_thread_right threads.now }
+{
+    threads.iter().all(|thread| thread.pc % 4 == 0 && (thread.state < IDLE || thread.tid == 1))
+}
+
+fn is_claim_living(procs: &[ProcRow], claim: &ClaimRow) -> bool
+    ensures { result ≡ is_claim_living_of procs.now claim.now }
+{
+    claim.number < INTERRUPT_LIMIT as u32 && is_alive(procs, claim.pid)
+}
+
+fn all_claims_living(procs: &[ProcRow], claims: &[ClaimRow]) -> bool
+    ensures { result ≡ list_all (is_claim_living_of procs.now) claims.now }
+{
+    claims.iter().all(|claim| is_claim_living(procs, claim))
+}
+
+/// Part 6, of the threads, each for itself: every pc is the address of an instruction, and no thread
+/// above tid 1 is Idle.
+pub fn are_threads_right(threads: &[ThreadRow]) -> bool
+    requires { AscendInTwo thread_key threads.now }
+    ensures { IsTrue result ↔ AreThreadsRight (threads_of threads.now) }
+{
+    all_threads_right(threads)
+}
+
+/// Part 8, of the threads: each has an id that there may be, and is of a living process.
+pub fn are_thread_ids_matched(n: u32, procs: &[ProcRow], threads: &[ThreadRow]) -> bool
+    requires { AscendInTwo thread_key threads.now }
+    ensures { IsTrue result ↔ AreThreadIdsMatched n (processes_of procs.now) (threads_of threads.now) }
+{
+    all_threads_living(n, procs, threads)
+}
+
+/// Part 8, of the claims: each is of an interrupt that there is, and of a living process.
+pub fn are_claims_matched(procs: &[ProcRow], claims: &[ClaimRow]) -> bool
+    requires { Ascend claim_key claims.now }
+    ensures { IsTrue result ↔ AreClaimsMatched (processes_of procs.now) (claims_of claims.now) (pending_of claims.now) }
+{
+    all_claims_living(procs, claims)
 }
 
 /// Part 6, of the claims: each claimed handler is the address of an instruction.
