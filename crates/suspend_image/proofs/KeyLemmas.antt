@@ -1,6 +1,6 @@
 -- Rows by their keys: what the row of a key is, where keys stand in order.
-use Rattle.std.proofs.Common.{◌≡◌, ℕ, zero, suc, ◌+◌, ◌≤◌, ◌<◌, Bool, true, cond, eqb, List, [], ◌∷◌, get_or, Option, Some, None, refl, sym, ap, subst, ◌∙◌, arith, inl, inr, ◌⊎◌}
-use Rattle.std.specs.Prelude.{◌&&◌, is_some}
+use Rattle.std.proofs.Common.{◌≡◌, ℕ, zero, suc, ◌+◌, ◌≤◌, ◌<◌, Bool, true, false, cond, eqb, List, [], ◌∷◌, get_or, Option, Some, None, refl, sym, ap, subst, ◌∙◌, arith, inl, inr, ◌⊎◌}
+use Rattle.std.specs.Prelude.{◌&&◌, ◌||◌, is_some}
 use Rattle.std.specs.List.{find, list_any, list_all}
 use Rattle.std.specs.Option.{option_map}
 use Rattle.std.proofs.lemmas.Bool.{cases_Bool, eqb-true, eq-eqb, eqb-false, and_parts}
@@ -39,6 +39,22 @@ found_passes {A = A} test good (y ∷ rows) x all e =
           subst (λ (z : A). good z ≡ true) (some_same y x here) both.0
           )
       | inr doesnt ↦ found_passes test good rows x both.1 (sym (ap (λ (b : Bool). cond b (some y) (find test rows)) doesnt) ∙ e)
+    ]
+
+pub either : (a b : Bool) → a ≡ false → (a || b) ≡ true → b ≡ true
+either true b is e = absurd cc
+either false b is e = e
+
+pub any_where_found : {A : Type 0} (test good : A → Bool) (rows : List A) (x : A) → find test rows ≡ Some x → good x ≡ true → list_any (λ y. test y && good y) rows ≡ true
+any_where_found test good [] x e is = absurd cc
+any_where_found {A = A} test good (y ∷ rows) x e is =
+    elim (cases_Bool (test y)) [
+      | inl does ↦ (
+        let here : some y ≡ some x = sym (ap (λ (b : Bool). cond b (some y) (find test rows)) does) ∙ e in
+        let passes = subst (λ (z : A). good z ≡ true) (sym (some_same y x here)) is in
+        rw (does, passes) refl
+      )
+      | inr doesnt ↦ rw doesnt (any_where_found test good rows x (sym (ap (λ (b : Bool). cond b (some y) (find test rows)) doesnt) ∙ e) is)
     ]
 
 -- ---- rows by their places
@@ -89,6 +105,22 @@ module _ {A K : Type 0} (key : A → K) (test : K → A → Bool) (less : K → 
   all_pass good before (y ∷ rows) forms each =
       let others = all_pass good (Some (key y)) rows forms.1 (λ k x e. each k x (found_behind k y rows x forms.1 e)) in
       rw (each (key y) y (found_first y rows), others) refl
+
+  -- some row of a key passes a test exactly where the row of that key does
+  pub any_found : (good : A → Bool) (k : K) (before : Option K) (rows : List A) → AreInOrder form key before rows → list_any (λ x. test k x && good x) rows ≡ true
+      → (x : A) × (find (test k) rows ≡ Some x) × (good x ≡ true)
+  any_found good k before [] forms e = absurd cc
+  any_found good k before (y ∷ rows) forms e =
+      elim (cases_Bool (test k y && good y)) [
+        | inl does ↦ (
+          let both = and_parts (test k y) (good y) does in
+          (y, ap (λ (b : Bool). cond b (some y) (find (test k) rows)) both.0, both.1)
+        )
+        | inr doesnt ↦ (
+          let rest = any_found good k (Some (key y)) rows forms.1 (either (test k y && good y) _ doesnt e) in
+          (rest.0, found_behind k y rows rest.0 forms.1 rest.1, rest.2)
+        )
+      ]
 
 -- ---- keys of one number and of two
 

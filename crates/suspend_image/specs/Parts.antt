@@ -1,5 +1,5 @@
 -- Parts of the invariant of the machine, as far as the rows of one kind decide them.
-use Rattle.std.specs.Prelude.{◌≡◌, ℕ, ◌%◌, ◌≤◌, ◌==◌, ◌&&◌, ◌||◌, not, nat_le, nat_lt, Bool, List, Option, Some, None}
+use Rattle.std.specs.Prelude.{◌≡◌, ℕ, ◌%◌, ◌≤◌, ◌==◌, ◌&&◌, ◌||◌, not, nat_le, nat_lt, Bool, List, length, Option, Some, None}
 use Rattle.std.specs.List.{list_any}
 use Rattle.xk_base.specs.declared.ids.Pid.{Pid}
 use Rattle.xk_base.specs.declared.limits.TheConstants.{PAGE_SIZE}
@@ -9,6 +9,7 @@ use Rattle.machine_model.specs.State.Machine.{Process, Thread, Idle}
 use Rattle.machine_model.specs.Calling.MemoryCalls.{heap_limit}
 use Rattle.suspend_image.specs.declared.state.ProcRow.{ProcRow}
 use Rattle.suspend_image.specs.declared.state.ThreadRow.{ThreadRow}
+use Rattle.suspend_image.specs.declared.state.ServerRow.{ServerRow}
 use Rattle.suspend_image.specs.declared.state.ClaimRow.{ClaimRow}
 use Rattle.suspend_image.specs.Machines.{thread_at_id, processes_of}
 use Rattle.suspend_image.specs.Reading.{after, least_first, least_second}
@@ -25,6 +26,14 @@ AscendInTwo key rows = AreInOrder (λ before x. (least_first 0 before ≤ (key x
 abbrev pub joins_another : List ThreadRow → ThreadRow → Bool
 joins_another rows t =
     not (t.state == 3) || (not (t.waits == t.tid) && (nat_le 2 t.waits && list_any (λ other. other.pid == t.pid && other.tid == t.waits) rows))
+
+-- the server that a thread waits at: of its process, with an empty queue
+abbrev pub is_awaited : ThreadRow → ServerRow → Bool
+is_awaited t s = s.serial == t.waits && (s.pid == t.pid && length s.queued == 0)
+
+-- it isn't Receiving, or waits at such a server
+abbrev pub awaits_server : List ServerRow → ThreadRow → Bool
+awaits_server servers t = not (t.state == 1) || list_any (is_awaited t) servers
 
 -- a thread of an id that there may be, and of a living process
 abbrev pub is_thread_living : ℕ → List ProcRow → ThreadRow → Bool

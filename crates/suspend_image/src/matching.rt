@@ -3,13 +3,16 @@
 
 ghost use Rattle.std.specs.Prelude.{◌≡◌, ◌↔◌, ◌==◌, ◌%◌, ◌&&◌, nat_le, IsTrue};
 ghost use Rattle.std.specs.List.{list_any, list_all};
-ghost use Rattle.machine_model.specs.Runs.Matched.{AreJoinersMatched, AreThreadIdsMatched, AreClaimsMatched, AreNextStepped, AreHandlersMatched, IsTimerMatched};
-ghost use Rattle.suspend_image.specs.Rows.{thread_key, claim_key};
-ghost use Rattle.suspend_image.specs.Machines.{threads_of, claims_of, pending_of, processes_of, compare_of};
-ghost use Rattle.suspend_image.specs.Parts.{Ascend, AscendInTwo, joins_another as joins_another_of, is_thread_living as is_thread_living_of, is_thread_right, is_claim_living as is_claim_living_of, AreThreadsRight, AreHeapsWhole};
+ghost use Rattle.machine_model.specs.Runs.Matched.{AreReceiversMatched, AreJoinersMatched, AreThreadIdsMatched, AreClaimsMatched, AreNextStepped, AreHandlersMatched, IsTimerMatched};
+ghost use Rattle.suspend_image.specs.Rows.{thread_key, server_key, claim_key};
+ghost use Rattle.suspend_image.specs.Machines.{threads_of, servers_of, claims_of, pending_of, processes_of, compare_of};
+ghost use Rattle.suspend_image.specs.Parts.{Ascend, AscendInTwo, is_awaited as is_awaited_of, awaits_server as awaits_server_of, joins_another as joins_another_of, is_thread_living as is_thread_living_of, is_thread_right, is_claim_living as is_claim_living_of, AreThreadsRight, AreHeapsWhole};
 
-use crate::state::{ClaimRow, ProcRow, State, ThreadRow};
+use crate::state::{ClaimRow, ProcRow, ServerRow, State, ThreadRow};
 use xk_base::limits::{INTERRUPT_LIMIT, PAGE_SIZE, TID_LIMIT, TIMER_INTERRUPT};
+
+/// The number of the state Receiving.
+const RECEIVING: u32 = 1;
 
 /// The number of the state Joining.
 const JOINING: u32 = 3;
@@ -39,6 +42,47 @@ fn are_heaps_whole(procs: &[ProcRow]) -> bool
     ensures { result ≡ list_all (λ p. p.heap % 4096 == 0 && nat_le p.heap 16777216) procs.now }
 {
     procs.iter().all(|process| process.heap % PAGE_SIZE == 0 && process.heap <= HEAP_LIMIT)
+}
+
+/// Whether it is the server that a thread waits at: of its process, with an empty queue.
+fn is_awaited(thread: &ThreadRow, server: &ServerRow) -> bool
+    ensures { result ≡ is_awaited_of thread.now server.now }
+{
+    server.serial == thread.waits
+        && server.pid == thread.pid
+        && server.queued.as_slice().is_empty()
+}
+
+/// Whether it is one of these.
+fn is_one_awaited(servers: &[ServerRow], thread: &ThreadRow) -> bool
+    ensures { result ≡ list_any (is_awaited_of thread.now) servers.now }
+{
+    servers.iter().any(|server| is_awaited(thread, server))
+}
+
+/// Whether a thread that is Receiving waits at such a server.
+fn awaits_server(servers: &[ServerRow], thread: &ThreadRow) -> bool
+    ensures { result ≡ awaits_server_of servers.now thread.now }
+{
+    thread.state != RECEIVING || is_one_awaited(servers, thread)
+}
+
+/// Whether each does.
+fn all_await_servers(servers: &[ServerRow], threads: &[ThreadRow]) -> bool
+    ensures { result ≡ list_all (awaits_server_of servers.now) threads.now }
+{
+    threads
+        .iter()
+        .all(|thread| awaits_server(servers, thread))
+}
+
+/// Part 4: a thread that is Receiving belongs to the process of that live server, whose queue is empty.
+pub fn are_receivers_matched(servers: &[ServerRow], threads: &[ThreadRow]) -> bool
+    requires servers { Ascend server_key servers.now }
+    requires threads { AscendInTwo thread_key threads.now }
+    ensures { IsTrue result ↔ AreReceiversMatched (threads_of threads.now) (servers_of servers.now) }
+{
+    all_await_servers(servers, threads)
 }
 
 /// Whether there is a thread of this id.
