@@ -16,9 +16,9 @@ use Rattle.suspend_image.specs.Words.{word}
 use Rattle.suspend_image.specs.Spelling.{parts_bytes, headed, with_header, state_bytes}
 use Rattle.suspend_image.specs.StateFaults.{state_at, state_of, is_not_state, is_bad_state_check, header_faults, form_fault, state_fault}
 use Rattle.suspend_image.specs.Forms.{Spells}
-use Rattle.suspend_image.proofs.StateAgainLemmas.{parts_again}
-use Rattle.suspend_image.proofs.TakenLemmas.{IsEnd}
-use Rattle.suspend_image.proofs.StateTakenLemmas.{parts_taken}
+use Rattle.suspend_image.proofs.SpelledAgain.StateAgainLemmas.{parts_again}
+use Rattle.suspend_image.proofs.FoundSpelled.TakenLemmas.{IsEnd}
+use Rattle.suspend_image.proofs.FoundSpelled.StateTakenLemmas.{parts_taken}
 
 headed_is_state : (size check : ℕ) (parts : List ℕ) → is_not_state (headed size check parts) ≡ false
 unfolding is_not_state

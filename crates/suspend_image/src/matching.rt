@@ -48,9 +48,7 @@ fn are_heaps_whole(procs: &[ProcRow]) -> bool
 fn is_awaited(thread: &ThreadRow, server: &ServerRow) -> bool
     ensures { result ≡ is_awaited_of thread.now server.now }
 {
-    server.serial == thread.waits
-        && server.pid == thread.pid
-        && server.queued.as_slice().is_empty()
+    server.serial == thread.waits && server.pid == thread.pid && server.queued.as_slice().is_empty()
 }
 
 /// Whether it is one of these.
@@ -71,9 +69,7 @@ fn awaits_server(servers: &[ServerRow], thread: &ThreadRow) -> bool
 fn all_await_servers(servers: &[ServerRow], threads: &[ThreadRow]) -> bool
     ensures { result ≡ list_all (awaits_server_of servers.now) threads.now }
 {
-    threads
-        .iter()
-        .all(|thread| awaits_server(servers, thread))
+    threads.iter().all(|thread| awaits_server(servers, thread))
 }
 
 /// Part 4: a thread that is Receiving belongs to the process of that live server, whose queue is empty.

@@ -54,7 +54,7 @@ fn small_state_is_read(rt: HostRuntime) {
 }
 
 #[test]
-#[tactic(auto, using(crate::proofs::WriteAgainLemmas::spelled_stands, crate::proofs::WriteAgainLemmas::spelled_has_room))]
+#[tactic(auto, using(crate::proofs::Sheets::WriteAgainLemmas::spelled_stands, crate::proofs::Sheets::WriteAgainLemmas::spelled_has_room))]
 fn small_state_is_written(rt: HostRuntime) {
     if let (Ok(state), Ok(mut sheet)) = (
         read_state(rt.alloc(), FILE.as_slice()),

@@ -2,7 +2,7 @@ use Rattle.std.proofs.Common.{◌∷◌, [], length, arith}
 use Rattle.suspend_image.specs.Words.{word_bytes}
 use Rattle.suspend_image.specs.Spelling.{orphan_bytes}
 use Rattle.suspend_image.specs.Sheets.{appended}
-use Rattle.suspend_image.proofs.SpellingLemmas.{number_has_room, rows_have_room, row_has_room, rows_appended, rows_few, orphan_some}
+use Rattle.suspend_image.proofs.Sheets.SpellingLemmas.{number_has_room, rows_have_room, row_has_room, rows_appended, rows_few, orphan_some}
 use Rattle.suspend_image.proofs.page_writing.write_orphans.Goals as goal
 
 pub overflow_cast-orphans : goal.overflow_cast-orphans

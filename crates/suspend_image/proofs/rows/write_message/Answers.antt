@@ -1,7 +1,7 @@
 use Rattle.std.proofs.Common.{◌++◌, ap, sym, subst, ◌∙◌}
 use Rattle.suspend_image.specs.Words.{word_bytes}
 use Rattle.suspend_image.specs.Sheets.{HasRoom, appended}
-use Rattle.suspend_image.proofs.SpellingLemmas.{message_front, message_end, message_in_three, first_has_room, second_has_room, both_appended}
+use Rattle.suspend_image.proofs.Sheets.SpellingLemmas.{message_front, message_end, message_in_three, first_has_room, second_has_room, both_appended}
 use Rattle.suspend_image.proofs.rows.write_message.Goals as goal
 
 pub push_words-requires : goal.push_words-requires

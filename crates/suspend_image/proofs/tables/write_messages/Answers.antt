@@ -1,5 +1,5 @@
 use Rattle.suspend_image.specs.Spelling.{message_bytes}
-use Rattle.suspend_image.proofs.SpellingLemmas.{row_has_room}
+use Rattle.suspend_image.proofs.Sheets.SpellingLemmas.{row_has_room}
 use Rattle.suspend_image.proofs.tables.write_messages.Goals as goal
 
 pub write_message-requires : goal.write_message-requires

@@ -1,7 +1,7 @@
 use Rattle.std.proofs.Common.{ap, sym, subst, ◌∙◌, arith}
 use Rattle.suspend_image.specs.Words.{word_bytes}
 use Rattle.suspend_image.specs.Sheets.{HasRoom, appended}
-use Rattle.suspend_image.proofs.SpellingLemmas.{proc_front, proc_in_two, first_has_room, second_has_room, both_appended, length-word_bytes}
+use Rattle.suspend_image.proofs.Sheets.SpellingLemmas.{proc_front, proc_in_two, first_has_room, second_has_room, both_appended, length-word_bytes}
 use Rattle.suspend_image.proofs.tables.write_proc.Goals as goal
 
 pub overflow_cast-serials : goal.overflow_cast-serials

@@ -1,5 +1,5 @@
 use Rattle.suspend_image.specs.Spelling.{proc_bytes}
-use Rattle.suspend_image.proofs.SpellingLemmas.{next_has_room}
+use Rattle.suspend_image.proofs.Sheets.SpellingLemmas.{next_has_room}
 use Rattle.suspend_image.proofs.tables.write_procs.Goals as goal
 
 pub write_proc-requires : goal.write_proc-requires

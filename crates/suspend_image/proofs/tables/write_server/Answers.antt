@@ -3,7 +3,7 @@ use Rattle.std.specs.List.{flat_map}
 use Rattle.suspend_image.specs.Words.{word_bytes}
 use Rattle.suspend_image.specs.Spelling.{message_bytes}
 use Rattle.suspend_image.specs.Sheets.{HasRoom, appended}
-use Rattle.suspend_image.proofs.SpellingLemmas.{server_middle, server_in_four, first_has_room, second_has_room, both_appended, rows_few, message_some}
+use Rattle.suspend_image.proofs.Sheets.SpellingLemmas.{server_middle, server_in_four, first_has_room, second_has_room, both_appended, rows_few, message_some}
 use Rattle.suspend_image.proofs.tables.write_server.Goals as goal
 
 pub push_words-requires : goal.push_words-requires

@@ -2,7 +2,7 @@ use Rattle.std.proofs.Common.{◌∷◌, [], length, arith}
 use Rattle.suspend_image.specs.Words.{word_bytes}
 use Rattle.suspend_image.specs.Spelling.{server_bytes}
 use Rattle.suspend_image.specs.Sheets.{appended}
-use Rattle.suspend_image.proofs.SpellingLemmas.{number_has_room, rows_have_room, next_has_room, rows_appended, rows_few, server_some}
+use Rattle.suspend_image.proofs.Sheets.SpellingLemmas.{number_has_room, rows_have_room, next_has_room, rows_appended, rows_few, server_some}
 use Rattle.suspend_image.proofs.tables.write_servers.Goals as goal
 
 pub overflow_cast-servers : goal.overflow_cast-servers

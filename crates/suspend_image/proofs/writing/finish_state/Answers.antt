@@ -1,7 +1,7 @@
 use Rattle.std.proofs.Common.{◌≡◌, ◌-◌, length, take, drop, ap, arith, length-drop}
 use Rattle.std.proofs.lemmas.List.{take_all}
 use Rattle.suspend_image.specs.Sheets.{with_bytes}
-use Rattle.suspend_image.proofs.WritingLemmas.{finished}
+use Rattle.suspend_image.proofs.Sheets.WritingLemmas.{finished}
 use Rattle.suspend_image.proofs.writing.finish_state.Goals as goal
 
 pub returns : goal.returns

@@ -1,4 +1,4 @@
-use Rattle.suspend_image.proofs.WritingLemmas.{parts_fit}
+use Rattle.suspend_image.proofs.Sheets.WritingLemmas.{parts_fit}
 use Rattle.suspend_image.proofs.writing.write_parts.Goals as goal
 
 pub write_machine-requires : goal.write_machine-requires

@@ -1,6 +1,6 @@
 use Rattle.std.proofs.Common.{arith, refl}
 use Rattle.suspend_image.specs.Spelling.{state_bytes}
-use Rattle.suspend_image.proofs.WritingLemmas.{length-state, begun_has_room}
+use Rattle.suspend_image.proofs.Sheets.WritingLemmas.{length-state, begun_has_room}
 use Rattle.suspend_image.proofs.writing.write_state.Goals as goal
 
 pub begin_state-requires : goal.begin_state-requires

@@ -1,7 +1,7 @@
 use Rattle.std.proofs.Common.{ap, ◌∙◌, get_or}
 use Rattle.suspend_image.specs.Words.{word}
 use Rattle.suspend_image.specs.Sheets.{appended}
-use Rattle.suspend_image.proofs.SpellingLemmas.{none_appended, word_bytes-nil, word_has_room, word_appended}
+use Rattle.suspend_image.proofs.Sheets.SpellingLemmas.{none_appended, word_bytes-nil, word_has_room, word_appended}
 use Rattle.suspend_image.proofs.sheet.Sheet.push_words.Goals as goal
 
 pub loop-number-init : goal.loop-number-init

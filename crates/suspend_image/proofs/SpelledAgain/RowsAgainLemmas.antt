@@ -7,7 +7,7 @@ use Rattle.suspend_image.specs.Words.{word, word_bytes}
 use Rattle.suspend_image.specs.Spelling.{rows_bytes}
 use Rattle.suspend_image.specs.Reading.{Found, word_at, rows_at, items_at}
 use Rattle.suspend_image.specs.Forms.{IsWord, AreInOrder, ArePlaced}
-use Rattle.suspend_image.proofs.WordAgainLemmas.{then_ok, word_again, word_last}
+use Rattle.suspend_image.proofs.SpelledAgain.WordAgainLemmas.{then_ok, word_again, word_last}
 
 -- a row is read again where it stands in order and before so many bytes
 abbrev pub ReadAgain : {A K : Type 0} → (Option K → List ℕ → Found A) → (A → List ℕ) → (Option K → ℕ → A → Type 0) → Type 0

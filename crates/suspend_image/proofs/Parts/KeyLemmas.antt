@@ -50,10 +50,10 @@ any_where_found test good [] x e is = absurd cc
 any_where_found {A = A} test good (y ∷ rows) x e is =
     elim (cases_Bool (test y)) [
       | inl does ↦ (
-        let here : some y ≡ some x = sym (ap (λ (b : Bool). cond b (some y) (find test rows)) does) ∙ e in
-        let passes = subst (λ (z : A). good z ≡ true) (sym (some_same y x here)) is in
-        rw (does, passes) refl
-      )
+          let here : some y ≡ some x = sym (ap (λ (b : Bool). cond b (some y) (find test rows)) does) ∙ e in
+          let passes = subst (λ (z : A). good z ≡ true) (sym (some_same y x here)) is in
+          rw (does, passes) refl
+          )
       | inr doesnt ↦ rw doesnt (any_where_found test good rows x (sym (ap (λ (b : Bool). cond b (some y) (find test rows)) doesnt) ∙ e) is)
     ]
 
@@ -113,13 +113,13 @@ module _ {A K : Type 0} (key : A → K) (test : K → A → Bool) (less : K → 
   any_found good k before (y ∷ rows) forms e =
       elim (cases_Bool (test k y && good y)) [
         | inl does ↦ (
-          let both = and_parts (test k y) (good y) does in
-          (y, ap (λ (b : Bool). cond b (some y) (find (test k) rows)) both.0, both.1)
-        )
+            let both = and_parts (test k y) (good y) does in
+            (y, ap (λ (b : Bool). cond b (some y) (find (test k) rows)) both.0, both.1)
+            )
         | inr doesnt ↦ (
-          let rest = any_found good k (Some (key y)) rows forms.1 (either (test k y && good y) _ doesnt e) in
-          (rest.0, found_behind k y rows rest.0 forms.1 rest.1, rest.2)
-        )
+            let rest = any_found good k (Some (key y)) rows forms.1 (either (test k y && good y) _ doesnt e) in
+            (rest.0, found_behind k y rows rest.0 forms.1 rest.1, rest.2)
+            )
       ]
 
 -- ---- keys of one number and of two

@@ -5,7 +5,7 @@ use Rattle.kernel_args.specs.CheckNumber.{check_number}
 use Rattle.suspend_image.specs.declared.state.State.{State}
 use Rattle.suspend_image.specs.Sheets.{SheetBytes, HasRoom, appended, with_bytes, with_word, begun}
 use Rattle.suspend_image.specs.Spelling.{machine_bytes, proc_bytes, thread_bytes, server_bytes, claim_bytes, page_bytes, orphan_bytes, rows_bytes, parts_bytes, headed, with_header, state_bytes}
-use Rattle.suspend_image.proofs.SpellingLemmas.{first_has_room, second_has_room, both_appended}
+use Rattle.suspend_image.proofs.Sheets.SpellingLemmas.{first_has_room, second_has_room, both_appended}
 
 -- the sheet behind each part
 abbrev pub behind_machine : State → SheetBytes → SheetBytes

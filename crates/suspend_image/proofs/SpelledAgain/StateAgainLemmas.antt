@@ -8,10 +8,10 @@ use Rattle.suspend_image.specs.Reading.{rows_at, items_at}
 use Rattle.suspend_image.specs.Rows.{proc_at, thread_at, thread_key, server_at, server_key, claim_at, claim_key, page_at, page_key, orphan_at, orphan_key}
 use Rattle.suspend_image.specs.StateFaults.{state_at}
 use Rattle.suspend_image.specs.Forms.{IsProcRow, IsThreadRow, IsServerRow, IsClaimRow, IsPageRow, IsOrphanRow, HasForm}
-use Rattle.suspend_image.proofs.WordAgainLemmas.{then_ok}
-use Rattle.suspend_image.proofs.RowsAgainLemmas.{items_again, rows_again, placed, many_read, many_last}
-use Rattle.suspend_image.proofs.RowAgainLemmas.{proc_again, thread_again, server_again, claim_again, numbers_again, timer_again, reserved_again}
-use Rattle.suspend_image.proofs.PageAgainLemmas.{page_again, orphan_again}
+use Rattle.suspend_image.proofs.SpelledAgain.WordAgainLemmas.{then_ok}
+use Rattle.suspend_image.proofs.SpelledAgain.RowsAgainLemmas.{items_again, rows_again, placed, many_read, many_last}
+use Rattle.suspend_image.proofs.SpelledAgain.RowAgainLemmas.{proc_again, thread_again, server_again, claim_again, numbers_again, timer_again, reserved_again}
+use Rattle.suspend_image.proofs.SpelledAgain.PageAgainLemmas.{page_again, orphan_again}
 
 -- as many processes as there are
 procs_again : (file : List ℕ) (s : State) (rest : List ℕ) → HasForm file s → items_at proc_at s.n (flat_map proc_bytes s.procs ++ rest) ≡ Ok (s.procs, rest)

@@ -19,9 +19,9 @@ use Rattle.suspend_image.specs.Reading.{Found, greatest, word_at, rows_at}
 use Rattle.suspend_image.specs.Rows.{numbers_at, timer_at, reserved_at, proc_at, thread_at, thread_key, server_at, server_key, claim_at, claim_key, page_at, page_key, orphan_at, orphan_key}
 use Rattle.suspend_image.specs.StateFaults.{state_at}
 use Rattle.suspend_image.specs.Forms.{IsWithin, IsWord, IsPid, IsTid, IsFlag, IsField, IsProcRow, IsThreadRow, IsServerRow, IsClaimRow, IsPageRow, IsOrphanRow, ArePlaced, HasForm}
-use Rattle.suspend_image.proofs.TakenLemmas.{step, ok_is, IsEnd, Takes, taken_both, Words, no_words, word_taken, in_taken, if_taken, RowTaken, rows_taken, items_taken, in_order}
-use Rattle.suspend_image.proofs.RowTakenLemmas.{proc_taken, thread_taken, server_taken, claim_taken}
-use Rattle.suspend_image.proofs.PageTakenLemmas.{guard_kept, page_taken, orphan_taken}
+use Rattle.suspend_image.proofs.FoundSpelled.TakenLemmas.{step, ok_is, IsEnd, Takes, taken_both, Words, no_words, word_taken, in_taken, if_taken, RowTaken, rows_taken, items_taken, in_order}
+use Rattle.suspend_image.proofs.FoundSpelled.RowTakenLemmas.{proc_taken, thread_taken, server_taken, claim_taken}
+use Rattle.suspend_image.proofs.FoundSpelled.PageTakenLemmas.{guard_kept, page_taken, orphan_taken}
 
 -- ---- the machine
 

@@ -12,8 +12,8 @@ use Rattle.suspend_image.specs.Spelling.{contents_at, page_bytes, orphan_bytes}
 use Rattle.suspend_image.specs.Reading.{greatest}
 use Rattle.suspend_image.specs.Rows.{page_bytes_at, front_word, is_holder_pid, holder_pid_at, page_at, orphan_at}
 use Rattle.suspend_image.specs.Forms.{IsWithin, IsWord, IsField, StandsBefore, IsPageRow, IsOrphanRow}
-use Rattle.suspend_image.proofs.WordAgainLemmas.{then_ok, words_split, word_first, word_last, in_first, if_first, if_last}
-use Rattle.suspend_image.proofs.RowAgainLemmas.{read}
+use Rattle.suspend_image.proofs.SpelledAgain.WordAgainLemmas.{then_ok, words_split, word_first, word_last, in_first, if_first, if_last}
+use Rattle.suspend_image.proofs.SpelledAgain.RowAgainLemmas.{read}
 
 -- ---- the bytes of a page
 

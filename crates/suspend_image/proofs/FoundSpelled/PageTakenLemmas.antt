@@ -9,8 +9,8 @@ use Rattle.suspend_image.specs.Spelling.{contents_at, page_words, orphan_words, 
 use Rattle.suspend_image.specs.Reading.{greatest, word_at, least_first, least_second}
 use Rattle.suspend_image.specs.Rows.{page_bytes_at, front_word, is_holder_pid, holder_pid_at, page_at, orphan_at}
 use Rattle.suspend_image.specs.Forms.{IsWord, IsField, StandsBefore, IsPageRow, IsOrphanRow}
-use Rattle.suspend_image.proofs.PageAgainLemmas.{drop_word, front_again, holder_tells}
-use Rattle.suspend_image.proofs.TakenLemmas.{step, guard_ok, ok_is, IsEnd, Takes, taken, taken_both, Words, no_words, word_taken, in_taken, if_taken}
+use Rattle.suspend_image.proofs.SpelledAgain.PageAgainLemmas.{drop_word, front_again, holder_tells}
+use Rattle.suspend_image.proofs.FoundSpelled.TakenLemmas.{step, guard_ok, ok_is, IsEnd, Takes, taken, taken_both, Words, no_words, word_taken, in_taken, if_taken}
 
 -- ---- the bytes of a page
 

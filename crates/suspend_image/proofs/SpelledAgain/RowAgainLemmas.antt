@@ -16,8 +16,8 @@ use Rattle.suspend_image.specs.Spelling.{timer_words, reserved_words, machine_by
 use Rattle.suspend_image.specs.Reading.{Found, greatest, word_at, word_in, items_at}
 use Rattle.suspend_image.specs.Rows.{numbers_at, timer_at, reserved_at, proc_at, waits_at, thread_at, sender_pid_at, message_at, server_at, claim_at}
 use Rattle.suspend_image.specs.Forms.{IsWithin, IsWord, IsField, waits_bounds, IsProcRow, IsThreadRow, IsMessageRow, IsServerRow, IsClaimRow, HasForm}
-use Rattle.suspend_image.proofs.WordAgainLemmas.{then_ok, word_first, word_last, in_first, if_first, four_first, words_end}
-use Rattle.suspend_image.proofs.RowsAgainLemmas.{words_again, items_again}
+use Rattle.suspend_image.proofs.SpelledAgain.WordAgainLemmas.{then_ok, word_first, word_last, in_first, if_first, four_first, words_end}
+use Rattle.suspend_image.proofs.SpelledAgain.RowsAgainLemmas.{words_again, items_again}
 
 -- what was read, before the bytes that are left
 abbrev pub read : {A : Type 0} → A → List ℕ → Found A

@@ -13,7 +13,7 @@ use Rattle.suspend_image.specs.Spelling.{proc_bytes, thread_bytes, message_bytes
 use Rattle.suspend_image.specs.Reading.{greatest, word_at, word_in, after, least_first, least_second}
 use Rattle.suspend_image.specs.Rows.{proc_at, waits_at, thread_at, sender_pid_at, message_at, server_at, claim_at}
 use Rattle.suspend_image.specs.Forms.{IsWithin, IsWord, IsField, IsProcRow, IsThreadRow, IsMessageRow, IsServerRow, IsClaimRow, waits_bounds}
-use Rattle.suspend_image.proofs.TakenLemmas.{step, guard_ok, neither, ok_is, IsEnd, Takes, taken_both, Words, no_words, word_taken, in_taken, if_taken, four_taken, many_taken, items_taken}
+use Rattle.suspend_image.proofs.FoundSpelled.TakenLemmas.{step, guard_ok, neither, ok_is, IsEnd, Takes, taken_both, Words, no_words, word_taken, in_taken, if_taken, four_taken, many_taken, items_taken}
 
 -- ---- a claim
 
