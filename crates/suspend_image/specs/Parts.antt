@@ -1,8 +1,8 @@
 -- Parts of the invariant of the machine, as far as the rows of one kind decide them.
-use Rattle.std.specs.Prelude.{◌≡◌, ℕ, ◌%◌, ◌≤◌, ◌==◌, ◌&&◌, ◌||◌, not, nat_le, nat_lt, Bool, List, length, Option, Some, None}
+use Rattle.std.specs.Prelude.{◌≡◌, ℕ, ◌%◌, ◌≤◌, ◌==◌, ◌&&◌, ◌||◌, not, nat_le, nat_lt, Bool, IsFalse, List, [], length, Option, Some, None}
 use Rattle.std.specs.List.{list_any}
 use Rattle.xk_base.specs.declared.ids.Pid.{Pid}
-use Rattle.xk_base.specs.declared.limits.TheConstants.{PAGE_SIZE}
+use Rattle.xk_base.specs.declared.limits.TheConstants.{PAGE_SIZE, CONNECTION_LIMIT}
 use Rattle.xk_base.specs.declared.ids.ThreadId.{ThreadId}
 use Rattle.xk_base.specs.Tables.Circle.{is_thread_id}
 use Rattle.machine_model.specs.State.Machine.{Process, Thread, Idle}
@@ -51,6 +51,20 @@ is_claim_living procs c = nat_lt c.number 32 && (processes_of procs c.pid).alive
 pub record AreThreadsRight (threads : ThreadId → Option Thread) : Type 0 where
   pub pcs : (id : ThreadId) (t : Thread) → threads id ≡ Some t → t.pc % 4 ≡ 0
   pub idle : (id : ThreadId) (t : Thread) → threads id ≡ Some t → t.state ≡ Idle → id.tid.0 ≡ 1
+
+-- its heap is of whole pages, up to 16 MiB
+abbrev pub is_heap_whole : ProcRow → Bool
+is_heap_whole p = p.heap % 4096 == 0 && nat_le p.heap 16777216
+
+-- it has at most 32 connections, and neither a connection nor a heap where it is dead
+abbrev pub is_within_limits : ProcRow → Bool
+is_within_limits p = nat_le (length p.serials) 32 && (p.alive == 1 || (p.heap == 0 && length p.serials == 0))
+
+-- part 8 of processes, each for itself
+pub record AreProcessesLimited (process : ℕ → Process) : Type 0 where
+  pub connections : (pid : Pid) → length (process pid.0).connections ≤ CONNECTION_LIMIT
+  pub no_connection : (pid : Pid) → IsFalse (process pid.0).alive → (process pid.0).connections ≡ []
+  pub no_heap : (pid : Pid) → IsFalse (process pid.0).alive → (process pid.0).heap ≡ 0
 
 -- heaps are whole pages up to 16 MiB: part 7 without the pages
 pub record AreHeapsWhole (process : ℕ → Process) : Type 0 where

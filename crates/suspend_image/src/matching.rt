@@ -1,15 +1,15 @@
 //! Whether the machine can be in a state that was read: parts of its invariant, each told from the
 //! rows.
 
-ghost use Rattle.std.specs.Prelude.{◌≡◌, ◌↔◌, ◌==◌, ◌%◌, ◌&&◌, nat_le, IsTrue};
+ghost use Rattle.std.specs.Prelude.{◌≡◌, ◌↔◌, ◌==◌, ◌%◌, ◌&&◌, IsTrue};
 ghost use Rattle.std.specs.List.{list_any, list_all};
 ghost use Rattle.machine_model.specs.Runs.Matched.{AreReceiversMatched, AreJoinersMatched, AreThreadIdsMatched, AreClaimsMatched, AreNextStepped, AreHandlersMatched, IsTimerMatched};
 ghost use Rattle.suspend_image.specs.Rows.{thread_key, server_key, claim_key};
 ghost use Rattle.suspend_image.specs.Machines.{threads_of, servers_of, claims_of, pending_of, processes_of, compare_of};
-ghost use Rattle.suspend_image.specs.Parts.{Ascend, AscendInTwo, is_awaited as is_awaited_of, awaits_server as awaits_server_of, joins_another as joins_another_of, is_thread_living as is_thread_living_of, is_thread_right, is_claim_living as is_claim_living_of, AreThreadsRight, AreHeapsWhole};
+ghost use Rattle.suspend_image.specs.Parts.{Ascend, AscendInTwo, is_awaited as is_awaited_of, awaits_server as awaits_server_of, joins_another as joins_another_of, is_thread_living as is_thread_living_of, is_thread_right, is_claim_living as is_claim_living_of, is_heap_whole, is_within_limits as is_within_limits_of, AreThreadsRight, AreHeapsWhole, AreProcessesLimited};
 
 use crate::state::{ClaimRow, ProcRow, ServerRow, State, ThreadRow};
-use xk_base::limits::{INTERRUPT_LIMIT, PAGE_SIZE, TID_LIMIT, TIMER_INTERRUPT};
+use xk_base::limits::{CONNECTION_LIMIT, INTERRUPT_LIMIT, PAGE_SIZE, TID_LIMIT, TIMER_INTERRUPT};
 
 /// The number of the state Receiving.
 const RECEIVING: u32 = 1;
@@ -39,7 +39,7 @@ fn are_handlers_whole(claims: &[ClaimRow]) -> bool
 
 /// Whether each heap is of whole pages, up to 16 MiB.
 fn are_heaps_whole(procs: &[ProcRow]) -> bool
-    ensures { result ≡ list_all (λ p. p.heap % 4096 == 0 && nat_le p.heap 16777216) procs.now }
+    ensures { result ≡ list_all is_heap_whole procs.now }
 {
     procs.iter().all(|process| process.heap % PAGE_SIZE == 0 && process.heap <= HEAP_LIMIT)
 }
@@ -171,6 +171,28 @@ pub fn are_threads_right(threads: &[ThreadRow]) -> bool
     ensures { IsTrue result ↔ AreThreadsRight (threads_of threads.now) }
 {
     all_threads_right(threads)
+}
+
+fn is_within_limits(process: &ProcRow) -> bool
+    ensures { result ≡ is_within_limits_of process.now }
+{
+    let connections = process.serials.as_slice().len();
+    connections <= CONNECTION_LIMIT as usize
+        && (process.alive == 1 || (process.heap == 0 && connections == 0))
+}
+
+fn all_within_limits(procs: &[ProcRow]) -> bool
+    ensures { result ≡ list_all is_within_limits_of procs.now }
+{
+    procs.iter().all(|process| is_within_limits(process))
+}
+
+/// Part 8, of the processes, each for itself: at most 32 connections, and neither a connection nor a
+/// heap of a dead one.
+pub fn are_processes_limited(procs: &[ProcRow]) -> bool
+    ensures { IsTrue result ↔ AreProcessesLimited (processes_of procs.now) }
+{
+    all_within_limits(procs)
 }
 
 /// Part 8, of the threads: each has an id that there may be, and is of a living process.

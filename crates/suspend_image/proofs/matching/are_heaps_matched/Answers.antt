@@ -1,4 +1,4 @@
-use Rattle.suspend_image.proofs.Parts.HeapLemmas.{heaps_told}
+use Rattle.suspend_image.proofs.Parts.ProcessLemmas.{heaps_told}
 use Rattle.suspend_image.proofs.matching.are_heaps_matched.Goals as goal
 
 pub returns : goal.returns
