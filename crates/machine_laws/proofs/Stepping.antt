@@ -1,6 +1,5 @@
+pub mod CallNumberLemmas
 pub mod CursorStepLemmas
 pub mod EveryStepLemmas
-pub mod PlainServerLemmas
-pub mod PlainStepLemmas
 pub mod StepCaseLemmas
 pub mod StepKindLemmas

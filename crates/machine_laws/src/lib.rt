@@ -10,7 +10,6 @@ mod instruction_laws;
 mod irq_laws;
 mod memory_laws;
 mod message_laws;
-mod plain_laws;
 mod receive_laws;
 mod send_laws;
 mod server_laws;
@@ -42,7 +41,6 @@ pub use memory_laws::{
     unmap_keeps_matched, update_keeps_matched,
 };
 pub use message_laws::return_memory_keeps_matched;
-pub use plain_laws::{kill_leaves_no_servers, no_loans_without_servers, plain_step_keeps_matched};
 pub use receive_laws::{receive_message_keeps_matched, try_receive_message_keeps_matched};
 pub use send_laws::{send_message_keeps_matched, try_send_message_keeps_matched};
 pub use server_laws::{
@@ -51,7 +49,6 @@ pub use server_laws::{
 };
 pub use step_laws::{
     all_keep_cursor, all_keep_matched, calls_keep_matched, runs_stay_matched, step_keeps_matched,
-    step_keeps_matched_by_cases, steps_keep_matched_where_calls_do,
 };
 pub use thread_end_laws::{end_of_handler_keeps_matched, end_of_thread_keeps_matched};
 pub use thread_laws::{

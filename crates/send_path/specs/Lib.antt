@@ -1,6 +1,7 @@
 pub mod Arrivals
 pub mod Forwarding
 pub mod Parts
+pub mod Returning
 pub mod Rows
 pub mod Seats
 pub mod Sending

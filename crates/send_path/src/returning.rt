@@ -6,7 +6,9 @@ ghost use Rattle.thread_table.specs.ThreadMap.{is_ready};
 ghost use Rattle.thread_table.specs.ThreadsOf.{threads_of};
 ghost use Rattle.xk_base.specs.Calls.CallNumbers.{return_memory as memory_number, return_scalar1 as scalar1_number, return_scalar2 as scalar2_number};
 ghost use Rattle.xk_base.specs.Calls.CallWords.{call_number};
+ghost use Rattle.machine_model.specs.State.Machine.{Machine};
 ghost use Rattle.send_path.specs.Parts.{parts_of};
+ghost use Rattle.send_path.specs.Returning.{given_row};
 ghost use Rattle.send_path.specs.Rows.{IsRow, memory_row, scalar_row, table_row};
 ghost use Rattle.send_path.specs.Sound.{IsSound, KeepsMemory};
 
@@ -21,13 +23,20 @@ use xk_base::{Log, Number, ThreadId, XousError};
 use xk_ports::SwapStore;
 
 /// The pages that a server gives back, and what it leaves in the words offset and valid.
-#[derive(Clone, Copy, Debug, PartialEq, Eq)]
+#[derive(Clone, Copy, Debug)]
 struct Returned {
     number: Number,
     address: u32,
     size: u32,
     offset: u32,
     valid: u32,
+}
+
+/// What a server gives back: the pages of a lend, or the answer to a blocking scalar.
+#[derive(Clone, Copy, Debug)]
+enum GivenBack {
+    Pages(Returned),
+    Values(Number, Reply),
 }
 
 /// A thread gives back a message that a server of its process holds: the loan ends, the sender is
@@ -53,6 +62,21 @@ pub fn give_back<W: SwapStore>(
     ensures sound { IsSound W.slot_count W.held who (parts_of mem.new threads.new servers.now queues.new log.new) }
     ensures mem { KeepsMemory W.is_honest W.held mem.old mem.new }
 {
+    match given_back(words) {
+        GivenBack::Pages(returned) => {
+            return_memory(mem, threads, servers, queues, log, who, returned)
+        }
+        GivenBack::Values(number, reply) => {
+            return_scalar(mem, threads, servers, queues, log, who, number, reply)
+        }
+    }
+}
+
+// What the words of a return give back.
+fn given_back(words: [u32; 8]) -> GivenBack
+    requires { (call_number words == memory_number || call_number words == scalar1_number || call_number words == scalar2_number) ≡ true }
+    ensures { (m : Machine) → table_row words m ≡ given_row result m }
+{
     match read_call(words) {
         Ok(
             Call::ReturnMemory {
@@ -62,28 +86,15 @@ pub fn give_back<W: SwapStore>(
                 offset,
                 valid,
             },
-        ) => {
-            let returned = Returned {
-                number: Number(token),
-                address,
-                size,
-                offset,
-                valid,
-            };
-            return_memory(mem, threads, servers, queues, log, who, returned)
-        }
+        ) => GivenBack::Pages(Returned {
+            number: Number(token),
+            address,
+            size,
+            offset,
+            valid,
+        }),
         Ok(Call::ReturnScalar1 { token, value }) => {
-            let reply = Reply::Scalar1(value);
-            return_scalar(
-                mem,
-                threads,
-                servers,
-                queues,
-                log,
-                who,
-                Number(token),
-                reply,
-            )
+            GivenBack::Values(Number(token), Reply::Scalar1(value))
         }
         Ok(
             Call::ReturnScalar2 {
@@ -91,19 +102,7 @@ pub fn give_back<W: SwapStore>(
                 value1,
                 value2,
             },
-        ) => {
-            let reply = Reply::Scalar2(value1, value2);
-            return_scalar(
-                mem,
-                threads,
-                servers,
-                queues,
-                log,
-                who,
-                Number(token),
-                reply,
-            )
-        }
+        ) => GivenBack::Values(Number(token), Reply::Scalar2(value1, value2)),
         _ => unreachable!(),
     }
 }

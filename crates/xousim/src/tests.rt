@@ -1,12 +1,17 @@
 //! The program over files and streams in memory, and each real adapter once.
 
 mod atomics;
+mod forwards;
 mod image;
 mod interrupts;
+mod lends;
 mod lines;
 mod memory_calls;
 mod processes;
+mod programs;
+mod scalars;
 mod servers;
+mod timer;
 
 use crate::adapters::{ErrSink, FileHost, StdSink};
 use crate::status::{Ended, Status};
@@ -85,7 +90,7 @@ fn trace_in_pieces(
     files.push((String::from_str(alloc, "i")?, image.to_vec(alloc)?))?;
     files.push((String::from_str(alloc, "e")?, events.to_vec(alloc)?))?;
     let mut host = MemHost::new(alloc, files, piece.max(1), host_fails.to_vec(alloc)?, 100)?;
-    let mut out = MemSink::new(alloc, 2000, out_fails.to_vec(alloc)?)?;
+    let mut out = MemSink::new(alloc, 50_000, out_fails.to_vec(alloc)?)?;
     let mut notes = MemSink::new(alloc, 100, Vec::new(alloc))?;
     let words = words(alloc, &["trace", "i", "e"])?;
     let store = MemStore::new(Vec::new(alloc));
@@ -182,15 +187,14 @@ fn damage_in_an_unused_part(rt: HostRuntime) -> Result<(), Fail> {
     Ok(())
 }
 
-/// A process asks for its pid, and then claims the timer's interrupt.
+/// A process asks for its pid, and then destroys a server.
 #[test]
 fn what_is_not_built(rt: HostRuntime) -> Result<(), Fail> {
     let alloc = rt.alloc();
     let code = [
         0x02B0_0513, // a0 = 43, GetProcessId
         0x0000_0073, // call
-        0x0050_0513, // a0 = 5, ClaimInterrupt
-        0x0140_0593, // a1 = 20
+        0x0290_0513, // a0 = 41, DestroyServer
         0x0000_0073, // call
     ];
     let one = image::image(alloc, 1, &code)?;

@@ -54,7 +54,7 @@ use Rattle.machine_model.proofs.State.CursorLemmas.{all_keep_cursor}
 use Rattle.machine_model.proofs.StepLemmas.{no_step}
 use Rattle.machine_model.proofs.Runs.TimerLemmas.{timed_raised}
 use Rattle.machine_laws.proofs.Stepping.EveryStepLemmas.{every_step_keeps, turned_list}
-use Rattle.machine_laws.proofs.Stepping.PlainServerLemmas.{in_list, outside_refused}
+use Rattle.machine_laws.proofs.Stepping.CallNumberLemmas.{in_list, outside_refused}
 use Rattle.machine_laws.proofs.Threading.ThreadAnswerLemmas.{IsReadyThread, ready_thread}
 use Rattle.machine_laws.proofs.Threading.ThreadStepLemmas.{actor_ready, step_of_actor, turned_to}
 

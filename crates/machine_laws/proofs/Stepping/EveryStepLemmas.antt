@@ -28,7 +28,7 @@ use Rattle.machine_laws.proofs.Sending.SendStepLemmas.{send_step, try_send_step}
 use Rattle.machine_laws.proofs.Serving.ConnectCallLemmas.{connect_step, try_connect_step}
 use Rattle.machine_laws.proofs.Serving.CreateServerLemmas.{create_server_step}
 use Rattle.machine_laws.proofs.Serving.DestroyCallLemmas.{destroy_step}
-use Rattle.machine_laws.proofs.Stepping.PlainServerLemmas.{in_list, outside_refused}
+use Rattle.machine_laws.proofs.Stepping.CallNumberLemmas.{in_list, outside_refused}
 use Rattle.machine_laws.proofs.Stepping.StepCaseLemmas.{CallsKeep, steps_keep}
 use Rattle.machine_laws.proofs.Threading.ThreadStepLemmas.{turned_to}
 
