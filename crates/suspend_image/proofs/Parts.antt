@@ -5,4 +5,5 @@ pub mod JoiningLemmas
 pub mod KeyLemmas
 pub mod ProcessLemmas
 pub mod ReceivingLemmas
+pub mod ServedLemmas
 pub mod ThreadLemmas

@@ -1,5 +1,5 @@
 -- Parts of the invariant of the machine, as far as the rows of one kind decide them.
-use Rattle.std.specs.Prelude.{◌≡◌, ℕ, ◌%◌, ◌≤◌, ◌==◌, ◌&&◌, ◌||◌, not, nat_le, nat_lt, Bool, IsFalse, List, [], length, Option, Some, None}
+use Rattle.std.specs.Prelude.{◌≡◌, ℕ, ◌%◌, ◌≤◌, ◌==◌, ◌&&◌, ◌||◌, not, nat_le, nat_lt, Bool, IsTrue, IsFalse, List, [], length, Option, Some, None}
 use Rattle.std.specs.List.{list_any}
 use Rattle.xk_base.specs.declared.ids.Pid.{Pid}
 use Rattle.xk_base.specs.declared.limits.TheConstants.{PAGE_SIZE, CONNECTION_LIMIT}
@@ -7,6 +7,7 @@ use Rattle.xk_base.specs.declared.ids.ThreadId.{ThreadId}
 use Rattle.xk_base.specs.Tables.Circle.{is_thread_id}
 use Rattle.machine_model.specs.State.Machine.{Process, Thread, Idle}
 use Rattle.machine_model.specs.Calling.MemoryCalls.{heap_limit}
+use Rattle.machine_model.specs.Runs.Matched.{is_alive, HasHandlerThread, HasThreadAbove}
 use Rattle.suspend_image.specs.declared.state.ProcRow.{ProcRow}
 use Rattle.suspend_image.specs.declared.state.ThreadRow.{ThreadRow}
 use Rattle.suspend_image.specs.declared.state.ServerRow.{ServerRow}
@@ -51,6 +52,21 @@ is_claim_living procs c = nat_lt c.number 32 && (processes_of procs c.pid).alive
 pub record AreThreadsRight (threads : ThreadId → Option Thread) : Type 0 where
   pub pcs : (id : ThreadId) (t : Thread) → threads id ≡ Some t → t.pc % 4 ≡ 0
   pub idle : (id : ThreadId) (t : Thread) → threads id ≡ Some t → t.state ≡ Idle → id.tid.0 ≡ 1
+
+-- the process has a tid 1 that is Ready or Idle, and a thread above
+abbrev pub has_threads : List ThreadRow → ℕ → Bool
+has_threads rows pid =
+    list_any (λ t. (t.pid == pid && t.tid == 1) && (t.state == 0 || not (nat_lt t.state 4))) rows
+    && list_any (λ t. t.pid == pid && nat_le 2 t.tid) rows
+
+-- .. where it is alive
+abbrev pub is_served : List ProcRow → List ThreadRow → ℕ → Bool
+is_served procs rows pid = not (processes_of procs pid).alive || has_threads rows pid
+
+-- part 6 of living processes
+pub record AreLivingServed (process : ℕ → Process) (threads : ThreadId → Option Thread) : Type 0 where
+  pub handler : (pid : Pid) → IsTrue (is_alive process pid) → HasHandlerThread threads pid
+  pub above : (pid : Pid) → IsTrue (is_alive process pid) → HasThreadAbove threads pid
 
 -- its heap is of whole pages, up to 16 MiB
 abbrev pub is_heap_whole : ProcRow → Bool

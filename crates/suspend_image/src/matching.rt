@@ -1,12 +1,12 @@
 //! Whether the machine can be in a state that was read: parts of its invariant, each told from the
 //! rows.
 
-ghost use Rattle.std.specs.Prelude.{◌≡◌, ◌↔◌, ◌==◌, ◌%◌, ◌&&◌, IsTrue};
+ghost use Rattle.std.specs.Prelude.{◌≡◌, ◌↔◌, ◌==◌, ◌%◌, ◌&&◌, ◌||◌, ◌≤◌, not, nat_lt, nat_le, length, IsTrue};
 ghost use Rattle.std.specs.List.{list_any, list_all};
 ghost use Rattle.machine_model.specs.Runs.Matched.{AreReceiversMatched, AreJoinersMatched, AreThreadIdsMatched, AreClaimsMatched, AreNextStepped, AreHandlersMatched, IsTimerMatched};
 ghost use Rattle.suspend_image.specs.Rows.{thread_key, server_key, claim_key};
 ghost use Rattle.suspend_image.specs.Machines.{threads_of, servers_of, claims_of, pending_of, processes_of, compare_of};
-ghost use Rattle.suspend_image.specs.Parts.{Ascend, AscendInTwo, is_awaited as is_awaited_of, awaits_server as awaits_server_of, joins_another as joins_another_of, is_thread_living as is_thread_living_of, is_thread_right, is_claim_living as is_claim_living_of, is_heap_whole, is_within_limits as is_within_limits_of, AreThreadsRight, AreHeapsWhole, AreProcessesLimited};
+ghost use Rattle.suspend_image.specs.Parts.{has_threads as has_threads_of, is_served as is_served_of, AreLivingServed, Ascend, AscendInTwo, is_awaited as is_awaited_of, awaits_server as awaits_server_of, joins_another as joins_another_of, is_thread_living as is_thread_living_of, is_thread_right, is_claim_living as is_claim_living_of, is_heap_whole, is_within_limits as is_within_limits_of, AreThreadsRight, AreHeapsWhole, AreProcessesLimited};
 
 use crate::state::{ClaimRow, ProcRow, ServerRow, State, ThreadRow};
 use xk_base::limits::{CONNECTION_LIMIT, INTERRUPT_LIMIT, PAGE_SIZE, TID_LIMIT, TIMER_INTERRUPT};
@@ -193,6 +193,46 @@ pub fn are_processes_limited(procs: &[ProcRow]) -> bool
     ensures { IsTrue result ↔ AreProcessesLimited (processes_of procs.now) }
 {
     all_within_limits(procs)
+}
+
+/// Whether a process has a tid 1 that is Ready or Idle, and a thread above.
+fn has_threads(threads: &[ThreadRow], pid: u32) -> bool
+    ensures { result ≡ has_threads_of threads.now pid }
+{
+    has_handler_thread(threads, pid) && has_thread_above(threads, pid)
+}
+
+fn has_handler_thread(threads: &[ThreadRow], pid: u32) -> bool
+    ensures { result ≡ list_any (λ t. (t.pid == pid && t.tid == 1) && (t.state == 0 || not (nat_lt t.state 4))) threads.now }
+{
+    threads.iter().any(|t| t.pid == pid && t.tid == 1 && (t.state == 0 || IDLE <= t.state))
+}
+
+fn has_thread_above(threads: &[ThreadRow], pid: u32) -> bool
+    ensures { result ≡ list_any (λ t. t.pid == pid && nat_le 2 t.tid) threads.now }
+{
+    threads.iter().any(|t| t.pid == pid && 2 <= t.tid)
+}
+
+/// Whether a process, if it is alive, has those threads.
+fn is_served(procs: &[ProcRow], threads: &[ThreadRow], pid: u32) -> bool
+    ensures { result ≡ is_served_of procs.now threads.now pid }
+{
+    !is_alive(procs, pid) || has_threads(threads, pid)
+}
+
+/// Part 6, of the processes: a living one has a tid 1 that is Ready or Idle, and a thread above.
+pub fn are_living_served(procs: &[ProcRow], threads: &[ThreadRow]) -> bool
+    requires few { length procs.now ≤ 64 }
+    requires threads { AscendInTwo thread_key threads.now }
+    ensures { IsTrue result ↔ AreLivingServed (processes_of procs.now) (threads_of threads.now) }
+{
+    for i in 0..procs.len() {
+        if !is_served(procs, threads, i as u32 + 2) {
+            return false;
+        }
+    }
+    true
 }
 
 /// Part 8, of the threads: each has an id that there may be, and is of a living process.

@@ -23,7 +23,7 @@ idle_by false false false true waits e = absurd cc
 idle_by false false false false waits e = (refl, refl, refl, refl)
 
 -- 4 and above
-idle_high : (state waits : ℕ) → thread_state state waits ≡ Idle → ltb state 4 ≡ false
+pub idle_high : (state waits : ℕ) → thread_state state waits ≡ Idle → ltb state 4 ≡ false
 idle_high state waits e =
     let none = idle_by (eqb state 0) (eqb state 1) (eqb state 2) (eqb state 3) waits e in
     let n0 = eqb-false state 0 none.0 in
@@ -32,7 +32,7 @@ idle_high state waits e =
     let n3 = eqb-false state 3 none.3 in
     le-ltb _ _ (omega (arith, n0, n1, n2, n3))
 
-high_idle : (state waits : ℕ) → ltb state 4 ≡ false → thread_state state waits ≡ Idle
+pub high_idle : (state waits : ℕ) → ltb state 4 ≡ false → thread_state state waits ≡ Idle
 high_idle state waits high =
     let low = ltb-false state 4 high in
     let n0 : eqb state 0 ≡ false = ne_eqb state 0 (λ same. omega arith) in

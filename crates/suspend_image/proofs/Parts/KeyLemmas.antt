@@ -57,6 +57,24 @@ any_where_found {A = A} test good (y ∷ rows) x e is =
       | inr doesnt ↦ rw doesnt (any_where_found test good rows x (sym (ap (λ (b : Bool). cond b (some y) (find test rows)) doesnt) ∙ e) is)
     ]
 
+pub any_of_found : {A : Type 0} (test good : A → Bool) (rows : List A) (x : A) → find test rows ≡ Some x → good x ≡ true → list_any good rows ≡ true
+any_of_found test good [] x e is = absurd cc
+any_of_found {A = A} test good (y ∷ rows) x e is =
+    elim (cases_Bool (test y)) [
+      | inl does ↦ (
+          let here : some y ≡ some x = sym (ap (λ (b : Bool). cond b (some y) (find test rows)) does) ∙ e in
+          let passes = subst (λ (z : A). good z ≡ true) (sym (some_same y x here)) is in
+          rw passes refl
+          )
+      | inr doesnt ↦ (
+          let rest = any_of_found test good rows x (sym (ap (λ (b : Bool). cond b (some y) (find test rows)) doesnt) ∙ e) is in
+          elim (cases_Bool (good y)) [
+            | inl first ↦ rw first refl
+            | inr other ↦ rw (other, rest) refl
+          ]
+          )
+    ]
+
 -- ---- rows by their places
 
 pub passes_at : {A : Type 0} (good : A → Bool) (d : A) (rows : List A) (i : ℕ) → list_all good rows ≡ true → good d ≡ true → good (get_or rows i d) ≡ true
@@ -119,6 +137,19 @@ module _ {A K : Type 0} (key : A → K) (test : K → A → Bool) (less : K → 
         | inr doesnt ↦ (
             let rest = any_found good k (Some (key y)) rows forms.1 (either (test k y && good y) _ doesnt e) in
             (rest.0, found_behind k y rows rest.0 forms.1 rest.1, rest.2)
+            )
+      ]
+
+  -- where some row passes a test, one is there by its own key
+  pub any_own : (good : A → Bool) (before : Option K) (rows : List A) → AreInOrder form key before rows → list_any good rows ≡ true
+      → (x : A) × (find (test (key x)) rows ≡ Some x) × (good x ≡ true)
+  any_own good before [] forms e = absurd cc
+  any_own good before (y ∷ rows) forms e =
+      elim (cases_Bool (good y)) [
+        | inl does ↦ (y, found_first y rows, does)
+        | inr doesnt ↦ (
+            let rest = any_own good (Some (key y)) rows forms.1 (either (good y) _ doesnt e) in
+            (rest.0, found_behind (key rest.0) y rows rest.0 forms.1 rest.1, rest.2)
             )
       ]
 

@@ -13,7 +13,7 @@ use Rattle.suspend_image.specs.Machines.{thread_at_id, thread_of, threads_of}
 use Rattle.suspend_image.specs.Parts.{AscendInTwo}
 use Rattle.suspend_image.proofs.Parts.KeyLemmas.{some, some_same, mapped, found_passes, all_pass, Less, pair_is, pair_own, less_apart, less_through, less_behind}
 
-abbrev ThreadForm : Option (ℕ × ℕ) → ThreadRow → Type 0
+abbrev pub ThreadForm : Option (ℕ × ℕ) → ThreadRow → Type 0
 ThreadForm before t = (least_first 0 before ≤ (thread_key t).0) × (least_second 0 before (thread_key t).0 ≤ (thread_key t).1)
 
 abbrev pub is_thread : ℕ × ℕ → ThreadRow → Bool
