@@ -3,6 +3,7 @@ pub mod ClaimLemmas
 pub mod EachThreadLemmas
 pub mod JoiningLemmas
 pub mod KeyLemmas
+pub mod OrderLemmas
 pub mod ProcessLemmas
 pub mod ReceivingLemmas
 pub mod ServedLemmas
