@@ -1,3 +1,4 @@
 pub mod BootLemmas
+pub mod FirstLawfulLemmas
 pub mod FirstLedgerLemmas
 pub mod StartLemmas

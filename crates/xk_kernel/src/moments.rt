@@ -1,6 +1,8 @@
 //! Laws of the moments that a history goes through. Whatever holds of each run holds so of each history.
 
-ghost use Rattle.std.specs.Prelude.{ℕ, ◌≡◌, List, [], ◌++◌, length, if◌then◌else◌, IsTrue};
+ghost use Rattle.std.specs.Prelude.{ℕ, ◌≡◌, All, List, [], ◌++◌, length, if◌then◌else◌, IsTrue};
+ghost use Rattle.boot_plan.specs.Lawful.{CanStart, IsLawfulPlan};
+ghost use Rattle.boot_plan.specs.declared.plans.BootPlan.{BootPlan};
 ghost use Rattle.event_text.specs.declared.event.Event.{Event};
 ghost use Rattle.xk_base.specs.Tables.Circle.{is_thread_id};
 ghost use Rattle.machine_model.specs.State.Machine.{Machine};
@@ -8,6 +10,7 @@ ghost use Rattle.machine_model.specs.Runs.Matched.{Matched};
 ghost use Rattle.machine_model.specs.Runs.Moments.{IsRun, state_at};
 ghost use Rattle.xk_kernel.specs.History.{history};
 ghost use Rattle.xk_kernel.specs.HistoryMoments.{moments_of};
+ghost use Rattle.xk_kernel.specs.Start.{start};
 
 /// The moments of a history are a run from its start.
 #[tactic(auto, using(crate::proofs::Running::MomentLemmas::history_is_run))]
@@ -28,6 +31,11 @@ pub fn moments_follow_each_other()
     ensures { (before after : List Event) (limit : ℕ) (m : Machine)
         → moments_of (before ++ after) limit m
         ≡ moments_of before limit m ++ (if (history before limit m).met then [] else moments_of after limit (history before limit m).machine) }
+{}
+
+/// The start of a lawful plan, whose processes can start, is matched.
+pub fn start_of_a_plan_is_matched()
+    ensures { (plan : BootPlan) (file : List ℕ) → IsLawfulPlan (length file) plan → All CanStart plan.procs → Matched (start plan file) }
 {}
 
 /// Every moment of a history from a matched state is matched.

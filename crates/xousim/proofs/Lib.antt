@@ -1,6 +1,6 @@
 pub mod HistoryLemmas
 pub mod KeptLemmas
-pub mod KernelHistoryLemmas
+pub mod MatchedLemmas
 pub mod PlayingLemmas
 pub mod ReadingLemmas
 pub mod ToldLemmas

@@ -4,7 +4,8 @@ use Rattle.std.proofs.lemmas.List.{take-append-drop}
 use Rattle.xk_base.specs.declared.errors.Failed.{Failed}
 use Rattle.xk_ports.specs.Told.{Grows}
 use Rattle.xk_ports.proofs.ToldLemmas.{Grows-none}
-use Rattle.trace_text.specs.Lines.{text_of}
+use Rattle.xousim.specs.declared.command.Telling.{Telling}
+use Rattle.xousim.specs.Telling.{told}
 use Rattle.machine_model.specs.State.Machine.{Machine}
 use Rattle.event_text.specs.declared.event.Event.{Event}
 use Rattle.event_text.specs.declared.event.NextEvent.{NextEvent}
@@ -25,10 +26,10 @@ use Rattle.xousim.proofs.HistoryLemmas.{history_none, history_first, history_sto
 
 -- ---- the start
 
-start_with : (limit : ℕ) (start : Machine) (out : Option (List ℕ)) (h : History) → h ≡ ended Played start
-    → (h.ending ≡ Played) × (h.machine ≡ start) × Grows out out (text_of h.records)
-start_with limit start out h is =
-    let P : History → Type 0 = λ x. (x.ending ≡ Played) × (x.machine ≡ start) × Grows out out (text_of x.records) in
+start_with : (tells : Telling) (limit : ℕ) (start : Machine) (out : Option (List ℕ)) (h : History) → h ≡ ended Played start
+    → (h.ending ≡ Played) × (h.machine ≡ start) × Grows out out (told tells h.records)
+start_with tells limit start out h is =
+    let P : History → Type 0 = λ x. (x.ending ≡ Played) × (x.machine ≡ start) × Grows out out (told tells x.records) in
     subst P (sym is) (refl, refl, Grows-none out)
 
 new_is : (play_of []).reader ≡ new_reader
@@ -44,10 +45,10 @@ unfolding play_of
 new_answered = refl
 
 -- nothing was played yet
-pub played_none : (limit : ℕ) (start : Machine) (out : Option (List ℕ)) → HasPlayed limit start out [] new_reader start out
-played_none limit start out =
+pub played_none : (tells : Telling) (limit : ℕ) (start : Machine) (out : Option (List ℕ)) → HasPlayed tells limit start out [] new_reader start out
+played_none tells limit start out =
     let is : history (play_of []).answered limit start ≡ ended Played start = ap (λ (events : List Event). history events limit start) new_answered ∙ history_none Played limit start in
-    let all = start_with limit start out (history (play_of []).answered limit start) is in
+    let all = start_with tells limit start out (history (play_of []).answered limit start) is in
     record { calls = []; is_reader = new_is; took = new_took; played = all.0; there = all.1; written = all.2 }
 
 -- ---- bytes, and the end
@@ -58,13 +59,13 @@ unfolding play_of
 took_bytes bytes calls unsaid = ap (λ (f : Bool). after_bytes f bytes (play_of calls)) unsaid
 
 -- the reader took more bytes
-pub played_bytes : (limit : ℕ) (start m : Machine) (begun out : Option (List ℕ)) (taken : List ℕ) (r : Reader) (bytes : List ℕ) → r.finished ≡ false
-    → HasPlayed limit start begun taken r m out → HasPlayed limit start begun (taken ++ bytes) (with_bytes r bytes) m out
-played_bytes limit start m begun out taken r bytes unsaid p =
+pub played_bytes : (tells : Telling) (limit : ℕ) (start m : Machine) (begun out : Option (List ℕ)) (taken : List ℕ) (r : Reader) (bytes : List ℕ) → r.finished ≡ false
+    → HasPlayed tells limit start begun taken r m out → HasPlayed tells limit start begun (taken ++ bytes) (with_bytes r bytes) m out
+played_bytes tells limit start m begun out taken r bytes unsaid p =
     let is = took_bytes bytes p.calls (ap (λ (x : Reader). x.finished) p.is_reader ∙ unsaid) in
     let same : (play_of (takes bytes ∷ p.calls)).answered ≡ (play_of p.calls).answered = ap (λ (x : Play). x.answered) is in
     let H : List Event → History = λ events. history events limit start in
-    let W : List Event → Type 0 = λ events. Grows begun out (text_of (H events).records) in
+    let W : List Event → Type 0 = λ events. Grows begun out (told tells (H events).records) in
     record {
       calls = takes bytes ∷ p.calls;
       is_reader = ap (λ (x : Play). x.reader) is ∙ ap (λ (x : Reader). with_bytes x bytes) p.is_reader;
@@ -79,13 +80,13 @@ unfolding play_of
 said_end calls = refl
 
 -- the end was said
-pub played_end : (limit : ℕ) (start m : Machine) (begun out : Option (List ℕ)) (taken : List ℕ) (r : Reader)
-    → HasPlayed limit start begun taken r m out → HasPlayed limit start begun taken (finished_reader r) m out
-played_end limit start m begun out taken r p =
+pub played_end : (tells : Telling) (limit : ℕ) (start m : Machine) (begun out : Option (List ℕ)) (taken : List ℕ) (r : Reader)
+    → HasPlayed tells limit start begun taken r m out → HasPlayed tells limit start begun taken (finished_reader r) m out
+played_end tells limit start m begun out taken r p =
     let is = said_end p.calls in
     let same : (play_of (ends ∷ p.calls)).answered ≡ (play_of p.calls).answered = ap (λ (x : Play). x.answered) is in
     let H : List Event → History = λ events. history events limit start in
-    let W : List Event → Type 0 = λ events. Grows begun out (text_of (H events).records) in
+    let W : List Event → Type 0 = λ events. Grows begun out (told tells (H events).records) in
     record {
       calls = ends ∷ p.calls;
       is_reader = ap (λ (x : Play). x.reader) is ∙ ap finished_reader p.is_reader;
@@ -103,16 +104,16 @@ unfolding play_of
 asked_next calls = refl
 
 -- an answer without an event
-pub played_no_event : (limit : ℕ) (start m : Machine) (begun out : Option (List ℕ)) (taken : List ℕ) (r : Reader) → events_in (answer_of r) ≡ []
-    → HasPlayed limit start begun taken r m out → HasPlayed limit start begun taken (after_next r) m out
-played_no_event limit start m begun out taken r none p =
+pub played_no_event : (tells : Telling) (limit : ℕ) (start m : Machine) (begun out : Option (List ℕ)) (taken : List ℕ) (r : Reader) → events_in (answer_of r) ≡ []
+    → HasPlayed tells limit start begun taken r m out → HasPlayed tells limit start begun taken (after_next r) m out
+played_no_event tells limit start m begun out taken r none p =
     let is = asked_next p.calls in
     let same : (play_of (asks ∷ p.calls)).answered ≡ (play_of p.calls).answered =
     ap (λ (x : Play). x.answered) is
     ∙ (ap (λ (events : List Event). (play_of p.calls).answered ++ events) (ap (λ (x : Reader). events_in (answer_of x)) p.is_reader ∙ none)
     ∙ append-nil (play_of p.calls).answered) in
     let H : List Event → History = λ events. history events limit start in
-    let W : List Event → Type 0 = λ events. Grows begun out (text_of (H events).records) in
+    let W : List Event → Type 0 = λ events. Grows begun out (told tells (H events).records) in
     record {
       calls = asks ∷ p.calls;
       is_reader = ap (λ (x : Play). x.reader) is ∙ ap after_next p.is_reader;
@@ -123,12 +124,12 @@ played_no_event limit start m begun out taken r none p =
     }
 
 -- what is played behind a history that was played to its end
-one_more : (limit : ℕ) (start m next : Machine) (begun mid out : Option (List ℕ)) (answered : List Event) (event : Event)
-    → (history answered limit start).ending ≡ Played → (history answered limit start).machine ≡ m → Grows begun mid (text_of (history answered limit start).records)
-    → (play event limit m).ending ≡ Played → (play event limit m).machine ≡ next → Grows mid out (text_of (play event limit m).records)
+one_more : (tells : Telling) (limit : ℕ) (start m next : Machine) (begun mid out : Option (List ℕ)) (answered : List Event) (event : Event)
+    → (history answered limit start).ending ≡ Played → (history answered limit start).machine ≡ m → Grows begun mid (told tells (history answered limit start).records)
+    → (play event limit m).ending ≡ Played → (play event limit m).machine ≡ next → Grows mid out (told tells (play event limit m).records)
     → (h : History) → h ≡ history (answered ++ event ∷ []) limit start
-    → (h.ending ≡ Played) × (h.machine ≡ next) × Grows begun out (text_of h.records)
-one_more limit start m next begun mid out answered event played there written over to grown h is =
+    → (h.ending ≡ Played) × (h.machine ≡ next) × Grows begun out (told tells h.records)
+one_more tells limit start m next begun mid out answered event played there written over to grown h is =
     let A : History = history answered limit start in
     let p : History = play event limit m in
     let last : history (event ∷ []) limit m ≡ behind p.records (ended Played p.machine) =
@@ -138,10 +139,10 @@ one_more limit start m next begun mid out answered event played there written ov
     ∙ (history_after Played answered (event ∷ []) limit start played
     ∙ (ap (λ (x : Machine). behind A.records (history (event ∷ []) limit x)) there
     ∙ ap (behind A.records) last)) in
-    let W : History → Type 0 = λ x. Wrote begun out x (Ok Played) in
+    let W : History → Type 0 = λ x. Wrote tells begun out x (Ok Played) in
     let wrote : W h = subst W (sym whole)
-    (wrote_behind begun mid out A.records (behind p.records (ended Played p.machine)) (Ok Played) written
-    (wrote_behind mid out out p.records (ended Played p.machine) (Ok Played) grown (wrote_ended out Played p.machine))) in (
+    (wrote_behind tells begun mid out A.records (behind p.records (ended Played p.machine)) (Ok Played) written
+    (wrote_behind tells mid out out p.records (ended Played p.machine) (Ok Played) grown (wrote_ended tells out Played p.machine))) in (
       wrote.0,
       ap (λ (x : History). x.machine) whole ∙ to,
       wrote.1,
@@ -151,16 +152,16 @@ events_one : (found : NextEvent) (event : Event) → found ≡ answer.Event even
 events_one found event is = rw is refl
 
 -- an event that was played
-pub played_event : (limit : ℕ) (start m next : Machine) (begun mid out : Option (List ℕ)) (taken : List ℕ) (r : Reader) (event : Event) → answer_of r ≡ answer.Event event
-    → HasPlayed limit start begun taken r m mid
-    → (play event limit m).ending ≡ Played → (play event limit m).machine ≡ next → Grows mid out (text_of (play event limit m).records)
-    → HasPlayed limit start begun taken (after_next r) next out
-played_event limit start m next begun mid out taken r event found p over to grown =
+pub played_event : (tells : Telling) (limit : ℕ) (start m next : Machine) (begun mid out : Option (List ℕ)) (taken : List ℕ) (r : Reader) (event : Event) → answer_of r ≡ answer.Event event
+    → HasPlayed tells limit start begun taken r m mid
+    → (play event limit m).ending ≡ Played → (play event limit m).machine ≡ next → Grows mid out (told tells (play event limit m).records)
+    → HasPlayed tells limit start begun taken (after_next r) next out
+played_event tells limit start m next begun mid out taken r event found p over to grown =
     let is = asked_next p.calls in
     let more : (play_of (asks ∷ p.calls)).answered ≡ (play_of p.calls).answered ++ event ∷ [] =
     ap (λ (x : Play). x.answered) is
     ∙ ap (λ (events : List Event). (play_of p.calls).answered ++ events) (ap (λ (x : Reader). events_in (answer_of x)) p.is_reader ∙ events_one (answer_of r) event found) in
-    let all = one_more limit start m next begun mid out (play_of p.calls).answered event p.played p.there p.written over to grown
+    let all = one_more tells limit start m next begun mid out (play_of p.calls).answered event p.played p.there p.written over to grown
     (history (play_of (asks ∷ p.calls)).answered limit start) (ap (λ (events : List Event). history events limit start) more) in
     record {
       calls = asks ∷ p.calls;
@@ -174,10 +175,10 @@ played_event limit start m next begun mid out taken r event found p over to grow
 -- ---- the rest
 
 -- the history of a file is what was played, and behind it the history of what the reader has left
-whole_is : (limit : ℕ) (start m : Machine) (begun out : Option (List ℕ)) (taken : List ℕ) (r : Reader) (more : List ℕ) → (r.finished ≡ true → more ≡ [])
-    → (p : HasPlayed limit start begun taken r m out)
+whole_is : (tells : Telling) (limit : ℕ) (start m : Machine) (begun out : Option (List ℕ)) (taken : List ℕ) (r : Reader) (more : List ℕ) → (r.finished ≡ true → more ≡ [])
+    → (p : HasPlayed tells limit start begun taken r m out)
     → history_of (input_of (taken ++ more)) limit start ≡ behind (history (play_of p.calls).answered limit start).records (history_of (left_of r more) limit m)
-whole_is limit start m begun out taken r more may p =
+whole_is tells limit start m begun out taken r more may p =
     let answered = (play_of p.calls).answered in
     let follows : MayFollow (play_of p.calls) more = λ f. may (sym (ap (λ (x : Reader). x.finished) p.is_reader) ∙ f) in
     let left : with_events answered (left_of r more) ≡ input_of (taken ++ more) =
@@ -189,41 +190,41 @@ whole_is limit start m begun out taken r more may p =
     ∙ ap (λ (x : Machine). behind (history answered limit start).records (history_of (left_of r more) limit x)) p.there)
 
 -- whatever is written for the rest completes the whole
-completes : (limit : ℕ) (start m : Machine) (begun mid out : Option (List ℕ)) (taken : List ℕ) (r : Reader) (more : List ℕ) (result : Result Ending Failed) → (r.finished ≡ true → more ≡ [])
-    → HasPlayed limit start begun taken r m mid → (h : History) → history_of (left_of r more) limit m ≡ h → Wrote mid out h result
-    → Wrote begun out (history_of (input_of (taken ++ more)) limit start) result
-completes limit start m begun mid out taken r more result may p h is wrote =
+completes : (tells : Telling) (limit : ℕ) (start m : Machine) (begun mid out : Option (List ℕ)) (taken : List ℕ) (r : Reader) (more : List ℕ) (result : Result Ending Failed) → (r.finished ≡ true → more ≡ [])
+    → HasPlayed tells limit start begun taken r m mid → (h : History) → history_of (left_of r more) limit m ≡ h → Wrote tells mid out h result
+    → Wrote tells begun out (history_of (input_of (taken ++ more)) limit start) result
+completes tells limit start m begun mid out taken r more result may p h is wrote =
     let A : History = history (play_of p.calls).answered limit start in
-    wrote_same begun out (history_of (input_of (taken ++ more)) limit start) (behind A.records h) result
-    (whole_is limit start m begun mid taken r more may p ∙ ap (behind A.records) is)
-    (wrote_behind begun mid out A.records h result p.written wrote)
+    wrote_same tells begun out (history_of (input_of (taken ++ more)) limit start) (behind A.records h) result
+    (whole_is tells limit start m begun mid taken r more may p ∙ ap (behind A.records) is)
+    (wrote_behind tells begun mid out A.records h result p.written wrote)
 
-ends_on : (limit : ℕ) (start m : Machine) (begun mid : Option (List ℕ)) (taken : List ℕ) (r : Reader) (more : List ℕ) → (r.finished ≡ true → more ≡ [])
-    → HasPlayed limit start begun taken r m mid → (h : History) → history_of (left_of r more) limit m ≡ h
+ends_on : (tells : Telling) (limit : ℕ) (start m : Machine) (begun mid : Option (List ℕ)) (taken : List ℕ) (r : Reader) (more : List ℕ) → (r.finished ≡ true → more ≡ [])
+    → HasPlayed tells limit start begun taken r m mid → (h : History) → history_of (left_of r more) limit m ≡ h
     → h.machine ≡ (history_of (input_of (taken ++ more)) limit start).machine
-ends_on limit start m begun mid taken r more may p h is =
-    sym (ap (λ (x : History). x.machine) is) ∙ sym (ap (λ (x : History). x.machine) (whole_is limit start m begun mid taken r more may p))
+ends_on tells limit start m begun mid taken r more may p h is =
+    sym (ap (λ (x : History). x.machine) is) ∙ sym (ap (λ (x : History). x.machine) (whole_is tells limit start m begun mid taken r more may p))
 
 -- a bad line ends the history
-pub ends_bad : (limit : ℕ) (start m : Machine) (begun out : Option (List ℕ)) (taken : List ℕ) (r : Reader) (line : ℕ) → answer_of r ≡ answer.Bad line
-    → HasPlayed limit start begun taken r m out → EndsSo limit start begun taken r.finished m out (BadLine line)
-ends_bad limit start m begun out taken r line bad p = λ more may.
+pub ends_bad : (tells : Telling) (limit : ℕ) (start m : Machine) (begun out : Option (List ℕ)) (taken : List ℕ) (r : Reader) (line : ℕ) → answer_of r ≡ answer.Bad line
+    → HasPlayed tells limit start begun taken r m out → EndsSo tells limit start begun taken r.finished m out (BadLine line)
+ends_bad tells limit start m begun out taken r line bad p = λ more may.
     let is : history_of (left_of r more) limit m ≡ ended (BadLine line) m =
     ap (λ (input : Input). history_of input limit m) (left_bad r more line may bad) ∙ history_none (BadLine line) limit m in (
-      completes limit start m begun out out taken r more (Ok (BadLine line)) may p (ended (BadLine line) m) is (wrote_ended out (BadLine line) m),
-      ends_on limit start m begun out taken r more may p (ended (BadLine line) m) is,
+      completes tells limit start m begun out out taken r more (Ok (BadLine line)) may p (ended (BadLine line) m) is (wrote_ended tells out (BadLine line) m),
+      ends_on tells limit start m begun out taken r more may p (ended (BadLine line) m) is,
     )
 
 -- .. and so does the end of the file
-pub ends_whole : (limit : ℕ) (start m : Machine) (begun out : Option (List ℕ)) (taken : List ℕ) (r : Reader) → answer_of r ≡ answer.End
-    → HasPlayed limit start begun taken r m out → EndsSo limit start begun taken r.finished m out Played
-ends_whole limit start m begun out taken r end p = λ more may.
+pub ends_whole : (tells : Telling) (limit : ℕ) (start m : Machine) (begun out : Option (List ℕ)) (taken : List ℕ) (r : Reader) → answer_of r ≡ answer.End
+    → HasPlayed tells limit start begun taken r m out → EndsSo tells limit start begun taken r.finished m out Played
+ends_whole tells limit start m begun out taken r end p = λ more may.
     let both = left_end r end in
     let left : left_of r more ≡ record { events = []; bad = None } = ap (left_of r) (may both.0) ∙ both.1 in
     let is : history_of (left_of r more) limit m ≡ ended Played m =
     ap (λ (input : Input). history_of input limit m) left ∙ history_none Played limit m in (
-      completes limit start m begun out out taken r more (Ok Played) may p (ended Played m) is (wrote_ended out Played m),
-      ends_on limit start m begun out taken r more may p (ended Played m) is,
+      completes tells limit start m begun out out taken r more (Ok Played) may p (ended Played m) is (wrote_ended tells out Played m),
+      ends_on tells limit start m begun out taken r more may p (ended Played m) is,
     )
 
 left_event : (r : Reader) (more : List ℕ) (event : Event) → (r.finished ≡ true → more ≡ []) → answer_of r ≡ answer.Event event
@@ -232,43 +233,43 @@ left_event r more event may found =
     sym (left_next r more may) ∙ ap (λ (events : List Event). with_events events (left_of (after_next r) more)) (events_one (answer_of r) event found)
 
 -- an event at which the history ends
-pub ends_event : (limit : ℕ) (start m next : Machine) (begun mid out : Option (List ℕ)) (taken : List ℕ) (r : Reader) (event : Event) (ending : Ending) → answer_of r ≡ answer.Event event
-    → ending ≢ Played → Wrote mid out (play event limit m) (Ok ending) → next ≡ (play event limit m).machine
-    → HasPlayed limit start begun taken r m mid → EndsSo limit start begun taken r.finished next out ending
-ends_event limit start m next begun mid out taken r event ending found other wrote to p = λ more may.
+pub ends_event : (tells : Telling) (limit : ℕ) (start m next : Machine) (begun mid out : Option (List ℕ)) (taken : List ℕ) (r : Reader) (event : Event) (ending : Ending) → answer_of r ≡ answer.Event event
+    → ending ≢ Played → Wrote tells mid out (play event limit m) (Ok ending) → next ≡ (play event limit m).machine
+    → HasPlayed tells limit start begun taken r m mid → EndsSo tells limit start begun taken r.finished next out ending
+ends_event tells limit start m next begun mid out taken r event ending found other wrote to p = λ more may.
     let rest : Input = left_of (after_next r) more in
     let is : history_of (left_of r more) limit m ≡ play event limit m =
     ap (λ (input : Input). history_of input limit m) (left_event r more event may found)
     ∙ history_stops (end_of rest.bad) event rest.events limit m (λ e. other (sym wrote.0 ∙ e)) in (
-      completes limit start m begun mid out taken r more (Ok ending) may p (play event limit m) is wrote,
-      to ∙ ends_on limit start m begun mid taken r more may p (play event limit m) is,
+      completes tells limit start m begun mid out taken r more (Ok ending) may p (play event limit m) is wrote,
+      to ∙ ends_on tells limit start m begun mid taken r more may p (play event limit m) is,
     )
 
 -- an event whose records couldn't be written
-pub fails_event : (limit : ℕ) (start m : Machine) (begun mid out : Option (List ℕ)) (taken : List ℕ) (r : Reader) (event : Event) (failed : Failed) → answer_of r ≡ answer.Event event
-    → Wrote mid out (play event limit m) (Err failed)
-    → HasPlayed limit start begun taken r m mid → FailsSo limit start begun taken r.finished out failed
-fails_event limit start m begun mid out taken r event failed found wrote p = λ more may.
+pub fails_event : (tells : Telling) (limit : ℕ) (start m : Machine) (begun mid out : Option (List ℕ)) (taken : List ℕ) (r : Reader) (event : Event) (failed : Failed) → answer_of r ≡ answer.Event event
+    → Wrote tells mid out (play event limit m) (Err failed)
+    → HasPlayed tells limit start begun taken r m mid → FailsSo tells limit start begun taken r.finished out failed
+fails_event tells limit start m begun mid out taken r event failed found wrote p = λ more may.
     let rest : Input = left_of (after_next r) more in
     let is = ap (λ (input : Input). history_of input limit m) (left_event r more event may found) ∙ history_first (end_of rest.bad) event rest.events limit m in
-    completes limit start m begun mid out taken r more (Err failed) may p _ is
-    (wrote_part mid out (play event limit m) (history_to (end_of rest.bad) rest.events limit) failed wrote)
+    completes tells limit start m begun mid out taken r more (Err failed) may p _ is
+    (wrote_part tells mid out (play event limit m) (history_to (end_of rest.bad) rest.events limit) failed wrote)
 
 -- ---- more bytes of the same file
 
 unsaid_end : (f : Bool) (more : List ℕ) → f ≡ false → f ≡ true → more ≡ []
 unsaid_end f more unsaid said = cc
 
-pub ends_longer : (limit : ℕ) (start m : Machine) (begun out : Option (List ℕ)) (taken rest whole : List ℕ) (f : Bool) (ending : Ending) → whole ≡ taken ++ rest → f ≡ false
-    → EndsSo limit start begun taken f m out ending → EndsSo limit start begun whole false m out ending
-ends_longer limit start m begun out taken rest whole f ending is unsaid p = λ more may.
-    let P : List ℕ → Type 0 = λ bytes. Wrote begun out (history_of (input_of bytes) limit start) (Ok ending) × (m ≡ (history_of (input_of bytes) limit start).machine) in
+pub ends_longer : (tells : Telling) (limit : ℕ) (start m : Machine) (begun out : Option (List ℕ)) (taken rest whole : List ℕ) (f : Bool) (ending : Ending) → whole ≡ taken ++ rest → f ≡ false
+    → EndsSo tells limit start begun taken f m out ending → EndsSo tells limit start begun whole false m out ending
+ends_longer tells limit start m begun out taken rest whole f ending is unsaid p = λ more may.
+    let P : List ℕ → Type 0 = λ bytes. Wrote tells begun out (history_of (input_of bytes) limit start) (Ok ending) × (m ≡ (history_of (input_of bytes) limit start).machine) in
     subst P (sym (append_assoc taken rest more) ∙ ap (λ (l : List ℕ). l ++ more) (sym is)) (p (rest ++ more) (unsaid_end f (rest ++ more) unsaid))
 
-pub fails_longer : (limit : ℕ) (start : Machine) (begun out : Option (List ℕ)) (taken rest whole : List ℕ) (f : Bool) (failed : Failed) → whole ≡ taken ++ rest → f ≡ false
-    → FailsSo limit start begun taken f out failed → FailsSo limit start begun whole false out failed
-fails_longer limit start begun out taken rest whole f failed is unsaid p = λ more may.
-    let P : List ℕ → Type 0 = λ bytes. Wrote begun out (history_of (input_of bytes) limit start) (Err failed) in
+pub fails_longer : (tells : Telling) (limit : ℕ) (start : Machine) (begun out : Option (List ℕ)) (taken rest whole : List ℕ) (f : Bool) (failed : Failed) → whole ≡ taken ++ rest → f ≡ false
+    → FailsSo tells limit start begun taken f out failed → FailsSo tells limit start begun whole false out failed
+fails_longer tells limit start begun out taken rest whole f failed is unsaid p = λ more may.
+    let P : List ℕ → Type 0 = λ bytes. Wrote tells begun out (history_of (input_of bytes) limit start) (Err failed) in
     subst P (sym (append_assoc taken rest more) ∙ ap (λ (l : List ℕ). l ++ more) (sym is)) (p (rest ++ more) (unsaid_end f (rest ++ more) unsaid))
 
 -- the bytes taken, those fed and those left of a piece
@@ -287,39 +288,39 @@ fed_offset r fed t rest is within = rw (is, length-append) (omega (arith, length
 
 -- ---- answers that are faults
 
-pub advances_err : (limit : ℕ) (start : Machine) (begun : Option (List ℕ)) (taken : List ℕ) (finished : Bool) (r : Reader) (m : Machine) (out : Option (List ℕ)) (result : Result Advance Failed)
-    → IsErr result → ((failed : Failed) → FailsSo limit start begun taken finished out failed) → Advances limit start begun taken finished r m out result
-advances_err limit start begun taken finished r m out (Ok x) is fails = cc
-advances_err limit start begun taken finished r m out (Err failed) is fails = fails failed
+pub advances_err : (tells : Telling) (limit : ℕ) (start : Machine) (begun : Option (List ℕ)) (taken : List ℕ) (finished : Bool) (r : Reader) (m : Machine) (out : Option (List ℕ)) (result : Result Advance Failed)
+    → IsErr result → ((failed : Failed) → FailsSo tells limit start begun taken finished out failed) → Advances tells limit start begun taken finished r m out result
+advances_err tells limit start begun taken finished r m out (Ok x) is fails = cc
+advances_err tells limit start begun taken finished r m out (Err failed) is fails = fails failed
 
-pub goes_err : (limit : ℕ) (start : Machine) (begun : Option (List ℕ)) (taken : List ℕ) (finished : Bool) (r : Reader) (m : Machine) (out : Option (List ℕ)) (result : Result (Option Ending) Failed)
-    → IsErr result → ((failed : Failed) → FailsSo limit start begun taken finished out failed) → Goes limit start begun taken finished r m out result
-goes_err limit start begun taken finished r m out (Ok x) is fails = cc
-goes_err limit start begun taken finished r m out (Err failed) is fails = fails failed
+pub goes_err : (tells : Telling) (limit : ℕ) (start : Machine) (begun : Option (List ℕ)) (taken : List ℕ) (finished : Bool) (r : Reader) (m : Machine) (out : Option (List ℕ)) (result : Result (Option Ending) Failed)
+    → IsErr result → ((failed : Failed) → FailsSo tells limit start begun taken finished out failed) → Goes tells limit start begun taken finished r m out result
+goes_err tells limit start begun taken finished r m out (Ok x) is fails = cc
+goes_err tells limit start begun taken finished r m out (Err failed) is fails = fails failed
 
 -- ---- the whole lines
 
 -- what was played while the reader waits is the history of the whole lines that it took
-pub whole_lines_played : (limit : ℕ) (start m : Machine) (begun out : Option (List ℕ)) (taken : List ℕ) (r : Reader) → IsWaiting r
-    → HasPlayed limit start begun taken r m out → Wrote begun out (history_of (input_of (whole_lines taken)) limit start) (Ok Played)
-whole_lines_played limit start m begun out taken r waiting p =
+pub whole_lines_played : (tells : Telling) (limit : ℕ) (start m : Machine) (begun out : Option (List ℕ)) (taken : List ℕ) (r : Reader) → IsWaiting r
+    → HasPlayed tells limit start begun taken r m out → Wrote tells begun out (history_of (input_of (whole_lines taken)) limit start) (Ok Played)
+whole_lines_played tells limit start m begun out taken r waiting p =
     let waits : IsWaiting (play_of p.calls).reader = subst (λ x. IsWaiting x) (sym p.is_reader) waiting in
     let input : input_of (whole_lines taken) ≡ record { events = (play_of p.calls).answered; bad = None } =
     ap (λ (l : List ℕ). input_of (whole_lines l)) (sym p.took) ∙ play_whole p.calls waits in
-    wrote_same begun out (history_of (input_of (whole_lines taken)) limit start) (history (play_of p.calls).answered limit start) (Ok Played)
+    wrote_same tells begun out (history_of (input_of (whole_lines taken)) limit start) (history (play_of p.calls).answered limit start) (Ok Played)
     (ap (λ (i : Input). history_of i limit start) input)
     (p.played, p.written)
 
 -- ---- a whole file
 
-pub file_ends : (limit : ℕ) (start m : Machine) (begun out : Option (List ℕ)) (taken : List ℕ) (f : Bool) (ending : Ending) → EndsSo limit start begun taken f m out ending
-    → Wrote begun out (history_of (input_of taken) limit start) (Ok ending) × (m ≡ (history_of (input_of taken) limit start).machine)
-file_ends limit start m begun out taken f ending p =
-    let P : List ℕ → Type 0 = λ bytes. Wrote begun out (history_of (input_of bytes) limit start) (Ok ending) × (m ≡ (history_of (input_of bytes) limit start).machine) in
+pub file_ends : (tells : Telling) (limit : ℕ) (start m : Machine) (begun out : Option (List ℕ)) (taken : List ℕ) (f : Bool) (ending : Ending) → EndsSo tells limit start begun taken f m out ending
+    → Wrote tells begun out (history_of (input_of taken) limit start) (Ok ending) × (m ≡ (history_of (input_of taken) limit start).machine)
+file_ends tells limit start m begun out taken f ending p =
+    let P : List ℕ → Type 0 = λ bytes. Wrote tells begun out (history_of (input_of bytes) limit start) (Ok ending) × (m ≡ (history_of (input_of bytes) limit start).machine) in
     subst P (append-nil taken) (p [] (λ e. refl))
 
-pub file_fails : (limit : ℕ) (start : Machine) (begun out : Option (List ℕ)) (taken : List ℕ) (f : Bool) (failed : Failed) → FailsSo limit start begun taken f out failed
-    → Wrote begun out (history_of (input_of taken) limit start) (Err failed)
-file_fails limit start begun out taken f failed p =
-    let P : List ℕ → Type 0 = λ bytes. Wrote begun out (history_of (input_of bytes) limit start) (Err failed) in
+pub file_fails : (tells : Telling) (limit : ℕ) (start : Machine) (begun out : Option (List ℕ)) (taken : List ℕ) (f : Bool) (failed : Failed) → FailsSo tells limit start begun taken f out failed
+    → Wrote tells begun out (history_of (input_of taken) limit start) (Err failed)
+file_fails tells limit start begun out taken f failed p =
+    let P : List ℕ → Type 0 = λ bytes. Wrote tells begun out (history_of (input_of bytes) limit start) (Err failed) in
     subst P (append-nil taken) (p [] (λ e. refl))

@@ -7,7 +7,8 @@ use Rattle.xk_ports.specs.Told.{Grows, GrowsByPrefix, Consumes}
 use Rattle.xk_ports.proofs.ToldLemmas.{Grows-append}
 use Rattle.xousim.specs.Reading.{IsTold}
 use Rattle.xk_base.specs.declared.records.Rec.{Rec}
-use Rattle.trace_text.specs.Lines.{line_of, text_of}
+use Rattle.xousim.specs.declared.command.Telling.{Telling}
+use Rattle.xousim.specs.Telling.{told, told_of}
 
 -- nothing is consumed
 pub Consumes-none : (old : Option (List ℕ)) → Consumes old old []
@@ -57,12 +58,13 @@ prefix_after old mid new xs ys zs first second = (
   Grows-append old mid new xs second.0 first second.3,
 )
 
--- the lines before a record, its line, and the lines after it
-pub text_at : (records : List Rec) (i : ℕ) (d : Rec) → i < length records → text_of records ≡ text_of (take i records) ++ (line_of (get_or records i d) ++ text_of (drop (suc i) records))
-text_at records i d inside =
-    ap text_of (sym (take-append-drop i records))
-    ∙ (flat_map-append line_of (take i records) (drop i records)
-    ∙ ap (λ (rs : List Rec). text_of (take i records) ++ text_of rs) (drop-cons records i d inside))
+-- what is told before a record, of it, and after it
+pub told_at : (tells : Telling) (records : List Rec) (i : ℕ) (d : Rec) → i < length records
+    → told tells records ≡ told tells (take i records) ++ (told_of tells (get_or records i d) ++ told tells (drop (suc i) records))
+told_at tells records i d inside =
+    ap (told tells) (sym (take-append-drop i records))
+    ∙ (flat_map-append (told_of tells) (take i records) (drop i records)
+    ∙ ap (λ (rs : List Rec). told tells (take i records) ++ told tells rs) (drop-cons records i d inside))
 
 -- a fact under either answer
 pub on_err : {T E : Type 0} (r : Result T E) (P : Type 0) → P → OnErr r P

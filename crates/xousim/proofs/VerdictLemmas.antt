@@ -1,5 +1,5 @@
 -- The files decide the status.
-use Rattle.std.proofs.Common.{◌≡◌, ◌⊎◌, inl, inr, ℕ, List, Option, Some, None, MatchOption, refl, sym, ap, ◌∙◌, subst}
+use Rattle.std.proofs.Common.{◌≡◌, ◌⊎◌, inl, inr, ℕ, Bool, true, false, List, Option, Some, None, refl, sym, ap, ◌∙◌, subst}
 use Rattle.std.proofs.lemmas.Option.{same_Some}
 use Rattle.kernel_args.specs.declared.args.Args.{Args}
 use Rattle.kernel_args.specs.declared.faults.ArgFault.{ArgFault}
@@ -9,141 +9,146 @@ use Rattle.boot_plan.specs.ImageFault.{IsImageFault}
 use Rattle.boot_plan.proofs.ImageFaultLemmas.{image_fault_once}
 use Rattle.machine_model.specs.State.Machine.{Machine}
 use Rattle.xk_kernel.specs.Start.{start}
-use Rattle.xk_base.specs.declared.limits.TheConstants.{DEFAULT_STEPS}
-use Rattle.xk_ports.specs.Host.{FileAsked}
 use Rattle.xousim.specs.declared.ending.Ending.{Ending}
-use Rattle.xousim.specs.declared.ending.Ending.TheVariants.{Played, LimitMet, Unbuilt, BadLine}
+use Rattle.xousim.specs.declared.ending.Ending.TheVariants.{Played, LimitMet, BadLine}
 use Rattle.xousim.specs.declared.status.Status.{Status}
-use Rattle.xousim.specs.declared.status.Status.TheVariants.{Done, ReadFault, WriteFault, ImageFault, EventFault, StepLimit, NoMemory, NotBuilt}
-use Rattle.xousim.specs.Outcome.{Told, Image, Boots, Ran, RunsTo, IsVerdict, IsComplete, Ends, Refuses, Plays, run_of}
+use Rattle.xousim.specs.declared.status.Status.TheVariants.{Done, Usage, ReadFault, WriteFault, ImageFault, EventFault, StepLimit, NoMemory, NotBuilt}
+use Rattle.xousim.specs.Outcome.{Boots, Call, Ends, EndsIfBuilt, EndsPlay, HasCause, HostRose, Image, IsCommandComplete, IsComplete, IsPlayComplete, IsUnwritten, IsVerdict, OutRose, Ran, Refuses, RunsTo, Tells, run_of}
+use Rattle.xousim.specs.Built.{is_built}
 use Rattle.xousim.specs.Reading.{IsFile}
-use Rattle.xousim.specs.Words.{Names}
+use Rattle.xousim.specs.Words.{Command, Plays, Checks, Demo, Play}
 
 -- ---- what a file has is one
 
 same_bytes : (file : List ℕ → Option (List ℕ)) (name one other : List ℕ) → IsFile (Some file) name one → IsFile (Some file) name other → one ≡ other
 same_bytes file name one other a b = same_Some _ _ (sym a ∙ b)
 
-one_fault : (bytes : List ℕ) (one other : Option ArgFault) → IsImageFault bytes 0 one → IsImageFault bytes 0 other → one ≡ other
-one_fault bytes one other = image_fault_once bytes 0 (spelled_once bytes) one other
+one_fault : (bytes : List ℕ) (slots : ℕ) (one other : Option ArgFault) → IsImageFault bytes slots one → IsImageFault bytes slots other → one ≡ other
+one_fault bytes slots one other = image_fault_once bytes slots (spelled_once bytes) one other
 
 -- an image boots one machine
-one_machine : (bytes : List ℕ) (one other : Machine) → Boots bytes one → Boots bytes other → one ≡ other
-one_machine bytes one other a b =
+one_machine : (bytes : List ℕ) (slots : ℕ) (one other : Machine) → Boots bytes slots one → Boots bytes slots other → one ≡ other
+one_machine bytes slots one other a b =
     let same : a.args ≡ b.args = spelled_once bytes a.args b.args a.sound.spelled b.sound.spelled in
-    a.start ∙ (ap (λ (args : Args). start (plan_of args 0) bytes) same ∙ sym b.start)
+    a.start ∙ (ap (λ (args : Args). start (plan_of args slots) bytes) same ∙ sym b.start)
 
-images_agree : (file : List ℕ → Option (List ℕ)) (name : List ℕ) (one other : Machine) → Image (Some file) name one → Image (Some file) name other → one ≡ other
-images_agree file name one other a b =
+images_agree : (file : List ℕ → Option (List ℕ)) (name : List ℕ) (slots : ℕ) (one other : Machine) → Image (Some file) name slots one → Image (Some file) name slots other → one ≡ other
+images_agree file name slots one other a b =
     let same : b.bytes ≡ a.bytes = same_bytes file name b.bytes a.bytes b.read a.read in
-    let P : List ℕ → Type 0 = λ bytes. Boots bytes other in
-    one_machine a.bytes one other a.boots (subst P same b.boots)
+    let P : List ℕ → Type 0 = λ bytes. Boots bytes slots other in
+    one_machine a.bytes slots one other a.boots (subst P same b.boots)
 
 -- a history ends in one way
-endings_agree : (file : List ℕ → Option (List ℕ)) (names : Names) (one other : Ending) → RunsTo (Some file) names one → RunsTo (Some file) names other → one ≡ other
-endings_agree file names one other a b =
-    let machine : a.machine ≡ b.machine = images_agree file names.image a.machine b.machine a.image b.image in
-    let events : a.events ≡ b.events = same_bytes file names.events a.events b.events a.is_file b.is_file in
-    sym a.ended ∙ (ap (λ (m : Machine). (run_of m a.events).ending) machine
-    ∙ (ap (λ (bytes : List ℕ). (run_of b.machine bytes).ending) events ∙ b.ended))
+endings_agree : (file : List ℕ → Option (List ℕ)) (play : Play) (one other : Ending) → RunsTo (Some file) play one → RunsTo (Some file) play other → one ≡ other
+endings_agree file play one other a b =
+    let machine : a.machine ≡ b.machine = images_agree file play.image play.slots a.machine b.machine a.image b.image in
+    let events : a.events ≡ b.events = same_bytes file play.events a.events b.events a.is_file b.is_file in
+    sym a.ended ∙ (ap (λ (m : Machine). (run_of play.limit m a.events).ending) machine
+    ∙ (ap (λ (bytes : List ℕ). (run_of play.limit b.machine bytes).ending) events ∙ b.ended))
 
 none_is_some : (fault : ArgFault) → None ≡ Some fault → ⊥
 none_is_some fault e = cc
 
 -- an image that boots has no fault
-boots_no_fault : (file : List ℕ → Option (List ℕ)) (name : List ℕ) (machine : Machine) (image : List ℕ) (fault : ArgFault)
-    → Image (Some file) name machine → IsFile (Some file) name image → IsImageFault image 0 (Some fault) → ⊥
-boots_no_fault file name machine image fault boots read faulty =
-    let P : List ℕ → Type 0 = λ bytes. IsImageFault bytes 0 (Some fault) in
-    none_is_some fault (one_fault boots.bytes None (Some fault) boots.boots.sound.no_fault (subst P (same_bytes file name image boots.bytes read boots.read) faulty))
+boots_no_fault : (file : List ℕ → Option (List ℕ)) (name : List ℕ) (slots : ℕ) (machine : Machine) (image : List ℕ) (fault : ArgFault)
+    → Image (Some file) name slots machine → IsFile (Some file) name image → IsImageFault image slots (Some fault) → ⊥
+boots_no_fault file name slots machine image fault boots read faulty =
+    let P : List ℕ → Type 0 = λ bytes. IsImageFault bytes slots (Some fault) in
+    none_is_some fault (one_fault boots.bytes slots None (Some fault) boots.boots.sound.no_fault (subst P (same_bytes file name image boots.bytes read boots.read) faulty))
 
 -- ---- each verdict is that of a run or of an image with a fault
 
 same_fault : (one other : ArgFault) → Some one ≡ Some other → ImageFault one ≡ ImageFault other
 same_fault one other e = ap (λ (f : ArgFault). ImageFault f) (same_Some one other e)
 
-faults_agree : (file : List ℕ → Option (List ℕ)) (name image other : List ℕ) (one two : ArgFault)
-    → IsFile (Some file) name image → IsImageFault image 0 (Some one) → IsFile (Some file) name other → IsImageFault other 0 (Some two) → ImageFault one ≡ ImageFault two
-faults_agree file name image other one two read faulty read_other faulty_other =
-    let P : List ℕ → Type 0 = λ bytes. IsImageFault bytes 0 (Some two) in
-    same_fault one two (one_fault image (Some one) (Some two) faulty (subst P (same_bytes file name other image read_other read) faulty_other))
+faults_agree : (file : List ℕ → Option (List ℕ)) (name : List ℕ) (slots : ℕ) (image other : List ℕ) (one two : ArgFault)
+    → IsFile (Some file) name image → IsImageFault image slots (Some one) → IsFile (Some file) name other → IsImageFault other slots (Some two) → ImageFault one ≡ ImageFault two
+faults_agree file name slots image other one two read faulty read_other faulty_other =
+    let P : List ℕ → Type 0 = λ bytes. IsImageFault bytes slots (Some two) in
+    same_fault one two (one_fault image slots (Some one) (Some two) faulty (subst P (same_bytes file name other image read_other read) faulty_other))
 
 -- the status of a history that ends so
-abbrev status_of : Ending → Status
-status_of Played = Done
-status_of LimitMet = StepLimit DEFAULT_STEPS
-status_of Unbuilt = NotBuilt
-status_of (BadLine line) = EventFault line
+abbrev status_of : ℕ → Ending → Status
+status_of limit Played = Done
+status_of limit LimitMet = StepLimit limit
+status_of limit (BadLine line) = EventFault line
 
-abbrev OfRun : (List ℕ → Option (List ℕ)) → Names → Status → Type 0
-OfRun file names status = (ending : Ending) × RunsTo (Some file) names ending × (status ≡ status_of ending)
+abbrev OfRun : (List ℕ → Option (List ℕ)) → Play → Status → Type 0
+OfRun file play status = (ending : Ending) × RunsTo (Some file) play ending × (status ≡ status_of play.limit ending)
 
-abbrev OfFault : (List ℕ → Option (List ℕ)) → Names → Status → Type 0
-OfFault file names status = (fault : ArgFault) × (image : List ℕ) × IsFile (Some file) names.image image × IsImageFault image 0 (Some fault) × (status ≡ ImageFault fault)
+abbrev OfFault : (List ℕ → Option (List ℕ)) → Play → Status → Type 0
+OfFault file play status = (fault : ArgFault) × (image : List ℕ) × IsFile (Some file) play.image image × IsImageFault image play.slots (Some fault) × (status ≡ ImageFault fault)
 
-abbrev Sorts : (List ℕ → Option (List ℕ)) → Names → Status → Type 0
-Sorts file names status = OfRun file names status ⊎ OfFault file names status
+abbrev Sorts : (List ℕ → Option (List ℕ)) → Play → Status → Type 0
+Sorts file play status = OfRun file play status ⊎ OfFault file play status
 
-sorts : (file : List ℕ → Option (List ℕ)) (names : Names) (status : Status) → IsVerdict (Some file) names status → Sorts file names status
-sorts file names Done a = inl (Played, a, refl)
-sorts file names (EventFault line) a = inl (BadLine line, a, refl)
-sorts file names (StepLimit limit) a = inl (LimitMet, a.1, ap (λ (l : ℕ). StepLimit l) a.0)
-sorts file names (ImageFault fault) a = inr (fault, a.0, a.1, a.2, refl)
-sorts file names NotBuilt a = inl (Unbuilt, a, refl)
-sorts file names ReadFault a = absurd a
-sorts file names WriteFault a = absurd a
-sorts file names NoMemory a = absurd a
+sorts : (file : List ℕ → Option (List ℕ)) (play : Play) (status : Status) → IsVerdict (Some file) play status → Sorts file play status
+sorts file play Done a = inl (Played, a, refl)
+sorts file play (EventFault line) a = inl (BadLine line, a, refl)
+sorts file play (StepLimit limit) a = inl (LimitMet, a.1, ap (λ (l : ℕ). StepLimit l) a.0)
+sorts file play (ImageFault fault) a = inr (fault, a.0, a.1, a.2, refl)
+sorts file play NotBuilt a = absurd a
+sorts file play Usage a = absurd a
+sorts file play ReadFault a = absurd a
+sorts file play WriteFault a = absurd a
+sorts file play NoMemory a = absurd a
 
-run_fault : (file : List ℕ → Option (List ℕ)) (names : Names) (one other : Status) → OfRun file names one → OfFault file names other → ⊥
-run_fault file names one other a b = boots_no_fault file names.image a.1.machine b.1 b.0 a.1.image b.2 b.3
+run_fault : (file : List ℕ → Option (List ℕ)) (play : Play) (one other : Status) → OfRun file play one → OfFault file play other → ⊥
+run_fault file play one other a b = boots_no_fault file play.image play.slots a.1.machine b.1 b.0 a.1.image b.2 b.3
 
-agree : (file : List ℕ → Option (List ℕ)) (names : Names) (one other : Status) → Sorts file names one → Sorts file names other → one ≡ other
-agree file names one other (inl a) (inl b) = a.2 ∙ (ap status_of (endings_agree file names a.0 b.0 a.1 b.1) ∙ sym b.2)
-agree file names one other (inl a) (inr b) = absurd (run_fault file names one other a b)
-agree file names one other (inr a) (inl b) = absurd (run_fault file names other one b a)
-agree file names one other (inr a) (inr b) = a.4 ∙ (faults_agree file names.image a.1 b.1 a.0 b.0 a.2 a.3 b.2 b.3 ∙ sym b.4)
+agree : (file : List ℕ → Option (List ℕ)) (play : Play) (one other : Status) → Sorts file play one → Sorts file play other → one ≡ other
+agree file play one other (inl a) (inl b) = a.2 ∙ (ap (status_of play.limit) (endings_agree file play a.0 b.0 a.1 b.1) ∙ sym b.2)
+agree file play one other (inl a) (inr b) = absurd (run_fault file play one other a b)
+agree file play one other (inr a) (inl b) = absurd (run_fault file play other one b a)
+agree file play one other (inr a) (inr b) = a.4 ∙ (faults_agree file play.image play.slots a.1 b.1 a.0 b.0 a.2 a.3 b.2 b.3 ∙ sym b.4)
 
-pub one_verdict_of_files : (file : List ℕ → Option (List ℕ)) (names : Names) (one other : Status) → IsVerdict (Some file) names one → IsVerdict (Some file) names other → one ≡ other
-one_verdict_of_files file names one other a b = agree file names one other (sorts file names one a) (sorts file names other b)
+pub one_verdict_of_files : (file : List ℕ → Option (List ℕ)) (play : Play) (one other : Status) → IsVerdict (Some file) play one → IsVerdict (Some file) play other → one ≡ other
+one_verdict_of_files file play one other a b = agree file play one other (sorts file play one a) (sorts file play other b)
 
 -- ---- a call without a fault outside
 
-refused_complete : (file : Told) (names : Names) (before after : Option (List ℕ)) (rose : Type 0) (status : Status) → (¬ rose)
-    → Refuses file names.image rose status → after ≡ before → IsComplete file names before after status
-refused_complete file names before after rose (ImageFault fault) quiet refused same = inl refused
-refused_complete file names before after rose NotBuilt quiet refused same = absurd refused
-refused_complete file names before after rose NoMemory quiet refused same = inr (refl, same)
-refused_complete file names before after rose ReadFault quiet refused same = absurd (quiet refused)
-refused_complete file names before after rose Done quiet refused same = absurd refused
-refused_complete file names before after rose (EventFault line) quiet refused same = absurd refused
-refused_complete file names before after rose (StepLimit limit) quiet refused same = absurd refused
-refused_complete file names before after rose WriteFault quiet refused same = absurd refused
+refused_complete : (play : Play) (call : Call) (status : Status) → (¬ HostRose call)
+    → Refuses call.host.files play.image play.slots (HostRose call) status → IsUnwritten call
+    → IsVerdict call.host.files play status ⊎ ((status ≡ NoMemory) × IsUnwritten call)
+refused_complete play call (ImageFault fault) quiet refused unwritten = inl refused
+refused_complete play call NotBuilt quiet refused unwritten = absurd refused
+refused_complete play call NoMemory quiet refused unwritten = inr (refl, unwritten)
+refused_complete play call Usage quiet refused unwritten = absurd refused
+refused_complete play call ReadFault quiet refused unwritten = absurd (quiet refused)
+refused_complete play call Done quiet refused unwritten = absurd refused
+refused_complete play call (EventFault line) quiet refused unwritten = absurd refused
+refused_complete play call (StepLimit limit) quiet refused unwritten = absurd refused
+refused_complete play call WriteFault quiet refused unwritten = absurd refused
 
-runs_to : (file : Told) (names : Names) (machine : Machine) (before after : Option (List ℕ)) (ending : Ending)
-    → Image file names.image machine → Ran file names.events machine before after ending → RunsTo file names ending
-runs_to file names machine before after ending image ran =
+runs_to : (play : Play) (machine : Machine) (call : Call) (ending : Ending)
+    → Image call.host.files play.image play.slots machine → Ran play machine call ending → RunsTo call.host.files play ending
+runs_to play machine call ending image ran =
     record { machine = machine; image = image; events = ran.events; is_file = ran.is_file; ended = ran.ended }
 
-played_complete : (file : Told) (names : Names) (left : Option (List ℕ)) (machine : Machine) (before after : Option (List ℕ)) (host_rose out_rose : Type 0) (status : Status) → (¬ host_rose) → (¬ out_rose)
-    → Image file names.image machine → Plays file names.events left machine before after host_rose out_rose status → IsComplete file names before after status
-played_complete file names left machine before after host_rose out_rose Done quiet calm image played = inl (runs_to file names machine before after Played image played)
-played_complete file names left machine before after host_rose out_rose (EventFault line) quiet calm image played = inl (runs_to file names machine before after (BadLine line) image played)
-played_complete file names left machine before after host_rose out_rose (StepLimit limit) quiet calm image played = inl (played.0, runs_to file names machine before after LimitMet image played.1)
-played_complete file names left machine before after host_rose out_rose NotBuilt quiet calm image played = inl (runs_to file names machine before after Unbuilt image played)
-played_complete file names left machine before after host_rose out_rose WriteFault quiet calm image played = absurd (calm played.0)
-played_complete file names left machine before after host_rose out_rose ReadFault quiet calm image played = absurd (quiet played.0)
-played_complete file names left machine before after host_rose out_rose NoMemory quiet calm image played = absurd played
-played_complete file names left machine before after host_rose out_rose (ImageFault fault) quiet calm image played = absurd played
+played_complete : (play : Play) (machine : Machine) (call : Call) (status : Status) → (¬ HostRose call) → (¬ OutRose call)
+    → Image call.host.files play.image play.slots machine → HasCause call status → Tells play machine call status
+    → IsVerdict call.host.files play status ⊎ ((status ≡ NoMemory) × IsUnwritten call)
+played_complete play machine call Done quiet calm image cause told = inl (runs_to play machine call Played image told)
+played_complete play machine call (EventFault line) quiet calm image cause told = inl (runs_to play machine call (BadLine line) image told)
+played_complete play machine call (StepLimit limit) quiet calm image cause told = inl (told.0, runs_to play machine call LimitMet image told.1)
+played_complete play machine call NotBuilt quiet calm image cause told = absurd told
+played_complete play machine call WriteFault quiet calm image cause told = absurd (calm cause)
+played_complete play machine call ReadFault quiet calm image cause told = absurd (quiet cause)
+played_complete play machine call Usage quiet calm image cause told = absurd told
+played_complete play machine call NoMemory quiet calm image cause told = absurd told
+played_complete play machine call (ImageFault fault) quiet calm image cause told = absurd told
 
-pub ends_complete : (file : Told) (names : Names) (asked asked_after : Option (List FileAsked)) (left before after : Option (List ℕ)) (host_rose out_rose : Type 0) (status : Status)
-    → Ends file names asked asked_after left before after host_rose out_rose status → (¬ host_rose) → (¬ out_rose) → IsComplete file names before after status
-ends_complete file names asked asked_after left before after host_rose out_rose status (inl refused) quiet calm = refused_complete file names before after host_rose status quiet refused.0 refused.1
-ends_complete file names asked asked_after left before after host_rose out_rose status (inr (machine, image, inl unpicked)) quiet calm = absurd (quiet unpicked.1)
-ends_complete file names asked asked_after left before after host_rose out_rose status (inr (machine, image, inr played)) quiet calm =
-    played_complete file names left machine before after host_rose out_rose status quiet calm image played.0
+play_complete : (play : Play) (call : Call) → EndsPlay play call → (¬ HostRose call) → (¬ OutRose call) → IsPlayComplete play call
+play_complete play call (inl refused) quiet calm = refused_complete play call call.status quiet refused.refused refused.unwritten
+play_complete play call (inr (inl unpicked)) quiet calm = absurd (quiet unpicked.cause)
+play_complete play call (inr (inr played)) quiet calm = played_complete play played.machine call call.status quiet calm played.image played.cause played.content
 
-pub ends_complete_if : (command : Option Names) (file : Told) (asked asked_after : Option (List FileAsked)) (left before after : Option (List ℕ)) (host_rose out_rose : Type 0) (status : Status) (none : Type 0)
-    → MatchOption command none (λ names. Ends file names asked asked_after left before after host_rose out_rose status)
-    → MatchOption command (Unit {0}) (λ names. (¬ host_rose) → (¬ out_rose) → IsComplete file names before after status)
-ends_complete_if None file asked asked_after left before after host_rose out_rose status none ends = tt
-ends_complete_if (Some names) file asked asked_after left before after host_rose out_rose status none ends = λ quiet calm. ends_complete file names asked asked_after left before after host_rose out_rose status ends quiet calm
+command_complete : (built : Bool) (command : Command) (call : Call) → EndsIfBuilt built command call → (¬ HostRose call) → (¬ OutRose call) → IsCommandComplete built command call
+command_complete false command call ends quiet calm = ends.ended
+command_complete true (Plays play) call ends quiet calm = play_complete play call ends quiet calm
+command_complete true (Checks check) call ends quiet calm = ends.ended
+command_complete true (Demo clients) call ends quiet calm = ends.ended
+
+pub ends_complete : (command : Option Command) (call : Call) → Ends command call → IsComplete command call
+ends_complete None call ends = ends.ended
+ends_complete (Some command) call ends = λ quiet calm. command_complete (is_built command) command call ends quiet calm

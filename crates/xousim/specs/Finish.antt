@@ -1,30 +1,43 @@
--- The parts of a call: the events of a booted image are played, and the last line is written.
-use Rattle.std.specs.Prelude.{◌≡◌, ◌⊎◌, ℕ, true, false, List, Option}
+-- The parts of a call: the events of a booted image are played, and what is told at the end is written.
+use Rattle.std.specs.Prelude.{◌≡◌, ◌⊎◌, true, false}
 use Rattle.machine_model.specs.State.Machine.{Machine}
-use Rattle.xk_base.specs.declared.limits.TheConstants.{DEFAULT_STEPS}
-use Rattle.xk_ports.specs.Host.{FileAsked}
+use Rattle.xk_base.specs.Outside.{Rose}
 use Rattle.xk_ports.specs.declared.host.FileSlot.TheVariants.{Second}
 use Rattle.xk_ports.specs.Told.{Grows, GrowsByPrefix}
 use Rattle.xousim.specs.declared.ending.Ending.{Ending}
-use Rattle.xousim.specs.declared.ending.Ending.TheVariants.{Played, LimitMet, Unbuilt, BadLine}
+use Rattle.xousim.specs.declared.ending.Ending.TheVariants.{Played, LimitMet, BadLine}
 use Rattle.xousim.specs.declared.status.Status.{Status}
-use Rattle.xousim.specs.declared.status.Status.TheVariants.{Done, ReadFault, WriteFault, ImageFault, EventFault, StepLimit, NoMemory, NotBuilt}
-use Rattle.xousim.specs.Outcome.{Told, Plays, last_line}
+use Rattle.xousim.specs.declared.status.Status.TheVariants.{Done, Usage, ReadFault, WriteFault, ImageFault, EventFault, StepLimit, NoMemory, NotBuilt}
+use Rattle.xousim.specs.Outcome.{Call, HasCause, HostRose, IsUnwritten, SinkSide, Tells}
 use Rattle.xousim.specs.Reading.{Asked}
+use Rattle.xousim.specs.Telling.{closing}
+use Rattle.xousim.specs.Words.{Play}
 
--- the last line was written, or a part of it, and this is the status
-abbrev pub Finishes : Option (List ℕ) → Option (List ℕ) → Type 0 → Ending → ℕ → Status → Type 0
-Finishes before after out_rose ending steps Done = (ending ≡ Played) × Grows before after (last_line steps ending)
-Finishes before after out_rose ending steps (EventFault line) = (ending ≡ BadLine line) × Grows before after (last_line steps ending)
-Finishes before after out_rose ending steps (StepLimit limit) = (limit ≡ DEFAULT_STEPS) × (ending ≡ LimitMet) × Grows before after (last_line steps ending)
-Finishes before after out_rose ending steps NotBuilt = (ending ≡ Unbuilt) × Grows before after (last_line steps ending)
-Finishes before after out_rose ending steps WriteFault = out_rose × GrowsByPrefix before after (last_line steps ending)
-Finishes before after out_rose ending steps ReadFault = ⊥
-Finishes before after out_rose ending steps NoMemory = ⊥
-Finishes before after out_rose ending steps (ImageFault fault) = ⊥
+-- what is told at the end of a history that came to this machine was written, or a part of it, and this is the status
+abbrev pub Finishes : Play → Machine → Ending → SinkSide → Status → Type 0
+Finishes play machine ending out Done = (ending ≡ Played) × Grows out.written out.written_after (closing play.tells machine ending)
+Finishes play machine ending out (EventFault line) = (ending ≡ BadLine line) × Grows out.written out.written_after (closing play.tells machine ending)
+Finishes play machine ending out (StepLimit limit) = (limit ≡ play.limit) × (ending ≡ LimitMet) × Grows out.written out.written_after (closing play.tells machine ending)
+Finishes play machine ending out WriteFault = Rose out.faults out.faults_after × GrowsByPrefix out.written out.written_after (closing play.tells machine ending)
+Finishes play machine ending out Usage = ⊥
+Finishes play machine ending out NotBuilt = ⊥
+Finishes play machine ending out ReadFault = ⊥
+Finishes play machine ending out NoMemory = ⊥
+Finishes play machine ending out (ImageFault fault) = ⊥
 
--- the event file was asked for: it wasn't picked, and nothing was written; or it was, and its events were played
-abbrev pub EndsBooted : Told → List ℕ → Option (List FileAsked) → Option (List FileAsked) → Option (List ℕ) → Machine → Option (List ℕ) → Option (List ℕ) → Type 0 → Type 0 → Status → Type 0
-EndsBooted file name asked asked_after left machine before after host_rose out_rose status =
-    ((status ≡ ReadFault) × host_rose × (after ≡ before) × Asked asked asked_after Second name false)
-    ⊎ (Plays file name left machine before after host_rose out_rose status × Asked asked asked_after Second name true)
+-- the event file was asked for and wasn't picked, and nothing was written
+pub record EndsNotPicked (play : Play) (call : Call) : Type 0 where
+  pub asked : Asked call.host.asked call.host.asked_after Second play.events false
+  pub ended : call.status ≡ ReadFault
+  pub cause : HostRose call
+  pub unwritten : IsUnwritten call
+
+-- it was picked, and its events were played
+pub record EndsPicked (play : Play) (machine : Machine) (call : Call) : Type 0 where
+  pub asked : Asked call.host.asked call.host.asked_after Second play.events true
+  pub cause : HasCause call call.status
+  pub content : Tells play machine call call.status
+
+-- what holds of a call from where its image was booted
+abbrev pub EndsBooted : Play → Machine → Call → Type 0
+EndsBooted play machine call = EndsNotPicked play call ⊎ EndsPicked play machine call

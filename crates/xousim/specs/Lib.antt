@@ -1,9 +1,12 @@
 pub mod Adapters
+pub mod Built
 pub mod Finish
 pub mod History
 pub mod Outcome
 pub mod Playing
 pub mod Reading
 pub mod Status
+pub mod Table
+pub mod Telling
 pub mod Words
 pub mod Writing

@@ -1,7 +1,6 @@
--- How a call of the program ends: what holds for each status. `names` are the files that the words name, `file`
--- is what the host has under each name where it tells it, `asked` and `asked_after` are the files that it was asked for,
--- `left` is what is left of the event file after the call, and `before` and `after` are what `out` holds.
-use Rattle.std.specs.Prelude.{◌≡◌, ◌⊎◌, ℕ, Bool, true, false, List, [], ◌∷◌, ◌++◌, Option, Some, None}
+-- How a call of the program ends, by the command that its words are. What is said of the bytes of files and of what stands on `out`
+-- holds where they are told; what is said of counts of faults and of files asked for rests on nothing.
+use Rattle.std.specs.Prelude.{◌≡◌, ◌⊎◌, ℕ, Bool, true, false, List, [], ◌∷◌, Option, Some, None}
 use Rattle.kernel_args.specs.declared.args.Args.{Args}
 use Rattle.kernel_args.specs.Image.{Spells}
 use Rattle.boot_plan.specs.FirstPages.{plan_of}
@@ -9,169 +8,254 @@ use Rattle.boot_plan.specs.ImageFault.{IsImageFault}
 use Rattle.event_text.specs.EventFile.{input_of}
 use Rattle.event_text.specs.Lines.{whole_lines}
 use Rattle.machine_model.specs.State.Machine.{Machine}
-use Rattle.trace_text.specs.declared.lines.EndWord.TheVariants as words
-use Rattle.trace_text.specs.Lines.{text_of, end_line_of}
-use Rattle.xk_base.specs.declared.limits.TheConstants.{DEFAULT_STEPS}
 use Rattle.xk_base.specs.Outside.{Rose}
+use Rattle.xk_kernel.specs.Start.{start}
 use Rattle.xk_ports.specs.declared.host.FileSlot.TheVariants.{First, Second}
 use Rattle.xk_ports.specs.Host.{FileAsked}
 use Rattle.xk_ports.specs.Told.{Grows, GrowsByPrefix}
 use Rattle.xousim.specs.declared.ending.Ending.{Ending}
-use Rattle.xousim.specs.declared.ending.Ending.TheVariants.{Played, LimitMet, Unbuilt, BadLine}
+use Rattle.xousim.specs.declared.ending.Ending.TheVariants.{Played, LimitMet, BadLine}
 use Rattle.xousim.specs.declared.status.Status.{Status}
-use Rattle.xousim.specs.declared.status.Status.TheVariants.{Done, ReadFault, WriteFault, ImageFault, EventFault, StepLimit, NoMemory, NotBuilt}
+use Rattle.xousim.specs.declared.status.Status.TheVariants.{Done, Usage, ReadFault, WriteFault, ImageFault, EventFault, StepLimit, NoMemory, NotBuilt}
+use Rattle.xousim.specs.Built.{is_built}
 use Rattle.xousim.specs.History.{History, history_of}
 use Rattle.xousim.specs.Reading.{IsFile, IsReadOf, AsksFor}
-use Rattle.xousim.specs.Words.{Names}
-use Rattle.xk_kernel.specs.Start.{start}
+use Rattle.xousim.specs.Telling.{output, told}
+use Rattle.xousim.specs.Words.{Command, Plays, Checks, Demo, Play}
 
 -- the files of the host by their names, where they are told
 abbrev pub Told : Type 0
 Told = Option (List ℕ → Option (List ℕ))
 
+-- ---- a call
+
+-- What a call meets at the host: the files that it has; the files asked for, before the call and after it; what is left of the event
+-- file; and the count of faults, before and after.
+pub record HostSide : Type 0 where
+  pub files : Told
+  pub asked : Option (List FileAsked)
+  pub asked_after : Option (List FileAsked)
+  pub left : Option (List ℕ)
+  pub faults : ℕ
+  pub faults_after : ℕ
+
+-- what stands on a sink, and its count of faults, before the call and after it
+pub record SinkSide : Type 0 where
+  pub written : Option (List ℕ)
+  pub written_after : Option (List ℕ)
+  pub faults : ℕ
+  pub faults_after : ℕ
+
+-- a call as it ended
+pub record Call : Type 0 where
+  pub host : HostSide
+  pub out : SinkSide
+  pub status : Status
+
+-- the count of faults rose in the call
+abbrev pub HostRose : Call → Type 0
+HostRose call = Rose call.host.faults call.host.faults_after
+
+abbrev pub OutRose : Call → Type 0
+OutRose call = Rose call.out.faults call.out.faults_after
+
+-- nothing was written
+abbrev pub IsUnwritten : Call → Type 0
+IsUnwritten call = call.out.written_after ≡ call.out.written
+
+-- The call ended so, and nothing outside was touched: no file was asked for, nothing was written, and no count rose.
+pub record IsUntouched (status : Status) (call : Call) : Type 0 where
+  pub ended : call.status ≡ status
+  pub asked : call.host.asked_after ≡ call.host.asked
+  pub unwritten : IsUnwritten call
+  pub host_faults : call.host.faults_after ≡ call.host.faults
+  pub out_faults : call.out.faults_after ≡ call.out.faults
+
 -- ---- images
 
--- The image has no fault, and these are its arguments.
-pub record IsSoundImage (image : List ℕ) (args : Args) : Type 0 where
+-- The image has no fault in a run with so many slots, and these are its arguments.
+pub record IsSoundImage (image : List ℕ) (slots : ℕ) (args : Args) : Type 0 where
   pub spelled : Spells image args
-  pub no_fault : IsImageFault image 0 None
+  pub no_fault : IsImageFault image slots None
 
--- the image boots this machine, the start of its plan without slots
-pub record Boots (image : List ℕ) (machine : Machine) : Type 0 where
+-- the image boots this machine, the start of its plan
+pub record Boots (image : List ℕ) (slots : ℕ) (machine : Machine) : Type 0 where
   pub args : Args
-  pub sound : IsSoundImage image args
-  pub start : machine ≡ start (plan_of args 0) image
+  pub sound : IsSoundImage image slots args
+  pub start : machine ≡ start (plan_of args slots) image
 
 -- the file of that name is an image that boots this machine
-pub record Image (file : Told) (name : List ℕ) (machine : Machine) : Type 0 where
+pub record Image (file : Told) (name : List ℕ) (slots : ℕ) (machine : Machine) : Type 0 where
   pub bytes : List ℕ
   pub read : IsFile file name bytes
-  pub boots : Boots bytes machine
+  pub boots : Boots bytes slots machine
 
 -- What holds where the image isn't booted, by the status: it has this first fault; it couldn't be read, and the
 -- host's count of faults rose; there was no memory.
-abbrev pub Refuses : Told → List ℕ → Type 0 → Status → Type 0
-Refuses file name host_rose (ImageFault fault) = (image : List ℕ) × IsFile file name image × IsImageFault image 0 (Some fault)
-Refuses file name host_rose NotBuilt = ⊥
-Refuses file name host_rose ReadFault = host_rose
-Refuses file name host_rose NoMemory = Unit {0}
-Refuses file name host_rose Done = ⊥
-Refuses file name host_rose (EventFault line) = ⊥
-Refuses file name host_rose (StepLimit limit) = ⊥
-Refuses file name host_rose WriteFault = ⊥
+abbrev pub Refuses : Told → List ℕ → ℕ → Type 0 → Status → Type 0
+Refuses file name slots host_rose (ImageFault fault) = (image : List ℕ) × IsFile file name image × IsImageFault image slots (Some fault)
+Refuses file name slots host_rose ReadFault = host_rose
+Refuses file name slots host_rose NoMemory = Unit {0}
+Refuses file name slots host_rose Done = ⊥
+Refuses file name slots host_rose Usage = ⊥
+Refuses file name slots host_rose NotBuilt = ⊥
+Refuses file name slots host_rose (EventFault line) = ⊥
+Refuses file name slots host_rose (StepLimit limit) = ⊥
+Refuses file name slots host_rose WriteFault = ⊥
 
 -- the same of bytes that were read
-abbrev pub RefusesBytes : List ℕ → Status → Type 0
-RefusesBytes image (ImageFault fault) = IsImageFault image 0 (Some fault)
-RefusesBytes image NotBuilt = ⊥
-RefusesBytes image NoMemory = Unit {0}
-RefusesBytes image ReadFault = ⊥
-RefusesBytes image Done = ⊥
-RefusesBytes image (EventFault line) = ⊥
-RefusesBytes image (StepLimit limit) = ⊥
-RefusesBytes image WriteFault = ⊥
+abbrev pub RefusesBytes : List ℕ → ℕ → Status → Type 0
+RefusesBytes image slots (ImageFault fault) = IsImageFault image slots (Some fault)
+RefusesBytes image slots NoMemory = Unit {0}
+RefusesBytes image slots ReadFault = ⊥
+RefusesBytes image slots Done = ⊥
+RefusesBytes image slots Usage = ⊥
+RefusesBytes image slots NotBuilt = ⊥
+RefusesBytes image slots (EventFault line) = ⊥
+RefusesBytes image slots (StepLimit limit) = ⊥
+RefusesBytes image slots WriteFault = ⊥
 
 -- ---- events
 
--- the history of a machine over the events of a file, up to the default step limit
-abbrev pub run_of : Machine → List ℕ → History
-run_of machine events = history_of (input_of events) DEFAULT_STEPS machine
+-- the history of a machine over the events of a file, up to a step limit
+abbrev pub run_of : ℕ → Machine → List ℕ → History
+run_of limit machine events = history_of (input_of events) limit machine
 
--- the last line; a history that ends at a bad line or at what isn't built has none
-abbrev pub last_line : ℕ → Ending → List ℕ
-last_line steps Played = end_line_of steps words.Done
-last_line steps LimitMet = end_line_of steps words.Limit
-last_line steps Unbuilt = []
-last_line steps (BadLine line) = []
-
--- the whole text of a history: the lines of its records and the last line
-abbrev pub transcript : History → List ℕ
-transcript h = text_of h.records ++ last_line h.machine.steps h.ending
-
--- the history ended in this way, and exactly its transcript was written
-pub record Ran (file : Told) (name : List ℕ) (machine : Machine) (before after : Option (List ℕ)) (ending : Ending) : Type 0 where
+-- the history ended in this way, and exactly what the command tells of it was written
+pub record Ran (play : Play) (machine : Machine) (call : Call) (ending : Ending) : Type 0 where
   pub events : List ℕ
-  pub is_file : IsFile file name events
-  pub ended : (run_of machine events).ending ≡ ending
-  pub written : Grows before after (transcript (run_of machine events))
+  pub is_file : IsFile call.host.files play.events events
+  pub ended : (run_of play.limit machine events).ending ≡ ending
+  pub written : Grows call.out.written call.out.written_after (output play.tells (run_of play.limit machine events))
 
--- a part from the front of the transcript was written
-pub record RanInPart (file : Told) (name : List ℕ) (machine : Machine) (before after : Option (List ℕ)) : Type 0 where
+-- a part from the front of what the command tells of the history was written
+pub record RanInPart (play : Play) (machine : Machine) (call : Call) : Type 0 where
   pub events : List ℕ
-  pub is_file : IsFile file name events
-  pub written : GrowsByPrefix before after (transcript (run_of machine events))
+  pub is_file : IsFile call.host.files play.events events
+  pub written : GrowsByPrefix call.out.written call.out.written_after (output play.tells (run_of play.limit machine events))
 
--- Some bytes of the file were read. Their whole lines have no bad line, the history over them doesn't meet the limit nor
--- what isn't built, and exactly the lines of its records were written.
-pub record RanWholeLines (file : Told) (name : List ℕ) (left : Option (List ℕ)) (machine : Machine) (before after : Option (List ℕ)) : Type 0 where
+-- Some bytes of the file were read. Their whole lines have no bad line, the history over them doesn't meet the limit, and
+-- exactly what the command tells as its records come was written: nothing for `ledger`.
+pub record RanWholeLines (play : Play) (machine : Machine) (call : Call) : Type 0 where
   pub bytes : List ℕ
-  pub read : IsReadOf file name left bytes
-  pub ended : (run_of machine (whole_lines bytes)).ending ≡ Played
-  pub written : Grows before after (text_of (run_of machine (whole_lines bytes)).records)
+  pub read : IsReadOf call.host.files play.events call.host.left bytes
+  pub ended : (run_of play.limit machine (whole_lines bytes)).ending ≡ Played
+  pub written : Grows call.out.written call.out.written_after (told play.tells (run_of play.limit machine (whole_lines bytes)).records)
 
--- What holds where the image boots the machine and the event file was picked, by the status.
-abbrev pub Plays : Told → List ℕ → Option (List ℕ) → Machine → Option (List ℕ) → Option (List ℕ) → Type 0 → Type 0 → Status → Type 0
-Plays file name left machine before after host_rose out_rose Done = Ran file name machine before after Played
-Plays file name left machine before after host_rose out_rose (EventFault line) = Ran file name machine before after (BadLine line)
-Plays file name left machine before after host_rose out_rose (StepLimit limit) = (limit ≡ DEFAULT_STEPS) × Ran file name machine before after LimitMet
-Plays file name left machine before after host_rose out_rose NotBuilt = Ran file name machine before after Unbuilt
-Plays file name left machine before after host_rose out_rose WriteFault = out_rose × RanInPart file name machine before after
-Plays file name left machine before after host_rose out_rose ReadFault = host_rose × RanWholeLines file name left machine before after
-Plays file name left machine before after host_rose out_rose NoMemory = ⊥
-Plays file name left machine before after host_rose out_rose (ImageFault fault) = ⊥
+-- What was written where the image boots the machine and the event file was picked, by the status.
+abbrev pub Tells : Play → Machine → Call → Status → Type 0
+Tells play machine call Done = Ran play machine call Played
+Tells play machine call (EventFault line) = Ran play machine call (BadLine line)
+Tells play machine call (StepLimit limit) = (limit ≡ play.limit) × Ran play machine call LimitMet
+Tells play machine call NotBuilt = ⊥
+Tells play machine call WriteFault = RanInPart play machine call
+Tells play machine call ReadFault = RanWholeLines play machine call
+Tells play machine call Usage = ⊥
+Tells play machine call NoMemory = ⊥
+Tells play machine call (ImageFault fault) = ⊥
 
--- ---- a call
+-- whose count of faults rose, by the status
+abbrev pub HasCause : Call → Status → Type 0
+HasCause call ReadFault = HostRose call
+HasCause call WriteFault = OutRose call
+HasCause call Done = Unit {0}
+HasCause call Usage = Unit {0}
+HasCause call (ImageFault fault) = Unit {0}
+HasCause call (EventFault line) = Unit {0}
+HasCause call (StepLimit limit) = Unit {0}
+HasCause call NoMemory = Unit {0}
+HasCause call NotBuilt = Unit {0}
+
+-- ---- calls that play events
 
 -- the image was asked for and picked at the first slot, and then the event file was asked for at the second and picked there or not
-abbrev pub AsksBoth : Names → Option (List FileAsked) → Option (List FileAsked) → Bool → Type 0
-AsksBoth names asked asked_after events_picked =
-    Grows asked asked_after (record { slot = First; name = names.image; picked = true } ∷ record { slot = Second; name = names.events; picked = events_picked } ∷ [])
+abbrev pub AsksBoth : Play → Call → Bool → Type 0
+AsksBoth play call events_picked =
+    Grows call.host.asked call.host.asked_after
+    (record { slot = First; name = play.image; picked = true } ∷ record { slot = Second; name = play.events; picked = events_picked } ∷ [])
 
 -- The image isn't booted, and nothing is written. It was asked for at the first slot and picked there or not, and nothing else was.
-abbrev pub EndsUnbooted : Told → Names → Option (List FileAsked) → Option (List FileAsked) → Option (List ℕ) → Option (List ℕ) → Type 0 → Status → Type 0
-EndsUnbooted file names asked asked_after before after host_rose status =
-    Refuses file names.image host_rose status × (after ≡ before) × AsksFor asked asked_after First names.image
+pub record EndsUnbooted (image : List ℕ) (slots : ℕ) (call : Call) : Type 0 where
+  pub asked : AsksFor call.host.asked call.host.asked_after First image
+  pub refused : Refuses call.host.files image slots (HostRose call) call.status
+  pub unwritten : IsUnwritten call
 
--- the event file isn't picked, and nothing is written
-abbrev pub EndsUnpicked : Names → Option (List FileAsked) → Option (List FileAsked) → Option (List ℕ) → Option (List ℕ) → Type 0 → Status → Type 0
-EndsUnpicked names asked asked_after before after host_rose status =
-    (status ≡ ReadFault) × host_rose × (after ≡ before) × AsksBoth names asked asked_after false
+-- the image boots a machine, but the event file isn't picked, and nothing is written
+pub record EndsUnpicked (play : Play) (call : Call) : Type 0 where
+  pub asked : AsksBoth play call false
+  pub ended : call.status ≡ ReadFault
+  pub cause : HostRose call
+  pub machine : Machine
+  pub image : Image call.host.files play.image play.slots machine
+  pub unwritten : IsUnwritten call
 
--- What holds of a call with words that name files: the image isn't booted; or it boots a machine, and then the event
--- file isn't picked, or it is and the events are played on the machine.
-abbrev pub Ends : Told → Names → Option (List FileAsked) → Option (List FileAsked) → Option (List ℕ) → Option (List ℕ) → Option (List ℕ) → Type 0 → Type 0 → Status → Type 0
-Ends file names asked asked_after left before after host_rose out_rose status =
-    EndsUnbooted file names asked asked_after before after host_rose status
-    ⊎ ((machine : Machine) × Image file names.image machine
-    × (EndsUnpicked names asked asked_after before after host_rose status
-    ⊎ (Plays file names.events left machine before after host_rose out_rose status × AsksBoth names asked asked_after true)))
+-- the image boots a machine, and the events are played on it
+pub record EndsPlayed (play : Play) (call : Call) : Type 0 where
+  pub asked : AsksBoth play call true
+  pub cause : HasCause call call.status
+  pub machine : Machine
+  pub image : Image call.host.files play.image play.slots machine
+  pub content : Tells play machine call call.status
+
+abbrev pub EndsPlay : Play → Call → Type 0
+EndsPlay play call = EndsUnbooted play.image play.slots call ⊎ EndsUnpicked play call ⊎ EndsPlayed play call
+
+-- ---- all calls
+
+abbrev pub EndsCommand : Command → Call → Type 0
+EndsCommand (Plays play) call = EndsPlay play call
+EndsCommand (Checks check) call = IsUntouched NotBuilt call
+EndsCommand (Demo clients) call = IsUntouched NotBuilt call
+
+-- .. by whether the command is built
+abbrev pub EndsIfBuilt : Bool → Command → Call → Type 0
+EndsIfBuilt true command call = EndsCommand command call
+EndsIfBuilt false command call = IsUntouched NotBuilt call
+
+-- What holds of a call whose words are this command, or none.
+abbrev pub Ends : Option Command → Call → Type 0
+Ends None call = IsUntouched Usage call
+Ends (Some command) call = EndsIfBuilt (is_built command) command call
 
 -- the notes got this text, or a part from its front where their count of faults rose
-abbrev pub Notes : Option (List ℕ) → Option (List ℕ) → ℕ → ℕ → List ℕ → Type 0
-Notes before after faults_before faults_after text =
-    Grows before after text ⊎ (Rose faults_before faults_after × GrowsByPrefix before after text)
+abbrev pub Notes : SinkSide → List ℕ → Type 0
+Notes notes text =
+    Grows notes.written notes.written_after text
+    ⊎ (Rose notes.faults notes.faults_after × GrowsByPrefix notes.written notes.written_after text)
 
 -- ---- the one status
 
 -- the image boots a machine, and its history over the event file ends in this way
-pub record RunsTo (file : Told) (names : Names) (ending : Ending) : Type 0 where
+pub record RunsTo (file : Told) (play : Play) (ending : Ending) : Type 0 where
   pub machine : Machine
-  pub image : Image file names.image machine
+  pub image : Image file play.image play.slots machine
   pub events : List ℕ
-  pub is_file : IsFile file names.events events
-  pub ended : (run_of machine events).ending ≡ ending
+  pub is_file : IsFile file play.events events
+  pub ended : (run_of play.limit machine events).ending ≡ ending
 
 -- What the files alone say of a status. A fault outside and want of memory are no verdict.
-abbrev pub IsVerdict : Told → Names → Status → Type 0
-IsVerdict file names Done = RunsTo file names Played
-IsVerdict file names (EventFault line) = RunsTo file names (BadLine line)
-IsVerdict file names (StepLimit limit) = (limit ≡ DEFAULT_STEPS) × RunsTo file names LimitMet
-IsVerdict file names (ImageFault fault) = (image : List ℕ) × IsFile file names.image image × IsImageFault image 0 (Some fault)
-IsVerdict file names NotBuilt = RunsTo file names Unbuilt
-IsVerdict file names ReadFault = ⊥
-IsVerdict file names WriteFault = ⊥
-IsVerdict file names NoMemory = ⊥
+abbrev pub IsVerdict : Told → Play → Status → Type 0
+IsVerdict file play Done = RunsTo file play Played
+IsVerdict file play (EventFault line) = RunsTo file play (BadLine line)
+IsVerdict file play (StepLimit limit) = (limit ≡ play.limit) × RunsTo file play LimitMet
+IsVerdict file play (ImageFault fault) = (image : List ℕ) × IsFile file play.image image × IsImageFault image play.slots (Some fault)
+IsVerdict file play NotBuilt = ⊥
+IsVerdict file play Usage = ⊥
+IsVerdict file play ReadFault = ⊥
+IsVerdict file play WriteFault = ⊥
+IsVerdict file play NoMemory = ⊥
 
--- A call ends with a verdict of its files, or for want of memory with nothing written.
-abbrev pub IsComplete : Told → Names → Option (List ℕ) → Option (List ℕ) → Status → Type 0
-IsComplete file names before after status = IsVerdict file names status ⊎ ((status ≡ NoMemory) × (after ≡ before))
+-- a call ends with the verdict of its files, or for want of memory with nothing written
+abbrev pub IsPlayComplete : Play → Call → Type 0
+IsPlayComplete play call = IsVerdict call.host.files play call.status ⊎ ((call.status ≡ NoMemory) × IsUnwritten call)
+
+abbrev pub IsCommandComplete : Bool → Command → Call → Type 0
+IsCommandComplete false command call = call.status ≡ NotBuilt
+IsCommandComplete true (Plays play) call = IsPlayComplete play call
+IsCommandComplete true (Checks check) call = call.status ≡ NotBuilt
+IsCommandComplete true (Demo clients) call = call.status ≡ NotBuilt
+
+-- where no count rose, a call ends as the words and the files say
+abbrev pub IsComplete : Option Command → Call → Type 0
+IsComplete None call = call.status ≡ Usage
+IsComplete (Some command) call = (¬ HostRose call) → (¬ OutRose call) → IsCommandComplete (is_built command) command call

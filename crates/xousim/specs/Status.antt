@@ -3,11 +3,12 @@ use Rattle.std.specs.Prelude.{ℕ, List, [], ◌++◌, codes, decimal, ◌==◌,
 use Rattle.kernel_args.specs.FaultNumbers.{too_short, not_xarg, bad_version, bad_total, bad_check, bad_ram, no_process, too_many_processes, bad_ini, bad_names}
 use Rattle.boot_plan.specs.FaultNumbers.{section_outside, section_misaligned, sections_overlap, load_outside, entry_outside, ram_too_small}
 use Rattle.xousim.specs.declared.status.Status.{Status}
-use Rattle.xousim.specs.declared.status.Status.TheVariants.{Done, ReadFault, WriteFault, ImageFault, EventFault, StepLimit, NoMemory, NotBuilt}
+use Rattle.xousim.specs.declared.status.Status.TheVariants.{Done, Usage, ReadFault, WriteFault, ImageFault, EventFault, StepLimit, NoMemory, NotBuilt}
 
 -- the number with which the program ends
 abbrev pub number_of : Status → ℕ
 number_of Done = 0
+number_of Usage = 2
 number_of ReadFault = 3
 number_of WriteFault = 4
 number_of (ImageFault fault) = 5
@@ -39,6 +40,7 @@ fault_name what =
 -- the text of a status on the notes; a run to its end has none
 abbrev pub note_of : Status → List ℕ
 note_of Done = []
+note_of Usage = codes "usage: xousim trace|run|ledger IMAGE EVENTS [STEPS [SLOTS [STORE]]] | check IMAGE [SLOTS] | demo N\n"
 note_of ReadFault = codes "read fault\n"
 note_of WriteFault = codes "write fault\n"
 note_of (ImageFault fault) = codes "image fault " ++ fault_name fault.what ++ codes " at " ++ decimal fault.at ++ codes "\n"

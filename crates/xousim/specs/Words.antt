@@ -1,17 +1,129 @@
--- The words of the command line, as far as they are built.
-use Rattle.std.specs.Prelude.{ℕ, List, [], ◌∷◌, Option, Some, None, if◌then◌else◌, codes, nat_eq, string_bytes}
+-- The words of the command line, and the command that they are.
+use Rattle.std.specs.Prelude.{ℕ, Bool, ◌&&◌, List, [], ◌∷◌, Option, Some, None, if◌then◌else◌, codes, nat_eq, nat_le, string_bytes}
+use Rattle.std.specs.Option.{option_and_then, option_map}
 use Rattle.std.specs.declared.string.String.{String}
 use Rattle.std.specs.declared.alloc.Global.{Global}
 use Rattle.std.specs.Cmp.Lexicographic.{pointwise}
+use Rattle.event_text.specs.Lines.{number_of}
+use Rattle.xk_base.specs.declared.limits.TheConstants.{DEFAULT_STEPS, SLOT_LIMIT, STEP_LIMIT}
+use Rattle.xousim.specs.declared.command.CheckWords.{CheckWords}
+use Rattle.xousim.specs.declared.command.CommandWords.{CommandWords}
+use Rattle.xousim.specs.declared.command.CommandWords.TheVariants as words
+use Rattle.xousim.specs.declared.command.PlayWords.{PlayWords}
+use Rattle.xousim.specs.declared.command.Telling.{Telling}
+use Rattle.xousim.specs.declared.command.Telling.TheVariants.{Ledger, Run, Trace}
 
--- the names of the image and of the event file, as bytes of UTF-8
-pub record Names : Type 0 where
+-- ---- commands
+
+-- `trace`, `run` or `ledger`: what is told of the events, the names of the image and of the event file, the step limit, the slots of
+-- the swap store, and the name of its file where one is named. Names are bytes of UTF-8.
+pub record Play : Type 0 where
+  pub tells : Telling
   pub image : List ℕ
   pub events : List ℕ
+  pub limit : ℕ
+  pub slots : ℕ
+  pub store : Option (List ℕ)
 
--- `trace IMAGE EVENTS`
-abbrev pub command_of : List (String Global) → Option Names
-command_of (command ∷ image ∷ events ∷ []) =
-    if pointwise nat_eq (string_bytes command) (codes "trace")
-    then Some (record { image = string_bytes image; events = string_bytes events }) else None
-command_of words = None
+-- `check`: the name of the image, and the slots of the swap store
+pub record Check : Type 0 where
+  pub image : List ℕ
+  pub slots : ℕ
+
+pub data Command : Type 0 where
+  Plays : Play → Command
+  Checks : Check → Command
+  Demo : ℕ → Command
+
+-- ---- numbers
+
+-- a number in these bounds
+abbrev pub in_bounds : ℕ → ℕ → Option ℕ → Option ℕ
+in_bounds least most None = None
+in_bounds least most (Some n) = if nat_le least n && nat_le n most then Some n else None
+
+-- the number of one to ten decimal digits that a word spells, in these bounds
+unfoldable pub number_within : ℕ → ℕ → List ℕ → Option ℕ
+number_within least most word = in_bounds least most (number_of word)
+
+abbrev pub Word : Type 0
+Word = String Global
+
+abbrev pub limit_of : Word → Option ℕ
+limit_of word = number_within 1 STEP_LIMIT (string_bytes word)
+
+abbrev pub slots_of : Word → Option ℕ
+slots_of word = number_within 0 SLOT_LIMIT (string_bytes word)
+
+-- ---- the forms
+
+-- a command whose numbers may be none
+abbrev pub play_with : Telling → Word → Word → Option ℕ → Option ℕ → Option Word → Option Play
+play_with tells image events limit slots store =
+    option_and_then (λ limit. option_map (λ slots. record {
+      tells = tells;
+      image = string_bytes image;
+      events = string_bytes events;
+      limit = limit;
+      slots = slots;
+      store = option_map (λ word. string_bytes word) store;
+    }) slots) limit
+
+-- `IMAGE EVENTS [STEPS [SLOTS [STORE]]]`
+abbrev pub play_of : Telling → List Word → Option Play
+play_of tells (image ∷ events ∷ []) = play_with tells image events (Some DEFAULT_STEPS) (Some 0) None
+play_of tells (image ∷ events ∷ steps ∷ []) = play_with tells image events (limit_of steps) (Some 0) None
+play_of tells (image ∷ events ∷ steps ∷ slots ∷ []) = play_with tells image events (limit_of steps) (slots_of slots) None
+play_of tells (image ∷ events ∷ steps ∷ slots ∷ store ∷ []) = play_with tells image events (limit_of steps) (slots_of slots) (Some store)
+play_of tells words = None
+
+abbrev pub check_with : Word → Option ℕ → Option Check
+check_with image slots = option_map (λ slots. record { image = string_bytes image; slots = slots }) slots
+
+-- `IMAGE [SLOTS]`
+abbrev pub check_of : List Word → Option Check
+check_of (image ∷ []) = check_with image (Some 0)
+check_of (image ∷ slots ∷ []) = check_with image (slots_of slots)
+check_of words = None
+
+-- `N`, the clients of the load
+abbrev pub demo_of : List Word → Option ℕ
+demo_of (clients ∷ []) = number_within 1 31 (string_bytes clients)
+demo_of words = None
+
+abbrev pub is_word : Word → List ℕ → Bool
+is_word word text = pointwise nat_eq (string_bytes word) text
+
+-- the words of a command, by their first
+abbrev pub command_after : Word → List Word → Option Command
+command_after first rest =
+    if is_word first (codes "trace") then option_map Plays (play_of Trace rest) else (
+    if is_word first (codes "run") then option_map Plays (play_of Run rest) else (
+    if is_word first (codes "ledger") then option_map Plays (play_of Ledger rest) else (
+    if is_word first (codes "check") then option_map Checks (check_of rest) else (
+    if is_word first (codes "demo") then option_map Demo (demo_of rest) else None))))
+
+-- the command that words are, or None where they have no stated form
+unfoldable pub command_of : List Word → Option Command
+command_of [] = None
+command_of (first ∷ rest) = command_after first rest
+
+-- ---- commands as they were read
+
+abbrev pub play_in : PlayWords → Play
+play_in play = record {
+  tells = play.tells;
+  image = play.image.now;
+  events = play.events.now;
+  limit = play.limit;
+  slots = play.slots;
+  store = option_map (λ name. name.now) play.store;
+}
+
+abbrev pub check_in : CheckWords → Check
+check_in check = record { image = check.image.now; slots = check.slots }
+
+abbrev pub command_in : CommandWords → Command
+command_in (words.Play play) = Plays (play_in play)
+command_in (words.Check check) = Checks (check_in check)
+command_in (words.Demo clients) = Demo clients

@@ -2,11 +2,12 @@
 use Rattle.std.specs.Prelude.{◌≡◌, ℕ, List, Option, Result, Ok, Err}
 use Rattle.xk_base.specs.declared.errors.Failed.{Failed}
 use Rattle.xk_ports.specs.Told.{Grows, GrowsByPrefix}
-use Rattle.trace_text.specs.Lines.{text_of}
+use Rattle.xousim.specs.declared.command.Telling.{Telling}
 use Rattle.xousim.specs.declared.ending.Ending.{Ending}
 use Rattle.xousim.specs.History.{History}
+use Rattle.xousim.specs.Telling.{told}
 
--- the lines of its records, where it was played to this ending; a part from their front, where the sink failed
-abbrev pub Wrote : Option (List ℕ) → Option (List ℕ) → History → Result Ending Failed → Type 0
-Wrote before after h (Ok ending) = (h.ending ≡ ending) × Grows before after (text_of h.records)
-Wrote before after h (Err failed) = GrowsByPrefix before after (text_of h.records)
+-- what is told as its records come, where it was played to this ending; a part from the front of that, where the sink failed
+abbrev pub Wrote : Telling → Option (List ℕ) → Option (List ℕ) → History → Result Ending Failed → Type 0
+Wrote tells before after h (Ok ending) = (h.ending ≡ ending) × Grows before after (told tells h.records)
+Wrote tells before after h (Err failed) = GrowsByPrefix before after (told tells h.records)

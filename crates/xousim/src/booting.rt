@@ -24,38 +24,39 @@ use xk_base::limits::IMAGE_LIMIT;
 use xk_kernel::Kernel;
 use xk_ports::{FileSlot, Host, SwapStore};
 
-/// Plans the first pages of the image of these bytes, for a run without slots, or says why not:
+/// Plans the first pages of the image of these bytes, for a run with so many slots, or says why not:
 /// `ImageFault` or `NoMemory`.
-fn plan_bytes(alloc: Global, bytes: &[u8]) -> Result<BootPlan, Status>
-    requires { length bytes.now ≤ 67108864 }
-    ensures planned { IfOk result (λ plan. (args : Args) × IsSoundImage bytes.now args × (plan ≡ plan_of args 0)) }
+fn plan_bytes(alloc: Global, bytes: &[u8], slots: u32) -> Result<BootPlan, Status>
+    requires size { length bytes.now ≤ 67108864 }
+    requires few { slots ≤ 16384 }
+    ensures planned { IfOk result (λ plan. (args : Args) × IsSoundImage bytes.now slots args × (plan ≡ plan_of args slots)) }
     ensures lawful { IfOk result (IsLawfulPlan (length bytes.now)) }
     ensures can_start { IfOk result (λ plan. All CanStart plan.procs) }
-    ensures refused { IfErr result (RefusesBytes bytes.now) }
+    ensures refused { IfErr result (RefusesBytes bytes.now slots) }
 {
     let args = match read_args(alloc, bytes) {
         Ok(args) => args,
         Err(ArgsError::Fault(fault)) => return Err(Status::ImageFault(fault)),
         Err(ArgsError::NoMemory) => return Err(Status::NoMemory),
     };
-    match plan(alloc, &args, bytes.len() as u32, 0) {
+    match plan(alloc, &args, bytes.len() as u32, slots) {
         Ok(plan) => Ok(plan),
         Err(PlanError::Fault(fault)) => Err(Status::ImageFault(fault)),
         Err(PlanError::NoMemory) => Err(Status::NoMemory),
     }
 }
 
-/// Boots the image of these bytes, or says why not, and hands the store back then.
+/// Boots the image of these bytes in a run without slots, or says why not, and hands the store back then.
 fn boot_bytes<W: SwapStore>(alloc: Global, bytes: &[u8], store: W) -> Result<Kernel<W>, Ended<W>>
     requires { length bytes.now ≤ 67108864 }
-    ensures booted { IfOk result (λ kernel. Boots bytes.now (machine_of W.held kernel)) }
+    ensures booted { IfOk result (λ kernel. Boots bytes.now 0 (machine_of W.held kernel)) }
     ensures sound { IfOk result (λ kernel. IsSound W.slot_count W.held kernel) }
     ensures usable { IfOk result (λ kernel. IsUsable kernel) }
     ensures store { IfOk result (λ kernel. KeepsStore W.is_honest W.held W.slot_count W.asked W.faults store (store_of kernel.mem)) }
-    ensures refused { IfErr result (λ ended. RefusesBytes bytes.now ended.status) }
+    ensures refused { IfErr result (λ ended. RefusesBytes bytes.now 0 ended.status) }
     ensures back { IfErr result (λ ended. KeepsStore W.is_honest W.held W.slot_count W.asked W.faults store ended.store) }
 {
-    let plan = match plan_bytes(alloc, bytes) {
+    let plan = match plan_bytes(alloc, bytes, 0) {
         Ok(plan) => plan,
         Err(status) => return Err(Ended { status, store }),
     };
@@ -68,19 +69,19 @@ fn boot_bytes<W: SwapStore>(alloc: Global, bytes: &[u8], store: W) -> Result<Ker
     }
 }
 
-/// Reads the image of that name and boots it, or says why not, and hands the store back then.
+/// Reads the image of that name and boots it in a run without slots, or says why not, and hands the store back then.
 pub fn boot_image<H: Host, W: SwapStore>(
     alloc: Global,
     host: &mut H,
     name: &str,
     store: W,
 ) -> Result<Kernel<W>, Ended<W>>
-    ensures booted { IfOk result (λ kernel. Image (H.file host.old) name.now (machine_of W.held kernel)) }
+    ensures booted { IfOk result (λ kernel. Image (H.file host.old) name.now 0 (machine_of W.held kernel)) }
     ensures sound { IfOk result (λ kernel. IsSound W.slot_count W.held kernel) }
     ensures usable { IfOk result (λ kernel. IsUsable kernel) }
     ensures store { IfOk result (λ kernel. KeepsStore W.is_honest W.held W.slot_count W.asked W.faults store (store_of kernel.mem)) }
     ensures end { IfOk result (λ kernel. IsTold (H.left host.new First) []) }
-    ensures refused { IfErr result (λ ended. Refuses (H.file host.old) name.now (Rose (H.faults host.old) (H.faults host.new)) ended.status) }
+    ensures refused { IfErr result (λ ended. Refuses (H.file host.old) name.now 0 (Rose (H.faults host.old) (H.faults host.new)) ended.status) }
     ensures back { IfErr result (λ ended. KeepsStore W.is_honest W.held W.slot_count W.asked W.faults store ended.store) }
     ensures asked { AsksFor (H.asked host.old) (H.asked host.new) First name.now }
     ensures picked { OnOk result (Asked (H.asked host.old) (H.asked host.new) First name.now true) }

@@ -11,6 +11,7 @@ ghost use Rattle.xk_ports.specs.declared.host.FileSlot.TheVariants.{First, Secon
 ghost use Rattle.xousim.specs.Playing.{Goes, HasPlayed, Runs};
 ghost use Rattle.xousim.specs.Reading.{IsTold};
 
+use crate::command::Telling;
 use crate::ending::Ending;
 use crate::playing::play_known;
 use crate::reading::PIECE;
@@ -34,6 +35,7 @@ fn play_piece<K: Sink, W: SwapStore>(
     kernel: &mut Kernel<W>,
     reader: &mut EventReader,
     piece: &[u8],
+    tells: Telling,
     limit: u32,
     out: &mut K,
 ) -> Result<Option<Ending>, Failed>
@@ -43,7 +45,7 @@ fn play_piece<K: Sink, W: SwapStore>(
     requires within { (machine_of W.held kernel.old).steps ≤ limit }
     requires waits { IsWaiting reader.old }
     requires inside { reader.old.start + length reader.old.held ≤ EVENT_FILE_LIMIT }
-    ensures goes { (start : Machine) (begun : Option (List ℕ)) (taken : List ℕ) → HasPlayed limit start begun taken reader.old (machine_of W.held kernel.old) (K.written out.old) → Goes limit start begun (taken ++ piece.now) false reader.new (machine_of W.held kernel.new) (K.written out.new) result }
+    ensures goes { (start : Machine) (begun : Option (List ℕ)) (taken : List ℕ) → HasPlayed tells limit start begun taken reader.old (machine_of W.held kernel.old) (K.written out.old) → Goes tells limit start begun (taken ++ piece.now) false reader.new (machine_of W.held kernel.new) (K.written out.new) result }
     ensures sound { IsSound W.slot_count W.held kernel.new }
     ensures usable { IsUsable kernel.new }
     ensures keeps { Keeps W.is_honest W.held W.slot_count W.asked W.faults kernel.old kernel.new }
@@ -58,7 +60,7 @@ fn play_piece<K: Sink, W: SwapStore>(
     'rest: while !rest.is_empty() {
         let taken = reader.feed(rest);
         rest = &rest[taken..];
-        match play_known(kernel, reader, limit, out)? {
+        match play_known(kernel, reader, tells, limit, out)? {
             None => {}
             Some(ending) => return Ok(Some(ending)),
         }
@@ -67,10 +69,11 @@ fn play_piece<K: Sink, W: SwapStore>(
 }
 
 /// Reads the event file that was picked at the second slot, plays its events on a booted kernel,
-/// and writes their records. It takes no memory.
+/// and writes what a command tells of their records. It takes no memory.
 pub fn play_file<H: Host, K: Sink, W: SwapStore>(
     kernel: &mut Kernel<W>,
     host: &mut H,
+    tells: Telling,
     limit: u32,
     out: &mut K,
 ) -> Result<Ending, RunFault>
@@ -79,7 +82,7 @@ pub fn play_file<H: Host, K: Sink, W: SwapStore>(
     requires usable { IsUsable kernel.old }
     requires limit { limit ≤ 4000000000 }
     requires within { (machine_of W.held kernel.old).steps ≤ limit }
-    ensures runs { Runs (H.left host.old Second) (H.left host.new Second) limit (machine_of W.held kernel.old) (machine_of W.held kernel.new) (K.written out.old) (K.written out.new) result }
+    ensures runs { Runs tells (H.left host.old Second) (H.left host.new Second) limit (machine_of W.held kernel.old) (machine_of W.held kernel.new) (K.written out.old) (K.written out.new) result }
     ensures sound { IsSound W.slot_count W.held kernel.new }
     ensures usable { IsUsable kernel.new }
     ensures keeps { Keeps W.is_honest W.held W.slot_count W.asked W.faults kernel.old kernel.new }
@@ -99,13 +102,13 @@ pub fn play_file<H: Host, K: Sink, W: SwapStore>(
         };
         if count == 0 {
             reader.finish();
-            return match play_known(kernel, &mut reader, limit, out) {
+            return match play_known(kernel, &mut reader, tells, limit, out) {
                 Ok(Some(ending)) => Ok(ending),
                 Ok(None) => unreachable!(),
                 Err(_) => Err(RunFault::Write),
             };
         }
-        match play_piece(kernel, &mut reader, &piece[..count], limit, out) {
+        match play_piece(kernel, &mut reader, &piece[..count], tells, limit, out) {
             Ok(None) => {}
             Ok(Some(ending)) => return Ok(ending),
             Err(_) => return Err(RunFault::Write),

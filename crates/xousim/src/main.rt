@@ -3,11 +3,13 @@
 #![tactic(auto)]
 
 mod adapters;
-mod agreement;
 mod booting;
+mod command;
 mod ending;
 mod event_file;
+mod matched;
 mod notes;
+mod numbers;
 mod playing;
 mod reading;
 mod status;
@@ -19,18 +21,19 @@ mod verdict;
 mod words;
 
 use adapters::{ErrSink, FileHost, StdSink};
+use notes::write_note;
 use status::{Ended, Status};
 use std::env;
 use std::io::ErrorKind;
 use std::process::ExitCode;
 use top::xous_main;
-use xk_ports::{MemStore, put_all};
+use xk_ports::{MemStore, Sink};
 
-/// The number with which the program ends where a word isn't UTF-8.
-const USAGE: u8 = 2;
-
-const USAGE_LINE: &[u8] =
-    b"usage: xousim trace|run|ledger IMAGE EVENTS [STEPS [SLOTS [STORE]]] | check IMAGE [SLOTS] | demo N\n";
+/// Ends before there are words to look at, with a note.
+fn end<N: Sink>(status: Status, notes: &mut N) -> ExitCode {
+    write_note(status, notes);
+    ExitCode::from(status.number())
+}
 
 fn main(rt: HostRuntime) -> ExitCode {
     let alloc = rt.alloc();
@@ -38,15 +41,13 @@ fn main(rt: HostRuntime) -> ExitCode {
     let words: Vec<String> = match env::args(&rt) {
         Ok(args) => match args.skip(1).collect(alloc) {
             Ok(words) => words,
-            Err(_) => return ExitCode::from(Status::NoMemory.number()),
+            Err(_) => return end(Status::NoMemory, &mut notes),
         },
         Err(error) if error.kind() == ErrorKind::OutOfMemory => {
-            return ExitCode::from(Status::NoMemory.number());
+            return end(Status::NoMemory, &mut notes);
         }
-        Err(_) => {
-            let _ = put_all(&mut notes, USAGE_LINE);
-            return ExitCode::from(USAGE);
-        }
+        // A word isn't UTF-8.
+        Err(_) => return end(Status::Usage, &mut notes),
     };
     let mut host = FileHost::new(&rt);
     let mut out = StdSink::new(rt.stdout());

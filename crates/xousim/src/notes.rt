@@ -4,7 +4,7 @@ ghost use Rattle.std.specs.Prelude.{◌≡◌, ◌+◌, ◌≤◌, [], ◌++◌,
 ghost use Rattle.arrayvec.specs.ArrayVec.{array_vec_len};
 ghost use Rattle.xk_ports.specs.Told.{Grows, GrowsByPrefix};
 ghost use Rattle.xousim.specs.Status.{fault_name, note_of};
-ghost use Rattle.xousim.specs.Outcome.{Notes};
+ghost use Rattle.xousim.specs.Outcome.{Notes, SinkSide};
 
 use crate::status::Status;
 use arrayvec::ArrayVec;
@@ -12,8 +12,8 @@ use itoa::Buffer;
 use kernel_args::ArgFault;
 use xk_ports::{Sink, put_all};
 
-/// The longest note has 48 bytes.
-type Note = ArrayVec<u8, 64>;
+/// The longest note, the usage line, has 99 bytes.
+type Note = ArrayVec<u8, 128>;
 
 /// The name of an image's fault.
 fn name(what: u8) -> &'static [u8]
@@ -43,7 +43,7 @@ fn name(what: u8) -> &'static [u8]
 
 /// Appends text for which there is room.
 fn put(note: &mut Note, text: &[u8])
-    requires { array_vec_len note.old + length text.now ≤ 64 }
+    requires { array_vec_len note.old + length text.now ≤ 128 }
     ensures text { note.new.items ≡ note.old.items ++ text.now }
     ensures len { array_vec_len note.new ≡ array_vec_len note.old + length text.now }
 {
@@ -55,7 +55,7 @@ fn put(note: &mut Note, text: &[u8])
 
 /// Appends a number in decimal.
 fn put_number(note: &mut Note, number: u32)
-    requires { array_vec_len note.old + 10 ≤ 64 }
+    requires { array_vec_len note.old + 10 ≤ 128 }
     ensures text { note.new.items ≡ note.old.items ++ decimal number }
     ensures len { array_vec_len note.new ≤ array_vec_len note.old + 10 }
 {
@@ -81,6 +81,10 @@ fn note(status: Status) -> Note
     let mut note = Note::new();
     match status {
         Status::Done => {}
+        Status::Usage => put(
+            &mut note,
+            b"usage: xousim trace|run|ledger IMAGE EVENTS [STEPS [SLOTS [STORE]]] | check IMAGE [SLOTS] | demo N\n",
+        ),
         Status::ReadFault => put(&mut note, b"read fault\n"),
         Status::WriteFault => put(&mut note, b"write fault\n"),
         Status::ImageFault(fault) => put_fault(&mut note, fault),
@@ -102,7 +106,12 @@ fn note(status: Status) -> Note
 
 /// Writes the note of a status. A fault there leaves the status as it was decided.
 pub fn write_note<N: Sink>(status: Status, notes: &mut N)
-    ensures noted { Notes (N.written notes.old) (N.written notes.new) (N.faults notes.old) (N.faults notes.new) (note_of status) }
+    ensures noted { let side : SinkSide = record {
+      written = N.written notes.old;
+      written_after = N.written notes.new;
+      faults = N.faults notes.old;
+      faults_after = N.faults notes.new;
+    } in Notes side (note_of status) }
     ensures never_falls { N.faults notes.old ≤ N.faults notes.new }
 {
     let _ = put_all(notes, note(status).as_slice());

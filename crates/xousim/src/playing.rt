@@ -1,4 +1,4 @@
-//! Events are played, and their records are written as they come.
+//! Events are played, and what a command tells of their records is written as they come.
 
 ghost use Rattle.std.specs.Prelude.{◌≡◌, ◌≤◌, ◌<◌, ◌+◌, ℕ, true, List, Option, None, Some, Ok, length, OnOk, OnErr};
 ghost use Rattle.event_text.specs.Held.{IsWaiting};
@@ -11,6 +11,7 @@ ghost use Rattle.xousim.specs.History.{at_once, play, ticks};
 ghost use Rattle.xousim.specs.Playing.{Advances, Goes, HasPlayed};
 ghost use Rattle.xousim.specs.Writing.{Wrote};
 
+use crate::command::Telling;
 use crate::ending::Ending;
 use crate::transcript::write_records;
 use event_text::{Event, EventReader, NextEvent};
@@ -22,6 +23,7 @@ use xk_ports::{Sink, SwapStore};
 fn play_tick<K: Sink, W: SwapStore>(
     kernel: &mut Kernel<W>,
     count: u32,
+    tells: Telling,
     limit: u32,
     out: &mut K,
 ) -> Result<Ending, Failed>
@@ -29,7 +31,7 @@ fn play_tick<K: Sink, W: SwapStore>(
     requires usable { IsUsable kernel.old }
     requires limit { limit ≤ 4000000000 }
     requires within { (machine_of W.held kernel.old).steps ≤ limit }
-    ensures wrote { Wrote (K.written out.old) (K.written out.new) (ticks count limit (machine_of W.held kernel.old)) result }
+    ensures wrote { Wrote tells (K.written out.old) (K.written out.new) (ticks count limit (machine_of W.held kernel.old)) result }
     ensures machine { OnOk result (machine_of W.held kernel.new ≡ (ticks count limit (machine_of W.held kernel.old)).machine) }
     ensures sound { IsSound W.slot_count W.held kernel.new }
     ensures usable { IsUsable kernel.new }
@@ -52,25 +54,25 @@ fn play_tick<K: Sink, W: SwapStore>(
                 kernel.end_turn();
                 return Ok(Ending::Played);
             }
-            Ok(Stepped::NotBuilt) => return Ok(Ending::Unbuilt),
             // The store isn't used until pages can be out.
             Err(SwapFault) => unreachable!(),
         }
-        write_records(kernel.last(), out)?;
+        write_records(tells, kernel.last(), out)?;
     }
     kernel.end_turn();
     Ok(Ending::Played)
 }
 
-/// Plays an event without steps, where it is built.
+/// Plays an event without steps.
 fn play_at_once<K: Sink, W: SwapStore>(
     kernel: &mut Kernel<W>,
     event: Event,
+    tells: Telling,
     out: &mut K,
 ) -> Result<Ending, Failed>
     requires sound { IsSound W.slot_count W.held kernel.old }
     requires usable { IsUsable kernel.old }
-    ensures wrote { Wrote (K.written out.old) (K.written out.new) (at_once event (machine_of W.held kernel.old)) result }
+    ensures wrote { Wrote tells (K.written out.old) (K.written out.new) (at_once event (machine_of W.held kernel.old)) result }
     ensures machine { OnOk result (machine_of W.held kernel.new ≡ (at_once event (machine_of W.held kernel.old)).machine) }
     ensures sound { IsSound W.slot_count W.held kernel.new }
     ensures usable { IsUsable kernel.new }
@@ -78,11 +80,8 @@ fn play_at_once<K: Sink, W: SwapStore>(
     ensures cause { OnErr result (Rose (K.faults out.old) (K.faults out.new)) }
     ensures never_falls { K.faults out.old ≤ K.faults out.new }
 {
-    if !kernel.event_built(event) {
-        return Ok(Ending::Unbuilt);
-    }
     kernel.event_start(event);
-    write_records(kernel.last(), out)?;
+    write_records(tells, kernel.last(), out)?;
     Ok(Ending::Played)
 }
 
@@ -90,6 +89,7 @@ fn play_at_once<K: Sink, W: SwapStore>(
 fn play_event<K: Sink, W: SwapStore>(
     kernel: &mut Kernel<W>,
     event: Event,
+    tells: Telling,
     limit: u32,
     out: &mut K,
 ) -> Result<Ending, Failed>
@@ -97,7 +97,7 @@ fn play_event<K: Sink, W: SwapStore>(
     requires usable { IsUsable kernel.old }
     requires limit { limit ≤ 4000000000 }
     requires within { (machine_of W.held kernel.old).steps ≤ limit }
-    ensures wrote { Wrote (K.written out.old) (K.written out.new) (play event limit (machine_of W.held kernel.old)) result }
+    ensures wrote { Wrote tells (K.written out.old) (K.written out.new) (play event limit (machine_of W.held kernel.old)) result }
     ensures machine { OnOk result (machine_of W.held kernel.new ≡ (play event limit (machine_of W.held kernel.old)).machine) }
     ensures sound { IsSound W.slot_count W.held kernel.new }
     ensures usable { IsUsable kernel.new }
@@ -107,8 +107,10 @@ fn play_event<K: Sink, W: SwapStore>(
     ensures never_falls { K.faults out.old ≤ K.faults out.new }
 {
     match event {
-        Event::Tick(count) => play_tick(kernel, count, limit, out),
-        Event::Pick(_, _) | Event::Irq(_) | Event::Kill(_) => play_at_once(kernel, event, out),
+        Event::Tick(count) => play_tick(kernel, count, tells, limit, out),
+        Event::Pick(_, _) | Event::Irq(_) | Event::Kill(_) => play_at_once(
+            kernel, event, tells, out,
+        ),
     }
 }
 
@@ -127,6 +129,7 @@ enum Advance {
 fn play_next<K: Sink, W: SwapStore>(
     kernel: &mut Kernel<W>,
     reader: &mut EventReader,
+    tells: Telling,
     limit: u32,
     out: &mut K,
 ) -> Result<Advance, Failed>
@@ -134,7 +137,7 @@ fn play_next<K: Sink, W: SwapStore>(
     requires usable { IsUsable kernel.old }
     requires limit { limit ≤ 4000000000 }
     requires within { (machine_of W.held kernel.old).steps ≤ limit }
-    ensures advances { (start : Machine) (begun : Option (List ℕ)) (taken : List ℕ) → HasPlayed limit start begun taken reader.old (machine_of W.held kernel.old) (K.written out.old) → Advances limit start begun taken reader.old.finished reader.new (machine_of W.held kernel.new) (K.written out.new) result }
+    ensures advances { (start : Machine) (begun : Option (List ℕ)) (taken : List ℕ) → HasPlayed tells limit start begun taken reader.old (machine_of W.held kernel.old) (K.written out.old) → Advances tells limit start begun taken reader.old.finished reader.new (machine_of W.held kernel.new) (K.written out.new) result }
     ensures sound { IsSound W.slot_count W.held kernel.new }
     ensures usable { IsUsable kernel.new }
     ensures keeps { Keeps W.is_honest W.held W.slot_count W.asked W.faults kernel.old kernel.new }
@@ -151,7 +154,7 @@ fn play_next<K: Sink, W: SwapStore>(
     ensures never_falls { K.faults out.old ≤ K.faults out.new }
 {
     match reader.next() {
-        NextEvent::Event(event) => match play_event(kernel, event, limit, out)? {
+        NextEvent::Event(event) => match play_event(kernel, event, tells, limit, out)? {
             Ending::Played => Ok(Advance::Played),
             ending => Ok(Advance::Ended(ending)),
         },
@@ -166,6 +169,7 @@ fn play_next<K: Sink, W: SwapStore>(
 pub fn play_known<K: Sink, W: SwapStore>(
     kernel: &mut Kernel<W>,
     reader: &mut EventReader,
+    tells: Telling,
     limit: u32,
     out: &mut K,
 ) -> Result<Option<Ending>, Failed>
@@ -173,7 +177,7 @@ pub fn play_known<K: Sink, W: SwapStore>(
     requires usable { IsUsable kernel.old }
     requires limit { limit ≤ 4000000000 }
     requires within { (machine_of W.held kernel.old).steps ≤ limit }
-    ensures goes { (start : Machine) (begun : Option (List ℕ)) (taken : List ℕ) → HasPlayed limit start begun taken reader.old (machine_of W.held kernel.old) (K.written out.old) → Goes limit start begun taken reader.old.finished reader.new (machine_of W.held kernel.new) (K.written out.new) result }
+    ensures goes { (start : Machine) (begun : Option (List ℕ)) (taken : List ℕ) → HasPlayed tells limit start begun taken reader.old (machine_of W.held kernel.old) (K.written out.old) → Goes tells limit start begun taken reader.old.finished reader.new (machine_of W.held kernel.new) (K.written out.new) result }
     ensures sound { IsSound W.slot_count W.held kernel.new }
     ensures usable { IsUsable kernel.new }
     ensures keeps { Keeps W.is_honest W.held W.slot_count W.asked W.faults kernel.old kernel.new }
@@ -186,7 +190,7 @@ pub fn play_known<K: Sink, W: SwapStore>(
     ensures never_falls { K.faults out.old ≤ K.faults out.new }
 {
     'answers: loop {
-        match play_next(kernel, reader, limit, out)? {
+        match play_next(kernel, reader, tells, limit, out)? {
             Advance::Played => {}
             Advance::Waits => return Ok(None),
             Advance::Ended(ending) => return Ok(Some(ending)),

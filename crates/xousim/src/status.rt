@@ -8,8 +8,10 @@ use kernel_args::ArgFault;
 /// How a call ends.
 #[derive(Clone, Copy, Debug, PartialEq, Eq)]
 pub enum Status {
-    /// All events were played.
+    /// All was done.
     Done,
+    /// The words have no stated form.
+    Usage,
     /// A file couldn't be read.
     ReadFault,
     /// The output couldn't be written.
@@ -22,7 +24,7 @@ pub enum Status {
     StepLimit(u32),
     /// There was no memory.
     NoMemory,
-    /// The words, an event or a step isn't built yet.
+    /// The command, an event or a step isn't built yet.
     NotBuilt,
 }
 
@@ -33,6 +35,7 @@ impl Status {
     {
         match self {
             Status::Done => 0,
+            Status::Usage => 2,
             Status::ReadFault => 3,
             Status::WriteFault => 4,
             Status::ImageFault(_) => 5,

@@ -1,6 +1,8 @@
 //! The program over files and streams in memory, and each real adapter once.
 
 mod atomics;
+mod commands;
+mod deaths;
 mod forwards;
 mod image;
 mod interrupts;
@@ -187,9 +189,9 @@ fn damage_in_an_unused_part(rt: HostRuntime) -> Result<(), Fail> {
     Ok(())
 }
 
-/// A process asks for its pid, and then destroys a server.
+/// A process asks for its pid, destroys a server that there isn't, and executes a word of 0.
 #[test]
-fn what_is_not_built(rt: HostRuntime) -> Result<(), Fail> {
+fn calls_and_a_trap(rt: HostRuntime) -> Result<(), Fail> {
     let alloc = rt.alloc();
     let code = [
         0x02B0_0513, // a0 = 43, GetProcessId
@@ -199,10 +201,18 @@ fn what_is_not_built(rt: HostRuntime) -> Result<(), Fail> {
     ];
     let one = image::image(alloc, 1, &code)?;
     let run = trace(alloc, one.as_slice(), b"irq 20\ntick 9\n", &[], &[])?;
-    assert_eq!(rt; run.status, Status::NotBuilt);
-    let lines = transcript(alloc, &["2 2.2 call 2b", "2 2.2 reply e 2"])?;
-    assert_eq!(rt; run.out.as_slice(), lines.as_slice());
-    assert_eq!(rt; run.notes.as_slice(), b"not built\n".as_slice());
+    assert_eq!(rt; run.status, Status::Done);
+    let lines = [
+        "2 2.2 call 2b",
+        "2 2.2 reply e 2",
+        "4 2.2 call 29 2",
+        "4 2.2 reply 1 9",
+        "5 2.2 fault 2 00000000",
+        "5 2 gone",
+        "end 5 done",
+    ];
+    assert_eq!(rt; run.out.as_slice(), transcript(alloc, &lines)?.as_slice());
+    assert_eq!(rt; run.notes.as_slice(), b"".as_slice());
     Ok(())
 }
 

@@ -1,61 +1,83 @@
-//! The top call: words in, a status and a transcript out.
+//! The top call: words in, a status and what the command tells out.
 
-ghost use Rattle.std.specs.Prelude.{⊤, ◌≡◌, ◌≤◌, [], MatchOption};
+ghost use Rattle.std.specs.Prelude.{◌≡◌, ◌≤◌, [], true};
 ghost use Rattle.xk_ports.specs.Keeping.{KeepsStore};
-ghost use Rattle.xk_base.specs.Outside.{Rose};
 ghost use Rattle.xk_kernel.specs.Sound.{IsSound, IsUsable, Keeps};
 ghost use Rattle.xk_kernel.specs.State.{machine_of};
 ghost use Rattle.xk_ports.specs.declared.host.FileSlot.TheVariants.{First, Second};
+ghost use Rattle.xousim.specs.Built.{is_play_built, is_told};
 ghost use Rattle.xousim.specs.Finish.{EndsBooted, Finishes};
-ghost use Rattle.xousim.specs.Outcome.{Ends, IsComplete, Notes};
+ghost use Rattle.xousim.specs.Outcome.{Call, Ends, EndsPlay, IsComplete, Notes, SinkSide};
 ghost use Rattle.xousim.specs.Reading.{IsTold};
 ghost use Rattle.xousim.specs.Status.{note_of};
-ghost use Rattle.xousim.specs.Words.{command_of};
+ghost use Rattle.xousim.specs.Words.{command_of, play_in};
 
 use crate::booting::boot_image;
+use crate::command::{CommandWords, PlayWords, Telling};
 use crate::ending::Ending;
 use crate::event_file::{RunFault, play_file};
 use crate::notes::write_note;
 use crate::status::{Ended, Status};
-use crate::transcript::write_end;
-use crate::words::{Files, read_words};
+use crate::transcript::write_closing;
+use crate::words::read_words;
 use std::alloc::Global;
-use trace_text::EndWord;
-use xk_base::limits::DEFAULT_STEPS;
 use xk_kernel::Kernel;
 use xk_ports::{FileSlot, Host, Sink, SwapStore};
 
-/// Writes the last line of a history that ended in this way, and gives the status.
-fn finish<K: Sink>(ending: Ending, steps: u32, out: &mut K) -> Status
-    ensures finished { Finishes (K.written out.old) (K.written out.new) (Rose (K.faults out.old) (K.faults out.new)) ending steps result }
+/// Writes what is told at the end of a history that ended in this way, and gives the status.
+fn finish<K: Sink, W: SwapStore>(
+    kernel: &Kernel<W>,
+    play: PlayWords,
+    ending: Ending,
+    out: &mut K,
+) -> Status
+    requires { is_told play.tells ≡ true }
+    ensures finished { let side : SinkSide = record {
+      written = K.written out.old;
+      written_after = K.written out.new;
+      faults = K.faults out.old;
+      faults_after = K.faults out.new;
+    } in Finishes (play_in play.entry) (machine_of W.held kernel.now) ending side result }
     ensures never_falls { K.faults out.old ≤ K.faults out.new }
 {
+    let Ok(()) = write_closing(kernel, play.tells, ending, out) else {
+        return Status::WriteFault;
+    };
     match ending {
-        Ending::Played => match write_end(steps, EndWord::Done, out) {
-            Ok(()) => Status::Done,
-            Err(_) => Status::WriteFault,
-        },
-        Ending::LimitMet => match write_end(steps, EndWord::Limit, out) {
-            Ok(()) => Status::StepLimit(DEFAULT_STEPS),
-            Err(_) => Status::WriteFault,
-        },
+        Ending::Played => Status::Done,
+        Ending::LimitMet => Status::StepLimit(play.limit),
         Ending::BadLine(line) => Status::EventFault(line),
-        Ending::Unbuilt => Status::NotBuilt,
     }
 }
 
-/// Picks the event file of that name, plays its events on a booted kernel, and writes the
-/// transcript.
+/// Picks the event file, plays its events on a booted kernel, and writes what is told of them.
 fn play_events<H: Host, K: Sink, W: SwapStore>(
     kernel: &mut Kernel<W>,
     host: &mut H,
-    name: &str,
+    play: PlayWords,
     out: &mut K,
 ) -> Status
     requires sound { IsSound W.slot_count W.held kernel.old }
     requires usable { IsUsable kernel.old }
-    requires within { (machine_of W.held kernel.old).steps ≤ DEFAULT_STEPS }
-    ensures played { EndsBooted (H.file host.old) name.now (H.asked host.old) (H.asked host.new) (H.left host.new Second) (machine_of W.held kernel.old) (K.written out.old) (K.written out.new) (Rose (H.faults host.old) (H.faults host.new)) (Rose (K.faults out.old) (K.faults out.new)) result }
+    requires told { is_told play.tells ≡ true }
+    requires within { (machine_of W.held kernel.old).steps ≤ play.limit }
+    ensures played { let call : Call = record {
+      host = record {
+        files = H.file host.old;
+        asked = H.asked host.old;
+        asked_after = H.asked host.new;
+        left = H.left host.new Second;
+        faults = H.faults host.old;
+        faults_after = H.faults host.new;
+      };
+      out = record {
+        written = K.written out.old;
+        written_after = K.written out.new;
+        faults = K.faults out.old;
+        faults_after = K.faults out.new;
+      };
+      status = result;
+    } in EndsBooted (play_in play.entry) (machine_of W.held kernel.old) call }
     ensures end { result ≡ Status.Done → IsTold (H.left host.new Second) [] }
     ensures sound { IsSound W.slot_count W.held kernel.new }
     ensures usable { IsUsable kernel.new }
@@ -64,34 +86,52 @@ fn play_events<H: Host, K: Sink, W: SwapStore>(
     ensures host { H.faults host.old ≤ H.faults host.new }
     ensures out { K.faults out.old ≤ K.faults out.new }
 {
-    let Ok(()) = host.pick_file(FileSlot::Second, name) else {
+    let Ok(()) = host.pick_file(FileSlot::Second, play.events) else {
         return Status::ReadFault;
     };
-    match play_file(kernel, host, DEFAULT_STEPS, out) {
-        Ok(ending) => finish(ending, kernel.steps(), out),
+    match play_file(kernel, host, play.tells, play.limit, out) {
+        Ok(ending) => finish(kernel, play, ending, out),
         Err(RunFault::Read) => Status::ReadFault,
         Err(RunFault::Write) => Status::WriteFault,
     }
 }
 
-/// Runs the image over the events, and hands the store back.
-fn run<H: Host, K: Sink, W: SwapStore>(
+/// Plays the events of a file on an image, and hands the store back.
+fn play_image<H: Host, K: Sink, W: SwapStore>(
     alloc: Global,
-    files: Files,
+    play: PlayWords,
     host: &mut H,
     out: &mut K,
     store: W,
 ) -> Ended<W>
-    ensures ends { Ends (H.file host.old) (record { image = files.entry.image.now; events = files.entry.events.now }) (H.asked host.old) (H.asked host.new) (H.left host.new Second) (K.written out.old) (K.written out.new) (Rose (H.faults host.old) (H.faults host.new)) (Rose (K.faults out.old) (K.faults out.new)) result.status }
+    requires told { is_told play.tells ≡ true }
+    requires without_slots { play.slots ≡ 0 }
+    ensures ends { let call : Call = record {
+      host = record {
+        files = H.file host.old;
+        asked = H.asked host.old;
+        asked_after = H.asked host.new;
+        left = H.left host.new Second;
+        faults = H.faults host.old;
+        faults_after = H.faults host.new;
+      };
+      out = record {
+        written = K.written out.old;
+        written_after = K.written out.new;
+        faults = K.faults out.old;
+        faults_after = K.faults out.new;
+      };
+      status = result.status;
+    } in EndsPlay (play_in play.entry) call }
     ensures first { result.status ≡ Status.Done → IsTold (H.left host.new First) [] }
     ensures second { result.status ≡ Status.Done → IsTold (H.left host.new Second) [] }
     ensures store { KeepsStore W.is_honest W.held W.slot_count W.asked W.faults store result.store }
     ensures host { H.faults host.old ≤ H.faults host.new }
     ensures out { K.faults out.old ≤ K.faults out.new }
 {
-    match boot_image(alloc, host, files.image, store) {
+    match boot_image(alloc, host, play.image, store) {
         Ok(mut kernel) => {
-            let status = play_events(&mut kernel, host, files.events, out);
+            let status = play_events(&mut kernel, host, play, out);
             Ended {
                 status,
                 store: kernel.close(),
@@ -101,7 +141,17 @@ fn run<H: Host, K: Sink, W: SwapStore>(
     }
 }
 
-/// Runs the files that the words name, and hands the store back.
+/// Whether a command that plays events is built.
+fn is_built(play: &PlayWords) -> bool
+    ensures { result ≡ is_play_built (play_in play.now) }
+{
+    match play.tells {
+        Telling::Trace | Telling::Run => play.slots == 0 && play.store.is_none(),
+        Telling::Ledger => false,
+    }
+}
+
+/// Does what the words say, and hands the store back.
 fn run_words<H: Host, K: Sink, W: SwapStore>(
     alloc: Global,
     words: &[String],
@@ -109,7 +159,23 @@ fn run_words<H: Host, K: Sink, W: SwapStore>(
     out: &mut K,
     store: W,
 ) -> Ended<W>
-    ensures ends { MatchOption (command_of words.now) ((result.status ≡ Status.NotBuilt) × (K.written out.new ≡ K.written out.old) × (H.asked host.new ≡ H.asked host.old)) (λ names. Ends (H.file host.old) names (H.asked host.old) (H.asked host.new) (H.left host.new Second) (K.written out.old) (K.written out.new) (Rose (H.faults host.old) (H.faults host.new)) (Rose (K.faults out.old) (K.faults out.new)) result.status) }
+    ensures ends { let call : Call = record {
+      host = record {
+        files = H.file host.old;
+        asked = H.asked host.old;
+        asked_after = H.asked host.new;
+        left = H.left host.new Second;
+        faults = H.faults host.old;
+        faults_after = H.faults host.new;
+      };
+      out = record {
+        written = K.written out.old;
+        written_after = K.written out.new;
+        faults = K.faults out.old;
+        faults_after = K.faults out.new;
+      };
+      status = result.status;
+    } in Ends (command_of words.now) call }
     ensures first { result.status ≡ Status.Done → IsTold (H.left host.new First) [] }
     ensures second { result.status ≡ Status.Done → IsTold (H.left host.new Second) [] }
     ensures store { KeepsStore W.is_honest W.held W.slot_count W.asked W.faults store result.store }
@@ -117,8 +183,20 @@ fn run_words<H: Host, K: Sink, W: SwapStore>(
     ensures out { K.faults out.old ≤ K.faults out.new }
 {
     match read_words(words) {
-        Some(files) => run(alloc, files, host, out, store),
         None => Ended {
+            status: Status::Usage,
+            store,
+        },
+        Some(CommandWords::Play(play)) => {
+            if is_built(&play) {
+                return play_image(alloc, play, host, out, store);
+            }
+            Ended {
+                status: Status::NotBuilt,
+                store,
+            }
+        }
+        Some(CommandWords::Check(_) | CommandWords::Demo(_)) => Ended {
             status: Status::NotBuilt,
             store,
         },
@@ -126,8 +204,8 @@ fn run_words<H: Host, K: Sink, W: SwapStore>(
 }
 
 /// Runs the program with the words of its command line. The images and events are read from
-/// `host`, the transcript is appended to `out`, and a text for any status but `Done` to `notes`.
-/// The store holds the pages that are out, and is handed back.
+/// `host`, what the command tells is appended to `out`, and a text for any status but `Done` to
+/// `notes`. The store holds the pages that are out, and is handed back.
 pub fn xous_main<H: Host, K: Sink, N: Sink, W: SwapStore>(
     alloc: Global,
     words: &[String],
@@ -136,16 +214,34 @@ pub fn xous_main<H: Host, K: Sink, N: Sink, W: SwapStore>(
     notes: &mut N,
     store: W,
 ) -> Ended<W>
-    ensures ends { MatchOption (command_of words.now) ((result.status ≡ Status.NotBuilt) × (K.written out.new ≡ K.written out.old) × (H.asked host.new ≡ H.asked host.old)) (λ names. Ends (H.file host.old) names (H.asked host.old) (H.asked host.new) (H.left host.new Second) (K.written out.old) (K.written out.new) (Rose (H.faults host.old) (H.faults host.new)) (Rose (K.faults out.old) (K.faults out.new)) result.status) }
-
-    // Where no count rose, the status is the one verdict of the files (`one_verdict`).
-    ensures complete { MatchOption (command_of words.now) ⊤ (λ names. ¬ Rose (H.faults host.old) (H.faults host.new) → ¬ Rose (K.faults out.old) (K.faults out.new) → IsComplete (H.file host.old) names (K.written out.old) (K.written out.new) result.status) }
+    ensures ends { let call : Call = record {
+      host = record {
+        files = H.file host.old;
+        asked = H.asked host.old;
+        asked_after = H.asked host.new;
+        left = H.left host.new Second;
+        faults = H.faults host.old;
+        faults_after = H.faults host.new;
+      };
+      out = record {
+        written = K.written out.old;
+        written_after = K.written out.new;
+        faults = K.faults out.old;
+        faults_after = K.faults out.new;
+      };
+      status = result.status;
+    } in Ends (command_of words.now) call × IsComplete (command_of words.now) call }
 
     // At the end of a run both files were read to their ends.
     ensures first { result.status ≡ Status.Done → IsTold (H.left host.new First) [] }
     ensures second { result.status ≡ Status.Done → IsTold (H.left host.new Second) [] }
 
-    ensures noted { Notes (N.written notes.old) (N.written notes.new) (N.faults notes.old) (N.faults notes.new) (note_of result.status) }
+    ensures noted { let side : SinkSide = record {
+      written = N.written notes.old;
+      written_after = N.written notes.new;
+      faults = N.faults notes.old;
+      faults_after = N.faults notes.new;
+    } in Notes side (note_of result.status) }
     ensures store { KeepsStore W.is_honest W.held W.slot_count W.asked W.faults store result.store }
     ensures host { H.faults host.old ≤ H.faults host.new }
     ensures out { K.faults out.old ≤ K.faults out.new }

@@ -1,14 +1,20 @@
-//! The transcript: the lines of records, and the last line.
+//! What is told as records come, and the last line.
 
-ghost use Rattle.std.specs.Prelude.{◌≡◌, ◌≤◌, OnOk, OnErr};
+ghost use Rattle.std.specs.Prelude.{◌≡◌, ◌≤◌, true, OnOk, OnErr};
 ghost use Rattle.xk_base.specs.Outside.{Rose};
 ghost use Rattle.xk_ports.specs.Told.{Grows, GrowsByPrefix};
-ghost use Rattle.trace_text.specs.Lines.{line_of, end_line_of, text_of};
+ghost use Rattle.trace_text.specs.Lines.{line_of, end_line_of};
+ghost use Rattle.xk_kernel.specs.State.{machine_of};
+ghost use Rattle.xousim.specs.Built.{is_told};
+ghost use Rattle.xousim.specs.Telling.{closing, console_byte, last_line, told, told_of};
 
+use crate::command::Telling;
+use crate::ending::Ending;
 use arrayvec::ArrayVec;
 use trace_text::{EndWord, end_line, line};
-use xk_base::{Failed, Rec};
-use xk_ports::{Sink, put_all};
+use xk_base::{Failed, Rec, What};
+use xk_kernel::Kernel;
+use xk_ports::{Sink, SwapStore, put_all};
 
 /// Writes the line of a record.
 fn write_record<K: Sink>(rec: &Rec, out: &mut K) -> Result<(), Failed>
@@ -22,21 +28,54 @@ fn write_record<K: Sink>(rec: &Rec, out: &mut K) -> Result<(), Failed>
     put_all(out, text.as_slice())
 }
 
-/// Writes the lines of records in order.
-pub fn write_records<K: Sink>(records: &[Rec], out: &mut K) -> Result<(), Failed>
-    ensures appended { OnOk result (Grows (K.written out.old) (K.written out.new) (text_of records.now)) }
-    ensures front { OnErr result (GrowsByPrefix (K.written out.old) (K.written out.new) (text_of records.now)) }
+/// Writes the byte that went to the console, if one did.
+fn write_byte<K: Sink>(what: &What, out: &mut K) -> Result<(), Failed>
+    ensures appended { OnOk result (Grows (K.written out.old) (K.written out.new) (console_byte what.now)) }
+    ensures front { OnErr result (GrowsByPrefix (K.written out.old) (K.written out.new) (console_byte what.now)) }
+    ensures cause { OnErr result (Rose (K.faults out.old) (K.faults out.new)) }
+    ensures never_falls { K.faults out.old ≤ K.faults out.new }
+{
+    match *what {
+        What::Byte(_, byte) => put_all(out, &[byte]),
+        What::Call(_, _)
+        | What::Reply(_, _)
+        | What::Retry(_)
+        | What::Fault(_, _, _)
+        | What::End(_)
+        | What::Irq(_, _)
+        | What::Gone(_) => Ok(()),
+    }
+}
+
+/// Writes what is told as a record comes.
+fn write_told<K: Sink>(tells: Telling, rec: &Rec, out: &mut K) -> Result<(), Failed>
+    ensures appended { OnOk result (Grows (K.written out.old) (K.written out.new) (told_of tells rec.now)) }
+    ensures front { OnErr result (GrowsByPrefix (K.written out.old) (K.written out.new) (told_of tells rec.now)) }
+    ensures cause { OnErr result (Rose (K.faults out.old) (K.faults out.new)) }
+    ensures never_falls { K.faults out.old ≤ K.faults out.new }
+{
+    match tells {
+        Telling::Trace => write_record(rec, out),
+        Telling::Run => write_byte(&rec.what, out),
+        Telling::Ledger => Ok(()),
+    }
+}
+
+/// Writes what is told as records come, in order.
+pub fn write_records<K: Sink>(tells: Telling, records: &[Rec], out: &mut K) -> Result<(), Failed>
+    ensures appended { OnOk result (Grows (K.written out.old) (K.written out.new) (told tells records.now)) }
+    ensures front { OnErr result (GrowsByPrefix (K.written out.old) (K.written out.new) (told tells records.now)) }
     ensures cause { OnErr result (Rose (K.faults out.old) (K.faults out.new)) }
     ensures never_falls { K.faults out.old ≤ K.faults out.new }
 {
     for rec in records {
-        write_record(rec, out)?;
+        write_told(tells, rec, out)?;
     }
     Ok(())
 }
 
 /// Writes the last line.
-pub fn write_end<K: Sink>(steps: u32, why: EndWord, out: &mut K) -> Result<(), Failed>
+fn write_end<K: Sink>(steps: u32, why: EndWord, out: &mut K) -> Result<(), Failed>
     ensures appended { OnOk result (Grows (K.written out.old) (K.written out.new) (end_line_of steps why)) }
     ensures front { OnErr result (GrowsByPrefix (K.written out.old) (K.written out.new) (end_line_of steps why)) }
     ensures cause { OnErr result (Rose (K.faults out.old) (K.faults out.new)) }
@@ -45,4 +84,38 @@ pub fn write_end<K: Sink>(steps: u32, why: EndWord, out: &mut K) -> Result<(), F
     let mut text = ArrayVec::new();
     end_line(steps, why, &mut text);
     put_all(out, text.as_slice())
+}
+
+/// Writes the last line of a history that ended in this way, if it has one.
+fn write_last_line<K: Sink>(ending: Ending, steps: u32, out: &mut K) -> Result<(), Failed>
+    ensures appended { OnOk result (Grows (K.written out.old) (K.written out.new) (last_line steps ending)) }
+    ensures front { OnErr result (GrowsByPrefix (K.written out.old) (K.written out.new) (last_line steps ending)) }
+    ensures cause { OnErr result (Rose (K.faults out.old) (K.faults out.new)) }
+    ensures never_falls { K.faults out.old ≤ K.faults out.new }
+{
+    match ending {
+        Ending::Played => write_end(steps, EndWord::Done, out),
+        Ending::LimitMet => write_end(steps, EndWord::Limit, out),
+        Ending::BadLine(_) => Ok(()),
+    }
+}
+
+/// Writes what is told at the end of a history that came to the kernel's state and ended in this way.
+pub fn write_closing<K: Sink, W: SwapStore>(
+    kernel: &Kernel<W>,
+    tells: Telling,
+    ending: Ending,
+    out: &mut K,
+) -> Result<(), Failed>
+    requires { is_told tells ≡ true }
+    ensures appended { OnOk result (Grows (K.written out.old) (K.written out.new) (closing tells (machine_of W.held kernel.now) ending)) }
+    ensures front { OnErr result (GrowsByPrefix (K.written out.old) (K.written out.new) (closing tells (machine_of W.held kernel.now) ending)) }
+    ensures cause { OnErr result (Rose (K.faults out.old) (K.faults out.new)) }
+    ensures never_falls { K.faults out.old ≤ K.faults out.new }
+{
+    match tells {
+        Telling::Trace => write_last_line(ending, kernel.steps(), out),
+        Telling::Run => Ok(()),
+        Telling::Ledger => unreachable!(),
+    }
 }

@@ -69,7 +69,7 @@ module _ (P : ProcPlan → Type 0) (plan : BootPlan) (each : All P plan.procs) w
 -- ---- the pages of a plan
 
 -- what holds of all pages holds of the one that is found, which has the page number
-found : (P : PagePlan → Type 0) (vpn : ℕ) (xs : List PagePlan) (x : PagePlan) → All P xs → find (λ page. page.vpn.0 == vpn) xs ≡ Some x → P x × (x.vpn.0 ≡ vpn)
+pub found : (P : PagePlan → Type 0) (vpn : ℕ) (xs : List PagePlan) (x : PagePlan) → All P xs → find (λ page. page.vpn.0 == vpn) xs ≡ Some x → P x × (x.vpn.0 ≡ vpn)
 found P vpn [] x each e = absurd (none-some x e)
 found P vpn (y ∷ xs) x each e = elim (cases_Bool (y.vpn.0 == vpn)) [
   | inl is ↦ at (same_Some y x (sym (cond-true (y.vpn.0 == vpn) (Some y) (find (λ page. page.vpn.0 == vpn) xs) is) ∙ e)) is

@@ -64,3 +64,23 @@ fn a_lend_is_passed_on(rt: HostRuntime) -> Result<(), Fail> {
     let events = b"pick 4 2\ntick 34\ntick 153\ntick 17\n";
     expect_run(&rt, rt.alloc(), &processes, events, &PASSED_ON)
 }
+
+/// What follows on the forward where its caller's process is killed then.
+const AFTER_THE_KILL: [&str; 5] = [
+    "170 2 gone",
+    "187 4.2 call 14 1 40000000 1000 3 4",
+    "187 3.2 reply 12 3 4",
+    "187 4.2 reply 0",
+    "end 187 done",
+];
+
+/// A lend that was passed on is no message any more of the server that passed it.
+#[test]
+fn who_passed_a_lend_on_is_killed(rt: HostRuntime) -> Result<(), Fail> {
+    let alloc = rt.alloc();
+    let processes: [[&[Act]; 2]; 3] = [[&FRONT, &[]], [&LENDER, &[]], [&BACK, &[]]];
+    let events = b"pick 4 2\ntick 34\ntick 136\nkill 2\ntick 17\n";
+    let mut lines = PASSED_ON[..19].to_vec(alloc)?;
+    lines.extend_from_slice(&AFTER_THE_KILL)?;
+    expect_run(&rt, alloc, &processes, events, lines.as_slice())
+}

@@ -160,13 +160,14 @@ const OWN_LENDER: [Act; 6] = [
     Call([SEND, 2, 2, 7, HEAP, PAGE, 0, 0]),
 ];
 
-const OWN_RECEIVER: [Act; 3] = [
+const OWN_RECEIVER: [Act; 4] = [
     Call([RECEIVE, 1, 2, 3, 4, 0, 0, 0]),
     Tell(MESSAGE, HEAP),
     Call([RETURN_MEMORY, 1, MESSAGE, PAGE, 0, 0, 0, 0]),
+    Tell(MESSAGE, HEAP),
 ];
 
-const LENT_TO_ITSELF: [&str; 17] = [
+const LENT_TO_ITSELF: [&str; 19] = [
     "17 2.2 call e 1 2 3 4",
     "17 2.2 reply 13 1 2 3 4 2",
     "34 2.2 call a 1000",
@@ -183,14 +184,17 @@ const LENT_TO_ITSELF: [&str; 17] = [
     "143 2.3 call 14 1 40000000 1000",
     "143 2.2 reply 12",
     "143 2.3 reply 0",
-    "end 143 done",
+    "160 2.3 fault 13 40000000",
+    "160 2 gone",
+    "end 160 done",
 ];
 
-/// Loads at both addresses of a page that its process has lent to itself give the same word.
+/// Loads at both addresses of a page that its process has lent to itself give the same word, and
+/// after the loan there is no page at the second.
 #[test]
 fn a_process_lends_to_its_own_server(rt: HostRuntime) -> Result<(), Fail> {
     let processes: [[&[Act]; 2]; 1] = [[&OWN_LENDER, &OWN_RECEIVER]];
-    expect_run(&rt, rt.alloc(), &processes, b"tick 143\n", &LENT_TO_ITSELF)
+    expect_run(&rt, rt.alloc(), &processes, b"tick 160\n", &LENT_TO_ITSELF)
 }
 
 /// A server receives two lends and holds them.

@@ -40,6 +40,8 @@ pub const RETURN_SCALAR2: u32 = 27;
 
 pub const TRY_RECEIVE: u32 = 28;
 
+pub const DESTROY_SERVER: u32 = 41;
+
 pub const FORWARD: u32 = 44;
 
 const GET_THREAD_ID: u32 = 42;

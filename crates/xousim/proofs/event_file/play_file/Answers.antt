@@ -23,9 +23,9 @@ pub pieces-init : goal.pieces-init
 pieces-init g c =
     let m : Machine = machine_of g.W.SwapStore.held c.args.kernel.now in
     let out = g.K.Sink.written c.args.out.now in
-    let P : Reader → Type 0 = λ r. HasPlayed c.args.limit m out [] r m out in
+    let P : Reader → Type 0 = λ r. HasPlayed c.args.tells c.args.limit m out [] r m out in
     record {
-      front = ([], Consumes-none (g.H.Host.left c.args.host.now Second), subst P (sym c.new-reader.ensures) (played_none c.args.limit m out));
+      front = ([], Consumes-none (g.H.Host.left c.args.host.now Second), subst P (sym c.new-reader.ensures) (played_none c.args.tells c.args.limit m out));
       waits = new_waits c.new-reader.result c.new-reader.ensures;
       inside = new_inside c.new-reader.result c.new-reader.ensures;
       sound = c.requires.sound;
@@ -45,7 +45,7 @@ returns-in_default-clause-runs g c =
     let P : Option (List ℕ) → Type 0 = λ left. Consumes (g.H.Host.left c.args.host.now Second) left front.0 in (
       front.0,
       subst P (sym c.in_default.ensures.kept) front.1,
-      whole_lines_played c.args.limit (machine_of g.W.SwapStore.held c.args.kernel.now) (machine_of g.W.SwapStore.held c.pieces.kernel) (g.K.Sink.written c.args.out.now) (g.K.Sink.written c.pieces.out) front.0 c.pieces.reader
+      whole_lines_played c.args.tells c.args.limit (machine_of g.W.SwapStore.held c.args.kernel.now) (machine_of g.W.SwapStore.held c.pieces.kernel) (g.K.Sink.written c.args.out.now) (g.K.Sink.written c.pieces.out) front.0 c.pieces.reader
           c.pieces.invariant.waits front.2,
     )
 
@@ -58,10 +58,10 @@ returns-in-Ok-Some-clause-runs g c =
     let m : Machine = machine_of g.W.SwapStore.held c.pieces.kernel in
     let next : Machine = machine_of g.W.SwapStore.held c.play_known.new.kernel in
     let out = g.K.Sink.written c.play_known.new.out in
-    let P : Reader → Type 0 = λ r. HasPlayed c.args.limit start begun front.0 r m mid in
-    let q : P c.finish.new.self = subst P (sym c.finish.ensures) (played_end c.args.limit start m begun mid front.0 c.pieces.reader front.2) in
-    let Q : Option Ending → Type 0 = λ o. Goes c.args.limit start begun front.0 c.finish.new.self.finished c.play_known.new.reader next out (Ok o) in
-    let ends = file_ends c.args.limit start next begun out front.0 c.finish.new.self.finished c.in-Ok-Some.ending (subst Q c.in-Ok-Some.field-0-is (c.in-Ok-Some.ensures.goes start begun front.0 q)) in (
+    let P : Reader → Type 0 = λ r. HasPlayed c.args.tells c.args.limit start begun front.0 r m mid in
+    let q : P c.finish.new.self = subst P (sym c.finish.ensures) (played_end c.args.tells c.args.limit start m begun mid front.0 c.pieces.reader front.2) in
+    let Q : Option Ending → Type 0 = λ o. Goes c.args.tells c.args.limit start begun front.0 c.finish.new.self.finished c.play_known.new.reader next out (Ok o) in
+    let ends = file_ends c.args.tells c.args.limit start next begun out front.0 c.finish.new.self.finished c.in-Ok-Some.ending (subst Q c.in-Ok-Some.field-0-is (c.in-Ok-Some.ensures.goes start begun front.0 q)) in (
       front.0,
       consumed_whole (g.H.Host.left c.args.host.now Second) (g.H.Host.left c.pieces.host Second) front.0 front.1
           (nothing_left (g.H.Host.left c.pieces.host Second) c.in-Ok.count c.in-Ok.ensures.end c.if-count-eq0.true),
@@ -77,12 +77,12 @@ returns-in-Err-clause-runs g c =
     let mid = g.K.Sink.written c.pieces.out in
     let m : Machine = machine_of g.W.SwapStore.held c.pieces.kernel in
     let out = g.K.Sink.written c.play_known.new.out in
-    let P : Reader → Type 0 = λ r. HasPlayed c.args.limit start begun front.0 r m mid in
-    let q : P c.finish.new.self = subst P (sym c.finish.ensures) (played_end c.args.limit start m begun mid front.0 c.pieces.reader front.2) in (
+    let P : Reader → Type 0 = λ r. HasPlayed c.args.tells c.args.limit start begun front.0 r m mid in
+    let q : P c.finish.new.self = subst P (sym c.finish.ensures) (played_end c.args.tells c.args.limit start m begun mid front.0 c.pieces.reader front.2) in (
       front.0,
       consumed_whole (g.H.Host.left c.args.host.now Second) (g.H.Host.left c.pieces.host Second) front.0 front.1
           (nothing_left (g.H.Host.left c.pieces.host Second) c.in-Ok.count c.in-Ok.ensures.end c.if-count-eq0.true),
-      file_fails c.args.limit start begun out front.0 c.finish.new.self.finished c.in-Err.field-0
+      file_fails c.args.tells c.args.limit start begun out front.0 c.finish.new.self.finished c.in-Err.field-0
           (c.in-Err.ensures.goes start begun front.0 q),
     )
 
@@ -95,7 +95,7 @@ pieces-preserved g c =
     let out = g.K.Sink.written c.play_piece.new.out in
     let piece : List ℕ = take c.in-Ok.count c.read.new.into in
     let waits = c.in-Ok-None-play_piece.ensures.waits (ap (λ (o : Option Ending). Ok o) c.in-Ok-None-play_piece.field-0-is) in
-    let Q : Option Ending → Type 0 = λ o. Goes c.args.limit start begun (front.0 ++ piece) false c.play_piece.new.reader next out (Ok o) in
+    let Q : Option Ending → Type 0 = λ o. Goes c.args.tells c.args.limit start begun (front.0 ++ piece) false c.play_piece.new.reader next out (Ok o) in
     record {
       front = (
         front.0 ++ piece,
@@ -123,7 +123,7 @@ returns-in-Ok-Some-play_piece-clause-runs g c =
     let piece : List ℕ = take c.in-Ok.count c.read.new.into in
     let used = Consumes-append (g.H.Host.left c.args.host.now Second) (g.H.Host.left c.pieces.host Second) (g.H.Host.left c.read.new.self Second) front.0 piece front.1 c.in-Ok.ensures.taken in
     let rest = consumed_rest (g.H.Host.left c.args.host.now Second) (g.H.Host.left c.read.new.self Second) (front.0 ++ piece) used in
-    let Q : Option Ending → Type 0 = λ o. Goes c.args.limit start begun (front.0 ++ piece) false c.play_piece.new.reader (machine_of g.W.SwapStore.held c.play_piece.new.kernel) (g.K.Sink.written c.play_piece.new.out) (Ok o) in
+    let Q : Option Ending → Type 0 = λ o. Goes c.args.tells c.args.limit start begun (front.0 ++ piece) false c.play_piece.new.reader (machine_of g.W.SwapStore.held c.play_piece.new.kernel) (g.K.Sink.written c.play_piece.new.out) (Ok o) in
     let all : Q (Some c.in-Ok-Some-play_piece.ending) = subst Q c.in-Ok-Some-play_piece.field-0-is (c.in-Ok-Some-play_piece.ensures.goes start begun front.0 front.2) in
     let ends = all rest.0 (λ e. cc) in
     ((front.0 ++ piece) ++ rest.0, rest.1, ends.0, ends.1)

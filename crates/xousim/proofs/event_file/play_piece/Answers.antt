@@ -18,13 +18,13 @@ returns-in_err-play_known-clause-goes g c = λ start begun taken p.
     let mid = g.K.Sink.written c.rest.out in
     let out = g.K.Sink.written c.play_known.new.out in
     let fed : List ℕ = (taken ++ front.0) ++ take t rest in
-    let P : Reader → Type 0 = λ r. HasPlayed c.args.limit start begun fed r m mid in
+    let P : Reader → Type 0 = λ r. HasPlayed c.args.tells c.args.limit start begun fed r m mid in
     let q : P c.feed-taken.new.self =
-    subst P (sym c.feed-taken.ensures.held) (played_bytes c.args.limit start m begun mid (taken ++ front.0) c.rest.reader (take t rest) c.rest.invariant.waits.1 (front.2 start begun taken p)) in
+    subst P (sym c.feed-taken.ensures.held) (played_bytes c.args.tells c.args.limit start m begun mid (taken ++ front.0) c.rest.reader (take t rest) c.rest.invariant.waits.1 (front.2 start begun taken p)) in
     let unsaid : c.feed-taken.new.self.finished ≡ false = ap (λ (r : Reader). r.finished) c.feed-taken.ensures.held ∙ c.rest.invariant.waits.1 in
-    goes_err c.args.limit start begun (taken ++ c.args.piece.now) false c.play_known.new.reader (machine_of g.W.SwapStore.held c.play_known.new.kernel) out c.from_residual.result c.from_residual.ensures.0
+    goes_err c.args.tells c.args.limit start begun (taken ++ c.args.piece.now) false c.play_known.new.reader (machine_of g.W.SwapStore.held c.play_known.new.kernel) out c.from_residual.result c.from_residual.ensures.0
     (λ failed.
-    fails_longer c.args.limit start begun out fed (drop t rest) (taken ++ c.args.piece.now) c.feed-taken.new.self.finished failed
+    fails_longer c.args.tells c.args.limit start begun out fed (drop t rest) (taken ++ c.args.piece.now) c.feed-taken.new.self.finished failed
     (piece_cut taken front.0 rest c.args.piece.now t front.1) unsaid
     (c.in_err-play_known.ensures.goes start begun fed q))
 
@@ -37,7 +37,7 @@ rest-init g c =
         [],
         refl,
         λ start begun taken p.
-            let P : List ℕ → Type 0 = λ l. HasPlayed c.args.limit start begun l c.args.reader.now m out in
+            let P : List ℕ → Type 0 = λ l. HasPlayed c.args.tells c.args.limit start begun l c.args.reader.now m out in
             subst P (sym (append-nil taken)) p,
       );
       waits = c.requires.waits;
@@ -69,11 +69,11 @@ rest-preserved g c =
         rw whole (piece_front front.0 rest c.args.piece.now t front.1),
         λ start begun taken p.
             let fed : List ℕ = (taken ++ front.0) ++ take t rest in
-            let P : Reader → Type 0 = λ r. HasPlayed c.args.limit start begun fed r m mid in
+            let P : Reader → Type 0 = λ r. HasPlayed c.args.tells c.args.limit start begun fed r m mid in
             let q : P c.feed-taken.new.self =
-            subst P (sym c.feed-taken.ensures.held) (played_bytes c.args.limit start m begun mid (taken ++ front.0) c.rest.reader (take t rest) c.rest.invariant.waits.1 (front.2 start begun taken p)) in
-            let Q : Option Ending → Type 0 = λ o. Goes c.args.limit start begun fed c.feed-taken.new.self.finished c.play_known.new.reader next out (Ok o) in
-            let W : List ℕ → Type 0 = λ l. HasPlayed c.args.limit start begun l c.play_known.new.reader next out in
+            subst P (sym c.feed-taken.ensures.held) (played_bytes c.args.tells c.args.limit start m begun mid (taken ++ front.0) c.rest.reader (take t rest) c.rest.invariant.waits.1 (front.2 start begun taken p)) in
+            let Q : Option Ending → Type 0 = λ o. Goes c.args.tells c.args.limit start begun fed c.feed-taken.new.self.finished c.play_known.new.reader next out (Ok o) in
+            let W : List ℕ → Type 0 = λ l. HasPlayed c.args.tells c.args.limit start begun l c.play_known.new.reader next out in
             subst W (append_assoc taken front.0 (take t rest)) (subst Q c.in-None.is (c.in_ok-play_known.ensures.goes start begun fed q)),
       );
       waits = waits.0;
@@ -96,11 +96,11 @@ returns-in-Some-clause-goes g c = λ start begun taken p.
     let next : Machine = machine_of g.W.SwapStore.held c.play_known.new.kernel in
     let out = g.K.Sink.written c.play_known.new.out in
     let fed : List ℕ = (taken ++ front.0) ++ take t rest in
-    let P : Reader → Type 0 = λ r. HasPlayed c.args.limit start begun fed r m mid in
+    let P : Reader → Type 0 = λ r. HasPlayed c.args.tells c.args.limit start begun fed r m mid in
     let q : P c.feed-taken.new.self =
-    subst P (sym c.feed-taken.ensures.held) (played_bytes c.args.limit start m begun mid (taken ++ front.0) c.rest.reader (take t rest) c.rest.invariant.waits.1 (front.2 start begun taken p)) in
+    subst P (sym c.feed-taken.ensures.held) (played_bytes c.args.tells c.args.limit start m begun mid (taken ++ front.0) c.rest.reader (take t rest) c.rest.invariant.waits.1 (front.2 start begun taken p)) in
     let unsaid : c.feed-taken.new.self.finished ≡ false = ap (λ (r : Reader). r.finished) c.feed-taken.ensures.held ∙ c.rest.invariant.waits.1 in
-    let Q : Option Ending → Type 0 = λ o. Goes c.args.limit start begun fed c.feed-taken.new.self.finished c.play_known.new.reader next out (Ok o) in
-    ends_longer c.args.limit start next begun out fed (drop t rest) (taken ++ c.args.piece.now) c.feed-taken.new.self.finished c.in-Some.ending
+    let Q : Option Ending → Type 0 = λ o. Goes c.args.tells c.args.limit start begun fed c.feed-taken.new.self.finished c.play_known.new.reader next out (Ok o) in
+    ends_longer c.args.tells c.args.limit start next begun out fed (drop t rest) (taken ++ c.args.piece.now) c.feed-taken.new.self.finished c.in-Some.ending
     (piece_cut taken front.0 rest c.args.piece.now t front.1) unsaid
     (subst Q c.in-Some.is (c.in_ok-play_known.ensures.goes start begun fed q))

@@ -12,8 +12,8 @@ abbrev pub invariant-rest : goal.invariant-rest
 invariant-rest g l = record {
   front : (done : List ℕ) × (l.piece ≡ done ++ l.rest)
       × ((start : Machine) (begun : Option (List ℕ)) (taken : List ℕ)
-      → HasPlayed l.limit start begun taken l.fn.reader (machine_of g.W.SwapStore.held l.fn.kernel) (g.K.Sink.written l.fn.out)
-      → HasPlayed l.limit start begun (taken ++ done) l.reader (machine_of g.W.SwapStore.held l.kernel) (g.K.Sink.written l.out));
+      → HasPlayed l.tells l.limit start begun taken l.fn.reader (machine_of g.W.SwapStore.held l.fn.kernel) (g.K.Sink.written l.fn.out)
+      → HasPlayed l.tells l.limit start begun (taken ++ done) l.reader (machine_of g.W.SwapStore.held l.kernel) (g.K.Sink.written l.out));
   waits : IsWaiting l.reader;
   inside : l.reader.start + length l.reader.held ≤ EVENT_FILE_LIMIT;
   offset : l.reader.start + length l.reader.held + length l.rest ≡ l.fn.reader.start + length l.fn.reader.held + length l.piece;

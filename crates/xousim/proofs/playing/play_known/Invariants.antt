@@ -9,8 +9,8 @@ use Rattle.xousim.proofs.playing.play_known.Given as goal
 abbrev pub invariant-answers : goal.invariant-answers
 invariant-answers g l = record {
   goes : (start : Machine) (begun : Option (List ℕ)) (taken : List ℕ)
-      → HasPlayed l.limit start begun taken l.fn.reader (machine_of g.W.SwapStore.held l.fn.kernel) (g.K.Sink.written l.fn.out)
-      → HasPlayed l.limit start begun taken l.reader (machine_of g.W.SwapStore.held l.kernel) (g.K.Sink.written l.out);
+      → HasPlayed l.tells l.limit start begun taken l.fn.reader (machine_of g.W.SwapStore.held l.fn.kernel) (g.K.Sink.written l.fn.out)
+      → HasPlayed l.tells l.limit start begun taken l.reader (machine_of g.W.SwapStore.held l.kernel) (g.K.Sink.written l.out);
   sound : IsSound g.W.SwapStore.slot_count g.W.SwapStore.held l.kernel;
   usable : IsUsable l.kernel;
   keeps : Keeps g.W.SwapStore.is_honest g.W.SwapStore.held g.W.SwapStore.slot_count g.W.SwapStore.asked g.W.SwapStore.faults l.fn.kernel l.kernel;

@@ -20,8 +20,8 @@ returns-in_err-ending-in-Event-clause-advances g c = λ start begun taken p.
     let m : Machine = machine_of g.W.SwapStore.held c.args.kernel.now in
     let mid = g.K.Sink.written c.args.out.now in
     let out = g.K.Sink.written c.play_event.new.out in
-    advances_err c.args.limit start begun taken r.finished c.next.new.self (machine_of g.W.SwapStore.held c.play_event.new.kernel) out c.from_residual.result c.from_residual.ensures.0
-    (λ failed. fails_event c.args.limit start m begun mid out taken r c.in-Event.event failed (sym c.in-Event.ensures.answer) c.in_err-ending-in-Event.ensures.wrote p)
+    advances_err c.args.tells c.args.limit start begun taken r.finished c.next.new.self (machine_of g.W.SwapStore.held c.play_event.new.kernel) out c.from_residual.result c.from_residual.ensures.0
+    (λ failed. fails_event c.args.tells c.args.limit start m begun mid out taken r c.in-Event.event failed (sym c.in-Event.ensures.answer) c.in_err-ending-in-Event.ensures.wrote p)
 
 pub returns-in_err-ending-in-Event-clause-finished : goal.returns-in_err-ending-in-Event-clause-finished
 returns-in_err-ending-in-Event-clause-finished g c = ap (λ (r : Reader). r.finished) c.next.ensures.after ∙ next_finished c.args.reader.now
@@ -34,9 +34,9 @@ returns-in-Played-clause-advances g c = λ start begun taken p.
     let mid = g.K.Sink.written c.args.out.now in
     let out = g.K.Sink.written c.play_event.new.out in
     let w = c.in_ok-ending-in-Event.ensures.wrote in
-    let P : Reader → Type 0 = λ x. HasPlayed c.args.limit start begun taken x next out in
+    let P : Reader → Type 0 = λ x. HasPlayed c.args.tells c.args.limit start begun taken x next out in
     subst P (sym c.next.ensures.after)
-    (played_event c.args.limit start m next begun mid out taken r c.in-Event.event (sym c.in-Event.ensures.answer) p
+    (played_event c.args.tells c.args.limit start m next begun mid out taken r c.in-Event.event (sym c.in-Event.ensures.answer) p
     (w.0 ∙ c.in-Played.is) (sym c.in_ok-ending-in-Event.ensures.machine) w.1)
 
 pub returns-in-Played-clause-finished : goal.returns-in-Played-clause-finished
@@ -53,7 +53,7 @@ returns-in_default g c = record {
       let next : Machine = machine_of g.W.SwapStore.held c.play_event.new.kernel in
       let mid = g.K.Sink.written c.args.out.now in
       let out = g.K.Sink.written c.play_event.new.out in
-      ends_event c.args.limit start m next begun mid out taken r c.in-Event.event c.in_ok-ending-in-Event.ending (sym c.in-Event.ensures.answer)
+      ends_event c.args.tells c.args.limit start m next begun mid out taken r c.in-Event.event c.in_ok-ending-in-Event.ending (sym c.in-Event.ensures.answer)
       c.in_default.not-Played c.in_ok-ending-in-Event.ensures.wrote c.in_ok-ending-in-Event.ensures.machine p;
   sound = c.play_event.ensures.sound;
   usable = c.play_event.ensures.usable;
@@ -72,23 +72,23 @@ pub returns-in-More-clause-advances : goal.returns-in-More-clause-advances
 returns-in-More-clause-advances g c = λ start begun taken p.
     let m : Machine = machine_of g.W.SwapStore.held c.args.kernel.now in
     let out = g.K.Sink.written c.args.out.now in
-    let P : Reader → Type 0 = λ x. HasPlayed c.args.limit start begun taken x m out in
+    let P : Reader → Type 0 = λ x. HasPlayed c.args.tells c.args.limit start begun taken x m out in
     subst P (sym c.next.ensures.after)
-    (played_no_event c.args.limit start m begun out taken c.args.reader.now (ap (λ (n : NextEvent). events_in n) (sym c.in-More.ensures.answer)) p)
+    (played_no_event c.args.tells c.args.limit start m begun out taken c.args.reader.now (ap (λ (n : NextEvent). events_in n) (sym c.in-More.ensures.answer)) p)
 
 pub returns-in-More-clause-finished : goal.returns-in-More-clause-finished
 returns-in-More-clause-finished g c = ap (λ (r : Reader). r.finished) c.next.ensures.after ∙ next_finished c.args.reader.now
 
 pub returns-in-Bad-clause-advances : goal.returns-in-Bad-clause-advances
 returns-in-Bad-clause-advances g c = λ start begun taken p.
-    ends_bad c.args.limit start (machine_of g.W.SwapStore.held c.args.kernel.now) begun (g.K.Sink.written c.args.out.now) taken c.args.reader.now c.in-Bad.line (sym c.in-Bad.ensures.answer) p
+    ends_bad c.args.tells c.args.limit start (machine_of g.W.SwapStore.held c.args.kernel.now) begun (g.K.Sink.written c.args.out.now) taken c.args.reader.now c.in-Bad.line (sym c.in-Bad.ensures.answer) p
 
 pub returns-in-Bad-clause-finished : goal.returns-in-Bad-clause-finished
 returns-in-Bad-clause-finished g c = ap (λ (r : Reader). r.finished) c.next.ensures.after ∙ next_finished c.args.reader.now
 
 pub returns-in-End-clause-advances : goal.returns-in-End-clause-advances
 returns-in-End-clause-advances g c = λ start begun taken p.
-    ends_whole c.args.limit start (machine_of g.W.SwapStore.held c.args.kernel.now) begun (g.K.Sink.written c.args.out.now) taken c.args.reader.now (sym c.in-End.ensures.answer) p
+    ends_whole c.args.tells c.args.limit start (machine_of g.W.SwapStore.held c.args.kernel.now) begun (g.K.Sink.written c.args.out.now) taken c.args.reader.now (sym c.in-End.ensures.answer) p
 
 pub returns-in-End-clause-finished : goal.returns-in-End-clause-finished
 returns-in-End-clause-finished g c = ap (λ (r : Reader). r.finished) c.next.ensures.after ∙ next_finished c.args.reader.now

@@ -11,8 +11,8 @@ use Rattle.xousim.proofs.playing.play_tick.Given as goal
 abbrev pub invariant-steps : goal.invariant-steps
 invariant-steps g l = record {
   rest : (result : Result Ending Failed) (after : Option (List ℕ))
-      → Wrote (g.K.Sink.written l.out) after (ticks (l.count - l.done) l.limit (machine_of g.W.SwapStore.held l.kernel)) result
-      → Wrote (g.K.Sink.written l.fn.out) after (ticks l.count l.limit (machine_of g.W.SwapStore.held l.fn.kernel)) result;
+      → Wrote l.tells (g.K.Sink.written l.out) after (ticks (l.count - l.done) l.limit (machine_of g.W.SwapStore.held l.kernel)) result
+      → Wrote l.tells (g.K.Sink.written l.fn.out) after (ticks l.count l.limit (machine_of g.W.SwapStore.held l.fn.kernel)) result;
   machine : (ticks (l.count - l.done) l.limit (machine_of g.W.SwapStore.held l.kernel)).machine ≡ (ticks l.count l.limit (machine_of g.W.SwapStore.held l.fn.kernel)).machine;
   later : g.K.Sink.faults l.fn.out ≤ g.K.Sink.faults l.out;
   sound : IsSound g.W.SwapStore.slot_count g.W.SwapStore.held l.kernel;

@@ -1,0 +1,5 @@
+use Rattle.xousim.proofs.MatchedLemmas.{booted_matched}
+use Rattle.xousim.proofs.matched.booted_machine_is_matched.Goals as goal
+
+pub returns : goal.returns
+returns c = booted_matched

@@ -1,0 +1,47 @@
+//! Commands, as the words of the command line say them.
+
+ghost use Rattle.std.specs.Prelude.{◌≤◌};
+
+/// What is told of events that are played.
+#[derive(Clone, Copy, Debug, PartialEq, Eq)]
+pub enum Telling {
+    /// The line of each record as it comes, and a last line.
+    Trace,
+    /// The bytes for the console alone.
+    Run,
+    /// The table of the pages of the last state, and a last line.
+    Ledger,
+}
+
+/// `trace`, `run` or `ledger`: the events of a file are played on an image.
+#[derive(Clone, Copy, Debug)]
+pub struct PlayWords<'a> {
+    pub tells: Telling,
+    /// The names of the two files.
+    pub image: &'a str,
+    pub events: &'a str,
+    /// The step limit.
+    pub limit: u32,
+    /// The slots of the swap store.
+    pub slots: u32,
+    /// The file of the swap store, where it isn't kept in memory.
+    pub store: Option<&'a str>,
+    ghost limited: { limit ≤ 4000000000 },
+}
+
+/// `check`: an image is planned.
+#[derive(Clone, Copy, Debug)]
+pub struct CheckWords<'a> {
+    pub image: &'a str,
+    pub slots: u32,
+    ghost few: { slots ≤ 16384 },
+}
+
+/// What the program is asked to do.
+#[derive(Clone, Copy, Debug)]
+pub enum CommandWords<'a> {
+    Play(PlayWords<'a>),
+    Check(CheckWords<'a>),
+    /// The load of so many clients.
+    Demo(u32),
+}

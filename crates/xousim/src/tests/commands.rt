@@ -1,0 +1,125 @@
+//! The commands by their words.
+
+use super::{FIRST_IMAGE, Outcome, first_lines, words};
+use crate::status::{Ended, Status};
+use crate::top::xous_main;
+use std::alloc::Global;
+use std::test::Fail;
+use xk_ports::{MemHost, MemSink, MemStore};
+
+/// Runs the program with these words on the image `i` and the event file `e`.
+fn call(alloc: Global, texts: &[&str], events: &[u8]) -> Result<Outcome, Fail> {
+    let mut files = Vec::new(alloc);
+    files.push((String::from_str(alloc, "i")?, FIRST_IMAGE.to_vec(alloc)?))?;
+    files.push((String::from_str(alloc, "e")?, events.to_vec(alloc)?))?;
+    let mut host = MemHost::new(alloc, files, 4096, Vec::new(alloc), 100)?;
+    let mut out = MemSink::new(alloc, 2000, Vec::new(alloc))?;
+    let mut notes = MemSink::new(alloc, 200, Vec::new(alloc))?;
+    let words = words(alloc, texts)?;
+    let store = MemStore::new(Vec::new(alloc));
+    let Ended { status, store: _ } = xous_main(
+        alloc,
+        words.as_slice(),
+        &mut host,
+        &mut out,
+        &mut notes,
+        store,
+    );
+    Ok(Outcome {
+        status,
+        out: out.as_slice().to_vec(alloc)?,
+        notes: notes.as_slice().to_vec(alloc)?,
+    })
+}
+
+/// Other words than those of the stated forms.
+#[test]
+fn words_of_no_form(rt: HostRuntime) -> Result<(), Fail> {
+    let none: [&str; 0] = [];
+    let lists: [&[&str]; 24] = [
+        none.as_slice(),
+        ["--help"].as_slice(),
+        ["trace"].as_slice(),
+        ["trace", "i"].as_slice(),
+        ["Trace", "i", "e"].as_slice(),
+        ["trace", "i", "e", ""].as_slice(),
+        ["trace", "i", "e", "0"].as_slice(),
+        ["trace", "i", "e", "+5"].as_slice(),
+        ["trace", "i", "e", "-5"].as_slice(),
+        ["trace", "i", "e", "5 "].as_slice(),
+        ["trace", "i", "e", "0x5"].as_slice(),
+        ["trace", "i", "e", "4000000001"].as_slice(),
+        ["trace", "i", "e", "00000000005"].as_slice(),
+        ["trace", "i", "e", "5", "16385"].as_slice(),
+        ["trace", "i", "e", "5", "0", "s", "t"].as_slice(),
+        ["run", "i"].as_slice(),
+        ["ledger", "i", "e", "x"].as_slice(),
+        ["check"].as_slice(),
+        ["check", "i", "16385"].as_slice(),
+        ["check", "i", "0", "0"].as_slice(),
+        ["demo"].as_slice(),
+        ["demo", "0"].as_slice(),
+        ["demo", "32"].as_slice(),
+        ["demo", "3", "3"].as_slice(),
+    ];
+    for list in lists {
+        let run = call(rt.alloc(), list, b"tick 100")?;
+        assert_eq!(rt; run.status, Status::Usage);
+        assert_eq!(rt; run.status.number(), 2);
+        assert_eq!(rt; run.out.as_slice(), b"".as_slice());
+        assert_eq!(rt;
+            run.notes.as_slice(),
+            b"usage: xousim trace|run|ledger IMAGE EVENTS [STEPS [SLOTS [STORE]]] | check IMAGE [SLOTS] | demo N\n".as_slice()
+        );
+    }
+    Ok(())
+}
+
+/// The console byte of the first run alone.
+#[test]
+fn console_bytes(rt: HostRuntime) -> Result<(), Fail> {
+    let run = call(rt.alloc(), &["run", "i", "e"], b"tick 100")?;
+    assert_eq!(rt; run.status, Status::Done);
+    assert_eq!(rt; run.out.as_slice(), b"h".as_slice());
+    let run = call(rt.alloc(), &["run", "i", "e", "7"], b"tick 100")?;
+    assert_eq!(rt; run.status, Status::StepLimit(7));
+    assert_eq!(rt; run.out.as_slice(), b"".as_slice());
+    assert_eq!(rt; run.notes.as_slice(), b"step limit 7\n".as_slice());
+    Ok(())
+}
+
+/// A limit is met where a step is left to be done.
+#[test]
+fn limit_met_exactly(rt: HostRuntime) -> Result<(), Fail> {
+    let done = first_lines(rt.alloc(), "end 100 done")?;
+    for events in [b"tick 100".as_slice(), b"tick 100\ntick 0".as_slice()] {
+        let run = call(rt.alloc(), &["trace", "i", "e", "0000000100", "0"], events)?;
+        assert_eq!(rt; run.status, Status::Done);
+        assert_eq!(rt; run.out.as_slice(), done.as_slice());
+    }
+    let limit = first_lines(rt.alloc(), "end 100 limit")?;
+    let run = call(rt.alloc(), &["trace", "i", "e", "100"], b"tick 101")?;
+    assert_eq!(rt; run.status, Status::StepLimit(100));
+    assert_eq!(rt; run.out.as_slice(), limit.as_slice());
+    assert_eq!(rt; run.notes.as_slice(), b"step limit 100\n".as_slice());
+    Ok(())
+}
+
+/// Commands that are words of a stated form, and aren't built.
+#[test]
+fn commands_not_built(rt: HostRuntime) -> Result<(), Fail> {
+    let lists: [&[&str]; 5] = [
+        ["trace", "i", "e", "100", "1"].as_slice(),
+        ["run", "i", "e", "100", "0", "s"].as_slice(),
+        ["ledger", "i", "e"].as_slice(),
+        ["check", "i", "16384"].as_slice(),
+        ["demo", "03"].as_slice(),
+    ];
+    for list in lists {
+        let run = call(rt.alloc(), list, b"tick 100")?;
+        assert_eq!(rt; run.status, Status::NotBuilt);
+        assert_eq!(rt; run.out.as_slice(), b"".as_slice());
+        assert_eq!(rt; run.notes.as_slice(), b"not built\n".as_slice());
+    }
+    Ok(())
+}
