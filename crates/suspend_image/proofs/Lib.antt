@@ -1,2 +1,6 @@
+pub mod FoundSpelled
+pub mod Parts
 pub mod RowLoopLemmas
-pub mod SheetLemmas
+pub mod Sheets
+pub mod SpelledAgain
+pub mod SpellsLemmas

@@ -1,5 +1,9 @@
+pub mod Forms
+pub mod Machines
+pub mod Parts
 pub mod Reading
 pub mod Rows
 pub mod Sheets
+pub mod Spelling
 pub mod StateFaults
 pub mod Words

@@ -3,7 +3,8 @@
 ghost use Rattle.std.specs.Prelude.{◌≡◌, ◌<◌, ◌≤◌, ◌^◌, length, None, Ok, IfOk, IfErr, IfNone};
 ghost use Rattle.kernel_args.specs.Faults.{first_fault};
 ghost use Rattle.suspend_image.specs.Reading.{Gives};
-ghost use Rattle.suspend_image.specs.StateFaults.{state_at, state_of, is_not_state as is_not_state_of, is_bad_state_check, header_faults, state_fault, IsFault};
+ghost use Rattle.suspend_image.specs.Forms.{Spells};
+ghost use Rattle.suspend_image.specs.StateFaults.{state_at, is_not_state as is_not_state_of, is_bad_state_check, header_faults, state_fault, IsFault};
 ghost use Rattle.suspend_image.specs.declared.faults.StateError.TheVariants.{Fault};
 
 use crate::broken::Broken;
@@ -105,12 +106,11 @@ fn header_fault(bytes: &[u8]) -> Option<ArgFault>
     Some(ArgFault { what, at })
 }
 
-/// Reads a state file: the state whose parts stand in it, or its first fault. Whether that state is
-/// one that the machine can be in isn't looked at yet.
+/// Reads a state file: the state that it spells, or its first fault. Whether that state is one that
+/// the machine can be in isn't looked at yet.
 #[tactic(auto, unfolding(crate::specs::StateFaults::state_fault))]
 pub fn read_state(alloc: Global, bytes: &[u8]) -> Result<State, StateError>
-    ensures read { IfOk result (λ state. state_of bytes.now ≡ Ok state) }
-    ensures no_fault { IfOk result (λ state. state_fault bytes.now ≡ None) }
+    ensures spelled { IfOk result (Spells bytes.now) }
     ensures fault { IfErr result (IsFault (state_fault bytes.now)) }
 {
     if let Some(fault) = header_fault(bytes) {

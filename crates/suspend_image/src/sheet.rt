@@ -1,8 +1,8 @@
 //! A buffer for the bytes of a state, whose room is taken once.
 
 ghost use Rattle.std.specs.Prelude.{◌≡◌, ◌+◌, ◌*◌, ◌≤◌, [], ◌++◌, length, IfOk};
-ghost use Rattle.suspend_image.specs.Sheets.{SheetBytes, with_word, room_for};
-ghost use Rattle.suspend_image.specs.Words.{word};
+ghost use Rattle.suspend_image.specs.Sheets.{SheetBytes, HasRoom, appended, with_word, room_for};
+ghost use Rattle.suspend_image.specs.Words.{word, word_bytes};
 
 use byteorder::{ByteOrder, LittleEndian};
 use std::alloc::Global;
@@ -87,6 +87,16 @@ impl Sheet {
         ensures { self.new ≡ record self.old { bytes = self.old.bytes ++ word w } }
     {
         self.push_bytes(&w.to_le_bytes());
+    }
+
+    /// Appends words.
+    pub fn push_words(&mut self, numbers: &[u32])
+        requires { HasRoom self.old (word_bytes numbers.now) }
+        ensures { self.new ≡ appended (word_bytes numbers.now) self.old }
+    {
+        for number in numbers {
+            self.push_word(*number);
+        }
     }
 
     /// Writes a word over the four bytes at an offset.

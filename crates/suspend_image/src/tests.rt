@@ -2,8 +2,14 @@
 //! program.
 
 use crate::faults::{NOT_STATE, STATE_CHECK, STATE_FORM, STATE_LENGTH, StateError};
+use crate::matching::{
+    are_claims_matched, are_handlers_matched, are_heaps_matched, are_joiners_matched,
+    are_numbers_stepped, are_processes_limited, are_receivers_matched, are_thread_ids_matched,
+    are_threads_right, is_timer_matched,
+};
 use crate::reading::read_state;
 use crate::sheet::Sheet;
+use crate::writing::write_state;
 use kernel_args::ArgFault;
 
 #[test]
@@ -47,6 +53,41 @@ fn small_state_is_read(rt: HostRuntime) {
                 assert_eq!(rt; (row.alive, row.heap), (1, 4096));
             }
             assert!(rt; state.orphans.as_slice().is_empty());
+        }
+        Err(_) => assert!(rt; false),
+    }
+}
+
+#[test]
+#[tactic(auto, using(crate::proofs::Sheets::WriteAgainLemmas::spelled_stands, crate::proofs::Sheets::WriteAgainLemmas::spelled_has_room))]
+fn small_state_is_written(rt: HostRuntime) {
+    if let (Ok(state), Ok(mut sheet)) = (
+        read_state(rt.alloc(), FILE.as_slice()),
+        Sheet::new(rt.alloc(), 1, 7),
+    ) {
+        write_state(&mut sheet, FILE.as_slice(), &state);
+        assert_eq!(rt; sheet.as_slice(), FILE.as_slice());
+    } else {
+        assert!(rt; false);
+    }
+}
+
+#[test]
+#[tactic(auto, using(crate::proofs::Parts::OrderLemmas::claims_ascend, crate::proofs::Parts::OrderLemmas::threads_ascend, crate::proofs::Parts::OrderLemmas::servers_ascend))]
+fn parts_of_small_state_are_told(rt: HostRuntime) {
+    match read_state(rt.alloc(), FILE.as_slice()) {
+        Ok(state) => {
+            let procs = state.procs.as_slice();
+            let claims = state.claims.as_slice();
+            let threads = state.threads.as_slice();
+            assert!(rt; are_heaps_matched(procs) && are_processes_limited(procs));
+            assert!(rt; are_claims_matched(procs, claims) && are_handlers_matched(claims));
+            assert!(rt; are_receivers_matched(state.servers.as_slice(), threads));
+            assert!(rt; are_joiners_matched(threads) && are_threads_right(threads));
+            assert!(rt; are_thread_ids_matched(state.n, procs, threads));
+            assert!(rt; is_timer_matched(&state));
+            // Nine messages were numbered in five steps.
+            assert!(rt; !are_numbers_stepped(&state));
         }
         Err(_) => assert!(rt; false),
     }

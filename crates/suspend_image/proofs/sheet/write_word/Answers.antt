@@ -1,5 +1,5 @@
 use Rattle.std.proofs.Common.{◌-◌, length, refl}
-use Rattle.suspend_image.proofs.SheetLemmas.{word_written}
+use Rattle.suspend_image.proofs.Sheets.SheetLemmas.{word_written}
 use Rattle.suspend_image.proofs.sheet.write_word.Goals as goal
 
 pub returns : goal.returns

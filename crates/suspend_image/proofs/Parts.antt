@@ -1,0 +1,10 @@
+-- Parts of the machine's invariant, told from rows.
+pub mod ClaimLemmas
+pub mod EachThreadLemmas
+pub mod JoiningLemmas
+pub mod KeyLemmas
+pub mod OrderLemmas
+pub mod ProcessLemmas
+pub mod ReceivingLemmas
+pub mod ServedLemmas
+pub mod ThreadLemmas

@@ -1,0 +1,15 @@
+//! What holds of every list of bytes.
+
+ghost use Rattle.std.specs.Prelude.{◌≡◌, ℕ, ◌<◌, List, None, Ok, slice_index};
+ghost use Rattle.suspend_image.specs.declared.state.State.{State};
+ghost use Rattle.suspend_image.specs.Forms.{Spells};
+ghost use Rattle.suspend_image.specs.StateFaults.{state_of, state_fault};
+
+/// Bytes spell exactly one state, or they have a fault, and never both; reading finds the state that
+/// they spell. The function does nothing; its contract is the law.
+pub fn spelled_once_or_faulty()
+    ensures spelled { (file : List ℕ) → ((i : ℕ) → slice_index file i < 256) → state_fault file ≡ None → (state : State) × Spells file state }
+    ensures once { (file : List ℕ) (one other : State) → Spells file one → Spells file other → one ≡ other }
+    ensures never_both { (file : List ℕ) (state : State) → Spells file state → state_fault file ≡ None }
+    ensures read { (file : List ℕ) (state : State) → Spells file state → state_of file ≡ Ok state }
+{}
