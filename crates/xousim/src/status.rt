@@ -24,7 +24,7 @@ pub enum Status {
     StepLimit(u32),
     /// There was no memory.
     NoMemory,
-    /// The command, an event or a step isn't built yet.
+    /// The command isn't built yet.
     NotBuilt,
 }
 
