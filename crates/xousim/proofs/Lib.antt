@@ -3,6 +3,7 @@ pub mod KeptLemmas
 pub mod KernelHistoryLemmas
 pub mod PlayingLemmas
 pub mod ReadingLemmas
+pub mod TableLemmas
 pub mod ToldLemmas
 pub mod TopLemmas
 pub mod VerdictLemmas

@@ -13,8 +13,10 @@ mod numbers;
 mod playing;
 mod reading;
 mod status;
+mod table;
 #[cfg(test)]
 mod tests;
+mod text;
 mod top;
 mod transcript;
 mod verdict;

@@ -5,7 +5,7 @@ ghost use Rattle.xk_ports.specs.Keeping.{KeepsStore};
 ghost use Rattle.xk_kernel.specs.Sound.{IsSound, IsUsable, Keeps};
 ghost use Rattle.xk_kernel.specs.State.{machine_of};
 ghost use Rattle.xk_ports.specs.declared.host.FileSlot.TheVariants.{First, Second};
-ghost use Rattle.xousim.specs.Built.{is_play_built, is_told};
+ghost use Rattle.xousim.specs.Built.{is_play_built};
 ghost use Rattle.xousim.specs.Finish.{EndsBooted, Finishes};
 ghost use Rattle.xousim.specs.Outcome.{Call, Ends, EndsPlay, IsComplete, Notes, SinkSide};
 ghost use Rattle.xousim.specs.Reading.{IsTold};
@@ -13,7 +13,7 @@ ghost use Rattle.xousim.specs.Status.{note_of};
 ghost use Rattle.xousim.specs.Words.{command_of, play_in};
 
 use crate::booting::boot_image;
-use crate::command::{CommandWords, PlayWords, Telling};
+use crate::command::{CommandWords, PlayWords};
 use crate::ending::Ending;
 use crate::event_file::{RunFault, play_file};
 use crate::notes::write_note;
@@ -31,7 +31,8 @@ fn finish<K: Sink, W: SwapStore>(
     ending: Ending,
     out: &mut K,
 ) -> Status
-    requires { is_told play.tells ≡ true }
+    requires sound { IsSound W.slot_count W.held kernel.now }
+    requires usable { IsUsable kernel.now }
     ensures finished { let side : SinkSide = record {
       written = K.written out.old;
       written_after = K.written out.new;
@@ -60,7 +61,6 @@ fn play_events<H: Host, K: Sink, W: SwapStore>(
 ) -> Status
     requires sound { IsSound W.slot_count W.held kernel.old }
     requires usable { IsUsable kernel.old }
-    requires told { is_told play.tells ≡ true }
     requires within { (machine_of W.held kernel.old).steps ≤ play.limit }
     ensures played { let call : Call = record {
       host = record {
@@ -105,8 +105,7 @@ fn play_image<H: Host, K: Sink, W: SwapStore>(
     out: &mut K,
     store: W,
 ) -> Ended<W>
-    requires told { is_told play.tells ≡ true }
-    requires without_slots { play.slots ≡ 0 }
+    requires { play.slots ≡ 0 }
     ensures ends { let call : Call = record {
       host = record {
         files = H.file host.old;
@@ -146,10 +145,7 @@ fn play_image<H: Host, K: Sink, W: SwapStore>(
 fn is_built(play: &PlayWords) -> bool
     ensures { result ≡ is_play_built (play_in play.now) }
 {
-    match play.tells {
-        Telling::Trace | Telling::Run => play.slots == 0 && play.store.is_none(),
-        Telling::Ledger => false,
-    }
+    play.slots == 0 && play.store.is_none()
 }
 
 /// Does what the words say, and hands the store back.

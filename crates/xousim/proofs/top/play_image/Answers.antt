@@ -17,4 +17,4 @@ returns-in-Ok-clause-ends g c =
     let machine : Machine = machine_of g.W.SwapStore.held c.in-Ok.kernel in
     let P : ℕ → Type 0 = λ slots. Image file c.args.play.image.now slots machine in
     ends_booted (play_in c.args.play) machine file (g.H.Host.asked c.args.host.now) (g.H.Host.faults c.args.host.now) _
-    c.boot_image.ensures.file (subst P (sym c.requires.without_slots) c.in-Ok.ensures.booted) c.boot_image.ensures.never_falls c.in-Ok.ensures.picked c.play_events-status.ensures.played
+    c.boot_image.ensures.file (subst P (sym c.requires) c.in-Ok.ensures.booted) c.boot_image.ensures.never_falls c.in-Ok.ensures.picked c.play_events-status.ensures.played
