@@ -5,6 +5,7 @@ use Rattle.std.specs.Prelude.{All, IfSome, if◌then◌else◌, is_some, nat_le,
 use Rattle.std.specs.List.{list_any}
 use Rattle.std.specs.Option.{option_map}
 use Rattle.std.proofs.lemmas.Bool.{and_from, and_parts, eqb-true, false≢true, le-leb, lt-ltb}
+use Rattle.std.proofs.lemmas.List.Elements.{All-append}
 use Rattle.std.proofs.lemmas.Option.{same_Some}
 use Rattle.ledger_model.specs.Ledger.{PageLoan}
 use Rattle.ledger_model.specs.Loans.{IsFresh, LoanRun, Loans, OrphanLoan, loans, of_number, orphan_of_number, same_number}
@@ -31,13 +32,15 @@ use Rattle.sv32_space.specs.Tie.{Held as HeldBytes}
 use Rattle.thread_table.specs.ThreadsOf.{process_count}
 use Rattle.vm_memory.specs.Memory.{ledger, processes}
 use Rattle.xk_base.proofs.CircleLemmas.{is_pid-bounds}
+use Rattle.xk_base.specs.Calls.Kinds.{is_answered}
 use Rattle.xk_base.specs.Tables.Circle.{is_pid, is_thread_id, is_tid}
 use Rattle.xk_base.specs.declared.ids.Number.{Number}
 use Rattle.xk_base.specs.declared.ids.Place.{Place}
 use Rattle.xk_base.specs.declared.ids.ThreadId.{ThreadId}
 use Rattle.xk_base.specs.declared.messages.Message.{Message}
+use Rattle.kill_path.specs.Ending.{HasKnownSender}
 use Rattle.kill_path.specs.Open.{AreOpen, AreServersSound, IsLoanFitOf}
-use Rattle.kill_path.proofs.OpenLemmas.{messages_shown}
+use Rattle.kill_path.proofs.Servers.OpenLemmas.{messages_shown}
 
 module _ (s : ℕ → Option Server) (all : Loans) (lent : AreLoansMatched all s) (numbers : (number : Number) → HasAtMostOne s (is_of_number number))
     (n : ℕ) (server : Server) (e : s n ≡ Some server) where
@@ -131,6 +134,15 @@ module _ (m : Machine) (matched : Matched m) (t : Servers) (q : List Seat) (same
   server_live : (n : ℕ) (v : TableServer) → (servers_of t).live n ≡ Some v → servers_shown t q n ≡ Some (server_with (seat_of q v.seat) v)
   server_live n v e = ap (option_map (server_of q)) e
 
+  -- what has a sender is to be answered
+  abbrev HasAnswer : Message → Type 0
+  HasAnswer x = is_some x.sender ≡ true → is_answered x.kind ≡ true
+
+  answered : (n : ℕ) (server : Server) → servers_shown t q n ≡ Some server → All HasAnswer (messages_of server)
+  answered n server e =
+      All-append HasAnswer server.queued server.held (λ j d low sent. sym (shown_matched.body.senders.queued n server e j d low) ∙ sent)
+      (λ j d low sent. shown_matched.body.senders.held n server e j d low)
+
   -- they can lose messages
   pub matched_open : AreOpen all t q
   matched_open = record {
@@ -154,14 +166,20 @@ module _ (m : Machine) (matched : Matched m) (t : Servers) (q : List Seat) (same
 
       known : (n : ℕ) (v : TableServer) → (servers_of t).live n ≡ Some v → (j : ℕ) (d : Held) → j < length (messages_at (seat_of q v.seat))
           → (o : Option ThreadId) → (get_or (messages_at (seat_of q v.seat)) j d).msg.sender ≡ o
-          → IfSome (get_or (messages_at (seat_of q v.seat)) j d).msg.sender (λ id. is_thread_id 32 id ≡ true)
-      known n v e j d low None is = subst (λ (o : Option ThreadId). IfSome o (λ id. is_thread_id 32 id ≡ true)) (sym is) tt
+          → HasKnownSender (get_or (messages_at (seat_of q v.seat)) j d)
+      known n v e j d low None is =
+          subst (λ (o : Option ThreadId). IfSome o (λ id. (is_thread_id 32 id ≡ true) × (is_answered (get_or (messages_at (seat_of q v.seat)) j d).msg.kind ≡ true)))
+          (sym is) tt
       known n v e j d low (Some id) is =
-          subst (λ (o : Option ThreadId). IfSome o (λ w. is_thread_id 32 w ≡ true)) (sym is)
-          (known_of_all m.processes id shown_matched.body.processes.few
-          (of_shown (λ (x : Message). (w : ThreadId) → x.sender ≡ Some w → is_thread_id m.processes w ≡ true) (messages_at (seat_of q v.seat))
-          (subst (All (λ (x : Message). (w : ThreadId) → x.sender ≡ Some w → is_thread_id m.processes w ≡ true)) (messages_shown (seat_of q v.seat) v)
-          (senders_known shown shown_matched n (server_with (seat_of q v.seat) v) (server_live n v e))) j d low id is))
+          subst (λ (o : Option ThreadId). IfSome o (λ w. (is_thread_id 32 w ≡ true) × (is_answered (get_or (messages_at (seat_of q v.seat)) j d).msg.kind ≡ true)))
+          (sym is) (
+            known_of_all m.processes id shown_matched.body.processes.few
+                (of_shown (λ (x : Message). (w : ThreadId) → x.sender ≡ Some w → is_thread_id m.processes w ≡ true) (messages_at (seat_of q v.seat))
+                (subst (All (λ (x : Message). (w : ThreadId) → x.sender ≡ Some w → is_thread_id m.processes w ≡ true)) (messages_shown (seat_of q v.seat) v)
+                (senders_known shown shown_matched n (server_with (seat_of q v.seat) v) (server_live n v e))) j d low id is),
+            of_shown HasAnswer (messages_at (seat_of q v.seat))
+                (subst (All HasAnswer) (messages_shown (seat_of q v.seat) v) (answered n (server_with (seat_of q v.seat) v) (server_live n v e))) j d low (ap is_some is),
+          )
 
   -- .. and all be closed
   pub servers_of_matched : AreServersSound m.processes all t q

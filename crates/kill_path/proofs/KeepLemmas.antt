@@ -1,8 +1,12 @@
 -- What stays of the memory over one call and over two.
 use Rattle.std.proofs.Common.{Bool, ℕ, refl, ◌∙◌}
+use Rattle.ledger_model.proofs.Pages.BareLemmas.{bare-lawful}
+use Rattle.ledger_model.specs.Lawful.{IsLawful}
 use Rattle.send_path.specs.Sound.{KeepsMemory}
 use Rattle.sv32_space.specs.Tie.{Held}
+use Rattle.vm_memory.proofs.Changing.SoundMemoryLemmas.{bare-ledger}
 use Rattle.vm_memory.specs.Loaning.Loans.{KeepsSeats}
+use Rattle.vm_memory.specs.Memory.{blank_ledger, capacity_of, ledger, processes}
 use Rattle.vm_memory.specs.Sound.{IsSound}
 use Rattle.vm_memory.specs.declared.memory.Memory.{Memory}
 use Rattle.kill_path.specs.Keeping.{Stays}
@@ -31,3 +35,8 @@ module _ {W : Type 0} (slot_count : W → ℕ) (honest : W → Bool) (held : W �
 
   pub after_both : (a b c : Memory W) → Stays slot_count honest held a b → Stays slot_count honest held b c → Stays slot_count honest held a c
   after_both a b c x y = record { sound = y.sound; keeps = kept_both a b c x.keeps y.keeps }
+
+-- the ledger of a sound memory is lawful
+pub sound_lawful : {W : Type 0} (slot_count : W → ℕ) (held : W → Held) (m : Memory W) → IsSound slot_count m
+    → IsLawful (processes m) (capacity_of m) (ledger held m)
+sound_lawful slot_count held m sound = bare-lawful (processes m) (capacity_of m) (blank_ledger m) (ledger held m) (bare-ledger held m) sound.lawful

@@ -18,6 +18,9 @@ pub record Closable : Type 0 where
   pub seats : List Seat
   pub noted : ThreadSet
 
+abbrev pub closable : Ledger → Servers → List Seat → ThreadSet → Closable
+closable ledger servers seats noted = record { ledger = ledger; servers = servers; seats = seats; noted = noted }
+
 -- a machine with these servers and messages
 abbrev pub with_servers : Closable → Machine → Machine
 with_servers parts m = record m { servers = servers_shown parts.servers parts.seats; next_serial = (servers_of parts.servers).next }

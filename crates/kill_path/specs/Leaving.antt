@@ -1,16 +1,22 @@
 -- What the death of a process does to its messages at the servers of others: a held one loses its sender, and its loan its lender.
-use Rattle.std.specs.Prelude.{◌≡◌, ℕ, Bool, false, IsSome, List, [], ◌∷◌, slice_get, Option, Some, None, if◌then◌else◌}
-use Rattle.std.specs.Option.{option_map, option_map_or}
+use Rattle.std.specs.Prelude.{◌≡◌, ℕ, All, Bool, false, IsSome, is_some, List, [], ◌∷◌, Option, Some, None, if◌then◌else◌}
+use Rattle.std.specs.Option.{option_map}
+use Rattle.ledger_model.specs.Ledger.{Ledger}
 use Rattle.ledger_model.specs.Loans.{IsFresh, LoanRun, Loans, Stands, without_lender}
 use Rattle.machine_model.specs.Ending.Closing.{is_held_from, is_queued_from, with_senderless_from, without_queued_from}
 use Rattle.machine_model.specs.Messaging.LoanSets.{end_loans, orphan_loans}
+use Rattle.machine_model.specs.Messaging.Messages.{is_sent_from}
 use Rattle.machine_model.specs.State.Machine.{Machine, Server}
-use Rattle.msg_queue.specs.Seats.{Seat, is_of_number}
+use Rattle.msg_queue.specs.Seats.{Seat, is_of_number, of_number, without_queued}
 use Rattle.msg_queue.specs.declared.held.Held.{Held}
 use Rattle.send_path.specs.Parts.{servers_shown}
+use Rattle.send_path.specs.Seats.{messages_at}
+use Rattle.server_table.specs.declared.table.Servers.{Servers}
 use Rattle.xk_base.specs.declared.ids.Number.{Number}
 use Rattle.xk_base.specs.declared.ids.Pid.{Pid}
-use Rattle.kill_path.specs.Closing.{Closable, with_servers}
+use Rattle.kill_path.specs.Closing.{Closable, closable, with_servers}
+use Rattle.kill_path.specs.Ending.{IsEndable}
+use Rattle.kill_path.specs.ThreadSets.{nobody}
 
 -- The loan of a message of that number stands, is of that number, and has a lender. Where there is none, nothing is on loan by the
 -- number.
@@ -33,14 +39,19 @@ first_alone number (h ∷ hs) = if is_of_number number h then alone h ∷ hs els
 abbrev pub with_alone : Number → Seat → Seat
 with_alone number seat = record seat { held = first_alone number seat.held }
 
--- what stands at that place of the list has that number
-abbrev pub has_number_at : Number → List Held → ℕ → Bool
-has_number_at number hs place = option_map_or (is_of_number number) (slice_get hs place) false
+-- the message of that number is queued at the seat
+abbrev pub is_queued : Number → Seat → Bool
+is_queued number seat = is_some (of_number number seat.queued)
 
--- what stands of the loan that is left
-abbrev pub IsLeftStanding : Loans → Option LoanRun → Type 0
-IsLeftStanding all None = Unit {0}
-IsLeftStanding all (Some run) = Stands all (without_lender run)
+-- a queued message of that number is taken out, and a held one is left alone
+abbrev pub without_message : Number → Seat → Seat
+without_message number seat = if is_queued number seat then without_queued number seat else with_alone number seat
+
+-- There is a message of that number at the seat. A queued one can end, and a held one be left alone.
+pub record IsLeavable (all : Loans) (number : Number) (seat : Seat) : Type 0 where
+  pub queued : (h : Held) → of_number number seat.queued ≡ Some h → IsEndable all h
+  pub there : of_number number seat.queued ≡ None → IsSome (of_number number seat.held)
+  pub held : of_number number seat.queued ≡ None → (h : Held) → of_number number seat.held ≡ Some h → IsOrphanable all h
 
 -- ---- at all servers
 
@@ -55,3 +66,17 @@ pub record LeavesAlike (procs : ℕ) (pid : Pid) (old new : Closable) : Type 0 w
       ≡ orphan_loans procs (is_held_from pid (with_servers old m)) (end_loans (is_queued_from pid (with_servers old m)) old.ledger)
   pub servers : (n : ℕ) → option_map (left_by pid) (servers_shown new.servers new.seats n)
       ≡ option_map (left_by pid) (servers_shown old.servers old.seats n)
+
+-- the parts that leaving changes: nobody is to be answered
+abbrev pub standing : Ledger → Servers → List Seat → Closable
+standing ledger servers seats = closable ledger servers seats nobody
+
+-- no message at the seat is from the process
+abbrev pub AreOfOthers : Pid → Seat → Type 0
+AreOfOthers pid seat = All (λ h. is_sent_from pid h.msg ≡ false) (messages_at seat)
+
+-- What the death of the process makes of the ledger and of the servers was made of them.
+pub record HasLeft (procs : ℕ) (pid : Pid) (old new : Closable) : Type 0 where
+  pub ledger : (m : Machine)
+      → new.ledger ≡ orphan_loans procs (is_held_from pid (with_servers old m)) (end_loans (is_queued_from pid (with_servers old m)) old.ledger)
+  pub servers : (n : ℕ) → servers_shown new.servers new.seats n ≡ option_map (left_by pid) (servers_shown old.servers old.seats n)

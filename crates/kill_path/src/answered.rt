@@ -22,7 +22,7 @@ pub(crate) struct Answered {
 impl Answered {
     ghost use Rattle.kill_path.specs.Noted.{noted};
 
-    // Nobody is to be answered.
+    /// Nobody is to be answered.
     pub(crate) fn new() -> Answered
         ensures { noted result ≡ nobody }
     {
@@ -31,7 +31,7 @@ impl Answered {
         }
     }
 
-    // The thread is to be answered too.
+    /// The thread is to be answered too.
     pub(crate) fn note(&mut self, id: ThreadId)
         requires { is_thread_id PROCESS_LIMIT id ≡ true }
         ensures { noted self.new ≡ put_at same_thread (noted self.old) id true }
@@ -39,7 +39,7 @@ impl Answered {
         self.marks[place_of(id)] = true;
     }
 
-    // Whether the thread at the place is to be answered.
+    /// Whether the thread at the place is to be answered.
     pub(crate) fn has_at(&self, place: usize) -> bool
         requires { place < ids_of_all }
         ensures { result ≡ noted self.now (id_at place) }

@@ -14,7 +14,7 @@ ghost use Rattle.vm_memory.specs.Sound.{IsSound as IsMemorySound};
 ghost use Rattle.xk_base.specs.Tables.Circle.{is_thread_id};
 ghost use Rattle.xk_base.specs.declared.limits.TheConstants.{PROCESS_LIMIT, SERVER_LIMIT};
 ghost use Rattle.kill_path.specs.Ending.{AreEndable, IsEndable, emptied, is_number_in, with_sender, with_senders, without_first};
-ghost use Rattle.kill_path.specs.Closing.{AreClosed};
+ghost use Rattle.kill_path.specs.Closing.{AreClosed, closable};
 ghost use Rattle.kill_path.specs.Keeping.{Stays};
 ghost use Rattle.kill_path.specs.Noted.{noted};
 ghost use Rattle.kill_path.specs.Open.{AreOpen};
@@ -26,8 +26,8 @@ use vm_memory::Memory;
 use xk_base::{Pid, Serial, ThreadId};
 use xk_ports::SwapStore;
 
-// The message ends, and with it its loan, where it has one. What is left is its sender.
-fn spend<W: SwapStore>(mem: &mut Memory<W>, ended: Held) -> Option<ThreadId>
+/// The message ends, and with it its loan, where it has one. What is left is its sender.
+pub(crate) fn spend<W: SwapStore>(mem: &mut Memory<W>, ended: Held) -> Option<ThreadId>
     requires sound { IsMemorySound W.slot_count mem.old }
     requires loan { IsEndable (loans (ledger W.held mem.old)) ended }
     ensures sender { result ≡ ended.msg.sender }
@@ -44,7 +44,7 @@ fn spend<W: SwapStore>(mem: &mut Memory<W>, ended: Held) -> Option<ThreadId>
     }
 }
 
-// The sender of a message, where it has one, is to be answered.
+/// The sender of a message, where it has one, is to be answered.
 fn note_sender(answered: &mut Answered, sender: Option<ThreadId>)
     requires { IfSome sender (λ id. is_thread_id PROCESS_LIMIT id ≡ true) }
     ensures { noted answered.new ≡ with_sender sender (noted answered.old) }
@@ -55,7 +55,7 @@ fn note_sender(answered: &mut Answered, sender: Option<ThreadId>)
     }
 }
 
-// The message ends, and its sender is to be answered.
+/// The message ends, and its sender is to be answered.
 pub(crate) fn end_message<W: SwapStore>(mem: &mut Memory<W>, answered: &mut Answered, ended: Held)
     requires sound { IsMemorySound W.slot_count mem.old }
     requires loan { IsEndable (loans (ledger W.held mem.old)) ended }
@@ -68,7 +68,7 @@ pub(crate) fn end_message<W: SwapStore>(mem: &mut Memory<W>, answered: &mut Answ
     note_sender(answered, sender);
 }
 
-// Takes the first of the held messages of a seat out.
+/// Takes the first of the held messages of a seat out.
 fn take_first_held(queues: &mut Queues, seat: u8) -> Option<Held>
     requires { seat < SERVER_LIMIT }
     ensures message { result ≡ slice_get (seat_in queues.old seat).held 0 }
@@ -78,7 +78,7 @@ fn take_first_held(queues: &mut Queues, seat: u8) -> Option<Held>
     queues.take_held(seat, number)
 }
 
-// Takes the first message of a seat out: the oldest queued, or else the first of the held.
+/// Takes the first message of a seat out: the oldest queued, or else the first of the held.
 fn take_first(queues: &mut Queues, seat: u8) -> Option<Held>
     requires seat { seat < SERVER_LIMIT }
     requires seats { length queues.old ≡ SERVER_LIMIT }
@@ -91,7 +91,7 @@ fn take_first(queues: &mut Queues, seat: u8) -> Option<Held>
     }
 }
 
-// All messages of a seat end, and their senders are to be answered.
+/// All messages of a seat end, and their senders are to be answered.
 fn end_seat<W: SwapStore>(
     mem: &mut Memory<W>,
     queues: &mut Queues,
@@ -112,7 +112,7 @@ fn end_seat<W: SwapStore>(
     }
 }
 
-// The live server at a seat closes: its messages end, and it goes.
+/// The live server at a seat closes: its messages end, and it goes.
 pub(crate) fn close_server<W: SwapStore>(
     mem: &mut Memory<W>,
     servers: &mut Servers,
@@ -124,7 +124,9 @@ pub(crate) fn close_server<W: SwapStore>(
     requires sound { IsMemorySound W.slot_count mem.old }
     requires seat { IsSeatOf (servers_of servers.old) serial.0 seat }
     requires messages { AreOpen (loans (ledger W.held mem.old)) servers.old queues.old }
-    ensures closed { AreClosed (λ n. n == serial.0) (record { ledger = ledger W.held mem.old; servers = servers.old; seats = queues.old; noted = noted answered.old }) (record { ledger = ledger W.held mem.new; servers = servers.new; seats = queues.new; noted = noted answered.new }) }
+    ensures closed { let old = closable (ledger W.held mem.old) servers.old queues.old (noted answered.old) in
+        let new = closable (ledger W.held mem.new) servers.new queues.new (noted answered.new) in
+        AreClosed (λ n. n == serial.0) old new }
     ensures messages { AreOpen (loans (ledger W.held mem.new)) servers.new queues.new }
     ensures stays { Stays W.slot_count W.is_honest W.held mem.old mem.new }
 {
@@ -132,7 +134,7 @@ pub(crate) fn close_server<W: SwapStore>(
     servers.remove(serial);
 }
 
-// The seat of a live server.
+/// The seat of a live server.
 pub(crate) fn seat_of(servers: &Servers, serial: Serial) -> u8
     requires { IsSome ((servers_of servers.now).live serial.0) }
     ensures { IsSeatOf (servers_of servers.now) serial.0 result }
@@ -143,7 +145,7 @@ pub(crate) fn seat_of(servers: &Servers, serial: Serial) -> u8
     }
 }
 
-// All servers of the process close.
+/// All servers of the process close.
 pub(crate) fn close_servers<W: SwapStore>(
     mem: &mut Memory<W>,
     servers: &mut Servers,
@@ -153,7 +155,9 @@ pub(crate) fn close_servers<W: SwapStore>(
 )
     requires sound { IsMemorySound W.slot_count mem.old }
     requires messages { AreOpen (loans (ledger W.held mem.old)) servers.old queues.old }
-    ensures closed { AreClosed (λ n. is_server_of pid (servers_shown servers.old queues.old n)) (record { ledger = ledger W.held mem.old; servers = servers.old; seats = queues.old; noted = noted answered.old }) (record { ledger = ledger W.held mem.new; servers = servers.new; seats = queues.new; noted = noted answered.new }) }
+    ensures closed { let old = closable (ledger W.held mem.old) servers.old queues.old (noted answered.old) in
+        let new = closable (ledger W.held mem.new) servers.new queues.new (noted answered.new) in
+        AreClosed (λ n. is_server_of pid (servers_shown servers.old queues.old n)) old new }
     ensures messages { AreOpen (loans (ledger W.held mem.new)) servers.new queues.new }
     ensures stays { Stays W.slot_count W.is_honest W.held mem.old mem.new }
 {

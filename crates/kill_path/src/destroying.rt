@@ -2,6 +2,7 @@
 
 ghost use Rattle.std.specs.Prelude.{◌≡◌, ◌+◌, ◌≤◌, length, true, IsSome, Some};
 ghost use Rattle.std.specs.Option.{option_map};
+ghost use Rattle.send_path.specs.Parts.{parts_of};
 ghost use Rattle.send_path.specs.Sound.{IsSound, KeepsMemory};
 ghost use Rattle.server_table.specs.ServersOf.{servers_of};
 ghost use Rattle.thread_table.specs.ThreadMap.{is_ready};
@@ -20,7 +21,7 @@ use vm_memory::Memory;
 use xk_base::{Log, Pid, Serial, ThreadId};
 use xk_ports::SwapStore;
 
-// The process of a live server.
+/// The process of a live server.
 fn owner_of(servers: &Servers, serial: Serial) -> Pid
     requires { IsSome ((servers_of servers.now).live serial.0) }
     ensures { option_map (λ v. v.pid) ((servers_of servers.now).live serial.0) ≡ Some result }
@@ -46,9 +47,11 @@ pub fn destroy<W: SwapStore>(
     requires live { IsSome ((servers_of servers.old).live s.0) }
     requires ready { is_ready (threads_of threads.old who) ≡ true }
     requires room { length log.old.records + thread_ids (process_count threads.old) ≤ log.old.room }
-    requires sound { IsSound W.slot_count W.held who (record { mem = mem.old; tables = record { threads = threads.old; servers = servers.old; queues = queues.old; log = log.old } }) }
-    ensures row { DoesRow W.held (destroy_row s) who (record { mem = mem.old; tables = record { threads = threads.old; servers = servers.old; queues = queues.old; log = log.old } }) (record { mem = mem.new; tables = record { threads = threads.new; servers = servers.new; queues = queues.new; log = log.new } }) }
-    ensures sound { IsSound W.slot_count W.held who (record { mem = mem.new; tables = record { threads = threads.new; servers = servers.new; queues = queues.new; log = log.new } }) }
+    requires sound { IsSound W.slot_count W.held who (parts_of mem.old threads.old servers.old queues.old log.old) }
+    ensures row { let old = parts_of mem.old threads.old servers.old queues.old log.old in
+        let new = parts_of mem.new threads.new servers.new queues.new log.new in
+        DoesRow W.held (destroy_row s) who old new }
+    ensures sound { IsSound W.slot_count W.held who (parts_of mem.new threads.new servers.new queues.new log.new) }
     ensures mem { KeepsMemory W.is_honest W.held mem.old mem.new }
 {
     let mut noted_ids = Answered::new();

@@ -5,8 +5,10 @@ mod answered;
 mod closing;
 mod closing_all;
 mod destroying;
+mod killing;
 mod leaving;
 mod telling;
 
 pub use closing_all::close_all;
 pub use destroying::destroy;
+pub use killing::kill;

@@ -24,10 +24,11 @@ use thread_table::{Threads, id_at};
 use xk_base::limits::TID_LIMIT;
 use xk_base::{Log, Pid, Serial, ThreadId, Tid, What, XousError};
 
-// The thread is to be answered, if it is Receiving at the server.
+/// The thread is to be answered, if it is Receiving at the server.
 fn note_if_receiving(threads: &Threads, id: ThreadId, serial: Serial, noted_ids: &mut Answered)
     requires { is_thread_id PROCESS_LIMIT id ≡ true }
-    ensures { noted noted_ids.new ≡ (if is_receiving_at serial (threads_of threads.now id) then put_at same_thread (noted noted_ids.old) id true else noted noted_ids.old) }
+    ensures { let old = noted noted_ids.old in
+        noted noted_ids.new ≡ (if is_receiving_at serial (threads_of threads.now id) then put_at same_thread old id true else old) }
 {
     if let Some(thread) = threads.get(id)
         && thread.state.is_receiving(serial)
@@ -36,7 +37,7 @@ fn note_if_receiving(threads: &Threads, id: ThreadId, serial: Serial, noted_ids:
     }
 }
 
-// Each thread of the process that is Receiving at the server is to be answered.
+/// Each thread of the process that is Receiving at the server is to be answered.
 pub(crate) fn note_receiving(threads: &Threads, pid: Pid, serial: Serial, noted_ids: &mut Answered)
     requires { is_pid PROCESS_LIMIT pid.0 ≡ true }
     ensures { noted noted_ids.new ≡ (λ id. noted noted_ids.old id || is_receiver_of pid serial (threads_of threads.now) id) }
@@ -50,7 +51,7 @@ pub(crate) fn note_receiving(threads: &Threads, pid: Pid, serial: Serial, noted_
     }
 }
 
-// Whether the thread is the one that was served.
+/// Whether the thread is the one that was served.
 fn is_served(served: Option<ThreadId>, id: ThreadId) -> bool
     ensures { result ≡ is_served served id }
 {
@@ -60,7 +61,7 @@ fn is_served(served: Option<ThreadId>, id: ThreadId) -> bool
     }
 }
 
-// What the thread is answered: that there is no server, unless it was served.
+/// What the thread is answered: that there is no server, unless it was served.
 fn words_for(served: Option<ThreadId>, id: ThreadId) -> [u32; 8]
     ensures { result ≡ words_for served id }
 {
@@ -71,7 +72,7 @@ fn words_for(served: Option<ThreadId>, id: ThreadId) -> [u32; 8]
     }
 }
 
-// The thread at the place is answered, if it is to be, of which a record tells.
+/// The thread at the place is answered, if it is to be, of which a record tells.
 fn tell_at(
     threads: &mut Threads,
     log: &mut Log,
@@ -81,8 +82,11 @@ fn tell_at(
 )
     requires place { place < ids_of_all }
     requires room { noted noted_ids.now (id_at place) ≡ true → length log.old.records < log.old.room }
-    ensures after { threads_shown threads.new ≡ (if noted noted_ids.now (id_at place) then answered (answer_to (id_at place) (words_for served (id_at place))) (threads_shown threads.old) else threads_shown threads.old) }
-    ensures log { log.new ≡ (if noted noted_ids.now (id_at place) then log_with (Replied (id_at place) (words_for served (id_at place)) ∷ []) log.old else log.old) }
+    ensures after { let id = id_at place in
+        let old = threads_shown threads.old in
+        threads_shown threads.new ≡ (if noted noted_ids.now id then answered (answer_to id (words_for served id)) old else old) }
+    ensures log { let id = id_at place in
+        log.new ≡ (if noted noted_ids.now id then log_with (Replied id (words_for served id) ∷ []) log.old else log.old) }
     ensures count { process_count threads.new ≡ process_count threads.old }
 {
     if noted_ids.has_at(place) {
@@ -93,7 +97,7 @@ fn tell_at(
     }
 }
 
-// Each thread that is to be answered is, of which records tell in ascending order of thread.
+/// Each thread that is to be answered is, of which records tell in ascending order of thread.
 pub(crate) fn tell(
     threads: &mut Threads,
     log: &mut Log,

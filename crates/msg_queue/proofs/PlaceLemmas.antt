@@ -1,16 +1,19 @@
 -- The first message of a number in a chain.
-use Rattle.std.proofs.Common.{◌≡◌, ℕ, zero, suc, ◌+◌, ◌<◌, ◌≤◌, Bool, true, false, not, List, [], ◌∷◌, ◌++◌, length, take, get_or, Option, Some, ap, sym, ◌∙◌, inl, inr, arith}
+use Rattle.std.proofs.Common.{◌≡◌, ℕ, zero, suc, ◌+◌, ◌<◌, ◌≤◌, Bool, true, false, not, List, [], ◌∷◌, ◌++◌, length, take, get_or, Option, Some, None, ap, sym, ◌∙◌, inl, inr, arith}
 use Rattle.std.proofs.lemmas.Bool.{cases_lt, both_ways}
 use Rattle.std.proofs.lemmas.List.{take_more, take_all}
 use Rattle.std.proofs.lemmas.List.Sums.{fails_before_first, passes_at_first, prefix_len-le-length}
 use Rattle.std.specs.List.{slice_get, position_or_len}
+use Rattle.std.specs.Option.{option_map}
+use Rattle.std.proofs.lemmas.List.Folds.{find_at}
 use Rattle.xk_base.specs.Tables.RowMap.{row_map}
 use Rattle.xk_base.specs.declared.ids.Number.{Number}
 use Rattle.msg_queue.specs.Chains.{no_slot}
-use Rattle.msg_queue.specs.Seats.{is_of_number, message_place}
+use Rattle.msg_queue.specs.Seats.{is_of_number, place_found, message_place}
 use Rattle.msg_queue.specs.Shown.{messages}
 use Rattle.msg_queue.specs.Spots.{slot_has}
 use Rattle.msg_queue.specs.declared.held.Held.{Held}
+use Rattle.msg_queue.proofs.CallLemmas.{get_past}
 use Rattle.msg_queue.proofs.Seats.MessageLemmas.{AreUsed, the_content, length-contents, get-contents}
 use Rattle.msg_queue.proofs.Rings.WalkLemmas.{among_at}
 
@@ -61,11 +64,28 @@ passed_slot slots xs i number used within low has =
     let here = message_at slots xs i used within in
     passed_place (is_of_number number) (messages slots xs) i here.0 here.2 low (sym (ap (slot_has number) here.1) ∙ has)
 
+-- the message there is the first of the number
+pub found_there : (slots : List (Option Held)) (xs : List ℕ) (i : ℕ) (number : Number) → AreUsed slots xs → i < length xs → i ≤ message_place number (messages slots xs)
+    → slot_has number (row_map slots (get_or xs i no_slot)) ≡ true → place_found number (messages slots xs) ≡ Some i
+found_there slots xs i number used within low has =
+    let here = message_at slots xs i used within in
+    let place : i ≡ message_place number (messages slots xs) = found_slot slots xs i number used within low has in
+    ap (option_map (λ _. message_place number (messages slots xs)))
+    (find_at (is_of_number number) (messages slots xs) ∙ ap (slice_get (messages slots xs)) (sym place) ∙ here.2)
+    ∙ ap Some (sym place)
+
 -- past the last slot no message has it
 pub past_slots : (slots : List (Option Held)) (xs : List ℕ) (i : ℕ) (number : Number) → AreUsed slots xs → i ≡ length xs → i ≤ message_place number (messages slots xs)
     → i ≡ message_place number (messages slots xs)
 past_slots slots xs i number used end low =
     omega (arith, place_is_few (is_of_number number) (messages slots xs), length-contents slots xs used)
+
+pub none_there : (slots : List (Option Held)) (xs : List ℕ) (i : ℕ) (number : Number) → AreUsed slots xs → i ≡ length xs → i ≤ message_place number (messages slots xs)
+    → place_found number (messages slots xs) ≡ None
+none_there slots xs i number used end low =
+    ap (option_map (λ _. message_place number (messages slots xs)))
+    (find_at (is_of_number number) (messages slots xs)
+    ∙ get_past (messages slots xs) (message_place number (messages slots xs)) (omega (arith, length-contents slots xs used)))
 
 -- ---- one message more
 

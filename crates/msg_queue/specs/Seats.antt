@@ -1,6 +1,7 @@
 -- What a seat shows: the messages that wait for a server, and those that it received and owes an answer, each with its loan.
 use Rattle.std.specs.Prelude.{◌≡◌, ℕ, ◌+◌, ◌≤◌, ◌==◌, Bool, ◌&&◌, true, false, List, [], ◌∷◌, ◌++◌, length, All, Option, Some, None, slice_index_or, slice_set}
 use Rattle.std.specs.List.{insert, remove, find, position_or_len, list_any}
+use Rattle.std.specs.Option.{option_map}
 use Rattle.xk_base.specs.declared.ids.Number.{Number}
 use Rattle.xk_base.specs.declared.ids.Pid.{Pid}
 use Rattle.xk_base.specs.declared.ids.ThreadId.{ThreadId}
@@ -41,6 +42,10 @@ message_place number messages = position_or_len (is_of_number number) messages
 -- the first message of that number
 abbrev pub of_number : Number → List Held → Option Held
 of_number number messages = find (is_of_number number) messages
+
+-- the place of that message, where there is one
+abbrev pub place_found : Number → List Held → Option ℕ
+place_found number messages = option_map (λ _. message_place number messages) (of_number number messages)
 
 -- ---- what calls change
 

@@ -3,7 +3,7 @@
 ghost use Rattle.std.specs.Prelude.{◌≡◌, ◌++◌, ◌<◌, ◌≤◌, ◌↔◌, IsTrue, IfOk, All, length, replicate, slice_get};
 ghost use Rattle.std.specs.Option.{option_copied, option_map};
 ghost use Rattle.xk_base.specs.declared.limits.TheConstants.{SERVER_LIMIT, MESSAGE_LIMIT};
-ghost use Rattle.msg_queue.specs.Seats.{seat_of, empty_seat, used_of, of_number, message_of, IsFirstOf, changed_at};
+ghost use Rattle.msg_queue.specs.Seats.{seat_of, empty_seat, used_of, of_number, place_found, message_of, IsFirstOf, changed_at};
 ghost use Rattle.msg_queue.specs.Seats.{with_queued, with_held, with_held_at, without_queued_at, without_queued, without_held};
 
 use crate::held::Held;
@@ -152,6 +152,15 @@ impl Queues {
         ensures rest { self.new ≡ changed_at seat (without_held n) self.old }
     {
         self.rings[seat as usize].take_held(n)
+    }
+
+    /// The place of the held message of that number, counted from 0; `None` exactly where none has it.
+    pub fn held_place(&self, seat: u8, n: Number) -> Option<u32>
+        requires { seat < SERVER_LIMIT }
+        ensures place { result ≡ place_found n (seat_of self.now seat).held }
+        ensures few { used_of (seat_of self.now seat) ≤ MESSAGE_LIMIT }
+    {
+        self.rings[seat as usize].held_place(n)
     }
 
     /// The least message, queued or held, of a lend or a blocking scalar with a sender in the process; `None`

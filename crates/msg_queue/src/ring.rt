@@ -2,12 +2,12 @@
 
 ghost use Rattle.std.specs.Prelude.{◌≡◌, ◌++◌, IfOk, ◌<◌, ◌≤◌, ◌↔◌, IsTrue, length, slice_get};
 ghost use Rattle.std.specs.Option.{option_copied, option_map};
-ghost use Rattle.msg_queue.specs.Seats.{empty_seat, used_of, of_number, message_of, IsFirstOf};
+ghost use Rattle.msg_queue.specs.Seats.{empty_seat, used_of, of_number, place_found, message_of, IsFirstOf};
 ghost use Rattle.msg_queue.specs.Seats.{with_queued, with_held, with_held_at, without_queued_at, without_queued, without_held};
 
 use crate::held::Held;
 use crate::links::{NONE, SLOTS, put_in, take_out};
-use crate::walks::{Spot, least_of, length_of, message_in, spot_at, spot_of};
+use crate::walks::{Spot, least_of, length_of, message_in, message_place, spot_at, spot_of};
 use std::alloc::Global;
 use std::marker::Model;
 use xk_base::{Message, NoMemory, Number, Pid};
@@ -249,6 +249,19 @@ impl Ring {
             number,
         );
         message_in(self.slots.as_slice(), spot.slot)
+    }
+
+    /// The place of the held message of that number, counted from 0.
+    pub fn held_place(&self, number: Number) -> Option<u32>
+        ensures place { result ≡ place_found number self.now.held }
+        ensures few { used_of self.now ≤ 128 }
+    {
+        message_place(
+            self.slots.as_slice(),
+            self.next.as_slice(),
+            self.held,
+            number,
+        )
     }
 
     /// The least message, queued or held, whose answer a thread of the process waits for.

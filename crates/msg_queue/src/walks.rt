@@ -5,7 +5,7 @@ ghost use Rattle.std.specs.Option.{option_copied, option_map};
 ghost use Rattle.xk_base.specs.Tables.RowMap.{row_map};
 ghost use Rattle.msg_queue.specs.Chains.{IsChain, chain};
 ghost use Rattle.msg_queue.specs.Shown.{messages};
-ghost use Rattle.msg_queue.specs.Seats.{message_place, message_of, is_awaited_in, IsFirstOf};
+ghost use Rattle.msg_queue.specs.Seats.{message_place, place_found, message_of, is_awaited_in, IsFirstOf};
 ghost use Rattle.msg_queue.specs.Spots.{spot_in, slot_has, AreFilledBy};
 ghost use Rattle.msg_queue.specs.declared.held.Held.{Held};
 
@@ -78,6 +78,34 @@ pub fn spot_of(slots: &[Option<Held>], next: &[u8], first: u8, number: Number) -
         };
     }
     spot
+}
+
+/// The place of the first message of that number in the chain, counted from 0; `None` where none has it.
+pub fn message_place(slots: &[Option<Held>], next: &[u8], first: u8, number: Number) -> Option<u32>
+    requires slots { length slots.now ≡ 128 }
+    requires words { length next.now ≡ 128 }
+    requires chain { IsChain next.now first (chain next.now first) }
+    requires few { length (chain next.now first) ≤ 128 }
+    requires filled { AreFilledBy slots.now (chain next.now first) }
+    ensures { result ≡ place_found number (messages slots.now (chain next.now first)) }
+{
+    let mut spot = Spot {
+        before: NONE,
+        slot: first,
+    };
+    for place in 0..SLOTS {
+        if spot.slot == NONE {
+            return None;
+        }
+        if has_number(&slots[spot.slot as usize], number) {
+            return Some(place);
+        }
+        spot = Spot {
+            before: spot.slot,
+            slot: next[spot.slot as usize],
+        };
+    }
+    None
 }
 
 /// How long the chain is.

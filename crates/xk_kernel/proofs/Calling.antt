@@ -2,6 +2,7 @@ pub mod AnsweringLemmas
 pub mod CallTableLemmas
 pub mod CallerLemmas
 pub mod CreateLemmas
+pub mod DestroyLemmas
 pub mod JoinLemmas
 pub mod JoinerLemmas
 pub mod JoiningLemmas

@@ -1,5 +1,5 @@
-pub mod AloneLemmas
-pub mod DeathOfLemmas
 pub mod DyingLemmas
 pub mod EndingLemmas
 pub mod EventLemmas
+pub mod KillLemmas
+pub mod LastThreadLemmas

@@ -3,5 +3,7 @@ pub mod Calling
 pub mod Ending
 pub mod Interrupting
 pub mod Memory
+pub mod Messaging
+pub mod Ringing
 pub mod Running
 pub mod Starting

@@ -1,8 +1,9 @@
 pub mod HeapGrowthLemmas
 pub mod HeapLemmas
+pub mod KeptLoanLemmas
 pub mod LedgerAfterLemmas
-pub mod LoanLemmas
 pub mod MapLemmas
 pub mod MemoryCallLemmas
 pub mod MemoryPartLemmas
 pub mod StoreLemmas
+pub mod TimerViewLemmas

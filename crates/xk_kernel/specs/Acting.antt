@@ -1,16 +1,13 @@
 -- What the thread whose step it is did, before the step is counted.
-use Rattle.std.specs.Prelude.{◌≡◌, ◌+◌, true, false, map, Option}
+use Rattle.std.specs.Prelude.{◌≡◌, ◌+◌, ℕ, map, Option}
 use Rattle.machine_model.specs.State.Changes.{Told}
 use Rattle.machine_model.specs.State.Machine.{Machine, Reservation}
 use Rattle.machine_model.specs.Stepping.Reservations.{reservation_of}
 use Rattle.machine_model.specs.Stepping.Step.{acted_if_there, record_of, reservation_left_if_there}
 use Rattle.sv32_space.specs.Tie.{Held}
 use Rattle.xk_base.specs.declared.ids.ThreadId.{ThreadId}
-use Rattle.xk_kernel.specs.Built.{step_built}
 use Rattle.xk_kernel.specs.State.{machine_of}
 use Rattle.xk_kernel.specs.declared.kernel.Kernel.{Kernel}
-use Rattle.xk_kernel.specs.declared.kernel.stepping.Acted.{Acted}
-use Rattle.xk_kernel.specs.declared.kernel.stepping.Acted.TheVariants.{Done, Unbuilt}
 
 -- what the thread does, with the cursor at it
 abbrev pub told_by : ThreadId → Machine → Told
@@ -25,10 +22,7 @@ pub record IsDone {W : Type 0} (held : W → Held) (old new : Kernel W) (told : 
   pub machine : machine_of held new ≡ told.machine
   pub log : new.log ≡ record old.log { step = old.steps + 1; records = map (record_of (old.steps + 1)) told.told }
 
--- it was done where it is built, with the address that the thread has reserved afterwards; and else nothing was
-abbrev pub Acts : {W : Type 0} → (W → Held) → Kernel W → Kernel W → ThreadId → Acted → Type 0
-Acts held old new who (Done reserved) =
-    (step_built (machine_of held old) ≡ true) × IsDone held old new (told_by who (machine_of held old))
-    × (reservation_of who reserved ≡ reservation_by who (machine_of held old))
-Acts held old new who Unbuilt =
-    (step_built (machine_of held old) ≡ false) × (machine_of held new ≡ machine_of held old) × (new.log ≡ old.log)
+-- .. and the thread has this address reserved afterwards
+pub record Acts {W : Type 0} (held : W → Held) (old new : Kernel W) (who : ThreadId) (reserved : Option ℕ) : Type 0 where
+  pub done : IsDone held old new (told_by who (machine_of held old))
+  pub leaves : reservation_of who reserved ≡ reservation_by who (machine_of held old)

@@ -1,26 +1,59 @@
--- What came of a system call, before its caller is past it: the one outcome of the call, by its row of the table.
-use Rattle.std.specs.Prelude.{Result, Ok, Err, Some, None, [], ◌∷◌, not}
+-- Who makes a system call, and what came of it before its caller is past it: the one outcome of the call, by its row of the table.
+use Rattle.std.specs.Prelude.{◌≡◌, ℕ, ◌<◌, ◌==◌, ◌&&◌, Bool, true, List, Result, Ok, Err, [], ◌∷◌, not}
 use Rattle.std.specs.Bool.{⊤}
+use Rattle.std.specs.List.{list_any}
 use Rattle.machine_model.specs.State.Changes.{Outcome, Refused, Retried, Served, only, answering, unless_refused}
 use Rattle.machine_model.specs.State.Connections.{connect_caller, own_connections}
+use Rattle.machine_model.specs.Runs.Matched.{Matched}
 use Rattle.machine_model.specs.State.Machine.{Machine}
-use Rattle.machine_model.specs.State.Threads.{answer_to, no_answers}
+use Rattle.machine_model.specs.State.Order.{ready_at}
+use Rattle.machine_model.specs.State.Threads.{answer_to}
+use Rattle.sv32_space.specs.Tie.{Held}
 use Rattle.syscall_codec.specs.Replies.{words_of}
+use Rattle.xk_base.specs.Calls.CallNumbers.{map_memory, yield_turn, claim_interrupt, free_interrupt, increase_heap, decrease_heap, update_memory_flags, create_server_with_address, connect, create_thread, unmap_memory, try_connect, join_thread, get_thread_id, get_process_id}
+use Rattle.xk_base.specs.Calls.CallWords.{call_number, is_refused_to_handler}
 use Rattle.xk_base.specs.Calls.Replies.{connection_words}
 use Rattle.xk_base.specs.Tables.Connections.{cid_for, has_room}
 use Rattle.xk_base.specs.declared.errors.XousError.{XousError}
 use Rattle.xk_base.specs.declared.errors.XousError.TheVariants.{InvalidLimit}
 use Rattle.xk_base.specs.declared.ids.Serial.{Serial}
 use Rattle.xk_base.specs.declared.ids.ThreadId.{ThreadId}
+use Rattle.xk_kernel.specs.Sound.{IsUsable, IsWhole}
+use Rattle.xk_kernel.specs.State.{machine_of}
+use Rattle.xk_kernel.specs.declared.kernel.Kernel.{Kernel}
 use Rattle.xk_kernel.specs.declared.kernel.calls.CallerFate.{CallerFate}
-use Rattle.xk_kernel.specs.declared.kernel.calls.CallerFate.TheVariants.{Answered, Waits, Died, Retries}
+use Rattle.xk_kernel.specs.declared.kernel.calls.CallerFate.TheVariants.{Answered, Waits, Retries}
+
+-- the kernel is sound and usable, and the thread whose turn it is can make a call
+pub record IsCaller {W : Type 0} (slot_count : W → ℕ) (held : W → Held) (k : Kernel W) : Type 0 where
+  pub whole : IsWhole slot_count held k
+  pub usable : IsUsable k
+  pub matched : Matched (machine_of held k)
+  pub few : k.steps < 4000000000
+  pub ready : ready_at (machine_of held k) k.cursor ≡ true
+
+-- the caller is the interrupt thread, and the call can make it wait
+abbrev pub is_refused_caller : Machine → List ℕ → Bool
+is_refused_caller m words = m.cursor.tid.0 == 1 && is_refused_to_handler words
+
+-- the numbers of the calls whose caller is answered once they are served: all but those on messages, and those that end a process
+-- or a server
+abbrev pub plain_numbers : List ℕ
+plain_numbers =
+    map_memory ∷ yield_turn ∷ claim_interrupt ∷ free_interrupt ∷ increase_heap ∷ decrease_heap ∷ update_memory_flags
+    ∷ create_server_with_address ∷ connect ∷ create_thread ∷ unmap_memory ∷ try_connect ∷ join_thread ∷ get_thread_id ∷ get_process_id ∷ []
+
+abbrev pub is_plain_number : ℕ → Bool
+is_plain_number k = list_any (λ n. n == k) plain_numbers
+
+abbrev pub is_plain_call : List ℕ → Bool
+is_plain_call words = is_plain_number (call_number words)
 
 -- the outcome of a call of the thread whose caller fares so, where the machine is this one after it: the caller is answered, or
--- waits, or its process died, or it will make the call again
+-- waits, or will make the call again
 abbrev pub outcome_by : ThreadId → Machine → CallerFate → Outcome
 outcome_by who m (Answered reply) = Served (answering (answer_to who (words_of reply)) m)
 outcome_by who m Waits = Served (only m)
-outcome_by who m Died = Served (record { machine = m; answers = no_answers; delivery = None; gone = Some who.pid })
 outcome_by who m Retries = Retried
 
 -- the outcome of a call of the thread that was answered so, where the machine is this one after it
@@ -34,7 +67,6 @@ IfUndone (Err error) P = P
 IfUndone (Ok Retries) P = P
 IfUndone (Ok (Answered reply)) P = ⊤
 IfUndone (Ok Waits) P = ⊤
-IfUndone (Ok Died) P = ⊤
 
 -- the outcome of a connection to a server that is alive: there may be no room for one
 abbrev pub connected_outcome : Machine → Serial → Outcome

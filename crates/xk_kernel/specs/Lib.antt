@@ -2,9 +2,8 @@ pub mod History
 pub mod HistoryMoments
 pub mod Interleaving
 pub mod Acting
-pub mod Alone
-pub mod Built
 pub mod Calling
+pub mod Ringing
 pub mod Running
 pub mod Sound
 pub mod Start

@@ -1,17 +1,16 @@
 -- The soundness of a kernel, which each call needs and keeps.
-use Rattle.std.specs.Prelude.{◌≡◌, ℕ, ◌≤◌, Bool, IsTrue, None, All}
-use Rattle.irq_claims.specs.ClaimsOf.{claims_of}
+use Rattle.std.specs.Prelude.{◌≡◌, ℕ, ◌≤◌, Bool, IsTrue}
 use Rattle.machine_model.specs.Runs.Matched.{Matched}
-use Rattle.msg_queue.specs.Seats.{used_of}
+use Rattle.kill_path.specs.Open.{AreServersSound}
+use Rattle.ledger_model.specs.Loans.{loans}
 use Rattle.process_table.specs.ProcessesOf.{process_count as processes_made}
 use Rattle.sv32_space.specs.Tie.{Held}
 use Rattle.thread_table.specs.ThreadsOf.{process_count as processes_threaded}
 use Rattle.xk_ports.specs.Keeping.{KeepsStore}
 use Rattle.vm_memory.specs.Memory.{IsUsable as IsMemoryUsable, ledger, processes, size, store_of}
 use Rattle.vm_memory.specs.Sound.{IsSound as IsMemorySound}
-use Rattle.vm_memory.specs.Starting.{IsUnlent}
 use Rattle.xk_base.specs.Tables.Circle.{is_thread_id}
-use Rattle.xk_base.specs.declared.limits.TheConstants.{RECORD_LIMIT, TIMER_INTERRUPT}
+use Rattle.xk_base.specs.declared.limits.TheConstants.{RECORD_LIMIT}
 use Rattle.xk_kernel.specs.State.{machine_of}
 use Rattle.xk_kernel.specs.declared.kernel.Kernel.{Kernel}
 
@@ -26,12 +25,8 @@ pub record IsWhole {W : Type 0} (slot_count : W → ℕ) (held : W → Held) (k 
   pub procs : processes_made k.procs ≡ processes k.mem
   pub cursor : IsTrue (is_thread_id (processes k.mem) k.cursor)
   pub room : RECORD_LIMIT ≤ k.log.room
-  -- These two go when messages are built.
-  pub unlent : IsUnlent (ledger held k.mem)
-  pub no_messages : All (λ seat. used_of seat ≡ 0) k.queues
-  -- This one goes when the timer is built. Until then no process can claim its interrupt, so that none has the timer's page, and
-  -- the timer is never armed.
-  pub untimed : claims_of k.claims TIMER_INTERRUPT ≡ None
+  -- of servers, messages and loans: with this every loan can be spent
+  pub servers : AreServersSound (processes k.mem) (loans (ledger held k.mem)) k.servers k.queues
 
 -- .. and until a call answers SwapFault the machine is matched
 pub record IsSound {W : Type 0} (slot_count : W → ℕ) (held : W → Held) (k : Kernel W) : Type 0 where

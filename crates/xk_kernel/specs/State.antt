@@ -1,5 +1,5 @@
 -- The machine that a kernel stands for: one definition over what its parts hold.
-use Rattle.std.specs.Prelude.{ℕ, None}
+use Rattle.std.specs.Prelude.{ℕ}
 use Rattle.std.specs.Option.{option_map}
 use Rattle.kill_path.specs.Claims.{claims_shown, pending_shown}
 use Rattle.machine_model.specs.State.Machine.{Machine, Reservation}
@@ -14,7 +14,6 @@ pub use Rattle.kill_path.specs.Claims.{claim_of}
 abbrev pub as_reservation : ThreadId × ℕ → Reservation
 as_reservation r = record { who = r.0; address = r.1 }
 
--- The timer isn't armed, as no process can claim its interrupt yet.
 unfoldable pub machine_of : {W : Type 0} → (W → Held) → Kernel W → Machine
 machine_of held k = record {
   capacity = capacity_of k.mem;
@@ -29,6 +28,6 @@ machine_of held k = record {
   pending = pending_shown k.claims;
   next_number = k.next;
   next_serial = (servers_of k.servers).next;
-  compare = None;
+  compare = k.timer;
   reserved = option_map as_reservation k.reserved;
 }

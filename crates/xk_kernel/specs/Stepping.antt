@@ -8,11 +8,10 @@ use Rattle.machine_model.specs.State.Order.{actor}
 use Rattle.machine_model.specs.Stepping.Step.{Recorded, step}
 use Rattle.sv32_space.specs.Tie.{Held}
 use Rattle.xk_base.specs.declared.records.Rec.{Rec}
-use Rattle.xk_kernel.specs.Built.{step_built}
 use Rattle.xk_kernel.specs.State.{machine_of}
 use Rattle.xk_kernel.specs.declared.kernel.Kernel.{Kernel}
 use Rattle.xk_kernel.specs.declared.kernel.Stepped.{Stepped}
-use Rattle.xk_kernel.specs.declared.kernel.Stepped.TheVariants.{Did, Idle, NotBuilt}
+use Rattle.xk_kernel.specs.declared.kernel.Stepped.TheVariants.{Did, Idle}
 
 -- the records of the last step or event
 abbrev pub last_of : {W : Type 0} → Kernel W → List Rec
@@ -23,16 +22,12 @@ pub record Becomes {W : Type 0} (held : W → Held) (new : Kernel W) (taken : Re
   pub machine : machine_of held new ≡ taken.machine
   pub records : last_of new ≡ taken.records
 
--- A step is that of the machine; where no thread is ready there is none, and one that isn't built isn't done. Where none is done,
--- the last records stay too.
+-- A step is that of the machine; where no thread is ready there is none, and the last records stay too.
 abbrev pub DoesStep : {W : Type 0} → (W → Held) → Kernel W → Kernel W → Stepped → Type 0
 DoesStep held old new Did =
-    (is_some (actor (machine_of held old)) ≡ true) × (step_built (machine_of held old) ≡ true) × Becomes held new (step (machine_of held old))
+    (is_some (actor (machine_of held old)) ≡ true) × Becomes held new (step (machine_of held old))
 DoesStep held old new Idle =
     (is_some (actor (machine_of held old)) ≡ false) × (machine_of held new ≡ machine_of held old) × (last_of new ≡ last_of old)
-DoesStep held old new NotBuilt =
-    (is_some (actor (machine_of held old)) ≡ true) × (step_built (machine_of held old) ≡ false)
-    × (machine_of held new ≡ machine_of held old) × (last_of new ≡ last_of old)
 
 -- what an event does beside the steps of a tick
 abbrev pub event_done : Event → Machine → Recorded

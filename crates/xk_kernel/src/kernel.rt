@@ -1,15 +1,15 @@
 //! The kernel.
 
-mod alone;
 mod boot;
-mod built;
 mod calls;
 mod deaths;
 mod events;
 mod interrupt_calls;
 mod interrupts;
 mod memory_calls;
+mod message_calls;
 mod readers;
+mod ringing;
 mod running;
 mod server_calls;
 mod stepping;
@@ -21,6 +21,7 @@ use msg_queue::Queues;
 use process_table::Processes;
 use server_table::Servers;
 use thread_table::Threads;
+use timer_device::Timer;
 use vm_memory::Memory;
 use xk_base::{Log, ThreadId};
 use xk_ports::SwapStore;
@@ -32,8 +33,6 @@ pub enum Stepped {
     Did,
     /// No thread is ready.
     Idle,
-    /// The next step isn't built; nothing was done.
-    NotBuilt,
 }
 
 /// The store failed as a page was brought in or put out; it has counted it. The kernel is closed
@@ -57,6 +56,8 @@ pub struct Kernel<W: SwapStore> {
     next: u32,
     // Steps done.
     steps: u32,
+    // It raises its interrupt at the end of the step whose number is its compare value.
+    timer: Timer,
     // The thread that has reserved an address, and that address.
     reserved: Option<(ThreadId, u32)>,
 }

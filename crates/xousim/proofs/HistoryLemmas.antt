@@ -12,10 +12,10 @@ use Rattle.xousim.specs.Telling.{told, told_of}
 use Rattle.machine_model.specs.State.Machine.{Machine}
 use Rattle.machine_model.specs.State.Order.{actor, turn}
 use Rattle.machine_model.specs.Stepping.Step.{step}
-use Rattle.xk_kernel.specs.Built.{event_built, step_built}
+use Rattle.xk_kernel.specs.History as kernel
 use Rattle.xousim.specs.declared.ending.Ending.{Ending}
-use Rattle.xousim.specs.declared.ending.Ending.TheVariants.{Played, LimitMet, Unbuilt, BadLine}
-use Rattle.xousim.specs.History.{History, at_once, ended, behind, ticks, history, history_to, play, played, followed_by, go_on}
+use Rattle.xousim.specs.declared.ending.Ending.TheVariants.{Played, LimitMet, BadLine}
+use Rattle.xousim.specs.History.{History, at_once, behind, ended, history, history_to, of_kernel, play, played, ticks}
 use Rattle.xk_kernel.specs.Stepping.{event_done}
 use Rattle.xk_kernel.proofs.Running.LimitLemmas.{irq_steps, kill_steps, pick_steps}
 use Rattle.event_text.specs.declared.event.Event.TheVariants.{Tick, Pick, Irq, Kill}
@@ -24,34 +24,29 @@ use Rattle.xk_base.specs.declared.ids.Tid.{Tid}
 use Rattle.event_text.specs.declared.event.Event.{Event}
 use Rattle.xousim.specs.Writing.{Wrote}
 
+-- ---- a tick
+
 pub ticks_zero : (limit : ℕ) (m : Machine) → ticks 0 limit m ≡ ended Played (turn m)
-unfolding ticks
+unfolding kernel.ticks
 ticks_zero limit m = refl
 
 pub ticks_idle : (n limit : ℕ) (m : Machine) → is_some (actor m) ≡ false → ticks n limit m ≡ ended Played (turn m)
-unfolding ticks
+unfolding kernel.ticks
 ticks_idle zero limit m idle = refl
 ticks_idle (suc n) limit m idle = rw idle refl
 
 pub ticks_met : (n limit : ℕ) (m : Machine) → 0 < n → is_some (actor m) ≡ true → m.steps ≡ limit → ticks n limit m ≡ ended LimitMet m
-unfolding ticks
+unfolding kernel.ticks
 ticks_met zero limit m some ready met = absurd (omega arith)
 ticks_met (suc n) limit m some ready met =
     let same : (m.steps == limit) ≡ true = grind (arith, nat_tests) in
     rw (ready, same) refl
 
-pub ticks_unbuilt : (n limit : ℕ) (m : Machine) → 0 < n → is_some (actor m) ≡ true → m.steps ≢ limit → step_built m ≡ false → ticks n limit m ≡ ended Unbuilt m
-unfolding ticks
-ticks_unbuilt zero limit m some ready more built = absurd (omega arith)
-ticks_unbuilt (suc n) limit m some ready more built =
+pub ticks_step : (n limit : ℕ) (m : Machine) → is_some (actor m) ≡ true → m.steps ≢ limit → ticks (suc n) limit m ≡ behind (step m).records (ticks n limit (step m).machine)
+unfolding kernel.ticks
+ticks_step n limit m ready more =
     let other : (m.steps == limit) ≡ false = grind (arith, nat_tests) in
-    rw (ready, other, built) refl
-
-pub ticks_step : (n limit : ℕ) (m : Machine) → is_some (actor m) ≡ true → m.steps ≢ limit → step_built m ≡ true → ticks (suc n) limit m ≡ behind (step m).records (ticks n limit (step m).machine)
-unfolding ticks
-ticks_step n limit m ready more built =
-    let other : (m.steps == limit) ≡ false = grind (arith, nat_tests) in
-    rw (ready, other, built) refl
+    rw (ready, other) refl
 
 -- ---- what is written
 
@@ -92,13 +87,30 @@ wrote_front tells before after records h failed front = (
 
 -- ---- events in order
 
+-- a history and what comes after it, where it didn't end early
+abbrev go_on : Ending → History → (Machine → History) → History
+go_on Played h next = behind h.records (next h.machine)
+go_on LimitMet h next = h
+go_on (BadLine line) h next = h
+
+abbrev pub followed_by : History → (Machine → History) → History
+followed_by h next = go_on h.ending h next
+
+-- so it is with the kernel's
+kernel_followed : (last : Ending) (h : kernel.History) (next : Machine → kernel.History)
+    → of_kernel last (kernel.followed_by h next) ≡ followed_by (of_kernel Played h) (λ m. of_kernel last (next m))
+kernel_followed last h next = go h.met
+  where
+    go : (b : Bool) → of_kernel last (kernel.followed_by (record h { met = b }) next) ≡ followed_by (of_kernel Played (record h { met = b })) (λ m. of_kernel last (next m))
+    go true = refl
+    go false = refl
+
 go_on_played : (h : History) (next : Machine → History) → h.ending ≡ Played → followed_by h next ≡ behind h.records (next h.machine)
 go_on_played h next played = ap (λ (e : Ending). go_on e h next) played
 
 stopped : (h : History) (next : Machine → History) (ending : Ending) → ending ≢ Played → go_on ending h next ≡ h
 stopped h next Played other = absurd (other refl)
 stopped h next LimitMet other = refl
-stopped h next Unbuilt other = refl
 stopped h next (BadLine line) other = refl
 
 go_on_stopped : (h : History) (next : Machine → History) → h.ending ≢ Played → followed_by h next ≡ h
@@ -108,7 +120,6 @@ part : (tells : Telling) (before after : Option (List ℕ)) (h : History) (next 
     → GrowsByPrefix before after (told tells h.records) → (ending : Ending) → Wrote tells before after (go_on ending h next) (Err failed)
 part tells before after h next failed front Played = wrote_front tells before after h.records (next h.machine) failed front
 part tells before after h next failed front LimitMet = front
-part tells before after h next failed front Unbuilt = front
 part tells before after h next failed front (BadLine line) = front
 
 -- a part of the lines of an event that isn't the last is a part of the lines of all
@@ -117,13 +128,13 @@ pub wrote_part : (tells : Telling) (before after : Option (List ℕ)) (h : Histo
 wrote_part tells before after h next failed front = part tells before after h next failed front h.ending
 
 pub history_none : (last : Ending) (limit : ℕ) (m : Machine) → history_to last [] limit m ≡ ended last m
-unfolding history_to
+unfolding kernel.history
 history_none last limit m = refl
 
 pub history_first : (last : Ending) (event : Event) (events : List Event) (limit : ℕ) (m : Machine)
     → history_to last (event ∷ events) limit m ≡ followed_by (play event limit m) (history_to last events limit)
-unfolding history_to
-history_first last event events limit m = refl
+unfolding kernel.history
+history_first last event events limit m = kernel_followed last (kernel.play event limit m) (kernel.history events limit)
 
 -- an event at which the history ends
 pub history_stops : (last : Ending) (event : Event) (events : List Event) (limit : ℕ) (m : Machine) → (play event limit m).ending ≢ Played
@@ -148,7 +159,7 @@ other_ending event events limit m e played other is =
 -- events behind those that were played
 pub history_after : (last : Ending) (events more : List Event) (limit : ℕ) (m : Machine) → (history events limit m).ending ≡ Played
     → history_to last (events ++ more) limit m ≡ behind (history events limit m).records (history_to last more limit (history events limit m).machine)
-history_after last [] more limit m played = rw history_none refl
+history_after last [] more limit m played = ap (λ (h : History). behind h.records (history_to last more limit h.machine)) (sym (history_none Played limit m))
 history_after last (event ∷ events) more limit m played =
     go (play event limit m).ending refl (λ h. history_after last events more limit (play event limit m).machine h)
   where
@@ -167,29 +178,21 @@ history_after last (event ∷ events) more limit m played =
         ∙ (behind_behind (play event limit m).records (history events limit (play event limit m).machine).records (history_to last more limit (history events limit (play event limit m).machine).machine)
         ∙ ap (λ (h : History). behind h.records (history_to last more limit h.machine)) (sym whole)))
     go LimitMet is later = let no : LimitMet ≡ Played = other_ending event events limit m LimitMet played (λ e. cc) is in cc
-    go Unbuilt is later = let no : Unbuilt ≡ Played = other_ending event events limit m Unbuilt played (λ e. cc) is in cc
     go (BadLine line) is later = let no : BadLine line ≡ Played = other_ending event events limit m (BadLine line) played (λ e. cc) is in cc
 
 -- ---- an event without steps
-
-pub at_once_built : (event : Event) (m : Machine) → event_built event m ≡ true → at_once event m ≡ played (event_done event m)
-at_once_built event m built = rw built refl
 
 -- it is no step
 pub at_once_steps : (event : Event) (m : Machine) → (at_once event m).machine.steps ≡ m.steps
 at_once_steps (Tick n) m = refl
 at_once_steps (Pick pid tid) m = pick_steps (record { pid = pid; tid = tid }) m
 at_once_steps (Irq k) m = irq_steps k m
-at_once_steps (Kill pid) m = go (event_built (Kill pid) m)
-  where
-    go : (b : Bool) → (if b then played (event_done (Kill pid) m) else ended Unbuilt m).machine.steps ≡ m.steps
-    go true = kill_steps pid m
-    go false = refl
+at_once_steps (Kill pid) m = kill_steps pid m
 
 pub play_other : (event : Event) (limit : ℕ) (m : Machine)
     → (((pid : Pid) × (tid : Tid) × (event ≡ Pick pid tid)) ⊎ (((k : ℕ) × (event ≡ Irq k)) ⊎ ((pid : Pid) × (event ≡ Kill pid))))
     → play event limit m ≡ at_once event m
-unfolding play
+unfolding kernel.play
 play_other event limit m (inl (pid, tid, is)) = rw is refl
 play_other event limit m (inr (inl (k, is))) = rw is refl
 play_other event limit m (inr (inr (pid, is))) = rw is refl

@@ -1,6 +1,5 @@
 pub mod HistoryLemmas
 pub mod KeptLemmas
-pub mod KernelHistoryLemmas
 pub mod PlayingLemmas
 pub mod ReadingLemmas
 pub mod TableLemmas

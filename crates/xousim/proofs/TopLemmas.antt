@@ -77,15 +77,12 @@ plays_finished play machine last call mid faults events ending (StepLimit limit)
     record { events = events; is_file = is_file; ended = wrote.0 ∙ finished.1; written = grows_whole play.tells call.out.written mid call.out.written_after (run_of play.limit machine events) ending last wrote.0 there wrote.1 finished.2 },
   ),
 )
-plays_finished play machine last call mid faults events ending NotBuilt is_file wrote there later finished = (
-  tt,
-  record { events = events; is_file = is_file; ended = wrote.0 ∙ finished.0; written = grows_whole play.tells call.out.written mid call.out.written_after (run_of play.limit machine events) ending last wrote.0 there wrote.1 finished.1 },
-)
 plays_finished play machine last call mid faults events ending WriteFault is_file wrote there later finished = (
   rose_after call.out.faults faults call.out.faults_after later finished.0,
   record { events = events; is_file = is_file; written = front_whole play.tells call.out.written mid call.out.written_after (run_of play.limit machine events) ending last wrote.0 there wrote.1 finished.1 },
 )
 plays_finished play machine last call mid faults events ending Usage is_file wrote there later finished = absurd finished
+plays_finished play machine last call mid faults events ending NotBuilt is_file wrote there later finished = absurd finished
 plays_finished play machine last call mid faults events ending ReadFault is_file wrote there later finished = absurd finished
 plays_finished play machine last call mid faults events ending NoMemory is_file wrote there later finished = absurd finished
 plays_finished play machine last call mid faults events ending (ImageFault fault) is_file wrote there later finished = absurd finished
@@ -111,7 +108,7 @@ tells_earlier : (play : Play) (machine : Machine) (asked : Option (List FileAske
 tells_earlier play machine asked faults call Done told = record { events = told.events; is_file = told.is_file; ended = told.ended; written = told.written }
 tells_earlier play machine asked faults call (EventFault line) told = record { events = told.events; is_file = told.is_file; ended = told.ended; written = told.written }
 tells_earlier play machine asked faults call (StepLimit limit) told = (told.0, record { events = told.1.events; is_file = told.1.is_file; ended = told.1.ended; written = told.1.written })
-tells_earlier play machine asked faults call NotBuilt told = record { events = told.events; is_file = told.is_file; ended = told.ended; written = told.written }
+tells_earlier play machine asked faults call NotBuilt told = absurd told
 tells_earlier play machine asked faults call WriteFault told = record { events = told.events; is_file = told.is_file; written = told.written }
 tells_earlier play machine asked faults call ReadFault told = record { bytes = told.bytes; read = told.read; ended = told.ended; written = told.written }
 tells_earlier play machine asked faults call Usage told = absurd told

@@ -10,7 +10,7 @@ use Rattle.boot_plan.proofs.ImageFaultLemmas.{image_fault_once}
 use Rattle.machine_model.specs.State.Machine.{Machine}
 use Rattle.xk_kernel.specs.Start.{start}
 use Rattle.xousim.specs.declared.ending.Ending.{Ending}
-use Rattle.xousim.specs.declared.ending.Ending.TheVariants.{Played, LimitMet, Unbuilt, BadLine}
+use Rattle.xousim.specs.declared.ending.Ending.TheVariants.{Played, LimitMet, BadLine}
 use Rattle.xousim.specs.declared.status.Status.{Status}
 use Rattle.xousim.specs.declared.status.Status.TheVariants.{Done, Usage, ReadFault, WriteFault, ImageFault, EventFault, StepLimit, NoMemory, NotBuilt}
 use Rattle.xousim.specs.Outcome.{Boots, Call, Ends, EndsIfBuilt, EndsPlay, HasCause, HostRose, Image, IsCommandComplete, IsComplete, IsPlayComplete, IsUnwritten, IsVerdict, OutRose, Ran, Refuses, RunsTo, Tells, run_of}
@@ -71,7 +71,6 @@ faults_agree file name slots image other one two read faulty read_other faulty_o
 abbrev status_of : ℕ → Ending → Status
 status_of limit Played = Done
 status_of limit LimitMet = StepLimit limit
-status_of limit Unbuilt = NotBuilt
 status_of limit (BadLine line) = EventFault line
 
 abbrev OfRun : (List ℕ → Option (List ℕ)) → Play → Status → Type 0
@@ -88,7 +87,7 @@ sorts file play Done a = inl (Played, a, refl)
 sorts file play (EventFault line) a = inl (BadLine line, a, refl)
 sorts file play (StepLimit limit) a = inl (LimitMet, a.1, ap (λ (l : ℕ). StepLimit l) a.0)
 sorts file play (ImageFault fault) a = inr (fault, a.0, a.1, a.2, refl)
-sorts file play NotBuilt a = inl (Unbuilt, a, refl)
+sorts file play NotBuilt a = absurd a
 sorts file play Usage a = absurd a
 sorts file play ReadFault a = absurd a
 sorts file play WriteFault a = absurd a
@@ -132,7 +131,7 @@ played_complete : (play : Play) (machine : Machine) (call : Call) (status : Stat
 played_complete play machine call Done quiet calm image cause told = inl (runs_to play machine call Played image told)
 played_complete play machine call (EventFault line) quiet calm image cause told = inl (runs_to play machine call (BadLine line) image told)
 played_complete play machine call (StepLimit limit) quiet calm image cause told = inl (told.0, runs_to play machine call LimitMet image told.1)
-played_complete play machine call NotBuilt quiet calm image cause told = inl (runs_to play machine call Unbuilt image told)
+played_complete play machine call NotBuilt quiet calm image cause told = absurd told
 played_complete play machine call WriteFault quiet calm image cause told = absurd (calm cause)
 played_complete play machine call ReadFault quiet calm image cause told = absurd (quiet cause)
 played_complete play machine call Usage quiet calm image cause told = absurd told

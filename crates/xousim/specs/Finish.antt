@@ -5,7 +5,7 @@ use Rattle.xk_base.specs.Outside.{Rose}
 use Rattle.xk_ports.specs.declared.host.FileSlot.TheVariants.{Second}
 use Rattle.xk_ports.specs.Told.{Grows, GrowsByPrefix}
 use Rattle.xousim.specs.declared.ending.Ending.{Ending}
-use Rattle.xousim.specs.declared.ending.Ending.TheVariants.{Played, LimitMet, Unbuilt, BadLine}
+use Rattle.xousim.specs.declared.ending.Ending.TheVariants.{Played, LimitMet, BadLine}
 use Rattle.xousim.specs.declared.status.Status.{Status}
 use Rattle.xousim.specs.declared.status.Status.TheVariants.{Done, Usage, ReadFault, WriteFault, ImageFault, EventFault, StepLimit, NoMemory, NotBuilt}
 use Rattle.xousim.specs.Outcome.{Call, HasCause, HostRose, IsUnwritten, SinkSide, Tells}
@@ -18,9 +18,9 @@ abbrev pub Finishes : Play → Machine → Ending → SinkSide → Status → Ty
 Finishes play machine ending out Done = (ending ≡ Played) × Grows out.written out.written_after (closing play.tells machine ending)
 Finishes play machine ending out (EventFault line) = (ending ≡ BadLine line) × Grows out.written out.written_after (closing play.tells machine ending)
 Finishes play machine ending out (StepLimit limit) = (limit ≡ play.limit) × (ending ≡ LimitMet) × Grows out.written out.written_after (closing play.tells machine ending)
-Finishes play machine ending out NotBuilt = (ending ≡ Unbuilt) × Grows out.written out.written_after (closing play.tells machine ending)
 Finishes play machine ending out WriteFault = Rose out.faults out.faults_after × GrowsByPrefix out.written out.written_after (closing play.tells machine ending)
 Finishes play machine ending out Usage = ⊥
+Finishes play machine ending out NotBuilt = ⊥
 Finishes play machine ending out ReadFault = ⊥
 Finishes play machine ending out NoMemory = ⊥
 Finishes play machine ending out (ImageFault fault) = ⊥

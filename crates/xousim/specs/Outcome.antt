@@ -14,7 +14,7 @@ use Rattle.xk_ports.specs.declared.host.FileSlot.TheVariants.{First, Second}
 use Rattle.xk_ports.specs.Host.{FileAsked}
 use Rattle.xk_ports.specs.Told.{Grows, GrowsByPrefix}
 use Rattle.xousim.specs.declared.ending.Ending.{Ending}
-use Rattle.xousim.specs.declared.ending.Ending.TheVariants.{Played, LimitMet, Unbuilt, BadLine}
+use Rattle.xousim.specs.declared.ending.Ending.TheVariants.{Played, LimitMet, BadLine}
 use Rattle.xousim.specs.declared.status.Status.{Status}
 use Rattle.xousim.specs.declared.status.Status.TheVariants.{Done, Usage, ReadFault, WriteFault, ImageFault, EventFault, StepLimit, NoMemory, NotBuilt}
 use Rattle.xousim.specs.Built.{is_built}
@@ -134,8 +134,8 @@ pub record RanInPart (play : Play) (machine : Machine) (call : Call) : Type 0 wh
   pub is_file : IsFile call.host.files play.events events
   pub written : GrowsByPrefix call.out.written call.out.written_after (output play.tells (run_of play.limit machine events))
 
--- Some bytes of the file were read. Their whole lines have no bad line, the history over them doesn't meet the limit nor
--- what isn't built, and exactly what the command tells as its records come was written: nothing for `ledger`.
+-- Some bytes of the file were read. Their whole lines have no bad line, the history over them doesn't meet the limit, and
+-- exactly what the command tells as its records come was written: nothing for `ledger`.
 pub record RanWholeLines (play : Play) (machine : Machine) (call : Call) : Type 0 where
   pub bytes : List ℕ
   pub read : IsReadOf call.host.files play.events call.host.left bytes
@@ -147,7 +147,7 @@ abbrev pub Tells : Play → Machine → Call → Status → Type 0
 Tells play machine call Done = Ran play machine call Played
 Tells play machine call (EventFault line) = Ran play machine call (BadLine line)
 Tells play machine call (StepLimit limit) = (limit ≡ play.limit) × Ran play machine call LimitMet
-Tells play machine call NotBuilt = Ran play machine call Unbuilt
+Tells play machine call NotBuilt = ⊥
 Tells play machine call WriteFault = RanInPart play machine call
 Tells play machine call ReadFault = RanWholeLines play machine call
 Tells play machine call Usage = ⊥
@@ -239,7 +239,7 @@ IsVerdict file play Done = RunsTo file play Played
 IsVerdict file play (EventFault line) = RunsTo file play (BadLine line)
 IsVerdict file play (StepLimit limit) = (limit ≡ play.limit) × RunsTo file play LimitMet
 IsVerdict file play (ImageFault fault) = (image : List ℕ) × IsFile file play.image image × IsImageFault image play.slots (Some fault)
-IsVerdict file play NotBuilt = RunsTo file play Unbuilt
+IsVerdict file play NotBuilt = ⊥
 IsVerdict file play Usage = ⊥
 IsVerdict file play ReadFault = ⊥
 IsVerdict file play WriteFault = ⊥

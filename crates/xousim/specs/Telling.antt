@@ -10,7 +10,7 @@ use Rattle.xk_base.specs.declared.records.What.TheVariants.{Byte, Call, End, Fau
 use Rattle.xousim.specs.declared.command.Telling.{Telling}
 use Rattle.xousim.specs.declared.command.Telling.TheVariants.{Ledger, Run, Trace}
 use Rattle.xousim.specs.declared.ending.Ending.{Ending}
-use Rattle.xousim.specs.declared.ending.Ending.TheVariants.{BadLine, LimitMet, Played, Unbuilt}
+use Rattle.xousim.specs.declared.ending.Ending.TheVariants.{BadLine, LimitMet, Played}
 use Rattle.xousim.specs.History.{History}
 use Rattle.xousim.specs.Table.{table_of}
 
@@ -35,11 +35,10 @@ told_of Ledger rec = []
 abbrev pub told : Telling → List Rec → List ℕ
 told tells records = flat_map (told_of tells) records
 
--- the last line; a history that ends at a bad line or at what isn't built has none
+-- the last line; a history that ends at a bad line has none
 abbrev pub last_line : ℕ → Ending → List ℕ
 last_line steps Played = end_line_of steps words.Done
 last_line steps LimitMet = end_line_of steps words.Limit
-last_line steps Unbuilt = []
 last_line steps (BadLine line) = []
 
 -- what is told at the end, by the last state: the last line, nothing, or the table of the pages and the last line

@@ -7,8 +7,6 @@ pub enum Ending {
     Played,
     /// A tick still had steps to do, some thread was ready, and the steps done met the limit.
     LimitMet,
-    /// The next event or the next step isn't built.
-    Unbuilt,
     /// The line of this number is the first bad line of the event file.
     BadLine(u32),
 }

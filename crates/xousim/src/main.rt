@@ -3,7 +3,6 @@
 #![tactic(auto)]
 
 mod adapters;
-mod agreement;
 mod booting;
 mod command;
 mod ending;

@@ -54,7 +54,6 @@ fn play_tick<K: Sink, W: SwapStore>(
                 kernel.end_turn();
                 return Ok(Ending::Played);
             }
-            Ok(Stepped::NotBuilt) => return Ok(Ending::Unbuilt),
             // The store isn't used until pages can be out.
             Err(SwapFault) => unreachable!(),
         }
@@ -64,7 +63,7 @@ fn play_tick<K: Sink, W: SwapStore>(
     Ok(Ending::Played)
 }
 
-/// Plays an event without steps, where it is built.
+/// Plays an event without steps.
 fn play_at_once<K: Sink, W: SwapStore>(
     kernel: &mut Kernel<W>,
     event: Event,
@@ -81,9 +80,6 @@ fn play_at_once<K: Sink, W: SwapStore>(
     ensures cause { OnErr result (Rose (K.faults out.old) (K.faults out.new)) }
     ensures never_falls { K.faults out.old ≤ K.faults out.new }
 {
-    if !kernel.event_built(event) {
-        return Ok(Ending::Unbuilt);
-    }
     kernel.event_start(event);
     write_records(tells, kernel.last(), out)?;
     Ok(Ending::Played)

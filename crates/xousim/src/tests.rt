@@ -2,11 +2,15 @@
 
 mod atomics;
 mod commands;
+mod forwards;
 mod image;
 mod interrupts;
+mod lends;
 mod lines;
 mod memory_calls;
 mod processes;
+mod programs;
+mod scalars;
 mod servers;
 
 use crate::adapters::{ErrSink, FileHost, StdSink};
@@ -86,7 +90,7 @@ fn trace_in_pieces(
     files.push((String::from_str(alloc, "i")?, image.to_vec(alloc)?))?;
     files.push((String::from_str(alloc, "e")?, events.to_vec(alloc)?))?;
     let mut host = MemHost::new(alloc, files, piece.max(1), host_fails.to_vec(alloc)?, 100)?;
-    let mut out = MemSink::new(alloc, 2000, out_fails.to_vec(alloc)?)?;
+    let mut out = MemSink::new(alloc, 50_000, out_fails.to_vec(alloc)?)?;
     let mut notes = MemSink::new(alloc, 100, Vec::new(alloc))?;
     let words = words(alloc, &["trace", "i", "e"])?;
     let store = MemStore::new(Vec::new(alloc));

@@ -48,7 +48,6 @@ fn finish<K: Sink, W: SwapStore>(
         Ending::Played => Status::Done,
         Ending::LimitMet => Status::StepLimit(play.limit),
         Ending::BadLine(line) => Status::EventFault(line),
-        Ending::Unbuilt => Status::NotBuilt,
     }
 }
 

@@ -97,7 +97,7 @@ fn write_last_line<K: Sink>(ending: Ending, steps: u32, out: &mut K) -> Result<(
     match ending {
         Ending::Played => write_end(steps, EndWord::Done, out),
         Ending::LimitMet => write_end(steps, EndWord::Limit, out),
-        Ending::Unbuilt | Ending::BadLine(_) => Ok(()),
+        Ending::BadLine(_) => Ok(()),
     }
 }
 

@@ -64,6 +64,8 @@ fn each_call(rt: HostRuntime) {
         Some(Number(2))
     );
     assert_eq!(rt; queues.held(3, Number(4)).map(|m| m.number), None);
+    assert_eq!(rt; queues.held_place(3, Number(2)), Some(1));
+    assert_eq!(rt; queues.held_place(3, Number(4)), None);
     assert_eq!(rt; queues.first_of(3, Pid(9)), Some(Number(2)));
     assert_eq!(rt; queues.first_of(3, Pid(8)), Some(Number(1)));
     assert_eq!(rt; queues.first_of(3, Pid(7)), None);

@@ -1,15 +1,13 @@
 -- What the thread whose step it is does is what the machine makes of it.
 use Rattle.std.proofs.Common.{◌≡◌, ℕ, ◌+◌, ◌<◌, Bool, true, false, List, [], ◌++◌, map, Option, Some, None, refl, sym, ap, ◌∙◌, arith, subst}
-use Rattle.std.specs.Prelude.{◌==◌, ◌&&◌, ◌||◌, nat_lt, not, if◌then◌else◌}
-use Rattle.std.specs.Option.{option_map_or}
+use Rattle.std.specs.Prelude.{◌==◌, ◌&&◌, nat_lt, if◌then◌else◌}
 use Rattle.std.proofs.lemmas.Bool.Decides.{nat_tests}
-use Rattle.std.proofs.lemmas.Bool.{and_parts}
 use Rattle.std.proofs.lemmas.Option.{same_Some}
 use Rattle.machine_laws.proofs.Threading.ThreadStepLemmas.{actor_ready}
 use Rattle.machine_model.proofs.Runs.KeptLemmas.{matched_at}
 use Rattle.machine_model.specs.Calling.Calls.{call}
 use Rattle.machine_model.specs.State.Changes.{Told, call_settled, settled}
-use Rattle.machine_model.specs.Ending.Ends.{death, handler_ended, has_threads, thread_ended}
+use Rattle.machine_model.specs.Ending.Ends.{death, handler_ended, thread_ended}
 use Rattle.machine_model.specs.Hart.Instructions.{CallsKernel, Executed, Next, Stores, StoresToConsole, StoresToTimer, Traps}
 use Rattle.machine_model.specs.State.Machine.{Machine, Reservation, Thread}
 use Rattle.machine_model.specs.Runs.Matched.{Matched}
@@ -24,20 +22,17 @@ use Rattle.rv32_hart.specs.declared.ran.Ran.TheVariants.{Device, Ecall, Failed, 
 use Rattle.rv32_hart.specs.declared.ran.Ran.TheVariants as ran
 use Rattle.sv32_space.specs.Tie.{Held}
 use Rattle.xk_base.specs.Tables.Circle.{is_thread_id}
-use Rattle.xk_base.specs.Calls.CallNumbers.{terminate_process}
-use Rattle.xk_base.specs.Calls.CallWords.{call_number}
 use Rattle.xk_base.specs.Calls.Registers.{arguments_of, reg_at}
 use Rattle.xk_base.specs.declared.ids.ThreadId.{ThreadId}
 use Rattle.xk_base.specs.declared.records.What.{What}
 use Rattle.xk_base.specs.declared.records.What.TheVariants.{Call, End, Fault}
 use Rattle.xk_kernel.specs.Acting.{IsDone, reservation_by, told_by}
-use Rattle.xk_kernel.specs.Alone.{DiesPlainly, EndsPlainly, is_alone}
-use Rattle.xk_kernel.specs.Built.{call_built, is_call_built, end_built, executed_built, step_built, thread_built}
+use Rattle.xk_kernel.specs.Calling.{IsCaller}
 use Rattle.xk_kernel.specs.Running.{machine_after}
+use Rattle.xk_kernel.specs.Sound.{IsUsable, IsWhole}
 use Rattle.xk_kernel.specs.State.{machine_of}
 use Rattle.xk_kernel.specs.Telling.{Tells}
 use Rattle.xk_kernel.specs.declared.kernel.Kernel.{Kernel}
-use Rattle.xk_kernel.proofs.Ending.AloneLemmas.{alone_death, ends_plainly}
 
 -- the machine with its cursor at that thread
 abbrev pub at : ThreadId → Machine → Machine
@@ -47,21 +42,21 @@ at who m = record m { cursor = who }
 
 module _ (m : Machine) (who : ThreadId) (t : Thread) where
   pub next_executed : (x : Executed) (pc : ℕ) → ran_of x ≡ ran.Next pc
-      → (executed (at who m) t x ≡ record { machine = at who (machine_after who m x); told = [] }) × (executed_built m who t x ≡ true)
+      → executed (at who m) t x ≡ record { machine = at who (machine_after who m x); told = [] }
   unfolding stored timer_set
-  next_executed (Next regs pc) p e = (refl, refl)
-  next_executed (Stores address width value regs pc) p e = (refl, refl)
+  next_executed (Next regs pc) p e = refl
+  next_executed (Stores address width value regs pc) p e = refl
   next_executed (StoresToConsole offset value regs pc) p e = cc
-  next_executed (StoresToTimer offset width value regs pc) p e = (refl, refl)
+  next_executed (StoresToTimer offset width value regs pc) p e = refl
   next_executed CallsKernel p e = cc
   next_executed (Traps cause value) p e = cc
 
   pub device_executed : (x : Executed) (offset value pc : ℕ) → ran_of x ≡ Device offset value pc
-      → (executed (at who m) t x ≡ record { machine = at who (machine_after who m x); told = console_told who offset value }) × (executed_built m who t x ≡ true)
+      → executed (at who m) t x ≡ record { machine = at who (machine_after who m x); told = console_told who offset value }
   device_executed (Next regs pc) o v p e = cc
   device_executed (Stores address width value regs pc) o v p e = cc
   device_executed (StoresToConsole offset value regs pc) o v p e =
-      ((λ i. record { machine = at who (machine_after who m (StoresToConsole offset value regs pc)); told = console_told who (offset_of (e i)) (value_of (e i)) }), refl)
+      (λ i. record { machine = at who (machine_after who m (StoresToConsole offset value regs pc)); told = console_told who (offset_of (e i)) (value_of (e i)) })
     where
       offset_of : Ran → ℕ
       offset_of (Device o v p) = o
@@ -76,14 +71,14 @@ module _ (m : Machine) (who : ThreadId) (t : Thread) where
 
   -- a trap and a call of the kernel leave the machine so far
   pub trap_executed : (x : Executed) (cause value : ℕ) → ran_of x ≡ Trap cause value
-      → (executed (at who m) t x ≡ after (Fault who cause value) (settled (death who.pid (at who m)))) × (machine_after who m x ≡ m) × (executed_built m who t x ≡ is_alone who.pid m)
+      → (executed (at who m) t x ≡ after (Fault who cause value) (settled (death who.pid (at who m)))) × (machine_after who m x ≡ m)
   trap_executed (Next regs pc) a v e = cc
   trap_executed (Stores address width value regs pc) a v e = cc
   trap_executed (StoresToConsole offset value regs pc) a v e = cc
   trap_executed (StoresToTimer offset width value regs pc) a v e = cc
   trap_executed CallsKernel a v e = cc
   trap_executed (Traps cause value) a v e =
-      ((λ i. after (Fault who (cause_of (e i)) (value_of (e i))) (settled (death who.pid (at who m)))), refl, refl)
+      ((λ i. after (Fault who (cause_of (e i)) (value_of (e i))) (settled (death who.pid (at who m)))), refl)
     where
       cause_of : Ran → ℕ
       cause_of (Trap c v) = c
@@ -95,12 +90,12 @@ module _ (m : Machine) (who : ThreadId) (t : Thread) where
 
   pub call_executed : (x : Executed) → ran_of x ≡ Ecall
       → (executed (at who m) t x ≡ after (Call who (arguments_of t.regs)) (call_settled (at who m) (call (at who m) (arguments_of t.regs))))
-      × (machine_after who m x ≡ m) × (executed_built m who t x ≡ call_built m who (arguments_of t.regs))
+      × (machine_after who m x ≡ m)
   call_executed (Next regs pc) e = cc
   call_executed (Stores address width value regs pc) e = cc
   call_executed (StoresToConsole offset value regs pc) e = cc
   call_executed (StoresToTimer offset width value regs pc) e = cc
-  call_executed CallsKernel e = (refl, refl, refl)
+  call_executed CallsKernel e = (refl, refl)
   call_executed (Traps cause value) e = cc
 
 -- a thread of a machine that stays makes its call with the words that it had
@@ -117,7 +112,7 @@ never_fails (StoresToTimer offset width value regs pc) e = cc
 never_fails CallsKernel e = cc
 never_fails (Traps cause value) e = cc
 
--- ---- what the thread does, and whether it is built
+-- ---- what the thread does
 
 module _ (m : Machine) (who : ThreadId) (t : Thread) (there : m.threads who ≡ Some t) where
   -- what its instruction comes to
@@ -162,39 +157,19 @@ module _ (m : Machine) (who : ThreadId) (t : Thread) (there : m.threads who ≡ 
       → reservation_of who reserved ≡ reservation_by who m
   left_executed a b reserved e = ap (reservation_of who) e ∙ sym (left_is ∙ (λ i. left_by (a i) (b i)))
 
-  module _ (acts : actor m ≡ Some who) where
-    abbrev built_by : Bool → Bool → Executed → Bool
-    built_by a b x = if a then end_built m who else (if b then true else executed_built m who t x)
-
-    built_is : step_built m ≡ built_by (ends_thread who t.pc) (ends_handler who t.pc) fetched
-    unfolding step_built
-    built_is =
-        ap (λ o. option_map_or (λ who. option_map_or (thread_built m who) (m.threads who) false) o false) acts
-        ∙ ap (λ o. option_map_or (thread_built m who) o false) there
-
-    pub built_end : ends_thread who t.pc ≡ true → step_built m ≡ end_built m who
-    built_end e = built_is ∙ ap (λ a. built_by a (ends_handler who t.pc) fetched) e
-
-    module _ (a : ends_thread who t.pc ≡ false) where
-      pub built_handler : ends_handler who t.pc ≡ true → step_built m ≡ true
-      built_handler e = built_is ∙ (λ i. built_by (a i) (e i) fetched)
-
-      pub built_executed : ends_handler who t.pc ≡ false → step_built m ≡ executed_built m who t fetched
-      built_executed e = built_is ∙ (λ i. built_by (a i) (e i) fetched)
-
 -- ---- the kernel tells so
 
 module _ {W : Type 0} (held : W → Held) (old mid new : Kernel W) (who : ThreadId) where
-  cursor_at : machine_of held mid ≡ at who (machine_of held old) → mid.cursor ≡ who
+  pub begun_cursor : machine_of held mid ≡ at who (machine_of held old) → mid.cursor ≡ who
   unfolding machine_of
-  cursor_at e = ap (λ (m : Machine). m.cursor) e
+  begun_cursor e = ap (λ (m : Machine). m.cursor) e
 
   -- what a begun step told
   pub begun_done : (done : ThreadId → Machine → Told) → told_by who (machine_of held old) ≡ done who (at who (machine_of held old))
       → machine_of held mid ≡ at who (machine_of held old) → mid.log ≡ record old.log { step = old.steps + 1; records = [] }
       → Tells held mid new (done mid.cursor (machine_of held mid)) → IsDone held old new (told_by who (machine_of held old))
   begun_done done is machine log tells =
-      let same : done mid.cursor (machine_of held mid) ≡ told_by who (machine_of held old) = (λ i. done (cursor_at machine i) (machine i)) ∙ sym is in
+      let same : done mid.cursor (machine_of held mid) ≡ told_by who (machine_of held old) = (λ i. done (begun_cursor machine i) (machine i)) ∙ sym is in
       record {
         machine = tells.machine ∙ ap (λ (t : Told). t.machine) same;
         log =
@@ -204,7 +179,7 @@ module _ {W : Type 0} (held : W → Held) (old mid new : Kernel W) (who : Thread
 
   -- the thread of a begun step is still the interrupt thread
   pub begun_handler : machine_of held mid ≡ at who (machine_of held old) → who.tid.0 ≡ 1 → mid.cursor.tid.0 ≡ 1
-  begun_handler begun one = ap (λ (id : ThreadId). id.tid.0) (cursor_at begun) ∙ one
+  begun_handler begun one = ap (λ (id : ThreadId). id.tid.0) (begun_cursor begun) ∙ one
 
   -- an instruction counts no step
   pub run_steps : (x : Executed) → machine_of held mid ≡ machine_after who (machine_of held old) x → mid.steps ≡ old.steps
@@ -233,22 +208,21 @@ module _ {W : Type 0} (held : W → Held) (old mid new : Kernel W) (who : Thread
         ∙ sym (ap (λ (t : Told). record old.log { step = old.steps + 1; records = map (record_of (old.steps + 1)) t.told }) is);
   }
 
-  -- where its process stands alone, the death of that one is to be forgotten, also once the thread has gone
-  module _ (h : Matched (machine_of held old)) (begun : machine_of held mid ≡ at who (machine_of held old)) where
-    turned : Matched (at who (machine_of held old))
-    turned = matched_at who (machine_of held old) h
-
-    pub begun_plain : is_alone who.pid (machine_of held old) ≡ true → DiesPlainly mid.cursor.pid (machine_of held mid)
-    unfolding machine_of
-    begun_plain alone = subst (λ (m : Machine). DiesPlainly m.cursor.pid m) (sym begun) (alone_death (at who (machine_of held old)) turned who.pid alone)
-
-    pub begun_ends : end_built (machine_of held old) who ≡ true → EndsPlainly mid.cursor (machine_of held mid)
-    unfolding machine_of has_threads
-    begun_ends built = subst (λ (m : Machine). EndsPlainly m.cursor m) (sym begun) (ends_plainly (at who (machine_of held old)) turned who built)
-
   -- the thread of a begun step is Ready
   pub begun_ready : actor (machine_of held old) ≡ Some who → machine_of held mid ≡ at who (machine_of held old) → ready_at (machine_of held mid) mid.cursor ≡ true
-  begun_ready acts e = (λ i. ready_at (e i) (cursor_at e i)) ∙ actor_ready (machine_of held old) who acts
+  begun_ready acts e = (λ i. ready_at (e i) (begun_cursor e i)) ∙ actor_ready (machine_of held old) who acts
+
+  -- .. and can make a call
+  pub begun_caller : (slot_count : W → ℕ) → IsWhole slot_count held mid → IsUsable mid → Matched (machine_of held old) → old.steps < 4000000000
+      → actor (machine_of held old) ≡ Some who → machine_of held mid ≡ at who (machine_of held old) → IsCaller slot_count held mid
+  unfolding machine_of
+  begun_caller slot_count whole usable h few acts begun = record {
+    whole = whole;
+    usable = usable;
+    matched = subst Matched (sym begun) (matched_at who (machine_of held old) h);
+    few = subst (λ s. s < 4000000000) (sym (ap (λ (m : Machine). m.steps) begun)) few;
+    ready = begun_ready acts begun;
+  }
 
 -- a thread that stands where threads end is above tid 1
 pub above_one : (tid pc : ℕ) → (nat_lt 1 tid && (pc == thread_return)) ≡ true → 1 < tid
@@ -261,10 +235,3 @@ at_one tid pc e = grind (arith, nat_tests)
 -- the thread that acts is one of the processes'
 pub actor_known : (m : Machine) (who : ThreadId) (t : Thread) → Matched m → m.threads who ≡ Some t → is_thread_id m.processes who ≡ true
 actor_known m who t h there = h.body.ids.known who t there
-
--- a process that dies by a call that is built stands alone
-pub call_alone : (m : Machine) (who : ThreadId) (w : List ℕ) → call_number w ≡ terminate_process → call_built m who w ≡ true → is_alone who.pid m ≡ true
-call_alone m who w ends built =
-    let parts : (is_call_built w ≡ true) × ((not (call_number w == terminate_process) || is_alone who.pid m) ≡ true) =
-    and_parts (is_call_built w) (not (call_number w == terminate_process) || is_alone who.pid m) built in
-    sym (ap (λ n. not (n == terminate_process) || is_alone who.pid m) ends) ∙ parts.1

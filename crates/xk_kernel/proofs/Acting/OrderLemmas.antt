@@ -121,9 +121,7 @@ cursor_whole slot_count held k d h valid = record {
   procs = h.procs;
   cursor = valid;
   room = h.room;
-  unlent = h.unlent;
-  no_messages = h.no_messages;
-  untimed = h.untimed;
+  servers = h.servers;
 }
 
 -- no other state is ready

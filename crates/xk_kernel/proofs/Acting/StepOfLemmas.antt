@@ -1,7 +1,8 @@
 -- A step that was done is counted, and is that of the machine.
-use Rattle.std.proofs.Common.{◌≡◌, ℕ, ◌+◌, map, Option, Some, None, sym, ap, subst, ◌∙◌}
+use Rattle.std.proofs.Common.{◌≡◌, ℕ, ◌+◌, ◌<◌, ◌≤◌, List, length, map, All, Option, Some, sym, ap, subst, ◌∙◌, arith}
 use Rattle.std.specs.Prelude.{is_some}
 use Rattle.std.specs.Option.{option_map}
+use Rattle.std.proofs.lemmas.List.{length-map}
 use Rattle.machine_laws.proofs.Stepping.EveryStepLemmas.{every_step_keeps}
 use Rattle.machine_model.specs.State.Machine.{Machine}
 use Rattle.machine_model.specs.Runs.Matched.{Matched}
@@ -9,16 +10,25 @@ use Rattle.machine_model.specs.State.Order.{actor}
 use Rattle.machine_model.specs.Stepping.Reservations.{reservation_of}
 use Rattle.machine_model.specs.Stepping.Step.{Recorded, counted, record_of, step, step_by, step_by_if}
 use Rattle.machine_model.specs.State.Changes.{Told}
-use Rattle.machine_model.proofs.Runs.TimerLemmas.{timed_unarmed}
+use Rattle.machine_model.proofs.Runs.TimerLemmas.{timed_raised}
+use Rattle.machine_model.specs.Stepping.Timer.{timed}
 use Rattle.sv32_space.specs.Tie.{Held}
+use Rattle.vm_memory.specs.Memory.{processes}
+use Rattle.xk_base.specs.Log.{LogState}
+use Rattle.xk_base.specs.Tables.Circle.{is_pid, thread_ids}
 use Rattle.xk_base.specs.declared.ids.ThreadId.{ThreadId}
-use Rattle.xk_kernel.specs.Acting.{Acts, IsDone, reservation_by, told_by}
+use Rattle.xk_base.specs.declared.limits.TheConstants.{RECORD_LIMIT, TIMER_INTERRUPT}
+use Rattle.xk_base.specs.declared.records.Rec.{Rec}
+use Rattle.xk_base.specs.declared.records.What.{What}
+use Rattle.xk_kernel.specs.Acting.{Acts, told_by}
+use Rattle.xk_kernel.specs.Ringing.{IsTimersClaimThere, LogTells, Rings, so_far}
 use Rattle.xk_kernel.specs.Sound.{IsSound, IsUsable, IsWhole}
 use Rattle.xk_kernel.specs.State.{as_reservation, machine_of}
 use Rattle.xk_kernel.specs.Stepping.{Becomes, DoesStep}
 use Rattle.xk_kernel.specs.declared.kernel.Kernel.{Kernel}
-use Rattle.xk_kernel.specs.declared.kernel.Stepped.TheVariants.{Did, NotBuilt}
-use Rattle.xk_kernel.specs.declared.kernel.stepping.Acted.TheVariants.{Done, Unbuilt}
+use Rattle.xk_kernel.specs.declared.kernel.Stepped.TheVariants.{Did}
+use Rattle.xk_kernel.proofs.Ringing.FewLemmas.{few_acted}
+use Rattle.xk_kernel.proofs.Ringing.RingLemmas.{all_of_step}
 
 -- what its actor did, counted, with the reservation that it leaves
 abbrev counted_by : ThreadId → Machine → Told
@@ -27,10 +37,10 @@ counted_by who m = counted (record m { cursor = who }) (m.threads who) (told_by 
 abbrev stepped_to : ℕ → Told → Recorded
 stepped_to number done = record { machine = done.machine; records = map (record_of number) done.told }
 
--- the step is that of its actor; where the timer isn't armed, it does nothing
-step_is : (m : Machine) (who : ThreadId) → actor m ≡ Some who → (told_by who m).machine.compare ≡ None → step m ≡ stepped_to (m.steps + 1) (counted_by who m)
+-- the step is that of its actor, and then the timer
+step_is : (m : Machine) (who : ThreadId) → actor m ≡ Some who → step m ≡ stepped_to (m.steps + 1) (timed (counted_by who m))
 unfolding step step_by
-step_is m who acts unarmed = ap (λ a. step_by_if a m) acts ∙ ap (stepped_to (m.steps + 1)) (timed_unarmed (counted_by who m) unarmed)
+step_is m who acts = ap (λ a. step_by_if a m) acts
 
 module _ {W : Type 0} (slot_count : W → ℕ) (held : W → Held) (old new : Kernel W) (who : ThreadId) (acts : actor (machine_of held old) ≡ Some who) where
   module _ (address : Option ℕ) (kept : Option (ThreadId × ℕ)) (same : option_map as_reservation kept ≡ reservation_of who address) where
@@ -38,48 +48,92 @@ module _ {W : Type 0} (slot_count : W → ℕ) (held : W → Held) (old new : Ke
     abbrev counting : Kernel W
     counting = record new { steps = old.steps + 1; reserved = kept }
 
-    counting_whole : IsWhole slot_count held new → IsWhole slot_count held counting
+    -- what the thread did
+    abbrev did_tell : List What
+    did_tell = (told_by who (machine_of held old)).told
+
+    pub counting_whole : IsWhole slot_count held new → IsWhole slot_count held counting
     counting_whole h = record {
       mem = h.mem;
       threads = h.threads;
       procs = h.procs;
       cursor = h.cursor;
       room = h.room;
-      unlent = h.unlent;
-      no_messages = h.no_messages;
-      untimed = h.untimed;
+      servers = h.servers;
     }
 
-    -- the timer of a kernel isn't armed
-    unarmed : IsDone held old new (told_by who (machine_of held old)) → (told_by who (machine_of held old)).machine.compare ≡ None
-    unfolding machine_of
-    unarmed done = sym (ap (λ (m : Machine). m.compare) done.machine)
+    module _ (h : Acts held old new who address) where
+      -- before the timer it is what the thread did, counted
+      counted_is : so_far (machine_of held counting) did_tell ≡ counted_by who (machine_of held old)
+      unfolding machine_of
+      counted_is = λ i. record {
+        machine = record (h.done.machine i) { steps = old.steps + 1; reserved = (same ∙ h.leaves) i };
+        told = did_tell;
+      }
 
-    step_done : IsDone held old new (told_by who (machine_of held old)) → reservation_of who address ≡ reservation_by who (machine_of held old)
-        → Becomes held counting (step (machine_of held old))
-    unfolding machine_of
-    step_done done leaves =
-        let is = step_is (machine_of held old) who acts (unarmed done) in
-        record {
-          machine =
-              (λ i. record (done.machine i) { steps = old.steps + 1; reserved = (same ∙ leaves) i })
-              ∙ sym (ap (λ (s : Recorded). s.machine) is);
-          records = ap (λ log. log.records) done.log ∙ sym (ap (λ (s : Recorded). s.records) is);
+      its_step : new.log.step ≡ old.steps + 1
+      its_step = ap (λ (l : LogState). l.step) h.done.log
+
+      tells : LogTells new.log did_tell
+      tells = ap (λ (l : LogState). l.records) h.done.log ∙ (λ i. map (record_of (sym its_step i)) did_tell)
+
+      pub of_its_step : All (λ (rec : Rec). rec.step ≡ new.log.step) new.log.records
+      of_its_step =
+          subst (λ xs. All (λ (rec : Rec). rec.step ≡ new.log.step) xs) (sym tells) (all_of_step new.log.step did_tell)
+
+      pub few_records : IsWhole slot_count held new → length new.log.records < RECORD_LIMIT
+      unfolding machine_of
+      few_records whole =
+          let long : length new.log.records ≡ length did_tell = ap length tells ∙ length-map did_tell (record_of new.log.step) in
+          let told : length did_tell ≤ thread_ids (told_by who (machine_of held old)).machine.processes + 3 =
+          few_acted (record (machine_of held old) { cursor = who }) ((machine_of held old).threads who) in
+          let procs : processes new.mem ≡ (told_by who (machine_of held old)).machine.processes = ap (λ (m : Machine). m.processes) h.done.machine in
+          let few : processes new.mem ≤ 32 = whole.mem.few in
+          omega (arith, long, told, procs, few)
+
+      -- what the timer makes of it
+      abbrev timed_machine : Machine
+      timed_machine = (timed (so_far (machine_of held counting) did_tell)).machine
+
+      stepped_machine : timed_machine ≡ (step (machine_of held old)).machine
+      stepped_machine =
+          ap (λ (t : Told). (timed t).machine) counted_is ∙ sym (ap (λ (s : Recorded). s.machine) (step_is (machine_of held old) who acts))
+
+      step_done : (rung : Kernel W) → Rings held counting rung did_tell → Becomes held rung (step (machine_of held old))
+      unfolding machine_of
+      step_done rung rings = record {
+        machine = rings.machine ∙ stepped_machine;
+        records =
+            ap (λ (l : LogState). l.records) rings.log
+            ∙ (λ i. map (record_of (its_step i)) (timed (counted_is i)).told)
+            ∙ sym (ap (λ (s : Recorded). s.records) (step_is (machine_of held old) who acts));
+      }
+
+      module _ (sound : IsSound slot_count held old) (usable : IsUsable old) where
+        step_matched : Matched (step (machine_of held old)).machine
+        step_matched = every_step_keeps (machine_of held old) (sound.matched usable)
+
+        raised : timed_machine ≡ record (machine_of held counting) {
+          cursor = (timed_raised (so_far (machine_of held counting) did_tell)).cursor;
+          threads = (timed_raised (so_far (machine_of held counting) did_tell)).threads;
+          pending = (timed_raised (so_far (machine_of held counting) did_tell)).pending;
+          compare = (timed_raised (so_far (machine_of held counting) did_tell)).compare;
+        }
+        raised = (timed_raised (so_far (machine_of held counting) did_tell)).is
+
+        -- who has claimed the timer's interrupt is there, as it is after the step
+        pub claim_there : IsTimersClaimThere (machine_of held counting)
+        claim_there claim e =
+            let matched : Matched timed_machine = subst Matched (sym stepped_machine) step_matched in
+            sym (ap (λ (x : Machine). is_pid x.processes claim.pid.0) raised)
+            ∙ matched.body.processes.pids claim.pid (matched.rest.claims.living TIMER_INTERRUPT claim (ap (λ (x : Machine). x.claims TIMER_INTERRUPT) raised ∙ e))
+
+        pub did_sound : (rung : Kernel W) → IsWhole slot_count held rung → ((told : List What) → LogTells new.log told → Rings held counting rung told)
+            → IsSound slot_count held rung
+        did_sound rung whole rings = record {
+          whole = whole;
+          matched = λ _. subst Matched (sym (step_done rung (rings did_tell tells)).machine) step_matched;
         }
 
-    pub did : Acts held old new who (Done address) → DoesStep held old counting Did
-    did h = (ap is_some acts, h.0, step_done h.1 h.2)
-
-    pub did_sound : IsSound slot_count held old → IsUsable old → IsWhole slot_count held new → Acts held old new who (Done address) → IsSound slot_count held counting
-    did_sound sound usable whole h = record {
-      whole = counting_whole whole;
-      matched = λ _.
-          subst Matched (sym (step_done h.1 h.2).machine)
-          (every_step_keeps (machine_of held old) (sound.matched usable));
-    }
-
-  pub did_not : Acts held old new who Unbuilt → DoesStep held old new NotBuilt
-  did_not h = (ap is_some acts, h.0, h.1, ap (λ log. log.records) h.2)
-
-  pub left_sound : IsSound slot_count held old → IsUsable old → IsWhole slot_count held new → Acts held old new who Unbuilt → IsSound slot_count held new
-  left_sound sound usable whole h = record { whole = whole; matched = λ _. subst Matched (sym h.1) (sound.matched usable) }
+      pub did : (rung : Kernel W) → ((told : List What) → LogTells new.log told → Rings held counting rung told) → DoesStep held old rung Did
+      did rung rings = (ap is_some acts, step_done rung (rings did_tell tells))

@@ -1,36 +1,31 @@
--- What comes of each call that is built, by the words that ask for it.
+-- What comes of each call, by the words that ask for it.
 use Rattle.std.proofs.Common.{◌≡◌, ℕ, Bool, true, false, List, ◌∷◌, [], None, Some, refl, sym, ap, ◌∙◌}
 use Rattle.std.specs.Prelude.{◌==◌, ◌&&◌, ◌||◌, ◌≢◌, not, if◌then◌else◌, Result, Ok, Err}
-use Rattle.std.specs.List.{list_any}
-use Rattle.std.proofs.lemmas.Bool.{false≢true, ne_eqb}
-use Rattle.std.proofs.Math.Bool.{and-false}
+use Rattle.std.proofs.lemmas.Bool.{false≢true}
 use Rattle.machine_laws.proofs.Stepping.PlainServerLemmas.{outside_refused}
 use Rattle.machine_model.specs.Calling.Calls.{call, call_at, call_table}
 use Rattle.machine_model.specs.Calling.InterruptCalls.{claim_call, claim_refusals, claim_served, free_call, free_refusals, free_served}
 use Rattle.machine_model.specs.State.Changes.{Refused, Served, answering, refused_or, unless_refused, unless_retried}
-use Rattle.machine_model.specs.Ending.Ends.{forgotten}
+use Rattle.machine_model.specs.Ending.Ends.{death}
 use Rattle.machine_model.specs.State.Machine.{Machine}
 use Rattle.machine_model.specs.Calling.MemoryCalls.{decrease_call, decrease_refusals, decrease_served, increase_call, increase_refusals, increase_served, map_call, map_refusals, map_served, unmap_call, unmap_refusals, unmap_served, update_call, update_refusals, update_served}
+use Rattle.machine_model.specs.Messaging.ReceiveCalls.{receive_call, receive_served, try_receive_call, try_receive_served}
 use Rattle.machine_model.specs.State.Order.{turn}
-use Rattle.machine_model.specs.Calling.ServerCalls.{connect_call, connect_refusals, connect_served, create_server_call, create_server_refusals, create_server_served, is_missing, try_connect_call}
+use Rattle.machine_model.specs.Calling.ServerCalls.{connect_call, connect_refusals, connect_served, create_server_call, create_server_refusals, create_server_served, destroy_call, destroy_served, is_missing, own_server_refusals, try_connect_call}
+use Rattle.send_path.specs.Rows.{receive_row, table_row}
 use Rattle.machine_model.specs.Calling.ThreadCalls.{create_call, create_refusals, create_served, join_call, join_refusals, join_served, process_id_call, terminate_call, thread_id_call, yield_call}
-use Rattle.machine_model.specs.State.Threads.{answer_to, no_answers}
-use Rattle.xk_kernel.specs.Alone.{DiesPlainly}
+use Rattle.machine_model.specs.State.Threads.{answer_to}
 use Rattle.syscall_codec.specs.Calls.{Asks}
 use Rattle.syscall_codec.specs.declared.calls.Call.{Call}
 use Rattle.syscall_codec.specs.declared.calls.Call.TheVariants.{MapMemory, Yield, ClaimInterrupt, FreeInterrupt, IncreaseHeap, DecreaseHeap, UpdateMemoryFlags, CreateServerWithAddress, ReceiveMessage, SendMessage, Connect, CreateThread, UnmapMemory, ReturnMemory, TerminateProcess, TrySendMessage, TryConnect, ReturnScalar1, ReturnScalar2, TryReceiveMessage, JoinThread, DestroyServer, GetThreadId, GetProcessId, ForwardMessage}
-use Rattle.xk_base.specs.Calls.CallNumbers.{claim_interrupt, free_interrupt, is_call_number}
-use Rattle.xk_base.specs.Calls.CallWords.{call_number, interrupt_number, is_refused_to_handler}
+use Rattle.xk_base.specs.Calls.CallNumbers.{connect, is_call_number, join_thread, receive_message, send_message, try_send_message}
+use Rattle.xk_base.specs.Calls.CallWords.{call_number, is_refused_to_handler, send_kind}
+use Rattle.xk_base.specs.Calls.Kinds.{is_waiting_kind}
 use Rattle.xk_base.specs.Calls.Replies.{plain_words, scalar1_words, thread_words}
 use Rattle.xk_base.specs.declared.errors.XousError.{XousError}
-use Rattle.xk_base.specs.declared.limits.TheConstants.{TIMER_INTERRUPT}
 use Rattle.xk_base.specs.declared.errors.XousError.TheVariants.{InvalidSyscall, ServerNotFound, UnhandledSyscall}
 use Rattle.xk_base.specs.declared.ids.Sid.{Sid}
-use Rattle.xk_kernel.specs.Built.{is_call_built, is_number_built}
-
--- the caller is the interrupt thread, and the call can make it wait
-abbrev pub is_refused_caller : Machine → List ℕ → Bool
-is_refused_caller m w = m.cursor.tid.0 == 1 && is_refused_to_handler w
+use Rattle.xk_kernel.specs.Calling.{is_plain_call, is_plain_number, is_refused_caller}
 
 -- a call that its number has in the table, and that isn't refused to its caller, is that row
 by_number : (m : Machine) (w : List ℕ) (k : ℕ) → call_number w ≡ k → is_call_number k ≡ true → is_refused_caller m w ≡ false
@@ -105,10 +100,15 @@ module _ (m : Machine) (w : List ℕ) (free : is_refused_caller m w ≡ false) w
   unfolding free_call
   free_is number (n, a) = sym (by_number m w 6 n refl free ∙ (λ i. unless_refused (free_refusals m (a i)) (Served (free_served m (a i)))))
 
-  pub terminate_is : (exit : ℕ) → DiesPlainly m.cursor.pid m → Asks w (TerminateProcess exit)
-      → Served (record { machine = forgotten m.cursor.pid m; answers = no_answers; delivery = None; gone = Some m.cursor.pid }) ≡ call m w
+  pub terminate_is : (exit : ℕ) → Asks w (TerminateProcess exit) → Served (death m.cursor.pid m) ≡ call m w
   unfolding terminate_call
-  terminate_is exit plain (n, a) = sym (by_number m w 22 n refl free ∙ ap Served plain)
+  terminate_is exit (n, a) = sym (by_number m w 22 n refl free)
+
+  pub destroy_is : (sid : Sid) → Asks w (DestroyServer sid) → unless_refused (own_server_refusals m sid) (Served (destroy_served m sid)) ≡ call m w
+  unfolding destroy_call
+  destroy_is sid (n, a) =
+      sym (by_number m w 41 n refl free
+      ∙ (λ i. unless_refused (own_server_refusals m (record { 0 = a i })) (Served (destroy_served m (record { 0 = a i })))))
 
   pub create_server_is : (sid : Sid) → Asks w (CreateServerWithAddress sid)
       → unless_refused (create_server_refusals m sid) (Served (create_server_served m sid)) ≡ call m w
@@ -130,16 +130,6 @@ module _ (m : Machine) (w : List ℕ) (free : is_refused_caller m w ≡ false) w
   try_connect_is sid (n, a) =
       sym (by_number m w 25 n refl free
       ∙ (λ i. unless_refused ((is_missing m (record { 0 = a i }), ServerNotFound) ∷ connect_refusals m (record { 0 = a i })) (Served (connect_served m (record { 0 = a i })))))
-
--- ---- who may make it
-
--- another thread than the interrupt thread may make every call
-pub free_by_tid : (m : Machine) (w : List ℕ) → m.cursor.tid.0 ≢ 1 → is_refused_caller m w ≡ false
-free_by_tid m w other = ap (λ b. b && is_refused_to_handler w) (ne_eqb m.cursor.tid.0 1 other)
-
--- every thread may make a call that can't wait
-pub free_by_call : (m : Machine) (w : List ℕ) → is_refused_to_handler w ≡ false → is_refused_caller m w ≡ false
-free_by_call m w e = ap (λ b. m.cursor.tid.0 == 1 && b) e ∙ and-false (m.cursor.tid.0 == 1)
 
 -- ---- which calls there are
 
@@ -172,70 +162,58 @@ known w GetProcessId h = ap is_call_number h
 known w (ForwardMessage a b) h = ap is_call_number h.0
 
 -- one that is refused to its caller, the interrupt thread
-pub refused_to_handler : (m : Machine) (w : List ℕ) (asked : Call) → Asks w asked → m.cursor.tid.0 ≡ 1 → is_refused_to_handler w ≡ true
-    → call m w ≡ Refused InvalidSyscall
+pub refused_to_handler : (m : Machine) (w : List ℕ) (asked : Call) → Asks w asked → is_refused_caller m w ≡ true → call m w ≡ Refused InvalidSyscall
 unfolding call
-refused_to_handler m w asked h handler waits = λ i.
-    refused_or (if not (known w asked h i) then Some UnhandledSyscall else (if (handler i == 1) && waits i then Some InvalidSyscall else None))
+refused_to_handler m w asked h refused = λ i.
+    refused_or (if not (known w asked h i) then Some UnhandledSyscall else (if refused i then Some InvalidSyscall else None))
     (call_at (call_number w) call_table m w)
 
--- it is one of those that are built
-abbrev pub is_built_one : Call → Bool
-is_built_one (MapMemory a b d e) = true
-is_built_one Yield = true
-is_built_one (ClaimInterrupt a b d) = true
-is_built_one (FreeInterrupt a) = true
-is_built_one (IncreaseHeap a) = true
-is_built_one (DecreaseHeap a) = true
-is_built_one (UpdateMemoryFlags a b d) = true
-is_built_one (CreateServerWithAddress a) = true
-is_built_one (Connect a) = true
-is_built_one (CreateThread a b d) = true
-is_built_one (UnmapMemory a b) = true
-is_built_one (TerminateProcess a) = true
-is_built_one (TryConnect a) = true
-is_built_one (JoinThread a) = true
-is_built_one GetThreadId = true
-is_built_one GetProcessId = true
-is_built_one _ = false
+-- its caller is answered once it is served
+abbrev pub is_plain_one : Call → Bool
+is_plain_one (MapMemory a b d e) = true
+is_plain_one Yield = true
+is_plain_one (ClaimInterrupt a b d) = true
+is_plain_one (FreeInterrupt a) = true
+is_plain_one (IncreaseHeap a) = true
+is_plain_one (DecreaseHeap a) = true
+is_plain_one (UpdateMemoryFlags a b d) = true
+is_plain_one (CreateServerWithAddress a) = true
+is_plain_one (Connect a) = true
+is_plain_one (CreateThread a b d) = true
+is_plain_one (UnmapMemory a b) = true
+is_plain_one (TryConnect a) = true
+is_plain_one (JoinThread a) = true
+is_plain_one GetThreadId = true
+is_plain_one GetProcessId = true
+is_plain_one _ = false
 
--- the test of a number, and of the interrupt that is claimed by it
-abbrev is_built_number : ℕ → ℕ → Bool
-is_built_number interrupt k =
-    is_number_built k || (((k == claim_interrupt) && not (interrupt == TIMER_INTERRUPT)) || (k == free_interrupt))
-
--- words of a call that is built ask for such a one
-pub built_asked : (w : List ℕ) (asked : Call) → Asks w asked → is_call_built w ≡ true → is_built_one asked ≡ true
-built_asked w (MapMemory a b d e) h built = refl
-built_asked w Yield h built = refl
-built_asked w (ClaimInterrupt a b d) h built = refl
-built_asked w (FreeInterrupt a) h built = refl
-built_asked w (IncreaseHeap a) h built = refl
-built_asked w (DecreaseHeap a) h built = refl
-built_asked w (UpdateMemoryFlags a b d) h built = refl
-built_asked w (CreateServerWithAddress a) h built = refl
-built_asked w (ReceiveMessage a) h built = sym (ap (is_built_number (interrupt_number w)) h.0) ∙ built
-built_asked w (SendMessage a b d e) h built = sym (ap (is_built_number (interrupt_number w)) h.0) ∙ built
-built_asked w (Connect a) h built = refl
-built_asked w (CreateThread a b d) h built = refl
-built_asked w (UnmapMemory a b) h built = refl
-built_asked w (ReturnMemory a b d e f) h built = sym (ap (is_built_number (interrupt_number w)) h.0) ∙ built
-built_asked w (TerminateProcess a) h built = refl
-built_asked w (TrySendMessage a b d e) h built = sym (ap (is_built_number (interrupt_number w)) h.0) ∙ built
-built_asked w (TryConnect a) h built = refl
-built_asked w (ReturnScalar1 a b) h built = sym (ap (is_built_number (interrupt_number w)) h.0) ∙ built
-built_asked w (ReturnScalar2 a b d) h built = sym (ap (is_built_number (interrupt_number w)) h.0) ∙ built
-built_asked w (TryReceiveMessage a) h built = sym (ap (is_built_number (interrupt_number w)) h.0) ∙ built
-built_asked w (JoinThread a) h built = refl
-built_asked w (DestroyServer a) h built = sym (ap (is_built_number (interrupt_number w)) h.0) ∙ built
-built_asked w GetThreadId h built = refl
-built_asked w GetProcessId h built = refl
-built_asked w (ForwardMessage a b) h built = sym (ap (is_built_number (interrupt_number w)) h.0) ∙ built
-
--- a claim that is built is that of another interrupt than the timer's
-pub claim_untimed : (w : List ℕ) (number handler arg : ℕ) → Asks w (ClaimInterrupt number handler arg) → is_call_built w ≡ true → number ≢ TIMER_INTERRUPT
-claim_untimed w number handler arg (n, a, b, d) built timed =
-    false≢true (sym (ap (λ k. is_built_number k claim_interrupt) timed) ∙ sym (λ i. is_built_number (a i) (n i)) ∙ built)
+-- words of such a call ask for such a one
+pub plain_asked : (w : List ℕ) (asked : Call) → Asks w asked → is_plain_call w ≡ true → is_plain_one asked ≡ true
+plain_asked w (MapMemory a b d e) h plain = refl
+plain_asked w Yield h plain = refl
+plain_asked w (ClaimInterrupt a b d) h plain = refl
+plain_asked w (FreeInterrupt a) h plain = refl
+plain_asked w (IncreaseHeap a) h plain = refl
+plain_asked w (DecreaseHeap a) h plain = refl
+plain_asked w (UpdateMemoryFlags a b d) h plain = refl
+plain_asked w (CreateServerWithAddress a) h plain = refl
+plain_asked w (ReceiveMessage a) h plain = sym (ap is_plain_number h.0) ∙ plain
+plain_asked w (SendMessage a b d e) h plain = sym (ap is_plain_number h.0) ∙ plain
+plain_asked w (Connect a) h plain = refl
+plain_asked w (CreateThread a b d) h plain = refl
+plain_asked w (UnmapMemory a b) h plain = refl
+plain_asked w (ReturnMemory a b d e f) h plain = sym (ap is_plain_number h.0) ∙ plain
+plain_asked w (TerminateProcess a) h plain = sym (ap is_plain_number h.0) ∙ plain
+plain_asked w (TrySendMessage a b d e) h plain = sym (ap is_plain_number h.0) ∙ plain
+plain_asked w (TryConnect a) h plain = refl
+plain_asked w (ReturnScalar1 a b) h plain = sym (ap is_plain_number h.0) ∙ plain
+plain_asked w (ReturnScalar2 a b d) h plain = sym (ap is_plain_number h.0) ∙ plain
+plain_asked w (TryReceiveMessage a) h plain = sym (ap is_plain_number h.0) ∙ plain
+plain_asked w (JoinThread a) h plain = refl
+plain_asked w (DestroyServer a) h plain = sym (ap is_plain_number h.0) ∙ plain
+plain_asked w GetThreadId h plain = refl
+plain_asked w GetProcessId h plain = refl
+plain_asked w (ForwardMessage a b) h plain = sym (ap is_plain_number h.0) ∙ plain
 
 -- it is one of these
 pub record IsNoneOf (asked : Call) : Type 0 where
@@ -251,37 +229,111 @@ pub record IsNoneOf (asked : Call) : Type 0 where
   pub try_connect : (sid : Sid) → asked ≢ TryConnect sid
   pub create : (a b : ℕ) (d : List ℕ) → asked ≢ CreateThread a b d
   pub unmap : (a b : ℕ) → asked ≢ UnmapMemory a b
-  pub terminate : (a : ℕ) → asked ≢ TerminateProcess a
   pub join : (a : ℕ) → asked ≢ JoinThread a
   pub thread_id : asked ≢ GetThreadId
   pub process_id : asked ≢ GetProcessId
 
-pub none_left : (asked : Call) → IsNoneOf asked → is_built_one asked ≡ true → ⊥
-none_left (MapMemory a b d e) none built = none.map a b d e refl
-none_left Yield none built = none.yield refl
-none_left (ClaimInterrupt a b d) none built = none.claim a b d refl
-none_left (FreeInterrupt a) none built = none.free a refl
-none_left (IncreaseHeap a) none built = none.increase a refl
-none_left (DecreaseHeap a) none built = none.decrease a refl
-none_left (UpdateMemoryFlags a b d) none built = none.update a b d refl
-none_left (CreateServerWithAddress a) none built = none.create_server a refl
-none_left (ReceiveMessage a) none built = false≢true built
-none_left (SendMessage a b d e) none built = false≢true built
-none_left (Connect a) none built = none.connect a refl
-none_left (CreateThread a b d) none built = none.create a b d refl
-none_left (UnmapMemory a b) none built = none.unmap a b refl
-none_left (ReturnMemory a b d e f) none built = false≢true built
-none_left (TerminateProcess a) none built = none.terminate a refl
-none_left (TrySendMessage a b d e) none built = false≢true built
-none_left (TryConnect a) none built = none.try_connect a refl
-none_left (ReturnScalar1 a b) none built = false≢true built
-none_left (ReturnScalar2 a b d) none built = false≢true built
-none_left (TryReceiveMessage a) none built = false≢true built
-none_left (JoinThread a) none built = none.join a refl
-none_left (DestroyServer a) none built = false≢true built
-none_left GetThreadId none built = none.thread_id refl
-none_left GetProcessId none built = none.process_id refl
-none_left (ForwardMessage a b) none built = false≢true built
+pub none_left : (asked : Call) → IsNoneOf asked → is_plain_one asked ≡ true → ⊥
+none_left (MapMemory a b d e) none plain = none.map a b d e refl
+none_left Yield none plain = none.yield refl
+none_left (ClaimInterrupt a b d) none plain = none.claim a b d refl
+none_left (FreeInterrupt a) none plain = none.free a refl
+none_left (IncreaseHeap a) none plain = none.increase a refl
+none_left (DecreaseHeap a) none plain = none.decrease a refl
+none_left (UpdateMemoryFlags a b d) none plain = none.update a b d refl
+none_left (CreateServerWithAddress a) none plain = none.create_server a refl
+none_left (ReceiveMessage a) none plain = false≢true plain
+none_left (SendMessage a b d e) none plain = false≢true plain
+none_left (Connect a) none plain = none.connect a refl
+none_left (CreateThread a b d) none plain = none.create a b d refl
+none_left (UnmapMemory a b) none plain = none.unmap a b refl
+none_left (ReturnMemory a b d e f) none plain = false≢true plain
+none_left (TerminateProcess a) none plain = false≢true plain
+none_left (TrySendMessage a b d e) none plain = false≢true plain
+none_left (TryConnect a) none plain = none.try_connect a refl
+none_left (ReturnScalar1 a b) none plain = false≢true plain
+none_left (ReturnScalar2 a b d) none plain = false≢true plain
+none_left (TryReceiveMessage a) none plain = false≢true plain
+none_left (JoinThread a) none plain = none.join a refl
+none_left (DestroyServer a) none plain = false≢true plain
+none_left GetThreadId none plain = none.thread_id refl
+none_left GetProcessId none plain = none.process_id refl
+none_left (ForwardMessage a b) none plain = false≢true plain
+
+-- ---- the other calls
+
+-- it is none on messages, and none that ends a process or a server
+pub record IsNoOther (asked : Call) : Type 0 where
+  pub send : (cid kind id : ℕ) (words : List ℕ) → asked ≢ SendMessage cid kind id words
+  pub try_send : (cid kind id : ℕ) (words : List ℕ) → asked ≢ TrySendMessage cid kind id words
+  pub receive : (sid : Sid) → asked ≢ ReceiveMessage sid
+  pub try_receive : (sid : Sid) → asked ≢ TryReceiveMessage sid
+  pub return_memory : (a b d e f : ℕ) → asked ≢ ReturnMemory a b d e f
+  pub return_scalar1 : (a b : ℕ) → asked ≢ ReturnScalar1 a b
+  pub return_scalar2 : (a b d : ℕ) → asked ≢ ReturnScalar2 a b d
+  pub forward : (a b : ℕ) → asked ≢ ForwardMessage a b
+  pub terminate : (a : ℕ) → asked ≢ TerminateProcess a
+  pub destroy : (sid : Sid) → asked ≢ DestroyServer sid
+
+-- a call that is none of these is answered once it is served
+pub others_plain : (w : List ℕ) (asked : Call) → Asks w asked → IsNoOther asked → is_plain_call w ≡ true
+others_plain w (MapMemory a b d e) h none = ap is_plain_number h.0
+others_plain w Yield h none = ap is_plain_number h
+others_plain w (ClaimInterrupt a b d) h none = ap is_plain_number h.0
+others_plain w (FreeInterrupt a) h none = ap is_plain_number h.0
+others_plain w (IncreaseHeap a) h none = ap is_plain_number h.0
+others_plain w (DecreaseHeap a) h none = ap is_plain_number h.0
+others_plain w (UpdateMemoryFlags a b d) h none = ap is_plain_number h.0
+others_plain w (CreateServerWithAddress a) h none = ap is_plain_number h.0
+others_plain w (ReceiveMessage a) h none = absurd (none.receive a refl)
+others_plain w (SendMessage a b d e) h none = absurd (none.send a b d e refl)
+others_plain w (Connect a) h none = ap is_plain_number h.0
+others_plain w (CreateThread a b d) h none = ap is_plain_number h.0
+others_plain w (UnmapMemory a b) h none = ap is_plain_number h.0
+others_plain w (ReturnMemory a b d e f) h none = absurd (none.return_memory a b d e f refl)
+others_plain w (TerminateProcess a) h none = absurd (none.terminate a refl)
+others_plain w (TrySendMessage a b d e) h none = absurd (none.try_send a b d e refl)
+others_plain w (TryConnect a) h none = ap is_plain_number h.0
+others_plain w (ReturnScalar1 a b) h none = absurd (none.return_scalar1 a b refl)
+others_plain w (ReturnScalar2 a b d) h none = absurd (none.return_scalar2 a b d refl)
+others_plain w (TryReceiveMessage a) h none = absurd (none.try_receive a refl)
+others_plain w (JoinThread a) h none = ap is_plain_number h.0
+others_plain w (DestroyServer a) h none = absurd (none.destroy a refl)
+others_plain w GetThreadId h none = ap is_plain_number h
+others_plain w GetProcessId h none = ap is_plain_number h
+others_plain w (ForwardMessage a b) h none = absurd (none.forward a b refl)
+
+-- the row of a call that isn't refused to its caller
+module _ (m : Machine) (w : List ℕ) (free : is_refused_caller m w ≡ false) where
+  pub row_is : (asked : Call) → Asks w asked → table_row w m ≡ call m w
+  unfolding call
+  row_is asked h =
+      sym (λ i. refused_or (if not (known w asked h i) then Some UnhandledSyscall else (if free i then Some InvalidSyscall else None)) (table_row w m))
+
+  pub receive_is : (sid : Sid) → Asks w (ReceiveMessage sid) → receive_row sid true m ≡ call m w
+  unfolding receive_call
+  receive_is sid (n, a) =
+      sym (by_number m w 15 n refl free
+      ∙ (λ i. unless_refused (own_server_refusals m (record { 0 = a i })) (Served (receive_served m (record { 0 = a i })))))
+
+  -- the interrupt thread can't make that one
+  pub receiver_waits : (sid : Sid) → Asks w (ReceiveMessage sid) → (m.cursor.tid.0 == 1) ≡ false
+  receiver_waits sid (n, a) = go (m.cursor.tid.0 == 1) refl
+    where
+      waits : is_refused_to_handler w ≡ true
+      waits =
+          ap (λ k. k == receive_message || call_number w == send_message || call_number w == connect || call_number w == join_thread
+          || (call_number w == try_send_message && is_waiting_kind (send_kind w))) n
+
+      go : (b : Bool) → (m.cursor.tid.0 == 1) ≡ b → (m.cursor.tid.0 == 1) ≡ false
+      go false e = e
+      go true e = absurd (false≢true (sym free ∙ (λ i. e i && waits i)))
+
+  pub try_receive_is : (sid : Sid) → Asks w (TryReceiveMessage sid) → receive_row sid false m ≡ call m w
+  unfolding try_receive_call
+  try_receive_is sid (n, a) =
+      sym (by_number m w 28 n refl free
+      ∙ (λ i. unless_refused (own_server_refusals m (record { 0 = a i })) (Served (try_receive_served m (record { 0 = a i })))))
 
 -- ---- no call has the number
 

@@ -1,34 +1,32 @@
--- A call that is built leaves its caller there, unless the caller's process dies.
+-- A call whose caller is answered once it is served leaves the caller there.
 use Rattle.std.proofs.Common.{◌≡◌, ℕ, Bool, true, false, List, Option, Some, None, refl, sym, subst}
-use Rattle.std.specs.Prelude.{◌==◌, ◌&&◌, ◌||◌, [], ◌∷◌, is_some, not, if◌then◌else◌}
+use Rattle.std.specs.Prelude.{◌∷◌, is_some, if◌then◌else◌}
 use Rattle.std.specs.Bool.{⊤}
-use Rattle.std.specs.List.{AllByRecursion, list_any}
+use Rattle.std.specs.List.{AllByRecursion}
 use Rattle.std.specs.Option.{option_map}
-use Rattle.std.proofs.lemmas.Bool.{eqb-true, false≢true}
-use Rattle.std.proofs.lemmas.Option.{none-some}
-use Rattle.machine_laws.proofs.Stepping.PlainServerLemmas.{in_list, outside_refused}
+use Rattle.machine_laws.proofs.Stepping.PlainServerLemmas.{in_list}
 use Rattle.machine_model.specs.Calling.Calls.{any_refusals, call, call_at, call_table}
 use Rattle.machine_model.specs.Calling.InterruptCalls.{claim_call, claim_refusals, claim_served, free_call, free_refusals, free_served}
 use Rattle.machine_model.specs.State.Changes.{Change, Outcome, Refused, Retried, Served, first_refusal, refused_or, unless_refused, unless_retried}
-use Rattle.machine_model.specs.Ending.Ends.{death}
 use Rattle.machine_model.specs.State.Machine.{Joining, Machine, Thread}
 use Rattle.machine_model.specs.Calling.MemoryCalls.{decrease_call, decrease_refusals, decrease_served, increase_call, increase_refusals, increase_served, map_call, map_refusals, map_served, unmap_call, unmap_refusals, unmap_served, update_call, update_refusals, update_served}
 use Rattle.machine_model.specs.Calling.ServerCalls.{connect_call, connect_refusals, connect_served, create_server_call, create_server_refusals, create_server_served, is_missing, named_sid, try_connect_call}
 use Rattle.machine_model.specs.State.Order.{turn}
-use Rattle.machine_model.specs.Calling.ThreadCalls.{create_call, create_refusals, create_served, join_call, join_refusals, join_served, process_id_call, terminate_call, thread_id_call, yield_call}
+use Rattle.machine_model.specs.Calling.ThreadCalls.{create_call, create_refusals, create_served, join_call, join_refusals, join_served, process_id_call, thread_id_call, yield_call}
 use Rattle.machine_model.specs.State.Threads.{with_state}
 use Rattle.xk_base.specs.Tables.Circle.{same_thread}
-use Rattle.xk_base.specs.Calls.CallNumbers.{map_memory, yield_turn, increase_heap, decrease_heap, update_memory_flags, create_server_with_address, connect as connect_number, create_thread, unmap_memory, terminate_process, claim_interrupt, free_interrupt, try_connect as try_connect_number, join_thread, get_thread_id, get_process_id, is_call_number}
+use Rattle.xk_base.specs.Calls.CallNumbers.{map_memory, yield_turn, increase_heap, decrease_heap, update_memory_flags, create_server_with_address, connect as connect_number, create_thread, unmap_memory, claim_interrupt, free_interrupt, try_connect as try_connect_number, join_thread, get_thread_id, get_process_id}
 use Rattle.xk_base.specs.Calls.CallWords.{call_number, heap_bytes, interrupt_argument, interrupt_handler, interrupt_number, join_tid, map_flags, map_phys, map_size, map_virt, range_address, range_flags, range_size, thread_arguments, thread_entry, thread_sp}
 use Rattle.xk_base.specs.declared.errors.XousError.{XousError}
 use Rattle.xk_base.specs.declared.errors.XousError.TheVariants.{ServerNotFound}
-use Rattle.xk_base.specs.declared.limits.TheConstants.{TIMER_INTERRUPT}
-use Rattle.xk_kernel.specs.Built.{built_numbers, is_call_built, is_number_built}
+use Rattle.xk_kernel.specs.Calling.{is_plain_call, is_plain_number, plain_numbers}
 
--- what is to be shown of the number of each call that is built, and of those that are not in the table
-record OfBuiltCalls (P : ℕ → Type 0) (k : ℕ) : Type 0 where
+-- what is to be shown of the number of each such call
+record OfPlainCalls (P : ℕ → Type 0) : Type 0 where
   pub map : P map_memory
   pub yield : P yield_turn
+  pub claim : P claim_interrupt
+  pub free : P free_interrupt
   pub increase : P increase_heap
   pub decrease : P decrease_heap
   pub update : P update_memory_flags
@@ -36,29 +34,23 @@ record OfBuiltCalls (P : ℕ → Type 0) (k : ℕ) : Type 0 where
   pub connect : P connect_number
   pub create : P create_thread
   pub unmap : P unmap_memory
-  pub terminate : P terminate_process
   pub try_connect : P try_connect_number
   pub join : P join_thread
   pub thread_id : P get_thread_id
   pub process_id : P get_process_id
-  pub outside : is_call_number k ≡ false → P k
 
-built_cases : (P : ℕ → Type 0) (k : ℕ) → OfBuiltCalls P k → is_number_built k ≡ true → P k
-built_cases P k of e = go (list_any (λ j. j == k) built_numbers) (is_call_number k) refl refl e
+plain_cases : (P : ℕ → Type 0) (k : ℕ) → OfPlainCalls P → is_plain_number k ≡ true → P k
+plain_cases P k of e = in_list P k plain_numbers all e
   where
-    all : AllByRecursion P built_numbers
-    all = (of.map, (of.yield, (of.increase, (of.decrease, (of.update, (of.create_server, (of.connect, (of.create, (of.unmap, (of.terminate, (of.try_connect, (of.join, (of.thread_id, (of.process_id, tt))))))))))))))
+    all : AllByRecursion P plain_numbers
+    all =
+        (of.map, (of.yield, (of.claim, (of.free, (of.increase, (of.decrease, (of.update, (of.create_server, (of.connect, (of.create, (of.unmap, (of.try_connect, (of.join, (of.thread_id, (of.process_id, tt)))))))))))))))
 
-    go : (a b : Bool) → list_any (λ j. j == k) built_numbers ≡ a → is_call_number k ≡ b → (a || not b) ≡ true → P k
-    go true b p q e = in_list P k built_numbers all p
-    go false false p q e = of.outside q
-    go false true p q e = absurd (false≢true e)
-
--- what comes of the call leaves its caller, where no process dies
+-- what comes of the call leaves its caller
 abbrev LeavesCaller : Machine → Outcome → Type 0
 LeavesCaller m (Refused error) = ⊤
 LeavesCaller m Retried = ⊤
-LeavesCaller m (Served change) = change.gone ≡ None → is_some (change.machine.threads m.cursor) ≡ true
+LeavesCaller m (Served change) = is_some (change.machine.threads m.cursor) ≡ true
 
 module _ (m : Machine) (w : List ℕ) (there : is_some (m.threads m.cursor) ≡ true) where
   either : (refusals : List (Bool × XousError)) (outcome : Outcome) → LeavesCaller m outcome → LeavesCaller m (unless_refused refusals outcome)
@@ -72,25 +64,25 @@ module _ (m : Machine) (w : List ℕ) (there : is_some (m.threads m.cursor) ≡ 
   unfolding map_call
   map_leaves =
       either (map_refusals m (map_phys w) (map_virt w) (map_size w) (map_flags w))
-      (Served (map_served m (map_phys w) (map_virt w) (map_size w) (map_flags w))) (λ e. there)
+      (Served (map_served m (map_phys w) (map_virt w) (map_size w) (map_flags w))) there
 
   unmap_leaves : LeavesCaller m (unmap_call m w)
   unfolding unmap_call
-  unmap_leaves = either (unmap_refusals m (range_address w) (range_size w)) (Served (unmap_served m (range_address w) (range_size w))) (λ e. there)
+  unmap_leaves = either (unmap_refusals m (range_address w) (range_size w)) (Served (unmap_served m (range_address w) (range_size w))) there
 
   update_leaves : LeavesCaller m (update_call m w)
   unfolding update_call
   update_leaves =
       either (update_refusals m (range_address w) (range_size w) (range_flags w))
-      (Served (update_served m (range_address w) (range_size w) (range_flags w))) (λ e. there)
+      (Served (update_served m (range_address w) (range_size w) (range_flags w))) there
 
   increase_leaves : LeavesCaller m (increase_call m w)
   unfolding increase_call
-  increase_leaves = either (increase_refusals m (heap_bytes w)) (Served (increase_served m (heap_bytes w))) (λ e. there)
+  increase_leaves = either (increase_refusals m (heap_bytes w)) (Served (increase_served m (heap_bytes w))) there
 
   decrease_leaves : LeavesCaller m (decrease_call m w)
   unfolding decrease_call
-  decrease_leaves = either (decrease_refusals m (heap_bytes w)) (Served (decrease_served m (heap_bytes w))) (λ e. there)
+  decrease_leaves = either (decrease_refusals m (heap_bytes w)) (Served (decrease_served m (heap_bytes w))) there
 
   -- the caller's thread is as before or another that is there
   put_there : (b : Bool) (t : Option Thread) → is_some t ≡ true → is_some (if b then t else m.threads m.cursor) ≡ true
@@ -105,33 +97,39 @@ module _ (m : Machine) (w : List ℕ) (there : is_some (m.threads m.cursor) ≡ 
   unfolding create_call
   create_leaves =
       either (create_refusals m (thread_entry w)) (Served (create_served m (thread_entry w) (thread_sp w) (thread_arguments w)))
-      (λ e. put_there (same_thread m.cursor _) _ refl)
+      (put_there (same_thread m.cursor _) _ refl)
 
   join_leaves : LeavesCaller m (join_call m w)
   unfolding join_call
   join_leaves =
       either (join_refusals m (join_tid w)) (Served (join_served m (join_tid w)))
-      (λ e. put_there (same_thread m.cursor m.cursor) _ (changed_there (with_state (Joining (record { 0 = join_tid w }))) (m.threads m.cursor) there))
+      (put_there (same_thread m.cursor m.cursor) _ (changed_there (with_state (Joining (record { 0 = join_tid w }))) (m.threads m.cursor) there))
 
   yield_leaves : LeavesCaller m (yield_call m w)
   unfolding yield_call turn
-  yield_leaves = λ e. there
+  yield_leaves = there
 
   thread_id_leaves : LeavesCaller m (thread_id_call m w)
   unfolding thread_id_call
-  thread_id_leaves = λ e. there
+  thread_id_leaves = there
 
   process_id_leaves : LeavesCaller m (process_id_call m w)
   unfolding process_id_call
-  process_id_leaves = λ e. there
+  process_id_leaves = there
 
-  terminate_leaves : LeavesCaller m (terminate_call m w)
-  unfolding terminate_call death
-  terminate_leaves = λ e. absurd (none-some m.cursor.pid (sym e))
+  claim_leaves : LeavesCaller m (claim_call m w)
+  unfolding claim_call
+  claim_leaves =
+      either (claim_refusals m (interrupt_number w) (interrupt_handler w))
+      (Served (claim_served m (interrupt_number w) (interrupt_handler w) (interrupt_argument w))) there
+
+  free_leaves : LeavesCaller m (free_call m w)
+  unfolding free_call
+  free_leaves = either (free_refusals m (interrupt_number w)) (Served (free_served m (interrupt_number w))) there
 
   create_server_leaves : LeavesCaller m (create_server_call m w)
   unfolding create_server_call
-  create_server_leaves = either (create_server_refusals m (named_sid w)) (Served (create_server_served m (named_sid w))) (λ e. there)
+  create_server_leaves = either (create_server_refusals m (named_sid w)) (Served (create_server_served m (named_sid w))) there
 
   -- a retry leaves it too
   perhaps_retried : (b : Bool) (outcome : Outcome) → LeavesCaller m outcome → LeavesCaller m (unless_retried b outcome)
@@ -142,20 +140,22 @@ module _ (m : Machine) (w : List ℕ) (there : is_some (m.threads m.cursor) ≡ 
   unfolding connect_call
   connect_leaves =
       perhaps_retried (is_missing m (named_sid w)) (unless_refused (connect_refusals m (named_sid w)) (Served (connect_served m (named_sid w))))
-      (either (connect_refusals m (named_sid w)) (Served (connect_served m (named_sid w))) (λ e. there))
+      (either (connect_refusals m (named_sid w)) (Served (connect_served m (named_sid w))) there)
 
   try_connect_leaves : LeavesCaller m (try_connect_call m w)
   unfolding try_connect_call
   try_connect_leaves =
-      either ((is_missing m (named_sid w), ServerNotFound) ∷ connect_refusals m (named_sid w)) (Served (connect_served m (named_sid w))) (λ e. there)
+      either ((is_missing m (named_sid w), ServerNotFound) ∷ connect_refusals m (named_sid w)) (Served (connect_served m (named_sid w))) there
 
-  number_leaves : is_number_built (call_number w) ≡ true → LeavesCaller m (call m w)
+  plain_leaves : is_plain_call w ≡ true → LeavesCaller m (call m w)
   unfolding call
-  number_leaves built =
-      built_cases (λ k. LeavesCaller m (unless_refused (any_refusals m w) (call_at k call_table m w))) (call_number w)
+  plain_leaves plain =
+      plain_cases (λ k. LeavesCaller m (unless_refused (any_refusals m w) (call_at k call_table m w))) (call_number w)
       (record {
         map = either (any_refusals m w) (map_call m w) map_leaves;
         yield = either (any_refusals m w) (yield_call m w) yield_leaves;
+        claim = either (any_refusals m w) (claim_call m w) claim_leaves;
+        free = either (any_refusals m w) (free_call m w) free_leaves;
         increase = either (any_refusals m w) (increase_call m w) increase_leaves;
         decrease = either (any_refusals m w) (decrease_call m w) decrease_leaves;
         update = either (any_refusals m w) (update_call m w) update_leaves;
@@ -163,43 +163,13 @@ module _ (m : Machine) (w : List ℕ) (there : is_some (m.threads m.cursor) ≡ 
         connect = either (any_refusals m w) (connect_call m w) connect_leaves;
         create = either (any_refusals m w) (create_call m w) create_leaves;
         unmap = either (any_refusals m w) (unmap_call m w) unmap_leaves;
-        terminate = either (any_refusals m w) (terminate_call m w) terminate_leaves;
         try_connect = either (any_refusals m w) (try_connect_call m w) try_connect_leaves;
         join = either (any_refusals m w) (join_call m w) join_leaves;
         thread_id = either (any_refusals m w) (thread_id_call m w) thread_id_leaves;
         process_id = either (any_refusals m w) (process_id_call m w) process_id_leaves;
-        outside = λ outside. subst (LeavesCaller m) (sym (outside_refused m w outside)) tt;
       })
-      built
+      plain
 
-  claim_leaves : LeavesCaller m (claim_call m w)
-  unfolding claim_call
-  claim_leaves =
-      either (claim_refusals m (interrupt_number w) (interrupt_handler w))
-      (Served (claim_served m (interrupt_number w) (interrupt_handler w) (interrupt_argument w))) (λ e. there)
-
-  free_leaves : LeavesCaller m (free_call m w)
-  unfolding free_call
-  free_leaves = either (free_refusals m (interrupt_number w)) (Served (free_served m (interrupt_number w))) (λ e. there)
-
-  -- by the number of the call
-  numbered : (k : ℕ) → call_number w ≡ k → LeavesCaller m (call_at k call_table m w) → LeavesCaller m (call m w)
-  unfolding call
-  numbered k n leaves =
-      subst (λ j. LeavesCaller m (unless_refused (any_refusals m w) (call_at j call_table m w))) (sym n)
-      (either (any_refusals m w) (call_at k call_table m w) leaves)
-
-  built_leaves : is_call_built w ≡ true → LeavesCaller m (call m w)
-  built_leaves built =
-      go (is_number_built (call_number w)) (call_number w == claim_interrupt) (call_number w == free_interrupt) (not (interrupt_number w == TIMER_INTERRUPT)) refl refl refl built
-    where
-      go : (a b d e : Bool) → is_number_built (call_number w) ≡ a → (call_number w == claim_interrupt) ≡ b → (call_number w == free_interrupt) ≡ d
-          → (a || ((b && e) || d)) ≡ true → LeavesCaller m (call m w)
-      go true b d e p q r h = number_leaves p
-      go false true d e p q r h = numbered claim_interrupt (eqb-true (call_number w) claim_interrupt q) claim_leaves
-      go false false true e p q r h = numbered free_interrupt (eqb-true (call_number w) free_interrupt r) free_leaves
-      go false false false e p q r h = absurd (false≢true h)
-
-  -- a served caller is there, unless its process died
-  pub served_there : (change : Change) → is_call_built w ≡ true → Served change ≡ call m w → change.gone ≡ None → is_some (change.machine.threads m.cursor) ≡ true
-  served_there change built e = subst (LeavesCaller m) (sym e) (built_leaves built)
+  -- a served caller is there
+  pub served_there : (change : Change) → is_plain_call w ≡ true → Served change ≡ call m w → is_some (change.machine.threads m.cursor) ≡ true
+  served_there change plain e = subst (LeavesCaller m) (sym e) (plain_leaves plain)

@@ -1,10 +1,11 @@
 -- The calls that make a server and connect to one: what their parts hold is what the machine has.
-use Rattle.std.proofs.Common.{◌≡◌, ℕ, ◌+◌, Bool, true, false, not, List, [], ◌∷◌, length, map, get_or, Option, Some, None, refl, sym, ap, ◌∙◌, arith, nat_eq, subst, inl, inr}
-use Rattle.std.specs.Prelude.{◌==◌, if◌then◌else◌, is_none, is_some, unwrap_or, All, Result, Ok, Err}
+use Rattle.std.proofs.Common.{◌≡◌, ℕ, ◌+◌, Bool, true, false, not, List, [], ◌∷◌, length, map, Option, Some, None, refl, sym, ap, ◌∙◌, arith, nat_eq, subst}
+use Rattle.std.specs.Prelude.{◌<◌, ◌==◌, if◌then◌else◌, is_none, is_some, unwrap_or, Result, Ok, Err}
 use Rattle.std.specs.Option.{option_map}
-use Rattle.std.proofs.lemmas.Bool.{cases_lt, false≢true}
-use Rattle.std.proofs.lemmas.List.{get_or_past}
-use Rattle.std.proofs.lemmas.Option.{none-some}
+use Rattle.std.proofs.lemmas.Bool.{false≢true, ne_eqb}
+use Rattle.std.proofs.lemmas.Option.{none-some, same_Some}
+use Rattle.kill_path.proofs.FitLemmas.{open_loans, servers_of_matched}
+use Rattle.ledger_model.specs.Loans.{loans}
 use Rattle.xk_base.specs.declared.errors.XousError.{XousError}
 use Rattle.xk_base.specs.declared.errors.XousError.TheVariants.{InvalidLimit, ServerExists, ServerNotFound}
 use Rattle.xk_base.specs.declared.ids.Cid.{Cid}
@@ -14,25 +15,33 @@ use Rattle.xk_base.specs.declared.limits.TheConstants.{SERVER_LIMIT}
 use Rattle.xk_base.specs.Tables.Connections.{cid_for, connected, has_room}
 use Rattle.xk_base.specs.Tables.Counting.{count_below, least_below}
 use Rattle.xk_base.specs.Tables.RowMap.{row_map}
-use Rattle.xk_base.proofs.CountingLemmas.{least_below-none}
+use Rattle.xk_base.proofs.CountingLemmas.{least_below-bound, least_below-none, least_below-passes}
 use Rattle.xk_base.specs.Tables.Sids.{serial_of, serial_with}
 use Rattle.machine_model.specs.Calling.ServerCalls.{connect_refusals, connect_served, create_server_refusals, create_server_served, is_missing, new_serial, new_server, with_server as machine_with_server}
+use Rattle.machine_laws.proofs.Serving.NewServerLemmas.{server_settles}
+use Rattle.machine_laws.proofs.Threading.ThreadAnswerLemmas.{ready_lives}
+use Rattle.machine_model.specs.Runs.Matched.{AreLoansMatched, Matched}
 use Rattle.machine_model.specs.State.Changes.{Outcome, Refused, Retried, Served, answering, unless_refused, unless_retried}
 use Rattle.machine_model.specs.State.Connections.{connect_caller, own_connections}
 use Rattle.machine_model.specs.State.Machine.{Machine}
+use Rattle.machine_model.specs.State.Order.{ready_at}
 use Rattle.machine_model.specs.State.Servers.{live_servers, with_sid as machine_with_sid}
 use Rattle.machine_model.specs.State.Threads.{answer_to}
-use Rattle.msg_queue.specs.declared.held.Held.{Held as HeldMessage}
-use Rattle.msg_queue.specs.Seats.{Seat, empty_seat, message_of, seat_of, used_of}
+use Rattle.msg_queue.specs.Seats.{Seat, empty_seat, message_of, seat_of}
 use Rattle.process_table.specs.ProcessMap.{change, connections_of}
 use Rattle.process_table.specs.ProcessesOf.{process_count, processes_of}
 use Rattle.process_table.specs.State.{ProcessState, connection, with_connection}
 use Rattle.process_table.specs.declared.table.Processes.{Processes}
+use Rattle.send_path.proofs.Servers.SeatSearchLemmas.{seat_found}
 use Rattle.send_path.specs.Parts.{process_of, server_of}
+use Rattle.send_path.specs.Seats.{HasNoServer}
+use Rattle.send_path.specs.Sound.{AreLoansAt, AreLoansSound, AreSeatsSound}
 use Rattle.server_table.specs.ServersOf.{servers_of}
-use Rattle.server_table.specs.ServerState.{Server as TableServer, ServerState, free_seat, live_count, made_answer, with_server, with_sid}
+use Rattle.server_table.specs.ServerState.{Server as TableServer, ServerState, at_seat, free_seat, live_count, made_answer, with_server, with_sid}
 use Rattle.server_table.specs.declared.table.Servers.{Servers}
 use Rattle.server_table.proofs.AnsweredLemmas.{free_seat_is, full, state}
+use Rattle.server_table.proofs.Lemmas.{live_below}
+use Rattle.vm_memory.specs.Memory.{ledger}
 use Rattle.sv32_space.specs.Tie.{Held}
 use Rattle.xk_base.specs.Calls.Replies.{connection_words, new_server_words}
 use Rattle.xk_kernel.specs.Calling.{connected_outcome}
@@ -63,21 +72,6 @@ same_sids seats (Some s) = refl
 same_live : (seats : List Seat) (o : Option TableServer) → is_some (option_map (server_of seats) o) ≡ is_some o
 same_live seats None = refl
 same_live seats (Some s) = refl
-
-at_or_default : {X : Type 0} (P : X → Type 0) (xs : List X) → All P xs → (d : X) → P d → (k : ℕ) → P (get_or xs k d)
-at_or_default P xs all d p k = elim (cases_lt k (length xs)) [
-  | inl low ↦ all k d low
-  | inr high ↦ subst P (sym (get_or_past xs k d high)) p
-]
-
--- a seat without a message shows none
-no_message : (seat : Seat) → used_of seat ≡ 0 → seat ≡ empty_seat
-no_message seat e = go seat.queued seat.held e
-  where
-    go : (queued holds : List HeldMessage) → length queued + length holds ≡ 0 → record { queued = queued; held = holds } ≡ empty_seat
-    go [] [] e = refl
-    go [] (h ∷ hs) e = absurd (omega arith)
-    go (q ∷ qs) hs e = absurd (omega arith)
 
 module _ {W : Type 0} (held : W → Held) (k : Kernel W) where
   pub connections_told : connections_of (processes_of k.procs k.cursor.pid.0) ≡ own_connections (machine_of held k)
@@ -114,18 +108,24 @@ module _ {W : Type 0} (slot_count : W → ℕ) (held : W → Held) (k : Kernel W
     procs = n ∙ whole.procs;
     cursor = whole.cursor;
     room = whole.room;
-    unlent = whole.unlent;
-    no_messages = whole.no_messages;
-    untimed = whole.untimed;
+    servers = whole.servers;
   }
 
-  -- no seat has a message
-  empty_there : (seat : ℕ) → seat_of k.queues seat ≡ empty_seat
-  empty_there seat = no_message (seat_of k.queues seat) (at_or_default (λ s. used_of s ≡ 0) k.queues whole.no_messages empty_seat refl seat)
+  -- a free seat is that of no server, and has no message
+  no_server : (seat : ℕ) → free_seat (servers_of k.servers) ≡ Some seat → HasNoServer (servers_of k.servers) seat
+  no_server seat free serial server live same =
+      let none : is_none (at_seat seat (servers_of k.servers)) ≡ true =
+      least_below-passes SERVER_LIMIT (λ j. is_none (at_seat j (servers_of k.servers))) seat free in
+      false≢true (sym (ap (λ j. is_none (at_seat j (servers_of k.servers))) (sym same) ∙ ap is_none (seat_found k.servers serial server live)) ∙ none)
 
-  shown_new : (sid : Sid) (seat : ℕ) → server_of k.queues (record { sid = sid; pid = k.cursor.pid; seat = seat })
-      ≡ record { sid = sid; pid = k.cursor.pid; queued = []; held = [] }
-  shown_new sid seat = λ i. record { sid = sid; pid = k.cursor.pid; queued = map message_of (empty_there seat i).queued; held = map message_of (empty_there seat i).held }
+  empty_there : (seat : ℕ) → free_seat (servers_of k.servers) ≡ Some seat → seat_of k.queues seat ≡ empty_seat
+  empty_there seat free =
+      whole.servers.messages.seats.empty seat (least_below-bound SERVER_LIMIT (λ j. is_none (at_seat j (servers_of k.servers))) seat free) (no_server seat free)
+
+  shown_new : (sid : Sid) (seat : ℕ) → free_seat (servers_of k.servers) ≡ Some seat
+      → server_of k.queues (record { sid = sid; pid = k.cursor.pid; seat = seat }) ≡ record { sid = sid; pid = k.cursor.pid; queued = []; held = [] }
+  shown_new sid seat free = λ i.
+      record { sid = sid; pid = k.cursor.pid; queued = map message_of (empty_there seat free i).queued; held = map message_of (empty_there seat free i).held }
 
   shown_at : (b : Bool) (new : TableServer) (o : Option TableServer) → option_map (server_of k.queues) (if b then Some new else o)
       ≡ (if b then Some (server_of k.queues new) else option_map (server_of k.queues) o)
@@ -143,21 +143,66 @@ module _ {W : Type 0} (slot_count : W → ℕ) (held : W → Held) (k : Kernel W
       λ i. record (machine_of held k) {
         servers = λ n. (ap (λ (s : ServerState). option_map (server_of k.queues) (s.live n)) made
             ∙ shown_at (nat_eq n (servers_of k.servers).next) (record { sid = sid; pid = k.cursor.pid; seat = seat }) ((servers_of k.servers).live n)
-            ∙ ap (λ s. if nat_eq n (servers_of k.servers).next then Some s else option_map (server_of k.queues) ((servers_of k.servers).live n)) (shown_new sid seat)) i;
+            ∙ ap (λ s. if nat_eq n (servers_of k.servers).next then Some s else option_map (server_of k.queues) ((servers_of k.servers).live n)) (shown_new sid seat f)) i;
         next_serial = (made i).next;
       }
 
-  pub served_whole : (servers : Servers) → IsWhole slot_count held (record k { servers = servers })
-  served_whole servers = record {
-    mem = whole.mem;
-    threads = whole.threads;
-    procs = whole.procs;
-    cursor = whole.cursor;
-    room = whole.room;
-    unlent = whole.unlent;
-    no_messages = whole.no_messages;
-    untimed = whole.untimed;
-  }
+  module _ (servers : Servers) (sid : Sid) (seat : ℕ) (free : free_seat (servers_of k.servers) ≡ Some seat)
+      (made : servers_of servers ≡ with_server sid k.cursor.pid (free_seat (servers_of k.servers)) (servers_of k.servers)) where
+    abbrev the_new : TableServer
+    the_new = record { sid = sid; pid = k.cursor.pid; seat = seat }
+
+    made_at : servers_of servers ≡ with_server sid k.cursor.pid (Some seat) (servers_of k.servers)
+    made_at = made ∙ ap (λ o. with_server sid k.cursor.pid o (servers_of k.servers)) free
+
+    live_now : (n : ℕ) (b : Bool) → nat_eq n (servers_of k.servers).next ≡ b
+        → (servers_of servers).live n ≡ (if b then Some the_new else (servers_of k.servers).live n)
+    live_now n b e = ap (λ (s : ServerState). s.live n) made_at ∙ ap (λ c. if c then Some the_new else (servers_of k.servers).live n) e
+
+    -- who was alive is
+    still_live : (n : ℕ) (server : TableServer) → (servers_of k.servers).live n ≡ Some server → (servers_of servers).live n ≡ Some server
+    still_live n server live =
+        let below : n < (servers_of k.servers).next = live_below k.servers n server live in
+        live_now n false (ne_eqb n (servers_of k.servers).next (λ same. absurd (omega arith))) ∙ live
+
+    seats_made : AreSeatsSound (servers_of servers) k.queues
+    seats_made =
+        let old = whole.servers.messages.seats in
+        record {
+          all = old.all;
+          empty = λ j low none. old.empty j low (λ n server live same. none n server (still_live n server live) same);
+          loans = old.loans;
+        }
+
+    loans_made : AreLoansSound (loans (ledger held k.mem)) (servers_of servers) k.queues
+    loans_made n server live = go (nat_eq n (servers_of k.servers).next) refl
+      where
+        go : (b : Bool) → nat_eq n (servers_of k.servers).next ≡ b → AreLoansAt (loans (ledger held k.mem)) server.pid (seat_of k.queues server.seat)
+        go true e =
+            subst (λ (s : TableServer). AreLoansAt (loans (ledger held k.mem)) s.pid (seat_of k.queues s.seat))
+            (same_Some the_new server (sym (live_now n true e) ∙ live))
+            (subst (AreLoansAt (loans (ledger held k.mem)) k.cursor.pid) (sym (empty_there seat free)) (λ j d low. absurd (omega arith)))
+        go false e = open_loans (loans (ledger held k.mem)) k.servers k.queues whole.servers.messages n server (sym (live_now n false e) ∙ live)
+
+    -- .. and the kernel is whole with it, as the machine with it is matched
+    pub served_whole : Matched (machine_of held k) → ready_at (machine_of held k) k.cursor ≡ true → is_some (machine_with_sid (machine_of held k) sid) ≡ false
+        → (live_servers (machine_of held k) == SERVER_LIMIT) ≡ false → IsWhole slot_count held (record k { servers = servers })
+    unfolding machine_of
+    served_whole matched ready fresh few =
+        let m : Machine = machine_of held k in
+        let settles = server_settles m matched sid (record { live = ready_lives m matched k.cursor ready; fresh = fresh; room = few }) in
+        let shown : machine_with_server (new_server m sid) m ≡ machine_of held (record k { servers = servers }) = sym (machine_served servers sid seat free made) in
+        record {
+          mem = whole.mem;
+          threads = whole.threads;
+          procs = whole.procs;
+          cursor = whole.cursor;
+          room = whole.room;
+          servers =
+              servers_of_matched (record (machine_with_server (new_server m sid) m) { steps = m.steps + 1 }) settles servers k.queues
+              (ap (λ (x : Machine). x.servers) shown) seats_made (loans (ledger held k.mem))
+              (subst (λ (x : Machine). AreLoansMatched (loans (ledger held k.mem)) x.servers) shown settles.body.loans) loans_made;
+        }
 
 -- ---- lists of refusals
 

@@ -3,7 +3,7 @@ use Rattle.std.proofs.Common.{◌≡◌, ℕ, ◌<◌, Bool, true, false, inl, i
 use Rattle.std.specs.Prelude.{◌≢◌, is_some, unwrap_or, if◌then◌else◌, Option}
 use Rattle.std.specs.Option.{option_map}
 use Rattle.std.proofs.lemmas.Bool.{cases_lt}
-use Rattle.std.proofs.lemmas.List.{append-nil, append_assoc}
+use Rattle.std.proofs.lemmas.List.{append_assoc}
 use Rattle.machine_laws.proofs.Threading.ThreadAnswerLemmas.{same_thread-self, IsReadyThread, ready_thread}
 use Rattle.machine_laws.proofs.Threading.ThreadPutLemmas.{alike}
 use Rattle.machine_model.specs.State.Changes.{Outcome, Refused, Retried, Served, Told, answering, call_settled, only, replies, settled, with_refusal}
@@ -18,10 +18,9 @@ use Rattle.xk_base.specs.Tables.Counting.{listed_below}
 use Rattle.xk_base.specs.Log.{LogState}
 use Rattle.xk_base.specs.Calls.Replies.{refused_words}
 use Rattle.xk_base.specs.declared.errors.XousError.{XousError}
-use Rattle.xk_base.specs.declared.ids.Pid.{Pid}
 use Rattle.xk_base.specs.declared.ids.ThreadId.{ThreadId}
 use Rattle.xk_base.specs.declared.records.What.{What}
-use Rattle.xk_base.specs.declared.records.What.TheVariants.{Gone, Reply, Retry}
+use Rattle.xk_base.specs.declared.records.What.TheVariants.{Reply, Retry}
 use Rattle.xk_kernel.specs.State.{machine_of}
 use Rattle.xk_kernel.specs.Telling.{Tells, log_with}
 use Rattle.xk_kernel.specs.declared.kernel.Kernel.{Kernel}
@@ -101,14 +100,6 @@ waits_is m next o e =
     ap (call_settled m) (sym e)
     ∙ (λ i. record { machine = nobody_answered (change_thread m.cursor passed next) i; told = no_reply next.processes i ++ ([] ++ []) })
 
--- its process died
-pub died_is : (m next : Machine) (pid : Pid) (o : Outcome) → Served (record (only next) { gone = Some pid }) ≡ o
-    → call_settled m o ≡ record { machine = change_thread m.cursor passed next; told = Gone pid ∷ [] }
-unfolding call_settled settled
-died_is m next pid o e =
-    ap (call_settled m) (sym e)
-    ∙ (λ i. record { machine = nobody_answered (change_thread m.cursor passed next) i; told = no_reply next.processes i ++ ([] ++ Gone pid ∷ []) })
-
 -- the call will be made again: the turn ends
 pub retried_is : (m : Machine) (o : Outcome) → Retried ≡ o → call_settled m o ≡ record { machine = turn m; told = Retry m.cursor ∷ [] }
 unfolding call_settled
@@ -159,17 +150,22 @@ ready_there m who ready = ap is_some (ready_thread m who ready).there
 
 -- ---- the log tells it all
 
--- a log of one record, with nothing besides
-pub unlogged : (first : What) (log : LogState) → log_with (first ∷ []) log ≡ log_with [] (log_with (first ∷ []) log)
-unlogged first log = ap (λ records. record log { records = records }) (sym (append-nil _))
+module _ {W : Type 0} (held : W → Held) (old new : Kernel W) where
+  -- the log tells this, and the machine is that one
+  pub tells_so : (done : Told) (machine : Machine) (told : List What) → done ≡ record { machine = machine; told = told } → machine_of held new ≡ machine
+      → new.log ≡ log_with told old.log → Tells held old new done
+  tells_so done machine told is same log = record {
+    machine = same ∙ sym (ap (λ (d : Told). d.machine) is);
+    log = log ∙ sym (ap (λ (d : Told). log_with d.told old.log) is);
+  }
 
-pub told_so : {W : Type 0} (held : W → Held) (old new : Kernel W) (first : What) (done : Told) (machine : Machine) (told : List What)
-    → done ≡ record { machine = machine; told = told } → machine_of held new ≡ machine → new.log ≡ log_with told (log_with (first ∷ []) old.log)
-    → Tells held old new (after first done)
-told_so held old new first done machine told is same log = record {
-  machine = same ∙ sym (ap (λ (d : Told). d.machine) is);
-  log = log ∙ joined ∙ sym (ap (λ (d : Told). log_with (first ∷ d.told) old.log) is);
-}
-  where
-    joined : log_with told (log_with (first ∷ []) old.log) ≡ log_with (first ∷ told) old.log
-    joined = ap (λ records. record old.log { records = records }) (append_assoc old.log.records _ _)
+  -- .. after a first record
+  pub tells_first : (first : What) (mid : Kernel W) (done : Told) → mid.log ≡ log_with (first ∷ []) old.log → Tells held mid new done → Tells held old new (after first done)
+  tells_first first mid done log tells = record {
+    machine = tells.machine;
+    log = tells.log ∙ ap (log_with done.told) log ∙ ap (λ records. record old.log { records = records }) (append_assoc old.log.records _ _);
+  }
+
+  -- .. and the room of the log stays
+  pub tells_room : (done : Told) → Tells held old new done → new.log.room ≡ old.log.room
+  tells_room done tells = ap (λ (log : LogState). log.room) tells.log

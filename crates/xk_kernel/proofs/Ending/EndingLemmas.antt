@@ -1,54 +1,31 @@
--- A thread ends: its joiners are answered, and with the last thread its process dies.
-use Rattle.std.proofs.Common.{◌≡◌, ℕ, Bool, true, false, List, [], ◌∷◌, ◌++◌, Option, Some, None, refl, sym, ap, ◌∙◌, append-nil}
-use Rattle.std.specs.Prelude.{◌==◌, ◌&&◌, nat_le, IsSome, is_some, if◌then◌else◌}
-use Rattle.std.specs.Option.{option_map, option_map_or}
+-- A thread ends, and another one of its process lives on: those who joined it are answered.
+use Rattle.std.proofs.Common.{◌≡◌, ℕ, Bool, true, false, [], ◌∷◌, Option, Some, None, refl, sym, ap, ◌∙◌}
+use Rattle.std.specs.Prelude.{◌==◌, ◌&&◌, IsSome, if◌then◌else◌}
+use Rattle.std.specs.Option.{option_map_or}
 use Rattle.std.proofs.lemmas.Bool.{false≢true}
 use Rattle.machine_laws.proofs.Threading.ThreadAnswerLemmas.{IsReadyThread, ready_thread}
-use Rattle.machine_model.specs.State.Changes.{Change, Told, answering, replies, settled}
-use Rattle.machine_model.specs.Ending.Ends.{end_with_last_thread, forgotten, has_threads, is_joining, joiners_answered, thread_ended, waits_for_end}
+use Rattle.machine_model.specs.State.Changes.{Change, Told, answering, settled}
+use Rattle.machine_model.specs.Ending.Ends.{end_with_last_thread, has_threads, is_joining, joiners_answered, thread_ended, waits_for_end}
 use Rattle.machine_model.specs.State.Machine.{Machine, Thread}
 use Rattle.machine_model.specs.State.Order.{is_ready, ready_at}
 use Rattle.machine_model.specs.Stepping.Step.{after}
-use Rattle.machine_model.specs.State.Threads.{Answers, both_answers, give_answers, put_thread, thread_id, with_answer}
+use Rattle.machine_model.specs.State.Threads.{Answers, both_answers, put_thread}
 use Rattle.sv32_space.specs.Tie.{Held}
 use Rattle.thread_table.proofs.PlaceLemmas.{same_thread-true}
 use Rattle.thread_table.specs.ThreadsOf.{threads_of}
 use Rattle.thread_table.specs.declared.table.Threads.{Threads}
-use Rattle.xk_base.proofs.CountingLemmas.{least_below-same}
 use Rattle.xk_base.specs.Tables.Circle.{same_thread}
 use Rattle.xk_base.specs.Tables.Counting.{put_at}
 use Rattle.xk_base.specs.Log.{LogState}
 use Rattle.xk_base.specs.Calls.Replies.{scalar1_words}
-use Rattle.xk_base.specs.declared.ids.Pid.{Pid}
 use Rattle.xk_base.specs.declared.ids.ThreadId.{ThreadId}
-use Rattle.xk_base.specs.declared.records.What.TheVariants.{End, Gone}
-use Rattle.xk_kernel.specs.Alone.{DiesPlainly, EndsPlainly}
+use Rattle.xk_base.specs.declared.records.What.TheVariants.{End}
 use Rattle.xk_kernel.specs.State.{machine_of}
 use Rattle.xk_kernel.specs.Telling.{Tells, log_with}
 use Rattle.xk_kernel.specs.declared.kernel.Kernel.{Kernel}
 use Rattle.xk_kernel.proofs.Calling.LogLemmas.{log_with-next}
 use Rattle.xk_kernel.proofs.Calling.ReplyLemmas.{both_with_none}
 use Rattle.xk_kernel.proofs.Acting.ThreadLemmas.{in_table, machine_of_log, machine_put}
-
--- ---- answers, and what they leave
-
-still_there : (x : Option (List ℕ)) (o : Option Thread) → is_some (option_map (with_answer x) o) ≡ is_some o
-still_there x None = refl
-still_there x (Some t) = refl
-
-has_threads-answered : (answers : Answers) (m : Machine) (pid : Pid) → has_threads (give_answers answers m) pid ≡ has_threads m pid
-unfolding has_threads
-has_threads-answered answers m pid =
-    ap is_some (least_below-same 32 _ _ (λ tid l. ap (λ b. nat_le 2 tid && b) (still_there (answers (thread_id pid tid)) (m.threads (thread_id pid tid)))))
-
--- the process is forgotten before or after its threads are answered
-gone_either : (b : Bool) (x : Option (List ℕ)) (o : Option Thread) → (if b then None else option_map (with_answer x) o) ≡ option_map (with_answer x) (if b then None else o)
-gone_either true x o = refl
-gone_either false x o = refl
-
-forgotten-answered : (answers : Answers) (m : Machine) (pid : Pid) → forgotten pid (give_answers answers m) ≡ give_answers answers (forgotten pid m)
-unfolding forgotten
-forgotten-answered answers m pid = λ i. record (forgotten pid m) { threads = λ id. gone_either (id.pid.0 == pid.0) (answers id) (m.threads id) i }
 
 -- ---- the end in the machine
 
@@ -89,24 +66,6 @@ module _ (m : Machine) (who : ThreadId) (a0 : ℕ) where
       ap (λ b. settled (with_joiners (end_with_last_thread b who.pid without))) e
       ∙ ap (λ a. settled (answering a without)) (both_with_none joiners)
 
-  abbrev last_told : Told
-  last_told = record {
-    machine = give_answers joiners (forgotten who.pid without);
-    told = replies m.processes joiners ++ ([] ++ Gone who.pid ∷ []);
-  }
-
-  settled_last : settled (record (answering joiners (forgotten who.pid without)) { gone = Some who.pid }) ≡ last_told
-  unfolding settled forgotten
-  settled_last = refl
-
-  ended_last : has_threads without who.pid ≡ false → DiesPlainly who.pid without → settled (thread_ended who a0 m) ≡ last_told
-  unfolding thread_ended
-  ended_last e plain =
-      ap (λ b. settled (with_joiners (end_with_last_thread b who.pid without))) e
-      ∙ ap (λ left. settled (with_joiners left)) plain
-      ∙ ap (λ a. settled (record (answering a (forgotten who.pid without)) { gone = Some who.pid })) (both_with_none joiners)
-      ∙ settled_last
-
 -- ---- the end in the kernel
 
 module _ {W : Type 0} (held : W → Held) (old : Kernel W) (first : LogState) (threads : Threads) (who : ThreadId) (a0 : ℕ) where
@@ -144,39 +103,12 @@ module _ {W : Type 0} (held : W → Held) (old : Kernel W) (first : LogState) (t
         log_with-next (End who ∷ []) _ old.log first new.log h.pushed h.tells.log
         ∙ ap (λ (t : Told). log_with (End who ∷ t.told) old.log) answered_is
 
-    threads_left : has_threads (put_thread who None m) who.pid ≡ has_threads (machine_of held new) who.pid
-    unfolding settled
-    threads_left =
-        sym (ap (λ x. has_threads x who.pid) machine_is ∙ has_threads-answered (joiners_answered m who a0) (put_thread who None m) who.pid)
-
-    pub end_with_others : has_threads (machine_of held new) who.pid ≡ true → Tells held old new (after (End who) (settled (thread_ended who a0 m)))
+    pub end_with_others : has_threads (put_thread who None m) who.pid ≡ true → Tells held old new (after (End who) (settled (thread_ended who a0 m)))
     end_with_others others =
-        let e : settled (thread_ended who a0 m) ≡ answered = ended_others m who a0 (threads_left ∙ others) in
+        let e : settled (thread_ended who a0 m) ≡ answered = ended_others m who a0 others in
         record {
           machine = machine_is ∙ sym (ap (λ (t : Told). t.machine) e);
           log = log_is ∙ sym (ap (λ (t : Told). log_with (End who ∷ t.told) old.log) e);
-        }
-
-    -- the machine and the log of the last end
-    forgets : forgotten who.pid answered.machine ≡ (last_told m who a0).machine
-    unfolding settled
-    forgets = forgotten-answered (joiners_answered m who a0) (put_thread who None m) who.pid
-
-    gone_told : (End who ∷ answered.told) ++ Gone who.pid ∷ [] ≡ End who ∷ (last_told m who a0).told
-    unfolding settled
-    gone_told = ap (λ x. End who ∷ (x ++ Gone who.pid ∷ [])) (append-nil (replies m.processes (joiners_answered m who a0)))
-
-    pub end_with_process : (dead : Kernel W) (last : LogState) → has_threads (machine_of held new) who.pid ≡ false → EndsPlainly who m
-        → machine_of held dead ≡ forgotten who.pid (machine_of held new) → dead.log ≡ new.log → last ≡ log_with (Gone who.pid ∷ []) dead.log
-        → Tells held old (record dead { log = last }) (after (End who) (settled (thread_ended who a0 m)))
-    end_with_process dead last alone plain forgot same gone =
-        let e : settled (thread_ended who a0 m) ≡ last_told m who a0 = ended_last m who a0 (threads_left ∙ alone) (plain (threads_left ∙ alone)) in
-        record {
-          machine = machine_of_log held dead last ∙ forgot ∙ ap (forgotten who.pid) machine_is ∙ forgets ∙ sym (ap (λ (t : Told). t.machine) e);
-          log =
-              log_with-next (End who ∷ answered.told) (Gone who.pid ∷ []) old.log dead.log last (same ∙ log_is) gone
-              ∙ ap (λ told. log_with told old.log) gone_told
-              ∙ sym (ap (λ (t : Told). log_with (End who ∷ t.told) old.log) e);
         }
 
 -- ---- the thread whose turn it is

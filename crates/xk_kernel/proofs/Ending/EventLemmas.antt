@@ -1,17 +1,17 @@
 -- What a pick and a kill do, and that a kernel stays sound.
-use Rattle.std.proofs.Common.{◌≡◌, ℕ, ◌≤◌, Bool, true, false, [], ◌∷◌, ◌++◌, map, Option, Some, None, refl, sym, ap, subst, ◌∙◌}
-use Rattle.std.specs.Prelude.{IsTrue, ◌||◌, not}
+use Rattle.std.proofs.Common.{◌≡◌, ℕ, ◌≤◌, Bool, true, false, [], Option, Some, None, refl, sym, ap, subst, ◌∙◌}
+use Rattle.std.specs.Prelude.{IsTrue}
 use Rattle.machine_laws.proofs.Dying.DeathLemmas.{kill_keeps}
 use Rattle.machine_laws.proofs.Interrupting.IrqDeliveryLemmas.{irq_keeps}
 use Rattle.machine_laws.proofs.Threading.ThreadMoveLemmas.{matched_reserved}
 use Rattle.machine_model.proofs.Runs.KeptLemmas.{pick_keeps}
-use Rattle.machine_model.specs.State.Changes.{Change, settled}
-use Rattle.machine_model.specs.Ending.Ends.{forgotten}
+use Rattle.machine_model.specs.State.Changes.{Told, settled}
+use Rattle.machine_model.specs.Ending.Ends.{death}
 use Rattle.machine_model.specs.Stepping.Events.{at_event, killed, killed_if, nothing, picked, raised}
 use Rattle.machine_model.specs.State.Machine.{Machine}
 use Rattle.machine_model.specs.Stepping.Reservations.{unreserved}
 use Rattle.machine_model.specs.Runs.Matched.{Matched}
-use Rattle.machine_model.specs.Stepping.Step.{Recorded, record_of}
+use Rattle.machine_model.specs.Stepping.Step.{Recorded}
 use Rattle.process_table.specs.ProcessesOf.{processes_of}
 use Rattle.process_table.specs.ProcessMap.{is_alive}
 use Rattle.process_table.specs.State.{ProcessState}
@@ -22,17 +22,12 @@ use Rattle.xk_base.specs.Log.{LogState}
 use Rattle.xk_base.specs.declared.ids.Pid.{Pid}
 use Rattle.xk_base.specs.declared.ids.ThreadId.{ThreadId}
 use Rattle.xk_base.specs.declared.limits.TheConstants.{RECORD_LIMIT}
-use Rattle.xk_base.specs.declared.records.What.TheVariants.{Gone}
-use Rattle.xk_kernel.specs.Alone.{DiesPlainly, is_alone}
-use Rattle.xk_kernel.specs.Built.{kill_built}
 use Rattle.xk_kernel.specs.Sound.{IsSound, IsUsable, IsWhole}
 use Rattle.send_path.specs.Parts.{process_of}
 use Rattle.xk_kernel.specs.State.{machine_of}
 use Rattle.xk_kernel.specs.Stepping.{Becomes}
-use Rattle.xk_kernel.specs.Telling.{log_with}
+use Rattle.xk_kernel.specs.Telling.{Tells, log_with}
 use Rattle.xk_kernel.specs.declared.kernel.Kernel.{Kernel}
-use Rattle.xk_kernel.proofs.Ending.AloneLemmas.{alone_death}
-use Rattle.xk_kernel.proofs.Calling.SettleLemmas.{nobody_answered, no_reply}
 
 -- a whole kernel is whole with another log of as much room
 pub pushed_whole : {W : Type 0} (slot_count : W → ℕ) (held : W → Held) (k : Kernel W) (log : LogState) → IsWhole slot_count held k → log.room ≡ k.log.room
@@ -43,9 +38,7 @@ pushed_whole slot_count held k log whole e = record {
   procs = whole.procs;
   cursor = whole.cursor;
   room = subst (λ room. RECORD_LIMIT ≤ room) (sym e) whole.room;
-  unlent = whole.unlent;
-  no_messages = whole.no_messages;
-  untimed = whole.untimed;
+  servers = whole.servers;
 }
 
 -- .. and with no reservation
@@ -56,26 +49,20 @@ unreserved_whole slot_count held k whole = record {
   procs = whole.procs;
   cursor = whole.cursor;
   room = whole.room;
-  unlent = whole.unlent;
-  no_messages = whole.no_messages;
-  untimed = whole.untimed;
+  servers = whole.servers;
 }
 
 -- ---- a process that lives
 
-alive_of : (o : Option ProcessState) → (process_of o).alive ≡ is_alive o
+pub alive_of : (o : Option ProcessState) → (process_of o).alive ≡ is_alive o
 alive_of None = refl
 alive_of (Some p) = refl
 
 -- ---- a kill
 
-killed_is : (m : Machine) (pid : Pid) → DiesPlainly pid (unreserved m) → (m.process pid.0).alive ≡ true
-    → killed pid m ≡ record { machine = forgotten pid (unreserved m); records = record_of m.steps (Gone pid) ∷ [] }
-unfolding killed settled forgotten
-killed_is m pid plain alive =
-    ap (λ b. killed_if b pid (unreserved m)) alive
-    ∙ ap (λ (change : Change). at_event m.steps (settled change)) plain
-    ∙ (λ i. record { machine = nobody_answered (forgotten pid (unreserved m)) i; records = map (record_of m.steps) (no_reply m.processes i ++ ([] ++ Gone pid ∷ [])) })
+killed_is : (m : Machine) (pid : Pid) → (m.process pid.0).alive ≡ true → killed pid m ≡ at_event m.steps (settled (death pid (unreserved m)))
+unfolding killed
+killed_is m pid alive = ap (λ b. killed_if b pid (unreserved m)) alive
 
 spared : (m : Machine) (pid : Pid) → (m.process pid.0).alive ≡ false → killed pid m ≡ nothing (unreserved m)
 unfolding killed
@@ -121,22 +108,23 @@ module _ {W : Type 0} (slot_count : W → ℕ) (held : W → Held) (old new : Ke
   unfolding machine_of
   known pid alive = left_matched.body.processes.pids pid alive
 
-  -- one that lives, and whose kill is built, dies plainly
-  plainly : (pid : Pid) → ((machine_of held old).process pid.0).alive ≡ true → kill_built pid (machine_of held old) ≡ true
-      → DiesPlainly pid (unreserved (machine_of held old))
-  plainly pid alive built =
-      alone_death (unreserved (machine_of held old)) (matched_reserved (machine_of held old) left_matched None) pid
-      (sym (ap (λ b. not b || is_alone pid (machine_of held old)) alive) ∙ built)
+  -- it may be killed
+  abbrev dying : LogState → Kernel W
+  dying log = record old { log = log; reserved = None }
 
-  pub killed_done : (pid : Pid) → ((machine_of held old).process pid.0).alive ≡ true → kill_built pid (machine_of held old) ≡ true → machine_of held new ≡ forgotten pid (unreserved (machine_of held old))
-      → new.log ≡ log_with (Gone pid ∷ []) begun → Becomes held new (killed pid (machine_of held old))
+  pub dying_matched : (log : LogState) → Matched (machine_of held (dying log))
   unfolding machine_of
-  killed_done pid alive built machine log =
-      let is : killed pid (machine_of held old) ≡ record { machine = forgotten pid (unreserved (machine_of held old)); records = record_of old.steps (Gone pid) ∷ [] } =
-      killed_is (machine_of held old) pid (plainly pid alive built) alive in
+  dying_matched log = matched_reserved (machine_of held old) left_matched None
+
+  pub killed_done : (pid : Pid) (log : LogState) → ((machine_of held old).process pid.0).alive ≡ true → log ≡ begun
+      → Tells held (dying log) new (settled (death pid (machine_of held (dying log)))) → Becomes held new (killed pid (machine_of held old))
+  unfolding machine_of
+  killed_done pid log alive e tells =
+      let told : Told = settled (death pid (unreserved (machine_of held old))) in
+      let is : killed pid (machine_of held old) ≡ at_event old.steps told = killed_is (machine_of held old) pid alive in
       record {
-        machine = machine ∙ sym (ap (λ (s : Recorded). s.machine) is);
-        records = ap (λ (l : LogState). l.records) log ∙ sym (ap (λ (s : Recorded). s.records) is);
+        machine = tells.machine ∙ sym (ap (λ (s : Recorded). s.machine) is);
+        records = ap (λ (l : LogState). l.records) (tells.log ∙ ap (log_with told.told) e) ∙ sym (ap (λ (s : Recorded). s.records) is);
       }
 
   pub spared_done : (pid : Pid) (log : LogState) → ((machine_of held old).process pid.0).alive ≡ false → log ≡ begun

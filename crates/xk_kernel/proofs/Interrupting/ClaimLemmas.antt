@@ -86,16 +86,16 @@ module _ {W : Type 0} (held : W → Held) (k : Kernel W) (new : Claims) (n : ℕ
       same : put_at nat_eq m.pending n claim.pending ≡ m.pending
       same = put_same m.pending claim.pending (ap pending_of none ∙ sym quiet)
 
-  -- nobody claims the number any more
-  pub freed : PutsClaim None
-      → machine_of held with_claims
+  -- nobody claims the number any more, and the timer is disarmed where it is its own
+  pub freed : (timer : Option ℕ) → timer ≡ disarmed_if (n == TIMER_INTERRUPT) k.timer → PutsClaim None
+      → machine_of held (record k { claims = new; timer = timer })
       ≡ record m {
         claims = put_at nat_eq m.claims n None;
         pending = put_at nat_eq m.pending n false;
         compare = disarmed_if (n == TIMER_INTERRUPT) m.compare;
       }
   unfolding machine_of
-  freed e = put_claim None e
+  freed timer disarmed e = λ i. record (put_claim None e i) { compare = disarmed i }
 
   -- the number is pending, or isn't any more
   pub pending_put : (claim : TableClaim) (pending : Bool) → claims_of k.claims n ≡ Some claim → PutsClaim (Some (with_pending pending claim))
@@ -190,9 +190,10 @@ module _ {W : Type 0} (held : W → Held) (k : Kernel W) (n : ℕ) where
   unfolding machine_of
   free_refused error (none, is) = ap Refused is ∙ free_row_is false (is_of_claim k.cursor.pid (claims_of k.claims n) ∙ none)
 
-  pub free_accepted : (new : Claims) → is_of k.cursor.pid (claims_of k.claims n) ≡ true → claims_of new ≡ put_at nat_eq (claims_of k.claims) n None
-      → Served (answering (answer_to k.cursor plain_words) (machine_of held (record k { claims = new }))) ≡ free_row
+  pub free_accepted : (new : Claims) (timer : Option ℕ) → is_of k.cursor.pid (claims_of k.claims n) ≡ true
+      → claims_of new ≡ put_at nat_eq (claims_of k.claims) n None → timer ≡ disarmed_if (n == TIMER_INTERRUPT) k.timer
+      → Served (answering (answer_to k.cursor plain_words) (machine_of held (record k { claims = new; timer = timer }))) ≡ free_row
   unfolding machine_of
-  free_accepted new own e =
-      ap (λ x. Served (answering (answer_to k.cursor plain_words) x)) (freed held k new n e)
+  free_accepted new timer own e disarmed =
+      ap (λ x. Served (answering (answer_to k.cursor plain_words) x)) (freed held k new n timer disarmed e)
       ∙ free_row_is true (is_of_claim k.cursor.pid (claims_of k.claims n) ∙ own)

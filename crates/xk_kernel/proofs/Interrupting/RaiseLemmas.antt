@@ -49,12 +49,12 @@ lowest_pid : (m : Machine) (pid : Pid) (o : Option ℕ) (d : Delivery) → (deli
 lowest_pid m pid None d e = absurd (none-some d e)
 lowest_pid m pid (Some k) d e = started_pid m pid k (m.claims k) d e
 
-delivery_pid : (m : Machine) (pid : Pid) (d : Delivery) → (delivered pid m).delivery ≡ Some d → d.pid ≡ pid
+pub delivery_pid : (m : Machine) (pid : Pid) (d : Delivery) → (delivered pid m).delivery ≡ Some d → d.pid ≡ pid
 unfolding delivered
 delivery_pid m pid d e = lowest_pid m pid (if is_free_for_interrupt m pid then lowest_pending m pid else None) d e
 
 -- to the interrupt thread where a handler starts
-cursor_moves : (m : Machine) (pid : Pid) (cursor : ThreadId) (starts : Bool) → starts ≡ is_some (delivered pid m).delivery
+pub cursor_moves : (m : Machine) (pid : Pid) (cursor : ThreadId) (starts : Bool) → starts ≡ is_some (delivered pid m).delivery
     → (if starts then thread_id pid 1 else cursor) ≡ cursor_after (delivered pid m).delivery cursor
 cursor_moves m pid cursor starts e = go (delivered pid m).delivery refl
   where
@@ -63,20 +63,20 @@ cursor_moves m pid cursor starts e = go (delivered pid m).delivery refl
     go None q = ap (λ b. if b then thread_id pid 1 else cursor) (e ∙ ap is_some q)
     go (Some d) q = ap (λ b. if b then thread_id pid 1 else cursor) (e ∙ ap is_some q) ∙ ap (λ p. thread_id p 1) (sym (delivery_pid m pid d q))
 
-abbrev moved : Change → Told
+abbrev pub moved : Change → Told
 moved change = record {
   machine = record (settled change).machine { cursor = cursor_after change.delivery (settled change).machine.cursor };
   told = (settled change).told;
 }
 
-settled_next : (change : Change) → settled (with_handler_next change) ≡ moved change
+pub settled_next : (change : Change) → settled (with_handler_next change) ≡ moved change
 unfolding settled
 settled_next change = refl
 
 -- ---- an interrupt comes
 
 -- the claim of the process that the table answers
-claim_found : (o : Option TableClaim) (pid : Pid) → Some pid ≡ option_map (λ (c : TableClaim). c.pid) o
+pub claim_found : (o : Option TableClaim) (pid : Pid) → Some pid ≡ option_map (λ (c : TableClaim). c.pid) o
     → (claim : TableClaim) × (o ≡ Some claim) × (claim.pid ≡ pid)
 claim_found None pid e = absurd (none-some pid (sym e))
 claim_found (Some claim) pid e = (claim, refl, sym (same_Some pid claim.pid e))

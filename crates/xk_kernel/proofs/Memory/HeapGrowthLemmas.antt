@@ -3,7 +3,6 @@ use Rattle.std.proofs.Common.{◌≡◌, ℕ, ◌+◌, ◌/◌, ◌<◌, ◌≤�
 use Rattle.std.specs.Prelude.{◌%◌, Result, Ok, Err}
 use Rattle.std.proofs.lemmas.Bool.{false≢true, and_from, eqb-true, le-leb, lt-ltb}
 use Rattle.std.proofs.lemmas.List.Folds.{list_any_none}
-use Rattle.std.proofs.lemmas.Option.{none-some}
 use Rattle.xk_base.specs.declared.errors.XousError.{XousError}
 use Rattle.xk_base.specs.declared.errors.XousError.TheVariants.{BadAlignment, BadAddress, InvalidLimit, MemoryInUse, OutOfMemory}
 use Rattle.xk_base.specs.declared.ids.Place.{Place}
@@ -18,7 +17,6 @@ use Rattle.ledger_model.specs.Reach.{is_free}
 use Rattle.ledger_model.specs.RunTests.{any_used, fits_window}
 use Rattle.ledger_model.specs.Steps.{make, new_page, zero_page}
 use Rattle.ledger_model.proofs.PlaceLemmas.{IsInRun, in_run-true, length-run, run-at}
-use Rattle.ledger_model.proofs.ReachingLemmas.{is_free-all}
 use Rattle.machine_model.specs.State.Changes.{Outcome, Refused, Served, unless_refused}
 use Rattle.machine_model.specs.State.Machine.{Machine}
 use Rattle.machine_model.specs.Runs.Matched.{AreHeapsMatched}
@@ -38,6 +36,7 @@ use Rattle.xk_kernel.specs.Sound.{IsWhole}
 use Rattle.xk_kernel.specs.State.{machine_of}
 use Rattle.xk_kernel.specs.declared.kernel.Kernel.{Kernel}
 use Rattle.xk_kernel.specs.declared.kernel.calls.CallerFate.TheVariants.{Answered}
+use Rattle.xk_kernel.proofs.Memory.KeptLoanLemmas.{free_below_messages, sound-lawful}
 use Rattle.xk_kernel.proofs.Memory.HeapLemmas.{aligned, machine_with_parts, none_of_three, not_above, on_heap, second_of_three, third_of_three, with_parts}
 
 abbrev pub heap_right : Right
@@ -116,8 +115,9 @@ module _ {W : Type 0} (slot_count : W → ℕ) (held : W → Held) (k : Kernel W
     free_above : (i : ℕ) → i < bytes / 4096 → is_free (processes k.mem) (ledger held k.mem) (place_after (page_place k.cursor.pid first) i) ≡ true
     free_above i low =
         let p = place_after (page_place k.cursor.pid first) i in
-        is_free-all (processes k.mem) (ledger held k.mem) p (no_home (first.0 + i) (above i low) ((ledger held k.mem).home p) refl) (whole.unlent.orphans p)
-        (λ q loan e same. none-some loan (sym (whole.unlent.loans q) ∙ e))
+        let below : first.0 + i < 262144 = omega (arith, (above i low).to) in
+        free_below_messages (processes k.mem) (capacity_of k.mem) (ledger held k.mem) p (sound-lawful slot_count held k.mem whole.mem) below
+        (no_home (first.0 + i) (above i low) ((ledger held k.mem).home p) refl)
 
     fits : fits_window Heap first.0 (bytes / 4096) ≡ true
     fits =

@@ -13,6 +13,7 @@ use Rattle.xk_base.specs.Tables.Circle.{IsPid, is_pid, is_tid, is_thread_id}
 use Rattle.xk_base.specs.Tables.Counting.{put_at}
 use Rattle.boot_plan.specs.Capacity.{capacity}
 use Rattle.ledger_model.specs.Ledger.{Ledger}
+use Rattle.ledger_model.specs.Loans.{loans}
 use Rattle.ledger_model.specs.Places.{in_run}
 use Rattle.ledger_model.specs.RunTests.{any_on_loan}
 use Rattle.ledger_model.specs.Steps.{remove}
@@ -31,13 +32,13 @@ use Rattle.vm_memory.specs.declared.memory.Memory.{Memory}
 use Rattle.vm_memory.specs.Memory.{ledger, processes, size}
 use Rattle.vm_memory.specs.Pages.Removing.{clear_answer}
 use Rattle.vm_memory.specs.Sound.{IsSound as IsMemorySound}
-use Rattle.vm_memory.specs.Starting.{IsUnlent}
 use Rattle.xk_kernel.specs.Calling.{outcome_of}
 use Rattle.xk_kernel.specs.Sound.{IsWhole}
 use Rattle.send_path.specs.Parts.{process_of}
 use Rattle.xk_kernel.specs.State.{machine_of}
 use Rattle.xk_kernel.specs.declared.kernel.Kernel.{Kernel}
 use Rattle.xk_kernel.specs.declared.kernel.calls.CallerFate.TheVariants.{Answered}
+use Rattle.xk_kernel.proofs.Memory.KeptLoanLemmas.{servers_over}
 
 -- ---- the caller's process
 
@@ -103,9 +104,10 @@ module _ {W : Type 0} (slot_count : W → ℕ) (held : W → Held) (k : Kernel W
             ∙ heap_changed (nat_eq q k.cursor.pid.0) (processes_of k.procs k.cursor.pid.0) (processes_of k.procs q) there.0 heap there.1) i;
       }
 
-  pub whole_with_parts : (mem : Memory W) (procs : Processes) → size mem ≡ size k.mem → IsMemorySound slot_count mem → IsUnlent (ledger held mem)
+  pub whole_with_parts : (mem : Memory W) (procs : Processes) → size mem ≡ size k.mem → IsMemorySound slot_count mem
+      → loans (ledger held mem) ≡ loans (ledger held k.mem)
       → process_count procs ≡ process_count k.procs → IsWhole slot_count held (with_parts mem procs k)
-  whole_with_parts mem procs s sound unlent n =
+  whole_with_parts mem procs s sound kept n =
       let same : processes mem ≡ processes k.mem = ap (λ z. z.procs) s in
       record {
         mem = sound;
@@ -113,9 +115,7 @@ module _ {W : Type 0} (slot_count : W → ℕ) (held : W → Held) (k : Kernel W
         procs = n ∙ whole.procs ∙ sym same;
         cursor = ap (λ n. is_thread_id n k.cursor) same ∙ whole.cursor;
         room = whole.room;
-        unlent = unlent;
-        no_messages = whole.no_messages;
-        untimed = whole.untimed;
+        servers = servers_over k.servers k.queues (processes k.mem) (processes mem) (loans (ledger held k.mem)) (loans (ledger held mem)) same kept whole.servers;
       }
 
 -- ---- lists of three refusals

@@ -22,7 +22,7 @@ use Rattle.vm_memory.specs.Using.UserView.{KeepsRest, contents_seen, seen_memory
 use Rattle.vm_memory.proofs.Changing.CallLemmas.{sound-means}
 use Rattle.vm_memory.proofs.Bytes.LedgerByteLemmas.{IsSeenAt, IsTold, same_by_bytes, written_by_bytes, stored_is_loaded}
 use Rattle.vm_memory.proofs.Using.SeenPageLemmas.{told}
-use Rattle.xk_kernel.proofs.Memory.StoreLemmas.{StoresLawfully}
+use Rattle.xk_kernel.proofs.Memory.StoreLemmas.{StoresAllowed}
 
 -- ---- the page of a store
 
@@ -103,7 +103,7 @@ module _ {W P : Type 0} (is_honest : W → Bool) (held : W → Held) (slot_count
         address width value aligned at.name at.bytes at.seen (seen_new ∙ e)
         ∙ ap (λ o. write_to o (address % 4096) (low_bytes width value) L) (sym at.reached)
 
-    pub ledger_by_bytes : (x : Executed) → StoresLawfully (user_view held old pid) x → byte ≡ bytes_after (user_view held old pid).byte x
+    pub ledger_by_bytes : (x : Executed) → StoresAllowed (user_view held old pid).may (user_view held old pid).console x → byte ≡ bytes_after (user_view held old pid).byte x
         → M ≡ ledger_after n pid L x
     ledger_by_bytes (Next regs pc) so e = same_ledger e
     ledger_by_bytes (Stores address width value regs pc) so e = stored_ledger address width value so.0 so.1 so.2 e

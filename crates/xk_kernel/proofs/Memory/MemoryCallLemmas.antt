@@ -1,24 +1,19 @@
 -- A kernel whose memory alone changed: the machine that it stands for, and that it is whole; and the calls that remove and reduce
 -- pages.
-use Rattle.std.proofs.Common.{◌≡◌, ℕ, ◌/◌, if◌then◌else◌, Bool, true, false, [], ◌∷◌, Option, Some, None, refl, sym, ap, subst, ◌∙◌}
+use Rattle.std.proofs.Common.{◌≡◌, ℕ, ◌/◌, if◌then◌else◌, Bool, true, false, [], ◌∷◌, Some, None, refl, sym, ap, ◌∙◌}
 use Rattle.std.specs.Prelude.{◌&&◌, Result, Ok, Err}
-use Rattle.std.specs.Option.{option_map}
 use Rattle.std.proofs.lemmas.Bool.{false≢true, and_from, and_parts, or_right}
 use Rattle.std.proofs.lemmas.Option.{none-some, same_Some}
 use Rattle.xk_base.specs.Tables.Circle.{is_pid, is_tid, is_thread_id}
 use Rattle.xk_base.specs.declared.errors.XousError.{XousError}
 use Rattle.xk_base.specs.declared.errors.XousError.TheVariants.{BadAlignment, BadAddress, ShareViolation, AccessDenied, InvalidSyscall}
-use Rattle.xk_base.specs.declared.ids.Pid.{Pid}
-use Rattle.xk_base.specs.declared.ids.Place.{Place}
-use Rattle.xk_base.specs.declared.ids.Vpn.{Vpn}
 use Rattle.xk_base.specs.declared.limits.TheConstants.{PAGE_SIZE}
 use Rattle.xk_base.specs.declared.pages.Right.{Right}
 use Rattle.xk_base.specs.Calls.Flags.{right_of}
 use Rattle.boot_plan.specs.Capacity.{capacity}
-use Rattle.ledger_model.specs.Ledger.{Ledger, Page, loan_of}
-use Rattle.ledger_model.specs.Places.{in_run, same_place}
+use Rattle.ledger_model.specs.Ledger.{Ledger}
+use Rattle.ledger_model.specs.Loans.{loans}
 use Rattle.ledger_model.specs.RunTests.{any_free, any_lacks, any_on_loan}
-use Rattle.ledger_model.specs.Steps.{make, make_console, new_page, reduce, remove, with_right}
 use Rattle.machine_model.specs.State.Changes.{Served, unless_refused}
 use Rattle.machine_model.specs.State.Machine.{Machine}
 use Rattle.machine_model.specs.Calling.MemoryCalls.{are_bad_flags, caller_place, is_bad_range, unmap_refusals, unmap_served, update_refusals, update_served}
@@ -27,11 +22,9 @@ use Rattle.sv32_space.specs.Tie.{Held}
 use Rattle.syscall_codec.specs.declared.replies.Reply.TheVariants.{Plain}
 use Rattle.vm_memory.specs.declared.memory.Memory.{Memory}
 use Rattle.vm_memory.specs.Bytes.{MeansBytesOver, is_known, none_out}
-use Rattle.vm_memory.specs.Pages.Making.{after_console, after_make, page_place}
 use Rattle.vm_memory.specs.Memory.{ledger, processes, size}
 use Rattle.vm_memory.specs.Pages.Removing.{after_reduce, after_remove, reduce_answer, remove_answer}
 use Rattle.vm_memory.specs.Sound.{IsSound as IsMemorySound}
-use Rattle.vm_memory.specs.Starting.{IsUnlent}
 use Rattle.vm_memory.proofs.Changing.CallLemmas.{sound-none_out}
 use Rattle.xk_kernel.specs.Calling.{outcome_of}
 use Rattle.xk_kernel.specs.Sound.{IsWhole}
@@ -39,6 +32,7 @@ use Rattle.xk_kernel.specs.State.{machine_of}
 use Rattle.xk_kernel.specs.declared.kernel.Kernel.{Kernel}
 use Rattle.xk_kernel.specs.declared.kernel.calls.CallerFate.{CallerFate}
 use Rattle.xk_kernel.specs.declared.kernel.calls.CallerFate.TheVariants.{Answered}
+use Rattle.xk_kernel.proofs.Memory.KeptLoanLemmas.{servers_over}
 
 abbrev pub with_mem : {W : Type 0} → Memory W → Kernel W → Kernel W
 with_mem mem k = record k { mem = mem }
@@ -58,8 +52,8 @@ machine_with_mem held k mem l s e = λ i. record (machine_of held k) {
 
 -- THE PARTS stay sound
 pub whole_with_mem : {W : Type 0} (slot_count : W → ℕ) (held : W → Held) (k : Kernel W) (mem : Memory W) → IsWhole slot_count held k
-    → size mem ≡ size k.mem → IsMemorySound slot_count mem → IsUnlent (ledger held mem) → IsWhole slot_count held (with_mem mem k)
-whole_with_mem slot_count held k mem whole s sound unlent =
+    → size mem ≡ size k.mem → IsMemorySound slot_count mem → loans (ledger held mem) ≡ loans (ledger held k.mem) → IsWhole slot_count held (with_mem mem k)
+whole_with_mem slot_count held k mem whole s sound kept =
     let same : processes mem ≡ processes k.mem = ap (λ z. z.procs) s in
     record {
       mem = sound;
@@ -67,72 +61,8 @@ whole_with_mem slot_count held k mem whole s sound unlent =
       procs = whole.procs ∙ sym same;
       cursor = ap (λ n. is_thread_id n k.cursor) same ∙ whole.cursor;
       room = whole.room;
-      unlent = unlent;
-      no_messages = whole.no_messages;
-      untimed = whole.untimed;
+      servers = servers_over k.servers k.queues (processes k.mem) (processes mem) (loans (ledger held k.mem)) (loans (ledger held mem)) same kept whole.servers;
     }
-
--- ---- a ledger without loans keeps none
-
-loan_gone : (b : Bool) (o : Option Page) → loan_of o ≡ None → loan_of (if b then None else o) ≡ None
-loan_gone true o e = refl
-loan_gone false o e = e
-
-loan_right : (right : Right) (o : Option Page) → loan_of (option_map (with_right right) o) ≡ loan_of o
-loan_right right None = refl
-loan_right right (Some page) = refl
-
-loan_reduced : (b : Bool) (right : Right) (o : Option Page) → loan_of o ≡ None → loan_of (if b then option_map (with_right right) o else o) ≡ None
-loan_reduced true right o e = loan_right right o ∙ e
-loan_reduced false right o e = e
-
-loan_new : (b : Bool) (page : Page) (o : Option Page) → page.loan ≡ None → loan_of o ≡ None → loan_of (if b then Some page else o) ≡ None
-loan_new true page o new e = new
-loan_new false page o new e = e
-
-pub removed_unlent : (places : Place → Bool) (l : Ledger) → IsUnlent l → IsUnlent (remove places l)
-unfolding remove
-removed_unlent places l h = record { loans = λ q. loan_gone (places q) (l.home q) (h.loans q); orphans = h.orphans }
-
-pub reduced_unlent : (places : Place → Bool) (right : Right) (l : Ledger) → IsUnlent l → IsUnlent (reduce places right l)
-unfolding reduce
-reduced_unlent places right l h = record { loans = λ q. loan_reduced (places q) right (l.home q) (h.loans q); orphans = h.orphans }
-
-pub made_unlent : (first : Place) (n : ℕ) (right : Right) (l : Ledger) → IsUnlent l → IsUnlent (make first n right l)
-unfolding make
-made_unlent first n right l h = record { loans = λ q. loan_new (in_run first n q) (new_page right _) (l.home q) refl (h.loans q); orphans = h.orphans }
-
-pub console_unlent : (place : Place) (w : Bool) (l : Ledger) → IsUnlent l → IsUnlent (make_console place w l)
-unfolding make_console
-console_unlent place w l h = record { loans = λ q. loan_new (same_place q place) (new_page (record { w = w; x = false }) _) (l.home q) refl (h.loans q); orphans = h.orphans }
-
-pub remove_unlent : (r : Result (Unit {0}) XousError) (first : Place) (n : ℕ) (old new : Ledger) → new ≡ after_remove r first n old → IsUnlent old → IsUnlent new
-remove_unlent r first n old new e h = subst IsUnlent (sym e) (go r)
-  where
-    go : (r : Result (Unit {0}) XousError) → IsUnlent (after_remove r first n old)
-    go (Ok done) = removed_unlent (in_run first n) old h
-    go (Err error) = h
-
-pub make_unlent : (pid : Pid) (n : ℕ) (right : Right) (r : Result Vpn XousError) (old new : Ledger) → new ≡ after_make pid n right r old → IsUnlent old → IsUnlent new
-make_unlent pid n right r old new e h = subst IsUnlent (sym e) (go r)
-  where
-    go : (r : Result Vpn XousError) → IsUnlent (after_make pid n right r old)
-    go (Ok first) = made_unlent (page_place pid first) n right old h
-    go (Err error) = h
-
-pub make_console_unlent : (pid : Pid) (w : Bool) (r : Result Vpn XousError) (old new : Ledger) → new ≡ after_console pid w r old → IsUnlent old → IsUnlent new
-make_console_unlent pid w r old new e h = subst IsUnlent (sym e) (go r)
-  where
-    go : (r : Result Vpn XousError) → IsUnlent (after_console pid w r old)
-    go (Ok first) = console_unlent (page_place pid first) w old h
-    go (Err error) = h
-
-pub reduce_unlent : (r : Result (Unit {0}) XousError) (first : Place) (n : ℕ) (right : Right) (old new : Ledger) → new ≡ after_reduce r first n right old → IsUnlent old → IsUnlent new
-reduce_unlent r first n right old new e h = subst IsUnlent (sym e) (go r)
-  where
-    go : (r : Result (Unit {0}) XousError) → IsUnlent (after_reduce r first n right old)
-    go (Ok done) = reduced_unlent (in_run first n) right old h
-    go (Err error) = h
 
 -- no page is out, so that the ledger's bytes mean something
 pub means_over : {W : Type 0} (slot_count : W → ℕ) (honest : W → Bool) (held : W → Held) (old new : Memory W) → IsMemorySound slot_count old

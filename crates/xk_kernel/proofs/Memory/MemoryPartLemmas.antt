@@ -1,42 +1,19 @@
 -- The kernel with a memory that has the same rights and loans.
-use Rattle.std.proofs.Common.{◌≡◌, ℕ, Bool, ◌&&◌, IsSome, Option, Some, None, is_some, refl, sym, ap, ◌∙◌}
-use Rattle.std.specs.Prelude.{◌||◌, if◌then◌else◌}
-use Rattle.std.specs.Option.{option_map}
-use Rattle.std.proofs.lemmas.Option.{none-some}
+use Rattle.std.proofs.Common.{◌≡◌, ℕ, Bool, IsSome, refl, sym, ap, ◌∙◌}
 use Rattle.boot_plan.specs.Capacity.{capacity}
 use Rattle.xk_base.specs.declared.ids.Pid.{Pid}
 use Rattle.xk_base.specs.declared.ids.ThreadId.{ThreadId}
 use Rattle.xk_base.specs.Tables.Circle.{is_thread_id}
-use Rattle.xk_base.specs.declared.limits.TheConstants.{TIMER_INTERRUPT}
-use Rattle.xk_base.specs.UserMemory.{Memory as SeenMemory, Timer, timer_at}
-use Rattle.ledger_model.specs.Ledger.{Ledger, Orphan}
-use Rattle.ledger_model.specs.Loans.{Loans, bare, bare_orphan, loans}
+use Rattle.ledger_model.specs.Loans.{loans}
 use Rattle.ledger_model.proofs.Stepping.WritingLemmas.{bare-loans}
-use Rattle.irq_claims.specs.ClaimsOf.{claims_of}
-use Rattle.machine_model.specs.State.Machine.{Claim, Machine}
-use Rattle.machine_model.specs.State.Views.{is_of_timer_page, memory_of, page_reached, timer_of}
-use Rattle.machine_model.specs.Stepping.Interrupts.{is_claim_of}
 use Rattle.sv32_space.specs.Tie.{Held}
 use Rattle.vm_memory.specs.declared.memory.Memory.{Memory}
 use Rattle.vm_memory.specs.Memory.{Size, size, processes, capacity_of, ledger}
-use Rattle.vm_memory.specs.Starting.{IsUnlent}
-use Rattle.vm_memory.specs.Using.UserView.{KeepsRest, seen_memory, user_view}
+use Rattle.vm_memory.specs.Using.UserView.{KeepsRest}
 use Rattle.xk_kernel.specs.Sound.{IsWhole, Keeps}
-use Rattle.xk_kernel.specs.State.{claim_of, machine_of}
+use Rattle.xk_kernel.specs.State.{machine_of}
 use Rattle.xk_kernel.specs.declared.kernel.Kernel.{Kernel}
-
--- ---- loans
-
-none_bare : (o : Option Orphan) → option_map bare_orphan o ≡ None → o ≡ None
-none_bare None e = refl
-none_bare (Some orphan) e = absurd (none-some (bare_orphan orphan) (sym e))
-
-pub unlent_stays : (l m : Ledger) → bare m ≡ bare l → IsUnlent l → IsUnlent m
-unfolding bare loans
-unlent_stays l m e h = record {
-  loans = λ q. ap (λ (x : Loans). x.home q) (bare-loans l m e) ∙ h.loans q;
-  orphans = λ q. none_bare (m.orphan q) (ap (λ (b : Ledger). b.orphan q) e ∙ ap (option_map bare_orphan) (h.orphans q));
-}
+use Rattle.xk_kernel.proofs.Memory.KeptLoanLemmas.{servers_over}
 
 -- ---- the machine
 
@@ -58,29 +35,6 @@ pub there_with : {W : Type 0} (held : W → Held) (k : Kernel W) (mem : Memory W
 unfolding machine_of
 there_with held k mem who h = h
 
--- memory as a process sees it with this timer
-timer_seen : (m : Machine) (pid : Pid) → Option Timer → SeenMemory
-timer_seen m pid timer = record (memory_of m pid) {
-  may = λ access address. (is_some (timer_at timer address) && is_of_timer_page access) || is_some (page_reached m pid access address);
-  timer = timer;
-}
-
-timer_is : (m : Machine) (pid : Pid) → memory_of m pid ≡ timer_seen m pid (timer_of m pid)
-unfolding memory_of timer_seen
-timer_is m pid = refl
-
--- who has claimed nothing sees no timer
-timer_none : (m : Machine) (pid : Pid) → m.claims TIMER_INTERRUPT ≡ None → timer_of m pid ≡ None
-timer_none m pid e = ap (λ (o : Option Claim). if is_claim_of pid o then Some (record { steps = m.steps; compare = m.compare }) else None) e
-
--- memory as a process sees it
-pub memory_seen : {W : Type 0} (held : W → Held) (k : Kernel W) (pid : Pid) → claims_of k.claims TIMER_INTERRUPT ≡ None
-    → memory_of (machine_of held k) pid ≡ user_view held k.mem pid
-unfolding machine_of memory_of seen_memory timer_seen
-memory_seen held k pid untimed =
-    timer_is (machine_of held k) pid
-    ∙ ap (timer_seen (machine_of held k) pid) (timer_none (machine_of held k) pid (ap (option_map claim_of) untimed))
-
 -- ---- soundness
 
 module _ {W P : Type 0} (is_honest : W → Bool) (held : W → Held) (slot_count : W → ℕ) (asked : W → P) (faults : W → ℕ)
@@ -95,9 +49,8 @@ module _ {W P : Type 0} (is_honest : W → Bool) (held : W → Held) (slot_count
     procs = whole.procs ∙ sym procs;
     cursor = ap (λ n. is_thread_id n k.cursor) procs ∙ whole.cursor;
     room = whole.room;
-    unlent = unlent_stays (ledger held k.mem) (ledger held mem) rest.rights whole.unlent;
-    no_messages = whole.no_messages;
-    untimed = whole.untimed;
+    servers = servers_over k.servers k.queues (processes k.mem) (processes mem) (loans (ledger held k.mem)) (loans (ledger held mem)) procs
+        (bare-loans (ledger held k.mem) (ledger held mem) rest.rights) whole.servers;
   }
 
   pub keeps_with : Keeps is_honest held slot_count asked faults k (with_memory mem k)

@@ -1,7 +1,8 @@
 -- A store is made only where it may be.
-use Rattle.std.proofs.Common.{◌≡◌, ℕ, ◌%◌, Bool, true, false, ◌&&◌, List, Option, Some, None, is_some, refl, sym, ap, ◌∙◌}
+use Rattle.std.proofs.Common.{◌≡◌, ℕ, ◌%◌, Bool, true, false, ◌&&◌, List, Option, Some, None, is_some, refl}
 use Rattle.std.specs.Prelude.{◌==◌, not, if◌then◌else◌, ℤ}
 use Rattle.std.proofs.lemmas.Bool.{eqb-true, false≢true}
+use Rattle.xk_base.specs.declared.pages.Access.{Access}
 use Rattle.xk_base.specs.declared.pages.Access.TheVariants.{Fetch, Load, Store}
 use Rattle.xk_base.specs.declared.pages.Width.{Width}
 use Rattle.xk_base.specs.declared.pages.Width.TheVariants.{Byte, Half, Word}
@@ -11,26 +12,19 @@ use Rattle.rv32_words.specs.declared.insn.Insn.{Insn}
 use Rattle.rv32_words.specs.declared.insn.Insn.TheVariants.{Jal, Jalr, Beq, Bne, Blt, Bge, Bltu, Bgeu, Lb, Lh, Lw, Lbu, Lhu, Sb, Sh, Sw}
 use Rattle.rv32_words.specs.Reading.{insn_at}
 use Rattle.machine_model.specs.Hart.Atomics.{Atomic, LoadReserved, StoreConditional, Amo, atomic_at, execute, execute_at, is_reserved, leaving, operates, perform, result_of, stores_conditionally}
-use Rattle.machine_model.specs.Hart.Instructions.{Executed, Next, Stores, StoresToConsole, StoresToTimer, CallsKernel, Traps, target_misaligned, load_misaligned, load_page_fault, store_misaligned, store_page_fault, fetch_page_fault, as_word, address_of, sign_extended_byte, sign_extended_half, writes, stores, jumps, branches, loads, effect, effect_if_any, execute_base, puts, sum_of, following, x}
+use Rattle.machine_model.specs.Hart.Instructions.{Executed, Next, Stores, StoresToConsole, StoresToTimer, Traps, target_misaligned, load_misaligned, load_page_fault, store_misaligned, store_page_fault, fetch_page_fault, as_word, address_of, sign_extended_byte, sign_extended_half, writes, stores, jumps, branches, loads, effect, effect_if_any, execute_base, puts, sum_of, following, x}
 
--- The process may store there, it isn't the console, and the address is aligned. Where the timer is stored to, there is one.
+-- The process may store there by these rights, it isn't this console, and the address is aligned.
+abbrev pub StoresAllowed : (Access → ℕ → Bool) → (ℕ → Bool) → Executed → Type 0
+StoresAllowed may console (Stores address width value regs pc) = (may Store address ≡ true) × (console address ≡ false) × (address % size_of width ≡ 0)
+StoresAllowed may console _ = Unit {0}
+
+-- A store that isn't the timer's is allowed, and the timer isn't there. Where the timer is stored to, there is one.
 abbrev pub StoresLawfully : Memory → Executed → Type 0
-StoresLawfully mem (Stores address width value regs pc) = (mem.may Store address ≡ true) × (mem.console address ≡ false) × (address % size_of width ≡ 0)
+StoresLawfully mem (Stores address width value regs pc) =
+    (is_some (timer_at mem.timer address) ≡ false) × StoresAllowed mem.may mem.console (Stores address width value regs pc)
 StoresLawfully mem (StoresToTimer offset width value regs pc) = is_some mem.timer ≡ true
 StoresLawfully mem _ = Unit {0}
-
--- the timer isn't stored to
-abbrev pub LeavesTimer : Executed → Type 0
-LeavesTimer (StoresToTimer offset width value regs pc) = ⊥
-LeavesTimer _ = Unit {0}
-
-pub leaves_timer : (mem : Memory) (x : Executed) → mem.timer ≡ None → StoresLawfully mem x → LeavesTimer x
-leaves_timer mem (Next regs pc) none so = tt
-leaves_timer mem (Stores address width value regs pc) none so = tt
-leaves_timer mem (StoresToConsole offset value regs pc) none so = tt
-leaves_timer mem (StoresToTimer offset width value regs pc) none so = false≢true (sym (ap (λ (o : Option Timer). is_some o) none) ∙ so)
-leaves_timer mem CallsKernel none so = tt
-leaves_timer mem (Traps cause value) none so = tt
 
 next_or_trap : (mem : Memory) (regs : List ℕ) (pc cause value : ℕ) (b : Bool) → StoresLawfully mem (if b then Next regs pc else Traps cause value)
 next_or_trap mem regs pc cause value true = tt
@@ -66,7 +60,7 @@ puts_so mem address width value regs pc may aligned = by (mem.console address) (
         if t then StoresToTimer (address % 4096) width value regs pc else Stores address width value regs pc))
     by true t e f = tt
     by false true e f = timer_there mem.timer address f
-    by false false e f = (may, e, aligned)
+    by false false e f = (f, (may, e, aligned))
 
 -- what is done where the address is aligned and the process may store there
 stored_if : (mem : Memory) (address cause other : ℕ) (width : Width) (x : Executed) (a m : Bool) → (address % size_of width == 0) ≡ a → mem.may Store address ≡ m

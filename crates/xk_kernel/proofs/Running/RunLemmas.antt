@@ -13,7 +13,8 @@ use Rattle.machine_model.specs.Hart.Instructions.{Executed, Next, Stores, Stores
 use Rattle.machine_model.specs.Hart.Atomics.{Performed, execute_at}
 use Rattle.machine_model.specs.State.Machine.{Machine, Thread}
 use Rattle.machine_model.specs.State.Threads.{put_thread, with_registers}
-use Rattle.machine_model.specs.State.Views.{memory_of, stored}
+use Rattle.machine_model.specs.State.Views.{memory_of, stored, timer_set}
+use Rattle.machine_model.specs.Runs.Matched.{Matched}
 use Rattle.rv32_atomics.specs.Performing.{Core, DoesPerform, IsPerformed, Performs}
 use Rattle.rv32_hart.specs.Running.{ran_of, registers_after, IfFailed, LeavesRegisters, View, seen}
 use Rattle.rv32_hart.specs.declared.ran.Ran.{Ran}
@@ -28,19 +29,20 @@ use Rattle.vm_memory.specs.Memory.{IsUsable}
 use Rattle.vm_memory.specs.Sound.{IsSound}
 use Rattle.vm_memory.specs.Using.UserView.{KeepsRest, seen_memory, user_content, user_view}
 use Rattle.vm_memory.proofs.Changing.CallLemmas.{sound-means, sound-none_out}
-use Rattle.xk_kernel.specs.Running.{machine_after}
+use Rattle.xk_kernel.specs.Running.{machine_after, timed_view}
 use Rattle.xk_kernel.specs.Sound.{IsWhole}
 use Rattle.xk_kernel.specs.State.{as_reservation, machine_of}
 use Rattle.xk_kernel.specs.declared.kernel.Kernel.{Kernel}
-use Rattle.xk_kernel.proofs.Memory.MemoryPartLemmas.{memory_machine, memory_seen, with_memory}
+use Rattle.xk_kernel.proofs.Memory.MemoryPartLemmas.{memory_machine, whole_with, with_memory}
 use Rattle.xk_kernel.proofs.Memory.LedgerAfterLemmas.{ledger_after, ledger_by_bytes}
-use Rattle.xk_kernel.proofs.Memory.StoreLemmas.{LeavesTimer, StoresLawfully, leaves_timer, stores_lawfully}
+use Rattle.xk_kernel.proofs.Memory.StoreLemmas.{StoresLawfully, stores_lawfully}
+use Rattle.xk_kernel.proofs.Memory.TimerViewLemmas.{allowed_inside, compare_after, compare_left, has_timer, memory_seen, timed_memory, timer_now}
 
 -- ---- the machine afterwards
 
--- the machine with the ledger that the instruction leaves
-abbrev pub ledger_left : Pid → Machine → Executed → Machine
-ledger_left pid m x = record m { ledger = ledger_after m.processes pid m.ledger x }
+-- the machine with the ledger and the timer that the instruction leaves
+abbrev pub memory_left : Pid → Machine → Executed → Machine
+memory_left pid m x = record m { ledger = ledger_after m.processes pid m.ledger x; compare = compare_after m.compare x }
 
 pc_left : Ran → ℕ
 pc_left (ran.Next next) = next
@@ -70,21 +72,23 @@ stays_not answer next (inr (inl e)) (inr f) = let g : answer ≡ Trap e.0 e.1 = 
 stays_not answer next (inr (inr e)) (inl f) = cc
 stays_not answer next (inr (inr e)) (inr f) = let g : answer ≡ Device f.0 f.1 next = f.2 in cc
 
-pub goes_on : (m : Machine) (who : ThreadId) (t : Thread) (x : Executed) (next : ℕ) → LeavesTimer x → m.threads who ≡ Some t → GoesOn (ran_of x) next
-    → put_thread who (Some (record t { regs = registers_after t.regs x; pc = next })) (ledger_left who.pid m x) ≡ machine_after who m x
-unfolding stored pc_left
-goes_on m who t (Next regs pc) next so e is =
+pub goes_on : (m : Machine) (who : ThreadId) (t : Thread) (x : Executed) (next : ℕ) → m.threads who ≡ Some t → GoesOn (ran_of x) next
+    → put_thread who (Some (record t { regs = registers_after t.regs x; pc = next })) (memory_left who.pid m x) ≡ machine_after who m x
+unfolding stored timer_set pc_left
+goes_on m who t (Next regs pc) next e is =
     let n : pc ≡ next = next_left next (ran.Next pc) is in λ i. put_thread who (option_map (with_registers regs (sym n i)) (sym e i)) m
-goes_on m who t (Stores address width value regs pc) next so e is =
+goes_on m who t (Stores address width value regs pc) next e is =
     let n : pc ≡ next = next_left next (ran.Next pc) is in
     λ i. put_thread who (option_map (with_registers regs (sym n i)) (sym e i)) (stored who.pid address width value m)
-goes_on m who t (StoresToConsole offset value regs pc) next so e is =
+goes_on m who t (StoresToConsole offset value regs pc) next e is =
     let n : pc ≡ next = next_left next (Device offset value pc) is in λ i. put_thread who (option_map (with_registers regs (sym n i)) (sym e i)) m
-goes_on m who t (StoresToTimer offset width value regs pc) next so e is = absurd so
-goes_on m who t CallsKernel next so e is = absurd (stays_not Ecall next (inl refl) is)
-goes_on m who t (Traps cause value) next so e is = absurd (stays_not (Trap cause value) next (inr (inl (cause, value, refl))) is)
+goes_on m who t (StoresToTimer offset width value regs pc) next e is =
+    let n : pc ≡ next = next_left next (ran.Next pc) is in
+    λ i. put_thread who (option_map (with_registers regs (sym n i)) (sym e i)) (timer_set offset width value m)
+goes_on m who t CallsKernel next e is = absurd (stays_not Ecall next (inl refl) is)
+goes_on m who t (Traps cause value) next e is = absurd (stays_not (Trap cause value) next (inr (inl (cause, value, refl))) is)
 
-pub stays : (m : Machine) (who : ThreadId) (x : Executed) → Stays (ran_of x) → ledger_left who.pid m x ≡ machine_after who m x
+pub stays : (m : Machine) (who : ThreadId) (x : Executed) → Stays (ran_of x) → memory_left who.pid m x ≡ machine_after who m x
 stays m who (Next regs pc) is = absurd (stays_not (ran.Next pc) pc is (inl refl))
 stays m who (Stores address width value regs pc) is = absurd (stays_not (ran.Next pc) pc is (inl refl))
 stays m who (StoresToConsole offset value regs pc) is = absurd (stays_not (Device offset value pc) pc is (inr (offset, value, refl)))
@@ -111,13 +115,16 @@ is_performed effect byte view after old new (Trap cause value) Fit fit f h = h
 is_performed effect byte view after old new (Device offset value next) Fit fit f h = h
 is_performed effect byte view after old new Failed Fit fit f h = absurd (f fit)
 
+-- the kernel with that memory and that compare value
+abbrev pub with_both : {W : Type 0} → Memory W → Option ℕ → Kernel W → Kernel W
+with_both mem timer k = record k { mem = mem; timer = timer }
+
 -- what running the instruction comes to, where the thread has reserved this address
-pub record HasRun {W : Type 0} (held : W → Held) (k : Kernel W) (mem : Memory W) (pid : Pid) (old new : Core) (pc : ℕ) (answer : Ran) : Type 0 where
+pub record HasRun {W : Type 0} (held : W → Held) (k : Kernel W) (mem : Memory W) (timer : Option ℕ) (pid : Pid) (old new : Core) (pc : ℕ) (answer : Ran) : Type 0 where
   pub answered : answer ≡ ran_of (execute_at old.regs pc old.reserved (memory_of (machine_of held k) pid)).executed
   pub registers : new.regs ≡ registers_after old.regs (execute_at old.regs pc old.reserved (memory_of (machine_of held k) pid)).executed
   pub reserved : new.reserved ≡ (execute_at old.regs pc old.reserved (memory_of (machine_of held k) pid)).reserved
-  pub untimed : LeavesTimer (execute_at old.regs pc old.reserved (memory_of (machine_of held k) pid)).executed
-  pub machine : machine_of held (with_memory mem k) ≡ ledger_left pid (machine_of held k) (execute_at old.regs pc old.reserved (memory_of (machine_of held k) pid)).executed
+  pub machine : machine_of held (with_both mem timer k) ≡ memory_left pid (machine_of held k) (execute_at old.regs pc old.reserved (memory_of (machine_of held k) pid)).executed
 
 module _ {W P : Type 0} (is_honest : W → Bool) (held : W → Held) (slot_count : W → ℕ) (asked : W → P) (faults : W → ℕ)
     (k : Kernel W) (mem : Memory W) (pid other : Pid) (same : other ≡ pid) (whole : IsWhole slot_count held k) (usable : IsUsable k.mem)
@@ -135,55 +142,69 @@ module _ {W P : Type 0} (is_honest : W → Bool) (held : W → Held) (slot_count
   known_after = told_all (means_bytes is_honest held mem) (user_view held mem other).byte (sound-means slot_count is_honest held mem (rest.sound whole.mem))
       ∙ ap (λ p. Some (user_view held mem p).byte) same
 
-  -- what the process sees before and after
-  abbrev view_before : View
-  view_before = record { may = (user_view held k.mem pid).may; console = (user_view held k.mem pid).console; content = user_content is_honest held k.mem pid; timer = None }
+  -- where the timer's page is, and the timer afterwards
+  module _ (on : Bool) (timer : Option ℕ) (claimed : on ≡ has_timer (machine_of held k) pid) (unseen : on ≡ false → timer ≡ k.timer)
+      (matched : Matched (machine_of held k)) where
+    -- what is told of the memory before and after
+    abbrev pages_before : View
+    pages_before = record { may = (user_view held k.mem pid).may; console = (user_view held k.mem pid).console; content = user_content is_honest held k.mem pid; timer = None }
 
-  abbrev view_after : View
-  view_after = record { may = (user_view held mem other).may; console = (user_view held mem other).console; content = user_content is_honest held mem other; timer = None }
+    abbrev pages_after : View
+    pages_after = record { may = (user_view held mem other).may; console = (user_view held mem other).console; content = user_content is_honest held mem other; timer = None }
 
-  pub has_run : (old new before : Core) (pc : ℕ) (answer : Ran) → old ≡ before → Performs view_before view_after old new pc answer
-      → IfFailed answer (¬ (IsSound slot_count mem × IsUsable mem)) → HasRun held k mem pid before new pc answer
-  unfolding machine_of seen_memory
-  has_run old new before pc answer same_core h f =
-      let view : SeenMemory = user_view held k.mem pid in
-      let x : Performed = execute_at before.regs pc before.reserved view in
-      let told : View = telling view_before byte in
-      let known : Performs told view_after before new pc answer =
-      subst (λ (core : Core). Performs told view_after core new pc answer) same_core
-      (subst (λ o. Performs (record view_before { content = o }) view_after old new pc answer) known_before h) in
-      let e : IsPerformed x told view_after before new answer =
-      is_performed (execute_at before.regs pc before.reserved) byte view_before view_after before new answer (IsSound slot_count mem × IsUsable mem) (rest.sound whole.mem, stays_usable) f known in
-      let same_x : execute_at before.regs pc before.reserved (memory_of (machine_of held k) pid) ≡ x =
-      ap (execute_at before.regs pc before.reserved) (memory_seen held k pid whole.untimed) in
-      let lawful : StoresLawfully view x.executed = stores_lawfully view before.regs pc before.reserved in
-      record {
-        answered = e.executed.answer ∙ ap (λ (p : Performed). ran_of p.executed) (sym same_x);
-        registers = e.executed.registers ∙ ap (λ (p : Performed). registers_after before.regs p.executed) (sym same_x);
-        reserved = e.reserved ∙ ap (λ (p : Performed). p.reserved) (sym same_x);
-        untimed = subst (λ (p : Performed). LeavesTimer p.executed) (sym same_x) (leaves_timer view x.executed refl lawful);
-        machine = memory_machine held k mem rest.sizes
-            ∙ ap (λ l. record (machine_of held k) { ledger = l })
-            (ledger_by_bytes is_honest held slot_count asked faults pid k.mem mem whole.mem rest (user_view held mem pid).byte refl x.executed
-            lawful (ap (λ (o : Content). unwrap_or o byte) (sym known_after ∙ e.executed.content)))
-            ∙ ap (λ (p : Performed). ledger_left pid (machine_of held k) p.executed) (sym same_x);
-      }
+    -- .. with the timer's page over it
+    abbrev view_before : View
+    view_before = timed_view on k.steps k.timer pages_before
+
+    abbrev view_after : View
+    view_after = timed_view on k.steps timer pages_after
+
+    pub has_run : (old new before : Core) (pc : ℕ) (answer : Ran) → old ≡ before → Performs view_before view_after old new pc answer
+        → IfFailed answer (¬ (IsSound slot_count mem × IsUsable mem)) → HasRun held k mem timer pid before new pc answer
+    unfolding machine_of seen_memory
+    has_run old new before pc answer same_core h f =
+        let view : SeenMemory = timed_memory on (timer_now k) (user_view held k.mem pid) in
+        let x : Performed = execute_at before.regs pc before.reserved view in
+        let told : View = telling view_before byte in
+        let known : Performs told view_after before new pc answer =
+        subst (λ (core : Core). Performs told view_after core new pc answer) same_core
+        (subst (λ o. Performs (record view_before { content = o }) view_after old new pc answer) known_before h) in
+        let e : IsPerformed x told view_after before new answer =
+        is_performed (execute_at before.regs pc before.reserved) byte view_before view_after before new answer (IsSound slot_count mem × IsUsable mem) (rest.sound whole.mem, stays_usable) f known in
+        let same_x : execute_at before.regs pc before.reserved (memory_of (machine_of held k) pid) ≡ x =
+        ap (execute_at before.regs pc before.reserved)
+        (memory_seen held k pid matched ∙ ap (λ b. timed_memory b (timer_now k) (user_view held k.mem pid)) (sym claimed)) in
+        let lawful : StoresLawfully view x.executed = stores_lawfully view before.regs pc before.reserved in
+        let left : timer ≡ compare_after k.timer x.executed =
+        compare_left on k.steps (user_view held k.mem pid) k.timer timer x.executed refl lawful e.executed.timer unseen in
+        record {
+          answered = e.executed.answer ∙ ap (λ (p : Performed). ran_of p.executed) (sym same_x);
+          registers = e.executed.registers ∙ ap (λ (p : Performed). registers_after before.regs p.executed) (sym same_x);
+          reserved = e.reserved ∙ ap (λ (p : Performed). p.reserved) (sym same_x);
+          machine =
+              (λ i. record (memory_machine held k mem rest.sizes i) { compare = left i })
+              ∙ ap (λ l. record (machine_of held k) { ledger = l; compare = compare_after k.timer x.executed })
+              (ledger_by_bytes is_honest held slot_count asked faults pid k.mem mem whole.mem rest (user_view held mem pid).byte refl x.executed
+              (allowed_inside on (timer_now k) (user_view held k.mem pid) x.executed refl lawful)
+              (ap (λ (o : Content). unwrap_or o byte) (sym known_after ∙ e.executed.content)))
+              ∙ ap (λ (p : Performed). memory_left pid (machine_of held k) p.executed) (sym same_x);
+        }
 
 -- ---- as the kernel says it
 
-module _ {W : Type 0} (held : W → Held) (k : Kernel W) (mem : Memory W) (who : ThreadId) (old new : Core) (pc : ℕ) (answer : Ran)
-    (h : HasRun held k mem who.pid old new pc answer) where
+module _ {W : Type 0} (held : W → Held) (k : Kernel W) (mem : Memory W) (timer : Option ℕ) (who : ThreadId) (old new : Core) (pc : ℕ) (answer : Ran)
+    (h : HasRun held k mem timer who.pid old new pc answer) where
   abbrev x : Executed
   x = (execute_at old.regs pc old.reserved (memory_of (machine_of held k) who.pid)).executed
 
-  pub machine_stays : Stays answer → machine_of held (with_memory mem k) ≡ machine_after who (machine_of held k) x
+  pub machine_stays : Stays answer → machine_of held (with_both mem timer k) ≡ machine_after who (machine_of held k) x
   machine_stays is = h.machine ∙ stays (machine_of held k) who x (subst (λ a. Stays a) h.answered is)
 
   pub machine_goes_on : (t : Thread) (next : ℕ) → t.regs ≡ old.regs → (machine_of held k).threads who ≡ Some t → GoesOn answer next
-      → put_thread who (Some (record t { regs = new.regs; pc = next })) (machine_of held (with_memory mem k)) ≡ machine_after who (machine_of held k) x
+      → put_thread who (Some (record t { regs = new.regs; pc = next })) (machine_of held (with_both mem timer k)) ≡ machine_after who (machine_of held k) x
   machine_goes_on t next same e is =
       (λ i. put_thread who (Some (record t { regs = (h.registers ∙ ap (λ regs. registers_after regs x) (sym same)) i; pc = next })) (h.machine i))
-      ∙ goes_on (machine_of held k) who t x next h.untimed e (subst (λ a. GoesOn a next) h.answered is)
+      ∙ goes_on (machine_of held k) who t x next e (subst (λ a. GoesOn a next) h.answered is)
 
 -- the table of threads with one of them changed keeps the kernel whole
 pub whole_lent : {W : Type 0} (slot_count : W → ℕ) (held : W → Held) (k : Kernel W) (threads : Threads) → process_count threads ≡ process_count k.threads
@@ -194,10 +215,27 @@ whole_lent slot_count held k threads count whole = record {
   procs = whole.procs;
   cursor = whole.cursor;
   room = whole.room;
-  unlent = whole.unlent;
-  no_messages = whole.no_messages;
-  untimed = whole.untimed;
+  servers = whole.servers;
 }
+
+-- a memory that was lent is given back as it is behind the reference, where that is the one that was lent
+pub given_back : {W : Type 0} (name now_named : ℕ) (now : Memory W) (given : (mem : Memory W) × (name ≡ now_named → mem ≡ now)) → now_named ≡ name → given.0 ≡ now
+given_back name now_named now given same = given.1 (sym same)
+
+-- the memory and the timer after an instruction keep the kernel whole
+pub whole_ran : {W P : Type 0} (is_honest : W → Bool) (held : W → Held) (slot_count : W → ℕ) (asked : W → P) (faults : W → ℕ)
+    (k : Kernel W) (mem : Memory W) (timer : Option ℕ) → IsWhole slot_count held k → (pid : Pid)
+    → KeepsRest is_honest held slot_count asked faults pid k.mem mem → IsWhole slot_count held (with_both mem timer k)
+whole_ran is_honest held slot_count asked faults k mem timer whole pid rest =
+    let with : IsWhole slot_count held (with_memory mem k) = whole_with is_honest held slot_count asked faults k mem whole pid rest in
+    record {
+      mem = with.mem;
+      threads = with.threads;
+      procs = with.procs;
+      cursor = with.cursor;
+      room = with.room;
+      servers = with.servers;
+    }
 
 -- a thread that stays has its registers as before
 pub registers_stay : (answer : Ran) (old new : List ℕ) → Stays answer → LeavesRegisters old new answer → new ≡ old

@@ -1,46 +1,49 @@
 -- The kernel that is booted is sound, and stands for the machine at the start.
 use Rattle.std.proofs.Common.{◌≡◌, ◌⊎◌, ℕ, ◌≤◌, Bool, true, false, List, [], length, Option, Some, None, refl, sym, ap, subst, ◌∙◌, arith, inl, inr}
-use Rattle.std.specs.Prelude.{◌==◌, if◌then◌else◌, IsTrue}
+use Rattle.std.specs.Prelude.{◌==◌, if◌then◌else◌, IsTrue, replicate}
 use Rattle.std.specs.List.{All}
 use Rattle.std.specs.Option.{option_and_then, option_map, option_map_or}
-use Rattle.std.proofs.lemmas.Bool.{cases_Bool, cond-false, eqb-true}
+use Rattle.std.proofs.lemmas.Bool.{cases_Bool, cases_lt, cond-false, eqb-true}
 use Rattle.std.proofs.lemmas.Bool.Decides.{nat_tests}
+use Rattle.std.proofs.lemmas.List.{get_or-replicate, get_or_past, length-replicate}
+use Rattle.std.proofs.lemmas.List.Elements.{All-nil}
 use Rattle.std.proofs.lemmas.Option.{none-some}
 use Rattle.boot_plan.specs.Capacity.{capacity}
 use Rattle.boot_plan.specs.Lawful.{CanStart}
 use Rattle.boot_plan.specs.declared.plans.BootPlan.{BootPlan}
 use Rattle.boot_plan.specs.declared.plans.ProcPlan.{ProcPlan}
-use Rattle.irq_claims.specs.ClaimMap.{ClaimMap, no_claims}
+use Rattle.irq_claims.specs.ClaimMap.{no_claims}
 use Rattle.irq_claims.specs.ClaimsOf.{claims_of}
 use Rattle.ledger_model.specs.Lawful.{IsLawful}
 use Rattle.ledger_model.proofs.Pages.BareLemmas.{bare-lawful}
-use Rattle.ledger_model.specs.Loans.{bare}
+use Rattle.kill_path.specs.Open.{AreServersSound}
+use Rattle.ledger_model.specs.Loans.{bare, loans}
 use Rattle.machine_model.specs.State.Machine.{Thread, Idle, Ready}
 use Rattle.machine_model.specs.Runs.Matched.{Matched}
 use Rattle.machine_model.specs.State.Start.{HasThread, IsStart}
 use Rattle.machine_model.specs.State.Threads.{first_handler_thread, first_thread, thread_id}
 use Rattle.machine_model.proofs.State.StartLemmas.{start_matched}
-use Rattle.msg_queue.specs.Seats.{used_of}
+use Rattle.msg_queue.specs.Seats.{empty_seat, seat_of}
 use Rattle.process_table.specs.ProcessMap.{ProcessMap, new_processes}
 use Rattle.process_table.specs.ProcessesOf.{process_count as processes_made, processes_of}
 use Rattle.process_table.specs.State.{new_process}
-use Rattle.server_table.specs.ServerState.{no_servers}
+use Rattle.server_table.specs.ServerState.{Server, ServerState, no_servers}
 use Rattle.server_table.specs.ServersOf.{servers_of}
 use Rattle.sv32_space.specs.Tie.{Held}
 use Rattle.thread_table.specs.ThreadsOf.{process_count as processes_threaded, threads_of}
 use Rattle.vm_memory.specs.FirstLedger.{first_ledger, process_of as planned_process}
 use Rattle.vm_memory.specs.Memory.{Size, blank_ledger, capacity_of, ledger, processes, size}
 use Rattle.vm_memory.specs.Sound.{IsSound as IsMemorySound}
-use Rattle.vm_memory.specs.Starting.{IsUnlent}
 use Rattle.vm_memory.proofs.Changing.SoundMemoryLemmas.{bare-ledger}
 use Rattle.xk_base.specs.Tables.Circle.{is_pid, is_thread_id}
 use Rattle.xk_base.specs.declared.ids.Pid.{Pid}
 use Rattle.xk_base.specs.declared.ids.ThreadId.{ThreadId}
-use Rattle.xk_base.specs.declared.limits.TheConstants.{RECORD_LIMIT, TIMER_INTERRUPT}
+use Rattle.xk_base.specs.declared.limits.TheConstants.{RECORD_LIMIT, SERVER_LIMIT}
 use Rattle.xk_kernel.proofs.Starting.FirstLedgerLemmas.{IsPlanned, first_no_heap, first_unlent, pid_of_planned, planned_of_pid}
 use Rattle.xk_kernel.specs.Sound.{IsSound}
 use Rattle.xk_kernel.specs.Start.{first_threads, start, threads_at_start}
 use Rattle.send_path.specs.Parts.{process_of, server_of, thread_of}
+use Rattle.send_path.specs.Seats.{HasLoanIfLend, messages_at}
 use Rattle.xk_kernel.specs.State.{as_reservation, claim_of, machine_of}
 use Rattle.xk_kernel.specs.declared.kernel.Kernel.{Kernel}
 
@@ -129,6 +132,13 @@ first_turn = record { pid = record { 0 = 2 }; tid = record { 0 = 2 } }
 first_lies : (n : ℕ) → 1 ≤ n → IsTrue (is_thread_id n first_turn)
 first_lies n some = grind (arith, nat_tests)
 
+-- no seat of those has a message, and none beyond
+none_there : (n seat : ℕ) → seat_of (replicate n empty_seat) seat ≡ empty_seat
+none_there n seat = elim (cases_lt seat n) [
+  | inl low ↦ get_or-replicate n seat empty_seat empty_seat low
+  | inr high ↦ get_or_past (replicate n empty_seat) seat empty_seat (let all : length (replicate n empty_seat) ≡ n = length-replicate n empty_seat in omega arith)
+]
+
 -- its parts are those of the plan
 pub record IsBooted {W : Type 0} (held : W → Held) (plan : BootPlan) (file : List ℕ) (k : Kernel W) : Type 0 where
   pub size : size k.mem ≡ record { procs = length plan.procs; area = record { start = plan.ram_start; frames = plan.frames }; slots = plan.slots }
@@ -136,11 +146,12 @@ pub record IsBooted {W : Type 0} (held : W → Held) (plan : BootPlan) (file : L
   pub threads : (id : ThreadId) → option_map thread_of (threads_of k.threads id) ≡ threads_at_start plan id
   pub procs : processes_of k.procs ≡ new_processes (length plan.procs)
   pub servers : servers_of k.servers ≡ no_servers
-  pub messages : All (λ seat. used_of seat ≡ 0) k.queues
+  pub messages : k.queues ≡ replicate SERVER_LIMIT empty_seat
   pub claims : claims_of k.claims ≡ no_claims
   pub cursor : k.cursor ≡ first_turn
   pub next : k.next ≡ 1
   pub steps : k.steps ≡ 0
+  pub timer : k.timer ≡ None
   pub reserved : k.reserved ≡ None
 
 pub booted_machine : {W : Type 0} (held : W → Held) (plan : BootPlan) (file : List ℕ) (k : Kernel W) → IsBooted held plan file k → machine_of held k ≡ start plan file
@@ -158,7 +169,7 @@ booted_machine held plan file k h = λ i. record {
   pending = λ n. option_map_or (λ c. c.pending) (h.claims i n) false;
   next_number = h.next i;
   next_serial = (h.servers i).next;
-  compare = None;
+  compare = h.timer i;
   reserved = option_map as_reservation (h.reserved i);
 }
 
@@ -173,6 +184,30 @@ module _ {W : Type 0} (slot_count : W → ℕ) (held : W → Held) (plan : BootP
   pub booted_matched : Matched (machine_of held k)
   booted_matched = subst Matched (sym (booted_machine held plan file k h)) (start_matched (start plan file) (start_is_start plan file can few ledger_lawful))
 
+  no_server : (n : ℕ) (server : Server) → (servers_of k.servers).live n ≡ Some server → ⊥
+  no_server n server e = none-some server (sym (ap (λ (s : ServerState). s.live n) h.servers) ∙ e)
+
+  empty_at_start : (seat : ℕ) → seat_of k.queues seat ≡ empty_seat
+  empty_at_start seat = ap (λ seats. seat_of seats seat) h.messages ∙ none_there SERVER_LIMIT seat
+
+  -- there is no server, no message and no loan
+  servers_at_start : AreServersSound (processes k.mem) (loans (ledger held k.mem)) k.servers k.queues
+  unfolding machine_of
+  servers_at_start = record {
+    messages = record {
+      seats = record {
+        all = ap length h.messages ∙ length-replicate SERVER_LIMIT empty_seat;
+        empty = λ seat low none. empty_at_start seat;
+        loans = λ seat. subst (λ s. All HasLoanIfLend (messages_at s)) (sym (empty_at_start seat)) (All-nil HasLoanIfLend);
+      };
+      fit = λ n server e. absurd (no_server n server e);
+      senders = λ n server e. absurd (no_server n server e);
+      numbers = booted_matched.body.servers.numbers;
+    };
+    loans = booted_matched.body.loans;
+    owners = λ n server e. absurd (no_server n server e);
+  }
+
   pub booted_sound : 1 ≤ length plan.procs → processes_threaded k.threads ≡ length plan.procs → processes_made k.procs ≡ length plan.procs → RECORD_LIMIT ≤ k.log.room
       → IsSound slot_count held k
   booted_sound some threaded made room = record {
@@ -182,9 +217,7 @@ module _ {W : Type 0} (slot_count : W → ℕ) (held : W → Held) (plan : BootP
       procs = made ∙ sym count;
       cursor = subst (λ (id : ThreadId). IsTrue (is_thread_id (processes k.mem) id)) (sym h.cursor) (subst (λ (n : ℕ). IsTrue (is_thread_id n first_turn)) (sym count) (first_lies (length plan.procs) some));
       room = room;
-      unlent = subst IsUnlent (sym h.ledger) (first_unlent plan file);
-      no_messages = h.messages;
-      untimed = ap (λ (m : ClaimMap). m TIMER_INTERRUPT) h.claims;
+      servers = servers_at_start;
     };
     matched = λ usable. booted_matched;
   }

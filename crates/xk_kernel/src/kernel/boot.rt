@@ -1,9 +1,9 @@
 //! A kernel is booted.
 
 ghost use Rattle.std.specs.Option.{option_map};
-ghost use Rattle.std.specs.Prelude.{◌≡◌, ◌≤◌, ◌==◌, if◌then◌else◌, [], All, None, IfErr, IfOk, length};
+ghost use Rattle.std.specs.Prelude.{◌≡◌, ◌≤◌, ◌==◌, if◌then◌else◌, [], All, None, IfErr, IfOk, length, replicate};
 ghost use Rattle.boot_plan.specs.Lawful.{CanStart, IsLawfulPlan};
-ghost use Rattle.msg_queue.specs.Seats.{used_of};
+ghost use Rattle.msg_queue.specs.Seats.{empty_seat};
 ghost use Rattle.process_table.specs.ProcessMap.{new_processes};
 ghost use Rattle.process_table.specs.ProcessesOf.{process_count as processes_made, processes_of};
 ghost use Rattle.server_table.specs.ServerState.{no_servers};
@@ -16,7 +16,7 @@ ghost use Rattle.vm_memory.specs.Tie.{IsTied};
 ghost use Rattle.xk_base.specs.Tables.Circle.{IsPid};
 ghost use Rattle.xk_base.specs.declared.ids.ThreadId.{ThreadId as Id};
 ghost use Rattle.xk_base.specs.declared.ids.Tid.{Tid as TidNumber};
-ghost use Rattle.xk_base.specs.declared.limits.TheConstants.{RECORD_LIMIT};
+ghost use Rattle.xk_base.specs.declared.limits.TheConstants.{RECORD_LIMIT, SERVER_LIMIT};
 ghost use Rattle.xk_kernel.specs.Sound.{IsSound, IsUsable};
 ghost use Rattle.xk_kernel.specs.Start.{first_threads, start, threads_at_start};
 ghost use Rattle.send_path.specs.Parts.{thread_of};
@@ -32,6 +32,7 @@ use process_table::Processes;
 use server_table::Servers;
 use std::alloc::Global;
 use thread_table::{Thread, ThreadState, Threads};
+use timer_device::Timer;
 use vm_memory::{BootError, BootFault, Memory};
 use xk_base::limits::RECORD_LIMIT;
 use xk_base::{Log, NoMemory, Pid, Regs, ThreadId, Tid};
@@ -47,7 +48,9 @@ type Tables = (Threads, Processes, Servers, Log, Queues);
 fn start_process(threads: &mut Threads, pid: Pid, entry: u32)
     requires pid { IsPid (process_count threads.old) pid.0 }
     requires none { (tid : TidNumber) → threads_of threads.old (record { pid = pid; tid = tid }) ≡ None }
-    ensures after { (id : Id) → option_map thread_of (threads_of threads.new id) ≡ (if id.pid.0 == pid.0 then first_threads entry id.tid.0 else option_map thread_of (threads_of threads.old id)) }
+    ensures after { let old = threads_of threads.old in
+        let new = threads_of threads.new in
+        (id : Id) → option_map thread_of (new id) ≡ (if id.pid.0 == pid.0 then first_threads entry id.tid.0 else option_map thread_of (old id)) }
     ensures count { process_count threads.new ≡ process_count threads.old }
 {
     let idle = Thread {
@@ -83,7 +86,7 @@ fn tables(alloc: Global, plan: &BootPlan) -> Result<Tables, NoMemory>
     ensures made { IfOk result (λ t. processes_made t.1 ≡ length plan.now.procs) }
     ensures servers { IfOk result (λ t. servers_of t.2 ≡ no_servers) }
     ensures log { IfOk result (λ t. t.3 ≡ record { step = 0; records = []; room = RECORD_LIMIT }) }
-    ensures queues { IfOk result (λ t. All (λ seat. used_of seat ≡ 0) t.4) }
+    ensures queues { IfOk result (λ t. t.4 ≡ replicate SERVER_LIMIT empty_seat) }
 {
     let count = plan.procs.as_slice().len() as u32;
     let mut threads = Threads::new(alloc, count)?;
@@ -115,7 +118,9 @@ impl<W: SwapStore> Kernel<W> {
         ensures start { IfOk result (λ k. machine_of W.held k ≡ start plan.now file.now) }
         ensures records { IfOk result (λ k. last_of k ≡ []) }
         ensures tie { IfOk result (λ k. IsTied W.held k.mem) }
-        ensures size { IfOk result (λ k. size k.mem ≡ record { procs = length plan.now.procs; area = record { start = plan.now.ram_start; frames = plan.now.frames }; slots = plan.now.slots }) }
+        ensures size { let first = plan.now.ram_start in
+            let frames = plan.now.frames in
+            IfOk result (λ k. size k.mem ≡ record { procs = length plan.now.procs; area = record { start = first; frames = frames }; slots = plan.now.slots }) }
         ensures store { IfOk result (λ k. KeepsStore W.is_honest W.held W.slot_count W.asked W.faults store (store_of k.mem)) }
         ensures back { IfErr result (λ fault. KeepsStore W.is_honest W.held W.slot_count W.asked W.faults store fault.store) }
         // Until pages can be out, want of memory is all that can come.
@@ -151,6 +156,7 @@ impl<W: SwapStore> Kernel<W> {
             },
             next: 1,
             steps: 0,
+            timer: Timer::new(),
             reserved: None,
         })
     }

@@ -1,19 +1,15 @@
 //! System calls.
 
-ghost use Rattle.std.specs.Prelude.{ℕ, List, ◌≡◌, ◌+◌, ◌<◌, ◌≤◌, true, length, IsOk, OnOk, IfOk};
+ghost use Rattle.std.specs.Prelude.{ℕ, List, ◌≡◌, ◌+◌, ◌<◌, ◌≤◌, true, false, length, IsOk, OnOk, IfOk};
 ghost use Rattle.machine_model.specs.Calling.Calls.{call};
-ghost use Rattle.machine_model.specs.State.Changes.{call_settled};
-ghost use Rattle.machine_model.specs.Runs.Matched.{Matched};
+ghost use Rattle.machine_model.specs.State.Changes.{Refused, Retried, call_settled};
 ghost use Rattle.machine_model.specs.State.Order.{ready_at};
 ghost use Rattle.machine_model.specs.Stepping.Step.{after};
 ghost use Rattle.syscall_codec.specs.Calls.{Asks};
-ghost use Rattle.syscall_codec.specs.declared.calls.Call.TheVariants.{TerminateProcess};
-ghost use Rattle.xk_base.specs.Calls.CallNumbers.{terminate_process};
-ghost use Rattle.xk_base.specs.Calls.CallWords.{call_number};
+ghost use Rattle.xk_base.specs.Tables.Circle.{thread_ids};
+ghost use Rattle.xk_base.specs.declared.limits.TheConstants.{PROCESS_LIMIT};
 ghost use Rattle.xk_base.specs.declared.records.What.TheVariants.{Call as Called};
-ghost use Rattle.xk_kernel.specs.Alone.{DiesPlainly};
-ghost use Rattle.xk_kernel.specs.Built.{is_call_built};
-ghost use Rattle.xk_kernel.specs.Calling.{IfUndone, outcome_of};
+ghost use Rattle.xk_kernel.specs.Calling.{IfUndone, IsCaller, is_plain_call, is_refused_caller, outcome_of};
 ghost use Rattle.xk_kernel.specs.Sound.{IsUsable, IsWhole, Keeps};
 ghost use Rattle.xk_kernel.specs.State.{machine_of};
 ghost use Rattle.xk_kernel.specs.Telling.{Tells};
@@ -30,97 +26,143 @@ pub enum CallerFate {
     Answered(Reply),
     /// The caller waits.
     Waits,
-    /// The caller's process died.
-    Died,
     /// The caller will make the call again, which did nothing.
     Retries,
 }
 
 impl<W: SwapStore> Kernel<W> {
-    // The thread whose turn it is makes the call with these words, which is built.
+    // The thread whose turn it is makes the call with these words.
     pub(super) fn call(&mut self, words: [u32; 8]) -> Result<(), SwapFault>
-        requires whole { IsWhole W.slot_count W.held self.old }
-        requires usable { IsUsable self.old }
-        requires matched { Matched (machine_of W.held self.old) }
-        requires few { self.old.steps < 4000000000 }
-        requires built { is_call_built words ≡ true }
-        requires plain { call_number words ≡ terminate_process → DiesPlainly self.old.cursor.pid (machine_of W.held self.old) }
-        requires ready { ready_at (machine_of W.held self.old) self.old.cursor ≡ true }
+        requires calls { IsCaller W.slot_count W.held self.old }
+        requires room { length self.old.log.records + thread_ids PROCESS_LIMIT + 2 ≤ self.old.log.room }
+        ensures whole { IsWhole W.slot_count W.held self.new }
+        ensures usable { OnOk result (IsUsable self.new) }
+        ensures tells { let m = machine_of W.held self.old in
+            OnOk result (Tells W.held self.old self.new (after (Called self.old.cursor words) (call_settled m (call m words)))) }
+        ensures keeps { Keeps W.is_honest W.held W.slot_count W.asked W.faults self.old self.new }
+        ensures sure { IsOk result }
+    {
+        self.log.push(What::Call(self.cursor, words));
+        match read_call(words) {
+            Ok(asked) => self.call_asked(words, asked),
+            Err(error) => {
+                self.refuse(error);
+                Ok(())
+            }
+        }
+    }
+
+    // Whether the caller is the interrupt thread, and the call can make it wait.
+    fn is_refused(&self, asked: &Call) -> bool
+        ensures { (words : List ℕ) → Asks words asked.now → result ≡ is_refused_caller (machine_of W.held self.now) words }
+    {
+        self.cursor.tid.0 == 1 && can_wait(asked)
+    }
+
+    // The call that these words ask for takes place. A call on messages, and one that ends a process or
+    // a server, answers who is to be answered itself.
+    fn call_asked(&mut self, words: [u32; 8], asked: Call) -> Result<(), SwapFault>
+        requires calls { IsCaller W.slot_count W.held self.old }
+        requires asks { Asks words asked }
+        requires room { length self.old.log.records + thread_ids PROCESS_LIMIT + 1 ≤ self.old.log.room }
+        ensures whole { IsWhole W.slot_count W.held self.new }
+        ensures usable { OnOk result (IsUsable self.new) }
+        ensures tells { let m = machine_of W.held self.old in
+            OnOk result (Tells W.held self.old self.new (call_settled m (call m words))) }
+        ensures keeps { Keeps W.is_honest W.held W.slot_count W.asked W.faults self.old self.new }
+        ensures sure { IsOk result }
+    {
+        if self.is_refused(&asked) {
+            self.refuse(XousError::InvalidSyscall);
+            return Ok(());
+        }
+        match asked {
+            Call::SendMessage { .. } => self.send_message(words, false),
+            Call::TrySendMessage { .. } => self.send_message(words, true),
+            Call::ReceiveMessage { sid } => self.receive_message(sid, true),
+            Call::TryReceiveMessage { sid } => self.receive_message(sid, false),
+            Call::ReturnMemory { .. } | Call::ReturnScalar1 { .. } | Call::ReturnScalar2 { .. } => {
+                self.give_back_message(words);
+            }
+            Call::ForwardMessage { .. } => self.forward_message(words),
+            Call::TerminateProcess { .. } => self.terminate(),
+            Call::DestroyServer { sid } => self.destroy_server(sid),
+            _ => return self.call_plain(words, asked),
+        }
+        Ok(())
+    }
+
+    // The call that these words ask for, which is none of those, is served, and its caller is past it and
+    // has its answer.
+    fn call_plain(&mut self, words: [u32; 8], asked: Call) -> Result<(), SwapFault>
+        requires calls { IsCaller W.slot_count W.held self.old }
+        requires asks { Asks words asked }
+        requires free { is_refused_caller (machine_of W.held self.old) words ≡ false }
+        requires plain { is_plain_call words ≡ true }
         requires room { length self.old.log.records + 2 ≤ self.old.log.room }
         ensures whole { IsWhole W.slot_count W.held self.new }
         ensures usable { OnOk result (IsUsable self.new) }
-        ensures tells { OnOk result (Tells W.held self.old self.new (after (Called self.old.cursor words) (call_settled (machine_of W.held self.old) (call (machine_of W.held self.old) words)))) }
+        ensures tells { let m = machine_of W.held self.old in
+            OnOk result (Tells W.held self.old self.new (call_settled m (call m words))) }
         ensures keeps { Keeps W.is_honest W.held W.slot_count W.asked W.faults self.old self.new }
         ensures sure { IsOk result }
     {
         let who = self.cursor;
-        self.log.push(What::Call(who, words));
-        let outcome = self.outcome(words)?;
+        let outcome = self.serve(asked)?;
         match outcome {
             Ok(CallerFate::Answered(reply)) => {
                 self.pass(who);
                 self.answer(who, reply_words(&reply));
             }
             Ok(CallerFate::Waits) => self.pass(who),
-            Ok(CallerFate::Died) => {
-                self.pass(who);
-                self.log.push(What::Gone(who.pid));
-            }
-            Ok(CallerFate::Retries) => {
-                self.log.push(What::Retry(who));
-                self.turn();
-            }
-            Err(error) => {
-                self.pass(who);
-                self.answer(who, reply_words(&Reply::Refused(error)));
-            }
+            Ok(CallerFate::Retries) => self.retry(),
+            Err(error) => self.refuse(error),
         }
         Ok(())
     }
 
-    // What comes of a call with these words, before its caller is past it and has its answer.
-    fn outcome(&mut self, words: [u32; 8]) -> Result<Result<CallerFate, XousError>, SwapFault>
+    // The call of the thread whose turn it is is refused: the thread is past it, and is answered the
+    // error.
+    pub(super) fn refuse(&mut self, error: XousError)
         requires whole { IsWhole W.slot_count W.held self.old }
-        requires usable { IsUsable self.old }
         requires ready { ready_at (machine_of W.held self.old) self.old.cursor ≡ true }
-        requires matched { Matched (machine_of W.held self.old) }
-        requires few { self.old.steps < 4000000000 }
-        requires built { is_call_built words ≡ true }
-        requires plain { call_number words ≡ terminate_process → DiesPlainly self.old.cursor.pid (machine_of W.held self.old) }
+        requires room { length self.old.log.records < self.old.log.room }
         ensures whole { IsWhole W.slot_count W.held self.new }
-        ensures usable { OnOk result (IsUsable self.new) }
-        ensures outcome { IfOk result (λ served. outcome_of self.old.cursor (machine_of W.held self.new) served ≡ call (machine_of W.held self.old) words) }
-        ensures undone { IfOk result (λ served. IfUndone served (self.new ≡ self.old)) }
-        ensures log { self.new.log ≡ self.old.log }
-        ensures keeps { Keeps W.is_honest W.held W.slot_count W.asked W.faults self.old self.new }
-        ensures sure { IsOk result }
+        ensures tells { Tells W.held self.old self.new (call_settled (machine_of W.held self.old) (Refused error)) }
+        ensures mem { self.new.mem ≡ self.old.mem }
     {
-        match read_call(words) {
-            Ok(asked) => self.serve(asked),
-            Err(error) => Ok(Err(error)),
-        }
+        let who = self.cursor;
+        self.pass(who);
+        self.answer(who, reply_words(&Reply::Refused(error)));
+    }
+
+    // The thread whose turn it is will make its call again: its turn ends.
+    pub(super) fn retry(&mut self)
+        requires whole { IsWhole W.slot_count W.held self.old }
+        requires room { length self.old.log.records < self.old.log.room }
+        ensures whole { IsWhole W.slot_count W.held self.new }
+        ensures tells { Tells W.held self.old self.new (call_settled (machine_of W.held self.old) Retried) }
+        ensures mem { self.new.mem ≡ self.old.mem }
+    {
+        self.log.push(What::Retry(self.cursor));
+        self.turn();
     }
 
     // What comes of the call that is asked for.
     fn serve(&mut self, asked: Call) -> Result<Result<CallerFate, XousError>, SwapFault>
-        requires whole { IsWhole W.slot_count W.held self.old }
-        requires usable { IsUsable self.old }
-        requires ready { ready_at (machine_of W.held self.old) self.old.cursor ≡ true }
-        requires matched { Matched (machine_of W.held self.old) }
-        requires few { self.old.steps < 4000000000 }
-        requires built { (words : List ℕ) × Asks words asked × (is_call_built words ≡ true) }
-        requires plain { (exit : ℕ) → asked ≡ TerminateProcess exit → DiesPlainly self.old.cursor.pid (machine_of W.held self.old) }
+        requires calls { IsCaller W.slot_count W.held self.old }
+        requires free { (words : List ℕ) → Asks words asked → is_refused_caller (machine_of W.held self.old) words ≡ false }
+        requires plain { (words : List ℕ) × Asks words asked × (is_plain_call words ≡ true) }
         ensures whole { IsWhole W.slot_count W.held self.new }
         ensures usable { OnOk result (IsUsable self.new) }
-        ensures outcome { IfOk result (λ served. (words : List ℕ) → Asks words asked → outcome_of self.old.cursor (machine_of W.held self.new) served ≡ call (machine_of W.held self.old) words) }
+        ensures outcome { let old = machine_of W.held self.old in
+            let new = machine_of W.held self.new in
+            IfOk result (λ served. (words : List ℕ) → Asks words asked → outcome_of self.old.cursor new served ≡ call old words) }
         ensures undone { IfOk result (λ served. IfUndone served (self.new ≡ self.old)) }
         ensures log { self.new.log ≡ self.old.log }
         ensures keeps { Keeps W.is_honest W.held W.slot_count W.asked W.faults self.old self.new }
         ensures sure { IsOk result }
     {
-        if self.cursor.tid.0 == 1 && can_wait(&asked) {
-            return Ok(Err(XousError::InvalidSyscall));
-        }
         match asked {
             Call::MapMemory {
                 phys,
@@ -151,10 +193,6 @@ impl<W: SwapStore> Kernel<W> {
             Call::TryConnect { sid } => Ok(self.try_connect(sid)),
             Call::CreateThread { entry, sp, args } => Ok(self.create_thread(entry, sp, args)),
             Call::JoinThread { tid } => Ok(self.join_thread(tid)),
-            Call::TerminateProcess { .. } => {
-                self.forget(self.cursor.pid);
-                Ok(Ok(CallerFate::Died))
-            }
             Call::GetThreadId => Ok(Ok(CallerFate::Answered(Reply::Thread(self.cursor.tid)))),
             Call::GetProcessId => {
                 let pid = self.cursor.pid.0 as u32;

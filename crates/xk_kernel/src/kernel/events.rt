@@ -1,40 +1,18 @@
 //! The events beside the steps of a tick.
 
-ghost use Rattle.std.specs.Prelude.{◌≡◌, true};
+ghost use Rattle.std.specs.Prelude.{◌≡◌};
 ghost use Rattle.machine_model.specs.Stepping.Events.{picked};
 ghost use Rattle.vm_memory.specs.Tie.{IsTied};
-ghost use Rattle.xk_kernel.specs.Built.{event_built, kill_built};
 ghost use Rattle.xk_kernel.specs.Sound.{IsSound, IsUsable, IsWhole, Keeps};
 ghost use Rattle.xk_kernel.specs.State.{machine_of};
 ghost use Rattle.xk_kernel.specs.Stepping.{Becomes, event_done};
 
 use crate::kernel::Kernel;
 use event_text::Event;
-use xk_base::{Pid, ThreadId, What};
+use xk_base::ThreadId;
 use xk_ports::SwapStore;
 
 impl<W: SwapStore> Kernel<W> {
-    /// Whether the event is built: all are, but for the kill of a living process that owns a live server
-    /// or has a thread that waits for an answer.
-    pub fn event_built(&self, e: Event) -> bool
-        ensures { result ≡ event_built e (machine_of W.held self.now) }
-    {
-        match e {
-            Event::Tick(_) | Event::Pick(_, _) | Event::Irq(_) => true,
-            Event::Kill(pid) => self.kill_built(pid),
-        }
-    }
-
-    // Whether the kill of the process is built.
-    fn kill_built(&self, pid: Pid) -> bool
-        ensures { result ≡ kill_built pid (machine_of W.held self.now) }
-    {
-        if !self.procs.alive(pid) {
-            return true;
-        }
-        self.is_alone(pid)
-    }
-
     // The cursor goes to that thread, where it is Ready.
     fn pick(&mut self, who: ThreadId)
         requires whole { IsWhole W.slot_count W.held self.old }
@@ -53,7 +31,6 @@ impl<W: SwapStore> Kernel<W> {
     pub fn event_start(&mut self, e: Event)
         requires sound { IsSound W.slot_count W.held self.old }
         requires usable { IsUsable self.old }
-        requires built { event_built e (machine_of W.held self.old) ≡ true }
         ensures sound { IsSound W.slot_count W.held self.new }
         ensures usable { IsUsable self.new }
         ensures does { Becomes W.held self.new (event_done e (machine_of W.held self.old)) }
@@ -67,8 +44,7 @@ impl<W: SwapStore> Kernel<W> {
             Event::Kill(pid) => {
                 self.reserved = None;
                 if self.procs.alive(pid) {
-                    self.forget(pid);
-                    self.log.push(What::Gone(pid));
+                    self.kill(pid);
                 }
             }
             Event::Irq(number) => self.raise(number),

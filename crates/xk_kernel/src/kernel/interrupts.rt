@@ -32,7 +32,7 @@ pub(super) const HANDLER_RETURN: u32 = 0xFF80_2000;
 const HANDLER_STACK: u32 = 0x7F00_1000;
 
 // The interrupt thread of the process.
-fn handler_id(pid: Pid) -> ThreadId
+pub(super) fn handler_id(pid: Pid) -> ThreadId
     ensures { result ≡ thread_id pid 1 }
 {
     ThreadId { pid, tid: Tid(1) }
@@ -62,7 +62,7 @@ impl<W: SwapStore> Kernel<W> {
 
     // Delivery is tried: where the interrupt thread of the process runs no handler and the process has
     // a pending number, the handler of the lowest starts. Whether one does is the answer.
-    fn deliver(&mut self, pid: Pid) -> bool
+    pub(super) fn deliver(&mut self, pid: Pid) -> bool
         requires whole { IsWhole W.slot_count W.held self.old }
         requires room { length self.old.log.records < self.old.log.room }
         ensures whole { IsWhole W.slot_count W.held self.new }

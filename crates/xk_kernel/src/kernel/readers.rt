@@ -10,6 +10,7 @@ ghost use Rattle.xk_kernel.specs.State.{machine_of};
 ghost use Rattle.xk_kernel.specs.Stepping.{last_of};
 
 use crate::kernel::Kernel;
+use kill_path::close_all;
 use phys_pages::Ram;
 use thread_table::ThreadState;
 use vm_memory::Here;
@@ -112,18 +113,20 @@ impl<W: SwapStore> Kernel<W> {
         ensures { result ≡ store_of self.mem }
     {
         let Kernel {
-            mem,
+            mut mem,
             threads: _,
             procs: _,
-            servers: _,
-            queues,
+            mut servers,
+            mut queues,
             claims: _,
             log: _,
             cursor: _,
             next: _,
             steps: _,
+            timer: _,
             reserved: _,
         } = self;
+        close_all(&mut mem, &mut servers, &mut queues);
         queues.close();
         mem.close()
     }

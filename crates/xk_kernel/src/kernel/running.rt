@@ -1,20 +1,69 @@
-//! The instruction of a thread is executed over the memory of its process.
+//! The instruction of a thread is executed over the memory of its process, with the timer's page over it where the
+//! process has claimed the timer's interrupt.
 
-ghost use Rattle.std.specs.Prelude.{◌≡◌, ◌%◌, IsSome, Some};
+ghost use Rattle.std.specs.Prelude.{◌≡◌, ◌%◌, false, IsSome, Some};
+ghost use Rattle.machine_model.specs.Runs.Matched.{Matched};
 ghost use Rattle.machine_model.specs.State.Machine.{Thread as ModelThread};
 ghost use Rattle.machine_model.specs.Stepping.Reservations.{reserved_by};
 ghost use Rattle.machine_model.specs.Stepping.Step.{performed};
-ghost use Rattle.rv32_hart.specs.Running.{ran_of};
-ghost use Rattle.xk_kernel.specs.Running.{machine_after};
+ghost use Rattle.rv32_atomics.specs.Performing.{Core, Performs};
+ghost use Rattle.rv32_hart.specs.Running.{IfFailed, LeavesRegisters, View, ran_of};
+ghost use Rattle.xk_kernel.specs.Running.{machine_after, timed_view};
 ghost use Rattle.xk_kernel.specs.Sound.{IsUsable, IsWhole, Keeps};
 ghost use Rattle.xk_kernel.specs.State.{machine_of};
 
 use crate::kernel::Kernel;
 use rv32_atomics::run_any;
 use rv32_hart::Ran;
+use std::mem::replace;
+use thread_table::Thread;
+use timer_device::{Timer, TimerView};
 use vm_memory::User;
-use xk_base::ThreadId;
+use xk_base::{ThreadId, UserMemory};
 use xk_ports::SwapStore;
+
+// Executes the instruction at the pc over a memory with the timer's page over it, and hands the memory
+// back. What it keeps besides stays.
+fn run_over<U: UserMemory>(
+    thread: &mut Thread,
+    reserved: &mut Option<u32>,
+    inner: U,
+    timer: &mut Timer,
+    on: bool,
+    steps: u32,
+    ran: &mut Ran,
+) -> U
+    requires aligned { thread.old.pc % 4 ≡ 0 }
+    requires fit { U.fit inner }
+    requires same { U.same_rest inner inner }
+    ensures performs { let told : View = record { may = U.may inner; console = U.console inner; content = U.content inner; timer = U.timer inner } in
+        let left : View = record { may = U.may result; console = U.console result; content = U.content result; timer = U.timer result } in
+        let old : Core = record { regs = thread.old.regs; reserved = reserved.old } in
+        let new : Core = record { regs = thread.new.regs; reserved = reserved.new } in
+        Performs (timed_view on steps timer.old told) (timed_view on steps timer.new left) old new thread.old.pc ran.new }
+    ensures leaves { LeavesRegisters thread.old.regs thread.new.regs ran.new }
+    ensures rest { U.same_rest inner result }
+    // A timer whose page isn't there stays.
+    ensures timer { on ≡ false → timer.new ≡ timer.old }
+    ensures unfit { IfFailed ran.new (¬ U.fit result) }
+    ensures thread { thread.new ≡ record thread.old { regs = thread.new.regs } }
+{
+    let mut view = TimerView {
+        inner,
+        timer: replace(timer, Timer::new()),
+        on,
+        steps,
+    };
+    *ran = run_any(&mut thread.regs, thread.pc, reserved, &mut view);
+    let TimerView {
+        inner,
+        timer: left,
+        on: _,
+        steps: _,
+    } = view;
+    *timer = left;
+    inner
+}
 
 impl<W: SwapStore> Kernel<W> {
     // The address that the thread has reserved, if it has.
@@ -32,6 +81,7 @@ impl<W: SwapStore> Kernel<W> {
     pub(super) fn run(&mut self, who: ThreadId, reserved: &mut Option<u32>) -> Ran
         requires whole { IsWhole W.slot_count W.held self.old }
         requires usable { IsUsable self.old }
+        requires matched { Matched (machine_of W.held self.old) }
         requires there { IsSome ((machine_of W.held self.old).threads who) }
         requires aligned { (t : ModelThread) → (machine_of W.held self.old).threads who ≡ Some t → t.pc % 4 ≡ 0 }
         requires reserved { reserved.old ≡ reserved_by who (machine_of W.held self.old).reserved }
@@ -44,12 +94,22 @@ impl<W: SwapStore> Kernel<W> {
         ensures log { self.new.log ≡ self.old.log }
         ensures keeps { Keeps W.is_honest W.held W.slot_count W.asked W.faults self.old self.new }
     {
+        let on = self.has_timer(who.pid);
         let thread = self.threads.thread_mut(who);
-        let mut user = User {
+        let user = User {
             mem: &mut self.mem,
             pid: who.pid,
         };
-        let ran = run_any(&mut thread.regs, thread.pc, reserved, &mut user);
+        let mut ran = Ran::Failed;
+        let user = run_over(
+            thread,
+            reserved,
+            user,
+            &mut self.timer,
+            on,
+            self.steps,
+            &mut ran,
+        );
         let User { mem: _, pid: _ } = user;
         match ran {
             Ran::Next(next) | Ran::Device { next, .. } => thread.pc = next,

@@ -1,18 +1,25 @@
-//! The calls that make a server and connect to one. The caller is the thread whose turn it is.
+//! The calls that make a server, connect to one and end one. The caller is the thread whose turn it is.
 
-ghost use Rattle.std.specs.Prelude.{◌≡◌, ◌<◌, ◌∷◌, true};
-ghost use Rattle.machine_model.specs.Calling.ServerCalls.{connect_refusals, connect_served, create_server_refusals, create_server_served, is_missing};
-ghost use Rattle.machine_model.specs.State.Changes.{Served, unless_refused, unless_retried};
+ghost use Rattle.std.specs.Prelude.{◌≡◌, ◌+◌, ◌<◌, ◌≤◌, ◌∷◌, length, true};
+ghost use Rattle.machine_model.specs.Calling.ServerCalls.{connect_refusals, connect_served, create_server_refusals, create_server_served, destroy_served, is_missing, own_server_refusals};
+ghost use Rattle.machine_model.specs.Runs.Matched.{Matched};
+ghost use Rattle.machine_model.specs.State.Changes.{Served, call_settled, unless_refused, unless_retried};
 ghost use Rattle.machine_model.specs.State.Connections.{connect_caller, own_connections};
+ghost use Rattle.machine_model.specs.State.Order.{ready_at};
+ghost use Rattle.send_path.specs.Seats.{own_serial};
 ghost use Rattle.server_table.specs.ServersOf.{servers_of};
+ghost use Rattle.xk_base.specs.Tables.Circle.{thread_ids};
 ghost use Rattle.xk_base.specs.Tables.Connections.{cid_for, has_room};
 ghost use Rattle.xk_base.specs.declared.errors.XousError.TheVariants.{ServerNotFound as NotFound};
-ghost use Rattle.xk_kernel.specs.Calling.{IfUndone, connected_outcome, outcome_of};
-ghost use Rattle.xk_kernel.specs.Sound.{IsWhole};
+ghost use Rattle.xk_base.specs.declared.limits.TheConstants.{PROCESS_LIMIT};
+ghost use Rattle.xk_kernel.specs.Calling.{IfUndone, IsCaller, connected_outcome, outcome_of};
+ghost use Rattle.xk_kernel.specs.Sound.{IsUsable, IsWhole, Keeps};
 ghost use Rattle.xk_kernel.specs.State.{machine_of};
+ghost use Rattle.xk_kernel.specs.Telling.{Tells};
 
 use crate::kernel::Kernel;
 use crate::kernel::calls::CallerFate;
+use kill_path::destroy;
 use syscall_codec::Reply;
 use xk_base::{Cid, Serial, Sid, XousError};
 use xk_ports::SwapStore;
@@ -45,9 +52,13 @@ impl<W: SwapStore> Kernel<W> {
     // CreateServerWithAddress: a server of the caller's process, to which the caller is connected.
     pub(super) fn create_server(&mut self, sid: Sid) -> Result<CallerFate, XousError>
         requires whole { IsWhole W.slot_count W.held self.old }
+        requires matched { Matched (machine_of W.held self.old) }
+        requires ready { ready_at (machine_of W.held self.old) self.old.cursor ≡ true }
         requires serials { (servers_of self.old.servers).next < 4294967295 }
         ensures whole { IsWhole W.slot_count W.held self.new }
-        ensures outcome { outcome_of self.old.cursor (machine_of W.held self.new) result ≡ unless_refused (create_server_refusals (machine_of W.held self.old) sid) (Served (create_server_served (machine_of W.held self.old) sid)) }
+        ensures outcome { let old = machine_of W.held self.old in
+            let new = machine_of W.held self.new in
+            outcome_of self.old.cursor new result ≡ unless_refused (create_server_refusals old sid) (Served (create_server_served old sid)) }
         ensures undone { IfUndone result (self.new ≡ self.old) }
         ensures mem { self.new.mem ≡ self.old.mem }
         ensures log { self.new.log ≡ self.old.log }
@@ -86,7 +97,9 @@ impl<W: SwapStore> Kernel<W> {
     pub(super) fn connect(&mut self, sid: Sid) -> Result<CallerFate, XousError>
         requires whole { IsWhole W.slot_count W.held self.old }
         ensures whole { IsWhole W.slot_count W.held self.new }
-        ensures outcome { outcome_of self.old.cursor (machine_of W.held self.new) result ≡ unless_retried (is_missing (machine_of W.held self.old) sid) (unless_refused (connect_refusals (machine_of W.held self.old) sid) (Served (connect_served (machine_of W.held self.old) sid))) }
+        ensures outcome { let old = machine_of W.held self.old in
+            let new = machine_of W.held self.new in
+            outcome_of self.old.cursor new result ≡ unless_retried (is_missing old sid) (unless_refused (connect_refusals old sid) (Served (connect_served old sid))) }
         ensures undone { IfUndone result (self.new ≡ self.old) }
         ensures mem { self.new.mem ≡ self.old.mem }
         ensures log { self.new.log ≡ self.old.log }
@@ -101,7 +114,9 @@ impl<W: SwapStore> Kernel<W> {
     pub(super) fn try_connect(&mut self, sid: Sid) -> Result<CallerFate, XousError>
         requires whole { IsWhole W.slot_count W.held self.old }
         ensures whole { IsWhole W.slot_count W.held self.new }
-        ensures outcome { outcome_of self.old.cursor (machine_of W.held self.new) result ≡ unless_refused ((is_missing (machine_of W.held self.old) sid, NotFound) ∷ connect_refusals (machine_of W.held self.old) sid) (Served (connect_served (machine_of W.held self.old) sid)) }
+        ensures outcome { let old = machine_of W.held self.old in
+            let new = machine_of W.held self.new in
+            outcome_of self.old.cursor new result ≡ unless_refused ((is_missing old sid, NotFound) ∷ connect_refusals old sid) (Served (connect_served old sid)) }
         ensures undone { IfUndone result (self.new ≡ self.old) }
         ensures mem { self.new.mem ≡ self.old.mem }
         ensures log { self.new.log ≡ self.old.log }
@@ -109,6 +124,42 @@ impl<W: SwapStore> Kernel<W> {
         match self.servers.find(sid) {
             Some(serial) => self.connect_to(serial),
             None => Err(XousError::ServerNotFound),
+        }
+    }
+
+    // The live server with that identifier, where it is one of the caller's process.
+    fn own_server(&self, sid: Sid) -> Option<Serial>
+        ensures { result ≡ own_serial self.now.cursor.pid sid (servers_of self.now.servers) }
+    {
+        let serial = self.servers.find(sid)?;
+        if self.servers.owner(serial)? != self.cursor.pid {
+            return None;
+        }
+        Some(serial)
+    }
+
+    // DestroyServer: a server of the caller's process ends. The loans of its messages end, and whoever
+    // waits for one of them or is Receiving there is answered, in ascending order of thread.
+    pub(super) fn destroy_server(&mut self, sid: Sid)
+        requires calls { IsCaller W.slot_count W.held self.old }
+        requires room { length self.old.log.records + thread_ids PROCESS_LIMIT + 1 ≤ self.old.log.room }
+        ensures whole { IsWhole W.slot_count W.held self.new }
+        ensures usable { IsUsable self.new }
+        ensures tells { let m = machine_of W.held self.old in
+            Tells W.held self.old self.new (call_settled m (unless_refused (own_server_refusals m sid) (Served (destroy_served m sid)))) }
+        ensures keeps { Keeps W.is_honest W.held W.slot_count W.asked W.faults self.old self.new }
+    {
+        match self.own_server(sid) {
+            Some(serial) => destroy(
+                &mut self.mem,
+                &mut self.threads,
+                &mut self.servers,
+                &mut self.queues,
+                &mut self.log,
+                self.cursor,
+                serial,
+            ),
+            None => self.refuse(XousError::ServerNotFound),
         }
     }
 }

@@ -1,6 +1,6 @@
 //! One step.
 
-ghost use Rattle.std.specs.Prelude.{◌≡◌, ◌<◌, ◌⊎◌, true, false, IfOk, IsOk, OnErr, OnOk, Some, length, ◌+◌, ◌≤◌, IsTrue, [], map};
+ghost use Rattle.std.specs.Prelude.{◌≡◌, ◌<◌, ◌⊎◌, true, false, IfOk, IsOk, None, OnErr, OnOk, Some, length, ◌+◌, ◌≤◌, IsTrue, [], map};
 ghost use Rattle.ledger_model.specs.Ledger.{pages};
 ghost use Rattle.machine_model.specs.State.Machine.{Thread as ModelThread};
 ghost use Rattle.machine_model.specs.State.Order.{actor};
@@ -29,14 +29,6 @@ use xk_ports::SwapStore;
 /// The register a0.
 const A0: u8 = 10;
 
-// What the thread did whose step it is.
-enum Acted {
-    // Its step, after which it has reserved this address.
-    Done(Option<u32>),
-    // Nothing, as its step isn't built.
-    Unbuilt,
-}
-
 // The reservation of a thread that has reserved this address.
 fn reservation(who: ThreadId, reserved: Option<u32>) -> Option<(ThreadId, u32)>
     ensures { option_map as_reservation result ≡ reservation_of who reserved }
@@ -61,8 +53,7 @@ fn ends_handler(who: ThreadId, pc: u32) -> bool
 
 impl<W: SwapStore> Kernel<W> {
     /// Does the next step: one instruction, one whole system call, one end of a thread or of an
-    /// interrupt handler, or one fatal trap. `Idle` comes exactly where no thread is Ready, `NotBuilt` exactly where the next step
-    /// isn't built. A step of a thread that goes on searches nothing, and no step takes memory.
+    /// interrupt handler, or one fatal trap. `Idle` comes exactly where no thread is Ready. A step of a thread that goes on searches nothing, and no step takes memory.
     pub fn step(&mut self) -> Result<Stepped, SwapFault>
         requires sound { IsSound W.slot_count W.held self.old }
         requires usable { IsUsable self.old }
@@ -96,19 +87,16 @@ impl<W: SwapStore> Kernel<W> {
         ensures keeps { Keeps W.is_honest W.held W.slot_count W.asked W.faults self.old self.new }
     {
         let number = self.steps + 1;
-        match self.act(who)? {
-            Acted::Done(reserved) => {
-                self.steps = number;
-                self.reserved = reservation(who, reserved);
-                Ok(Stepped::Did)
-            }
-            Acted::Unbuilt => Ok(Stepped::NotBuilt),
-        }
+        let reserved = self.act(who)?;
+        self.steps = number;
+        self.reserved = reservation(who, reserved);
+        self.ring();
+        Ok(Stepped::Did)
     }
 
-    // The thread, whose step it is, ends or does its instruction, where that is built. The step isn't
-    // counted yet.
-    fn act(&mut self, who: ThreadId) -> Result<Acted, SwapFault>
+    // The thread, whose step it is, ends or does its instruction, and answers the address that it has
+    // reserved then. The step isn't counted yet.
+    fn act(&mut self, who: ThreadId) -> Result<Option<u32>, SwapFault>
         requires sound { IsSound W.slot_count W.held self.old }
         requires usable { IsUsable self.old }
         requires few { self.old.steps < 4000000000 }
@@ -122,45 +110,40 @@ impl<W: SwapStore> Kernel<W> {
         let thread = self.thread(who);
         if ends_thread(who, thread.pc) {
             let a0 = thread.regs.get(A0);
-            return Ok(self.act_end(who, a0));
+            self.act_end(who, a0);
+            return Ok(None);
         }
         if ends_handler(who, thread.pc) {
-            return Ok(self.act_handler(who));
+            self.act_handler(who);
+            return Ok(None);
         }
         let mut reserved = self.reserved_by(who);
         match self.run(who, &mut reserved) {
             Ran::Next(_) => {
                 self.begin(who);
-                Ok(Acted::Done(reserved))
+                Ok(reserved)
             }
             Ran::Device { offset, value, .. } => {
                 self.tell_console(who, offset, value);
-                Ok(Acted::Done(reserved))
+                Ok(reserved)
             }
             Ran::Trap { cause, value } => {
-                if !self.is_alone(who.pid) {
-                    return Ok(Acted::Unbuilt);
-                }
                 self.begin(who);
                 self.die(What::Fault(who, cause, value));
-                Ok(Acted::Done(reserved))
+                Ok(reserved)
             }
             Ran::Ecall => {
                 let words = self.thread(who).regs.arguments();
-                if !self.call_built(who, &words) {
-                    return Ok(Acted::Unbuilt);
-                }
                 self.begin(who);
                 self.call(words)?;
-                Ok(Acted::Done(reserved))
+                Ok(reserved)
             }
             Ran::Failed => Err(SwapFault),
         }
     }
 
-    // The thread, whose step it is and which stands where threads end, ends with this in a0, where that
-    // is built.
-    fn act_end(&mut self, who: ThreadId, a0: u32) -> Acted
+    // The thread, whose step it is and which stands where threads end, ends with this in a0.
+    fn act_end(&mut self, who: ThreadId, a0: u32)
         requires sound { IsSound W.slot_count W.held self.old }
         requires usable { IsUsable self.old }
         requires few { self.old.steps < 4000000000 }
@@ -168,19 +151,15 @@ impl<W: SwapStore> Kernel<W> {
         requires ends { (t : ModelThread) → (machine_of W.held self.old).threads who ≡ Some t → (ends_thread who t.pc ≡ true) × (reg_at t.regs 10 ≡ a0) }
         ensures whole { IsWhole W.slot_count W.held self.new }
         ensures usable { IsUsable self.new }
-        ensures acts { Acts W.held self.old self.new who result }
+        ensures acts { Acts W.held self.old self.new who None }
         ensures keeps { Keeps W.is_honest W.held W.slot_count W.asked W.faults self.old self.new }
     {
-        if !self.end_built(who) {
-            return Acted::Unbuilt;
-        }
         self.begin(who);
         self.end_thread(a0);
-        Acted::Done(None)
     }
 
     // The thread, whose step it is and which stands where handlers end, ends its handler.
-    fn act_handler(&mut self, who: ThreadId) -> Acted
+    fn act_handler(&mut self, who: ThreadId)
         requires sound { IsSound W.slot_count W.held self.old }
         requires usable { IsUsable self.old }
         requires few { self.old.steps < 4000000000 }
@@ -188,12 +167,11 @@ impl<W: SwapStore> Kernel<W> {
         requires ends { (t : ModelThread) → (machine_of W.held self.old).threads who ≡ Some t → (ends_thread who t.pc ≡ false) × (ends_handler who t.pc ≡ true) }
         ensures whole { IsWhole W.slot_count W.held self.new }
         ensures usable { IsUsable self.new }
-        ensures acts { Acts W.held self.old self.new who result }
+        ensures acts { Acts W.held self.old self.new who None }
         ensures keeps { Keeps W.is_honest W.held W.slot_count W.asked W.faults self.old self.new }
     {
         self.begin(who);
         self.end_handler();
-        Acted::Done(None)
     }
 
     // A step of the thread begins, which stored the low byte of a value at an offset of the console's

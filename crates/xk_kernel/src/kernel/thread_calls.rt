@@ -27,7 +27,9 @@ impl<W: SwapStore> Kernel<W> {
     ) -> Result<CallerFate, XousError>
         requires whole { IsWhole W.slot_count W.held self.old }
         ensures whole { IsWhole W.slot_count W.held self.new }
-        ensures outcome { outcome_of self.old.cursor (machine_of W.held self.new) result ≡ unless_refused (create_refusals (machine_of W.held self.old) entry) (Served (create_served (machine_of W.held self.old) entry sp args)) }
+        ensures outcome { let old = machine_of W.held self.old in
+            let new = machine_of W.held self.new in
+            outcome_of self.old.cursor new result ≡ unless_refused (create_refusals old entry) (Served (create_served old entry sp args)) }
         ensures undone { IfUndone result (self.new ≡ self.old) }
         ensures mem { self.new.mem ≡ self.old.mem }
         ensures log { self.new.log ≡ self.old.log }
@@ -49,7 +51,9 @@ impl<W: SwapStore> Kernel<W> {
         requires whole { IsWhole W.slot_count W.held self.old }
         requires ready { ready_at (machine_of W.held self.old) self.old.cursor ≡ true }
         ensures whole { IsWhole W.slot_count W.held self.new }
-        ensures outcome { outcome_of self.old.cursor (machine_of W.held self.new) result ≡ unless_refused (join_refusals (machine_of W.held self.old) tid) (Served (join_served (machine_of W.held self.old) tid)) }
+        ensures outcome { let old = machine_of W.held self.old in
+            let new = machine_of W.held self.new in
+            outcome_of self.old.cursor new result ≡ unless_refused (join_refusals old tid) (Served (join_served old tid)) }
         ensures undone { IfUndone result (self.new ≡ self.old) }
         ensures mem { self.new.mem ≡ self.old.mem }
         ensures log { self.new.log ≡ self.old.log }

@@ -59,7 +59,8 @@ impl<W: SwapStore> Kernel<W> {
         requires there { IsSome ((machine_of W.held self.old).threads id) }
         requires room { length self.old.log.records < self.old.log.room }
         ensures whole { IsWhole W.slot_count W.held self.new }
-        ensures tells { Tells W.held self.old self.new (record { machine = give_answers (answer_to id words) (machine_of W.held self.old); told = Reply id words ∷ [] }) }
+        ensures tells { let machine = give_answers (answer_to id words) (machine_of W.held self.old) in
+            Tells W.held self.old self.new (record { machine = machine; told = Reply id words ∷ [] }) }
         ensures told { length self.new.log.records ≡ length self.old.log.records + 1 }
         ensures mem { self.new.mem ≡ self.old.mem }
     {

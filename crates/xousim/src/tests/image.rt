@@ -1,29 +1,45 @@
-//! Images of equal processes.
+//! Images of processes that have one section of code each.
 
 use kernel_args::{Args, ProcArgs, Section, writable, write_args};
 use std::alloc::Global;
 use std::test::Fail;
 use xk_base::Row;
+use xk_base::limits::PROCESS_LIMIT;
 
 /// The address of the code.
-const START: u32 = 0x1_0000;
+pub const START: u32 = 0x1_0000;
 
-/// The size of the code in bytes; zeros stand behind its words.
-const SIZE: usize = 256;
+/// The greatest number of words of code; zeros stand behind fewer.
+const ROOM: usize = 512;
+
+/// The size of the code in bytes.
+const SIZE: u32 = 2048;
 
 /// The image of so many processes that all begin with these instructions.
 pub fn image(alloc: Global, processes: u8, code: &[u32]) -> Result<Vec<u8>, Fail> {
-    let words = 7 + 6 * u32::from(processes);
-    let mut procs = Row::new(alloc);
+    let mut codes = Vec::new(alloc);
     for _ in 0..processes {
+        codes.push(code.to_vec(alloc)?)?;
+    }
+    image_of(alloc, codes.as_slice())
+}
+
+/// The image of processes that begin with these instructions each.
+pub fn image_of(alloc: Global, codes: &[Vec<u32>]) -> Result<Vec<u8>, Fail> {
+    if codes.len() > PROCESS_LIMIT as usize {
+        return Err(Fail::from("no such image"));
+    }
+    let words = 7 + 6 * codes.len() as u32;
+    let mut procs = Row::new(alloc);
+    for at in 0..codes.len() as u32 {
         let mut sections = Row::new(alloc);
         sections.push(Section {
             addr: START,
-            size: SIZE as u32,
+            size: SIZE,
             flags: 4,
         })?;
         procs.push(ProcArgs {
-            load: words * 4,
+            load: words * 4 + at * SIZE,
             entry: START,
             sections,
         })?;
@@ -40,9 +56,18 @@ pub fn image(alloc: Global, processes: u8, code: &[u32]) -> Result<Vec<u8>, Fail
         return Err(Fail::from("no such image"));
     }
     let mut bytes = write_args(alloc, &args)?.as_slice().to_vec(alloc)?;
+    for code in codes {
+        push_code(&mut bytes, code.as_slice())?;
+    }
+    Ok(bytes)
+}
+
+fn push_code(bytes: &mut Vec<u8>, code: &[u32]) -> Result<(), Fail> {
     for word in code {
         bytes.extend_from_slice(&word.to_le_bytes())?;
     }
-    bytes.extend_from_slice(&[0; SIZE])?;
-    Ok(bytes)
+    for _ in code.len()..ROOM {
+        bytes.extend_from_slice(&[0; 4])?;
+    }
+    Ok(())
 }

@@ -4,10 +4,10 @@ use Rattle.msg_queue.specs.Seats.{changed_at}
 use Rattle.kill_path.specs.Ending.{emptied}
 use Rattle.send_path.proofs.Servers.SeatLemmas.{seat_in_limit}
 use Rattle.vm_memory.specs.Memory.{ledger}
-use Rattle.kill_path.specs.Closing.{AreClosed}
+use Rattle.kill_path.specs.Closing.{AreClosed, closable}
 use Rattle.kill_path.specs.Noted.{noted}
 use Rattle.kill_path.specs.Open.{AreOpen}
-use Rattle.kill_path.proofs.OpenLemmas.{can_end, open_left, server_closed}
+use Rattle.kill_path.proofs.Servers.OpenLemmas.{can_end, open_left, server_closed}
 use Rattle.kill_path.proofs.closing.close_server.Goals as goal
 
 pub end_seat-requires-clause-seat : goal.end_seat-requires-clause-seat
@@ -21,8 +21,8 @@ end_seat-requires-clause-messages g c =
 pub returns-clause-closed : goal.returns-clause-closed
 returns-clause-closed g c =
     subst (λ q. AreClosed (λ n. n == c.args.serial.0)
-    (record { ledger = ledger g.W.SwapStore.held c.args.mem.now; servers = c.args.servers.now; seats = c.args.queues.now; noted = noted c.args.answered.now })
-    (record { ledger = ledger g.W.SwapStore.held c.end_seat.new.mem; servers = c.remove.new.self; seats = q; noted = noted c.end_seat.new.answered }))
+    (closable (ledger g.W.SwapStore.held c.args.mem.now) c.args.servers.now c.args.queues.now (noted c.args.answered.now))
+    (closable (ledger g.W.SwapStore.held c.end_seat.new.mem) c.remove.new.self q (noted c.end_seat.new.answered)))
     (sym c.end_seat.ensures.queues)
     (server_closed c.args.servers.now c.remove.new.self c.args.queues.now c.args.serial.0 c.args.seat c.requires.seat c.remove.ensures
     (ledger g.W.SwapStore.held c.args.mem.now) c.requires.messages (noted c.args.answered.now) (noted c.end_seat.new.answered) c.end_seat.ensures.noted

@@ -3,7 +3,7 @@ use Rattle.send_path.specs.Seats.{messages_at}
 use Rattle.msg_queue.specs.Seats.{seat_of}
 use Rattle.vm_memory.specs.Memory.{ledger}
 use Rattle.kill_path.specs.Noted.{noted}
-use Rattle.kill_path.proofs.EndingLemmas.{nobody_more, nothing_ends, rest_can_end, rest_ends, rest_noted, same_count, then_emptied}
+use Rattle.kill_path.proofs.Servers.EndingLemmas.{nobody_more, nothing_ends, rest_can_end, rest_ends, rest_noted, same_count, then_emptied}
 use Rattle.kill_path.proofs.KeepLemmas.{after_both}
 use Rattle.kill_path.proofs.closing.end_seat.Goals as goal
 

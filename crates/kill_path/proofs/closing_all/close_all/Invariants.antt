@@ -1,18 +1,18 @@
 use Rattle.std.proofs.Common.{◌+◌}
 use Rattle.ledger_model.specs.Loans.{loans}
 use Rattle.vm_memory.specs.Memory.{ledger}
-use Rattle.kill_path.specs.Closing.{AreClosed, Closable}
+use Rattle.kill_path.specs.Closing.{AreClosed, Closable, closable}
 use Rattle.kill_path.specs.Keeping.{Stays}
 use Rattle.kill_path.specs.Noted.{noted}
 use Rattle.kill_path.specs.Open.{AreOpen}
-use Rattle.kill_path.proofs.CloseAllLemmas.{AreFrom, gone}
+use Rattle.kill_path.proofs.Servers.CloseAllLemmas.{AreFrom, gone}
 use Rattle.kill_path.proofs.closing_all.close_all.Given as goal
 
 -- the servers that aren't there any more closed, and none of the pids so far is left
 abbrev pub invariant-loop-k : goal.invariant-loop-k
 invariant-loop-k g l =
-    let old : Closable = record { ledger = ledger g.W.SwapStore.held l.initial.mem; servers = l.initial.servers; seats = l.initial.queues; noted = noted l.initial.untold } in
-    let now : Closable = record { ledger = ledger g.W.SwapStore.held l.mem; servers = l.servers; seats = l.queues; noted = noted l.untold } in
+    let old : Closable = closable (ledger g.W.SwapStore.held l.initial.mem) l.initial.servers l.initial.queues (noted l.initial.untold) in
+    let now : Closable = closable (ledger g.W.SwapStore.held l.mem) l.servers l.queues (noted l.untold) in
     record {
       stays : Stays g.W.SwapStore.slot_count g.W.SwapStore.is_honest g.W.SwapStore.held l.initial.mem l.mem;
       messages : AreOpen (loans (ledger g.W.SwapStore.held l.mem)) l.servers l.queues;

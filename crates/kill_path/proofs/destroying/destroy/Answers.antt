@@ -7,11 +7,12 @@ use Rattle.server_table.specs.ServersOf.{servers_of}
 use Rattle.thread_table.specs.ThreadsOf.{process_count}
 use Rattle.vm_memory.specs.Memory.{ledger}
 use Rattle.xk_base.specs.Tables.Circle.{is_thread_id}
-use Rattle.kill_path.specs.Closing.{AreClosed}
+use Rattle.send_path.specs.Parts.{parts_of}
+use Rattle.kill_path.specs.Closing.{AreClosed, closable}
 use Rattle.kill_path.specs.Noted.{noted}
 use Rattle.kill_path.specs.Telling.{told_to}
 use Rattle.kill_path.specs.ThreadSets.{ThreadSet}
-use Rattle.kill_path.proofs.DestroyLemmas.{destroyed_row, destroyed_sound, first_noted, its_owner, live_there, noted_known}
+use Rattle.kill_path.proofs.Deaths.DestroyLemmas.{destroyed_row, destroyed_sound, first_noted, its_owner, live_there, noted_known}
 use Rattle.kill_path.proofs.FitLemmas.{few_processes, known_of_all, sound_open}
 use Rattle.kill_path.proofs.destroying.destroy.Goals as goal
 
@@ -19,7 +20,7 @@ pub note-requires : goal.note-requires
 note-requires g c =
     known_of_all (process_count c.args.threads.now) c.args.who
     (few_processes g.W.SwapStore.slot_count g.W.SwapStore.held c.args.who
-    (record { mem = c.args.mem.now; tables = record { threads = c.args.threads.now; servers = c.args.servers.now; queues = c.args.queues.now; log = c.args.log.now } })
+    (parts_of c.args.mem.now c.args.threads.now c.args.servers.now c.args.queues.now c.args.log.now)
     c.requires.sound)
     (ready_id c.args.threads.now c.args.who c.requires.ready)
 
@@ -27,28 +28,28 @@ pub note_receiving-requires : goal.note_receiving-requires
 note_receiving-requires g c =
     let v = live_there ((servers_of c.args.servers.now).live c.args.s.0) c.requires.live in
     its_owner g.W.SwapStore.slot_count g.W.SwapStore.is_honest g.W.SwapStore.held c.args.who
-    (record { mem = c.args.mem.now; tables = record { threads = c.args.threads.now; servers = c.args.servers.now; queues = c.args.queues.now; log = c.args.log.now } })
+    (parts_of c.args.mem.now c.args.threads.now c.args.servers.now c.args.queues.now c.args.log.now)
     c.requires.sound c.requires.ready c.args.s v.server v.live c.owner_of-pid.result c.owner_of-pid.ensures
 
 pub close_server-requires-clause-messages : goal.close_server-requires-clause-messages
 close_server-requires-clause-messages g c =
     sound_open g.W.SwapStore.slot_count g.W.SwapStore.held c.args.who
-    (record { mem = c.args.mem.now; tables = record { threads = c.args.threads.now; servers = c.args.servers.now; queues = c.args.queues.now; log = c.args.log.now } })
+    (parts_of c.args.mem.now c.args.threads.now c.args.servers.now c.args.queues.now c.args.log.now)
     c.requires.sound
 
 pub tell-requires-clause-known : goal.tell-requires-clause-known
 tell-requires-clause-known g c = λ id e.
     ap (λ n. is_thread_id n id) c.pass.ensures.count
     ∙ noted_known g.W.SwapStore.slot_count g.W.SwapStore.is_honest g.W.SwapStore.held c.args.who
-    (record { mem = c.args.mem.now; tables = record { threads = c.args.threads.now; servers = c.args.servers.now; queues = c.args.queues.now; log = c.args.log.now } })
+    (parts_of c.args.mem.now c.args.threads.now c.args.servers.now c.args.queues.now c.args.log.now)
     c.requires.sound c.requires.ready c.args.s c.seat_of-seat.ensures.server c.seat_of-seat.ensures.live
-    (record { mem = c.close_server.new.mem; tables = record { threads = c.pass.new.threads; servers = c.close_server.new.servers; queues = c.close_server.new.queues; log = c.args.log.now } })
+    (parts_of c.close_server.new.mem c.pass.new.threads c.close_server.new.servers c.close_server.new.queues c.args.log.now)
     (noted c.close_server.new.answered)
     (subst (λ (set : ThreadSet). AreClosed (λ k. k == c.args.s.0)
-    (record { ledger = ledger g.W.SwapStore.held c.args.mem.now; servers = c.args.servers.now; seats = c.args.queues.now; noted = set })
-    (record { ledger = ledger g.W.SwapStore.held c.close_server.new.mem; servers = c.close_server.new.servers; seats = c.close_server.new.queues; noted = noted c.close_server.new.answered }))
+    (closable (ledger g.W.SwapStore.held c.args.mem.now) c.args.servers.now c.args.queues.now set)
+    (closable (ledger g.W.SwapStore.held c.close_server.new.mem) c.close_server.new.servers c.close_server.new.queues (noted c.close_server.new.answered)))
     (first_noted g.W.SwapStore.slot_count g.W.SwapStore.is_honest g.W.SwapStore.held c.args.who
-    (record { mem = c.args.mem.now; tables = record { threads = c.args.threads.now; servers = c.args.servers.now; queues = c.args.queues.now; log = c.args.log.now } })
+    (parts_of c.args.mem.now c.args.threads.now c.args.servers.now c.args.queues.now c.args.log.now)
     c.requires.sound c.requires.ready c.args.s c.seat_of-seat.ensures.server c.seat_of-seat.ensures.live c.owner_of-pid.result
     (noted c.new-noted_ids.result) (noted c.note.new.self) (noted c.note_receiving.new.noted_ids) c.owner_of-pid.ensures
     c.new-noted_ids.ensures c.note.ensures c.note_receiving.ensures)
@@ -57,15 +58,15 @@ tell-requires-clause-known g c = λ id e.
 pub returns-clause-row : goal.returns-clause-row
 returns-clause-row g c = λ m.
     destroyed_row g.W.SwapStore.slot_count g.W.SwapStore.is_honest g.W.SwapStore.held c.args.who
-    (record { mem = c.args.mem.now; tables = record { threads = c.args.threads.now; servers = c.args.servers.now; queues = c.args.queues.now; log = c.args.log.now } })
+    (parts_of c.args.mem.now c.args.threads.now c.args.servers.now c.args.queues.now c.args.log.now)
     c.requires.sound c.requires.ready c.args.s c.seat_of-seat.ensures.server c.seat_of-seat.ensures.live
-    (record { mem = c.close_server.new.mem; tables = record { threads = c.tell.new.threads; servers = c.close_server.new.servers; queues = c.close_server.new.queues; log = c.tell.new.log } })
+    (parts_of c.close_server.new.mem c.tell.new.threads c.close_server.new.servers c.close_server.new.queues c.tell.new.log)
     (noted c.close_server.new.answered)
     (subst (λ (set : ThreadSet). AreClosed (λ k. k == c.args.s.0)
-    (record { ledger = ledger g.W.SwapStore.held c.args.mem.now; servers = c.args.servers.now; seats = c.args.queues.now; noted = set })
-    (record { ledger = ledger g.W.SwapStore.held c.close_server.new.mem; servers = c.close_server.new.servers; seats = c.close_server.new.queues; noted = noted c.close_server.new.answered }))
+    (closable (ledger g.W.SwapStore.held c.args.mem.now) c.args.servers.now c.args.queues.now set)
+    (closable (ledger g.W.SwapStore.held c.close_server.new.mem) c.close_server.new.servers c.close_server.new.queues (noted c.close_server.new.answered)))
     (first_noted g.W.SwapStore.slot_count g.W.SwapStore.is_honest g.W.SwapStore.held c.args.who
-    (record { mem = c.args.mem.now; tables = record { threads = c.args.threads.now; servers = c.args.servers.now; queues = c.args.queues.now; log = c.args.log.now } })
+    (parts_of c.args.mem.now c.args.threads.now c.args.servers.now c.args.queues.now c.args.log.now)
     c.requires.sound c.requires.ready c.args.s c.seat_of-seat.ensures.server c.seat_of-seat.ensures.live c.owner_of-pid.result
     (noted c.new-noted_ids.result) (noted c.note.new.self) (noted c.note_receiving.new.noted_ids) c.owner_of-pid.ensures
     c.new-noted_ids.ensures c.note.ensures c.note_receiving.ensures)
@@ -77,15 +78,15 @@ returns-clause-row g c = λ m.
 pub returns-clause-sound : goal.returns-clause-sound
 returns-clause-sound g c =
     destroyed_sound g.W.SwapStore.slot_count g.W.SwapStore.is_honest g.W.SwapStore.held c.args.who
-    (record { mem = c.args.mem.now; tables = record { threads = c.args.threads.now; servers = c.args.servers.now; queues = c.args.queues.now; log = c.args.log.now } })
+    (parts_of c.args.mem.now c.args.threads.now c.args.servers.now c.args.queues.now c.args.log.now)
     c.requires.sound c.requires.ready c.args.s c.seat_of-seat.ensures.server c.seat_of-seat.ensures.live
-    (record { mem = c.close_server.new.mem; tables = record { threads = c.tell.new.threads; servers = c.close_server.new.servers; queues = c.close_server.new.queues; log = c.tell.new.log } })
+    (parts_of c.close_server.new.mem c.tell.new.threads c.close_server.new.servers c.close_server.new.queues c.tell.new.log)
     (noted c.close_server.new.answered)
     (subst (λ (set : ThreadSet). AreClosed (λ k. k == c.args.s.0)
-    (record { ledger = ledger g.W.SwapStore.held c.args.mem.now; servers = c.args.servers.now; seats = c.args.queues.now; noted = set })
-    (record { ledger = ledger g.W.SwapStore.held c.close_server.new.mem; servers = c.close_server.new.servers; seats = c.close_server.new.queues; noted = noted c.close_server.new.answered }))
+    (closable (ledger g.W.SwapStore.held c.args.mem.now) c.args.servers.now c.args.queues.now set)
+    (closable (ledger g.W.SwapStore.held c.close_server.new.mem) c.close_server.new.servers c.close_server.new.queues (noted c.close_server.new.answered)))
     (first_noted g.W.SwapStore.slot_count g.W.SwapStore.is_honest g.W.SwapStore.held c.args.who
-    (record { mem = c.args.mem.now; tables = record { threads = c.args.threads.now; servers = c.args.servers.now; queues = c.args.queues.now; log = c.args.log.now } })
+    (parts_of c.args.mem.now c.args.threads.now c.args.servers.now c.args.queues.now c.args.log.now)
     c.requires.sound c.requires.ready c.args.s c.seat_of-seat.ensures.server c.seat_of-seat.ensures.live c.owner_of-pid.result
     (noted c.new-noted_ids.result) (noted c.note.new.self) (noted c.note_receiving.new.noted_ids) c.owner_of-pid.ensures
     c.new-noted_ids.ensures c.note.ensures c.note_receiving.ensures)

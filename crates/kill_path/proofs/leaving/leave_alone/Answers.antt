@@ -2,7 +2,7 @@ use Rattle.std.proofs.Common.{sym, subst}
 use Rattle.ledger_model.specs.Loans.{loans}
 use Rattle.vm_memory.specs.Memory.{ledger, processes}
 use Rattle.kill_path.specs.Leaving.{IsLoanOrphanable}
-use Rattle.kill_path.proofs.LeavingLemmas.{fresh_orphans}
+use Rattle.kill_path.proofs.Messages.LeavingLemmas.{fresh_orphans}
 use Rattle.kill_path.proofs.leaving.leave_alone.Goals as goal
 
 pub returns-in-None-clause-ledger : goal.returns-in-None-clause-ledger

@@ -1,7 +1,7 @@
 use Rattle.std.proofs.Common.{◌≡◌}
 use Rattle.thread_table.specs.ThreadsOf.{threads_of}
 use Rattle.kill_path.specs.Noted.{noted}
-use Rattle.kill_path.proofs.ReceivingLemmas.{noted_up_to}
+use Rattle.kill_path.proofs.Threads.ReceivingLemmas.{noted_up_to}
 use Rattle.kill_path.proofs.telling.note_receiving.Given as goal
 
 abbrev pub invariant-loop-k : goal.invariant-loop-k

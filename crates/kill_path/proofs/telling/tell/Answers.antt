@@ -6,7 +6,7 @@ use Rattle.thread_table.specs.ThreadsOf.{process_count}
 use Rattle.xk_base.specs.Tables.Circle.{id_at}
 use Rattle.kill_path.specs.Noted.{noted}
 use Rattle.kill_path.specs.Telling.{told_to, words_for}
-use Rattle.kill_path.proofs.TellLemmas.{all_below, all_records, below, log_next, log_none, no_replies, none_below, replies_below, noted_told, room_left, threads_next, told_noted}
+use Rattle.kill_path.proofs.Threads.TellLemmas.{all_below, all_records, below, log_next, log_none, no_replies, none_below, replies_below, noted_told, room_left, threads_next, told_noted}
 use Rattle.kill_path.proofs.telling.tell.Goals as goal
 
 pub loop-place-init : goal.loop-place-init

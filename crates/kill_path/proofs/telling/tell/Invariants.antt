@@ -5,7 +5,7 @@ use Rattle.send_path.specs.Threads.{answered}
 use Rattle.thread_table.specs.ThreadsOf.{process_count}
 use Rattle.kill_path.specs.Noted.{noted}
 use Rattle.kill_path.specs.Telling.{told_to}
-use Rattle.kill_path.proofs.TellLemmas.{below, replies_below}
+use Rattle.kill_path.proofs.Threads.TellLemmas.{below, replies_below}
 use Rattle.kill_path.proofs.telling.tell.Given as goal
 
 -- the threads at the places before this one are answered

@@ -1,16 +1,17 @@
 use Rattle.std.proofs.Common.{◌≡◌}
 use Rattle.machine_model.specs.State.Machine.{Machine}
+use Rattle.xk_kernel.specs.History as kernel
 use Rattle.xk_kernel.specs.State.{machine_of}
 use Rattle.xousim.specs.History.{at_once, play}
 use Rattle.xousim.proofs.HistoryLemmas.{play_other, wrote_same, ok_machine, ok_within}
 use Rattle.xousim.proofs.playing.play_event.Goals as goal
 
 pub returns-in-Tick-clause-wrote : goal.returns-in-Tick-clause-wrote
-unfolding play
+unfolding kernel.play
 returns-in-Tick-clause-wrote g c = rw c.in-Tick.is c.play_tick.ensures.wrote
 
 pub returns-in-Tick-clause-machine : goal.returns-in-Tick-clause-machine
-unfolding play
+unfolding kernel.play
 returns-in-Tick-clause-machine g c = rw c.in-Tick.is c.play_tick.ensures.machine
 
 pub returns-in-Pick : goal.returns-in-Pick

@@ -1,4 +1,4 @@
-use Rattle.kill_path.proofs.MarkLemmas.{marked-at}
+use Rattle.kill_path.proofs.Threads.MarkLemmas.{marked-at}
 use Rattle.kill_path.specs.Noted.{noted}
 use Rattle.kill_path.proofs.answered.Answered.has_at.Goals as goal
 

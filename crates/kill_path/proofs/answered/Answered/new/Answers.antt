@@ -1,4 +1,4 @@
-use Rattle.kill_path.proofs.MarkLemmas.{marked-nobody}
+use Rattle.kill_path.proofs.Threads.MarkLemmas.{marked-nobody}
 use Rattle.kill_path.specs.Noted.{noted}
 use Rattle.kill_path.proofs.answered.Answered.new.Goals as goal
 

@@ -1,5 +1,5 @@
 use Rattle.std.proofs.Common.{◌≡◌, true, length, set, ap, ◌∙◌, arith}
-use Rattle.kill_path.proofs.MarkLemmas.{marked-set}
+use Rattle.kill_path.proofs.Threads.MarkLemmas.{marked-set}
 use Rattle.kill_path.specs.Noted.{noted}
 use Rattle.kill_path.specs.ThreadSets.{marked}
 use Rattle.kill_path.proofs.answered.Answered.note.Goals as goal

@@ -8,7 +8,7 @@ use Rattle.machine_model.specs.State.Machine.{Machine}
 use Rattle.machine_model.specs.Stepping.Step.{after, ends_handler, ends_thread}
 use Rattle.xk_base.specs.declared.records.What.TheVariants.{End}
 use Rattle.xk_kernel.specs.State.{machine_of}
-use Rattle.xk_kernel.proofs.Acting.ActLemmas.{actor_known, at_one, begun_done, begun_handler, begun_ready, built_handler, left_at_handler, told_handler}
+use Rattle.xk_kernel.proofs.Acting.ActLemmas.{actor_known, at_one, begun_done, begun_handler, begun_ready, left_at_handler, told_handler}
 use Rattle.xk_kernel.proofs.kernel.Kernel.act_handler.Goals as goal
 
 -- src/kernel/stepping.rt
@@ -33,9 +33,9 @@ pub returns-clause-acts : goal.returns-clause-acts
 returns-clause-acts g c =
     let m : Machine = machine_of g.W.SwapStore.held c.args.self.now in
     let r : IsReadyThread m c.args.who = ready_thread m c.args.who (actor_ready m c.args.who c.requires.who) in
-    let ends : (ends_thread c.args.who r.thread.pc ≡ false) × (ends_handler c.args.who r.thread.pc ≡ true) = c.requires.ends r.thread r.there in (
-      built_handler m c.args.who r.thread r.there c.requires.who ends.0 ends.1,
-      begun_done g.W.SwapStore.held c.args.self.now c.begin.new.self c.end_handler.new.self c.args.who (λ w m. after (End w) (settled (handler_ended w.pid m)))
-          (told_handler m c.args.who r.thread r.there ends.0 ends.1) c.begin.ensures.machine c.begin.ensures.log c.end_handler.ensures.tells,
-      left_at_handler m c.args.who r.thread r.there ends.0 ends.1,
-    )
+    let ends : (ends_thread c.args.who r.thread.pc ≡ false) × (ends_handler c.args.who r.thread.pc ≡ true) = c.requires.ends r.thread r.there in
+    record {
+      done = begun_done g.W.SwapStore.held c.args.self.now c.begin.new.self c.end_handler.new.self c.args.who (λ w m. after (End w) (settled (handler_ended w.pid m)))
+          (told_handler m c.args.who r.thread r.there ends.0 ends.1) c.begin.ensures.machine c.begin.ensures.log c.end_handler.ensures.tells;
+      leaves = left_at_handler m c.args.who r.thread r.there ends.0 ends.1;
+    }

@@ -7,7 +7,7 @@ use Rattle.xk_kernel.specs.declared.kernel.Kernel.{Kernel}
 use Rattle.xk_kernel.proofs.kernel.Kernel.boot.Given.{Over}
 use Rattle.xk_kernel.proofs.kernel.Kernel.boot.Goals as goal
 
-abbrev kernel : (g : Over) → goal.After-new g → Kernel g.row.W.Denot
+abbrev kernel : (g : Over) → goal.After-new-2 g → Kernel g.row.W.Denot
 kernel g c = record {
   mem = c.in-Ok-boot.mem;
   threads = c.in-Ok.tables.0;
@@ -19,10 +19,11 @@ kernel g c = record {
   cursor = first_turn;
   next = 1;
   steps = 0;
+  timer = c.new-2.result;
   reserved = None;
 }
 
-booted : (g : Over) (c : goal.After-new g) → IsBooted g.W.SwapStore.held c.args.plan.now c.args.file.now (kernel g c)
+booted : (g : Over) (c : goal.After-new-2 g) → IsBooted g.W.SwapStore.held c.args.plan.now c.args.file.now (kernel g c)
 booted g c = record {
   size = c.in-Ok-boot.ensures.size;
   ledger = c.in-Ok-boot.ensures.whole (sound-means g.W.SwapStore.slot_count g.W.SwapStore.is_honest g.W.SwapStore.held c.in-Ok-boot.mem c.in-Ok-boot.ensures.sound);
@@ -34,6 +35,7 @@ booted g c = record {
   cursor = refl;
   next = refl;
   steps = refl;
+  timer = c.new-2.ensures;
   reserved = refl;
 }
 

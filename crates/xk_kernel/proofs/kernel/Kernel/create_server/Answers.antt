@@ -12,7 +12,7 @@ use Rattle.xk_base.specs.Tables.Connections.{has_room}
 use Rattle.xk_base.specs.Tables.Sids.{serial_of}
 use Rattle.xk_base.specs.declared.limits.TheConstants.{SERVER_LIMIT}
 use Rattle.xk_kernel.specs.State.{machine_of}
-use Rattle.xk_kernel.proofs.Calling.ServerCallLemmas.{count_told, created, created_is, exists_already, machine_served, made_err, made_ok, named_told, seat_left, too_many, unconnected}
+use Rattle.xk_kernel.proofs.Calling.ServerCallLemmas.{count_told, created, created_is, exists_already, machine_served, made_err, made_ok, named_told, seat_left, served_whole, too_many, unconnected}
 use Rattle.xk_kernel.proofs.kernel.Kernel.create_server.Goals as goal
 
 -- src/kernel/server_calls.rt
@@ -39,6 +39,18 @@ connect_caller-cid-requires-clause-room g c =
     (made_ok c.args.sid (servers_of c.args.self.now.servers) new c.in-Ok.serial (sym c.in-Ok.is ∙ c.make.ensures.answer)).1 in
     let next : c.next_serial.result ≡ new_serial m = (λ i. serial_of (c.next_serial.ensures i)) in
     ap (λ s. has_room s (own_connections m)) (serial ∙ sym next) ∙ sym c.has_room.ensures ∙ c.if-not-has_room.false
+
+pub connect_caller-cid-requires-clause-whole : goal.connect_caller-cid-requires-clause-whole
+connect_caller-cid-requires-clause-whole g c =
+    let old = c.args.self.now in
+    let there : is_some (with_sid c.args.sid (servers_of old.servers)) ≡ false = ap is_some (sym c.find.ensures) ∙ sym c.is_some.ensures ∙ c.if-is_some.false in
+    let made : ((live_count (servers_of old.servers) == SERVER_LIMIT) ≡ false) × (c.in-Ok.serial ≡ serial_of (servers_of old.servers).next) =
+    made_ok c.args.sid (servers_of old.servers) there c.in-Ok.serial (sym c.in-Ok.is ∙ c.make.ensures.answer) in
+    let seat = seat_left old.servers made.0 in
+    served_whole g.W.SwapStore.slot_count g.W.SwapStore.held old c.requires.whole c.make.new.self c.args.sid seat.0 seat.1 c.in-Ok.ensures.ok
+    c.requires.matched c.requires.ready
+    (ap is_some (sym (named_told g.W.SwapStore.held old c.args.sid)) ∙ there)
+    (ap (λ n. n == SERVER_LIMIT) (sym (count_told g.W.SwapStore.held old)) ∙ made.0)
 
 pub returns-in-Ok-clause-outcome : goal.returns-in-Ok-clause-outcome
 unfolding machine_of

@@ -1,7 +1,7 @@
 use Rattle.std.proofs.Common.{◌≤◌, ◌/◌, arith}
-use Rattle.vm_memory.specs.Memory.{ledger}
+use Rattle.vm_memory.specs.Memory.{ledger, processes}
 use Rattle.xk_kernel.proofs.Memory.HeapLemmas.{decrease_done, decrease_lent, decrease_too_many, heap_told, heap_within, whole_with_parts}
-use Rattle.xk_kernel.proofs.Memory.MemoryCallLemmas.{remove_unlent}
+use Rattle.xk_kernel.proofs.Memory.KeptLoanLemmas.{clear_keeps}
 use Rattle.xk_kernel.proofs.kernel.Kernel.decrease_heap.Goals as goal
 
 pub returns-then-bytes-heap-clause-outcome : goal.returns-then-bytes-heap-clause-outcome
@@ -20,8 +20,8 @@ pub returns-in-Ok-clause-whole : goal.returns-in-Ok-clause-whole
 returns-in-Ok-clause-whole g c =
     whole_with_parts g.W.SwapStore.slot_count g.W.SwapStore.held c.args.self.now c.requires.whole c.clear_run.new.self c.set_heap.new.self
     c.clear_run.ensures.size c.clear_run.ensures.sound
-    (remove_unlent c.clear_run.result c.caller_place-first.result (c.args.bytes / 4096) (ledger g.W.SwapStore.held c.args.self.now.mem)
-    (ledger g.W.SwapStore.held c.clear_run.new.self) c.clear_run.ensures.ledger c.requires.whole.unlent)
+    (clear_keeps (processes c.args.self.now.mem) c.clear_run.result c.caller_place-first.result (c.args.bytes / 4096) (ledger g.W.SwapStore.held c.args.self.now.mem)
+    (ledger g.W.SwapStore.held c.clear_run.new.self) c.clear_run.ensures.answer c.clear_run.ensures.ledger)
     c.set_heap.ensures.count
 
 pub returns-in-Ok-clause-outcome : goal.returns-in-Ok-clause-outcome

@@ -1,13 +1,10 @@
 -- The event does what the machine makes of it.
-use Rattle.std.proofs.Common.{◌≡◌, true, None, [], ◌∷◌, sym, ap, subst, ◌∙◌}
+use Rattle.std.proofs.Common.{None, sym, subst, ◌∙◌}
 use Rattle.machine_model.specs.Stepping.Events.{killed, nothing, picked, raised}
 use Rattle.vm_memory.proofs.Changing.SoundMemoryLemmas.{sound-tied}
-use Rattle.xk_base.specs.declared.records.What.TheVariants.{Gone}
-use Rattle.xk_kernel.specs.Built.{event_built}
 use Rattle.xk_kernel.specs.State.{machine_of}
 use Rattle.xk_kernel.specs.Stepping.{Becomes, event_done}
-use Rattle.xk_kernel.specs.Telling.{log_with}
-use Rattle.xk_kernel.proofs.Ending.EventLemmas.{became_sound, irq_matched, kill_matched, killed_done, known, left_matched, lives, logged_whole, nothing_done, pick_matched, picked_done, pushed_whole, spared_done, unreserved_whole}
+use Rattle.xk_kernel.proofs.Ending.EventLemmas.{became_sound, dying_matched, irq_matched, kill_matched, killed_done, left_matched, lives, logged_whole, nothing_done, pick_matched, picked_done, spared_done, unreserved_whole}
 use Rattle.xk_kernel.proofs.kernel.Kernel.event_start.Goals as goal
 
 -- ---- tick
@@ -70,29 +67,35 @@ returns-in-Irq-clause-tie g c = sound-tied g.W.SwapStore.slot_count g.W.SwapStor
 
 -- a process that lives
 
-pub forget-requires-clause-whole : goal.forget-requires-clause-whole
-forget-requires-clause-whole g c =
+pub kill-requires-clause-whole : goal.kill-requires-clause-whole
+kill-requires-clause-whole g c =
     unreserved_whole g.W.SwapStore.slot_count g.W.SwapStore.held (record c.args.self.now { log = c.clear.new.self }) (logged_whole g.W.SwapStore.slot_count g.W.SwapStore.held c.args.self.now c.args.self.now c.requires.sound c.requires.usable c.clear.new.self c.clear.ensures)
 
-pub forget-requires-clause-pid : goal.forget-requires-clause-pid
-forget-requires-clause-pid g c = known g.W.SwapStore.slot_count g.W.SwapStore.held c.args.self.now c.args.self.now c.requires.sound c.requires.usable c.in-Kill.pid (lives g.W.SwapStore.slot_count g.W.SwapStore.held c.args.self.now c.args.self.now c.requires.sound c.requires.usable c.in-Kill.pid c.alive.result c.alive.ensures ∙ c.if-alive.true)
+pub kill-requires-clause-matched : goal.kill-requires-clause-matched
+kill-requires-clause-matched g c = dying_matched g.W.SwapStore.slot_count g.W.SwapStore.held c.args.self.now c.args.self.now c.requires.sound c.requires.usable c.clear.new.self
+
+pub kill-requires-clause-alive : goal.kill-requires-clause-alive
+unfolding machine_of
+kill-requires-clause-alive g c = lives g.W.SwapStore.slot_count g.W.SwapStore.held c.args.self.now c.args.self.now c.requires.sound c.requires.usable c.in-Kill.pid c.alive.result c.alive.ensures ∙ c.if-alive.true
 
 pub returns-then-alive-clause-sound : goal.returns-then-alive-clause-sound
-unfolding machine_of
 returns-then-alive-clause-sound g c =
-    became_sound g.W.SwapStore.slot_count g.W.SwapStore.held c.args.self.now (record c.forget.new.self { log = c.push.new.self }) c.requires.sound c.requires.usable (killed c.in-Kill.pid (machine_of g.W.SwapStore.held c.args.self.now))
-    (pushed_whole g.W.SwapStore.slot_count g.W.SwapStore.held c.forget.new.self c.push.new.self c.forget.ensures.whole (ap (λ log. log.room) c.push.ensures))
-    (killed_done g.W.SwapStore.slot_count g.W.SwapStore.held c.args.self.now (record c.forget.new.self { log = c.push.new.self }) c.requires.sound c.requires.usable c.in-Kill.pid (lives g.W.SwapStore.slot_count g.W.SwapStore.held c.args.self.now c.args.self.now c.requires.sound c.requires.usable c.in-Kill.pid c.alive.result c.alive.ensures ∙ c.if-alive.true) (subst (λ e. event_built e (machine_of g.W.SwapStore.held c.args.self.now) ≡ true) c.in-Kill.is c.requires.built) c.forget.ensures.machine (c.push.ensures ∙ ap (log_with (Gone c.in-Kill.pid ∷ [])) (c.forget.ensures.log ∙ c.clear.ensures)))
+    let alive = lives g.W.SwapStore.slot_count g.W.SwapStore.held c.args.self.now c.args.self.now c.requires.sound c.requires.usable c.in-Kill.pid c.alive.result c.alive.ensures ∙ c.if-alive.true in
+    became_sound g.W.SwapStore.slot_count g.W.SwapStore.held c.args.self.now c.kill.new.self c.requires.sound c.requires.usable
+    (killed c.in-Kill.pid (machine_of g.W.SwapStore.held c.args.self.now)) c.kill.ensures.whole
+    (killed_done g.W.SwapStore.slot_count g.W.SwapStore.held c.args.self.now c.kill.new.self c.requires.sound c.requires.usable c.in-Kill.pid c.clear.new.self alive c.clear.ensures
+    c.kill.ensures.tells)
     (kill_matched g.W.SwapStore.slot_count g.W.SwapStore.held c.args.self.now c.args.self.now c.requires.sound c.requires.usable c.in-Kill.pid)
 
 pub returns-then-alive-clause-does : goal.returns-then-alive-clause-does
-unfolding machine_of
 returns-then-alive-clause-does g c =
-    subst (λ e. Becomes g.W.SwapStore.held (record c.forget.new.self { log = c.push.new.self }) (event_done e (machine_of g.W.SwapStore.held c.args.self.now))) (sym c.in-Kill.is)
-    (killed_done g.W.SwapStore.slot_count g.W.SwapStore.held c.args.self.now (record c.forget.new.self { log = c.push.new.self }) c.requires.sound c.requires.usable c.in-Kill.pid (lives g.W.SwapStore.slot_count g.W.SwapStore.held c.args.self.now c.args.self.now c.requires.sound c.requires.usable c.in-Kill.pid c.alive.result c.alive.ensures ∙ c.if-alive.true) (subst (λ e. event_built e (machine_of g.W.SwapStore.held c.args.self.now) ≡ true) c.in-Kill.is c.requires.built) c.forget.ensures.machine (c.push.ensures ∙ ap (log_with (Gone c.in-Kill.pid ∷ [])) (c.forget.ensures.log ∙ c.clear.ensures)))
+    let alive = lives g.W.SwapStore.slot_count g.W.SwapStore.held c.args.self.now c.args.self.now c.requires.sound c.requires.usable c.in-Kill.pid c.alive.result c.alive.ensures ∙ c.if-alive.true in
+    subst (λ e. Becomes g.W.SwapStore.held c.kill.new.self (event_done e (machine_of g.W.SwapStore.held c.args.self.now))) (sym c.in-Kill.is)
+    (killed_done g.W.SwapStore.slot_count g.W.SwapStore.held c.args.self.now c.kill.new.self c.requires.sound c.requires.usable c.in-Kill.pid c.clear.new.self alive c.clear.ensures
+    c.kill.ensures.tells)
 
 pub returns-then-alive-clause-tie : goal.returns-then-alive-clause-tie
-returns-then-alive-clause-tie g c = sound-tied g.W.SwapStore.slot_count g.W.SwapStore.held c.forget.new.self.mem c.forget.ensures.whole.mem
+returns-then-alive-clause-tie g c = sound-tied g.W.SwapStore.slot_count g.W.SwapStore.held c.kill.new.self.mem c.kill.ensures.whole.mem
 
 -- one that doesn't
 

@@ -17,5 +17,6 @@ returns-in_err-free-clause-outcome g c =
 
 pub returns-clause-outcome : goal.returns-clause-outcome
 returns-clause-outcome g c =
-    free_accepted g.W.SwapStore.held c.args.self.now c.args.number c.free.new.self
+    free_accepted g.W.SwapStore.held c.args.self.now c.args.number c.free.new.self c.end_claim.new.timer
     (found (is_of c.args.self.now.cursor.pid (claims_of c.args.self.now.claims c.args.number)) c.in_ok-free.ensures.answer) c.in_ok-free.ensures.ok
+    c.end_claim.ensures

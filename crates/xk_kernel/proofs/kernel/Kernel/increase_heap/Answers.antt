@@ -1,8 +1,10 @@
-use Rattle.std.proofs.Common.{◌≤◌, ◌<◌, ◌-◌, ◌/◌, arith}
-use Rattle.vm_memory.specs.Memory.{ledger}
+use Rattle.std.proofs.Common.{Some, ◌+◌, ◌≤◌, ◌<◌, ◌-◌, ◌/◌, arith}
+use Rattle.xk_base.specs.declared.windows.Window.TheVariants.{Heap}
+use Rattle.vm_memory.specs.Memory.{capacity_of, ledger, processes}
 use Rattle.xk_kernel.proofs.Memory.HeapGrowthLemmas.{heap_right, increase_by_none, increase_done, increase_past, increase_refused}
 use Rattle.xk_kernel.proofs.Memory.HeapLemmas.{heap_told, heap_within, whole_with_parts}
-use Rattle.xk_kernel.proofs.Memory.MemoryCallLemmas.{make_unlent, means_over}
+use Rattle.xk_kernel.proofs.Memory.KeptLoanLemmas.{make_keeps}
+use Rattle.xk_kernel.proofs.Memory.MemoryCallLemmas.{caller_process, means_over}
 use Rattle.xk_kernel.proofs.kernel.Kernel.increase_heap.Goals as goal
 
 pub overflow_sub-heap : goal.overflow_sub-heap
@@ -22,8 +24,9 @@ returns-then-bytes-eq0-clause-outcome g c = increase_by_none g.W.SwapStore.slot_
 pub returns-in-Ok-Ok-clause-whole : goal.returns-in-Ok-Ok-clause-whole
 returns-in-Ok-Ok-clause-whole g c =
     whole_with_parts g.W.SwapStore.slot_count g.W.SwapStore.held c.args.self.now c.requires.whole c.make.new.self c.set_heap.new.self c.make.ensures.size c.make.ensures.sound
-    (make_unlent c.args.self.now.cursor.pid (c.args.bytes / 4096) heap_right c.in-Ok-Ok.field-0 (ledger g.W.SwapStore.held c.args.self.now.mem)
-    (ledger g.W.SwapStore.held c.make.new.self) (c.in-Ok-Ok.ensures.whole (means_over g.W.SwapStore.slot_count g.W.SwapStore.is_honest g.W.SwapStore.held c.args.self.now.mem c.make.new.self c.requires.whole.mem c.make.ensures.sound)) c.requires.whole.unlent)
+    (make_keeps (processes c.args.self.now.mem) (capacity_of c.args.self.now.mem) c.args.self.now.cursor.pid Heap (Some (record { 0 = (536870912 + c.heap-heap.result) / 4096 })) (c.args.bytes / 4096) heap_right c.in-Ok-Ok.field-0 (ledger g.W.SwapStore.held c.args.self.now.mem)
+    (ledger g.W.SwapStore.held c.make.new.self) (caller_process g.W.SwapStore.slot_count g.W.SwapStore.held c.args.self.now c.requires.whole) c.in-Ok-Ok.ensures.answer
+    (c.in-Ok-Ok.ensures.whole (means_over g.W.SwapStore.slot_count g.W.SwapStore.is_honest g.W.SwapStore.held c.args.self.now.mem c.make.new.self c.requires.whole.mem c.make.ensures.sound)))
     c.set_heap.ensures.count
 
 pub returns-in-Ok-Ok-clause-outcome : goal.returns-in-Ok-Ok-clause-outcome

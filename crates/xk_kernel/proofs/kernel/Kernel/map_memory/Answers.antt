@@ -2,9 +2,11 @@ use Rattle.std.proofs.Common.{◌≤◌, ◌/◌, arith, sym, ◌∙◌}
 use Rattle.std.proofs.lemmas.Bool.{eq-eqb, ne_eqb}
 use Rattle.machine_model.specs.Calling.MemoryCalls.{are_bad_flags}
 use Rattle.xk_base.specs.Calls.Flags.{right_of}
+use Rattle.xk_base.specs.declared.windows.Window.TheVariants.{Map}
 use Rattle.vm_memory.specs.Memory.{capacity_of, ledger, processes}
 use Rattle.xk_kernel.proofs.Memory.MapLemmas.{console_done, console_low, console_refused, made_low, map_done, map_refused, narrow}
-use Rattle.xk_kernel.proofs.Memory.MemoryCallLemmas.{make_console_unlent, make_unlent, means_over, right_told, whole_with_mem}
+use Rattle.xk_kernel.proofs.Memory.KeptLoanLemmas.{made_first_keeps, make_console_keeps, make_keeps}
+use Rattle.xk_kernel.proofs.Memory.MemoryCallLemmas.{caller_process, means_over, right_told, whole_with_mem}
 use Rattle.xk_kernel.proofs.kernel.Kernel.map_memory.Goals as goal
 
 pub overflow_mul-result : goal.overflow_mul-result
@@ -16,8 +18,9 @@ overflow_mul-result g c =
 pub returns-in-Ok-clause-whole : goal.returns-in-Ok-clause-whole
 returns-in-Ok-clause-whole g c =
     whole_with_mem g.W.SwapStore.slot_count g.W.SwapStore.held c.args.self.now c.make_console.new.self c.requires.whole c.make_console.ensures.size c.make_console.ensures.sound
-    (make_console_unlent c.args.self.now.cursor.pid c.in-Some.right.w c.make_console.result (ledger g.W.SwapStore.held c.args.self.now.mem)
-    (ledger g.W.SwapStore.held c.make_console.new.self) c.make_console.ensures.ledger c.requires.whole.unlent)
+    (make_console_keeps g.W.SwapStore.slot_count g.W.SwapStore.held c.args.self.now.mem c.requires.whole.mem c.args.self.now.cursor.pid c.page_asked-at.result c.in-Some.right.w
+    c.make_console.result (ledger g.W.SwapStore.held c.make_console.new.self) (caller_process g.W.SwapStore.slot_count g.W.SwapStore.held c.args.self.now c.requires.whole)
+    c.make_console.ensures.answer c.make_console.ensures.ledger)
 
 pub returns-in-Ok-clause-outcome : goal.returns-in-Ok-clause-outcome
 returns-in-Ok-clause-outcome g c =
@@ -46,8 +49,9 @@ overflow_mul-result-in-Ok-Ok g c =
 pub returns-in-Ok-Ok-clause-whole : goal.returns-in-Ok-Ok-clause-whole
 returns-in-Ok-Ok-clause-whole g c =
     whole_with_mem g.W.SwapStore.slot_count g.W.SwapStore.held c.args.self.now c.make.new.self c.requires.whole c.make.ensures.size c.make.ensures.sound
-    (make_unlent c.args.self.now.cursor.pid (c.args.size / 4096) c.in-Some.right c.in-Ok-Ok.field-0 (ledger g.W.SwapStore.held c.args.self.now.mem)
-    (ledger g.W.SwapStore.held c.make.new.self) (c.in-Ok-Ok.ensures.whole (means_over g.W.SwapStore.slot_count g.W.SwapStore.is_honest g.W.SwapStore.held c.args.self.now.mem c.make.new.self c.requires.whole.mem c.make.ensures.sound)) c.requires.whole.unlent)
+    (make_keeps (processes c.args.self.now.mem) (capacity_of c.args.self.now.mem) c.args.self.now.cursor.pid Map c.page_asked-at.result (c.args.size / 4096) c.in-Some.right c.in-Ok-Ok.field-0 (ledger g.W.SwapStore.held c.args.self.now.mem)
+    (ledger g.W.SwapStore.held c.make.new.self) (caller_process g.W.SwapStore.slot_count g.W.SwapStore.held c.args.self.now c.requires.whole) c.in-Ok-Ok.ensures.answer
+    (c.in-Ok-Ok.ensures.whole (means_over g.W.SwapStore.slot_count g.W.SwapStore.is_honest g.W.SwapStore.held c.args.self.now.mem c.make.new.self c.requires.whole.mem c.make.ensures.sound)))
 
 pub returns-in-Ok-Ok-clause-outcome : goal.returns-in-Ok-Ok-clause-outcome
 returns-in-Ok-Ok-clause-outcome g c =
@@ -62,3 +66,10 @@ returns-in-Ok-Err-clause-outcome g c =
     map_refused g.W.SwapStore.held c.args.self.now c.args.phys c.args.virt c.args.size c.args.flags c.in-Some.right (sym c.is_bad_range.ensures ∙ c.if-is_bad_range.false) (right_told (are_bad_flags c.args.flags) (right_of c.args.flags) c.in-Some.right (sym c.in-Some.is ∙ c.right_asked.ensures))
     (eq-eqb c.args.phys 0 c.if-phys-ne0.false) (ne_eqb c.args.phys 4026531840 c.if-phys-eq-CONSOLE_ADDRESS.false)
     c.in-Ok-Err.error (rw (c.page_asked-at.ensures, c.in-Ok-Err.field-0-is) at c.in-Ok-Err.ensures.answer)
+
+pub returns-in-Err-make-clause-whole : goal.returns-in-Err-make-clause-whole
+returns-in-Err-make-clause-whole g c =
+    whole_with_mem g.W.SwapStore.slot_count g.W.SwapStore.held c.args.self.now c.make.new.self c.requires.whole c.make.ensures.size c.make.ensures.sound
+    (made_first_keeps (processes c.args.self.now.mem) (capacity_of c.args.self.now.mem) c.args.self.now.cursor.pid Map c.page_asked-at.result (c.args.size / 4096)
+    c.in-Some.right (ledger g.W.SwapStore.held c.args.self.now.mem) (ledger g.W.SwapStore.held c.make.new.self)
+    (caller_process g.W.SwapStore.slot_count g.W.SwapStore.held c.args.self.now c.requires.whole) c.in-Err-make.ensures.partial)

@@ -1,7 +1,8 @@
 use Rattle.std.proofs.Common.{sym, ◌∙◌, ◌/◌}
 use Rattle.std.specs.Prelude.{Ok, Err}
-use Rattle.vm_memory.specs.Memory.{ledger}
-use Rattle.xk_kernel.proofs.Memory.MemoryCallLemmas.{caller_process, remove_unlent, unmap_outcome, whole_with_mem}
+use Rattle.vm_memory.specs.Memory.{ledger, processes}
+use Rattle.xk_kernel.proofs.Memory.KeptLoanLemmas.{remove_keeps}
+use Rattle.xk_kernel.proofs.Memory.MemoryCallLemmas.{caller_process, unmap_outcome, whole_with_mem}
 use Rattle.xk_kernel.proofs.kernel.Kernel.unmap_memory.Goals as goal
 
 pub remove_run-requires-clause-process : goal.remove_run-requires-clause-process
@@ -10,8 +11,8 @@ remove_run-requires-clause-process g c = rw c.caller_place-first.ensures (caller
 pub returns-in-Ok-clause-whole : goal.returns-in-Ok-clause-whole
 returns-in-Ok-clause-whole g c =
     whole_with_mem g.W.SwapStore.slot_count g.W.SwapStore.held c.args.self.now c.remove_run.new.self c.requires.whole c.remove_run.ensures.size c.remove_run.ensures.sound
-    (remove_unlent c.remove_run.result c.caller_place-first.result (c.args.size / 4096) (ledger g.W.SwapStore.held c.args.self.now.mem)
-    (ledger g.W.SwapStore.held c.remove_run.new.self) c.remove_run.ensures.ledger c.requires.whole.unlent)
+    (remove_keeps (processes c.args.self.now.mem) c.remove_run.result c.caller_place-first.result (c.args.size / 4096) (ledger g.W.SwapStore.held c.args.self.now.mem)
+    (ledger g.W.SwapStore.held c.remove_run.new.self) c.remove_run.ensures.answer c.remove_run.ensures.ledger)
 
 pub returns-in-Ok-clause-outcome : goal.returns-in-Ok-clause-outcome
 returns-in-Ok-clause-outcome g c =

@@ -3,7 +3,8 @@ use Rattle.std.specs.Prelude.{Ok, Err}
 use Rattle.machine_model.specs.Calling.MemoryCalls.{are_bad_flags}
 use Rattle.xk_base.specs.Calls.Flags.{right_of}
 use Rattle.vm_memory.specs.Memory.{ledger}
-use Rattle.xk_kernel.proofs.Memory.MemoryCallLemmas.{caller_process, reduce_unlent, right_told, update_outcome, whole_with_mem}
+use Rattle.xk_kernel.proofs.Memory.KeptLoanLemmas.{reduce_keeps}
+use Rattle.xk_kernel.proofs.Memory.MemoryCallLemmas.{caller_process, right_told, update_outcome, whole_with_mem}
 use Rattle.xk_kernel.proofs.kernel.Kernel.update_memory_flags.Goals as goal
 
 pub reduce_run-requires-clause-process : goal.reduce_run-requires-clause-process
@@ -12,8 +13,8 @@ reduce_run-requires-clause-process g c = rw c.caller_place-first.ensures (caller
 pub returns-in-Ok-clause-whole : goal.returns-in-Ok-clause-whole
 returns-in-Ok-clause-whole g c =
     whole_with_mem g.W.SwapStore.slot_count g.W.SwapStore.held c.args.self.now c.reduce_run.new.self c.requires.whole c.reduce_run.ensures.size c.reduce_run.ensures.sound
-    (reduce_unlent c.reduce_run.result c.caller_place-first.result (c.args.size / 4096) c.in-Some.right (ledger g.W.SwapStore.held c.args.self.now.mem)
-    (ledger g.W.SwapStore.held c.reduce_run.new.self) c.reduce_run.ensures.ledger c.requires.whole.unlent)
+    (reduce_keeps c.reduce_run.result c.caller_place-first.result (c.args.size / 4096) c.in-Some.right (ledger g.W.SwapStore.held c.args.self.now.mem)
+    (ledger g.W.SwapStore.held c.reduce_run.new.self) c.reduce_run.ensures.ledger)
 
 pub returns-in-Ok-clause-outcome : goal.returns-in-Ok-clause-outcome
 returns-in-Ok-clause-outcome g c =

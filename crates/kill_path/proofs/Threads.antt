@@ -1,0 +1,4 @@
+-- Who is to be answered, and who is.
+pub mod MarkLemmas
+pub mod ReceivingLemmas
+pub mod TellLemmas

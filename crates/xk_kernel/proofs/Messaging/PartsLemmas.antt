@@ -1,0 +1,126 @@
+-- The parts of a kernel that a call on messages takes: they are sound, the machine that they stand for is the kernel's, and a kernel
+-- with sound parts is whole.
+use Rattle.std.proofs.Common.{◌≡◌, ℕ, ◌≤◌, Bool, true, refl, sym, ap, subst, ◌∙◌, arith}
+use Rattle.kill_path.proofs.FitLemmas.{open_loans, sound_servers}
+use Rattle.ledger_model.specs.Loans.{loans}
+use Rattle.machine_model.specs.Runs.Matched.{Matched}
+use Rattle.machine_model.specs.State.Order.{ready_at}
+use Rattle.send_path.specs.Forwarding.{with_all}
+use Rattle.send_path.specs.Parts.{Parts, Tables, parts_of, tables_of, with_parts, with_tables}
+use Rattle.send_path.specs.Sending.{with_next}
+use Rattle.send_path.specs.Sound.{AreTablesSound, IsSound as ArePartsSound, IsSoundOver, KeepsMemory}
+use Rattle.sv32_space.specs.Tie.{Held}
+use Rattle.thread_table.specs.ThreadsOf.{process_count}
+use Rattle.vm_memory.specs.Memory.{ledger, processes, size, store_of}
+use Rattle.xk_base.specs.Tables.Circle.{is_thread_id}
+use Rattle.xk_base.specs.declared.limits.TheConstants.{RECORD_LIMIT}
+use Rattle.xk_ports.specs.Keeping.{KeepsStore}
+use Rattle.xk_kernel.specs.Sound.{IsUsable, IsWhole, Keeps}
+use Rattle.xk_kernel.specs.State.{machine_of}
+use Rattle.xk_kernel.specs.declared.kernel.Kernel.{Kernel}
+
+-- the parts of the kernel
+abbrev pub parts : {W : Type 0} → Kernel W → Parts W
+parts k = parts_of k.mem k.threads k.servers k.queues k.log
+
+abbrev pub tables : {W : Type 0} → Kernel W → Tables
+tables k = tables_of k.threads k.servers k.queues k.log
+
+-- the kernel with these parts, whose next accepted message gets that number
+abbrev pub with_new : {W : Type 0} → Kernel W → Parts W → ℕ → Kernel W
+with_new k new next = record k {
+  mem = new.mem;
+  threads = new.tables.threads;
+  servers = new.tables.servers;
+  queues = new.tables.queues;
+  log = new.tables.log;
+  next = next;
+}
+
+-- THE MACHINE of these parts, all else as in the kernel, is that of the kernel with them
+module _ {W : Type 0} (held : W → Held) (k : Kernel W) (new : Parts W) (same : process_count new.tables.threads ≡ processes new.mem) where
+  pub machine_given : with_parts held k.cursor new (machine_of held k) ≡ machine_of held (with_new k new k.next)
+  unfolding machine_of with_parts with_tables
+  machine_given = λ i. record (machine_of held (with_new k new k.next)) { processes = same i }
+
+  pub machine_over : with_all held k.cursor k.procs new (machine_of held k) ≡ machine_of held (with_new k new k.next)
+  unfolding machine_of with_parts with_tables
+  machine_over = λ i. record (machine_of held (with_new k new k.next)) { processes = same i }
+
+  pub machine_next : (next : ℕ) → with_parts held k.cursor new (with_next k.procs next (machine_of held k)) ≡ machine_of held (with_new k new next)
+  unfolding machine_of with_parts with_tables
+  machine_next next = λ i. record (machine_of held (with_new k new next)) { processes = same i }
+
+-- .. and where no page moves
+pub machine_tables : {W : Type 0} (held : W → Held) (k : Kernel W) (new : Tables) → process_count new.threads ≡ processes k.mem
+    → with_tables k.cursor new (machine_of held k) ≡ machine_of held (with_new k (record { mem = k.mem; tables = new }) k.next)
+unfolding machine_of with_tables
+machine_tables held k new same = λ i. record (machine_of held (with_new k (record { mem = k.mem; tables = new }) k.next)) { processes = same i }
+
+-- the kernel with its own parts is itself
+pub left_alone : {W : Type 0} (k : Kernel W) (new : Parts W) → new ≡ parts k → with_new k new k.next ≡ k
+left_alone k new e = λ i. with_new k (e i) k.next
+
+-- ---- sound
+
+module _ {W : Type 0} (slot_count : W → ℕ) (held : W → Held) (k : Kernel W) (whole : IsWhole slot_count held k) (matched : Matched (machine_of held k)) where
+  pub parts_sound : ArePartsSound slot_count held k.cursor (parts k)
+  parts_sound = record {
+    machine = machine_of held k;
+    matched = subst Matched (sym (machine_given held k (parts k) whole.threads)) matched;
+    mem = whole.mem;
+    processes = whole.threads;
+    seats = whole.servers.messages.seats;
+    loans = open_loans (loans (ledger held k.mem)) k.servers k.queues whole.servers.messages;
+  }
+
+  pub parts_sound_over : IsSoundOver slot_count held k.cursor k.procs (parts k)
+  unfolding machine_of parts_sound
+  parts_sound_over = record { sound = parts_sound; same = refl; count = whole.procs ∙ sym whole.threads }
+
+  pub tables_matched : Matched (with_tables k.cursor (tables k) (machine_of held k))
+  tables_matched = subst Matched (sym (machine_tables held k (tables k) whole.threads)) matched
+
+  pub tables_sound : AreTablesSound k.cursor (tables k)
+  tables_sound = record {
+    machine = machine_of held k;
+    matched = tables_matched;
+    seats = whole.servers.messages.seats;
+  }
+
+-- a kernel with sound parts is whole
+pub new_whole : {W : Type 0} (slot_count : W → ℕ) (held : W → Held) (k : Kernel W) (new : Parts W) (next : ℕ) → IsWhole slot_count held k
+    → ArePartsSound slot_count held k.cursor new → size new.mem ≡ size k.mem → new.tables.log.room ≡ k.log.room → IsWhole slot_count held (with_new k new next)
+new_whole slot_count held k new next whole sound s room =
+    let same : processes new.mem ≡ processes k.mem = ap (λ z. z.procs) s in
+    record {
+      mem = sound.mem;
+      threads = sound.processes;
+      procs = whole.procs ∙ sym same;
+      cursor = ap (λ n. is_thread_id n k.cursor) same ∙ whole.cursor;
+      room = subst (λ n. RECORD_LIMIT ≤ n) (sym room) whole.room;
+      servers = sound_servers slot_count held k.cursor new sound;
+    }
+
+-- what a call keeps of the memory, it keeps of the kernel
+pub new_keeps : {W P : Type 0} (honest : W → Bool) (held : W → Held) (slot_count : W → ℕ) (asked : W → P) (faults : W → ℕ) (old new : Kernel W)
+    → KeepsMemory honest held old.mem new.mem → new.log.room ≡ old.log.room → Keeps honest held slot_count asked faults old new
+new_keeps honest held slot_count asked faults old new keeps room = record {
+  size = keeps.size;
+  store = subst (λ s. KeepsStore honest held slot_count asked faults (store_of old.mem) s) (sym keeps.store) (record {
+    honest = refl;
+    told = refl;
+    slots = refl;
+    preparations = refl;
+    never_falls = omega arith;
+  });
+  room = room;
+}
+
+pub new_usable : {W : Type 0} (honest : W → Bool) (held : W → Held) (old new : Kernel W) → KeepsMemory honest held old.mem new.mem → IsUsable old → IsUsable new
+new_usable honest held old new keeps usable = keeps.failed ∙ usable
+
+-- .. and its caller is Ready as before
+pub left_ready : {W : Type 0} (held : W → Held) (k new : Kernel W) → new ≡ k → ready_at (machine_of held k) k.cursor ≡ true
+    → ready_at (machine_of held new) new.cursor ≡ true
+left_ready held k new same ready = ap (λ x. ready_at (machine_of held x) x.cursor) same ∙ ready

@@ -1,0 +1,3 @@
+pub mod FewLemmas
+pub mod PlaceLemmas
+pub mod RingLemmas

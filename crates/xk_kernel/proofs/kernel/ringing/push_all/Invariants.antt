@@ -1,0 +1,6 @@
+use Rattle.std.proofs.Common.{◌≡◌, ◌++◌, take}
+use Rattle.xk_kernel.proofs.kernel.ringing.push_all.Given as goal
+
+-- the records so far were appended
+abbrev pub invariant-records : goal.invariant-records
+invariant-records l = l.log ≡ record l.fn.log { records = l.fn.log.records ++ take l.k l.records }
