@@ -1,6 +1,5 @@
 -- The cases of a tick, and what is written for each.
 use Rattle.std.proofs.Common.{◌≡◌, ◌≢◌, ◌<◌, ◌==◌, ℕ, zero, suc, Bool, true, false, List, [], ◌∷◌, ◌++◌, Option, Result, Ok, Err, IsErr, OnOk, is_some, refl, sym, ap, ◌∙◌, subst, arith, append_assoc, ◌≤◌, ◌⊎◌, inl, inr}
-use Rattle.std.specs.Prelude.{if◌then◌else◌}
 use Rattle.std.proofs.lemmas.Bool.Decides.{nat_tests}
 use Rattle.std.proofs.lemmas.Grind.{flat_map-append}
 use Rattle.xk_base.specs.declared.records.Rec.{Rec}
@@ -16,7 +15,6 @@ use Rattle.xk_kernel.specs.History as kernel
 use Rattle.xousim.specs.declared.ending.Ending.{Ending}
 use Rattle.xousim.specs.declared.ending.Ending.TheVariants.{Played, LimitMet, BadLine}
 use Rattle.xousim.specs.History.{History, at_once, behind, ended, history, history_to, of_kernel, play, played, ticks}
-use Rattle.xk_kernel.specs.Stepping.{event_done}
 use Rattle.xk_kernel.proofs.Running.LimitLemmas.{irq_steps, kill_steps, pick_steps}
 use Rattle.event_text.specs.declared.event.Event.TheVariants.{Tick, Pick, Irq, Kill}
 use Rattle.xk_base.specs.declared.ids.Pid.{Pid}

@@ -2,6 +2,7 @@ pub mod HistoryLemmas
 pub mod KeptLemmas
 pub mod PlayingLemmas
 pub mod ReadingLemmas
+pub mod SummaryLemmas
 pub mod TableLemmas
 pub mod ToldLemmas
 pub mod TopLemmas

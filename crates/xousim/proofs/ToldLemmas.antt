@@ -1,5 +1,5 @@
 -- Growing and consuming, one piece after another.
-use Rattle.std.proofs.Common.{◌≡◌, ◌↔◌, ◌<◌, ◌≤◌, ℕ, suc, List, [], ◌++◌, length, take, drop, get_or, Option, Some, None, Result, Ok, Err, OnErr, refl, sym, ap, ◌∙◌, arith, append_assoc, append-nil, drop-cons}
+use Rattle.std.proofs.Common.{◌≡◌, ◌↔◌, ◌<◌, ◌≤◌, ℕ, suc, List, [], ◌++◌, length, take, drop, get_or, Option, Some, None, Result, Ok, Err, OnErr, OnOk, refl, sym, ap, ◌∙◌, arith, append_assoc, append-nil, drop-cons}
 use Rattle.std.proofs.lemmas.Option.{none-some, same_Some}
 use Rattle.std.proofs.lemmas.List.{take-append-drop}
 use Rattle.std.proofs.lemmas.Grind.{common_steps, flat_map-append}
@@ -92,3 +92,7 @@ front_later old mid new xs ys first second = (
   ap (λ (text : List ℕ). xs ++ text) second.2 ∙ sym (append_assoc xs second.0 second.1),
   Grows-append old mid new xs second.0 first second.3,
 )
+
+pub on_ok_map : {T E : Type 0} (r : Result T E) (P Q : Type 0) → (P → Q) → OnOk r P → OnOk r Q
+on_ok_map (Ok x) P Q f p = f p
+on_ok_map (Err e) P Q f p = tt

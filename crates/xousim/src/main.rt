@@ -12,6 +12,7 @@ mod numbers;
 mod playing;
 mod reading;
 mod status;
+mod summary;
 mod table;
 #[cfg(test)]
 mod tests;

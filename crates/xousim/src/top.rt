@@ -1,23 +1,23 @@
 //! The top call: words in, a status and what the command tells out.
 
-ghost use Rattle.std.specs.Prelude.{◌≡◌, ◌≤◌, [], true};
+ghost use Rattle.std.specs.Prelude.{◌≡◌, ◌≤◌};
 ghost use Rattle.xk_ports.specs.Keeping.{KeepsStore};
 ghost use Rattle.xk_kernel.specs.Sound.{IsSound, IsUsable, Keeps};
 ghost use Rattle.xk_kernel.specs.State.{machine_of};
 ghost use Rattle.xk_ports.specs.declared.host.FileSlot.TheVariants.{First, Second};
 ghost use Rattle.xousim.specs.Built.{is_play_built};
 ghost use Rattle.xousim.specs.Finish.{EndsBooted, Finishes};
-ghost use Rattle.xousim.specs.Outcome.{Call, Ends, EndsPlay, IsComplete, Notes, SinkSide};
-ghost use Rattle.xousim.specs.Reading.{IsTold};
+ghost use Rattle.xousim.specs.Outcome.{Call, Ends, EndsCheck, EndsPlay, IsComplete, Notes, SinkSide};
 ghost use Rattle.xousim.specs.Status.{note_of};
-ghost use Rattle.xousim.specs.Words.{command_of, play_in};
+ghost use Rattle.xousim.specs.Words.{check_in, command_of, play_in};
 
-use crate::booting::boot_image;
-use crate::command::{CommandWords, PlayWords};
+use crate::booting::{boot_image, plan_image};
+use crate::command::{CheckWords, CommandWords, PlayWords};
 use crate::ending::Ending;
 use crate::event_file::{RunFault, play_file};
 use crate::notes::write_note;
 use crate::status::{Ended, Status};
+use crate::summary::write_summary;
 use crate::transcript::write_closing;
 use crate::words::read_words;
 use std::alloc::Global;
@@ -66,6 +66,7 @@ fn play_events<H: Host, K: Sink, W: SwapStore>(
         files = H.file host.old;
         asked = H.asked host.old;
         asked_after = H.asked host.new;
+        image_left = H.left host.new First;
         left = H.left host.new Second;
         faults = H.faults host.old;
         faults_after = H.faults host.new;
@@ -78,7 +79,6 @@ fn play_events<H: Host, K: Sink, W: SwapStore>(
       };
       status = result;
     } in EndsBooted (play_in play.entry) (machine_of W.held kernel.old) call }
-    ensures end { result ≡ Status.Done → IsTold (H.left host.new Second) [] }
     ensures sound { IsSound W.slot_count W.held kernel.new }
     ensures usable { IsUsable kernel.new }
     ensures keeps { Keeps W.is_honest W.held W.slot_count W.asked W.faults kernel.old kernel.new }
@@ -110,6 +110,7 @@ fn play_image<H: Host, K: Sink, W: SwapStore>(
         files = H.file host.old;
         asked = H.asked host.old;
         asked_after = H.asked host.new;
+        image_left = H.left host.new First;
         left = H.left host.new Second;
         faults = H.faults host.old;
         faults_after = H.faults host.new;
@@ -122,8 +123,6 @@ fn play_image<H: Host, K: Sink, W: SwapStore>(
       };
       status = result.status;
     } in EndsPlay (play_in play.entry) call }
-    ensures first { result.status ≡ Status.Done → IsTold (H.left host.new First) [] }
-    ensures second { result.status ≡ Status.Done → IsTold (H.left host.new Second) [] }
     ensures store { KeepsStore W.is_honest W.held W.slot_count W.asked W.faults store result.store }
     ensures host { H.faults host.old ≤ H.faults host.new }
     ensures out { K.faults out.old ≤ K.faults out.new }
@@ -137,6 +136,44 @@ fn play_image<H: Host, K: Sink, W: SwapStore>(
             }
         }
         Err(ended) => ended,
+    }
+}
+
+/// Plans an image, and writes the summary of the plan.
+fn check_image<H: Host, K: Sink>(
+    alloc: Global,
+    check: CheckWords,
+    host: &mut H,
+    out: &mut K,
+) -> Status
+    ensures ends { let call : Call = record {
+      host = record {
+        files = H.file host.old;
+        asked = H.asked host.old;
+        asked_after = H.asked host.new;
+        image_left = H.left host.new First;
+        left = H.left host.new Second;
+        faults = H.faults host.old;
+        faults_after = H.faults host.new;
+      };
+      out = record {
+        written = K.written out.old;
+        written_after = K.written out.new;
+        faults = K.faults out.old;
+        faults_after = K.faults out.new;
+      };
+      status = result;
+    } in EndsCheck (check_in check.entry) call }
+    ensures host { H.faults host.old ≤ H.faults host.new }
+    ensures out { K.faults out.old ≤ K.faults out.new }
+{
+    let planned = match plan_image(alloc, host, check.image, check.slots) {
+        Ok(planned) => planned,
+        Err(status) => return status,
+    };
+    match write_summary(&planned.plan, planned.bytes.len() as u32, out) {
+        Ok(()) => Status::Done,
+        Err(_) => Status::WriteFault,
     }
 }
 
@@ -160,6 +197,7 @@ fn run_words<H: Host, K: Sink, W: SwapStore>(
         files = H.file host.old;
         asked = H.asked host.old;
         asked_after = H.asked host.new;
+        image_left = H.left host.new First;
         left = H.left host.new Second;
         faults = H.faults host.old;
         faults_after = H.faults host.new;
@@ -172,8 +210,6 @@ fn run_words<H: Host, K: Sink, W: SwapStore>(
       };
       status = result.status;
     } in Ends (command_of words.now) call }
-    ensures first { result.status ≡ Status.Done → IsTold (H.left host.new First) [] }
-    ensures second { result.status ≡ Status.Done → IsTold (H.left host.new Second) [] }
     ensures store { KeepsStore W.is_honest W.held W.slot_count W.asked W.faults store result.store }
     ensures host { H.faults host.old ≤ H.faults host.new }
     ensures out { K.faults out.old ≤ K.faults out.new }
@@ -192,7 +228,11 @@ fn run_words<H: Host, K: Sink, W: SwapStore>(
                 store,
             }
         }
-        Some(CommandWords::Check(_) | CommandWords::Demo(_)) => Ended {
+        Some(CommandWords::Check(check)) => Ended {
+            status: check_image(alloc, check, host, out),
+            store,
+        },
+        Some(CommandWords::Demo(_)) => Ended {
             status: Status::NotBuilt,
             store,
         },
@@ -215,6 +255,7 @@ pub fn xous_main<H: Host, K: Sink, N: Sink, W: SwapStore>(
         files = H.file host.old;
         asked = H.asked host.old;
         asked_after = H.asked host.new;
+        image_left = H.left host.new First;
         left = H.left host.new Second;
         faults = H.faults host.old;
         faults_after = H.faults host.new;
@@ -227,11 +268,6 @@ pub fn xous_main<H: Host, K: Sink, N: Sink, W: SwapStore>(
       };
       status = result.status;
     } in Ends (command_of words.now) call × IsComplete (command_of words.now) call }
-
-    // At the end of a run both files were read to their ends.
-    ensures first { result.status ≡ Status.Done → IsTold (H.left host.new First) [] }
-    ensures second { result.status ≡ Status.Done → IsTold (H.left host.new Second) [] }
-
     ensures noted { let side : SinkSide = record {
       written = N.written notes.old;
       written_after = N.written notes.new;
