@@ -3,6 +3,8 @@ pub mod KeptLemmas
 pub mod MatchedLemmas
 pub mod PlayingLemmas
 pub mod ReadingLemmas
+pub mod SummaryLemmas
+pub mod TableLemmas
 pub mod ToldLemmas
 pub mod TopLemmas
 pub mod VerdictLemmas

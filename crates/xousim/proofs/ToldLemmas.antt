@@ -1,5 +1,5 @@
 -- Growing and consuming, one piece after another.
-use Rattle.std.proofs.Common.{◌≡◌, ◌↔◌, ◌<◌, ◌≤◌, ℕ, suc, List, [], ◌++◌, length, take, drop, get_or, Option, Some, None, Result, Ok, Err, OnErr, refl, sym, ap, ◌∙◌, arith, append_assoc, append-nil, drop-cons}
+use Rattle.std.proofs.Common.{◌≡◌, ◌↔◌, ◌<◌, ◌≤◌, ℕ, suc, List, [], ◌++◌, length, take, drop, get_or, Option, Some, None, Result, Ok, Err, OnErr, OnOk, refl, sym, ap, ◌∙◌, arith, append_assoc, append-nil, drop-cons}
 use Rattle.std.proofs.lemmas.Option.{none-some, same_Some}
 use Rattle.std.proofs.lemmas.List.{take-append-drop}
 use Rattle.std.proofs.lemmas.Grind.{common_steps, flat_map-append}
@@ -70,3 +70,29 @@ told_at tells records i d inside =
 pub on_err : {T E : Type 0} (r : Result T E) (P : Type 0) → P → OnErr r P
 on_err (Ok x) P p = tt
 on_err (Err e) P p = p
+
+pub on_err_map : {T E : Type 0} (r : Result T E) (P Q : Type 0) → (P → Q) → OnErr r P → OnErr r Q
+on_err_map (Ok x) P Q f p = tt
+on_err_map (Err e) P Q f p = f p
+
+-- a front of some text is a front of it with more behind it
+pub front_longer : (old new : Option (List ℕ)) (xs ys : List ℕ) → GrowsByPrefix old new xs → GrowsByPrefix old new (xs ++ ys)
+front_longer old new xs ys front = (
+  front.0,
+  front.1 ++ ys,
+  ap (λ (text : List ℕ). text ++ ys) front.2 ∙ append_assoc front.0 front.1 ys,
+  front.3,
+)
+
+-- a whole text, and then a front of what comes behind it
+pub front_later : (old mid new : Option (List ℕ)) (xs ys : List ℕ) → Grows old mid xs → GrowsByPrefix mid new ys → GrowsByPrefix old new (xs ++ ys)
+front_later old mid new xs ys first second = (
+  xs ++ second.0,
+  second.1,
+  ap (λ (text : List ℕ). xs ++ text) second.2 ∙ sym (append_assoc xs second.0 second.1),
+  Grows-append old mid new xs second.0 first second.3,
+)
+
+pub on_ok_map : {T E : Type 0} (r : Result T E) (P Q : Type 0) → (P → Q) → OnOk r P → OnOk r Q
+on_ok_map (Ok x) P Q f p = f p
+on_ok_map (Err e) P Q f p = tt

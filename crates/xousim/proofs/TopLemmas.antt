@@ -15,7 +15,7 @@ use Rattle.xousim.specs.declared.status.Status.TheVariants.{Done, Usage, ReadFau
 use Rattle.xousim.specs.Finish.{EndsBooted, Finishes}
 use Rattle.xousim.specs.History.{History}
 use Rattle.xousim.specs.Outcome.{AsksBoth, Call, Ends, EndsPlay, HasCause, Image, Tells, Told, run_of}
-use Rattle.xousim.specs.Reading.{IsFile, Asked}
+use Rattle.xousim.specs.Reading.{Asked, IsFile, IsTold}
 use Rattle.xk_kernel.specs.Start.{start}
 use Rattle.xousim.specs.Telling.{closing, output, told}
 use Rattle.xousim.specs.Words.{Command, Play, command_in}
@@ -124,9 +124,9 @@ asks_both play asked faults call picked first second =
 -- ---- whole calls
 
 ends_earlier : (play : Play) (machine : Machine) (asked : Option (List FileAsked)) (faults : ℕ) (call : Call)
-    → Image call.host.files play.image play.slots machine → faults ≤ call.host.faults → Asked asked call.host.asked First play.image true
+    → Image call.host.files play.image play.slots machine → faults ≤ call.host.faults → Asked asked call.host.asked First play.image true → IsTold call.host.image_left []
     → EndsBooted play machine call → EndsPlay play (begun_at asked faults call)
-ends_earlier play machine asked faults call image later first (inl unpicked) =
+ends_earlier play machine asked faults call image later first read (inl unpicked) =
     inr (inl (record {
       asked = asks_both play asked faults call false first unpicked.asked;
       ended = unpicked.ended;
@@ -135,13 +135,15 @@ ends_earlier play machine asked faults call image later first (inl unpicked) =
       image = image;
       unwritten = unpicked.unwritten;
     }))
-ends_earlier play machine asked faults call image later first (inr picked) =
+ends_earlier play machine asked faults call image later first read (inr picked) =
     inr (inr (record {
       asked = asks_both play asked faults call true first picked.asked;
       cause = cause_earlier asked faults call call.status later picked.cause;
       machine = machine;
       image = image;
       content = tells_earlier play machine asked faults call call.status picked.content;
+      image_read = λ done. read;
+      events_read = picked.events_read;
     }))
 
 -- the same call at a host of these files
@@ -149,11 +151,11 @@ abbrev pub with_files : Told → Call → Call
 with_files files call = record call { host = record call.host { files = files } }
 
 pub ends_booted : (play : Play) (machine : Machine) (files : Told) (asked : Option (List FileAsked)) (faults : ℕ) (call : Call)
-    → call.host.files ≡ files → Image files play.image play.slots machine → faults ≤ call.host.faults → Asked asked call.host.asked First play.image true
+    → call.host.files ≡ files → Image files play.image play.slots machine → faults ≤ call.host.faults → Asked asked call.host.asked First play.image true → IsTold call.host.image_left []
     → EndsBooted play machine call → EndsPlay play (begun_at asked faults (with_files files call))
-ends_booted play machine files asked faults call same image later first booted =
+ends_booted play machine files asked faults call same image later first read booted =
     let P : Told → Type 0 = λ f. EndsBooted play machine (with_files f call) in
-    ends_earlier play machine asked faults (with_files files call) image later first (subst P same booted)
+    ends_earlier play machine asked faults (with_files files call) image later first read (subst P same booted)
 
 pub ends_as_read : (read : Option CommandWords) (command : Option Command) (call : Call) → option_map command_in read ≡ command → Ends (option_map command_in read) call → Ends command call
 ends_as_read read command call same ends =

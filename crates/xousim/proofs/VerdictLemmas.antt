@@ -13,10 +13,11 @@ use Rattle.xousim.specs.declared.ending.Ending.{Ending}
 use Rattle.xousim.specs.declared.ending.Ending.TheVariants.{Played, LimitMet, BadLine}
 use Rattle.xousim.specs.declared.status.Status.{Status}
 use Rattle.xousim.specs.declared.status.Status.TheVariants.{Done, Usage, ReadFault, WriteFault, ImageFault, EventFault, StepLimit, NoMemory, NotBuilt}
-use Rattle.xousim.specs.Outcome.{Boots, Call, Ends, EndsIfBuilt, EndsPlay, HasCause, HostRose, Image, IsCommandComplete, IsComplete, IsPlayComplete, IsUnwritten, IsVerdict, OutRose, Ran, Refuses, RunsTo, Tells, run_of}
+use Rattle.xousim.specs.Outcome.{Boots, Call, Ends, EndsCheck, EndsIfBuilt, EndsPlay, HasCause, HostRose, Image, IsCheckComplete, IsCheckVerdict, IsCommandComplete, IsComplete, IsPlanned, IsPlayComplete, IsUnwritten, IsVerdict, OutRose, Ran, Refuses, RunsTo, Summarizes, Tells, run_of}
+use Rattle.boot_plan.specs.declared.plans.BootPlan.{BootPlan}
 use Rattle.xousim.specs.Built.{is_built}
 use Rattle.xousim.specs.Reading.{IsFile}
-use Rattle.xousim.specs.Words.{Command, Plays, Checks, Demo, Play}
+use Rattle.xousim.specs.Words.{Check, Command, Plays, Checks, Demo, Play}
 
 -- ---- what a file has is one
 
@@ -143,12 +144,78 @@ play_complete play call (inl refused) quiet calm = refused_complete play call ca
 play_complete play call (inr (inl unpicked)) quiet calm = absurd (quiet unpicked.cause)
 play_complete play call (inr (inr played)) quiet calm = played_complete play played.machine call call.status quiet calm played.image played.cause played.content
 
+refused_check_complete : (check : Check) (call : Call) (status : Status) → (¬ HostRose call)
+    → Refuses call.host.files check.image check.slots (HostRose call) status → IsUnwritten call
+    → IsCheckVerdict call.host.files check status ⊎ ((status ≡ NoMemory) × IsUnwritten call)
+refused_check_complete check call (ImageFault fault) quiet refused unwritten = inl refused
+refused_check_complete check call NoMemory quiet refused unwritten = inr (refl, unwritten)
+refused_check_complete check call ReadFault quiet refused unwritten = absurd (quiet refused)
+refused_check_complete check call NotBuilt quiet refused unwritten = absurd refused
+refused_check_complete check call Usage quiet refused unwritten = absurd refused
+refused_check_complete check call Done quiet refused unwritten = absurd refused
+refused_check_complete check call (EventFault line) quiet refused unwritten = absurd refused
+refused_check_complete check call (StepLimit limit) quiet refused unwritten = absurd refused
+refused_check_complete check call WriteFault quiet refused unwritten = absurd refused
+
+planned_complete : (check : Check) (plan : BootPlan) (call : Call) (status : Status) → (¬ OutRose call)
+    → IsPlanned call.host.files check.image check.slots plan → HasCause call status → Summarizes plan call.out status
+    → IsCheckVerdict call.host.files check status ⊎ ((status ≡ NoMemory) × IsUnwritten call)
+planned_complete check plan call Done calm planned cause content = inl (plan, planned)
+planned_complete check plan call WriteFault calm planned cause content = absurd (calm cause)
+planned_complete check plan call NotBuilt calm planned cause content = absurd content
+planned_complete check plan call Usage calm planned cause content = absurd content
+planned_complete check plan call ReadFault calm planned cause content = absurd content
+planned_complete check plan call NoMemory calm planned cause content = absurd content
+planned_complete check plan call (ImageFault fault) calm planned cause content = absurd content
+planned_complete check plan call (EventFault line) calm planned cause content = absurd content
+planned_complete check plan call (StepLimit limit) calm planned cause content = absurd content
+
+check_complete : (check : Check) (call : Call) → EndsCheck check call → (¬ HostRose call) → (¬ OutRose call) → IsCheckComplete check call
+check_complete check call (inl refused) quiet calm = refused_check_complete check call call.status quiet refused.refused refused.unwritten
+check_complete check call (inr planned) quiet calm = planned_complete check planned.plan call call.status calm planned.planned planned.cause planned.content
+
 command_complete : (built : Bool) (command : Command) (call : Call) → EndsIfBuilt built command call → (¬ HostRose call) → (¬ OutRose call) → IsCommandComplete built command call
 command_complete false command call ends quiet calm = ends.ended
 command_complete true (Plays play) call ends quiet calm = play_complete play call ends quiet calm
-command_complete true (Checks check) call ends quiet calm = ends.ended
+command_complete true (Checks check) call ends quiet calm = check_complete check call ends quiet calm
 command_complete true (Demo clients) call ends quiet calm = ends.ended
 
 pub ends_complete : (command : Option Command) (call : Call) → Ends command call → IsComplete command call
 ends_complete None call ends = ends.ended
 ends_complete (Some command) call ends = λ quiet calm. command_complete (is_built command) command call ends quiet calm
+
+-- ---- the verdict of an image alone
+
+planned_no_fault : (file : List ℕ → Option (List ℕ)) (check : Check) (plan : BootPlan) (image : List ℕ) (fault : ArgFault)
+    → IsPlanned (Some file) check.image check.slots plan → IsFile (Some file) check.image image → IsImageFault image check.slots (Some fault) → ⊥
+planned_no_fault file check plan image fault planned read faulty =
+    let P : List ℕ → Type 0 = λ bytes. IsImageFault bytes check.slots (Some fault) in
+    none_is_some fault
+    (one_fault planned.image check.slots None (Some fault) planned.sound.no_fault (subst P (same_bytes file check.image image planned.image read planned.read) faulty))
+
+pub one_verdict_of_image : (file : List ℕ → Option (List ℕ)) (check : Check) (one other : Status) → IsCheckVerdict (Some file) check one → IsCheckVerdict (Some file) check other → one ≡ other
+one_verdict_of_image file check Done Done a b = refl
+one_verdict_of_image file check Done (ImageFault fault) a b = absurd (planned_no_fault file check a.0 b.0 fault a.1 b.1 b.2)
+one_verdict_of_image file check (ImageFault fault) Done a b = absurd (planned_no_fault file check b.0 a.0 fault b.1 a.1 a.2)
+one_verdict_of_image file check (ImageFault fault) (ImageFault two) a b = faults_agree file check.image check.slots a.0 b.0 fault two a.1 a.2 b.1 b.2
+one_verdict_of_image file check (EventFault line) other a b = absurd a
+one_verdict_of_image file check (StepLimit limit) other a b = absurd a
+one_verdict_of_image file check NotBuilt other a b = absurd a
+one_verdict_of_image file check Usage other a b = absurd a
+one_verdict_of_image file check ReadFault other a b = absurd a
+one_verdict_of_image file check WriteFault other a b = absurd a
+one_verdict_of_image file check NoMemory other a b = absurd a
+one_verdict_of_image file check Done (EventFault line) a b = absurd b
+one_verdict_of_image file check Done (StepLimit limit) a b = absurd b
+one_verdict_of_image file check Done NotBuilt a b = absurd b
+one_verdict_of_image file check Done Usage a b = absurd b
+one_verdict_of_image file check Done ReadFault a b = absurd b
+one_verdict_of_image file check Done WriteFault a b = absurd b
+one_verdict_of_image file check Done NoMemory a b = absurd b
+one_verdict_of_image file check (ImageFault fault) (EventFault line) a b = absurd b
+one_verdict_of_image file check (ImageFault fault) (StepLimit limit) a b = absurd b
+one_verdict_of_image file check (ImageFault fault) NotBuilt a b = absurd b
+one_verdict_of_image file check (ImageFault fault) Usage a b = absurd b
+one_verdict_of_image file check (ImageFault fault) ReadFault a b = absurd b
+one_verdict_of_image file check (ImageFault fault) WriteFault a b = absurd b
+one_verdict_of_image file check (ImageFault fault) NoMemory a b = absurd b

@@ -1,18 +1,11 @@
 -- The commands that are built. Of those that play events they are the ones without a swap store.
 use Rattle.std.specs.Prelude.{◌==◌, ◌&&◌, Bool, true, false, is_none}
-use Rattle.xousim.specs.declared.command.Telling.{Telling}
-use Rattle.xousim.specs.declared.command.Telling.TheVariants.{Ledger, Run, Trace}
 use Rattle.xousim.specs.Words.{Command, Plays, Checks, Demo, Play}
 
-abbrev pub is_told : Telling → Bool
-is_told Trace = true
-is_told Run = true
-is_told Ledger = false
-
 abbrev pub is_play_built : Play → Bool
-is_play_built play = is_told play.tells && ((play.slots == 0) && is_none play.store)
+is_play_built play = (play.slots == 0) && is_none play.store
 
 abbrev pub is_built : Command → Bool
 is_built (Plays play) = is_play_built play
-is_built (Checks check) = false
+is_built (Checks check) = true
 is_built (Demo clients) = false

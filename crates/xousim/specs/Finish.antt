@@ -1,5 +1,5 @@
 -- The parts of a call: the events of a booted image are played, and what is told at the end is written.
-use Rattle.std.specs.Prelude.{◌≡◌, ◌⊎◌, true, false}
+use Rattle.std.specs.Prelude.{◌≡◌, ◌⊎◌, true, false, []}
 use Rattle.machine_model.specs.State.Machine.{Machine}
 use Rattle.xk_base.specs.Outside.{Rose}
 use Rattle.xk_ports.specs.declared.host.FileSlot.TheVariants.{Second}
@@ -9,7 +9,7 @@ use Rattle.xousim.specs.declared.ending.Ending.TheVariants.{Played, LimitMet, Ba
 use Rattle.xousim.specs.declared.status.Status.{Status}
 use Rattle.xousim.specs.declared.status.Status.TheVariants.{Done, Usage, ReadFault, WriteFault, ImageFault, EventFault, StepLimit, NoMemory, NotBuilt}
 use Rattle.xousim.specs.Outcome.{Call, HasCause, HostRose, IsUnwritten, SinkSide, Tells}
-use Rattle.xousim.specs.Reading.{Asked}
+use Rattle.xousim.specs.Reading.{Asked, IsTold}
 use Rattle.xousim.specs.Telling.{closing}
 use Rattle.xousim.specs.Words.{Play}
 
@@ -37,6 +37,7 @@ pub record EndsPicked (play : Play) (machine : Machine) (call : Call) : Type 0 w
   pub asked : Asked call.host.asked call.host.asked_after Second play.events true
   pub cause : HasCause call call.status
   pub content : Tells play machine call call.status
+  pub events_read : call.status ≡ Done → IsTold call.host.left []
 
 -- what holds of a call from where its image was booted
 abbrev pub EndsBooted : Play → Machine → Call → Type 0

@@ -6,6 +6,7 @@ pub mod Outcome
 pub mod Playing
 pub mod Reading
 pub mod Status
+pub mod Summary
 pub mod Table
 pub mod Telling
 pub mod Words

@@ -5,6 +5,7 @@ use Rattle.kernel_args.specs.declared.args.Args.{Args}
 use Rattle.kernel_args.specs.Image.{Spells}
 use Rattle.boot_plan.specs.FirstPages.{plan_of}
 use Rattle.boot_plan.specs.ImageFault.{IsImageFault}
+use Rattle.boot_plan.specs.declared.plans.BootPlan.{BootPlan}
 use Rattle.event_text.specs.EventFile.{input_of}
 use Rattle.event_text.specs.Lines.{whole_lines}
 use Rattle.machine_model.specs.State.Machine.{Machine}
@@ -19,9 +20,10 @@ use Rattle.xousim.specs.declared.status.Status.{Status}
 use Rattle.xousim.specs.declared.status.Status.TheVariants.{Done, Usage, ReadFault, WriteFault, ImageFault, EventFault, StepLimit, NoMemory, NotBuilt}
 use Rattle.xousim.specs.Built.{is_built}
 use Rattle.xousim.specs.History.{History, history_of}
-use Rattle.xousim.specs.Reading.{IsFile, IsReadOf, AsksFor}
+use Rattle.xousim.specs.Reading.{Asked, AsksFor, IsFile, IsReadOf, IsTold}
+use Rattle.xousim.specs.Summary.{summary_of}
 use Rattle.xousim.specs.Telling.{output, told}
-use Rattle.xousim.specs.Words.{Command, Plays, Checks, Demo, Play}
+use Rattle.xousim.specs.Words.{Check, Command, Plays, Checks, Demo, Play}
 
 -- the files of the host by their names, where they are told
 abbrev pub Told : Type 0
@@ -29,12 +31,13 @@ Told = Option (List ℕ → Option (List ℕ))
 
 -- ---- a call
 
--- What a call meets at the host: the files that it has; the files asked for, before the call and after it; what is left of the event
--- file; and the count of faults, before and after.
+-- What a call meets at the host: the files that it has; the files asked for, before the call and after it; what is left of the image and of
+-- the event file; and the count of faults, before and after.
 pub record HostSide : Type 0 where
   pub files : Told
   pub asked : Option (List FileAsked)
   pub asked_after : Option (List FileAsked)
+  pub image_left : Option (List ℕ)
   pub left : Option (List ℕ)
   pub faults : ℕ
   pub faults_after : ℕ
@@ -196,15 +199,52 @@ pub record EndsPlayed (play : Play) (call : Call) : Type 0 where
   pub machine : Machine
   pub image : Image call.host.files play.image play.slots machine
   pub content : Tells play machine call call.status
+  -- at the end of a run both files were read to their ends
+  pub image_read : call.status ≡ Done → IsTold call.host.image_left []
+  pub events_read : call.status ≡ Done → IsTold call.host.left []
 
 abbrev pub EndsPlay : Play → Call → Type 0
 EndsPlay play call = EndsUnbooted play.image play.slots call ⊎ EndsUnpicked play call ⊎ EndsPlayed play call
+
+-- ---- `check`
+
+-- the file of that name is an image without a fault in a run with so many slots, and this is its plan
+pub record IsPlanned (file : Told) (name : List ℕ) (slots : ℕ) (plan : BootPlan) : Type 0 where
+  pub image : List ℕ
+  pub read : IsFile file name image
+  pub args : Args
+  pub sound : IsSoundImage image slots args
+  pub planned : plan ≡ plan_of args slots
+
+-- what was written of the plan, by the status
+abbrev pub Summarizes : BootPlan → SinkSide → Status → Type 0
+Summarizes plan out Done = Grows out.written out.written_after (summary_of plan)
+Summarizes plan out WriteFault = GrowsByPrefix out.written out.written_after (summary_of plan)
+Summarizes plan out Usage = ⊥
+Summarizes plan out ReadFault = ⊥
+Summarizes plan out NoMemory = ⊥
+Summarizes plan out NotBuilt = ⊥
+Summarizes plan out (ImageFault fault) = ⊥
+Summarizes plan out (EventFault line) = ⊥
+Summarizes plan out (StepLimit limit) = ⊥
+
+-- the image alone is asked for, and its plan is told
+pub record EndsPlanned (check : Check) (call : Call) : Type 0 where
+  pub asked : Asked call.host.asked call.host.asked_after First check.image true
+  pub cause : HasCause call call.status
+  pub plan : BootPlan
+  pub planned : IsPlanned call.host.files check.image check.slots plan
+  pub content : Summarizes plan call.out call.status
+  pub image_read : call.status ≡ Done → IsTold call.host.image_left []
+
+abbrev pub EndsCheck : Check → Call → Type 0
+EndsCheck check call = EndsUnbooted check.image check.slots call ⊎ EndsPlanned check call
 
 -- ---- all calls
 
 abbrev pub EndsCommand : Command → Call → Type 0
 EndsCommand (Plays play) call = EndsPlay play call
-EndsCommand (Checks check) call = IsUntouched NotBuilt call
+EndsCommand (Checks check) call = EndsCheck check call
 EndsCommand (Demo clients) call = IsUntouched NotBuilt call
 
 -- .. by whether the command is built
@@ -249,10 +289,25 @@ IsVerdict file play NoMemory = ⊥
 abbrev pub IsPlayComplete : Play → Call → Type 0
 IsPlayComplete play call = IsVerdict call.host.files play call.status ⊎ ((call.status ≡ NoMemory) × IsUnwritten call)
 
+-- what the image alone says of the status of `check`
+abbrev pub IsCheckVerdict : Told → Check → Status → Type 0
+IsCheckVerdict file check Done = (plan : BootPlan) × IsPlanned file check.image check.slots plan
+IsCheckVerdict file check (ImageFault fault) = (image : List ℕ) × IsFile file check.image image × IsImageFault image check.slots (Some fault)
+IsCheckVerdict file check (EventFault line) = ⊥
+IsCheckVerdict file check (StepLimit limit) = ⊥
+IsCheckVerdict file check NotBuilt = ⊥
+IsCheckVerdict file check Usage = ⊥
+IsCheckVerdict file check ReadFault = ⊥
+IsCheckVerdict file check WriteFault = ⊥
+IsCheckVerdict file check NoMemory = ⊥
+
+abbrev pub IsCheckComplete : Check → Call → Type 0
+IsCheckComplete check call = IsCheckVerdict call.host.files check call.status ⊎ ((call.status ≡ NoMemory) × IsUnwritten call)
+
 abbrev pub IsCommandComplete : Bool → Command → Call → Type 0
 IsCommandComplete false command call = call.status ≡ NotBuilt
 IsCommandComplete true (Plays play) call = IsPlayComplete play call
-IsCommandComplete true (Checks check) call = call.status ≡ NotBuilt
+IsCommandComplete true (Checks check) call = IsCheckComplete check call
 IsCommandComplete true (Demo clients) call = call.status ≡ NotBuilt
 
 -- where no count rose, a call ends as the words and the files say

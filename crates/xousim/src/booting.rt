@@ -1,4 +1,4 @@
-//! An image is read and booted.
+//! An image is read, planned and booted.
 
 ghost use Rattle.std.specs.Prelude.{◌≡◌, ◌≤◌, [], true, All, length, IfOk, IfErr, OnOk};
 ghost use Rattle.boot_plan.specs.FirstPages.{plan_of};
@@ -11,8 +11,8 @@ ghost use Rattle.xk_kernel.specs.Sound.{IsSound, IsUsable};
 ghost use Rattle.xk_kernel.specs.State.{machine_of};
 ghost use Rattle.xk_ports.specs.Host.{other_slot};
 ghost use Rattle.xk_ports.specs.declared.host.FileSlot.TheVariants.{First, Second};
-ghost use Rattle.xousim.specs.Outcome.{Boots, Image, IsSoundImage, Refuses, RefusesBytes};
-ghost use Rattle.xousim.specs.Reading.{Asked, AsksFor, IsTold};
+ghost use Rattle.xousim.specs.Outcome.{Image, IsSoundImage, Refuses, RefusesBytes};
+ghost use Rattle.xousim.specs.Reading.{Asked, AsksFor, IsFile, IsTold};
 
 use crate::reading::{Content, ReadError, read_file};
 use crate::status::{Ended, Status};
@@ -46,26 +46,45 @@ fn plan_bytes(alloc: Global, bytes: &[u8], slots: u32) -> Result<BootPlan, Statu
     }
 }
 
-/// Boots the image of these bytes in a run without slots, or says why not, and hands the store back then.
-fn boot_bytes<W: SwapStore>(alloc: Global, bytes: &[u8], store: W) -> Result<Kernel<W>, Ended<W>>
-    requires { length bytes.now ≤ 67108864 }
-    ensures booted { IfOk result (λ kernel. Boots bytes.now 0 (machine_of W.held kernel)) }
-    ensures sound { IfOk result (λ kernel. IsSound W.slot_count W.held kernel) }
-    ensures usable { IfOk result (λ kernel. IsUsable kernel) }
-    ensures store { IfOk result (λ kernel. KeepsStore W.is_honest W.held W.slot_count W.asked W.faults store (store_of kernel.mem)) }
-    ensures refused { IfErr result (λ ended. RefusesBytes bytes.now 0 ended.status) }
-    ensures back { IfErr result (λ ended. KeepsStore W.is_honest W.held W.slot_count W.asked W.faults store ended.store) }
+/// An image that was read, and its plan.
+#[derive(Debug, Drop)]
+pub struct Planned {
+    pub bytes: Vec<u8>,
+    pub plan: BootPlan,
+}
+
+/// Reads the image of that name and plans it for a run with so many slots, or says why not.
+pub fn plan_image<H: Host>(
+    alloc: Global,
+    host: &mut H,
+    name: &str,
+    slots: u32,
+) -> Result<Planned, Status>
+    requires { slots ≤ 16384 }
+    ensures read { IfOk result (λ planned. IsFile (H.file host.old) name.now planned.bytes.items) }
+    ensures planned { IfOk result (λ planned. (args : Args)
+        × IsSoundImage planned.bytes.items slots args × (planned.plan ≡ plan_of args slots)) }
+    ensures lawful { IfOk result (λ planned. IsLawfulPlan (length planned.bytes.items) planned.plan) }
+    ensures can_start { IfOk result (λ planned. All CanStart planned.plan.procs) }
+    ensures size { IfOk result (λ planned. length planned.bytes.items ≤ 67108864) }
+    ensures end { OnOk result (IsTold (H.left host.new First) []) }
+    ensures refused { IfErr result (Refuses (H.file host.old) name.now slots (Rose (H.faults host.old) (H.faults host.new))) }
+    ensures asked { AsksFor (H.asked host.old) (H.asked host.new) First name.now }
+    ensures picked { OnOk result (Asked (H.asked host.old) (H.asked host.new) First name.now true) }
+    ensures file { H.file host.new ≡ H.file host.old }
+    ensures never_falls { H.faults host.old ≤ H.faults host.new }
 {
-    let plan = match plan_bytes(alloc, bytes, 0) {
-        Ok(plan) => plan,
-        Err(status) => return Err(Ended { status, store }),
-    };
-    match Kernel::boot(alloc, &plan, bytes, store) {
-        Ok(kernel) => Ok(kernel),
-        Err(BootFault { why: _, store }) => Err(Ended {
-            status: Status::NoMemory,
-            store,
-        }),
+    match read_file(alloc, host, FileSlot::First, name, IMAGE_LIMIT as usize) {
+        Ok(Content::Whole(bytes)) => match plan_bytes(alloc, bytes.as_slice(), slots) {
+            Ok(plan) => Ok(Planned { bytes, plan }),
+            Err(status) => Err(status),
+        },
+        Ok(Content::TooLong) => Err(Status::ImageFault(ArgFault {
+            what: TOO_LONG,
+            at: 0,
+        })),
+        Err(ReadError::Fault) => Err(Status::ReadFault),
+        Err(ReadError::NoMemory) => Err(Status::NoMemory),
     }
 }
 
@@ -88,14 +107,15 @@ pub fn boot_image<H: Host, W: SwapStore>(
     ensures file { H.file host.new ≡ H.file host.old }
     ensures never_falls { H.faults host.old ≤ H.faults host.new }
 {
-    let status = match read_file(alloc, host, FileSlot::First, name, IMAGE_LIMIT as usize) {
-        Ok(Content::Whole(bytes)) => return boot_bytes(alloc, bytes.as_slice(), store),
-        Ok(Content::TooLong) => Status::ImageFault(ArgFault {
-            what: TOO_LONG,
-            at: 0,
-        }),
-        Err(ReadError::Fault) => Status::ReadFault,
-        Err(ReadError::NoMemory) => Status::NoMemory,
+    let planned = match plan_image(alloc, host, name, 0) {
+        Ok(planned) => planned,
+        Err(status) => return Err(Ended { status, store }),
     };
-    Err(Ended { status, store })
+    match Kernel::boot(alloc, &planned.plan, planned.bytes.as_slice(), store) {
+        Ok(kernel) => Ok(kernel),
+        Err(BootFault { why: _, store }) => Err(Ended {
+            status: Status::NoMemory,
+            store,
+        }),
+    }
 }

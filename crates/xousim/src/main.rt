@@ -13,8 +13,11 @@ mod numbers;
 mod playing;
 mod reading;
 mod status;
+mod summary;
+mod table;
 #[cfg(test)]
 mod tests;
+mod text;
 mod top;
 mod transcript;
 mod verdict;

@@ -7,13 +7,9 @@ ghost use Rattle.xousim.specs.Status.{fault_name, note_of};
 ghost use Rattle.xousim.specs.Outcome.{Notes, SinkSide};
 
 use crate::status::Status;
-use arrayvec::ArrayVec;
-use itoa::Buffer;
+use crate::text::{Line, put, put_number};
 use kernel_args::ArgFault;
 use xk_ports::{Sink, put_all};
-
-/// The longest note, the usage line, has 99 bytes.
-type Note = ArrayVec<u8, 128>;
 
 /// The name of an image's fault.
 fn name(what: u8) -> &'static [u8]
@@ -41,29 +37,7 @@ fn name(what: u8) -> &'static [u8]
     }
 }
 
-/// Appends text for which there is room.
-fn put(note: &mut Note, text: &[u8])
-    requires { array_vec_len note.old + length text.now ≤ 128 }
-    ensures text { note.new.items ≡ note.old.items ++ text.now }
-    ensures len { array_vec_len note.new ≡ array_vec_len note.old + length text.now }
-{
-    match note.try_extend_from_slice(text) {
-        Ok(()) => {}
-        Err(_) => unreachable!(),
-    }
-}
-
-/// Appends a number in decimal.
-fn put_number(note: &mut Note, number: u32)
-    requires { array_vec_len note.old + 10 ≤ 128 }
-    ensures text { note.new.items ≡ note.old.items ++ decimal number }
-    ensures len { array_vec_len note.new ≤ array_vec_len note.old + 10 }
-{
-    let mut digits = Buffer::new();
-    put(note, digits.format(number).as_bytes());
-}
-
-fn put_fault(note: &mut Note, fault: ArgFault)
+fn put_fault(note: &mut Line, fault: ArgFault)
     requires { note.old.items ≡ [] }
     ensures { note.new.items ≡ note_of (Status.ImageFault fault) }
 {
@@ -75,10 +49,10 @@ fn put_fault(note: &mut Note, fault: ArgFault)
 }
 
 /// The note of a status.
-fn note(status: Status) -> Note
+fn note(status: Status) -> Line
     ensures { result.items ≡ note_of status }
 {
-    let mut note = Note::new();
+    let mut note = Line::new();
     match status {
         Status::Done => {}
         Status::Usage => put(

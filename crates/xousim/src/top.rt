@@ -1,23 +1,23 @@
 //! The top call: words in, a status and what the command tells out.
 
-ghost use Rattle.std.specs.Prelude.{◌≡◌, ◌≤◌, [], true};
+ghost use Rattle.std.specs.Prelude.{◌≡◌, ◌≤◌};
 ghost use Rattle.xk_ports.specs.Keeping.{KeepsStore};
 ghost use Rattle.xk_kernel.specs.Sound.{IsSound, IsUsable, Keeps};
 ghost use Rattle.xk_kernel.specs.State.{machine_of};
 ghost use Rattle.xk_ports.specs.declared.host.FileSlot.TheVariants.{First, Second};
-ghost use Rattle.xousim.specs.Built.{is_play_built, is_told};
+ghost use Rattle.xousim.specs.Built.{is_play_built};
 ghost use Rattle.xousim.specs.Finish.{EndsBooted, Finishes};
-ghost use Rattle.xousim.specs.Outcome.{Call, Ends, EndsPlay, IsComplete, Notes, SinkSide};
-ghost use Rattle.xousim.specs.Reading.{IsTold};
+ghost use Rattle.xousim.specs.Outcome.{Call, Ends, EndsCheck, EndsPlay, IsComplete, Notes, SinkSide};
 ghost use Rattle.xousim.specs.Status.{note_of};
-ghost use Rattle.xousim.specs.Words.{command_of, play_in};
+ghost use Rattle.xousim.specs.Words.{check_in, command_of, play_in};
 
-use crate::booting::boot_image;
-use crate::command::{CommandWords, PlayWords, Telling};
+use crate::booting::{boot_image, plan_image};
+use crate::command::{CheckWords, CommandWords, PlayWords};
 use crate::ending::Ending;
 use crate::event_file::{RunFault, play_file};
 use crate::notes::write_note;
 use crate::status::{Ended, Status};
+use crate::summary::write_summary;
 use crate::transcript::write_closing;
 use crate::words::read_words;
 use std::alloc::Global;
@@ -31,7 +31,8 @@ fn finish<K: Sink, W: SwapStore>(
     ending: Ending,
     out: &mut K,
 ) -> Status
-    requires { is_told play.tells ≡ true }
+    requires sound { IsSound W.slot_count W.held kernel.now }
+    requires usable { IsUsable kernel.now }
     ensures finished { let side : SinkSide = record {
       written = K.written out.old;
       written_after = K.written out.new;
@@ -59,13 +60,13 @@ fn play_events<H: Host, K: Sink, W: SwapStore>(
 ) -> Status
     requires sound { IsSound W.slot_count W.held kernel.old }
     requires usable { IsUsable kernel.old }
-    requires told { is_told play.tells ≡ true }
     requires within { (machine_of W.held kernel.old).steps ≤ play.limit }
     ensures played { let call : Call = record {
       host = record {
         files = H.file host.old;
         asked = H.asked host.old;
         asked_after = H.asked host.new;
+        image_left = H.left host.new First;
         left = H.left host.new Second;
         faults = H.faults host.old;
         faults_after = H.faults host.new;
@@ -78,7 +79,6 @@ fn play_events<H: Host, K: Sink, W: SwapStore>(
       };
       status = result;
     } in EndsBooted (play_in play.entry) (machine_of W.held kernel.old) call }
-    ensures end { result ≡ Status.Done → IsTold (H.left host.new Second) [] }
     ensures sound { IsSound W.slot_count W.held kernel.new }
     ensures usable { IsUsable kernel.new }
     ensures keeps { Keeps W.is_honest W.held W.slot_count W.asked W.faults kernel.old kernel.new }
@@ -104,13 +104,13 @@ fn play_image<H: Host, K: Sink, W: SwapStore>(
     out: &mut K,
     store: W,
 ) -> Ended<W>
-    requires told { is_told play.tells ≡ true }
-    requires without_slots { play.slots ≡ 0 }
+    requires { play.slots ≡ 0 }
     ensures ends { let call : Call = record {
       host = record {
         files = H.file host.old;
         asked = H.asked host.old;
         asked_after = H.asked host.new;
+        image_left = H.left host.new First;
         left = H.left host.new Second;
         faults = H.faults host.old;
         faults_after = H.faults host.new;
@@ -123,8 +123,6 @@ fn play_image<H: Host, K: Sink, W: SwapStore>(
       };
       status = result.status;
     } in EndsPlay (play_in play.entry) call }
-    ensures first { result.status ≡ Status.Done → IsTold (H.left host.new First) [] }
-    ensures second { result.status ≡ Status.Done → IsTold (H.left host.new Second) [] }
     ensures store { KeepsStore W.is_honest W.held W.slot_count W.asked W.faults store result.store }
     ensures host { H.faults host.old ≤ H.faults host.new }
     ensures out { K.faults out.old ≤ K.faults out.new }
@@ -141,14 +139,49 @@ fn play_image<H: Host, K: Sink, W: SwapStore>(
     }
 }
 
+/// Plans an image, and writes the summary of the plan.
+fn check_image<H: Host, K: Sink>(
+    alloc: Global,
+    check: CheckWords,
+    host: &mut H,
+    out: &mut K,
+) -> Status
+    ensures ends { let call : Call = record {
+      host = record {
+        files = H.file host.old;
+        asked = H.asked host.old;
+        asked_after = H.asked host.new;
+        image_left = H.left host.new First;
+        left = H.left host.new Second;
+        faults = H.faults host.old;
+        faults_after = H.faults host.new;
+      };
+      out = record {
+        written = K.written out.old;
+        written_after = K.written out.new;
+        faults = K.faults out.old;
+        faults_after = K.faults out.new;
+      };
+      status = result;
+    } in EndsCheck (check_in check.entry) call }
+    ensures host { H.faults host.old ≤ H.faults host.new }
+    ensures out { K.faults out.old ≤ K.faults out.new }
+{
+    let planned = match plan_image(alloc, host, check.image, check.slots) {
+        Ok(planned) => planned,
+        Err(status) => return status,
+    };
+    match write_summary(&planned.plan, planned.bytes.len() as u32, out) {
+        Ok(()) => Status::Done,
+        Err(_) => Status::WriteFault,
+    }
+}
+
 /// Whether a command that plays events is built.
 fn is_built(play: &PlayWords) -> bool
     ensures { result ≡ is_play_built (play_in play.now) }
 {
-    match play.tells {
-        Telling::Trace | Telling::Run => play.slots == 0 && play.store.is_none(),
-        Telling::Ledger => false,
-    }
+    play.slots == 0 && play.store.is_none()
 }
 
 /// Does what the words say, and hands the store back.
@@ -164,6 +197,7 @@ fn run_words<H: Host, K: Sink, W: SwapStore>(
         files = H.file host.old;
         asked = H.asked host.old;
         asked_after = H.asked host.new;
+        image_left = H.left host.new First;
         left = H.left host.new Second;
         faults = H.faults host.old;
         faults_after = H.faults host.new;
@@ -176,8 +210,6 @@ fn run_words<H: Host, K: Sink, W: SwapStore>(
       };
       status = result.status;
     } in Ends (command_of words.now) call }
-    ensures first { result.status ≡ Status.Done → IsTold (H.left host.new First) [] }
-    ensures second { result.status ≡ Status.Done → IsTold (H.left host.new Second) [] }
     ensures store { KeepsStore W.is_honest W.held W.slot_count W.asked W.faults store result.store }
     ensures host { H.faults host.old ≤ H.faults host.new }
     ensures out { K.faults out.old ≤ K.faults out.new }
@@ -196,7 +228,11 @@ fn run_words<H: Host, K: Sink, W: SwapStore>(
                 store,
             }
         }
-        Some(CommandWords::Check(_) | CommandWords::Demo(_)) => Ended {
+        Some(CommandWords::Check(check)) => Ended {
+            status: check_image(alloc, check, host, out),
+            store,
+        },
+        Some(CommandWords::Demo(_)) => Ended {
             status: Status::NotBuilt,
             store,
         },
@@ -219,6 +255,7 @@ pub fn xous_main<H: Host, K: Sink, N: Sink, W: SwapStore>(
         files = H.file host.old;
         asked = H.asked host.old;
         asked_after = H.asked host.new;
+        image_left = H.left host.new First;
         left = H.left host.new Second;
         faults = H.faults host.old;
         faults_after = H.faults host.new;
@@ -231,11 +268,6 @@ pub fn xous_main<H: Host, K: Sink, N: Sink, W: SwapStore>(
       };
       status = result.status;
     } in Ends (command_of words.now) call × IsComplete (command_of words.now) call }
-
-    // At the end of a run both files were read to their ends.
-    ensures first { result.status ≡ Status.Done → IsTold (H.left host.new First) [] }
-    ensures second { result.status ≡ Status.Done → IsTold (H.left host.new Second) [] }
-
     ensures noted { let side : SinkSide = record {
       written = N.written notes.old;
       written_after = N.written notes.new;

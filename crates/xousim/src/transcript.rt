@@ -4,12 +4,13 @@ ghost use Rattle.std.specs.Prelude.{◌≡◌, ◌≤◌, true, OnOk, OnErr};
 ghost use Rattle.xk_base.specs.Outside.{Rose};
 ghost use Rattle.xk_ports.specs.Told.{Grows, GrowsByPrefix};
 ghost use Rattle.trace_text.specs.Lines.{line_of, end_line_of};
+ghost use Rattle.xk_kernel.specs.Sound.{IsSound, IsUsable};
 ghost use Rattle.xk_kernel.specs.State.{machine_of};
-ghost use Rattle.xousim.specs.Built.{is_told};
 ghost use Rattle.xousim.specs.Telling.{closing, console_byte, last_line, told, told_of};
 
 use crate::command::Telling;
 use crate::ending::Ending;
+use crate::table::write_table;
 use arrayvec::ArrayVec;
 use trace_text::{EndWord, end_line, line};
 use xk_base::{Failed, Rec, What};
@@ -107,7 +108,8 @@ pub fn write_closing<K: Sink, W: SwapStore>(
     ending: Ending,
     out: &mut K,
 ) -> Result<(), Failed>
-    requires { is_told tells ≡ true }
+    requires sound { IsSound W.slot_count W.held kernel.now }
+    requires usable { IsUsable kernel.now }
     ensures appended { OnOk result (Grows (K.written out.old) (K.written out.new) (closing tells (machine_of W.held kernel.now) ending)) }
     ensures front { OnErr result (GrowsByPrefix (K.written out.old) (K.written out.new) (closing tells (machine_of W.held kernel.now) ending)) }
     ensures cause { OnErr result (Rose (K.faults out.old) (K.faults out.new)) }
@@ -116,6 +118,9 @@ pub fn write_closing<K: Sink, W: SwapStore>(
     match tells {
         Telling::Trace => write_last_line(ending, kernel.steps(), out),
         Telling::Run => Ok(()),
-        Telling::Ledger => unreachable!(),
+        Telling::Ledger => {
+            write_table(kernel, out)?;
+            write_last_line(ending, kernel.steps(), out)
+        }
     }
 }

@@ -105,14 +105,69 @@ fn limit_met_exactly(rt: HostRuntime) -> Result<(), Fail> {
     Ok(())
 }
 
+/// The pages of the first run's last state: its section, the console, its interrupt page and its stack.
+#[test]
+fn table_of_pages(rt: HostRuntime) -> Result<(), Fail> {
+    let run = call(rt.alloc(), &["ledger", "i", "e"], b"tick 100")?;
+    assert_eq!(rt; run.status, Status::Done);
+    assert_eq!(rt;
+        run.out.as_slice(),
+        b"2 00010 r-x own\n\
+          2 60000 rw- console\n\
+          2 7f000 rw- own\n\
+          2 7fff8 rw- own\n\
+          2 7fff9 rw- own\n\
+          2 7fffa rw- own\n\
+          2 7fffb rw- own\n\
+          2 7fffc rw- own\n\
+          2 7fffd rw- own\n\
+          2 7fffe rw- own\n\
+          2 7ffff rw- own\n\
+          end 100 done\n"
+            .as_slice()
+    );
+    // The table is written before a bad line too, and no last line.
+    let run = call(rt.alloc(), &["ledger", "i", "e"], b"tick 0\nx")?;
+    assert_eq!(rt; run.status, Status::EventFault(2));
+    assert_eq!(rt; run.out.as_slice().len(), 160);
+    Ok(())
+}
+
+/// The plan of the first run's image, without slots and with them.
+#[test]
+fn plan_of_an_image(rt: HostRuntime) -> Result<(), Fail> {
+    let run = call(rt.alloc(), &["check", "i"], b"")?;
+    assert_eq!(rt; run.status, Status::Done);
+    assert_eq!(rt;
+        run.out.as_slice(),
+        b"ram 40000000 01000000\n\
+          pid 2 entry 00010000 sections 1 pages 10\n\
+          pages 10 cap 4074\n"
+            .as_slice()
+    );
+    let run = call(rt.alloc(), &["check", "i", "16384"], b"")?;
+    assert_eq!(rt;
+        run.out.as_slice(),
+        b"ram 40000000 01000000\n\
+          pid 2 entry 00010000 sections 1 pages 10\n\
+          pages 10 cap 20458\n"
+            .as_slice()
+    );
+    // The event file in place of the image.
+    let run = call(rt.alloc(), &["check", "e"], b"tick 1")?;
+    assert_eq!(rt; run.status.number(), 5);
+    assert_eq!(rt; run.out.as_slice(), b"".as_slice());
+    let run = call(rt.alloc(), &["check", "f"], b"tick 1")?;
+    assert_eq!(rt; run.status, Status::ReadFault);
+    Ok(())
+}
+
 /// Commands that are words of a stated form, and aren't built.
 #[test]
 fn commands_not_built(rt: HostRuntime) -> Result<(), Fail> {
-    let lists: [&[&str]; 5] = [
+    let lists: [&[&str]; 3] = [
         ["trace", "i", "e", "100", "1"].as_slice(),
         ["run", "i", "e", "100", "0", "s"].as_slice(),
-        ["ledger", "i", "e"].as_slice(),
-        ["check", "i", "16384"].as_slice(),
         ["demo", "03"].as_slice(),
     ];
     for list in lists {

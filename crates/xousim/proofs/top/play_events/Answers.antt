@@ -1,10 +1,14 @@
-use Rattle.std.proofs.Common.{subst, sym, ap, inr, true, List, Option, Err}
+use Rattle.std.proofs.Common.{subst, sym, ap, inr, true, List, Option, Ok, Err}
 use Rattle.machine_model.specs.State.Machine.{Machine}
 use Rattle.xk_kernel.specs.State.{machine_of}
 use Rattle.xk_ports.specs.Host.{FileAsked}
-use Rattle.xk_ports.specs.declared.host.FileSlot.TheVariants.{Second}
+use Rattle.xk_ports.specs.declared.host.FileSlot.TheVariants.{First, Second}
 use Rattle.xousim.specs.declared.event_file.RunFault.{RunFault}
-use Rattle.xousim.specs.Outcome.{Call}
+use Rattle.xousim.specs.Outcome.{Call, SinkSide}
+use Rattle.xousim.specs.Finish.{Finishes}
+use Rattle.xousim.specs.declared.ending.Ending.{Ending}
+use Rattle.xousim.specs.declared.status.Status.{Status}
+use Rattle.xousim.specs.declared.status.Status.TheVariants.{Done}
 use Rattle.xousim.specs.Playing.{Runs}
 use Rattle.xousim.specs.Reading.{Asked}
 use Rattle.xousim.specs.Words.{Play, play_in}
@@ -25,6 +29,7 @@ returns-in-Ok-play_file-clause-played g c =
         files = file;
         asked = g.H.Host.asked c.args.host.now;
         asked_after = g.H.Host.asked c.play_file.new.host;
+        image_left = g.H.Host.left c.play_file.new.host First;
         left = g.H.Host.left c.play_file.new.host Second;
         faults = g.H.Host.faults c.args.host.now;
         faults_after = g.H.Host.faults c.play_file.new.host;
@@ -37,6 +42,12 @@ returns-in-Ok-play_file-clause-played g c =
       };
       status = c.finish.result;
     } in
+    let side : SinkSide = record {
+      written = g.K.Sink.written c.play_file.new.out;
+      written_after = g.K.Sink.written c.finish.new.out;
+      faults = faults c.play_file.new.out;
+      faults_after = faults c.finish.new.out;
+    } in
     let both = plays_finished play start (machine_of g.W.SwapStore.held c.play_file.new.kernel) call (g.K.Sink.written c.play_file.new.out) (faults c.play_file.new.out)
     runs.0 c.in-Ok-play_file.ending c.finish.result
     (told_file file play.events (g.H.Host.left c.pick_file.new.self Second) runs.0 c.in-Ok.ensures.left runs.1)
@@ -45,6 +56,10 @@ returns-in-Ok-play_file-clause-played g c =
       asked = subst A (sym c.play_file.ensures.asked) c.in-Ok.ensures.asked;
       cause = both.0;
       content = both.1;
+      events_read = λ done.
+          let F : Status → Type 0 = λ status. Finishes play (machine_of g.W.SwapStore.held c.play_file.new.kernel) c.in-Ok-play_file.ending side status in
+          let finished : F Done = subst F done c.finish.ensures.finished in
+          c.in-Ok-play_file.ensures.end (ap (λ (e : Ending). Ok e) finished.0);
     })
 
 pub returns-in-Err-Read-clause-played : goal.returns-in-Err-Read-clause-played
@@ -66,6 +81,7 @@ returns-in-Err-Read-clause-played g c =
         ended = runs.2.0;
         written = runs.2.1;
       };
+      events_read = λ done. cc;
     })
 
 pub returns-in-Err-Write-clause-played : goal.returns-in-Err-Write-clause-played
@@ -86,4 +102,5 @@ returns-in-Err-Write-clause-played g c =
         is_file = told_file file c.args.play.events.now before runs.0 c.in-Ok.ensures.left runs.1;
         written = part_of_whole c.args.play.tells (g.K.Sink.written c.args.out.now) (g.K.Sink.written c.play_file.new.out) _ runs.2;
       };
+      events_read = λ done. cc;
     })

@@ -1,0 +1,61 @@
+//! Lines of text, put together piece by piece.
+
+ghost use Rattle.std.specs.Prelude.{◌≡◌, ◌+◌, ◌≤◌, ◌<◌, ◌++◌, length, decimal};
+ghost use Rattle.arrayvec.specs.ArrayVec.{array_vec_len};
+ghost use Rattle.trace_text.specs.Words.{hex_text, word_text};
+
+use arrayvec::ArrayVec;
+use itoa::Buffer;
+
+/// A line. The longest, the usage line, has 99 bytes.
+pub type Line = ArrayVec<u8, 128>;
+
+/// Appends text for which there is room.
+pub fn put(line: &mut Line, text: &[u8])
+    requires { array_vec_len line.old + length text.now ≤ 128 }
+    ensures text { line.new.items ≡ line.old.items ++ text.now }
+    ensures len { array_vec_len line.new ≡ array_vec_len line.old + length text.now }
+{
+    match line.try_extend_from_slice(text) {
+        Ok(()) => {}
+        Err(_) => unreachable!(),
+    }
+}
+
+/// Appends a number in decimal.
+pub fn put_number(line: &mut Line, number: u32)
+    requires { array_vec_len line.old + 10 ≤ 128 }
+    ensures text { line.new.items ≡ line.old.items ++ decimal number }
+    ensures len { array_vec_len line.new ≤ array_vec_len line.old + 10 }
+{
+    let mut digits = Buffer::new();
+    put(line, digits.format(number).as_bytes());
+}
+
+/// Appends a word as eight hexadecimal digits.
+#[tactic(auto, using(trace_text::proofs::DigitLemmas::encoded_word))]
+pub fn put_word(line: &mut Line, word: u32)
+    requires { array_vec_len line.old + 8 ≤ 128 }
+    ensures text { line.new.items ≡ line.old.items ++ word_text word }
+    ensures len { array_vec_len line.new ≡ array_vec_len line.old + 8 }
+{
+    let mut digits = [0u8; 8];
+    match hex::encode_to_slice(word.to_be_bytes().as_slice(), &mut digits) {
+        Ok(()) => put(line, &digits),
+        Err(_) => unreachable!(),
+    }
+}
+
+/// Appends the five lowest hexadecimal digits of a number.
+#[tactic(auto, using(trace_text::proofs::DigitLemmas::encoded_word))]
+pub fn put_five_digits(line: &mut Line, number: u32)
+    requires { array_vec_len line.old + 5 ≤ 128 }
+    ensures text { line.new.items ≡ line.old.items ++ hex_text 5 number }
+    ensures len { array_vec_len line.new ≡ array_vec_len line.old + 5 }
+{
+    let mut digits = [0u8; 8];
+    match hex::encode_to_slice(number.to_be_bytes().as_slice(), &mut digits) {
+        Ok(()) => put(line, &digits[3..]),
+        Err(_) => unreachable!(),
+    }
+}
