@@ -1,5 +1,5 @@
 -- Telling, one piece after another, while what is told is gathered.
-use Rattle.std.proofs.Common.{◌≡◌, ℕ, List, [], ◌++◌, Option, Result, Ok, Err, refl, sym, ap, ◌∙◌, append_assoc, append-nil}
+use Rattle.std.proofs.Common.{◌≡◌, ℕ, List, [], ◌++◌, Option, Result, Ok, Err, sym, ap, ◌∙◌, append_assoc, append-nil}
 use Rattle.xk_base.specs.declared.errors.Failed.{Failed}
 use Rattle.xk_ports.specs.Told.{Grows, GrowsByPrefix}
 use Rattle.xk_ports.proofs.ToldLemmas.{Grows-append, Grows-none}

@@ -1,4 +1,4 @@
-use Rattle.std.proofs.Common.{◌≡◌, List, ℕ, subst, sym}
+use Rattle.std.proofs.Common.{List, ℕ, subst, sym}
 use Rattle.machine_model.specs.State.Machine.{Machine}
 use Rattle.xk_kernel.specs.State.{machine_of}
 use Rattle.xousim.specs.Gathering.{put, text}

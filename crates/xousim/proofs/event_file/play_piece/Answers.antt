@@ -1,4 +1,4 @@
-use Rattle.std.proofs.Common.{◌≡◌, ◌++◌, false, List, ℕ, Option, Ok, ap, subst, sym}
+use Rattle.std.proofs.Common.{◌++◌, false, List, ℕ, Option, Ok, ap, subst, sym}
 use Rattle.machine_model.specs.State.Machine.{Machine}
 use Rattle.xk_kernel.specs.State.{machine_of}
 use Rattle.xousim.specs.declared.ending.Ending.{Ending}

@@ -1,4 +1,4 @@
-use Rattle.std.proofs.Common.{◌≡◌, ◌≤◌, ◌-◌, Option, List, ℕ, Result}
+use Rattle.std.proofs.Common.{◌≡◌, ◌≤◌, ◌-◌, Result}
 use Rattle.xk_base.specs.declared.errors.Failed.{Failed}
 use Rattle.xousim.specs.declared.ending.Ending.{Ending}
 use Rattle.event_text.specs.declared.event.Event.TheVariants.{Tick}

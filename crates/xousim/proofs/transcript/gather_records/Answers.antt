@@ -1,4 +1,4 @@
-use Rattle.std.proofs.Common.{ℕ, ◌+◌, arith, suc, List, take, drop, sym, subst}
+use Rattle.std.proofs.Common.{ℕ, arith, suc, List, take, drop, sym, subst}
 use Rattle.xousim.specs.Telling.{told}
 use Rattle.xousim.proofs.GatheringLemmas.{gathers_append, part_after}
 use Rattle.xousim.proofs.ToldLemmas.{on_err, told_at, told_next}
