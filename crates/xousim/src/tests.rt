@@ -3,6 +3,7 @@
 mod atomics;
 mod commands;
 mod deaths;
+mod drivers;
 mod forwards;
 mod image;
 mod interrupts;

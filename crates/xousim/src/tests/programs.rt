@@ -6,7 +6,7 @@ use super::image::{START, image_of};
 use super::lines::transcript;
 use super::{Outcome, trace};
 use crate::status::Status;
-use Act::{Call, Store, Tell};
+use Act::{Call, Return, Store, Tell};
 use rv32_words::{Insn, encode};
 use std::alloc::Global;
 use std::process::Abort;
@@ -15,6 +15,8 @@ use std::test::Fail;
 // The numbers of calls.
 
 pub const YIELD: u32 = 3;
+
+pub const CLAIM_INTERRUPT: u32 = 5;
 
 pub const INCREASE_HEAP: u32 = 10;
 
@@ -64,6 +66,9 @@ const ROOM: usize = 256;
 /// The register a0.
 const A0: u8 = 10;
 
+/// The register of the address to return to.
+const RA: u8 = 1;
+
 /// The registers t0 and t1, which are no word of a call.
 const T0: u8 = 5;
 
@@ -79,6 +84,8 @@ pub enum Act {
     Tell(u32, u32),
     /// Stores at an address a word, in 5 steps.
     Store(u32, u32),
+    /// Returns, in one step: so ends an interrupt handler.
+    Return,
 }
 
 /// The run of these programs over these events has just these lines.
@@ -153,6 +160,11 @@ fn push_act(code: &mut Vec<u32>, act: Act) -> Result<(), Fail> {
                 imm: 0,
             }))?;
         }
+        Return => code.push(encode(Insn::Jalr {
+            rd: 0,
+            rs1: RA,
+            imm: 0,
+        }))?,
     }
     Ok(())
 }
