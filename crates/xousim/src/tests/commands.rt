@@ -4,26 +4,26 @@ use super::{FIRST_IMAGE, Outcome, first_lines, words};
 use crate::status::{Ended, Status};
 use crate::top::xous_main;
 use std::alloc::Global;
+use std::process::Abort;
 use std::test::Fail;
 use xk_ports::{MemHost, MemSink, MemStore};
 
 /// Runs the program with these words on the image `i` and the event file `e`.
 fn call(alloc: Global, texts: &[&str], events: &[u8]) -> Result<Outcome, Fail> {
+    let words = words(alloc, texts)?;
+    call_with(alloc, words.as_slice(), events)
+}
+
+fn call_with(alloc: Global, words: &[String], events: &[u8]) -> Result<Outcome, Fail> {
     let mut files = Vec::new(alloc);
     files.push((String::from_str(alloc, "i")?, FIRST_IMAGE.to_vec(alloc)?))?;
     files.push((String::from_str(alloc, "e")?, events.to_vec(alloc)?))?;
     let mut host = MemHost::new(alloc, files, 4096, Vec::new(alloc), 100)?;
     let mut out = MemSink::new(alloc, 2000, Vec::new(alloc))?;
     let mut notes = MemSink::new(alloc, 200, Vec::new(alloc))?;
-    let words = words(alloc, texts)?;
     let store = MemStore::new(Vec::new(alloc));
     let Ended { status, store: _ } = xous_main(
-        alloc,
-        words.as_slice(),
-        &mut host,
-        &mut out,
-        &mut notes,
-        store,
+        alloc, words, &mut host, &mut out, &mut notes, store,
     );
     Ok(Outcome {
         status,
@@ -32,45 +32,62 @@ fn call(alloc: Global, texts: &[&str], events: &[u8]) -> Result<Outcome, Fail> {
     })
 }
 
-/// Other words than those of the stated forms.
+/// Lists of words of none of the stated forms, with a bar between two words.
+const OF_NO_FORM: [&str; 23] = [
+    "--help",
+    "trace",
+    "trace|i",
+    "Trace|i|e",
+    "trace|i|e|",
+    "trace|i|e|0",
+    "trace|i|e|+5",
+    "trace|i|e|-5",
+    "trace|i|e|5 ",
+    "trace|i|e|0x5",
+    "trace|i|e|4000000001",
+    "trace|i|e|00000000005",
+    "trace|i|e|5|16385",
+    "trace|i|e|5|0|s|t",
+    "run|i",
+    "ledger|i|e|x",
+    "check",
+    "check|i|16385",
+    "check|i|0|0",
+    "demo",
+    "demo|0",
+    "demo|32",
+    "demo|3|3",
+];
+
+const USAGE: &[u8] =
+    b"usage: xousim trace|run|ledger IMAGE EVENTS [STEPS [SLOTS [STORE]]] | check IMAGE [SLOTS] | demo N\n";
+
+/// The words that stand between the bars of a line.
+fn words_of(alloc: Global, line: &str) -> Result<Vec<String>, Fail> {
+    let mut words = Vec::new(alloc);
+    for word in line.split('|') {
+        words.push(String::from_str(alloc, word)?)?;
+    }
+    Ok(words)
+}
+
+fn expect_usage(rt: &impl Abort, alloc: Global, words: &[String]) -> Result<(), Fail> {
+    let run = call_with(alloc, words, b"tick 100")?;
+    assert_eq!(rt; run.status, Status::Usage);
+    assert_eq!(rt; run.status.number(), 2);
+    assert_eq!(rt; run.out.as_slice(), b"".as_slice());
+    assert_eq!(rt; run.notes.as_slice(), USAGE);
+    Ok(())
+}
+
+/// No words, and others than those of the stated forms.
 #[test]
 fn words_of_no_form(rt: HostRuntime) -> Result<(), Fail> {
-    let none: [&str; 0] = [];
-    let lists: [&[&str]; 24] = [
-        none.as_slice(),
-        ["--help"].as_slice(),
-        ["trace"].as_slice(),
-        ["trace", "i"].as_slice(),
-        ["Trace", "i", "e"].as_slice(),
-        ["trace", "i", "e", ""].as_slice(),
-        ["trace", "i", "e", "0"].as_slice(),
-        ["trace", "i", "e", "+5"].as_slice(),
-        ["trace", "i", "e", "-5"].as_slice(),
-        ["trace", "i", "e", "5 "].as_slice(),
-        ["trace", "i", "e", "0x5"].as_slice(),
-        ["trace", "i", "e", "4000000001"].as_slice(),
-        ["trace", "i", "e", "00000000005"].as_slice(),
-        ["trace", "i", "e", "5", "16385"].as_slice(),
-        ["trace", "i", "e", "5", "0", "s", "t"].as_slice(),
-        ["run", "i"].as_slice(),
-        ["ledger", "i", "e", "x"].as_slice(),
-        ["check"].as_slice(),
-        ["check", "i", "16385"].as_slice(),
-        ["check", "i", "0", "0"].as_slice(),
-        ["demo"].as_slice(),
-        ["demo", "0"].as_slice(),
-        ["demo", "32"].as_slice(),
-        ["demo", "3", "3"].as_slice(),
-    ];
-    for list in lists {
-        let run = call(rt.alloc(), list, b"tick 100")?;
-        assert_eq!(rt; run.status, Status::Usage);
-        assert_eq!(rt; run.status.number(), 2);
-        assert_eq!(rt; run.out.as_slice(), b"".as_slice());
-        assert_eq!(rt;
-            run.notes.as_slice(),
-            b"usage: xousim trace|run|ledger IMAGE EVENTS [STEPS [SLOTS [STORE]]] | check IMAGE [SLOTS] | demo N\n".as_slice()
-        );
+    let alloc = rt.alloc();
+    expect_usage(&rt, alloc, &[])?;
+    for line in OF_NO_FORM {
+        let words = words_of(alloc, line)?;
+        expect_usage(&rt, alloc, words.as_slice())?;
     }
     Ok(())
 }
