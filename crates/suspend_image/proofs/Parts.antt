@@ -3,8 +3,11 @@ pub mod ClaimLemmas
 pub mod EachThreadLemmas
 pub mod JoiningLemmas
 pub mod KeyLemmas
+pub mod NextLemmas
 pub mod OrderLemmas
 pub mod ProcessLemmas
 pub mod ReceivingLemmas
 pub mod ServedLemmas
+pub mod ServerLemmas
+pub mod ServerRowLemmas
 pub mod ThreadLemmas

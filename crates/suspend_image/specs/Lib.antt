@@ -3,6 +3,7 @@ pub mod Machines
 pub mod Parts
 pub mod Reading
 pub mod Rows
+pub mod ServerParts
 pub mod Sheets
 pub mod Spelling
 pub mod StateFaults

@@ -13,6 +13,7 @@ mod pages;
 mod procs;
 mod reading;
 mod rows;
+mod server_matching;
 mod servers;
 mod sheet;
 mod state;
@@ -30,6 +31,7 @@ pub use matching::{
 };
 pub use reading::read_state;
 pub use rows::{write_claim, write_message, write_orphan_words, write_page_words, write_thread};
+pub use server_matching::are_next_above;
 pub use sheet::Sheet;
 pub use state::{ClaimRow, MessageRow, OrphanRow, PageRow, ProcRow, ServerRow, State, ThreadRow};
 pub use writing::{begin_state, finish_state, write_state};

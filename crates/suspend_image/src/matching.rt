@@ -116,7 +116,7 @@ pub fn are_joiners_matched(threads: &[ThreadRow]) -> bool
 }
 
 /// Whether there is a process of this pid, and it is alive.
-fn is_alive(procs: &[ProcRow], pid: u32) -> bool
+pub fn is_alive(procs: &[ProcRow], pid: u32) -> bool
     ensures { result ≡ (processes_of procs.now pid).alive }
 {
     if pid < 2 {
