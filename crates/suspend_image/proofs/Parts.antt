@@ -4,10 +4,12 @@ pub mod EachThreadLemmas
 pub mod JoiningLemmas
 pub mod KeyLemmas
 pub mod NextLemmas
+pub mod OneLemmas
 pub mod OrderLemmas
 pub mod ProcessLemmas
 pub mod ReceivingLemmas
 pub mod ServedLemmas
 pub mod ServerLemmas
 pub mod ServerRowLemmas
+pub mod ServersLemmas
 pub mod ThreadLemmas

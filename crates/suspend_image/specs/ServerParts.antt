@@ -5,6 +5,8 @@ use Rattle.std.specs.List.{list_all, list_any, count_by}
 use Rattle.suspend_image.specs.declared.state.MessageRow.{MessageRow}
 use Rattle.suspend_image.specs.declared.state.ProcRow.{ProcRow}
 use Rattle.suspend_image.specs.declared.state.ServerRow.{ServerRow}
+use Rattle.suspend_image.specs.declared.messages.Sought.{Sought}
+use Rattle.suspend_image.specs.declared.messages.Sought.TheVariants.{Numbered, SentAs}
 use Rattle.suspend_image.specs.Machines.{processes_of}
 
 -- a server of a living process
@@ -30,3 +32,41 @@ is_below_next number serial s = nat_lt s.serial serial && all_messages (λ m. na
 -- all serials of a process's connections are below the next one
 abbrev pub leads_below : ℕ → ProcRow → Bool
 leads_below serial p = list_all (λ s. nat_lt s serial) p.serials
+
+-- ---- one message among all
+
+-- a message of this number, and as that of a thread, which is its sender
+abbrev pub is_numbered : ℕ → MessageRow → Bool
+is_numbered number m = m.number == number
+
+abbrev pub is_sent_as : ℕ → ℕ → ℕ → MessageRow → Bool
+is_sent_as number pid tid m = m.number == number && (not (m.sender_pid == 0) && (m.sender_pid == pid && m.sender_tid == tid))
+
+-- what is looked for among messages
+abbrev pub is_sought : Sought → MessageRow → Bool
+is_sought (Numbered number) = is_numbered number
+is_sought (SentAs number pid tid) = is_sent_as number pid tid
+
+-- how many messages of a server pass a test
+abbrev pub many_at : (MessageRow → Bool) → ServerRow → ℕ
+many_at good s = count_by good s.queued + count_by good s.held
+
+-- it is this server, or has no such message
+abbrev pub is_without : (MessageRow → Bool) → ServerRow → ServerRow → Bool
+is_without good s t = t.serial == s.serial || many_at good t == 0
+
+-- exactly one message of all servers passes the test
+abbrev pub has_one : (MessageRow → Bool) → List ServerRow → Bool
+has_one good rows = list_any (λ s. many_at good s == 1 && list_all (is_without good s) rows) rows
+
+-- each message of a server is the one of its number
+abbrev pub is_alone : List ServerRow → MessageRow → Bool
+is_alone rows m = has_one (is_numbered m.number) rows
+
+abbrev pub are_all_alone : List ServerRow → Bool
+are_all_alone rows = list_all (all_messages (is_alone rows)) rows
+
+-- there are few servers, with slots for their messages, of living processes, and no two have one identifier
+abbrev pub are_few_apart : List ProcRow → List ServerRow → Bool
+are_few_apart procs rows =
+    nat_le (length rows) 64 && (list_all has_slots rows && (list_all (is_server_living procs) rows && list_all (λ s. list_all (is_apart s) rows) rows))

@@ -7,6 +7,7 @@ mod claims;
 mod faults;
 mod laws;
 mod matching;
+mod messages;
 mod numbers;
 mod page_writing;
 mod pages;
@@ -31,7 +32,7 @@ pub use matching::{
 };
 pub use reading::read_state;
 pub use rows::{write_claim, write_message, write_orphan_words, write_page_words, write_thread};
-pub use server_matching::are_next_above;
+pub use server_matching::{are_next_above, are_servers_matched};
 pub use sheet::Sheet;
 pub use state::{ClaimRow, MessageRow, OrphanRow, PageRow, ProcRow, ServerRow, State, ThreadRow};
 pub use writing::{begin_state, finish_state, write_state};

@@ -20,7 +20,7 @@ use Rattle.suspend_image.specs.ServerParts.{all_messages}
 use Rattle.suspend_image.proofs.Parts.KeyLemmas.{some, some_same, mapped, found_passes, all_pass, number_is, number_own}
 
 -- where the server of each serial passes a test, all servers do
-servers_pass : (good : ServerRow → Bool) (rows : List ServerRow) → Ascend server_key rows
+pub servers_pass : (good : ServerRow → Bool) (rows : List ServerRow) → Ascend server_key rows
     → ((n : ℕ) (s : ServerRow) → find (λ r. eqb (server_key r) n) rows ≡ Some s → good s ≡ true) → list_all good rows ≡ true
 servers_pass good rows ascend each =
     all_pass server_key (λ k r. eqb (server_key r) k) (λ a b. a < b) (λ before s. after before ≤ server_key s) (λ before s low. omega arith) (number_is server_key) (number_own server_key)
