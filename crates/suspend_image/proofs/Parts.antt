@@ -1,5 +1,6 @@
 -- Parts of the machine's invariant, told from rows.
 pub mod ClaimLemmas
+pub mod ConnectionLemmas
 pub mod EachThreadLemmas
 pub mod JoiningLemmas
 pub mod KeyLemmas

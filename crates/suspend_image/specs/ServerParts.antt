@@ -1,10 +1,11 @@
 -- What the invariant of the machine asks of servers and their messages, as tests of the rows.
-use Rattle.std.specs.Prelude.{ℕ, ◌+◌, ◌==◌, ◌&&◌, ◌||◌, not, nat_le, nat_lt, nat_eq, Bool, List, length}
+use Rattle.std.specs.Prelude.{ℕ, ◌+◌, ◌==◌, ◌&&◌, ◌||◌, not, nat_le, nat_lt, nat_eq, if◌then◌else◌, Bool, List, length}
 use Rattle.std.specs.Cmp.Lexicographic.{pointwise}
 use Rattle.std.specs.List.{list_all, list_any, count_by}
 use Rattle.suspend_image.specs.declared.state.MessageRow.{MessageRow}
 use Rattle.suspend_image.specs.declared.state.ProcRow.{ProcRow}
 use Rattle.suspend_image.specs.declared.state.ServerRow.{ServerRow}
+use Rattle.suspend_image.specs.declared.state.ThreadRow.{ThreadRow}
 use Rattle.suspend_image.specs.declared.messages.Sought.{Sought}
 use Rattle.suspend_image.specs.declared.messages.Sought.TheVariants.{Numbered, SentAs}
 use Rattle.suspend_image.specs.Machines.{processes_of}
@@ -70,3 +71,37 @@ are_all_alone rows = list_all (all_messages (is_alone rows)) rows
 abbrev pub are_few_apart : List ProcRow → List ServerRow → Bool
 are_few_apart procs rows =
     nat_le (length rows) 64 && (list_all has_slots rows && (list_all (is_server_living procs) rows && list_all (λ s. list_all (is_apart s) rows) rows))
+
+-- ---- senders
+
+-- a thread that is Waiting is the sender of exactly one message of that number
+abbrev pub is_sender : List ServerRow → ThreadRow → Bool
+is_sender rows t = not (t.state == 2) || has_one (is_sent_as t.waits t.pid t.tid) rows
+
+-- a thread is Waiting for a message of this number
+abbrev pub is_waiting_for : MessageRow → ThreadRow → Bool
+is_waiting_for m t = (t.pid == m.sender_pid && t.tid == m.sender_tid) && (t.state == 2 && t.waits == m.number)
+
+-- a message has no sender, or one that is Waiting for it
+abbrev pub is_waited_for : List ThreadRow → MessageRow → Bool
+is_waited_for threads m = m.sender_pid == 0 || list_any (is_waiting_for m) threads
+
+-- it is to be answered: a lend of either kind or a blocking scalar
+abbrev pub is_to_answer : MessageRow → Bool
+is_to_answer m = m.kind == 1 || (m.kind == 2 || m.kind == 5)
+
+-- it has a sender exactly where it is to be answered
+abbrev pub is_queueable : MessageRow → Bool
+is_queueable m = if m.sender_pid == 0 then not (is_to_answer m) else is_to_answer m
+
+-- it carries pages, or has no first page and no count
+abbrev pub is_sized : MessageRow → Bool
+is_sized m = m.kind == 1 || (m.kind == 2 || (m.kind == 3 || (m.first == 0 && m.count == 0)))
+
+-- the messages of a server are queued, held and sized as their kinds say, and their senders wait
+abbrev pub are_messages_right : List ThreadRow → ServerRow → Bool
+are_messages_right threads s =
+    list_all is_queueable s.queued && (list_all is_to_answer s.held && (all_messages is_sized s && all_messages (is_waited_for threads) s))
+
+abbrev pub are_senders_told : List ThreadRow → List ServerRow → Bool
+are_senders_told threads rows = list_all (are_messages_right threads) rows && list_all (is_sender rows) threads

@@ -27,7 +27,7 @@ pub use faults::{NOT_STATE, STATE_CHECK, STATE_FORM, STATE_LENGTH, StateError};
 pub use laws::spelled_once_or_faulty;
 pub use matching::{
     are_claims_matched, are_handlers_matched, are_heaps_matched, are_joiners_matched,
-    are_living_served, are_numbers_stepped, are_processes_limited, are_receivers_matched,
+    are_living_served, are_numbers_stepped, are_processes_limited, are_processes_matched, are_receivers_matched,
     are_thread_ids_matched, are_threads_right, is_timer_matched,
 };
 pub use reading::read_state;
