@@ -9,6 +9,7 @@ pub mod OneLemmas
 pub mod OrderLemmas
 pub mod ProcessLemmas
 pub mod ReceivingLemmas
+pub mod SenderLemmas
 pub mod ServedLemmas
 pub mod ServerLemmas
 pub mod ServerRowLemmas

@@ -41,7 +41,7 @@ abbrev pub is_numbered : ℕ → MessageRow → Bool
 is_numbered number m = m.number == number
 
 abbrev pub is_sent_as : ℕ → ℕ → ℕ → MessageRow → Bool
-is_sent_as number pid tid m = m.number == number && (not (m.sender_pid == 0) && (m.sender_pid == pid && m.sender_tid == tid))
+is_sent_as number pid tid m = m.number == number && (not (m.sender_pid == 0) && (pid == m.sender_pid && tid == m.sender_tid))
 
 -- what is looked for among messages
 abbrev pub is_sought : Sought → MessageRow → Bool
@@ -98,10 +98,11 @@ is_queueable m = if m.sender_pid == 0 then not (is_to_answer m) else is_to_answe
 abbrev pub is_sized : MessageRow → Bool
 is_sized m = m.kind == 1 || (m.kind == 2 || (m.kind == 3 || (m.first == 0 && m.count == 0)))
 
--- the messages of a server are queued, held and sized as their kinds say, and their senders wait
-abbrev pub are_messages_right : List ThreadRow → ServerRow → Bool
-are_messages_right threads s =
-    list_all is_queueable s.queued && (list_all is_to_answer s.held && (all_messages is_sized s && all_messages (is_waited_for threads) s))
+-- the messages of a server are queued, held and sized as their kinds say
+abbrev pub are_messages_right : ServerRow → Bool
+are_messages_right s = list_all is_queueable s.queued && (list_all is_to_answer s.held && all_messages is_sized s)
 
+-- they are, their senders wait, and who waits is a sender
 abbrev pub are_senders_told : List ThreadRow → List ServerRow → Bool
-are_senders_told threads rows = list_all (are_messages_right threads) rows && list_all (is_sender rows) threads
+are_senders_told threads rows =
+    list_all are_messages_right rows && (list_all (all_messages (is_waited_for threads)) rows && list_all (is_sender rows) threads)

@@ -14,6 +14,7 @@ mod pages;
 mod procs;
 mod reading;
 mod rows;
+mod sender_matching;
 mod server_matching;
 mod servers;
 mod sheet;
@@ -32,6 +33,7 @@ pub use matching::{
 };
 pub use reading::read_state;
 pub use rows::{write_claim, write_message, write_orphan_words, write_page_words, write_thread};
+pub use sender_matching::are_senders_matched;
 pub use server_matching::{are_next_above, are_servers_matched};
 pub use sheet::Sheet;
 pub use state::{ClaimRow, MessageRow, OrphanRow, PageRow, ProcRow, ServerRow, State, ThreadRow};

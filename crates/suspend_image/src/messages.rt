@@ -21,8 +21,8 @@ fn is_sought(sought: Sought, message: &MessageRow) -> bool
         Sought::SentAs(number, pid, tid) => {
             message.number == number
                 && message.sender_pid != 0
-                && message.sender_pid == pid
-                && message.sender_tid == tid
+                && pid == message.sender_pid
+                && tid == message.sender_tid
         }
     }
 }

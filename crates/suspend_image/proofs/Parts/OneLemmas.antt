@@ -32,19 +32,24 @@ counted_first : (test : Message → Bool) (x : MessageRow) (xs : List MessageRow
 unfolding count_in
 counted_first test x xs = refl
 
-counted_by : (test : Message → Bool) (xs : List MessageRow) → rows_counted test xs ≡ count_by (λ m. test (message_of m)) xs
+-- a test of rows that is the one of their messages
+abbrev pub Tells : (Message → Bool) → (MessageRow → Bool) → Type 0
+Tells test good = (m : MessageRow) → test (message_of m) ≡ good m
+
+counted_by : (test : Message → Bool) (good : MessageRow → Bool) → Tells test good → (xs : List MessageRow) → rows_counted test xs ≡ count_by good xs
 unfolding count_in
-counted_by test xs = is_count_by (rows_counted test) (λ m. test (message_of m)) refl (λ x ys. step (test (message_of x)) (rows_counted test ys)) xs
+counted_by test good tells xs =
+    is_count_by (rows_counted test) good refl (λ x ys. ap (λ (b : Bool). cond b 1 0 + rows_counted test ys) (tells x) ∙ step (good x) (rows_counted test ys)) xs
   where
     step : (b : Bool) (n : ℕ) → cond b 1 0 + n ≡ cond b (1 + n) n
     step true n = omega arith
     step false n = omega arith
 
 -- of a server
-counted_at : (test : Message → Bool) (s : ServerRow) → count_in test (messages_of (server_of s)) ≡ many_at (λ m. test (message_of m)) s
-counted_at test s =
-    ap (count_in test) (sym (map-append message_of s.queued s.held)) ∙ counted_by test (s.queued ++ s.held)
-    ∙ sum_by-append (λ m. cond (test (message_of m)) 1 0) s.queued s.held
+counted_at : (test : Message → Bool) (good : MessageRow → Bool) → Tells test good → (s : ServerRow) → count_in test (messages_of (server_of s)) ≡ many_at good s
+counted_at test good tells s =
+    ap (count_in test) (sym (map-append message_of s.queued s.held)) ∙ counted_by test good tells (s.queued ++ s.held)
+    ∙ sum_by-append (λ m. cond (good m) 1 0) s.queued s.held
 
 -- what passes a test that none that is counted passes isn't counted
 pub none_counted : (test : Message → Bool) (P : MessageRow → Bool) (xs : List MessageRow) → list_all P xs ≡ true
@@ -70,55 +75,52 @@ all_counted test P (x ∷ xs) own each =
 
 -- ---- the one of all servers
 
-module _ (test : Message → Bool) (rows : List ServerRow) (ascend : Ascend server_key rows) where
-  abbrev row_test : MessageRow → Bool
-  row_test m = test (message_of m)
-
-  one_right : has_one row_test rows ≡ true → HasOne (servers_of rows) test
+module _ (test : Message → Bool) (good : MessageRow → Bool) (tells : Tells test good) (rows : List ServerRow) (ascend : Ascend server_key rows) where
+  one_right : has_one good rows ≡ true → HasOne (servers_of rows) test
   one_right holds =
       let s = any_own server_key (λ k r. eqb (server_key r) k) (λ a b. a < b) (λ before s. after before ≤ server_key s) (λ before s low. omega arith) (number_is server_key) (number_own server_key)
-      (λ k low. omega arith) (λ a b c low next. omega arith) (λ s. eqb (many_at row_test s) 1 && list_all (is_without row_test s) rows) None rows ascend holds in
-      let both = and_parts (eqb (many_at row_test s.0) 1) _ s.2 in
+      (λ k low. omega arith) (λ a b c low next. omega arith) (λ s. eqb (many_at good s) 1 && list_all (is_without good s) rows) None rows ascend holds in
+      let both = and_parts (eqb (many_at good s.0) 1) _ s.2 in
       record {
         serial = s.0.serial;
-        here = ap (λ (o : Option ServerRow). count_at test (option_map server_of o)) s.1 ∙ counted_at test s.0 ∙ eqb-true _ 1 both.0;
+        here = ap (λ (o : Option ServerRow). count_at test (option_map server_of o)) s.1 ∙ counted_at test good tells s.0 ∙ eqb-true _ 1 both.0;
         elsewhere = λ n other. go s.0 both.1 n other (find (λ r. eqb (server_key r) n) rows) refl;
       }
     where
-      go : (s : ServerRow) → list_all (is_without row_test s) rows ≡ true → (n : ℕ) → n ≢ s.serial → (o : Option ServerRow)
+      go : (s : ServerRow) → list_all (is_without good s) rows ≡ true → (n : ℕ) → n ≢ s.serial → (o : Option ServerRow)
           → find (λ r. eqb (server_key r) n) rows ≡ o → count_at test (option_map server_of o) ≡ 0
       go s all n other None e = refl
       go s all n other (Some t) e =
-          let passes = found_passes (λ r. eqb (server_key r) n) (is_without row_test s) rows t all e in
+          let passes = found_passes (λ r. eqb (server_key r) n) (is_without good s) rows t all e in
           let key = found_server n rows t e in
           elim (cases_Bool (eqb t.serial s.serial)) [
             | inl same ↦ absurd (other (sym key ∙ eqb-true t.serial s.serial same))
-            | inr differ ↦ counted_at test t ∙ eqb-true (many_at row_test t) 0 (either (eqb t.serial s.serial) _ differ passes)
+            | inr differ ↦ counted_at test good tells t ∙ eqb-true (many_at good t) 0 (either (eqb t.serial s.serial) _ differ passes)
           ]
 
-  one_all : HasOne (servers_of rows) test → has_one row_test rows ≡ true
+  one_all : HasOne (servers_of rows) test → has_one good rows ≡ true
   one_all h = go (find (λ r. eqb (server_key r) h.serial) rows) refl h.here
     where
-      go : (o : Option ServerRow) → find (λ r. eqb (server_key r) h.serial) rows ≡ o → count_at test (option_map server_of o) ≡ 1 → has_one row_test rows ≡ true
+      go : (o : Option ServerRow) → find (λ r. eqb (server_key r) h.serial) rows ≡ o → count_at test (option_map server_of o) ≡ 1 → has_one good rows ≡ true
       go None e one = absurd (omega (arith, one))
       go (Some s) e one =
           let own = found_server h.serial rows s e in
-          let here : eqb (many_at row_test s) 1 ≡ true = eq-eqb _ 1 (sym (counted_at test s) ∙ one) in
-          let others : list_all (is_without row_test s) rows ≡ true = servers_pass (is_without row_test s) rows ascend (λ n t f. (
+          let here : eqb (many_at good s) 1 ≡ true = eq-eqb _ 1 (sym (counted_at test good tells s) ∙ one) in
+          let others : list_all (is_without good s) rows ≡ true = servers_pass (is_without good s) rows ascend (λ n t f. (
           let key = found_server n rows t f in
           elim (cases_Bool (eqb t.serial s.serial)) [
             | inl same ↦ rw same refl
             | inr differ ↦ (
-                let none : many_at row_test t ≡ 0 =
-                sym (counted_at test t) ∙ sym (ap (λ (o : Option ServerRow). count_at test (option_map server_of o)) f)
+                let none : many_at good t ≡ 0 =
+                sym (counted_at test good tells t) ∙ sym (ap (λ (o : Option ServerRow). count_at test (option_map server_of o)) f)
                 ∙ h.elsewhere n (λ is. eqb-false t.serial s.serial differ (key ∙ is ∙ sym own)) in
                 rw (differ, none) refl
                 )
           ]
           )) in
-          any_of_found (λ r. eqb (server_key r) h.serial) (λ s. eqb (many_at row_test s) 1 && list_all (is_without row_test s) rows) rows s e (rw (here, others) refl)
+          any_of_found (λ r. eqb (server_key r) h.serial) (λ s. eqb (many_at good s) 1 && list_all (is_without good s) rows) rows s e (rw (here, others) refl)
 
-  pub one_told : IsTrue (has_one row_test rows) ↔ HasOne (servers_of rows) test
+  pub one_told : IsTrue (has_one good rows) ↔ HasOne (servers_of rows) test
   one_told = (one_right, one_all)
 
   -- none passes, where all rows pass a test that nothing counted passes

@@ -26,8 +26,8 @@ number_of n = record { 0 = n }
 
 alone_right : (rows : List ServerRow) → Ascend server_key rows → are_all_alone rows ≡ true → (number : Number) → HasAtMostOne (servers_of rows) (is_of_number number)
 alone_right rows ascend all number = elim (cases_Bool (has_one (is_numbered number.0) rows)) [
-  | inl one ↦ inr ((one_told (is_of_number number) rows ascend).0 one)
-  | inr none ↦ inl (none_right (is_of_number number) rows ascend (is_alone rows) all (λ m alone. ne_eqb m.number number.0 (λ e. both_ways (has_one (is_numbered number.0) rows) none (sym (ap (λ (k : ℕ). has_one (is_numbered k) rows) e) ∙ alone))))
+  | inl one ↦ inr ((one_told (is_of_number number) (is_numbered number.0) (λ m. refl) rows ascend).0 one)
+  | inr none ↦ inl (none_right (is_of_number number) (is_numbered number.0) (λ m. refl) rows ascend (is_alone rows) all (λ m alone. ne_eqb m.number number.0 (λ e. both_ways (has_one (is_numbered number.0) rows) none (sym (ap (λ (k : ℕ). has_one (is_numbered k) rows) e) ∙ alone))))
 ]
 
 alone_all : (rows : List ServerRow) → Ascend server_key rows → ((number : Number) → HasAtMostOne (servers_of rows) (is_of_number number)) → are_all_alone rows ≡ true
@@ -36,7 +36,7 @@ alone_all rows ascend most =
     all_messages_pass (λ m. is_of_number (number_of m.number)) (is_alone rows) rows ascend (λ m. inr (eq-eqb m.number m.number refl)) (λ m n some. (
     elim (most (number_of m.number)) [
       | inl none ↦ (let zero = none n in absurd (omega (arith, some, zero)))
-      | inr one ↦ (one_told (is_of_number (number_of m.number)) rows ascend).1 one
+      | inr one ↦ (one_told (is_of_number (number_of m.number)) (is_numbered m.number) (λ k. refl) rows ascend).1 one
     ]
     ))
 
