@@ -7,6 +7,7 @@ pub mod KeyLemmas
 pub mod NextLemmas
 pub mod OneLemmas
 pub mod OrderLemmas
+pub mod PageLemmas
 pub mod ProcessLemmas
 pub mod ReceivingLemmas
 pub mod SenderLemmas

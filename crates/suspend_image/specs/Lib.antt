@@ -1,5 +1,6 @@
 pub mod Forms
 pub mod Machines
+pub mod PageParts
 pub mod Parts
 pub mod Reading
 pub mod Rows

@@ -6,10 +6,12 @@ ghost use Rattle.std.specs.List.{list_any, list_all};
 ghost use Rattle.machine_model.specs.Runs.Matched.{AreProcessesMatched, AreReceiversMatched, AreJoinersMatched, AreThreadIdsMatched, AreClaimsMatched, AreNextStepped, AreHandlersMatched, IsTimerMatched};
 ghost use Rattle.suspend_image.specs.Rows.{thread_key, server_key, claim_key};
 ghost use Rattle.suspend_image.specs.Machines.{threads_of, servers_of, claims_of, pending_of, processes_of, compare_of};
-ghost use Rattle.suspend_image.specs.Parts.{are_apart as are_apart_of, are_processes_told as are_processes_told_of, has_threads as has_threads_of, is_served as is_served_of, AreLivingServed, Ascend, AscendInTwo, is_awaited as is_awaited_of, awaits_server as awaits_server_of, joins_another as joins_another_of, is_thread_living as is_thread_living_of, is_thread_right, is_claim_living as is_claim_living_of, is_heap_whole, is_within_limits as is_within_limits_of, AreThreadsRight, AreHeapsWhole, AreProcessesLimited};
+ghost use Rattle.suspend_image.specs.Parts.{are_apart as are_apart_of, are_processes_told as are_processes_told_of, has_threads as has_threads_of, is_served as is_served_of, AreLivingServed, Ascend, AscendInTwo, is_awaited as is_awaited_of, awaits_server as awaits_server_of, joins_another as joins_another_of, is_thread_living as is_thread_living_of, is_thread_right, is_claim_living as is_claim_living_of, is_heap_whole, is_within_limits as is_within_limits_of, AreThreadsRight, AreProcessesLimited};
 
 use crate::state::{ClaimRow, ProcRow, ServerRow, State, ThreadRow};
-use xk_base::limits::{CONNECTION_LIMIT, INTERRUPT_LIMIT, PAGE_SIZE, PROCESS_LIMIT, TID_LIMIT, TIMER_INTERRUPT};
+use xk_base::limits::{
+    CONNECTION_LIMIT, INTERRUPT_LIMIT, PAGE_SIZE, PROCESS_LIMIT, TID_LIMIT, TIMER_INTERRUPT,
+};
 
 /// The number of the state Receiving.
 const RECEIVING: u32 = 1;
@@ -38,7 +40,7 @@ fn are_handlers_whole(claims: &[ClaimRow]) -> bool
 }
 
 /// Whether each heap is of whole pages, up to 16 MiB.
-fn are_heaps_whole(procs: &[ProcRow]) -> bool
+pub fn are_heaps_whole(procs: &[ProcRow]) -> bool
     ensures { result ≡ list_all is_heap_whole procs.now }
 {
     procs.iter().all(|process| process.heap % PAGE_SIZE == 0 && process.heap <= HEAP_LIMIT)
@@ -208,7 +210,9 @@ pub fn are_processes_limited(procs: &[ProcRow]) -> bool
 fn all_apart(procs: &[ProcRow]) -> bool
     ensures { result ≡ list_all (λ p. are_apart_of p.serials) procs.now }
 {
-    procs.iter().all(|process| are_apart(process.serials.as_slice()))
+    procs
+        .iter()
+        .all(|process| are_apart(process.serials.as_slice()))
 }
 
 /// The limits are looked at first, so that few serials are compared.
@@ -289,13 +293,6 @@ pub fn are_handlers_matched(claims: &[ClaimRow]) -> bool
     ensures { IsTrue result ↔ AreHandlersMatched (claims_of claims.now) }
 {
     are_handlers_whole(claims)
-}
-
-/// Part 7, of the processes: heaps are of whole pages, up to 16 MiB.
-pub fn are_heaps_matched(procs: &[ProcRow]) -> bool
-    ensures { IsTrue result ↔ AreHeapsWhole (processes_of procs.now) }
-{
-    are_heaps_whole(procs)
 }
 
 /// Part 8, of the next message and the next server: each number that was given took a step.

@@ -30,7 +30,10 @@ fn is_sought(sought: Sought, message: &MessageRow) -> bool
 fn count_sought(sought: Sought, messages: &[MessageRow]) -> usize
     ensures { result ≡ count_by (is_sought_of sought) messages.now }
 {
-    messages.iter().filter(|message| is_sought(sought, message)).count()
+    messages
+        .iter()
+        .filter(|message| is_sought(sought, message))
+        .count()
 }
 
 /// How many of a server's messages are sought.
@@ -50,7 +53,9 @@ fn is_without(sought: Sought, server: &ServerRow, other: &ServerRow) -> bool
 fn are_without(sought: Sought, servers: &[ServerRow], server: &ServerRow) -> bool
     ensures { result ≡ list_all (is_without_of (is_sought_of sought) server.now) servers.now }
 {
-    servers.iter().all(|other| is_without(sought, server, other))
+    servers
+        .iter()
+        .all(|other| is_without(sought, server, other))
 }
 
 fn is_one_at(sought: Sought, servers: &[ServerRow], server: &ServerRow) -> bool
@@ -63,7 +68,9 @@ fn is_one_at(sought: Sought, servers: &[ServerRow], server: &ServerRow) -> bool
 pub fn has_one(sought: Sought, servers: &[ServerRow]) -> bool
     ensures { result ≡ has_one_of (is_sought_of sought) servers.now }
 {
-    servers.iter().any(|server| is_one_at(sought, servers, server))
+    servers
+        .iter()
+        .any(|server| is_one_at(sought, servers, server))
 }
 
 /// Whether a message is the one of its number.

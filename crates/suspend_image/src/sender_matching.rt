@@ -16,8 +16,11 @@ const WAITING: u32 = 2;
 
 /// The numbers of the kinds of messages that a clause names.
 const LEND_MUT: u32 = 1;
+
 const LEND: u32 = 2;
+
 const MOVE: u32 = 3;
+
 const BLOCKING_SCALAR: u32 = 5;
 
 /// Whether a thread that is Waiting is the sender of exactly one message of that number.
@@ -25,7 +28,10 @@ fn is_sender(servers: &[ServerRow], thread: &ThreadRow) -> bool
     ensures { result ≡ is_sender_of servers.now thread.now }
 {
     thread.state != WAITING
-        || has_one(Sought::SentAs(thread.waits, thread.pid, thread.tid), servers)
+        || has_one(
+            Sought::SentAs(thread.waits, thread.pid, thread.tid),
+            servers,
+        )
 }
 
 fn all_are_senders(servers: &[ServerRow], threads: &[ThreadRow]) -> bool
@@ -106,7 +112,9 @@ fn all_sized(messages: &[MessageRow]) -> bool
 fn all_waited_for(threads: &[ThreadRow], messages: &[MessageRow]) -> bool
     ensures { result ≡ list_all (is_waited_for_of threads.now) messages.now }
 {
-    messages.iter().all(|message| is_waited_for(threads, message))
+    messages
+        .iter()
+        .all(|message| is_waited_for(threads, message))
 }
 
 fn are_sized(server: &ServerRow) -> bool

@@ -53,7 +53,9 @@ fn is_apart_from_all(servers: &[ServerRow], server: &ServerRow) -> bool
 fn all_are_apart(servers: &[ServerRow]) -> bool
     ensures { result ≡ list_all (λ s. list_all (is_apart_of s) servers.now) servers.now }
 {
-    servers.iter().all(|server| is_apart_from_all(servers, server))
+    servers
+        .iter()
+        .all(|server| is_apart_from_all(servers, server))
 }
 
 fn are_numbers_below(messages: &[MessageRow], number: u32) -> bool
@@ -73,7 +75,9 @@ fn is_below_next(number: u32, serial: u32, server: &ServerRow) -> bool
 fn all_below_next(number: u32, serial: u32, servers: &[ServerRow]) -> bool
     ensures { result ≡ list_all (is_below_next_of number serial) servers.now }
 {
-    servers.iter().all(|server| is_below_next(number, serial, server))
+    servers
+        .iter()
+        .all(|server| is_below_next(number, serial, server))
 }
 
 /// Whether all connections of a process lead to servers below the next one.

@@ -1,8 +1,8 @@
 -- Processes are matched, with their connections, exactly where tests of the rows hold.
-use Rattle.std.proofs.Common.{◌≡◌, ℕ, zero, suc, ◌+◌, ◌-◌, ◌≤◌, ◌<◌, Bool, true, false, not, eqb, ltb, leb, List, [], ◌∷◌, length, map, refl, sym, ap, subst, ◌∙◌, arith, inl, inr, ◌↔◌}
-use Rattle.std.specs.Prelude.{◌&&◌, ◌||◌, IsTrue, IsFalse}
+use Rattle.std.proofs.Common.{◌≡◌, ℕ, zero, suc, ◌+◌, ◌-◌, ◌≤◌, ◌<◌, Bool, true, false, not, eqb, ltb, leb, List, [], ◌∷◌, length, map, refl, sym, subst, ◌∙◌, arith, inl, inr, ◌↔◌}
+use Rattle.std.specs.Prelude.{◌&&◌, IsTrue, IsFalse}
 use Rattle.std.specs.List.{list_any, list_all, All, AllPairs}
-use Rattle.std.proofs.lemmas.Bool.{cases_Bool, and_parts, eqb-true, eqb-false, eq-eqb, ne_eqb, leb-true, le-leb, lt-ltb, both_ways}
+use Rattle.std.proofs.lemmas.Bool.{cases_Bool, and_parts, eqb-false, eq-eqb, ne_eqb, leb-true, le-leb, lt-ltb, both_ways}
 use Rattle.std.proofs.lemmas.List.Kept.{AllPairs-cons}
 use Rattle.xk_base.specs.declared.ids.Pid.{Pid}
 use Rattle.xk_base.specs.declared.ids.Serial.{Serial}

@@ -1,15 +1,14 @@
 -- One message of all servers passes a test exactly where a test of the rows holds.
 use Rattle.std.proofs.Common.{◌≡◌, ◌≢◌, ℕ, ◌+◌, ◌≤◌, ◌<◌, Bool, true, false, cond, eqb, List, [], ◌∷◌, ◌++◌, map, Option, Some, None, refl, sym, ap, subst, ◌∙◌, arith, ◌⊎◌, inl, inr, ◌↔◌}
-use Rattle.std.specs.Prelude.{◌&&◌, ◌||◌, IsTrue}
-use Rattle.std.specs.List.{find, list_any, list_all, count_by, sum_by}
+use Rattle.std.specs.Prelude.{◌&&◌, IsTrue}
+use Rattle.std.specs.List.{find, list_all, count_by}
 use Rattle.std.specs.Option.{option_map}
-use Rattle.std.proofs.lemmas.Bool.{cases_Bool, and_parts, eqb-true, eq-eqb, eqb-false, both_ways}
+use Rattle.std.proofs.lemmas.Bool.{cases_Bool, and_parts, eqb-true, eq-eqb, eqb-false}
 use Rattle.std.proofs.lemmas.List.{map-append}
 use Rattle.std.proofs.lemmas.List.Sums.{sum_by-append}
 use Rattle.std.proofs.lemmas.List.Folds.{list_all-append}
 use Rattle.std.proofs.lemmas.List.Recursion.{is_count_by}
 use Rattle.xk_base.specs.declared.messages.Message.{Message}
-use Rattle.machine_model.specs.State.Machine.{Server}
 use Rattle.machine_model.specs.State.Servers.{messages_of}
 use Rattle.machine_model.specs.Messaging.MessageCounts.{count_in, count_at, HasNone, HasOne}
 use Rattle.suspend_image.specs.declared.state.MessageRow.{MessageRow}
@@ -19,7 +18,7 @@ use Rattle.suspend_image.specs.Rows.{server_key}
 use Rattle.suspend_image.specs.Machines.{message_of, server_of, servers_of}
 use Rattle.suspend_image.specs.Parts.{Ascend}
 use Rattle.suspend_image.specs.ServerParts.{all_messages, many_at, is_without, has_one}
-use Rattle.suspend_image.proofs.Parts.KeyLemmas.{either, mapped, any_own, any_of_found, found_passes, number_is, number_own}
+use Rattle.suspend_image.proofs.Parts.KeyLemmas.{either, any_own, any_of_found, found_passes, number_is, number_own}
 use Rattle.suspend_image.proofs.Parts.ServerRowLemmas.{servers_pass, found_server}
 
 -- ---- counted in a list of rows

@@ -1,5 +1,5 @@
 -- Messages and the threads that wait for their answers are matched exactly where tests of the rows hold.
-use Rattle.std.proofs.Common.{◌≡◌, ℕ, ◌+◌, ◌≤◌, Bool, true, false, not, cond, eqb, List, map, Option, Some, None, refl, sym, ap, subst, ◌∙◌, arith, inl, inr, ◌↔◌}
+use Rattle.std.proofs.Common.{◌≡◌, ℕ, ◌≤◌, Bool, true, false, not, cond, eqb, List, Option, Some, None, refl, sym, ap, subst, ◌∙◌, arith, inl, inr, ◌↔◌}
 use Rattle.std.specs.Prelude.{◌&&◌, ◌||◌, is_some, IsTrue}
 use Rattle.std.specs.List.{find, list_any, list_all, All}
 use Rattle.std.specs.Option.{option_map, option_map_or, unwrap_or}
@@ -7,10 +7,9 @@ use Rattle.std.proofs.lemmas.Bool.{cases_Bool, and_parts, eqb-true, eq-eqb, both
 use Rattle.xk_base.specs.Calls.Kinds.{kind_at, is_answered}
 use Rattle.xk_base.specs.declared.ids.Number.{Number}
 use Rattle.xk_base.specs.declared.ids.ThreadId.{ThreadId}
-use Rattle.xk_base.specs.declared.messages.Message.{Message}
 use Rattle.xk_base.specs.declared.messages.MsgKind.{MsgKind}
 use Rattle.xk_base.specs.declared.messages.MsgKind.TheVariants.{Scalar}
-use Rattle.machine_model.specs.State.Machine.{Server, Thread, ThreadState}
+use Rattle.machine_model.specs.State.Machine.{Server, Thread}
 use Rattle.machine_model.specs.State.Servers.{messages_of}
 use Rattle.machine_model.specs.Messaging.Messages.{carries_pages}
 use Rattle.machine_model.specs.Messaging.MessageCounts.{count_at, HasNone, HasOne, HasIf}

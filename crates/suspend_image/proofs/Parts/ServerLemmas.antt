@@ -1,19 +1,16 @@
 -- Servers are matched, but for their messages' numbers, exactly where tests of the rows hold.
-use Rattle.std.proofs.Common.{◌≡◌, ℕ, zero, suc, ◌+◌, ◌≤◌, ◌<◌, Bool, true, false, not, cond, eqb, ltb, leb, List, [], ◌∷◌, length, map, Option, Some, None, refl, sym, ap, subst, ◌∙◌, arith, inl, inr, ◌↔◌}
-use Rattle.std.specs.Prelude.{◌&&◌, ◌||◌, is_some, nat_eq, IsTrue}
+use Rattle.std.proofs.Common.{◌≡◌, ℕ, ◌+◌, ◌≤◌, ◌<◌, Bool, true, false, not, eqb, ltb, leb, List, [], ◌∷◌, length, map, Option, Some, None, refl, sym, ap, subst, ◌∙◌, arith, inl, inr, ◌↔◌}
+use Rattle.std.specs.Prelude.{◌||◌, is_some, nat_eq, IsTrue}
 use Rattle.std.specs.Cmp.Lexicographic.{pointwise}
-use Rattle.std.specs.List.{find, list_any, list_all, All}
+use Rattle.std.specs.List.{find, list_all, All}
 use Rattle.std.specs.Option.{option_map}
-use Rattle.std.proofs.lemmas.Bool.{cases_Bool, and_parts, eqb-true, eq-eqb, eqb-false, ltb-true, lt-ltb, leb-true, le-leb, both_ways, ne_eqb, cases_lt}
+use Rattle.std.proofs.lemmas.Bool.{cases_Bool, and_parts, eqb-true, eq-eqb, ltb-true, lt-ltb, leb-true, le-leb, both_ways, ne_eqb, cases_lt}
 use Rattle.std.proofs.lemmas.List.{length-map}
-
 use Rattle.xk_base.specs.Tables.Counting.{count_below}
 use Rattle.xk_base.proofs.CountingLemmas.{count_below-one, count_below-none, count_below-same}
-use Rattle.xk_base.specs.declared.messages.Message.{Message}
 use Rattle.xk_base.specs.Tables.Sids.{same_sid}
 use Rattle.machine_model.specs.State.Machine.{Server}
 use Rattle.machine_model.specs.State.Servers.{messages_of, slots_used}
-use Rattle.suspend_image.specs.declared.state.MessageRow.{MessageRow}
 use Rattle.suspend_image.specs.declared.state.ServerRow.{ServerRow}
 use Rattle.suspend_image.specs.declared.state.ProcRow.{ProcRow}
 use Rattle.suspend_image.specs.Reading.{after}
@@ -23,7 +20,7 @@ use Rattle.suspend_image.specs.Machines.{message_of, server_of, servers_of, proc
 use Rattle.suspend_image.specs.Parts.{Ascend}
 use Rattle.suspend_image.specs.ServerParts.{is_server_living, has_slots, is_apart, is_below_next}
 use Rattle.suspend_image.proofs.Parts.KeyLemmas.{either, key_above, number_is, number_own}
-use Rattle.suspend_image.proofs.Parts.ServerRowLemmas.{servers_told, messages_told, found_server}
+use Rattle.suspend_image.proofs.Parts.ServerRowLemmas.{servers_told, messages_told}
 
 same : {A : Type 0} → A ↔ A
 same = (λ x. x, λ x. x)
@@ -87,7 +84,7 @@ one_told rows ascend s = servers_told (is_apart s) (λ b t. IsTrue (same_sid (se
 
 pub sids_told : (rows : List ServerRow) → Ascend server_key rows
     → IsTrue (list_all (λ s. list_all (is_apart s) rows) rows)
-      ↔ ((a b : ℕ) (s t : Server) → servers_of rows a ≡ Some s → servers_of rows b ≡ Some t → IsTrue (same_sid s.sid t.sid) → a ≡ b)
+    ↔ ((a b : ℕ) (s t : Server) → servers_of rows a ≡ Some s → servers_of rows b ≡ Some t → IsTrue (same_sid s.sid t.sid) → a ≡ b)
 unfolding Apart
 sids_told rows ascend =
     let told = servers_told (λ s. list_all (is_apart s) rows) (Apart rows) (one_told rows ascend) rows ascend in
@@ -208,6 +205,6 @@ below_told number serial s =
 
 pub servers_below_told : (number serial : ℕ) (rows : List ServerRow) → Ascend server_key rows
     → IsTrue (list_all (is_below_next number serial) rows) ↔ ((n : ℕ) (server : Server) → servers_of rows n ≡ Some server
-      → (n < serial) × All (λ message. message.number.0 < number) (messages_of server))
+    → (n < serial) × All (λ message. message.number.0 < number) (messages_of server))
 unfolding IsBelow
 servers_below_told number serial rows ascend = servers_told (is_below_next number serial) (IsBelow number serial) (below_told number serial) rows ascend

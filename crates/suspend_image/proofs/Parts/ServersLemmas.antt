@@ -1,19 +1,16 @@
 -- Servers are matched exactly where tests of the rows hold.
-use Rattle.std.proofs.Common.{◌≡◌, ℕ, ◌+◌, ◌≤◌, Bool, true, false, eqb, leb, List, length, Some, refl, sym, ap, ◌∙◌, arith, inl, inr, ◌↔◌}
+use Rattle.std.proofs.Common.{◌≡◌, ℕ, Bool, true, false, leb, List, length, refl, sym, ap, ◌∙◌, arith, inl, inr, ◌↔◌}
 use Rattle.std.specs.Prelude.{◌&&◌, IsTrue}
 use Rattle.std.specs.List.{list_all}
-use Rattle.std.proofs.lemmas.Bool.{cases_Bool, and_parts, eqb-true, eq-eqb, ne_eqb, both_ways}
+use Rattle.std.proofs.lemmas.Bool.{cases_Bool, and_parts, eq-eqb, ne_eqb, both_ways}
 use Rattle.xk_base.specs.declared.ids.Number.{Number}
-use Rattle.xk_base.specs.declared.messages.Message.{Message}
-use Rattle.machine_model.specs.State.Machine.{Server}
 use Rattle.machine_model.specs.Messaging.Messages.{is_of_number}
-use Rattle.machine_model.specs.Messaging.MessageCounts.{count_at, HasNone, HasOne, HasAtMostOne}
+use Rattle.machine_model.specs.Messaging.MessageCounts.{HasAtMostOne}
 use Rattle.machine_model.specs.Runs.Matched.{AreServersMatched}
-use Rattle.suspend_image.specs.declared.state.MessageRow.{MessageRow}
 use Rattle.suspend_image.specs.declared.state.ProcRow.{ProcRow}
 use Rattle.suspend_image.specs.declared.state.ServerRow.{ServerRow}
 use Rattle.suspend_image.specs.Rows.{server_key}
-use Rattle.suspend_image.specs.Machines.{message_of, servers_of, processes_of}
+use Rattle.suspend_image.specs.Machines.{servers_of, processes_of}
 use Rattle.suspend_image.specs.Parts.{Ascend}
 use Rattle.suspend_image.specs.ServerParts.{is_server_living, has_slots, is_apart, is_numbered, has_one, is_alone, are_all_alone, are_few_apart}
 use Rattle.suspend_image.proofs.Parts.ServerLemmas.{living_told, slots_told, sids_told, few_told}
