@@ -1,13 +1,11 @@
--- What is written of a history, and histories one after the other.
-use Rattle.std.proofs.Common.{◌≡◌, ◌≢◌, ℕ, Bool, true, false, List, [], ◌∷◌, ◌++◌, Option, Result, Ok, Err, IsErr, OnOk, refl, sym, ap, ◌∙◌, subst, append_assoc, ◌≤◌, ◌⊎◌, inl, inr}
+-- What is told of a history, and histories one after the other.
+use Rattle.std.proofs.Common.{◌≡◌, ◌≢◌, ℕ, Bool, true, false, List, [], ◌∷◌, ◌++◌, Result, Ok, Err, IsErr, OnOk, refl, sym, ap, ◌∙◌, subst, ◌≤◌, ◌⊎◌, inl, inr}
 use Rattle.std.specs.Prelude.{if◌then◌else◌}
 use Rattle.std.proofs.lemmas.Grind.{flat_map-append}
 use Rattle.xk_base.specs.declared.records.Rec.{Rec}
 use Rattle.xk_base.specs.declared.errors.Failed.{Failed}
 use Rattle.xk_base.specs.declared.ids.Pid.{Pid}
 use Rattle.xk_base.specs.declared.ids.Tid.{Tid}
-use Rattle.xk_ports.specs.Told.{Grows, GrowsByPrefix}
-use Rattle.xk_ports.proofs.ToldLemmas.{Grows-append, Grows-none}
 use Rattle.xousim.specs.declared.command.Telling.{Telling}
 use Rattle.xousim.specs.Telling.{told, told_of}
 use Rattle.event_text.specs.declared.event.Event.{Event}
@@ -21,61 +19,56 @@ use Rattle.xk_kernel.proofs.Running.LimitLemmas.{irq_steps, kill_steps, pick_ste
 use Rattle.xousim.specs.declared.ending.Ending.{Ending}
 use Rattle.xousim.specs.declared.ending.Ending.TheVariants.{Played, LimitMet}
 use Rattle.xousim.specs.History.{History, with_ending}
-use Rattle.xousim.specs.Writing.{Wrote}
+use Rattle.xousim.specs.Gathering.{Gathered, Gathers, GathersPart, Text}
+use Rattle.xousim.proofs.GatheringLemmas.{gathers_append, gathers_none, part_later, part_longer}
 
 -- the same history after some records
 abbrev pub behind : List Rec → History → History
 behind records h = record h { records = records ++ h.records }
 
--- ---- what is written
+-- ---- what is told
 
-pub wrote_same : (tells : Telling) (before after : Option (List ℕ)) (g h : History) (result : Result Ending Failed) → g ≡ h → Wrote tells before after h result → Wrote tells before after g result
-wrote_same tells before after g h result same wrote =
-    let P : History → Type 0 = λ x. Wrote tells before after x result in subst P (sym same) wrote
+pub gathered_same : (tells : Telling) (before after : Text) (g h : History) (result : Result Ending Failed) → g ≡ h → Gathered tells before after h result → Gathered tells before after g result
+gathered_same tells before after g h result same wrote =
+    let P : History → Type 0 = λ x. Gathered tells before after x result in subst P (sym same) wrote
 
-pub wrote_err : (tells : Telling) (before after : Option (List ℕ)) (h : History) (result : Result Ending Failed) → IsErr result → ((failed : Failed) → Wrote tells before after h (Err failed)) → Wrote tells before after h result
-wrote_err tells before after h (Ok ending) is wrote = cc
-wrote_err tells before after h (Err failed) is wrote = wrote failed
+pub gathered_err : (tells : Telling) (before after : Text) (h : History) (result : Result Ending Failed) → IsErr result → ((failed : Failed) → Gathered tells before after h (Err failed)) → Gathered tells before after h result
+gathered_err tells before after h (Ok ending) is wrote = cc
+gathered_err tells before after h (Err failed) is wrote = wrote failed
 
--- nothing is written where nothing was recorded: the history ends as it would anyway
-pub wrote_nothing : (tells : Telling) (out : Option (List ℕ)) (last : Ending) (m : Machine) → Wrote tells out out (with_ending last (kernel.reached (nothing m))) (Ok last)
-wrote_nothing tells out last m = (refl, Grows-none out)
+-- nothing is told where nothing was recorded: the history ends as it would anyway
+pub gathered_nothing : (tells : Telling) (out : Text) (last : Ending) (m : Machine) → Gathered tells out out (with_ending last (kernel.reached (nothing m))) (Ok last)
+gathered_nothing tells out last m = (refl, gathers_none out)
 
 -- .. or at the limit
-pub wrote_stopped : (tells : Telling) (out : Option (List ℕ)) (last : Ending) (m : Machine) → Wrote tells out out (with_ending last (kernel.stopped m)) (Ok LimitMet)
-wrote_stopped tells out last m = (refl, Grows-none out)
+pub gathered_stopped : (tells : Telling) (out : Text) (last : Ending) (m : Machine) → Gathered tells out out (with_ending last (kernel.stopped m)) (Ok LimitMet)
+gathered_stopped tells out last m = (refl, gathers_none out)
 
 -- the records of a step, and then the rest
-pub wrote_behind : (tells : Telling) (before mid after : Option (List ℕ)) (records : List Rec) (h : History) (result : Result Ending Failed)
-    → Grows before mid (told tells records) → Wrote tells mid after h result → Wrote tells before after (behind records h) result
-wrote_behind tells before mid after records h (Ok ending) first second =
-    let P : List ℕ → Type 0 = λ text. Grows before after text in
-    (second.0, subst P (sym (flat_map-append (told_of tells) records h.records)) (Grows-append before mid after (told tells records) (told tells h.records) first second.1))
-wrote_behind tells before mid after records h (Err failed) first second = (
-  told tells records ++ second.0,
-  second.1,
-  flat_map-append (told_of tells) records h.records ∙ (ap (λ (text : List ℕ). told tells records ++ text) second.2 ∙ sym (append_assoc (told tells records) second.0 second.1)),
-  Grows-append before mid after (told tells records) second.0 first second.3,
-)
+pub gathered_behind : (tells : Telling) (before mid after : Text) (records : List Rec) (h : History) (result : Result Ending Failed)
+    → Gathers before mid (told tells records) → Gathered tells mid after h result → Gathered tells before after (behind records h) result
+gathered_behind tells before mid after records h (Ok ending) first second =
+    let P : List ℕ → Type 0 = λ text. Gathers before after text in
+    (second.0, subst P (sym (flat_map-append (told_of tells) records h.records)) (gathers_append before mid after (told tells records) (told tells h.records) first second.1))
+gathered_behind tells before mid after records h (Err failed) first second =
+    let P : List ℕ → Type 0 = λ text. GathersPart before after text in
+    subst P (sym (flat_map-append (told_of tells) records h.records)) (part_later before mid after (told tells records) (told tells h.records) first second)
 
 -- a part of the records of a step
-pub wrote_front : (tells : Telling) (before after : Option (List ℕ)) (records : List Rec) (h : History) (failed : Failed)
-    → GrowsByPrefix before after (told tells records) → Wrote tells before after (behind records h) (Err failed)
-wrote_front tells before after records h failed front = (
-  front.0,
-  front.1 ++ told tells h.records,
-  flat_map-append (told_of tells) records h.records ∙ (ap (λ (text : List ℕ). text ++ told tells h.records) front.2 ∙ append_assoc front.0 front.1 (told tells h.records)),
-  front.3,
-)
+pub gathered_front : (tells : Telling) (before after : Text) (records : List Rec) (h : History) (failed : Failed)
+    → GathersPart before after (told tells records) → Gathered tells before after (behind records h) (Err failed)
+gathered_front tells before after records h failed front =
+    let P : List ℕ → Type 0 = λ text. GathersPart before after text in
+    subst P (sym (flat_map-append (told_of tells) records h.records)) (part_longer before after (told tells records) (told tells h.records) front)
 
 -- a part of the lines of an event that isn't the last is a part of the lines of all
-pub wrote_part : (tells : Telling) (before after : Option (List ℕ)) (last : Ending) (h : kernel.History) (next : Machine → kernel.History) (failed : Failed)
-    → GrowsByPrefix before after (told tells h.records) → Wrote tells before after (with_ending last (kernel.followed_by h next)) (Err failed)
-wrote_part tells before after last h next failed front = go h.met
+pub gathered_part : (tells : Telling) (before after : Text) (last : Ending) (h : kernel.History) (next : Machine → kernel.History) (failed : Failed)
+    → GathersPart before after (told tells h.records) → Gathered tells before after (with_ending last (kernel.followed_by h next)) (Err failed)
+gathered_part tells before after last h next failed front = go h.met
   where
-    go : (met : Bool) → Wrote tells before after (with_ending last (kernel.go_on met h next)) (Err failed)
+    go : (met : Bool) → Gathered tells before after (with_ending last (kernel.go_on met h next)) (Err failed)
     go true = front
-    go false = wrote_front tells before after h.records (with_ending last (next h.machine)) failed front
+    go false = gathered_front tells before after h.records (with_ending last (next h.machine)) failed front
 
 -- ---- how a history ends
 

@@ -1,7 +1,7 @@
 -- Growing and consuming, one piece after another.
-use Rattle.std.proofs.Common.{◌≡◌, ◌↔◌, ◌<◌, ◌≤◌, ℕ, suc, List, [], ◌++◌, length, take, drop, get_or, Option, Some, None, Result, Ok, Err, OnErr, OnOk, refl, sym, ap, ◌∙◌, arith, append_assoc, append-nil, drop-cons}
+use Rattle.std.proofs.Common.{◌≡◌, ◌↔◌, ◌<◌, ◌≤◌, ◌+◌, ℕ, suc, List, [], ◌∷◌, ◌++◌, length, take, drop, get_or, Option, Some, None, Result, Ok, Err, OnErr, OnOk, refl, sym, ap, ◌∙◌, arith, append_assoc, append-nil, drop-cons}
 use Rattle.std.proofs.lemmas.Option.{none-some, same_Some}
-use Rattle.std.proofs.lemmas.List.{take-append-drop}
+use Rattle.std.proofs.lemmas.List.{take-append-drop, take_more}
 use Rattle.std.proofs.lemmas.Grind.{common_steps, flat_map-append}
 use Rattle.xk_ports.specs.Told.{Grows, GrowsByPrefix, Consumes}
 use Rattle.xk_ports.proofs.ToldLemmas.{Grows-append}
@@ -65,6 +65,14 @@ told_at tells records i d inside =
     ap (told tells) (sym (take-append-drop i records))
     ∙ (flat_map-append (told_of tells) (take i records) (drop i records)
     ∙ ap (λ (rs : List Rec). told tells (take i records) ++ told tells rs) (drop-cons records i d inside))
+
+-- what is told before a record and of it
+pub told_next : (tells : Telling) (records : List Rec) (i : ℕ) (d : Rec) → i < length records
+    → told tells (take (i + 1) records) ≡ told tells (take i records) ++ told_of tells (get_or records i d)
+told_next tells records i d inside =
+    ap (told tells) (take_more records i d inside)
+    ∙ (flat_map-append (told_of tells) (take i records) (get_or records i d ∷ [])
+    ∙ ap (λ (text : List ℕ). told tells (take i records) ++ text) (append-nil (told_of tells (get_or records i d))))
 
 -- a fact under either answer
 pub on_err : {T E : Type 0} (r : Result T E) (P : Type 0) → P → OnErr r P

@@ -1,6 +1,7 @@
 pub mod Adapters
 pub mod Built
 pub mod Finish
+pub mod Gathering
 pub mod History
 pub mod Outcome
 pub mod Playing

@@ -6,7 +6,7 @@ use Rattle.event_text.specs.Lines.{whole_lines}
 use Rattle.event_text.specs.Plays.{Call, play_of}
 use Rattle.machine_model.specs.State.Machine.{Machine}
 use Rattle.xk_base.specs.declared.errors.Failed.{Failed}
-use Rattle.xk_ports.specs.Told.{Grows, GrowsByPrefix, Consumes}
+use Rattle.xk_ports.specs.Told.{GrowsByPrefix, Consumes}
 use Rattle.xousim.specs.declared.ending.Ending.{Ending}
 use Rattle.xousim.specs.declared.ending.Ending.TheVariants as why
 use Rattle.xousim.specs.declared.event_file.RunFault.{RunFault}
@@ -14,6 +14,7 @@ use Rattle.xousim.specs.declared.event_file.RunFault.TheVariants.{Read, Write}
 use Rattle.xousim.specs.declared.playing.Advance.{Advance}
 use Rattle.xousim.specs.declared.playing.Advance.TheVariants.{Played, Waits, Ended}
 use Rattle.xk_kernel.specs.History.{history}
+use Rattle.xousim.specs.Gathering.{Gathered, Gathers, Text}
 use Rattle.xousim.specs.History.{History, history_of}
 use Rattle.xousim.specs.Reading.{IsTold}
 use Rattle.xousim.specs.Telling.{told}
@@ -21,39 +22,39 @@ use Rattle.xousim.specs.declared.command.Telling.{Telling}
 use Rattle.xousim.specs.Writing.{Wrote}
 
 -- What was played so far: after some calls of a reader, with which it took these bytes, the events that it answered were
--- played in order from `start`, the limit wasn't met, and exactly what is told as their records come was written.
-pub record HasPlayed (tells : Telling) (limit : ℕ) (start : Machine) (begun : Option (List ℕ)) (taken : List ℕ) (reader : Reader) (machine : Machine) (out : Option (List ℕ)) : Type 0 where
+-- played in order from `start`, the limit wasn't met, and exactly what is told as their records come was put or is held.
+pub record HasPlayed (tells : Telling) (limit : ℕ) (start : Machine) (begun : Text) (taken : List ℕ) (reader : Reader) (machine : Machine) (out : Text) : Type 0 where
   pub calls : List Call
   pub is_reader : (play_of calls).reader ≡ reader
   pub took : (play_of calls).taken ≡ taken
   pub unmet : (history (play_of calls).answered limit start).met ≡ false
   pub there : (history (play_of calls).answered limit start).machine ≡ machine
-  pub written : Grows begun out (told tells (history (play_of calls).answered limit start).records)
+  pub gathered : Gathers begun out (told tells (history (play_of calls).answered limit start).records)
 
 -- the history of a file that begins with these bytes, whatever bytes follow; none do once the end was said
 abbrev pub ForEach : ℕ → Machine → List ℕ → Bool → (History → Type 0) → Type 0
 ForEach limit start taken finished P =
     (more : List ℕ) → (finished ≡ true → more ≡ []) → P (history_of (input_of (taken ++ more)) limit start)
 
--- the history ended so, on this machine, and what is told as its records come was written
-abbrev pub EndsSo : Telling → ℕ → Machine → Option (List ℕ) → List ℕ → Bool → Machine → Option (List ℕ) → Ending → Type 0
+-- the history ended so, on this machine, and what is told as its records come was put or is held
+abbrev pub EndsSo : Telling → ℕ → Machine → Text → List ℕ → Bool → Machine → Text → Ending → Type 0
 EndsSo tells limit start begun taken finished machine out ending =
-    ForEach limit start taken finished (λ h. Wrote tells begun out h (Ok ending) × (machine ≡ h.machine))
+    ForEach limit start taken finished (λ h. Gathered tells begun out h (Ok ending) × (machine ≡ h.machine))
 
--- a part from the front of that was written
-abbrev pub FailsSo : Telling → ℕ → Machine → Option (List ℕ) → List ℕ → Bool → Option (List ℕ) → Failed → Type 0
+-- a part from the front of that was put
+abbrev pub FailsSo : Telling → ℕ → Machine → Text → List ℕ → Bool → Text → Failed → Type 0
 FailsSo tells limit start begun taken finished out failed =
-    ForEach limit start taken finished (λ h. Wrote tells begun out h (Err failed))
+    ForEach limit start taken finished (λ h. Gathered tells begun out h (Err failed))
 
 -- what came of an answer of the reader
-abbrev pub Advances : Telling → ℕ → Machine → Option (List ℕ) → List ℕ → Bool → Reader → Machine → Option (List ℕ) → Result Advance Failed → Type 0
+abbrev pub Advances : Telling → ℕ → Machine → Text → List ℕ → Bool → Reader → Machine → Text → Result Advance Failed → Type 0
 Advances tells limit start begun taken finished reader machine out (Ok Played) = HasPlayed tells limit start begun taken reader machine out
 Advances tells limit start begun taken finished reader machine out (Ok Waits) = HasPlayed tells limit start begun taken reader machine out
 Advances tells limit start begun taken finished reader machine out (Ok (Ended ending)) = EndsSo tells limit start begun taken finished machine out ending
 Advances tells limit start begun taken finished reader machine out (Err failed) = FailsSo tells limit start begun taken finished out failed
 
 -- the history ended, or it goes on where the reader waits for bytes
-abbrev pub Goes : Telling → ℕ → Machine → Option (List ℕ) → List ℕ → Bool → Reader → Machine → Option (List ℕ) → Result (Option Ending) Failed → Type 0
+abbrev pub Goes : Telling → ℕ → Machine → Text → List ℕ → Bool → Reader → Machine → Text → Result (Option Ending) Failed → Type 0
 Goes tells limit start begun taken finished reader machine out (Ok None) = HasPlayed tells limit start begun taken reader machine out
 Goes tells limit start begun taken finished reader machine out (Ok (Some ending)) = EndsSo tells limit start begun taken finished machine out ending
 Goes tells limit start begun taken finished reader machine out (Err failed) = FailsSo tells limit start begun taken finished out failed

@@ -1,6 +1,7 @@
-//! The event file is read in pieces, and each event is played as soon as it is known.
+//! The event file is read in pieces, each event is played as soon as it is known, and what is told
+//! of the events of a piece is put before the next piece is read.
 
-ghost use Rattle.std.specs.Prelude.{◌≡◌, ◌≢◌, ◌≤◌, ◌+◌, ◌++◌, [], ℕ, false, List, Option, None, Some, Ok, Err, length, IsTrue, OnOk, OnErr};
+ghost use Rattle.std.specs.Prelude.{◌≡◌, ◌≢◌, ◌≤◌, ◌+◌, ◌++◌, [], ℕ, false, true, List, Option, None, Some, Ok, Err, length, IsTrue, OnOk, OnErr};
 ghost use Rattle.event_text.specs.Held.{IsWaiting};
 ghost use Rattle.machine_model.specs.State.Machine.{Machine};
 ghost use Rattle.xk_base.specs.declared.limits.TheConstants.{EVENT_FILE_LIMIT};
@@ -8,13 +9,16 @@ ghost use Rattle.xk_base.specs.Outside.{Rose};
 ghost use Rattle.xk_kernel.specs.Sound.{IsSound, IsUsable, Keeps};
 ghost use Rattle.xk_kernel.specs.State.{machine_of};
 ghost use Rattle.xk_ports.specs.declared.host.FileSlot.TheVariants.{First, Second};
+ghost use Rattle.xousim.specs.Gathering.{Text, put, text};
 ghost use Rattle.xousim.specs.Playing.{Goes, HasPlayed, Runs};
 ghost use Rattle.xousim.specs.Reading.{IsTold};
 
 use crate::command::Telling;
 use crate::ending::Ending;
+use crate::gathering::{Held, put_held};
 use crate::playing::play_known;
 use crate::reading::PIECE;
+use arrayvec::ArrayVec;
 use event_text::EventReader;
 use xk_base::Failed;
 use xk_kernel::Kernel;
@@ -29,7 +33,48 @@ pub enum RunFault {
     Write,
 }
 
-/// Feeds a piece of the event file to a reader that waits, plays the events that become known, and
+/// Feeds a piece of the event file to a reader that waits, plays the events that become known and
+/// gathers what is told of them, and answers how the history ended, or None where the reader waits
+/// for the next piece.
+fn feed_piece<K: Sink, W: SwapStore>(
+    kernel: &mut Kernel<W>,
+    reader: &mut EventReader,
+    piece: &[u8],
+    tells: Telling,
+    limit: u32,
+    out: &mut K,
+    held: &mut Held,
+) -> Result<Option<Ending>, Failed>
+    requires sound { IsSound W.slot_count W.held kernel.old }
+    requires usable { IsUsable kernel.old }
+    requires limit { limit ≤ 4000000000 }
+    requires within { (machine_of W.held kernel.old).steps ≤ limit }
+    requires waits { IsWaiting reader.old }
+    requires inside { reader.old.start + length reader.old.held ≤ EVENT_FILE_LIMIT }
+    ensures goes { (start : Machine) (begun : Text) (taken : List ℕ) → HasPlayed tells limit start begun taken reader.old (machine_of W.held kernel.old) (text (K.written out.old) held.old.items) → Goes tells limit start begun (taken ++ piece.now) false reader.new (machine_of W.held kernel.new) (text (K.written out.new) held.new.items) result }
+    ensures sound { IsSound W.slot_count W.held kernel.new }
+    ensures usable { IsUsable kernel.new }
+    ensures keeps { Keeps W.is_honest W.held W.slot_count W.asked W.faults kernel.old kernel.new }
+    ensures within { OnOk result ((machine_of W.held kernel.new).steps ≤ limit) }
+    ensures waits { result ≡ Ok None → IsWaiting reader.new × (reader.new.start + length reader.new.held ≤ EVENT_FILE_LIMIT) }
+    ensures unended { result ≢ Ok (Some Ending.Played) }
+    ensures offset { result ≡ Ok None → reader.new.start + length reader.new.held ≡ reader.old.start + length reader.old.held + length piece.now }
+    ensures cause { OnErr result (Rose (K.faults out.old) (K.faults out.new)) }
+    ensures never_falls { K.faults out.old ≤ K.faults out.new }
+{
+    let mut rest = piece;
+    'rest: while !rest.is_empty() {
+        let taken = reader.feed(rest);
+        rest = &rest[taken..];
+        match play_known(kernel, reader, tells, limit, out, held)? {
+            None => {}
+            Some(ending) => return Ok(Some(ending)),
+        }
+    }
+    Ok(None)
+}
+
+/// Plays the events that become known by a piece of the event file, writes what is told of them, and
 /// answers how the history ended, or None where the reader waits for the next piece.
 fn play_piece<K: Sink, W: SwapStore>(
     kernel: &mut Kernel<W>,
@@ -45,7 +90,7 @@ fn play_piece<K: Sink, W: SwapStore>(
     requires within { (machine_of W.held kernel.old).steps ≤ limit }
     requires waits { IsWaiting reader.old }
     requires inside { reader.old.start + length reader.old.held ≤ EVENT_FILE_LIMIT }
-    ensures goes { (start : Machine) (begun : Option (List ℕ)) (taken : List ℕ) → HasPlayed tells limit start begun taken reader.old (machine_of W.held kernel.old) (K.written out.old) → Goes tells limit start begun (taken ++ piece.now) false reader.new (machine_of W.held kernel.new) (K.written out.new) result }
+    ensures goes { (start : Machine) (begun : Text) (taken : List ℕ) → HasPlayed tells limit start begun taken reader.old (machine_of W.held kernel.old) (put (K.written out.old)) → Goes tells limit start begun (taken ++ piece.now) false reader.new (machine_of W.held kernel.new) (put (K.written out.new)) result }
     ensures sound { IsSound W.slot_count W.held kernel.new }
     ensures usable { IsUsable kernel.new }
     ensures keeps { Keeps W.is_honest W.held W.slot_count W.asked W.faults kernel.old kernel.new }
@@ -56,16 +101,41 @@ fn play_piece<K: Sink, W: SwapStore>(
     ensures cause { OnErr result (Rose (K.faults out.old) (K.faults out.new)) }
     ensures never_falls { K.faults out.old ≤ K.faults out.new }
 {
-    let mut rest = piece;
-    'rest: while !rest.is_empty() {
-        let taken = reader.feed(rest);
-        rest = &rest[taken..];
-        match play_known(kernel, reader, tells, limit, out)? {
-            None => {}
-            Some(ending) => return Ok(Some(ending)),
-        }
-    }
-    Ok(None)
+    let mut held = ArrayVec::new();
+    let ended = feed_piece(kernel, reader, piece, tells, limit, out, &mut held)?;
+    put_held(out, &mut held)?;
+    Ok(ended)
+}
+
+/// Plays all events that the reader knows, writes what is told of them, and answers how the history
+/// ended, or None where the reader waits for bytes.
+fn play_end<K: Sink, W: SwapStore>(
+    kernel: &mut Kernel<W>,
+    reader: &mut EventReader,
+    tells: Telling,
+    limit: u32,
+    out: &mut K,
+) -> Result<Option<Ending>, Failed>
+    requires sound { IsSound W.slot_count W.held kernel.old }
+    requires usable { IsUsable kernel.old }
+    requires limit { limit ≤ 4000000000 }
+    requires within { (machine_of W.held kernel.old).steps ≤ limit }
+    ensures goes { (start : Machine) (begun : Text) (taken : List ℕ) → HasPlayed tells limit start begun taken reader.old (machine_of W.held kernel.old) (put (K.written out.old)) → Goes tells limit start begun taken reader.old.finished reader.new (machine_of W.held kernel.new) (put (K.written out.new)) result }
+    ensures sound { IsSound W.slot_count W.held kernel.new }
+    ensures usable { IsUsable kernel.new }
+    ensures keeps { Keeps W.is_honest W.held W.slot_count W.asked W.faults kernel.old kernel.new }
+    ensures within { OnOk result ((machine_of W.held kernel.new).steps ≤ limit) }
+    ensures waits { result ≡ Ok None → IsWaiting reader.new × (reader.new.start + length reader.new.held ≤ EVENT_FILE_LIMIT) }
+    ensures offset { reader.new.start + length reader.new.held ≡ reader.old.start + length reader.old.held }
+    ensures finished { reader.new.finished ≡ reader.old.finished }
+    ensures end { result ≡ Ok (Some Ending.Played) → reader.new.finished ≡ true }
+    ensures cause { OnErr result (Rose (K.faults out.old) (K.faults out.new)) }
+    ensures never_falls { K.faults out.old ≤ K.faults out.new }
+{
+    let mut held = ArrayVec::new();
+    let ended = play_known(kernel, reader, tells, limit, out, &mut held)?;
+    put_held(out, &mut held)?;
+    Ok(ended)
 }
 
 /// Reads the event file that was picked at the second slot, plays its events on a booted kernel,
@@ -102,7 +172,7 @@ pub fn play_file<H: Host, K: Sink, W: SwapStore>(
         };
         if count == 0 {
             reader.finish();
-            return match play_known(kernel, &mut reader, tells, limit, out) {
+            return match play_end(kernel, &mut reader, tells, limit, out) {
                 Ok(Some(ending)) => Ok(ending),
                 Ok(None) => unreachable!(),
                 Err(_) => Err(RunFault::Write),

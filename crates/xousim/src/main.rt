@@ -7,6 +7,7 @@ mod booting;
 mod command;
 mod ending;
 mod event_file;
+mod gathering;
 mod matched;
 mod notes;
 mod numbers;

@@ -1,4 +1,4 @@
-//! Events are played, and what a command tells of their records is written as they come.
+//! Events are played, and what a command tells of their records is gathered as they come.
 
 ghost use Rattle.std.specs.Prelude.{◌≡◌, ◌≤◌, ◌<◌, ◌+◌, ℕ, true, List, Option, None, Some, Ok, length, OnOk, OnErr};
 ghost use Rattle.event_text.specs.Held.{IsWaiting};
@@ -9,13 +9,14 @@ ghost use Rattle.xk_kernel.specs.History.{play, reached};
 ghost use Rattle.xk_kernel.specs.Sound.{IsSound, IsUsable, Keeps};
 ghost use Rattle.xk_kernel.specs.State.{machine_of};
 ghost use Rattle.xk_kernel.specs.Stepping.{event_done};
+ghost use Rattle.xousim.specs.Gathering.{Gathered, Text, text};
 ghost use Rattle.xousim.specs.History.{with_ending};
 ghost use Rattle.xousim.specs.Playing.{Advances, Goes, HasPlayed};
-ghost use Rattle.xousim.specs.Writing.{Wrote};
 
 use crate::command::Telling;
 use crate::ending::Ending;
-use crate::transcript::write_records;
+use crate::gathering::Held;
+use crate::transcript::gather_records;
 use event_text::{Event, EventReader, NextEvent};
 use xk_base::Failed;
 use xk_kernel::{Kernel, Stepped, SwapFault};
@@ -28,13 +29,14 @@ fn play_tick<K: Sink, W: SwapStore>(
     tells: Telling,
     limit: u32,
     out: &mut K,
+    held: &mut Held,
 ) -> Result<Ending, Failed>
     requires sound { IsSound W.slot_count W.held kernel.old }
     requires usable { IsUsable kernel.old }
     requires limit { limit ≤ 4000000000 }
     requires within { (machine_of W.held kernel.old).steps ≤ limit }
-    ensures wrote { let tick = play (Event.Tick count) limit (machine_of W.held kernel.old) in
-        Wrote tells (K.written out.old) (K.written out.new) (with_ending Ending.Played tick) result }
+    ensures gathered { let tick = play (Event.Tick count) limit (machine_of W.held kernel.old) in
+        Gathered tells (text (K.written out.old) held.old.items) (text (K.written out.new) held.new.items) (with_ending Ending.Played tick) result }
     ensures machine { OnOk result (machine_of W.held kernel.new ≡ (play (Event.Tick count) limit (machine_of W.held kernel.old)).machine) }
     ensures sound { IsSound W.slot_count W.held kernel.new }
     ensures usable { IsUsable kernel.new }
@@ -60,7 +62,7 @@ fn play_tick<K: Sink, W: SwapStore>(
             // The store isn't used until pages can be out.
             Err(SwapFault) => unreachable!(),
         }
-        write_records(tells, kernel.last(), out)?;
+        gather_records(tells, kernel.last(), out, held)?;
     }
     kernel.end_turn();
     Ok(Ending::Played)
@@ -72,11 +74,12 @@ fn play_at_once<K: Sink, W: SwapStore>(
     event: Event,
     tells: Telling,
     out: &mut K,
+    held: &mut Held,
 ) -> Result<Ending, Failed>
     requires sound { IsSound W.slot_count W.held kernel.old }
     requires usable { IsUsable kernel.old }
-    ensures wrote { let done = event_done event (machine_of W.held kernel.old) in
-        Wrote tells (K.written out.old) (K.written out.new) (with_ending Ending.Played (reached done)) result }
+    ensures gathered { let done = event_done event (machine_of W.held kernel.old) in
+        Gathered tells (text (K.written out.old) held.old.items) (text (K.written out.new) held.new.items) (with_ending Ending.Played (reached done)) result }
     ensures machine { OnOk result (machine_of W.held kernel.new ≡ (event_done event (machine_of W.held kernel.old)).machine) }
     ensures sound { IsSound W.slot_count W.held kernel.new }
     ensures usable { IsUsable kernel.new }
@@ -85,7 +88,7 @@ fn play_at_once<K: Sink, W: SwapStore>(
     ensures never_falls { K.faults out.old ≤ K.faults out.new }
 {
     kernel.event_start(event);
-    write_records(tells, kernel.last(), out)?;
+    gather_records(tells, kernel.last(), out, held)?;
     Ok(Ending::Played)
 }
 
@@ -96,13 +99,14 @@ fn play_event<K: Sink, W: SwapStore>(
     tells: Telling,
     limit: u32,
     out: &mut K,
+    held: &mut Held,
 ) -> Result<Ending, Failed>
     requires sound { IsSound W.slot_count W.held kernel.old }
     requires usable { IsUsable kernel.old }
     requires limit { limit ≤ 4000000000 }
     requires within { (machine_of W.held kernel.old).steps ≤ limit }
-    ensures wrote { let played = play event limit (machine_of W.held kernel.old) in
-        Wrote tells (K.written out.old) (K.written out.new) (with_ending Ending.Played played) result }
+    ensures gathered { let played = play event limit (machine_of W.held kernel.old) in
+        Gathered tells (text (K.written out.old) held.old.items) (text (K.written out.new) held.new.items) (with_ending Ending.Played played) result }
     ensures machine { OnOk result (machine_of W.held kernel.new ≡ (play event limit (machine_of W.held kernel.old)).machine) }
     ensures sound { IsSound W.slot_count W.held kernel.new }
     ensures usable { IsUsable kernel.new }
@@ -112,9 +116,9 @@ fn play_event<K: Sink, W: SwapStore>(
     ensures never_falls { K.faults out.old ≤ K.faults out.new }
 {
     match event {
-        Event::Tick(count) => play_tick(kernel, count, tells, limit, out),
+        Event::Tick(count) => play_tick(kernel, count, tells, limit, out, held),
         Event::Pick(_, _) | Event::Irq(_) | Event::Kill(_) => play_at_once(
-            kernel, event, tells, out,
+            kernel, event, tells, out, held,
         ),
     }
 }
@@ -137,12 +141,13 @@ fn play_next<K: Sink, W: SwapStore>(
     tells: Telling,
     limit: u32,
     out: &mut K,
+    held: &mut Held,
 ) -> Result<Advance, Failed>
     requires sound { IsSound W.slot_count W.held kernel.old }
     requires usable { IsUsable kernel.old }
     requires limit { limit ≤ 4000000000 }
     requires within { (machine_of W.held kernel.old).steps ≤ limit }
-    ensures advances { (start : Machine) (begun : Option (List ℕ)) (taken : List ℕ) → HasPlayed tells limit start begun taken reader.old (machine_of W.held kernel.old) (K.written out.old) → Advances tells limit start begun taken reader.old.finished reader.new (machine_of W.held kernel.new) (K.written out.new) result }
+    ensures advances { (start : Machine) (begun : Text) (taken : List ℕ) → HasPlayed tells limit start begun taken reader.old (machine_of W.held kernel.old) (text (K.written out.old) held.old.items) → Advances tells limit start begun taken reader.old.finished reader.new (machine_of W.held kernel.new) (text (K.written out.new) held.new.items) result }
     ensures sound { IsSound W.slot_count W.held kernel.new }
     ensures usable { IsUsable kernel.new }
     ensures keeps { Keeps W.is_honest W.held W.slot_count W.asked W.faults kernel.old kernel.new }
@@ -159,7 +164,7 @@ fn play_next<K: Sink, W: SwapStore>(
     ensures never_falls { K.faults out.old ≤ K.faults out.new }
 {
     match reader.next() {
-        NextEvent::Event(event) => match play_event(kernel, event, tells, limit, out)? {
+        NextEvent::Event(event) => match play_event(kernel, event, tells, limit, out, held)? {
             Ending::Played => Ok(Advance::Played),
             ending => Ok(Advance::Ended(ending)),
         },
@@ -177,12 +182,13 @@ pub fn play_known<K: Sink, W: SwapStore>(
     tells: Telling,
     limit: u32,
     out: &mut K,
+    held: &mut Held,
 ) -> Result<Option<Ending>, Failed>
     requires sound { IsSound W.slot_count W.held kernel.old }
     requires usable { IsUsable kernel.old }
     requires limit { limit ≤ 4000000000 }
     requires within { (machine_of W.held kernel.old).steps ≤ limit }
-    ensures goes { (start : Machine) (begun : Option (List ℕ)) (taken : List ℕ) → HasPlayed tells limit start begun taken reader.old (machine_of W.held kernel.old) (K.written out.old) → Goes tells limit start begun taken reader.old.finished reader.new (machine_of W.held kernel.new) (K.written out.new) result }
+    ensures goes { (start : Machine) (begun : Text) (taken : List ℕ) → HasPlayed tells limit start begun taken reader.old (machine_of W.held kernel.old) (text (K.written out.old) held.old.items) → Goes tells limit start begun taken reader.old.finished reader.new (machine_of W.held kernel.new) (text (K.written out.new) held.new.items) result }
     ensures sound { IsSound W.slot_count W.held kernel.new }
     ensures usable { IsUsable kernel.new }
     ensures keeps { Keeps W.is_honest W.held W.slot_count W.asked W.faults kernel.old kernel.new }
@@ -195,7 +201,7 @@ pub fn play_known<K: Sink, W: SwapStore>(
     ensures never_falls { K.faults out.old ≤ K.faults out.new }
 {
     'answers: loop {
-        match play_next(kernel, reader, tells, limit, out)? {
+        match play_next(kernel, reader, tells, limit, out, held)? {
             Advance::Played => {}
             Advance::Waits => return Ok(None),
             Advance::Ended(ending) => return Ok(Some(ending)),

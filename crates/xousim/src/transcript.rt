@@ -1,4 +1,4 @@
-//! What is told as records come, and the last line.
+//! What is told as records come is gathered, and what is told at the end is written.
 
 ghost use Rattle.std.specs.Prelude.{◌≡◌, ◌≤◌, true, OnOk, OnErr};
 ghost use Rattle.xk_base.specs.Outside.{Rose};
@@ -6,10 +6,12 @@ ghost use Rattle.xk_ports.specs.Told.{Grows, GrowsByPrefix};
 ghost use Rattle.trace_text.specs.Lines.{line_of, end_line_of};
 ghost use Rattle.xk_kernel.specs.Sound.{IsSound, IsUsable};
 ghost use Rattle.xk_kernel.specs.State.{machine_of};
+ghost use Rattle.xousim.specs.Gathering.{Gathers, GathersPart, text};
 ghost use Rattle.xousim.specs.Telling.{closing, console_byte, last_line, told, told_of};
 
 use crate::command::Telling;
 use crate::ending::Ending;
+use crate::gathering::{Held, gather};
 use crate::table::write_table;
 use arrayvec::ArrayVec;
 use trace_text::{EndWord, end_line, line};
@@ -17,27 +19,27 @@ use xk_base::{Failed, Rec, What};
 use xk_kernel::Kernel;
 use xk_ports::{Sink, SwapStore, put_all};
 
-/// Writes the line of a record.
-fn write_record<K: Sink>(rec: &Rec, out: &mut K) -> Result<(), Failed>
-    ensures appended { OnOk result (Grows (K.written out.old) (K.written out.new) (line_of rec.now)) }
-    ensures front { OnErr result (GrowsByPrefix (K.written out.old) (K.written out.new) (line_of rec.now)) }
+/// Gathers the line of a record.
+fn gather_record<K: Sink>(rec: &Rec, out: &mut K, held: &mut Held) -> Result<(), Failed>
+    ensures gathered { OnOk result (Gathers (text (K.written out.old) held.old.items) (text (K.written out.new) held.new.items) (line_of rec.now)) }
+    ensures front { OnErr result (GathersPart (text (K.written out.old) held.old.items) (text (K.written out.new) held.new.items) (line_of rec.now)) }
     ensures cause { OnErr result (Rose (K.faults out.old) (K.faults out.new)) }
     ensures never_falls { K.faults out.old ≤ K.faults out.new }
 {
     let mut text = ArrayVec::new();
     line(rec, &mut text);
-    put_all(out, text.as_slice())
+    gather(text.as_slice(), out, held)
 }
 
-/// Writes the byte that went to the console, if one did.
-fn write_byte<K: Sink>(what: &What, out: &mut K) -> Result<(), Failed>
-    ensures appended { OnOk result (Grows (K.written out.old) (K.written out.new) (console_byte what.now)) }
-    ensures front { OnErr result (GrowsByPrefix (K.written out.old) (K.written out.new) (console_byte what.now)) }
+/// Gathers the byte that went to the console, if one did.
+fn gather_byte<K: Sink>(what: &What, out: &mut K, held: &mut Held) -> Result<(), Failed>
+    ensures gathered { OnOk result (Gathers (text (K.written out.old) held.old.items) (text (K.written out.new) held.new.items) (console_byte what.now)) }
+    ensures front { OnErr result (GathersPart (text (K.written out.old) held.old.items) (text (K.written out.new) held.new.items) (console_byte what.now)) }
     ensures cause { OnErr result (Rose (K.faults out.old) (K.faults out.new)) }
     ensures never_falls { K.faults out.old ≤ K.faults out.new }
 {
     match *what {
-        What::Byte(_, byte) => put_all(out, &[byte]),
+        What::Byte(_, byte) => gather(&[byte], out, held),
         What::Call(_, _)
         | What::Reply(_, _)
         | What::Retry(_)
@@ -48,29 +50,39 @@ fn write_byte<K: Sink>(what: &What, out: &mut K) -> Result<(), Failed>
     }
 }
 
-/// Writes what is told as a record comes.
-fn write_told<K: Sink>(tells: Telling, rec: &Rec, out: &mut K) -> Result<(), Failed>
-    ensures appended { OnOk result (Grows (K.written out.old) (K.written out.new) (told_of tells rec.now)) }
-    ensures front { OnErr result (GrowsByPrefix (K.written out.old) (K.written out.new) (told_of tells rec.now)) }
+/// Gathers what is told as a record comes.
+fn gather_told<K: Sink>(
+    tells: Telling,
+    rec: &Rec,
+    out: &mut K,
+    held: &mut Held,
+) -> Result<(), Failed>
+    ensures gathered { OnOk result (Gathers (text (K.written out.old) held.old.items) (text (K.written out.new) held.new.items) (told_of tells rec.now)) }
+    ensures front { OnErr result (GathersPart (text (K.written out.old) held.old.items) (text (K.written out.new) held.new.items) (told_of tells rec.now)) }
     ensures cause { OnErr result (Rose (K.faults out.old) (K.faults out.new)) }
     ensures never_falls { K.faults out.old ≤ K.faults out.new }
 {
     match tells {
-        Telling::Trace => write_record(rec, out),
-        Telling::Run => write_byte(&rec.what, out),
+        Telling::Trace => gather_record(rec, out, held),
+        Telling::Run => gather_byte(&rec.what, out, held),
         Telling::Ledger => Ok(()),
     }
 }
 
-/// Writes what is told as records come, in order.
-pub fn write_records<K: Sink>(tells: Telling, records: &[Rec], out: &mut K) -> Result<(), Failed>
-    ensures appended { OnOk result (Grows (K.written out.old) (K.written out.new) (told tells records.now)) }
-    ensures front { OnErr result (GrowsByPrefix (K.written out.old) (K.written out.new) (told tells records.now)) }
+/// Gathers what is told as records come, in order.
+pub fn gather_records<K: Sink>(
+    tells: Telling,
+    records: &[Rec],
+    out: &mut K,
+    held: &mut Held,
+) -> Result<(), Failed>
+    ensures gathered { OnOk result (Gathers (text (K.written out.old) held.old.items) (text (K.written out.new) held.new.items) (told tells records.now)) }
+    ensures front { OnErr result (GathersPart (text (K.written out.old) held.old.items) (text (K.written out.new) held.new.items) (told tells records.now)) }
     ensures cause { OnErr result (Rose (K.faults out.old) (K.faults out.new)) }
     ensures never_falls { K.faults out.old ≤ K.faults out.new }
 {
     for rec in records {
-        write_told(tells, rec, out)?;
+        gather_told(tells, rec, out, held)?;
     }
     Ok(())
 }

@@ -7,9 +7,10 @@ use Rattle.xk_base.specs.declared.limits.TheConstants.{EVENT_FILE_LIMIT}
 use Rattle.xk_ports.specs.Told.{Consumes}
 use Rattle.xk_ports.specs.declared.host.FileSlot.TheVariants.{Second}
 use Rattle.xousim.specs.declared.ending.Ending.{Ending}
+use Rattle.xousim.specs.Gathering.{put}
 use Rattle.xousim.specs.Playing.{Goes, HasPlayed}
 use Rattle.xousim.proofs.KeptLemmas.{kept_after, kept_same}
-use Rattle.xousim.proofs.PlayingLemmas.{played_none, played_end, whole_lines_played, file_ends, file_fails}
+use Rattle.xousim.proofs.PlayingLemmas.{played_none, played_end, whole_lines_played, file_ends, file_ends_with, file_fails}
 use Rattle.xousim.proofs.ToldLemmas.{Consumes-none, Consumes-append, consumed_whole, consumed_rest, nothing_left}
 use Rattle.xousim.proofs.event_file.play_file.Goals as goal
 
@@ -23,9 +24,9 @@ pub pieces-init : goal.pieces-init
 pieces-init g c =
     let m : Machine = machine_of g.W.SwapStore.held c.args.kernel.now in
     let out = g.K.Sink.written c.args.out.now in
-    let P : Reader → Type 0 = λ r. HasPlayed c.args.tells c.args.limit m out [] r m out in
+    let P : Reader → Type 0 = λ r. HasPlayed c.args.tells c.args.limit m (put out) [] r m (put out) in
     record {
-      front = ([], Consumes-none (g.H.Host.left c.args.host.now Second), subst P (sym c.new-reader.ensures) (played_none c.args.tells c.args.limit m out));
+      front = ([], Consumes-none (g.H.Host.left c.args.host.now Second), subst P (sym c.new-reader.ensures) (played_none c.args.tells c.args.limit m (put out)));
       waits = new_waits c.new-reader.result c.new-reader.ensures;
       inside = new_inside c.new-reader.result c.new-reader.ensures;
       sound = c.requires.sound;
@@ -56,12 +57,12 @@ returns-in-Ok-Some-clause-runs g c =
     let begun = g.K.Sink.written c.args.out.now in
     let mid = g.K.Sink.written c.pieces.out in
     let m : Machine = machine_of g.W.SwapStore.held c.pieces.kernel in
-    let next : Machine = machine_of g.W.SwapStore.held c.play_known.new.kernel in
-    let out = g.K.Sink.written c.play_known.new.out in
-    let P : Reader → Type 0 = λ r. HasPlayed c.args.tells c.args.limit start begun front.0 r m mid in
-    let q : P c.finish.new.self = subst P (sym c.finish.ensures) (played_end c.args.tells c.args.limit start m begun mid front.0 c.pieces.reader front.2) in
-    let Q : Option Ending → Type 0 = λ o. Goes c.args.tells c.args.limit start begun front.0 c.finish.new.self.finished c.play_known.new.reader next out (Ok o) in
-    let ends = file_ends c.args.tells c.args.limit start next begun out front.0 c.finish.new.self.finished c.in-Ok-Some.ending (subst Q c.in-Ok-Some.field-0-is (c.in-Ok-Some.ensures.goes start begun front.0 q)) in (
+    let next : Machine = machine_of g.W.SwapStore.held c.play_end.new.kernel in
+    let out = g.K.Sink.written c.play_end.new.out in
+    let P : Reader → Type 0 = λ r. HasPlayed c.args.tells c.args.limit start (put begun) front.0 r m (put mid) in
+    let q : P c.finish.new.self = subst P (sym c.finish.ensures) (played_end c.args.tells c.args.limit start m (put begun) (put mid) front.0 c.pieces.reader front.2) in
+    let Q : Option Ending → Type 0 = λ o. Goes c.args.tells c.args.limit start (put begun) front.0 c.finish.new.self.finished c.play_end.new.reader next (put out) (Ok o) in
+    let ends = file_ends c.args.tells c.args.limit start next begun out front.0 c.finish.new.self.finished c.in-Ok-Some.ending (subst Q c.in-Ok-Some.field-0-is (c.in-Ok-Some.ensures.goes start (put begun) front.0 q)) in (
       front.0,
       consumed_whole (g.H.Host.left c.args.host.now Second) (g.H.Host.left c.pieces.host Second) front.0 front.1
           (nothing_left (g.H.Host.left c.pieces.host Second) c.in-Ok.count c.in-Ok.ensures.end c.if-count-eq0.true),
@@ -76,14 +77,14 @@ returns-in-Err-clause-runs g c =
     let begun = g.K.Sink.written c.args.out.now in
     let mid = g.K.Sink.written c.pieces.out in
     let m : Machine = machine_of g.W.SwapStore.held c.pieces.kernel in
-    let out = g.K.Sink.written c.play_known.new.out in
-    let P : Reader → Type 0 = λ r. HasPlayed c.args.tells c.args.limit start begun front.0 r m mid in
-    let q : P c.finish.new.self = subst P (sym c.finish.ensures) (played_end c.args.tells c.args.limit start m begun mid front.0 c.pieces.reader front.2) in (
+    let out = g.K.Sink.written c.play_end.new.out in
+    let P : Reader → Type 0 = λ r. HasPlayed c.args.tells c.args.limit start (put begun) front.0 r m (put mid) in
+    let q : P c.finish.new.self = subst P (sym c.finish.ensures) (played_end c.args.tells c.args.limit start m (put begun) (put mid) front.0 c.pieces.reader front.2) in (
       front.0,
       consumed_whole (g.H.Host.left c.args.host.now Second) (g.H.Host.left c.pieces.host Second) front.0 front.1
           (nothing_left (g.H.Host.left c.pieces.host Second) c.in-Ok.count c.in-Ok.ensures.end c.if-count-eq0.true),
       file_fails c.args.tells c.args.limit start begun out front.0 c.finish.new.self.finished c.in-Err.field-0
-          (c.in-Err.ensures.goes start begun front.0 q),
+          (c.in-Err.ensures.goes start (put begun) front.0 q),
     )
 
 pub pieces-preserved : goal.pieces-preserved
@@ -95,12 +96,12 @@ pieces-preserved g c =
     let out = g.K.Sink.written c.play_piece.new.out in
     let piece : List ℕ = take c.in-Ok.count c.read.new.into in
     let waits = c.in-Ok-None-play_piece.ensures.waits (ap (λ (o : Option Ending). Ok o) c.in-Ok-None-play_piece.field-0-is) in
-    let Q : Option Ending → Type 0 = λ o. Goes c.args.tells c.args.limit start begun (front.0 ++ piece) false c.play_piece.new.reader next out (Ok o) in
+    let Q : Option Ending → Type 0 = λ o. Goes c.args.tells c.args.limit start (put begun) (front.0 ++ piece) false c.play_piece.new.reader next (put out) (Ok o) in
     record {
       front = (
         front.0 ++ piece,
         Consumes-append (g.H.Host.left c.args.host.now Second) (g.H.Host.left c.pieces.host Second) (g.H.Host.left c.read.new.self Second) front.0 piece front.1 c.in-Ok.ensures.taken,
-        subst Q c.in-Ok-None-play_piece.field-0-is (c.in-Ok-None-play_piece.ensures.goes start begun front.0 front.2),
+        subst Q c.in-Ok-None-play_piece.field-0-is (c.in-Ok-None-play_piece.ensures.goes start (put begun) front.0 front.2),
       );
       waits = waits.0;
       inside = waits.1;
@@ -123,9 +124,10 @@ returns-in-Ok-Some-play_piece-clause-runs g c =
     let piece : List ℕ = take c.in-Ok.count c.read.new.into in
     let used = Consumes-append (g.H.Host.left c.args.host.now Second) (g.H.Host.left c.pieces.host Second) (g.H.Host.left c.read.new.self Second) front.0 piece front.1 c.in-Ok.ensures.taken in
     let rest = consumed_rest (g.H.Host.left c.args.host.now Second) (g.H.Host.left c.read.new.self Second) (front.0 ++ piece) used in
-    let Q : Option Ending → Type 0 = λ o. Goes c.args.tells c.args.limit start begun (front.0 ++ piece) false c.play_piece.new.reader (machine_of g.W.SwapStore.held c.play_piece.new.kernel) (g.K.Sink.written c.play_piece.new.out) (Ok o) in
-    let all : Q (Some c.in-Ok-Some-play_piece.ending) = subst Q c.in-Ok-Some-play_piece.field-0-is (c.in-Ok-Some-play_piece.ensures.goes start begun front.0 front.2) in
-    let ends = all rest.0 (λ e. cc) in
+    let Q : Option Ending → Type 0 = λ o. Goes c.args.tells c.args.limit start (put begun) (front.0 ++ piece) false c.play_piece.new.reader (machine_of g.W.SwapStore.held c.play_piece.new.kernel) (put (g.K.Sink.written c.play_piece.new.out)) (Ok o) in
+    let all : Q (Some c.in-Ok-Some-play_piece.ending) = subst Q c.in-Ok-Some-play_piece.field-0-is (c.in-Ok-Some-play_piece.ensures.goes start (put begun) front.0 front.2) in
+    let ends = file_ends_with c.args.tells c.args.limit start (machine_of g.W.SwapStore.held c.play_piece.new.kernel) begun (g.K.Sink.written c.play_piece.new.out) (front.0 ++ piece) rest.0 false c.in-Ok-Some-play_piece.ending
+    (λ e. cc) all in
     ((front.0 ++ piece) ++ rest.0, rest.1, ends.0, ends.1)
 
 pub returns-in-Ok-Some-play_piece-clause-end : goal.returns-in-Ok-Some-play_piece-clause-end
@@ -139,4 +141,4 @@ returns-in-Err-play_piece-clause-runs g c =
     let piece : List ℕ = take c.in-Ok.count c.read.new.into in
     let used = Consumes-append (g.H.Host.left c.args.host.now Second) (g.H.Host.left c.pieces.host Second) (g.H.Host.left c.read.new.self Second) front.0 piece front.1 c.in-Ok.ensures.taken in
     let rest = consumed_rest (g.H.Host.left c.args.host.now Second) (g.H.Host.left c.read.new.self Second) (front.0 ++ piece) used in
-    ((front.0 ++ piece) ++ rest.0, rest.1, c.in-Err-play_piece.ensures.goes start begun front.0 front.2 rest.0 (λ e. cc))
+    ((front.0 ++ piece) ++ rest.0, rest.1, c.in-Err-play_piece.ensures.goes start (put begun) front.0 front.2 rest.0 (λ e. cc))

@@ -5,6 +5,7 @@ use Rattle.xk_kernel.specs.State.{machine_of}
 use Rattle.xk_base.specs.declared.limits.TheConstants.{EVENT_FILE_LIMIT}
 use Rattle.xk_ports.specs.Told.{Consumes}
 use Rattle.xk_ports.specs.declared.host.FileSlot.TheVariants.{First, Second}
+use Rattle.xousim.specs.Gathering.{put}
 use Rattle.xousim.specs.Playing.{HasPlayed}
 use Rattle.xousim.proofs.event_file.play_file.Given as goal
 
@@ -12,7 +13,7 @@ use Rattle.xousim.proofs.event_file.play_file.Given as goal
 abbrev pub invariant-pieces : goal.invariant-pieces
 invariant-pieces g l = record {
   front : (taken : List ℕ) × Consumes (g.H.Host.left l.fn.host Second) (g.H.Host.left l.host Second) taken
-      × HasPlayed l.tells l.limit (machine_of g.W.SwapStore.held l.fn.kernel) (g.K.Sink.written l.fn.out) taken l.reader (machine_of g.W.SwapStore.held l.kernel) (g.K.Sink.written l.out);
+      × HasPlayed l.tells l.limit (machine_of g.W.SwapStore.held l.fn.kernel) (put (g.K.Sink.written l.fn.out)) taken l.reader (machine_of g.W.SwapStore.held l.kernel) (put (g.K.Sink.written l.out));
   waits : IsWaiting l.reader;
   inside : l.reader.start + length l.reader.held ≤ EVENT_FILE_LIMIT;
   sound : IsSound g.W.SwapStore.slot_count g.W.SwapStore.held l.kernel;

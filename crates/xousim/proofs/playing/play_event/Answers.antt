@@ -5,11 +5,12 @@ use Rattle.xk_kernel.specs.State.{machine_of}
 use Rattle.xk_kernel.specs.Stepping.{event_done}
 use Rattle.xousim.specs.declared.ending.Ending.TheVariants.{Played}
 use Rattle.xousim.specs.History.{with_ending}
-use Rattle.xousim.proofs.HistoryLemmas.{play_other, wrote_same, ok_machine, ok_within}
+use Rattle.xousim.proofs.HistoryLemmas.{play_other, gathered_same, ok_machine, ok_within}
+use Rattle.xousim.specs.Gathering.{text}
 use Rattle.xousim.proofs.playing.play_event.Goals as goal
 
-pub returns-in-Tick-clause-wrote : goal.returns-in-Tick-clause-wrote
-returns-in-Tick-clause-wrote g c = rw c.in-Tick.is c.play_tick.ensures.wrote
+pub returns-in-Tick-clause-gathered : goal.returns-in-Tick-clause-gathered
+returns-in-Tick-clause-gathered g c = rw c.in-Tick.is c.play_tick.ensures.gathered
 
 pub returns-in-Tick-clause-machine : goal.returns-in-Tick-clause-machine
 returns-in-Tick-clause-machine g c = rw c.in-Tick.is c.play_tick.ensures.machine
@@ -21,8 +22,8 @@ returns-in-Pick g c =
     let done : History = reached (event_done c.args.event m) in
     let same : play c.args.event c.args.limit m ≡ done = play_other c.args.event c.args.limit m c.in-Pick.is in
     record {
-      wrote = wrote_same c.args.tells (g.K.Sink.written c.args.out.now) (g.K.Sink.written c.play_at_once.new.out) (with_ending Played (play c.args.event c.args.limit m)) (with_ending Played done) c.play_at_once.result
-          (ap (with_ending Played) same) c.play_at_once.ensures.wrote;
+      gathered = gathered_same c.args.tells (text (g.K.Sink.written c.args.out.now) c.args.held.now.items) (text (g.K.Sink.written c.play_at_once.new.out) c.play_at_once.new.held.items) (with_ending Played (play c.args.event c.args.limit m)) (with_ending Played done) c.play_at_once.result
+          (ap (with_ending Played) same) c.play_at_once.ensures.gathered;
       machine = ok_machine c.play_at_once.result next (event_done c.args.event m).machine (play c.args.event c.args.limit m).machine (sym (ap (λ (h : History). h.machine) same)) c.play_at_once.ensures.machine;
       sound = c.play_at_once.ensures.sound;
       usable = c.play_at_once.ensures.usable;

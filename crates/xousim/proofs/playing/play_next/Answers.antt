@@ -12,16 +12,17 @@ use Rattle.xousim.specs.declared.playing.Advance.{Advance}
 use Rattle.xousim.specs.declared.playing.Advance.TheVariants.{Ended}
 use Rattle.xousim.specs.Playing.{HasPlayed}
 use Rattle.xousim.proofs.PlayingLemmas.{played_event, played_no_event, ends_bad, ends_whole, ends_event, fails_event, advances_err}
+use Rattle.xousim.specs.Gathering.{text}
 use Rattle.xousim.proofs.playing.play_next.Goals as goal
 
 pub returns-in_err-ending-in-Event-clause-advances : goal.returns-in_err-ending-in-Event-clause-advances
 returns-in_err-ending-in-Event-clause-advances g c = λ start begun taken p.
     let r : Reader = c.args.reader.now in
     let m : Machine = machine_of g.W.SwapStore.held c.args.kernel.now in
-    let mid = g.K.Sink.written c.args.out.now in
-    let out = g.K.Sink.written c.play_event.new.out in
+    let mid = text (g.K.Sink.written c.args.out.now) c.args.held.now.items in
+    let out = text (g.K.Sink.written c.play_event.new.out) c.play_event.new.held.items in
     advances_err c.args.tells c.args.limit start begun taken r.finished c.next.new.self (machine_of g.W.SwapStore.held c.play_event.new.kernel) out c.from_residual.result c.from_residual.ensures.0
-    (λ failed. fails_event c.args.tells c.args.limit start m begun mid out taken r c.in-Event.event failed (sym c.in-Event.ensures.answer) c.in_err-ending-in-Event.ensures.wrote p)
+    (λ failed. fails_event c.args.tells c.args.limit start m begun mid out taken r c.in-Event.event failed (sym c.in-Event.ensures.answer) c.in_err-ending-in-Event.ensures.gathered p)
 
 pub returns-in_err-ending-in-Event-clause-finished : goal.returns-in_err-ending-in-Event-clause-finished
 returns-in_err-ending-in-Event-clause-finished g c = ap (λ (r : Reader). r.finished) c.next.ensures.after ∙ next_finished c.args.reader.now
@@ -31,9 +32,9 @@ returns-in-Played-clause-advances g c = λ start begun taken p.
     let r : Reader = c.args.reader.now in
     let m : Machine = machine_of g.W.SwapStore.held c.args.kernel.now in
     let next : Machine = machine_of g.W.SwapStore.held c.play_event.new.kernel in
-    let mid = g.K.Sink.written c.args.out.now in
-    let out = g.K.Sink.written c.play_event.new.out in
-    let w = c.in_ok-ending-in-Event.ensures.wrote in
+    let mid = text (g.K.Sink.written c.args.out.now) c.args.held.now.items in
+    let out = text (g.K.Sink.written c.play_event.new.out) c.play_event.new.held.items in
+    let w = c.in_ok-ending-in-Event.ensures.gathered in
     let P : Reader → Type 0 = λ x. HasPlayed c.args.tells c.args.limit start begun taken x next out in
     subst P (sym c.next.ensures.after)
     (played_event c.args.tells c.args.limit start m next begun mid out taken r c.in-Event.event (sym c.in-Event.ensures.answer) p
@@ -51,10 +52,10 @@ returns-in_default g c = record {
       let r : Reader = c.args.reader.now in
       let m : Machine = machine_of g.W.SwapStore.held c.args.kernel.now in
       let next : Machine = machine_of g.W.SwapStore.held c.play_event.new.kernel in
-      let mid = g.K.Sink.written c.args.out.now in
-      let out = g.K.Sink.written c.play_event.new.out in
+      let mid = text (g.K.Sink.written c.args.out.now) c.args.held.now.items in
+      let out = text (g.K.Sink.written c.play_event.new.out) c.play_event.new.held.items in
       ends_event c.args.tells c.args.limit start m next begun mid out taken r c.in-Event.event c.in_ok-ending-in-Event.ending (sym c.in-Event.ensures.answer)
-      c.in_default.not-Played c.in_ok-ending-in-Event.ensures.wrote c.in_ok-ending-in-Event.ensures.machine p;
+      c.in_default.not-Played c.in_ok-ending-in-Event.ensures.gathered c.in_ok-ending-in-Event.ensures.machine p;
   sound = c.play_event.ensures.sound;
   usable = c.play_event.ensures.usable;
   keeps = c.play_event.ensures.keeps;
@@ -71,7 +72,7 @@ returns-in_default g c = record {
 pub returns-in-More-clause-advances : goal.returns-in-More-clause-advances
 returns-in-More-clause-advances g c = λ start begun taken p.
     let m : Machine = machine_of g.W.SwapStore.held c.args.kernel.now in
-    let out = g.K.Sink.written c.args.out.now in
+    let out = text (g.K.Sink.written c.args.out.now) c.args.held.now.items in
     let P : Reader → Type 0 = λ x. HasPlayed c.args.tells c.args.limit start begun taken x m out in
     subst P (sym c.next.ensures.after)
     (played_no_event c.args.tells c.args.limit start m begun out taken c.args.reader.now (ap (λ (n : NextEvent). events_in n) (sym c.in-More.ensures.answer)) p)
@@ -81,14 +82,14 @@ returns-in-More-clause-finished g c = ap (λ (r : Reader). r.finished) c.next.en
 
 pub returns-in-Bad-clause-advances : goal.returns-in-Bad-clause-advances
 returns-in-Bad-clause-advances g c = λ start begun taken p.
-    ends_bad c.args.tells c.args.limit start (machine_of g.W.SwapStore.held c.args.kernel.now) begun (g.K.Sink.written c.args.out.now) taken c.args.reader.now c.in-Bad.line (sym c.in-Bad.ensures.answer) p
+    ends_bad c.args.tells c.args.limit start (machine_of g.W.SwapStore.held c.args.kernel.now) begun (text (g.K.Sink.written c.args.out.now) c.args.held.now.items) taken c.args.reader.now c.in-Bad.line (sym c.in-Bad.ensures.answer) p
 
 pub returns-in-Bad-clause-finished : goal.returns-in-Bad-clause-finished
 returns-in-Bad-clause-finished g c = ap (λ (r : Reader). r.finished) c.next.ensures.after ∙ next_finished c.args.reader.now
 
 pub returns-in-End-clause-advances : goal.returns-in-End-clause-advances
 returns-in-End-clause-advances g c = λ start begun taken p.
-    ends_whole c.args.tells c.args.limit start (machine_of g.W.SwapStore.held c.args.kernel.now) begun (g.K.Sink.written c.args.out.now) taken c.args.reader.now (sym c.in-End.ensures.answer) p
+    ends_whole c.args.tells c.args.limit start (machine_of g.W.SwapStore.held c.args.kernel.now) begun (text (g.K.Sink.written c.args.out.now) c.args.held.now.items) taken c.args.reader.now (sym c.in-End.ensures.answer) p
 
 pub returns-in-End-clause-finished : goal.returns-in-End-clause-finished
 returns-in-End-clause-finished g c = ap (λ (r : Reader). r.finished) c.next.ensures.after ∙ next_finished c.args.reader.now

@@ -1,4 +1,4 @@
-use Rattle.std.proofs.Common.{◌≡◌, ◌≤◌, ◌-◌, Option, List, ℕ, Result}
+use Rattle.std.proofs.Common.{◌≡◌, ◌≤◌, ◌-◌, Result}
 use Rattle.xk_base.specs.declared.errors.Failed.{Failed}
 use Rattle.xousim.specs.declared.ending.Ending.{Ending}
 use Rattle.event_text.specs.declared.event.Event.TheVariants.{Tick}
@@ -7,15 +7,15 @@ use Rattle.xousim.specs.declared.ending.Ending.TheVariants.{Played}
 use Rattle.xousim.specs.History.{with_ending}
 use Rattle.xk_kernel.specs.Sound.{IsSound, IsUsable, Keeps}
 use Rattle.xk_kernel.specs.State.{machine_of}
-use Rattle.xousim.specs.Writing.{Wrote}
+use Rattle.xousim.specs.Gathering.{Gathered, Text, text}
 use Rattle.xousim.proofs.playing.play_tick.Given as goal
 
 -- Whatever is written for the rest completes the whole.
 abbrev pub invariant-steps : goal.invariant-steps
 invariant-steps g l = record {
-  rest : (result : Result Ending Failed) (after : Option (List ℕ))
-      → Wrote l.tells (g.K.Sink.written l.out) after (with_ending Played (play (Tick (l.count - l.done)) l.limit (machine_of g.W.SwapStore.held l.kernel))) result
-      → Wrote l.tells (g.K.Sink.written l.fn.out) after (with_ending Played (play (Tick l.count) l.limit (machine_of g.W.SwapStore.held l.fn.kernel))) result;
+  rest : (result : Result Ending Failed) (after : Text)
+      → Gathered l.tells (text (g.K.Sink.written l.out) l.held.items) after (with_ending Played (play (Tick (l.count - l.done)) l.limit (machine_of g.W.SwapStore.held l.kernel))) result
+      → Gathered l.tells (text (g.K.Sink.written l.fn.out) l.fn.held.items) after (with_ending Played (play (Tick l.count) l.limit (machine_of g.W.SwapStore.held l.fn.kernel))) result;
   machine : (play (Tick (l.count - l.done)) l.limit (machine_of g.W.SwapStore.held l.kernel)).machine
       ≡ (play (Tick l.count) l.limit (machine_of g.W.SwapStore.held l.fn.kernel)).machine;
   later : g.K.Sink.faults l.fn.out ≤ g.K.Sink.faults l.out;

@@ -1,0 +1,80 @@
+-- Telling, one piece after another, while what is told is gathered.
+use Rattle.std.proofs.Common.{◌≡◌, ℕ, List, [], ◌++◌, Option, Result, Ok, Err, sym, ap, ◌∙◌, append_assoc, append-nil}
+use Rattle.xk_base.specs.declared.errors.Failed.{Failed}
+use Rattle.xk_ports.specs.Told.{Grows, GrowsByPrefix}
+use Rattle.xk_ports.proofs.ToldLemmas.{Grows-append, Grows-none}
+use Rattle.xousim.specs.declared.command.Telling.{Telling}
+use Rattle.xousim.specs.declared.ending.Ending.{Ending}
+use Rattle.xousim.specs.Gathering.{Gathered, Gathers, GathersPart, Text, put, text}
+use Rattle.xousim.specs.History.{History}
+use Rattle.xousim.specs.Writing.{Wrote}
+
+-- nothing is told
+pub gathers_none : (on : Text) → Gathers on on []
+gathers_none on = record { front = []; cut = append-nil on.held; grown = Grows-none on.out }
+
+-- one after the other: the first is held, then the second
+held_on : (held one other xs ys p q : List ℕ) → held ++ xs ≡ p ++ one → one ++ ys ≡ q ++ other → held ++ (xs ++ ys) ≡ (p ++ q) ++ other
+held_on held one other xs ys p q first second =
+    sym (append_assoc held xs ys)
+    ∙ (ap (λ (l : List ℕ). l ++ ys) first
+    ∙ (append_assoc p one ys
+    ∙ (ap (λ (l : List ℕ). p ++ l) second
+    ∙ sym (append_assoc p q other))))
+
+pub gathers_append : (before mid after : Text) (xs ys : List ℕ) → Gathers before mid xs → Gathers mid after ys → Gathers before after (xs ++ ys)
+gathers_append before mid after xs ys first second = record {
+  front = first.front ++ second.front;
+  cut = held_on before.held mid.held after.held xs ys first.front second.front first.cut second.cut;
+  grown = Grows-append before.out mid.out after.out first.front second.front first.grown second.grown;
+}
+
+-- a whole text, and then a front of what comes behind it
+pub part_later : (before mid after : Text) (xs ys : List ℕ) → Gathers before mid xs → GathersPart mid after ys → GathersPart before after (xs ++ ys)
+part_later before mid after xs ys first second = (
+  first.front ++ second.0,
+  second.1,
+  held_on before.held mid.held second.1 xs ys first.front second.0 first.cut second.2,
+  Grows-append before.out mid.out after.out first.front second.0 first.grown second.3,
+)
+
+-- a front of some text is a front of it with more behind it
+pub part_longer : (before after : Text) (xs ys : List ℕ) → GathersPart before after xs → GathersPart before after (xs ++ ys)
+part_longer before after xs ys part = (
+  part.0,
+  part.1 ++ ys,
+  sym (append_assoc before.held xs ys) ∙ (ap (λ (l : List ℕ). l ++ ys) part.2 ∙ append_assoc part.0 part.1 ys),
+  part.3,
+)
+
+-- a front of what comes after
+pub part_after : (before mid after : Text) (xs ys zs : List ℕ) → Gathers before mid xs → GathersPart mid after ys → GathersPart before after (xs ++ (ys ++ zs))
+part_after before mid after xs ys zs first second = part_later before mid after xs (ys ++ zs) first (part_longer mid after ys zs second)
+
+-- ---- what is held is put
+
+-- all of it
+pub gathers_put : (before : Text) (out after : Option (List ℕ)) (held xs : List ℕ) → Gathers before (text out held) xs → Grows out after held → Gathers before (put after) xs
+gathers_put before out after held xs first grown = record {
+  front = first.front ++ held;
+  cut = first.cut ∙ sym (append-nil (first.front ++ held));
+  grown = Grows-append before.out out after first.front held first.grown grown;
+}
+
+-- .. or a front of it
+pub gathers_unput : (before : Text) (out after : Option (List ℕ)) (held xs : List ℕ) → Gathers before (text out held) xs → GrowsByPrefix out after held → GathersPart before (put after) xs
+gathers_unput before out after held xs first front = (
+  first.front ++ front.0,
+  front.1,
+  first.cut ∙ (ap (λ (l : List ℕ). first.front ++ l) front.2 ∙ sym (append_assoc first.front front.0 front.1)),
+  Grows-append before.out out after first.front front.0 first.grown front.3,
+)
+
+-- where all was put before and after, what was told was written
+pub all_put : (tells : Telling) (before after : Option (List ℕ)) (h : History) (result : Result Ending Failed) → Gathered tells (put before) (put after) h result → Wrote tells before after h result
+all_put tells before after h (Ok ending) gathered =
+    (gathered.0, subst_grown before after gathered.1.front _ (gathered.1.cut ∙ append-nil gathered.1.front) gathered.1.grown)
+  where
+    subst_grown : (old new : Option (List ℕ)) (front all : List ℕ) → all ≡ front → Grows old new front → Grows old new all
+    subst_grown old new front all is grown = rw is grown
+all_put tells before after h (Err failed) part = part

@@ -1,0 +1,36 @@
+-- Text on its way to a sink: what stands on the sink, and behind it what is gathered and not put yet.
+use Rattle.std.specs.Prelude.{◌≡◌, ℕ, List, [], ◌++◌, Option, Result, Ok, Err}
+use Rattle.xk_base.specs.declared.errors.Failed.{Failed}
+use Rattle.xk_ports.specs.Told.{Grows, GrowsByPrefix}
+use Rattle.xousim.specs.declared.command.Telling.{Telling}
+use Rattle.xousim.specs.declared.ending.Ending.{Ending}
+use Rattle.xousim.specs.History.{History}
+use Rattle.xousim.specs.Telling.{told}
+
+-- what stands on the sink, where it is told, and what is held for it
+pub record Text : Type 0 where
+  pub out : Option (List ℕ)
+  pub held : List ℕ
+
+abbrev pub text : Option (List ℕ) → List ℕ → Text
+text out held = record { out = out; held = held }
+
+-- all was put
+abbrev pub put : Option (List ℕ) → Text
+put out = text out []
+
+-- these bytes were told: a front of what was held and of them was put, and the rest is held
+pub record Gathers (before after : Text) (told : List ℕ) : Type 0 where
+  pub front : List ℕ
+  pub cut : before.held ++ told ≡ front ++ after.held
+  pub grown : Grows before.out after.out front
+
+-- .. but the sink failed: of what was held and of these bytes a part from the front was put
+abbrev pub GathersPart : Text → Text → List ℕ → Type 0
+GathersPart before after told = GrowsByPrefix before.out after.out (before.held ++ told)
+
+-- what is told as the records of a history come, where it was played to this ending; a part from the front of that, where
+-- the sink failed
+abbrev pub Gathered : Telling → Text → Text → History → Result Ending Failed → Type 0
+Gathered tells before after h (Ok ending) = (h.ending ≡ ending) × Gathers before after (told tells h.records)
+Gathered tells before after h (Err failed) = GathersPart before after (told tells h.records)
