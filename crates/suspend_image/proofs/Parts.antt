@@ -2,6 +2,7 @@
 pub mod ClaimLemmas
 pub mod ConnectionLemmas
 pub mod EachThreadLemmas
+pub mod HolderLemmas
 pub mod JoiningLemmas
 pub mod KeyLemmas
 pub mod NextLemmas

@@ -32,7 +32,7 @@ pub use matching::{
     are_numbers_stepped, are_processes_limited, are_processes_matched, are_receivers_matched,
     are_thread_ids_matched, are_threads_right, is_timer_matched,
 };
-pub use page_matching::{are_heaps_matched, are_homes_living};
+pub use page_matching::{are_heaps_matched, are_holders_living, are_homes_living};
 pub use reading::read_state;
 pub use rows::{write_claim, write_message, write_orphan_words, write_page_words, write_thread};
 pub use sender_matching::are_senders_matched;

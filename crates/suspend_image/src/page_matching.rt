@@ -7,7 +7,7 @@ ghost use Rattle.suspend_image.specs.declared.state.OrphanRow.{OrphanRow as AnOr
 ghost use Rattle.suspend_image.specs.Rows.{page_key};
 ghost use Rattle.suspend_image.specs.Machines.{processes_of, ledger_of};
 ghost use Rattle.suspend_image.specs.Parts.{AscendInTwo, is_heap_whole};
-ghost use Rattle.suspend_image.specs.PageParts.{is_heap_page as is_heap_page_of, is_below_heap as is_below_heap_of, is_home_living as is_home_living_of};
+ghost use Rattle.suspend_image.specs.PageParts.{is_heap_page as is_heap_page_of, is_below_heap as is_below_heap_of, is_home_living as is_home_living_of, is_holder_living as is_holder_living_of, AreHoldersLiving};
 
 use crate::matching::{are_heaps_whole, is_alive};
 use crate::state::{PageRow, ProcRow};
@@ -83,4 +83,24 @@ pub fn are_homes_living(procs: &[ProcRow], pages: &[PageRow]) -> bool
     ensures { (file : List ℕ) (orphans : List AnOrphan) → IsTrue result ↔ AreHomesLiving (processes_of procs.now) (ledger_of file pages.now orphans) }
 {
     all_homes_living(procs, pages)
+}
+
+fn is_holder_living(procs: &[ProcRow], page: &PageRow) -> bool
+    ensures { result ≡ is_holder_living_of procs.now page.now }
+{
+    page.kind == 0 || is_alive(procs, page.holder_pid)
+}
+
+fn all_holders_living(procs: &[ProcRow], pages: &[PageRow]) -> bool
+    ensures { result ≡ list_all (is_holder_living_of procs.now) pages.now }
+{
+    pages.iter().all(|page| is_holder_living(procs, page))
+}
+
+/// Part 1, of the pages on loan: each has its holder's place in a living process.
+pub fn are_holders_living(procs: &[ProcRow], pages: &[PageRow]) -> bool
+    requires { AscendInTwo page_key pages.now }
+    ensures { (file : List ℕ) (orphans : List AnOrphan) → IsTrue result ↔ AreHoldersLiving (processes_of procs.now) (ledger_of file pages.now orphans) }
+{
+    all_holders_living(procs, pages)
 }

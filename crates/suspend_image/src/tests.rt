@@ -7,7 +7,7 @@ use crate::matching::{
     are_processes_limited, are_processes_matched, are_receivers_matched, are_thread_ids_matched,
     are_threads_right, is_timer_matched,
 };
-use crate::page_matching::{are_heaps_matched, are_homes_living};
+use crate::page_matching::{are_heaps_matched, are_holders_living, are_homes_living};
 use crate::reading::read_state;
 use crate::sender_matching::are_senders_matched;
 use crate::server_matching::{are_next_above, are_servers_matched};
@@ -105,6 +105,7 @@ fn servers_and_pages_of_small_state_are_told(rt: HostRuntime) {
             let servers = state.servers.as_slice();
             let pages = state.pages.as_slice();
             assert!(rt; are_heaps_matched(procs, pages) && are_homes_living(procs, pages));
+            assert!(rt; are_holders_living(procs, pages));
             assert!(rt;
                 are_processes_matched(state.n, procs) && are_servers_matched(procs, servers)
             );
