@@ -1,8 +1,10 @@
 pub mod Forms
 pub mod Machines
+pub mod PageParts
 pub mod Parts
 pub mod Reading
 pub mod Rows
+pub mod ServerParts
 pub mod Sheets
 pub mod Spelling
 pub mod StateFaults

@@ -1,6 +1,6 @@
 -- Parts of the invariant of the machine, as far as the rows of one kind decide them.
-use Rattle.std.specs.Prelude.{◌≡◌, ℕ, ◌%◌, ◌≤◌, ◌==◌, ◌&&◌, ◌||◌, not, nat_le, nat_lt, Bool, IsTrue, IsFalse, List, [], length, Option, Some, None}
-use Rattle.std.specs.List.{list_any}
+use Rattle.std.specs.Prelude.{◌≡◌, ℕ, ◌%◌, ◌≤◌, ◌==◌, ◌&&◌, ◌||◌, not, nat_le, nat_lt, Bool, true, IsTrue, IsFalse, List, [], ◌∷◌, length, Option, Some, None}
+use Rattle.std.specs.List.{list_any, list_all}
 use Rattle.xk_base.specs.declared.ids.Pid.{Pid}
 use Rattle.xk_base.specs.declared.limits.TheConstants.{PAGE_SIZE, CONNECTION_LIMIT}
 use Rattle.xk_base.specs.declared.ids.ThreadId.{ThreadId}
@@ -75,6 +75,15 @@ is_heap_whole p = p.heap % 4096 == 0 && nat_le p.heap 16777216
 -- it has at most 32 connections, and neither a connection nor a heap where it is dead
 abbrev pub is_within_limits : ProcRow → Bool
 is_within_limits p = nat_le (length p.serials) 32 && (p.alive == 1 || (p.heap == 0 && length p.serials == 0))
+
+-- no serial stands twice
+abbrev pub are_apart : List ℕ → Bool
+are_apart [] = true
+are_apart (serial ∷ serials) = not (list_any (λ other. other == serial) serials) && are_apart serials
+
+-- at most 32 processes, within their limits, and of each no two connections lead to one server
+abbrev pub are_processes_told : ℕ → List ProcRow → Bool
+are_processes_told n procs = nat_le n 32 && (list_all is_within_limits procs && list_all (λ p. are_apart p.serials) procs)
 
 -- part 8 of processes, each for itself
 pub record AreProcessesLimited (process : ℕ → Process) : Type 0 where

@@ -3,13 +3,15 @@
 
 ghost use Rattle.std.specs.Prelude.{◌≡◌, ◌↔◌, ◌==◌, ◌%◌, ◌&&◌, ◌||◌, ◌≤◌, not, nat_lt, nat_le, length, IsTrue};
 ghost use Rattle.std.specs.List.{list_any, list_all};
-ghost use Rattle.machine_model.specs.Runs.Matched.{AreReceiversMatched, AreJoinersMatched, AreThreadIdsMatched, AreClaimsMatched, AreNextStepped, AreHandlersMatched, IsTimerMatched};
+ghost use Rattle.machine_model.specs.Runs.Matched.{AreProcessesMatched, AreReceiversMatched, AreJoinersMatched, AreThreadIdsMatched, AreClaimsMatched, AreNextStepped, AreHandlersMatched, IsTimerMatched};
 ghost use Rattle.suspend_image.specs.Rows.{thread_key, server_key, claim_key};
 ghost use Rattle.suspend_image.specs.Machines.{threads_of, servers_of, claims_of, pending_of, processes_of, compare_of};
-ghost use Rattle.suspend_image.specs.Parts.{has_threads as has_threads_of, is_served as is_served_of, AreLivingServed, Ascend, AscendInTwo, is_awaited as is_awaited_of, awaits_server as awaits_server_of, joins_another as joins_another_of, is_thread_living as is_thread_living_of, is_thread_right, is_claim_living as is_claim_living_of, is_heap_whole, is_within_limits as is_within_limits_of, AreThreadsRight, AreHeapsWhole, AreProcessesLimited};
+ghost use Rattle.suspend_image.specs.Parts.{are_apart as are_apart_of, are_processes_told as are_processes_told_of, has_threads as has_threads_of, is_served as is_served_of, AreLivingServed, Ascend, AscendInTwo, is_awaited as is_awaited_of, awaits_server as awaits_server_of, joins_another as joins_another_of, is_thread_living as is_thread_living_of, is_thread_right, is_claim_living as is_claim_living_of, is_heap_whole, is_within_limits as is_within_limits_of, AreThreadsRight, AreProcessesLimited};
 
 use crate::state::{ClaimRow, ProcRow, ServerRow, State, ThreadRow};
-use xk_base::limits::{CONNECTION_LIMIT, INTERRUPT_LIMIT, PAGE_SIZE, TID_LIMIT, TIMER_INTERRUPT};
+use xk_base::limits::{
+    CONNECTION_LIMIT, INTERRUPT_LIMIT, PAGE_SIZE, PROCESS_LIMIT, TID_LIMIT, TIMER_INTERRUPT,
+};
 
 /// The number of the state Receiving.
 const RECEIVING: u32 = 1;
@@ -38,7 +40,7 @@ fn are_handlers_whole(claims: &[ClaimRow]) -> bool
 }
 
 /// Whether each heap is of whole pages, up to 16 MiB.
-fn are_heaps_whole(procs: &[ProcRow]) -> bool
+pub fn are_heaps_whole(procs: &[ProcRow]) -> bool
     ensures { result ≡ list_all is_heap_whole procs.now }
 {
     procs.iter().all(|process| process.heap % PAGE_SIZE == 0 && process.heap <= HEAP_LIMIT)
@@ -116,7 +118,7 @@ pub fn are_joiners_matched(threads: &[ThreadRow]) -> bool
 }
 
 /// Whether there is a process of this pid, and it is alive.
-fn is_alive(procs: &[ProcRow], pid: u32) -> bool
+pub fn is_alive(procs: &[ProcRow], pid: u32) -> bool
     ensures { result ≡ (processes_of procs.now pid).alive }
 {
     if pid < 2 {
@@ -187,12 +189,46 @@ fn all_within_limits(procs: &[ProcRow]) -> bool
     procs.iter().all(|process| is_within_limits(process))
 }
 
+/// Whether no serial stands twice.
+fn are_apart(serials: &[u32]) -> bool
+    ensures { result ≡ are_apart_of serials.now }
+{
+    match serials.split_first() {
+        Some((first, rest)) => !rest.contains(first) && are_apart(rest),
+        None => true,
+    }
+}
+
 /// Part 8, of the processes, each for itself: at most 32 connections, and neither a connection nor a
 /// heap of a dead one.
 pub fn are_processes_limited(procs: &[ProcRow]) -> bool
     ensures { IsTrue result ↔ AreProcessesLimited (processes_of procs.now) }
 {
     all_within_limits(procs)
+}
+
+fn all_apart(procs: &[ProcRow]) -> bool
+    ensures { result ≡ list_all (λ p. are_apart_of p.serials) procs.now }
+{
+    procs
+        .iter()
+        .all(|process| are_apart(process.serials.as_slice()))
+}
+
+/// The limits are looked at first, so that few serials are compared.
+fn are_processes_told(n: u32, procs: &[ProcRow]) -> bool
+    ensures { result ≡ are_processes_told_of n procs.now }
+{
+    n <= PROCESS_LIMIT as u32 && all_within_limits(procs) && all_apart(procs)
+}
+
+/// Part 8, of the processes: at most 32, within their limits, and no two connections of one lead to
+/// one server.
+pub fn are_processes_matched(n: u32, procs: &[ProcRow]) -> bool
+    requires { length procs.now ≡ n }
+    ensures { IsTrue result ↔ AreProcessesMatched n (processes_of procs.now) }
+{
+    are_processes_told(n, procs)
 }
 
 /// Whether a process has a tid 1 that is Ready or Idle, and a thread above.
@@ -257,13 +293,6 @@ pub fn are_handlers_matched(claims: &[ClaimRow]) -> bool
     ensures { IsTrue result ↔ AreHandlersMatched (claims_of claims.now) }
 {
     are_handlers_whole(claims)
-}
-
-/// Part 7, of the processes: heaps are of whole pages, up to 16 MiB.
-pub fn are_heaps_matched(procs: &[ProcRow]) -> bool
-    ensures { IsTrue result ↔ AreHeapsWhole (processes_of procs.now) }
-{
-    are_heaps_whole(procs)
 }
 
 /// Part 8, of the next message and the next server: each number that was given took a step.

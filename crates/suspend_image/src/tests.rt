@@ -3,11 +3,14 @@
 
 use crate::faults::{NOT_STATE, STATE_CHECK, STATE_FORM, STATE_LENGTH, StateError};
 use crate::matching::{
-    are_claims_matched, are_handlers_matched, are_heaps_matched, are_joiners_matched,
-    are_numbers_stepped, are_processes_limited, are_receivers_matched, are_thread_ids_matched,
+    are_claims_matched, are_handlers_matched, are_joiners_matched, are_numbers_stepped,
+    are_processes_limited, are_processes_matched, are_receivers_matched, are_thread_ids_matched,
     are_threads_right, is_timer_matched,
 };
+use crate::page_matching::{are_heaps_matched, are_holders_living, are_homes_living};
 use crate::reading::read_state;
+use crate::sender_matching::are_senders_matched;
+use crate::server_matching::{are_next_above, are_servers_matched};
 use crate::sheet::Sheet;
 use crate::writing::write_state;
 use kernel_args::ArgFault;
@@ -80,7 +83,7 @@ fn parts_of_small_state_are_told(rt: HostRuntime) {
             let procs = state.procs.as_slice();
             let claims = state.claims.as_slice();
             let threads = state.threads.as_slice();
-            assert!(rt; are_heaps_matched(procs) && are_processes_limited(procs));
+            assert!(rt; are_processes_limited(procs));
             assert!(rt; are_claims_matched(procs, claims) && are_handlers_matched(claims));
             assert!(rt; are_receivers_matched(state.servers.as_slice(), threads));
             assert!(rt; are_joiners_matched(threads) && are_threads_right(threads));
@@ -88,6 +91,26 @@ fn parts_of_small_state_are_told(rt: HostRuntime) {
             assert!(rt; is_timer_matched(&state));
             // Nine messages were numbered in five steps.
             assert!(rt; !are_numbers_stepped(&state));
+        }
+        Err(_) => assert!(rt; false),
+    }
+}
+
+#[test]
+#[tactic(auto, using(crate::proofs::Parts::OrderLemmas::pages_ascend, crate::proofs::Parts::OrderLemmas::procs_counted, crate::proofs::Parts::OrderLemmas::threads_ascend, crate::proofs::Parts::OrderLemmas::servers_ascend))]
+fn servers_and_pages_of_small_state_are_told(rt: HostRuntime) {
+    match read_state(rt.alloc(), FILE.as_slice()) {
+        Ok(state) => {
+            let procs = state.procs.as_slice();
+            let servers = state.servers.as_slice();
+            let pages = state.pages.as_slice();
+            assert!(rt; are_heaps_matched(procs, pages) && are_homes_living(procs, pages));
+            assert!(rt; are_holders_living(procs, pages));
+            assert!(rt;
+                are_processes_matched(state.n, procs) && are_servers_matched(procs, servers)
+            );
+            assert!(rt; are_next_above(state.next_number, state.next_serial, procs, servers));
+            assert!(rt; are_senders_matched(state.threads.as_slice(), servers));
         }
         Err(_) => assert!(rt; false),
     }

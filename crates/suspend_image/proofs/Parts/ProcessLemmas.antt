@@ -21,7 +21,7 @@ row_at good rows pid default all =
     ]
 
 -- What a test of each row tells of each process.
-processes_told : (good : ProcRow → Bool) (P : Process → Type 0) → good no_process ≡ true → ((p : ProcRow) → IsTrue (good p) ↔ P (process_of p))
+pub processes_told : (good : ProcRow → Bool) (P : Process → Type 0) → good no_process ≡ true → ((p : ProcRow) → IsTrue (good p) ↔ P (process_of p))
     → (rows : List ProcRow) → IsTrue (list_all good rows) ↔ ((pid : ℕ) → P (processes_of rows pid))
 processes_told good P default tells rows = (
   λ all pid. (tells (cond (ltb pid 2) no_process (get_or rows (pid - 2) no_process))).0 (row_at good rows pid default all),
@@ -59,7 +59,7 @@ heaps_told rows told is =
 IsLimited : Process → Type 0
 IsLimited p = (length p.connections ≤ 32) × (IsFalse p.alive → p.connections ≡ []) × (IsFalse p.alive → p.heap ≡ 0)
 
-abbrev serial_of : ℕ → Serial
+abbrev pub serial_of : ℕ → Serial
 serial_of n = record { 0 = n }
 
 nothing_mapped : (serials : List ℕ) → map serial_of serials ≡ [] → length serials ≡ 0

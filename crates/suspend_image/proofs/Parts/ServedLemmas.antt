@@ -98,7 +98,7 @@ dead_row true e f = absurd cc
 dead_row false e f = absurd cc
 
 -- what is alive has a row
-alive_within : (procs : List ProcRow) (pid : ℕ) → (processes_of procs pid).alive ≡ true → (2 ≤ pid) × (pid - 2 < length procs)
+pub alive_within : (procs : List ProcRow) (pid : ℕ) → (processes_of procs pid).alive ≡ true → (2 ≤ pid) × (pid - 2 < length procs)
 alive_within procs pid alive =
     elim (cases_lt pid 2) [
       | inl low ↦ absurd (dead_row _ (sym alive) (ap (λ (b : Bool). (process_of (cond b no_process (get_or procs (pid - 2) no_process))).alive) (lt-ltb pid 2 low)))

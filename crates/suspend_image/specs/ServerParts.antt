@@ -1,0 +1,108 @@
+-- What the invariant of the machine asks of servers and their messages, as tests of the rows.
+use Rattle.std.specs.Prelude.{ℕ, ◌+◌, ◌==◌, ◌&&◌, ◌||◌, not, nat_le, nat_lt, nat_eq, if◌then◌else◌, Bool, List, length}
+use Rattle.std.specs.Cmp.Lexicographic.{pointwise}
+use Rattle.std.specs.List.{list_all, list_any, count_by}
+use Rattle.suspend_image.specs.declared.state.MessageRow.{MessageRow}
+use Rattle.suspend_image.specs.declared.state.ProcRow.{ProcRow}
+use Rattle.suspend_image.specs.declared.state.ServerRow.{ServerRow}
+use Rattle.suspend_image.specs.declared.state.ThreadRow.{ThreadRow}
+use Rattle.suspend_image.specs.declared.messages.Sought.{Sought}
+use Rattle.suspend_image.specs.declared.messages.Sought.TheVariants.{Numbered, SentAs}
+use Rattle.suspend_image.specs.Machines.{processes_of}
+
+-- a server of a living process
+abbrev pub is_server_living : List ProcRow → ServerRow → Bool
+is_server_living procs s = (processes_of procs s.pid).alive
+
+-- every message of it, queued or held, has one of 128 slots
+abbrev pub has_slots : ServerRow → Bool
+has_slots s = nat_le (length s.queued + length s.held) 128
+
+-- they are one server, or have two identifiers
+abbrev pub is_apart : ServerRow → ServerRow → Bool
+is_apart s t = s.serial == t.serial || not (pointwise nat_eq s.sid t.sid)
+
+-- all messages of a server pass a test
+abbrev pub all_messages : (MessageRow → Bool) → ServerRow → Bool
+all_messages good s = list_all good s.queued && list_all good s.held
+
+-- its serial is below the next one, and the numbers of its messages below the next number
+abbrev pub is_below_next : ℕ → ℕ → ServerRow → Bool
+is_below_next number serial s = nat_lt s.serial serial && all_messages (λ m. nat_lt m.number number) s
+
+-- all serials of a process's connections are below the next one
+abbrev pub leads_below : ℕ → ProcRow → Bool
+leads_below serial p = list_all (λ s. nat_lt s serial) p.serials
+
+-- ---- one message among all
+
+-- a message of this number, and as that of a thread, which is its sender
+abbrev pub is_numbered : ℕ → MessageRow → Bool
+is_numbered number m = m.number == number
+
+abbrev pub is_sent_as : ℕ → ℕ → ℕ → MessageRow → Bool
+is_sent_as number pid tid m = m.number == number && (not (m.sender_pid == 0) && (pid == m.sender_pid && tid == m.sender_tid))
+
+-- what is looked for among messages
+abbrev pub is_sought : Sought → MessageRow → Bool
+is_sought (Numbered number) = is_numbered number
+is_sought (SentAs number pid tid) = is_sent_as number pid tid
+
+-- how many messages of a server pass a test
+abbrev pub many_at : (MessageRow → Bool) → ServerRow → ℕ
+many_at good s = count_by good s.queued + count_by good s.held
+
+-- it is this server, or has no such message
+abbrev pub is_without : (MessageRow → Bool) → ServerRow → ServerRow → Bool
+is_without good s t = t.serial == s.serial || many_at good t == 0
+
+-- exactly one message of all servers passes the test
+abbrev pub has_one : (MessageRow → Bool) → List ServerRow → Bool
+has_one good rows = list_any (λ s. many_at good s == 1 && list_all (is_without good s) rows) rows
+
+-- each message of a server is the one of its number
+abbrev pub is_alone : List ServerRow → MessageRow → Bool
+is_alone rows m = has_one (is_numbered m.number) rows
+
+abbrev pub are_all_alone : List ServerRow → Bool
+are_all_alone rows = list_all (all_messages (is_alone rows)) rows
+
+-- there are few servers, with slots for their messages, of living processes, and no two have one identifier
+abbrev pub are_few_apart : List ProcRow → List ServerRow → Bool
+are_few_apart procs rows =
+    nat_le (length rows) 64 && (list_all has_slots rows && (list_all (is_server_living procs) rows && list_all (λ s. list_all (is_apart s) rows) rows))
+
+-- ---- senders
+
+-- a thread that is Waiting is the sender of exactly one message of that number
+abbrev pub is_sender : List ServerRow → ThreadRow → Bool
+is_sender rows t = not (t.state == 2) || has_one (is_sent_as t.waits t.pid t.tid) rows
+
+-- a thread is Waiting for a message of this number
+abbrev pub is_waiting_for : MessageRow → ThreadRow → Bool
+is_waiting_for m t = (t.pid == m.sender_pid && t.tid == m.sender_tid) && (t.state == 2 && t.waits == m.number)
+
+-- a message has no sender, or one that is Waiting for it
+abbrev pub is_waited_for : List ThreadRow → MessageRow → Bool
+is_waited_for threads m = m.sender_pid == 0 || list_any (is_waiting_for m) threads
+
+-- it is to be answered: a lend of either kind or a blocking scalar
+abbrev pub is_to_answer : MessageRow → Bool
+is_to_answer m = m.kind == 1 || (m.kind == 2 || m.kind == 5)
+
+-- it has a sender exactly where it is to be answered
+abbrev pub is_queueable : MessageRow → Bool
+is_queueable m = if m.sender_pid == 0 then not (is_to_answer m) else is_to_answer m
+
+-- it carries pages, or has no first page and no count
+abbrev pub is_sized : MessageRow → Bool
+is_sized m = m.kind == 1 || (m.kind == 2 || (m.kind == 3 || (m.first == 0 && m.count == 0)))
+
+-- the messages of a server are queued, held and sized as their kinds say
+abbrev pub are_messages_right : ServerRow → Bool
+are_messages_right s = list_all is_queueable s.queued && (list_all is_to_answer s.held && all_messages is_sized s)
+
+-- they are, their senders wait, and who waits is a sender
+abbrev pub are_senders_told : List ThreadRow → List ServerRow → Bool
+are_senders_told threads rows =
+    list_all are_messages_right rows && (list_all (all_messages (is_waited_for threads)) rows && list_all (is_sender rows) threads)
