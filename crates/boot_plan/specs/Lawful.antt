@@ -23,7 +23,7 @@ pub record IsLawfulProcess (file_len : ℕ) (p : ProcPlan) : Type 0 where
 -- Memory can hold the first pages of the plan, with their bytes from a file of this many bytes.
 pub record IsLawfulPlan (file_len : ℕ) (plan : BootPlan) : Type 0 where
   pub some : 1 ≤ length plan.procs
-  pub few : length plan.procs ≤ 32
+  pub few : length plan.procs ≤ 64
   pub tables : table_frames (length plan.procs) + 2 ≤ plan.frames
   pub frames : plan.frames ≤ 16384
   pub start_whole : plan.ram_start % 4096 ≡ 0

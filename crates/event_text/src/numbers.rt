@@ -6,8 +6,8 @@ ghost use Rattle.event_text.specs.EventFile.{only_number};
 
 use crate::words::next_word;
 
-/// The number that one to ten decimal digits spell.
-fn read_digits(word: &[u8]) -> Option<u64>
+/// The number that one to ten decimal digits spell, or None for every other text.
+pub fn read_digits(word: &[u8]) -> Option<u64>
     ensures found { IsSome result → is_number word.now ≡ true }
     ensures none { IsNone result → is_number word.now ≡ false }
     ensures value { IfSome result (λ n. n ≡ number_after 0 word.now) }

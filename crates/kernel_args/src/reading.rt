@@ -17,7 +17,7 @@ use crate::names::append_names;
 use crate::process::process_of;
 use crate::tag::{TagAt, front_tag};
 use std::alloc::Global;
-use xk_base::limits::PROCESS_LIMIT;
+use xk_base::limits::FIRST_PROCESS_LIMIT;
 use xk_base::{NoMemory, Row};
 
 impl From<NoMemory> for ArgsError {
@@ -52,7 +52,7 @@ fn read_tag(
         return Err(fault(BAD_CHECK, at));
     }
     if tag.name == b"IniE".as_slice() {
-        if procs.as_slice().len() >= PROCESS_LIMIT as usize {
+        if procs.as_slice().len() >= FIRST_PROCESS_LIMIT as usize {
             return Err(fault(TOO_MANY_PROCESSES, at));
         }
         match process_of(alloc, tag.contents)? {

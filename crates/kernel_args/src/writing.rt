@@ -10,7 +10,7 @@ use crate::appending::{append_tag, header_contents, names_contents, process_cont
 use crate::args::{Args, KNOWN_FLAGS, ProcArgs, ProcName, Section};
 use crate::header::{HEADER_SIZE, is_bad_ram};
 use std::alloc::Global;
-use xk_base::limits::{PROCESS_LIMIT, SECTION_LIMIT};
+use xk_base::limits::{FIRST_PROCESS_LIMIT, SECTION_LIMIT};
 use xk_base::{NoMemory, Row};
 
 /// The size above that of any contents in bytes: a length field has 16 bits and counts words.
@@ -113,7 +113,7 @@ fn names_tag_size(names: &[ProcName]) -> Option<usize>
 fn is_process_count(count: usize) -> bool
     ensures { IsTrue result ↔ ((1 ≤ count) × (count ≤ 32)) }
 {
-    (1..=PROCESS_LIMIT as usize).contains(&count)
+    (1..=FIRST_PROCESS_LIMIT as usize).contains(&count)
 }
 
 /// Whether the arguments can be written: each section's size is below 2^24, the row of tags has

@@ -99,19 +99,19 @@ module _ (s : ℕ → Option Server) (all : Loans) (lent : AreLoansMatched all s
       by_orphan p (Some orphan) q = ap (λ b. if b then Some orphan else None) (strange orphan.number (lent.orphans_sent p orphan q))
 
 -- an id of some processes is one of as many as there can be
-pub known_of_all : (n : ℕ) (id : ThreadId) → n ≤ 32 → is_thread_id n id ≡ true → is_thread_id 32 id ≡ true
+pub known_of_all : (n : ℕ) (id : ThreadId) → n ≤ 64 → is_thread_id n id ≡ true → is_thread_id 64 id ≡ true
 known_of_all n id few e =
     let parts : (is_pid n id.pid.0 ≡ true) × (is_tid id.tid.0 ≡ true) = and_parts (is_pid n id.pid.0) (is_tid id.tid.0) e in
-    and_from (is_pid 32 id.pid.0) (is_tid id.tid.0) (pid_of_all id.pid.0 parts.0) parts.1
+    and_from (is_pid 64 id.pid.0) (is_tid id.tid.0) (pid_of_all id.pid.0 parts.0) parts.1
   where
-    pid_of_all : (p : ℕ) → is_pid n p ≡ true → is_pid 32 p ≡ true
+    pid_of_all : (p : ℕ) → is_pid n p ≡ true → is_pid 64 p ≡ true
     pid_of_all p q =
         let b : (2 ≤ p) × (p < n + 2) = is_pid-bounds n p q in
         let low : 2 ≤ p = b.0 in
         let high : p < n + 2 = b.1 in
         and_from (nat_le 2 p) (nat_lt p 34) (le-leb 2 p low) (lt-ltb p 34 (omega arith))
 
-pub known_pid_of_all : (n p : ℕ) → n ≤ 32 → is_pid n p ≡ true → is_pid 32 p ≡ true
+pub known_pid_of_all : (n p : ℕ) → n ≤ 64 → is_pid n p ≡ true → is_pid 64 p ≡ true
 known_pid_of_all n p few q =
     let b : (2 ≤ p) × (p < n + 2) = is_pid-bounds n p q in
     let low : 2 ≤ p = b.0 in
@@ -168,10 +168,10 @@ module _ (m : Machine) (matched : Matched m) (t : Servers) (q : List Seat) (same
           → (o : Option ThreadId) → (get_or (messages_at (seat_of q v.seat)) j d).msg.sender ≡ o
           → HasKnownSender (get_or (messages_at (seat_of q v.seat)) j d)
       known n v e j d low None is =
-          subst (λ (o : Option ThreadId). IfSome o (λ id. (is_thread_id 32 id ≡ true) × (is_answered (get_or (messages_at (seat_of q v.seat)) j d).msg.kind ≡ true)))
+          subst (λ (o : Option ThreadId). IfSome o (λ id. (is_thread_id 64 id ≡ true) × (is_answered (get_or (messages_at (seat_of q v.seat)) j d).msg.kind ≡ true)))
           (sym is) tt
       known n v e j d low (Some id) is =
-          subst (λ (o : Option ThreadId). IfSome o (λ w. (is_thread_id 32 w ≡ true) × (is_answered (get_or (messages_at (seat_of q v.seat)) j d).msg.kind ≡ true)))
+          subst (λ (o : Option ThreadId). IfSome o (λ w. (is_thread_id 64 w ≡ true) × (is_answered (get_or (messages_at (seat_of q v.seat)) j d).msg.kind ≡ true)))
           (sym is) (
             known_of_all m.processes id shown_matched.body.processes.few
                 (of_shown (λ (x : Message). (w : ThreadId) → x.sender ≡ Some w → is_thread_id m.processes w ≡ true) (messages_at (seat_of q v.seat))
@@ -196,7 +196,7 @@ module _ {W : Type 0} (slot_count : W → ℕ) (held : W → HeldBytes) (who : T
   abbrev m0 : Machine
   m0 = with_parts held who old sound.machine
 
-  pub few_processes : process_count old.tables.threads ≤ 32
+  pub few_processes : process_count old.tables.threads ≤ 64
   unfolding with_parts with_tables
   few_processes = sound.matched.body.processes.few
 

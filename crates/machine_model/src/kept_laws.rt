@@ -37,7 +37,7 @@ pub fn start_is_matched()
 
 /// The small machine from which the worked rows start is matched.
 pub fn small_machine_is_matched()
-    ensures { (n : ℕ) → n ≤ 32 → Matched (small_machine n) }
+    ensures { (n : ℕ) → n ≤ 64 → Matched (small_machine n) }
 {}
 
 /// Where steps keep the cursor, all that leads from a state to the next does.

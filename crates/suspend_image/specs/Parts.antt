@@ -81,9 +81,9 @@ abbrev pub are_apart : List ℕ → Bool
 are_apart [] = true
 are_apart (serial ∷ serials) = not (list_any (λ other. other == serial) serials) && are_apart serials
 
--- at most 32 processes, within their limits, and of each no two connections lead to one server
+-- at most 64 processes, within their limits, and of each no two connections lead to one server
 abbrev pub are_processes_told : ℕ → List ProcRow → Bool
-are_processes_told n procs = nat_le n 32 && (list_all is_within_limits procs && list_all (λ p. are_apart p.serials) procs)
+are_processes_told n procs = nat_le n 64 && (list_all is_within_limits procs && list_all (λ p. are_apart p.serials) procs)
 
 -- part 8 of processes, each for itself
 pub record AreProcessesLimited (process : ℕ → Process) : Type 0 where

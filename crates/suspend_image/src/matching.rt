@@ -222,7 +222,7 @@ fn are_processes_told(n: u32, procs: &[ProcRow]) -> bool
     n <= PROCESS_LIMIT as u32 && all_within_limits(procs) && all_apart(procs)
 }
 
-/// Part 8, of the processes: at most 32, within their limits, and no two connections of one lead to
+/// Part 8, of the processes: at most 64, within their limits, and no two connections of one lead to
 /// one server.
 pub fn are_processes_matched(n: u32, procs: &[ProcRow]) -> bool
     requires { length procs.now ≡ n }

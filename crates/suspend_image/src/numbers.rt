@@ -6,10 +6,7 @@ ghost use Rattle.suspend_image.specs.Rows.{numbers_at, timer_at, reserved_at};
 
 use crate::broken::Broken;
 use crate::words::{GREATEST, word, word_if, word_in};
-use xk_base::limits::{STEP_LIMIT, TID_LIMIT};
-
-/// The most processes that a state can have.
-const STATE_PROCESS_LIMIT: u64 = 64;
+use xk_base::limits::{PROCESS_LIMIT, STEP_LIMIT, TID_LIMIT};
 
 /// What a state counts, and whose turn it is.
 #[derive(Clone, Copy, Debug)]
@@ -44,7 +41,7 @@ pub fn front_numbers(bytes: &[u8]) -> Result<(Numbers, &[u8]), Broken>
     ensures { Gives (λ x. (x.0, x.1.now)) result (numbers_at bytes.now) }
 {
     let (cap, rest) = word(bytes)?;
-    let (n, rest) = word_in(1, STATE_PROCESS_LIMIT, rest)?;
+    let (n, rest) = word_in(1, PROCESS_LIMIT as u64, rest)?;
     let (steps, rest) = word_in(0, STEP_LIMIT as u64, rest)?;
     let (cursor_pid, rest) = word_in(2, n as u64 + 1, rest)?;
     let (cursor_tid, rest) = word_in(1, TID_LIMIT as u64, rest)?;

@@ -17,7 +17,7 @@ pub record IsSound {W : Type 0} (slot_count : W → ℕ) (m : Memory W) : Type 0
   -- the counts are those of the owner table, and the limits hold
   pub procs : m.procs ≡ processes m
   pub slots : m.slots ≡ (extent m.owners).slots
-  pub few : processes m ≤ 32
+  pub few : processes m ≤ 64
   pub few_slots : m.slots ≤ 16384
   pub tables : table_frames (processes m) + 2 ≤ (area m.ram).frames
   pub placed : IsPlaced (area m.ram)

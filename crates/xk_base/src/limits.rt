@@ -6,7 +6,10 @@ ghost use Rattle.xk_base.specs.Numbers.Limits.{AreLimits};
 pub const PAGE_SIZE: u32 = 4096;
 
 /// Processes of an image; their pids are 2 to `PROCESS_LIMIT + 1`.
-pub const PROCESS_LIMIT: u32 = 32;
+pub const PROCESS_LIMIT: u32 = 64;
+
+/// Processes of an image of version 1.
+pub const FIRST_PROCESS_LIMIT: u32 = 32;
 
 /// The greatest thread id of a process; ids begin at 1, the interrupt thread.
 pub const TID_LIMIT: u8 = 31;

@@ -183,23 +183,23 @@ pub blank_orphan : (m : Machine) → IsBlank (orphan_line_in m) (is_orphan m)
 blank_orphan m place none = no_orphan_no_line m.processes m.ledger place none
 
 -- the places of as many processes as there can be list all pages
-pub all_pages : (m : Machine) → Matched m → m.processes ≤ 32 → listed_text (page_line_in m) (is_home m) 654848 ≡ pages_text m
+pub all_pages : (m : Machine) → Matched m → m.processes ≤ 64 → listed_text (page_line_in m) (is_home m) 1309696 ≡ pages_text m
 unfolding pages_text home_places listed_places
 all_pages m matched few =
-    let whole : 654848 ≡ (654848 - 20464 * m.processes) + 20464 * m.processes = omega arith in
+    let whole : 1309696 ≡ (1309696 - 20464 * m.processes) + 20464 * m.processes = omega arith in
     ap (listed_text (page_line_in m) (is_home m)) whole
-    ∙ text_ends (page_line_in m) (is_home m) (blank_page m) (20464 * m.processes) (654848 - 20464 * m.processes)
+    ∙ text_ends (page_line_in m) (is_home m) (blank_page m) (20464 * m.processes) (1309696 - 20464 * m.processes)
     (no_home_past m.processes m.capacity m.ledger matched.body.ledger.lawful)
 
-pub all_orphans : (m : Machine) → Matched m → m.processes ≤ 32 → listed_text (orphan_line_in m) (is_orphan m) 654848 ≡ orphans_text m
+pub all_orphans : (m : Machine) → Matched m → m.processes ≤ 64 → listed_text (orphan_line_in m) (is_orphan m) 1309696 ≡ orphans_text m
 unfolding orphans_text orphan_places listed_places
 all_orphans m matched few =
-    let whole : 654848 ≡ (654848 - 20464 * m.processes) + 20464 * m.processes = omega arith in
+    let whole : 1309696 ≡ (1309696 - 20464 * m.processes) + 20464 * m.processes = omega arith in
     ap (listed_text (orphan_line_in m) (is_orphan m)) whole
-    ∙ text_ends (orphan_line_in m) (is_orphan m) (blank_orphan m) (20464 * m.processes) (654848 - 20464 * m.processes)
+    ∙ text_ends (orphan_line_in m) (is_orphan m) (blank_orphan m) (20464 * m.processes) (1309696 - 20464 * m.processes)
     (no_orphan_past m.processes m.capacity m.ledger matched.body.ledger.lawful)
 
 -- a kernel has few processes
-pub few_processes : {W : Type 0} (slot_count : W → ℕ) (held : W → Held) (k : Kernel W) → IsSound slot_count held k → (machine_of held k).processes ≤ 32
+pub few_processes : {W : Type 0} (slot_count : W → ℕ) (held : W → Held) (k : Kernel W) → IsSound slot_count held k → (machine_of held k).processes ≤ 64
 unfolding machine_of
 few_processes slot_count held k sound = sound.whole.mem.few

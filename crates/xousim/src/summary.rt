@@ -68,7 +68,7 @@ fn total_line(plan: &BootPlan, file_len: u32) -> Line
 
 /// Writes the line of each process.
 fn write_processes<K: Sink>(processes: &[ProcPlan], out: &mut K) -> Result<(), Failed>
-    requires few { length processes.now ≤ 32 }
+    requires few { length processes.now ≤ 64 }
     requires pages { sum_by (λ p. length p.pages) processes.now < 2 ^ 32 }
     ensures appended { OnOk result (Grows (K.written out.old) (K.written out.new) (process_lines 2 processes.now)) }
     ensures front { OnErr result (GrowsByPrefix (K.written out.old) (K.written out.new) (process_lines 2 processes.now)) }

@@ -39,7 +39,7 @@ fn page_at(number: u32) -> u32
 /// The user place of that number.
 #[tactic(auto, unfolding(ledger_model::specs::Places::place_at))]
 fn place_at(number: u32) -> Place
-    requires { number < 654848 }
+    requires { number < 1309696 }
     ensures { result ≡ place_at number }
 {
     Place {

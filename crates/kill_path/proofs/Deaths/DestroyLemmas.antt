@@ -124,14 +124,14 @@ module _ {W : Type 0} (slot_count : W → ℕ) (honest : W → Bool) (held : W �
   unfolding with_parts with_tables
   caller_ready = ready_there (threads_of old.tables.threads who) ready
 
-  pub caller_known : is_thread_id 32 who ≡ true
+  pub caller_known : is_thread_id 64 who ≡ true
   caller_known = known_of_all n who (few_processes slot_count held who old sound) (ready_id old.tables.threads who ready)
 
   shown_live : m0.servers s.0 ≡ Some (server_with (seat_of old.tables.queues v.seat) v)
   unfolding with_parts with_tables
   shown_live = ap (option_map (server_of old.tables.queues)) live
 
-  pub owner_known : is_pid 32 v.pid.0 ≡ true
+  pub owner_known : is_pid 64 v.pid.0 ≡ true
   unfolding with_parts with_tables
   owner_known =
       known_pid_of_all n v.pid.0 (few_processes slot_count held who old sound)
@@ -194,8 +194,8 @@ module _ {W : Type 0} (slot_count : W → ℕ) (honest : W → Bool) (held : W �
       same : v.pid ≡ pid
       same = same_Some v.pid pid (sym (ap (option_map (λ (w : TableServer). w.pid)) live) ∙ owner)
 
-  pub its_owner : (pid : Pid) → option_map (λ (w : TableServer). w.pid) ((servers_of old.tables.servers).live s.0) ≡ Some pid → is_pid 32 pid.0 ≡ true
-  its_owner pid owner = subst (λ (p : Pid). is_pid 32 p.0 ≡ true) (same_Some v.pid pid (sym (ap (option_map (λ (w : TableServer). w.pid)) live) ∙ owner)) owner_known
+  pub its_owner : (pid : Pid) → option_map (λ (w : TableServer). w.pid) ((servers_of old.tables.servers).live s.0) ≡ Some pid → is_pid 64 pid.0 ≡ true
+  its_owner pid owner = subst (λ (p : Pid). is_pid 64 p.0 ≡ true) (same_Some v.pid pid (sym (ap (option_map (λ (w : TableServer). w.pid)) live) ∙ owner)) owner_known
 
   module _ (new : Parts W) (noted : ThreadSet)
       (is_closed : AreClosed (λ k. k == s.0)

@@ -116,7 +116,7 @@ module _ {W : Type 0} (slot_count : W → ℕ) (held : W → Held) (pid : Pid) (
   unfolding with_all_parts with_parts with_tables
   pid_known = sound.matched.body.processes.pids pid (alive_shown (processes_of old.procs pid.0) alive)
 
-  pub few : n ≤ 32
+  pub few : n ≤ 64
   unfolding with_all_parts with_parts with_tables
   few = sound.matched.body.processes.few
 

@@ -40,7 +40,7 @@ awaited_is_sent pid h known = go h.msg.sender refl known
     none true = refl
     none false = refl
 
-    go : (o : Option ThreadId) → h.msg.sender ≡ o → IfSome o (λ id. (is_thread_id 32 id ≡ true) × (is_answered h.msg.kind ≡ true))
+    go : (o : Option ThreadId) → h.msg.sender ≡ o → IfSome o (λ id. (is_thread_id 64 id ≡ true) × (is_answered h.msg.kind ≡ true))
         → (is_answered h.msg.kind && option_map_or (λ (who : ThreadId). who.pid.0 == pid.0) o false) ≡ option_map_or (λ (who : ThreadId). who.pid.0 == pid.0) o false
     go None e k = none (is_answered h.msg.kind)
     go (Some who) e k = ap (λ b. b && (who.pid.0 == pid.0)) k.1

@@ -120,7 +120,7 @@ module _ (procs : ℕ) (a : Closable) (sound : AreServersSound procs (loans a.le
   pub all_from : AreFrom 2 a
   all_from n server e = (owner_bounds n server e).0
 
-  module _ (b : Closable) (few : procs ≤ 32) (closed : AreClosed (gone a b) a b) (left : AreOpen (loans b.ledger) b.servers b.seats) (from : AreFrom 34 b) where
+  module _ (b : Closable) (few : procs ≤ 64) (closed : AreClosed (gone a b) a b) (left : AreOpen (loans b.ledger) b.servers b.seats) (from : AreFrom 34 b) where
     none_left : (n : ℕ) → servers_shown b.servers b.seats n ≡ None
     none_left n = go (servers_shown b.servers b.seats n) refl (gone a b n) (sym (closed.servers n))
       where

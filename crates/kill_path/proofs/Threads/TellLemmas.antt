@@ -51,7 +51,7 @@ unanswered : (o : Option Thread) → option_map (with_answer None) o ≡ o
 unanswered None = refl
 unanswered (Some t) = refl
 
-module _ (n : ℕ) (answers : Answers) (known : (id : ThreadId) → is_some (answers id) ≡ true → is_thread_id n id ≡ true) (few : n ≤ 32) where
+module _ (n : ℕ) (answers : Answers) (known : (id : ThreadId) → is_some (answers id) ≡ true → is_thread_id n id ≡ true) (few : n ≤ 64) where
   none_unknown : (id : ThreadId) → is_thread_id n id ≡ false → answers id ≡ None
   none_unknown id e = go (answers id) refl
     where

@@ -277,7 +277,7 @@ small_thread n id t e = go (is_pid n id.pid.0) (id.tid.0 == 1) (id.tid.0 == 2) r
     go true false true p q r e = (p, inr (eqb-true id.tid.0 2 r))
     go true false false p q r e = absurd (none-some t e)
 
-small_is_start : (n : ℕ) → n ≤ 32 → IsStart (small_machine n)
+small_is_start : (n : ℕ) → n ≤ 64 → IsStart (small_machine n)
 unfolding small_machine
 small_is_start n few = record {
   few = few;
@@ -309,5 +309,5 @@ small_is_start n few = record {
   reserved = refl;
 }
 
-pub small_matched : (n : ℕ) → n ≤ 32 → Matched (small_machine n)
+pub small_matched : (n : ℕ) → n ≤ 64 → Matched (small_machine n)
 small_matched n few = start_matched (small_machine n) (small_is_start n few)

@@ -89,7 +89,7 @@ pub record IsEmpty {W : Type 0} (slot_count : W → ℕ) (m : Memory W) (procs f
   pub made : (pid : ℕ) → is_pid procs pid ≡ true → IsMade m.ram pid
   pub free : (q : Place) → is_user_place procs q ≡ true → entries procs m.ram q ≡ Some Free
   pub some : 1 ≤ procs
-  pub few : procs ≤ 32
+  pub few : procs ≤ 64
   pub tables : table_frames procs + 2 ≤ frames
   pub made_for : m.procs ≡ procs
   pub slots : m.slots ≡ 0

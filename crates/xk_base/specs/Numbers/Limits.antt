@@ -1,13 +1,14 @@
 -- The limits of the machine, each pinned to the number that it is, and what follows from them alone.
 use Rattle.std.specs.Prelude.{◌≡◌, ℕ, ◌*◌}
-use Rattle.xk_base.specs.declared.limits.TheConstants.{PAGE_SIZE, PROCESS_LIMIT, TID_LIMIT, SERVER_LIMIT, MESSAGE_LIMIT, CONNECTION_LIMIT, INTERRUPT_LIMIT, TABLE_FRAMES, FRAME_LIMIT, SLOT_LIMIT, IMAGE_LIMIT, SECTION_LIMIT, EVENT_LINE_LIMIT, EVENT_FILE_LIMIT, STEP_LIMIT, DEFAULT_STEPS, RECORD_LIMIT, CONSOLE_ADDRESS, TIMER_ADDRESS, TIMER_INTERRUPT}
+use Rattle.xk_base.specs.declared.limits.TheConstants.{PAGE_SIZE, PROCESS_LIMIT, FIRST_PROCESS_LIMIT, TID_LIMIT, SERVER_LIMIT, MESSAGE_LIMIT, CONNECTION_LIMIT, INTERRUPT_LIMIT, TABLE_FRAMES, FRAME_LIMIT, SLOT_LIMIT, IMAGE_LIMIT, SECTION_LIMIT, EVENT_LINE_LIMIT, EVENT_FILE_LIMIT, STEP_LIMIT, DEFAULT_STEPS, RECORD_LIMIT, CONSOLE_ADDRESS, TIMER_ADDRESS, TIMER_INTERRUPT}
 
 -- Definitions name the limits by the constants of src/limits.rt. These are their values.
 pub record AreLimits : Type 0 where
   -- bytes of a page and of a frame
   pub page_size : PAGE_SIZE ≡ 4096
-  -- processes of an image
-  pub processes : PROCESS_LIMIT ≡ 32
+  -- processes of an image, and of one of version 1
+  pub processes : PROCESS_LIMIT ≡ 64
+  pub first_processes : FIRST_PROCESS_LIMIT ≡ 32
   -- a thread's id is 1 to this; 1 is the interrupt thread
   pub tids : TID_LIMIT ≡ 31
   -- servers that are alive at one time

@@ -88,7 +88,7 @@ module _ {W : Type 0} (slot_count : W → ℕ) (held : W → Held) (old new : Ke
           let told : length did_tell ≤ thread_ids (told_by who (machine_of held old)).machine.processes + 3 =
           few_acted (record (machine_of held old) { cursor = who }) ((machine_of held old).threads who) in
           let procs : processes new.mem ≡ (told_by who (machine_of held old)).machine.processes = ap (λ (m : Machine). m.processes) h.done.machine in
-          let few : processes new.mem ≤ 32 = whole.mem.few in
+          let few : processes new.mem ≤ 64 = whole.mem.few in
           omega (arith, long, told, procs, few)
 
       -- what the timer makes of it

@@ -162,10 +162,10 @@ module _ {W : Type 0} (slot_count : W → ℕ) (held : W → Held) (k : Kernel W
     }
 
     -- the record that it is gone still fits
-    pub room_left : length k.log.records + 992 < k.log.room → length new.parts.tables.log.records < new.parts.tables.log.room
+    pub room_left : length k.log.records + 1984 < k.log.room → length new.parts.tables.log.records < new.parts.tables.log.room
     unfolding machine_of
     room_left fits =
-        let few : processes k.mem ≤ 32 = whole.mem.few in
+        let few : processes k.mem ≤ 64 = whole.mem.few in
         let told : length (replies (processes k.mem) (death pid m).answers) ≤ thread_ids (processes k.mem) = few_replies (processes k.mem) (death pid m).answers in
         let grew : length new.parts.tables.log.records ≡ length k.log.records + length (replies (processes k.mem) (death pid m).answers) =
         told_length k.log new.parts.tables.log (replies (processes k.mem) (death pid m).answers) did.replies in

@@ -97,7 +97,7 @@ module _ (plan : BootPlan) (file : List ℕ) (can : All CanStart plan.procs) whe
       go None is e = absurd (none-some t e)
       go (Some process) is e = ((pid_of_planned CanStart plan can id.pid.0 process is).0, first_tids process.entry id.tid.0 t e)
 
-  pub start_is_start : length plan.procs ≤ 32 → IsLawful (length plan.procs) room (first_ledger plan file) → IsStart (start plan file)
+  pub start_is_start : length plan.procs ≤ 64 → IsLawful (length plan.procs) room (first_ledger plan file) → IsStart (start plan file)
   unfolding start
   start_is_start few lawful = record {
     few = few;
@@ -174,7 +174,7 @@ booted_machine held plan file k h = λ i. record {
 }
 
 module _ {W : Type 0} (slot_count : W → ℕ) (held : W → Held) (plan : BootPlan) (file : List ℕ) (k : Kernel W) (h : IsBooted held plan file k)
-    (can : All CanStart plan.procs) (few : length plan.procs ≤ 32) (mem : IsMemorySound slot_count k.mem) where
+    (can : All CanStart plan.procs) (few : length plan.procs ≤ 64) (mem : IsMemorySound slot_count k.mem) where
   ledger_lawful : IsLawful (length plan.procs) (capacity plan.frames (length plan.procs) plan.slots) (first_ledger plan file)
   ledger_lawful =
       let same : bare (first_ledger plan file) ≡ bare (blank_ledger k.mem) = ap bare (sym h.ledger) ∙ bare-ledger held k.mem in

@@ -44,7 +44,7 @@ loop-place-preserved c =
 
 pub returns-clause-after : goal.returns-clause-after
 returns-clause-after c =
-    let done : c.loop-place.place ≡ 992 = omega arith in
+    let done : c.loop-place.place ≡ 1984 = omega arith in
     c.loop-place.invariant.threads
     ∙ ap (λ k. answered (below k (told_to c.args.served (noted c.args.noted_ids.now))) (threads_shown c.args.threads.now)) done
     ∙ ap (λ a. answered a (threads_shown c.args.threads.now))
@@ -53,7 +53,7 @@ returns-clause-after c =
 
 pub returns-clause-log : goal.returns-clause-log
 returns-clause-log c =
-    let done : c.loop-place.place ≡ 992 = omega arith in
+    let done : c.loop-place.place ≡ 1984 = omega arith in
     c.loop-place.invariant.log
     ∙ ap (λ k. log_with (replies_below k (told_to c.args.served (noted c.args.noted_ids.now))) c.args.log.now) done
     ∙ ap (λ told. log_with told c.args.log.now)

@@ -27,7 +27,7 @@ returns-in_err-write_page-clause-front g c =
     let L : Place → Type 0 = λ place. GrowsByPrefix (g.K.Sink.written c.loop-number.out) after (page_line_in m place) in
     let H : Here → Type 0 = λ here. GrowsByPrefix (g.K.Sink.written c.loop-number.out) after (page_line c.place_at-place.result here) in
     let front : L (place_at c.loop-number.number) = subst L c.place_at-place.ensures (subst H c.at.ensures c.in_err-write_page.ensures.front) in
-    let split = text_split (page_line_in m) (is_home m) (blank_page m) c.loop-number.number 654848 c.loop-number-test.true in
+    let split = text_split (page_line_in m) (is_home m) (blank_page m) c.loop-number.number 1309696 c.loop-number-test.true in
     on_err c.from_residual.result (P (pages_text m))
     (subst P (sym split.1 ∙ all_pages m (c.requires.sound.matched c.requires.usable) (few_processes g.W.SwapStore.slot_count g.W.SwapStore.held c.args.kernel.now c.requires.sound))
     (prefix_after before (g.K.Sink.written c.loop-number.out) after
@@ -55,6 +55,6 @@ pub returns-clause-appended : goal.returns-clause-appended
 returns-clause-appended g c =
     let m : Machine = machine_of g.W.SwapStore.held c.args.kernel.now in
     let P : List ℕ → Type 0 = λ text. Grows (g.K.Sink.written c.args.out.now) (g.K.Sink.written c.loop-number.out) text in
-    let end : c.loop-number.number ≡ 654848 = omega (arith, c.loop-number-test.false, c.loop-number.auto.number-end) in
+    let end : c.loop-number.number ≡ 1309696 = omega (arith, c.loop-number-test.false, c.loop-number.auto.number-end) in
     subst P (ap (listed_text (page_line_in m) (is_home m)) end ∙ all_pages m (c.requires.sound.matched c.requires.usable) (few_processes g.W.SwapStore.slot_count g.W.SwapStore.held c.args.kernel.now c.requires.sound))
     c.loop-number.invariant.written
