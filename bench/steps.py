@@ -3,8 +3,8 @@
 
 Makes an image and an event file for each row, runs `trace` on them, and prints a table. The loops
 make no system call and run up to the step limit of ten million, in an image of one process and in
-one of 32 whose other processes have the same code. Each time is that of the whole program, the best
-of five runs.
+one of 32, the most of an image of version 1, whose other processes have the same code. Each time is
+that of the whole program, the best of five runs.
 """
 
 import pathlib

@@ -109,14 +109,14 @@ known_of_all n id few e =
         let b : (2 ≤ p) × (p < n + 2) = is_pid-bounds n p q in
         let low : 2 ≤ p = b.0 in
         let high : p < n + 2 = b.1 in
-        and_from (nat_le 2 p) (nat_lt p 34) (le-leb 2 p low) (lt-ltb p 34 (omega arith))
+        and_from (nat_le 2 p) (nat_lt p 66) (le-leb 2 p low) (lt-ltb p 66 (omega arith))
 
 pub known_pid_of_all : (n p : ℕ) → n ≤ 64 → is_pid n p ≡ true → is_pid 64 p ≡ true
 known_pid_of_all n p few q =
     let b : (2 ≤ p) × (p < n + 2) = is_pid-bounds n p q in
     let low : 2 ≤ p = b.0 in
     let high : p < n + 2 = b.1 in
-    and_from (nat_le 2 p) (nat_lt p 34) (le-leb 2 p low) (lt-ltb p 34 (omega arith))
+    and_from (nat_le 2 p) (nat_lt p 66) (le-leb 2 p low) (lt-ltb p 66 (omega arith))
 
 -- ---- servers of a matched machine
 

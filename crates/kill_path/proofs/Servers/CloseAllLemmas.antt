@@ -120,7 +120,7 @@ module _ (procs : ℕ) (a : Closable) (sound : AreServersSound procs (loans a.le
   pub all_from : AreFrom 2 a
   all_from n server e = (owner_bounds n server e).0
 
-  module _ (b : Closable) (few : procs ≤ 64) (closed : AreClosed (gone a b) a b) (left : AreOpen (loans b.ledger) b.servers b.seats) (from : AreFrom 34 b) where
+  module _ (b : Closable) (few : procs ≤ 64) (closed : AreClosed (gone a b) a b) (left : AreOpen (loans b.ledger) b.servers b.seats) (from : AreFrom 66 b) where
     none_left : (n : ℕ) → servers_shown b.servers b.seats n ≡ None
     none_left n = go (servers_shown b.servers b.seats n) refl (gone a b n) (sym (closed.servers n))
       where
@@ -129,7 +129,7 @@ module _ (procs : ℕ) (a : Closable) (sound : AreServersSound procs (loans a.le
         go None q g f = q
         go (Some server) q true f = sym f
         go (Some server) q false f =
-            let high : 34 ≤ server.pid.0 = from n server q in
+            let high : 66 ≤ server.pid.0 = from n server q in
             let low : server.pid.0 < procs + 2 = (owner_bounds n server (f ∙ q)).1 in
             absurd (omega arith)
 

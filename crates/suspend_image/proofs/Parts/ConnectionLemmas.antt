@@ -79,11 +79,11 @@ processes_matched_told n procs told many is =
     let limits = limits_told procs (list_all is_within_limits procs) refl in
     let apart = processes_told (λ p. are_apart p.serials) AreConnectionsApart refl process_apart_told procs in (
       λ holds. (
-          let first = and_parts (leb n 32) _ (sym is ∙ holds) in
+          let first = and_parts (leb n 64) _ (sym is ∙ holds) in
           let second = and_parts (list_all is_within_limits procs) _ first.1 in
           let limited = limits.0 second.0 in
           record {
-            few = leb-true n 32 first.0;
+            few = leb-true n 64 first.0;
             pids = λ pid alive. (let within = alive_within procs pid.0 alive in known_pid n pid.0 within.0 (subst (λ (k : ℕ). pid.0 - 2 < k) many within.1));
             apart = λ pid. apart.0 second.1 pid.0;
             connections = limited.connections;
@@ -92,7 +92,7 @@ processes_matched_told n procs told many is =
           }
           ),
       λ matched. (
-          let few : leb n 32 ≡ true = le-leb n 32 matched.few in
+          let few : leb n 64 ≡ true = le-leb n 64 matched.few in
           let limited : list_all is_within_limits procs ≡ true =
           limits.1 (record { connections = matched.connections; no_connection = matched.no_connection; no_heap = matched.no_heap }) in
           let differ : list_all (λ p. are_apart p.serials) procs ≡ true = apart.1 (λ n. (let pid : Pid = record { 0 = n } in matched.apart pid)) in

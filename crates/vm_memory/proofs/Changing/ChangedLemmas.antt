@@ -109,7 +109,7 @@ module _ {W : Type 0} (slot_count : W → ℕ) (held : W → Held) (m n : Memory
     agree = agrees_there agree;
     procs = c.procs ∙ (sound.procs ∙ sym (ap procs_of c.extent));
     slots = c.slots ∙ (sound.slots ∙ sym (ap (λ (t : Extent). t.slots) c.extent));
-    few = subst (λ t. procs_of t ≤ 32) (sym c.extent) sound.few;
+    few = subst (λ t. procs_of t ≤ 64) (sym c.extent) sound.few;
     few_slots = subst (λ k. k ≤ 16384) (sym c.slots) sound.few_slots;
     tables = subst (λ t. table_frames (procs_of t) + 2 ≤ (area n.ram).frames) (sym c.extent)
         (subst (λ (a : Area). table_frames (processes m) + 2 ≤ a.frames) (sym c.area) sound.tables);

@@ -20,7 +20,7 @@ use xk_ports::{Sink, SwapStore, put_all};
 const PLACES_OF_PROCESS: u32 = 20_464;
 
 /// The user places of as many processes as there can be.
-const PLACES: u32 = 654_848;
+const PLACES: u32 = 1_309_696;
 
 /// The page number of the user place of that number in a process.
 fn page_at(number: u32) -> u32

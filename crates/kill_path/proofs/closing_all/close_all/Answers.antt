@@ -35,7 +35,7 @@ pub returns-clause-no_loan : goal.returns-clause-no_loan
 returns-clause-no_loan g c =
     let old : Closable = closable (ledger g.W.SwapStore.held c.args.mem.now) c.args.servers.now c.args.queues.now (noted c.new-untold.result) in
     let now : Closable = closable (ledger g.W.SwapStore.held c.loop-k.mem) c.loop-k.servers c.loop-k.queues (noted c.loop-k.untold) in
-    let done : c.loop-k.k + 2 ≡ 34 = omega arith in
+    let done : c.loop-k.k + 2 ≡ 66 = omega arith in
     all_fresh (processes c.args.mem.now) old c.requires.servers now c.requires.sound.few c.loop-k.invariant.closed c.loop-k.invariant.messages
     (subst (λ low. AreFrom low now) done c.loop-k.invariant.from)
 
@@ -43,6 +43,6 @@ pub returns-clause-empty : goal.returns-clause-empty
 returns-clause-empty g c =
     let old : Closable = closable (ledger g.W.SwapStore.held c.args.mem.now) c.args.servers.now c.args.queues.now (noted c.new-untold.result) in
     let now : Closable = closable (ledger g.W.SwapStore.held c.loop-k.mem) c.loop-k.servers c.loop-k.queues (noted c.loop-k.untold) in
-    let done : c.loop-k.k + 2 ≡ 34 = omega arith in
+    let done : c.loop-k.k + 2 ≡ 66 = omega arith in
     all_empty (processes c.args.mem.now) old c.requires.servers now c.requires.sound.few c.loop-k.invariant.closed c.loop-k.invariant.messages
     (subst (λ low. AreFrom low now) done c.loop-k.invariant.from)
