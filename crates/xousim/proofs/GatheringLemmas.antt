@@ -3,8 +3,8 @@ use Rattle.std.proofs.Common.{◌≡◌, ℕ, List, [], ◌++◌, Option, Result
 use Rattle.xk_base.specs.declared.errors.Failed.{Failed}
 use Rattle.xk_ports.specs.Told.{Grows, GrowsByPrefix}
 use Rattle.xk_ports.proofs.ToldLemmas.{Grows-append, Grows-none}
-use Rattle.xousim.specs.declared.command.Telling.{Telling}
-use Rattle.xousim.specs.declared.ending.Ending.{Ending}
+use Rattle.xousim.specs.declared.commands.command.Telling.{Telling}
+use Rattle.xousim.specs.declared.playing.ending.Ending.{Ending}
 use Rattle.xousim.specs.Gathering.{Gathered, Gathers, GathersPart, Text, put, text}
 use Rattle.xousim.specs.History.{History}
 use Rattle.xousim.specs.Writing.{Wrote}

@@ -6,7 +6,7 @@ use Rattle.xk_base.specs.declared.records.Rec.{Rec}
 use Rattle.xk_base.specs.declared.errors.Failed.{Failed}
 use Rattle.xk_base.specs.declared.ids.Pid.{Pid}
 use Rattle.xk_base.specs.declared.ids.Tid.{Tid}
-use Rattle.xousim.specs.declared.command.Telling.{Telling}
+use Rattle.xousim.specs.declared.commands.command.Telling.{Telling}
 use Rattle.xousim.specs.Telling.{told, told_of}
 use Rattle.event_text.specs.declared.event.Event.{Event}
 use Rattle.event_text.specs.declared.event.Event.TheVariants.{Tick, Pick, Irq, Kill}
@@ -16,8 +16,8 @@ use Rattle.xk_kernel.specs.History as kernel
 use Rattle.xk_kernel.specs.Stepping.{event_done}
 use Rattle.xk_kernel.proofs.Running.HistoryLemmas.{history_append, history_first, history_none, irq_plays, kill_plays, pick_plays}
 use Rattle.xk_kernel.proofs.Running.LimitLemmas.{irq_steps, kill_steps, pick_steps}
-use Rattle.xousim.specs.declared.ending.Ending.{Ending}
-use Rattle.xousim.specs.declared.ending.Ending.TheVariants.{Played, LimitMet}
+use Rattle.xousim.specs.declared.playing.ending.Ending.{Ending}
+use Rattle.xousim.specs.declared.playing.ending.Ending.TheVariants.{Played, LimitMet}
 use Rattle.xousim.specs.History.{History, with_ending}
 use Rattle.xousim.specs.Gathering.{Gathered, Gathers, GathersPart, Text}
 use Rattle.xousim.proofs.GatheringLemmas.{gathers_append, gathers_none, part_later, part_longer}

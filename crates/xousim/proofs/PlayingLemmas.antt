@@ -3,7 +3,7 @@ use Rattle.std.proofs.Common.{◌≡◌, ◌≢◌, ◌≤◌, ◌+◌, ℕ, ari
 use Rattle.std.proofs.lemmas.List.{take-append-drop}
 use Rattle.xk_base.specs.declared.errors.Failed.{Failed}
 use Rattle.xk_ports.specs.Told.{Grows, GrowsByPrefix}
-use Rattle.xousim.specs.declared.command.Telling.{Telling}
+use Rattle.xousim.specs.declared.commands.command.Telling.{Telling}
 use Rattle.xousim.specs.Telling.{told}
 use Rattle.machine_model.specs.State.Machine.{Machine}
 use Rattle.machine_model.specs.Stepping.Events.{nothing}
@@ -16,12 +16,12 @@ use Rattle.event_text.specs.Lines.{whole_lines}
 use Rattle.event_text.specs.Plays.{Call, takes, ends, asks, Play, play_of, after_bytes, events_in, left_of, with_events, finished_reader, MayFollow}
 use Rattle.event_text.proofs.PlayLemmas.{play_left, left_next, left_bad, left_end}
 use Rattle.event_text.proofs.WholeLemmas.{play_whole}
-use Rattle.xousim.specs.declared.ending.Ending.{Ending}
-use Rattle.xousim.specs.declared.ending.Ending.TheVariants.{Played, BadLine}
+use Rattle.xousim.specs.declared.playing.ending.Ending.{Ending}
+use Rattle.xousim.specs.declared.playing.ending.Ending.TheVariants.{Played, BadLine}
 use Rattle.xk_kernel.specs.History as kernel
 use Rattle.xk_kernel.specs.History.{history, play}
 use Rattle.xousim.specs.History.{History, with_ending, history_of, end_of}
-use Rattle.xousim.specs.declared.playing.Advance.{Advance}
+use Rattle.xousim.specs.declared.playing.events.Advance.{Advance}
 use Rattle.xousim.specs.Playing.{HasPlayed, EndsSo, FailsSo, Advances, Goes}
 use Rattle.xousim.specs.Gathering.{Gathered, Gathers, Text, put, text}
 use Rattle.xousim.specs.Writing.{Wrote}

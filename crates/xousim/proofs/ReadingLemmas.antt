@@ -3,8 +3,8 @@ use Rattle.std.proofs.Common.{◌≡◌, ℕ, List, Option, Some, None, Result, 
 use Rattle.xk_ports.specs.Host.{IsLeftOf}
 use Rattle.xk_ports.specs.Told.{Consumes}
 use Rattle.xousim.specs.Reading.{IsTold, IsFile, IsReadOf, IsContent, IsContentOf}
-use Rattle.xousim.specs.declared.reading.Content.{Content}
-use Rattle.xousim.specs.declared.reading.Content.TheVariants.{Whole, TooLong}
+use Rattle.xousim.specs.declared.outside.reading.Content.{Content}
+use Rattle.xousim.specs.declared.outside.reading.Content.TheVariants.{Whole, TooLong}
 
 pub if_ok_map : {T E : Type 0} (r : Result T E) (P Q : T → Type 0) → ((x : T) → P x → Q x) → IfOk r P → IfOk r Q
 if_ok_map (Ok x) P Q f p = f x p

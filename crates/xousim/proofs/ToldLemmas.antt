@@ -7,7 +7,7 @@ use Rattle.xk_ports.specs.Told.{Grows, GrowsByPrefix, Consumes}
 use Rattle.xk_ports.proofs.ToldLemmas.{Grows-append}
 use Rattle.xousim.specs.Reading.{IsTold}
 use Rattle.xk_base.specs.declared.records.Rec.{Rec}
-use Rattle.xousim.specs.declared.command.Telling.{Telling}
+use Rattle.xousim.specs.declared.commands.command.Telling.{Telling}
 use Rattle.xousim.specs.Telling.{told, told_of}
 
 -- nothing is consumed

@@ -7,9 +7,9 @@ use Rattle.xk_ports.specs.Told.{Grows, GrowsByPrefix}
 use Rattle.xk_ports.specs.declared.host.FileSlot.TheVariants.{First, Second}
 use Rattle.xk_ports.proofs.ToldLemmas.{Grows-append}
 use Rattle.machine_model.specs.State.Machine.{Machine}
-use Rattle.xousim.specs.declared.command.CommandWords.{CommandWords}
-use Rattle.xousim.specs.declared.command.Telling.{Telling}
-use Rattle.xousim.specs.declared.ending.Ending.{Ending}
+use Rattle.xousim.specs.declared.commands.command.CommandWords.{CommandWords}
+use Rattle.xousim.specs.declared.commands.command.Telling.{Telling}
+use Rattle.xousim.specs.declared.playing.ending.Ending.{Ending}
 use Rattle.xousim.specs.declared.status.Status.{Status}
 use Rattle.xousim.specs.declared.status.Status.TheVariants.{Done, Usage, ReadFault, WriteFault, ImageFault, EventFault, StepLimit, NoMemory, NotBuilt}
 use Rattle.xousim.specs.Finish.{EndsBooted, Finishes}

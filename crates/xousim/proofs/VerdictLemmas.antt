@@ -9,8 +9,8 @@ use Rattle.boot_plan.specs.ImageFault.{IsImageFault}
 use Rattle.boot_plan.proofs.ImageFaultLemmas.{image_fault_once}
 use Rattle.machine_model.specs.State.Machine.{Machine}
 use Rattle.xk_kernel.specs.Start.{start}
-use Rattle.xousim.specs.declared.ending.Ending.{Ending}
-use Rattle.xousim.specs.declared.ending.Ending.TheVariants.{Played, LimitMet, BadLine}
+use Rattle.xousim.specs.declared.playing.ending.Ending.{Ending}
+use Rattle.xousim.specs.declared.playing.ending.Ending.TheVariants.{Played, LimitMet, BadLine}
 use Rattle.xousim.specs.declared.status.Status.{Status}
 use Rattle.xousim.specs.declared.status.Status.TheVariants.{Done, Usage, ReadFault, WriteFault, ImageFault, EventFault, StepLimit, NoMemory, NotBuilt}
 use Rattle.xousim.specs.Outcome.{Boots, Call, Ends, EndsCheck, EndsIfBuilt, EndsPlay, HasCause, HostRose, Image, IsCheckComplete, IsCheckVerdict, IsCommandComplete, IsComplete, IsPlanned, IsPlayComplete, IsUnwritten, IsVerdict, OutRose, Ran, Refuses, RunsTo, Summarizes, Tells, run_of}

@@ -4,8 +4,8 @@ use Rattle.machine_model.specs.State.Machine.{Machine}
 use Rattle.xk_base.specs.Outside.{Rose}
 use Rattle.xk_ports.specs.declared.host.FileSlot.TheVariants.{Second}
 use Rattle.xk_ports.specs.Told.{Grows, GrowsByPrefix}
-use Rattle.xousim.specs.declared.ending.Ending.{Ending}
-use Rattle.xousim.specs.declared.ending.Ending.TheVariants.{Played, LimitMet, BadLine}
+use Rattle.xousim.specs.declared.playing.ending.Ending.{Ending}
+use Rattle.xousim.specs.declared.playing.ending.Ending.TheVariants.{Played, LimitMet, BadLine}
 use Rattle.xousim.specs.declared.status.Status.{Status}
 use Rattle.xousim.specs.declared.status.Status.TheVariants.{Done, Usage, ReadFault, WriteFault, ImageFault, EventFault, StepLimit, NoMemory, NotBuilt}
 use Rattle.xousim.specs.Outcome.{Call, HasCause, HostRose, IsUnwritten, SinkSide, Tells}

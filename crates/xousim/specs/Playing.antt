@@ -7,18 +7,18 @@ use Rattle.event_text.specs.Plays.{Call, play_of}
 use Rattle.machine_model.specs.State.Machine.{Machine}
 use Rattle.xk_base.specs.declared.errors.Failed.{Failed}
 use Rattle.xk_ports.specs.Told.{GrowsByPrefix, Consumes}
-use Rattle.xousim.specs.declared.ending.Ending.{Ending}
-use Rattle.xousim.specs.declared.ending.Ending.TheVariants as why
-use Rattle.xousim.specs.declared.event_file.RunFault.{RunFault}
-use Rattle.xousim.specs.declared.event_file.RunFault.TheVariants.{Read, Write}
-use Rattle.xousim.specs.declared.playing.Advance.{Advance}
-use Rattle.xousim.specs.declared.playing.Advance.TheVariants.{Played, Waits, Ended}
+use Rattle.xousim.specs.declared.playing.ending.Ending.{Ending}
+use Rattle.xousim.specs.declared.playing.ending.Ending.TheVariants as why
+use Rattle.xousim.specs.declared.playing.event_file.RunFault.{RunFault}
+use Rattle.xousim.specs.declared.playing.event_file.RunFault.TheVariants.{Read, Write}
+use Rattle.xousim.specs.declared.playing.events.Advance.{Advance}
+use Rattle.xousim.specs.declared.playing.events.Advance.TheVariants.{Played, Waits, Ended}
 use Rattle.xk_kernel.specs.History.{history}
 use Rattle.xousim.specs.Gathering.{Gathered, Gathers, Text}
 use Rattle.xousim.specs.History.{History, history_of}
 use Rattle.xousim.specs.Reading.{IsTold}
 use Rattle.xousim.specs.Telling.{told}
-use Rattle.xousim.specs.declared.command.Telling.{Telling}
+use Rattle.xousim.specs.declared.commands.command.Telling.{Telling}
 use Rattle.xousim.specs.Writing.{Wrote}
 
 -- What was played so far: after some calls of a reader, with which it took these bytes, the events that it answered were

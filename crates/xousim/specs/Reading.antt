@@ -3,8 +3,8 @@ use Rattle.std.specs.Prelude.{◌≡◌, ◌<◌, ◌≤◌, ℕ, Bool, List, []
 use Rattle.xk_ports.specs.declared.host.FileSlot.{FileSlot}
 use Rattle.xk_ports.specs.Host.{FileAsked}
 use Rattle.xk_ports.specs.Told.{Grows, Consumes}
-use Rattle.xousim.specs.declared.reading.Content.{Content}
-use Rattle.xousim.specs.declared.reading.Content.TheVariants.{Whole, TooLong}
+use Rattle.xousim.specs.declared.outside.reading.Content.{Content}
+use Rattle.xousim.specs.declared.outside.reading.Content.TheVariants.{Whole, TooLong}
 
 -- the host has these bytes under that name, where it tells its files
 abbrev pub IsFile : Option (List ℕ → Option (List ℕ)) → List ℕ → List ℕ → Type 0

@@ -7,10 +7,10 @@ use Rattle.trace_text.specs.Lines.{end_line_of, line_of}
 use Rattle.xk_base.specs.declared.records.Rec.{Rec}
 use Rattle.xk_base.specs.declared.records.What.{What}
 use Rattle.xk_base.specs.declared.records.What.TheVariants.{Byte, Call, End, Fault, Gone, Irq, Reply, Retry}
-use Rattle.xousim.specs.declared.command.Telling.{Telling}
-use Rattle.xousim.specs.declared.command.Telling.TheVariants.{Ledger, Run, Trace}
-use Rattle.xousim.specs.declared.ending.Ending.{Ending}
-use Rattle.xousim.specs.declared.ending.Ending.TheVariants.{BadLine, LimitMet, Played}
+use Rattle.xousim.specs.declared.commands.command.Telling.{Telling}
+use Rattle.xousim.specs.declared.commands.command.Telling.TheVariants.{Ledger, Run, Trace}
+use Rattle.xousim.specs.declared.playing.ending.Ending.{Ending}
+use Rattle.xousim.specs.declared.playing.ending.Ending.TheVariants.{BadLine, LimitMet, Played}
 use Rattle.xousim.specs.History.{History}
 use Rattle.xousim.specs.Table.{table_of}
 

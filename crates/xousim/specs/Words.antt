@@ -6,12 +6,12 @@ use Rattle.std.specs.declared.alloc.Global.{Global}
 use Rattle.std.specs.Cmp.Lexicographic.{pointwise}
 use Rattle.event_text.specs.Lines.{number_of}
 use Rattle.xk_base.specs.declared.limits.TheConstants.{DEFAULT_STEPS, SLOT_LIMIT, STEP_LIMIT}
-use Rattle.xousim.specs.declared.command.CheckWords.{CheckWords}
-use Rattle.xousim.specs.declared.command.CommandWords.{CommandWords}
-use Rattle.xousim.specs.declared.command.CommandWords.TheVariants as words
-use Rattle.xousim.specs.declared.command.PlayWords.{PlayWords}
-use Rattle.xousim.specs.declared.command.Telling.{Telling}
-use Rattle.xousim.specs.declared.command.Telling.TheVariants.{Ledger, Run, Trace}
+use Rattle.xousim.specs.declared.commands.command.CheckWords.{CheckWords}
+use Rattle.xousim.specs.declared.commands.command.CommandWords.{CommandWords}
+use Rattle.xousim.specs.declared.commands.command.CommandWords.TheVariants as words
+use Rattle.xousim.specs.declared.commands.command.PlayWords.{PlayWords}
+use Rattle.xousim.specs.declared.commands.command.Telling.{Telling}
+use Rattle.xousim.specs.declared.commands.command.Telling.TheVariants.{Ledger, Run, Trace}
 
 -- ---- commands
 

@@ -2,30 +2,19 @@
 //! and a file of events, and writes the transcript.
 #![tactic(auto)]
 
-mod adapters;
-mod booting;
-mod command;
-mod ending;
-mod event_file;
-mod gathering;
+mod commands;
 mod matched;
 mod notes;
-mod numbers;
+mod outside;
 mod playing;
-mod reading;
 mod status;
-mod summary;
-mod table;
 #[cfg(test)]
 mod tests;
-mod text;
 mod top;
-mod transcript;
 mod verdict;
-mod words;
 
-use adapters::{ErrSink, FileHost, StdSink};
 use notes::write_note;
+use outside::adapters::{ErrSink, FileHost, StdSink};
 use status::{Ended, Status};
 use std::env;
 use std::io::ErrorKind;

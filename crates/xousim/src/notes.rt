@@ -6,8 +6,8 @@ ghost use Rattle.xk_ports.specs.Told.{Grows, GrowsByPrefix};
 ghost use Rattle.xousim.specs.Status.{fault_name, note_of};
 ghost use Rattle.xousim.specs.Outcome.{Notes, SinkSide};
 
+use crate::outside::text::{Line, put, put_number};
 use crate::status::Status;
-use crate::text::{Line, put, put_number};
 use kernel_args::ArgFault;
 use xk_ports::{Sink, put_all};
 

@@ -16,7 +16,7 @@ mod scalars;
 mod servers;
 mod timer;
 
-use crate::adapters::{ErrSink, FileHost, StdSink};
+use crate::outside::adapters::{ErrSink, FileHost, StdSink};
 use crate::status::{Ended, Status};
 use crate::top::xous_main;
 use kernel_args::ArgFault;

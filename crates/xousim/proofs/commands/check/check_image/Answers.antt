@@ -1,0 +1,34 @@
+use Rattle.std.proofs.Common.{inr}
+use Rattle.xousim.proofs.commands.check.check_image.Goals as goal
+
+pub returns-in-Ok-write_summary-clause-ends : goal.returns-in-Ok-write_summary-clause-ends
+returns-in-Ok-write_summary-clause-ends g c = inr (record {
+  asked = c.in-Ok.ensures.picked;
+  cause = tt;
+  plan = c.in-Ok.planned.plan;
+  planned = record {
+    image = c.in-Ok.planned.bytes.items;
+    read = c.in-Ok.ensures.read;
+    args = c.in-Ok.ensures.planned.0;
+    sound = c.in-Ok.ensures.planned.1;
+    planned = c.in-Ok.ensures.planned.2;
+  };
+  content = c.in-Ok-write_summary.ensures.appended;
+  image_read = λ done. c.in-Ok.ensures.end;
+})
+
+pub returns-clause-ends : goal.returns-clause-ends
+returns-clause-ends g c = inr (record {
+  asked = c.in-Ok.ensures.picked;
+  cause = c.in-Err-write_summary.ensures.cause;
+  plan = c.in-Ok.planned.plan;
+  planned = record {
+    image = c.in-Ok.planned.bytes.items;
+    read = c.in-Ok.ensures.read;
+    args = c.in-Ok.ensures.planned.0;
+    sound = c.in-Ok.ensures.planned.1;
+    planned = c.in-Ok.ensures.planned.2;
+  };
+  content = c.in-Err-write_summary.ensures.front;
+  image_read = λ done. cc;
+})

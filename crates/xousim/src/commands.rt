@@ -1,0 +1,10 @@
+//! The words of the command line, and what each command does.
+
+pub mod booting;
+pub mod check;
+pub mod command;
+mod numbers;
+pub mod play;
+mod summary;
+pub mod table;
+pub mod words;

@@ -1,0 +1,51 @@
+//! `check`: an image is planned.
+
+ghost use Rattle.std.specs.Prelude.{◌≡◌, ◌≤◌};
+ghost use Rattle.xk_ports.specs.declared.host.FileSlot.TheVariants.{First, Second};
+ghost use Rattle.xousim.specs.Outcome.{Call, EndsCheck};
+ghost use Rattle.xousim.specs.Words.{check_in};
+
+use crate::commands::booting::plan_image;
+use crate::commands::command::CheckWords;
+use crate::commands::summary::write_summary;
+use crate::status::Status;
+use std::alloc::Global;
+use xk_ports::{Host, Sink};
+
+/// Plans an image, and writes the summary of the plan.
+pub fn check_image<H: Host, K: Sink>(
+    alloc: Global,
+    check: CheckWords,
+    host: &mut H,
+    out: &mut K,
+) -> Status
+    ensures ends { let call : Call = record {
+      host = record {
+        files = H.file host.old;
+        asked = H.asked host.old;
+        asked_after = H.asked host.new;
+        image_left = H.left host.new First;
+        left = H.left host.new Second;
+        faults = H.faults host.old;
+        faults_after = H.faults host.new;
+      };
+      out = record {
+        written = K.written out.old;
+        written_after = K.written out.new;
+        faults = K.faults out.old;
+        faults_after = K.faults out.new;
+      };
+      status = result;
+    } in EndsCheck (check_in check.entry) call }
+    ensures host { H.faults host.old ≤ H.faults host.new }
+    ensures out { K.faults out.old ≤ K.faults out.new }
+{
+    let planned = match plan_image(alloc, host, check.image, check.slots) {
+        Ok(planned) => planned,
+        Err(status) => return status,
+    };
+    match write_summary(&planned.plan, planned.bytes.len() as u32, out) {
+        Ok(()) => Status::Done,
+        Err(_) => Status::WriteFault,
+    }
+}

@@ -1,0 +1,143 @@
+//! `trace`, `run` and `ledger`: the events of a file are played on an image.
+
+ghost use Rattle.std.specs.Prelude.{◌≡◌, ◌≤◌};
+ghost use Rattle.xk_ports.specs.Keeping.{KeepsStore};
+ghost use Rattle.xk_kernel.specs.Sound.{IsSound, IsUsable, Keeps};
+ghost use Rattle.xk_kernel.specs.State.{machine_of};
+ghost use Rattle.xk_ports.specs.declared.host.FileSlot.TheVariants.{First, Second};
+ghost use Rattle.xousim.specs.Built.{is_play_built};
+ghost use Rattle.xousim.specs.Finish.{EndsBooted, Finishes};
+ghost use Rattle.xousim.specs.Outcome.{Call, EndsPlay, SinkSide};
+ghost use Rattle.xousim.specs.Words.{play_in};
+
+use crate::commands::booting::boot_image;
+use crate::commands::command::PlayWords;
+use crate::playing::ending::Ending;
+use crate::playing::event_file::{RunFault, play_file};
+use crate::playing::transcript::write_closing;
+use crate::status::{Ended, Status};
+use std::alloc::Global;
+use xk_kernel::Kernel;
+use xk_ports::{FileSlot, Host, Sink, SwapStore};
+
+/// Whether a command that plays events is built.
+pub fn is_built(play: &PlayWords) -> bool
+    ensures { result ≡ is_play_built (play_in play.now) }
+{
+    play.slots == 0 && play.store.is_none()
+}
+
+/// Writes what is told at the end of a history that ended in this way, and gives the status.
+fn finish<K: Sink, W: SwapStore>(
+    kernel: &Kernel<W>,
+    play: PlayWords,
+    ending: Ending,
+    out: &mut K,
+) -> Status
+    requires sound { IsSound W.slot_count W.held kernel.now }
+    requires usable { IsUsable kernel.now }
+    ensures finished { let side : SinkSide = record {
+      written = K.written out.old;
+      written_after = K.written out.new;
+      faults = K.faults out.old;
+      faults_after = K.faults out.new;
+    } in Finishes (play_in play.entry) (machine_of W.held kernel.now) ending side result }
+    ensures never_falls { K.faults out.old ≤ K.faults out.new }
+{
+    let Ok(()) = write_closing(kernel, play.tells, ending, out) else {
+        return Status::WriteFault;
+    };
+    match ending {
+        Ending::Played => Status::Done,
+        Ending::LimitMet => Status::StepLimit(play.limit),
+        Ending::BadLine(line) => Status::EventFault(line),
+    }
+}
+
+/// Picks the event file, plays its events on a booted kernel, and writes what is told of them.
+fn play_events<H: Host, K: Sink, W: SwapStore>(
+    kernel: &mut Kernel<W>,
+    host: &mut H,
+    play: PlayWords,
+    out: &mut K,
+) -> Status
+    requires sound { IsSound W.slot_count W.held kernel.old }
+    requires usable { IsUsable kernel.old }
+    requires within { (machine_of W.held kernel.old).steps ≤ play.limit }
+    ensures played { let call : Call = record {
+      host = record {
+        files = H.file host.old;
+        asked = H.asked host.old;
+        asked_after = H.asked host.new;
+        image_left = H.left host.new First;
+        left = H.left host.new Second;
+        faults = H.faults host.old;
+        faults_after = H.faults host.new;
+      };
+      out = record {
+        written = K.written out.old;
+        written_after = K.written out.new;
+        faults = K.faults out.old;
+        faults_after = K.faults out.new;
+      };
+      status = result;
+    } in EndsBooted (play_in play.entry) (machine_of W.held kernel.old) call }
+    ensures sound { IsSound W.slot_count W.held kernel.new }
+    ensures usable { IsUsable kernel.new }
+    ensures keeps { Keeps W.is_honest W.held W.slot_count W.asked W.faults kernel.old kernel.new }
+    ensures first { H.left host.new First ≡ H.left host.old First }
+    ensures host { H.faults host.old ≤ H.faults host.new }
+    ensures out { K.faults out.old ≤ K.faults out.new }
+{
+    let Ok(()) = host.pick_file(FileSlot::Second, play.events) else {
+        return Status::ReadFault;
+    };
+    match play_file(kernel, host, play.tells, play.limit, out) {
+        Ok(ending) => finish(kernel, play, ending, out),
+        Err(RunFault::Read) => Status::ReadFault,
+        Err(RunFault::Write) => Status::WriteFault,
+    }
+}
+
+/// Plays the events of a file on an image, and hands the store back.
+pub fn play_image<H: Host, K: Sink, W: SwapStore>(
+    alloc: Global,
+    play: PlayWords,
+    host: &mut H,
+    out: &mut K,
+    store: W,
+) -> Ended<W>
+    requires { play.slots ≡ 0 }
+    ensures ends { let call : Call = record {
+      host = record {
+        files = H.file host.old;
+        asked = H.asked host.old;
+        asked_after = H.asked host.new;
+        image_left = H.left host.new First;
+        left = H.left host.new Second;
+        faults = H.faults host.old;
+        faults_after = H.faults host.new;
+      };
+      out = record {
+        written = K.written out.old;
+        written_after = K.written out.new;
+        faults = K.faults out.old;
+        faults_after = K.faults out.new;
+      };
+      status = result.status;
+    } in EndsPlay (play_in play.entry) call }
+    ensures store { KeepsStore W.is_honest W.held W.slot_count W.asked W.faults store result.store }
+    ensures host { H.faults host.old ≤ H.faults host.new }
+    ensures out { K.faults out.old ≤ K.faults out.new }
+{
+    match boot_image(alloc, host, play.image, store) {
+        Ok(mut kernel) => {
+            let status = play_events(&mut kernel, host, play, out);
+            Ended {
+                status,
+                store: kernel.close(),
+            }
+        }
+        Err(ended) => ended,
+    }
+}

@@ -1,0 +1,118 @@
+//! The words of the command line are read.
+
+ghost use Rattle.std.specs.Prelude.{◌≡◌, ◌≤◌, IfSome};
+ghost use Rattle.std.specs.Option.{option_map};
+ghost use Rattle.xousim.specs.Words.{check_in, check_of, command_in, command_of, demo_of, limit_of, play_in, play_of, play_with, slots_of};
+
+use crate::commands::command::{CheckWords, CommandWords, PlayWords, Telling};
+use crate::commands::numbers::read_number;
+use xk_base::limits::{DEFAULT_STEPS, SLOT_LIMIT, STEP_LIMIT};
+
+/// The most clients of a load.
+const CLIENT_LIMIT: u32 = 31;
+
+fn read_limit(word: &String) -> Option<u32>
+    ensures value { result ≡ limit_of word.now }
+    ensures within { IfSome result (λ n. n ≤ 4000000000) }
+{
+    read_number(word.as_bytes(), 1, STEP_LIMIT)
+}
+
+fn read_slots(word: &String) -> Option<u32>
+    ensures value { result ≡ slots_of word.now }
+    ensures within { IfSome result (λ n. n ≤ 16384) }
+{
+    read_number(word.as_bytes(), 0, SLOT_LIMIT)
+}
+
+/// The command of two files, with these numbers.
+fn play_with<'a>(
+    tells: Telling,
+    image: &'a String,
+    events: &'a String,
+    limit: u32,
+    slots: u32,
+    store: Option<&'a String>,
+) -> PlayWords<'a>
+    requires { limit ≤ 4000000000 }
+    ensures { Some (play_in result) ≡ play_with tells image.now events.now (Some limit) (Some slots) (option_map (λ name. name.now) store.entry) }
+{
+    PlayWords {
+        tells,
+        image: image.as_str(),
+        events: events.as_str(),
+        limit,
+        slots,
+        store: store.map(String::as_str),
+    }
+}
+
+/// Reads `IMAGE EVENTS [STEPS [SLOTS [STORE]]]`.
+fn read_play<'a>(tells: Telling, words: &'a [String]) -> Option<PlayWords<'a>>
+    ensures { option_map play_in result ≡ play_of tells words.now }
+{
+    match words {
+        [image, events] => Some(play_with(tells, image, events, DEFAULT_STEPS, 0, None)),
+        [image, events, steps] => {
+            let limit = read_limit(steps)?;
+            Some(play_with(tells, image, events, limit, 0, None))
+        }
+        [image, events, steps, slots] => {
+            let limit = read_limit(steps)?;
+            let slots = read_slots(slots)?;
+            Some(play_with(tells, image, events, limit, slots, None))
+        }
+        [image, events, steps, slots, store] => {
+            let limit = read_limit(steps)?;
+            let slots = read_slots(slots)?;
+            Some(play_with(tells, image, events, limit, slots, Some(store)))
+        }
+        _ => None,
+    }
+}
+
+/// Reads `IMAGE [SLOTS]`.
+fn read_check<'a>(words: &'a [String]) -> Option<CheckWords<'a>>
+    ensures { option_map check_in result ≡ check_of words.now }
+{
+    match words {
+        [image] => Some(CheckWords {
+            image: image.as_str(),
+            slots: 0,
+        }),
+        [image, slots] => {
+            let slots = read_slots(slots)?;
+            Some(CheckWords {
+                image: image.as_str(),
+                slots,
+            })
+        }
+        _ => None,
+    }
+}
+
+/// Reads `N`.
+fn read_demo(words: &[String]) -> Option<u32>
+    ensures { result ≡ demo_of words.now }
+{
+    match words {
+        [clients] => read_number(clients.as_bytes(), 1, CLIENT_LIMIT),
+        _ => None,
+    }
+}
+
+/// The command that the words are, where they have one of the stated forms.
+#[tactic(auto, unfolding(crate::specs::Words::command_of))]
+pub fn read_words<'a>(words: &'a [String]) -> Option<CommandWords<'a>>
+    ensures { option_map command_in result ≡ command_of words.now }
+{
+    let (first, rest) = words.split_first()?;
+    match first.as_str() {
+        "trace" => Some(CommandWords::Play(read_play(Telling::Trace, rest)?)),
+        "run" => Some(CommandWords::Play(read_play(Telling::Run, rest)?)),
+        "ledger" => Some(CommandWords::Play(read_play(Telling::Ledger, rest)?)),
+        "check" => Some(CommandWords::Check(read_check(rest)?)),
+        "demo" => Some(CommandWords::Demo(read_demo(rest)?)),
+        _ => None,
+    }
+}

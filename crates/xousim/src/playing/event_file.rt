@@ -1,0 +1,187 @@
+//! The event file is read in pieces, each event is played as soon as it is known, and what is told
+//! of the events of a piece is put before the next piece is read.
+
+ghost use Rattle.std.specs.Prelude.{◌≡◌, ◌≢◌, ◌≤◌, ◌+◌, ◌++◌, [], ℕ, false, true, List, Option, None, Some, Ok, Err, length, IsTrue, OnOk, OnErr};
+ghost use Rattle.event_text.specs.Held.{IsWaiting};
+ghost use Rattle.machine_model.specs.State.Machine.{Machine};
+ghost use Rattle.xk_base.specs.declared.limits.TheConstants.{EVENT_FILE_LIMIT};
+ghost use Rattle.xk_base.specs.Outside.{Rose};
+ghost use Rattle.xk_kernel.specs.Sound.{IsSound, IsUsable, Keeps};
+ghost use Rattle.xk_kernel.specs.State.{machine_of};
+ghost use Rattle.xk_ports.specs.declared.host.FileSlot.TheVariants.{First, Second};
+ghost use Rattle.xousim.specs.Gathering.{Text, put, text};
+ghost use Rattle.xousim.specs.Playing.{Goes, HasPlayed, Runs};
+ghost use Rattle.xousim.specs.Reading.{IsTold};
+
+use crate::commands::command::Telling;
+use crate::outside::reading::PIECE;
+use crate::playing::ending::Ending;
+use crate::playing::events::play_known;
+use crate::playing::gathering::{Held, put_held};
+use arrayvec::ArrayVec;
+use event_text::EventReader;
+use xk_base::Failed;
+use xk_kernel::Kernel;
+use xk_ports::{FileSlot, Host, Sink, SwapStore};
+
+/// Why a run over an event file stopped early.
+#[derive(Clone, Copy, Debug, PartialEq, Eq)]
+pub enum RunFault {
+    /// The event file couldn't be read.
+    Read,
+    /// The output couldn't be written.
+    Write,
+}
+
+/// Feeds a piece of the event file to a reader that waits, plays the events that become known and
+/// gathers what is told of them, and answers how the history ended, or None where the reader waits
+/// for the next piece.
+fn feed_piece<K: Sink, W: SwapStore>(
+    kernel: &mut Kernel<W>,
+    reader: &mut EventReader,
+    piece: &[u8],
+    tells: Telling,
+    limit: u32,
+    out: &mut K,
+    held: &mut Held,
+) -> Result<Option<Ending>, Failed>
+    requires sound { IsSound W.slot_count W.held kernel.old }
+    requires usable { IsUsable kernel.old }
+    requires limit { limit ≤ 4000000000 }
+    requires within { (machine_of W.held kernel.old).steps ≤ limit }
+    requires waits { IsWaiting reader.old }
+    requires inside { reader.old.start + length reader.old.held ≤ EVENT_FILE_LIMIT }
+    ensures goes { (start : Machine) (begun : Text) (taken : List ℕ) → HasPlayed tells limit start begun taken reader.old (machine_of W.held kernel.old) (text (K.written out.old) held.old.items) → Goes tells limit start begun (taken ++ piece.now) false reader.new (machine_of W.held kernel.new) (text (K.written out.new) held.new.items) result }
+    ensures sound { IsSound W.slot_count W.held kernel.new }
+    ensures usable { IsUsable kernel.new }
+    ensures keeps { Keeps W.is_honest W.held W.slot_count W.asked W.faults kernel.old kernel.new }
+    ensures within { OnOk result ((machine_of W.held kernel.new).steps ≤ limit) }
+    ensures waits { result ≡ Ok None → IsWaiting reader.new × (reader.new.start + length reader.new.held ≤ EVENT_FILE_LIMIT) }
+    ensures unended { result ≢ Ok (Some Ending.Played) }
+    ensures offset { result ≡ Ok None → reader.new.start + length reader.new.held ≡ reader.old.start + length reader.old.held + length piece.now }
+    ensures cause { OnErr result (Rose (K.faults out.old) (K.faults out.new)) }
+    ensures never_falls { K.faults out.old ≤ K.faults out.new }
+{
+    let mut rest = piece;
+    'rest: while !rest.is_empty() {
+        let taken = reader.feed(rest);
+        rest = &rest[taken..];
+        match play_known(kernel, reader, tells, limit, out, held)? {
+            None => {}
+            Some(ending) => return Ok(Some(ending)),
+        }
+    }
+    Ok(None)
+}
+
+/// Plays the events that become known by a piece of the event file, writes what is told of them, and
+/// answers how the history ended, or None where the reader waits for the next piece.
+fn play_piece<K: Sink, W: SwapStore>(
+    kernel: &mut Kernel<W>,
+    reader: &mut EventReader,
+    piece: &[u8],
+    tells: Telling,
+    limit: u32,
+    out: &mut K,
+) -> Result<Option<Ending>, Failed>
+    requires sound { IsSound W.slot_count W.held kernel.old }
+    requires usable { IsUsable kernel.old }
+    requires limit { limit ≤ 4000000000 }
+    requires within { (machine_of W.held kernel.old).steps ≤ limit }
+    requires waits { IsWaiting reader.old }
+    requires inside { reader.old.start + length reader.old.held ≤ EVENT_FILE_LIMIT }
+    ensures goes { (start : Machine) (begun : Text) (taken : List ℕ) → HasPlayed tells limit start begun taken reader.old (machine_of W.held kernel.old) (put (K.written out.old)) → Goes tells limit start begun (taken ++ piece.now) false reader.new (machine_of W.held kernel.new) (put (K.written out.new)) result }
+    ensures sound { IsSound W.slot_count W.held kernel.new }
+    ensures usable { IsUsable kernel.new }
+    ensures keeps { Keeps W.is_honest W.held W.slot_count W.asked W.faults kernel.old kernel.new }
+    ensures within { OnOk result ((machine_of W.held kernel.new).steps ≤ limit) }
+    ensures waits { result ≡ Ok None → IsWaiting reader.new × (reader.new.start + length reader.new.held ≤ EVENT_FILE_LIMIT) }
+    ensures unended { result ≢ Ok (Some Ending.Played) }
+    ensures offset { result ≡ Ok None → reader.new.start + length reader.new.held ≡ reader.old.start + length reader.old.held + length piece.now }
+    ensures cause { OnErr result (Rose (K.faults out.old) (K.faults out.new)) }
+    ensures never_falls { K.faults out.old ≤ K.faults out.new }
+{
+    let mut held = ArrayVec::new();
+    let ended = feed_piece(kernel, reader, piece, tells, limit, out, &mut held)?;
+    put_held(out, &mut held)?;
+    Ok(ended)
+}
+
+/// Plays all events that the reader knows, writes what is told of them, and answers how the history
+/// ended, or None where the reader waits for bytes.
+fn play_end<K: Sink, W: SwapStore>(
+    kernel: &mut Kernel<W>,
+    reader: &mut EventReader,
+    tells: Telling,
+    limit: u32,
+    out: &mut K,
+) -> Result<Option<Ending>, Failed>
+    requires sound { IsSound W.slot_count W.held kernel.old }
+    requires usable { IsUsable kernel.old }
+    requires limit { limit ≤ 4000000000 }
+    requires within { (machine_of W.held kernel.old).steps ≤ limit }
+    ensures goes { (start : Machine) (begun : Text) (taken : List ℕ) → HasPlayed tells limit start begun taken reader.old (machine_of W.held kernel.old) (put (K.written out.old)) → Goes tells limit start begun taken reader.old.finished reader.new (machine_of W.held kernel.new) (put (K.written out.new)) result }
+    ensures sound { IsSound W.slot_count W.held kernel.new }
+    ensures usable { IsUsable kernel.new }
+    ensures keeps { Keeps W.is_honest W.held W.slot_count W.asked W.faults kernel.old kernel.new }
+    ensures within { OnOk result ((machine_of W.held kernel.new).steps ≤ limit) }
+    ensures waits { result ≡ Ok None → IsWaiting reader.new × (reader.new.start + length reader.new.held ≤ EVENT_FILE_LIMIT) }
+    ensures offset { reader.new.start + length reader.new.held ≡ reader.old.start + length reader.old.held }
+    ensures finished { reader.new.finished ≡ reader.old.finished }
+    ensures end { result ≡ Ok (Some Ending.Played) → reader.new.finished ≡ true }
+    ensures cause { OnErr result (Rose (K.faults out.old) (K.faults out.new)) }
+    ensures never_falls { K.faults out.old ≤ K.faults out.new }
+{
+    let mut held = ArrayVec::new();
+    let ended = play_known(kernel, reader, tells, limit, out, &mut held)?;
+    put_held(out, &mut held)?;
+    Ok(ended)
+}
+
+/// Reads the event file that was picked at the second slot, plays its events on a booted kernel,
+/// and writes what a command tells of their records. It takes no memory.
+pub fn play_file<H: Host, K: Sink, W: SwapStore>(
+    kernel: &mut Kernel<W>,
+    host: &mut H,
+    tells: Telling,
+    limit: u32,
+    out: &mut K,
+) -> Result<Ending, RunFault>
+    requires picked { IsTrue (H.is_picked host.old Second) }
+    requires sound { IsSound W.slot_count W.held kernel.old }
+    requires usable { IsUsable kernel.old }
+    requires limit { limit ≤ 4000000000 }
+    requires within { (machine_of W.held kernel.old).steps ≤ limit }
+    ensures runs { Runs tells (H.left host.old Second) (H.left host.new Second) limit (machine_of W.held kernel.old) (machine_of W.held kernel.new) (K.written out.old) (K.written out.new) result }
+    ensures sound { IsSound W.slot_count W.held kernel.new }
+    ensures usable { IsUsable kernel.new }
+    ensures keeps { Keeps W.is_honest W.held W.slot_count W.asked W.faults kernel.old kernel.new }
+    ensures end { result ≡ Ok Ending.Played → IsTold (H.left host.new Second) [] }
+    ensures read { result ≡ Err RunFault.Read → Rose (H.faults host.old) (H.faults host.new) }
+    ensures write { result ≡ Err RunFault.Write → Rose (K.faults out.old) (K.faults out.new) }
+    ensures asked { H.asked host.new ≡ H.asked host.old }
+    ensures first { H.left host.new First ≡ H.left host.old First }
+    ensures host { H.faults host.old ≤ H.faults host.new }
+    ensures out { K.faults out.old ≤ K.faults out.new }
+{
+    let mut reader = EventReader::new();
+    let mut piece = [0u8; PIECE];
+    'pieces: loop {
+        let Ok(count) = host.read(FileSlot::Second, &mut piece) else {
+            return Err(RunFault::Read);
+        };
+        if count == 0 {
+            reader.finish();
+            return match play_end(kernel, &mut reader, tells, limit, out) {
+                Ok(Some(ending)) => Ok(ending),
+                Ok(None) => unreachable!(),
+                Err(_) => Err(RunFault::Write),
+            };
+        }
+        match play_piece(kernel, &mut reader, &piece[..count], tells, limit, out) {
+            Ok(None) => {}
+            Ok(Some(ending)) => return Ok(ending),
+            Err(_) => return Err(RunFault::Write),
+        }
+    }
+}
