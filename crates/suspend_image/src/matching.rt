@@ -1,6 +1,11 @@
 //! Whether the machine can be in a state that was read: parts of its invariant, each told from the
 //! rows.
 
+pub mod messages;
+pub mod pages;
+pub mod senders;
+pub mod servers;
+
 ghost use Rattle.std.specs.Prelude.{◌≡◌, ◌↔◌, ◌==◌, ◌%◌, ◌&&◌, ◌||◌, ◌≤◌, not, nat_lt, nat_le, length, IsTrue};
 ghost use Rattle.std.specs.List.{list_any, list_all};
 ghost use Rattle.machine_model.specs.Runs.Matched.{AreProcessesMatched, AreReceiversMatched, AreJoinersMatched, AreThreadIdsMatched, AreClaimsMatched, AreNextStepped, AreHandlersMatched, IsTimerMatched};

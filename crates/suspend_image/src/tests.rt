@@ -2,16 +2,16 @@
 //! program.
 
 use crate::faults::{NOT_STATE, STATE_CHECK, STATE_FORM, STATE_LENGTH, StateError};
+use crate::matching::pages::{are_heaps_matched, are_holders_living, are_homes_living};
+use crate::matching::senders::are_senders_matched;
+use crate::matching::servers::{are_next_above, are_servers_matched};
 use crate::matching::{
     are_claims_matched, are_handlers_matched, are_joiners_matched, are_numbers_stepped,
     are_processes_limited, are_processes_matched, are_receivers_matched, are_thread_ids_matched,
     are_threads_right, is_timer_matched,
 };
-use crate::page_matching::{are_heaps_matched, are_holders_living, are_homes_living};
 use crate::reading::read_state;
-use crate::sender_matching::are_senders_matched;
-use crate::server_matching::{are_next_above, are_servers_matched};
-use crate::sheet::Sheet;
+use crate::writing::sheet::Sheet;
 use crate::writing::write_state;
 use kernel_args::ArgFault;
 
@@ -76,7 +76,7 @@ fn small_state_is_written(rt: HostRuntime) {
 }
 
 #[test]
-#[tactic(auto, using(crate::proofs::Parts::OrderLemmas::claims_ascend, crate::proofs::Parts::OrderLemmas::threads_ascend, crate::proofs::Parts::OrderLemmas::servers_ascend))]
+#[tactic(auto, using(crate::proofs::Parts::Keys::OrderLemmas::claims_ascend, crate::proofs::Parts::Keys::OrderLemmas::threads_ascend, crate::proofs::Parts::Keys::OrderLemmas::servers_ascend))]
 fn parts_of_small_state_are_told(rt: HostRuntime) {
     match read_state(rt.alloc(), FILE.as_slice()) {
         Ok(state) => {
@@ -97,7 +97,7 @@ fn parts_of_small_state_are_told(rt: HostRuntime) {
 }
 
 #[test]
-#[tactic(auto, using(crate::proofs::Parts::OrderLemmas::pages_ascend, crate::proofs::Parts::OrderLemmas::procs_counted, crate::proofs::Parts::OrderLemmas::threads_ascend, crate::proofs::Parts::OrderLemmas::servers_ascend))]
+#[tactic(auto, using(crate::proofs::Parts::Keys::OrderLemmas::pages_ascend, crate::proofs::Parts::Keys::OrderLemmas::procs_counted, crate::proofs::Parts::Keys::OrderLemmas::threads_ascend, crate::proofs::Parts::Keys::OrderLemmas::servers_ascend))]
 fn servers_and_pages_of_small_state_are_told(rt: HostRuntime) {
     match read_state(rt.alloc(), FILE.as_slice()) {
         Ok(state) => {

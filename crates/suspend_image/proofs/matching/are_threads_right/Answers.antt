@@ -1,4 +1,4 @@
-use Rattle.suspend_image.proofs.Parts.EachThreadLemmas.{threads_right_told}
+use Rattle.suspend_image.proofs.Parts.Threads.EachThreadLemmas.{threads_right_told}
 use Rattle.suspend_image.proofs.matching.are_threads_right.Goals as goal
 
 pub returns : goal.returns

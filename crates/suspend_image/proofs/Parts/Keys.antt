@@ -1,0 +1,3 @@
+-- Rows by their keys.
+pub mod KeyLemmas
+pub mod OrderLemmas

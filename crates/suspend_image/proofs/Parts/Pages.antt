@@ -1,0 +1,3 @@
+-- Parts that speak of pages.
+pub mod HolderLemmas
+pub mod PageLemmas
