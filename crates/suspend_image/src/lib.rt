@@ -12,12 +12,13 @@ mod writing;
 pub use faults::{NOT_STATE, STATE_CHECK, STATE_FORM, STATE_LENGTH, StateError};
 pub use laws::spelled_once_or_faulty;
 pub use matching::pages::{are_heaps_matched, are_holders_living, are_homes_living};
+pub use matching::places::{are_orphans_placed, are_pages_placed};
 pub use matching::senders::are_senders_matched;
 pub use matching::servers::{are_next_above, are_servers_matched};
 pub use matching::{
     are_claims_matched, are_handlers_matched, are_joiners_matched, are_living_served,
     are_numbers_stepped, are_processes_limited, are_processes_matched, are_receivers_matched,
-    are_thread_ids_matched, are_threads_right, is_timer_matched,
+    are_thread_ids_matched, are_threads_matched, are_threads_right, is_timer_matched,
 };
 pub use reading::read_state;
 pub use state::{ClaimRow, MessageRow, OrphanRow, PageRow, ProcRow, ServerRow, State, ThreadRow};

@@ -86,7 +86,7 @@ fn parts_of_small_state_are_told(rt: HostRuntime) {
             assert!(rt; are_processes_limited(procs));
             assert!(rt; are_claims_matched(procs, claims) && are_handlers_matched(claims));
             assert!(rt; are_receivers_matched(state.servers.as_slice(), threads));
-            assert!(rt; are_joiners_matched(threads) && are_threads_right(threads));
+            assert!(rt; are_joiners_matched(threads) && are_threads_right(procs, threads));
             assert!(rt; are_thread_ids_matched(state.n, procs, threads));
             assert!(rt; is_timer_matched(&state));
             // Nine messages were numbered in five steps.

@@ -1,3 +1,5 @@
 -- Parts that speak of pages.
 pub mod HolderLemmas
+pub mod OrphanLemmas
 pub mod PageLemmas
+pub mod PlacedLemmas

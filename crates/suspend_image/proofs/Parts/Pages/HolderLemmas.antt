@@ -15,16 +15,16 @@ use Rattle.suspend_image.proofs.Parts.Keys.KeyLemmas.{some, some_same, either}
 use Rattle.suspend_image.proofs.Parts.Pages.PageLemmas.{pages_told}
 
 -- the loan of a row that says one
-abbrev loan_row : PageRow → PageLoan
+abbrev pub loan_row : PageRow → PageLoan
 loan_row p = record { holder = place_at p.holder_pid p.holder_page; kind = loan_kind_of p.kind; number = record { 0 = p.number } }
 
-abbrev no_loan : Option PageLoan
+abbrev pub no_loan : Option PageLoan
 no_loan = None
 
 IsHeld : List ProcRow → Page → Type 0
 IsHeld procs page = (loan : PageLoan) → page.loan ≡ Some loan → IsTrue (processes_of procs loan.holder.pid.0).alive
 
-none_some : {A : Type 0} (loan : PageLoan) → no_loan ≡ some loan → A
+pub none_some : {A : Type 0} (loan : PageLoan) → no_loan ≡ some loan → A
 none_some loan e = absurd cc
 
 holder_told : (file : List ℕ) (procs : List ProcRow) (p : PageRow) → IsTrue (is_holder_living procs p) ↔ IsHeld procs (ledger_page file p)
@@ -41,7 +41,7 @@ holder_told file procs p =
       )
     ]
 
-loaned : (o : Option Page) (loan : PageLoan) → loan_of o ≡ Some loan → (page : Page) × (o ≡ Some page) × (page.loan ≡ Some loan)
+pub loaned : (o : Option Page) (loan : PageLoan) → loan_of o ≡ Some loan → (page : Page) × (o ≡ Some page) × (page.loan ≡ Some loan)
 loaned None loan e = none_some loan e
 loaned (Some page) loan e = (page, refl, e)
 

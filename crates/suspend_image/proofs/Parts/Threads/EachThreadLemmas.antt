@@ -1,6 +1,6 @@
 -- What the invariant says of each thread for itself holds exactly where a test of the rows does.
 use Rattle.std.proofs.Common.{◌≡◌, ℕ, ◌%◌, Bool, true, false, eqb, ltb, List, refl, sym, ◌∙◌, arith, inl, inr, ◌↔◌}
-use Rattle.std.specs.Prelude.{◌||◌, IsTrue}
+use Rattle.std.specs.Prelude.{◌&&◌, ◌||◌, IsTrue}
 use Rattle.std.specs.List.{list_all}
 use Rattle.std.proofs.lemmas.Bool.{eqb-true, eqb-false, eq-eqb, ne_eqb, and_parts, le-ltb, ltb-false, cases_Bool}
 use Rattle.machine_model.specs.State.Machine.{Thread, Idle}
@@ -41,28 +41,39 @@ high_idle state waits high =
     let n3 : eqb state 3 ≡ false = ne_eqb state 3 (λ same. omega arith) in
     rw (n0, n1, n2, n3) refl
 
-IsRight : ThreadId → Thread → Type 0
-IsRight id t = (t.pc % 4 ≡ 0) × (t.state ≡ Idle → id.tid.0 ≡ 1)
+IsRight : List ProcRow → ThreadId → Thread → Type 0
+IsRight procs id t = (t.pc % 4 ≡ 0) × (t.state ≡ Idle → (id.tid.0 ≡ 1) × IsTrue (processes_of procs id.pid.0).alive)
 
-right_told : (t : ThreadRow) → IsTrue (is_thread_right t) ↔ IsRight (thread_at_id t.pid t.tid) (thread_of t)
+right_told : (procs : List ProcRow) (t : ThreadRow) → IsTrue (is_thread_right procs t) ↔ IsRight procs (thread_at_id t.pid t.tid) (thread_of t)
 unfolding IsRight
-right_told t = (
+right_told procs t = (
   λ good. (
-      let both = and_parts (eqb (t.pc % 4) 0) (ltb t.state 4 || eqb t.tid 1) good in
-      (eqb-true _ _ both.0, λ idle. eqb-true _ _ (either (ltb t.state 4) (eqb t.tid 1) (idle_high t.state t.waits idle) both.1))
+      let first_of = eqb t.tid 1 && (processes_of procs t.pid).alive in
+      let both = and_parts (eqb (t.pc % 4) 0) (ltb t.state 4 || first_of) good in (
+        eqb-true _ _ both.0,
+        λ idle. (
+            let parts = and_parts (eqb t.tid 1) (processes_of procs t.pid).alive (either (ltb t.state 4) first_of (idle_high t.state t.waits idle) both.1) in
+            (eqb-true _ _ parts.0, parts.1)
+            ),
+      )
       ),
   λ right. (
       elim (cases_Bool (ltb t.state 4)) [
         | inl low ↦ rw (eq-eqb (t.pc % 4) 0 right.0, low) refl
-        | inr high ↦ rw (eq-eqb (t.pc % 4) 0 right.0, high, eq-eqb t.tid 1 (right.1 (high_idle t.state t.waits high))) refl
+        | inr high ↦ (
+            let first = right.1 (high_idle t.state t.waits high) in
+            let alive : (processes_of procs t.pid).alive ≡ true = first.1 in
+            rw (eq-eqb (t.pc % 4) 0 right.0, high, eq-eqb t.tid 1 first.0, alive) refl
+            )
       ]
       ),
 )
 
-pub threads_right_told : (rows : List ThreadRow) (told : Bool) → AscendInTwo thread_key rows → told ≡ list_all is_thread_right rows → IsTrue told ↔ AreThreadsRight (threads_of rows)
+pub threads_right_told : (procs : List ProcRow) (rows : List ThreadRow) (told : Bool) → AscendInTwo thread_key rows → told ≡ list_all (is_thread_right procs) rows
+    → IsTrue told ↔ AreThreadsRight (processes_of procs) (threads_of rows)
 unfolding IsRight
-threads_right_told rows told ascend is =
-    let each = threads_told is_thread_right IsRight right_told rows ascend in (
+threads_right_told procs rows told ascend is =
+    let each = threads_told (is_thread_right procs) (IsRight procs) (right_told procs) rows ascend in (
       λ holds. record { pcs = λ id t e. (each.0 (sym is ∙ holds) id t e).0; idle = λ id t e. (each.0 (sym is ∙ holds) id t e).1 },
       λ right. is ∙ each.1 (λ id t e. (right.pcs id t e, right.idle id t e)),
     )
