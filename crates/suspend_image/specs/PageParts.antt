@@ -1,5 +1,6 @@
 -- What the invariant of the machine asks of pages, as tests of the rows.
 use Rattle.std.specs.Prelude.{◌≡◌, ℕ, ◌+◌, ◌/◌, ◌%◌, ◌==◌, ◌&&◌, ◌||◌, not, nat_le, nat_lt, Bool, true, false, IsTrue, List, Some, None}
+use Rattle.std.specs.List.{list_all}
 use Rattle.xk_base.specs.declared.ids.Place.{Place}
 use Rattle.xk_base.specs.declared.pages.LoanKind.TheVariants.{Exclusive}
 use Rattle.xk_base.specs.declared.windows.Window.TheVariants.{Message, Map}
@@ -71,3 +72,18 @@ pub record ArePagesPlaced (n : ℕ) (ledger : Ledger) : Type 0 where
 pub record AreOrphansPlaced (n : ℕ) (process : ℕ → Process) (ledger : Ledger) : Type 0 where
   pub orphan_lies : (p : Place) (orphan : Orphan) → ledger.orphan p ≡ Some orphan → IsTrue (is_place_in n Message p)
   pub orphans_live : (p : Place) (orphan : Orphan) → ledger.orphan p ≡ Some orphan → IsTrue (is_alive process p.pid)
+
+-- ---- pages beside one another
+
+-- it isn't the console, or stands at the place of the other
+abbrev pub is_console_at : PageRow → PageRow → Bool
+is_console_at c p = nat_lt p.right 4 || (p.pid == c.pid && p.page == c.page)
+
+-- it isn't the console, or no other page is
+abbrev pub is_only_console : List PageRow → PageRow → Bool
+is_only_console rows c = nat_lt c.right 4 || list_all (is_console_at c) rows
+
+-- part 1 of the console: there is at most one
+abbrev pub HasOneConsole : Ledger → Type 0
+HasOneConsole ledger =
+    (p q : Place) (a b : Page) → ledger.home p ≡ Some a → ledger.home q ≡ Some b → a.contents ≡ Console → b.contents ≡ Console → p ≡ q

@@ -8,7 +8,7 @@ ghost use Rattle.suspend_image.specs.declared.state.PageRow.{PageRow as APage};
 ghost use Rattle.suspend_image.specs.Rows.{page_key, orphan_key};
 ghost use Rattle.suspend_image.specs.Machines.{processes_of, ledger_of};
 ghost use Rattle.suspend_image.specs.Parts.{AscendInTwo};
-ghost use Rattle.suspend_image.specs.PageParts.{is_home_placed as is_home_placed_of, is_holder_placed as is_holder_placed_of, is_console_placed as is_console_placed_of, is_lent_writable as is_lent_writable_of, is_page_placed as is_page_placed_of, is_orphan_placed as is_orphan_placed_of, ArePagesPlaced, AreOrphansPlaced};
+ghost use Rattle.suspend_image.specs.PageParts.{is_home_placed as is_home_placed_of, is_holder_placed as is_holder_placed_of, is_console_placed as is_console_placed_of, is_lent_writable as is_lent_writable_of, is_page_placed as is_page_placed_of, is_orphan_placed as is_orphan_placed_of, is_console_at as is_console_at_of, is_only_console as is_only_console_of, HasOneConsole, ArePagesPlaced, AreOrphansPlaced};
 
 use crate::matching::is_alive;
 use crate::state::{OrphanRow, PageRow, ProcRow};
@@ -116,4 +116,38 @@ pub fn are_orphans_placed(n: u32, procs: &[ProcRow], orphans: &[OrphanRow]) -> b
     ensures { (file : List ℕ) (pages : List APage) → IsTrue result ↔ AreOrphansPlaced n (processes_of procs.now) (ledger_of file pages orphans.now) }
 {
     all_orphans_placed(n, procs, orphans)
+}
+
+/// Whether a page isn't the console, or stands at the place of the other.
+fn is_console_at(console: &PageRow, page: &PageRow) -> bool
+    ensures { result ≡ is_console_at_of console.now page.now }
+{
+    page.right < CONSOLE || (page.pid == console.pid && page.page == console.page)
+}
+
+fn are_consoles_at(pages: &[PageRow], console: &PageRow) -> bool
+    ensures { result ≡ list_all (is_console_at_of console.now) pages.now }
+{
+    pages.iter().all(|page| is_console_at(console, page))
+}
+
+fn is_only_console(pages: &[PageRow], page: &PageRow) -> bool
+    ensures { result ≡ is_only_console_of pages.now page.now }
+{
+    page.right < CONSOLE || are_consoles_at(pages, page)
+}
+
+/// The first two consoles end the look, so that pages are looked at twice at most.
+fn all_only_consoles(pages: &[PageRow]) -> bool
+    ensures { result ≡ list_all (is_only_console_of pages.now) pages.now }
+{
+    pages.iter().all(|page| is_only_console(pages, page))
+}
+
+/// Part 1, of the console: at most one page is it.
+pub fn has_one_console(pages: &[PageRow]) -> bool
+    requires { AscendInTwo page_key pages.now }
+    ensures { (file : List ℕ) (orphans : List AnOrphan) → IsTrue result ↔ HasOneConsole (ledger_of file pages.now orphans) }
+{
+    all_only_consoles(pages)
 }

@@ -2,7 +2,7 @@
 use Rattle.std.proofs.Common.{◌≡◌, ℕ, ◌/◌, ◌%◌, Bool, true, false, not, cond, eqb, ltb, List, Some, refl, sym, ap, subst, ◌∙◌, inl, inr, ◌↔◌}
 use Rattle.std.specs.Prelude.{◌&&◌, ◌||◌, IsTrue}
 use Rattle.std.specs.List.{list_all}
-use Rattle.std.proofs.lemmas.Bool.{cases_Bool}
+use Rattle.std.proofs.lemmas.Bool.{cases_Bool, and_parts, eqb-true, eq-eqb}
 use Rattle.xk_base.specs.declared.ids.Place.{Place}
 use Rattle.xk_base.specs.declared.pages.LoanKind.{LoanKind}
 use Rattle.xk_base.specs.declared.pages.LoanKind.TheVariants.{Shared, Exclusive}
@@ -15,7 +15,7 @@ use Rattle.suspend_image.specs.Rows.{page_key}
 use Rattle.suspend_image.specs.Spelling.{contents_at}
 use Rattle.suspend_image.specs.Machines.{place_at, page_loan, ledger_page, ledger_of}
 use Rattle.suspend_image.specs.Parts.{AscendInTwo}
-use Rattle.suspend_image.specs.PageParts.{is_page_placed, ArePagesPlaced}
+use Rattle.suspend_image.specs.PageParts.{is_page_placed, ArePagesPlaced, is_console_at, is_only_console, HasOneConsole}
 use Rattle.suspend_image.proofs.Parts.Keys.KeyLemmas.{some, some_same, either}
 use Rattle.suspend_image.proofs.Parts.Pages.HolderLemmas.{loan_row, no_loan, none_some, loaned}
 use Rattle.suspend_image.proofs.Parts.Pages.PageLemmas.{pages_told}
@@ -154,3 +154,45 @@ pages_placed_told n file orphans rows told ascend is =
           ))
           ),
     )
+
+-- ---- one console
+
+IsAt : Place → Place → Page → Type 0
+IsAt c at page = IfConsole (c ≡ at) page
+
+IsOnly : List ℕ → List OrphanRow → List PageRow → Place → Page → Type 0
+IsOnly file orphans rows at page =
+    IfConsole ((other : Place) (b : Page) → (ledger_of file rows orphans).home other ≡ Some b → IsAt at other b) page
+
+place_told : (c p : PageRow) → IsTrue (eqb p.pid c.pid && eqb p.page c.page) ↔ place_at c.pid c.page ≡ place_at p.pid p.page
+place_told c p = (
+  λ holds. (
+      let both = and_parts (eqb p.pid c.pid) (eqb p.page c.page) holds in
+      let pid = eqb-true p.pid c.pid both.0 in
+      let page = eqb-true p.page c.page both.1 in
+      ap (λ (n : ℕ). place_at n c.page) (sym pid) ∙ ap (λ (n : ℕ). place_at p.pid n) (sym page)
+      ),
+  λ e. (
+      let pid : eqb p.pid c.pid ≡ true = eq-eqb p.pid c.pid (sym (ap (λ (at : Place). at.pid.0) e)) in
+      let page : eqb p.page c.page ≡ true = eq-eqb p.page c.page (sym (ap (λ (at : Place). at.vpn.0) e)) in
+      rw (pid, page) refl
+      ),
+)
+
+console_at_told : (file : List ℕ) (c p : PageRow) → IsTrue (is_console_at c p) ↔ IsAt (place_at c.pid c.page) (place_at p.pid p.page) (ledger_page file p)
+unfolding IsAt
+console_at_told file c p = if_console file (place_at c.pid c.page ≡ place_at p.pid p.page) p _ (place_told c p)
+
+only_told : (file : List ℕ) (orphans : List OrphanRow) (rows : List PageRow) → AscendInTwo page_key rows → (c : PageRow)
+    → IsTrue (is_only_console rows c) ↔ IsOnly file orphans rows (place_at c.pid c.page) (ledger_page file c)
+unfolding IsOnly
+only_told file orphans rows ascend c =
+    if_console file ((other : Place) (b : Page) → (ledger_of file rows orphans).home other ≡ Some b → IsAt (place_at c.pid c.page) other b) c _
+    (pages_told file orphans (is_console_at c) (IsAt (place_at c.pid c.page)) (console_at_told file c) rows ascend)
+
+pub one_console_told : (file : List ℕ) (orphans : List OrphanRow) (rows : List PageRow) (told : Bool) → AscendInTwo page_key rows
+    → told ≡ list_all (is_only_console rows) rows → IsTrue told ↔ HasOneConsole (ledger_of file rows orphans)
+unfolding IsOnly IsAt IfConsole
+one_console_told file orphans rows told ascend is =
+    let each = pages_told file orphans (is_only_console rows) (IsOnly file orphans rows) (only_told file orphans rows ascend) rows ascend in
+    (λ holds p q a b here there one other. each.0 (sym is ∙ holds) p a here one q b there other, λ only. is ∙ each.1 (λ at page e one other b there console. only at other page b e there one console))
