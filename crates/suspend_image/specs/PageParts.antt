@@ -1,6 +1,6 @@
 -- What the invariant of the machine asks of pages, as tests of the rows.
 use Rattle.std.specs.Prelude.{◌≡◌, ℕ, ◌+◌, ◌/◌, ◌%◌, ◌==◌, ◌&&◌, ◌||◌, not, nat_le, nat_lt, Bool, true, false, IsTrue, List, Some, None}
-use Rattle.std.specs.List.{list_all}
+use Rattle.std.specs.List.{list_all, list_any}
 use Rattle.xk_base.specs.declared.ids.Place.{Place}
 use Rattle.xk_base.specs.declared.pages.LoanKind.TheVariants.{Exclusive}
 use Rattle.xk_base.specs.declared.windows.Window.TheVariants.{Message, Map}
@@ -87,3 +87,24 @@ is_only_console rows c = nat_lt c.right 4 || list_all (is_console_at c) rows
 abbrev pub HasOneConsole : Ledger → Type 0
 HasOneConsole ledger =
     (p q : Place) (a b : Page) → ledger.home p ≡ Some a → ledger.home q ≡ Some b → a.contents ≡ Console → b.contents ≡ Console → p ≡ q
+
+-- no page has its home at this place, and no orphan stands there
+abbrev pub has_no_home : List PageRow → ℕ → ℕ → Bool
+has_no_home pages pid page = not (list_any (λ p. p.pid == pid && p.page == page) pages)
+
+abbrev pub has_no_orphan : List OrphanRow → ℕ → ℕ → Bool
+has_no_orphan orphans pid page = not (list_any (λ o. o.pid == pid && o.page == page) orphans)
+
+-- a page isn't on loan, or its holder's place is neither a home nor an orphan's
+abbrev pub is_holder_apart : List PageRow → List OrphanRow → PageRow → Bool
+is_holder_apart pages orphans p = p.kind == 0 || (has_no_home pages p.holder_pid p.holder_page && has_no_orphan orphans p.holder_pid p.holder_page)
+
+-- the place of an orphan is no home
+abbrev pub is_orphan_apart : List PageRow → OrphanRow → Bool
+is_orphan_apart pages o = has_no_home pages o.pid o.page
+
+-- part 1 of places: homes, holders' places and those of orphans are apart
+pub record ArePlacesApart (ledger : Ledger) : Type 0 where
+  pub holder_no_home : (p : Place) (loan : PageLoan) → loan_at ledger p ≡ Some loan → ledger.home loan.holder ≡ None
+  pub holder_no_orphan : (p : Place) (loan : PageLoan) → loan_at ledger p ≡ Some loan → ledger.orphan loan.holder ≡ None
+  pub orphan_no_home : (p : Place) (orphan : Orphan) → ledger.orphan p ≡ Some orphan → ledger.home p ≡ None

@@ -13,6 +13,7 @@ pub use faults::{NOT_STATE, STATE_CHECK, STATE_FORM, STATE_LENGTH, StateError};
 pub use laws::spelled_once_or_faulty;
 pub use matching::pages::{are_heaps_matched, are_holders_living, are_homes_living};
 pub use matching::places::{are_orphans_placed, are_pages_placed, has_one_console};
+pub use matching::search::are_places_apart;
 pub use matching::senders::are_senders_matched;
 pub use matching::servers::{are_next_above, are_servers_matched};
 pub use matching::{

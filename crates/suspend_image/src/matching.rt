@@ -4,6 +4,7 @@
 pub mod messages;
 pub mod pages;
 pub mod places;
+pub mod search;
 pub mod senders;
 pub mod servers;
 

@@ -3,6 +3,8 @@
 
 use crate::faults::{NOT_STATE, STATE_CHECK, STATE_FORM, STATE_LENGTH, StateError};
 use crate::matching::pages::{are_heaps_matched, are_holders_living, are_homes_living};
+use crate::matching::places::{are_orphans_placed, are_pages_placed, has_one_console};
+use crate::matching::search::are_places_apart;
 use crate::matching::senders::are_senders_matched;
 use crate::matching::servers::{are_next_above, are_servers_matched};
 use crate::matching::{
@@ -97,7 +99,7 @@ fn parts_of_small_state_are_told(rt: HostRuntime) {
 }
 
 #[test]
-#[tactic(auto, using(crate::proofs::Parts::Keys::OrderLemmas::pages_ascend, crate::proofs::Parts::Keys::OrderLemmas::procs_counted, crate::proofs::Parts::Keys::OrderLemmas::threads_ascend, crate::proofs::Parts::Keys::OrderLemmas::servers_ascend))]
+#[tactic(auto, using(crate::proofs::Parts::Keys::OrderLemmas::pages_ascend, crate::proofs::Parts::Keys::OrderLemmas::orphans_ascend, crate::proofs::Parts::Keys::OrderLemmas::procs_counted, crate::proofs::Parts::Keys::OrderLemmas::threads_ascend, crate::proofs::Parts::Keys::OrderLemmas::servers_ascend))]
 fn servers_and_pages_of_small_state_are_told(rt: HostRuntime) {
     match read_state(rt.alloc(), FILE.as_slice()) {
         Ok(state) => {
@@ -105,7 +107,10 @@ fn servers_and_pages_of_small_state_are_told(rt: HostRuntime) {
             let servers = state.servers.as_slice();
             let pages = state.pages.as_slice();
             assert!(rt; are_heaps_matched(procs, pages) && are_homes_living(procs, pages));
-            assert!(rt; are_holders_living(procs, pages));
+            assert!(rt; are_holders_living(procs, pages) && are_pages_placed(state.n, pages));
+            let orphans = state.orphans.as_slice();
+            assert!(rt; are_orphans_placed(state.n, procs, orphans) && has_one_console(pages));
+            assert!(rt; are_places_apart(pages, orphans));
             assert!(rt;
                 are_processes_matched(state.n, procs) && are_servers_matched(procs, servers)
             );

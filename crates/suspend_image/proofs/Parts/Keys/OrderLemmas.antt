@@ -1,13 +1,15 @@
 -- The rows of a file stand in the order that their form says.
 use Rattle.std.proofs.Common.{◌≡◌, ℕ, ◌+◌, ◌≤◌, Bool, true, false, cond, eqb, List, [], ◌∷◌, Option, Some, None, length, arith}
 use Rattle.suspend_image.specs.declared.state.State.{State}
+use Rattle.suspend_image.specs.declared.state.OrphanRow.{OrphanRow}
 use Rattle.suspend_image.specs.declared.state.PageRow.{PageRow}
 use Rattle.suspend_image.specs.declared.state.ThreadRow.{ThreadRow}
 use Rattle.suspend_image.specs.Reading.{after}
-use Rattle.suspend_image.specs.Rows.{thread_key, server_key, claim_key, page_key}
-use Rattle.suspend_image.specs.Forms.{AreInOrder, ArePlaced, IsThreadRow, IsServerRow, IsClaimRow, IsPageRow, Spells}
+use Rattle.suspend_image.specs.Rows.{thread_key, server_key, claim_key, page_key, orphan_key}
+use Rattle.suspend_image.specs.Forms.{AreInOrder, ArePlaced, IsThreadRow, IsServerRow, IsClaimRow, IsPageRow, IsOrphanRow, Spells}
 use Rattle.suspend_image.specs.Spelling.{page_bytes, orphan_bytes, rows_bytes}
 use Rattle.suspend_image.specs.Parts.{Ascend, AscendInTwo}
+use Rattle.suspend_image.proofs.Parts.Pages.OrphanLemmas.{OrphanForm}
 use Rattle.suspend_image.proofs.Parts.Pages.PageLemmas.{PageForm}
 use Rattle.suspend_image.proofs.Parts.Threads.ThreadLemmas.{ThreadForm}
 
@@ -51,6 +53,14 @@ pub pages_ascend : (file : List ℕ) (s : State) → Spells file s → AscendInT
 pages_ascend file s spells =
     weaker_placed (IsPageRow (length file) s.n) PageForm page_key (page_bytes file) (page_form (length file) s.n) (length (rows_bytes (orphan_bytes file) s.orphans)) None s.pages
     spells.form.pages
+
+orphan_form : (size n : ℕ) (before : Option (ℕ × ℕ)) (left : ℕ) (o : OrphanRow) → IsOrphanRow size n before left o → OrphanForm before o
+orphan_form size n None left o is = (omega arith, omega arith)
+orphan_form size n (Some before) left o is = (is.pid.at_least, is.page.at_least)
+
+pub orphans_ascend : (file : List ℕ) (s : State) → Spells file s → AscendInTwo orphan_key s.orphans
+orphans_ascend file s spells =
+    weaker_placed (IsOrphanRow (length file) s.n) OrphanForm orphan_key (orphan_bytes file) (orphan_form (length file) s.n) 0 None s.orphans spells.form.orphans
 
 -- there are as many processes as it says
 pub procs_counted : (file : List ℕ) (s : State) → Spells file s → length s.procs ≡ s.n

@@ -22,10 +22,10 @@ use Rattle.suspend_image.proofs.Parts.Pages.PageLemmas.{pages_told}
 
 -- ---- of a page on loan
 
-OnLoan : (PageLoan → Type 0) → Page → Type 0
+unfoldable pub OnLoan : (PageLoan → Type 0) → Page → Type 0
 OnLoan Q page = (loan : PageLoan) → page.loan ≡ Some loan → Q loan
 
-on_loan : (file : List ℕ) (Q : PageLoan → Type 0) (p : PageRow) (good : Bool) → (IsTrue good ↔ Q (loan_row p))
+pub on_loan : (file : List ℕ) (Q : PageLoan → Type 0) (p : PageRow) (good : Bool) → (IsTrue good ↔ Q (loan_row p))
     → IsTrue (eqb p.kind 0 || good) ↔ OnLoan Q (ledger_page file p)
 unfolding OnLoan
 on_loan file Q p good tells =
@@ -70,7 +70,7 @@ not_told : (b : Bool) → IsTrue (not b) ↔ b ≡ false
 not_told true = (λ e. absurd cc, λ e. absurd cc)
 not_told false = (λ e. refl, λ e. refl)
 
-both : {P Q : Type 0} (a b : Bool) → (IsTrue a ↔ P) → (IsTrue b ↔ Q) → IsTrue (a && b) ↔ (P × Q)
+pub both : {P Q : Type 0} (a b : Bool) → (IsTrue a ↔ P) → (IsTrue b ↔ Q) → IsTrue (a && b) ↔ (P × Q)
 both true true p q = (λ holds. (p.0 refl, q.0 refl), λ pq. refl)
 both true false p q = (λ holds. absurd cc, λ pq. q.1 pq.1)
 both false b p q = (λ holds. absurd cc, λ pq. p.1 pq.0)
