@@ -1,8 +1,8 @@
 -- Rows are read one after the other, as a loop does.
 use Rattle.std.proofs.Common.{◌≡◌, ℕ, zero, suc, ◌-◌, ◌+◌, ◌≤◌, ◌<◌, List, [], ◌∷◌, ◌++◌, Option, Some, None, Ok, Err, refl, sym, ap, ◌∙◌, append_assoc, arith}
 use Rattle.std.proofs.lemmas.List.{append-nil}
-use Rattle.suspend_image.specs.declared.broken.Broken.{Broken}
-use Rattle.suspend_image.specs.declared.broken.Broken.TheVariants as broken
+use Rattle.suspend_image.specs.declared.reading.broken.Broken.{Broken}
+use Rattle.suspend_image.specs.declared.reading.broken.Broken.TheVariants as broken
 use Rattle.suspend_image.specs.Reading.{Found, ◌>>=◌, Fails, rows_at, items_at}
 
 -- what was read before, and what is still read

@@ -1,12 +1,17 @@
 -- What the invariant of the machine asks of pages, as tests of the rows.
-use Rattle.std.specs.Prelude.{◌≡◌, ℕ, ◌+◌, ◌/◌, ◌==◌, ◌&&◌, ◌||◌, not, nat_le, nat_lt, Bool, IsTrue, List, Some}
+use Rattle.std.specs.Prelude.{◌≡◌, ℕ, ◌+◌, ◌/◌, ◌%◌, ◌==◌, ◌&&◌, ◌||◌, not, nat_le, nat_lt, Bool, true, false, IsTrue, List, Some, None}
+use Rattle.std.specs.List.{list_all, list_any}
 use Rattle.xk_base.specs.declared.ids.Place.{Place}
-use Rattle.ledger_model.specs.Ledger.{PageLoan, Ledger, loan_at}
+use Rattle.xk_base.specs.declared.pages.LoanKind.TheVariants.{Exclusive}
+use Rattle.xk_base.specs.declared.windows.Window.TheVariants.{Message, Map}
+use Rattle.ledger_model.specs.Ledger.{Console, Page, PageLoan, Orphan, Ledger, loan_at}
+use Rattle.ledger_model.specs.Places.{is_user_place, is_place_in}
 use Rattle.machine_model.specs.State.Machine.{Process}
 use Rattle.machine_model.specs.Runs.Matched.{is_alive}
+use Rattle.suspend_image.specs.declared.state.OrphanRow.{OrphanRow}
 use Rattle.suspend_image.specs.declared.state.PageRow.{PageRow}
 use Rattle.suspend_image.specs.declared.state.ProcRow.{ProcRow}
-use Rattle.suspend_image.specs.Machines.{processes_of}
+use Rattle.suspend_image.specs.Machines.{place_at, processes_of}
 
 -- a page of the Heap window
 abbrev pub is_heap_page : PageRow → Bool
@@ -27,3 +32,79 @@ is_holder_living procs p = p.kind == 0 || (processes_of procs p.holder_pid).aliv
 -- part 1 of the holders of pages on loan
 abbrev pub AreHoldersLiving : (ℕ → Process) → Ledger → Type 0
 AreHoldersLiving process ledger = (p : Place) (loan : PageLoan) → loan_at ledger p ≡ Some loan → IsTrue (is_alive process loan.holder.pid)
+
+-- ---- where pages may stand, each looked at alone
+
+-- the home of a page lies in a window of one of n processes
+abbrev pub is_home_placed : ℕ → PageRow → Bool
+is_home_placed n p = is_user_place n (place_at p.pid p.page)
+
+-- a page on loan has its holder's place in the Message window
+abbrev pub is_holder_placed : ℕ → PageRow → Bool
+is_holder_placed n p = p.kind == 0 || is_place_in n Message (place_at p.holder_pid p.holder_page)
+
+-- the console lies in the Map window, and is neither on loan nor executable
+abbrev pub is_console_placed : ℕ → PageRow → Bool
+is_console_placed n p = nat_lt p.right 4 || (is_place_in n Map (place_at p.pid p.page) && (p.kind == 0 && not (p.right / 2 % 2 == 1)))
+
+-- a page under an Exclusive loan is writable
+abbrev pub is_lent_writable : PageRow → Bool
+is_lent_writable p = p.kind == 0 || (p.kind == 1 || p.right % 2 == 1)
+
+abbrev pub is_page_placed : ℕ → PageRow → Bool
+is_page_placed n p = is_home_placed n p && (is_holder_placed n p && (is_console_placed n p && is_lent_writable p))
+
+-- the place of an orphan lies in the Message window of a living process
+abbrev pub is_orphan_placed : ℕ → List ProcRow → OrphanRow → Bool
+is_orphan_placed n procs o = is_place_in n Message (place_at o.pid o.page) && (processes_of procs o.pid).alive
+
+-- part 1 of pages, each looked at alone
+pub record ArePagesPlaced (n : ℕ) (ledger : Ledger) : Type 0 where
+  pub home_lies : (p : Place) (page : Page) → ledger.home p ≡ Some page → IsTrue (is_user_place n p)
+  pub holder_lies : (p : Place) (loan : PageLoan) → loan_at ledger p ≡ Some loan → IsTrue (is_place_in n Message loan.holder)
+  pub console_lies : (p : Place) (page : Page) → ledger.home p ≡ Some page → page.contents ≡ Console → IsTrue (is_place_in n Map p)
+  pub console_no_loan : (p : Place) (page : Page) → ledger.home p ≡ Some page → page.contents ≡ Console → page.loan ≡ None
+  pub console_no_fetch : (p : Place) (page : Page) → ledger.home p ≡ Some page → page.contents ≡ Console → page.right.x ≡ false
+  pub exclusive_writable : (p : Place) (page : Page) (loan : PageLoan) → ledger.home p ≡ Some page → page.loan ≡ Some loan → loan.kind ≡ Exclusive
+      → page.right.w ≡ true
+
+-- part 1 of orphans, each looked at alone
+pub record AreOrphansPlaced (n : ℕ) (process : ℕ → Process) (ledger : Ledger) : Type 0 where
+  pub orphan_lies : (p : Place) (orphan : Orphan) → ledger.orphan p ≡ Some orphan → IsTrue (is_place_in n Message p)
+  pub orphans_live : (p : Place) (orphan : Orphan) → ledger.orphan p ≡ Some orphan → IsTrue (is_alive process p.pid)
+
+-- ---- pages beside one another
+
+-- it isn't the console, or stands at the place of the other
+abbrev pub is_console_at : PageRow → PageRow → Bool
+is_console_at c p = nat_lt p.right 4 || (p.pid == c.pid && p.page == c.page)
+
+-- it isn't the console, or no other page is
+abbrev pub is_only_console : List PageRow → PageRow → Bool
+is_only_console rows c = nat_lt c.right 4 || list_all (is_console_at c) rows
+
+-- part 1 of the console: there is at most one
+abbrev pub HasOneConsole : Ledger → Type 0
+HasOneConsole ledger =
+    (p q : Place) (a b : Page) → ledger.home p ≡ Some a → ledger.home q ≡ Some b → a.contents ≡ Console → b.contents ≡ Console → p ≡ q
+
+-- no page has its home at this place, and no orphan stands there
+abbrev pub has_no_home : List PageRow → ℕ → ℕ → Bool
+has_no_home pages pid page = not (list_any (λ p. p.pid == pid && p.page == page) pages)
+
+abbrev pub has_no_orphan : List OrphanRow → ℕ → ℕ → Bool
+has_no_orphan orphans pid page = not (list_any (λ o. o.pid == pid && o.page == page) orphans)
+
+-- a page isn't on loan, or its holder's place is neither a home nor an orphan's
+abbrev pub is_holder_apart : List PageRow → List OrphanRow → PageRow → Bool
+is_holder_apart pages orphans p = p.kind == 0 || (has_no_home pages p.holder_pid p.holder_page && has_no_orphan orphans p.holder_pid p.holder_page)
+
+-- the place of an orphan is no home
+abbrev pub is_orphan_apart : List PageRow → OrphanRow → Bool
+is_orphan_apart pages o = has_no_home pages o.pid o.page
+
+-- part 1 of places: homes, holders' places and those of orphans are apart
+pub record ArePlacesApart (ledger : Ledger) : Type 0 where
+  pub holder_no_home : (p : Place) (loan : PageLoan) → loan_at ledger p ≡ Some loan → ledger.home loan.holder ≡ None
+  pub holder_no_orphan : (p : Place) (loan : PageLoan) → loan_at ledger p ≡ Some loan → ledger.orphan loan.holder ≡ None
+  pub orphan_no_home : (p : Place) (orphan : Orphan) → ledger.orphan p ≡ Some orphan → ledger.home p ≡ None

@@ -40,18 +40,18 @@ awaits_server servers t = not (t.state == 1) || list_any (is_awaited t) servers
 abbrev pub is_thread_living : ℕ → List ProcRow → ThreadRow → Bool
 is_thread_living n procs t = is_thread_id n (thread_at_id t.pid t.tid) && (processes_of procs t.pid).alive
 
--- its pc is the address of an instruction, and only tid 1 is Idle
-abbrev pub is_thread_right : ThreadRow → Bool
-is_thread_right t = t.pc % 4 == 0 && (nat_lt t.state 4 || t.tid == 1)
+-- its pc is the address of an instruction, and only tid 1 of a living process is Idle
+abbrev pub is_thread_right : List ProcRow → ThreadRow → Bool
+is_thread_right procs t = t.pc % 4 == 0 && (nat_lt t.state 4 || (t.tid == 1 && (processes_of procs t.pid).alive))
 
 -- a claim of an interrupt that there is, by a living process
 abbrev pub is_claim_living : List ProcRow → ClaimRow → Bool
 is_claim_living procs c = nat_lt c.number 32 && (processes_of procs c.pid).alive
 
--- every pc is the address of an instruction, and no thread above tid 1 is Idle: part 6 of threads, each for itself
-pub record AreThreadsRight (threads : ThreadId → Option Thread) : Type 0 where
+-- every pc is the address of an instruction, and only tid 1 of a living process is Idle: part 6 of threads, each for itself
+pub record AreThreadsRight (process : ℕ → Process) (threads : ThreadId → Option Thread) : Type 0 where
   pub pcs : (id : ThreadId) (t : Thread) → threads id ≡ Some t → t.pc % 4 ≡ 0
-  pub idle : (id : ThreadId) (t : Thread) → threads id ≡ Some t → t.state ≡ Idle → id.tid.0 ≡ 1
+  pub idle : (id : ThreadId) (t : Thread) → threads id ≡ Some t → t.state ≡ Idle → (id.tid.0 ≡ 1) × IsTrue (is_alive process id.pid)
 
 -- the process has a tid 1 that is Ready or Idle, and a thread above
 abbrev pub has_threads : List ThreadRow → ℕ → Bool

@@ -2,8 +2,8 @@
 -- how many bytes stand from it on. A part of a word at the end of the bytes is a word that is missing.
 use Rattle.std.specs.Prelude.{◌≡◌, ℕ, zero, suc, ◌+◌, ◌==◌, Bool, ◌||◌, nat_lt, if◌then◌else◌, List, [], ◌∷◌, length, take, drop, Option, Some, None, Result, Ok, Err}
 use Rattle.byteorder.specs.Endian.{little_number}
-use Rattle.suspend_image.specs.declared.broken.Broken.{Broken}
-use Rattle.suspend_image.specs.declared.broken.Broken.TheVariants as broken
+use Rattle.suspend_image.specs.declared.reading.broken.Broken.{Broken}
+use Rattle.suspend_image.specs.declared.reading.broken.Broken.TheVariants as broken
 
 -- a value and the bytes after it, or how many bytes stand from the first word on that breaks the form
 abbrev pub Found : Type 0 → Type 0

@@ -1,9 +1,9 @@
 -- The rows of the parts of a state, read from the front of bytes: which words each has, and what each word may be.
 use Rattle.std.specs.Prelude.{ℕ, ◌+◌, ◌-◌, ◌==◌, Bool, true, not, ◌&&◌, ◌||◌, nat_lt, nat_le, if◌then◌else◌, List, length, take, drop, Option, Some, None, Ok, Err}
 use Rattle.byteorder.specs.Endian.{little_number}
-use Rattle.suspend_image.specs.declared.numbers.Numbers.{Numbers}
-use Rattle.suspend_image.specs.declared.numbers.Timer.{Timer}
-use Rattle.suspend_image.specs.declared.numbers.Reserved.{Reserved}
+use Rattle.suspend_image.specs.declared.reading.numbers.Numbers.{Numbers}
+use Rattle.suspend_image.specs.declared.reading.numbers.Timer.{Timer}
+use Rattle.suspend_image.specs.declared.reading.numbers.Reserved.{Reserved}
 use Rattle.suspend_image.specs.declared.state.ProcRow.{ProcRow}
 use Rattle.suspend_image.specs.declared.state.ThreadRow.{ThreadRow}
 use Rattle.suspend_image.specs.declared.state.MessageRow.{MessageRow}

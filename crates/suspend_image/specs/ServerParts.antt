@@ -6,8 +6,8 @@ use Rattle.suspend_image.specs.declared.state.MessageRow.{MessageRow}
 use Rattle.suspend_image.specs.declared.state.ProcRow.{ProcRow}
 use Rattle.suspend_image.specs.declared.state.ServerRow.{ServerRow}
 use Rattle.suspend_image.specs.declared.state.ThreadRow.{ThreadRow}
-use Rattle.suspend_image.specs.declared.messages.Sought.{Sought}
-use Rattle.suspend_image.specs.declared.messages.Sought.TheVariants.{Numbered, SentAs}
+use Rattle.suspend_image.specs.declared.matching.messages.Sought.{Sought}
+use Rattle.suspend_image.specs.declared.matching.messages.Sought.TheVariants.{Numbered, SentAs}
 use Rattle.suspend_image.specs.Machines.{processes_of}
 
 -- a server of a living process

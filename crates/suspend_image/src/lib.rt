@@ -2,43 +2,31 @@
 //! from.
 #![tactic(auto)]
 
-mod broken;
-mod claims;
 mod faults;
 mod laws;
 mod matching;
-mod messages;
-mod numbers;
-mod page_matching;
-mod page_writing;
-mod pages;
-mod procs;
 mod reading;
-mod rows;
-mod sender_matching;
-mod server_matching;
-mod servers;
-mod sheet;
 mod state;
-mod tables;
-mod threads;
-mod words;
 mod writing;
 
 pub use faults::{NOT_STATE, STATE_CHECK, STATE_FORM, STATE_LENGTH, StateError};
 pub use laws::spelled_once_or_faulty;
+pub use matching::pages::{are_heaps_matched, are_holders_living, are_homes_living};
+pub use matching::places::{are_orphans_placed, are_pages_placed, has_one_console};
+pub use matching::search::are_places_apart;
+pub use matching::senders::are_senders_matched;
+pub use matching::servers::{are_next_above, are_servers_matched};
 pub use matching::{
     are_claims_matched, are_handlers_matched, are_joiners_matched, are_living_served,
     are_numbers_stepped, are_processes_limited, are_processes_matched, are_receivers_matched,
-    are_thread_ids_matched, are_threads_right, is_timer_matched,
+    are_thread_ids_matched, are_threads_matched, are_threads_right, is_timer_matched,
 };
-pub use page_matching::{are_heaps_matched, are_holders_living, are_homes_living};
 pub use reading::read_state;
-pub use rows::{write_claim, write_message, write_orphan_words, write_page_words, write_thread};
-pub use sender_matching::are_senders_matched;
-pub use server_matching::{are_next_above, are_servers_matched};
-pub use sheet::Sheet;
 pub use state::{ClaimRow, MessageRow, OrphanRow, PageRow, ProcRow, ServerRow, State, ThreadRow};
+pub use writing::rows::{
+    write_claim, write_message, write_orphan_words, write_page_words, write_thread,
+};
+pub use writing::sheet::Sheet;
 pub use writing::{begin_state, finish_state, write_state};
 
 #[cfg(test)]

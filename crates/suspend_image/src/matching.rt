@@ -1,12 +1,19 @@
 //! Whether the machine can be in a state that was read: parts of its invariant, each told from the
 //! rows.
 
+pub mod messages;
+pub mod pages;
+pub mod places;
+pub mod search;
+pub mod senders;
+pub mod servers;
+
 ghost use Rattle.std.specs.Prelude.{◌≡◌, ◌↔◌, ◌==◌, ◌%◌, ◌&&◌, ◌||◌, ◌≤◌, not, nat_lt, nat_le, length, IsTrue};
 ghost use Rattle.std.specs.List.{list_any, list_all};
-ghost use Rattle.machine_model.specs.Runs.Matched.{AreProcessesMatched, AreReceiversMatched, AreJoinersMatched, AreThreadIdsMatched, AreClaimsMatched, AreNextStepped, AreHandlersMatched, IsTimerMatched};
+ghost use Rattle.machine_model.specs.Runs.Matched.{AreProcessesMatched, AreReceiversMatched, AreJoinersMatched, AreThreadIdsMatched, AreThreadsMatched, AreClaimsMatched, AreNextStepped, AreHandlersMatched, IsTimerMatched};
 ghost use Rattle.suspend_image.specs.Rows.{thread_key, server_key, claim_key};
 ghost use Rattle.suspend_image.specs.Machines.{threads_of, servers_of, claims_of, pending_of, processes_of, compare_of};
-ghost use Rattle.suspend_image.specs.Parts.{are_apart as are_apart_of, are_processes_told as are_processes_told_of, has_threads as has_threads_of, is_served as is_served_of, AreLivingServed, Ascend, AscendInTwo, is_awaited as is_awaited_of, awaits_server as awaits_server_of, joins_another as joins_another_of, is_thread_living as is_thread_living_of, is_thread_right, is_claim_living as is_claim_living_of, is_heap_whole, is_within_limits as is_within_limits_of, AreThreadsRight, AreProcessesLimited};
+ghost use Rattle.suspend_image.specs.Parts.{are_apart as are_apart_of, are_processes_told as are_processes_told_of, has_threads as has_threads_of, is_served as is_served_of, AreLivingServed, Ascend, AscendInTwo, is_awaited as is_awaited_of, awaits_server as awaits_server_of, joins_another as joins_another_of, is_thread_living as is_thread_living_of, is_thread_right as is_thread_right_of, is_claim_living as is_claim_living_of, is_heap_whole, is_within_limits as is_within_limits_of, AreThreadsRight, AreProcessesLimited};
 
 use crate::state::{ClaimRow, ProcRow, ServerRow, State, ThreadRow};
 use xk_base::limits::{
@@ -148,10 +155,16 @@ fn all_threads_living(n: u32, procs: &[ProcRow], threads: &[ThreadRow]) -> bool
         .all(|thread| is_thread_living(n, procs, thread))
 }
 
-fn all_threads_right(threads: &[ThreadRow]) -> bool
-    ensures { result ≡ list_all is_thread_right threads.now }
+fn is_thread_right(procs: &[ProcRow], thread: &ThreadRow) -> bool
+    ensures { result ≡ is_thread_right_of procs.now thread.now }
 {
-    threads.iter().all(|thread| thread.pc % 4 == 0 && (thread.state < IDLE || thread.tid == 1))
+    thread.pc % 4 == 0 && (thread.state < IDLE || (thread.tid == 1 && is_alive(procs, thread.pid)))
+}
+
+fn all_threads_right(procs: &[ProcRow], threads: &[ThreadRow]) -> bool
+    ensures { result ≡ list_all (is_thread_right_of procs.now) threads.now }
+{
+    threads.iter().all(|thread| is_thread_right(procs, thread))
 }
 
 fn is_claim_living(procs: &[ProcRow], claim: &ClaimRow) -> bool
@@ -166,13 +179,13 @@ fn all_claims_living(procs: &[ProcRow], claims: &[ClaimRow]) -> bool
     claims.iter().all(|claim| is_claim_living(procs, claim))
 }
 
-/// Part 6, of the threads, each for itself: every pc is the address of an instruction, and no thread
-/// above tid 1 is Idle.
-pub fn are_threads_right(threads: &[ThreadRow]) -> bool
+/// Part 6, of the threads, each for itself: every pc is the address of an instruction, and only tid 1
+/// of a living process is Idle.
+pub fn are_threads_right(procs: &[ProcRow], threads: &[ThreadRow]) -> bool
     requires { AscendInTwo thread_key threads.now }
-    ensures { IsTrue result ↔ AreThreadsRight (threads_of threads.now) }
+    ensures { IsTrue result ↔ AreThreadsRight (processes_of procs.now) (threads_of threads.now) }
 {
-    all_threads_right(threads)
+    all_threads_right(procs, threads)
 }
 
 fn is_within_limits(process: &ProcRow) -> bool
@@ -269,6 +282,16 @@ pub fn are_living_served(procs: &[ProcRow], threads: &[ThreadRow]) -> bool
         }
     }
     true
+}
+
+/// Part 6, of the processes and threads: a living process has a tid 1 that is Ready or Idle, and a
+/// thread above, no other thread is Idle, and every pc is the address of an instruction.
+pub fn are_threads_matched(procs: &[ProcRow], threads: &[ThreadRow]) -> bool
+    requires few { length procs.now ≤ 64 }
+    requires threads { AscendInTwo thread_key threads.now }
+    ensures { IsTrue result ↔ AreThreadsMatched (processes_of procs.now) (threads_of threads.now) }
+{
+    are_threads_right(procs, threads) && are_living_served(procs, threads)
 }
 
 /// Part 8, of the threads: each has an id that there may be, and is of a living process.

@@ -1,5 +1,14 @@
 //! A state file is read.
 
+pub mod broken;
+pub mod claims;
+pub mod numbers;
+pub mod pages;
+pub mod procs;
+pub mod servers;
+pub mod threads;
+pub mod words;
+
 ghost use Rattle.std.specs.Prelude.{◌≡◌, ◌<◌, ◌≤◌, ◌^◌, length, None, Ok, IfOk, IfErr, IfNone};
 ghost use Rattle.kernel_args.specs.Faults.{first_fault};
 ghost use Rattle.suspend_image.specs.Reading.{Gives};
@@ -7,16 +16,16 @@ ghost use Rattle.suspend_image.specs.Forms.{Spells};
 ghost use Rattle.suspend_image.specs.StateFaults.{state_at, is_not_state as is_not_state_of, is_bad_state_check, header_faults, state_fault, IsFault};
 ghost use Rattle.suspend_image.specs.declared.faults.StateError.TheVariants.{Fault};
 
-use crate::broken::Broken;
-use crate::claims::front_claims;
 use crate::faults::{NOT_STATE, STATE_CHECK, STATE_FORM, STATE_LENGTH, StateError};
-use crate::numbers::{front_numbers, front_reserved, front_timer};
-use crate::pages::{front_orphans, front_pages};
-use crate::procs::front_procs;
-use crate::servers::front_servers;
+use crate::reading::broken::Broken;
+use crate::reading::claims::front_claims;
+use crate::reading::numbers::{front_numbers, front_reserved, front_timer};
+use crate::reading::pages::{front_orphans, front_pages};
+use crate::reading::procs::front_procs;
+use crate::reading::servers::front_servers;
+use crate::reading::threads::front_threads;
+use crate::reading::words::word;
 use crate::state::State;
-use crate::threads::front_threads;
-use crate::words::word;
 use byteorder::{ByteOrder, LittleEndian};
 use kernel_args::{ArgFault, crc_x25};
 use std::alloc::Global;

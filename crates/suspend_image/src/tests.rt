@@ -2,16 +2,18 @@
 //! program.
 
 use crate::faults::{NOT_STATE, STATE_CHECK, STATE_FORM, STATE_LENGTH, StateError};
+use crate::matching::pages::{are_heaps_matched, are_holders_living, are_homes_living};
+use crate::matching::places::{are_orphans_placed, are_pages_placed, has_one_console};
+use crate::matching::search::are_places_apart;
+use crate::matching::senders::are_senders_matched;
+use crate::matching::servers::{are_next_above, are_servers_matched};
 use crate::matching::{
     are_claims_matched, are_handlers_matched, are_joiners_matched, are_numbers_stepped,
     are_processes_limited, are_processes_matched, are_receivers_matched, are_thread_ids_matched,
     are_threads_right, is_timer_matched,
 };
-use crate::page_matching::{are_heaps_matched, are_holders_living, are_homes_living};
 use crate::reading::read_state;
-use crate::sender_matching::are_senders_matched;
-use crate::server_matching::{are_next_above, are_servers_matched};
-use crate::sheet::Sheet;
+use crate::writing::sheet::Sheet;
 use crate::writing::write_state;
 use kernel_args::ArgFault;
 
@@ -76,7 +78,7 @@ fn small_state_is_written(rt: HostRuntime) {
 }
 
 #[test]
-#[tactic(auto, using(crate::proofs::Parts::OrderLemmas::claims_ascend, crate::proofs::Parts::OrderLemmas::threads_ascend, crate::proofs::Parts::OrderLemmas::servers_ascend))]
+#[tactic(auto, using(crate::proofs::Parts::Keys::OrderLemmas::claims_ascend, crate::proofs::Parts::Keys::OrderLemmas::threads_ascend, crate::proofs::Parts::Keys::OrderLemmas::servers_ascend))]
 fn parts_of_small_state_are_told(rt: HostRuntime) {
     match read_state(rt.alloc(), FILE.as_slice()) {
         Ok(state) => {
@@ -86,7 +88,7 @@ fn parts_of_small_state_are_told(rt: HostRuntime) {
             assert!(rt; are_processes_limited(procs));
             assert!(rt; are_claims_matched(procs, claims) && are_handlers_matched(claims));
             assert!(rt; are_receivers_matched(state.servers.as_slice(), threads));
-            assert!(rt; are_joiners_matched(threads) && are_threads_right(threads));
+            assert!(rt; are_joiners_matched(threads) && are_threads_right(procs, threads));
             assert!(rt; are_thread_ids_matched(state.n, procs, threads));
             assert!(rt; is_timer_matched(&state));
             // Nine messages were numbered in five steps.
@@ -97,7 +99,7 @@ fn parts_of_small_state_are_told(rt: HostRuntime) {
 }
 
 #[test]
-#[tactic(auto, using(crate::proofs::Parts::OrderLemmas::pages_ascend, crate::proofs::Parts::OrderLemmas::procs_counted, crate::proofs::Parts::OrderLemmas::threads_ascend, crate::proofs::Parts::OrderLemmas::servers_ascend))]
+#[tactic(auto, using(crate::proofs::Parts::Keys::OrderLemmas::pages_ascend, crate::proofs::Parts::Keys::OrderLemmas::orphans_ascend, crate::proofs::Parts::Keys::OrderLemmas::procs_counted, crate::proofs::Parts::Keys::OrderLemmas::threads_ascend, crate::proofs::Parts::Keys::OrderLemmas::servers_ascend))]
 fn servers_and_pages_of_small_state_are_told(rt: HostRuntime) {
     match read_state(rt.alloc(), FILE.as_slice()) {
         Ok(state) => {
@@ -105,7 +107,10 @@ fn servers_and_pages_of_small_state_are_told(rt: HostRuntime) {
             let servers = state.servers.as_slice();
             let pages = state.pages.as_slice();
             assert!(rt; are_heaps_matched(procs, pages) && are_homes_living(procs, pages));
-            assert!(rt; are_holders_living(procs, pages));
+            assert!(rt; are_holders_living(procs, pages) && are_pages_placed(state.n, pages));
+            let orphans = state.orphans.as_slice();
+            assert!(rt; are_orphans_placed(state.n, procs, orphans) && has_one_console(pages));
+            assert!(rt; are_places_apart(pages, orphans));
             assert!(rt;
                 are_processes_matched(state.n, procs) && are_servers_matched(procs, servers)
             );

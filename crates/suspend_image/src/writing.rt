@@ -1,14 +1,19 @@
 //! A state is written.
 
+pub mod pages;
+pub mod rows;
+pub mod sheet;
+pub mod tables;
+
 ghost use Rattle.std.specs.Prelude.{◌≡◌, ◌≤◌, ◌<◌, ◌^◌, [], length, drop};
 ghost use Rattle.suspend_image.specs.Sheets.{HasRoom, appended, with_bytes, begun};
 ghost use Rattle.suspend_image.specs.Spelling.{machine_bytes, parts_bytes, with_header, state_bytes};
 ghost use Rattle.suspend_image.specs.Forms.{StandsInFile};
 
-use crate::page_writing::{write_orphans, write_pages};
-use crate::sheet::Sheet;
 use crate::state::State;
-use crate::tables::{write_claims, write_procs, write_servers, write_threads};
+use crate::writing::pages::{write_orphans, write_pages};
+use crate::writing::sheet::Sheet;
+use crate::writing::tables::{write_claims, write_procs, write_servers, write_threads};
 use kernel_args::crc_x25;
 
 /// Appends the numbers of the whole machine.

@@ -4,9 +4,9 @@ use Rattle.std.specs.List.{flat_map}
 use Rattle.std.proofs.lemmas.Bool.{eqb-true}
 use Rattle.std.proofs.lemmas.List.{nil_from_length, append-nil}
 use Rattle.suspend_image.specs.declared.state.State.{State}
-use Rattle.suspend_image.specs.declared.numbers.Numbers.{Numbers}
-use Rattle.suspend_image.specs.declared.numbers.Timer.{Timer}
-use Rattle.suspend_image.specs.declared.numbers.Reserved.{Reserved}
+use Rattle.suspend_image.specs.declared.reading.numbers.Numbers.{Numbers}
+use Rattle.suspend_image.specs.declared.reading.numbers.Timer.{Timer}
+use Rattle.suspend_image.specs.declared.reading.numbers.Reserved.{Reserved}
 use Rattle.suspend_image.specs.declared.state.ProcRow.{ProcRow}
 use Rattle.suspend_image.specs.declared.state.ThreadRow.{ThreadRow}
 use Rattle.suspend_image.specs.declared.state.ServerRow.{ServerRow}

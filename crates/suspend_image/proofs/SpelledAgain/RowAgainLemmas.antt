@@ -8,9 +8,9 @@ use Rattle.suspend_image.specs.declared.state.ThreadRow.{ThreadRow}
 use Rattle.suspend_image.specs.declared.state.MessageRow.{MessageRow}
 use Rattle.suspend_image.specs.declared.state.ServerRow.{ServerRow}
 use Rattle.suspend_image.specs.declared.state.ClaimRow.{ClaimRow}
-use Rattle.suspend_image.specs.declared.numbers.Numbers.{Numbers}
-use Rattle.suspend_image.specs.declared.numbers.Timer.{Timer}
-use Rattle.suspend_image.specs.declared.numbers.Reserved.{Reserved}
+use Rattle.suspend_image.specs.declared.reading.numbers.Numbers.{Numbers}
+use Rattle.suspend_image.specs.declared.reading.numbers.Timer.{Timer}
+use Rattle.suspend_image.specs.declared.reading.numbers.Reserved.{Reserved}
 use Rattle.suspend_image.specs.Words.{word_bytes}
 use Rattle.suspend_image.specs.Spelling.{timer_words, reserved_words, machine_bytes, proc_bytes, thread_bytes, message_bytes, server_bytes, claim_bytes}
 use Rattle.suspend_image.specs.Reading.{Found, greatest, word_at, word_in, items_at}

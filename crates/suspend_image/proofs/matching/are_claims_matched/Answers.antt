@@ -1,4 +1,4 @@
-use Rattle.suspend_image.proofs.Parts.ClaimLemmas.{claims_told}
+use Rattle.suspend_image.proofs.Parts.Processes.ClaimLemmas.{claims_told}
 use Rattle.suspend_image.proofs.matching.are_claims_matched.Goals as goal
 
 pub returns : goal.returns

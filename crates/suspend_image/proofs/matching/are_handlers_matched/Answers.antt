@@ -1,4 +1,4 @@
-use Rattle.suspend_image.proofs.Parts.ClaimLemmas.{handlers_told}
+use Rattle.suspend_image.proofs.Parts.Processes.ClaimLemmas.{handlers_told}
 use Rattle.suspend_image.proofs.matching.are_handlers_matched.Goals as goal
 
 pub returns : goal.returns

@@ -1,4 +1,4 @@
-use Rattle.suspend_image.proofs.Parts.JoiningLemmas.{joiners_told}
+use Rattle.suspend_image.proofs.Parts.Threads.JoiningLemmas.{joiners_told}
 use Rattle.suspend_image.proofs.matching.are_joiners_matched.Goals as goal
 
 pub returns : goal.returns

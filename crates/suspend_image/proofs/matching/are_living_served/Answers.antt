@@ -1,5 +1,5 @@
 use Rattle.std.proofs.Common.{◌+◌, refl, sym, ◌∙◌, arith}
-use Rattle.suspend_image.proofs.Parts.ServedLemmas.{served_right, served_all}
+use Rattle.suspend_image.proofs.Parts.Threads.ServedLemmas.{served_right, served_all}
 use Rattle.suspend_image.proofs.matching.are_living_served.Goals as goal
 
 pub returns-then-not-is_served : goal.returns-then-not-is_served

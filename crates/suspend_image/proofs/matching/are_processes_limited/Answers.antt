@@ -1,4 +1,4 @@
-use Rattle.suspend_image.proofs.Parts.ProcessLemmas.{limits_told}
+use Rattle.suspend_image.proofs.Parts.Processes.ProcessLemmas.{limits_told}
 use Rattle.suspend_image.proofs.matching.are_processes_limited.Goals as goal
 
 pub returns : goal.returns

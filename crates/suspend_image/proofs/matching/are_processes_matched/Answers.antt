@@ -1,4 +1,4 @@
-use Rattle.suspend_image.proofs.Parts.ConnectionLemmas.{processes_matched_told}
+use Rattle.suspend_image.proofs.Parts.Processes.ConnectionLemmas.{processes_matched_told}
 use Rattle.suspend_image.proofs.matching.are_processes_matched.Goals as goal
 
 pub returns : goal.returns

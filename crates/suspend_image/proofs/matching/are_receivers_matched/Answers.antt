@@ -1,4 +1,4 @@
-use Rattle.suspend_image.proofs.Parts.ReceivingLemmas.{receivers_told}
+use Rattle.suspend_image.proofs.Parts.Threads.ReceivingLemmas.{receivers_told}
 use Rattle.suspend_image.proofs.matching.are_receivers_matched.Goals as goal
 
 pub returns : goal.returns

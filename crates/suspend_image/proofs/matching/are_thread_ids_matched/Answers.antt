@@ -1,4 +1,4 @@
-use Rattle.suspend_image.proofs.Parts.EachThreadLemmas.{thread_ids_told}
+use Rattle.suspend_image.proofs.Parts.Threads.EachThreadLemmas.{thread_ids_told}
 use Rattle.suspend_image.proofs.matching.are_thread_ids_matched.Goals as goal
 
 pub returns : goal.returns

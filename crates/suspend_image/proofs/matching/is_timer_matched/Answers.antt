@@ -1,5 +1,5 @@
 use Rattle.std.proofs.Common.{arith}
-use Rattle.suspend_image.proofs.Parts.ClaimLemmas.{timer_told}
+use Rattle.suspend_image.proofs.Parts.Processes.ClaimLemmas.{timer_told}
 use Rattle.suspend_image.proofs.matching.is_timer_matched.Goals as goal
 
 pub returns-else-state-ne1 : goal.returns-else-state-ne1

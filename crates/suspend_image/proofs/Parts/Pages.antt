@@ -1,0 +1,6 @@
+-- Parts that speak of pages.
+pub mod ApartLemmas
+pub mod HolderLemmas
+pub mod OrphanLemmas
+pub mod PageLemmas
+pub mod PlacedLemmas

@@ -1,0 +1,7 @@
+-- Parts that speak of servers, their messages and the threads that wait.
+pub mod NextLemmas
+pub mod OneLemmas
+pub mod SenderLemmas
+pub mod ServerLemmas
+pub mod ServerRowLemmas
+pub mod ServersLemmas

@@ -1,0 +1,8 @@
+use Rattle.std.proofs.Common.{◌≡◌, ◌-◌, None}
+use Rattle.suspend_image.specs.Reading.{rows_at}
+use Rattle.suspend_image.specs.Rows.{server_at, server_key}
+use Rattle.suspend_image.proofs.RowLoopLemmas.{with_front}
+use Rattle.suspend_image.proofs.reading.servers.front_servers.Given as goal
+
+abbrev pub invariant-loop : goal.invariant-loop
+invariant-loop l = with_front l.rows (rows_at (server_at l.n) server_key (l.count - l.counter) l.before l.rest) ≡ rows_at (server_at l.n) server_key l.count None l.bytes
