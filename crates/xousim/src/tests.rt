@@ -2,15 +2,11 @@
 
 mod atomics;
 mod commands;
-mod damage;
 mod deaths;
 mod drivers;
 mod examples;
-mod exhausting;
-mod failing;
 mod forwards;
-mod hostile_calls;
-mod hostile_code;
+mod hostile;
 mod image;
 mod interrupts;
 mod lends;

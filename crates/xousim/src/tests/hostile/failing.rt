@@ -1,11 +1,11 @@
 //! Runs that end early: each call of the host and of the output fails in turn, or the limit comes.
 
-use super::image::image_of;
-use super::lends::{LENDER, LENT_AND_RETURNED, READER};
-use super::lines::transcript;
-use super::programs::{Act, image_of_programs};
-use super::{Outcome, words};
 use crate::status::{Ended, Status};
+use crate::tests::image::image_of;
+use crate::tests::lends::{LENDER, LENT_AND_RETURNED, READER};
+use crate::tests::lines::transcript;
+use crate::tests::programs::{Act, image_of_programs};
+use crate::tests::{Outcome, words};
 use crate::top::xous_main;
 use std::alloc::Global;
 use std::process::Abort;

@@ -1,9 +1,9 @@
 //! User code that jumps and stores where it may not, and that changes itself.
 
-use super::image::{image_of, patched};
-use super::lines::transcript;
-use super::{FIRST_IMAGE, trace};
 use crate::status::Status;
+use crate::tests::image::{image_of, patched};
+use crate::tests::lines::transcript;
+use crate::tests::{FIRST_IMAGE, trace};
 use std::alloc::Global;
 use std::process::Abort;
 use std::test::Fail;

@@ -1,8 +1,8 @@
 //! Each call with arguments at the ends of their ranges.
 
-use super::image::image;
-use super::trace;
 use crate::status::Status;
+use crate::tests::image::image;
+use crate::tests::trace;
 use arrayvec::ArrayVec;
 use std::alloc::Global;
 use std::process::Abort;

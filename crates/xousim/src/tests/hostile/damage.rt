@@ -1,9 +1,9 @@
 //! Damaged images and bad event lines, each with its fault and the place of the fault.
 
-use super::image::patched;
-use super::lines::transcript;
-use super::{FIRST_IMAGE, FIRST_RECORDS, Outcome, trace};
 use crate::status::Status;
+use crate::tests::image::patched;
+use crate::tests::lines::transcript;
+use crate::tests::{FIRST_IMAGE, FIRST_RECORDS, Outcome, trace};
 use std::alloc::Global;
 use std::process::Abort;
 use std::test::Fail;

@@ -1,14 +1,14 @@
 //! Processes that take all that there is, and that use loans as if they owned the pages.
 
-use super::image::{image_of, patched};
-use super::lines::transcript;
-use super::programs::Act::Call;
-use super::programs::{
+use crate::status::Status;
+use crate::tests::image::{image_of, patched};
+use crate::tests::lines::transcript;
+use crate::tests::programs::Act::Call;
+use crate::tests::programs::{
     Act, CONNECT, CREATE_SERVER, CREATE_THREAD, HEAP, INCREASE_HEAP, MESSAGE, PAGE, RECEIVE,
     RETURN_MEMORY, RETURN_SCALAR1, SECOND, SEND, UPDATE_MEMORY_FLAGS, expect_run,
 };
-use super::trace;
-use crate::status::Status;
+use crate::tests::trace;
 use std::test::Fail;
 
 /// A process takes pages, threads, servers with their connections, and slots, each until it is refused.
