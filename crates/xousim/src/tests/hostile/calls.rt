@@ -269,7 +269,7 @@ const CALLING: ThreadId = ThreadId {
     tid: Tid(2),
 };
 
-fn script(alloc: Global) -> Result<Script, Fail> {
+fn new_script(alloc: Global) -> Result<Script, Fail> {
     Ok(Script {
         step: 0,
         code: CALLER.to_vec(alloc)?,
@@ -319,7 +319,7 @@ fn expect_script(rt: &impl Abort, alloc: Global, mut script: Script) -> Result<(
 
 /// Each call with all its arguments the same.
 fn expect_even(rt: &impl Abort, alloc: Global, column: usize, value: u32) -> Result<(), Fail> {
-    let mut script = script(alloc)?;
+    let mut script = new_script(alloc)?;
     for (number, replies) in EVEN {
         push_call(
             &mut script,
@@ -355,7 +355,7 @@ fn push_varied(script: &mut Script, varied: &Varied) -> Result<(), Fail> {
 }
 
 fn expect_varied(rt: &impl Abort, alloc: Global, table: &[Varied]) -> Result<(), Fail> {
-    let mut script = script(alloc)?;
+    let mut script = new_script(alloc)?;
     for varied in table {
         push_varied(&mut script, varied)?;
     }
