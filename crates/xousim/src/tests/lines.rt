@@ -19,15 +19,6 @@ pub fn transcript(alloc: Global, lines: &[&str]) -> Result<Vec<u8>, Fail> {
     Ok(text)
 }
 
-/// The transcript of the lines that stand between the bars of a text.
-pub fn transcript_of(alloc: Global, lines: &str) -> Result<Vec<u8>, Fail> {
-    let mut text = Vec::new(alloc);
-    for line in lines.split('|') {
-        push_line(&mut text, line)?;
-    }
-    Ok(text)
-}
-
 fn push_line(text: &mut Vec<u8>, line: &str) -> Result<(), Fail> {
     let mut are_words = false;
     let mut count = 0;
