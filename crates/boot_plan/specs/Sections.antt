@@ -1,7 +1,8 @@
 -- The sections of a process: the pages that each has, what may be done there, and its bytes in the file.
-use Rattle.std.specs.Prelude.{ℕ, ◌/◌, ◌%◌, Bool, ◌==◌, nat_eq, if◌then◌else◌, List, sum_by}
+use Rattle.std.specs.Prelude.{ℕ, ◌/◌, ◌%◌, Bool, ◌==◌, nat_eq, if◌then◌else◌, List, sum_by, take, drop}
 use Rattle.std.specs.Int.{div_ceil}
 use Rattle.std.specs.List.{list_any, range_with_len}
+use Rattle.kernel_args.specs.declared.args.ProcArgs.{ProcArgs}
 use Rattle.kernel_args.specs.declared.args.Section.{Section}
 
 -- how many pages of 4096 bytes hold this many bytes
@@ -37,3 +38,7 @@ file_size s = if is_zero_filled s then 0 else s.size
 -- how many bytes sections have in the file
 abbrev pub file_sizes : List Section → ℕ
 file_sizes sections = sum_by file_size sections
+
+-- the bytes in the file that the sections of a process have: they stand one after the other from its load offset on
+abbrev pub loaded_bytes : List ℕ → ProcArgs → List ℕ
+loaded_bytes file p = take (file_sizes p.sections) (drop p.load file)

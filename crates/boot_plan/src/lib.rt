@@ -13,7 +13,7 @@ mod sections;
 
 pub use capacity::cap;
 pub use faults::{
-    ENTRY_OUTSIDE, LOAD_OUTSIDE, PlanError, RAM_TOO_SMALL, SECTION_MISALIGNED, SECTION_OUTSIDE,
+    BAD_LOAD, ENTRY_OUTSIDE, LOAD_OUTSIDE, PlanError, RAM_TOO_SMALL, SECTION_MISALIGNED, SECTION_OUTSIDE,
     SECTIONS_OVERLAP, TOO_LONG,
 };
 pub use laws::{fault_numbers_are_pinned, image_has_one_first_fault, sections_stand_in_pages};
