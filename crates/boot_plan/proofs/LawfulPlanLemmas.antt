@@ -10,13 +10,14 @@ use Rattle.xk_base.specs.declared.windows.Window.TheVariants.{Image, Stack, Heap
 use Rattle.kernel_args.specs.declared.args.Args.{Args}
 use Rattle.kernel_args.specs.declared.args.ProcArgs.{ProcArgs}
 use Rattle.kernel_args.specs.declared.args.Section.{Section}
-use Rattle.kernel_args.specs.Image.{IsSoundArgs}
+use Rattle.kernel_args.specs.Image.{IsSoundArgs, process_limit}
 use Rattle.boot_plan.specs.declared.plans.PagePlan.{PagePlan}
 use Rattle.boot_plan.specs.Sections.{page_count, has_page, is_executable, file_size, file_sizes}
 use Rattle.xk_base.specs.Numbers.Limits.{table_frames}
-use Rattle.boot_plan.specs.Capacity.{capacity, slots_used}
+use Rattle.boot_plan.specs.Capacity.{capacity}
 use Rattle.boot_plan.specs.FirstPages.{section_page, sections_pages, zero_page, stack_pages, interrupt_page, process_plan, plan_of, planned_pages}
 use Rattle.boot_plan.specs.Faults.{plan_fault}
+use Rattle.boot_plan.specs.Slots.{slots_used}
 use Rattle.boot_plan.specs.Lawful.{IsLawfulPage, IsLawfulProcess, IsLawfulPlan, CanStart, EntersExecutable}
 use Rattle.boot_plan.proofs.RangeLemmas.{in_run_is}
 use Rattle.boot_plan.proofs.ListLemmas.{All-made, AllPairs-made, AllPairs-append, Any-left, Any-right}
@@ -152,6 +153,9 @@ enters_executable words file p h =
 ram_parts : (frames tables room pages : ℕ) → (nat_lt frames (tables + 2) || nat_lt room pages) ≡ false → (tables + 2 ≤ frames) × (pages ≤ room)
 ram_parts frames tables room pages h = grind (arith, nat_tests)
 
+few_processes : (version : ℕ) → process_limit version ≤ 64
+few_processes version = grind (arith, nat_tests)
+
 pub lawful_plan : (args : Args) (file : List ℕ) (asked : Option ℕ) → IsSoundArgs args → slots_used args asked ≤ 16384 → plan_fault args file asked ≡ None
     → IsLawfulPlan (length file) (plan_of args asked)
 lawful_plan args file asked sound few h =
@@ -162,7 +166,7 @@ lawful_plan args file asked sound few h =
     let room = ram_parts frames (table_frames n) (capacity frames n slots) (planned_pages (plan_of args asked)) (enough_ram args file asked h) in
     record {
       some = omega (arith, sound.some);
-      few = omega (arith, sound.few);
+      few = omega (arith, sound.few, few_processes args.version);
       tables = omega (arith, room.0);
       frames = omega (arith, sound.ram.few);
       start_whole = sound.ram.start_whole;

@@ -14,7 +14,8 @@ use Rattle.boot_plan.specs.declared.faults.PlanError.{PlanError}
 use Rattle.boot_plan.specs.declared.faults.PlanError.TheVariants as errors
 use Rattle.boot_plan.specs.FaultNumbers.{section_outside, section_misaligned, sections_overlap, load_outside, bad_load, entry_outside, ram_too_small}
 use Rattle.boot_plan.specs.Sections.{section_pages, has_page, shares_page, is_executable, file_sizes, loaded_bytes}
-use Rattle.boot_plan.specs.Capacity.{capacity, slots_used}
+use Rattle.boot_plan.specs.Slots.{slots_used}
+use Rattle.boot_plan.specs.Capacity.{capacity}
 use Rattle.boot_plan.specs.FirstPages.{plan_of, planned_pages}
 
 -- the faults of a section behind these earlier ones of its process: its address isn't that of a page; it has a page

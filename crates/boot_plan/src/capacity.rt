@@ -1,23 +1,11 @@
-//! The slots of a run, and how many pages a plan has room for.
+//! How many pages a plan has room for.
 
-ghost use Rattle.std.specs.Prelude.{◌≡◌, ◌≤◌, ◌+◌, length, IfSome};
+ghost use Rattle.std.specs.Prelude.{◌≡◌, ◌≤◌, ◌+◌, length};
 ghost use Rattle.xk_base.specs.Numbers.Limits.{table_frames};
-ghost use Rattle.kernel_args.specs.Image.{IsSoundArgs};
-ghost use Rattle.boot_plan.specs.Capacity.{capacity, slots_used};
+ghost use Rattle.boot_plan.specs.Capacity.{capacity};
 
 use crate::plans::BootPlan;
-use kernel_args::Args;
 use xk_base::limits::TABLE_FRAMES;
-
-/// The slots of a run that asks for these: else the image's, else none.
-pub(crate) fn slots_used(args: &Args, asked: Option<u32>) -> u32
-    requires sound { IsSoundArgs args.now }
-    requires few_slots { IfSome asked (λ n. n ≤ 16384) }
-    ensures slots { result ≡ slots_used args.now asked }
-    ensures few { result ≤ 16384 }
-{
-    asked.or(args.slots).unwrap_or(0)
-}
 
 /// The capacity with this many frames, processes and slots.
 pub(crate) fn capacity_of(frames: u32, processes: u32, slots: u32) -> u32

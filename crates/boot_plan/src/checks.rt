@@ -8,13 +8,14 @@ ghost use Rattle.boot_plan.specs.Sections.{shares_page, has_page, is_executable,
 ghost use Rattle.boot_plan.specs.Faults.{IsFaultAt, section_faults, sections_faults, is_load_outside, is_bad_load, is_entry_outside, process_faults, processes_faults, is_ram_too_small, plan_fault};
 ghost use Rattle.boot_plan.specs.FirstPages.{process_pages, process_plan};
 
-use crate::capacity::{capacity_of, slots_used};
+use crate::capacity::capacity_of;
 use crate::faults::{
     BAD_LOAD, ENTRY_OUTSIDE, LOAD_OUTSIDE, RAM_TOO_SMALL, SECTION_MISALIGNED, SECTION_OUTSIDE,
     SECTIONS_OVERLAP,
 };
 use crate::pages::STACK_PAGES;
 use crate::sections::{file_size, has_page, is_executable, leaves_window, page_count, shares_page};
+use crate::slots::slots_used;
 use kernel_args::{ArgFault, Args, ProcArgs, Section, crc_x25};
 use xk_base::limits::{PAGE_SIZE, TABLE_FRAMES};
 

@@ -7,11 +7,11 @@ ghost use Rattle.boot_plan.specs.Faults.{plan_fault, IsPlanFault};
 ghost use Rattle.boot_plan.specs.FirstPages.{process_plan, plan_of};
 ghost use Rattle.boot_plan.specs.Lawful.{IsLawfulPlan, CanStart, EntersExecutable};
 
-use crate::capacity::slots_used;
 use crate::checks::find_fault;
 use crate::faults::PlanError;
 use crate::pages::process_pages;
 use crate::plans::{BootPlan, ProcPlan};
+use crate::slots::slots_used;
 use kernel_args::{Args, ProcArgs};
 use std::alloc::Global;
 use xk_base::limits::PAGE_SIZE;
