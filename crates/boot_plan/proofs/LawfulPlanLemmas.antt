@@ -1,6 +1,7 @@
 -- A plan without fault is lawful, and a kernel can start it.
-use Rattle.std.proofs.Common.{◌≡◌, ◌≢◌, ◌∙◌, ap, sym, subst, refl, ℕ, ◌+◌, ◌-◌, ◌*◌, ◌/◌, ◌%◌, ◌<◌, ◌≤◌, Bool, true, false, not, ◌&&◌, ◌||◌, ◌==◌, nat_eq, nat_lt, List, [], ◌∷◌, ◌++◌, map, length, Option, Some, None, is_some, IsTrue, arith, ◌⊎◌, inl, inr, All, AllPairs, Any}
+use Rattle.std.proofs.Common.{◌≡◌, ◌≢◌, ◌∙◌, ap, sym, subst, refl, ℕ, ◌+◌, ◌-◌, ◌*◌, ◌/◌, ◌%◌, ◌<◌, ◌≤◌, Bool, true, false, not, ◌&&◌, ◌||◌, ◌==◌, nat_eq, nat_lt, List, [], ◌∷◌, ◌++◌, map, length, Option, Some, None, unwrap_or, IfSome, is_some, IsTrue, arith, ◌⊎◌, inl, inr, All, AllPairs, Any}
 use Rattle.std.specs.List.{list_any, range_with_len}
+use Rattle.std.specs.Option.{option_or}
 use Rattle.std.proofs.lemmas.List.{length-map}
 use Rattle.std.proofs.lemmas.List.Elements.{All-nil, All-cons, All-append, All-weaker, All-map, All-from_recursion}
 use Rattle.std.proofs.lemmas.List.FromFn.{length-map-range_with_len, get_or-map-range_with_len}
@@ -156,7 +157,15 @@ ram_parts frames tables room pages h = grind (arith, nat_tests)
 few_processes : (version : ℕ) → process_limit version ≤ 64
 few_processes version = grind (arith, nat_tests)
 
-pub lawful_plan : (args : Args) (file : List ℕ) (asked : Option ℕ) → IsSoundArgs args → slots_used args asked ≤ 16384 → plan_fault args file asked ≡ None
+few_slots : (args : Args) (asked : Option ℕ) → IsSoundArgs args → IfSome asked (λ n. n ≤ 16384) → slots_used args asked ≤ 16384
+few_slots args asked sound few = go asked args.slots few sound.slots
+  where
+    go : (one other : Option ℕ) → IfSome one (λ n. n ≤ 16384) → IfSome other (λ n. (args.version ≡ 2) × (n ≤ 16384)) → unwrap_or (option_or one other) 0 ≤ 16384
+    go (Some n) other few own = few
+    go None (Some n) few own = own.1
+    go None None few own = omega arith
+
+pub lawful_plan : (args : Args) (file : List ℕ) (asked : Option ℕ) → IsSoundArgs args → IfSome asked (λ n. n ≤ 16384) → plan_fault args file asked ≡ None
     → IsLawfulPlan (length file) (plan_of args asked)
 lawful_plan args file asked sound few h =
     let n = length args.procs in
@@ -171,7 +180,7 @@ lawful_plan args file asked sound few h =
       frames = omega (arith, sound.ram.few);
       start_whole = sound.ram.start_whole;
       below = omega (arith, sound.ram.below);
-      slots = few;
+      slots = few_slots args asked sound few;
       procs = All-map (IsLawfulProcess (length file)) process_plan args.procs
           (All-weaker (IsFaultless args.words file) (λ p. IsLawfulProcess (length file) (process_plan p)) (λ p q. lawful_process args.words file p q) args.procs (all_faultless args file asked h));
       fits = subst (λ k. planned_pages (plan_of args asked) ≤ capacity frames k slots) (sym same) room.1;

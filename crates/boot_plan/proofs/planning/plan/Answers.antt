@@ -18,10 +18,9 @@ pub returns-in-Ok-clause-lawful : goal.returns-in-Ok-clause-lawful
 returns-in-Ok-clause-lawful c =
     let args = c.args.args.now in
     let none = sym c.find_fault.ensures ∙ c.in_default.is in
-    let few = subst (λ n. n ≤ 16384) c.slots_used.ensures.slots c.slots_used.ensures.few in
     let procs = c.in-Ok.ensures ∙ ap (map process_plan) c.as_slice.ensures in
     let planned : record { ram_start = args.ram_start; frames = args.ram_size / 4096; slots = c.slots_used.result; procs = c.in-Ok.procs } ≡ plan_of args c.args.asked = cc in
-    subst (IsLawfulPlan (length c.args.file.now)) (sym planned) (lawful_plan args c.args.file.now c.args.asked c.requires.sound few none)
+    subst (IsLawfulPlan (length c.args.file.now)) (sym planned) (lawful_plan args c.args.file.now c.args.asked c.requires.sound c.requires.few_slots none)
 
 pub returns-in-Ok-clause-can_start : goal.returns-in-Ok-clause-can_start
 returns-in-Ok-clause-can_start c =
