@@ -2,7 +2,7 @@
 
 ghost use Rattle.std.specs.Prelude.{◌≡◌, ◌<◌, ◌*◌, ◌++◌, ◌^◌, length, IfOk, OnOk};
 ghost use Rattle.kernel_args.specs.Tags.{tag_bytes};
-ghost use Rattle.kernel_args.specs.Contents.{word, section_bytes, process_contents as process_contents_of, header_contents as header_contents_of, entry_bytes};
+ghost use Rattle.kernel_args.specs.Contents.{word, section_bytes, process_contents as process_contents_of, header_contents as header_contents_of, slots_contents as slots_contents_of, entry_bytes};
 ghost use Rattle.kernel_args.specs.Writing.{right_tag, written_entry, names_contents as names_contents_of};
 
 use crate::args::{Args, ProcArgs, ProcName, Section};
@@ -30,10 +30,19 @@ pub fn header_contents(alloc: Global, args: &Args) -> Result<Row<u8>, NoMemory>
 {
     let mut out = Row::new(alloc);
     append_word(&mut out, args.words)?;
-    append_word(&mut out, 1)?;
+    append_word(&mut out, args.version)?;
     append_word(&mut out, args.ram_start)?;
     append_word(&mut out, args.ram_size)?;
     out.extend_from_slice(&args.ram_name)?;
+    Ok(out)
+}
+
+/// The contents of a `SwpS`.
+pub fn slots_contents(alloc: Global, slots: u32) -> Result<Row<u8>, NoMemory>
+    ensures { IfOk result (λ row. row ≡ slots_contents_of slots) }
+{
+    let mut out = Row::new(alloc);
+    append_word(&mut out, slots)?;
     Ok(out)
 }
 
@@ -44,6 +53,9 @@ pub fn process_contents(alloc: Global, process: &ProcArgs) -> Result<Row<u8>, No
     let mut out = Row::new(alloc);
     append_word(&mut out, process.load)?;
     append_word(&mut out, process.entry)?;
+    if let Some(check) = process.check {
+        append_word(&mut out, check as u32)?;
+    }
     for section in process.sections.as_slice() {
         append_section(&mut out, *section)?;
     }

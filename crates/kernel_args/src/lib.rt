@@ -6,19 +6,21 @@ mod appending;
 mod args;
 mod check_number;
 mod faults;
+mod found;
 mod header;
 mod laws;
 mod names;
 mod process;
 mod reading;
+mod slots;
 mod tag;
 mod writing;
 
 pub use args::{Args, ProcArgs, ProcName, Section};
 pub use check_number::crc_x25;
 pub use faults::{
-    ArgFault, ArgsError, BAD_CHECK, BAD_INI, BAD_NAMES, BAD_RAM, BAD_TOTAL, BAD_VERSION,
-    NO_PROCESS, NOT_XARG, TOO_MANY_PROCESSES, TOO_SHORT,
+    ArgFault, ArgsError, BAD_CHECK, BAD_INI, BAD_LOAD, BAD_NAMES, BAD_RAM, BAD_SLOTS, BAD_TOTAL,
+    BAD_VERSION, NO_PROCESS, NOT_XARG, TOO_MANY_PROCESSES, TOO_SHORT,
 };
 pub use laws::spelled_once_or_faulty;
 pub use reading::read_args;

@@ -133,7 +133,7 @@ fn damaged_images(rt: HostRuntime) -> Result<(), Fail> {
     let table = [
         // names and versions
         broken(0, 0x68724158, (NOT_XARG, 0)),
-        checked(12, 2, (4, 0x793d), Some((BAD_VERSION, 12))),
+        checked(12, 2, (4, 0x793d), Some((BAD_INI, 40))),
         checked(40, 0x58696e49, (4, 0xe31c), None),
         // check numbers, each with the length behind it
         broken(4, 0x00050000, (BAD_CHECK, 0)),
@@ -202,9 +202,11 @@ fn no_process(rt: HostRuntime) -> Result<(), Fail> {
 fn args_of(words: u32, procs: Row<ProcArgs>, names: Row<ProcName>) -> Args {
     Args {
         words,
+        version: 1,
         ram_start: 0x4000_0000,
         ram_size: 0x0100_0000,
         ram_name: [0x73, 0x72, 0x61, 0x6d],
+        slots: None,
         procs,
         names,
     }
@@ -222,6 +224,7 @@ fn process_with(
     Ok(ProcArgs {
         load,
         entry: 0x1_0000,
+        check: None,
         sections: row,
     })
 }
