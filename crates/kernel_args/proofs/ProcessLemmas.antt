@@ -188,7 +188,7 @@ no_section (a ∷ b ∷ c ∷ d ∷ k ∷ []) e = omega arith
 no_section (a ∷ b ∷ c ∷ d ∷ k ∷ l ∷ []) e = omega arith
 no_section (a ∷ b ∷ c ∷ d ∷ k ∷ l ∷ m ∷ []) e = omega arith
 
-cons_nil : {A : Type 0} (x : A) (xs : List A) → x ∷ xs ≡ [] → ⊥
+pub cons_nil : {A : Type 0} (x : A) (xs : List A) → x ∷ xs ≡ [] → ⊥
 cons_nil x xs e = cc
 
 -- two words, a check word and sections are a process

@@ -2,7 +2,7 @@
 
 ghost use Rattle.std.specs.Prelude.{◌≡◌, ◌≤◌, length, None, IfOk, OnOk, IfErr};
 ghost use Rattle.kernel_args.specs.Image.{process_limit, Spells, IsSoundArgs};
-ghost use Rattle.kernel_args.specs.Tags.{IsTag};
+ghost use Rattle.kernel_args.specs.Tags.{IsTag, is_slots as is_slots_of};
 ghost use Rattle.kernel_args.specs.Faults.{first_fault, tag_faults, at_start, row_fault, args_fault, IsFault};
 ghost use Rattle.kernel_args.specs.Reading.{tag_of, before_with, AddsTag, SpellsRow};
 ghost use Rattle.kernel_args.specs.declared.faults.ArgsError.TheVariants.{Fault, NoMemory as OutOfMemory};
@@ -37,6 +37,13 @@ fn fault(what: u8, at: u32) -> ArgsError
     ArgsError::Fault(ArgFault { what, at })
 }
 
+/// Whether the tag is a `SwpS`, which is read in version 2 alone.
+fn is_slots(version: u32, tag: &TagAt<'_>) -> bool
+    ensures { result ≡ is_slots_of version (tag_of tag.now) }
+{
+    version == SECOND_VERSION && tag.name == b"SwpS".as_slice()
+}
+
 /// Reads a tag at an offset into what the tags before it spell.
 fn read_tag(
     alloc: Global,
@@ -65,7 +72,7 @@ fn read_tag(
         if !append_names(alloc, &mut found.names, tag.contents)? {
             return Err(fault(BAD_NAMES, at));
         }
-    } else if version == SECOND_VERSION && tag.name == b"SwpS".as_slice() {
+    } else if is_slots(version, tag) {
         match slots_of(tag.contents) {
             Some(slots) if found.slots.is_none() => found.slots = Some(slots),
             _ => return Err(fault(BAD_SLOTS, at)),
