@@ -170,7 +170,7 @@ pub good_slots : (ss : List ℕ) → AllByRecursion (λ n. n ≤ 16384) ss → A
 good_slots [] h = tt
 good_slots (n ∷ ss) h = (slots_are_good n h.0, good_slots ss h.1)
 
-length-option : (slots : Option ℕ) → length (option_to_list slots) ≤ 1
+pub length-option : (slots : Option ℕ) → length (option_to_list slots) ≤ 1
 length-option None = omega arith
 length-option (Some n) = omega arith
 

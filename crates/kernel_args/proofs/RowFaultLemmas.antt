@@ -16,7 +16,7 @@ use Rattle.kernel_args.specs.Tags.{Tag, IsTag, tag_bytes, has_name, is_slots, co
 use Rattle.kernel_args.specs.Contents.{name_of, front_entry, SpellsProcess, slots_contents}
 use Rattle.kernel_args.specs.Image.{process_limit, IsRightTag, Parts, SpellsTags}
 use Rattle.kernel_args.specs.Faults.{Check, first_fault, is_bad_process, is_bad_names, is_bad_slots, Before, behind, tag_faults, end_faults, tags_fault}
-use Rattle.kernel_args.specs.Reading.{parts_in, joined, AddsTag, GivesNames, GivesSlots}
+use Rattle.kernel_args.specs.Reading.{joined, AddsTag, GivesNames, GivesSlots}
 use Rattle.kernel_args.proofs.NumberLemmas.{IsBytes, IsBytes-left, IsBytes-right, one_word}
 use Rattle.kernel_args.proofs.ProcessLemmas.{good_is_process}
 use Rattle.kernel_args.proofs.RowLemmas.{good_is_names, nothing, no_tags, more_tags, process_tag, names_tag, slots_tag, IsOther, other_tag, no_slots, contents_of_one, contents_of_other}

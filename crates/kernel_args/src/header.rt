@@ -1,8 +1,8 @@
 //! The tag at the front of an image.
 
-ghost use Rattle.std.specs.Prelude.{◌≡◌, ◌≤◌, ◌+◌, ◌⊎◌, length, IfNone};
+ghost use Rattle.std.specs.Prelude.{◌≡◌, ◌≤◌, ◌+◌, length, IfNone};
 ghost use Rattle.std.specs.Bool.{OnFalse};
-ghost use Rattle.kernel_args.specs.Faults.{first_fault, is_not_xarg as is_not_xarg_of, is_bad_header_check, is_bad_total as is_bad_total_of, is_bad_ram as is_bad_ram_of, number_at, row_size, version_of, is_bad_version as is_bad_version_of, header_faults};
+ghost use Rattle.kernel_args.specs.Faults.{first_fault, is_not_xarg as is_not_xarg_of, is_bad_header_check, is_bad_total as is_bad_total_of, is_bad_ram as is_bad_ram_of, number_at, row_size, is_bad_version as is_bad_version_of, header_faults};
 ghost use Rattle.kernel_args.specs.Reading.{HeaderIs};
 
 use crate::check_number::crc_x25;
@@ -92,7 +92,6 @@ fn word_at(bytes: &[u8], offset: usize) -> u32
 #[tactic(auto, unfolding(crate::specs::Faults::header_faults))]
 pub fn header_fault(bytes: &[u8]) -> Option<ArgFault>
     ensures fault { result ≡ first_fault (header_faults bytes.now) }
-    ensures version { IfNone result ((version_of bytes.now ≡ 1) ⊎ (version_of bytes.now ≡ 2)) }
     ensures long { IfNone result (28 ≤ row_size bytes.now) }
     ensures within { IfNone result (row_size bytes.now ≤ length bytes.now) }
 {

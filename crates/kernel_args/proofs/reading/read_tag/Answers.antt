@@ -29,7 +29,7 @@ returns-in-Some-slots_of-clause-ok c =
     let t = c.args.tag.now in
     let right : IsRightTag (tag_of t) = record { tag = c.requires.tag; right = sym c.if-crc_x25-tag.false ∙ c.crc_x25.ensures } in
     adds_slots c.args.version (tag_of t) c.args.found.now c.in-Some-slots_of.slots right (sym c.if-is_slots.ensures) c.requires.few
-    (none_found c.args.found.now.slots (sym c.if-is_none.ensures)) c.in-Some-slots_of.ensures
+    (none_found c.args.found.now.slots c.if-is_none.ensures) c.in-Some-slots_of.ensures
 
 pub returns-else-is_slots-clause-ok : goal.returns-else-is_slots-clause-ok
 returns-else-is_slots-clause-ok c =
