@@ -13,7 +13,8 @@ use Rattle.kernel_args.specs.declared.args.ProcArgs.{ProcArgs}
 use Rattle.kernel_args.specs.declared.args.Section.{Section}
 use Rattle.kernel_args.specs.Image.{IsSoundArgs, process_limit}
 use Rattle.boot_plan.specs.declared.plans.PagePlan.{PagePlan}
-use Rattle.boot_plan.specs.Sections.{page_count, has_page, is_executable, file_size, file_sizes}
+use Rattle.kernel_args.specs.Loads.{file_size, file_sizes}
+use Rattle.boot_plan.specs.Sections.{page_count, has_page, is_executable}
 use Rattle.xk_base.specs.Numbers.Limits.{table_frames}
 use Rattle.boot_plan.specs.Capacity.{capacity}
 use Rattle.boot_plan.specs.FirstPages.{section_page, sections_pages, zero_page, stack_pages, interrupt_page, process_plan, plan_of, planned_pages}

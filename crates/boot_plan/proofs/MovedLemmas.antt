@@ -13,13 +13,14 @@ use Rattle.kernel_args.specs.declared.faults.ArgFault.{ArgFault}
 use Rattle.kernel_args.specs.CheckNumber.{check_number}
 use Rattle.kernel_args.specs.Faults.{Check, ◌⇒◌at◌, first_fault}
 use Rattle.boot_plan.specs.FaultNumbers.{load_outside, bad_load, entry_outside, ram_too_small}
-use Rattle.boot_plan.specs.Sections.{page_count, is_zero_filled, file_size, file_sizes, loaded_bytes}
+use Rattle.kernel_args.specs.Loads.{is_zero_filled, file_size, file_sizes, loaded_bytes, is_load_outside}
+use Rattle.boot_plan.specs.Sections.{page_count}
 use Rattle.xk_base.specs.Numbers.Limits.{table_frames}
 use Rattle.boot_plan.specs.Capacity.{capacity}
 use Rattle.boot_plan.specs.declared.plans.ProcPlan.{ProcPlan}
 use Rattle.boot_plan.specs.Slots.{slots_used}
 use Rattle.boot_plan.specs.FirstPages.{section_page, sections_pages, process_pages, process_plan, plan_of, planned_pages}
-use Rattle.boot_plan.specs.Faults.{sections_faults, is_load_outside, is_bad_check, is_bad_load, is_entry_outside, process_faults, processes_faults, is_ram_too_small, plan_fault}
+use Rattle.boot_plan.specs.Faults.{sections_faults, is_bad_check, is_bad_load, is_entry_outside, process_faults, processes_faults, is_ram_too_small, plan_fault}
 use Rattle.boot_plan.specs.declared.plans.PagePlan.{PagePlan}
 use Rattle.boot_plan.specs.Content.{page_byte}
 use Rattle.boot_plan.proofs.CountLemmas.{length_process_pages}

@@ -12,7 +12,8 @@ use Rattle.kernel_args.specs.declared.faults.ArgFault.{ArgFault}
 use Rattle.kernel_args.specs.Faults.{Check, ◌⇒◌at◌, first_fault}
 use Rattle.boot_plan.specs.FaultNumbers.{load_outside, bad_load, entry_outside, ram_too_small}
 use Rattle.boot_plan.specs.Sections.{section_pages, shares_page}
-use Rattle.boot_plan.specs.Faults.{section_faults, sections_faults, is_load_outside, is_bad_load, is_entry_outside, process_faults, processes_faults, is_ram_too_small, plan_fault}
+use Rattle.kernel_args.specs.Loads.{is_load_outside}
+use Rattle.boot_plan.specs.Faults.{section_faults, sections_faults, is_bad_load, is_entry_outside, process_faults, processes_faults, is_ram_too_small, plan_fault}
 use Rattle.boot_plan.proofs.FirstFaultLemmas.{first_fault_append}
 
 -- a section that has no fault behind these earlier ones

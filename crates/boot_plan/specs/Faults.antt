@@ -10,10 +10,11 @@ use Rattle.kernel_args.specs.declared.args.Section.{Section}
 use Rattle.kernel_args.specs.declared.faults.ArgFault.{ArgFault}
 use Rattle.kernel_args.specs.CheckNumber.{check_number}
 use Rattle.kernel_args.specs.Faults.{Check, ◌⇒◌at◌, first_fault}
+use Rattle.kernel_args.specs.Loads.{is_load_outside, loaded_bytes}
 use Rattle.boot_plan.specs.declared.faults.PlanError.{PlanError}
 use Rattle.boot_plan.specs.declared.faults.PlanError.TheVariants as errors
 use Rattle.boot_plan.specs.FaultNumbers.{section_outside, section_misaligned, sections_overlap, load_outside, bad_load, entry_outside, ram_too_small}
-use Rattle.boot_plan.specs.Sections.{section_pages, has_page, shares_page, is_executable, file_sizes, loaded_bytes}
+use Rattle.boot_plan.specs.Sections.{section_pages, has_page, shares_page, is_executable}
 use Rattle.boot_plan.specs.Slots.{slots_used}
 use Rattle.boot_plan.specs.Capacity.{capacity}
 use Rattle.boot_plan.specs.FirstPages.{plan_of, planned_pages}
@@ -35,10 +36,6 @@ sections_faults pid earlier (s ∷ ss) = section_faults pid earlier s ++ section
 -- this is the first fault of the section at place k, behind these and those before it
 abbrev pub IsFaultAt : ℕ → List Section → List Section → ℕ → Option ArgFault → Type 0
 IsFaultAt pid earlier ss k fault = (d : Section) → fault ≡ first_fault (section_faults pid (earlier ++ take k ss) (slice_index_or ss k d))
-
--- the load offset lies before the end of the row of tags, or the bytes of the sections pass the end of the file
-abbrev pub is_load_outside : ℕ → ℕ → ProcArgs → Bool
-is_load_outside words file_len p = nat_lt p.load (4 * words) || nat_lt file_len (p.load + file_sizes p.sections)
 
 -- the check word, which images of version 2 have, isn't that of these bytes
 abbrev pub is_bad_check : Option ℕ → List ℕ → Bool

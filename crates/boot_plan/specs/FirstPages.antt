@@ -7,7 +7,8 @@ use Rattle.kernel_args.specs.declared.args.Section.{Section}
 use Rattle.boot_plan.specs.declared.plans.BootPlan.{BootPlan}
 use Rattle.boot_plan.specs.declared.plans.ProcPlan.{ProcPlan}
 use Rattle.boot_plan.specs.declared.plans.PagePlan.{PagePlan}
-use Rattle.boot_plan.specs.Sections.{page_count, is_writable, is_zero_filled, is_executable, file_size}
+use Rattle.kernel_args.specs.Loads.{is_zero_filled, file_size}
+use Rattle.boot_plan.specs.Sections.{page_count, is_writable, is_executable}
 use Rattle.boot_plan.specs.Slots.{slots_used}
 
 -- Page i of a section whose bytes stand in the file from an offset on. It has the section's next 4096 bytes, or

@@ -4,8 +4,9 @@ ghost use Rattle.std.specs.Prelude.{◌≡◌, ◌<◌, ◌≤◌, ◌+◌, ◌*
 ghost use Rattle.std.specs.List.{list_any};
 ghost use Rattle.kernel_args.specs.Faults.{first_fault};
 ghost use Rattle.kernel_args.specs.Image.{IsSoundArgs};
-ghost use Rattle.boot_plan.specs.Sections.{shares_page, has_page, is_executable, file_sizes, loaded_bytes};
-ghost use Rattle.boot_plan.specs.Faults.{IsFaultAt, section_faults, sections_faults, is_load_outside, is_bad_load, is_entry_outside, process_faults, processes_faults, is_ram_too_small, plan_fault};
+ghost use Rattle.kernel_args.specs.Loads.{file_sizes, is_load_outside};
+ghost use Rattle.boot_plan.specs.Sections.{shares_page, has_page, is_executable};
+ghost use Rattle.boot_plan.specs.Faults.{IsFaultAt, section_faults, sections_faults, is_bad_load, is_entry_outside, process_faults, processes_faults, is_ram_too_small, plan_fault};
 ghost use Rattle.boot_plan.specs.FirstPages.{process_pages, process_plan};
 
 use crate::capacity::capacity_of;
@@ -14,9 +15,9 @@ use crate::faults::{
     SECTIONS_OVERLAP,
 };
 use crate::pages::STACK_PAGES;
-use crate::sections::{file_size, has_page, is_executable, leaves_window, page_count, shares_page};
+use crate::sections::{has_page, is_executable, leaves_window, page_count, shares_page};
 use crate::slots::slots_used;
-use kernel_args::{ArgFault, Args, ProcArgs, Section, crc_x25};
+use kernel_args::{ArgFault, Args, ProcArgs, Section, crc_x25, file_sizes, loaded_bytes};
 use xk_base::limits::{PAGE_SIZE, TABLE_FRAMES};
 
 fn fault(what: u8, at: u32) -> Option<ArgFault>
@@ -63,14 +64,6 @@ fn sections_fault(pid: u32, sections: &[Section]) -> Option<ArgFault>
     (0..sections.len()).find_map(|i| fault_at(pid, sections, i))
 }
 
-/// How many bytes of the file sections have.
-fn file_sizes(sections: &[Section]) -> u64
-    requires { length sections.now ≤ 32 }
-    ensures { result ≡ file_sizes sections.now }
-{
-    sections.iter().map(|s| file_size(s) as u64).sum()
-}
-
 /// Whether the bytes of the sections begin in the row of tags, which has this many words, or pass
 /// the end of the file.
 fn loads_outside(words: u32, file_len: u32, process: &ProcArgs) -> bool
@@ -81,17 +74,6 @@ fn loads_outside(words: u32, file_len: u32, process: &ProcArgs) -> bool
     (load as u64) < 4 * words as u64
         || load > file_len
         || file_sizes(process.sections.as_slice()) > (file_len - load) as u64
-}
-
-/// The bytes of the sections in the file.
-fn loaded_bytes<'a>(file: &'a [u8], process: &ProcArgs) -> &'a [u8]
-    requires few { length process.now.sections ≤ 32 }
-    requires within { process.now.load + file_sizes process.now.sections ≤ length file.now }
-    ensures { result.now ≡ loaded_bytes file.now process.now }
-{
-    let start = process.load as usize;
-    let size = file_sizes(process.sections.as_slice()) as usize;
-    &file[start..start + size]
 }
 
 /// Whether the check word of the process isn't that of the bytes of its sections.

@@ -2,7 +2,7 @@
 
 ghost use Rattle.std.specs.Prelude.{◌≡◌, ◌≤◌, ◌<◌, ◌+◌, ◌^◌, None, length, map, IfOk, OnOk, IfErr, IfSome, All};
 ghost use Rattle.kernel_args.specs.Image.{IsSoundArgs};
-ghost use Rattle.boot_plan.specs.Sections.{file_sizes};
+ghost use Rattle.kernel_args.specs.Loads.{file_sizes};
 ghost use Rattle.boot_plan.specs.Faults.{plan_fault, IsPlanFault};
 ghost use Rattle.boot_plan.specs.FirstPages.{process_plan, plan_of};
 ghost use Rattle.boot_plan.specs.Lawful.{IsLawfulPlan, CanStart, EntersExecutable};

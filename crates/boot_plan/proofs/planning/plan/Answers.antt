@@ -1,6 +1,6 @@
 use Rattle.std.proofs.Common.{◌≡◌, ◌∙◌, ap, sym, subst, ◌+◌, ◌<◌, ◌≤◌, ◌/◌, ◌^◌, map, length, arith}
 use Rattle.std.proofs.lemmas.List.Elements.{All-same, All-weaker}
-use Rattle.boot_plan.specs.Sections.{file_sizes}
+use Rattle.kernel_args.specs.Loads.{file_sizes}
 use Rattle.boot_plan.specs.FirstPages.{process_plan, plan_of}
 use Rattle.boot_plan.specs.Lawful.{IsLawfulPlan, CanStart, EntersExecutable}
 use Rattle.boot_plan.proofs.LawfulPlanLemmas.{lawful_plan, plan_can_start, plan_enters_executable, loads_fit}
