@@ -53,11 +53,11 @@ ram_when_good start size e =
 abbrev pub IsVersion : ℕ → Type 0
 IsVersion version = (version ≡ 1) ⊎ (version ≡ 2)
 
-version_is_good : (version : ℕ) → IsVersion version → is_bad_version version ≡ false
+pub version_is_good : (version : ℕ) → IsVersion version → is_bad_version version ≡ false
 version_is_good version (inl e) = not_from_true _ (or_left _ _ (eq-eqb version 1 e))
 version_is_good version (inr e) = not_from_true _ (or_right _ _ (eq-eqb version 2 e))
 
-version_when_good : (version : ℕ) → is_bad_version version ≡ false → IsVersion version
+pub version_when_good : (version : ℕ) → is_bad_version version ≡ false → IsVersion version
 version_when_good version e =
     elim (cases_Bool (eqb version 1)) [
       | inl one ↦ inl (eqb-true version 1 one)

@@ -9,6 +9,7 @@ pub mod ProcessLemmas
 pub mod ReadLemmas
 pub mod RowFaultLemmas
 pub mod RowLemmas
+pub mod TableLemmas
 pub mod TagLemmas
 pub mod WritableLemmas
 pub mod WritingLemmas

@@ -98,7 +98,7 @@ check_is_good true (Some c) rest e fits =
 check_is_good false check rest e fits = refl
 check_is_good true None rest e fits = absurd cc
 
-behind_check : (second : Bool) (check : Option ℕ) (load entry : ℕ) (rest : List ℕ) → is_some check ≡ second
+pub behind_check : (second : Bool) (check : Option ℕ) (load entry : ℕ) (rest : List ℕ) → is_some check ≡ second
     → drop (cond second 12 8) (word load ++ (word entry ++ (check_word check ++ rest))) ≡ rest
 behind_check true (Some c) load entry rest e = refl
 behind_check false None load entry rest e = refl

@@ -41,10 +41,6 @@ bad_ini = 9
 abbrev pub bad_names : ℕ
 bad_names = 10
 
--- the check word of a process isn't the check number of its sections' bytes in the file
-abbrev pub bad_load : ℕ
-bad_load = 18
-
 -- a `SwpS` isn't one word, has more than 16,384 slots, or is the second
 abbrev pub bad_slots : ℕ
 bad_slots = 19

@@ -4,6 +4,7 @@ pub mod FaultNumbers
 pub mod Faults
 pub mod Image
 pub mod Joined
+pub mod Loads
 pub mod Reading
 pub mod Tags
 pub mod Writing

@@ -24,9 +24,6 @@ pub const TOO_MANY_PROCESSES: u8 = 8;
 pub const BAD_INI: u8 = 9;
 /// The entries of a `PNam` don't fill its contents exactly.
 pub const BAD_NAMES: u8 = 10;
-/// The check word of a process isn't the check number of the bytes of its sections in the file. A plan of the first
-/// pages finds it.
-pub const BAD_LOAD: u8 = 18;
 /// A `SwpS` isn't one word, has more than 16,384 slots, or is the second.
 pub const BAD_SLOTS: u8 = 19;
 

@@ -1,6 +1,6 @@
 //! Images are written.
 
-ghost use Rattle.std.specs.Prelude.{◌≡◌, ◌<◌, ◌≤◌, ◌+◌, ◌*◌, ◌++◌, ◌^◌, ℕ, List, length, map, IfOk, OnOk, IfSome, MatchOption, IsTrue, ◌↔◌, All};
+ghost use Rattle.std.specs.Prelude.{◌≡◌, ◌<◌, ◌≤◌, ◌+◌, ◌*◌, ◌++◌, ◌^◌, ℕ, List, length, map, IfOk, OnOk, IfSome, MatchOption, IsTrue, ◌==◌, is_some, ◌↔◌, All};
 ghost use Rattle.std.specs.List.{flat_map, AllByRecursion};
 ghost use Rattle.kernel_args.specs.Contents.{IsSection, IsProcess};
 ghost use Rattle.kernel_args.specs.Image.{process_limit as process_limit_of, Spells};
@@ -38,14 +38,24 @@ fn are_sections(sections: &[Section]) -> bool
     sections.iter().all(is_section)
 }
 
+/// Whether the check number of a process is given exactly in version 2.
+fn is_check_of(version: u32, check: Option<u16>) -> bool
+    ensures { IsTrue result ↔ ((is_some check ≡ (version == 2)) × IfSome check (λ c. c < 2 ^ 16)) }
+{
+    match check {
+        Some(_check) => version == SECOND_VERSION,
+        None => version != SECOND_VERSION,
+    }
+}
+
 /// Whether it has a check number exactly in version 2, and one to 32 sections, which can be written.
 fn is_process(version: u32, process: &ProcArgs) -> bool
     ensures { IsTrue result ↔ IsProcess version process.now }
 {
     // read for the prover alone: their ranges, which the contract states
-    let (_load, _entry, _check) = (process.load, process.entry, process.check);
+    let (_load, _entry) = (process.load, process.entry);
     let sections = process.sections.as_slice();
-    process.check.is_some() == (version == SECOND_VERSION)
+    is_check_of(version, process.check)
         && (1..=SECTION_LIMIT as usize).contains(&sections.len())
         && are_sections(sections)
 }

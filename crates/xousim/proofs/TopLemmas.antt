@@ -127,16 +127,16 @@ ends_earlier : (play : Play) (machine : Machine) (asked : Option (List FileAsked
     → Image call.host.files play.image play.slots machine → faults ≤ call.host.faults → Asked asked call.host.asked First play.image true → IsTold call.host.image_left []
     → EndsBooted play machine call → EndsPlay play (begun_at asked faults call)
 ends_earlier play machine asked faults call image later first read (inl unpicked) =
-    inr (inl (record {
+    inr (inr (inl (record {
       asked = asks_both play asked faults call false first unpicked.asked;
       ended = unpicked.ended;
       cause = rose_after faults call.host.faults call.host.faults_after later unpicked.cause;
       machine = machine;
       image = image;
       unwritten = unpicked.unwritten;
-    }))
+    })))
 ends_earlier play machine asked faults call image later first read (inr picked) =
-    inr (inr (record {
+    inr (inr (inr (record {
       asked = asks_both play asked faults call true first picked.asked;
       cause = cause_earlier asked faults call call.status later picked.cause;
       machine = machine;
@@ -144,7 +144,7 @@ ends_earlier play machine asked faults call image later first read (inr picked) 
       content = tells_earlier play machine asked faults call call.status picked.content;
       image_read = λ done. read;
       events_read = picked.events_read;
-    }))
+    })))
 
 -- the same call at a host of these files
 abbrev pub with_files : Told → Call → Call
@@ -162,6 +162,6 @@ ends_as_read read command call same ends =
     let P : Option Command → Type 0 = λ c. Ends c call in subst P same ends
 
 -- no step was done when a machine was booted
-pub boots_at_zero : (file : Told) (name : List ℕ) (slots : ℕ) (machine : Machine) → Image file name slots machine → machine.steps ≡ 0
+pub boots_at_zero : (file : Told) (name : List ℕ) (slots : Option ℕ) (machine : Machine) → Image file name slots machine → machine.steps ≡ 0
 unfolding start
 boots_at_zero file name slots machine image = ap (λ (m : Machine). m.steps) image.boots.start

@@ -1,9 +1,9 @@
--- The commands that are built. Of those that play events they are the ones without a swap store.
-use Rattle.std.specs.Prelude.{◌==◌, ◌&&◌, Bool, true, false, is_none}
+-- The commands that are built. Of those that play events they are the ones that name no file of a swap store.
+use Rattle.std.specs.Prelude.{Bool, true, false, is_none}
 use Rattle.xousim.specs.Words.{Command, Plays, Checks, Demo, Play}
 
 abbrev pub is_play_built : Play → Bool
-is_play_built play = (play.slots == 0) && is_none play.store
+is_play_built play = is_none play.store
 
 abbrev pub is_built : Command → Bool
 is_built (Plays play) = is_play_built play

@@ -1,10 +1,11 @@
 -- How a call of the program ends, by the command that its words are. What is said of the bytes of files and of what stands on `out`
 -- holds where they are told; what is said of counts of faults and of files asked for rests on nothing.
-use Rattle.std.specs.Prelude.{◌≡◌, ◌⊎◌, ℕ, Bool, true, false, List, [], ◌∷◌, Option, Some, None}
+use Rattle.std.specs.Prelude.{◌≡◌, ◌<◌, ◌⊎◌, ℕ, Bool, true, false, List, [], ◌∷◌, Option, Some, None}
 use Rattle.kernel_args.specs.declared.args.Args.{Args}
 use Rattle.kernel_args.specs.Image.{Spells}
 use Rattle.boot_plan.specs.FirstPages.{plan_of}
 use Rattle.boot_plan.specs.ImageFault.{IsImageFault}
+use Rattle.boot_plan.specs.Slots.{slots_used}
 use Rattle.boot_plan.specs.declared.plans.BootPlan.{BootPlan}
 use Rattle.event_text.specs.EventFile.{input_of}
 use Rattle.event_text.specs.Lines.{whole_lines}
@@ -76,47 +77,56 @@ pub record IsUntouched (status : Status) (call : Call) : Type 0 where
 
 -- ---- images
 
--- The image has no fault in a run with so many slots, and these are its arguments.
-pub record IsSoundImage (image : List ℕ) (slots : ℕ) (args : Args) : Type 0 where
+-- The image has no fault in a run that asks for these slots, and these are its arguments.
+pub record IsSoundImage (image : List ℕ) (asked : Option ℕ) (args : Args) : Type 0 where
   pub spelled : Spells image args
-  pub no_fault : IsImageFault image slots None
+  pub no_fault : IsImageFault image asked None
 
 -- the image boots this machine, the start of its plan
-pub record Boots (image : List ℕ) (slots : ℕ) (machine : Machine) : Type 0 where
+pub record Boots (image : List ℕ) (asked : Option ℕ) (machine : Machine) : Type 0 where
   pub args : Args
-  pub sound : IsSoundImage image slots args
-  pub start : machine ≡ start (plan_of args slots) image
+  pub sound : IsSoundImage image asked args
+  pub start : machine ≡ start (plan_of args asked) image
 
--- the file of that name is an image that boots this machine
-pub record Image (file : Told) (name : List ℕ) (slots : ℕ) (machine : Machine) : Type 0 where
+-- the file of that name is an image that boots this machine, and its run has no slots
+pub record Image (file : Told) (name : List ℕ) (asked : Option ℕ) (machine : Machine) : Type 0 where
   pub bytes : List ℕ
   pub read : IsFile file name bytes
-  pub boots : Boots bytes slots machine
+  pub boots : Boots bytes asked machine
+  pub no_slots : slots_used boots.args asked ≡ 0
+
+-- the file of that name is an image without a fault in a run that asks for these slots, and that run has some
+pub record HasSlots (file : Told) (name : List ℕ) (asked : Option ℕ) : Type 0 where
+  pub bytes : List ℕ
+  pub read : IsFile file name bytes
+  pub args : Args
+  pub sound : IsSoundImage bytes asked args
+  pub some : 0 < slots_used args asked
 
 -- What holds where the image isn't booted, by the status: it has this first fault; it couldn't be read, and the
 -- host's count of faults rose; there was no memory.
-abbrev pub Refuses : Told → List ℕ → ℕ → Type 0 → Status → Type 0
-Refuses file name slots host_rose (ImageFault fault) = (image : List ℕ) × IsFile file name image × IsImageFault image slots (Some fault)
-Refuses file name slots host_rose ReadFault = host_rose
-Refuses file name slots host_rose NoMemory = Unit {0}
-Refuses file name slots host_rose Done = ⊥
-Refuses file name slots host_rose Usage = ⊥
-Refuses file name slots host_rose NotBuilt = ⊥
-Refuses file name slots host_rose (EventFault line) = ⊥
-Refuses file name slots host_rose (StepLimit limit) = ⊥
-Refuses file name slots host_rose WriteFault = ⊥
+abbrev pub Refuses : Told → List ℕ → Option ℕ → Type 0 → Status → Type 0
+Refuses file name asked host_rose (ImageFault fault) = (image : List ℕ) × IsFile file name image × IsImageFault image asked (Some fault)
+Refuses file name asked host_rose ReadFault = host_rose
+Refuses file name asked host_rose NoMemory = Unit {0}
+Refuses file name asked host_rose Done = ⊥
+Refuses file name asked host_rose Usage = ⊥
+Refuses file name asked host_rose NotBuilt = ⊥
+Refuses file name asked host_rose (EventFault line) = ⊥
+Refuses file name asked host_rose (StepLimit limit) = ⊥
+Refuses file name asked host_rose WriteFault = ⊥
 
 -- the same of bytes that were read
-abbrev pub RefusesBytes : List ℕ → ℕ → Status → Type 0
-RefusesBytes image slots (ImageFault fault) = IsImageFault image slots (Some fault)
-RefusesBytes image slots NoMemory = Unit {0}
-RefusesBytes image slots ReadFault = ⊥
-RefusesBytes image slots Done = ⊥
-RefusesBytes image slots Usage = ⊥
-RefusesBytes image slots NotBuilt = ⊥
-RefusesBytes image slots (EventFault line) = ⊥
-RefusesBytes image slots (StepLimit limit) = ⊥
-RefusesBytes image slots WriteFault = ⊥
+abbrev pub RefusesBytes : List ℕ → Option ℕ → Status → Type 0
+RefusesBytes image asked (ImageFault fault) = IsImageFault image asked (Some fault)
+RefusesBytes image asked NoMemory = Unit {0}
+RefusesBytes image asked ReadFault = ⊥
+RefusesBytes image asked Done = ⊥
+RefusesBytes image asked Usage = ⊥
+RefusesBytes image asked NotBuilt = ⊥
+RefusesBytes image asked (EventFault line) = ⊥
+RefusesBytes image asked (StepLimit limit) = ⊥
+RefusesBytes image asked WriteFault = ⊥
 
 -- ---- events
 
@@ -178,9 +188,16 @@ AsksBoth play call events_picked =
     (record { slot = First; name = play.image; picked = true } ∷ record { slot = Second; name = play.events; picked = events_picked } ∷ [])
 
 -- The image isn't booted, and nothing is written. It was asked for at the first slot and picked there or not, and nothing else was.
-pub record EndsUnbooted (image : List ℕ) (slots : ℕ) (call : Call) : Type 0 where
+pub record EndsUnbooted (image : List ℕ) (slots : Option ℕ) (call : Call) : Type 0 where
   pub asked : AsksFor call.host.asked call.host.asked_after First image
   pub refused : Refuses call.host.files image slots (HostRose call) call.status
+  pub unwritten : IsUnwritten call
+
+-- The image has no fault, but its run has slots, which aren't built. It was picked, no other file was asked for, and nothing is written.
+pub record EndsWithSlots (play : Play) (call : Call) : Type 0 where
+  pub asked : Asked call.host.asked call.host.asked_after First play.image true
+  pub ended : call.status ≡ NotBuilt
+  pub cause : HasSlots call.host.files play.image play.slots
   pub unwritten : IsUnwritten call
 
 -- the image boots a machine, but the event file isn't picked, and nothing is written
@@ -204,17 +221,17 @@ pub record EndsPlayed (play : Play) (call : Call) : Type 0 where
   pub events_read : call.status ≡ Done → IsTold call.host.left []
 
 abbrev pub EndsPlay : Play → Call → Type 0
-EndsPlay play call = EndsUnbooted play.image play.slots call ⊎ EndsUnpicked play call ⊎ EndsPlayed play call
+EndsPlay play call = EndsUnbooted play.image play.slots call ⊎ EndsWithSlots play call ⊎ EndsUnpicked play call ⊎ EndsPlayed play call
 
 -- ---- `check`
 
--- the file of that name is an image without a fault in a run with so many slots, and this is its plan
-pub record IsPlanned (file : Told) (name : List ℕ) (slots : ℕ) (plan : BootPlan) : Type 0 where
+-- the file of that name is an image without a fault in a run that asks for these slots, and this is its plan
+pub record IsPlanned (file : Told) (name : List ℕ) (asked : Option ℕ) (plan : BootPlan) : Type 0 where
   pub image : List ℕ
   pub read : IsFile file name image
   pub args : Args
-  pub sound : IsSoundImage image slots args
-  pub planned : plan ≡ plan_of args slots
+  pub sound : IsSoundImage image asked args
+  pub planned : plan ≡ plan_of args asked
 
 -- what was written of the plan, by the status
 abbrev pub Summarizes : BootPlan → SinkSide → Status → Type 0
@@ -279,7 +296,7 @@ IsVerdict file play Done = RunsTo file play Played
 IsVerdict file play (EventFault line) = RunsTo file play (BadLine line)
 IsVerdict file play (StepLimit limit) = (limit ≡ play.limit) × RunsTo file play LimitMet
 IsVerdict file play (ImageFault fault) = (image : List ℕ) × IsFile file play.image image × IsImageFault image play.slots (Some fault)
-IsVerdict file play NotBuilt = ⊥
+IsVerdict file play NotBuilt = HasSlots file play.image play.slots
 IsVerdict file play Usage = ⊥
 IsVerdict file play ReadFault = ⊥
 IsVerdict file play WriteFault = ⊥

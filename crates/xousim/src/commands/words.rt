@@ -31,10 +31,11 @@ fn play_with<'a>(
     image: &'a String,
     events: &'a String,
     limit: u32,
-    slots: u32,
+    slots: Option<u32>,
     store: Option<&'a String>,
 ) -> PlayWords<'a>
-    requires { limit ≤ 4000000000 }
+    requires limited { limit ≤ 4000000000 }
+    requires few { IfSome slots (λ n. n ≤ 16384) }
     ensures { Some (play_in result) ≡ play_with tells image.now events.now (Some limit) (Some slots) (option_map (λ name. name.now) store.entry) }
 {
     PlayWords {
@@ -52,20 +53,20 @@ fn read_play<'a>(tells: Telling, words: &'a [String]) -> Option<PlayWords<'a>>
     ensures { option_map play_in result ≡ play_of tells words.now }
 {
     match words {
-        [image, events] => Some(play_with(tells, image, events, DEFAULT_STEPS, 0, None)),
+        [image, events] => Some(play_with(tells, image, events, DEFAULT_STEPS, None, None)),
         [image, events, steps] => {
             let limit = read_limit(steps)?;
-            Some(play_with(tells, image, events, limit, 0, None))
+            Some(play_with(tells, image, events, limit, None, None))
         }
         [image, events, steps, slots] => {
             let limit = read_limit(steps)?;
             let slots = read_slots(slots)?;
-            Some(play_with(tells, image, events, limit, slots, None))
+            Some(play_with(tells, image, events, limit, Some(slots), None))
         }
         [image, events, steps, slots, store] => {
             let limit = read_limit(steps)?;
             let slots = read_slots(slots)?;
-            Some(play_with(tells, image, events, limit, slots, Some(store)))
+            Some(play_with(tells, image, events, limit, Some(slots), Some(store)))
         }
         _ => None,
     }
@@ -78,13 +79,13 @@ fn read_check<'a>(words: &'a [String]) -> Option<CheckWords<'a>>
     match words {
         [image] => Some(CheckWords {
             image: image.as_str(),
-            slots: 0,
+            slots: None,
         }),
         [image, slots] => {
             let slots = read_slots(slots)?;
             Some(CheckWords {
                 image: image.as_str(),
-                slots,
+                slots: Some(slots),
             })
         }
         _ => None,

@@ -60,7 +60,7 @@ const OF_NO_FORM: [&str; 23] = [
 ];
 
 const USAGE: &[u8] =
-    b"usage: xousim trace|run|ledger IMAGE EVENTS [STEPS [SLOTS [STORE]]] | check IMAGE [SLOTS] | demo N\n";
+    b"usage: xousim trace|run|ledger IMAGE EVENTS [STEPS [SLOTS [STORE]]] | check IMAGE [SLOTS] | convert IMAGE | demo N\n";
 
 /// The words that stand between the bars of a line.
 fn words_of(alloc: Global, line: &str) -> Result<Vec<String>, Fail> {

@@ -41,14 +41,17 @@ pub fn image_of(alloc: Global, codes: &[Vec<u32>]) -> Result<Vec<u8>, Fail> {
         procs.push(ProcArgs {
             load: words * 4 + at * SIZE,
             entry: START,
+            check: None,
             sections,
         })?;
     }
     let args = Args {
         words,
+        version: 1,
         ram_start: 0x4000_0000,
         ram_size: 0x100_0000,
         ram_name: *b"sram",
+        slots: None,
         procs,
         names: Row::new(alloc),
     };

@@ -3,15 +3,14 @@ use Rattle.std.specs.Prelude.{codes}
 use Rattle.kernel_args.specs.Tags.{tag_bytes}
 use Rattle.kernel_args.specs.Contents.{process_contents}
 use Rattle.kernel_args.specs.Writing.{right_tag}
-use Rattle.kernel_args.proofs.WritingLemmas.{length-contents, process_row_is}
+use Rattle.kernel_args.proofs.WritingLemmas.{short_process, process_row_is}
 use Rattle.kernel_args.proofs.writing.append_process.Goals as goal
 
 pub append_tag-requires : goal.append_tag-requires
 append_tag-requires c =
     let is : c.as_slice.result.now ≡ process_contents c.args.process.now = c.as_slice.ensures ∙ c.in_ok-contents.ensures in
     let size : length c.as_slice.result.now ≡ length (process_contents c.args.process.now) = ap (λ (l : List ℕ). length l) is in
-    let len = length-contents c.args.process.now in
-    let few = c.requires in
+    let short = short_process c.args.process.now c.requires in
     omega arith
 
 pub returns : goal.returns
