@@ -5,10 +5,12 @@
 mod appending;
 mod args;
 mod check_number;
+mod converting;
 mod faults;
 mod found;
 mod header;
 mod laws;
+mod loads;
 mod names;
 mod process;
 mod reading;
@@ -18,11 +20,13 @@ mod writing;
 
 pub use args::{Args, ProcArgs, ProcName, Section};
 pub use check_number::crc_x25;
+pub use converting::{convert, converted_len};
 pub use faults::{
     ArgFault, ArgsError, BAD_CHECK, BAD_INI, BAD_LOAD, BAD_NAMES, BAD_RAM, BAD_SLOTS, BAD_TOTAL,
     BAD_VERSION, NO_PROCESS, NOT_XARG, TOO_MANY_PROCESSES, TOO_SHORT,
 };
 pub use laws::spelled_once_or_faulty;
+pub use loads::{file_sizes, loaded_bytes};
 pub use reading::read_args;
 pub use writing::{writable, write_args};
 
