@@ -5,6 +5,7 @@
 mod appending;
 mod args;
 mod check_number;
+mod converting;
 mod faults;
 mod found;
 mod header;
@@ -19,6 +20,7 @@ mod writing;
 
 pub use args::{Args, ProcArgs, ProcName, Section};
 pub use check_number::crc_x25;
+pub use converting::{convert, converted_len};
 pub use faults::{
     ArgFault, ArgsError, BAD_CHECK, BAD_INI, BAD_NAMES, BAD_RAM, BAD_SLOTS, BAD_TOTAL,
     BAD_VERSION, NO_PROCESS, NOT_XARG, TOO_MANY_PROCESSES, TOO_SHORT,
