@@ -1,3 +1,4 @@
 //! Input that means harm.
 
+mod damage;
 mod failing;
