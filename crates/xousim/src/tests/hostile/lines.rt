@@ -91,7 +91,7 @@ fn expect_bad(
     alloc: Global,
     image: &[u8],
     around: Around,
-    line: &str,
+    line: &'static str,
 ) -> Result<(), Fail> {
     let (before, behind, number, told) = around;
     let Some(records) = FIRST_RECORDS.get(..told) else {
