@@ -166,7 +166,7 @@ fn expect_done(
     Ok(())
 }
 
-/// Each call of the host fails, and then none.
+/// Each call of the host fails in turn.
 fn expect_read_faults(
     rt: &impl Abort,
     alloc: Global,
@@ -192,7 +192,8 @@ fn expect_read_faults(
 /// More writes than a run has.
 const WRITES: u64 = 100;
 
-/// Each write fails, as long as there is one that can: there stands a part from the front.
+/// Each write fails, as long as there is one that can: there stands a part from the front. How the text
+/// is cut into writes is no rule, so no more is expected.
 fn expect_write_faults(
     rt: &impl Abort,
     alloc: Global,
