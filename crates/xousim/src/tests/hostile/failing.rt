@@ -1,6 +1,7 @@
 //! Each call of the host and of the output fails in turn, over a page that is lent and returned.
 
 use crate::status::{Ended, Status};
+use crate::tests::image::patched;
 use crate::tests::lends::{LENDER, LENT_AND_RETURNED, READER};
 use crate::tests::lines::transcript;
 use crate::tests::programs::{Act, image_of_programs};
@@ -71,6 +72,9 @@ pub fn run(
     })
 }
 
+/// RAM of 512 frames, so that a run is short.
+const SMALL_RAM: [(u16, u32); 2] = [(20, 0x0020_0000), (4, 0x0005_7553)];
+
 /// A page is lent and returned. The image has 4,172 bytes. The event file has 1,257: its second event
 /// is whole with the second piece, behind 31 lines that are none.
 fn lend_and_return(alloc: Global) -> Result<Files, Fail> {
@@ -80,8 +84,9 @@ fn lend_and_return(alloc: Global) -> Result<Files, Fail> {
         events.extend_from_slice(b"# between the return and the next store\n")?;
     }
     events.extend_from_slice(b"tick 24\n")?;
+    let image = image_of_programs(alloc, &processes)?;
     Ok(Files {
-        image: image_of_programs(alloc, &processes)?,
+        image: patched(alloc, image.as_slice(), &SMALL_RAM)?,
         events,
     })
 }
