@@ -1,0 +1,8 @@
+//! Input that means harm: user code, calls, and processes that take all.
+
+mod calls;
+mod code;
+mod ends;
+mod exhausting;
+mod loans;
+mod sweeps;
