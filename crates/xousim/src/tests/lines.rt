@@ -22,6 +22,15 @@ pub fn transcript(alloc: Global, lines: &[&str]) -> Result<Vec<u8>, Fail> {
     Ok(text)
 }
 
+/// The transcript of the lines that stand between the bars of a text.
+pub fn transcript_of(alloc: Global, lines: &str) -> Result<Vec<u8>, Fail> {
+    let mut text = Vec::new(alloc);
+    for line in lines.split('|') {
+        push_line(&mut text, line)?;
+    }
+    Ok(text)
+}
+
 /// The line of such a record of a step.
 pub fn push_record(text: &mut Vec<u8>, step: u32, what: What) -> Result<(), Fail> {
     let mut told = ArrayVec::new();
