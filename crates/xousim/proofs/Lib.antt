@@ -1,6 +1,10 @@
 pub mod GatheringLemmas
 pub mod HistoryLemmas
 pub mod KeptLemmas
+pub mod LoadHistoryLemmas
+pub mod LoadImageLemmas
+pub mod LoadPlayingLemmas
+pub mod LoadTotalsLemmas
 pub mod MatchedLemmas
 pub mod PlayingLemmas
 pub mod ReadingLemmas

@@ -8,4 +8,4 @@ is_play_built play = (play.slots == 0) && is_none play.store
 abbrev pub is_built : Command → Bool
 is_built (Plays play) = is_play_built play
 is_built (Checks check) = true
-is_built (Demo clients) = false
+is_built (Demo clients) = true

@@ -126,4 +126,4 @@ check_in check = record { image = check.image.now; slots = check.slots }
 abbrev pub command_in : CommandWords → Command
 command_in (words.Play play) = Plays (play_in play)
 command_in (words.Check check) = Checks (check_in check)
-command_in (words.Demo clients) = Demo clients
+command_in (words.Demo demo) = Demo demo.clients

@@ -3,6 +3,7 @@
 pub mod booting;
 pub mod check;
 pub mod command;
+pub mod demo;
 mod numbers;
 pub mod play;
 mod summary;

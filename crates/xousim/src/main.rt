@@ -3,6 +3,7 @@
 #![tactic(auto)]
 
 mod commands;
+mod load;
 mod matched;
 mod notes;
 mod outside;

@@ -37,11 +37,18 @@ pub struct CheckWords<'a> {
     ghost few: { slots ≤ 16384 },
 }
 
+/// `demo`: the load of so many clients is played.
+#[derive(Clone, Copy, Debug)]
+pub struct DemoWords {
+    pub clients: u32,
+    ghost some: { 1 ≤ clients },
+    ghost few: { clients ≤ 31 },
+}
+
 /// What the program is asked to do.
 #[derive(Clone, Copy, Debug)]
 pub enum CommandWords<'a> {
     Play(PlayWords<'a>),
     Check(CheckWords<'a>),
-    /// The load of so many clients.
-    Demo(u32),
+    Demo(DemoWords),
 }
