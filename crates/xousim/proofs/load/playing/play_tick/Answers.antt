@@ -51,7 +51,7 @@ steps-init g c =
     let ticks : ℕ → History = λ n. play (Tick n) DEFAULT_STEPS (machine_of g.W.SwapStore.held c.args.kernel.now) in
     let all : c.args.count - 0 ≡ c.args.count = omega arith in
     record {
-      rest = λ before is. (before, (is, ap (λ (n : ℕ). before ++ (ticks n).records) all));
+      rest = λ before is. (before, is, ap (λ (n : ℕ). before ++ (ticks n).records) all);
       machine = ap (λ (n : ℕ). (ticks n).machine) all;
       steps = omega arith;
       within = c.requires.within;
@@ -93,11 +93,9 @@ steps-preserved g c =
       rest = λ before is.
           let so_far = c.steps.invariant.rest before is in (
             so_far.0 ++ c.last.result.now,
-            (
-              c.count_all.ensures.counted so_far.0 so_far.1,
-              tick_on before so_far.0 c.last.result.now (play (Tick count) DEFAULT_STEPS m) (rest (machine_of g.W.SwapStore.held c.step.new.self))
-                  (play (Tick c.args.count) DEFAULT_STEPS (machine_of g.W.SwapStore.held c.args.kernel.now)) so_far.2 there,
-            ),
+            c.count_all.ensures.counted so_far.0 so_far.1,
+            tick_on before so_far.0 c.last.result.now (play (Tick count) DEFAULT_STEPS m) (rest (machine_of g.W.SwapStore.held c.step.new.self))
+                (play (Tick c.args.count) DEFAULT_STEPS (machine_of g.W.SwapStore.held c.args.kernel.now)) so_far.2 there,
           );
       machine = sym (ap (λ (h : History). h.machine) there) ∙ c.steps.invariant.machine;
       steps = omega (arith, steps, c.steps.invariant.steps);
