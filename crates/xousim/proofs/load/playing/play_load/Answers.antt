@@ -1,14 +1,12 @@
-use Rattle.std.proofs.Common.{◌≡◌, ◌≤◌, ◌+◌, ◌*◌, ◌++◌, false, ℕ, List, refl, sym, ap, ◌∙◌, subst, arith}
+use Rattle.std.proofs.Common.{◌≡◌, ◌+◌, ◌++◌, ℕ, sym, ap, ◌∙◌, subst, arith}
 use Rattle.event_text.specs.declared.event.Event.TheVariants.{Tick}
 use Rattle.machine_model.specs.State.Machine.{Machine}
 use Rattle.machine_model.specs.Stepping.Events.{nothing}
 use Rattle.xk_base.specs.declared.limits.TheConstants.{DEFAULT_STEPS}
-use Rattle.xk_base.specs.declared.records.Rec.{Rec}
 use Rattle.xk_kernel.specs.History.{History, behind, history, play, reached}
 use Rattle.xk_kernel.specs.State.{machine_of}
 use Rattle.xousim.specs.Load.Events.{first_events, tick_at}
 use Rattle.xousim.specs.Load.Totals.{IsWithin, totals_of}
-use Rattle.xousim.specs.declared.load.totals.Totals.{Totals}
 use Rattle.xousim.proofs.KeptLemmas.{kept_after, kept_same}
 use Rattle.xousim.proofs.LoadHistoryLemmas.{events_none, few_ticks, history_more, tick_unmet}
 use Rattle.xousim.proofs.LoadPlayingLemmas.{event_counted}

@@ -1,4 +1,4 @@
-use Rattle.std.proofs.Common.{◌≡◌, ◌≢◌, ◌+◌, ◌-◌, ◌≤◌, ◌++◌, ℕ, [], refl, sym, ap, ◌∙◌, subst, arith, List, length}
+use Rattle.std.proofs.Common.{◌≡◌, ◌≢◌, ◌+◌, ◌-◌, ◌++◌, ℕ, sym, ap, ◌∙◌, subst, arith, List, length}
 use Rattle.event_text.specs.declared.event.Event.TheVariants.{Tick}
 use Rattle.machine_model.specs.State.Machine.{Machine}
 use Rattle.machine_model.specs.State.Order.{turn}
@@ -12,8 +12,6 @@ use Rattle.xk_kernel.specs.declared.kernel.Stepped.{Stepped}
 use Rattle.xk_kernel.specs.declared.kernel.Stepped.TheVariants.{Did, Idle}
 use Rattle.xk_kernel.proofs.Running.HistoryLemmas.{tick_zero, tick_idle, tick_steps}
 use Rattle.xk_kernel.proofs.Running.LimitLemmas.{step_steps, turn_steps}
-use Rattle.xousim.specs.Load.Totals.{totals_of}
-use Rattle.xousim.specs.declared.load.totals.Totals.{Totals}
 use Rattle.xousim.proofs.KeptLemmas.{kept_after, kept_same}
 use Rattle.xousim.proofs.LoadPlayingLemmas.{few_told, tick_on, tick_over, within_more, within_same}
 use Rattle.xousim.proofs.load.playing.play_tick.Goals as goal
