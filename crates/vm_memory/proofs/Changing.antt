@@ -11,4 +11,5 @@ pub mod LoopLemmas
 pub mod OnePlaceLemmas
 pub mod PageStepLemmas
 pub mod RunLemmas
+pub mod ShiftedLemmas
 pub mod SoundMemoryLemmas

@@ -163,7 +163,6 @@ module _ {W : Type 0} (slot_count : W → ℕ) (held : W → Held) (m : Memory W
       within = (omega (arith, first_m), omega (arith, first_m, frames_m, e.tables));
       free = ap (λ I. I (frame_seat (21 * procs))) e.infos;
     };
-    no_slots = e.slots;
   }
 
   pub empty_free : AreFreeFrom m.owners 0

@@ -4,7 +4,7 @@ use Rattle.sv32_space.specs.Agreement.{owned_by}
 use Rattle.ledger_model.specs.Places.{place_after}
 use Rattle.sv32_space.proofs.RunLemmas.{make_none}
 use Rattle.vm_memory.specs.Memory.{Size, ledger, processes}
-use Rattle.vm_memory.proofs.Changing.LoopLemmas.{first_same, next_free, next_lies, next_made, next_room, next_used, rest_then, user_bound}
+use Rattle.vm_memory.proofs.Changing.LoopLemmas.{first_same, next_free, next_lies, next_made, next_room, next_left, next_used, rest_same, rest_then, user_bound}
 use Rattle.vm_memory.proofs.memory.Memory.make_pages.Goals as goal
 
 pub loop-i-init : goal.loop-i-init
@@ -13,7 +13,7 @@ loop-i-init g c =
     record {
       sound = c.requires.sound;
       ledger = sym (make_none c.args.first c.args.right (ledger g.W.SwapStore.held c.args.self.now));
-      rest = record { size = refl; store = refl; failed = refl };
+      rest = rest_same c.args.self.now;
       low = omega (arith, c.requires.sound.procs);
       used = λ k from to. absurd (omega (arith, from, to, first, c.requires.sound.procs));
     }
@@ -40,6 +40,11 @@ pub place_page-requires-clause-room : goal.place_page-requires-clause-room
 place_page-requires-clause-room g c =
     next_room g.W.SwapStore.slot_count g.W.SwapStore.held c.args.self.now c.loop-i.self c.loop-i.invariant.sound c.loop-i.invariant.rest c.args.first c.args.n c.loop-i.i
     c.loop-i-test.true c.args.right c.requires.can c.loop-i.invariant.ledger
+
+pub place_page-requires-clause-left : goal.place_page-requires-clause-left
+place_page-requires-clause-left g c = λ usable.
+    next_left g.W.SwapStore.slot_count g.W.SwapStore.held c.args.self.now c.loop-i.self c.loop-i.invariant.sound c.loop-i.invariant.rest c.args.first c.args.n c.loop-i.i
+    c.loop-i-test.true c.args.right c.requires.can c.loop-i.invariant.ledger c.requires.sound c.requires.frames
 
 pub loop-i-preserved : goal.loop-i-preserved
 loop-i-preserved g c =

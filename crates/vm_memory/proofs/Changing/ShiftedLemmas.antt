@@ -1,0 +1,224 @@
+-- A memory whose pages have moved between frames and slots.
+use Rattle.std.proofs.Common.{◌≡◌, ◌≢◌, ℕ, ◌+◌, ◌*◌, ◌≤◌, Bool, true, false, ◌&&◌, ◌||◌, Option, Some, None, refl, sym, ap, subst, ◌∙◌, inl, inr, arith}
+use Rattle.std.specs.Prelude.{IsTrue, is_some}
+use Rattle.std.specs.Option.{option_map}
+use Rattle.std.proofs.lemmas.Bool.{and_parts, both_ways, cond-true, cond-false, ne_eqb}
+use Rattle.boot_plan.specs.Capacity.{capacity}
+use Rattle.xk_base.specs.Numbers.Limits.{table_frames}
+use Rattle.xk_base.specs.declared.ids.Frame.{Frame as FrameNumber}
+use Rattle.xk_base.specs.declared.ids.Place.{Place}
+use Rattle.xk_base.specs.declared.ids.Slot.{Slot as SlotNumber}
+use Rattle.phys_pages.specs.declared.infos.PageInfo.{PageInfo}
+use Rattle.phys_pages.specs.declared.infos.Seat.{Seat}
+use Rattle.phys_pages.specs.declared.infos.Seat.TheVariants.{Frame, Slot}
+use Rattle.phys_pages.specs.Owners.{AreFramesUsed, AreSlotsUsed, Extent, HasSeat, OwnerTable, extent, frame_seat, infos, seat_eq, slot_seat}
+use Rattle.phys_pages.specs.Ram.{Area, IsPlaced, RamBytes, area, pages as page_of_frame}
+use Rattle.phys_pages.proofs.OwnerLemmas.{infos-within, seat_tells}
+use Rattle.ledger_model.specs.Lawful.{IsLawful}
+use Rattle.ledger_model.specs.Ledger.{pages}
+use Rattle.ledger_model.specs.Loans.{bare}
+use Rattle.ledger_model.proofs.Pages.BareLemmas.{bare-lawful}
+use Rattle.ledger_model.proofs.Stepping.WritingLemmas.{bare-pages}
+use Rattle.sv32_space.specs.Agreement.{HasUnusedFrame, procs_of}
+use Rattle.sv32_space.specs.PageChanges.{renamed, renamed_entry, with_info}
+use Rattle.sv32_space.specs.SpelledEntries.{entries}
+use Rattle.sv32_space.specs.Tie.{Held, agrees, bytes_at}
+use Rattle.sv32_space.specs.declared.sides.Entry.TheVariants.{At}
+use Rattle.sv32_space.specs.declared.sides.Side.{Side}
+use Rattle.loan_flags.specs.Keeping.{tables}
+use Rattle.swap_map.specs.Moving.{KeepsSizes, Moves, StaysPut}
+use Rattle.swap_map.proofs.ExchangeLemmas.{stayed_whole, used_behind}
+use Rattle.xk_ports.specs.Keeping.{KeepsStore}
+use Rattle.vm_memory.specs.declared.memory.Memory.{Memory}
+use Rattle.vm_memory.specs.Bytes.{MeansBytesOver, is_known, none_out, used_frames, used_slots}
+use Rattle.vm_memory.specs.Memory.{blank_ledger, capacity_of, ledger, processes}
+use Rattle.vm_memory.specs.Pages.Changing.{IsFreeFrame}
+use Rattle.vm_memory.specs.Pages.Exchanging.{MovesPages}
+use Rattle.vm_memory.specs.Sound.{IsSound}
+use Rattle.vm_memory.proofs.Changing.CallLemmas.{none_out-kept, none_out-slots}
+use Rattle.vm_memory.proofs.Changing.CountLemmas.{each_counts, seats_count}
+use Rattle.vm_memory.proofs.Changing.SoundMemoryLemmas.{bare-ledger}
+
+-- THE WORKHORSE: entries and owners agree, the ledger is the same but for its bytes, and the sizes stay.
+module _ {W : Type 0} (slot_count : W → ℕ) (held : W → Held) (m : Memory W) (sound : IsSound slot_count m)
+    (ram : RamBytes) (owners : OwnerTable) (store : W) (failed : Bool) (hand : ℕ) where
+  abbrev n : Memory W
+  n = record m { ram = ram; owners = owners; store = store; failed = failed; hand = hand }
+
+  module _ (agree : agrees ram owners) (sizes : KeepsSizes (tables m.ram m.owners) (tables ram owners))
+      (rights : bare (ledger held n) ≡ bare (ledger held m)) (slots : slot_count store ≡ slot_count m.store) where
+    bare_blank : bare (blank_ledger n) ≡ bare (blank_ledger m)
+    bare_blank = sym (bare-ledger held n) ∙ (rights ∙ bare-ledger held m)
+
+    lawful : IsLawful (processes n) (capacity_of n) (blank_ledger n)
+    lawful =
+        let here : IsLawful (processes m) (capacity_of m) (blank_ledger n) =
+        bare-lawful (processes m) (capacity_of m) (blank_ledger m) (blank_ledger n) bare_blank sound.lawful in
+        let same : capacity_of n ≡ capacity_of m = λ i. capacity (sizes.area i).frames (procs_of (sizes.extent i)) (sizes.extent i).slots in
+        let sized : IsLawful (processes m) (capacity_of n) (blank_ledger n) = subst (λ k. IsLawful (processes m) k (blank_ledger n)) (sym same) here in
+        subst (λ t. IsLawful (procs_of t) (capacity_of n) (blank_ledger n)) (sym sizes.extent) sized
+
+    counted : m.pages ≡ pages (processes n) (blank_ledger n)
+    counted = sound.pages ∙ (sym (bare-pages (processes m) (blank_ledger m) (blank_ledger n) bare_blank)
+        ∙ ap (λ t. pages (procs_of t) (blank_ledger n)) (sym sizes.extent))
+
+    seats : used_frames owners + used_slots owners ≡ m.pages
+    unfolding blank_ledger
+    seats = seats_count (processes n) (entries (processes n) ram) owners agree.entries ∙ sym counted
+
+    pub shifted : (failed ≡ false → HasUnusedFrame (extent owners) (infos owners)) → IsSound slot_count n
+    shifted room = record {
+      agree = agree;
+      procs = sound.procs ∙ sym (ap procs_of sizes.extent);
+      slots = sound.slots ∙ sym (ap (λ (t : Extent). t.slots) sizes.extent);
+      few = subst (λ t. procs_of t ≤ 64) (sym sizes.extent) sound.few;
+      few_slots = sound.few_slots;
+      tables = subst (λ t. table_frames (procs_of t) + 2 ≤ (area ram).frames) (sym sizes.extent)
+          (subst (λ (a : Area). table_frames (processes m) + 2 ≤ a.frames) (sym sizes.area) sound.tables);
+      placed = subst IsPlaced (sym sizes.area) sound.placed;
+      store = subst (λ k. m.slots ≤ k) (sym slots) sound.store;
+      lawful = lawful;
+      pages = counted;
+      seats = seats;
+      room = room;
+    }
+
+    -- .. so that pages have moved
+    pub moved : {P : Type 0} (is_honest : W → Bool) (asked : W → P) (faults : W → ℕ)
+        → (IsTrue (is_known is_honest held m) → ledger held n ≡ ledger held m) → KeepsStore is_honest held slot_count asked faults m.store store
+        → (failed ≡ false → HasUnusedFrame (extent owners) (infos owners)) → MovesPages is_honest held slot_count asked faults m n
+    moved is_honest asked faults whole keeps room = record {
+      sound = shifted room;
+      rights = rights;
+      whole = whole;
+      size = λ i. record { procs = procs_of (sizes.extent i); area = sizes.area i; slots = (sizes.extent i).slots };
+      store = keeps;
+    }
+
+-- a store that stays as it is keeps all of itself
+pub keeps_all : {W P : Type 0} (is_honest : W → Bool) (held : W → Held) (slot_count : W → ℕ) (asked : W → P) (faults : W → ℕ) (store : W)
+    → KeepsStore is_honest held slot_count asked faults store store
+keeps_all is_honest held slot_count asked faults store = record { honest = refl; told = refl; slots = refl; preparations = refl; never_falls = omega arith }
+
+-- nothing moves where only the mark of failure and the hand change
+pub unmoved : {W P : Type 0} (is_honest : W → Bool) (held : W → Held) (slot_count : W → ℕ) (asked : W → P) (faults : W → ℕ)
+    (m : Memory W) → IsSound slot_count m → (failed : Bool) (hand : ℕ) → (failed ≡ false → HasUnusedFrame (extent m.owners) (infos m.owners))
+    → MovesPages is_honest held slot_count asked faults m (record m { failed = failed; hand = hand })
+unfolding ledger
+unmoved is_honest held slot_count asked faults m sound failed hand room =
+    moved slot_count held m sound m.ram m.owners m.store failed hand sound.agree (record { area = refl; extent = refl }) refl refl
+    is_honest asked faults (λ known. refl) (keeps_all is_honest held slot_count asked faults m.store) room
+
+-- what is known stays known
+pub known_kept : {W P : Type 0} (is_honest : W → Bool) (held : W → Held) (slot_count : W → ℕ) (asked : W → P) (faults : W → ℕ) (a b : W)
+    → KeepsStore is_honest held slot_count asked faults a b → (is_honest b && is_some (held b)) ≡ (is_honest a && is_some (held a))
+known_kept is_honest held slot_count asked faults a b keeps = λ i. keeps.honest i && keeps.told i
+
+pub store_then : {W P : Type 0} (is_honest : W → Bool) (held : W → Held) (slot_count : W → ℕ) (asked : W → P) (faults : W → ℕ) (a b c : W)
+    → KeepsStore is_honest held slot_count asked faults a b → KeepsStore is_honest held slot_count asked faults b c
+    → KeepsStore is_honest held slot_count asked faults a c
+store_then is_honest held slot_count asked faults a b c x y = record {
+  honest = y.honest ∙ x.honest;
+  told = y.told ∙ x.told;
+  slots = y.slots ∙ x.slots;
+  preparations = y.preparations ∙ x.preparations;
+  never_falls = omega (arith, x.never_falls, y.never_falls);
+}
+
+pub moves_then : {W P : Type 0} (is_honest : W → Bool) (held : W → Held) (slot_count : W → ℕ) (asked : W → P) (faults : W → ℕ) (a b c : Memory W)
+    → MovesPages is_honest held slot_count asked faults a b → MovesPages is_honest held slot_count asked faults b c
+    → MovesPages is_honest held slot_count asked faults a c
+moves_then is_honest held slot_count asked faults a b c x y = record {
+  sound = y.sound;
+  rights = y.rights ∙ x.rights;
+  whole = λ known. y.whole (known_kept is_honest held slot_count asked faults a.store b.store x.store ∙ known) ∙ x.whole known;
+  size = y.size ∙ x.size;
+  store = store_then is_honest held slot_count asked faults a.store b.store c.store x.store y.store;
+}
+
+-- ---- free seats
+
+-- a frame that is found free
+pub found_room : (table : Extent) (I : Seat → Option PageInfo) (f : FrameNumber) → HasSeat table (Frame f) → I (Frame f) ≡ None → HasUnusedFrame table I
+found_room table I f within free = record { frame = f.0; within = within; free = free }
+
+-- no frame is free, and not all slots are used: as many pages as the capacity allows leave one seat
+pub slot_left : {W : Type 0} (slot_count : W → ℕ) (m : Memory W) → IsSound slot_count m
+    → AreFramesUsed m.owners ((extent m.owners).first + (extent m.owners).frames) → AreSlotsUsed m.owners (extent m.owners).slots → ⊥
+slot_left slot_count m sound frames slots =
+    let all : (extent m.owners).frames ≤ used_frames m.owners =
+    each_counts (extent m.owners).frames (λ k. is_some (infos m.owners (frame_seat ((extent m.owners).first + k))))
+    (λ k low. frames ((extent m.owners).first + k) (omega arith) (omega (arith, low))) in
+    let every : (extent m.owners).slots ≤ used_slots m.owners =
+    each_counts (extent m.owners).slots (λ k. is_some (infos m.owners (slot_seat k))) (λ k low. slots k low) in
+    let within : pages (processes m) (blank_ledger m) ≤ capacity_of m = sound.lawful.within in
+    let first : (extent m.owners).first ≡ 21 * processes m = sound.agree.first in
+    let last : (extent m.owners).first + (extent m.owners).frames ≡ (area m.ram).frames = sound.agree.last in
+    omega (arith, all, every, within, first, last, sound.pages, sound.seats, sound.tables)
+
+-- ---- a page goes out
+
+module _ {W : Type 0} (m : Memory W) (ram : RamBytes) (owners : OwnerTable) (f : FrameNumber) (to : SlotNumber)
+    (moves : Moves (tables m.ram m.owners) (tables ram owners) (Frame f) (Slot to)) where
+  -- its frame is free
+  pub left_free : infos owners (Frame f) ≡ None
+  left_free = ap (λ I. I (Frame f)) moves.infos
+      ∙ elim (seat_tells (Frame f) (Frame f)) [
+        | inl same ↦ cond-true (seat_eq (Frame f) (Frame f)) None (infos m.owners (Frame f)) same.1
+        | inr apart ↦ absurd (apart.0 refl)
+      ]
+
+  -- the slot is used
+  pub slot_used : infos owners (Slot to) ≡ infos m.owners (Frame f)
+  slot_used = ap (λ I. I (Slot to)) moves.infos
+      ∙ elim (seat_tells (Slot to) (Slot to)) [
+        | inl same ↦ cond-true (seat_eq (Slot to) (Slot to)) (infos m.owners (Frame f)) (with_info (infos m.owners) (Frame f) None (Slot to)) same.1
+        | inr apart ↦ absurd (apart.0 refl)
+      ]
+
+  -- so a page is out
+  pub goes_out : is_some (infos m.owners (Frame f)) ≡ true → {A : Type 0} → (n : Memory W) → n.owners ≡ owners → none_out n ≡ true → A
+  goes_out used n same none = absurd (both_ways (is_some (infos owners (Slot to)))
+      (ap is_some (ap (λ o. infos o (Slot to)) (sym same) ∙ none_out-slots n none to)) (ap is_some slot_used ∙ used))
+
+  -- other entries stay
+  pub stays_near : (keep : FrameNumber) → f.0 ≢ keep.0 → (at : Place) (side : Side) → entries (processes m) m.ram at ≡ Some (At side (Frame keep))
+      → entries (procs_of (extent owners)) ram at ≡ Some (At side (Frame keep))
+  stays_near keep other at side e = ap (λ E. E at) moves.entries ∙ (ap (option_map (renamed_entry (Frame f) (Slot to))) e
+      ∙ ap (λ s. Some (At side s)) (cond-false (seat_eq (Frame f) (Frame keep)) (Slot to) (Frame keep) (ne_eqb f.0 keep.0 other)))
+
+-- a page comes in: its entries name the frame
+pub comes_near : {W : Type 0} (m : Memory W) (ram : RamBytes) (owners : OwnerTable) (from : SlotNumber) (into : FrameNumber)
+    → Moves (tables m.ram m.owners) (tables ram owners) (Slot from) (Frame into)
+    → (at : Place) (side : Side) → entries (processes m) m.ram at ≡ Some (At side (Slot from)) → entries (procs_of (extent owners)) ram at ≡ Some (At side (Frame into))
+comes_near m ram owners from into moves at side e = ap (λ E. E at) moves.entries ∙ (ap (option_map (renamed_entry (Slot from) (Frame into))) e
+    ∙ ap (λ s. Some (At side s)) (elim (seat_tells (Slot from) (Slot from)) [
+      | inl same ↦ cond-true (seat_eq (Slot from) (Slot from)) (Frame into) (Slot from) same.1
+      | inr apart ↦ absurd (apart.0 refl)
+    ]))
+
+-- ---- a page doesn't go out, as the store failed
+
+module _ {W : Type 0} (slot_count : W → ℕ) (held : W → Held) (m : Memory W) (sound : IsSound slot_count m)
+    (ram : RamBytes) (owners : OwnerTable) (store : W) (failed : Bool) (hand : ℕ) (stays : StaysPut (tables m.ram m.owners) (tables ram owners))
+    (pages_stay : (g : ℕ) → table_frames (procs_of (extent m.owners)) ≤ g → page_of_frame ram g ≡ page_of_frame m.ram g) where
+  abbrev k : Memory W
+  k = record m { ram = ram; owners = owners; store = store; failed = failed; hand = hand }
+
+  pub still_none : none_out k ≡ true → none_out m ≡ true
+  still_none = none_out-kept k m (λ s free. ap (λ I. I (Slot s)) (sym stays.infos) ∙ free)
+
+  -- where no page is out, all bytes are in frames
+  pub still_whole : none_out m ≡ true → ledger held k ≡ ledger held m
+  unfolding ledger
+  still_whole none = stayed_whole (tables m.ram m.owners) (tables ram owners) sound.agree stays (bytes_at m.ram (held m.store)) (bytes_at ram (held store)) same
+    where
+      same : (s : Seat) (x : PageInfo) → infos m.owners s ≡ Some x → bytes_at ram (held store) s ≡ bytes_at m.ram (held m.store) s
+      same (Frame g) x used = pages_stay g.0 (used_behind m.ram m.owners sound.agree g x used)
+      same (Slot s) x used = absurd (both_ways (is_some (infos m.owners (Slot s))) (ap is_some (none_out-slots m none s)) (ap is_some used))
+
+-- ---- bytes over a call
+
+pub over_splits : (known a b : Bool) → (known || (a && b)) ≡ true → {A : Type 0} → (known ≡ true → A) → (a ≡ true → b ≡ true → A) → A
+over_splits true a b h known none = known refl
+over_splits false a b h known none = none (and_parts a b h).0 (and_parts a b h).1
