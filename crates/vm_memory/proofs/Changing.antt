@@ -4,6 +4,7 @@ pub mod ChangedLemmas
 pub mod ConsoleRunLemmas
 pub mod ConsoleStepLemmas
 pub mod CountLemmas
+pub mod CrowdedLemmas
 pub mod ForgettingLemmas
 pub mod HereLemmas
 pub mod LoanCallLemmas

@@ -34,6 +34,14 @@ run_wider first i n p few e =
     let there : IsInRun first i p = in_run-true first i p e in
     in_run-from first n p (record { pid = there.pid; from = there.from; to = omega (arith, there.to) })
 
+-- a shorter run may be made where a longer one may
+pub fewer : (procs capacity : ℕ) (l : Ledger) (first : Place) (n i : ℕ) → i ≤ n → CanMake procs capacity l first n → CanMake procs capacity l first i
+fewer procs capacity l first n i low can = record {
+  lies = λ p e. can.lies p (run_wider first i n p low e);
+  free = λ p e. can.free p (run_wider first i n p low e);
+  room = omega (arith, low, can.room);
+}
+
 pub rest_same : {W : Type 0} (m : Memory W) → ChangesPagesAlone m m
 rest_same m = record { size = refl; store = refl; failed = refl; slots = λ s free. free }
 
@@ -57,11 +65,7 @@ module _ {W : Type 0} (slot_count : W → ℕ) (held : W → Held) (m0 m : Memor
 
   module _ (right : Right) (can : CanMake (processes m0) (capacity_of m0) (ledger held m0) first n) (so_far : ledger held m ≡ make first i right (ledger held m0)) where
     can_first : CanMake (processes m0) (capacity_of m0) L0 first i
-    can_first = record {
-      lies = λ p e. can.lies p (run_wider first i n p (omega arith) e);
-      free = λ p e. can.free p (run_wider first i n p (omega arith) e);
-      room = omega (arith, can.room);
-    }
+    can_first = fewer (processes m0) (capacity_of m0) L0 first n i (omega arith) can
 
     pub next_lies : is_user_place (processes m) (place_after first i) ≡ true
     next_lies = ap (λ k. is_user_place k (place_after first i)) procs_same ∙ can.lies (place_after first i) (in_run-after first n i low)

@@ -1,6 +1,7 @@
 -- What stays where a page comes in, and what an access gives after it.
-use Rattle.std.proofs.Common.{◌≡◌, ℕ, ◌%◌, if◌then◌else◌, Bool, true, false, ◌||◌, not, Option, Some, None, refl, sym, ap, subst, ◌∙◌, inl, inr}
-use Rattle.std.specs.Prelude.{IsTrue, is_some}
+use Rattle.std.proofs.Common.{◌≡◌, ℕ, ◌*◌, ◌/◌, ◌%◌, if◌then◌else◌, Bool, true, false, ◌||◌, not, Option, Some, None, refl, sym, ap, subst, ◌∙◌, inl, inr, arith}
+use Rattle.std.specs.Prelude.{IsTrue, is_some, Result, Ok, Err, IfOk}
+use Rattle.xk_base.specs.declared.errors.Failed.{Failed}
 use Rattle.std.specs.Option.{option_and_then, option_map, option_map_or}
 use Rattle.std.proofs.lemmas.Bool.{both_ways, cond-true, false≢true}
 use Rattle.xk_base.specs.UserMemory.{Content, FetchesNumber, KeepsContent, LoadsNumber, Seen, StoresAsTold, number_at}
@@ -19,6 +20,7 @@ use Rattle.phys_pages.specs.declared.infos.Seat.TheVariants.{Frame, Slot}
 use Rattle.phys_pages.specs.Owners.{infos}
 use Rattle.ledger_model.specs.Ledger.{Contents, Ledger, PageName, contents_of, has_bytes}
 use Rattle.ledger_model.specs.Loans.{bare}
+use Rattle.ledger_model.specs.Places.{is_user_place}
 use Rattle.ledger_model.specs.Reach.{owner_may, reach}
 use Rattle.ledger_model.proofs.LedgerLemmas.{cases_Option}
 use Rattle.ledger_model.proofs.Pages.BareLemmas.{bare-contents, bare-reach, is_bytes}
@@ -42,6 +44,7 @@ use Rattle.vm_memory.specs.Using.UserView.{KeepsRest, contents_seen, seen_memory
 use Rattle.vm_memory.proofs.Changing.CallLemmas.{either_kept, none_out-slots}
 use Rattle.vm_memory.proofs.Changing.ShiftedLemmas.{known_kept}
 use Rattle.vm_memory.proofs.Changing.SoundMemoryLemmas.{sound-tied}
+use Rattle.vm_memory.proofs.Using.ReachedLemmas.{reach_nowhere}
 use Rattle.vm_memory.proofs.Using.WalkReachLemmas.{given_entry}
 
 -- ---- the same rights give the same access
@@ -146,6 +149,11 @@ pub fetches : (may : Bool) (content : Content) (va : ℕ) (number : Option ℕ) 
 fetches may content va None h = h
 fetches may content va (Some v) h = h
 
+pub fetches_if : (may : Bool) (content : Content) (va : ℕ) (r : Result (Option ℕ) Failed) → IfOk r (λ number. LoadsNumber may None content va Word number)
+    → IfOk r (λ number. FetchesNumber may content va number)
+fetches_if may content va (Ok number) h = fetches may content va number h
+fetches_if may content va (Err e) h = tt
+
 -- content that was told before the page came in is told after it
 told_before : (told : Bool) (byte : ℕ → ℕ) (now after : Content) → KeepsContent (if told then Some byte else None) now → KeepsContent now after
     → KeepsContent (if told then Some byte else None) after
@@ -244,3 +252,18 @@ pub nowhere_target : (t : Target) → is_given_target t ≡ false → Nothing �
 nowhere_target (Page f) h = absurd (both_ways true h refl)
 nowhere_target Console h = absurd (both_ways true h refl)
 nowhere_target Nothing h = refl
+
+-- the page of the address at which a place begins
+pub same_page : (at : Place) → page_of at.pid (at.vpn.0 * 4096) ≡ at
+same_page at =
+    let page : at.vpn.0 * 4096 / 4096 ≡ at.vpn.0 = omega arith in
+    ap (λ v. record at { vpn = record { 0 = v } }) page
+
+-- a place without an entry is reached by none
+pub nowhere_reached : {W : Type 0} (slot_count : W → ℕ) (held : W → Held) (m : Memory W) → IsSound slot_count m → (p : Place) (access : Access)
+    → is_user_place (processes m) p ≡ false → reaches_bytes (processes m) (ledger held m) p access ≡ false
+nowhere_reached slot_count held m sound p access nowhere = by_entry (entries (processes m) m.ram p) refl
+  where
+    by_entry : (o : Option Entry) → entries (processes m) m.ram p ≡ o → reaches_bytes (processes m) (ledger held m) p access ≡ false
+    by_entry None e = ap (λ r. option_map_or has_bytes (option_and_then (contents_of (ledger held m)) r) false) (reach_nowhere slot_count held m sound p access e)
+    by_entry (Some entry) e = absurd (both_ways (is_user_place (processes m) p) nowhere (sym (sound.agree.entries.spelled p) ∙ ap is_some e))

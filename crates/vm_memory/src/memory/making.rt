@@ -8,6 +8,8 @@ ghost use Rattle.ledger_model.specs.Loans.{bare};
 ghost use Rattle.ledger_model.specs.Places.{is_user_place};
 ghost use Rattle.ledger_model.specs.Reach.{is_free};
 ghost use Rattle.ledger_model.specs.Steps.{make};
+ghost use Rattle.phys_pages.specs.Owners.{infos};
+ghost use Rattle.xk_base.specs.declared.ids.Slot.{Slot};
 ghost use Rattle.vm_memory.specs.Bytes.{MeansBytes, MeansBytesOver, none_out};
 ghost use Rattle.xk_ports.specs.Keeping.{KeepsStore};
 ghost use Rattle.vm_memory.specs.Pages.Changing.{ChangesPagesAlone};
@@ -19,6 +21,7 @@ ghost use Rattle.xk_base.specs.Outside.{Rose};
 
 use crate::memory::Memory;
 use crate::memory::run_tests::{RunTest, fits};
+use phys_pages::Seat;
 use xk_base::limits::TABLE_FRAMES;
 use xk_base::{Failed, Frame, Pid, Place, Right, Vpn, Window, XousError};
 use xk_ports::SwapStore;
@@ -68,6 +71,7 @@ impl<W: SwapStore> Memory<W> {
         requires frames { self.old.pages + n ≤ frames_for_pages self.old }
         ensures sound { IsSound W.slot_count self.new }
         ensures ledger { ledger W.held self.new ≡ make first n right (ledger W.held self.old) }
+        ensures slots { (s : Slot) → infos self.new.owners (Seat.Slot s) ≡ infos self.old.owners (Seat.Slot s) }
         ensures rest { ChangesPagesAlone self.old self.new }
     {
         let mut hand = Frame(TABLE_FRAMES * self.procs);
@@ -135,7 +139,8 @@ impl<W: SwapStore> Memory<W> {
         ensures full { OnErr result (frames_for_pages self.old < self.old.pages + n) }
         ensures near { self.old.pages + n ≤ frames_for_pages self.old → none_out self.old ≡ true → none_out self.new ≡ true }
     {
-        if self.pages as u64 + n as u64 <= self.page_frames() as u64 {
+        let near = self.pages as u64 + n as u64 <= self.page_frames() as u64;
+        if near {
             self.make_pages(first, n, right);
             return Ok(());
         }

@@ -46,9 +46,8 @@ impl<W: SwapStore> Memory<W> {
         if !self.has_place(at) {
             return Ok(false);
         }
-        Ok(self
-            .find_near(at.pid, at.vpn.0 * PAGE_SIZE, access)?
-            .is_page())
+        let target = self.find_near(at.pid, at.vpn.0 * PAGE_SIZE, access)?;
+        Ok(target.is_page())
     }
 
     /// The 4096 bytes of a page.

@@ -3,7 +3,8 @@
 ghost use Rattle.std.specs.Prelude.{◌≡◌, ◌+◌, ◌%◌, ◌<◌, ◌≤◌, ℕ, true, length, slice_index, None, Some, IfOk, OnOk, OnErr};
 ghost use Rattle.ledger_model.specs.Steps.{written};
 ghost use Rattle.sv32_space.specs.SpelledEntries.{entries};
-ghost use Rattle.vm_memory.specs.Using.EntryAccess.{entry_target};
+ghost use Rattle.sv32_space.specs.EntryReach.{entry_may};
+ghost use Rattle.vm_memory.specs.Using.EntryAccess.{entry_target, is_given_target};
 ghost use Rattle.xk_base.specs.Numbers.Windows.{page_of};
 ghost use Rattle.vm_memory.specs.Bytes.{is_out};
 ghost use Rattle.vm_memory.specs.Memory.{IsUsable, has_failed, processes, ram_of, store_of};
@@ -68,6 +69,28 @@ fn write_number(page: &mut [u8], offset: u32, width: Width, value: u32)
 }
 
 impl<W: SwapStore> Memory<W> {
+    // The number of that width where an access to an address leads; 0 in the console's page.
+    fn read_at(
+        &self,
+        target: Target,
+        pid: Pid,
+        va: u32,
+        width: Width,
+        access: Access,
+    ) -> Option<u32>
+        requires sound { IsSound W.slot_count self.now }
+        requires aligned { va % size_of width ≡ 0 }
+        requires target { target ≡ entry_target (entries (processes self.now) (ram_of self.now) (page_of pid va)) access }
+        requires given { is_given_target target ≡ entry_may (entries (processes self.now) (ram_of self.now) (page_of pid va)) access }
+        ensures { LoadsNumber ((user_view W.held self.now pid).may access va) None (Some ((user_view W.held self.now pid).byte)) va width result }
+    {
+        match target {
+            Target::Page(f) => Some(read_number(self.ram.page(f), va % PAGE_SIZE, width)),
+            Target::Console => Some(0),
+            Target::Nothing => None,
+        }
+    }
+
     // The number of that width at an address, where the process has the access; 0 in the console's
     // page.
     fn load_number(
@@ -88,11 +111,8 @@ impl<W: SwapStore> Memory<W> {
         ensures out { OnErr result (is_out self.old (page_of pid va) ≡ true) }
         ensures cause { OnErr result (Rose (W.faults (store_of self.old)) (W.faults (store_of self.new))) }
     {
-        match self.find_near(pid, va, access)? {
-            Target::Page(f) => Ok(Some(read_number(self.ram.page(f), va % PAGE_SIZE, width))),
-            Target::Console => Ok(Some(0)),
-            Target::Nothing => Ok(None),
-        }
+        let target = self.find_near(pid, va, access)?;
+        Ok(self.read_at(target, pid, va, width, access))
     }
 
     // Stores the low bytes of a value where an access to store leads, if it is a page.

@@ -1,4 +1,5 @@
-use Rattle.std.proofs.Common.{arith, refl, sym, ap, ◌≡◌, ◌*◌}
+use Rattle.std.proofs.Common.{arith, refl, sym, ap, ◌≡◌, ◌*◌, ◌∙◌}
+use Rattle.phys_pages.specs.declared.infos.Seat.TheVariants.{Slot}
 use Rattle.phys_pages.specs.Owners.{extent}
 use Rattle.sv32_space.specs.Agreement.{owned_by}
 use Rattle.ledger_model.specs.Places.{place_after}
@@ -14,6 +15,7 @@ loop-i-init g c =
       sound = c.requires.sound;
       ledger = sym (make_none c.args.first c.args.right (ledger g.W.SwapStore.held c.args.self.now));
       rest = rest_same c.args.self.now;
+      slots = λ s. refl;
       low = omega (arith, c.requires.sound.procs);
       used = λ k from to. absurd (omega (arith, from, to, first, c.requires.sound.procs));
     }
@@ -54,6 +56,7 @@ loop-i-preserved g c =
       ledger = next_made g.W.SwapStore.slot_count g.W.SwapStore.held c.args.self.now c.loop-i.self c.loop-i.invariant.sound c.loop-i.invariant.rest c.args.first c.args.n c.loop-i.i
           c.loop-i-test.true c.args.right c.requires.can c.loop-i.invariant.ledger c.place_page.new.self c.place_page.ensures.ledger;
       rest = rest_then c.args.self.now c.loop-i.self c.place_page.new.self c.loop-i.invariant.rest c.place_page.ensures.rest;
+      slots = λ s. ap (λ I. I (Slot s)) c.place_page.ensures.owners ∙ c.loop-i.invariant.slots s;
       low = omega (arith, same, c.loop-i.invariant.low, c.free_frame_from-f.ensures.low);
       used = next_used c.loop-i.self.owners c.place_page.new.self.owners c.free_frame_from-f.result (owned_by (place_after c.args.first c.loop-i.i))
           (first_same g.W.SwapStore.slot_count c.loop-i.self c.place_page.new.self c.loop-i.invariant.sound c.place_page.ensures.sound c.place_page.ensures.rest.size)
