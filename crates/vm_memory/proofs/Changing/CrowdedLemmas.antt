@@ -1,6 +1,10 @@
 -- Pages that are made where others may have to go out.
 use Rattle.std.proofs.Common.{◌≡◌, ℕ, ◌+◌, ◌<◌, ◌≤◌, Bool, true, false, ◌&&◌, ◌||◌, if◌then◌else◌, Option, Some, None, refl, sym, ap, subst, ◌∙◌, arith}
 use Rattle.std.specs.Option.{option_map}
+use Rattle.std.specs.Prelude.{Result, Ok}
+use Rattle.xk_base.specs.declared.errors.XousError.{XousError}
+use Rattle.xk_base.specs.declared.ids.Pid.{Pid}
+use Rattle.xk_base.specs.declared.ids.Vpn.{Vpn}
 use Rattle.std.proofs.lemmas.Bool.{and_from, and_parts, or_left, or_right}
 use Rattle.boot_plan.specs.Capacity.{capacity}
 use Rattle.xk_base.specs.Tables.Counting.{put_at}
@@ -30,7 +34,7 @@ use Rattle.vm_memory.specs.Bytes.{MeansBytesOver, is_known, none_out}
 use Rattle.vm_memory.specs.Memory.{Size, capacity_of, ledger, processes}
 use Rattle.vm_memory.specs.Pages.Changing.{ChangesPagesAlone}
 use Rattle.vm_memory.specs.Pages.Exchanging.{MovesPages}
-use Rattle.vm_memory.specs.Pages.Making.{MakesFirst, MakesPages}
+use Rattle.vm_memory.specs.Pages.Making.{HasMadeFirst, MakesFirst, MakesPages, page_place}
 use Rattle.vm_memory.specs.Sound.{IsSound}
 use Rattle.vm_memory.proofs.Changing.CallLemmas.{alone-none_out, none_out-kept, same_store}
 use Rattle.vm_memory.proofs.Changing.LoopLemmas.{fewer}
@@ -169,4 +173,17 @@ module _ {W P : Type 0} (is_honest : W → Bool) (held : W → Held) (slot_count
     none = none;
     size = rest.size;
     store = same_store is_honest held slot_count asked faults m.store n.store rest.store;
+  }
+
+  -- what `make` leaves of it where it answers Failed
+  pub first_made : (m n : Memory W) (answer : Result Vpn XousError) (pid : Pid) (first : Vpn) (count : ℕ) (right : Right) → answer ≡ Ok first
+      → MakesFirst is_honest held slot_count asked faults m n (page_place pid first) count right
+      → HasMadeFirst (MeansBytesOver is_honest held m n) answer pid count right (ledger held m) (ledger held n)
+  first_made m n answer pid first count right served x = record {
+    first = first;
+    count = x.count;
+    served = served;
+    few = x.few;
+    rights = x.made.rights;
+    whole = x.made.whole;
   }

@@ -1,6 +1,6 @@
 -- A memory whose pages have moved between frames and slots.
 use Rattle.std.proofs.Common.{◌≡◌, ◌≢◌, ℕ, ◌+◌, ◌*◌, ◌≤◌, Bool, true, false, ◌&&◌, ◌||◌, Option, Some, None, refl, sym, ap, subst, ◌∙◌, inl, inr, arith}
-use Rattle.std.specs.Prelude.{IsTrue, is_some}
+use Rattle.std.specs.Prelude.{IfNone, IfSome, IsTrue, is_some, Result, Ok, Err, OnOk}
 use Rattle.std.specs.Option.{option_map}
 use Rattle.std.proofs.lemmas.Bool.{and_parts, both_ways, cond-true, cond-false, ne_eqb}
 use Rattle.boot_plan.specs.Capacity.{capacity}
@@ -22,18 +22,18 @@ use Rattle.ledger_model.proofs.Stepping.WritingLemmas.{bare-pages}
 use Rattle.sv32_space.specs.Agreement.{HasUnusedFrame, procs_of}
 use Rattle.sv32_space.specs.PageChanges.{renamed, renamed_entry, with_info}
 use Rattle.sv32_space.specs.SpelledEntries.{entries}
-use Rattle.sv32_space.specs.Tie.{Held, agrees, bytes_at}
+use Rattle.sv32_space.specs.Tie.{Held, agrees, bytes_at, ledger_in}
 use Rattle.sv32_space.specs.declared.sides.Entry.TheVariants.{At}
 use Rattle.sv32_space.specs.declared.sides.Side.{Side}
 use Rattle.loan_flags.specs.Keeping.{tables}
 use Rattle.swap_map.specs.Moving.{KeepsSizes, Moves, StaysPut}
 use Rattle.swap_map.proofs.ExchangeLemmas.{stayed_whole, used_behind}
-use Rattle.xk_ports.specs.Keeping.{KeepsStore}
+use Rattle.xk_ports.specs.Keeping.{KeepsStore, tells_truly}
 use Rattle.vm_memory.specs.declared.memory.Memory.{Memory}
 use Rattle.vm_memory.specs.Bytes.{MeansBytesOver, is_known, none_out, used_frames, used_slots}
 use Rattle.vm_memory.specs.Memory.{blank_ledger, capacity_of, ledger, processes}
 use Rattle.vm_memory.specs.Pages.Changing.{IsFreeFrame}
-use Rattle.vm_memory.specs.Pages.Exchanging.{MovesPages}
+use Rattle.vm_memory.specs.Pages.Exchanging.{IsInFrame, MovesPages}
 use Rattle.vm_memory.specs.Sound.{IsSound}
 use Rattle.vm_memory.proofs.Changing.CallLemmas.{none_out-kept, none_out-slots}
 use Rattle.vm_memory.proofs.Changing.CountLemmas.{each_counts, seats_count}
@@ -100,6 +100,18 @@ pub keeps_all : {W P : Type 0} (is_honest : W → Bool) (held : W → Held) (slo
     → KeepsStore is_honest held slot_count asked faults store store
 keeps_all is_honest held slot_count asked faults store = record { honest = refl; told = refl; slots = refl; preparations = refl; never_falls = omega arith }
 
+-- .. by what `evict` and `bring` say of it
+pub moved_in : {W P : Type 0} (is_honest : W → Bool) (held : W → Held) (slot_count : W → ℕ) (asked : W → P) (faults : W → ℕ)
+    (m : Memory W) → IsSound slot_count m → (ram : RamBytes) (owners : OwnerTable) (store : W) (failed : Bool) (hand : ℕ)
+    → agrees ram owners → KeepsSizes (tables m.ram m.owners) (tables ram owners)
+    → bare (ledger_in ram owners (held store)) ≡ bare (ledger_in m.ram m.owners (held m.store))
+    → (IsTrue (tells_truly is_honest held m.store) → ledger_in ram owners (held store) ≡ ledger_in m.ram m.owners (held m.store))
+    → KeepsStore is_honest held slot_count asked faults m.store store → (failed ≡ false → HasUnusedFrame (extent owners) (infos owners))
+    → MovesPages is_honest held slot_count asked faults m (record m { ram = ram; owners = owners; store = store; failed = failed; hand = hand })
+unfolding ledger
+moved_in is_honest held slot_count asked faults m sound ram owners store failed hand agree sizes rights whole keeps room =
+    moved slot_count held m sound ram owners store failed hand agree sizes rights keeps.slots is_honest asked faults whole keeps room
+
 -- nothing moves where only the mark of failure and the hand change
 pub unmoved : {W P : Type 0} (is_honest : W → Bool) (held : W → Held) (slot_count : W → ℕ) (asked : W → P) (faults : W → ℕ)
     (m : Memory W) → IsSound slot_count m → (failed : Bool) (hand : ℕ) → (failed ≡ false → HasUnusedFrame (extent m.owners) (infos m.owners))
@@ -108,6 +120,11 @@ unfolding ledger
 unmoved is_honest held slot_count asked faults m sound failed hand room =
     moved slot_count held m sound m.ram m.owners m.store failed hand sound.agree (record { area = refl; extent = refl }) refl refl
     is_honest asked faults (λ known. refl) (keeps_all is_honest held slot_count asked faults m.store) room
+
+pub same_moves : {W P : Type 0} (is_honest : W → Bool) (held : W → Held) (slot_count : W → ℕ) (asked : W → P) (faults : W → ℕ)
+    (m : Memory W) → IsSound slot_count m → MovesPages is_honest held slot_count asked faults m m
+same_moves is_honest held slot_count asked faults m sound =
+    record { sound = sound; rights = refl; whole = λ known. refl; size = refl; store = keeps_all is_honest held slot_count asked faults m.store }
 
 -- what is known stays known
 pub known_kept : {W P : Type 0} (is_honest : W → Bool) (held : W → Held) (slot_count : W → ℕ) (asked : W → P) (faults : W → ℕ) (a b : W)
@@ -141,6 +158,25 @@ moves_then is_honest held slot_count asked faults a b c x y = record {
 -- a frame that is found free
 pub found_room : (table : Extent) (I : Seat → Option PageInfo) (f : FrameNumber) → HasSeat table (Frame f) → I (Frame f) ≡ None → HasUnusedFrame table I
 found_room table I f within free = record { frame = f.0; within = within; free = free }
+
+-- .. by the answer of a search
+pub some_room : (table : Extent) (I : Seat → Option PageInfo) (o : Option FrameNumber) → IfSome o (λ f. HasSeat table (Frame f)) → IfSome o (λ f. I (Frame f) ≡ None)
+    → is_some o ≡ true → HasUnusedFrame table I
+some_room table I None within free h = absurd cc
+some_room table I (Some f) within free h = found_room table I f within free
+
+pub none_all_used : (table : Extent) (owners : OwnerTable) (o : Option FrameNumber)
+    → IfNone o (AreFramesUsed owners ((extent owners).first + (extent owners).frames)) → is_some o ≡ false
+    → AreFramesUsed owners ((extent owners).first + (extent owners).frames)
+none_all_used table owners None used h = used
+none_all_used table owners (Some f) used h = absurd cc
+
+pub all_slots : (owners : OwnerTable) (o : Option SlotNumber) → IfNone o (AreSlotsUsed owners (extent owners).slots) → o ≡ None → AreSlotsUsed owners (extent owners).slots
+all_slots owners None used h = used
+all_slots owners (Some s) used h = absurd cc
+
+pub kept_seat : (old new : Extent) → new ≡ old → (f : FrameNumber) → HasSeat old (Frame f) → HasSeat new (Frame f)
+kept_seat old new same f within = subst (λ t. HasSeat t (Frame f)) (sym same) within
 
 -- no frame is free, and not all slots are used: as many pages as the capacity allows leave one seat
 pub slot_left : {W : Type 0} (slot_count : W → ℕ) (m : Memory W) → IsSound slot_count m
@@ -196,6 +232,15 @@ comes_near m ram owners from into moves at side e = ap (λ E. E at) moves.entrie
       | inl same ↦ cond-true (seat_eq (Slot from) (Slot from)) (Frame into) (Slot from) same.1
       | inr apart ↦ absurd (apart.0 refl)
     ]))
+
+-- .. also after another went out
+pub brought_near : {W E : Type 0} (m : Memory W) (ram : RamBytes) (owners : OwnerTable) (n : Memory W) (from : SlotNumber) (into : FrameNumber)
+    → Moves (tables m.ram m.owners) (tables ram owners) (Slot from) (Frame into) → (r : Result (Unit {0}) E)
+    → ((at : Place) (side : Side) → entries (procs_of (extent owners)) ram at ≡ Some (At side (Frame into)) → entries (processes n) n.ram at ≡ Some (At side (Frame into)))
+    → OnOk r ((at : Place) (side : Side) → entries (processes m) m.ram at ≡ Some (At side (Slot from)) → IsInFrame (entries (processes n) n.ram at) side)
+brought_near m ram owners n from into moves (Ok done) keep = λ at side e.
+    record { frame = into; near = keep at side (comes_near m ram owners from into moves at side e) }
+brought_near m ram owners n from into moves (Err e) keep = tt
 
 -- ---- a page doesn't go out, as the store failed
 

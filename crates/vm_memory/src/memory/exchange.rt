@@ -47,7 +47,13 @@ fn side_gives(side: Side, access: Access) -> bool
 {
     match side {
         Side::Own(right) => owner_gives(right, access),
-        Side::LentOut(right) => owner_gives(Right { w: false, x: right.x }, access),
+        Side::LentOut(right) => owner_gives(
+            Right {
+                w: false,
+                x: right.x,
+            },
+            access,
+        ),
         Side::LentIn => owner_gives(Right { w: false, x: false }, access),
         Side::MutOut { x: _ } => false,
         Side::MutIn => owner_gives(Right { w: true, x: false }, access),
@@ -104,14 +110,16 @@ impl<W: SwapStore> Memory<W> {
         ensures failed { OnErr result (has_failed self.new ≡ true) }
         ensures cause { OnErr result (Rose (W.faults (store_of self.old)) (W.faults (store_of self.new))) }
     {
-        if self.owners.free_frame().is_none() {
-            let Some(to) = self.owners.free_slot() else {
-                unreachable!();
-            };
-            let f = self.victim(keep);
-            evict(&mut self.ram, &mut self.owners, &mut self.store, f, to)?;
-            self.hand = f.0 + 1;
+        if self.owners.free_frame().is_some() {
+            self.failed = false;
+            return Ok(());
         }
+        let Some(to) = self.owners.free_slot() else {
+            unreachable!();
+        };
+        let f = self.victim(keep);
+        evict(&mut self.ram, &mut self.owners, &mut self.store, f, to)?;
+        self.hand = f.0 + 1;
         self.failed = false;
         Ok(())
     }
@@ -169,12 +177,7 @@ impl<W: SwapStore> Memory<W> {
 
     // Where an access at a virtual address leads. A page that the process reaches there by the access
     // and that is out comes in.
-    pub(crate) fn find_near(
-        &mut self,
-        pid: Pid,
-        va: u32,
-        access: Access,
-    ) -> Result<Target, Failed>
+    pub(crate) fn find_near(&mut self, pid: Pid, va: u32, access: Access) -> Result<Target, Failed>
         requires sound { IsSound W.slot_count self.old }
         requires usable { IsUsable self.old }
         ensures brings { BringsIn W.is_honest W.held W.slot_count W.asked W.faults self.old self.new }

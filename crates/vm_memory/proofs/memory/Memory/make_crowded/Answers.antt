@@ -14,8 +14,11 @@ loop-i-init g c = record {
 }
 
 pub overflow_add-at : goal.overflow_add-at
-overflow_add-at g c = omega (arith, user_bound (processes c.loop-i.self) (place_after c.args.first c.loop-i.i)
-    (crowded_lies g.W.SwapStore.is_honest g.W.SwapStore.held g.W.SwapStore.slot_count g.W.SwapStore.asked g.W.SwapStore.faults c.args.self.now c.loop-i.self c.args.first c.args.n c.loop-i.i c.loop-i-test.true c.args.right c.requires.can c.loop-i.invariant.made))
+overflow_add-at g c = omega (
+  arith,
+  user_bound (processes c.loop-i.self) (place_after c.args.first c.loop-i.i)
+      (crowded_lies g.W.SwapStore.is_honest g.W.SwapStore.held g.W.SwapStore.slot_count g.W.SwapStore.asked g.W.SwapStore.faults c.args.self.now c.loop-i.self c.args.first c.args.n c.loop-i.i c.loop-i-test.true c.args.right c.requires.can c.loop-i.invariant.made),
+)
 
 pub make_page-requires-clause-place : goal.make_page-requires-clause-place
 make_page-requires-clause-place g c = crowded_lies g.W.SwapStore.is_honest g.W.SwapStore.held g.W.SwapStore.slot_count g.W.SwapStore.asked g.W.SwapStore.faults c.args.self.now c.loop-i.self c.args.first c.args.n c.loop-i.i c.loop-i-test.true c.args.right c.requires.can c.loop-i.invariant.made

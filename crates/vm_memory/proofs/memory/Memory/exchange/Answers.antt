@@ -1,0 +1,30 @@
+use Rattle.std.proofs.Common.{◌≡◌, true, false, None, refl, ap, sym, ◌∙◌}
+use Rattle.std.specs.Prelude.{OnErr, OnOk}
+use Rattle.phys_pages.specs.Owners.{infos}
+use Rattle.phys_pages.specs.declared.infos.Seat.TheVariants.{Frame}
+use Rattle.vm_memory.specs.declared.memory.Memory.{Memory}
+use Rattle.vm_memory.specs.Pages.Exchanging.{MovesPages}
+use Rattle.vm_memory.proofs.Changing.ShiftedLemmas.{brought_near, moved_in, moves_then}
+use Rattle.vm_memory.proofs.memory.Memory.exchange.Given as given
+use Rattle.vm_memory.proofs.memory.Memory.exchange.Goals as goal
+
+-- while the exchange is under way
+came : (g : given.Over) (c : goal.After-bring g) → MovesPages g.W.SwapStore.is_honest g.W.SwapStore.held g.W.SwapStore.slot_count g.W.SwapStore.asked g.W.SwapStore.faults c.args.self.now
+    (record c.args.self.now { ram = c.bring.new.ram; owners = c.bring.new.owners; store = c.bring.new.store; failed = true })
+came g c = moved_in g.W.SwapStore.is_honest g.W.SwapStore.held g.W.SwapStore.slot_count g.W.SwapStore.asked g.W.SwapStore.faults c.args.self.now c.requires.sound c.bring.new.ram c.bring.new.owners c.bring.new.store true c.args.self.now.hand
+    c.bring.ensures.agrees c.bring.ensures.sizes c.bring.ensures.rights c.bring.ensures.whole c.bring.ensures.store (λ usable. absurd cc)
+
+pub returns-in_err-bring-clause-moves : goal.returns-in_err-bring-clause-moves
+returns-in_err-bring-clause-moves g c = came g c
+
+pub make_room-requires-clause-sound : goal.make_room-requires-clause-sound
+make_room-requires-clause-sound g c = let moves = came g c in moves.sound
+
+pub returns-clause-moves : goal.returns-clause-moves
+returns-clause-moves g c = moves_then g.W.SwapStore.is_honest g.W.SwapStore.held g.W.SwapStore.slot_count g.W.SwapStore.asked g.W.SwapStore.faults c.args.self.now
+    (record c.args.self.now { ram = c.bring.new.ram; owners = c.bring.new.owners; store = c.bring.new.store; failed = true }) c.make_room.new.self
+    (came g c) c.make_room.ensures.moves
+
+pub returns-clause-near : goal.returns-clause-near
+returns-clause-near g c = brought_near c.args.self.now c.bring.new.ram c.bring.new.owners c.make_room.new.self c.args.from c.free_frame.result
+    c.in_ok-bring.ensures.ok c.make_room.result c.make_room.ensures.keep

@@ -1,0 +1,15 @@
+use Rattle.std.proofs.Common.{◌+◌, ◌<◌, sym, ap, ◌∙◌, arith}
+use Rattle.swap_map.proofs.ExchangeLemmas.{on_err}
+use Rattle.phys_pages.specs.declared.infos.Seat.TheVariants.{Slot}
+use Rattle.vm_memory.specs.Memory.{frames_for_pages}
+use Rattle.vm_memory.proofs.Changing.CallLemmas.{alone-none_out, none_out-kept}
+use Rattle.vm_memory.proofs.Changing.CrowdedLemmas.{near_made}
+use Rattle.vm_memory.proofs.memory.Memory.make_run.Goals as goal
+
+pub returns-then-near-clause-made : goal.returns-then-near-clause-made
+returns-then-near-clause-made g c = near_made g.W.SwapStore.is_honest g.W.SwapStore.held g.W.SwapStore.slot_count g.W.SwapStore.asked g.W.SwapStore.faults c.args.self.now c.make_pages.new.self c.args.first c.args.n c.args.right
+    c.make_pages.ensures.sound c.make_pages.ensures.ledger c.make_pages.ensures.rest
+    (none_out-kept c.make_pages.new.self c.args.self.now (λ s free. sym (c.make_pages.ensures.slots s) ∙ free))
+
+pub returns-then-near-clause-near : goal.returns-then-near-clause-near
+returns-then-near-clause-near g c = λ few none. alone-none_out c.args.self.now c.make_pages.new.self c.make_pages.ensures.rest none
