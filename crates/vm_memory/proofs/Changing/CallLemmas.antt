@@ -3,6 +3,7 @@ use Rattle.std.proofs.Common.{◌≡◌, ℕ, ◌<◌, Bool, true, false, ◌||�
 use Rattle.std.specs.Prelude.{is_some}
 use Rattle.std.proofs.lemmas.Bool.{both_ways, eqb-true, or_right}
 use Rattle.xk_base.specs.Tables.Counting.{count_below}
+use Rattle.xk_base.proofs.CountingLemmas.{count_below-none}
 use Rattle.xk_base.specs.declared.ids.Slot.{Slot as SlotNumber}
 use Rattle.phys_pages.specs.declared.infos.Seat.TheVariants.{Slot}
 use Rattle.phys_pages.specs.Owners.{extent, infos, slot_seat}
@@ -14,7 +15,7 @@ use Rattle.vm_memory.specs.Bytes.{MeansBytes, is_known, none_out, used_slots}
 use Rattle.xk_ports.specs.Keeping.{KeepsStore, tells_truly}
 use Rattle.vm_memory.specs.Memory.{size}
 use Rattle.vm_memory.specs.Pages.Changing.{ChangesPagesAlone}
-use Rattle.vm_memory.proofs.Changing.CountLemmas.{each_zero, zero_each}
+use Rattle.vm_memory.proofs.Changing.CountLemmas.{zero_each}
 
 -- a memory with no slots has no page out
 count_none : (n : ℕ) (f : ℕ → Bool) → n ≡ 0 → count_below n f ≡ 0
@@ -42,7 +43,7 @@ none_out-slots m none s = elim (cases_Option (infos m.owners (Slot s))) [
 
 pub slots-none_out : {W : Type 0} (m : Memory W) → ((s : SlotNumber) → infos m.owners (Slot s) ≡ None) → none_out m ≡ true
 unfolding none_out
-slots-none_out m free = ap (λ k. k == 0) (each_zero (extent m.owners).slots (λ k. is_some (infos m.owners (slot_seat k)))
+slots-none_out m free = ap (λ k. k == 0) (count_below-none (extent m.owners).slots (λ k. is_some (infos m.owners (slot_seat k)))
     (λ k low. ap is_some (free (record { 0 = k }))))
 
 -- a change after which a slot without a page has none puts no page out

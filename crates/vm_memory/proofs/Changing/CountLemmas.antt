@@ -51,14 +51,6 @@ zero_each (suc n) f h k low = by_last (f n) refl h (λ e l. zero_each n f e k l)
       | inr apart ↦ before (omega arith) (omega (arith, low, apart))
     ]
 
-none_below : (n : ℕ) → count_below n (λ k. false) ≡ 0
-unfolding count_below
-none_below zero = refl
-none_below (suc n) = let before : count_below n (λ k. false) ≡ 0 = none_below n in omega arith
-
-pub each_zero : (n : ℕ) (f : ℕ → Bool) → ((k : ℕ) → k < n → f k ≡ false) → count_below n f ≡ 0
-each_zero n f h = count_below-same n f (λ k. false) h ∙ none_below n
-
 -- where each passes, all count
 pub each_counts : (n : ℕ) (f : ℕ → Bool) → ((k : ℕ) → k < n → f k ≡ true) → n ≤ count_below n f
 each_counts n f h = elim (cases_lt (count_below n f) n) [

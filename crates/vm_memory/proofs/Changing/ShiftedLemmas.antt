@@ -5,6 +5,7 @@ use Rattle.std.specs.Option.{option_map}
 use Rattle.std.proofs.lemmas.Bool.{and_parts, both_ways, cond-true, cond-false, ne_eqb}
 use Rattle.boot_plan.specs.Capacity.{capacity}
 use Rattle.xk_base.specs.Numbers.Limits.{table_frames}
+use Rattle.xk_base.specs.Tables.Counting.{put_at}
 use Rattle.xk_base.specs.declared.ids.Frame.{Frame as FrameNumber}
 use Rattle.xk_base.specs.declared.ids.Place.{Place}
 use Rattle.xk_base.specs.declared.ids.Slot.{Slot as SlotNumber}
@@ -17,6 +18,7 @@ use Rattle.phys_pages.proofs.OwnerLemmas.{infos-within, seat_tells}
 use Rattle.ledger_model.specs.Lawful.{IsLawful}
 use Rattle.ledger_model.specs.Ledger.{pages}
 use Rattle.ledger_model.specs.Loans.{bare}
+use Rattle.ledger_model.proofs.LedgerLemmas.{cases_Option}
 use Rattle.ledger_model.proofs.Pages.BareLemmas.{bare-lawful}
 use Rattle.ledger_model.proofs.Stepping.WritingLemmas.{bare-pages}
 use Rattle.sv32_space.specs.Agreement.{HasUnusedFrame, procs_of}
@@ -50,21 +52,21 @@ module _ {W : Type 0} (slot_count : W → ℕ) (held : W → Held) (m : Memory W
     bare_blank : bare (blank_ledger n) ≡ bare (blank_ledger m)
     bare_blank = sym (bare-ledger held n) ∙ (rights ∙ bare-ledger held m)
 
-    lawful : IsLawful (processes n) (capacity_of n) (blank_ledger n)
-    lawful =
+    lawful_now : IsLawful (processes n) (capacity_of n) (blank_ledger n)
+    lawful_now =
         let here : IsLawful (processes m) (capacity_of m) (blank_ledger n) =
         bare-lawful (processes m) (capacity_of m) (blank_ledger m) (blank_ledger n) bare_blank sound.lawful in
         let same : capacity_of n ≡ capacity_of m = λ i. capacity (sizes.area i).frames (procs_of (sizes.extent i)) (sizes.extent i).slots in
         let sized : IsLawful (processes m) (capacity_of n) (blank_ledger n) = subst (λ k. IsLawful (processes m) k (blank_ledger n)) (sym same) here in
         subst (λ t. IsLawful (procs_of t) (capacity_of n) (blank_ledger n)) (sym sizes.extent) sized
 
-    counted : m.pages ≡ pages (processes n) (blank_ledger n)
-    counted = sound.pages ∙ (sym (bare-pages (processes m) (blank_ledger m) (blank_ledger n) bare_blank)
+    counted_now : m.pages ≡ pages (processes n) (blank_ledger n)
+    counted_now = sound.pages ∙ (sym (bare-pages (processes m) (blank_ledger m) (blank_ledger n) bare_blank)
         ∙ ap (λ t. pages (procs_of t) (blank_ledger n)) (sym sizes.extent))
 
-    seats : used_frames owners + used_slots owners ≡ m.pages
+    seats_now : used_frames owners + used_slots owners ≡ m.pages
     unfolding blank_ledger
-    seats = seats_count (processes n) (entries (processes n) ram) owners agree.entries ∙ sym counted
+    seats_now = seats_count (processes n) (entries (processes n) ram) owners agree.entries ∙ sym counted_now
 
     pub shifted : (failed ≡ false → HasUnusedFrame (extent owners) (infos owners)) → IsSound slot_count n
     shifted room = record {
@@ -77,9 +79,9 @@ module _ {W : Type 0} (slot_count : W → ℕ) (held : W → Held) (m : Memory W
           (subst (λ (a : Area). table_frames (processes m) + 2 ≤ a.frames) (sym sizes.area) sound.tables);
       placed = subst IsPlaced (sym sizes.area) sound.placed;
       store = subst (λ k. m.slots ≤ k) (sym slots) sound.store;
-      lawful = lawful;
-      pages = counted;
-      seats = seats;
+      lawful = lawful_now;
+      pages = counted_now;
+      seats = seats_now;
       room = room;
     }
 
@@ -194,23 +196,31 @@ slot_left slot_count m sound frames slots =
 
 -- ---- a page goes out
 
+same_seat : (s : Seat) → seat_eq s s ≡ true
+same_seat s = elim (seat_tells s s) [
+  | inl same ↦ same.1
+  | inr apart ↦ absurd (apart.0 refl)
+]
+
+put_here : (I : Seat → Option PageInfo) (s : Seat) (info : Option PageInfo) → put_at seat_eq I s info s ≡ info
+put_here I s info = cond-true (seat_eq s s) info (I s) (same_seat s)
+
+-- a used seat is one of the table
+pub used_within : (owners : OwnerTable) (s : Seat) → is_some (infos owners s) ≡ true → HasSeat (extent owners) s
+used_within owners s used = elim (cases_Option (infos owners s)) [
+  | inl none ↦ absurd (both_ways (is_some (infos owners s)) (ap is_some none) used)
+  | inr some ↦ infos-within owners s some.0 some.1
+]
+
 module _ {W : Type 0} (m : Memory W) (ram : RamBytes) (owners : OwnerTable) (f : FrameNumber) (to : SlotNumber)
     (moves : Moves (tables m.ram m.owners) (tables ram owners) (Frame f) (Slot to)) where
   -- its frame is free
   pub left_free : infos owners (Frame f) ≡ None
-  left_free = ap (λ I. I (Frame f)) moves.infos
-      ∙ elim (seat_tells (Frame f) (Frame f)) [
-        | inl same ↦ cond-true (seat_eq (Frame f) (Frame f)) None (infos m.owners (Frame f)) same.1
-        | inr apart ↦ absurd (apart.0 refl)
-      ]
+  left_free = ap (λ I. I (Frame f)) moves.infos ∙ put_here (infos m.owners) (Frame f) None
 
   -- the slot is used
   pub slot_used : infos owners (Slot to) ≡ infos m.owners (Frame f)
-  slot_used = ap (λ I. I (Slot to)) moves.infos
-      ∙ elim (seat_tells (Slot to) (Slot to)) [
-        | inl same ↦ cond-true (seat_eq (Slot to) (Slot to)) (infos m.owners (Frame f)) (with_info (infos m.owners) (Frame f) None (Slot to)) same.1
-        | inr apart ↦ absurd (apart.0 refl)
-      ]
+  slot_used = ap (λ I. I (Slot to)) moves.infos ∙ put_here (with_info (infos m.owners) (Frame f) None) (Slot to) (infos m.owners (Frame f))
 
   -- so a page is out
   pub goes_out : is_some (infos m.owners (Frame f)) ≡ true → {A : Type 0} → (n : Memory W) → n.owners ≡ owners → none_out n ≡ true → A
@@ -228,10 +238,7 @@ pub comes_near : {W : Type 0} (m : Memory W) (ram : RamBytes) (owners : OwnerTab
     → Moves (tables m.ram m.owners) (tables ram owners) (Slot from) (Frame into)
     → (at : Place) (side : Side) → entries (processes m) m.ram at ≡ Some (At side (Slot from)) → entries (procs_of (extent owners)) ram at ≡ Some (At side (Frame into))
 comes_near m ram owners from into moves at side e = ap (λ E. E at) moves.entries ∙ (ap (option_map (renamed_entry (Slot from) (Frame into))) e
-    ∙ ap (λ s. Some (At side s)) (elim (seat_tells (Slot from) (Slot from)) [
-      | inl same ↦ cond-true (seat_eq (Slot from) (Slot from)) (Frame into) (Slot from) same.1
-      | inr apart ↦ absurd (apart.0 refl)
-    ]))
+    ∙ ap (λ s. Some (At side s)) (cond-true (seat_eq (Slot from) (Slot from)) (Frame into) (Slot from) (same_seat (Slot from))))
 
 -- .. also after another went out
 pub brought_near : {W E : Type 0} (m : Memory W) (ram : RamBytes) (owners : OwnerTable) (n : Memory W) (from : SlotNumber) (into : FrameNumber)

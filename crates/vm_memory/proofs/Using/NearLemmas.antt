@@ -3,7 +3,7 @@ use Rattle.std.proofs.Common.{◌≡◌, ℕ, ◌*◌, ◌/◌, ◌%◌, if◌th
 use Rattle.std.specs.Prelude.{IsTrue, is_some, Result, Ok, Err, IfOk}
 use Rattle.xk_base.specs.declared.errors.Failed.{Failed}
 use Rattle.std.specs.Option.{option_and_then, option_map, option_map_or}
-use Rattle.std.proofs.lemmas.Bool.{both_ways, cond-true, false≢true}
+use Rattle.std.proofs.lemmas.Bool.{and_parts, both_ways, cond-true}
 use Rattle.xk_base.specs.UserMemory.{Content, FetchesNumber, KeepsContent, LoadsNumber, Seen, StoresAsTold, number_at}
 use Rattle.xk_base.specs.Numbers.Windows.{page_of}
 use Rattle.xk_base.specs.declared.ids.Frame.{Frame as FrameNumber}
@@ -195,11 +195,7 @@ leads_unless_out (Some (OnConsole w)) access h = by_given (owner_may (record { w
     by_given false = refl
 
 pub given_may : (o : Option Entry) (access : Access) → is_given_target (entry_target o access) ≡ true → entry_may o access ≡ true
-given_may o access h = by_parts (entry_may o access) (not (names_slot o)) (sym (given_entry o access) ∙ h)
-  where
-    by_parts : (a b : Bool) → (if a then b else false) ≡ true → a ≡ true
-    by_parts true b h = refl
-    by_parts false b h = h
+given_may o access h = (and_parts (entry_may o access) (not (names_slot o)) (sym (given_entry o access) ∙ h)).0
 
 pub record IsOutAt (o : Option Entry) (access : Access) (s : SlotNumber) : Type 0 where
   pub side : Side

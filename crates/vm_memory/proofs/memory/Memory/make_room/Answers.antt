@@ -1,4 +1,4 @@
-use Rattle.std.proofs.Common.{◌≡◌, true, false, Some, None, refl, ap, sym, ◌∙◌}
+use Rattle.std.proofs.Common.{true, false, refl, ap, sym, ◌∙◌, ◌≤◌, arith}
 use Rattle.std.specs.Prelude.{is_some}
 use Rattle.std.proofs.lemmas.Bool.{false≢true, not-true}
 use Rattle.phys_pages.specs.Owners.{extent, infos}
@@ -12,7 +12,7 @@ use Rattle.vm_memory.proofs.memory.Memory.make_room.Goals as goal
 pub unreachable-requires : goal.unreachable-requires
 unreachable-requires g c = slot_left g.W.SwapStore.slot_count c.args.self.now c.requires.sound
     (none_all_used (extent c.args.self.now.owners) c.args.self.now.owners c.free_frame.result c.free_frame.ensures.none (sym c.is_some.ensures ∙ not-true c.is_some.result c.if-is_some.false))
-    (all_slots c.args.self.now.owners c.free_slot.result c.free_slot.ensures.none c.in-else.is)
+    (all_slots c.args.self.now.owners c.free_slot.result c.free_slot.ensures.none c.in-None.is)
 
 pub returns-in_err-evict-clause-moves : goal.returns-in_err-evict-clause-moves
 returns-in_err-evict-clause-moves g c = moved_in g.W.SwapStore.is_honest g.W.SwapStore.held g.W.SwapStore.slot_count g.W.SwapStore.asked g.W.SwapStore.faults c.args.self.now c.requires.sound c.evict.new.ram c.evict.new.owners c.evict.new.store c.args.self.now.failed c.args.self.now.hand
@@ -48,6 +48,9 @@ used g c = none_all_used (extent c.args.self.now.owners) c.args.self.now.owners 
 
 pub evict-requires-clause-used : goal.evict-requires-clause-used
 evict-requires-clause-used g c = used g c
+
+pub evict-requires-clause-slots : goal.evict-requires-clause-slots
+evict-requires-clause-slots g c = omega (arith, c.requires.sound.slots, c.requires.sound.store)
 
 pub returns-clause-moves : goal.returns-clause-moves
 returns-clause-moves g c = moved_in g.W.SwapStore.is_honest g.W.SwapStore.held g.W.SwapStore.slot_count g.W.SwapStore.asked g.W.SwapStore.faults c.args.self.now c.requires.sound c.evict.new.ram c.evict.new.owners c.evict.new.store false (c.victim-f.result.0 + 1)
