@@ -22,7 +22,7 @@ use Rattle.ledger_model.proofs.LedgerLemmas.{cases_Option}
 use Rattle.ledger_model.proofs.Pages.BareLemmas.{bare-lawful}
 use Rattle.ledger_model.proofs.Stepping.WritingLemmas.{bare-pages}
 use Rattle.sv32_space.specs.Agreement.{HasUnusedFrame, procs_of}
-use Rattle.sv32_space.specs.PageChanges.{renamed, renamed_entry, with_info}
+use Rattle.sv32_space.specs.PageChanges.{renamed_entry, with_info}
 use Rattle.sv32_space.specs.SpelledEntries.{entries}
 use Rattle.sv32_space.specs.Tie.{Held, agrees, bytes_at, ledger_in}
 use Rattle.sv32_space.specs.declared.sides.Entry.TheVariants.{At}
@@ -32,9 +32,8 @@ use Rattle.swap_map.specs.Moving.{KeepsSizes, Moves, StaysPut}
 use Rattle.swap_map.proofs.ExchangeLemmas.{stayed_whole, used_behind}
 use Rattle.xk_ports.specs.Keeping.{KeepsStore, tells_truly}
 use Rattle.vm_memory.specs.declared.memory.Memory.{Memory}
-use Rattle.vm_memory.specs.Bytes.{MeansBytesOver, is_known, none_out, used_frames, used_slots}
+use Rattle.vm_memory.specs.Bytes.{is_known, none_out, used_frames, used_slots}
 use Rattle.vm_memory.specs.Memory.{blank_ledger, capacity_of, ledger, processes}
-use Rattle.vm_memory.specs.Pages.Changing.{IsFreeFrame}
 use Rattle.vm_memory.specs.Pages.Exchanging.{IsInFrame, MovesPages}
 use Rattle.vm_memory.specs.Sound.{IsSound}
 use Rattle.vm_memory.proofs.Changing.CallLemmas.{none_out-kept, none_out-slots}

@@ -1,12 +1,11 @@
 -- What stays where a page comes in, and what an access gives after it.
-use Rattle.std.proofs.Common.{◌≡◌, ℕ, ◌*◌, ◌/◌, ◌%◌, if◌then◌else◌, Bool, true, false, ◌||◌, not, Option, Some, None, refl, sym, ap, subst, ◌∙◌, inl, inr, arith}
-use Rattle.std.specs.Prelude.{IsTrue, is_some, Result, Ok, Err, IfOk}
+use Rattle.std.proofs.Common.{◌≡◌, ℕ, ◌*◌, ◌/◌, if◌then◌else◌, Bool, true, false, ◌||◌, not, Option, Some, None, refl, sym, ap, subst, ◌∙◌, inl, inr, arith}
+use Rattle.std.specs.Prelude.{is_some, Result, Ok, Err, IfOk}
 use Rattle.xk_base.specs.declared.errors.Failed.{Failed}
-use Rattle.std.specs.Option.{option_and_then, option_map, option_map_or}
+use Rattle.std.specs.Option.{option_and_then, option_map_or}
 use Rattle.std.proofs.lemmas.Bool.{and_parts, both_ways, cond-true}
 use Rattle.xk_base.specs.UserMemory.{Content, FetchesNumber, KeepsContent, LoadsNumber, Seen, StoresAsTold, number_at}
 use Rattle.xk_base.specs.Numbers.Windows.{page_of}
-use Rattle.xk_base.specs.declared.ids.Frame.{Frame as FrameNumber}
 use Rattle.xk_base.specs.declared.ids.Pid.{Pid}
 use Rattle.xk_base.specs.declared.ids.Place.{Place}
 use Rattle.xk_base.specs.declared.ids.Slot.{Slot as SlotNumber}

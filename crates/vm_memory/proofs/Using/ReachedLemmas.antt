@@ -1,5 +1,5 @@
 -- What is reached in a sound memory, by the entry of the place.
-use Rattle.std.proofs.Common.{◌≡◌, ℕ, ◌<◌, if◌then◌else◌, Bool, true, false, List, Option, Some, None, refl, sym, ap, subst, ◌∙◌, inl, inr, arith}
+use Rattle.std.proofs.Common.{◌≡◌, ℕ, if◌then◌else◌, Bool, true, false, List, Option, Some, None, refl, sym, ap, ◌∙◌}
 use Rattle.std.specs.Prelude.{is_some}
 use Rattle.std.specs.Option.{option_and_then, option_map_or}
 use Rattle.std.proofs.lemmas.Bool.{false≢true}
@@ -9,11 +9,9 @@ use Rattle.phys_pages.specs.declared.infos.Seat.{Seat}
 use Rattle.phys_pages.specs.declared.infos.Seat.TheVariants.{Frame, Slot}
 use Rattle.phys_pages.specs.Owners.{infos}
 use Rattle.phys_pages.specs.Ram.{pages}
-use Rattle.phys_pages.proofs.OwnerLemmas.{infos-within}
 use Rattle.ledger_model.specs.Ledger.{Contents, Console, Bytes, PageName, Homed, contents_of, has_bytes}
 use Rattle.ledger_model.specs.Places.{is_user_place}
 use Rattle.ledger_model.specs.Reach.{owner_may, reach}
-use Rattle.ledger_model.proofs.LedgerLemmas.{cases_Option}
 use Rattle.sv32_space.specs.declared.sides.Side.{Side}
 use Rattle.sv32_space.specs.Agreement.{Infos}
 use Rattle.sv32_space.specs.declared.sides.Entry.{Entry}
@@ -23,9 +21,7 @@ use Rattle.sv32_space.specs.EntryLedger.{SeatBytes}
 use Rattle.sv32_space.specs.EntryReach.{entry_may, side_may, entry_name, side_name}
 use Rattle.sv32_space.specs.SpelledEntries.{entries}
 use Rattle.sv32_space.specs.Tie.{Held, bytes_at}
-use Rattle.sv32_space.proofs.Ledgers.EntryLedgerLemmas.{names_free}
 use Rattle.xk_base.specs.declared.ids.Frame.{Frame as FrameNumber}
-use Rattle.xk_base.specs.declared.ids.Slot.{Slot as SlotNumber}
 use Rattle.vm_memory.specs.declared.memory.Memory.{Memory}
 use Rattle.vm_memory.specs.declared.memory.access.Target.TheVariants.{Page, Nothing, Console as OnDevice}
 use Rattle.vm_memory.specs.Using.Access.{contents_reached, reaches_bytes}

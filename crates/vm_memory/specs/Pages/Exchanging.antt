@@ -13,8 +13,8 @@ use Rattle.sv32_space.specs.declared.sides.Entry.TheVariants.{Free, At, OnConsol
 use Rattle.sv32_space.specs.declared.sides.Side.{Side}
 use Rattle.xk_ports.specs.Keeping.{KeepsStore}
 use Rattle.vm_memory.specs.declared.memory.Memory.{Memory}
-use Rattle.vm_memory.specs.Bytes.{MeansBytes, is_known, none_out}
-use Rattle.vm_memory.specs.Memory.{IsUsable, ledger, size, store_of}
+use Rattle.vm_memory.specs.Bytes.{is_known, none_out}
+use Rattle.vm_memory.specs.Memory.{ledger, size, store_of}
 use Rattle.vm_memory.specs.Sound.{IsSound}
 
 -- Pages move between frames and slots, and nothing else changes, whatever the store answers or does.

@@ -1,5 +1,4 @@
 use Rattle.std.proofs.Common.{◌≡◌, true, false, refl, ap, sym, ◌∙◌}
-use Rattle.std.proofs.lemmas.Bool.{not-true}
 use Rattle.sv32_space.specs.SpelledEntries.{entries}
 use Rattle.swap_map.proofs.ExchangeLemmas.{on_err}
 use Rattle.xk_base.specs.Numbers.Windows.{page_of}

@@ -1,4 +1,4 @@
-use Rattle.std.proofs.Common.{true, sym, ap, ◌∙◌}
+use Rattle.std.proofs.Common.{true, ap, ◌∙◌}
 use Rattle.ledger_model.specs.Reach.{is_free}
 use Rattle.sv32_space.specs.Agreement.{owned_by}
 use Rattle.vm_memory.specs.Memory.{processes}

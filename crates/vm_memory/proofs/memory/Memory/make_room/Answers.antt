@@ -1,10 +1,10 @@
-use Rattle.std.proofs.Common.{true, false, refl, ap, sym, ◌∙◌, ◌≤◌, arith}
+use Rattle.std.proofs.Common.{true, false, refl, ap, sym, ◌∙◌, ◌+◌, ◌≤◌, arith}
 use Rattle.std.specs.Prelude.{is_some}
 use Rattle.std.proofs.lemmas.Bool.{false≢true, not-true}
 use Rattle.phys_pages.specs.Owners.{extent, infos}
-use Rattle.phys_pages.specs.declared.infos.Seat.TheVariants.{Frame, Slot}
+use Rattle.phys_pages.specs.declared.infos.Seat.TheVariants.{Frame}
 use Rattle.vm_memory.specs.Bytes.{is_known, none_out}
-use Rattle.vm_memory.specs.Memory.{ledger, processes}
+use Rattle.vm_memory.specs.Memory.{ledger}
 use Rattle.vm_memory.proofs.Changing.CrowdedLemmas.{marked_ledger, marked_none}
 use Rattle.vm_memory.proofs.Changing.ShiftedLemmas.{all_slots, goes_out, left_free, found_room, kept_seat, moved_in, none_all_used, over_splits, slot_left, some_room, stays_near, still_none, still_whole, unmoved}
 use Rattle.vm_memory.proofs.memory.Memory.make_room.Goals as goal

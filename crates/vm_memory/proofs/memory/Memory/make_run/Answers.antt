@@ -1,7 +1,4 @@
-use Rattle.std.proofs.Common.{◌+◌, ◌<◌, sym, ap, ◌∙◌, arith}
-use Rattle.swap_map.proofs.ExchangeLemmas.{on_err}
-use Rattle.phys_pages.specs.declared.infos.Seat.TheVariants.{Slot}
-use Rattle.vm_memory.specs.Memory.{frames_for_pages}
+use Rattle.std.proofs.Common.{sym, ◌∙◌}
 use Rattle.vm_memory.proofs.Changing.CallLemmas.{alone-none_out, none_out-kept}
 use Rattle.vm_memory.proofs.Changing.CrowdedLemmas.{near_made}
 use Rattle.vm_memory.proofs.memory.Memory.make_run.Goals as goal

@@ -1,7 +1,7 @@
-use Rattle.std.proofs.Common.{◌≡◌, ◌*◌, ◌/◌, true, false, refl, ap, sym, subst, ◌∙◌, arith}
+use Rattle.std.proofs.Common.{◌≡◌, ◌*◌, true, ap, sym, subst, ◌∙◌}
 use Rattle.std.proofs.lemmas.Bool.{not-true}
 use Rattle.xk_base.specs.Numbers.Windows.{page_of}
-use Rattle.vm_memory.specs.Bytes.{is_near, is_out}
+use Rattle.vm_memory.specs.Bytes.{is_near}
 use Rattle.vm_memory.specs.Memory.{ledger, processes}
 use Rattle.vm_memory.specs.Using.Access.{reaches_bytes}
 use Rattle.vm_memory.specs.Using.EntryAccess.{is_given_target, is_page_target}

@@ -1,5 +1,4 @@
 use Rattle.std.proofs.Common.{sym, ap, ◌∙◌}
-use Rattle.std.specs.Prelude.{OnErr}
 use Rattle.xk_base.specs.UserMemory.{KeepsContent}
 use Rattle.xk_base.specs.declared.pages.Access.TheVariants.{Store}
 use Rattle.vm_memory.specs.Bytes.{means_bytes}
