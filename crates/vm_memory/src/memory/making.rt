@@ -111,7 +111,7 @@ impl<W: SwapStore> Memory<W> {
         requires usable { IsUsable self.old }
         requires can { CanMake (processes self.old) (capacity_of self.old) (ledger W.held self.old) first n }
         ensures made { OnOk result (MakesPages W.is_honest W.held W.slot_count W.asked W.faults self.old self.new first n right) }
-        ensures first { OnErr result (MakesFirst W.is_honest W.held W.slot_count W.asked W.faults self.old self.new first n right) }
+        ensures first { MakesFirst W.is_honest W.held W.slot_count W.asked W.faults self.old self.new first n right }
         ensures usable { OnOk result (IsUsable self.new) }
         ensures failed { OnErr result (has_failed self.new ≡ true) }
         ensures cause { OnErr result (Rose (W.faults (store_of self.old)) (W.faults (store_of self.new))) }
@@ -132,7 +132,7 @@ impl<W: SwapStore> Memory<W> {
         requires usable { IsUsable self.old }
         requires can { CanMake (processes self.old) (capacity_of self.old) (ledger W.held self.old) first n }
         ensures made { OnOk result (MakesPages W.is_honest W.held W.slot_count W.asked W.faults self.old self.new first n right) }
-        ensures first { OnErr result (MakesFirst W.is_honest W.held W.slot_count W.asked W.faults self.old self.new first n right) }
+        ensures first { MakesFirst W.is_honest W.held W.slot_count W.asked W.faults self.old self.new first n right }
         ensures usable { OnOk result (IsUsable self.new) }
         ensures failed { OnErr result (has_failed self.new ≡ true) }
         ensures cause { OnErr result (Rose (W.faults (store_of self.old)) (W.faults (store_of self.new))) }

@@ -31,14 +31,14 @@ returns-in-None-clause-given g c =
 pub exchange-requires-clause-used : goal.exchange-requires-clause-used
 exchange-requires-clause-used g c = reached_used g.W.SwapStore.slot_count c.args.self.now c.requires.sound (page_of c.args.pid c.args.va) c.args.access c.in-Some.slot (sym c.slot_reached.ensures ∙ c.in-Some.is)
 
-pub returns-in_err-exchange-clause-brings : goal.returns-in_err-exchange-clause-brings
-returns-in_err-exchange-clause-brings g c = record {
+pub returns-in_err-exchange-in-Some-clause-brings : goal.returns-in_err-exchange-in-Some-clause-brings
+returns-in_err-exchange-in-Some-clause-brings g c = record {
   moves = c.exchange.ensures.moves;
   none = reached_not_none g.W.SwapStore.slot_count c.args.self.now c.requires.sound (page_of c.args.pid c.args.va) c.args.access c.in-Some.slot (sym c.slot_reached.ensures ∙ c.in-Some.is);
 }
 
-pub returns-in_err-exchange-clause-out : goal.returns-in_err-exchange-clause-out
-returns-in_err-exchange-clause-out g c = on_err c.from_residual.result (is_out c.args.self.now (page_of c.args.pid c.args.va) ≡ true)
+pub returns-in_err-exchange-in-Some-clause-out : goal.returns-in_err-exchange-in-Some-clause-out
+returns-in_err-exchange-in-Some-clause-out g c = on_err c.from_residual.result (is_out c.args.self.now (page_of c.args.pid c.args.va) ≡ true)
     (reached_out g.W.SwapStore.slot_count c.args.self.now c.requires.sound (page_of c.args.pid c.args.va) c.args.access c.in-Some.slot (sym c.slot_reached.ensures ∙ c.in-Some.is))
 
 pub returns-in-Some-clause-brings : goal.returns-in-Some-clause-brings

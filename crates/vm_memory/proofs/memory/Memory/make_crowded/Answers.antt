@@ -1,8 +1,7 @@
 use Rattle.std.proofs.Common.{◌≡◌, ◌+◌, subst, arith}
 use Rattle.ledger_model.specs.Places.{place_after}
-use Rattle.swap_map.proofs.ExchangeLemmas.{on_err}
 use Rattle.vm_memory.specs.Memory.{processes}
-use Rattle.vm_memory.specs.Pages.Making.{MakesFirst, MakesPages}
+use Rattle.vm_memory.specs.Pages.Making.{MakesPages}
 use Rattle.vm_memory.proofs.Changing.CrowdedLemmas.{crowded_free, crowded_lies, crowded_room, more_made, none_made}
 use Rattle.vm_memory.proofs.Changing.LoopLemmas.{user_bound}
 use Rattle.vm_memory.proofs.memory.Memory.make_crowded.Goals as goal
@@ -36,13 +35,14 @@ loop-i-preserved g c = record {
 }
 
 pub returns-in_err-make_page-clause-first : goal.returns-in_err-make_page-clause-first
-returns-in_err-make_page-clause-first g c = on_err c.from_residual.result
-    (MakesFirst g.W.SwapStore.is_honest g.W.SwapStore.held g.W.SwapStore.slot_count g.W.SwapStore.asked g.W.SwapStore.faults c.args.self.now c.make_page.new.self c.args.first c.args.n c.args.right)
-    (record {
-      count = c.loop-i.i + 1;
-      few = omega (arith, c.loop-i-test.true);
-      made = more_made g.W.SwapStore.is_honest g.W.SwapStore.held g.W.SwapStore.slot_count g.W.SwapStore.asked g.W.SwapStore.faults c.args.self.now c.loop-i.self c.make_page.new.self c.args.first c.loop-i.i c.args.right c.loop-i.invariant.made c.make_page.ensures.made;
-    })
+returns-in_err-make_page-clause-first g c = record {
+  count = c.loop-i.i + 1;
+  few = omega (arith, c.loop-i-test.true);
+  made = more_made g.W.SwapStore.is_honest g.W.SwapStore.held g.W.SwapStore.slot_count g.W.SwapStore.asked g.W.SwapStore.faults c.args.self.now c.loop-i.self c.make_page.new.self c.args.first c.loop-i.i c.args.right c.loop-i.invariant.made c.make_page.ensures.made;
+}
+
+pub returns-clause-first : goal.returns-clause-first
+returns-clause-first g c = record { count = c.loop-i.i; few = omega arith; made = c.loop-i.invariant.made }
 
 pub returns-clause-made : goal.returns-clause-made
 returns-clause-made g c =

@@ -1,4 +1,4 @@
-use Rattle.std.proofs.Common.{true, false, refl, ap, sym, ◌∙◌, ◌+◌, ◌≤◌, arith}
+use Rattle.std.proofs.Common.{◌≡◌, true, false, refl, ap, sym, ◌∙◌, ◌+◌, ◌≤◌, arith}
 use Rattle.std.specs.Prelude.{is_some}
 use Rattle.std.proofs.lemmas.Bool.{false≢true, not-true}
 use Rattle.phys_pages.specs.Owners.{extent, infos}
