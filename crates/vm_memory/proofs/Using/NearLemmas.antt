@@ -1,9 +1,9 @@
 -- What stays where a page comes in, and what an access gives after it.
 use Rattle.std.proofs.Common.{◌≡◌, ℕ, ◌*◌, ◌/◌, if◌then◌else◌, Bool, true, false, ◌||◌, not, Option, Some, None, refl, sym, ap, subst, ◌∙◌, inl, inr, arith}
-use Rattle.std.specs.Prelude.{is_some, Result, Ok, Err, IfOk}
+use Rattle.std.specs.Prelude.{is_some, Result, Ok, Err, IfOk, OnErr, OnOk}
 use Rattle.xk_base.specs.declared.errors.Failed.{Failed}
 use Rattle.std.specs.Option.{option_and_then, option_map_or}
-use Rattle.std.proofs.lemmas.Bool.{and_parts, both_ways, cond-true}
+use Rattle.std.proofs.lemmas.Bool.{and_parts, both_ways, cond-true, false≢true}
 use Rattle.xk_base.specs.UserMemory.{Content, FetchesNumber, KeepsContent, LoadsNumber, Seen, StoresAsTold, number_at}
 use Rattle.xk_base.specs.Numbers.Windows.{page_of}
 use Rattle.xk_base.specs.declared.ids.Pid.{Pid}
@@ -34,7 +34,7 @@ use Rattle.vm_memory.specs.declared.memory.Memory.{Memory}
 use Rattle.vm_memory.specs.declared.memory.access.Target.{Target}
 use Rattle.vm_memory.specs.declared.memory.access.Target.TheVariants.{Page, Console, Nothing}
 use Rattle.vm_memory.specs.Bytes.{MeansBytes, is_known, is_out, means_bytes, names_slot, none_out}
-use Rattle.vm_memory.specs.Memory.{IsUsable, Size, ledger, processes}
+use Rattle.vm_memory.specs.Memory.{IsUsable, Size, has_failed, ledger, processes}
 use Rattle.vm_memory.specs.Pages.Exchanging.{BringsIn, IsInFrame, slot_reached}
 use Rattle.vm_memory.specs.Sound.{IsSound}
 use Rattle.vm_memory.specs.Using.Access.{contents_reached, reaches_bytes}
@@ -134,6 +134,17 @@ module _ {W P : Type 0} (is_honest : W → Bool) (held : W → Held) (slot_count
       none = brings_none;
       store = b.moves.store;
     }
+
+-- ---- it is fit on Ok alone
+
+pub fit_if : {W A E : Type 0} (slot_count : W → ℕ) (m : Memory W) (r : Result A E) → IsSound slot_count m → OnOk r (IsUsable m) → OnOk r (IsSound slot_count m × IsUsable m)
+fit_if slot_count m (Ok x) sound usable = (sound, usable)
+fit_if slot_count m (Err e) sound usable = tt
+
+pub unfit_if : {W A E : Type 0} (slot_count : W → ℕ) (m : Memory W) (r : Result A E) → OnErr r (has_failed m ≡ true)
+    → OnErr r (IsSound slot_count m × IsUsable m → ⊥)
+unfit_if slot_count m (Ok x) failed = tt
+unfit_if slot_count m (Err e) failed = λ fit. false≢true (sym fit.1 ∙ failed)
 
 -- ---- what an access gives after it
 
