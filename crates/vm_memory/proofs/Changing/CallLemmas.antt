@@ -51,7 +51,7 @@ pub none_out-kept : {W : Type 0} (old new : Memory W) → ((s : SlotNumber) → 
     → none_out old ≡ true → none_out new ≡ true
 none_out-kept old new kept none = slots-none_out new (λ s. kept s (none_out-slots old none s))
 
-either_kept : (a b c d : Bool) → c ≡ a → (b ≡ true → d ≡ true) → (a || b) ≡ true → (c || d) ≡ true
+pub either_kept : (a b c d : Bool) → c ≡ a → (b ≡ true → d ≡ true) → (a || b) ≡ true → (c || d) ≡ true
 either_kept true b c d same kept h = ap (λ x. x || d) same
 either_kept false b c d same kept h = ap (λ x. x || d) same ∙ kept h
 

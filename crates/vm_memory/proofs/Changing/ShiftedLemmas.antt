@@ -230,7 +230,7 @@ module _ {W : Type 0} (m : Memory W) (ram : RamBytes) (owners : OwnerTable) (f :
   pub stays_near : (keep : FrameNumber) → f.0 ≢ keep.0 → (at : Place) (side : Side) → entries (processes m) m.ram at ≡ Some (At side (Frame keep))
       → entries (procs_of (extent owners)) ram at ≡ Some (At side (Frame keep))
   stays_near keep other at side e = ap (λ E. E at) moves.entries ∙ (ap (option_map (renamed_entry (Frame f) (Slot to))) e
-      ∙ ap (λ s. Some (At side s)) (cond-false (seat_eq (Frame f) (Frame keep)) (Slot to) (Frame keep) (ne_eqb f.0 keep.0 other)))
+      ∙ ap (λ s. Some (At side s)) (cond-false (seat_eq (Frame keep) (Frame f)) (Slot to) (Frame keep) (ne_eqb keep.0 f.0 (λ same. other (sym same)))))
 
 -- a page comes in: its entries name the frame
 pub comes_near : {W : Type 0} (m : Memory W) (ram : RamBytes) (owners : OwnerTable) (from : SlotNumber) (into : FrameNumber)

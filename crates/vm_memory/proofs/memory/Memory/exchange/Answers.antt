@@ -4,9 +4,10 @@ use Rattle.vm_memory.specs.Pages.Exchanging.{MovesPages}
 use Rattle.vm_memory.proofs.Changing.ShiftedLemmas.{brought_near, moved_in, moves_then, used_within}
 use Rattle.vm_memory.proofs.memory.Memory.exchange.Given as given
 use Rattle.vm_memory.proofs.memory.Memory.exchange.Goals as goal
+use Rattle.vm_memory.proofs.memory.Memory.exchange.Goals.{After-bring}
 
 -- while the exchange is under way
-came : (g : given.Over) (c : goal.After-bring g) → MovesPages g.W.SwapStore.is_honest g.W.SwapStore.held g.W.SwapStore.slot_count g.W.SwapStore.asked g.W.SwapStore.faults c.args.self.now
+came : (g : given.Over) (c : After-bring g) → MovesPages g.W.SwapStore.is_honest g.W.SwapStore.held g.W.SwapStore.slot_count g.W.SwapStore.asked g.W.SwapStore.faults c.args.self.now
     (record c.args.self.now { ram = c.bring.new.ram; owners = c.bring.new.owners; store = c.bring.new.store; failed = true })
 came g c = moved_in g.W.SwapStore.is_honest g.W.SwapStore.held g.W.SwapStore.slot_count g.W.SwapStore.asked g.W.SwapStore.faults c.args.self.now c.requires.sound c.bring.new.ram c.bring.new.owners c.bring.new.store true c.args.self.now.hand
     c.bring.ensures.agrees c.bring.ensures.sizes c.bring.ensures.rights c.bring.ensures.whole c.bring.ensures.store (λ usable. absurd cc)

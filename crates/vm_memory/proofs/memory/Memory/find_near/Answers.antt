@@ -41,14 +41,14 @@ pub returns-in_err-exchange-in-Some-clause-out : goal.returns-in_err-exchange-in
 returns-in_err-exchange-in-Some-clause-out g c = on_err c.from_residual.result (is_out c.args.self.now (page_of c.args.pid c.args.va) ≡ true)
     (reached_out g.W.SwapStore.slot_count c.args.self.now c.requires.sound (page_of c.args.pid c.args.va) c.args.access c.in-Some.slot (sym c.slot_reached.ensures ∙ c.in-Some.is))
 
-pub returns-in-Some-clause-brings : goal.returns-in-Some-clause-brings
-returns-in-Some-clause-brings g c = record {
+pub returns-in_ok-exchange-in-Some-clause-brings : goal.returns-in_ok-exchange-in-Some-clause-brings
+returns-in_ok-exchange-in-Some-clause-brings g c = record {
   moves = c.exchange.ensures.moves;
   none = reached_not_none g.W.SwapStore.slot_count c.args.self.now c.requires.sound (page_of c.args.pid c.args.va) c.args.access c.in-Some.slot (sym c.slot_reached.ensures ∙ c.in-Some.is);
 }
 
-pub returns-in-Some-clause-given : goal.returns-in-Some-clause-given
-returns-in-Some-clause-given g c =
+pub returns-in_ok-exchange-in-Some-clause-given : goal.returns-in_ok-exchange-in-Some-clause-given
+returns-in_ok-exchange-in-Some-clause-given g c =
     let there : IsOutAt (entries (processes c.args.self.now) c.args.self.now.ram (page_of c.args.pid c.args.va)) c.args.access c.in-Some.slot = out_at (entries (processes c.args.self.now) c.args.self.now.ram (page_of c.args.pid c.args.va)) c.args.access c.in-Some.slot (sym c.slot_reached.ensures ∙ c.in-Some.is) in
     ap is_given_target c.find-2.ensures
     ∙ leads_near (entries (processes c.exchange.new.self) c.exchange.new.self.ram (page_of c.args.pid c.args.va)) there.side c.args.access

@@ -7,12 +7,14 @@ use Rattle.vm_memory.proofs.Changing.CallLemmas.{alone-means, alone-none_out}
 use Rattle.vm_memory.proofs.Changing.LoopLemmas.{rest_then}
 use Rattle.vm_memory.specs.Pages.Changing.{ChangesPagesAlone}
 use Rattle.vm_memory.proofs.Changing.SoundMemoryLemmas.{sound-tied}
+use Rattle.vm_memory.proofs.memory.Memory.forget_process.Given as given
 use Rattle.vm_memory.proofs.memory.Memory.forget_process.Goals as goal
+use Rattle.vm_memory.proofs.memory.Memory.forget_process.Goals.{After-drop_window-5}
 
 pub returns-clause-tie : goal.returns-clause-tie
 returns-clause-tie g c = sound-tied g.W.SwapStore.slot_count g.W.SwapStore.held c.drop_window-5.new.self c.drop_window-5.ensures.sound
 
-all_dropped : (g : _) (c : goal.After-drop_window-5 g) → ChangesPagesAlone c.args.self.now c.drop_window-5.new.self
+all_dropped : (g : given.Over) (c : After-drop_window-5 g) → ChangesPagesAlone c.args.self.now c.drop_window-5.new.self
 all_dropped g c =
     rest_then c.args.self.now c.drop_window-4.new.self c.drop_window-5.new.self
     (rest_then c.args.self.now c.drop_window-3.new.self c.drop_window-4.new.self

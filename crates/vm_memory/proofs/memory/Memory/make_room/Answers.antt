@@ -1,17 +1,19 @@
 use Rattle.std.proofs.Common.{◌≡◌, true, false, refl, ap, sym, ◌∙◌, ◌+◌, ◌≤◌, arith}
 use Rattle.std.specs.Prelude.{is_some}
-use Rattle.std.proofs.lemmas.Bool.{false≢true, not-true}
+use Rattle.std.proofs.lemmas.Bool.{false≢true}
 use Rattle.phys_pages.specs.Owners.{extent, infos}
 use Rattle.phys_pages.specs.declared.infos.Seat.TheVariants.{Frame}
 use Rattle.vm_memory.specs.Bytes.{is_known, none_out}
 use Rattle.vm_memory.specs.Memory.{ledger}
 use Rattle.vm_memory.proofs.Changing.CrowdedLemmas.{marked_ledger, marked_none}
 use Rattle.vm_memory.proofs.Changing.ShiftedLemmas.{all_slots, goes_out, left_free, found_room, kept_seat, moved_in, none_all_used, over_splits, slot_left, some_room, stays_near, still_none, still_whole, unmoved}
+use Rattle.vm_memory.proofs.memory.Memory.make_room.Given as given
 use Rattle.vm_memory.proofs.memory.Memory.make_room.Goals as goal
+use Rattle.vm_memory.proofs.memory.Memory.make_room.Goals.{After-victim-f}
 
 pub unreachable-requires : goal.unreachable-requires
 unreachable-requires g c = slot_left g.W.SwapStore.slot_count c.args.self.now c.requires.sound
-    (none_all_used (extent c.args.self.now.owners) c.args.self.now.owners c.free_frame.result c.free_frame.ensures.none (sym c.is_some.ensures ∙ not-true c.is_some.result c.if-is_some.false))
+    (none_all_used (extent c.args.self.now.owners) c.args.self.now.owners c.free_frame.result c.free_frame.ensures.none (sym c.is_some.ensures ∙ c.if-is_some.false))
     (all_slots c.args.self.now.owners c.free_slot.result c.free_slot.ensures.none c.in-None.is)
 
 pub returns-in_err-evict-clause-moves : goal.returns-in_err-evict-clause-moves
@@ -42,8 +44,8 @@ pub returns-then-is_some-clause-none : goal.returns-then-is_some-clause-none
 returns-then-is_some-clause-none g c = λ none. sym (marked_none c.args.self.now false) ∙ none
 
 -- the frame that goes out is used
-used : (g : _) (c : goal.After-victim-f g) → is_some (infos c.args.self.now.owners (Frame c.victim-f.result)) ≡ true
-used g c = none_all_used (extent c.args.self.now.owners) c.args.self.now.owners c.free_frame.result c.free_frame.ensures.none (sym c.is_some.ensures ∙ not-true c.is_some.result c.if-is_some.false)
+used : (g : given.Over) (c : After-victim-f g) → is_some (infos c.args.self.now.owners (Frame c.victim-f.result)) ≡ true
+used g c = none_all_used (extent c.args.self.now.owners) c.args.self.now.owners c.free_frame.result c.free_frame.ensures.none (sym c.is_some.ensures ∙ c.if-is_some.false)
     c.victim-f.result.0 c.victim-f.ensures.within.0 c.victim-f.ensures.within.1
 
 pub evict-requires-clause-used : goal.evict-requires-clause-used
