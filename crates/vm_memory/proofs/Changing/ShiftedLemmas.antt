@@ -172,6 +172,10 @@ pub none_all_used : (table : Extent) (owners : OwnerTable) (o : Option FrameNumb
 none_all_used table owners None used h = used
 none_all_used table owners (Some f) used h = absurd cc
 
+pub frame_used : (owners : OwnerTable) (o : Option FrameNumber) → IfNone o (AreFramesUsed owners ((extent owners).first + (extent owners).frames)) → is_some o ≡ false
+    → (f : FrameNumber) → HasSeat (extent owners) (Frame f) → is_some (infos owners (Frame f)) ≡ true
+frame_used owners o used h f within = none_all_used (extent owners) owners o used h f.0 within.0 within.1
+
 pub all_slots : (owners : OwnerTable) (o : Option SlotNumber) → IfNone o (AreSlotsUsed owners (extent owners).slots) → o ≡ None → AreSlotsUsed owners (extent owners).slots
 all_slots owners None used h = used
 all_slots owners (Some s) used h = absurd cc

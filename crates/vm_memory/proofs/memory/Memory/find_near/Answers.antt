@@ -50,6 +50,6 @@ returns-in_ok-exchange-in-Some-clause-brings g c = record {
 pub returns-in_ok-exchange-in-Some-clause-given : goal.returns-in_ok-exchange-in-Some-clause-given
 returns-in_ok-exchange-in-Some-clause-given g c =
     let there : IsOutAt (entries (processes c.args.self.now) c.args.self.now.ram (page_of c.args.pid c.args.va)) c.args.access c.in-Some.slot = out_at (entries (processes c.args.self.now) c.args.self.now.ram (page_of c.args.pid c.args.va)) c.args.access c.in-Some.slot (sym c.slot_reached.ensures ∙ c.in-Some.is) in
-    ap is_given_target c.find-2.ensures
+    ap is_given_target c.find.ensures
     ∙ leads_near (entries (processes c.exchange.new.self) c.exchange.new.self.ram (page_of c.args.pid c.args.va)) there.side c.args.access
-    (c.in_ok-exchange.ensures.near (page_of c.args.pid c.args.va) there.side there.entry)
+    (c.in_ok-exchange-in-Some.ensures.near (page_of c.args.pid c.args.va) there.side there.entry)

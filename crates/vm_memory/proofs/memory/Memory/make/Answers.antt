@@ -30,7 +30,7 @@ pub returns-in_err-make_run-in-Ok-clause-full : goal.returns-in_err-make_run-in-
 returns-in_err-make_run-in-Ok-clause-full g c =
     let counted : c.args.self.now.pages ≡ pages (processes c.args.self.now) (ledger g.W.SwapStore.held c.args.self.now) = c.requires.sound.pages ∙ sym (pages-ledger g.W.SwapStore.held c.args.self.now) in
     on_err c.from_residual.result (frames_for_pages c.args.self.now < pages (processes c.args.self.now) (ledger g.W.SwapStore.held c.args.self.now) + c.args.n)
-    (subst (λ k. frames_for_pages c.args.self.now < k + c.args.n) counted c.in_err-make_run.ensures.full)
+    (subst (λ k. frames_for_pages c.args.self.now < k + c.args.n) counted c.in_err-make_run-in-Ok.ensures.full)
 
 pub returns-in_err-make_run-in-Ok-clause-tie : goal.returns-in_err-make_run-in-Ok-clause-tie
 returns-in_err-make_run-in-Ok-clause-tie g c = sound-tied g.W.SwapStore.slot_count g.W.SwapStore.held c.make_run.new.self c.make_run.ensures.first.made.sound
@@ -40,16 +40,16 @@ returns-in_err-make_run-in-Ok-clause-near g c =
     let counted : c.args.self.now.pages ≡ pages (processes c.args.self.now) (ledger g.W.SwapStore.held c.args.self.now) = c.requires.sound.pages ∙ sym (pages-ledger g.W.SwapStore.held c.args.self.now) in
     λ few none. c.make_run.ensures.near (omega (arith, few, counted)) none
 
-pub returns-in-Ok-clause-tie : goal.returns-in-Ok-clause-tie
-returns-in-Ok-clause-tie g c = sound-tied g.W.SwapStore.slot_count g.W.SwapStore.held c.make_run.new.self c.make_run.ensures.first.made.sound
+pub returns-in_ok-make_run-in-Ok-clause-tie : goal.returns-in_ok-make_run-in-Ok-clause-tie
+returns-in_ok-make_run-in-Ok-clause-tie g c = sound-tied g.W.SwapStore.slot_count g.W.SwapStore.held c.make_run.new.self c.make_run.ensures.first.made.sound
 
-pub returns-in-Ok-clause-near : goal.returns-in-Ok-clause-near
-returns-in-Ok-clause-near g c =
+pub returns-in_ok-make_run-in-Ok-clause-near : goal.returns-in_ok-make_run-in-Ok-clause-near
+returns-in_ok-make_run-in-Ok-clause-near g c =
     let counted : c.args.self.now.pages ≡ pages (processes c.args.self.now) (ledger g.W.SwapStore.held c.args.self.now) = c.requires.sound.pages ∙ sym (pages-ledger g.W.SwapStore.held c.args.self.now) in
     λ few none. c.make_run.ensures.near (omega (arith, few, counted)) none
 
-pub returns-in-Ok-clause-rights : goal.returns-in-Ok-clause-rights
-returns-in-Ok-clause-rights g c = c.in_ok-make_run.ensures.made.rights
+pub returns-in_ok-make_run-in-Ok-clause-rights : goal.returns-in_ok-make_run-in-Ok-clause-rights
+returns-in_ok-make_run-in-Ok-clause-rights g c = c.in_ok-make_run-in-Ok.ensures.made.rights
 
-pub returns-in-Ok-clause-whole : goal.returns-in-Ok-clause-whole
-returns-in-Ok-clause-whole g c = c.in_ok-make_run.ensures.made.whole
+pub returns-in_ok-make_run-in-Ok-clause-whole : goal.returns-in_ok-make_run-in-Ok-clause-whole
+returns-in_ok-make_run-in-Ok-clause-whole g c = c.in_ok-make_run-in-Ok.ensures.made.whole

@@ -6,15 +6,13 @@ use Rattle.phys_pages.specs.declared.infos.Seat.TheVariants.{Frame}
 use Rattle.vm_memory.specs.Bytes.{is_known, none_out}
 use Rattle.vm_memory.specs.Memory.{ledger}
 use Rattle.vm_memory.proofs.Changing.CrowdedLemmas.{marked_ledger, marked_none}
-use Rattle.vm_memory.proofs.Changing.ShiftedLemmas.{all_slots, goes_out, left_free, found_room, kept_seat, moved_in, none_all_used, over_splits, slot_left, some_room, stays_near, still_none, still_whole, unmoved}
-use Rattle.vm_memory.proofs.memory.Memory.make_room.Given as given
+use Rattle.vm_memory.proofs.Changing.ShiftedLemmas.{all_slots, goes_out, left_free, found_room, frame_used, kept_seat, moved_in, none_all_used, over_splits, slot_left, some_room, stays_near, still_none, still_whole, unmoved}
 use Rattle.vm_memory.proofs.memory.Memory.make_room.Goals as goal
-use Rattle.vm_memory.proofs.memory.Memory.make_room.Goals.{After-victim-f}
 
 pub unreachable-requires : goal.unreachable-requires
 unreachable-requires g c = slot_left g.W.SwapStore.slot_count c.args.self.now c.requires.sound
     (none_all_used (extent c.args.self.now.owners) c.args.self.now.owners c.free_frame.result c.free_frame.ensures.none (sym c.is_some.ensures ∙ c.if-is_some.false))
-    (all_slots c.args.self.now.owners c.free_slot.result c.free_slot.ensures.none c.in-None.is)
+    (all_slots c.args.self.now.owners c.free_slot.result c.free_slot.ensures.none c.in_default.is)
 
 pub returns-in_err-evict-clause-moves : goal.returns-in_err-evict-clause-moves
 returns-in_err-evict-clause-moves g c = moved_in g.W.SwapStore.is_honest g.W.SwapStore.held g.W.SwapStore.slot_count g.W.SwapStore.asked g.W.SwapStore.faults c.args.self.now c.requires.sound c.evict.new.ram c.evict.new.owners c.evict.new.store c.args.self.now.failed c.args.self.now.hand
@@ -43,13 +41,8 @@ returns-then-is_some-clause-over g c = λ over. marked_ledger g.W.SwapStore.held
 pub returns-then-is_some-clause-none : goal.returns-then-is_some-clause-none
 returns-then-is_some-clause-none g c = λ none. sym (marked_none c.args.self.now false) ∙ none
 
--- the frame that goes out is used
-used : (g : given.Over) (c : After-victim-f g) → is_some (infos c.args.self.now.owners (Frame c.victim-f.result)) ≡ true
-used g c = none_all_used (extent c.args.self.now.owners) c.args.self.now.owners c.free_frame.result c.free_frame.ensures.none (sym c.is_some.ensures ∙ c.if-is_some.false)
-    c.victim-f.result.0 c.victim-f.ensures.within.0 c.victim-f.ensures.within.1
-
 pub evict-requires-clause-used : goal.evict-requires-clause-used
-evict-requires-clause-used g c = used g c
+evict-requires-clause-used g c = frame_used c.args.self.now.owners c.free_frame.result c.free_frame.ensures.none (sym c.is_some.ensures ∙ c.if-is_some.false) c.victim-f.result c.victim-f.ensures.within
 
 pub evict-requires-clause-slots : goal.evict-requires-clause-slots
 evict-requires-clause-slots g c = omega (arith, c.requires.sound.slots, c.requires.sound.store)
@@ -61,13 +54,13 @@ returns-clause-moves g c = moved_in g.W.SwapStore.is_honest g.W.SwapStore.held g
     (left_free c.args.self.now c.evict.new.ram c.evict.new.owners c.victim-f.result c.in-Some.to c.in_ok-evict.ensures.ok))
 
 pub returns-clause-none : goal.returns-clause-none
-returns-clause-none g c = λ none. goes_out c.args.self.now c.evict.new.ram c.evict.new.owners c.victim-f.result c.in-Some.to c.in_ok-evict.ensures.ok (used g c) (record c.args.self.now { ram = c.evict.new.ram; owners = c.evict.new.owners; store = c.evict.new.store; hand = c.victim-f.result.0 + 1; failed = false }) refl none
+returns-clause-none g c = λ none. goes_out c.args.self.now c.evict.new.ram c.evict.new.owners c.victim-f.result c.in-Some.to c.in_ok-evict.ensures.ok (frame_used c.args.self.now.owners c.free_frame.result c.free_frame.ensures.none (sym c.is_some.ensures ∙ c.if-is_some.false) c.victim-f.result c.victim-f.ensures.within) (record c.args.self.now { ram = c.evict.new.ram; owners = c.evict.new.owners; store = c.evict.new.store; hand = c.victim-f.result.0 + 1; failed = false }) refl none
 
 pub returns-clause-over : goal.returns-clause-over
 unfolding ledger
 returns-clause-over g c = λ over. over_splits (is_known g.W.SwapStore.is_honest g.W.SwapStore.held c.args.self.now) (none_out c.args.self.now) (none_out (record c.args.self.now { ram = c.evict.new.ram; owners = c.evict.new.owners; store = c.evict.new.store; hand = c.victim-f.result.0 + 1; failed = false })) over
     (λ known. c.evict.ensures.whole known)
-    (λ none none_new. goes_out c.args.self.now c.evict.new.ram c.evict.new.owners c.victim-f.result c.in-Some.to c.in_ok-evict.ensures.ok (used g c) (record c.args.self.now { ram = c.evict.new.ram; owners = c.evict.new.owners; store = c.evict.new.store; hand = c.victim-f.result.0 + 1; failed = false }) refl none_new)
+    (λ none none_new. goes_out c.args.self.now c.evict.new.ram c.evict.new.owners c.victim-f.result c.in-Some.to c.in_ok-evict.ensures.ok (frame_used c.args.self.now.owners c.free_frame.result c.free_frame.ensures.none (sym c.is_some.ensures ∙ c.if-is_some.false) c.victim-f.result c.victim-f.ensures.within) (record c.args.self.now { ram = c.evict.new.ram; owners = c.evict.new.owners; store = c.evict.new.store; hand = c.victim-f.result.0 + 1; failed = false }) refl none_new)
 
 pub returns-in_err-evict-clause-keep : goal.returns-in_err-evict-clause-keep
 returns-in_err-evict-clause-keep g c = λ at side e. ap (λ E. E at) c.in_err-evict.ensures.err.entries ∙ e

@@ -1,5 +1,4 @@
 use Rattle.std.proofs.Common.{◌≡◌, ◌*◌, true, ap, sym, subst, ◌∙◌}
-use Rattle.std.proofs.lemmas.Bool.{not-true}
 use Rattle.xk_base.specs.Numbers.Windows.{page_of}
 use Rattle.vm_memory.specs.Bytes.{is_near}
 use Rattle.vm_memory.specs.Memory.{ledger, processes}
@@ -13,7 +12,7 @@ use Rattle.vm_memory.proofs.memory.Memory.reach.Goals as goal
 
 pub returns-then-not-has_place-clause-answer : goal.returns-then-not-has_place-clause-answer
 returns-then-not-has_place-clause-answer g c = sym (nowhere_reached g.W.SwapStore.slot_count g.W.SwapStore.held c.args.self.now c.requires.sound c.args.at c.args.access
-    (sym c.has_place.ensures ∙ not-true c.has_place.result c.if-not-has_place.true))
+    (sym c.has_place.ensures ∙ c.if-not-has_place.true))
 
 pub returns-then-not-has_place-clause-tie : goal.returns-then-not-has_place-clause-tie
 returns-then-not-has_place-clause-tie g c = sound-tied g.W.SwapStore.slot_count g.W.SwapStore.held c.args.self.now c.requires.sound
