@@ -18,10 +18,8 @@ use Rattle.ledger_model.specs.Loans.{loans}
 use Rattle.ledger_model.specs.Places.{count_places, is_user_place}
 use Rattle.ledger_model.specs.Steps.{zero_page}
 use Rattle.ledger_model.proofs.LedgerLemmas.{same_ledger}
-use Rattle.sv32_space.specs.declared.sides.Side.{Side}
-use Rattle.sv32_space.specs.declared.sides.Side.TheVariants.{Own, LentOut, LentIn, MutOut, MutIn}
 use Rattle.sv32_space.specs.Agreement.{EntriesAgree, procs_of}
-use Rattle.sv32_space.specs.declared.sides.Entry.TheVariants.{Free, At}
+use Rattle.sv32_space.specs.declared.sides.Entry.TheVariants.{Free}
 use Rattle.sv32_space.specs.Entries.{Entries}
 use Rattle.sv32_space.specs.EntryLedger.{SeatBytes, ledger_of, page_of_entry, orphan_of_entry}
 use Rattle.sv32_space.specs.Spaces.{IsMade}

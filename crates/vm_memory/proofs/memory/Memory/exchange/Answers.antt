@@ -1,4 +1,4 @@
-use Rattle.std.proofs.Common.{◌≤◌, true, arith}
+use Rattle.std.proofs.Common.{true, arith}
 use Rattle.phys_pages.specs.declared.infos.Seat.TheVariants.{Slot}
 use Rattle.vm_memory.proofs.Changing.ShiftedLemmas.{brought_near, moved_in, moves_then, used_within}
 use Rattle.vm_memory.proofs.memory.Memory.exchange.Goals as goal
