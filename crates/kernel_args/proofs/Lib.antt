@@ -1,5 +1,8 @@
 pub mod CheckLemmas
 pub mod ContentLemmas
+pub mod ConvertedImage
+pub mod ConvertedLemmas
+pub mod ConvertingLemmas
 pub mod HeaderLemmas
 pub mod ImageLemmas
 pub mod JoinedLemmas

@@ -1,5 +1,6 @@
 pub mod CheckNumber
 pub mod Contents
+pub mod Converting
 pub mod FaultNumbers
 pub mod Faults
 pub mod Image

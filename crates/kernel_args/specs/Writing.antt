@@ -10,6 +10,14 @@ use Rattle.kernel_args.specs.Contents.{check_word, HasCheck, process_contents, s
 use Rattle.kernel_args.specs.Image.{header_tag}
 use Rattle.kernel_args.specs.Faults.{args_fault}
 
+-- the arguments in an image of this version, whose row of tags has this many words
+abbrev pub with_size : ℕ → ℕ → Args → Args
+with_size words version args = record args { words = words; version = version }
+
+-- the process with this load offset and check number
+abbrev pub with_load : ℕ → Option ℕ → ProcArgs → ProcArgs
+with_load load check p = record p { load = load; check = check }
+
 -- the tag with these contents and their check number
 abbrev pub right_tag : List ℕ → List ℕ → Tag
 right_tag name contents = record { name = name; check = check_number contents; contents = contents }

@@ -4,7 +4,7 @@ ghost use Rattle.std.specs.Prelude.{◌≡◌, ◌<◌, ◌≤◌, ◌+◌, ◌*
 ghost use Rattle.std.specs.List.{flat_map, AllByRecursion};
 ghost use Rattle.kernel_args.specs.Contents.{IsSection, IsProcess};
 ghost use Rattle.kernel_args.specs.Image.{process_limit as process_limit_of, Spells};
-ghost use Rattle.kernel_args.specs.Writing.{header_row, slots_row, process_row, row_size, names_row, names_contents as names_contents_of, HasPid, IsWritable, written};
+ghost use Rattle.kernel_args.specs.Writing.{with_size, with_load, header_row, slots_row, process_row, row_size, names_row, names_contents as names_contents_of, HasPid, IsWritable, written};
 
 use crate::appending::{
     append_tag, header_contents, names_contents, process_contents, slots_contents,
@@ -169,11 +169,18 @@ pub fn writable(args: &Args) -> bool
     HEADER_SIZE + slots_size(args.slots) + processes_size + names_size == args.words as usize * 4
 }
 
-fn append_header(alloc: Global, out: &mut Row<u8>, args: &Args) -> Result<(), NoMemory>
+/// Appends the `XArg` of this version, whose row of tags has this many words.
+pub fn append_header(
+    alloc: Global,
+    out: &mut Row<u8>,
+    words: u32,
+    version: u32,
+    args: &Args,
+) -> Result<(), NoMemory>
     requires { length args.now.ram_name ≡ 4 }
-    ensures { OnOk result (out.new ≡ out.old ++ header_row args.now) }
+    ensures { OnOk result (out.new ≡ out.old ++ header_row (with_size words version args.now)) }
 {
-    let contents = header_contents(alloc, args)?;
+    let contents = header_contents(alloc, words, version, args)?;
     append_tag(out, b"XArg", contents.as_slice())
 }
 
@@ -187,11 +194,18 @@ fn append_slots(alloc: Global, out: &mut Row<u8>, slots: Option<u32>) -> Result<
     Ok(())
 }
 
-fn append_process(alloc: Global, out: &mut Row<u8>, process: &ProcArgs) -> Result<(), NoMemory>
+/// Appends the `IniE` of the process with this load offset and check number.
+pub fn append_process(
+    alloc: Global,
+    out: &mut Row<u8>,
+    load: u32,
+    check: Option<u16>,
+    process: &ProcArgs,
+) -> Result<(), NoMemory>
     requires { length process.now.sections ≤ 32 }
-    ensures { OnOk result (out.new ≡ out.old ++ process_row process.now) }
+    ensures { OnOk result (out.new ≡ out.old ++ process_row (with_load load check process.now)) }
 {
-    let contents = process_contents(alloc, process)?;
+    let contents = process_contents(alloc, load, check, process)?;
     append_tag(out, b"IniE", contents.as_slice())
 }
 
@@ -204,7 +218,7 @@ fn append_processes(
     ensures { OnOk result (out.new ≡ out.old ++ flat_map process_row processes.now) }
 {
     for process in processes {
-        append_process(alloc, out, process)?;
+        append_process(alloc, out, process.load, process.check, process)?;
     }
     Ok(())
 }
@@ -228,7 +242,7 @@ pub fn write_args(alloc: Global, args: &Args) -> Result<Row<u8>, NoMemory>
     ensures read_back { IfOk result (λ row. (more : List ℕ) → Spells (row ++ more) args.now) }
 {
     let mut out = Row::new(alloc);
-    append_header(alloc, &mut out, args)?;
+    append_header(alloc, &mut out, args.words, args.version, args)?;
     append_slots(alloc, &mut out, args.slots)?;
     append_processes(alloc, &mut out, args.procs.as_slice())?;
     append_names(alloc, &mut out, args.names.as_slice())?;

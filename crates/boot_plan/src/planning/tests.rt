@@ -1,6 +1,6 @@
 //! Plans of small images.
 
-ghost use Rattle.std.specs.Prelude.{◌≤◌, ◌<◌, ◌+◌, length, All, IfOk, IfSome};
+ghost use Rattle.std.specs.Prelude.{◌≡◌, ◌≤◌, ◌<◌, ◌+◌, length, All, IfOk, IfSome, IsSome};
 ghost use Rattle.kernel_args.specs.Image.{IsSoundArgs};
 
 use super::*;
@@ -27,10 +27,11 @@ fn section(piece: Piece) -> Section
 }
 
 /// The arguments of an image of one process whose row of tags has 52 bytes. It has version 2 where the
-/// process has a check word.
-fn args(alloc: Global, frames: u32, process: ProcArgs) -> Result<Args, NoMemory>
+/// process has a check word, and then may give slots.
+fn args(alloc: Global, frames: u32, slots: Option<u32>, process: ProcArgs) -> Result<Args, NoMemory>
     requires some { 0 < frames }
     requires few { frames ≤ 16384 }
+    requires slots { IfSome slots (λ n. IsSome process.check × (n ≤ 16384)) }
     requires some_section { 1 ≤ length process.sections }
     requires few_sections { length process.sections ≤ 32 }
     requires flags { All (λ s. s.flags < 32) process.sections }
@@ -45,7 +46,7 @@ fn args(alloc: Global, frames: u32, process: ProcArgs) -> Result<Args, NoMemory>
         ram_start: 0x4000_0000,
         ram_size: 4096 * frames,
         ram_name: [0; 4],
-        slots: None,
+        slots,
         procs,
         names: Row::new(alloc),
     })
@@ -98,6 +99,7 @@ fn fault(
     let args = args(
         alloc,
         frames,
+        None,
         ProcArgs {
             load,
             entry,
@@ -174,26 +176,34 @@ fn check_word_is_of_the_sections_bytes(rt: HostRuntime) -> Result<(), Fail> {
     Ok(())
 }
 
-#[test]
-fn image_gives_slots_where_none_are_asked_for(rt: HostRuntime) -> Result<(), Fail> {
-    let mut sections = Row::new(rt.alloc());
+/// The first run's process with its check word.
+fn checked_process(alloc: Global) -> Result<ProcArgs, NoMemory>
+    ensures check { IfOk result (λ p. IsSome p.check) }
+    ensures some { IfOk result (λ p. length p.sections ≡ 1) }
+    ensures flags { IfOk result (λ p. All (λ s. s.flags < 32) p.sections) }
+{
+    let mut sections = Row::new(alloc);
     sections.push(section(CODE))?;
-    let process = ProcArgs {
+    Ok(ProcArgs {
         load: 52,
         entry: 0x1_0000,
         check: Some(0x98F9),
         sections,
-    };
-    let mut args = args(rt.alloc(), 23, process)?;
+    })
+}
+
+#[test]
+fn image_gives_slots_where_none_are_asked_for(rt: HostRuntime) -> Result<(), Fail> {
+    let silent = args(rt.alloc(), 23, None, checked_process(rt.alloc())?)?;
+    let giving = args(rt.alloc(), 23, Some(9), checked_process(rt.alloc())?)?;
     let too_small = Some(ArgFault {
         what: RAM_TOO_SMALL,
         at: 0,
     });
-    assert_eq!(rt; fault_of(rt.alloc(), &args, None)?, too_small);
-    assert_eq!(rt; fault_of(rt.alloc(), &args, Some(9))?, None);
-    args.slots = Some(9);
-    assert_eq!(rt; fault_of(rt.alloc(), &args, None)?, None);
-    assert_eq!(rt; fault_of(rt.alloc(), &args, Some(8))?, too_small);
+    assert_eq!(rt; fault_of(rt.alloc(), &silent, None)?, too_small);
+    assert_eq!(rt; fault_of(rt.alloc(), &silent, Some(9))?, None);
+    assert_eq!(rt; fault_of(rt.alloc(), &giving, None)?, None);
+    assert_eq!(rt; fault_of(rt.alloc(), &giving, Some(8))?, too_small);
     Ok(())
 }
 
@@ -225,7 +235,7 @@ fn first_run_has_ten_pages(rt: HostRuntime) -> Result<(), Fail> {
         check: None,
         sections,
     };
-    let args = args(rt.alloc(), 4096, process).expect(&rt, "room");
+    let args = args(rt.alloc(), 4096, None, process).expect(&rt, "room");
     let plan = plan(rt.alloc(), &args, &file(), None).expect(&rt, "no fault");
     assert_eq!(rt;
         (plan.ram_start, plan.frames, plan.slots),
