@@ -2,6 +2,7 @@ pub mod CheckLemmas
 pub mod ContentLemmas
 pub mod ConvertedImage
 pub mod ConvertedLemmas
+pub mod ConvertedSpells
 pub mod ConvertingLemmas
 pub mod HeaderLemmas
 pub mod ImageLemmas

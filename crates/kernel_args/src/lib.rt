@@ -25,7 +25,7 @@ pub use faults::{
     ArgFault, ArgsError, BAD_CHECK, BAD_INI, BAD_NAMES, BAD_RAM, BAD_SLOTS, BAD_TOTAL, BAD_VERSION,
     NO_PROCESS, NOT_XARG, TOO_MANY_PROCESSES, TOO_SHORT,
 };
-pub use laws::spelled_once_or_faulty;
+pub use laws::{converted_is_spelled, spelled_once_or_faulty};
 pub use loads::{file_size, file_sizes, is_zero_filled, loaded_bytes};
 pub use reading::read_args;
 pub use writing::{writable, write_args};
