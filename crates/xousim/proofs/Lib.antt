@@ -2,6 +2,7 @@ pub mod GatheringLemmas
 pub mod HistoryLemmas
 pub mod KeptLemmas
 pub mod MatchedLemmas
+pub mod MovedStartLemmas
 pub mod PlayingLemmas
 pub mod ReadingLemmas
 pub mod SummaryLemmas
@@ -9,3 +10,4 @@ pub mod TableLemmas
 pub mod ToldLemmas
 pub mod TopLemmas
 pub mod VerdictLemmas
+pub mod WordLemmas
