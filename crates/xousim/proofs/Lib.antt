@@ -1,3 +1,4 @@
+pub mod ConvertLemmas
 pub mod GatheringLemmas
 pub mod HistoryLemmas
 pub mod KeptLemmas

@@ -44,6 +44,8 @@ pub struct CheckWords<'a> {
 pub enum CommandWords<'a> {
     Play(PlayWords<'a>),
     Check(CheckWords<'a>),
+    /// `convert`: the image of that name is written in version 2.
+    Convert(&'a str),
     /// The load of so many clients.
     Demo(u32),
 }
