@@ -1,5 +1,5 @@
 -- An image without a fault is converted.
-use Rattle.std.proofs.Common.{◌≡◌, ◌≢◌, ◌≤◌, ap, sym, refl, ℕ, Bool, true, false, nat_eq, ◌==◌, List, length, Some, arith}
+use Rattle.std.proofs.Common.{◌≡◌, ◌≢◌, ◌≤◌, ap, sym, refl, ℕ, Bool, true, false, nat_eq, ◌==◌, List, length, Option, arith}
 use Rattle.std.specs.Prelude.{if◌then◌else◌}
 use Rattle.std.proofs.lemmas.Bool.Decides.{nat_tests}
 use Rattle.std.proofs.lemmas.List.Elements.{All-weaker}
@@ -7,7 +7,7 @@ use Rattle.kernel_args.specs.declared.args.Args.{Args}
 use Rattle.kernel_args.specs.Converting.{IsConvertible, converted}
 use Rattle.kernel_args.specs.Loads.{is_load_outside}
 use Rattle.boot_plan.proofs.NoFaultLemmas.{IsFaultless, all_faultless}
-use Rattle.xk_base.specs.declared.limits.TheConstants.{IMAGE_LIMIT, SLOT_LIMIT}
+use Rattle.xk_base.specs.declared.limits.TheConstants.{IMAGE_LIMIT}
 use Rattle.xousim.specs.declared.status.Status.{Status}
 use Rattle.xousim.specs.declared.status.Status.TheVariants.{Done, Usage, ReadFault, WriteFault, ImageFault, EventFault, StepLimit, NoMemory, NotBuilt}
 use Rattle.xousim.specs.Outcome.{Call, HasCause, IsSoundImage, OutRose, Writes, conversion}
@@ -24,13 +24,13 @@ made image args first =
     let test : (args.version == 1) ≡ true = grind (arith, nat_tests) in
     ap (λ (b : Bool). if b then converted image args else image) (sym test)
 
-pub convertible : (image : List ℕ) (args : Args) → IsSoundImage image (Some SLOT_LIMIT) args → args.version ≡ 1 → length (converted image args) ≤ IMAGE_LIMIT
+pub convertible : (image : List ℕ) (args : Args) (asked : Option ℕ) → IsSoundImage image asked args → args.version ≡ 1 → length (converted image args) ≤ IMAGE_LIMIT
     → IsConvertible image args
-convertible image args sound first short = record {
+convertible image args asked sound first short = record {
   spelled = sound.spelled;
   first = first;
   inside = All-weaker (IsFaultless args.words image) (λ p. is_load_outside args.words (length image) p ≡ false) (λ p h. h.load) args.procs
-      (all_faultless args image (Some SLOT_LIMIT) (no_plan_fault image (Some SLOT_LIMIT) args sound.spelled sound.no_fault));
+      (all_faultless args image asked (no_plan_fault image asked args sound.spelled sound.no_fault));
   short = short;
 }
 

@@ -1,4 +1,5 @@
 pub mod ConvertLemmas
+pub mod ConvertedBootLemmas
 pub mod GatheringLemmas
 pub mod HistoryLemmas
 pub mod KeptLemmas

@@ -24,7 +24,7 @@ use Rattle.xousim.specs.History.{history_of}
 use Rattle.xousim.specs.Outcome.{Boots}
 
 -- the cases of an image's fault
-abbrev Cases : List ℕ → Option ℕ → Option ArgFault → Bool → Option ArgFault → Type 0
+abbrev pub Cases : List ℕ → Option ℕ → Option ArgFault → Bool → Option ArgFault → Type 0
 Cases image asked fault long in_args =
     MatchBool long (fault ≡ Some (record { what = too_long; at = 0 }))
     (MatchOption in_args ((args : Args) × Spells image args × (fault ≡ plan_fault args image asked)) (λ f. fault ≡ Some f))
