@@ -5,6 +5,7 @@ mod commands;
 mod deaths;
 mod drivers;
 mod forwards;
+mod hostile;
 mod image;
 mod interrupts;
 mod lends;

@@ -74,3 +74,21 @@ fn push_code(bytes: &mut Vec<u8>, code: &[u32]) -> Result<(), Fail> {
     }
     Ok(())
 }
+
+/// The image with these words written into it, each at its offset.
+pub fn patched(alloc: Global, image: &[u8], patches: &[(u16, u32)]) -> Result<Vec<u8>, Fail> {
+    let mut bytes = image.to_vec(alloc)?;
+    for (at, word) in patches {
+        put_word(bytes.as_mut_slice(), *at, *word)?;
+    }
+    Ok(bytes)
+}
+
+fn put_word(bytes: &mut [u8], at: u16, word: u32) -> Result<(), Fail> {
+    let at = usize::from(at);
+    if at + 4 > bytes.len() {
+        return Err(Fail::from("no such word"));
+    }
+    bytes[at..at + 4].copy_from_slice(&word.to_le_bytes());
+    Ok(())
+}

@@ -1,0 +1,5 @@
+//! Input that means harm.
+
+mod damage;
+mod failing;
+mod lines;
