@@ -12,4 +12,3 @@ pub mod TableLemmas
 pub mod ToldLemmas
 pub mod TopLemmas
 pub mod VerdictLemmas
-pub mod WordLemmas

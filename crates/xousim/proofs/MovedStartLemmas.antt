@@ -1,15 +1,16 @@
 -- An image whose row of tags is exchanged for another, so that all behind it moves, starts in the same state.
-use Rattle.std.proofs.Common.{◌≡◌, ◌∙◌, ap, sym, refl, ℕ, zero, suc, ◌+◌, ◌-◌, ◌*◌, ◌/◌, ◌≤◌, Bool, true, false, cond, ◌==◌, nat_le, nat_lt, nat_eq, List, [], ◌∷◌, ◌++◌, map, length, find, slice_get, slice_index_or, Option, Some, None, unwrap_or, arith}
+use Rattle.std.proofs.Common.{◌≡◌, ◌∙◌, ap, sym, refl, ℕ, zero, suc, ◌+◌, ◌-◌, ◌*◌, ◌/◌, ◌≤◌, min, Bool, true, false, cond, ◌==◌, nat_le, nat_lt, nat_eq, List, [], ◌∷◌, ◌++◌, map, length, find, slice_get, slice_index_or, Option, Some, None, unwrap_or, arith}
 use Rattle.std.specs.Prelude.{if◌then◌else◌}
 use Rattle.std.specs.List.{range_with_len, AllByRecursion}
 use Rattle.std.specs.Option.{option_and_then, option_map, option_or}
 use Rattle.std.proofs.lemmas.List.{length-map, map-append}
 use Rattle.std.proofs.lemmas.Option.{slice_get-map}
 use Rattle.std.proofs.Math.Path.{fun_ext}
+use Rattle.std.proofs.lemmas.Bool.Decides.{nat_tests}
 use Rattle.kernel_args.specs.declared.args.Args.{Args}
 use Rattle.kernel_args.specs.declared.args.ProcArgs.{ProcArgs}
 use Rattle.kernel_args.specs.declared.args.Section.{Section}
-use Rattle.kernel_args.specs.Loads.{file_size}
+use Rattle.kernel_args.specs.Loads.{file_size, is_zero_filled}
 use Rattle.boot_plan.specs.Capacity.{capacity}
 use Rattle.boot_plan.specs.Sections.{page_count}
 use Rattle.boot_plan.specs.FirstPages.{section_page, section_run, sections_pages, zero_page, stack_pages, interrupt_page, process_pages, process_plan, plan_of}
@@ -17,7 +18,7 @@ use Rattle.boot_plan.specs.Content.{page_byte}
 use Rattle.boot_plan.specs.declared.plans.BootPlan.{BootPlan}
 use Rattle.boot_plan.specs.declared.plans.PagePlan.{PagePlan}
 use Rattle.boot_plan.specs.declared.plans.ProcPlan.{ProcPlan}
-use Rattle.boot_plan.proofs.MovedLemmas.{HasMoved, IsMoved, IsMovedImage, IsSamePage, same_page}
+use Rattle.boot_plan.proofs.MovedLemmas.{HasMoved, IsMoved, IsMovedImage, IsSamePage, moved_byte}
 use Rattle.ledger_model.specs.Ledger.{Ledger, Page, Bytes}
 use Rattle.machine_model.specs.State.Machine.{Machine, Thread}
 use Rattle.vm_memory.specs.FirstLedger.{first_ledger, first_page, page_bytes, planned_page, process_of}
@@ -51,15 +52,16 @@ found vpn (e ∷ es) = cond (e.0 == vpn) (Some e.1) (found vpn es)
 abbrev shown_at : List Shown → ℕ → Option Shown
 shown_at processes pid = if nat_le 2 pid then slice_get processes (pid - 2) else None
 
+either : (f : PagePlan → Page) (b : Bool) (page : PagePlan) (later : Option PagePlan) (shown : Option Page) → option_map f later ≡ shown
+    → option_map f (cond b (Some page) later) ≡ cond b (Some (f page)) shown
+either f true page later shown same = refl
+either f false page later shown same = same
+
 first_found : (file : List ℕ) (vpn : ℕ) (pages : List PagePlan)
     → option_map (first_page file) (find (λ page. page.vpn.0 == vpn) pages) ≡ found vpn (map (shown_page file) pages)
 first_found file vpn [] = refl
-first_found file vpn (page ∷ pages) = go (page.vpn.0 == vpn)
-  where
-    go : (b : Bool)
-        → option_map (first_page file) (cond b (Some page) (find (λ page. page.vpn.0 == vpn) pages)) ≡ cond b (Some (first_page file page)) (found vpn (map (shown_page file) pages))
-    go true = refl
-    go false = first_found file vpn pages
+first_found file vpn (page ∷ pages) =
+    either (first_page file) (page.vpn.0 == vpn) page (find (λ page. page.vpn.0 == vpn) pages) (found vpn (map (shown_page file) pages)) (first_found file vpn pages)
 
 process_shown : (file : List ℕ) (plan : BootPlan) (pid : ℕ) → option_map (shown file) (process_of plan pid) ≡ shown_at (map (shown file) plan.procs) pid
 process_shown file plan pid = go (nat_le 2 pid)
@@ -139,6 +141,28 @@ start_shown plan file =
 
 -- ---- what has moved looks the same
 
+-- a byte of a page, by whether its section is zero-filled
+page_byte_moved : (zero_filled : Bool) (file moved : List ℕ) (before after offset there size i k : ℕ) → HasMoved file moved before after
+    → before ≤ offset → there + before ≡ offset + after
+    → cond (nat_lt k (min 4096 (cond zero_filled 0 size - 4096 * i))) (slice_index_or moved (cond zero_filled 0 (there + 4096 * i) + k) 0) 0
+    ≡ cond (nat_lt k (min 4096 (cond zero_filled 0 size - 4096 * i))) (slice_index_or file (cond zero_filled 0 (offset + 4096 * i) + k) 0) 0
+page_byte_moved true file moved before after offset there size i k h behind same = grind (arith, nat_tests)
+page_byte_moved false file moved before after offset there size i k h behind same =
+    ap (λ b. cond (nat_lt k (min 4096 (size - 4096 * i))) b 0)
+    (moved_byte file moved before after (offset + 4096 * i + k) (there + 4096 * i + k) h (omega arith) (omega arith))
+
+same_page : (file moved : List ℕ) (before after offset there : ℕ) (s : Section) (i : ℕ) → HasMoved file moved before after → before ≤ offset → there + before ≡ offset + after
+    → IsSamePage file moved (section_page offset s i) (section_page there s i)
+same_page file moved before after offset there s i h behind same = record {
+  vpn = refl;
+  right = refl;
+  byte = λ k. page_byte_moved (is_zero_filled s) file moved before after offset there s.size i k h behind same;
+}
+
+-- a page of zeros has no byte of a file
+no_byte : (file moved : List ℕ) (k : ℕ) → cond (nat_lt k 0) (slice_index_or moved (0 + k) 0) 0 ≡ cond (nat_lt k 0) (slice_index_or file (0 + k) 0) 0
+no_byte file moved k = grind (arith, nat_tests)
+
 same_bytes : (file moved : List ℕ) (page other : PagePlan) → IsSamePage file moved page other → page_bytes moved other ≡ page_bytes file page
 unfolding page_bytes
 same_bytes file moved page other h = ap (λ (byte : ℕ → ℕ). map byte (range_with_len 0 4096)) (fun_ext h.byte)
@@ -174,7 +198,7 @@ module _ (file moved : List ℕ) (before after : ℕ) (h : HasMoved file moved b
   zero_shown : (vpns : List ℕ) → map (shown_page moved) (map zero_page vpns) ≡ map (shown_page file) (map zero_page vpns)
   zero_shown [] = refl
   zero_shown (v ∷ vs) =
-      ap (λ e. e ∷ map (shown_page moved) (map zero_page vs)) (page_shown file moved (zero_page v) (zero_page v) (record { vpn = refl; right = refl; byte = λ k. refl }))
+      ap (λ e. e ∷ map (shown_page moved) (map zero_page vs)) (page_shown file moved (zero_page v) (zero_page v) (record { vpn = refl; right = refl; byte = λ k. no_byte file moved k }))
       ∙ ap (λ es. shown_page file (zero_page v) ∷ es) (zero_shown vs)
 
   process_moved : (p q : ProcArgs) → IsMoved file before after p q → shown moved (process_plan q) ≡ shown file (process_plan p)
