@@ -1,7 +1,10 @@
+pub mod ConvertLemmas
+pub mod ConvertedBootLemmas
 pub mod GatheringLemmas
 pub mod HistoryLemmas
 pub mod KeptLemmas
 pub mod MatchedLemmas
+pub mod MovedStartLemmas
 pub mod PlayingLemmas
 pub mod ReadingLemmas
 pub mod SummaryLemmas

@@ -24,13 +24,13 @@ use Rattle.xousim.specs.History.{history_of}
 use Rattle.xousim.specs.Outcome.{Boots}
 
 -- the cases of an image's fault
-abbrev Cases : List ℕ → Option ℕ → Option ArgFault → Bool → Option ArgFault → Type 0
+abbrev pub Cases : List ℕ → Option ℕ → Option ArgFault → Bool → Option ArgFault → Type 0
 Cases image asked fault long in_args =
     MatchBool long (fault ≡ Some (record { what = too_long; at = 0 }))
     (MatchOption in_args ((args : Args) × Spells image args × (fault ≡ plan_fault args image asked)) (λ f. fault ≡ Some f))
 
 -- where it has none, the plan of its arguments has none
-no_plan_fault : (image : List ℕ) (asked : Option ℕ) (args : Args) → Spells image args → IsImageFault image asked None → plan_fault args image asked ≡ None
+pub no_plan_fault : (image : List ℕ) (asked : Option ℕ) (args : Args) → Spells image args → IsImageFault image asked None → plan_fault args image asked ≡ None
 no_plan_fault image asked args spelled = go (nat_lt 67108864 (length image)) (args_fault image)
   where
     go : (long : Bool) (in_args : Option ArgFault) → Cases image asked None long in_args → plan_fault args image asked ≡ None

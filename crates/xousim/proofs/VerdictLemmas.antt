@@ -1,5 +1,5 @@
 -- The files decide the status.
-use Rattle.std.proofs.Common.{◌≡◌, ◌<◌, ◌⊎◌, inl, inr, ℕ, Bool, true, false, List, Option, Some, None, refl, sym, ap, ◌∙◌, subst, arith}
+use Rattle.std.proofs.Common.{◌≡◌, ◌<◌, ◌≤◌, ◌⊎◌, inl, inr, ℕ, length, Bool, true, false, List, Option, Some, None, refl, sym, ap, ◌∙◌, subst, arith}
 use Rattle.std.proofs.lemmas.Option.{same_Some}
 use Rattle.kernel_args.specs.declared.args.Args.{Args}
 use Rattle.kernel_args.specs.declared.faults.ArgFault.{ArgFault}
@@ -10,16 +10,17 @@ use Rattle.boot_plan.specs.ImageFault.{IsImageFault}
 use Rattle.boot_plan.specs.Slots.{slots_used}
 use Rattle.boot_plan.proofs.ImageFaultLemmas.{image_fault_once}
 use Rattle.machine_model.specs.State.Machine.{Machine}
+use Rattle.xk_base.specs.declared.limits.TheConstants.{IMAGE_LIMIT, SLOT_LIMIT}
 use Rattle.xk_kernel.specs.Start.{start}
 use Rattle.xousim.specs.declared.playing.ending.Ending.{Ending}
 use Rattle.xousim.specs.declared.playing.ending.Ending.TheVariants.{Played, LimitMet, BadLine}
 use Rattle.xousim.specs.declared.status.Status.{Status}
 use Rattle.xousim.specs.declared.status.Status.TheVariants.{Done, Usage, ReadFault, WriteFault, ImageFault, EventFault, StepLimit, NoMemory, NotBuilt}
-use Rattle.xousim.specs.Outcome.{Boots, Call, Ends, EndsCheck, EndsIfBuilt, EndsPlay, HasCause, HasSlots, HostRose, Image, IsCheckComplete, IsCheckVerdict, IsCommandComplete, IsComplete, IsPlanned, IsPlayComplete, IsUnwritten, IsVerdict, OutRose, Ran, Refuses, RunsTo, Summarizes, Tells, run_of}
+use Rattle.xousim.specs.Outcome.{Boots, Call, Ends, EndsCheck, EndsConvert, EndsIfBuilt, EndsPlay, HasCause, HasSlots, HostRose, Image, IsCheckComplete, IsCheckVerdict, IsCommandComplete, IsComplete, IsConversion, IsConvertComplete, IsConvertVerdict, IsPlanned, IsPlayComplete, IsUnwritten, IsVerdict, OutRose, Ran, Refuses, RunsTo, Summarizes, Tells, Writes, conversion, long_file, run_of}
 use Rattle.boot_plan.specs.declared.plans.BootPlan.{BootPlan}
 use Rattle.xousim.specs.Built.{is_built}
 use Rattle.xousim.specs.Reading.{IsFile}
-use Rattle.xousim.specs.Words.{Check, Command, Plays, Checks, Demo, Play}
+use Rattle.xousim.specs.Words.{Check, Command, Plays, Checks, Converts, Demo, Play}
 
 -- ---- what a file has is one
 
@@ -204,10 +205,42 @@ check_complete : (check : Check) (call : Call) → EndsCheck check call → (¬ 
 check_complete check call (inl refused) quiet calm = refused_check_complete check call call.status quiet refused.refused refused.unwritten
 check_complete check call (inr planned) quiet calm = planned_complete check planned.plan call call.status calm planned.planned planned.cause planned.content
 
+refused_convert_complete : (name : List ℕ) (call : Call) (status : Status) → (¬ HostRose call)
+    → Refuses call.host.files name (Some SLOT_LIMIT) (HostRose call) status → IsUnwritten call
+    → IsConvertVerdict call.host.files name status ⊎ ((status ≡ NoMemory) × IsUnwritten call)
+refused_convert_complete name call (ImageFault fault) quiet refused unwritten = inl (inl refused)
+refused_convert_complete name call NoMemory quiet refused unwritten = inr (refl, unwritten)
+refused_convert_complete name call ReadFault quiet refused unwritten = absurd (quiet refused)
+refused_convert_complete name call NotBuilt quiet refused unwritten = absurd refused
+refused_convert_complete name call Usage quiet refused unwritten = absurd refused
+refused_convert_complete name call Done quiet refused unwritten = absurd refused
+refused_convert_complete name call (EventFault line) quiet refused unwritten = absurd refused
+refused_convert_complete name call (StepLimit limit) quiet refused unwritten = absurd refused
+refused_convert_complete name call WriteFault quiet refused unwritten = absurd refused
+
+converted_complete : (name bytes : List ℕ) (call : Call) (status : Status) → (¬ OutRose call)
+    → IsConversion call.host.files name bytes → HasCause call status → Writes bytes call.out status
+    → IsConvertVerdict call.host.files name status ⊎ ((status ≡ NoMemory) × IsUnwritten call)
+converted_complete name bytes call Done calm converts cause content = inl (bytes, converts, content.0)
+converted_complete name bytes call (ImageFault fault) calm converts cause content = inl (inr (bytes, converts, content.0, content.1))
+converted_complete name bytes call WriteFault calm converts cause content = absurd (calm cause)
+converted_complete name bytes call NotBuilt calm converts cause content = absurd content
+converted_complete name bytes call Usage calm converts cause content = absurd content
+converted_complete name bytes call ReadFault calm converts cause content = absurd content
+converted_complete name bytes call NoMemory calm converts cause content = absurd content
+converted_complete name bytes call (EventFault line) calm converts cause content = absurd content
+converted_complete name bytes call (StepLimit limit) calm converts cause content = absurd content
+
+convert_complete : (name : List ℕ) (call : Call) → EndsConvert name call → (¬ HostRose call) → (¬ OutRose call) → IsConvertComplete name call
+convert_complete name call (inl refused) quiet calm = refused_convert_complete name call call.status quiet refused.refused refused.unwritten
+convert_complete name call (inr converted) quiet calm =
+    converted_complete name converted.bytes call call.status calm converted.conversion converted.cause converted.content
+
 command_complete : (built : Bool) (command : Command) (call : Call) → EndsIfBuilt built command call → (¬ HostRose call) → (¬ OutRose call) → IsCommandComplete built command call
 command_complete false command call ends quiet calm = ends.ended
 command_complete true (Plays play) call ends quiet calm = play_complete play call ends quiet calm
 command_complete true (Checks check) call ends quiet calm = check_complete check call ends quiet calm
+command_complete true (Converts image) call ends quiet calm = convert_complete image call ends quiet calm
 command_complete true (Demo clients) call ends quiet calm = ends.ended
 
 pub ends_complete : (command : Option Command) (call : Call) → Ends command call → IsComplete command call
@@ -249,3 +282,62 @@ one_verdict_of_image file check (ImageFault fault) Usage a b = absurd b
 one_verdict_of_image file check (ImageFault fault) ReadFault a b = absurd b
 one_verdict_of_image file check (ImageFault fault) WriteFault a b = absurd b
 one_verdict_of_image file check (ImageFault fault) NoMemory a b = absurd b
+
+-- ---- .. and of `convert`
+
+-- an image is converted into one list of bytes
+conversions_agree : (file : List ℕ → Option (List ℕ)) (name one other : List ℕ) → IsConversion (Some file) name one → IsConversion (Some file) name other → one ≡ other
+conversions_agree file name one other a b =
+    let same : b.image ≡ a.image = same_bytes file name b.image a.image b.read a.read in
+    let P : List ℕ → Type 0 = λ bytes. Spells bytes b.args in
+    let args : a.args ≡ b.args = spelled_once a.image a.args b.args a.sound.spelled (subst P same b.sound.spelled) in
+    a.converts ∙ ap (conversion a.image) args ∙ ap (λ (bytes : List ℕ). conversion bytes b.args) (sym same) ∙ sym b.converts
+
+conversion_no_fault : (file : List ℕ → Option (List ℕ)) (name bytes image : List ℕ) (fault : ArgFault)
+    → IsConversion (Some file) name bytes → IsFile (Some file) name image → IsImageFault image (Some SLOT_LIMIT) (Some fault) → ⊥
+conversion_no_fault file name bytes image fault converts read faulty =
+    let P : List ℕ → Type 0 = λ bytes. IsImageFault bytes (Some SLOT_LIMIT) (Some fault) in
+    none_is_some fault
+    (one_fault converts.image (Some SLOT_LIMIT) None (Some fault) converts.sound.no_fault (subst P (same_bytes file name image converts.image read converts.read) faulty))
+
+-- it is short enough or too long
+short_or_long : (file : List ℕ → Option (List ℕ)) (name one other : List ℕ) → IsConversion (Some file) name one → IsConversion (Some file) name other
+    → length one ≤ IMAGE_LIMIT → IMAGE_LIMIT < length other → ⊥
+short_or_long file name one other a b short long =
+    let same = ap (λ (bytes : List ℕ). length bytes) (conversions_agree file name one other a b) in
+    omega arith
+
+-- each verdict is one of three
+data Converting (file : List ℕ → Option (List ℕ)) (name : List ℕ) (status : Status) : Type 0 where
+  Short : (bytes : List ℕ) → IsConversion (Some file) name bytes → length bytes ≤ IMAGE_LIMIT → status ≡ Done → Converting file name status
+  Long : (bytes : List ℕ) → IsConversion (Some file) name bytes → IMAGE_LIMIT < length bytes → status ≡ ImageFault long_file → Converting file name status
+  Faulty : (fault : ArgFault) (image : List ℕ) → IsFile (Some file) name image → IsImageFault image (Some SLOT_LIMIT) (Some fault) → status ≡ ImageFault fault
+      → Converting file name status
+
+converting : (file : List ℕ → Option (List ℕ)) (name : List ℕ) (status : Status) → IsConvertVerdict (Some file) name status → Converting file name status
+converting file name Done a = Short a.0 a.1 a.2 refl
+converting file name (ImageFault fault) (inl a) = Faulty fault a.0 a.1 a.2 refl
+converting file name (ImageFault fault) (inr a) = Long a.0 a.1 a.2 (ap (λ (f : ArgFault). ImageFault f) a.3)
+converting file name (EventFault line) a = absurd a
+converting file name (StepLimit limit) a = absurd a
+converting file name NotBuilt a = absurd a
+converting file name Usage a = absurd a
+converting file name ReadFault a = absurd a
+converting file name WriteFault a = absurd a
+converting file name NoMemory a = absurd a
+
+converts_once : (file : List ℕ → Option (List ℕ)) (name : List ℕ) (one other : Status) → Converting file name one → Converting file name other → one ≡ other
+converts_once file name one other (Short a c l e) (Short b d m f) = e ∙ sym f
+converts_once file name one other (Short a c l e) (Long b d m f) = absurd (short_or_long file name a b c d l m)
+converts_once file name one other (Short a c l e) (Faulty fault image read faulty f) = absurd (conversion_no_fault file name a image fault c read faulty)
+converts_once file name one other (Long a c l e) (Short b d m f) = absurd (short_or_long file name b a d c m l)
+converts_once file name one other (Long a c l e) (Long b d m f) = e ∙ sym f
+converts_once file name one other (Long a c l e) (Faulty fault image read faulty f) = absurd (conversion_no_fault file name a image fault c read faulty)
+converts_once file name one other (Faulty fault image read faulty e) (Short b d m f) = absurd (conversion_no_fault file name b image fault d read faulty)
+converts_once file name one other (Faulty fault image read faulty e) (Long b d m f) = absurd (conversion_no_fault file name b image fault d read faulty)
+converts_once file name one other (Faulty fault image read faulty e) (Faulty two image2 read2 faulty2 f) =
+    e ∙ (faults_agree file name (Some SLOT_LIMIT) image image2 fault two read faulty read2 faulty2 ∙ sym f)
+
+pub one_verdict_of_conversion : (file : List ℕ → Option (List ℕ)) (name : List ℕ) (one other : Status)
+    → IsConvertVerdict (Some file) name one → IsConvertVerdict (Some file) name other → one ≡ other
+one_verdict_of_conversion file name one other a b = converts_once file name one other (converting file name one a) (converting file name other b)

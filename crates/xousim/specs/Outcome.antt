@@ -1,8 +1,11 @@
 -- How a call of the program ends, by the command that its words are. What is said of the bytes of files and of what stands on `out`
 -- holds where they are told; what is said of counts of faults and of files asked for rests on nothing.
-use Rattle.std.specs.Prelude.{◌≡◌, ◌<◌, ◌⊎◌, ℕ, Bool, true, false, List, [], ◌∷◌, Option, Some, None}
+use Rattle.std.specs.Prelude.{◌≡◌, ◌<◌, ◌≤◌, ◌==◌, ◌⊎◌, ℕ, Bool, true, false, if◌then◌else◌, List, [], ◌∷◌, length, Option, Some, None}
 use Rattle.kernel_args.specs.declared.args.Args.{Args}
+use Rattle.kernel_args.specs.declared.faults.ArgFault.{ArgFault}
+use Rattle.kernel_args.specs.Converting.{converted}
 use Rattle.kernel_args.specs.Image.{Spells}
+use Rattle.boot_plan.specs.FaultNumbers.{too_long}
 use Rattle.boot_plan.specs.FirstPages.{plan_of}
 use Rattle.boot_plan.specs.ImageFault.{IsImageFault}
 use Rattle.boot_plan.specs.Slots.{slots_used}
@@ -10,6 +13,7 @@ use Rattle.boot_plan.specs.declared.plans.BootPlan.{BootPlan}
 use Rattle.event_text.specs.EventFile.{input_of}
 use Rattle.event_text.specs.Lines.{whole_lines}
 use Rattle.machine_model.specs.State.Machine.{Machine}
+use Rattle.xk_base.specs.declared.limits.TheConstants.{IMAGE_LIMIT, SLOT_LIMIT}
 use Rattle.xk_base.specs.Outside.{Rose}
 use Rattle.xk_kernel.specs.Start.{start}
 use Rattle.xk_ports.specs.declared.host.FileSlot.TheVariants.{First, Second}
@@ -24,7 +28,7 @@ use Rattle.xousim.specs.History.{History, history_of}
 use Rattle.xousim.specs.Reading.{Asked, AsksFor, IsFile, IsReadOf, IsTold}
 use Rattle.xousim.specs.Summary.{summary_of}
 use Rattle.xousim.specs.Telling.{output, told}
-use Rattle.xousim.specs.Words.{Check, Command, Plays, Checks, Demo, Play}
+use Rattle.xousim.specs.Words.{Check, Command, Plays, Checks, Converts, Demo, Play}
 
 -- the files of the host by their names, where they are told
 abbrev pub Told : Type 0
@@ -257,11 +261,54 @@ pub record EndsPlanned (check : Check) (call : Call) : Type 0 where
 abbrev pub EndsCheck : Check → Call → Type 0
 EndsCheck check call = EndsUnbooted check.image check.slots call ⊎ EndsPlanned check call
 
+-- ---- `convert`
+
+-- what is written of an image with these arguments: one of version 1 is converted, one of version 2 stays as it is
+abbrev pub conversion : List ℕ → Args → List ℕ
+conversion image args = if args.version == 1 then converted image args else image
+
+-- the file of that name is an image without a fault in a run of the most slots, and these bytes are to be written of it
+pub record IsConversion (file : Told) (name bytes : List ℕ) : Type 0 where
+  pub image : List ℕ
+  pub read : IsFile file name image
+  pub args : Args
+  pub sound : IsSoundImage image (Some SLOT_LIMIT) args
+  pub converts : bytes ≡ conversion image args
+
+-- the fault of a file of more than 64 MiB
+abbrev pub long_file : ArgFault
+long_file = record { what = too_long; at = 0 }
+
+-- what was written of these bytes, by the status: nothing where they are more than an image may have
+abbrev pub Writes : List ℕ → SinkSide → Status → Type 0
+Writes bytes out Done = (length bytes ≤ IMAGE_LIMIT) × Grows out.written out.written_after bytes
+Writes bytes out WriteFault = (length bytes ≤ IMAGE_LIMIT) × GrowsByPrefix out.written out.written_after bytes
+Writes bytes out (ImageFault fault) = (IMAGE_LIMIT < length bytes) × (fault ≡ long_file) × (out.written_after ≡ out.written)
+Writes bytes out Usage = ⊥
+Writes bytes out ReadFault = ⊥
+Writes bytes out NoMemory = ⊥
+Writes bytes out NotBuilt = ⊥
+Writes bytes out (EventFault line) = ⊥
+Writes bytes out (StepLimit limit) = ⊥
+
+-- the image alone is asked for, and what it is converted into is written
+pub record EndsConverted (image : List ℕ) (call : Call) : Type 0 where
+  pub asked : Asked call.host.asked call.host.asked_after First image true
+  pub cause : HasCause call call.status
+  pub bytes : List ℕ
+  pub conversion : IsConversion call.host.files image bytes
+  pub content : Writes bytes call.out call.status
+  pub image_read : IsTold call.host.image_left []
+
+abbrev pub EndsConvert : List ℕ → Call → Type 0
+EndsConvert image call = EndsUnbooted image (Some SLOT_LIMIT) call ⊎ EndsConverted image call
+
 -- ---- all calls
 
 abbrev pub EndsCommand : Command → Call → Type 0
 EndsCommand (Plays play) call = EndsPlay play call
 EndsCommand (Checks check) call = EndsCheck check call
+EndsCommand (Converts image) call = EndsConvert image call
 EndsCommand (Demo clients) call = IsUntouched NotBuilt call
 
 -- .. by whether the command is built
@@ -321,10 +368,28 @@ IsCheckVerdict file check NoMemory = ⊥
 abbrev pub IsCheckComplete : Check → Call → Type 0
 IsCheckComplete check call = IsCheckVerdict call.host.files check call.status ⊎ ((call.status ≡ NoMemory) × IsUnwritten call)
 
+-- what the image alone says of the status of `convert`: it has a fault, or it is converted, or into too many bytes
+abbrev pub IsConvertVerdict : Told → List ℕ → Status → Type 0
+IsConvertVerdict file name Done = (bytes : List ℕ) × IsConversion file name bytes × (length bytes ≤ IMAGE_LIMIT)
+IsConvertVerdict file name (ImageFault fault) =
+    ((image : List ℕ) × IsFile file name image × IsImageFault image (Some SLOT_LIMIT) (Some fault))
+    ⊎ ((bytes : List ℕ) × IsConversion file name bytes × (IMAGE_LIMIT < length bytes) × (fault ≡ long_file))
+IsConvertVerdict file name (EventFault line) = ⊥
+IsConvertVerdict file name (StepLimit limit) = ⊥
+IsConvertVerdict file name NotBuilt = ⊥
+IsConvertVerdict file name Usage = ⊥
+IsConvertVerdict file name ReadFault = ⊥
+IsConvertVerdict file name WriteFault = ⊥
+IsConvertVerdict file name NoMemory = ⊥
+
+abbrev pub IsConvertComplete : List ℕ → Call → Type 0
+IsConvertComplete image call = IsConvertVerdict call.host.files image call.status ⊎ ((call.status ≡ NoMemory) × IsUnwritten call)
+
 abbrev pub IsCommandComplete : Bool → Command → Call → Type 0
 IsCommandComplete false command call = call.status ≡ NotBuilt
 IsCommandComplete true (Plays play) call = IsPlayComplete play call
 IsCommandComplete true (Checks check) call = IsCheckComplete check call
+IsCommandComplete true (Converts image) call = IsConvertComplete image call
 IsCommandComplete true (Demo clients) call = call.status ≡ NotBuilt
 
 -- where no count rose, a call ends as the words and the files say

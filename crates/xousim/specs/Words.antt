@@ -30,9 +30,11 @@ pub record Check : Type 0 where
   pub image : List ℕ
   pub slots : Option ℕ
 
+-- .. and `convert` with the name of the image
 pub data Command : Type 0 where
   Plays : Play → Command
   Checks : Check → Command
+  Converts : List ℕ → Command
   Demo : ℕ → Command
 
 -- ---- numbers
@@ -90,6 +92,11 @@ check_of (image ∷ []) = check_with image (Some None)
 check_of (image ∷ slots ∷ []) = check_with image (asked_of slots)
 check_of words = None
 
+-- `IMAGE`
+abbrev pub convert_of : List Word → Option (List ℕ)
+convert_of (image ∷ []) = Some (string_bytes image)
+convert_of words = None
+
 -- `N`, the clients of the load
 abbrev pub demo_of : List Word → Option ℕ
 demo_of (clients ∷ []) = number_within 1 31 (string_bytes clients)
@@ -105,7 +112,8 @@ command_after first rest =
     if is_word first (codes "run") then option_map Plays (play_of Run rest) else (
     if is_word first (codes "ledger") then option_map Plays (play_of Ledger rest) else (
     if is_word first (codes "check") then option_map Checks (check_of rest) else (
-    if is_word first (codes "demo") then option_map Demo (demo_of rest) else None))))
+    if is_word first (codes "convert") then option_map Converts (convert_of rest) else (
+    if is_word first (codes "demo") then option_map Demo (demo_of rest) else None)))))
 
 -- the command that words are, or None where they have no stated form
 unfoldable pub command_of : List Word → Option Command
@@ -130,4 +138,5 @@ check_in check = record { image = check.image.now; slots = check.slots }
 abbrev pub command_in : CommandWords → Command
 command_in (words.Play play) = Plays (play_in play)
 command_in (words.Check check) = Checks (check_in check)
+command_in (words.Convert image) = Converts image.now
 command_in (words.Demo clients) = Demo clients

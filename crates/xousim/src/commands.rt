@@ -3,6 +3,7 @@
 pub mod booting;
 pub mod check;
 pub mod command;
+pub mod convert;
 mod numbers;
 pub mod play;
 mod summary;

@@ -3,6 +3,7 @@
 #![tactic(auto)]
 
 mod commands;
+mod converted;
 mod matched;
 mod notes;
 mod outside;

@@ -17,6 +17,7 @@ mod programs;
 mod scalars;
 mod servers;
 mod timer;
+mod versions;
 
 use crate::outside::adapters::{ErrSink, FileHost, StdSink};
 use crate::status::{Ended, Status};

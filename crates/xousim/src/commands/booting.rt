@@ -3,7 +3,6 @@
 ghost use Rattle.std.specs.Prelude.{◌≡◌, ◌≤◌, ◌⊎◌, [], true, All, length, IfOk, IfErr, IfSome, OnOk};
 ghost use Rattle.boot_plan.specs.FirstPages.{plan_of};
 ghost use Rattle.boot_plan.specs.Lawful.{CanStart, IsLawfulPlan};
-ghost use Rattle.kernel_args.specs.declared.args.Args.{Args};
 ghost use Rattle.xk_ports.specs.Keeping.{KeepsStore};
 ghost use Rattle.vm_memory.specs.Memory.{store_of};
 ghost use Rattle.xk_base.specs.Outside.{Rose};
@@ -17,7 +16,7 @@ ghost use Rattle.xousim.specs.Reading.{Asked, AsksFor, IsFile, IsTold};
 use crate::outside::reading::{Content, ReadError, read_file};
 use crate::status::{Ended, Status};
 use boot_plan::{BootPlan, PlanError, TOO_LONG, plan};
-use kernel_args::{ArgFault, ArgsError, read_args};
+use kernel_args::{ArgFault, Args, ArgsError, read_args};
 use std::alloc::Global;
 use vm_memory::BootFault;
 use xk_base::limits::IMAGE_LIMIT;
@@ -26,12 +25,13 @@ use xk_ports::{FileSlot, Host, SwapStore};
 
 /// Plans the first pages of the image of these bytes, for a run that asks for these slots, or says why
 /// not: `ImageFault` or `NoMemory`.
-fn plan_bytes(alloc: Global, bytes: &[u8], asked: Option<u32>) -> Result<BootPlan, Status>
+fn plan_bytes(alloc: Global, bytes: &[u8], asked: Option<u32>) -> Result<(Args, BootPlan), Status>
     requires size { length bytes.now ≤ 67108864 }
     requires few { IfSome asked (λ n. n ≤ 16384) }
-    ensures planned { IfOk result (λ plan. (args : Args) × IsSoundImage bytes.now asked args × (plan ≡ plan_of args asked)) }
-    ensures lawful { IfOk result (IsLawfulPlan (length bytes.now)) }
-    ensures can_start { IfOk result (λ plan. All CanStart plan.procs) }
+    ensures image { IfOk result (λ planned. IsSoundImage bytes.now asked planned.0) }
+    ensures planned { IfOk result (λ planned. planned.1 ≡ plan_of planned.0 asked) }
+    ensures lawful { IfOk result (λ planned. IsLawfulPlan (length bytes.now) planned.1) }
+    ensures can_start { IfOk result (λ planned. All CanStart planned.1.procs) }
     ensures refused { IfErr result (RefusesBytes bytes.now asked) }
 {
     let args = match read_args(alloc, bytes) {
@@ -40,16 +40,17 @@ fn plan_bytes(alloc: Global, bytes: &[u8], asked: Option<u32>) -> Result<BootPla
         Err(ArgsError::NoMemory) => return Err(Status::NoMemory),
     };
     match plan(alloc, &args, bytes, asked) {
-        Ok(plan) => Ok(plan),
+        Ok(plan) => Ok((args, plan)),
         Err(PlanError::Fault(fault)) => Err(Status::ImageFault(fault)),
         Err(PlanError::NoMemory) => Err(Status::NoMemory),
     }
 }
 
-/// An image that was read, and its plan.
+/// An image that was read, its arguments, and its plan.
 #[derive(Debug, Drop)]
 pub struct Planned {
     pub bytes: Vec<u8>,
+    pub args: Args,
     pub plan: BootPlan,
 }
 
@@ -62,8 +63,8 @@ pub fn plan_image<H: Host>(
 ) -> Result<Planned, Status>
     requires { IfSome asked (λ n. n ≤ 16384) }
     ensures read { IfOk result (λ planned. IsFile (H.file host.old) name.now planned.bytes.items) }
-    ensures planned { IfOk result (λ planned. (args : Args)
-        × IsSoundImage planned.bytes.items asked args × (planned.plan ≡ plan_of args asked)) }
+    ensures image { IfOk result (λ planned. IsSoundImage planned.bytes.items asked planned.args) }
+    ensures planned { IfOk result (λ planned. planned.plan ≡ plan_of planned.args asked) }
     ensures lawful { IfOk result (λ planned. IsLawfulPlan (length planned.bytes.items) planned.plan) }
     ensures can_start { IfOk result (λ planned. All CanStart planned.plan.procs) }
     ensures size { IfOk result (λ planned. length planned.bytes.items ≤ 67108864) }
@@ -76,7 +77,7 @@ pub fn plan_image<H: Host>(
 {
     match read_file(alloc, host, FileSlot::First, name, IMAGE_LIMIT as usize) {
         Ok(Content::Whole(bytes)) => match plan_bytes(alloc, bytes.as_slice(), asked) {
-            Ok(plan) => Ok(Planned { bytes, plan }),
+            Ok((args, plan)) => Ok(Planned { bytes, args, plan }),
             Err(status) => Err(status),
         },
         Ok(Content::TooLong) => Err(Status::ImageFault(ArgFault {

@@ -1,6 +1,6 @@
 //! Commands, as the words of the command line say them.
 
-ghost use Rattle.std.specs.Prelude.{◌≤◌, IfSome};
+ghost use Rattle.std.specs.Prelude.{◌≤◌, unwrap_or};
 
 /// What is told of events that are played.
 #[derive(Clone, Copy, Debug, PartialEq, Eq)]
@@ -27,7 +27,7 @@ pub struct PlayWords<'a> {
     /// The file of the swap store, where it isn't kept in memory.
     pub store: Option<&'a str>,
     ghost limited: { limit ≤ 4000000000 },
-    ghost few: { IfSome slots (λ n. n ≤ 16384) },
+    ghost few: { unwrap_or slots 0 ≤ 16384 },
 }
 
 /// `check`: an image is planned.
@@ -36,7 +36,7 @@ pub struct CheckWords<'a> {
     pub image: &'a str,
     /// The slots of the swap store, where the image's own aren't taken.
     pub slots: Option<u32>,
-    ghost few: { IfSome slots (λ n. n ≤ 16384) },
+    ghost few: { unwrap_or slots 0 ≤ 16384 },
 }
 
 /// What the program is asked to do.
@@ -44,6 +44,8 @@ pub struct CheckWords<'a> {
 pub enum CommandWords<'a> {
     Play(PlayWords<'a>),
     Check(CheckWords<'a>),
+    /// `convert`: the image of that name is written in version 2.
+    Convert(&'a str),
     /// The load of so many clients.
     Demo(u32),
 }

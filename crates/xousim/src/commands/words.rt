@@ -2,7 +2,7 @@
 
 ghost use Rattle.std.specs.Prelude.{◌≡◌, ◌≤◌, IfSome};
 ghost use Rattle.std.specs.Option.{option_map};
-ghost use Rattle.xousim.specs.Words.{check_in, check_of, command_in, command_of, demo_of, limit_of, play_in, play_of, play_with, slots_of};
+ghost use Rattle.xousim.specs.Words.{check_in, check_of, convert_of, command_in, command_of, demo_of, limit_of, play_in, play_of, play_with, slots_of};
 
 use crate::commands::command::{CheckWords, CommandWords, PlayWords, Telling};
 use crate::commands::numbers::read_number;
@@ -92,6 +92,16 @@ fn read_check<'a>(words: &'a [String]) -> Option<CheckWords<'a>>
     }
 }
 
+/// Reads `IMAGE`.
+fn read_convert<'a>(words: &'a [String]) -> Option<&'a str>
+    ensures { option_map (λ image. image.now) result ≡ convert_of words.now }
+{
+    match words {
+        [image] => Some(image.as_str()),
+        _ => None,
+    }
+}
+
 /// Reads `N`.
 fn read_demo(words: &[String]) -> Option<u32>
     ensures { result ≡ demo_of words.now }
@@ -113,6 +123,7 @@ pub fn read_words<'a>(words: &'a [String]) -> Option<CommandWords<'a>>
         "run" => Some(CommandWords::Play(read_play(Telling::Run, rest)?)),
         "ledger" => Some(CommandWords::Play(read_play(Telling::Ledger, rest)?)),
         "check" => Some(CommandWords::Check(read_check(rest)?)),
+        "convert" => Some(CommandWords::Convert(read_convert(rest)?)),
         "demo" => Some(CommandWords::Demo(read_demo(rest)?)),
         _ => None,
     }

@@ -33,7 +33,7 @@ fn call_with(alloc: Global, words: &[String], events: &[u8]) -> Result<Outcome, 
 }
 
 /// Lists of words of none of the stated forms, with a bar between two words.
-const OF_NO_FORM: [&str; 23] = [
+const OF_NO_FORM: [&str; 25] = [
     "--help",
     "trace",
     "trace|i",
@@ -53,6 +53,8 @@ const OF_NO_FORM: [&str; 23] = [
     "check",
     "check|i|16385",
     "check|i|0|0",
+    "convert",
+    "convert|i|0",
     "demo",
     "demo|0",
     "demo|32",
