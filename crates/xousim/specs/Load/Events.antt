@@ -1,5 +1,5 @@
 -- The events of the load of `demo`, the machine on which they are played, and its history.
-use Rattle.std.specs.Prelude.{ℕ, ◌+◌, ◌*◌, ◌%◌, List, map}
+use Rattle.std.specs.Prelude.{ℕ, ◌+◌, ◌*◌, ◌%◌, List, None, map}
 use Rattle.std.specs.List.{range_with_len}
 use Rattle.boot_plan.specs.FirstPages.{plan_of}
 use Rattle.event_text.specs.declared.event.Event.{Event}
@@ -24,7 +24,7 @@ load_events clients = first_events (1000 * clients)
 
 -- the machine that the image boots, without slots
 abbrev pub load_machine : ℕ → Machine
-load_machine clients = start (plan_of (load_args clients) 0) (load_image clients)
+load_machine clients = start (plan_of (load_args clients) None) (load_image clients)
 
 -- the history of the load, up to the step limit of a call that names none
 abbrev pub load_history : ℕ → History

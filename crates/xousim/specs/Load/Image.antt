@@ -1,5 +1,5 @@
 -- The image of the load of `demo`.
-use Rattle.std.specs.Prelude.{ℕ, ◌+◌, ◌*◌, List, [], ◌∷◌, ◌++◌, codes, length, replicate}
+use Rattle.std.specs.Prelude.{ℕ, ◌+◌, ◌*◌, List, [], ◌∷◌, ◌++◌, None, codes, length, replicate}
 use Rattle.kernel_args.specs.Writing.{written}
 use Rattle.kernel_args.specs.declared.args.Args.{Args}
 use Rattle.kernel_args.specs.declared.args.ProcArgs.{ProcArgs}
@@ -19,6 +19,7 @@ abbrev pub process_of_code : ℕ → List Insn → ProcArgs
 process_of_code offset code = record {
   load = offset;
   entry = code_address;
+  check = None;
   sections = record { addr = code_address; size = 4 * length code; flags = 4 } ∷ [];
 }
 
@@ -33,9 +34,11 @@ client_offset clients = server_offset clients + 4 * length server_code
 abbrev pub load_args : ℕ → Args
 load_args clients = record {
   words = load_words clients;
+  version = 1;
   ram_start = 0x40000000;
   ram_size = 0x01000000;
   ram_name = codes "sram";
+  slots = None;
   procs = process_of_code (server_offset clients) server_code ∷ replicate clients (process_of_code (client_offset clients) client_code);
   names = [];
 }

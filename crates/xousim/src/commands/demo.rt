@@ -29,12 +29,12 @@ use xk_ports::{Sink, SwapStore, put_all};
 fn plan_load(alloc: Global, clients: u32) -> Result<(Row<u8>, BootPlan), NoMemory>
     requires { clients ≤ 31 }
     ensures image { IfOk result (λ load. load.0 ≡ load_image clients) }
-    ensures planned { IfOk result (λ load. load.1 ≡ plan_of (load_args clients) 0) }
+    ensures planned { IfOk result (λ load. load.1 ≡ plan_of (load_args clients) None) }
     ensures lawful { IfOk result (λ load. IsLawfulPlan (length load.0) load.1) }
     ensures can_start { IfOk result (λ load. All CanStart load.1.procs) }
 {
     let (args, image) = load_image(alloc, clients)?;
-    match plan(alloc, &args, image.as_slice().len() as u32, 0) {
+    match plan(alloc, &args, image.as_slice(), None) {
         Ok(plan) => Ok((image, plan)),
         Err(PlanError::NoMemory) => Err(NoMemory),
         // The image of a load has no fault.

@@ -20,6 +20,7 @@ fn process_of_code(alloc: Global, load: u32, size: u32) -> Result<ProcArgs, NoMe
     ensures { IfOk result (λ process. process ≡ record {
       load = load;
       entry = 0x00010000;
+      check = None;
       sections = record { addr = 0x00010000; size = size; flags = 4 } ∷ [];
     }) }
 {
@@ -32,6 +33,7 @@ fn process_of_code(alloc: Global, load: u32, size: u32) -> Result<ProcArgs, NoMe
     Ok(ProcArgs {
         load,
         entry: CODE_ADDRESS,
+        check: None,
         sections,
     })
 }
@@ -58,9 +60,11 @@ fn arguments(alloc: Global, clients: u32) -> Result<Args, NoMemory>
     let words = 7 + 6 * (1 + clients);
     Ok(Args {
         words,
+        version: 1,
         ram_start: 0x4000_0000,
         ram_size: 0x0100_0000,
         ram_name: *b"sram",
+        slots: None,
         procs: processes(alloc, clients, 4 * words)?,
         names: Row::new(alloc),
     })

@@ -10,7 +10,7 @@ ghost use Rattle.xousim.specs.Load.Image.{load_args, load_image};
 #[tactic(auto, using(crate::proofs::LoadImageLemmas::load_spells, crate::proofs::LoadImageLemmas::load_has_no_fault))]
 pub fn load_has_no_fault()
     ensures spells { (clients : ℕ) → clients ≤ 31 → Spells (load_image clients) (load_args clients) }
-    ensures no_fault { (clients : ℕ) → clients ≤ 31 → IsImageFault (load_image clients) 0 None }
+    ensures no_fault { (clients : ℕ) → clients ≤ 31 → IsImageFault (load_image clients) None None }
 {}
 
 /// Its history doesn't meet the step limit of a call that names none.
