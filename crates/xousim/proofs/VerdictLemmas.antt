@@ -16,7 +16,7 @@ use Rattle.xousim.specs.declared.playing.ending.Ending.{Ending}
 use Rattle.xousim.specs.declared.playing.ending.Ending.TheVariants.{Played, LimitMet, BadLine}
 use Rattle.xousim.specs.declared.status.Status.{Status}
 use Rattle.xousim.specs.declared.status.Status.TheVariants.{Done, Usage, ReadFault, WriteFault, ImageFault, EventFault, StepLimit, NoMemory, NotBuilt}
-use Rattle.xousim.specs.Outcome.{Boots, Call, Ends, EndsCheck, EndsConvert, EndsIfBuilt, EndsPlay, HasCause, HasSlots, HostRose, Image, IsCheckComplete, IsCheckVerdict, IsCommandComplete, IsComplete, IsConversion, IsConvertComplete, IsConvertVerdict, IsPlanned, IsPlayComplete, IsUnwritten, IsVerdict, OutRose, Ran, Refuses, RunsTo, Summarizes, Tells, Writes, conversion, long_file, run_of}
+use Rattle.xousim.specs.Outcome.{Boots, Call, Ends, EndsCheck, EndsConvert, EndsIfBuilt, EndsPlay, HasCause, HasSlots, HostRose, Image, IsCheckComplete, IsCheckVerdict, IsCommandComplete, IsComplete, IsConversion, IsConvertComplete, IsConvertVerdict, IsPlanned, IsPlayComplete, IsUnwritten, IsVerdict, OutRose, Ran, Refuses, RunsTo, Summarizes, Tells, TellsDemo, Writes, conversion, long_file, run_of}
 use Rattle.boot_plan.specs.declared.plans.BootPlan.{BootPlan}
 use Rattle.xousim.specs.Built.{is_built}
 use Rattle.xousim.specs.Reading.{IsFile}
@@ -236,12 +236,24 @@ convert_complete name call (inl refused) quiet calm = refused_convert_complete n
 convert_complete name call (inr converted) quiet calm =
     converted_complete name converted.bytes call call.status calm converted.conversion converted.cause converted.content
 
+demo_complete : (clients : ℕ) (call : Call) (status : Status) → (¬ OutRose call) → HasCause call status → TellsDemo clients call.out status
+    → (status ≡ Done) ⊎ ((status ≡ NoMemory) × IsUnwritten call)
+demo_complete clients call Done calm cause content = inl refl
+demo_complete clients call NoMemory calm cause content = inr (refl, content)
+demo_complete clients call WriteFault calm cause content = absurd (calm cause)
+demo_complete clients call NotBuilt calm cause content = absurd content
+demo_complete clients call Usage calm cause content = absurd content
+demo_complete clients call ReadFault calm cause content = absurd content
+demo_complete clients call (ImageFault fault) calm cause content = absurd content
+demo_complete clients call (EventFault line) calm cause content = absurd content
+demo_complete clients call (StepLimit limit) calm cause content = absurd content
+
 command_complete : (built : Bool) (command : Command) (call : Call) → EndsIfBuilt built command call → (¬ HostRose call) → (¬ OutRose call) → IsCommandComplete built command call
 command_complete false command call ends quiet calm = ends.ended
 command_complete true (Plays play) call ends quiet calm = play_complete play call ends quiet calm
 command_complete true (Checks check) call ends quiet calm = check_complete check call ends quiet calm
 command_complete true (Converts image) call ends quiet calm = convert_complete image call ends quiet calm
-command_complete true (Demo clients) call ends quiet calm = ends.ended
+command_complete true (Demo clients) call ends quiet calm = demo_complete clients call call.status calm ends.cause ends.content
 
 pub ends_complete : (command : Option Command) (call : Call) → Ends command call → IsComplete command call
 ends_complete None call ends = ends.ended

@@ -25,6 +25,8 @@ use Rattle.xousim.specs.declared.status.Status.{Status}
 use Rattle.xousim.specs.declared.status.Status.TheVariants.{Done, Usage, ReadFault, WriteFault, ImageFault, EventFault, StepLimit, NoMemory, NotBuilt}
 use Rattle.xousim.specs.Built.{is_built}
 use Rattle.xousim.specs.History.{History, history_of}
+use Rattle.xousim.specs.Load.Events.{load_history}
+use Rattle.xousim.specs.Load.Totals.{demo_line, totals_of}
 use Rattle.xousim.specs.Reading.{Asked, AsksFor, IsFile, IsReadOf, IsTold}
 use Rattle.xousim.specs.Summary.{summary_of}
 use Rattle.xousim.specs.Telling.{output, told}
@@ -303,13 +305,34 @@ pub record EndsConverted (image : List ℕ) (call : Call) : Type 0 where
 abbrev pub EndsConvert : List ℕ → Call → Type 0
 EndsConvert image call = EndsUnbooted image (Some SLOT_LIMIT) call ⊎ EndsConverted image call
 
+-- ---- `demo`
+
+-- What was written, by the status: the line that sums up the history of the load of so many clients, a part of it, or nothing.
+abbrev pub TellsDemo : ℕ → SinkSide → Status → Type 0
+TellsDemo clients out Done = Grows out.written out.written_after (demo_line clients (totals_of (load_history clients).records))
+TellsDemo clients out WriteFault = GrowsByPrefix out.written out.written_after (demo_line clients (totals_of (load_history clients).records))
+TellsDemo clients out NoMemory = out.written_after ≡ out.written
+TellsDemo clients out Usage = ⊥
+TellsDemo clients out ReadFault = ⊥
+TellsDemo clients out NotBuilt = ⊥
+TellsDemo clients out (ImageFault fault) = ⊥
+TellsDemo clients out (EventFault line) = ⊥
+TellsDemo clients out (StepLimit limit) = ⊥
+
+-- the load is played, and no file is asked for
+pub record EndsDemo (clients : ℕ) (call : Call) : Type 0 where
+  pub asked : call.host.asked_after ≡ call.host.asked
+  pub host_faults : call.host.faults_after ≡ call.host.faults
+  pub cause : HasCause call call.status
+  pub content : TellsDemo clients call.out call.status
+
 -- ---- all calls
 
 abbrev pub EndsCommand : Command → Call → Type 0
 EndsCommand (Plays play) call = EndsPlay play call
 EndsCommand (Checks check) call = EndsCheck check call
 EndsCommand (Converts image) call = EndsConvert image call
-EndsCommand (Demo clients) call = IsUntouched NotBuilt call
+EndsCommand (Demo clients) call = EndsDemo clients call
 
 -- .. by whether the command is built
 abbrev pub EndsIfBuilt : Bool → Command → Call → Type 0
@@ -390,7 +413,7 @@ IsCommandComplete false command call = call.status ≡ NotBuilt
 IsCommandComplete true (Plays play) call = IsPlayComplete play call
 IsCommandComplete true (Checks check) call = IsCheckComplete check call
 IsCommandComplete true (Converts image) call = IsConvertComplete image call
-IsCommandComplete true (Demo clients) call = call.status ≡ NotBuilt
+IsCommandComplete true (Demo clients) call = (call.status ≡ Done) ⊎ ((call.status ≡ NoMemory) × IsUnwritten call)
 
 -- where no count rose, a call ends as the words and the files say
 abbrev pub IsComplete : Option Command → Call → Type 0

@@ -139,4 +139,4 @@ abbrev pub command_in : CommandWords → Command
 command_in (words.Play play) = Plays (play_in play)
 command_in (words.Check check) = Checks (check_in check)
 command_in (words.Convert image) = Converts image.now
-command_in (words.Demo clients) = Demo clients
+command_in (words.Demo demo) = Demo demo.clients

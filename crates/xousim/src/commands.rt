@@ -4,6 +4,7 @@ pub mod booting;
 pub mod check;
 pub mod command;
 pub mod convert;
+pub mod demo;
 mod numbers;
 pub mod play;
 mod summary;

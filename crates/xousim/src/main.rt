@@ -4,6 +4,7 @@
 
 mod commands;
 mod converted;
+mod load;
 mod matched;
 mod notes;
 mod outside;

@@ -4,6 +4,7 @@ mod atomics;
 mod commands;
 mod deaths;
 mod drivers;
+mod examples;
 mod forwards;
 mod hostile;
 mod image;

@@ -39,6 +39,14 @@ pub struct CheckWords<'a> {
     ghost few: { unwrap_or slots 0 ≤ 16384 },
 }
 
+/// `demo`: the load of so many clients is played.
+#[derive(Clone, Copy, Debug)]
+pub struct DemoWords {
+    pub clients: u32,
+    ghost some: { 1 ≤ clients },
+    ghost few: { clients ≤ 31 },
+}
+
 /// What the program is asked to do.
 #[derive(Clone, Copy, Debug)]
 pub enum CommandWords<'a> {
@@ -47,5 +55,5 @@ pub enum CommandWords<'a> {
     /// `convert`: the image of that name is written in version 2.
     Convert(&'a str),
     /// The load of so many clients.
-    Demo(u32),
+    Demo(DemoWords),
 }

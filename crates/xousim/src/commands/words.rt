@@ -4,7 +4,7 @@ ghost use Rattle.std.specs.Prelude.{◌≡◌, ◌≤◌, IfSome};
 ghost use Rattle.std.specs.Option.{option_map};
 ghost use Rattle.xousim.specs.Words.{check_in, check_of, convert_of, command_in, command_of, demo_of, limit_of, play_in, play_of, play_with, slots_of};
 
-use crate::commands::command::{CheckWords, CommandWords, PlayWords, Telling};
+use crate::commands::command::{CheckWords, CommandWords, DemoWords, PlayWords, Telling};
 use crate::commands::numbers::read_number;
 use xk_base::limits::{DEFAULT_STEPS, SLOT_LIMIT, STEP_LIMIT};
 
@@ -103,11 +103,14 @@ fn read_convert<'a>(words: &'a [String]) -> Option<&'a str>
 }
 
 /// Reads `N`.
-fn read_demo(words: &[String]) -> Option<u32>
-    ensures { result ≡ demo_of words.now }
+fn read_demo(words: &[String]) -> Option<DemoWords>
+    ensures { option_map (λ demo. demo.clients) result ≡ demo_of words.now }
 {
     match words {
-        [clients] => read_number(clients.as_bytes(), 1, CLIENT_LIMIT),
+        [clients] => {
+            let clients = read_number(clients.as_bytes(), 1, CLIENT_LIMIT)?;
+            Some(DemoWords { clients })
+        }
         _ => None,
     }
 }

@@ -15,6 +15,9 @@ const ROOM: usize = 512;
 /// The size of the code in bytes.
 const SIZE: u32 = 2048;
 
+/// The size of RAM in bytes: 4,096 frames.
+const RAM: u32 = 0x100_0000;
+
 /// The image of so many processes that all begin with these instructions.
 pub fn image(alloc: Global, processes: u8, code: &[u32]) -> Result<Vec<u8>, Fail> {
     let mut codes = Vec::new(alloc);
@@ -49,7 +52,7 @@ pub fn image_of(alloc: Global, codes: &[Vec<u32>]) -> Result<Vec<u8>, Fail> {
         words,
         version: 1,
         ram_start: 0x4000_0000,
-        ram_size: 0x100_0000,
+        ram_size: RAM,
         ram_name: *b"sram",
         slots: None,
         procs,
