@@ -1,5 +1,5 @@
 -- An image without a fault is converted.
-use Rattle.std.proofs.Common.{◌≡◌, ◌≢◌, ◌≤◌, ap, sym, refl, ℕ, Bool, true, false, nat_eq, ◌==◌, List, length, Option, arith}
+use Rattle.std.proofs.Common.{◌≡◌, ◌≢◌, ◌≤◌, ap, sym, refl, ℕ, Bool, true, false, nat_eq, ◌==◌, List, [], length, Option, Some, inr, arith}
 use Rattle.std.specs.Prelude.{if◌then◌else◌}
 use Rattle.std.proofs.lemmas.Bool.Decides.{nat_tests}
 use Rattle.std.proofs.lemmas.List.Elements.{All-weaker}
@@ -7,10 +7,12 @@ use Rattle.kernel_args.specs.declared.args.Args.{Args}
 use Rattle.kernel_args.specs.Converting.{IsConvertible, converted}
 use Rattle.kernel_args.specs.Loads.{is_load_outside}
 use Rattle.boot_plan.proofs.NoFaultLemmas.{IsFaultless, all_faultless}
-use Rattle.xk_base.specs.declared.limits.TheConstants.{IMAGE_LIMIT}
+use Rattle.xk_ports.specs.declared.host.FileSlot.TheVariants.{First}
+use Rattle.xk_base.specs.declared.limits.TheConstants.{IMAGE_LIMIT, SLOT_LIMIT}
 use Rattle.xousim.specs.declared.status.Status.{Status}
 use Rattle.xousim.specs.declared.status.Status.TheVariants.{Done, Usage, ReadFault, WriteFault, ImageFault, EventFault, StepLimit, NoMemory, NotBuilt}
-use Rattle.xousim.specs.Outcome.{Call, HasCause, IsSoundImage, OutRose, Writes, conversion}
+use Rattle.xousim.specs.Outcome.{Call, EndsConvert, HasCause, IsSoundImage, OutRose, Writes, conversion}
+use Rattle.xousim.specs.Reading.{Asked, IsFile, IsTold}
 use Rattle.xousim.proofs.MatchedLemmas.{no_plan_fault}
 
 -- an image of another version stays as it is
@@ -45,3 +47,17 @@ written_cause bytes call NoMemory written rose = absurd written
 written_cause bytes call NotBuilt written rose = absurd written
 written_cause bytes call (EventFault line) written rose = absurd written
 written_cause bytes call (StepLimit limit) written rose = absurd written
+
+-- what is written of an image that was read
+pub ends_written : (name image bytes : List ℕ) (args : Args) (call : Call) → Asked call.host.asked call.host.asked_after First name true
+    → IsFile call.host.files name image → IsSoundImage image (Some SLOT_LIMIT) args → bytes ≡ conversion image args → IsTold call.host.image_left []
+    → Writes bytes call.out call.status → (call.status ≡ WriteFault → OutRose call) → EndsConvert name call
+ends_written name image bytes args call asked read sound converts left written rose =
+    inr (record {
+      asked = asked;
+      cause = written_cause bytes call call.status written rose;
+      bytes = bytes;
+      conversion = record { image = image; read = read; args = args; sound = sound; converts = converts };
+      content = written;
+      image_read = left;
+    })
