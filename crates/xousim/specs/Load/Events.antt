@@ -22,6 +22,10 @@ first_events count = map (λ i. Tick (tick_at i)) (range_with_len 0 count)
 abbrev pub load_events : ℕ → List Event
 load_events clients = first_events (1000 * clients)
 
+-- no tick has more than 13 steps, so that the events of 31 clients have at most so many
+abbrev pub most_steps : ℕ
+most_steps = 13 * (1000 * 31)
+
 -- the machine that the image boots, without slots
 abbrev pub load_machine : ℕ → Machine
 load_machine clients = start (plan_of (load_args clients) None) (load_image clients)

@@ -1,8 +1,8 @@
 //! The image of the load.
 
-ghost use Rattle.std.specs.Prelude.{◌≡◌, ◌+◌, ◌*◌, ◌≤◌, [], ◌∷◌, IfOk, replicate};
+ghost use Rattle.std.specs.Prelude.{◌≡◌, ◌+◌, ◌≤◌, [], ◌∷◌, IfOk, replicate};
 ghost use Rattle.xousim.specs.Load.Code.{client_code, server_code};
-ghost use Rattle.xousim.specs.Load.Image.{client_offset, load_args, load_image, process_of_code, server_offset};
+ghost use Rattle.xousim.specs.Load.Image.{load_args, load_image, process_of_code};
 
 use crate::load::code::{CLIENT_SIZE, SERVER_SIZE, append_codes};
 use kernel_args::{Args, ProcArgs, Section, write_args};

@@ -1,13 +1,13 @@
 //! The events of the load are played, and their records counted.
 
-ghost use Rattle.std.specs.Prelude.{◌≡◌, ◌<◌, ◌≤◌, ◌+◌, ◌++◌, false, List};
+ghost use Rattle.std.specs.Prelude.{◌≡◌, ◌<◌, ◌≤◌, ◌+◌, ◌*◌, ◌++◌, false, List};
 ghost use Rattle.event_text.specs.declared.event.Event.TheVariants.{Tick};
 ghost use Rattle.xk_base.specs.declared.limits.TheConstants.{DEFAULT_STEPS};
 ghost use Rattle.xk_base.specs.declared.records.Rec.{Rec as Record};
 ghost use Rattle.xk_kernel.specs.History.{history, play};
 ghost use Rattle.xk_kernel.specs.Sound.{IsSound, IsUsable, Keeps};
 ghost use Rattle.xk_kernel.specs.State.{machine_of};
-ghost use Rattle.xousim.specs.Load.Events.{load_events, tick_at};
+ghost use Rattle.xousim.specs.Load.Events.{load_events, most_steps, tick_at};
 ghost use Rattle.xousim.specs.Load.Totals.{IsWithin, totals_of};
 
 use crate::load::totals::Totals;
@@ -16,7 +16,7 @@ use xk_ports::SwapStore;
 
 /// The steps of the tick at this place, counted from 0.
 fn tick_at(i: u32) -> u32
-    requires { i < 31000 }
+    requires { i < 1000 * 31 }
     ensures { result ≡ tick_at i }
 {
     1 + 7 * i % 13
@@ -26,7 +26,7 @@ fn tick_at(i: u32) -> u32
 fn play_tick<W: SwapStore>(kernel: &mut Kernel<W>, count: u32, totals: &mut Totals)
     requires sound { IsSound W.slot_count W.held kernel.old }
     requires usable { IsUsable kernel.old }
-    requires room { (machine_of W.held kernel.old).steps + count ≤ 403000 }
+    requires room { (machine_of W.held kernel.old).steps + count ≤ most_steps }
     requires within { IsWithin (machine_of W.held kernel.old).steps totals.old }
     ensures counted { let tick = play (Tick count) DEFAULT_STEPS (machine_of W.held kernel.old) in
         (before : List Record) → totals.old ≡ totals_of before → totals.new ≡ totals_of (before ++ tick.records) }
