@@ -1,5 +1,5 @@
 -- The image of a load can be written, and has no fault.
-use Rattle.std.proofs.Common.{◌≡◌, ℕ, zero, suc, ◌+◌, ◌*◌, ◌/◌, ◌^◌, ◌<◌, ◌≤◌, Bool, false, nat_lt, List, [], ◌∷◌, ◌++◌, length, sum_by, map, Option, Some, None, MatchBool, MatchOption, refl, sym, ap, ◌∙◌, arith, length-append}
+use Rattle.std.proofs.Common.{◌≡◌, ℕ, zero, suc, ◌+◌, ◌*◌, ◌/◌, ◌^◌, ◌<◌, ◌≤◌, Bool, false, nat_lt, List, [], ◌∷◌, ◌++◌, length, sum_by, map, Option, Some, None, MatchBool, MatchOption, refl, sym, ap, ◌∙◌, arith, inl, length-append}
 use Rattle.std.specs.Prelude.{◌||◌, All, replicate}
 use Rattle.std.specs.Option.{option_or}
 use Rattle.std.specs.List.{flat_map}

@@ -1,5 +1,5 @@
 -- An image whose row of tags is exchanged for another, so that all behind it moves, starts in the same state.
-use Rattle.std.proofs.Common.{◌≡◌, ◌∙◌, ap, sym, refl, ℕ, zero, suc, ◌+◌, ◌-◌, ◌*◌, ◌/◌, ◌≤◌, min, Bool, true, false, cond, ◌==◌, nat_le, nat_lt, nat_eq, List, [], ◌∷◌, ◌++◌, map, length, find, slice_get, slice_index_or, Option, Some, None, unwrap_or, arith}
+use Rattle.std.proofs.Common.{◌≡◌, ◌∙◌, ap, sym, refl, ℕ, zero, suc, ◌+◌, ◌-◌, ◌*◌, ◌/◌, ◌≤◌, min, Bool, true, false, cond, ◌==◌, nat_le, nat_lt, List, [], ◌∷◌, ◌++◌, map, length, find, slice_get, slice_index_or, Option, Some, None, unwrap_or, arith}
 use Rattle.std.specs.Prelude.{if◌then◌else◌}
 use Rattle.std.specs.List.{range_with_len, AllByRecursion}
 use Rattle.std.specs.Option.{option_and_then, option_map, option_or}
@@ -14,12 +14,11 @@ use Rattle.kernel_args.specs.Loads.{file_size, is_zero_filled}
 use Rattle.boot_plan.specs.Capacity.{capacity}
 use Rattle.boot_plan.specs.Sections.{page_count}
 use Rattle.boot_plan.specs.FirstPages.{section_page, section_run, sections_pages, zero_page, stack_pages, interrupt_page, process_pages, process_plan, plan_of}
-use Rattle.boot_plan.specs.Content.{page_byte}
 use Rattle.boot_plan.specs.declared.plans.BootPlan.{BootPlan}
 use Rattle.boot_plan.specs.declared.plans.PagePlan.{PagePlan}
 use Rattle.boot_plan.specs.declared.plans.ProcPlan.{ProcPlan}
 use Rattle.boot_plan.proofs.MovedLemmas.{HasMoved, IsMoved, IsMovedImage, IsSamePage, moved_byte}
-use Rattle.ledger_model.specs.Ledger.{Ledger, Page, Bytes}
+use Rattle.ledger_model.specs.Ledger.{Page, Bytes}
 use Rattle.machine_model.specs.State.Machine.{Machine, Thread}
 use Rattle.vm_memory.specs.FirstLedger.{first_ledger, first_page, page_bytes, planned_page, process_of}
 use Rattle.xk_base.specs.declared.ids.Place.{Place}

@@ -1,5 +1,5 @@
 -- The commands that are built. Of those that play events they are the ones that name no file of a swap store.
-use Rattle.std.specs.Prelude.{Bool, true, false, is_none}
+use Rattle.std.specs.Prelude.{Bool, true, is_none}
 use Rattle.xousim.specs.Words.{Command, Plays, Checks, Converts, Demo, Play}
 
 abbrev pub is_play_built : Play → Bool

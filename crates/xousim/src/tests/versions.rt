@@ -3,7 +3,7 @@
 use super::{FIRST_IMAGE, Outcome, first_lines, words};
 use crate::status::{Ended, Status};
 use crate::top::xous_main;
-use kernel_args::ArgFault;
+use kernel_args::{ArgFault, crc_x25};
 use std::alloc::Global;
 use std::test::Fail;
 use xk_ports::{MemHost, MemSink, MemStore};
@@ -32,11 +32,14 @@ fn image_of(alloc: Global, row: &[u8]) -> Result<Vec<u8>, Fail> {
     Ok(image)
 }
 
-/// Runs the program with these words on the image `i` and an event file `e` of 100 steps.
+/// Runs the program with these words on the image `i`, an event file `e` of 100 steps, and one `f` of 64 in which
+/// the process with the greatest pid dies.
 fn call(alloc: Global, image: &[u8], texts: &[&str]) -> Result<Outcome, Fail> {
     let mut files = Vec::new(alloc);
     files.push((String::from_str(alloc, "i")?, image.to_vec(alloc)?))?;
     files.push((String::from_str(alloc, "e")?, b"tick 100".to_vec(alloc)?))?;
+    let last = b"pick 65 2\ntick 64\nkill 65\n";
+    files.push((String::from_str(alloc, "f")?, last.to_vec(alloc)?))?;
     let mut host = MemHost::new(alloc, files, 4096, Vec::new(alloc), 100)?;
     let mut out = MemSink::new(alloc, 2000, Vec::new(alloc))?;
     let mut notes = MemSink::new(alloc, 200, Vec::new(alloc))?;
@@ -118,6 +121,57 @@ fn image_gives_slots(rt: HostRuntime) -> Result<(), Fail> {
     assert_eq!(rt;
         run.notes.as_slice(),
         b"image fault RamTooSmall at 0\n".as_slice()
+    );
+    Ok(())
+}
+
+/// Appends a tag of five words.
+fn push_tag(
+    alloc: Global,
+    image: &mut Vec<u8>,
+    name: &[u8; 4],
+    words: [u32; 5],
+) -> Result<(), Fail> {
+    let mut contents = Vec::new(alloc);
+    for word in words {
+        contents.extend_from_slice(&word.to_le_bytes())?;
+    }
+    image.extend_from_slice(name)?;
+    image.extend_from_slice(&crc_x25(contents.as_slice()).to_le_bytes())?;
+    image.extend_from_slice(&5_u16.to_le_bytes())?;
+    image.extend_from_slice(contents.as_slice())?;
+    Ok(())
+}
+
+/// An image of version 2 with so many processes, which all loop in one word of the file, `JAL x0, 0`.
+fn image_of_loops(alloc: Global, count: u8) -> Result<Vec<u8>, Fail> {
+    let words = 7 + 7 * u32::from(count);
+    let code = 0x0000_006F_u32.to_le_bytes();
+    let check = u32::from(crc_x25(&code));
+    let mut image = Vec::new(alloc);
+    let header = [words, 2, 0x4000_0000, 0x100_0000, 0x6d61_7273];
+    push_tag(alloc, &mut image, b"XArg", header)?;
+    for _ in 0..count {
+        let process = [4 * words, 0x1_0000, check, 0x1_0000, 0x0400_0004];
+        push_tag(alloc, &mut image, b"IniE", process)?;
+    }
+    image.extend_from_slice(&code)?;
+    Ok(image)
+}
+
+/// 64 processes are the most: the tag of the 65th stands behind a header of 28 bytes and 64 tags of 28.
+#[test]
+fn most_processes(rt: HostRuntime) -> Result<(), Fail> {
+    let alloc = rt.alloc();
+    let most = image_of_loops(alloc, 64)?;
+    let run = call(alloc, most.as_slice(), &["trace", "i", "f"])?;
+    assert_eq!(rt; run.status, Status::Done);
+    assert_eq!(rt; run.out.as_slice(), b"64 65 gone\nend 64 done\n".as_slice());
+    let more = image_of_loops(alloc, 65)?;
+    let run = call(alloc, more.as_slice(), &["trace", "i", "f"])?;
+    assert_eq!(rt;
+        run.status,
+        Status::ImageFault(ArgFault { what: 8, at: 1820 })
     );
     Ok(())
 }

@@ -1,11 +1,17 @@
-use Rattle.std.proofs.Common.{◌≡◌, ℕ, List, length, Option, None, Some, ap, ◌∙◌, subst, arith}
+use Rattle.std.proofs.Common.{◌≡◌, ℕ, List, length, None, Some, ap, ◌∙◌, subst, arith}
 use Rattle.kernel_args.specs.declared.args.Args.{Args}
-use Rattle.kernel_args.specs.declared.faults.ArgFault.{ArgFault}
 use Rattle.boot_plan.specs.Faults.{IsPlanFault, plan_fault}
 use Rattle.boot_plan.specs.declared.faults.PlanError.{PlanError}
 use Rattle.xousim.specs.Load.Image.{load_args, load_image}
 use Rattle.xousim.proofs.LoadImageLemmas.{length-load_image, load_plan_has_no_fault}
 use Rattle.xousim.proofs.commands.demo.plan_load.Goals as goal
+
+pub plan-requires-clause-size : goal.plan-requires-clause-size
+plan-requires-clause-size c =
+    let size = length-load_image c.args.clients in
+    let few = c.requires in
+    let made : length c.as_slice.result.now ≡ length (load_image c.args.clients) = ap (λ (l : List ℕ). length l) (c.as_slice.ensures ∙ c.in_ok-args.ensures.image) in
+    omega (arith, size, made, few)
 
 pub unreachable-requires : goal.unreachable-requires
 unreachable-requires c =
