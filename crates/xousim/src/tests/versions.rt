@@ -1,5 +1,7 @@
 //! Images of version 2, and those of version 1 that are converted.
 
+ghost use Rattle.std.specs.Prelude.{◌≡◌, ◌+◌, length, vec_len, IfOk};
+
 use super::{FIRST_IMAGE, Outcome, first_lines, words};
 use crate::status::{Ended, Status};
 use crate::top::xous_main;
@@ -26,7 +28,9 @@ const ROW_WITH_SLOTS: [u8; 68] = [
 ];
 
 /// The image of a row of tags with the code of the first run behind it.
-fn image_of(alloc: Global, row: &[u8]) -> Result<Vec<u8>, Fail> {
+fn image_of(alloc: Global, row: &[u8]) -> Result<Vec<u8>, Fail>
+    ensures { IfOk result (λ image. vec_len image ≡ length row.now + 36) }
+{
     let mut image = row.to_vec(alloc)?;
     image.extend_from_slice(&FIRST_IMAGE[52..])?;
     Ok(image)
