@@ -132,8 +132,9 @@ const PLAN: [&str; 4] = [
 ];
 
 /// The first call picks the image, five read it, the seventh finds its end. The eighth picks the event
-/// file, two read it, the last finds its end. Of a piece that was read the whole lines are played.
-const COMMANDS: [Command; 4] = [
+/// file, two read it, the last finds its end. Of a piece that was read the whole lines are played. `demo`
+/// asks for nothing.
+const COMMANDS: [Command; 5] = [
     Command {
         words: &["trace", "i", "e"],
         lines: &LENT_AND_RETURNED,
@@ -153,6 +154,11 @@ const COMMANDS: [Command; 4] = [
         words: &["check", "i"],
         lines: &PLAN,
         told: &[0; 7],
+    },
+    Command {
+        words: &["demo", "1"],
+        lines: &["demo 1 sends 100 sum 100 gone 1"],
+        told: &[],
     },
 ];
 
@@ -238,6 +244,28 @@ fn each_write_fails(rt: HostRuntime) -> Result<(), Fail> {
     for command in &COMMANDS {
         expect_write_faults(&rt, alloc, &files, command)?;
     }
+    Ok(())
+}
+
+/// The image is picked and read as above. A write that fails leaves nothing.
+#[test]
+fn a_conversion_fails(rt: HostRuntime) -> Result<(), Fail> {
+    let alloc = rt.alloc();
+    let files = lend_and_return(alloc)?;
+    for host in 1..=7 {
+        let run = run(
+            alloc,
+            &["convert", "i"],
+            &files,
+            Failing { host, ..NOTHING },
+        )?;
+        assert_eq!(rt; run.status, Status::ReadFault);
+        assert_eq!(rt; run.out.as_slice(), b"".as_slice());
+    }
+    let failing = Failing { out: 1, ..NOTHING };
+    let run = run(alloc, &["convert", "i"], &files, failing)?;
+    assert_eq!(rt; run.status, Status::WriteFault);
+    assert_eq!(rt; run.out.as_slice(), b"".as_slice());
     Ok(())
 }
 
