@@ -8,7 +8,8 @@ use Rattle.std.proofs.lemmas.Bool.Decides.{nat_tests}
 use Rattle.kernel_args.specs.declared.args.ProcArgs.{ProcArgs}
 use Rattle.kernel_args.specs.declared.args.Section.{Section}
 use Rattle.boot_plan.specs.declared.plans.PagePlan.{PagePlan}
-use Rattle.boot_plan.specs.Sections.{page_count, section_pages, is_zero_filled, file_size, file_sizes}
+use Rattle.kernel_args.specs.Loads.{is_zero_filled, file_size, file_sizes}
+use Rattle.boot_plan.specs.Sections.{page_count, section_pages}
 use Rattle.boot_plan.specs.FirstPages.{section_page, sections_pages, zero_page, stack_pages, interrupt_page, process_pages}
 use Rattle.boot_plan.specs.Content.{page_byte, HoldsByte}
 use Rattle.boot_plan.proofs.ListLemmas.{Any-left, Any-right}

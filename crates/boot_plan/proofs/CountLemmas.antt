@@ -6,7 +6,8 @@ use Rattle.std.proofs.lemmas.List.FromFn.{length-map-range_with_len}
 use Rattle.std.proofs.lemmas.List.Sums.{sum_by-cons}
 use Rattle.kernel_args.specs.declared.args.ProcArgs.{ProcArgs}
 use Rattle.kernel_args.specs.declared.args.Section.{Section}
-use Rattle.boot_plan.specs.Sections.{page_count, file_size}
+use Rattle.kernel_args.specs.Loads.{file_size}
+use Rattle.boot_plan.specs.Sections.{page_count}
 use Rattle.boot_plan.specs.FirstPages.{section_page, sections_pages, zero_page, stack_pages, interrupt_page, process_pages}
 
 pub length-sections_pages : (offset : ℕ) (ss : List Section) → length (sections_pages offset ss) ≡ sum_by (λ s. page_count s.size) ss

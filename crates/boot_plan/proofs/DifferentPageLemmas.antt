@@ -7,7 +7,8 @@ use Rattle.std.proofs.lemmas.List.Folds.{list_any-append}
 use Rattle.std.proofs.lemmas.Bool.Decides.{nat_tests}
 use Rattle.kernel_args.specs.declared.args.Section.{Section}
 use Rattle.boot_plan.specs.declared.plans.PagePlan.{PagePlan}
-use Rattle.boot_plan.specs.Sections.{page_count, section_pages, has_page, shares_page, file_size}
+use Rattle.kernel_args.specs.Loads.{file_size}
+use Rattle.boot_plan.specs.Sections.{page_count, section_pages, has_page, shares_page}
 use Rattle.boot_plan.specs.FirstPages.{section_page, sections_pages}
 use Rattle.boot_plan.proofs.RangeLemmas.{in_run_is}
 use Rattle.boot_plan.proofs.ListLemmas.{All-made, AllPairs-made, AllPairs-append, none_at}

@@ -24,8 +24,8 @@ or_at_none None p h = refl
 or_at_none (Some f) p h = cc
 
 -- the first fault of the processes from the one at i on
-pub from_process : (words file_len pid : ℕ) (ps : List ProcArgs) (i : ℕ) (p : ProcArgs) → i < length ps → p ≡ get_or ps i p
-    → first_fault (processes_faults words file_len pid (drop i ps)) ≡ option_or (first_fault (process_faults words file_len pid p)) (first_fault (processes_faults words file_len (pid + 1) (drop (i + 1) ps)))
-from_process words file_len pid ps i p h e =
+pub from_process : (words : ℕ) (file : List ℕ) (pid : ℕ) (ps : List ProcArgs) (i : ℕ) (p : ProcArgs) → i < length ps → p ≡ get_or ps i p
+    → first_fault (processes_faults words file pid (drop i ps)) ≡ option_or (first_fault (process_faults words file pid p)) (first_fault (processes_faults words file (pid + 1) (drop (i + 1) ps)))
+from_process words file pid ps i p h e =
     let d : drop i ps ≡ p ∷ drop (i + 1) ps = drop_more ps i p h ∙ ap (λ q. q ∷ drop (i + 1) ps) (sym e) in
-    rw d (first_fault_append (process_faults words file_len pid p) (processes_faults words file_len (pid + 1) (drop (i + 1) ps)))
+    rw d (first_fault_append (process_faults words file pid p) (processes_faults words file (pid + 1) (drop (i + 1) ps)))

@@ -7,7 +7,8 @@ use Rattle.xk_base.specs.Numbers.Windows.{window_at}
 use Rattle.xk_base.specs.declared.windows.Window.TheVariants.{Image}
 use Rattle.kernel_args.specs.declared.args.Section.{Section}
 use Rattle.boot_plan.specs.declared.plans.PagePlan.{PagePlan}
-use Rattle.boot_plan.specs.Sections.{page_count, is_zero_filled, file_size, file_sizes}
+use Rattle.kernel_args.specs.Loads.{is_zero_filled, file_size, file_sizes}
+use Rattle.boot_plan.specs.Sections.{page_count}
 use Rattle.boot_plan.specs.FirstPages.{section_page, sections_pages}
 use Rattle.boot_plan.specs.Lawful.{IsLawfulPage}
 use Rattle.boot_plan.proofs.RangeLemmas.{outside_is}

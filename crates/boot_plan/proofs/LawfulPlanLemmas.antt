@@ -1,6 +1,7 @@
 -- A plan without fault is lawful, and a kernel can start it.
-use Rattle.std.proofs.Common.{◌≡◌, ◌≢◌, ◌∙◌, ap, sym, subst, refl, ℕ, ◌+◌, ◌-◌, ◌*◌, ◌/◌, ◌%◌, ◌<◌, ◌≤◌, Bool, true, false, not, ◌&&◌, ◌||◌, ◌==◌, nat_eq, nat_lt, List, [], ◌∷◌, ◌++◌, map, length, Some, None, is_some, IsTrue, arith, ◌⊎◌, inl, inr, All, AllPairs, Any}
+use Rattle.std.proofs.Common.{◌≡◌, ◌≢◌, ◌∙◌, ap, sym, subst, refl, ℕ, ◌+◌, ◌-◌, ◌*◌, ◌/◌, ◌%◌, ◌<◌, ◌≤◌, Bool, true, false, not, ◌&&◌, ◌||◌, ◌==◌, nat_eq, nat_lt, List, [], ◌∷◌, ◌++◌, map, length, Option, Some, None, unwrap_or, IfSome, is_some, IsTrue, arith, ◌⊎◌, inl, inr, All, AllPairs, Any}
 use Rattle.std.specs.List.{list_any, range_with_len}
+use Rattle.std.specs.Option.{option_or}
 use Rattle.std.proofs.lemmas.List.{length-map}
 use Rattle.std.proofs.lemmas.List.Elements.{All-nil, All-cons, All-append, All-weaker, All-map, All-from_recursion}
 use Rattle.std.proofs.lemmas.List.FromFn.{length-map-range_with_len, get_or-map-range_with_len}
@@ -10,13 +11,15 @@ use Rattle.xk_base.specs.declared.windows.Window.TheVariants.{Image, Stack, Heap
 use Rattle.kernel_args.specs.declared.args.Args.{Args}
 use Rattle.kernel_args.specs.declared.args.ProcArgs.{ProcArgs}
 use Rattle.kernel_args.specs.declared.args.Section.{Section}
-use Rattle.kernel_args.specs.Image.{IsSoundArgs}
+use Rattle.kernel_args.specs.Image.{IsSoundArgs, process_limit}
 use Rattle.boot_plan.specs.declared.plans.PagePlan.{PagePlan}
-use Rattle.boot_plan.specs.Sections.{page_count, has_page, is_executable, file_size, file_sizes}
+use Rattle.kernel_args.specs.Loads.{file_size, file_sizes}
+use Rattle.boot_plan.specs.Sections.{page_count, has_page, is_executable}
 use Rattle.xk_base.specs.Numbers.Limits.{table_frames}
 use Rattle.boot_plan.specs.Capacity.{capacity}
 use Rattle.boot_plan.specs.FirstPages.{section_page, sections_pages, zero_page, stack_pages, interrupt_page, process_plan, plan_of, planned_pages}
 use Rattle.boot_plan.specs.Faults.{plan_fault}
+use Rattle.boot_plan.specs.Slots.{slots_used}
 use Rattle.boot_plan.specs.Lawful.{IsLawfulPage, IsLawfulProcess, IsLawfulPlan, CanStart, EntersExecutable}
 use Rattle.boot_plan.proofs.RangeLemmas.{in_run_is}
 use Rattle.boot_plan.proofs.ListLemmas.{All-made, AllPairs-made, AllPairs-append, Any-left, Any-right}
@@ -60,15 +63,15 @@ apart a b h k same = let here : Some Image ≡ Some Stack = sym h ∙ ap (λ v. 
 load_within : (load words file_len sizes : ℕ) → (nat_lt load (4 * words) || nat_lt file_len (load + sizes)) ≡ false → load + sizes ≤ file_len
 load_within load words file_len sizes h = grind (arith, nat_tests)
 
-pub load_fits : (words file_len : ℕ) (p : ProcArgs) → IsFaultless words file_len p → p.load + file_sizes p.sections ≤ file_len
-load_fits words file_len p h = load_within p.load words file_len (file_sizes p.sections) h.load
+pub load_fits : (words : ℕ) (file : List ℕ) (p : ProcArgs) → IsFaultless words file p → p.load + file_sizes p.sections ≤ length file
+load_fits words file p h = load_within p.load words (length file) (file_sizes p.sections) h.load
 
-pub lawful_process : (words file_len : ℕ) (p : ProcArgs) → IsFaultless words file_len p → IsLawfulProcess file_len (process_plan p)
-lawful_process words file_len p h =
+pub lawful_process : (words : ℕ) (file : List ℕ) (p : ProcArgs) → IsFaultless words file p → IsLawfulProcess (length file) (process_plan p)
+lawful_process words file p h =
     let sections = sections_pages p.load p.sections in
     record {
-      pages = All-append (IsLawfulPage file_len) sections zero_pages
-          (sections_lawful file_len p.load [] p.sections h.sections (load_fits words file_len p h)) (zeros_lawful file_len);
+      pages = All-append (IsLawfulPage (length file)) sections zero_pages
+          (sections_lawful (length file) p.load [] p.sections h.sections (load_fits words file p h)) (zeros_lawful (length file));
       different = AllPairs-append Differ sections zero_pages
           (sections_differ p.load [] p.sections h.sections) zeros_differ
           (All-weaker InImage (λ a. All (Differ a) zero_pages)
@@ -93,8 +96,8 @@ not_heap_in_stack page h k = let here : Some Stack ≡ Some Heap = sym h ∙ k i
 abbrev NoHeap : PagePlan → Type 0
 NoHeap page = window_at page.vpn.0 ≢ Some Heap
 
-pub can_start : (words file_len : ℕ) (p : ProcArgs) → IsFaultless words file_len p → CanStart (process_plan p)
-can_start words file_len p h =
+pub can_start : (words : ℕ) (file : List ℕ) (p : ProcArgs) → IsFaultless words file p → CanStart (process_plan p)
+can_start words file p h =
     let sections = sections_pages p.load p.sections in
     record {
       entry = aligned_is (p.entry % 4) (entry_parts (p.entry % 4 == 0) _ h.entry).0;
@@ -142,8 +145,8 @@ sections_code offset vpn (s ∷ ss) h =
       | inr later ↦ Any-right (IsCode vpn) pages rest (sections_code (offset + file_size s) vpn ss later)
     ]
 
-pub enters_executable : (words file_len : ℕ) (p : ProcArgs) → IsFaultless words file_len p → EntersExecutable (process_plan p)
-enters_executable words file_len p h =
+pub enters_executable : (words : ℕ) (file : List ℕ) (p : ProcArgs) → IsFaultless words file p → EntersExecutable (process_plan p)
+enters_executable words file p h =
     let code = (entry_parts (p.entry % 4 == 0) (list_any (λ s. is_executable s && has_page (p.entry / 4096) s) p.sections) h.entry).1 in
     Any-left (IsCode (p.entry / 4096)) (sections_pages p.load p.sections) zero_pages (sections_code p.load (p.entry / 4096) p.sections code)
 
@@ -152,35 +155,48 @@ enters_executable words file_len p h =
 ram_parts : (frames tables room pages : ℕ) → (nat_lt frames (tables + 2) || nat_lt room pages) ≡ false → (tables + 2 ≤ frames) × (pages ≤ room)
 ram_parts frames tables room pages h = grind (arith, nat_tests)
 
-pub lawful_plan : (args : Args) (file_len slots : ℕ) → IsSoundArgs args → slots ≤ 16384 → plan_fault args file_len slots ≡ None → IsLawfulPlan file_len (plan_of args slots)
-lawful_plan args file_len slots sound few h =
+few_processes : (version : ℕ) → process_limit version ≤ 64
+few_processes version = grind (arith, nat_tests)
+
+few_slots : (args : Args) (asked : Option ℕ) → IsSoundArgs args → IfSome asked (λ n. n ≤ 16384) → slots_used args asked ≤ 16384
+few_slots args asked sound few = go asked args.slots few sound.slots
+  where
+    go : (one other : Option ℕ) → IfSome one (λ n. n ≤ 16384) → IfSome other (λ n. (args.version ≡ 2) × (n ≤ 16384)) → unwrap_or (option_or one other) 0 ≤ 16384
+    go (Some n) other few own = few
+    go None (Some n) few own = own.1
+    go None None few own = omega arith
+
+pub lawful_plan : (args : Args) (file : List ℕ) (asked : Option ℕ) → IsSoundArgs args → IfSome asked (λ n. n ≤ 16384) → plan_fault args file asked ≡ None
+    → IsLawfulPlan (length file) (plan_of args asked)
+lawful_plan args file asked sound few h =
     let n = length args.procs in
     let frames = args.ram_size / 4096 in
+    let slots = slots_used args asked in
     let same : length (map process_plan args.procs) ≡ n = length-map args.procs process_plan in
-    let room = ram_parts frames (table_frames n) (capacity frames n slots) (planned_pages (plan_of args slots)) (enough_ram args file_len slots h) in
+    let room = ram_parts frames (table_frames n) (capacity frames n slots) (planned_pages (plan_of args asked)) (enough_ram args file asked h) in
     record {
       some = omega (arith, sound.some);
-      few = omega (arith, sound.few);
+      few = omega (arith, sound.few, few_processes args.version);
       tables = omega (arith, room.0);
       frames = omega (arith, sound.ram.few);
       start_whole = sound.ram.start_whole;
       below = omega (arith, sound.ram.below);
-      slots = few;
-      procs = All-map (IsLawfulProcess file_len) process_plan args.procs
-          (All-weaker (IsFaultless args.words file_len) (λ p. IsLawfulProcess file_len (process_plan p)) (λ p q. lawful_process args.words file_len p q) args.procs (all_faultless args file_len slots h));
-      fits = subst (λ k. planned_pages (plan_of args slots) ≤ capacity frames k slots) (sym same) room.1;
+      slots = few_slots args asked sound few;
+      procs = All-map (IsLawfulProcess (length file)) process_plan args.procs
+          (All-weaker (IsFaultless args.words file) (λ p. IsLawfulProcess (length file) (process_plan p)) (λ p q. lawful_process args.words file p q) args.procs (all_faultless args file asked h));
+      fits = subst (λ k. planned_pages (plan_of args asked) ≤ capacity frames k slots) (sym same) room.1;
     }
 
-pub plan_can_start : (args : Args) (file_len slots : ℕ) → plan_fault args file_len slots ≡ None → All CanStart (map process_plan args.procs)
-plan_can_start args file_len slots h =
+pub plan_can_start : (args : Args) (file : List ℕ) (asked : Option ℕ) → plan_fault args file asked ≡ None → All CanStart (map process_plan args.procs)
+plan_can_start args file asked h =
     All-map CanStart process_plan args.procs
-    (All-weaker (IsFaultless args.words file_len) (λ p. CanStart (process_plan p)) (λ p q. can_start args.words file_len p q) args.procs (all_faultless args file_len slots h))
+    (All-weaker (IsFaultless args.words file) (λ p. CanStart (process_plan p)) (λ p q. can_start args.words file p q) args.procs (all_faultless args file asked h))
 
-pub plan_enters_executable : (args : Args) (file_len slots : ℕ) → plan_fault args file_len slots ≡ None → All EntersExecutable (map process_plan args.procs)
-plan_enters_executable args file_len slots h =
+pub plan_enters_executable : (args : Args) (file : List ℕ) (asked : Option ℕ) → plan_fault args file asked ≡ None → All EntersExecutable (map process_plan args.procs)
+plan_enters_executable args file asked h =
     All-map EntersExecutable process_plan args.procs
-    (All-weaker (IsFaultless args.words file_len) (λ p. EntersExecutable (process_plan p)) (λ p q. enters_executable args.words file_len p q) args.procs (all_faultless args file_len slots h))
+    (All-weaker (IsFaultless args.words file) (λ p. EntersExecutable (process_plan p)) (λ p q. enters_executable args.words file p q) args.procs (all_faultless args file asked h))
 
-pub loads_fit : (args : Args) (file_len slots : ℕ) → plan_fault args file_len slots ≡ None → All (λ p. p.load + file_sizes p.sections ≤ file_len) args.procs
-loads_fit args file_len slots h =
-    All-weaker (IsFaultless args.words file_len) (λ p. p.load + file_sizes p.sections ≤ file_len) (λ p q. load_fits args.words file_len p q) args.procs (all_faultless args file_len slots h)
+pub loads_fit : (args : Args) (file : List ℕ) (asked : Option ℕ) → plan_fault args file asked ≡ None → All (λ p. p.load + file_sizes p.sections ≤ length file) args.procs
+loads_fit args file asked h =
+    All-weaker (IsFaultless args.words file) (λ p. p.load + file_sizes p.sections ≤ length file) (λ p q. load_fits args.words file p q) args.procs (all_faultless args file asked h)

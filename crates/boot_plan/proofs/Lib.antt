@@ -7,6 +7,7 @@ pub mod ImageFaultLemmas
 pub mod LawfulPageLemmas
 pub mod LawfulPlanLemmas
 pub mod ListLemmas
+pub mod MovedLemmas
 pub mod NoFaultLemmas
 pub mod RangeLemmas
 pub mod RowLemmas

@@ -2,7 +2,8 @@
 use Rattle.std.specs.Prelude.{◌≡◌, ℕ, ◌+◌, ◌/◌, ◌%◌, nat_lt, if◌then◌else◌, List, slice_index}
 use Rattle.kernel_args.specs.declared.args.Section.{Section}
 use Rattle.boot_plan.specs.declared.plans.PagePlan.{PagePlan}
-use Rattle.boot_plan.specs.Sections.{is_writable, is_executable, file_size}
+use Rattle.kernel_args.specs.Loads.{file_size}
+use Rattle.boot_plan.specs.Sections.{is_writable, is_executable}
 
 -- the byte of a page at an offset below 4096: the page has len bytes of the file, then zeros
 abbrev pub page_byte : List ℕ → PagePlan → ℕ → ℕ

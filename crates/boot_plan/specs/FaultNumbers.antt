@@ -28,3 +28,7 @@ ram_too_small = 16
 -- the file has more than 64 MiB
 abbrev pub too_long : ℕ
 too_long = 17
+
+-- the check word of a process isn't that of the bytes of its sections
+abbrev pub bad_load : ℕ
+bad_load = 18

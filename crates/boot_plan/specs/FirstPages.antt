@@ -1,5 +1,5 @@
 -- The first pages of the processes of an image.
-use Rattle.std.specs.Prelude.{ℕ, ◌+◌, ◌-◌, ◌*◌, ◌/◌, min, true, false, if◌then◌else◌, List, [], ◌∷◌, ◌++◌, length, map, sum_by}
+use Rattle.std.specs.Prelude.{ℕ, ◌+◌, ◌-◌, ◌*◌, ◌/◌, min, true, false, if◌then◌else◌, List, [], ◌∷◌, ◌++◌, length, map, sum_by, Option}
 use Rattle.std.specs.List.{range_with_len}
 use Rattle.kernel_args.specs.declared.args.Args.{Args}
 use Rattle.kernel_args.specs.declared.args.ProcArgs.{ProcArgs}
@@ -7,7 +7,9 @@ use Rattle.kernel_args.specs.declared.args.Section.{Section}
 use Rattle.boot_plan.specs.declared.plans.BootPlan.{BootPlan}
 use Rattle.boot_plan.specs.declared.plans.ProcPlan.{ProcPlan}
 use Rattle.boot_plan.specs.declared.plans.PagePlan.{PagePlan}
-use Rattle.boot_plan.specs.Sections.{page_count, is_writable, is_zero_filled, is_executable, file_size}
+use Rattle.kernel_args.specs.Loads.{is_zero_filled, file_size}
+use Rattle.boot_plan.specs.Sections.{page_count, is_writable, is_executable}
+use Rattle.boot_plan.specs.Slots.{slots_used}
 
 -- Page i of a section whose bytes stand in the file from an offset on. It has the section's next 4096 bytes, or
 -- those that are left; a page of a zero-filled section has none.
@@ -48,12 +50,12 @@ process_pages p = sections_pages p.load p.sections ++ map zero_page (stack_pages
 abbrev pub process_plan : ProcArgs → ProcPlan
 process_plan p = record { entry = p.entry; sections = length p.sections; pages = process_pages p }
 
--- the plan of an image with these arguments, run with this many slots
-abbrev pub plan_of : Args → ℕ → BootPlan
-plan_of args slots = record {
+-- the plan of an image with these arguments, for a run that asks for these slots
+abbrev pub plan_of : Args → Option ℕ → BootPlan
+plan_of args asked = record {
   ram_start = args.ram_start;
   frames = args.ram_size / 4096;
-  slots = slots;
+  slots = slots_used args asked;
   procs = map process_plan args.procs;
 }
 

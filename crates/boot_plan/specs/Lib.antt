@@ -6,3 +6,4 @@ pub mod FirstPages
 pub mod ImageFault
 pub mod Lawful
 pub mod Sections
+pub mod Slots

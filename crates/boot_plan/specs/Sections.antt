@@ -1,5 +1,5 @@
--- The sections of a process: the pages that each has, what may be done there, and its bytes in the file.
-use Rattle.std.specs.Prelude.{ℕ, ◌/◌, ◌%◌, Bool, ◌==◌, nat_eq, if◌then◌else◌, List, sum_by}
+-- The sections of a process: the pages that each has, and what may be done there.
+use Rattle.std.specs.Prelude.{ℕ, ◌/◌, ◌%◌, Bool, ◌==◌, nat_eq, List}
 use Rattle.std.specs.Int.{div_ceil}
 use Rattle.std.specs.List.{list_any, range_with_len}
 use Rattle.kernel_args.specs.declared.args.Section.{Section}
@@ -20,20 +20,10 @@ has_page vpn s = list_any (nat_eq vpn) (section_pages s)
 abbrev pub shares_page : Section → Section → Bool
 shares_page s t = list_any (λ vpn. has_page vpn t) (section_pages s)
 
--- The flags are a sum of 1 for writable, 2 for zero-filled and 4 for executable, and more without effect.
+-- The flags are a sum of 1 for writable, 2 for zero-filled (`is_zero_filled` of kernel_args) and 4 for executable, and more
+-- without effect.
 abbrev pub is_writable : Section → Bool
 is_writable s = s.flags % 2 == 1
 
-abbrev pub is_zero_filled : Section → Bool
-is_zero_filled s = s.flags / 2 % 2 == 1
-
 abbrev pub is_executable : Section → Bool
 is_executable s = s.flags / 4 % 2 == 1
-
--- how many bytes a section has in the file: a zero-filled one has none
-abbrev pub file_size : Section → ℕ
-file_size s = if is_zero_filled s then 0 else s.size
-
--- how many bytes sections have in the file
-abbrev pub file_sizes : List Section → ℕ
-file_sizes sections = sum_by file_size sections

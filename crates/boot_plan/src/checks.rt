@@ -1,21 +1,23 @@
 //! The faults of a plan.
 
-ghost use Rattle.std.specs.Prelude.{◌≡◌, ◌<◌, ◌≤◌, ◌+◌, ◌*◌, ◌&&◌, [], length, map, sum_by, All, Some};
+ghost use Rattle.std.specs.Prelude.{◌≡◌, ◌<◌, ◌≤◌, ◌+◌, ◌*◌, ◌&&◌, [], length, map, sum_by, All, Some, IfSome};
 ghost use Rattle.std.specs.List.{list_any};
 ghost use Rattle.kernel_args.specs.Faults.{first_fault};
 ghost use Rattle.kernel_args.specs.Image.{IsSoundArgs};
-ghost use Rattle.boot_plan.specs.Sections.{shares_page, has_page, is_executable, file_sizes};
-ghost use Rattle.boot_plan.specs.Faults.{IsFaultAt, section_faults, sections_faults, is_load_outside, is_entry_outside, process_faults, processes_faults, is_ram_too_small, plan_fault};
+ghost use Rattle.kernel_args.specs.Loads.{file_sizes, is_load_outside};
+ghost use Rattle.boot_plan.specs.Sections.{shares_page, has_page, is_executable};
+ghost use Rattle.boot_plan.specs.Faults.{IsFaultAt, section_faults, sections_faults, is_bad_load, is_entry_outside, process_faults, processes_faults, is_ram_too_small, plan_fault};
 ghost use Rattle.boot_plan.specs.FirstPages.{process_pages, process_plan};
 
 use crate::capacity::capacity_of;
 use crate::faults::{
-    ENTRY_OUTSIDE, LOAD_OUTSIDE, RAM_TOO_SMALL, SECTION_MISALIGNED, SECTION_OUTSIDE,
+    BAD_LOAD, ENTRY_OUTSIDE, LOAD_OUTSIDE, RAM_TOO_SMALL, SECTION_MISALIGNED, SECTION_OUTSIDE,
     SECTIONS_OVERLAP,
 };
 use crate::pages::STACK_PAGES;
-use crate::sections::{file_size, has_page, is_executable, leaves_window, page_count, shares_page};
-use kernel_args::{ArgFault, Args, ProcArgs, Section};
+use crate::sections::{has_page, is_executable, leaves_window, page_count, shares_page};
+use crate::slots::slots_used;
+use kernel_args::{ArgFault, Args, ProcArgs, Section, crc_x25, file_sizes, loaded_bytes};
 use xk_base::limits::{PAGE_SIZE, TABLE_FRAMES};
 
 fn fault(what: u8, at: u32) -> Option<ArgFault>
@@ -62,14 +64,6 @@ fn sections_fault(pid: u32, sections: &[Section]) -> Option<ArgFault>
     (0..sections.len()).find_map(|i| fault_at(pid, sections, i))
 }
 
-/// How many bytes of the file sections have.
-fn file_sizes(sections: &[Section]) -> u64
-    requires { length sections.now ≤ 32 }
-    ensures { result ≡ file_sizes sections.now }
-{
-    sections.iter().map(|s| file_size(s) as u64).sum()
-}
-
 /// Whether the bytes of the sections begin in the row of tags, which has this many words, or pass
 /// the end of the file.
 fn loads_outside(words: u32, file_len: u32, process: &ProcArgs) -> bool
@@ -80,6 +74,18 @@ fn loads_outside(words: u32, file_len: u32, process: &ProcArgs) -> bool
     (load as u64) < 4 * words as u64
         || load > file_len
         || file_sizes(process.sections.as_slice()) > (file_len - load) as u64
+}
+
+/// Whether the check word of the process isn't that of the bytes of its sections.
+fn has_bad_load(file: &[u8], process: &ProcArgs) -> bool
+    requires few { length process.now.sections ≤ 32 }
+    requires within { process.now.load + file_sizes process.now.sections ≤ length file.now }
+    ensures { result ≡ is_bad_load file.now process.now }
+{
+    match process.check {
+        Some(check) => crc_x25(loaded_bytes(file, process)) != check,
+        None => false,
+    }
 }
 
 /// Whether the page is one of an executable section.
@@ -100,16 +106,20 @@ fn enters_outside(process: &ProcArgs) -> bool
 
 /// The first fault of a process with this pid; `words` is the size of the row of tags.
 #[tactic(auto, using(crate::proofs::FirstFaultLemmas::first_fault_append))]
-fn process_fault(words: u32, file_len: u32, pid: u32, process: &ProcArgs) -> Option<ArgFault>
-    requires { length process.now.sections ≤ 32 }
-    ensures { result ≡ first_fault (process_faults words file_len pid process.now) }
+fn process_fault(words: u32, file: &[u8], pid: u32, process: &ProcArgs) -> Option<ArgFault>
+    requires few { length process.now.sections ≤ 32 }
+    requires size { length file.now ≤ 67108864 }
+    ensures { result ≡ first_fault (process_faults words file.now pid process.now) }
 {
     let found = sections_fault(pid, process.sections.as_slice());
     if found.is_some() {
         return found;
     }
-    if loads_outside(words, file_len, process) {
+    if loads_outside(words, file.len() as u32, process) {
         return fault(LOAD_OUTSIDE, pid);
+    }
+    if has_bad_load(file, process) {
+        return fault(BAD_LOAD, pid);
     }
     if enters_outside(process) {
         return fault(ENTRY_OUTSIDE, pid);
@@ -118,14 +128,15 @@ fn process_fault(words: u32, file_len: u32, pid: u32, process: &ProcArgs) -> Opt
 }
 
 /// The first fault of the processes of an image.
-fn processes_fault(words: u32, file_len: u32, processes: &[ProcArgs]) -> Option<ArgFault>
-    requires few { length processes.now ≤ 32 }
+fn processes_fault(words: u32, file: &[u8], processes: &[ProcArgs]) -> Option<ArgFault>
+    requires few { length processes.now ≤ 64 }
     requires sections { All (λ p. length p.sections ≤ 32) processes.now }
-    ensures { result ≡ first_fault (processes_faults words file_len 2 processes.now) }
+    requires size { length file.now ≤ 67108864 }
+    ensures { result ≡ first_fault (processes_faults words file.now 2 processes.now) }
 {
     let mut pid = 2;
     for process in processes {
-        let found = process_fault(words, file_len, pid, process);
+        let found = process_fault(words, file, pid, process);
         if found.is_some() {
             return found;
         }
@@ -149,7 +160,7 @@ fn first_pages(process: &ProcArgs) -> u32
 
 /// How many pages processes start with.
 fn all_first_pages(processes: &[ProcArgs]) -> u32
-    requires few { length processes.now ≤ 32 }
+    requires few { length processes.now ≤ 64 }
     requires sections { All (λ p. length p.sections ≤ 32) processes.now }
     ensures { result ≡ sum_by (λ p. length p.pages) (map process_plan processes.now) }
 {
@@ -162,29 +173,31 @@ fn all_first_pages(processes: &[ProcArgs]) -> u32
 
 /// Whether RAM hasn't room for the tables, a page and the free frame, or RAM and slots haven't
 /// room for the first pages.
-fn has_small_ram(args: &Args, slots: u32) -> bool
+fn has_small_ram(args: &Args, asked: Option<u32>) -> bool
     requires sound { IsSoundArgs args.now }
-    requires few_slots { slots ≤ 16384 }
-    ensures { result ≡ is_ram_too_small args.now slots }
+    requires few_slots { IfSome asked (λ n. n ≤ 16384) }
+    ensures { result ≡ is_ram_too_small args.now asked }
 {
     let frames = args.ram_size / PAGE_SIZE;
     let processes = args.procs.as_slice().len() as u32;
+    let slots = slots_used(args, asked);
     frames < TABLE_FRAMES * processes + 2
         || capacity_of(frames, processes, slots) < all_first_pages(args.procs.as_slice())
 }
 
-/// The first fault of the plan of an image whose file has `file_len` bytes.
+/// The first fault of the plan of an image of this file, for a run that asks for these slots.
 #[tactic(auto, using(crate::proofs::FirstFaultLemmas::first_fault_append))]
-pub(crate) fn find_fault(args: &Args, file_len: u32, slots: u32) -> Option<ArgFault>
+pub(crate) fn find_fault(args: &Args, file: &[u8], asked: Option<u32>) -> Option<ArgFault>
     requires sound { IsSoundArgs args.now }
-    requires few_slots { slots ≤ 16384 }
-    ensures { result ≡ plan_fault args.now file_len slots }
+    requires size { length file.now ≤ 67108864 }
+    requires few_slots { IfSome asked (λ n. n ≤ 16384) }
+    ensures { result ≡ plan_fault args.now file.now asked }
 {
-    let found = processes_fault(args.words, file_len, args.procs.as_slice());
+    let found = processes_fault(args.words, file, args.procs.as_slice());
     if found.is_some() {
         return found;
     }
-    if has_small_ram(args, slots) {
+    if has_small_ram(args, asked) {
         return fault(RAM_TOO_SMALL, 0);
     }
     None

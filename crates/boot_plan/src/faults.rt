@@ -17,6 +17,8 @@ pub const ENTRY_OUTSIDE: u8 = 15;
 pub const RAM_TOO_SMALL: u8 = 16;
 /// The file has more than 64 MiB.
 pub const TOO_LONG: u8 = 17;
+/// The check word of a process isn't that of the bytes of its sections.
+pub const BAD_LOAD: u8 = 18;
 
 /// Why there is no plan.
 #[derive(Clone, Copy, Debug, PartialEq, Eq, Error)]

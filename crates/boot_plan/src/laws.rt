@@ -5,12 +5,13 @@ ghost use Rattle.std.specs.List.{flat_map};
 ghost use Rattle.kernel_args.specs.declared.args.ProcArgs.{ProcArgs};
 ghost use Rattle.kernel_args.specs.declared.args.Section.{Section};
 ghost use Rattle.kernel_args.specs.declared.faults.ArgFault.{ArgFault};
-ghost use Rattle.boot_plan.specs.Sections.{page_count, section_pages, file_sizes};
+ghost use Rattle.kernel_args.specs.Loads.{file_sizes};
+ghost use Rattle.boot_plan.specs.Sections.{page_count, section_pages};
 ghost use Rattle.boot_plan.specs.FirstPages.{process_pages, stack_pages, interrupt_page};
 ghost use Rattle.boot_plan.specs.Content.{HoldsByte};
-ghost use Rattle.boot_plan.specs.FaultNumbers.{section_outside, section_misaligned, sections_overlap, load_outside, entry_outside, ram_too_small, too_long};
+ghost use Rattle.boot_plan.specs.FaultNumbers.{section_outside, section_misaligned, sections_overlap, load_outside, entry_outside, ram_too_small, too_long, bad_load};
 ghost use Rattle.boot_plan.specs.ImageFault.{IsImageFault};
-ghost use Rattle.boot_plan.specs.declared.faults.TheConstants.{SECTION_OUTSIDE, SECTION_MISALIGNED, SECTIONS_OVERLAP, LOAD_OUTSIDE, ENTRY_OUTSIDE, RAM_TOO_SMALL, TOO_LONG};
+ghost use Rattle.boot_plan.specs.declared.faults.TheConstants.{SECTION_OUTSIDE, SECTION_MISALIGNED, SECTIONS_OVERLAP, LOAD_OUTSIDE, ENTRY_OUTSIDE, RAM_TOO_SMALL, TOO_LONG, BAD_LOAD};
 
 /// A process starts with the pages of its sections, its stack and its interrupt page, and its
 /// sections stand there with their bytes, each from its address on, and zeros up to the end of
@@ -33,15 +34,16 @@ pub fn fault_numbers_are_pinned()
     ensures entry_outside { ENTRY_OUTSIDE ≡ entry_outside }
     ensures ram_too_small { RAM_TOO_SMALL ≡ ram_too_small }
     ensures too_long { TOO_LONG ≡ too_long }
+    ensures bad_load { BAD_LOAD ≡ bad_load }
 {}
 
-/// An image has exactly one answer for a number of slots: its first fault, or that it has none. The
-/// function does nothing; its contract is the law.
+/// An image has exactly one answer for the slots that are asked for: its first fault, or that it has
+/// none. The function does nothing; its contract is the law.
 pub fn image_has_one_first_fault()
-    ensures some { (bytes : List ℕ) (slots : ℕ) → ((i : ℕ) → slice_index bytes i < 256)
-        → (fault : Option ArgFault) × IsImageFault bytes slots fault }
-    ensures once { (bytes : List ℕ) (slots : ℕ) (one other : Option ArgFault)
-        → IsImageFault bytes slots one → IsImageFault bytes slots other → one ≡ other }
+    ensures some { (bytes : List ℕ) (asked : Option ℕ) → ((i : ℕ) → slice_index bytes i < 256)
+        → (fault : Option ArgFault) × IsImageFault bytes asked fault }
+    ensures once { (bytes : List ℕ) (asked : Option ℕ) (one other : Option ArgFault)
+        → IsImageFault bytes asked one → IsImageFault bytes asked other → one ≡ other }
 {
     kernel_args::spelled_once_or_faulty();
 }

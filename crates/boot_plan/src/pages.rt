@@ -2,14 +2,13 @@
 
 ghost use Rattle.std.specs.Prelude.{◌≡◌, ◌≤◌, ◌<◌, ◌+◌, ◌^◌, [], ◌∷◌, ◌++◌, length, map, IfOk, OnOk};
 ghost use Rattle.std.specs.List.{range_with_len};
-ghost use Rattle.boot_plan.specs.Sections.{page_count, file_size, file_sizes};
+ghost use Rattle.kernel_args.specs.Loads.{file_size, file_sizes};
+ghost use Rattle.boot_plan.specs.Sections.{page_count};
 ghost use Rattle.boot_plan.specs.FirstPages.{section_page, section_run, sections_pages, zero_page, stack_pages, interrupt_page, process_pages};
 
 use crate::plans::PagePlan;
-use crate::sections::{
-    file_size, first_page, is_executable, is_writable, is_zero_filled, page_count,
-};
-use kernel_args::{ProcArgs, Section};
+use crate::sections::{first_page, is_executable, is_writable, page_count};
+use kernel_args::{ProcArgs, Section, file_size, is_zero_filled};
 use std::alloc::Global;
 use xk_base::limits::PAGE_SIZE;
 use xk_base::{NoMemory, Right, Row, Vpn};

@@ -4,7 +4,7 @@ ghost use Rattle.std.specs.Prelude.{◌≡◌, ◌≤◌, ◌<◌, ◌/◌, not}
 ghost use Rattle.std.specs.List.{list_any};
 ghost use Rattle.xk_base.specs.Numbers.Windows.{in_window};
 ghost use Rattle.xk_base.specs.declared.windows.Window.TheVariants.{Image};
-ghost use Rattle.boot_plan.specs.Sections.{page_count, section_pages, has_page, shares_page, is_writable, is_zero_filled, is_executable, file_size};
+ghost use Rattle.boot_plan.specs.Sections.{page_count, section_pages, has_page, shares_page, is_writable, is_executable};
 
 use kernel_args::Section;
 use xk_base::Window;
@@ -12,8 +12,6 @@ use xk_base::limits::PAGE_SIZE;
 
 /// The bits of a section's flags.
 const WRITABLE: u8 = 1;
-
-const ZERO_FILLED: u8 = 2;
 
 const EXECUTABLE: u8 = 4;
 
@@ -24,31 +22,12 @@ pub(crate) fn is_writable(section: &Section) -> bool
     section.flags & WRITABLE != 0
 }
 
-/// Whether the section's bytes are zeros, and the file has none of them.
-#[tactic(auto, using(crate::proofs::FlagLemmas::mask_two))]
-pub(crate) fn is_zero_filled(section: &Section) -> bool
-    ensures { result ≡ is_zero_filled section.now }
-{
-    section.flags & ZERO_FILLED != 0
-}
-
 /// Whether the section's pages may be executed.
 #[tactic(auto, using(crate::proofs::FlagLemmas::mask_four))]
 pub(crate) fn is_executable(section: &Section) -> bool
     ensures { result ≡ is_executable section.now }
 {
     section.flags & EXECUTABLE != 0
-}
-
-/// How many bytes of the file the section has.
-pub(crate) fn file_size(section: &Section) -> u32
-    ensures { result ≡ file_size section.now }
-{
-    if is_zero_filled(section) {
-        0
-    } else {
-        section.size
-    }
 }
 
 /// The page number of the section's address.

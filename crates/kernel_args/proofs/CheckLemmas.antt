@@ -1,5 +1,5 @@
 -- The register over bits in pieces.
-use Rattle.std.proofs.Common.{◌≡◌, ℕ, suc, ◌+◌, ◌-◌, ◌/◌, ◌%◌, ◌<◌, List, [], ◌∷◌, ◌++◌, length, drop, get_or, refl, sym, ap, ◌∙◌, arith, drop-cons, add-one, eqb, inl, inr}
+use Rattle.std.proofs.Common.{◌≡◌, ℕ, ◌+◌, ◌/◌, ◌%◌, ◌<◌, List, [], ◌∷◌, ◌++◌, length, drop, get_or, refl, sym, ap, ◌∙◌, arith, drop-cons, add-one, eqb, inl, inr}
 use Rattle.std.specs.List.{flat_map}
 use Rattle.std.proofs.lemmas.List.Concat.{flat_map-cons}
 use Rattle.std.proofs.lemmas.Bool.{cases_Bool}
@@ -17,19 +17,6 @@ one_more_byte r total i xs lt h =
     let split : drop i xs ≡ get_or xs i 0 ∷ drop (i + 1) xs = rw (add-one, drop-cons xs i 0) refl in
     let joined : flat_map (bits 8) (drop i xs) ≡ bits 8 (get_or xs i 0) ++ flat_map (bits 8) (drop (i + 1) xs) = ap (flat_map (bits 8)) split ∙ flat_map-cons (bits 8) (get_or xs i 0) (drop (i + 1) xs) in
     sym (register_after-append r (bits 8 (get_or xs i 0)) (flat_map (bits 8) (drop (i + 1) xs))) ∙ ap (register_after r) (sym joined) ∙ h
-
--- one more bit of a byte
-pub one_more_bit : (r total i x : ℕ) → i < 8 → register_after r (bits (8 - i) x) ≡ total
-    → register_after (shifted r (x % 2)) (bits (8 - (i + 1)) (x / 2)) ≡ total
-unfolding bits
-one_more_bit r total i x lt h =
-    let more : 8 - i ≡ suc (8 - (i + 1)) = omega arith in
-    let step : register_after r (bits (8 - i) x) ≡ register_after (shifted r (x % 2)) (bits (8 - (i + 1)) (x / 2)) = ap (λ (k : ℕ). register_after r (bits k x)) more in
-    sym step ∙ h
-
-pub no_more_bits : (r total i x : ℕ) → 8 - i ≡ 0 → register_after r (bits (8 - i) x) ≡ total → r ≡ total
-unfolding bits
-no_more_bits r total i x e h = sym (ap (λ (k : ℕ). register_after r (bits k x)) e) ∙ h
 
 shifted_fits : (r b : ℕ) → r < 65536 → shifted r b < 65536
 shifted_fits r b fits =

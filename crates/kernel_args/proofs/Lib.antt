@@ -1,5 +1,9 @@
 pub mod CheckLemmas
 pub mod ContentLemmas
+pub mod ConvertedImage
+pub mod ConvertedLemmas
+pub mod ConvertedSpells
+pub mod ConvertingLemmas
 pub mod HeaderLemmas
 pub mod ImageLemmas
 pub mod JoinedLemmas
@@ -9,6 +13,7 @@ pub mod ProcessLemmas
 pub mod ReadLemmas
 pub mod RowFaultLemmas
 pub mod RowLemmas
+pub mod TableLemmas
 pub mod TagLemmas
 pub mod WritableLemmas
 pub mod WritingLemmas

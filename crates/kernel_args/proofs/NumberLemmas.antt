@@ -58,6 +58,15 @@ word_split (a ∷ b ∷ []) fits long = absurd (omega arith)
 word_split (a ∷ []) fits long = absurd (omega arith)
 word_split [] fits long = absurd (omega arith)
 
+-- four bytes are a word
+pub one_word : (bytes : List ℕ) → IsBytes bytes → length bytes ≡ 4 → bytes ≡ word (little_number 4 bytes)
+one_word (a ∷ b ∷ c ∷ d ∷ []) fits four = sym (bytes_again_4 a b c d (fits 0) (fits 1) (fits 2) (fits 3))
+one_word (a ∷ b ∷ c ∷ d ∷ e ∷ rest) fits four = absurd (omega arith)
+one_word (a ∷ b ∷ c ∷ []) fits four = absurd (omega arith)
+one_word (a ∷ b ∷ []) fits four = absurd (omega arith)
+one_word (a ∷ []) fits four = absurd (omega arith)
+one_word [] fits four = absurd (omega arith)
+
 pub word_front : (n : ℕ) (rest : List ℕ) → n < 2 ^ 32 → little_number 4 (word n ++ rest) ≡ n
 word_front n rest lt = little_number-reads_back 4 n rest lt
 

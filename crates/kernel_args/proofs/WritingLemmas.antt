@@ -1,6 +1,8 @@
 -- What is written spells the arguments.
-use Rattle.std.proofs.Common.{◌≡◌, ℕ, ◌+◌, ◌-◌, ◌*◌, sum_by, ◌%◌, ◌^◌, ◌<◌, ◌≤◌, List, [], ◌∷◌, ◌++◌, length, map, take, get_or, refl, sym, ap, subst, ◌∙◌, append_assoc, arith}
-use Rattle.std.specs.Prelude.{codes, All, replicate}
+use Rattle.std.proofs.Common.{◌≡◌, ℕ, ◌+◌, ◌-◌, ◌*◌, sum_by, ◌%◌, ◌^◌, ◌<◌, ◌≤◌, Bool, if◌then◌else◌, ◌⊎◌, inl, inr, Option, Some, None, is_some, List, [], ◌∷◌, ◌++◌, length, map, take, get_or, refl, sym, ap, subst, ◌∙◌, append_assoc, arith}
+use Rattle.std.specs.Prelude.{codes, All, IfSome, replicate}
+use Rattle.std.specs.Option.{option_to_list}
+use Rattle.std.proofs.lemmas.Bool.{cases_Bool}
 use Rattle.std.specs.List.{flat_map, AllByRecursion}
 use Rattle.std.proofs.lemmas.List.{length-append, append-nil, take_more, length-replicate}
 use Rattle.std.proofs.lemmas.List.Folds.{length-flat_map-take}
@@ -10,14 +12,15 @@ use Rattle.std.proofs.lemmas.Grind.{flat_map-append}
 use Rattle.kernel_args.specs.declared.args.Args.{Args}
 use Rattle.kernel_args.specs.declared.args.ProcArgs.{ProcArgs}
 use Rattle.kernel_args.specs.declared.args.ProcName.{ProcName}
-use Rattle.kernel_args.specs.Tags.{tag_bytes}
-use Rattle.kernel_args.specs.Contents.{header_contents, IsSection, process_contents, IsProcess, IsEntry, padded, entry_bytes, name_of}
-use Rattle.kernel_args.specs.Image.{IsRam, IsSoundProcess, IsRightTag, header_tag, SpellsTags, Spells}
-use Rattle.kernel_args.specs.Writing.{right_tag, process_tag, written_entry, names_contents, names_tags, written_tags, header_row, process_row, row_size, names_row, written, HasPid, HasFittingNumbers, IsWritable}
+use Rattle.kernel_args.specs.Tags.{tag_bytes, is_slots}
+use Rattle.kernel_args.specs.Contents.{header_contents, section_bytes, IsSection, check_word, HasCheck, process_contents, IsProcess, slots_contents, IsEntry, padded, entry_bytes, name_of}
+use Rattle.kernel_args.specs.Image.{IsRam, process_limit, IsSoundProcess, IsRightTag, header_tag, parts_of, SpellsTags, Spells}
+use Rattle.kernel_args.specs.Writing.{right_tag, process_tag, written_entry, names_contents, names_tags, slots_tags, written_tags, header_row, slots_row, process_row, row_size, names_row, written, HasPid, HasFittingNumbers, IsWritable}
+use Rattle.kernel_args.specs.Reading.{joined}
 use Rattle.kernel_args.proofs.CheckLemmas.{check_number_fits}
 use Rattle.kernel_args.proofs.TagLemmas.{length-tag_bytes}
 use Rattle.kernel_args.proofs.ProcessLemmas.{length-sections}
-use Rattle.kernel_args.proofs.RowLemmas.{no_tags, more_tags}
+use Rattle.kernel_args.proofs.RowLemmas.{nothing, no_tags, more_tags}
 use Rattle.kernel_args.proofs.RowLemmas as rows
 use Rattle.kernel_args.proofs.ImageLemmas.{process_is_sound, spelled_has_no_fault}
 
@@ -37,12 +40,46 @@ length-entry n =
     let k : length more ≡ padded len - len = length-replicate (padded len - len) 0 in
     omega (arith, length-append n.name more)
 
-pub length-contents : (p : ProcArgs) → length (process_contents p) ≡ 8 + 8 * length p.sections
-length-contents p = let l = length-sections p.sections in omega arith
+-- a check word has 4 bytes, where it is given
+pub length-check : (check : Option ℕ) → length (check_word check) ≡ (if is_some check then 4 else 0)
+length-check None = refl
+length-check (Some c) = refl
 
-pub length-process : (p : ProcArgs) → length (process_row p) ≡ 16 + 8 * length p.sections
+pub length-contents : (p : ProcArgs) → length (process_contents p) ≡ 8 + length (check_word p.check) + 8 * length p.sections
+length-contents p =
+    let all = length-sections p.sections in
+    let both = length-append (check_word p.check) (flat_map section_bytes p.sections) in
+    omega arith
+
+pub whole_process : (p : ProcArgs) → length (process_contents p) % 4 ≡ 0
+whole_process p =
+    let len = length-contents p in
+    elim (cases_Bool (is_some p.check)) [
+      | inl given ↦ let four = length-check p.check ∙ ap (λ (b : Bool). if b then 4 else 0) given in omega arith
+      | inr lacks ↦ let none = length-check p.check ∙ ap (λ (b : Bool). if b then 4 else 0) lacks in omega arith
+    ]
+
+pub short_process : (p : ProcArgs) → length p.sections ≤ 32 → length (process_contents p) ≤ 268
+short_process p few =
+    let len = length-contents p in
+    elim (cases_Bool (is_some p.check)) [
+      | inl given ↦ let four = length-check p.check ∙ ap (λ (b : Bool). if b then 4 else 0) given in omega arith
+      | inr lacks ↦ let none = length-check p.check ∙ ap (λ (b : Bool). if b then 4 else 0) lacks in omega arith
+    ]
+
+pub length-process : (p : ProcArgs) → length (process_row p) ≡ 16 + length (check_word p.check) + 8 * length p.sections
 unfolding process_row
 length-process p = let l = length-contents p in omega (arith, length-tag_bytes (process_tag p) refl)
+
+pub length-slots : (slots : Option ℕ) → length (slots_row slots) ≡ (if is_some slots then 12 else 0)
+unfolding slots_row
+length-slots None = refl
+length-slots (Some n) = refl
+
+pub short_slots : (slots : Option ℕ) → length (slots_row slots) ≤ 12
+unfolding slots_row
+short_slots None = omega arith
+short_slots (Some n) = omega arith
 
 -- a name and those before it are within all names
 pub name_within : (ns : List ProcName) (i : ℕ) (d : ProcName) → i < length ns
@@ -61,11 +98,14 @@ names_step ns i d within =
     ∙ ap (λ (k : ℕ). length (names_contents (take i ns)) + k) (length-entry (get_or ns i d))
 
 -- processes that can be written: how long their rows are together, and how long at most
-pub sizes_added : (ps : List ProcArgs) → AllByRecursion IsProcess ps → (sum_by row_size ps ≡ length (flat_map process_row ps)) × (sum_by row_size ps ≤ 272 * length ps)
-sizes_added [] each = (refl, omega arith)
-sizes_added (p ∷ ps) each =
+pub sizes_added : (version : ℕ) (ps : List ProcArgs) → AllByRecursion (IsProcess version) ps
+    → (sum_by row_size ps ≡ length (flat_map process_row ps)) × (sum_by row_size ps ≤ 276 * length ps)
+sizes_added version [] each = (refl, omega arith)
+sizes_added version (p ∷ ps) each =
     let few : length p.sections ≤ 32 = (each.0).few in
-    let rest = sizes_added ps each.1 in
+    let len = length-contents p in
+    let short = short_process p few in
+    let rest = sizes_added version ps each.1 in
     let same = rest.0 in
     let most = rest.1 in
     let added : sum_by row_size (p ∷ ps) ≡ row_size p + sum_by row_size ps = sum_by-cons row_size p ps in
@@ -79,12 +119,16 @@ joined_processes [] = refl
 joined_processes (p ∷ ps) = ap (λ (l : List ℕ). tag_bytes (process_tag p) ++ l) (joined_processes ps)
 
 -- the parts of what is written
-pub written_parts : (args : Args) → header_row args ++ (flat_map process_row args.procs ++ names_row args.names) ≡ written args
-unfolding header_row names_row written
+pub written_parts : (args : Args) → header_row args ++ (slots_row args.slots ++ (flat_map process_row args.procs ++ names_row args.names)) ≡ written args
+unfolding header_row slots_row names_row written
 written_parts args =
+    let slots = slots_tags args.slots in
+    let procs = map process_tag args.procs in
+    let names = names_tags args.names in
+    let behind : flat_map process_row args.procs ++ flat_map tag_bytes names ≡ flat_map tag_bytes (procs ++ names) =
+    ap (λ (l : List ℕ). l ++ flat_map tag_bytes names) (sym (joined_processes args.procs)) ∙ sym (flat_map-append tag_bytes procs names) in
     ap (λ (l : List ℕ). tag_bytes (header_tag args) ++ l)
-    (ap (λ (l : List ℕ). l ++ flat_map tag_bytes (names_tags args.names)) (sym (joined_processes args.procs))
-    ∙ sym (flat_map-append tag_bytes (map process_tag args.procs) (names_tags args.names)))
+    (ap (λ (l : List ℕ). flat_map tag_bytes slots ++ l) behind ∙ sym (flat_map-append tag_bytes slots (procs ++ names)))
 
 pub header_row_is : (args : Args) → tag_bytes (right_tag (codes "XArg") (header_contents args)) ≡ header_row args
 unfolding header_row
@@ -94,27 +138,38 @@ pub process_row_is : (p : ProcArgs) → tag_bytes (right_tag (codes "IniE") (pro
 unfolding process_row
 process_row_is p = refl
 
+pub slots_row_is : (n : ℕ) → tag_bytes (right_tag (codes "SwpS") (slots_contents n)) ≡ slots_row (Some n)
+unfolding slots_row
+slots_row_is n = sym (append-nil (tag_bytes (right_tag (codes "SwpS") (slots_contents n))))
+
+pub no_slots_row : slots_row None ≡ []
+unfolding slots_row
+no_slots_row = refl
+
 -- what was appended part by part
-pub appended : (args : Args) (start a b d : List ℕ) (ps : List ProcArgs) (ns : List ProcName) → start ≡ [] → a ≡ start ++ header_row args
-    → b ≡ a ++ flat_map process_row ps → d ≡ b ++ names_row ns → ps ≡ args.procs → ns ≡ args.names → d ≡ written args
-appended args start a b d ps ns e f g h procs names =
-    h
-    ∙ ap (λ (l : List ℕ). l ++ names_row ns) (g ∙ ap (λ (l : List ℕ). l ++ flat_map process_row ps) (f ∙ ap (λ (l : List ℕ). l ++ header_row args) e))
-    ∙ append_assoc (header_row args) (flat_map process_row ps) (names_row ns)
-    ∙ ap (λ (l : List ProcArgs). header_row args ++ (flat_map process_row l ++ names_row ns)) procs
-    ∙ ap (λ (l : List ProcName). header_row args ++ (flat_map process_row args.procs ++ names_row l)) names
-    ∙ written_parts args
+pub appended : (args : Args) (start a s b d : List ℕ) (ps : List ProcArgs) (ns : List ProcName) → start ≡ [] → a ≡ start ++ header_row args
+    → s ≡ a ++ slots_row args.slots → b ≡ s ++ flat_map process_row ps → d ≡ b ++ names_row ns → ps ≡ args.procs → ns ≡ args.names → d ≡ written args
+appended args start a s b d ps ns e f k g h procs names =
+    let head : a ≡ header_row args = f ∙ ap (λ (l : List ℕ). l ++ header_row args) e in
+    let slots : s ≡ header_row args ++ slots_row args.slots = k ∙ ap (λ (l : List ℕ). l ++ slots_row args.slots) head in
+    let all : d ≡ ((header_row args ++ slots_row args.slots) ++ flat_map process_row args.procs) ++ names_row args.names =
+    h ∙ ap (λ (l : List ℕ). l ++ names_row ns) (g ∙ ap (λ (l : List ℕ). l ++ flat_map process_row ps) slots)
+    ∙ ap (λ (l : List ProcArgs). ((header_row args ++ slots_row args.slots) ++ flat_map process_row l) ++ names_row ns) procs
+    ∙ ap (λ (l : List ProcName). ((header_row args ++ slots_row args.slots) ++ flat_map process_row args.procs) ++ names_row l) names in
+    all ∙ simp append_assoc (written_parts args)
 
 pub length-header : (args : Args) → length args.ram_name ≡ 4 → length (header_row args) ≡ 28
 unfolding header_row
 length-header args four = omega (arith, length-tag_bytes (header_tag args) refl)
 
-pub length-written : (args : Args) → length args.ram_name ≡ 4 → length (written args) ≡ 28 + length (flat_map process_row args.procs) + length (names_row args.names)
+pub length-written : (args : Args) → length args.ram_name ≡ 4
+    → length (written args) ≡ 28 + length (slots_row args.slots) + length (flat_map process_row args.procs) + length (names_row args.names)
 length-written args four =
     let head = length-header args four in
     let all = ap (λ (l : List ℕ). length l) (written_parts args) in
-    let one = length-append (header_row args) (flat_map process_row args.procs ++ names_row args.names) in
-    let two = length-append (flat_map process_row args.procs) (names_row args.names) in
+    let one = length-append (header_row args) (slots_row args.slots ++ (flat_map process_row args.procs ++ names_row args.names)) in
+    let two = length-append (slots_row args.slots) (flat_map process_row args.procs ++ names_row args.names) in
+    let three = length-append (flat_map process_row args.procs) (names_row args.names) in
     omega arith
 
 pub no_names : (ns : List ProcName) → length ns ≡ 0 → names_row ns ≡ []
@@ -150,14 +205,14 @@ right name contents four whole short = record {
   right = refl;
 }
 
-pub processes_spelled : (ps : List ProcArgs) → AllByRecursion IsProcess ps → SpellsTags (map process_tag ps) ps []
-processes_spelled [] each = no_tags
-processes_spelled (p ∷ ps) each =
-    let len = length-contents p in
-    let few = each.0.few in
-    let is : IsRightTag (process_tag p) = right (codes "IniE") (process_contents p) refl (omega arith) (omega arith) in
-    more_tags (process_tag p ∷ []) (map process_tag ps) (p ∷ []) ps [] []
-    (rows.process_tag (process_tag p) p is refl (record { is_process = each.0; contents_are = refl })) (processes_spelled ps each.1)
+pub processes_spelled : (version : ℕ) (ps : List ProcArgs) → AllByRecursion (IsProcess version) ps
+    → SpellsTags version (map process_tag ps) (record nothing { procs = ps })
+processes_spelled version [] each = no_tags version
+processes_spelled version (p ∷ ps) each =
+    let short = short_process p each.0.few in
+    let is : IsRightTag (process_tag p) = right (codes "IniE") (process_contents p) refl (whole_process p) (omega arith) in
+    more_tags version (process_tag p ∷ []) (map process_tag ps) (record nothing { procs = p ∷ [] }) (record nothing { procs = ps })
+    (rows.process_tag version (process_tag p) p is refl (record { is_process = each.0; contents_are = refl })) (processes_spelled version ps each.1)
 
 entries_fit : (ns : List ProcName) → AllByRecursion HasPid ns → length (names_contents ns) < 4 * 65536 → AllByRecursion IsEntry (map written_entry ns)
 entries_fit [] each short = tt
@@ -173,33 +228,54 @@ names_again : (ns : List ProcName) → map name_of (map written_entry ns) ≡ ns
 names_again [] = refl
 names_again (n ∷ ns) = ap (λ (l : List ProcName). n ∷ l) (names_again ns)
 
-pub names_spelled : (ns : List ProcName) → AllByRecursion HasPid ns → length (names_contents ns) < 4 * 65536 → SpellsTags (names_tags ns) [] ns
-names_spelled [] each short = no_tags
-names_spelled (n ∷ ns) each short =
+pub names_spelled : (version : ℕ) (ns : List ProcName) → AllByRecursion HasPid ns → length (names_contents ns) < 4 * 65536
+    → SpellsTags version (names_tags ns) (record nothing { names = ns })
+names_spelled version [] each short = no_tags version
+names_spelled version (n ∷ ns) each short =
     let contents = names_contents (n ∷ ns) in
     let is : IsRightTag (right_tag (codes "PNam") contents) = right (codes "PNam") contents refl (whole_names (n ∷ ns)) short in
-    subst (λ (l : List ProcName). SpellsTags (names_tags (n ∷ ns)) [] l) (names_again (n ∷ ns))
-    (rows.names_tag (right_tag (codes "PNam") contents) (map written_entry (n ∷ ns)) is refl
+    subst (λ (l : List ProcName). SpellsTags version (names_tags (n ∷ ns)) (record nothing { names = l })) (names_again (n ∷ ns))
+    (rows.names_tag version (right_tag (codes "PNam") contents) (map written_entry (n ∷ ns)) is refl
     (record { each = entries_fit (n ∷ ns) each short; contents_are = sym (joined_names (n ∷ ns)) }))
+
+-- slots that an image of this version can give
+abbrev pub AreSlots : ℕ → Option ℕ → Type 0
+AreSlots version slots = IfSome slots (λ n. (version ≡ 2) × (n ≤ 16384))
+
+pub slots_spelled : (version : ℕ) (slots : Option ℕ) → AreSlots version slots → SpellsTags version (slots_tags slots) (record nothing { slots = option_to_list slots })
+slots_spelled version None can = no_tags version
+slots_spelled version (Some n) can =
+    let t = right_tag (codes "SwpS") (slots_contents n) in
+    let is : IsRightTag t = right (codes "SwpS") (slots_contents n) refl refl (omega arith) in
+    rows.slots_tag version t n is (ap (λ (v : ℕ). is_slots v t) can.0) refl can.1
 
 -- ---- the arguments are spelled
 
 -- what can be written, part by part
 pub record IsFit (args : Args) : Type 0 where
+  pub version : (args.version ≡ 1) ⊎ (args.version ≡ 2)
   pub ram : IsRam args.ram_start args.ram_size
   pub some : 1 ≤ length args.procs
-  pub few : length args.procs ≤ 32
-  pub procs : All IsProcess args.procs
+  pub few : length args.procs ≤ process_limit args.version
+  pub procs : All (IsProcess args.version) args.procs
   pub pids : All HasPid args.names
+  pub slots : AreSlots args.version args.slots
   pub names : length (names_contents args.names) < 4 * 65536
   pub words : length (written args) ≡ 4 * args.words
 
-pub tags_are_spelled : (args : Args) → IsFit args → SpellsTags (written_tags args) args.procs args.names
+pub tags_are_spelled : (args : Args) → IsFit args → SpellsTags args.version (written_tags args) (parts_of args)
 tags_are_spelled args fit =
-    subst (λ (l : List ProcArgs). SpellsTags (written_tags args) l args.names) (append-nil args.procs)
-    (more_tags (map process_tag args.procs) (names_tags args.names) args.procs [] [] args.names
-    (processes_spelled args.procs (recursion_from_All IsProcess args.procs fit.procs))
-    (names_spelled args.names (recursion_from_All HasPid args.names fit.pids) fit.names))
+    let v = args.version in
+    let procs = processes_spelled v args.procs (recursion_from_All (IsProcess v) args.procs fit.procs) in
+    let names = names_spelled v args.names (recursion_from_All HasPid args.names fit.pids) fit.names in
+    let slots = slots_spelled v args.slots fit.slots in
+    let behind = more_tags v (map process_tag args.procs) (names_tags args.names) (record nothing { procs = args.procs }) (record nothing { names = args.names }) procs names in
+    let all =
+    more_tags v (slots_tags args.slots) (map process_tag args.procs ++ names_tags args.names) (record nothing { slots = option_to_list args.slots })
+    (joined (record nothing { procs = args.procs }) (record nothing { names = args.names })) slots behind in
+    let whole : joined (record nothing { slots = option_to_list args.slots }) (joined (record nothing { procs = args.procs }) (record nothing { names = args.names })) ≡ parts_of args =
+    simp append-nil in
+    subst (SpellsTags v (written_tags args)) whole all
 
 pub fit_spells : (args : Args) (more : List ℕ) → IsFit args → args.words < 2 ^ 32 → length args.ram_name ≡ 4 → Spells (written args ++ more) args
 unfolding written
@@ -218,34 +294,47 @@ fit_spells args more fit words four =
       spelled = tags_are_spelled args fit;
       sound = record {
         words = omega arith;
+        version = fit.version;
         ram = fit.ram;
         some = fit.some;
         few = fit.few;
-        procs = All-weaker IsProcess IsSoundProcess process_is_sound args.procs fit.procs;
+        procs = All-weaker (IsProcess args.version) (IsSoundProcess args.version) (process_is_sound args.version) args.procs fit.procs;
+        slots = fit.slots;
       };
     }
 
-process_numbers : (p : ProcArgs) → IsProcess p → HasFittingNumbers p
-process_numbers p h =
+process_numbers : (version : ℕ) (p : ProcArgs) → IsProcess version p → HasFittingNumbers p
+process_numbers version p h =
     let each = All-from_recursion IsSection p.sections h.sections in
     record {
       load = h.load;
       entry = h.entry;
+      check = h.check;
       addrs = All-weaker IsSection (λ s. s.addr < 2 ^ 32) (λ s k. k.addr) p.sections each;
       sizes = All-weaker IsSection (λ s. s.size < 2 ^ 24) (λ s k. k.size) p.sections each;
     }
 
+slots_fit : (version : ℕ) (slots : Option ℕ) → AreSlots version slots → IfSome slots (λ n. n < 2 ^ 32) × IfSome slots (λ _. version ≡ 2)
+slots_fit version None can = (tt, tt)
+slots_fit version (Some n) can = let few = can.1 in (omega arith, can.0)
+
 pub fit_is_writable : (args : Args) → IsFit args → args.words < 2 ^ 32 → length args.ram_name ≡ 4 → IsWritable args
 fit_is_writable args fit words four =
+    let v = args.version in
     let s = tags_are_spelled args fit in
     let below = fit.ram.below in
+    let slots = slots_fit v args.slots fit.slots in
     record {
       words_fit = words;
+      version_fits = elim fit.version [ inl first ↦ omega arith | inr second ↦ omega arith ];
       start_fits = omega arith;
       size_fits = omega arith;
       name_fits = four;
-      procs_fit = All-weaker IsProcess HasFittingNumbers process_numbers args.procs fit.procs;
+      procs_fit = All-weaker (IsProcess v) HasFittingNumbers (process_numbers v) args.procs fit.procs;
       pids_fit = fit.pids;
+      slots_fit = slots.0;
+      has_checks = All-weaker (IsProcess v) (HasCheck v) (λ p h. h.has_check) args.procs fit.procs;
+      slots_in_second = slots.1;
       lengths_fit = All-weaker IsRightTag (λ t. length t.contents < 4 * 65536) (λ t h. h.tag.size) (written_tags args) (All-from_recursion IsRightTag (written_tags args) s.each);
       words = fit.words;
       no_fault = spelled_has_no_fault (written args) args (subst (λ (l : List ℕ). Spells l args) (append-nil (written args)) (fit_spells args [] fit words four));

@@ -1,5 +1,5 @@
 -- What the contents of tags spell. A word is 32 bits, its lowest byte first.
-use Rattle.std.specs.Prelude.{◌≡◌, ◌<◌, ◌≤◌, ℕ, ◌+◌, ◌*◌, ◌/◌, ◌-◌, ◌^◌, nat_le, if◌then◌else◌, List, [], ◌∷◌, ◌++◌, length, take, drop, Option, Some, None}
+use Rattle.std.specs.Prelude.{◌≡◌, ◌<◌, ◌≤◌, ℕ, ◌+◌, ◌*◌, ◌/◌, ◌-◌, ◌^◌, ◌==◌, nat_le, if◌then◌else◌, List, [], ◌∷◌, ◌++◌, length, take, drop, Option, Some, None, is_some, IfSome}
 use Rattle.std.specs.List.{flat_map, AllByRecursion}
 use Rattle.byteorder.specs.Endian.{little_bytes, little_number}
 use Rattle.kernel_args.specs.declared.args.Args.{Args}
@@ -11,9 +11,9 @@ use Rattle.kernel_args.specs.declared.args.ProcName.{ProcName}
 abbrev pub word : ℕ → List ℕ
 word n = little_bytes 4 n
 
--- `XArg`: the size of the row of tags in words; the version, 1; RAM start; RAM size; four RAM name bytes
+-- `XArg`: the size of the row of tags in words; the version; RAM start; RAM size; four RAM name bytes
 abbrev pub header_contents : Args → List ℕ
-header_contents args = word args.words ++ (word 1 ++ (word args.ram_start ++ (word args.ram_size ++ args.ram_name)))
+header_contents args = word args.words ++ (word args.version ++ (word args.ram_start ++ (word args.ram_size ++ args.ram_name)))
 
 -- a section: its address in one word; in the second its size in the low 24 bits and its flags above
 abbrev pub section_bytes : Section → List ℕ
@@ -31,22 +31,38 @@ front_section (a ∷ b ∷ c ∷ d ∷ k ∷ l ∷ m ∷ flags ∷ bytes) =
     Some (record { addr = little_number 4 (a ∷ b ∷ c ∷ d ∷ []); size = little_number 3 (k ∷ l ∷ m ∷ []); flags = flags }, bytes)
 front_section bytes = None
 
--- `IniE`: the load offset in the file, the entry, and the sections
-abbrev pub process_contents : ProcArgs → List ℕ
-process_contents p = word p.load ++ (word p.entry ++ flat_map section_bytes p.sections)
+-- The check word of a process, where it is given, holds the check number of its sections' bytes in the file
+-- in its low 16 bits.
+abbrev pub check_word : Option ℕ → List ℕ
+check_word None = []
+check_word (Some check) = word check
 
--- its numbers are words, and it has one to 32 sections
-pub record IsProcess (p : ProcArgs) : Type 0 where
+-- It is given exactly in version 2.
+abbrev pub HasCheck : ℕ → ProcArgs → Type 0
+HasCheck version p = is_some p.check ≡ (version == 2)
+
+-- `IniE`: the load offset in the file, the entry, the check word, and the sections
+abbrev pub process_contents : ProcArgs → List ℕ
+process_contents p = word p.load ++ (word p.entry ++ (check_word p.check ++ flat_map section_bytes p.sections))
+
+-- its numbers are words, a check word is there exactly in version 2, and it has one to 32 sections
+pub record IsProcess (version : ℕ) (p : ProcArgs) : Type 0 where
   pub load : p.load < 2 ^ 32
   pub entry : p.entry < 2 ^ 32
+  pub has_check : HasCheck version p
+  pub check : IfSome p.check (λ c. c < 2 ^ 16)
   pub some : 1 ≤ length p.sections
   pub few : length p.sections ≤ 32
   pub sections : AllByRecursion IsSection p.sections
 
--- the contents are those of an `IniE` of this process
-pub record SpellsProcess (contents : List ℕ) (p : ProcArgs) : Type 0 where
-  pub is_process : IsProcess p
+-- the contents are those of an `IniE` of this process in an image of this version
+pub record SpellsProcess (version : ℕ) (contents : List ℕ) (p : ProcArgs) : Type 0 where
+  pub is_process : IsProcess version p
   pub contents_are : contents ≡ process_contents p
+
+-- `SwpS`: the number of slots
+abbrev pub slots_contents : ℕ → List ℕ
+slots_contents slots = word slots
 
 -- An entry of `PNam` is a name of a process and the bytes after it up to a whole word, which may be any.
 pub record Entry : Type 0 where

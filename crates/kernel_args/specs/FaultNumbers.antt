@@ -9,7 +9,7 @@ too_short = 1
 abbrev pub not_xarg : ℕ
 not_xarg = 2
 
--- the version isn't 1
+-- the version is neither 1 nor 2
 abbrev pub bad_version : ℕ
 bad_version = 3
 
@@ -29,14 +29,18 @@ bad_ram = 6
 abbrev pub no_process : ℕ
 no_process = 7
 
--- there are more than 32 processes
+-- there are more than 32 processes in version 1, or more than 64 in version 2
 abbrev pub too_many_processes : ℕ
 too_many_processes = 8
 
--- a process hasn't one to 32 whole sections, or a section has an unknown flag
+-- a process hasn't one to 32 whole sections, its check word is above 16 bits, or a section has an unknown flag
 abbrev pub bad_ini : ℕ
 bad_ini = 9
 
 -- the entries of a `PNam` don't fill its contents exactly
 abbrev pub bad_names : ℕ
 bad_names = 10
+
+-- a `SwpS` isn't one word, has more than 16,384 slots, or is the second
+abbrev pub bad_slots : ℕ
+bad_slots = 19

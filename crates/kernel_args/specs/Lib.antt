@@ -1,9 +1,11 @@
 pub mod CheckNumber
 pub mod Contents
+pub mod Converting
 pub mod FaultNumbers
 pub mod Faults
 pub mod Image
 pub mod Joined
+pub mod Loads
 pub mod Reading
 pub mod Tags
 pub mod Writing

@@ -1,6 +1,6 @@
 -- The tags of an image. A tag is four name bytes, the check number of its contents in 16 bits, the
 -- length of its contents in words in 16 bits, and its contents. Numbers have their lowest byte first.
-use Rattle.std.specs.Prelude.{◌≡◌, ◌<◌, ℕ, ◌*◌, ◌/◌, ◌%◌, Bool, nat_eq, nat_le, if◌then◌else◌, List, [], ◌∷◌, ◌++◌, length, map, filter, take, drop, Option, Some, None}
+use Rattle.std.specs.Prelude.{◌≡◌, ◌<◌, ℕ, ◌*◌, ◌/◌, ◌%◌, Bool, ◌&&◌, ◌==◌, nat_eq, nat_le, if◌then◌else◌, List, [], ◌∷◌, ◌++◌, length, map, filter, take, drop, codes, Option, Some, None}
 use Rattle.std.specs.Cmp.Lexicographic.{pointwise}
 use Rattle.byteorder.specs.Endian.{little_bytes, little_number}
 
@@ -34,6 +34,10 @@ front_tag bytes = None
 abbrev pub has_name : List ℕ → Tag → Bool
 has_name name t = pointwise nat_eq t.name name
 
--- the contents of the tags with this name, in order
-abbrev pub contents_of : List ℕ → List Tag → List (List ℕ)
-contents_of name tags = map (λ t. t.contents) (filter (has_name name) tags)
+-- a `SwpS`, which is read in version 2 and passed over in version 1
+abbrev pub is_slots : ℕ → Tag → Bool
+is_slots version t = version == 2 && has_name (codes "SwpS") t
+
+-- the contents of the tags that pass a test, in order
+abbrev pub contents_of : (Tag → Bool) → List Tag → List (List ℕ)
+contents_of test tags = map (λ t. t.contents) (filter test tags)

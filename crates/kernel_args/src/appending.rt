@@ -2,8 +2,8 @@
 
 ghost use Rattle.std.specs.Prelude.{◌≡◌, ◌<◌, ◌*◌, ◌++◌, ◌^◌, length, IfOk, OnOk};
 ghost use Rattle.kernel_args.specs.Tags.{tag_bytes};
-ghost use Rattle.kernel_args.specs.Contents.{word, section_bytes, process_contents as process_contents_of, header_contents as header_contents_of, entry_bytes};
-ghost use Rattle.kernel_args.specs.Writing.{right_tag, written_entry, names_contents as names_contents_of};
+ghost use Rattle.kernel_args.specs.Contents.{word, section_bytes, process_contents as process_contents_of, header_contents as header_contents_of, slots_contents as slots_contents_of, entry_bytes};
+ghost use Rattle.kernel_args.specs.Writing.{with_size, with_load, right_tag, written_entry, names_contents as names_contents_of};
 
 use crate::args::{Args, ProcArgs, ProcName, Section};
 use crate::check_number::crc_x25;
@@ -24,26 +24,48 @@ fn append_section(out: &mut Row<u8>, section: Section) -> Result<(), NoMemory>
     out.push(section.flags)
 }
 
-/// The contents of an `XArg`.
-pub fn header_contents(alloc: Global, args: &Args) -> Result<Row<u8>, NoMemory>
-    ensures { IfOk result (λ row. row ≡ header_contents_of args.now) }
+/// The contents of an `XArg` of this version, whose row of tags has this many words.
+pub fn header_contents(
+    alloc: Global,
+    words: u32,
+    version: u32,
+    args: &Args,
+) -> Result<Row<u8>, NoMemory>
+    ensures { IfOk result (λ row. row ≡ header_contents_of (with_size words version args.now)) }
 {
     let mut out = Row::new(alloc);
-    append_word(&mut out, args.words)?;
-    append_word(&mut out, 1)?;
+    append_word(&mut out, words)?;
+    append_word(&mut out, version)?;
     append_word(&mut out, args.ram_start)?;
     append_word(&mut out, args.ram_size)?;
     out.extend_from_slice(&args.ram_name)?;
     Ok(out)
 }
 
-/// The contents of an `IniE`.
-pub fn process_contents(alloc: Global, process: &ProcArgs) -> Result<Row<u8>, NoMemory>
-    ensures { IfOk result (λ row. row ≡ process_contents_of process.now) }
+/// The contents of a `SwpS`.
+pub fn slots_contents(alloc: Global, slots: u32) -> Result<Row<u8>, NoMemory>
+    ensures { IfOk result (λ row. row ≡ slots_contents_of slots) }
 {
     let mut out = Row::new(alloc);
-    append_word(&mut out, process.load)?;
+    append_word(&mut out, slots)?;
+    Ok(out)
+}
+
+/// The contents of an `IniE` of the process with this load offset and check number.
+pub fn process_contents(
+    alloc: Global,
+    load: u32,
+    check: Option<u16>,
+    process: &ProcArgs,
+) -> Result<Row<u8>, NoMemory>
+    ensures { IfOk result (λ row. row ≡ process_contents_of (with_load load check process.now)) }
+{
+    let mut out = Row::new(alloc);
+    append_word(&mut out, load)?;
     append_word(&mut out, process.entry)?;
+    if let Some(check) = check {
+        append_word(&mut out, check as u32)?;
+    }
     for section in process.sections.as_slice() {
         append_section(&mut out, *section)?;
     }

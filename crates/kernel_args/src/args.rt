@@ -10,12 +10,16 @@ pub(crate) const KNOWN_FLAGS: u8 = 31;
 pub struct Args {
     /// The size of the row of tags in words of four bytes.
     pub words: u32,
+    /// The version of the image, 1 or 2.
+    pub version: u32,
     /// The physical address at which RAM starts.
     pub ram_start: u32,
     /// The size of RAM in bytes.
     pub ram_size: u32,
     /// The name of RAM.
     pub ram_name: [u8; 4],
+    /// The number of slots of the swap store, which only an image of version 2 can give.
+    pub slots: Option<u32>,
     /// The processes, in the order of their pids from 2 on.
     pub procs: Row<ProcArgs>,
     /// The names of processes, which have no effect on a run.
@@ -29,6 +33,8 @@ pub struct ProcArgs {
     pub load: u32,
     /// The address of its first instruction.
     pub entry: u32,
+    /// The check number of the bytes of its sections in the file, given exactly in version 2.
+    pub check: Option<u16>,
     /// Its sections, one to 32.
     pub sections: Row<Section>,
 }

@@ -6,7 +6,7 @@ use thiserror::Error;
 pub const TOO_SHORT: u8 = 1;
 /// The file doesn't begin with a tag named `XArg` of five words.
 pub const NOT_XARG: u8 = 2;
-/// The version isn't 1.
+/// The version is neither 1 nor 2.
 pub const BAD_VERSION: u8 = 3;
 /// The row of tags is below seven words or passes the end of the file, or a tag passes the end of
 /// the row.
@@ -17,12 +17,15 @@ pub const BAD_CHECK: u8 = 5;
 pub const BAD_RAM: u8 = 6;
 /// There is no process.
 pub const NO_PROCESS: u8 = 7;
-/// There are more than 32 processes.
+/// There are more than 32 processes in version 1, or more than 64 in version 2.
 pub const TOO_MANY_PROCESSES: u8 = 8;
-/// A process hasn't one to 32 whole sections, or a section has an unknown flag.
+/// A process hasn't one to 32 whole sections, its check word is above 16 bits, or a section has an
+/// unknown flag.
 pub const BAD_INI: u8 = 9;
 /// The entries of a `PNam` don't fill its contents exactly.
 pub const BAD_NAMES: u8 = 10;
+/// A `SwpS` isn't one word, has more than 16,384 slots, or is the second.
+pub const BAD_SLOTS: u8 = 19;
 
 /// A fault of an image.
 #[derive(Clone, Copy, Debug, PartialEq, Eq, Error)]

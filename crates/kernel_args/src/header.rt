@@ -2,7 +2,7 @@
 
 ghost use Rattle.std.specs.Prelude.{◌≡◌, ◌≤◌, ◌+◌, length, IfNone};
 ghost use Rattle.std.specs.Bool.{OnFalse};
-ghost use Rattle.kernel_args.specs.Faults.{first_fault, is_not_xarg as is_not_xarg_of, is_bad_header_check, is_bad_total as is_bad_total_of, is_bad_ram as is_bad_ram_of, number_at, row_size, header_faults};
+ghost use Rattle.kernel_args.specs.Faults.{first_fault, is_not_xarg as is_not_xarg_of, is_bad_header_check, is_bad_total as is_bad_total_of, is_bad_ram as is_bad_ram_of, number_at, row_size, is_bad_version as is_bad_version_of, header_faults};
 ghost use Rattle.kernel_args.specs.Reading.{HeaderIs};
 
 use crate::check_number::crc_x25;
@@ -13,6 +13,9 @@ use xk_base::limits::{CONSOLE_ADDRESS, FRAME_LIMIT, PAGE_SIZE};
 /// The size of the first tag, whose contents are five words, in bytes.
 pub const HEADER_SIZE: usize = 28;
 
+/// The version whose images can give slots and have check words and up to 64 processes.
+pub const SECOND_VERSION: u32 = 2;
+
 /// The most bytes of RAM: 64 MiB.
 const RAM_LIMIT: u32 = FRAME_LIMIT * PAGE_SIZE;
 
@@ -21,6 +24,8 @@ const RAM_LIMIT: u32 = FRAME_LIMIT * PAGE_SIZE;
 pub struct Header {
     /// The size of the row of tags in words.
     pub words: u32,
+    /// 1 or 2, where the first tag has no fault.
+    pub version: u32,
     pub ram_start: u32,
     pub ram_size: u32,
     pub ram_name: [u8; 4],
@@ -42,6 +47,13 @@ fn has_wrong_check(bytes: &[u8]) -> bool
     ensures { result ≡ is_bad_header_check bytes.now }
 {
     LittleEndian::read_u16(&bytes[4..]) != crc_x25(&bytes[8..HEADER_SIZE])
+}
+
+/// Whether the version is neither 1 nor 2.
+pub fn is_bad_version(version: u32) -> bool
+    ensures { result ≡ is_bad_version_of version }
+{
+    !(version == 1 || version == SECOND_VERSION)
 }
 
 /// Whether the row of tags is below seven words or passes the end of the file.
@@ -93,7 +105,7 @@ pub fn header_fault(bytes: &[u8]) -> Option<ArgFault>
         (NOT_XARG, 0)
     } else if has_wrong_check(bytes) {
         (BAD_CHECK, 0)
-    } else if word_at(bytes, 12) != 1 {
+    } else if is_bad_version(word_at(bytes, 12)) {
         (BAD_VERSION, 12)
     } else if is_bad_total(bytes) {
         (BAD_TOTAL, 8)
@@ -108,10 +120,11 @@ pub fn header_fault(bytes: &[u8]) -> Option<ArgFault>
 /// What the first tag says.
 pub fn header_of(bytes: &[u8]) -> Header
     requires { 28 ≤ length bytes.now }
-    ensures { HeaderIs bytes.now result.words result.ram_start result.ram_size result.ram_name }
+    ensures { HeaderIs bytes.now result }
 {
     Header {
         words: word_at(bytes, 8),
+        version: word_at(bytes, 12),
         ram_start: word_at(bytes, 16),
         ram_size: word_at(bytes, 20),
         ram_name: [bytes[24], bytes[25], bytes[26], bytes[27]],

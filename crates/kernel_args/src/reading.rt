@@ -1,24 +1,26 @@
 //! Images are read.
 
 ghost use Rattle.std.specs.Prelude.{◌≡◌, ◌≤◌, length, None, IfOk, OnOk, IfErr};
-ghost use Rattle.kernel_args.specs.Image.{Spells, IsSoundArgs};
-ghost use Rattle.kernel_args.specs.Tags.{IsTag};
-ghost use Rattle.kernel_args.specs.Faults.{first_fault, tag_faults, row_fault, args_fault, IsFault};
-ghost use Rattle.kernel_args.specs.Reading.{tag_of, AddsTag, SpellsRow};
+ghost use Rattle.kernel_args.specs.Image.{process_limit, Spells, IsSoundArgs};
+ghost use Rattle.kernel_args.specs.Tags.{IsTag, is_slots as is_slots_of};
+ghost use Rattle.kernel_args.specs.Faults.{first_fault, tag_faults, at_start, row_fault, args_fault, IsFault};
+ghost use Rattle.kernel_args.specs.Reading.{tag_of, before_with, AddsTag, SpellsRow};
 ghost use Rattle.kernel_args.specs.declared.faults.ArgsError.TheVariants.{Fault, NoMemory as OutOfMemory};
 
-use crate::args::{Args, ProcArgs, ProcName};
+use crate::args::Args;
 use crate::check_number::crc_x25;
 use crate::faults::{
-    ArgFault, ArgsError, BAD_CHECK, BAD_INI, BAD_NAMES, BAD_TOTAL, NO_PROCESS, TOO_MANY_PROCESSES,
+    ArgFault, ArgsError, BAD_CHECK, BAD_INI, BAD_NAMES, BAD_SLOTS, BAD_TOTAL, NO_PROCESS,
+    TOO_MANY_PROCESSES,
 };
-use crate::header::{HEADER_SIZE, header_fault, header_of};
+use crate::found::Found;
+use crate::header::{HEADER_SIZE, SECOND_VERSION, header_fault, header_of};
 use crate::names::append_names;
-use crate::process::process_of;
+use crate::process::{process_limit, process_of};
+use crate::slots::slots_of;
 use crate::tag::{TagAt, front_tag};
 use std::alloc::Global;
-use xk_base::limits::FIRST_PROCESS_LIMIT;
-use xk_base::{NoMemory, Row};
+use xk_base::NoMemory;
 
 impl From<NoMemory> for ArgsError {
     ghost from_gives = { λ _ e. e ≡ OutOfMemory };
@@ -35,67 +37,72 @@ fn fault(what: u8, at: u32) -> ArgsError
     ArgsError::Fault(ArgFault { what, at })
 }
 
-/// Reads a tag at an offset into the processes and names that the tags before it spell.
+/// Whether the tag is a `SwpS`, which is read in version 2 alone.
+fn is_slots(version: u32, tag: &TagAt<'_>) -> bool
+    ensures { result ≡ is_slots_of version (tag_of tag.now) }
+{
+    version == SECOND_VERSION && tag.name == b"SwpS".as_slice()
+}
+
+/// Reads a tag at an offset into what the tags before it spell.
 fn read_tag(
     alloc: Global,
+    version: u32,
     tag: &TagAt<'_>,
     at: u32,
-    procs: &mut Row<ProcArgs>,
-    names: &mut Row<ProcName>,
+    found: &mut Found,
 ) -> Result<(), ArgsError>
     requires tag { IsTag (tag_of tag.now) }
-    requires few { length procs.old ≤ 32 }
-    ensures ok { OnOk result (AddsTag (tag_of tag.now) procs.old names.old procs.new names.new) }
-    ensures fault { IfErr result (IsFault (first_fault (tag_faults at (length procs.old) (tag_of tag.now)))) }
+    requires few { length found.old.procs ≤ process_limit version }
+    ensures ok { OnOk result (AddsTag version (tag_of tag.now) found.old found.new) }
+    ensures fault { IfErr result (IsFault (first_fault (tag_faults (before_with version at found.old) (tag_of tag.now)))) }
 {
     if crc_x25(tag.contents) != tag.check {
         return Err(fault(BAD_CHECK, at));
     }
     if tag.name == b"IniE".as_slice() {
-        if procs.as_slice().len() >= FIRST_PROCESS_LIMIT as usize {
+        if found.procs.as_slice().len() >= process_limit(version) as usize {
             return Err(fault(TOO_MANY_PROCESSES, at));
         }
-        match process_of(alloc, tag.contents)? {
-            None => Err(fault(BAD_INI, at)),
-            Some(process) => {
-                procs.push(process)?;
-                Ok(())
-            }
+        match process_of(alloc, version, tag.contents)? {
+            None => return Err(fault(BAD_INI, at)),
+            Some(process) => found.procs.push(process)?,
         }
     } else if tag.name == b"PNam".as_slice() {
-        if append_names(alloc, names, tag.contents)? {
-            Ok(())
-        } else {
-            Err(fault(BAD_NAMES, at))
+        if !append_names(alloc, &mut found.names, tag.contents)? {
+            return Err(fault(BAD_NAMES, at));
         }
-    } else {
-        Ok(())
+    } else if is_slots(version, tag) {
+        match slots_of(tag.contents) {
+            Some(slots) if found.slots.is_none() => found.slots = Some(slots),
+            _ => return Err(fault(BAD_SLOTS, at)),
+        }
     }
+    Ok(())
 }
 
-/// Reads the row of tags behind the header.
-fn read_row(alloc: Global, row: &[u8]) -> Result<(Row<ProcArgs>, Row<ProcName>), ArgsError>
+/// Reads the row of tags behind the header of an image of this version.
+fn read_row(alloc: Global, version: u32, row: &[u8]) -> Result<Found, ArgsError>
     requires { length row.now ≤ 67108836 }
-    ensures ok { IfOk result (λ r. SpellsRow row.now r.0 r.1) }
-    ensures fault { IfErr result (IsFault (row_fault 28 0 row.now)) }
+    ensures ok { IfOk result (SpellsRow version row.now) }
+    ensures fault { IfErr result (IsFault (row_fault (at_start version) row.now)) }
 {
-    let mut procs = Row::new(alloc);
-    let mut names = Row::new(alloc);
+    let mut found = Found::new(alloc);
     let mut rest = row;
     while !rest.is_empty() {
         let at = (HEADER_SIZE + (row.len() - rest.len())) as u32;
         match front_tag(rest) {
             None => return Err(fault(BAD_TOTAL, at)),
             Some((tag, after)) => {
-                read_tag(alloc, &tag, at, &mut procs, &mut names)?;
+                read_tag(alloc, version, &tag, at, &mut found)?;
                 rest = after;
             }
         }
     }
-    if procs.as_slice().is_empty() {
+    if found.procs.as_slice().is_empty() {
         return Err(fault(NO_PROCESS, (HEADER_SIZE + row.len()) as u32));
     }
-    Ok((procs, names))
+    Ok(found)
 }
 
 /// Reads the arguments at the front of an image of at most 64 MiB. A fault is the first that the
@@ -113,14 +120,16 @@ pub fn read_args(alloc: Global, bytes: &[u8]) -> Result<Args, ArgsError>
     let header = header_of(bytes);
     let (front, _) = bytes.split_at(header.words as usize * 4);
     let (_, row) = front.split_at(HEADER_SIZE);
-    let (procs, names) = read_row(alloc, row)?;
+    let found = read_row(alloc, header.version, row)?;
     let ram_name = header.ram_name;
     Ok(Args {
         words: header.words,
+        version: header.version,
         ram_start: header.ram_start,
         ram_size: header.ram_size,
         ram_name,
-        procs,
-        names,
+        slots: found.slots,
+        procs: found.procs,
+        names: found.names,
     })
 }

@@ -5,6 +5,8 @@ use std::process::Abort;
 use std::test::*;
 use xk_base::{NoMemory, Row};
 
+mod second;
+
 /// The row of tags of an image of one process, 52 bytes; a file has the sections' bytes behind it.
 const ONE_PROCESS: [u8; 52] = [
     0x58, 0x41, 0x72, 0x67, 0xca, 0x7f, 0x05, 0x00, 0x0d, 0x00, 0x00, 0x00, 0x01, 0x00, 0x00, 0x00,
@@ -54,11 +56,11 @@ const fn checked(at: u8, word: u32, check: (u8, u16), fault: Option<(u8, u32)>) 
     }
 }
 
-fn put(rt: &impl Abort, image: &mut [u8; 132], at: u8, bytes: &[u8]) {
+fn put(rt: &impl Abort, image: &mut [u8], at: u8, bytes: &[u8]) {
     for (i, byte) in bytes.iter().enumerate() {
         assert!(rt; i < 4);
         let place = at as usize + i;
-        assert!(rt; place < 132);
+        assert!(rt; place < image.len());
         image[place] = *byte;
     }
 }
@@ -133,7 +135,9 @@ fn damaged_images(rt: HostRuntime) -> Result<(), Fail> {
     let table = [
         // names and versions
         broken(0, 0x68724158, (NOT_XARG, 0)),
-        checked(12, 2, (4, 0x793d), Some((BAD_VERSION, 12))),
+        checked(12, 3, (4, 0xf72d), Some((BAD_VERSION, 12))),
+        checked(12, 2, (4, 0x793d), Some((BAD_INI, 40))),
+        checked(28, 0x53707753, (4, 0xe31c), None),
         checked(40, 0x58696e49, (4, 0xe31c), None),
         // check numbers, each with the length behind it
         broken(4, 0x00050000, (BAD_CHECK, 0)),
@@ -202,9 +206,11 @@ fn no_process(rt: HostRuntime) -> Result<(), Fail> {
 fn args_of(words: u32, procs: Row<ProcArgs>, names: Row<ProcName>) -> Args {
     Args {
         words,
+        version: 1,
         ram_start: 0x4000_0000,
         ram_size: 0x0100_0000,
         ram_name: [0x73, 0x72, 0x61, 0x6d],
+        slots: None,
         procs,
         names,
     }
@@ -222,6 +228,7 @@ fn process_with(
     Ok(ProcArgs {
         load,
         entry: 0x1_0000,
+        check: None,
         sections: row,
     })
 }

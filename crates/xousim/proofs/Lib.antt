@@ -1,7 +1,14 @@
+pub mod ConvertLemmas
+pub mod ConvertedBootLemmas
 pub mod GatheringLemmas
 pub mod HistoryLemmas
 pub mod KeptLemmas
+pub mod LoadHistoryLemmas
+pub mod LoadImageLemmas
+pub mod LoadPlayingLemmas
+pub mod LoadTotalsLemmas
 pub mod MatchedLemmas
+pub mod MovedStartLemmas
 pub mod PlayingLemmas
 pub mod ReadingLemmas
 pub mod SummaryLemmas

@@ -1,5 +1,5 @@
 -- A machine that an image boots is matched: its plan is lawful, as the image has no fault.
-use Rattle.std.proofs.Common.{◌≡◌, ◌≤◌, ◌∙◌, ap, sym, subst, ℕ, Bool, true, false, nat_lt, List, length, Option, Some, None, MatchBool, MatchOption}
+use Rattle.std.proofs.Common.{◌≡◌, ◌≤◌, ◌∙◌, ap, sym, subst, ℕ, Bool, true, false, nat_lt, List, length, Option, Some, None, MatchBool, MatchOption, IfSome}
 use Rattle.std.proofs.lemmas.Option.{none-some}
 use Rattle.boot_plan.specs.FaultNumbers.{too_long}
 use Rattle.boot_plan.specs.Faults.{plan_fault}
@@ -24,36 +24,36 @@ use Rattle.xousim.specs.History.{history_of}
 use Rattle.xousim.specs.Outcome.{Boots}
 
 -- the cases of an image's fault
-abbrev Cases : List ℕ → ℕ → Option ArgFault → Bool → Option ArgFault → Type 0
-Cases image slots fault long in_args =
+abbrev pub Cases : List ℕ → Option ℕ → Option ArgFault → Bool → Option ArgFault → Type 0
+Cases image asked fault long in_args =
     MatchBool long (fault ≡ Some (record { what = too_long; at = 0 }))
-    (MatchOption in_args ((args : Args) × Spells image args × (fault ≡ plan_fault args (length image) slots)) (λ f. fault ≡ Some f))
+    (MatchOption in_args ((args : Args) × Spells image args × (fault ≡ plan_fault args image asked)) (λ f. fault ≡ Some f))
 
 -- where it has none, the plan of its arguments has none
-no_plan_fault : (image : List ℕ) (slots : ℕ) (args : Args) → Spells image args → IsImageFault image slots None → plan_fault args (length image) slots ≡ None
-no_plan_fault image slots args spelled = go (nat_lt 67108864 (length image)) (args_fault image)
+pub no_plan_fault : (image : List ℕ) (asked : Option ℕ) (args : Args) → Spells image args → IsImageFault image asked None → plan_fault args image asked ≡ None
+no_plan_fault image asked args spelled = go (nat_lt 67108864 (length image)) (args_fault image)
   where
-    go : (long : Bool) (in_args : Option ArgFault) → Cases image slots None long in_args → plan_fault args (length image) slots ≡ None
+    go : (long : Bool) (in_args : Option ArgFault) → Cases image asked None long in_args → plan_fault args image asked ≡ None
     go true in_args h = absurd (none-some _ h)
     go false None h =
         let same : h.0 ≡ args = spelled_once image h.0 args h.1 spelled in
-        ap (λ (a : Args). plan_fault a (length image) slots) (sym same) ∙ sym h.2
+        ap (λ (a : Args). plan_fault a image asked) (sym same) ∙ sym h.2
     go false (Some f) h = absurd (none-some f h)
 
-pub booted_matched : (image : List ℕ) (slots : ℕ) (machine : Machine) → slots ≤ SLOT_LIMIT → Boots image slots machine → Matched machine
-booted_matched image slots machine few boots =
+pub booted_matched : (image : List ℕ) (asked : Option ℕ) (machine : Machine) → IfSome asked (λ n. n ≤ SLOT_LIMIT) → Boots image asked machine → Matched machine
+booted_matched image asked machine few boots =
     let args : Args = boots.args in
-    let no_fault : plan_fault args (length image) slots ≡ None = no_plan_fault image slots args boots.sound.spelled boots.sound.no_fault in
+    let no_fault : plan_fault args image asked ≡ None = no_plan_fault image asked args boots.sound.spelled boots.sound.no_fault in
     subst Matched (sym boots.start)
-    (start_of_plan_matched (plan_of args slots) image
-    (lawful_plan args (length image) slots boots.sound.spelled.sound few no_fault)
-    (plan_can_start args (length image) slots no_fault))
+    (start_of_plan_matched (plan_of args asked) image
+    (lawful_plan args image asked boots.sound.spelled.sound few no_fault)
+    (plan_can_start args image asked no_fault))
 
-pub moments_of_runs_matched : (image : List ℕ) (slots : ℕ) (machine : Machine) → slots ≤ SLOT_LIMIT → Boots image slots machine
+pub moments_of_runs_matched : (image : List ℕ) (asked : Option ℕ) (machine : Machine) → IfSome asked (λ n. n ≤ SLOT_LIMIT) → Boots image asked machine
     → (events : List Event) (limit i : ℕ) → Matched (state_at machine (moments_of events limit machine) i)
-moments_of_runs_matched image slots machine few boots events limit i =
-    moments_matched events limit machine (booted_matched image slots machine few boots) i
+moments_of_runs_matched image asked machine few boots events limit i =
+    moments_matched events limit machine (booted_matched image asked machine few boots) i
 
-pub runs_matched : (image : List ℕ) (slots : ℕ) (machine : Machine) → slots ≤ SLOT_LIMIT → Boots image slots machine
+pub runs_matched : (image : List ℕ) (asked : Option ℕ) (machine : Machine) → IfSome asked (λ n. n ≤ SLOT_LIMIT) → Boots image asked machine
     → (input : Input) (limit : ℕ) → Matched (history_of input limit machine).machine
-runs_matched image slots machine few boots input limit = history_matched input.events limit machine (booted_matched image slots machine few boots)
+runs_matched image asked machine few boots input limit = history_matched input.events limit machine (booted_matched image asked machine few boots)

@@ -1,5 +1,5 @@
 -- The parts of a call, put together.
-use Rattle.std.proofs.Common.{◌≡◌, ◌≤◌, inl, inr, ℕ, Bool, List, [], ◌∷◌, ◌++◌, Option, true, false, Ok, sym, ap, ◌∙◌, subst, arith, append_assoc}
+use Rattle.std.proofs.Common.{◌≡◌, ◌≤◌, refl, inl, inr, ℕ, Bool, List, [], ◌∷◌, ◌++◌, Option, true, false, Ok, sym, ap, ◌∙◌, subst, arith, append_assoc}
 use Rattle.std.specs.Option.{option_map}
 use Rattle.xk_base.specs.Outside.{Rose}
 use Rattle.xk_ports.specs.Host.{FileAsked}
@@ -14,7 +14,7 @@ use Rattle.xousim.specs.declared.status.Status.{Status}
 use Rattle.xousim.specs.declared.status.Status.TheVariants.{Done, Usage, ReadFault, WriteFault, ImageFault, EventFault, StepLimit, NoMemory, NotBuilt}
 use Rattle.xousim.specs.Finish.{EndsBooted, Finishes}
 use Rattle.xousim.specs.History.{History}
-use Rattle.xousim.specs.Outcome.{AsksBoth, Call, Ends, EndsPlay, HasCause, Image, Tells, Told, run_of}
+use Rattle.xousim.specs.Outcome.{AsksBoth, Call, Ends, EndsDemo, EndsPlay, HasCause, Image, OutRose, Tells, TellsDemo, Told, run_of}
 use Rattle.xousim.specs.Reading.{Asked, IsFile, IsTold}
 use Rattle.xk_kernel.specs.Start.{start}
 use Rattle.xousim.specs.Telling.{closing, output, told}
@@ -127,16 +127,16 @@ ends_earlier : (play : Play) (machine : Machine) (asked : Option (List FileAsked
     → Image call.host.files play.image play.slots machine → faults ≤ call.host.faults → Asked asked call.host.asked First play.image true → IsTold call.host.image_left []
     → EndsBooted play machine call → EndsPlay play (begun_at asked faults call)
 ends_earlier play machine asked faults call image later first read (inl unpicked) =
-    inr (inl (record {
+    inr (inr (inl (record {
       asked = asks_both play asked faults call false first unpicked.asked;
       ended = unpicked.ended;
       cause = rose_after faults call.host.faults call.host.faults_after later unpicked.cause;
       machine = machine;
       image = image;
       unwritten = unpicked.unwritten;
-    }))
+    })))
 ends_earlier play machine asked faults call image later first read (inr picked) =
-    inr (inr (record {
+    inr (inr (inr (record {
       asked = asks_both play asked faults call true first picked.asked;
       cause = cause_earlier asked faults call call.status later picked.cause;
       machine = machine;
@@ -144,7 +144,7 @@ ends_earlier play machine asked faults call image later first read (inr picked) 
       content = tells_earlier play machine asked faults call call.status picked.content;
       image_read = λ done. read;
       events_read = picked.events_read;
-    }))
+    })))
 
 -- the same call at a host of these files
 abbrev pub with_files : Told → Call → Call
@@ -161,7 +161,29 @@ pub ends_as_read : (read : Option CommandWords) (command : Option Command) (call
 ends_as_read read command call same ends =
     let P : Option Command → Type 0 = λ c. Ends c call in subst P same ends
 
+-- ---- `demo`
+
+cause_of_demo : (clients : ℕ) (call : Call) (status : Status) → (status ≡ WriteFault → OutRose call) → TellsDemo clients call.out status → HasCause call status
+cause_of_demo clients call Done cause content = tt
+cause_of_demo clients call NoMemory cause content = tt
+cause_of_demo clients call WriteFault cause content = cause refl
+cause_of_demo clients call Usage cause content = tt
+cause_of_demo clients call NotBuilt cause content = tt
+cause_of_demo clients call ReadFault cause content = absurd content
+cause_of_demo clients call (ImageFault fault) cause content = tt
+cause_of_demo clients call (EventFault line) cause content = tt
+cause_of_demo clients call (StepLimit limit) cause content = tt
+
+pub demo_ends : (clients : ℕ) (call : Call) → call.host.asked_after ≡ call.host.asked → call.host.faults_after ≡ call.host.faults
+    → (call.status ≡ WriteFault → OutRose call) → TellsDemo clients call.out call.status → EndsDemo clients call
+demo_ends clients call asked faults cause content = record {
+  asked = asked;
+  host_faults = faults;
+  cause = cause_of_demo clients call call.status cause content;
+  content = content;
+}
+
 -- no step was done when a machine was booted
-pub boots_at_zero : (file : Told) (name : List ℕ) (slots : ℕ) (machine : Machine) → Image file name slots machine → machine.steps ≡ 0
+pub boots_at_zero : (file : Told) (name : List ℕ) (slots : Option ℕ) (machine : Machine) → Image file name slots machine → machine.steps ≡ 0
 unfolding start
 boots_at_zero file name slots machine image = ap (λ (m : Machine). m.steps) image.boots.start

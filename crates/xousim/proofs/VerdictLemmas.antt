@@ -1,39 +1,42 @@
 -- The files decide the status.
-use Rattle.std.proofs.Common.{◌≡◌, ◌⊎◌, inl, inr, ℕ, Bool, true, false, List, Option, Some, None, refl, sym, ap, ◌∙◌, subst}
+use Rattle.std.proofs.Common.{◌≡◌, ◌<◌, ◌≤◌, ◌⊎◌, inl, inr, ℕ, length, Bool, true, false, List, Option, Some, None, refl, sym, ap, ◌∙◌, subst, arith}
 use Rattle.std.proofs.lemmas.Option.{same_Some}
 use Rattle.kernel_args.specs.declared.args.Args.{Args}
 use Rattle.kernel_args.specs.declared.faults.ArgFault.{ArgFault}
+use Rattle.kernel_args.specs.Image.{Spells}
 use Rattle.kernel_args.proofs.ImageLemmas.{spelled_once}
 use Rattle.boot_plan.specs.FirstPages.{plan_of}
 use Rattle.boot_plan.specs.ImageFault.{IsImageFault}
+use Rattle.boot_plan.specs.Slots.{slots_used}
 use Rattle.boot_plan.proofs.ImageFaultLemmas.{image_fault_once}
 use Rattle.machine_model.specs.State.Machine.{Machine}
+use Rattle.xk_base.specs.declared.limits.TheConstants.{IMAGE_LIMIT, SLOT_LIMIT}
 use Rattle.xk_kernel.specs.Start.{start}
 use Rattle.xousim.specs.declared.playing.ending.Ending.{Ending}
 use Rattle.xousim.specs.declared.playing.ending.Ending.TheVariants.{Played, LimitMet, BadLine}
 use Rattle.xousim.specs.declared.status.Status.{Status}
 use Rattle.xousim.specs.declared.status.Status.TheVariants.{Done, Usage, ReadFault, WriteFault, ImageFault, EventFault, StepLimit, NoMemory, NotBuilt}
-use Rattle.xousim.specs.Outcome.{Boots, Call, Ends, EndsCheck, EndsIfBuilt, EndsPlay, HasCause, HostRose, Image, IsCheckComplete, IsCheckVerdict, IsCommandComplete, IsComplete, IsPlanned, IsPlayComplete, IsUnwritten, IsVerdict, OutRose, Ran, Refuses, RunsTo, Summarizes, Tells, run_of}
+use Rattle.xousim.specs.Outcome.{Boots, Call, Ends, EndsCheck, EndsConvert, EndsIfBuilt, EndsPlay, HasCause, HasSlots, HostRose, Image, IsCheckComplete, IsCheckVerdict, IsCommandComplete, IsComplete, IsConversion, IsConvertComplete, IsConvertVerdict, IsPlanned, IsPlayComplete, IsUnwritten, IsVerdict, OutRose, Ran, Refuses, RunsTo, Summarizes, Tells, TellsDemo, Writes, conversion, long_file, run_of}
 use Rattle.boot_plan.specs.declared.plans.BootPlan.{BootPlan}
 use Rattle.xousim.specs.Built.{is_built}
 use Rattle.xousim.specs.Reading.{IsFile}
-use Rattle.xousim.specs.Words.{Check, Command, Plays, Checks, Demo, Play}
+use Rattle.xousim.specs.Words.{Check, Command, Plays, Checks, Converts, Demo, Play}
 
 -- ---- what a file has is one
 
 same_bytes : (file : List ℕ → Option (List ℕ)) (name one other : List ℕ) → IsFile (Some file) name one → IsFile (Some file) name other → one ≡ other
 same_bytes file name one other a b = same_Some _ _ (sym a ∙ b)
 
-one_fault : (bytes : List ℕ) (slots : ℕ) (one other : Option ArgFault) → IsImageFault bytes slots one → IsImageFault bytes slots other → one ≡ other
+one_fault : (bytes : List ℕ) (slots : Option ℕ) (one other : Option ArgFault) → IsImageFault bytes slots one → IsImageFault bytes slots other → one ≡ other
 one_fault bytes slots one other = image_fault_once bytes slots (spelled_once bytes) one other
 
 -- an image boots one machine
-one_machine : (bytes : List ℕ) (slots : ℕ) (one other : Machine) → Boots bytes slots one → Boots bytes slots other → one ≡ other
+one_machine : (bytes : List ℕ) (slots : Option ℕ) (one other : Machine) → Boots bytes slots one → Boots bytes slots other → one ≡ other
 one_machine bytes slots one other a b =
     let same : a.args ≡ b.args = spelled_once bytes a.args b.args a.sound.spelled b.sound.spelled in
     a.start ∙ (ap (λ (args : Args). start (plan_of args slots) bytes) same ∙ sym b.start)
 
-images_agree : (file : List ℕ → Option (List ℕ)) (name : List ℕ) (slots : ℕ) (one other : Machine) → Image (Some file) name slots one → Image (Some file) name slots other → one ≡ other
+images_agree : (file : List ℕ → Option (List ℕ)) (name : List ℕ) (slots : Option ℕ) (one other : Machine) → Image (Some file) name slots one → Image (Some file) name slots other → one ≡ other
 images_agree file name slots one other a b =
     let same : b.bytes ≡ a.bytes = same_bytes file name b.bytes a.bytes b.read a.read in
     let P : List ℕ → Type 0 = λ bytes. Boots bytes slots other in
@@ -51,18 +54,34 @@ none_is_some : (fault : ArgFault) → None ≡ Some fault → ⊥
 none_is_some fault e = cc
 
 -- an image that boots has no fault
-boots_no_fault : (file : List ℕ → Option (List ℕ)) (name : List ℕ) (slots : ℕ) (machine : Machine) (image : List ℕ) (fault : ArgFault)
+boots_no_fault : (file : List ℕ → Option (List ℕ)) (name : List ℕ) (slots : Option ℕ) (machine : Machine) (image : List ℕ) (fault : ArgFault)
     → Image (Some file) name slots machine → IsFile (Some file) name image → IsImageFault image slots (Some fault) → ⊥
 boots_no_fault file name slots machine image fault boots read faulty =
     let P : List ℕ → Type 0 = λ bytes. IsImageFault bytes slots (Some fault) in
     none_is_some fault (one_fault boots.bytes slots None (Some fault) boots.boots.sound.no_fault (subst P (same_bytes file name image boots.bytes read boots.read) faulty))
 
--- ---- each verdict is that of a run or of an image with a fault
+-- an image whose run has slots has no fault, and boots no machine in a run without them
+slots_no_fault : (file : List ℕ → Option (List ℕ)) (name : List ℕ) (asked : Option ℕ) (image : List ℕ) (fault : ArgFault)
+    → HasSlots (Some file) name asked → IsFile (Some file) name image → IsImageFault image asked (Some fault) → ⊥
+slots_no_fault file name asked image fault has read faulty =
+    let P : List ℕ → Type 0 = λ bytes. IsImageFault bytes asked (Some fault) in
+    none_is_some fault (one_fault has.bytes asked None (Some fault) has.sound.no_fault (subst P (same_bytes file name image has.bytes read has.read) faulty))
+
+slots_no_boot : (file : List ℕ → Option (List ℕ)) (name : List ℕ) (asked : Option ℕ) (machine : Machine)
+    → Image (Some file) name asked machine → HasSlots (Some file) name asked → ⊥
+slots_no_boot file name asked machine image has =
+    let P : List ℕ → Type 0 = λ bytes. Spells bytes has.args in
+    let spelled = subst P (same_bytes file name has.bytes image.bytes has.read image.read) has.sound.spelled in
+    let same : has.args ≡ image.boots.args = spelled_once image.bytes has.args image.boots.args spelled image.boots.sound.spelled in
+    let some : 0 < slots_used image.boots.args asked = subst (λ (args : Args). 0 < slots_used args asked) same has.some in
+    omega (arith, image.no_slots)
+
+-- ---- each verdict is that of a run, of an image with a fault or of one whose run has slots
 
 same_fault : (one other : ArgFault) → Some one ≡ Some other → ImageFault one ≡ ImageFault other
 same_fault one other e = ap (λ (f : ArgFault). ImageFault f) (same_Some one other e)
 
-faults_agree : (file : List ℕ → Option (List ℕ)) (name : List ℕ) (slots : ℕ) (image other : List ℕ) (one two : ArgFault)
+faults_agree : (file : List ℕ → Option (List ℕ)) (name : List ℕ) (slots : Option ℕ) (image other : List ℕ) (one two : ArgFault)
     → IsFile (Some file) name image → IsImageFault image slots (Some one) → IsFile (Some file) name other → IsImageFault other slots (Some two) → ImageFault one ≡ ImageFault two
 faults_agree file name slots image other one two read faulty read_other faulty_other =
     let P : List ℕ → Type 0 = λ bytes. IsImageFault bytes slots (Some two) in
@@ -80,15 +99,18 @@ OfRun file play status = (ending : Ending) × RunsTo (Some file) play ending × 
 abbrev OfFault : (List ℕ → Option (List ℕ)) → Play → Status → Type 0
 OfFault file play status = (fault : ArgFault) × (image : List ℕ) × IsFile (Some file) play.image image × IsImageFault image play.slots (Some fault) × (status ≡ ImageFault fault)
 
+abbrev OfSlots : (List ℕ → Option (List ℕ)) → Play → Status → Type 0
+OfSlots file play status = HasSlots (Some file) play.image play.slots × (status ≡ NotBuilt)
+
 abbrev Sorts : (List ℕ → Option (List ℕ)) → Play → Status → Type 0
-Sorts file play status = OfRun file play status ⊎ OfFault file play status
+Sorts file play status = OfRun file play status ⊎ OfFault file play status ⊎ OfSlots file play status
 
 sorts : (file : List ℕ → Option (List ℕ)) (play : Play) (status : Status) → IsVerdict (Some file) play status → Sorts file play status
 sorts file play Done a = inl (Played, a, refl)
 sorts file play (EventFault line) a = inl (BadLine line, a, refl)
 sorts file play (StepLimit limit) a = inl (LimitMet, a.1, ap (λ (l : ℕ). StepLimit l) a.0)
-sorts file play (ImageFault fault) a = inr (fault, a.0, a.1, a.2, refl)
-sorts file play NotBuilt a = absurd a
+sorts file play (ImageFault fault) a = inr (inl (fault, a.0, a.1, a.2, refl))
+sorts file play NotBuilt a = inr (inr (a, refl))
 sorts file play Usage a = absurd a
 sorts file play ReadFault a = absurd a
 sorts file play WriteFault a = absurd a
@@ -97,11 +119,19 @@ sorts file play NoMemory a = absurd a
 run_fault : (file : List ℕ → Option (List ℕ)) (play : Play) (one other : Status) → OfRun file play one → OfFault file play other → ⊥
 run_fault file play one other a b = boots_no_fault file play.image play.slots a.1.machine b.1 b.0 a.1.image b.2 b.3
 
+run_slots : (file : List ℕ → Option (List ℕ)) (play : Play) (one other : Status) → OfRun file play one → OfSlots file play other → ⊥
+run_slots file play one other a b = slots_no_boot file play.image play.slots a.1.machine a.1.image b.0
+
 agree : (file : List ℕ → Option (List ℕ)) (play : Play) (one other : Status) → Sorts file play one → Sorts file play other → one ≡ other
 agree file play one other (inl a) (inl b) = a.2 ∙ (ap (status_of play.limit) (endings_agree file play a.0 b.0 a.1 b.1) ∙ sym b.2)
-agree file play one other (inl a) (inr b) = absurd (run_fault file play one other a b)
-agree file play one other (inr a) (inl b) = absurd (run_fault file play other one b a)
-agree file play one other (inr a) (inr b) = a.4 ∙ (faults_agree file play.image play.slots a.1 b.1 a.0 b.0 a.2 a.3 b.2 b.3 ∙ sym b.4)
+agree file play one other (inl a) (inr (inl b)) = absurd (run_fault file play one other a b)
+agree file play one other (inl a) (inr (inr b)) = absurd (run_slots file play one other a b)
+agree file play one other (inr (inl a)) (inl b) = absurd (run_fault file play other one b a)
+agree file play one other (inr (inl a)) (inr (inl b)) = a.4 ∙ (faults_agree file play.image play.slots a.1 b.1 a.0 b.0 a.2 a.3 b.2 b.3 ∙ sym b.4)
+agree file play one other (inr (inl a)) (inr (inr b)) = absurd (slots_no_fault file play.image play.slots a.1 a.0 b.0 a.2 a.3)
+agree file play one other (inr (inr a)) (inl b) = absurd (run_slots file play other one b a)
+agree file play one other (inr (inr a)) (inr (inl b)) = absurd (slots_no_fault file play.image play.slots b.1 b.0 a.0 b.2 b.3)
+agree file play one other (inr (inr a)) (inr (inr b)) = a.1 ∙ sym b.1
 
 pub one_verdict_of_files : (file : List ℕ → Option (List ℕ)) (play : Play) (one other : Status) → IsVerdict (Some file) play one → IsVerdict (Some file) play other → one ≡ other
 one_verdict_of_files file play one other a b = agree file play one other (sorts file play one a) (sorts file play other b)
@@ -141,8 +171,9 @@ played_complete play machine call (ImageFault fault) quiet calm image cause told
 
 play_complete : (play : Play) (call : Call) → EndsPlay play call → (¬ HostRose call) → (¬ OutRose call) → IsPlayComplete play call
 play_complete play call (inl refused) quiet calm = refused_complete play call call.status quiet refused.refused refused.unwritten
-play_complete play call (inr (inl unpicked)) quiet calm = absurd (quiet unpicked.cause)
-play_complete play call (inr (inr played)) quiet calm = played_complete play played.machine call call.status quiet calm played.image played.cause played.content
+play_complete play call (inr (inl has)) quiet calm = inl (subst (IsVerdict call.host.files play) (sym has.ended) has.cause)
+play_complete play call (inr (inr (inl unpicked))) quiet calm = absurd (quiet unpicked.cause)
+play_complete play call (inr (inr (inr played))) quiet calm = played_complete play played.machine call call.status quiet calm played.image played.cause played.content
 
 refused_check_complete : (check : Check) (call : Call) (status : Status) → (¬ HostRose call)
     → Refuses call.host.files check.image check.slots (HostRose call) status → IsUnwritten call
@@ -174,11 +205,55 @@ check_complete : (check : Check) (call : Call) → EndsCheck check call → (¬ 
 check_complete check call (inl refused) quiet calm = refused_check_complete check call call.status quiet refused.refused refused.unwritten
 check_complete check call (inr planned) quiet calm = planned_complete check planned.plan call call.status calm planned.planned planned.cause planned.content
 
+refused_convert_complete : (name : List ℕ) (call : Call) (status : Status) → (¬ HostRose call)
+    → Refuses call.host.files name (Some SLOT_LIMIT) (HostRose call) status → IsUnwritten call
+    → IsConvertVerdict call.host.files name status ⊎ ((status ≡ NoMemory) × IsUnwritten call)
+refused_convert_complete name call (ImageFault fault) quiet refused unwritten = inl (inl refused)
+refused_convert_complete name call NoMemory quiet refused unwritten = inr (refl, unwritten)
+refused_convert_complete name call ReadFault quiet refused unwritten = absurd (quiet refused)
+refused_convert_complete name call NotBuilt quiet refused unwritten = absurd refused
+refused_convert_complete name call Usage quiet refused unwritten = absurd refused
+refused_convert_complete name call Done quiet refused unwritten = absurd refused
+refused_convert_complete name call (EventFault line) quiet refused unwritten = absurd refused
+refused_convert_complete name call (StepLimit limit) quiet refused unwritten = absurd refused
+refused_convert_complete name call WriteFault quiet refused unwritten = absurd refused
+
+converted_complete : (name bytes : List ℕ) (call : Call) (status : Status) → (¬ OutRose call)
+    → IsConversion call.host.files name bytes → HasCause call status → Writes bytes call.out status
+    → IsConvertVerdict call.host.files name status ⊎ ((status ≡ NoMemory) × IsUnwritten call)
+converted_complete name bytes call Done calm converts cause content = inl (bytes, converts, content.0)
+converted_complete name bytes call (ImageFault fault) calm converts cause content = inl (inr (bytes, converts, content.0, content.1))
+converted_complete name bytes call WriteFault calm converts cause content = absurd (calm cause)
+converted_complete name bytes call NotBuilt calm converts cause content = absurd content
+converted_complete name bytes call Usage calm converts cause content = absurd content
+converted_complete name bytes call ReadFault calm converts cause content = absurd content
+converted_complete name bytes call NoMemory calm converts cause content = absurd content
+converted_complete name bytes call (EventFault line) calm converts cause content = absurd content
+converted_complete name bytes call (StepLimit limit) calm converts cause content = absurd content
+
+convert_complete : (name : List ℕ) (call : Call) → EndsConvert name call → (¬ HostRose call) → (¬ OutRose call) → IsConvertComplete name call
+convert_complete name call (inl refused) quiet calm = refused_convert_complete name call call.status quiet refused.refused refused.unwritten
+convert_complete name call (inr converted) quiet calm =
+    converted_complete name converted.bytes call call.status calm converted.conversion converted.cause converted.content
+
+demo_complete : (clients : ℕ) (call : Call) (status : Status) → (¬ OutRose call) → HasCause call status → TellsDemo clients call.out status
+    → (status ≡ Done) ⊎ ((status ≡ NoMemory) × IsUnwritten call)
+demo_complete clients call Done calm cause content = inl refl
+demo_complete clients call NoMemory calm cause content = inr (refl, content)
+demo_complete clients call WriteFault calm cause content = absurd (calm cause)
+demo_complete clients call NotBuilt calm cause content = absurd content
+demo_complete clients call Usage calm cause content = absurd content
+demo_complete clients call ReadFault calm cause content = absurd content
+demo_complete clients call (ImageFault fault) calm cause content = absurd content
+demo_complete clients call (EventFault line) calm cause content = absurd content
+demo_complete clients call (StepLimit limit) calm cause content = absurd content
+
 command_complete : (built : Bool) (command : Command) (call : Call) → EndsIfBuilt built command call → (¬ HostRose call) → (¬ OutRose call) → IsCommandComplete built command call
 command_complete false command call ends quiet calm = ends.ended
 command_complete true (Plays play) call ends quiet calm = play_complete play call ends quiet calm
 command_complete true (Checks check) call ends quiet calm = check_complete check call ends quiet calm
-command_complete true (Demo clients) call ends quiet calm = ends.ended
+command_complete true (Converts image) call ends quiet calm = convert_complete image call ends quiet calm
+command_complete true (Demo clients) call ends quiet calm = demo_complete clients call call.status calm ends.cause ends.content
 
 pub ends_complete : (command : Option Command) (call : Call) → Ends command call → IsComplete command call
 ends_complete None call ends = ends.ended
@@ -219,3 +294,62 @@ one_verdict_of_image file check (ImageFault fault) Usage a b = absurd b
 one_verdict_of_image file check (ImageFault fault) ReadFault a b = absurd b
 one_verdict_of_image file check (ImageFault fault) WriteFault a b = absurd b
 one_verdict_of_image file check (ImageFault fault) NoMemory a b = absurd b
+
+-- ---- .. and of `convert`
+
+-- an image is converted into one list of bytes
+conversions_agree : (file : List ℕ → Option (List ℕ)) (name one other : List ℕ) → IsConversion (Some file) name one → IsConversion (Some file) name other → one ≡ other
+conversions_agree file name one other a b =
+    let same : b.image ≡ a.image = same_bytes file name b.image a.image b.read a.read in
+    let P : List ℕ → Type 0 = λ bytes. Spells bytes b.args in
+    let args : a.args ≡ b.args = spelled_once a.image a.args b.args a.sound.spelled (subst P same b.sound.spelled) in
+    a.converts ∙ ap (conversion a.image) args ∙ ap (λ (bytes : List ℕ). conversion bytes b.args) (sym same) ∙ sym b.converts
+
+conversion_no_fault : (file : List ℕ → Option (List ℕ)) (name bytes image : List ℕ) (fault : ArgFault)
+    → IsConversion (Some file) name bytes → IsFile (Some file) name image → IsImageFault image (Some SLOT_LIMIT) (Some fault) → ⊥
+conversion_no_fault file name bytes image fault converts read faulty =
+    let P : List ℕ → Type 0 = λ bytes. IsImageFault bytes (Some SLOT_LIMIT) (Some fault) in
+    none_is_some fault
+    (one_fault converts.image (Some SLOT_LIMIT) None (Some fault) converts.sound.no_fault (subst P (same_bytes file name image converts.image read converts.read) faulty))
+
+-- it is short enough or too long
+short_or_long : (file : List ℕ → Option (List ℕ)) (name one other : List ℕ) → IsConversion (Some file) name one → IsConversion (Some file) name other
+    → length one ≤ IMAGE_LIMIT → IMAGE_LIMIT < length other → ⊥
+short_or_long file name one other a b short long =
+    let same = ap (λ (bytes : List ℕ). length bytes) (conversions_agree file name one other a b) in
+    omega arith
+
+-- each verdict is one of three
+data Converting (file : List ℕ → Option (List ℕ)) (name : List ℕ) (status : Status) : Type 0 where
+  Short : (bytes : List ℕ) → IsConversion (Some file) name bytes → length bytes ≤ IMAGE_LIMIT → status ≡ Done → Converting file name status
+  Long : (bytes : List ℕ) → IsConversion (Some file) name bytes → IMAGE_LIMIT < length bytes → status ≡ ImageFault long_file → Converting file name status
+  Faulty : (fault : ArgFault) (image : List ℕ) → IsFile (Some file) name image → IsImageFault image (Some SLOT_LIMIT) (Some fault) → status ≡ ImageFault fault
+      → Converting file name status
+
+converting : (file : List ℕ → Option (List ℕ)) (name : List ℕ) (status : Status) → IsConvertVerdict (Some file) name status → Converting file name status
+converting file name Done a = Short a.0 a.1 a.2 refl
+converting file name (ImageFault fault) (inl a) = Faulty fault a.0 a.1 a.2 refl
+converting file name (ImageFault fault) (inr a) = Long a.0 a.1 a.2 (ap (λ (f : ArgFault). ImageFault f) a.3)
+converting file name (EventFault line) a = absurd a
+converting file name (StepLimit limit) a = absurd a
+converting file name NotBuilt a = absurd a
+converting file name Usage a = absurd a
+converting file name ReadFault a = absurd a
+converting file name WriteFault a = absurd a
+converting file name NoMemory a = absurd a
+
+converts_once : (file : List ℕ → Option (List ℕ)) (name : List ℕ) (one other : Status) → Converting file name one → Converting file name other → one ≡ other
+converts_once file name one other (Short a c l e) (Short b d m f) = e ∙ sym f
+converts_once file name one other (Short a c l e) (Long b d m f) = absurd (short_or_long file name a b c d l m)
+converts_once file name one other (Short a c l e) (Faulty fault image read faulty f) = absurd (conversion_no_fault file name a image fault c read faulty)
+converts_once file name one other (Long a c l e) (Short b d m f) = absurd (short_or_long file name b a d c m l)
+converts_once file name one other (Long a c l e) (Long b d m f) = e ∙ sym f
+converts_once file name one other (Long a c l e) (Faulty fault image read faulty f) = absurd (conversion_no_fault file name a image fault c read faulty)
+converts_once file name one other (Faulty fault image read faulty e) (Short b d m f) = absurd (conversion_no_fault file name b image fault d read faulty)
+converts_once file name one other (Faulty fault image read faulty e) (Long b d m f) = absurd (conversion_no_fault file name b image fault d read faulty)
+converts_once file name one other (Faulty fault image read faulty e) (Faulty two image2 read2 faulty2 f) =
+    e ∙ (faults_agree file name (Some SLOT_LIMIT) image image2 fault two read faulty read2 faulty2 ∙ sym f)
+
+pub one_verdict_of_conversion : (file : List ℕ → Option (List ℕ)) (name : List ℕ) (one other : Status)
+    → IsConvertVerdict (Some file) name one → IsConvertVerdict (Some file) name other → one ≡ other
+one_verdict_of_conversion file name one other a b = converts_once file name one other (converting file name one a) (converting file name other b)

@@ -3,6 +3,7 @@ pub mod Built
 pub mod Finish
 pub mod Gathering
 pub mod History
+pub mod Load
 pub mod Outcome
 pub mod Playing
 pub mod Reading

@@ -1,7 +1,7 @@
 -- The numbers of statuses and their texts on the notes.
 use Rattle.std.specs.Prelude.{ℕ, List, [], ◌++◌, codes, decimal, ◌==◌, if◌then◌else◌}
-use Rattle.kernel_args.specs.FaultNumbers.{too_short, not_xarg, bad_version, bad_total, bad_check, bad_ram, no_process, too_many_processes, bad_ini, bad_names}
-use Rattle.boot_plan.specs.FaultNumbers.{section_outside, section_misaligned, sections_overlap, load_outside, entry_outside, ram_too_small}
+use Rattle.kernel_args.specs.FaultNumbers.{too_short, not_xarg, bad_version, bad_total, bad_check, bad_ram, no_process, too_many_processes, bad_ini, bad_names, bad_slots}
+use Rattle.boot_plan.specs.FaultNumbers.{section_outside, section_misaligned, sections_overlap, load_outside, bad_load, entry_outside, ram_too_small}
 use Rattle.xousim.specs.declared.status.Status.{Status}
 use Rattle.xousim.specs.declared.status.Status.TheVariants.{Done, Usage, ReadFault, WriteFault, ImageFault, EventFault, StepLimit, NoMemory, NotBuilt}
 
@@ -30,17 +30,19 @@ fault_name what =
     if what == too_many_processes then codes "TooManyProcesses" else (
     if what == bad_ini then codes "BadIni" else (
     if what == bad_names then codes "BadNames" else (
+    if what == bad_slots then codes "BadSlots" else (
     if what == section_outside then codes "SectionOutside" else (
     if what == section_misaligned then codes "SectionMisaligned" else (
     if what == sections_overlap then codes "SectionsOverlap" else (
     if what == load_outside then codes "LoadOutside" else (
+    if what == bad_load then codes "BadLoad" else (
     if what == entry_outside then codes "EntryOutside" else (
-    if what == ram_too_small then codes "RamTooSmall" else codes "TooLong")))))))))))))))
+    if what == ram_too_small then codes "RamTooSmall" else codes "TooLong")))))))))))))))))
 
 -- the text of a status on the notes; a run to its end has none
 abbrev pub note_of : Status → List ℕ
 note_of Done = []
-note_of Usage = codes "usage: xousim trace|run|ledger IMAGE EVENTS [STEPS [SLOTS [STORE]]] | check IMAGE [SLOTS] | demo N\n"
+note_of Usage = codes "usage: xousim trace|run|ledger IMAGE EVENTS [STEPS [SLOTS [STORE]]] | check IMAGE [SLOTS] | convert IMAGE | demo N\n"
 note_of ReadFault = codes "read fault\n"
 note_of WriteFault = codes "write fault\n"
 note_of (ImageFault fault) = codes "image fault " ++ fault_name fault.what ++ codes " at " ++ decimal fault.at ++ codes "\n"

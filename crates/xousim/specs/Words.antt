@@ -16,23 +16,25 @@ use Rattle.xousim.specs.declared.commands.command.Telling.TheVariants.{Ledger, R
 -- ---- commands
 
 -- `trace`, `run` or `ledger`: what is told of the events, the names of the image and of the event file, the step limit, the slots of
--- the swap store, and the name of its file where one is named. Names are bytes of UTF-8.
+-- the swap store where they are asked for, and the name of its file where one is named. Names are bytes of UTF-8.
 pub record Play : Type 0 where
   pub tells : Telling
   pub image : List ℕ
   pub events : List ℕ
   pub limit : ℕ
-  pub slots : ℕ
+  pub slots : Option ℕ
   pub store : Option (List ℕ)
 
--- `check`: the name of the image, and the slots of the swap store
+-- `check`: the name of the image, and the slots of the swap store where they are asked for
 pub record Check : Type 0 where
   pub image : List ℕ
-  pub slots : ℕ
+  pub slots : Option ℕ
 
+-- .. and `convert` with the name of the image
 pub data Command : Type 0 where
   Plays : Play → Command
   Checks : Check → Command
+  Converts : List ℕ → Command
   Demo : ℕ → Command
 
 -- ---- numbers
@@ -55,10 +57,14 @@ limit_of word = number_within 1 STEP_LIMIT (string_bytes word)
 abbrev pub slots_of : Word → Option ℕ
 slots_of word = number_within 0 SLOT_LIMIT (string_bytes word)
 
+-- the slots that a word asks for, where it is a number of slots
+abbrev pub asked_of : Word → Option (Option ℕ)
+asked_of word = option_map Some (slots_of word)
+
 -- ---- the forms
 
 -- a command whose numbers may be none
-abbrev pub play_with : Telling → Word → Word → Option ℕ → Option ℕ → Option Word → Option Play
+abbrev pub play_with : Telling → Word → Word → Option ℕ → Option (Option ℕ) → Option Word → Option Play
 play_with tells image events limit slots store =
     option_and_then (λ limit. option_map (λ slots. record {
       tells = tells;
@@ -71,20 +77,25 @@ play_with tells image events limit slots store =
 
 -- `IMAGE EVENTS [STEPS [SLOTS [STORE]]]`
 abbrev pub play_of : Telling → List Word → Option Play
-play_of tells (image ∷ events ∷ []) = play_with tells image events (Some DEFAULT_STEPS) (Some 0) None
-play_of tells (image ∷ events ∷ steps ∷ []) = play_with tells image events (limit_of steps) (Some 0) None
-play_of tells (image ∷ events ∷ steps ∷ slots ∷ []) = play_with tells image events (limit_of steps) (slots_of slots) None
-play_of tells (image ∷ events ∷ steps ∷ slots ∷ store ∷ []) = play_with tells image events (limit_of steps) (slots_of slots) (Some store)
+play_of tells (image ∷ events ∷ []) = play_with tells image events (Some DEFAULT_STEPS) (Some None) None
+play_of tells (image ∷ events ∷ steps ∷ []) = play_with tells image events (limit_of steps) (Some None) None
+play_of tells (image ∷ events ∷ steps ∷ slots ∷ []) = play_with tells image events (limit_of steps) (asked_of slots) None
+play_of tells (image ∷ events ∷ steps ∷ slots ∷ store ∷ []) = play_with tells image events (limit_of steps) (asked_of slots) (Some store)
 play_of tells words = None
 
-abbrev pub check_with : Word → Option ℕ → Option Check
+abbrev pub check_with : Word → Option (Option ℕ) → Option Check
 check_with image slots = option_map (λ slots. record { image = string_bytes image; slots = slots }) slots
 
 -- `IMAGE [SLOTS]`
 abbrev pub check_of : List Word → Option Check
-check_of (image ∷ []) = check_with image (Some 0)
-check_of (image ∷ slots ∷ []) = check_with image (slots_of slots)
+check_of (image ∷ []) = check_with image (Some None)
+check_of (image ∷ slots ∷ []) = check_with image (asked_of slots)
 check_of words = None
+
+-- `IMAGE`
+abbrev pub convert_of : List Word → Option (List ℕ)
+convert_of (image ∷ []) = Some (string_bytes image)
+convert_of words = None
 
 -- `N`, the clients of the load
 abbrev pub demo_of : List Word → Option ℕ
@@ -101,7 +112,8 @@ command_after first rest =
     if is_word first (codes "run") then option_map Plays (play_of Run rest) else (
     if is_word first (codes "ledger") then option_map Plays (play_of Ledger rest) else (
     if is_word first (codes "check") then option_map Checks (check_of rest) else (
-    if is_word first (codes "demo") then option_map Demo (demo_of rest) else None))))
+    if is_word first (codes "convert") then option_map Converts (convert_of rest) else (
+    if is_word first (codes "demo") then option_map Demo (demo_of rest) else None)))))
 
 -- the command that words are, or None where they have no stated form
 unfoldable pub command_of : List Word → Option Command
@@ -126,4 +138,5 @@ check_in check = record { image = check.image.now; slots = check.slots }
 abbrev pub command_in : CommandWords → Command
 command_in (words.Play play) = Plays (play_in play)
 command_in (words.Check check) = Checks (check_in check)
-command_in (words.Demo clients) = Demo clients
+command_in (words.Convert image) = Converts image.now
+command_in (words.Demo demo) = Demo demo.clients

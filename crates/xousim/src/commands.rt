@@ -3,6 +3,8 @@
 pub mod booting;
 pub mod check;
 pub mod command;
+pub mod convert;
+pub mod demo;
 mod numbers;
 pub mod play;
 mod summary;

@@ -3,6 +3,8 @@
 #![tactic(auto)]
 
 mod commands;
+mod converted;
+mod load;
 mod matched;
 mod notes;
 mod outside;

@@ -1,6 +1,6 @@
 //! Every state of every run is matched. The functions do nothing; their contracts are the laws.
 
-ghost use Rattle.std.specs.Prelude.{ℕ, ◌≤◌, List};
+ghost use Rattle.std.specs.Prelude.{ℕ, ◌≤◌, List, Option, IfSome};
 ghost use Rattle.event_text.specs.declared.event.Event.{Event};
 ghost use Rattle.event_text.specs.EventFile.{Input};
 ghost use Rattle.machine_model.specs.Runs.Matched.{Matched};
@@ -13,15 +13,15 @@ ghost use Rattle.xousim.specs.Outcome.{Boots};
 
 /// Whatever image boots a machine, that machine is matched.
 pub fn booted_machine_is_matched()
-    ensures { (image : List ℕ) (slots : ℕ) (machine : Machine) → slots ≤ SLOT_LIMIT → Boots image slots machine → Matched machine }
+    ensures { (image : List ℕ) (asked : Option ℕ) (machine : Machine) → IfSome asked (λ n. n ≤ SLOT_LIMIT) → Boots image asked machine → Matched machine }
 {}
 
 /// So is every state of every run: each that the machine goes through, over any events and up to any
 /// step limit, and the one in which the history of an event file ends. In each a page has one owner
 /// and at most one loan.
 pub fn every_state_is_matched()
-    ensures moments { (image : List ℕ) (slots : ℕ) (machine : Machine) → slots ≤ SLOT_LIMIT → Boots image slots machine
+    ensures moments { (image : List ℕ) (asked : Option ℕ) (machine : Machine) → IfSome asked (λ n. n ≤ SLOT_LIMIT) → Boots image asked machine
         → (events : List Event) (limit i : ℕ) → Matched (state_at machine (moments_of events limit machine) i) }
-    ensures last { (image : List ℕ) (slots : ℕ) (machine : Machine) → slots ≤ SLOT_LIMIT → Boots image slots machine
+    ensures last { (image : List ℕ) (asked : Option ℕ) (machine : Machine) → IfSome asked (λ n. n ≤ SLOT_LIMIT) → Boots image asked machine
         → (input : Input) (limit : ℕ) → Matched (history_of input limit machine).machine }
 {}

@@ -27,10 +27,12 @@ fn name(what: u8) -> &'static [u8]
         kernel_args::TOO_MANY_PROCESSES => b"TooManyProcesses",
         kernel_args::BAD_INI => b"BadIni",
         kernel_args::BAD_NAMES => b"BadNames",
+        kernel_args::BAD_SLOTS => b"BadSlots",
         boot_plan::SECTION_OUTSIDE => b"SectionOutside",
         boot_plan::SECTION_MISALIGNED => b"SectionMisaligned",
         boot_plan::SECTIONS_OVERLAP => b"SectionsOverlap",
         boot_plan::LOAD_OUTSIDE => b"LoadOutside",
+        boot_plan::BAD_LOAD => b"BadLoad",
         boot_plan::ENTRY_OUTSIDE => b"EntryOutside",
         boot_plan::RAM_TOO_SMALL => b"RamTooSmall",
         _ => b"TooLong",
@@ -57,7 +59,7 @@ fn note(status: Status) -> Line
         Status::Done => {}
         Status::Usage => put(
             &mut note,
-            b"usage: xousim trace|run|ledger IMAGE EVENTS [STEPS [SLOTS [STORE]]] | check IMAGE [SLOTS] | demo N\n",
+            b"usage: xousim trace|run|ledger IMAGE EVENTS [STEPS [SLOTS [STORE]]] | check IMAGE [SLOTS] | convert IMAGE | demo N\n",
         ),
         Status::ReadFault => put(&mut note, b"read fault\n"),
         Status::WriteFault => put(&mut note, b"write fault\n"),

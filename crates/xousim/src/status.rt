@@ -24,7 +24,7 @@ pub enum Status {
     StepLimit(u32),
     /// There was no memory.
     NoMemory,
-    /// The command isn't built yet.
+    /// The swap store isn't built yet: the run has slots, or names a file for them.
     NotBuilt,
 }
 

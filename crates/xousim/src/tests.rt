@@ -4,7 +4,9 @@ mod atomics;
 mod commands;
 mod deaths;
 mod drivers;
+mod examples;
 mod forwards;
+mod hostile;
 mod image;
 mod interrupts;
 mod lends;
@@ -15,6 +17,7 @@ mod programs;
 mod scalars;
 mod servers;
 mod timer;
+mod versions;
 
 use crate::outside::adapters::{ErrSink, FileHost, StdSink};
 use crate::status::{Ended, Status};

@@ -9,6 +9,8 @@ ghost use Rattle.xousim.specs.Words.{command_of};
 
 use crate::commands::check::check_image;
 use crate::commands::command::CommandWords;
+use crate::commands::convert::convert_image;
+use crate::commands::demo::play_demo;
 use crate::commands::play::{is_built, play_image};
 use crate::commands::words::read_words;
 use crate::notes::write_note;
@@ -64,10 +66,11 @@ fn run_words<H: Host, K: Sink, W: SwapStore>(
             status: check_image(alloc, check, host, out),
             store,
         },
-        Some(CommandWords::Demo(_)) => Ended {
-            status: Status::NotBuilt,
+        Some(CommandWords::Convert(image)) => Ended {
+            status: convert_image(alloc, image, host, out),
             store,
         },
+        Some(CommandWords::Demo(demo)) => play_demo(alloc, demo, out, store),
     }
 }
 

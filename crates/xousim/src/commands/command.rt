@@ -1,6 +1,6 @@
 //! Commands, as the words of the command line say them.
 
-ghost use Rattle.std.specs.Prelude.{◌≤◌};
+ghost use Rattle.std.specs.Prelude.{◌≤◌, unwrap_or};
 
 /// What is told of events that are played.
 #[derive(Clone, Copy, Debug, PartialEq, Eq)]
@@ -22,19 +22,29 @@ pub struct PlayWords<'a> {
     pub events: &'a str,
     /// The step limit.
     pub limit: u32,
-    /// The slots of the swap store.
-    pub slots: u32,
+    /// The slots of the swap store, where the image's own aren't taken.
+    pub slots: Option<u32>,
     /// The file of the swap store, where it isn't kept in memory.
     pub store: Option<&'a str>,
     ghost limited: { limit ≤ 4000000000 },
+    ghost few: { unwrap_or slots 0 ≤ 16384 },
 }
 
 /// `check`: an image is planned.
 #[derive(Clone, Copy, Debug)]
 pub struct CheckWords<'a> {
     pub image: &'a str,
-    pub slots: u32,
-    ghost few: { slots ≤ 16384 },
+    /// The slots of the swap store, where the image's own aren't taken.
+    pub slots: Option<u32>,
+    ghost few: { unwrap_or slots 0 ≤ 16384 },
+}
+
+/// `demo`: the load of so many clients is played.
+#[derive(Clone, Copy, Debug)]
+pub struct DemoWords {
+    pub clients: u32,
+    ghost some: { 1 ≤ clients },
+    ghost few: { clients ≤ 31 },
 }
 
 /// What the program is asked to do.
@@ -42,6 +52,8 @@ pub struct CheckWords<'a> {
 pub enum CommandWords<'a> {
     Play(PlayWords<'a>),
     Check(CheckWords<'a>),
+    /// `convert`: the image of that name is written in version 2.
+    Convert(&'a str),
     /// The load of so many clients.
-    Demo(u32),
+    Demo(DemoWords),
 }

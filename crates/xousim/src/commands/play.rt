@@ -24,7 +24,7 @@ use xk_ports::{FileSlot, Host, Sink, SwapStore};
 pub fn is_built(play: &PlayWords) -> bool
     ensures { result ≡ is_play_built (play_in play.now) }
 {
-    play.slots == 0 && play.store.is_none()
+    play.store.is_none()
 }
 
 /// Writes what is told at the end of a history that ended in this way, and gives the status.
@@ -107,7 +107,6 @@ pub fn play_image<H: Host, K: Sink, W: SwapStore>(
     out: &mut K,
     store: W,
 ) -> Ended<W>
-    requires { play.slots ≡ 0 }
     ensures ends { let call : Call = record {
       host = record {
         files = H.file host.old;
@@ -130,7 +129,7 @@ pub fn play_image<H: Host, K: Sink, W: SwapStore>(
     ensures host { H.faults host.old ≤ H.faults host.new }
     ensures out { K.faults out.old ≤ K.faults out.new }
 {
-    match boot_image(alloc, host, play.image, store) {
+    match boot_image(alloc, host, play.image, play.slots, store) {
         Ok(mut kernel) => {
             let status = play_events(&mut kernel, host, play, out);
             Ended {

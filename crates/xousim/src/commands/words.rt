@@ -2,9 +2,9 @@
 
 ghost use Rattle.std.specs.Prelude.{◌≡◌, ◌≤◌, IfSome};
 ghost use Rattle.std.specs.Option.{option_map};
-ghost use Rattle.xousim.specs.Words.{check_in, check_of, command_in, command_of, demo_of, limit_of, play_in, play_of, play_with, slots_of};
+ghost use Rattle.xousim.specs.Words.{check_in, check_of, convert_of, command_in, command_of, demo_of, limit_of, play_in, play_of, play_with, slots_of};
 
-use crate::commands::command::{CheckWords, CommandWords, PlayWords, Telling};
+use crate::commands::command::{CheckWords, CommandWords, DemoWords, PlayWords, Telling};
 use crate::commands::numbers::read_number;
 use xk_base::limits::{DEFAULT_STEPS, SLOT_LIMIT, STEP_LIMIT};
 
@@ -31,10 +31,11 @@ fn play_with<'a>(
     image: &'a String,
     events: &'a String,
     limit: u32,
-    slots: u32,
+    slots: Option<u32>,
     store: Option<&'a String>,
 ) -> PlayWords<'a>
-    requires { limit ≤ 4000000000 }
+    requires limited { limit ≤ 4000000000 }
+    requires few { IfSome slots (λ n. n ≤ 16384) }
     ensures { Some (play_in result) ≡ play_with tells image.now events.now (Some limit) (Some slots) (option_map (λ name. name.now) store.entry) }
 {
     PlayWords {
@@ -52,20 +53,20 @@ fn read_play<'a>(tells: Telling, words: &'a [String]) -> Option<PlayWords<'a>>
     ensures { option_map play_in result ≡ play_of tells words.now }
 {
     match words {
-        [image, events] => Some(play_with(tells, image, events, DEFAULT_STEPS, 0, None)),
+        [image, events] => Some(play_with(tells, image, events, DEFAULT_STEPS, None, None)),
         [image, events, steps] => {
             let limit = read_limit(steps)?;
-            Some(play_with(tells, image, events, limit, 0, None))
+            Some(play_with(tells, image, events, limit, None, None))
         }
         [image, events, steps, slots] => {
             let limit = read_limit(steps)?;
             let slots = read_slots(slots)?;
-            Some(play_with(tells, image, events, limit, slots, None))
+            Some(play_with(tells, image, events, limit, Some(slots), None))
         }
         [image, events, steps, slots, store] => {
             let limit = read_limit(steps)?;
             let slots = read_slots(slots)?;
-            Some(play_with(tells, image, events, limit, slots, Some(store)))
+            Some(play_with(tells, image, events, limit, Some(slots), Some(store)))
         }
         _ => None,
     }
@@ -78,25 +79,38 @@ fn read_check<'a>(words: &'a [String]) -> Option<CheckWords<'a>>
     match words {
         [image] => Some(CheckWords {
             image: image.as_str(),
-            slots: 0,
+            slots: None,
         }),
         [image, slots] => {
             let slots = read_slots(slots)?;
             Some(CheckWords {
                 image: image.as_str(),
-                slots,
+                slots: Some(slots),
             })
         }
         _ => None,
     }
 }
 
-/// Reads `N`.
-fn read_demo(words: &[String]) -> Option<u32>
-    ensures { result ≡ demo_of words.now }
+/// Reads `IMAGE`.
+fn read_convert<'a>(words: &'a [String]) -> Option<&'a str>
+    ensures { option_map (λ image. image.now) result ≡ convert_of words.now }
 {
     match words {
-        [clients] => read_number(clients.as_bytes(), 1, CLIENT_LIMIT),
+        [image] => Some(image.as_str()),
+        _ => None,
+    }
+}
+
+/// Reads `N`.
+fn read_demo(words: &[String]) -> Option<DemoWords>
+    ensures { option_map (λ demo. demo.clients) result ≡ demo_of words.now }
+{
+    match words {
+        [clients] => {
+            let clients = read_number(clients.as_bytes(), 1, CLIENT_LIMIT)?;
+            Some(DemoWords { clients })
+        }
         _ => None,
     }
 }
@@ -112,6 +126,7 @@ pub fn read_words<'a>(words: &'a [String]) -> Option<CommandWords<'a>>
         "run" => Some(CommandWords::Play(read_play(Telling::Run, rest)?)),
         "ledger" => Some(CommandWords::Play(read_play(Telling::Ledger, rest)?)),
         "check" => Some(CommandWords::Check(read_check(rest)?)),
+        "convert" => Some(CommandWords::Convert(read_convert(rest)?)),
         "demo" => Some(CommandWords::Demo(read_demo(rest)?)),
         _ => None,
     }

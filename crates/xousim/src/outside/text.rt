@@ -7,7 +7,7 @@ ghost use Rattle.trace_text.specs.Words.{hex_text, word_text};
 use arrayvec::ArrayVec;
 use itoa::Buffer;
 
-/// A line. The longest, the usage line, has 99 bytes.
+/// A line. The longest, the usage line, has 115 bytes.
 pub type Line = ArrayVec<u8, 128>;
 
 /// Appends text for which there is room.

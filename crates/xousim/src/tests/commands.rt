@@ -33,7 +33,7 @@ fn call_with(alloc: Global, words: &[String], events: &[u8]) -> Result<Outcome, 
 }
 
 /// Lists of words of none of the stated forms, with a bar between two words.
-const OF_NO_FORM: [&str; 23] = [
+const OF_NO_FORM: [&str; 25] = [
     "--help",
     "trace",
     "trace|i",
@@ -53,6 +53,8 @@ const OF_NO_FORM: [&str; 23] = [
     "check",
     "check|i|16385",
     "check|i|0|0",
+    "convert",
+    "convert|i|0",
     "demo",
     "demo|0",
     "demo|32",
@@ -60,7 +62,7 @@ const OF_NO_FORM: [&str; 23] = [
 ];
 
 const USAGE: &[u8] =
-    b"usage: xousim trace|run|ledger IMAGE EVENTS [STEPS [SLOTS [STORE]]] | check IMAGE [SLOTS] | demo N\n";
+    b"usage: xousim trace|run|ledger IMAGE EVENTS [STEPS [SLOTS [STORE]]] | check IMAGE [SLOTS] | convert IMAGE | demo N\n";
 
 /// The words that stand between the bars of a line.
 fn words_of(alloc: Global, line: &str) -> Result<Vec<String>, Fail> {
@@ -182,16 +184,29 @@ fn plan_of_an_image(rt: HostRuntime) -> Result<(), Fail> {
 /// Commands that are words of a stated form, and aren't built.
 #[test]
 fn commands_not_built(rt: HostRuntime) -> Result<(), Fail> {
-    let lists: [&[&str]; 3] = [
+    let lists: [&[&str]; 2] = [
         ["trace", "i", "e", "100", "1"].as_slice(),
         ["run", "i", "e", "100", "0", "s"].as_slice(),
-        ["demo", "03"].as_slice(),
     ];
     for list in lists {
         let run = call(rt.alloc(), list, b"tick 100")?;
         assert_eq!(rt; run.status, Status::NotBuilt);
         assert_eq!(rt; run.out.as_slice(), b"".as_slice());
         assert_eq!(rt; run.notes.as_slice(), b"not built\n".as_slice());
+    }
+    Ok(())
+}
+
+/// A large load that is valid: each client sends its page a hundred times, and dies.
+#[test]
+fn realistic_load(rt: HostRuntime) -> Result<(), Fail> {
+    let few = b"demo 3 sends 300 sum 300 gone 3\n".as_slice();
+    let most = b"demo 31 sends 3100 sum 3100 gone 31\n".as_slice();
+    for (clients, line) in [("3", few), ("03", few), ("31", most)] {
+        let run = call(rt.alloc(), &["demo", clients], b"")?;
+        assert_eq!(rt; run.status, Status::Done);
+        assert_eq!(rt; run.out.as_slice(), line);
+        assert_eq!(rt; run.notes.as_slice(), b"".as_slice());
     }
     Ok(())
 }

@@ -15,6 +15,9 @@ const ROOM: usize = 512;
 /// The size of the code in bytes.
 const SIZE: u32 = 2048;
 
+/// The size of RAM in bytes: 4,096 frames.
+const RAM: u32 = 0x100_0000;
+
 /// The image of so many processes that all begin with these instructions.
 pub fn image(alloc: Global, processes: u8, code: &[u32]) -> Result<Vec<u8>, Fail> {
     let mut codes = Vec::new(alloc);
@@ -41,14 +44,17 @@ pub fn image_of(alloc: Global, codes: &[Vec<u32>]) -> Result<Vec<u8>, Fail> {
         procs.push(ProcArgs {
             load: words * 4 + at * SIZE,
             entry: START,
+            check: None,
             sections,
         })?;
     }
     let args = Args {
         words,
+        version: 1,
         ram_start: 0x4000_0000,
-        ram_size: 0x100_0000,
+        ram_size: RAM,
         ram_name: *b"sram",
+        slots: None,
         procs,
         names: Row::new(alloc),
     };
@@ -69,5 +75,23 @@ fn push_code(bytes: &mut Vec<u8>, code: &[u32]) -> Result<(), Fail> {
     for _ in code.len()..ROOM {
         bytes.extend_from_slice(&[0; 4])?;
     }
+    Ok(())
+}
+
+/// The image with these words written into it, each at its offset.
+pub fn patched(alloc: Global, image: &[u8], patches: &[(u16, u32)]) -> Result<Vec<u8>, Fail> {
+    let mut bytes = image.to_vec(alloc)?;
+    for (at, word) in patches {
+        put_word(bytes.as_mut_slice(), *at, *word)?;
+    }
+    Ok(bytes)
+}
+
+fn put_word(bytes: &mut [u8], at: u16, word: u32) -> Result<(), Fail> {
+    let at = usize::from(at);
+    if at + 4 > bytes.len() {
+        return Err(Fail::from("no such word"));
+    }
+    bytes[at..at + 4].copy_from_slice(&word.to_le_bytes());
     Ok(())
 }

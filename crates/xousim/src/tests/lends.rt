@@ -8,7 +8,7 @@ use super::programs::{
 use std::test::Fail;
 
 /// A server tells a word of the page that it gets, and gives the page back.
-const READER: [Act; 4] = [
+pub const READER: [Act; 4] = [
     Call([CREATE_SERVER, 1, 2, 3, 4, 0, 0, 0]),
     Call([RECEIVE, 1, 2, 3, 4, 0, 0, 0]),
     Tell(MESSAGE, MESSAGE),
@@ -16,7 +16,7 @@ const READER: [Act; 4] = [
 ];
 
 /// A page of the heap is lent, and then written again.
-const LENDER: [Act; 6] = [
+pub const LENDER: [Act; 6] = [
     Call([CONNECT, 1, 2, 3, 4, 0, 0, 0]),
     Call([INCREASE_HEAP, PAGE, 0, 0, 0, 0, 0, 0]),
     Store(HEAP, 0x77),
@@ -25,7 +25,7 @@ const LENDER: [Act; 6] = [
     Tell(HEAP, HEAP),
 ];
 
-const LENT_AND_RETURNED: [&str; 17] = [
+pub const LENT_AND_RETURNED: [&str; 17] = [
     "17 2.2 call e 1 2 3 4",
     "17 2.2 reply 13 1 2 3 4 2",
     "34 2.2 call f 1 2 3 4",

@@ -1,7 +1,10 @@
 //! Transcripts, written short.
 
+use arrayvec::ArrayVec;
 use std::alloc::Global;
 use std::test::Fail;
+use trace_text::line;
+use xk_base::{Rec, What};
 
 /// A call and a reply have eight words.
 const WORDS: usize = 8;
@@ -17,6 +20,23 @@ pub fn transcript(alloc: Global, lines: &[&str]) -> Result<Vec<u8>, Fail> {
         push_line(&mut text, line)?;
     }
     Ok(text)
+}
+
+/// The transcript of the lines that stand between the bars of a text.
+pub fn transcript_of(alloc: Global, lines: &str) -> Result<Vec<u8>, Fail> {
+    let mut text = Vec::new(alloc);
+    for line in lines.split('|') {
+        push_line(&mut text, line)?;
+    }
+    Ok(text)
+}
+
+/// The line of such a record of a step.
+pub fn push_record(text: &mut Vec<u8>, step: u32, what: What) -> Result<(), Fail> {
+    let mut told = ArrayVec::new();
+    line(&Rec { step, what }, &mut told);
+    text.extend_from_slice(told.as_slice())?;
+    Ok(())
 }
 
 fn push_line(text: &mut Vec<u8>, line: &str) -> Result<(), Fail> {

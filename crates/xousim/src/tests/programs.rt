@@ -111,7 +111,7 @@ pub fn play(alloc: Global, processes: &[[&[Act]; 2]], events: &[u8]) -> Result<O
 
 /// The image of processes whose threads do these acts and then loop: of each process those that the
 /// first thread does, and then those that a thread does which begins at `SECOND`.
-fn image_of_programs(alloc: Global, processes: &[[&[Act]; 2]]) -> Result<Vec<u8>, Fail> {
+pub fn image_of_programs(alloc: Global, processes: &[[&[Act]; 2]]) -> Result<Vec<u8>, Fail> {
     let mut codes = Vec::new(alloc);
     for [first, second] in processes {
         let mut code = Vec::new(alloc);

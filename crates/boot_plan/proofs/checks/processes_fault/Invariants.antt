@@ -7,5 +7,5 @@ use Rattle.boot_plan.proofs.checks.processes_fault.Given as goal
 abbrev pub invariant-loop-process : goal.invariant-loop-process
 invariant-loop-process l = record {
   pid : l.pid ≡ 2 + l.process-index;
-  fault : first_fault (processes_faults l.words l.file_len l.pid (drop l.process-index l.processes)) ≡ first_fault (processes_faults l.words l.file_len 2 l.processes);
+  fault : first_fault (processes_faults l.words l.file l.pid (drop l.process-index l.processes)) ≡ first_fault (processes_faults l.words l.file 2 l.processes);
 }

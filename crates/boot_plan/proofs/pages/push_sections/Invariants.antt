@@ -1,5 +1,5 @@
 use Rattle.std.proofs.Common.{◌≡◌, ◌+◌, ◌++◌, drop}
-use Rattle.boot_plan.specs.Sections.{file_sizes}
+use Rattle.kernel_args.specs.Loads.{file_sizes}
 use Rattle.boot_plan.specs.FirstPages.{sections_pages}
 use Rattle.boot_plan.proofs.pages.push_sections.Given as goal
 

@@ -1,4 +1,4 @@
-use Rattle.std.proofs.Common.{◌≤◌, arith, length}
+use Rattle.std.proofs.Common.{◌≤◌, arith, length, refl}
 use Rattle.std.proofs.lemmas.Result.{err_from_is_err_and}
 use Rattle.kernel_args.specs.declared.args.Args.{Args}
 use Rattle.kernel_args.specs.Faults.{row_size}
@@ -36,31 +36,38 @@ read_row-requires c =
     let limit = c.requires in
     omega arith
 
-pub returns-in_err-procs-clause-spelled : goal.returns-in_err-procs-clause-spelled
-returns-in_err-procs-clause-spelled c = let p = err_from_is_err_and c.from_residual.result c.from_residual.ensures.1 in rw p.1 tt
+pub returns-in_err-found-clause-spelled : goal.returns-in_err-found-clause-spelled
+returns-in_err-found-clause-spelled c = let p = err_from_is_err_and c.from_residual.result c.from_residual.ensures.1 in rw p.1 tt
 
-pub returns-in_err-procs-clause-sound : goal.returns-in_err-procs-clause-sound
-returns-in_err-procs-clause-sound c = let p = err_from_is_err_and c.from_residual.result c.from_residual.ensures.1 in rw p.1 tt
+pub returns-in_err-found-clause-sound : goal.returns-in_err-found-clause-sound
+returns-in_err-found-clause-sound c = let p = err_from_is_err_and c.from_residual.result c.from_residual.ensures.1 in rw p.1 tt
 
-pub returns-in_err-procs-clause-no_fault : goal.returns-in_err-procs-clause-no_fault
-returns-in_err-procs-clause-no_fault c = let p = err_from_is_err_and c.from_residual.result c.from_residual.ensures.1 in rw p.1 tt
+pub returns-in_err-found-clause-no_fault : goal.returns-in_err-found-clause-no_fault
+returns-in_err-found-clause-no_fault c = let p = err_from_is_err_and c.from_residual.result c.from_residual.ensures.1 in rw p.1 tt
 
-pub returns-in_err-procs-clause-fault : goal.returns-in_err-procs-clause-fault
-returns-in_err-procs-clause-fault c =
+pub returns-in_err-found-clause-fault : goal.returns-in_err-found-clause-fault
+returns-in_err-found-clause-fault c =
     let p = err_from_is_err_and c.from_residual.result c.from_residual.ensures.1 in
-    let row = row_is c.args.bytes.now c.header_of-header.result.words c.split_at.result.0.now c.split_at-2.result.1.now c.header_of-header.ensures.words_is c.split_at.ensures.front c.split_at-2.ensures.back in
-    rw (p.1, p.2) (fault_of_row c.args.bytes.now c.split_at-2.result.1.now c.in_err-procs.field-0.0 c.in_default.ensures.fault row c.in_err-procs.ensures.fault)
+    let header = c.header_of-header.result in
+    let row = row_is c.args.bytes.now header.words c.split_at.result.0.now c.split_at-2.result.1.now c.header_of-header.ensures.words_is c.split_at.ensures.front c.split_at-2.ensures.back in
+    rw (p.1, p.2) (fault_of_row c.args.bytes.now c.split_at-2.result.1.now header.version c.in_err-found.field-0.0 c.in_default.ensures.fault c.header_of-header.ensures.version_is row
+    c.in_err-found.ensures.fault)
 
 pub returns : goal.returns
 returns c =
+    let header = c.header_of-header.result in
+    let found = c.in_ok-found.found in
     let args : Args = record {
-      words = c.header_of-header.result.words;
-      ram_start = c.header_of-header.result.ram_start;
-      ram_size = c.header_of-header.result.ram_size;
-      ram_name = c.header_of-header.result.ram_name;
-      procs = c.in_ok-procs.procs;
-      names = c.in_ok-procs.names;
+      words = header.words;
+      version = header.version;
+      ram_start = header.ram_start;
+      ram_size = header.ram_size;
+      ram_name = header.ram_name;
+      slots = found.slots;
+      procs = found.procs;
+      names = found.names;
     } in
     let row = row_is c.args.bytes.now args.words c.split_at.result.0.now c.split_at-2.result.1.now c.header_of-header.ensures.words_is c.split_at.ensures.front c.split_at-2.ensures.back in
-    let s = image_read c.args.bytes.now c.split_at-2.result.1.now args (λ i. omega (arith, c.type_inv.bytes i)) c.in_default.ensures.fault c.header_of-header.ensures row c.in_ok-procs.ensures.ok in
+    let s =
+    image_read c.args.bytes.now c.split_at-2.result.1.now args found (λ i. omega (arith, c.type_inv.bytes i)) c.in_default.ensures.fault c.header_of-header.ensures row c.in_ok-found.ensures.ok refl in
     record { spelled = s; sound = s.sound; no_fault = spelled_has_no_fault c.args.bytes.now args s; fault = tt }

@@ -14,7 +14,7 @@ pub append_processes-requires : goal.append_processes-requires
 append_processes-requires c =
     let fit = writable_is_fit c.args.args.now c.requires in
     subst (λ (l : List ProcArgs). All (λ p. length p.sections ≤ 32) l) (sym c.as_slice.ensures)
-    (All-weaker IsProcess (λ p. length p.sections ≤ 32) (λ p h. h.few) c.args.args.now.procs fit.procs)
+    (All-weaker (IsProcess c.args.args.now.version) (λ p. length p.sections ≤ 32) (λ p h. h.few) c.args.args.now.procs fit.procs)
 
 pub append_names-requires : goal.append_names-requires
 append_names-requires c =
@@ -24,12 +24,12 @@ append_names-requires c =
 
 pub returns-clause-written : goal.returns-clause-written
 returns-clause-written c =
-    appended c.args.args.now c.new-out.result c.append_header.new.out c.append_processes.new.out c.append_names.new.out c.as_slice.result.now c.as_slice-2.result.now
-    c.new-out.ensures c.in_ok-append_header.ensures c.in_ok-append_processes.ensures c.in_ok-append_names.ensures c.as_slice.ensures c.as_slice-2.ensures
+    appended c.args.args.now c.new-out.result c.append_header.new.out c.append_slots.new.out c.append_processes.new.out c.append_names.new.out c.as_slice.result.now c.as_slice-2.result.now
+    c.new-out.ensures c.in_ok-append_header.ensures c.in_ok-append_slots.ensures c.in_ok-append_processes.ensures c.in_ok-append_names.ensures c.as_slice.ensures c.as_slice-2.ensures
 
 pub returns-clause-read_back : goal.returns-clause-read_back
 returns-clause-read_back c more =
     let is =
-    appended c.args.args.now c.new-out.result c.append_header.new.out c.append_processes.new.out c.append_names.new.out c.as_slice.result.now c.as_slice-2.result.now
-    c.new-out.ensures c.in_ok-append_header.ensures c.in_ok-append_processes.ensures c.in_ok-append_names.ensures c.as_slice.ensures c.as_slice-2.ensures in
+    appended c.args.args.now c.new-out.result c.append_header.new.out c.append_slots.new.out c.append_processes.new.out c.append_names.new.out c.as_slice.result.now c.as_slice-2.result.now
+    c.new-out.ensures c.in_ok-append_header.ensures c.in_ok-append_slots.ensures c.in_ok-append_processes.ensures c.in_ok-append_names.ensures c.as_slice.ensures c.as_slice-2.ensures in
     subst (λ (l : List ℕ). Spells (l ++ more) c.args.args.now) (sym is) (written_spells c.args.args.now more c.requires)

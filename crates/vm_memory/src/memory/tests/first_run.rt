@@ -40,8 +40,7 @@ fn image_memory<W: SwapStore>(alloc: Global, image: &[u8], store: W) -> Result<M
     let Ok(args) = read_args(alloc, image) else {
         return Err(store);
     };
-    let file_len = image.len() as u32;
-    let Ok(plan) = plan(alloc, &args, file_len, 0) else {
+    let Ok(plan) = plan(alloc, &args, image, Some(0)) else {
         return Err(store);
     };
     match Memory::boot(alloc, &plan, image, store) {

@@ -9,9 +9,9 @@ returns-in-Ok-write_summary-clause-ends g c = inr (record {
   planned = record {
     image = c.in-Ok.planned.bytes.items;
     read = c.in-Ok.ensures.read;
-    args = c.in-Ok.ensures.planned.0;
-    sound = c.in-Ok.ensures.planned.1;
-    planned = c.in-Ok.ensures.planned.2;
+    args = c.in-Ok.planned.args;
+    sound = c.in-Ok.ensures.image;
+    planned = c.in-Ok.ensures.planned;
   };
   content = c.in-Ok-write_summary.ensures.appended;
   image_read = λ done. c.in-Ok.ensures.end;
@@ -25,9 +25,9 @@ returns-clause-ends g c = inr (record {
   planned = record {
     image = c.in-Ok.planned.bytes.items;
     read = c.in-Ok.ensures.read;
-    args = c.in-Ok.ensures.planned.0;
-    sound = c.in-Ok.ensures.planned.1;
-    planned = c.in-Ok.ensures.planned.2;
+    args = c.in-Ok.planned.args;
+    sound = c.in-Ok.ensures.image;
+    planned = c.in-Ok.ensures.planned;
   };
   content = c.in-Err-write_summary.ensures.front;
   image_read = λ done. cc;

@@ -1,0 +1,25 @@
+use Rattle.std.proofs.Common.{◌≡◌, ◌≤◌, ◌+◌, ◌-◌, ◌++◌, List}
+use Rattle.event_text.specs.declared.event.Event.TheVariants.{Tick}
+use Rattle.xk_base.specs.declared.limits.TheConstants.{DEFAULT_STEPS}
+use Rattle.xk_base.specs.declared.records.Rec.{Rec}
+use Rattle.xk_kernel.specs.History.{play}
+use Rattle.xk_kernel.specs.Sound.{IsSound, IsUsable, Keeps}
+use Rattle.xk_kernel.specs.State.{machine_of}
+use Rattle.xousim.specs.Load.Totals.{IsWithin, totals_of}
+use Rattle.xousim.proofs.load.playing.play_tick.Given as goal
+
+-- What was counted, with what is left of the tick, is the whole.
+abbrev pub invariant-steps : goal.invariant-steps
+invariant-steps g l = record {
+  rest : (before : List Rec) → l.fn.totals ≡ totals_of before
+      → (mid : List Rec) × (l.totals ≡ totals_of mid)
+      × (mid ++ (play (Tick (l.count - l.done)) DEFAULT_STEPS (machine_of g.W.SwapStore.held l.kernel)).records
+      ≡ before ++ (play (Tick l.count) DEFAULT_STEPS (machine_of g.W.SwapStore.held l.fn.kernel)).records);
+  machine : (play (Tick (l.count - l.done)) DEFAULT_STEPS (machine_of g.W.SwapStore.held l.kernel)).machine
+      ≡ (play (Tick l.count) DEFAULT_STEPS (machine_of g.W.SwapStore.held l.fn.kernel)).machine;
+  steps : (machine_of g.W.SwapStore.held l.kernel).steps ≤ (machine_of g.W.SwapStore.held l.fn.kernel).steps + l.done;
+  within : IsWithin (machine_of g.W.SwapStore.held l.kernel).steps l.totals;
+  sound : IsSound g.W.SwapStore.slot_count g.W.SwapStore.held l.kernel;
+  usable : IsUsable l.kernel;
+  keeps : Keeps g.W.SwapStore.is_honest g.W.SwapStore.held g.W.SwapStore.slot_count g.W.SwapStore.asked g.W.SwapStore.faults l.fn.kernel l.kernel;
+}

@@ -1,0 +1,95 @@
+//! `demo`: the load of so many clients is made and played, and summed up in a line.
+
+ghost use Rattle.std.specs.Prelude.{◌≡◌, ◌≤◌, All, IfErr, IfOk, length};
+ghost use Rattle.boot_plan.specs.FirstPages.{plan_of};
+ghost use Rattle.boot_plan.specs.Lawful.{CanStart, IsLawfulPlan};
+ghost use Rattle.vm_memory.specs.Memory.{store_of};
+ghost use Rattle.xk_base.specs.Outside.{Rose};
+ghost use Rattle.xk_kernel.specs.Sound.{IsSound, IsUsable};
+ghost use Rattle.xk_kernel.specs.State.{machine_of};
+ghost use Rattle.xk_ports.specs.Keeping.{KeepsStore};
+ghost use Rattle.xousim.specs.Load.Events.{load_machine};
+ghost use Rattle.xousim.specs.Load.Image.{load_args, load_image};
+ghost use Rattle.xousim.specs.Outcome.{SinkSide, TellsDemo};
+ghost use Rattle.xousim.specs.declared.status.Status.TheVariants.{WriteFault};
+
+use crate::commands::command::DemoWords;
+use crate::load::image::load_image;
+use crate::load::playing::play_load;
+use crate::load::totals::demo_line;
+use crate::status::{Ended, Status};
+use boot_plan::{BootPlan, PlanError, plan};
+use std::alloc::Global;
+use vm_memory::BootFault;
+use xk_base::{NoMemory, Row};
+use xk_kernel::Kernel;
+use xk_ports::{Sink, SwapStore, put_all};
+
+/// The image of the load of so many clients, and its plan.
+fn plan_load(alloc: Global, clients: u32) -> Result<(Row<u8>, BootPlan), NoMemory>
+    requires { clients ≤ 31 }
+    ensures image { IfOk result (λ load. load.0 ≡ load_image clients) }
+    ensures planned { IfOk result (λ load. load.1 ≡ plan_of (load_args clients) None) }
+    ensures lawful { IfOk result (λ load. IsLawfulPlan (length load.0) load.1) }
+    ensures can_start { IfOk result (λ load. All CanStart load.1.procs) }
+{
+    let (args, image) = load_image(alloc, clients)?;
+    match plan(alloc, &args, image.as_slice(), None) {
+        Ok(plan) => Ok((image, plan)),
+        Err(PlanError::NoMemory) => Err(NoMemory),
+        // The image of a load has no fault.
+        Err(PlanError::Fault(_)) => unreachable!(),
+    }
+}
+
+/// Boots the load of so many clients, or hands the store back for want of memory.
+fn boot_load<W: SwapStore>(alloc: Global, clients: u32, store: W) -> Result<Kernel<W>, W>
+    requires { clients ≤ 31 }
+    ensures booted { IfOk result (λ kernel. machine_of W.held kernel ≡ load_machine clients) }
+    ensures sound { IfOk result (λ kernel. IsSound W.slot_count W.held kernel) }
+    ensures usable { IfOk result (λ kernel. IsUsable kernel) }
+    ensures store { IfOk result (λ kernel. KeepsStore W.is_honest W.held W.slot_count W.asked W.faults store (store_of kernel.mem)) }
+    ensures back { IfErr result (λ back. KeepsStore W.is_honest W.held W.slot_count W.asked W.faults store back) }
+{
+    let Ok((image, plan)) = plan_load(alloc, clients) else {
+        return Err(store);
+    };
+    match Kernel::boot(alloc, &plan, image.as_slice(), store) {
+        Ok(kernel) => Ok(kernel),
+        Err(BootFault { why: _, store }) => Err(store),
+    }
+}
+
+/// Plays the load of so many clients, writes its line, and hands the store back.
+pub fn play_demo<K: Sink, W: SwapStore>(
+    alloc: Global,
+    demo: DemoWords,
+    out: &mut K,
+    store: W,
+) -> Ended<W>
+    ensures told { let side : SinkSide = record {
+      written = K.written out.old;
+      written_after = K.written out.new;
+      faults = K.faults out.old;
+      faults_after = K.faults out.new;
+    } in TellsDemo demo.clients side result.status }
+    ensures cause { result.status ≡ WriteFault → Rose (K.faults out.old) (K.faults out.new) }
+    ensures store { KeepsStore W.is_honest W.held W.slot_count W.asked W.faults store result.store }
+    ensures never_falls { K.faults out.old ≤ K.faults out.new }
+{
+    match boot_load(alloc, demo.clients, store) {
+        Ok(mut kernel) => {
+            let totals = play_load(&mut kernel, demo.clients);
+            let store = kernel.close();
+            let status = match put_all(out, demo_line(demo.clients, totals).as_slice()) {
+                Ok(()) => Status::Done,
+                Err(_) => Status::WriteFault,
+            };
+            Ended { status, store }
+        }
+        Err(store) => Ended {
+            status: Status::NoMemory,
+            store,
+        },
+    }
+}
