@@ -4,6 +4,7 @@ pub mod ChangedLemmas
 pub mod ConsoleRunLemmas
 pub mod ConsoleStepLemmas
 pub mod CountLemmas
+pub mod CrowdedLemmas
 pub mod ForgettingLemmas
 pub mod HereLemmas
 pub mod LoanCallLemmas
@@ -11,4 +12,5 @@ pub mod LoopLemmas
 pub mod OnePlaceLemmas
 pub mod PageStepLemmas
 pub mod RunLemmas
+pub mod ShiftedLemmas
 pub mod SoundMemoryLemmas

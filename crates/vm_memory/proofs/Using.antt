@@ -1,3 +1,4 @@
+pub mod NearLemmas
 pub mod NowhereLemmas
 pub mod ReachedLemmas
 pub mod SeenPageLemmas

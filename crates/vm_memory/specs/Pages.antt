@@ -1,4 +1,5 @@
 pub mod Changing
+pub mod Exchanging
 pub mod Here
 pub mod Making
 pub mod Removing

@@ -28,7 +28,5 @@ pub record IsSound {W : Type 0} (slot_count : W → ℕ) (m : Memory W) : Type 0
   -- its pages are counted, and each has one seat
   pub pages : m.pages ≡ pages (processes m) (blank_ledger m)
   pub seats : used_frames m.owners + used_slots m.owners ≡ m.pages
-  -- until a call answers Failed a frame is free to exchange pages with
+  -- a frame is free to exchange pages with, but while an exchange is under way and after a call that answered Failed
   pub room : IsUsable m → HasUnusedFrame (extent m.owners) (infos m.owners)
-  -- This part goes when pages can be out: until then the store isn't used.
-  pub no_slots : m.slots ≡ 0

@@ -3,6 +3,7 @@
 mod access;
 mod boot;
 mod changes;
+mod exchange;
 mod lending;
 mod making;
 mod pages;
@@ -26,7 +27,7 @@ pub struct Memory<W: SwapStore> {
     ram: Ram,
     owners: Owners,
     store: W,
-    // A call has answered `Failed`.
+    // A call has answered `Failed`, or an exchange of pages is under way.
     failed: bool,
     // Processes that it was made for; their pids are 2 and up.
     procs: u32,
@@ -34,6 +35,8 @@ pub struct Memory<W: SwapStore> {
     slots: u32,
     // Pages and orphans, the console not counted.
     pages: u32,
+    // The frame where the search for a page to put out begins.
+    hand: u32,
 }
 
 /// Why a memory isn't made.

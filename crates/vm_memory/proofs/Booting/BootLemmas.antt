@@ -10,11 +10,11 @@ use Rattle.ledger_model.specs.Ledger.{Ledger, empty_ledger}
 use Rattle.sv32_space.specs.Tie.{Held}
 use Rattle.vm_memory.specs.declared.memory.Memory.{Memory}
 use Rattle.vm_memory.specs.Pages.Changing.{ChangesPagesAlone}
-use Rattle.vm_memory.specs.Memory.{Size, processes, capacity_of, ledger}
+use Rattle.vm_memory.specs.Memory.{Size, processes, frames_for_pages, ledger}
 use Rattle.vm_memory.specs.Sound.{IsSound}
 use Rattle.vm_memory.specs.Starting.{AreFreeFrom, HasNoPage, IsUnlent, place_pages, place_processes}
 use Rattle.vm_memory.proofs.Booting.FirstPageLemmas.{processes_unlent, processes_more, processes_home_other}
-use Rattle.vm_memory.proofs.Booting.ProcessPlacedLemmas.{same_capacity}
+use Rattle.vm_memory.proofs.Booting.ProcessPlacedLemmas.{same_frames}
 use Rattle.vm_memory.proofs.Changing.LoopLemmas.{rest_same, rest_then}
 
 -- the pages of the first k processes are placed
@@ -66,8 +66,8 @@ module _ {W : Type 0} (slot_count : W → ℕ) (held : W → Held) (file : List 
         let all : sum_by count (take (k + 1) plan ++ drop (k + 1) plan) ≡ sum_by count plan = ap (sum_by count) cut in
         omega arith
 
-    pub next_process_room : sum_by count plan ≤ capacity_of old → now.pages + length (get_or plan k d).pages ≤ capacity_of now
-    next_process_room fits = omega (arith, h.pages, counted, same_capacity slot_count old now sound h.sound h.rest.size, fits)
+    pub next_process_room : sum_by count plan ≤ frames_for_pages old → now.pages + length (get_or plan k d).pages ≤ frames_for_pages now
+    next_process_room fits = omega (arith, h.pages, counted, same_frames slot_count old now sound h.sound h.rest.size, fits)
 
     pub next_booted : (new : Memory W) → IsSound slot_count new
         → ledger held new ≡ place_pages file (record { 0 = k + 2 }) (get_or plan k d).pages (ledger held now)

@@ -18,10 +18,8 @@ use Rattle.ledger_model.specs.Loans.{loans}
 use Rattle.ledger_model.specs.Places.{count_places, is_user_place}
 use Rattle.ledger_model.specs.Steps.{zero_page}
 use Rattle.ledger_model.proofs.LedgerLemmas.{same_ledger}
-use Rattle.sv32_space.specs.declared.sides.Side.{Side}
-use Rattle.sv32_space.specs.declared.sides.Side.TheVariants.{Own, LentOut, LentIn, MutOut, MutIn}
 use Rattle.sv32_space.specs.Agreement.{EntriesAgree, procs_of}
-use Rattle.sv32_space.specs.declared.sides.Entry.TheVariants.{Free, At}
+use Rattle.sv32_space.specs.declared.sides.Entry.TheVariants.{Free}
 use Rattle.sv32_space.specs.Entries.{Entries}
 use Rattle.sv32_space.specs.EntryLedger.{SeatBytes, ledger_of, page_of_entry, orphan_of_entry}
 use Rattle.sv32_space.specs.Spaces.{IsMade}
@@ -163,7 +161,6 @@ module _ {W : Type 0} (slot_count : W → ℕ) (held : W → Held) (m : Memory W
       within = (omega (arith, first_m), omega (arith, first_m, frames_m, e.tables));
       free = ap (λ I. I (frame_seat (21 * procs))) e.infos;
     };
-    no_slots = e.slots;
   }
 
   pub empty_free : AreFreeFrom m.owners 0

@@ -25,7 +25,7 @@ use Rattle.sv32_space.proofs.Ledgers.PageLedgerLemmas.{seat_kept}
 use Rattle.vm_memory.specs.declared.memory.Memory.{Memory}
 use Rattle.vm_memory.specs.Pages.Changing.{IsFreeFrame, ChangesPagesAlone}
 use Rattle.vm_memory.specs.FirstLedger.{first_page}
-use Rattle.vm_memory.specs.Memory.{Size, size, processes, capacity_of, ledger}
+use Rattle.vm_memory.specs.Memory.{Size, size, processes, capacity_of, frames_for_pages, ledger}
 use Rattle.vm_memory.specs.Sound.{IsSound}
 use Rattle.vm_memory.specs.Starting.{AreFreeFrom, HasNoPage, IsUnlent, place_pages}
 use Rattle.vm_memory.proofs.Booting.FirstPageLemmas.{free_there, pages_home_else, pages_more, pages_unlent}
@@ -35,16 +35,14 @@ use Rattle.vm_memory.proofs.Changing.LoopLemmas.{rest_same, rest_then}
 pub record HasTable {W : Type 0} (m : Memory W) : Type 0 where
   pub first : (extent m.owners).first ≡ 21 * processes m
   pub frames : (extent m.owners).frames + 21 * processes m ≡ (area m.ram).frames
-  pub room : capacity_of m + 1 ≡ (extent m.owners).frames
+  pub room : frames_for_pages m + 1 ≡ (extent m.owners).frames
 
 pub table_of : {W : Type 0} (slot_count : W → ℕ) (m : Memory W) → IsSound slot_count m → HasTable m
-table_of slot_count m sound =
-    let none : (extent m.owners).slots ≡ 0 = sym sound.slots ∙ sound.no_slots in
-    record {
-      first = sound.agree.first;
-      frames = omega (arith, sound.agree.first, sound.agree.last);
-      room = omega (arith, sound.agree.first, sound.agree.last, sound.tables, none);
-    }
+table_of slot_count m sound = record {
+  first = sound.agree.first;
+  frames = omega (arith, sound.agree.first, sound.agree.last);
+  room = omega (arith, sound.agree.first, sound.agree.last, sound.tables);
+}
 
 -- memories of one size have one table
 pub same_table : {W : Type 0} (slot_count : W → ℕ) (m n : Memory W) → IsSound slot_count m → IsSound slot_count n → size n ≡ size m
@@ -56,8 +54,8 @@ same_table slot_count m n a b same =
     let frames : (area n.ram).frames ≡ (area m.ram).frames = ap (λ (s : Size). s.area.frames) same in
     (omega (arith, t.first, u.first), omega (arith, t.frames, u.frames))
 
-pub same_capacity : {W : Type 0} (slot_count : W → ℕ) (m n : Memory W) → IsSound slot_count m → IsSound slot_count n → size n ≡ size m → capacity_of n ≡ capacity_of m
-same_capacity slot_count m n a b same =
+pub same_frames : {W : Type 0} (slot_count : W → ℕ) (m n : Memory W) → IsSound slot_count m → IsSound slot_count n → size n ≡ size m → frames_for_pages n ≡ frames_for_pages m
+same_frames slot_count m n a b same =
     let t : HasTable m = table_of slot_count m a in
     let u : HasTable n = table_of slot_count n b in
     let s : ((extent n.owners).first ≡ (extent m.owners).first) × ((extent n.owners).frames ≡ (extent m.owners).frames) = same_table slot_count m n a b same in
@@ -77,7 +75,7 @@ pub record ArePlaced {W : Type 0} (slot_count : W → ℕ) (held : W → Held) (
 
 module _ {W : Type 0} (slot_count : W → ℕ) (held : W → Held) (file : List ℕ) (pid : Pid) (plan : List PagePlan) (old : Memory W)
     (sound : IsSound slot_count old) (process : is_pid (processes old) pid.0 ≡ true) (unlent : IsUnlent (ledger held old)) (none : HasNoPage pid.0 (ledger held old))
-    (room : old.pages + length plan ≤ capacity_of old) (lawful : All (IsLawfulPage (length file)) plan)
+    (room : old.pages + length plan ≤ frames_for_pages old) (lawful : All (IsLawfulPage (length file)) plan)
     (different : AllPairs (λ (a b : PagePlan). a.vpn.0 ≢ b.vpn.0) plan) where
   pub nothing_placed : AreFreeFrom old.owners old.pages → ArePlaced slot_count held file pid plan 0 old old
   nothing_placed free = record { sound = sound; placed = refl; frames = free; pages = omega arith; rest = rest_same old }
@@ -119,15 +117,18 @@ module _ {W : Type 0} (slot_count : W → ℕ) (held : W → Held) (file : List 
     table : HasTable now
     table = table_of slot_count now h.sound
 
-    cap_now : capacity_of now ≡ capacity_of old
-    cap_now = same_capacity slot_count old now sound h.sound h.rest.size
+    frames_now : frames_for_pages now ≡ frames_for_pages old
+    frames_now = same_frames slot_count old now sound h.sound h.rest.size
+
+    pub next_left : now.pages + 1 ≤ frames_for_pages now
+    next_left = omega (arith, h.pages, frames_now, room)
 
     pub next_room : now.pages + 1 ≤ capacity_of now
-    next_room = omega (arith, h.pages, cap_now, room)
+    next_room = omega (arith, next_left)
 
     pub next_frame : (f : ℕ) → f ≡ 21 * now.procs + now.pages → IsFreeFrame now.owners f
     next_frame f is =
-        let room : now.pages + 1 ≤ capacity_of now = next_room in
+        let room : now.pages + 1 ≤ frames_for_pages now = next_left in
         let there : f ≡ (extent now.owners).first + now.pages = omega (arith, is, table.first, h.sound.procs) in
         record {
           within = (omega arith, omega (arith, table.room));

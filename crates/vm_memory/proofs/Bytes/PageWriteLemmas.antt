@@ -86,7 +86,6 @@ module _ {W : Type 0} (slot_count : W → ℕ) (held : W → Held) (m : Memory W
     pages = sound.pages ∙ ap (pages (processes m)) (sym blank_after);
     seats = sound.seats;
     room = sound.room;
-    no_slots = sound.no_slots;
   }
 
   pub size_after : size n ≡ size m

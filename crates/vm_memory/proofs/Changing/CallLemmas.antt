@@ -1,27 +1,72 @@
 -- What the calls say of a memory that stays sound.
-use Rattle.std.proofs.Common.{◌≡◌, ℕ, Bool, true, ◌==◌, sym, ap, ◌∙◌, arith}
+use Rattle.std.proofs.Common.{◌≡◌, ℕ, ◌<◌, Bool, true, false, ◌||◌, ◌==◌, None, ap, ◌∙◌, inl, inr, arith}
 use Rattle.std.specs.Prelude.{is_some}
-use Rattle.std.proofs.lemmas.Bool.{or_right}
+use Rattle.std.proofs.lemmas.Bool.{both_ways, eqb-true, or_right}
 use Rattle.xk_base.specs.Tables.Counting.{count_below}
+use Rattle.xk_base.proofs.CountingLemmas.{count_below-none}
+use Rattle.xk_base.specs.declared.ids.Slot.{Slot as SlotNumber}
+use Rattle.phys_pages.specs.declared.infos.Seat.TheVariants.{Slot}
 use Rattle.phys_pages.specs.Owners.{extent, infos, slot_seat}
+use Rattle.phys_pages.proofs.OwnerLemmas.{infos-within}
+use Rattle.ledger_model.proofs.LedgerLemmas.{cases_Option}
 use Rattle.sv32_space.specs.Tie.{Held}
 use Rattle.vm_memory.specs.declared.memory.Memory.{Memory}
-use Rattle.vm_memory.specs.Bytes.{MeansBytes, is_known, none_out}
-use Rattle.xk_ports.specs.Keeping.{KeepsStore}
-use Rattle.vm_memory.specs.Sound.{IsSound}
+use Rattle.vm_memory.specs.Bytes.{MeansBytes, is_known, none_out, used_slots}
+use Rattle.xk_ports.specs.Keeping.{KeepsStore, tells_truly}
+use Rattle.vm_memory.specs.Memory.{size}
+use Rattle.vm_memory.specs.Pages.Changing.{ChangesPagesAlone}
+use Rattle.vm_memory.proofs.Changing.CountLemmas.{zero_each}
 
--- a table without slots has no page out
+-- a memory with no slots has no page out
 count_none : (n : ℕ) (f : ℕ → Bool) → n ≡ 0 → count_below n f ≡ 0
 unfolding count_below
 count_none n f e = ap (λ k. count_below k f) e
 
-pub sound-none_out : {W : Type 0} (slot_count : W → ℕ) (m : Memory W) → IsSound slot_count m → none_out m ≡ true
+pub no_slots-none_out : {W : Type 0} (m : Memory W) → (size m).slots ≡ 0 → none_out m ≡ true
 unfolding none_out
-sound-none_out slot_count m sound =
-    ap (λ k. k == 0) (count_none (extent m.owners).slots (λ k. is_some (infos m.owners (slot_seat k))) (sym sound.slots ∙ sound.no_slots))
+no_slots-none_out m none = ap (λ k. k == 0) (count_none (extent m.owners).slots (λ k. is_some (infos m.owners (slot_seat k))) none)
 
-pub sound-means : {W : Type 0} (slot_count : W → ℕ) (honest : W → Bool) (held : W → Held) (m : Memory W) → IsSound slot_count m → MeansBytes honest held m
-sound-means slot_count honest held m sound = or_right (is_known honest held m) (none_out m) (sound-none_out slot_count m sound)
+pub no_slots-means : {W : Type 0} (honest : W → Bool) (held : W → Held) (m : Memory W) → (size m).slots ≡ 0 → MeansBytes honest held m
+no_slots-means honest held m none = or_right (is_known honest held m) (none_out m) (no_slots-none_out m none)
+
+-- where no page is out no slot is used, and the other way round
+pub none_out-slots : {W : Type 0} (m : Memory W) → none_out m ≡ true → (s : SlotNumber) → infos m.owners (Slot s) ≡ None
+unfolding none_out
+none_out-slots m none s = elim (cases_Option (infos m.owners (Slot s))) [
+  | inl free ↦ free
+  | inr used ↦
+      let low : s.0 < (extent m.owners).slots = infos-within m.owners (Slot s) used.0 used.1 in
+      let each : is_some (infos m.owners (Slot s)) ≡ false =
+      zero_each (extent m.owners).slots (λ k. is_some (infos m.owners (slot_seat k))) (eqb-true (used_slots m.owners) 0 none) s.0 low in
+      absurd (both_ways (is_some (infos m.owners (Slot s))) each (ap is_some used.1))
+]
+
+pub slots-none_out : {W : Type 0} (m : Memory W) → ((s : SlotNumber) → infos m.owners (Slot s) ≡ None) → none_out m ≡ true
+unfolding none_out
+slots-none_out m free = ap (λ k. k == 0) (count_below-none (extent m.owners).slots (λ k. is_some (infos m.owners (slot_seat k)))
+    (λ k low. ap is_some (free (record { 0 = k }))))
+
+-- a change after which a slot without a page has none puts no page out
+pub none_out-kept : {W : Type 0} (old new : Memory W) → ((s : SlotNumber) → infos old.owners (Slot s) ≡ None → infos new.owners (Slot s) ≡ None)
+    → none_out old ≡ true → none_out new ≡ true
+none_out-kept old new kept none = slots-none_out new (λ s. kept s (none_out-slots old none s))
+
+pub either_kept : (a b c d : Bool) → c ≡ a → (b ≡ true → d ≡ true) → (a || b) ≡ true → (c || d) ≡ true
+either_kept true b c d same kept h = ap (λ x. x || d) same
+either_kept false b c d same kept h = ap (λ x. x || d) same ∙ kept h
+
+pub means-kept : {W : Type 0} (honest : W → Bool) (held : W → Held) (old new : Memory W) → new.store ≡ old.store
+    → (none_out old ≡ true → none_out new ≡ true) → MeansBytes honest held old → MeansBytes honest held new
+means-kept honest held old new same kept means =
+    either_kept (is_known honest held old) (none_out old) (is_known honest held new) (none_out new) (ap (tells_truly honest held) same) kept means
+
+-- .. as a change of pages alone does
+pub alone-none_out : {W : Type 0} (old new : Memory W) → ChangesPagesAlone old new → none_out old ≡ true → none_out new ≡ true
+alone-none_out old new rest = none_out-kept old new rest.slots
+
+pub alone-means : {W : Type 0} (honest : W → Bool) (held : W → Held) (old new : Memory W) → ChangesPagesAlone old new
+    → MeansBytes honest held old → MeansBytes honest held new
+alone-means honest held old new rest = means-kept honest held old new rest.store (alone-none_out old new rest)
 
 -- a store that stays is kept
 pub same_store : {W P : Type 0} (is_honest : W → Bool) (held : W → Held) (slot_count : W → ℕ) (asked : W → P) (faults : W → ℕ) (old new : W)

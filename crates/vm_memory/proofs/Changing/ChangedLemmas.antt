@@ -1,6 +1,6 @@
 -- A memory after a change of entries and owners: it is sound, and its ledger has made the step.
 use Rattle.xk_base.specs.Tables.Circle.{is_pid}
-use Rattle.std.proofs.Common.{◌≡◌, ℕ, ◌+◌, ◌*◌, ◌≤◌, true, Some, refl, sym, ap, subst, ◌∙◌, arith}
+use Rattle.std.proofs.Common.{◌≡◌, ℕ, ◌+◌, ◌*◌, ◌≤◌, true, false, Some, None, refl, sym, ap, subst, ◌∙◌, arith}
 use Rattle.boot_plan.specs.Capacity.{capacity}
 use Rattle.xk_base.specs.Numbers.Limits.{table_frames}
 use Rattle.phys_pages.specs.declared.infos.PageInfo.{PageInfo}
@@ -21,11 +21,21 @@ use Rattle.sv32_space.specs.Tie.{Held, agrees, bytes_at}
 use Rattle.sv32_space.proofs.Ledgers.SeatByteLemmas.{used_bytes}
 use Rattle.vm_memory.specs.declared.memory.Memory.{Memory}
 use Rattle.vm_memory.specs.Bytes.{used_frames, used_slots}
-use Rattle.vm_memory.specs.Memory.{blank_ledger, capacity_of, ledger, processes}
+use Rattle.vm_memory.specs.Memory.{blank_ledger, capacity_of, frames_for_pages, ledger, processes}
 use Rattle.vm_memory.specs.Sound.{IsSound}
 use Rattle.vm_memory.specs.Tie.{IsTied}
 use Rattle.vm_memory.proofs.Changing.CountLemmas.{seats_count, frame_left}
 use Rattle.vm_memory.proofs.Changing.SoundMemoryLemmas.{sound-tied}
+
+-- a free frame stays one where no frame is filled
+pub room_kept : {W : Type 0} (m n : Memory W) → extent n.owners ≡ extent m.owners
+    → ((f : ℕ) → infos m.owners (frame_seat f) ≡ None → infos n.owners (frame_seat f) ≡ None)
+    → HasUnusedFrame (extent m.owners) (infos m.owners) → HasUnusedFrame (extent n.owners) (infos n.owners)
+room_kept m n table kept room = record {
+  frame = room.frame;
+  within = subst (λ t. HasSeat t (frame_seat room.frame)) (sym table) room.within;
+  free = kept room.frame room.free;
+}
 
 abbrev pub no_bytes : SeatBytes
 no_bytes s = zero_page
@@ -91,21 +101,19 @@ module _ {W : Type 0} (slot_count : W → ℕ) (held : W → Held) (m n : Memory
   unfolding blank_ledger
   count_there agree = seats_count (processes n) (entries (processes n) n.ram) n.owners (agrees_there agree).entries
 
-  -- a frame is free, as not all are used
-  room_there : EntriesAgree (processes m) E I → IsLawful (processes m) (capacity_of m) blank → HasUnusedFrame (extent n.owners) (infos n.owners)
-  room_there agree lawful =
+  -- a frame is free where pages don't stand in all
+  pub room_there : EntriesAgree (processes m) E I → pages (processes m) blank ≤ frames_for_pages m → HasUnusedFrame (extent n.owners) (infos n.owners)
+  room_there agree few =
       let count : used_frames n.owners + used_slots n.owners ≡ pages (processes n) (blank_ledger n) = count_there agree in
-      let room : pages (processes m) blank ≤ capacity_of m = lawful.within in
       let first : (extent m.owners).first ≡ 21 * processes m = sound.agree.first in
       let last : (extent m.owners).first + (extent m.owners).frames ≡ (area m.ram).frames = sound.agree.last in
       let same : (extent n.owners).frames ≡ (extent m.owners).frames = ap (λ (t : Extent). t.frames) c.extent in
-      let none : (extent m.owners).slots ≡ 0 = sym sound.slots ∙ sound.no_slots in
-      frame_left n.owners (omega (arith, count, pages_there, room, first, last, same, none, sound.tables))
+      frame_left n.owners (omega (arith, count, pages_there, few, first, last, same, sound.tables))
 
   -- SOUND: it stays sound where entries and owners agree, the ledger is lawful, and its pages are counted
   sound_there : EntriesAgree (processes m) E I → IsLawful (processes m) (capacity_of m) blank
-      → n.pages ≡ pages (processes m) blank → IsSound slot_count n
-  sound_there agree lawful counted = record {
+      → n.pages ≡ pages (processes m) blank → (n.failed ≡ false → HasUnusedFrame (extent n.owners) (infos n.owners)) → IsSound slot_count n
+  sound_there agree lawful counted room = record {
     agree = agrees_there agree;
     procs = c.procs ∙ (sound.procs ∙ sym (ap procs_of c.extent));
     slots = c.slots ∙ (sound.slots ∙ sym (ap (λ (t : Extent). t.slots) c.extent));
@@ -118,8 +126,7 @@ module _ {W : Type 0} (slot_count : W → ℕ) (held : W → Held) (m n : Memory
     lawful = lawful_there lawful;
     pages = counted ∙ sym pages_there;
     seats = count_there agree ∙ sym (counted ∙ sym pages_there);
-    room = λ usable. room_there agree lawful;
-    no_slots = c.slots ∙ sound.no_slots;
+    room = room;
   }
 
   -- the bytes of the seats that were used stay, where those of their frames do
@@ -155,6 +162,7 @@ module _ {W : Type 0} (slot_count : W → ℕ) (held : W → Held) (m n : Memory
   module _ (step : Ledger → Ledger) (agree : EntriesAgree (processes m) E I)
       (lawful : IsLawful (processes m) (capacity_of m) (step (blank_ledger m)))
       (counted : n.pages ≡ pages (processes m) (step (blank_ledger m)))
+      (room : n.failed ≡ false → HasUnusedFrame (extent n.owners) (infos n.owners))
       (stay : (f : ℕ) (info : PageInfo) → infos m.owners (frame_seat f) ≡ Some info → page_of_frame n.ram f ≡ page_of_frame m.ram f) where
     -- .. from zeros, and from the bytes that are there now
     pub step_from : blank ≡ step (blank_ledger m)
@@ -162,7 +170,7 @@ module _ {W : Type 0} (slot_count : W → ℕ) (held : W → Held) (m n : Memory
         → IsStep slot_count held m n step
     step_from zeros now =
         let stays : IsSound slot_count n = sound_there agree
-        (subst (λ l. IsLawful (processes m) (capacity_of m) l) (sym zeros) lawful) (counted ∙ ap (pages (processes m)) (sym zeros)) in
+        (subst (λ l. IsLawful (processes m) (capacity_of m) l) (sym zeros) lawful) (counted ∙ ap (pages (processes m)) (sym zeros)) room in
         record { sound = stays; tie = sound-tied slot_count held n stays; ledger = ledger_there ∙ (now ∙ ap step (ledger_before stay)) }
 
     -- THE STEP: .. from any bytes. So it is with each call that moves no byte: removals, rights and loans.

@@ -78,6 +78,7 @@ module _ {W : Type 0} (slot_count : W → ℕ) (held : W → Held) (m : Memory W
       (remove_lawful (processes m) (capacity_of m) (in_run at 1) (blank_ledger m) sound.lawful
       (can_remove (processes m) (blank_ledger m) at (console_right w) Console (console_page w here)))
       (sound.pages ∙ sym (none_less (processes m) (blank_ledger m) at (console_right w) Console (console_page w here) refl))
+      (λ f free. free)
       (λ C. unmap_console_ledger E I C at w here)
 
   console_within : (w : Bool) (new : Right) → E at ≡ Some (OnConsole w) → asks_more new ((ledger held m).home at) ≡ false
@@ -96,6 +97,7 @@ module _ {W : Type 0} (slot_count : W → ℕ) (held : W → Held) (m : Memory W
       (reduce_lawful (processes m) (capacity_of m) (in_run at 1) new (blank_ledger m) sound.lawful
       (can_reduce (processes m) (blank_ledger m) at (console_right w) Console (console_page w here) new within))
       (sound.pages ∙ sym (reduce_pages (processes m) (in_run at 1) new (blank_ledger m)))
+      (λ f free. free)
       (λ C. reduce_console_ledger E I C at w new here (no_fetch new w within))
 
   blank_can : CanMakeConsole (processes m) (ledger held m) at → CanMakeConsole (processes m) (blank_ledger m) at
@@ -116,4 +118,5 @@ module _ {W : Type 0} (slot_count : W → ℕ) (held : W → Held) (m : Memory W
       (make_console at w) (map_console_agrees (processes m) E I at w sound.agree.entries free)
       (make_console_lawful (processes m) (capacity_of m) at w (blank_ledger m) sound.lawful (blank_can can))
       (sound.pages ∙ sym (make_console_pages (processes m) at w (blank_ledger m) (blank_can can)))
+      (λ f free. free)
       (λ C. map_console_ledger E I C at w free)

@@ -1,7 +1,7 @@
 -- As many seats are used as there are pages, so that a frame is free while the capacity holds.
-use Rattle.std.proofs.Common.{◌≡◌, ℕ, zero, suc, ◌+◌, ◌-◌, ◌<◌, ◌≤◌, Bool, true, false, if◌then◌else◌, Option, Some, None, refl, sym, ap, ◌∙◌, arith}
+use Rattle.std.proofs.Common.{◌≡◌, ℕ, zero, suc, ◌+◌, ◌-◌, ◌<◌, ◌≤◌, Bool, true, false, if◌then◌else◌, Option, Some, None, refl, sym, ap, ◌∙◌, inl, inr, arith}
 use Rattle.std.specs.Prelude.{is_some, nat_lt}
-use Rattle.std.proofs.lemmas.Bool.{cond-true, cond-false, lt-ltb, le-ltb}
+use Rattle.std.proofs.lemmas.Bool.{both_ways, cases_eq, cases_lt, cond-true, cond-false, lt-ltb, le-ltb}
 use Rattle.xk_base.specs.Tables.Counting.{count_below}
 use Rattle.xk_base.proofs.CountingLemmas.{count_below-same}
 use Rattle.phys_pages.specs.declared.infos.PageInfo.{PageInfo}
@@ -37,6 +37,28 @@ fails_somewhere (suc n) f h = by_last (f n) refl h (λ few. fails_somewhere n f 
     by_last true e g before =
         let found : (k : ℕ) × (k < n) × (f k ≡ false) = before (omega arith) in
         (found.0, omega (arith, found.1), found.2)
+
+-- where none passes, each fails
+pub zero_each : (n : ℕ) (f : ℕ → Bool) → count_below n f ≡ 0 → (k : ℕ) → k < n → f k ≡ false
+unfolding count_below
+zero_each zero f h k low = absurd (omega (arith, low))
+zero_each (suc n) f h k low = by_last (f n) refl h (λ e l. zero_each n f e k l)
+  where
+    by_last : (b : Bool) → f n ≡ b → count_below n f + (if b then 1 else 0) ≡ 0 → (count_below n f ≡ 0 → k < n → f k ≡ false) → f k ≡ false
+    by_last true e g before = absurd (omega arith)
+    by_last false e g before = elim (cases_eq k n) [
+      | inl same ↦ ap f same ∙ e
+      | inr apart ↦ before (omega arith) (omega (arith, low, apart))
+    ]
+
+-- where each passes, all count
+pub each_counts : (n : ℕ) (f : ℕ → Bool) → ((k : ℕ) → k < n → f k ≡ true) → n ≤ count_below n f
+each_counts n f h = elim (cases_lt (count_below n f) n) [
+  | inl few ↦
+      let found : (k : ℕ) × (k < n) × (f k ≡ false) = fails_somewhere n f few in
+      absurd (both_ways (f found.0) found.2 (h found.0 found.1))
+  | inr all ↦ all
+]
 
 frame_there : (t : Extent) (k : ℕ) → k < t.frames → table_seat t k ≡ frame_seat (t.first + k)
 frame_there t k l = cond-true (nat_lt k t.frames) (frame_seat (t.first + k)) (slot_seat (k - t.frames)) (lt-ltb k t.frames l)

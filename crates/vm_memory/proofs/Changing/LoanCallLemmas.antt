@@ -17,7 +17,8 @@ use Rattle.xk_base.specs.declared.pages.LoanKind.{LoanKind}
 use Rattle.xk_base.specs.declared.pages.LoanKind.TheVariants.{Shared, Exclusive}
 use Rattle.xk_base.specs.declared.windows.Window.{Window}
 use Rattle.xk_base.specs.declared.windows.Window.TheVariants.{Message}
-use Rattle.phys_pages.specs.Owners.{OwnerTable, infos}
+use Rattle.phys_pages.specs.declared.infos.Seat.TheVariants.{Slot}
+use Rattle.phys_pages.specs.Owners.{OwnerTable, frame_seat, infos}
 use Rattle.phys_pages.specs.Ram.{RamBytes}
 use Rattle.ledger_model.specs.Conditions.{CanGive, CanLend, CanPass}
 use Rattle.ledger_model.specs.Lawful.{IsLawful}
@@ -57,8 +58,8 @@ use Rattle.vm_memory.specs.Loaning.Loans.{KeepsSeats, orphans_of}
 use Rattle.vm_memory.specs.Memory.{blank_ledger, capacity_of, ledger, processes}
 use Rattle.vm_memory.specs.Loaning.Sending.{IsFreeArrival, send_answer}
 use Rattle.vm_memory.specs.Sound.{IsSound}
-use Rattle.vm_memory.proofs.Changing.CallLemmas.{sound-means, sound-none_out}
-use Rattle.vm_memory.proofs.Changing.ChangedLemmas.{IsChanged, frames_stay, step_there}
+use Rattle.vm_memory.proofs.Changing.CallLemmas.{means-kept, none_out-kept}
+use Rattle.vm_memory.proofs.Changing.ChangedLemmas.{IsChanged, frames_stay, room_kept, step_there}
 use Rattle.vm_memory.proofs.Changing.PageStepLemmas.{free_entry}
 use Rattle.vm_memory.proofs.Changing.SoundMemoryLemmas.{bare-ledger}
 
@@ -219,6 +220,7 @@ module _ {W : Type 0} (slot_count : W → ℕ) (honest : W → Bool) (held : W �
       → DoesStep slot_count honest held m n step
   does_step step steps lawful counted =
       let there = step_there slot_count held m n (entries (processes m) ram) (infos owners) sound changed step agree_there lawful counted
+      (λ usable. room_kept m n keeps.extent (λ f free. keeps.free (frame_seat f) free) (sound.room usable))
       (frames_stay slot_count held m n (entries (processes m) ram) (infos owners) sound changed keeps.pages)
       (λ B. ap (λ k. ledger_of (entries k ram) (infos owners) B) (sym same_procs) ∙ steps B) in
       record {
@@ -230,8 +232,8 @@ module _ {W : Type 0} (slot_count : W → ℕ) (honest : W → Bool) (held : W �
           store = refl;
           failed = refl;
           seats = keeps.free;
-          none = λ before. sound-none_out slot_count n there.sound;
-          means = λ before. sound-means slot_count honest held n there.sound;
+          none = none_out-kept m n (λ s free. keeps.free (Slot s) free);
+          means = means-kept honest held m n refl (none_out-kept m n (λ s free. keeps.free (Slot s) free));
         };
       }
 

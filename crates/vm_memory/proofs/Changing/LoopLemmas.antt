@@ -2,7 +2,7 @@
 use Rattle.std.proofs.Common.{◌≡◌, ℕ, ◌+◌, ◌*◌, ◌<◌, ◌≤◌, ◌^◌, true, false, Some, refl, sym, ap, subst, ◌∙◌, inl, inr, arith}
 use Rattle.std.specs.Prelude.{is_some}
 use Rattle.std.proofs.lemmas.Bool.{both_ways, cases_lt, cond-true, cond-false}
-use Rattle.boot_plan.specs.Capacity.{capacity}
+use Rattle.boot_plan.specs.Capacity.{capacity, page_frames}
 use Rattle.xk_base.specs.Tables.Counting.{put_at}
 use Rattle.xk_base.specs.declared.ids.Frame.{Frame as FrameNumber}
 use Rattle.xk_base.specs.declared.ids.Place.{Place}
@@ -23,7 +23,7 @@ use Rattle.sv32_space.specs.Tie.{Held}
 use Rattle.sv32_space.proofs.RunLemmas.{make_next, remove_next, reduce_next}
 use Rattle.vm_memory.specs.declared.memory.Memory.{Memory}
 use Rattle.vm_memory.specs.Pages.Changing.{ChangesPagesAlone}
-use Rattle.vm_memory.specs.Memory.{Size, size, capacity_of, ledger, processes}
+use Rattle.vm_memory.specs.Memory.{Size, size, capacity_of, frames_for_pages, ledger, processes}
 use Rattle.vm_memory.specs.Sound.{IsSound}
 use Rattle.vm_memory.proofs.Using.NowhereLemmas.{no_user}
 use Rattle.vm_memory.proofs.Changing.RunLemmas.{free_ahead, lent_ahead, lent_ahead_reduced, within_ahead}
@@ -34,14 +34,23 @@ run_wider first i n p few e =
     let there : IsInRun first i p = in_run-true first i p e in
     in_run-from first n p (record { pid = there.pid; from = there.from; to = omega (arith, there.to) })
 
+-- a shorter run may be made where a longer one may
+pub fewer : (procs capacity : ℕ) (l : Ledger) (first : Place) (n i : ℕ) → i ≤ n → CanMake procs capacity l first n → CanMake procs capacity l first i
+fewer procs capacity l first n i low can = record {
+  lies = λ p e. can.lies p (run_wider first i n p low e);
+  free = λ p e. can.free p (run_wider first i n p low e);
+  room = omega (arith, low, can.room);
+}
+
 pub rest_same : {W : Type 0} (m : Memory W) → ChangesPagesAlone m m
-rest_same m = record { size = refl; store = refl; failed = refl }
+rest_same m = record { size = refl; store = refl; failed = refl; slots = λ s free. free }
 
 pub rest_then : {W : Type 0} (a b c : Memory W) → ChangesPagesAlone a b → ChangesPagesAlone b c → ChangesPagesAlone a c
 rest_then a b c first second = record {
   size = second.size ∙ first.size;
   store = second.store ∙ first.store;
   failed = second.failed ∙ first.failed;
+  slots = λ s free. second.slots s (first.slots s free);
 }
 
 module _ {W : Type 0} (slot_count : W → ℕ) (held : W → Held) (m0 m : Memory W) (sound : IsSound slot_count m) (rest : ChangesPagesAlone m0 m) (first : Place) (n i : ℕ) (low : i < n) where
@@ -56,11 +65,7 @@ module _ {W : Type 0} (slot_count : W → ℕ) (held : W → Held) (m0 m : Memor
 
   module _ (right : Right) (can : CanMake (processes m0) (capacity_of m0) (ledger held m0) first n) (so_far : ledger held m ≡ make first i right (ledger held m0)) where
     can_first : CanMake (processes m0) (capacity_of m0) L0 first i
-    can_first = record {
-      lies = λ p e. can.lies p (run_wider first i n p (omega arith) e);
-      free = λ p e. can.free p (run_wider first i n p (omega arith) e);
-      room = omega (arith, can.room);
-    }
+    can_first = fewer (processes m0) (capacity_of m0) L0 first n i (omega arith) can
 
     pub next_lies : is_user_place (processes m) (place_after first i) ≡ true
     next_lies = ap (λ k. is_user_place k (place_after first i)) procs_same ∙ can.lies (place_after first i) (in_run-after first n i low)
@@ -77,6 +82,16 @@ module _ {W : Type 0} (slot_count : W → ℕ) (held : W → Held) (m0 m : Memor
         ap (λ k. pages k (ledger held m)) procs_same ∙ ap (pages (processes m0)) so_far in
         let more : pages (processes m0) (make first i right L0) ≡ pages (processes m0) L0 + i = make_pages (processes m0) (capacity_of m0) first i right L0 can_first in
         omega (arith, counted, same, more, can.room, capacity_same)
+
+    pub next_left : IsSound slot_count m0 → m0.pages + n ≤ frames_for_pages m0 → m.pages + 1 ≤ frames_for_pages m
+    next_left before fits =
+        let counted : m.pages ≡ pages (processes m) (ledger held m) = sound.pages ∙ sym (pages-ledger held m) in
+        let same : pages (processes m) (ledger held m) ≡ pages (processes m0) (make first i right L0) =
+        ap (λ k. pages k (ledger held m)) procs_same ∙ ap (pages (processes m0)) so_far in
+        let more : pages (processes m0) (make first i right L0) ≡ pages (processes m0) L0 + i = make_pages (processes m0) (capacity_of m0) first i right L0 can_first in
+        let counted_before : m0.pages ≡ pages (processes m0) L0 = before.pages ∙ sym (pages-ledger held m0) in
+        let frames : frames_for_pages m ≡ frames_for_pages m0 = ap (λ (s : Size). page_frames s.area.frames s.procs) rest.size in
+        omega (arith, counted, same, more, counted_before, fits, frames)
 
     pub next_made : (m2 : Memory W) → ledger held m2 ≡ make (place_after first i) 1 right (ledger held m) → ledger held m2 ≡ make first (i + 1) right (ledger held m0)
     next_made m2 e = e ∙ (ap (make (place_after first i) 1 right) so_far ∙ sym (make_next first i right L0))

@@ -48,9 +48,9 @@ use Rattle.vm_memory.specs.declared.memory.Memory.{Memory}
 use Rattle.vm_memory.specs.declared.memory.changes.Owned.{Owned}
 use Rattle.vm_memory.specs.declared.memory.changes.Owned.TheVariants as owned
 use Rattle.vm_memory.specs.Pages.Changing.{IsFreeFrame, owned_in}
-use Rattle.vm_memory.specs.Memory.{blank_ledger, capacity_of, ledger, processes}
+use Rattle.vm_memory.specs.Memory.{blank_ledger, capacity_of, frames_for_pages, ledger, processes}
 use Rattle.vm_memory.specs.Sound.{IsSound}
-use Rattle.vm_memory.proofs.Changing.ChangedLemmas.{IsChanged, IsStep, no_bytes, frames_stay, step_from, step_there}
+use Rattle.vm_memory.proofs.Changing.ChangedLemmas.{IsChanged, IsStep, no_bytes, frames_stay, room_kept, room_there, step_from, step_there}
 use Rattle.sv32_space.proofs.Agreeing.EntryRoleLemmas.{entry_role, role-entry}
 use Rattle.vm_memory.proofs.Changing.OnePlaceLemmas.{in_one, lone_page, can_remove, can_reduce, one_less, reduce_nothing}
 
@@ -105,6 +105,13 @@ console_entry (Some (OnConsole v)) w e = ap entry_of_owned e
 -- a right that isn't asked for more is within the page's
 pub within_of : (asked had : Right) → not (is_within asked had) ≡ false → is_within asked had ≡ true
 within_of asked had e = not-false (is_within asked had) e
+
+-- a seat that is free stays so where another goes free
+pub seat_freed : (I : Infos) (s t : Seat) → I t ≡ None → put_at seat_eq I s None t ≡ None
+seat_freed I s t free = elim (seat_tells t s) [
+  | inl same ↦ cond-true (seat_eq t s) None (I t) same.1
+  | inr apart ↦ cond-false (seat_eq t s) None (I t) apart.1 ∙ free
+]
 
 -- zeros at a seat are no change where it has zeros
 zeros_put : (s : Seat) (B : SeatBytes) → B s ≡ zero_page → with_bytes B s zero_page ≡ B
@@ -192,9 +199,11 @@ module _ {W : Type 0} (slot_count : W → ℕ) (held : W → Held) (m : Memory W
 
     pub written_step : (step : Ledger → Ledger) → EntriesAgree (processes m) (with_entry E at entry) J
         → IsLawful (processes m) (capacity_of m) (step (blank_ledger m)) → count ≡ pages (processes m) (step (blank_ledger m))
+        → ((f : ℕ) → infos m.owners (frame_seat f) ≡ None → infos owners (frame_seat f) ≡ None)
         → ((C : SeatBytes) → ledger_of (with_entry E at entry) J C ≡ step (ledger_of E I C)) → IsStep slot_count held m n step
-    written_step step agree lawful counted each =
+    written_step step agree lawful counted free each =
         step_there slot_count held m n (with_entry E at entry) J sound changed step agree lawful counted
+        (λ usable. room_kept m n table free (sound.room usable))
         (frames_stay slot_count held m n (with_entry E at entry) J sound changed (λ g low. w.pages (processes m) g process low)) each
 
   -- ---- a page goes
@@ -218,6 +227,7 @@ module _ {W : Type 0} (slot_count : W → ℕ) (held : W → Held) (m : Memory W
       (remove_lawful (processes m) (capacity_of m) (in_run at 1) (blank_ledger m) sound.lawful
       (can_remove (processes m) (blank_ledger m) at right (Bytes zero_page) (own_page right s here)))
       (omega (arith, sound.pages, page_less right s here))
+      (λ f free. ap (λ I. I (frame_seat f)) told ∙ seat_freed (infos m.owners) s (frame_seat f) free)
       (λ C. remove_ledger (processes m) E I C at right s sound.agree.entries here)
 
   -- where a place has no page of its own, and nothing on loan, there is no home
@@ -262,6 +272,7 @@ module _ {W : Type 0} (slot_count : W → ℕ) (held : W → Held) (m : Memory W
       (reduce_lawful (processes m) (capacity_of m) (in_run at 1) new (blank_ledger m) sound.lawful
       (can_reduce (processes m) (blank_ledger m) at right (Bytes zero_page) (own_page right s here) new (page_within right new s here asked)))
       (sound.pages ∙ sym (reduce_pages (processes m) (in_run at 1) new (blank_ledger m)))
+      (λ f free. free)
       (λ C. reduce_ledger (processes m) E I C at right new s sound.agree.entries here)
 
   pub nothing_reduced : (right : Right) → is_on_loan (role_at (processes m) (ledger held m) at) ≡ false → owned_in (E at) ≡ owned.Nothing
@@ -286,7 +297,7 @@ module _ {W : Type 0} (slot_count : W → ℕ) (held : W → Held) (m : Memory W
     cleared_made = made_after_page m.ram clean (processes m) f.0 zero_page same wiped behind
 
     module _ (new : RamBytes) (owners : OwnerTable) (right : Right) (user : is_user_place (processes m) at ≡ true)
-        (free : E at ≡ Some Free) (room : m.pages + 1 ≤ capacity_of m)
+        (free : E at ≡ Some Free) (room : m.pages + 1 ≤ capacity_of m) (left : m.failed ≡ false → m.pages + 1 ≤ frames_for_pages m)
         (w : IsWritten clean new at (At (Own right) (Frame f)))
         (told : infos owners ≡ put_at seat_eq (infos m.owners) (Frame f) (Some (owned_by at))) (table : extent owners ≡ extent m.owners) where
       abbrev p : Memory W
@@ -339,10 +350,18 @@ module _ {W : Type 0} (slot_count : W → ℕ) (held : W → Held) (m : Memory W
       from_zeros : (C : SeatBytes) → C (Frame f) ≡ zero_page → ledger_of E2 I2 C ≡ make at 1 right (ledger_of E I C)
       from_zeros C zero = ap (ledger_of E2 I2) (sym (zeros_put (Frame f) C zero)) ∙ make_ledger (processes m) E I C at right (Frame f) sound.agree.entries free frame.free
 
+      agree_then : EntriesAgree (processes m) E2 I2
+      agree_then = make_agrees (processes m) E I at right (Frame f) sound.agree.entries free frame.free
+
+      counted_then : pages (processes m) (ledger_of E2 I2 no_bytes) ≡ pages (processes m) (blank_ledger m) + 1
+      unfolding blank_ledger
+      counted_then = ap (pages (processes m)) (from_zeros no_bytes refl) ∙ make_pages (processes m) (capacity_of m) at 1 right (blank_ledger m) can
+
       pub placed_step : IsStep slot_count held m p (make at 1 right)
       unfolding blank_ledger
       placed_step = step_from slot_count held m p E2 I2 sound placed (make at 1 right)
-          (make_agrees (processes m) E I at right (Frame f) sound.agree.entries free frame.free)
+          agree_then
           (make_lawful (processes m) (capacity_of m) at 1 right (blank_ledger m) sound.lawful can)
           (ap (λ k. k + 1) sound.pages ∙ sym (make_pages (processes m) (capacity_of m) at 1 right (blank_ledger m) can))
+          (λ usable. room_there slot_count held m p E2 I2 sound placed agree_then (omega (arith, left usable, counted_then, sound.pages)))
           stay (from_zeros no_bytes refl) (from_zeros (bytes_at new (held m.store)) zeros)

@@ -1,5 +1,5 @@
 -- What is reached in a sound memory, by the entry of the place.
-use Rattle.std.proofs.Common.{◌≡◌, ℕ, ◌<◌, if◌then◌else◌, Bool, true, false, List, Option, Some, None, refl, sym, ap, subst, ◌∙◌, inl, inr, arith}
+use Rattle.std.proofs.Common.{◌≡◌, ℕ, if◌then◌else◌, Bool, true, false, List, Option, Some, None, refl, sym, ap, ◌∙◌}
 use Rattle.std.specs.Prelude.{is_some}
 use Rattle.std.specs.Option.{option_and_then, option_map_or}
 use Rattle.std.proofs.lemmas.Bool.{false≢true}
@@ -9,11 +9,9 @@ use Rattle.phys_pages.specs.declared.infos.Seat.{Seat}
 use Rattle.phys_pages.specs.declared.infos.Seat.TheVariants.{Frame, Slot}
 use Rattle.phys_pages.specs.Owners.{infos}
 use Rattle.phys_pages.specs.Ram.{pages}
-use Rattle.phys_pages.proofs.OwnerLemmas.{infos-within}
 use Rattle.ledger_model.specs.Ledger.{Contents, Console, Bytes, PageName, Homed, contents_of, has_bytes}
 use Rattle.ledger_model.specs.Places.{is_user_place}
 use Rattle.ledger_model.specs.Reach.{owner_may, reach}
-use Rattle.ledger_model.proofs.LedgerLemmas.{cases_Option}
 use Rattle.sv32_space.specs.declared.sides.Side.{Side}
 use Rattle.sv32_space.specs.Agreement.{Infos}
 use Rattle.sv32_space.specs.declared.sides.Entry.{Entry}
@@ -23,14 +21,12 @@ use Rattle.sv32_space.specs.EntryLedger.{SeatBytes}
 use Rattle.sv32_space.specs.EntryReach.{entry_may, side_may, entry_name, side_name}
 use Rattle.sv32_space.specs.SpelledEntries.{entries}
 use Rattle.sv32_space.specs.Tie.{Held, bytes_at}
-use Rattle.sv32_space.proofs.Ledgers.EntryLedgerLemmas.{names_free}
 use Rattle.xk_base.specs.declared.ids.Frame.{Frame as FrameNumber}
-use Rattle.xk_base.specs.declared.ids.Slot.{Slot as SlotNumber}
 use Rattle.vm_memory.specs.declared.memory.Memory.{Memory}
 use Rattle.vm_memory.specs.declared.memory.access.Target.TheVariants.{Page, Nothing, Console as OnDevice}
 use Rattle.vm_memory.specs.Using.Access.{contents_reached, reaches_bytes}
 use Rattle.vm_memory.specs.Bytes.{names_frame, is_near}
-use Rattle.vm_memory.specs.Using.EntryAccess.{entry_target, is_page_target}
+use Rattle.vm_memory.specs.Using.EntryAccess.{entry_target, is_given_target, is_page_target}
 use Rattle.vm_memory.specs.Loaning.Lending.{frame_named}
 use Rattle.vm_memory.specs.Memory.{processes, ledger, blank_ledger}
 use Rattle.vm_memory.specs.Sound.{IsSound}
@@ -60,16 +56,6 @@ module _ {W : Type 0} (slot_count : W → ℕ) (held : W → Held) (m : Memory W
 
   abbrev B : SeatBytes
   B = bytes_at m.ram (held m.store)
-
-  lone_slot : (n : ℕ) → n < m.slots → ⊥
-  lone_slot n h = omega (arith, sound.no_slots)
-
-  -- no entry names a slot, while no slot is used
-  pub no_slot_named : (p : Place) (side : Side) (s : SlotNumber) → E p ≡ Some (At side (Slot s)) → ⊥
-  no_slot_named p side s e = elim (cases_Option (I (Slot s))) [
-    | inl none ↦ names_free (processes m) E I sound.agree.entries p side (Slot s) e none
-    | inr some ↦ lone_slot s.0 (subst (λ n. s.0 < n) (sym sound.slots) (infos-within m.owners (Slot s) some.0 some.1))
-  ]
 
   -- what is reached, by the entry
   pub reach_by : (p : Place) (e : Entry) (access : Access) → E p ≡ Some e
@@ -123,21 +109,24 @@ module _ {W : Type 0} (slot_count : W → ℕ) (held : W → Held) (m : Memory W
   on_console_if true = refl
   on_console_if false = refl
 
-  page_by : (p : Place) (access : Access) (o : Option Entry) → E p ≡ o
+  page_by : (p : Place) (access : Access) (o : Option Entry) → E p ≡ o → is_given_target (entry_target o access) ≡ entry_may o access
       → reaches_bytes (processes m) (ledger held m) p access ≡ is_page_target (entry_target o access)
-  page_by p access None e = ap (λ r. option_map_or has_bytes (option_and_then (contents_of (ledger held m)) r) false) (reach_nowhere p access e)
-  page_by p access (Some Free) e = ap (λ r. option_map_or has_bytes (option_and_then (contents_of (ledger held m)) r) false) (reach_by p Free access e)
-  page_by p access (Some (At side (Frame f))) e =
+  page_by p access None e ready = ap (λ r. option_map_or has_bytes (option_and_then (contents_of (ledger held m)) r) false) (reach_nowhere p access e)
+  page_by p access (Some Free) e ready = ap (λ r. option_map_or has_bytes (option_and_then (contents_of (ledger held m)) r) false) (reach_by p Free access e)
+  page_by p access (Some (At side (Frame f))) e ready =
       ap (λ c. option_map_or has_bytes c false) (seat_contents p side (Frame f) access e)
       ∙ (bytes_if (side_may side access) (B (Frame f)) ∙ sym (frame_if (side_may side access) f))
-  page_by p access (Some (At side (Slot s))) e = absurd (no_slot_named p side s e)
-  page_by p access (Some (OnConsole w)) e =
+  page_by p access (Some (At side (Slot s))) e ready =
+      ap (λ c. option_map_or has_bytes c false) (seat_contents p side (Slot s) access e)
+      ∙ (bytes_if (side_may side access) (B (Slot s)) ∙ sym ready)
+  page_by p access (Some (OnConsole w)) e ready =
       ap (λ c. option_map_or has_bytes c false) (console_contents p w access e)
       ∙ (console_if (owner_may (record { w = w; x = false }) access) ∙ sym (on_console_if (owner_may (record { w = w; x = false }) access)))
 
-  -- THE PAGE: the process has the access to a page exactly where the entry leads to one
-  pub page_reached : (p : Place) (access : Access) → is_page_target (entry_target (E p) access) ≡ reaches_bytes (processes m) (ledger held m) p access
-  page_reached p access = sym (page_by p access (E p) refl)
+  -- THE PAGE: where no page that the access reaches is out, the process has the access to a page exactly where the entry leads to one
+  pub page_reached : (p : Place) (access : Access) → is_given_target (entry_target (E p) access) ≡ entry_may (E p) access
+      → is_page_target (entry_target (E p) access) ≡ reaches_bytes (processes m) (ledger held m) p access
+  page_reached p access ready = sym (page_by p access (E p) refl ready)
 
   -- .. and then the place is near
   pub reached_near : (p : Place) (access : Access) → is_page_target (entry_target (E p) access) ≡ true → is_near m p ≡ true

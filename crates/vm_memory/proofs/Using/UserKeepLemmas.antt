@@ -14,7 +14,8 @@ use Rattle.vm_memory.specs.Bytes.{means_bytes, none_out}
 use Rattle.xk_base.specs.Numbers.Windows.{page_of}
 use Rattle.vm_memory.specs.Memory.{IsUsable, processes}
 use Rattle.vm_memory.specs.Sound.{IsSound}
-use Rattle.vm_memory.specs.Using.UserStores.{DoesStore, StoresBytes}
+use Rattle.vm_memory.specs.Using.UserStores.{DoesStore, StoresBytes, store_target}
+use Rattle.vm_memory.specs.Using.EntryAccess.{is_given_target}
 use Rattle.vm_memory.specs.Using.UserView.{KeepsRest, user_view, user_content}
 use Rattle.vm_memory.proofs.Changing.SoundMemoryLemmas.{sound-tied}
 use Rattle.vm_memory.proofs.Using.UserLemmas.{IsDeviceTarget, device_target, is_device, may_by, console_by, nothing_given}
@@ -96,18 +97,19 @@ module _ {W P : Type 0} (is_honest : W → Bool) (held : W → Held) (slot_count
   abbrev told : Memory W → Seen
   told x = record { content = user_content is_honest held x pid; timer = None }
 
-  pub stores_told : (k : Memory W) (stored : Stored) → DoesStore m k pid va width value stored
+  pub stores_told : (k : Memory W) (stored : Stored) → is_given_target (store_target m pid va) ≡ entry_may (entries (processes m) m.ram (page_of pid va)) Store
+      → DoesStore m k pid va width value stored
       → StoresAsTold ((user_view held m pid).may Store va) ((user_view held m pid).console va) (told m) (told k) va width value stored
-  stores_told k Done h = (
+  stores_told k Done ready h = (
     store_given slot_count held m sound pid va width value aligned h.frame h.target,
     store_no_console slot_count held m sound pid va width value aligned h.frame h.target,
     (content_written k h, refl),
   )
-  stores_told k (Device offset) h =
+  stores_told k (Device offset) ready h =
       let t : IsDeviceTarget (entries (processes m) m.ram (page_of pid va)) Store = device_target (entries (processes m) m.ram (page_of pid va)) Store h.0 in (
         may_by slot_count held m sound pid va Store ∙ ap (λ o. entry_may o Store) t.entry ∙ t.given,
         console_by slot_count held m sound pid va ∙ ap is_device t.entry,
         h.1,
         (content_kept k h.2, refl),
       )
-  stores_told k Fault h = (nothing_given slot_count held m sound pid va Store h.0, (content_kept k h.1, refl))
+  stores_told k Fault ready h = (nothing_given slot_count held m sound pid va Store ready h.0, (content_kept k h.1, refl))

@@ -32,8 +32,8 @@ use Rattle.xk_base.specs.Numbers.Windows.{page_of}
 use Rattle.vm_memory.specs.Memory.{processes, ledger}
 use Rattle.vm_memory.specs.Sound.{IsSound}
 use Rattle.vm_memory.specs.Using.UserView.{contents_seen, seen_memory}
-use Rattle.vm_memory.proofs.Using.WalkReachLemmas.{near_target, reach_some}
-use Rattle.vm_memory.proofs.Using.ReachedLemmas.{no_slot_named, reach_by, reach_nowhere, seat_contents, console_contents}
+use Rattle.vm_memory.proofs.Using.WalkReachLemmas.{reach_some}
+use Rattle.vm_memory.proofs.Using.ReachedLemmas.{reach_by, reach_nowhere, seat_contents, console_contents}
 
 -- a page that may be fetched from or stored to may be loaded
 pub load_too : (side : Side) (access : Access) → side_may side access ≡ true → side_may side Load ≡ true
@@ -236,23 +236,7 @@ module _ {W : Type 0} (slot_count : W → ℕ) (held : W → Held) (m : Memory W
           console_number va t.w t.entry width aligned,
         )
 
-    none_given : (o : Option Entry) → E (page_of pid va) ≡ o → entry_target o access ≡ Nothing → entry_may o access ≡ false
-    none_given None e h = refl
-    none_given (Some Free) e h = refl
-    none_given (Some (At side (Slot s))) e h = absurd (no_slot_named slot_count held m sound (page_of pid va) side s e)
-    none_given (Some (At side (Frame f))) e h = by_given (side_may side access) h
-      where
-        by_given : (b : Bool) → (if b then Page f else Nothing) ≡ Nothing → b ≡ false
-        by_given true h = absurd cc
-        by_given false h = refl
-    none_given (Some (OnConsole w)) e h = by_given (owner_may (record { w = w; x = false }) access) h
-      where
-        by_given : (b : Bool) → (if b then OnDevice else Nothing) ≡ Nothing → b ≡ false
-        by_given true h = absurd cc
-        by_given false h = refl
-
-    pub target_given : is_given_target (entry_target (E (page_of pid va)) access) ≡ V.may access va
-    target_given = near_target (E (page_of pid va)) access (λ side s e. no_slot_named slot_count held m sound (page_of pid va) side s e) ∙ sym (may_by va access)
-
-    pub nothing_given : entry_target (E (page_of pid va)) access ≡ Nothing → V.may access va ≡ false
-    nothing_given h = may_by va access ∙ none_given (E (page_of pid va)) refl h
+    -- where no page that the access reaches is out, the process has it nowhere else
+    pub nothing_given : is_given_target (entry_target (E (page_of pid va)) access) ≡ entry_may (E (page_of pid va)) access
+        → entry_target (E (page_of pid va)) access ≡ Nothing → V.may access va ≡ false
+    nothing_given ready h = may_by va access ∙ (sym ready ∙ ap is_given_target h)

@@ -42,7 +42,7 @@ reached_target a (Reaches address) = by_frame (frame_of a (address / 4096))
     by_frame (Some f) = refl
 
 -- an entry leads somewhere where it gives the access and names no slot
-given_entry : (o : Option Entry) (access : Access) → is_given_target (entry_target o access) ≡ (entry_may o access && not (names_slot o))
+pub given_entry : (o : Option Entry) (access : Access) → is_given_target (entry_target o access) ≡ (entry_may o access && not (names_slot o))
 given_entry None access = refl
 given_entry (Some Free) access = refl
 given_entry (Some (At side (Frame f))) access = by_given (side_may side access)

@@ -1,6 +1,8 @@
 -- What a change of pages keeps of a memory, and what an entry says of a page without a loan.
 use Rattle.std.specs.Prelude.{◌≡◌, ℕ, Option, Some, None}
+use Rattle.xk_base.specs.declared.ids.Slot.{Slot as SlotNumber}
 use Rattle.phys_pages.specs.declared.infos.Seat.{Seat}
+use Rattle.phys_pages.specs.declared.infos.Seat.TheVariants.{Slot}
 use Rattle.phys_pages.specs.Owners.{OwnerTable, extent, infos, frame_seat, HasSeat}
 use Rattle.sv32_space.specs.declared.sides.Side.{Side}
 use Rattle.sv32_space.specs.declared.sides.Side.TheVariants.{Own, LentOut, LentIn, MutOut, MutIn}
@@ -12,11 +14,13 @@ use Rattle.vm_memory.specs.declared.memory.changes.Owned.{Owned}
 use Rattle.vm_memory.specs.declared.memory.changes.Owned.TheVariants.{Nothing, Page, Console}
 use Rattle.vm_memory.specs.Memory.{size}
 
--- a change of pages alone: how large the memory is, its store, and whether a call has failed stay
+-- a change of pages alone: how large the memory is, its store, and whether a call has failed stay, and no page goes out
 pub record ChangesPagesAlone {W : Type 0} (old new : Memory W) : Type 0 where
   pub size : size new ≡ size old
   pub store : new.store ≡ old.store
   pub failed : new.failed ≡ old.failed
+  -- a slot without a page has none afterwards
+  pub slots : (s : SlotNumber) → infos old.owners (Slot s) ≡ None → infos new.owners (Slot s) ≡ None
 
 -- a frame of the table in which no page stands
 pub record IsFreeFrame (owners : OwnerTable) (f : ℕ) : Type 0 where

@@ -1,7 +1,7 @@
 -- Memory as the instructions of a process see it, and what is kept besides.
 use Rattle.std.specs.Prelude.{◌≡◌, ◌≢◌, ℕ, ◌%◌, Bool, true, false, not, is_some, Option, Some, None, if◌then◌else◌}
 use Rattle.std.specs.Option.{option_map_or}
-use Rattle.xk_base.specs.UserMemory.{Memory as SeenMemory, Content}
+use Rattle.xk_base.specs.UserMemory.{Memory as SeenMemory, Content, Seen}
 use Rattle.xk_base.specs.declared.ids.Pid.{Pid}
 use Rattle.xk_base.specs.declared.pages.Access.TheVariants.{Load}
 use Rattle.ledger_model.specs.Ledger.{Ledger, Contents, PageName, byte_of, contents_of, has_bytes}
@@ -37,6 +37,10 @@ user_view held m pid = seen_memory (processes m) (ledger held m) pid
 -- what stands at each address is told where bytes mean something
 abbrev pub user_content : {W : Type 0} → (W → Bool) → (W → Held) → Memory W → Pid → Content
 user_content is_honest held m pid = if means_bytes is_honest held m then Some (user_view held m pid).byte else None
+
+-- what a process is told; its memory has no timer
+abbrev pub user_seen : {W : Type 0} → (W → Bool) → (W → Held) → Memory W → Pid → Seen
+user_seen is_honest held m pid = record { content = user_content is_honest held m pid; timer = None }
 
 -- ---- what is kept besides
 

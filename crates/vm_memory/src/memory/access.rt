@@ -30,7 +30,7 @@ pub(crate) enum Target {
 }
 
 impl Target {
-    fn is_page(&self) -> bool
+    pub(crate) fn is_page(&self) -> bool
         ensures { result ≡ is_page_target self.now }
     {
         matches!(self, Target::Page(_))
@@ -144,14 +144,6 @@ impl<W: SwapStore> Memory<W> {
                 None => Target::Console,
             },
         }
-    }
-
-    // Whether an access leads to a page at that place.
-    pub(crate) fn leads_to_page(&self, at: Place, access: Access) -> bool
-        requires sound { IsSound W.slot_count self.now }
-        ensures { result ≡ is_page_target (entry_target (entries (processes self.now) (ram_of self.now) at) access) }
-    {
-        self.has_place(at) && self.find(at.pid, at.vpn.0 * PAGE_SIZE, access).is_page()
     }
 
     /// What the ledger has at a place. It takes any place; `Nothing` comes exactly where it is no

@@ -22,7 +22,7 @@ ghost use Rattle.vm_memory.specs.Bytes.{MeansBytes};
 ghost use Rattle.xk_ports.specs.Keeping.{KeepsStore};
 ghost use Rattle.vm_memory.specs.Pages.Changing.{IsFreeFrame, ChangesPagesAlone};
 ghost use Rattle.vm_memory.specs.FirstLedger.{first_ledger, first_page, page_bytes};
-ghost use Rattle.vm_memory.specs.Memory.{IsUsable, capacity_of, ledger, processes, size, store_of};
+ghost use Rattle.vm_memory.specs.Memory.{IsUsable, capacity_of, frames_for_pages, ledger, processes, size, store_of};
 ghost use Rattle.vm_memory.specs.Sound.{IsSound};
 ghost use Rattle.vm_memory.specs.Starting.{AreFreeFrom, HasNoPage, IsUnlent, place_pages};
 ghost use Rattle.vm_memory.specs.Tie.{IsTied};
@@ -115,6 +115,7 @@ impl<W: SwapStore> Memory<W> {
                     procs,
                     slots: plan.slots,
                     pages: 0,
+                    hand: 0,
                 })
             }
             Err(NoMemory) => Err(BootFault {
@@ -130,6 +131,7 @@ impl<W: SwapStore> Memory<W> {
         requires place { is_user_place (processes self.old) at ≡ true }
         requires free { is_free (processes self.old) (ledger W.held self.old) at ≡ true }
         requires room { self.old.pages + 1 ≤ capacity_of self.old }
+        requires left { IsUsable self.old → self.old.pages + 1 ≤ frames_for_pages self.old }
         requires frame { IsFreeFrame self.old.owners f.0 }
         requires page { IsLawfulPage (length file.now) page.now }
         ensures sound { IsSound W.slot_count self.new }
@@ -149,7 +151,7 @@ impl<W: SwapStore> Memory<W> {
         requires unlent { IsUnlent (ledger W.held self.old) }
         requires free { HasNoPage pid.0 (ledger W.held self.old) }
         requires frames { AreFreeFrom self.old.owners self.old.pages }
-        requires room { self.old.pages + length plan.now ≤ capacity_of self.old }
+        requires room { self.old.pages + length plan.now ≤ frames_for_pages self.old }
         requires lawful { All (IsLawfulPage (length file.now)) plan.now }
         requires different { AllPairs (λ (a b : PagePlan). a.vpn.0 ≢ b.vpn.0) plan.now }
         ensures sound { IsSound W.slot_count self.new }

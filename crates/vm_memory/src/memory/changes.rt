@@ -17,7 +17,7 @@ ghost use Rattle.sv32_space.specs.Spaces.{IsMade};
 ghost use Rattle.sv32_space.specs.SpelledEntries.{IsEntry, entries, entry_of_kind};
 ghost use Rattle.sv32_space.specs.Spellings.{IsKind};
 ghost use Rattle.vm_memory.specs.Pages.Changing.{IsFreeFrame, ChangesPagesAlone, own_right, owned_in};
-ghost use Rattle.vm_memory.specs.Memory.{capacity_of, ledger, processes, ram_of};
+ghost use Rattle.vm_memory.specs.Memory.{IsUsable, capacity_of, frames_for_pages, ledger, processes, ram_of};
 ghost use Rattle.vm_memory.specs.Sound.{IsSound};
 
 use crate::memory::Memory;
@@ -101,6 +101,8 @@ impl<W: SwapStore> Memory<W> {
         requires place { is_user_place (processes self.old) at ≡ true }
         requires free { is_free (processes self.old) (ledger W.held self.old) at ≡ true }
         requires room { self.old.pages + 1 ≤ capacity_of self.old }
+        // while an exchange is under way, this may be the last free frame
+        requires left { IsUsable self.old → self.old.pages + 1 ≤ frames_for_pages self.old }
         requires frame { IsFreeFrame self.old.owners f.0 }
         ensures sound { IsSound W.slot_count self.new }
         ensures ledger { ledger W.held self.new ≡ make at 1 right (ledger W.held self.old) }

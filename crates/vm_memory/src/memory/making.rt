@@ -5,11 +5,15 @@ ghost use Rattle.std.specs.Prelude.{◌≡◌, ℕ, ◌+◌, ◌<◌, ◌≤◌,
 ghost use Rattle.ledger_model.specs.Conditions.{CanMake};
 ghost use Rattle.ledger_model.specs.Ledger.{pages};
 ghost use Rattle.ledger_model.specs.Loans.{bare};
+ghost use Rattle.ledger_model.specs.Places.{is_user_place};
+ghost use Rattle.ledger_model.specs.Reach.{is_free};
 ghost use Rattle.ledger_model.specs.Steps.{make};
-ghost use Rattle.vm_memory.specs.Bytes.{MeansBytes, MeansBytesOver};
+ghost use Rattle.phys_pages.specs.Owners.{infos};
+ghost use Rattle.xk_base.specs.declared.ids.Slot.{Slot};
+ghost use Rattle.vm_memory.specs.Bytes.{MeansBytes, MeansBytesOver, none_out};
 ghost use Rattle.xk_ports.specs.Keeping.{KeepsStore};
 ghost use Rattle.vm_memory.specs.Pages.Changing.{ChangesPagesAlone};
-ghost use Rattle.vm_memory.specs.Pages.Making.{HasMadeFirst, after_console, after_make, console_answer, make_answer, run_place};
+ghost use Rattle.vm_memory.specs.Pages.Making.{HasMadeFirst, MakesFirst, MakesPages, after_console, after_make, console_answer, make_answer, run_place};
 ghost use Rattle.vm_memory.specs.Memory.{IsUsable, capacity_of, frames_for_pages, has_failed, ledger, processes, size, store_of};
 ghost use Rattle.vm_memory.specs.Sound.{IsSound};
 ghost use Rattle.vm_memory.specs.Tie.{IsTied};
@@ -17,6 +21,7 @@ ghost use Rattle.xk_base.specs.Outside.{Rose};
 
 use crate::memory::Memory;
 use crate::memory::run_tests::{RunTest, fits};
+use phys_pages::Seat;
 use xk_base::limits::TABLE_FRAMES;
 use xk_base::{Failed, Frame, Pid, Place, Right, Vpn, Window, XousError};
 use xk_ports::SwapStore;
@@ -57,13 +62,16 @@ impl<W: SwapStore> Memory<W> {
         Ok(first)
     }
 
-    // Makes the pages of a free run, one after another; the search for frames goes on from the last.
+    // Makes the pages of a free run, for which frames are free, one after another; the search for
+    // frames goes on from the last.
     fn make_pages(&mut self, first: Place, n: u32, right: Right)
         requires sound { IsSound W.slot_count self.old }
         requires usable { IsUsable self.old }
         requires can { CanMake (processes self.old) (capacity_of self.old) (ledger W.held self.old) first n }
+        requires frames { self.old.pages + n ≤ frames_for_pages self.old }
         ensures sound { IsSound W.slot_count self.new }
         ensures ledger { ledger W.held self.new ≡ make first n right (ledger W.held self.old) }
+        ensures slots { (s : Slot) → infos self.new.owners (Seat.Slot s) ≡ infos self.old.owners (Seat.Slot s) }
         ensures rest { ChangesPagesAlone self.old self.new }
     {
         let mut hand = Frame(TABLE_FRAMES * self.procs);
@@ -78,11 +86,74 @@ impl<W: SwapStore> Memory<W> {
         }
     }
 
+    // Makes one page in a free frame; where it was the last one, another page goes out.
+    fn make_page(&mut self, at: Place, right: Right) -> Result<(), Failed>
+        requires sound { IsSound W.slot_count self.old }
+        requires usable { IsUsable self.old }
+        requires place { is_user_place (processes self.old) at ≡ true }
+        requires free { is_free (processes self.old) (ledger W.held self.old) at ≡ true }
+        requires room { self.old.pages + 1 ≤ capacity_of self.old }
+        ensures made { MakesPages W.is_honest W.held W.slot_count W.asked W.faults self.old self.new at 1 right }
+        ensures usable { OnOk result (IsUsable self.new) }
+        ensures failed { OnErr result (has_failed self.new ≡ true) }
+        ensures cause { OnErr result (Rose (W.faults (store_of self.old)) (W.faults (store_of self.new))) }
+    {
+        let f = self.free_frame();
+        self.failed = true;
+        self.place_page(at, right, f);
+        self.make_room(f)
+    }
+
+    // Makes the pages of a free run for which pages may have to go out. On Failed its first pages are
+    // made.
+    fn make_crowded(&mut self, first: Place, n: u32, right: Right) -> Result<(), Failed>
+        requires sound { IsSound W.slot_count self.old }
+        requires usable { IsUsable self.old }
+        requires can { CanMake (processes self.old) (capacity_of self.old) (ledger W.held self.old) first n }
+        ensures made { OnOk result (MakesPages W.is_honest W.held W.slot_count W.asked W.faults self.old self.new first n right) }
+        ensures first { MakesFirst W.is_honest W.held W.slot_count W.asked W.faults self.old self.new first n right }
+        ensures usable { OnOk result (IsUsable self.new) }
+        ensures failed { OnErr result (has_failed self.new ≡ true) }
+        ensures cause { OnErr result (Rose (W.faults (store_of self.old)) (W.faults (store_of self.new))) }
+    {
+        for i in 0..n {
+            let at = Place {
+                pid: first.pid,
+                vpn: Vpn(first.vpn.0 + i),
+            };
+            self.make_page(at, right)?;
+        }
+        Ok(())
+    }
+
+    // Makes the pages of a free run. Pages go out only where there aren't frames for all pages.
+    fn make_run(&mut self, first: Place, n: u32, right: Right) -> Result<(), Failed>
+        requires sound { IsSound W.slot_count self.old }
+        requires usable { IsUsable self.old }
+        requires can { CanMake (processes self.old) (capacity_of self.old) (ledger W.held self.old) first n }
+        ensures made { OnOk result (MakesPages W.is_honest W.held W.slot_count W.asked W.faults self.old self.new first n right) }
+        ensures first { MakesFirst W.is_honest W.held W.slot_count W.asked W.faults self.old self.new first n right }
+        ensures usable { OnOk result (IsUsable self.new) }
+        ensures failed { OnErr result (has_failed self.new ≡ true) }
+        ensures cause { OnErr result (Rose (W.faults (store_of self.old)) (W.faults (store_of self.new))) }
+        ensures full { OnErr result (frames_for_pages self.old < self.old.pages + n) }
+        ensures near { self.old.pages + n ≤ frames_for_pages self.old → none_out self.old ≡ true → none_out self.new ≡ true }
+    {
+        let near = self.pages as u64 + n as u64 <= self.page_frames() as u64;
+        if near {
+            self.make_pages(first, n, right);
+            return Ok(());
+        }
+        self.make_crowded(first, n, right)
+    }
+
     /// Makes n pages of zeros, with that right and without a loan, in a window of a process: from
     /// the named page on, or at the least free run. It refuses with `BadAddress` where the run
     /// leaves the window, then with `MemoryInUse` where a place is used or no run is free, then with
-    /// `OutOfMemory` past `cap`; nothing changes then. It takes time by n and one pass over the
-    /// frames. `Failed`, of the store, may leave the first pages of the run.
+    /// `OutOfMemory` past `cap`; nothing changes then. Where there are frames for all pages, none goes
+    /// out, and it takes time by n and one pass over the frames; else other pages may go out, and it
+    /// takes up to two passes over the frames and one over the slots for each new page. `Failed`, of
+    /// the store, may leave the first pages of the run.
     pub fn make(
         &mut self,
         pid: Pid,
@@ -104,11 +175,13 @@ impl<W: SwapStore> Memory<W> {
         ensures refused { IfOk result (λ answer. OnErr answer (self.new ≡ self.old)) }
         ensures usable { OnOk result (IsUsable self.new) }
         ensures failed { OnErr result (has_failed self.new ≡ true) }
-        ensures partial { OnErr result (HasMadeFirst
+        ensures partial { OnErr result (HasMadeFirst (MeansBytesOver W.is_honest W.held self.old self.new)
             (make_answer (processes self.old) (capacity_of self.old) (ledger W.held self.old) pid window at n)
             pid n right (ledger W.held self.old) (ledger W.held self.new)) }
         ensures cause { OnErr result (Rose (W.faults (store_of self.old)) (W.faults (store_of self.new))) }
         ensures full { OnErr result (frames_for_pages self.old < pages (processes self.old) (ledger W.held self.old) + n) }
+        // A page goes out only where there aren't frames for all pages.
+        ensures near { pages (processes self.old) (ledger W.held self.old) + n ≤ frames_for_pages self.old → none_out self.old ≡ true → none_out self.new ≡ true }
         ensures tie { IsTied W.held self.new }
         ensures size { size self.new ≡ size self.old }
         ensures store { KeepsStore W.is_honest W.held W.slot_count W.asked W.faults (store_of self.old) (store_of self.new) }
@@ -116,7 +189,7 @@ impl<W: SwapStore> Memory<W> {
         match self.find_room(pid, window, at, n) {
             Err(error) => Ok(Err(error)),
             Ok(first) => {
-                self.make_pages(Place { pid, vpn: first }, n, right);
+                self.make_run(Place { pid, vpn: first }, n, right)?;
                 Ok(Ok(first))
             }
         }
@@ -138,6 +211,7 @@ impl<W: SwapStore> Memory<W> {
         ensures tie { IsTied W.held self.new }
         ensures size { size self.new ≡ size self.old }
         ensures store { store_of self.new ≡ store_of self.old }
+        ensures none { none_out self.old ≡ true → none_out self.new ≡ true }
         ensures means { MeansBytes W.is_honest W.held self.old → MeansBytes W.is_honest W.held self.new }
     {
         if self.console_mapped() {

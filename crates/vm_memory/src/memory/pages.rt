@@ -6,7 +6,7 @@ ghost use Rattle.ledger_model.specs.Ledger.{Bytes};
 ghost use Rattle.ledger_model.specs.Loans.{bare};
 ghost use Rattle.ledger_model.specs.Reach.{reach};
 ghost use Rattle.vm_memory.specs.Using.Access.{contents_reached, reaches_bytes, write_page};
-ghost use Rattle.vm_memory.specs.Bytes.{MeansBytes, is_near, is_out};
+ghost use Rattle.vm_memory.specs.Bytes.{MeansBytes, is_near, is_out, none_out};
 ghost use Rattle.xk_ports.specs.Keeping.{KeepsStore};
 ghost use Rattle.vm_memory.specs.Loaning.Lending.{LendsBytes, with_bytes_at};
 ghost use Rattle.vm_memory.specs.Memory.{IsUsable, has_failed, ledger, processes, size, store_of};
@@ -16,12 +16,14 @@ ghost use Rattle.xk_base.specs.Outside.{Rose};
 ghost use Rattle.xk_base.specs.declared.pages.Access.TheVariants.{Load, Store};
 
 use crate::memory::Memory;
+use xk_base::limits::PAGE_SIZE;
 use xk_base::{Access, Failed, Place};
 use xk_ports::SwapStore;
 
 impl<W: SwapStore> Memory<W> {
     /// Whether the process of the place has the access there and the page isn't the console. If so
-    /// the place is near from then on.
+    /// the place is near from then on: a page that is out comes in, and another goes out in its place.
+    /// `Failed`, of the store, comes only where that page is out; all pages are there as before.
     pub fn reach(&mut self, at: Place, access: Access) -> Result<bool, Failed>
         requires sound { IsSound W.slot_count self.old }
         requires usable { IsUsable self.old }
@@ -35,11 +37,17 @@ impl<W: SwapStore> Memory<W> {
         ensures rights { bare (ledger W.held self.new) ≡ bare (ledger W.held self.old) }
         ensures whole { MeansBytes W.is_honest W.held self.old → ledger W.held self.new ≡ ledger W.held self.old }
         ensures means { MeansBytes W.is_honest W.held self.old → MeansBytes W.is_honest W.held self.new }
+        // A page goes out only in place of one that was out.
+        ensures none { none_out self.old ≡ true → self.new ≡ self.old }
         ensures tie { IsTied W.held self.new }
         ensures size { size self.new ≡ size self.old }
         ensures store { KeepsStore W.is_honest W.held W.slot_count W.asked W.faults (store_of self.old) (store_of self.new) }
     {
-        Ok(self.leads_to_page(at, access))
+        if !self.has_place(at) {
+            return Ok(false);
+        }
+        let target = self.find_near(at.pid, at.vpn.0 * PAGE_SIZE, access)?;
+        Ok(target.is_page())
     }
 
     /// The 4096 bytes of a page.
@@ -71,6 +79,7 @@ impl<W: SwapStore> Memory<W> {
         ensures size { (bytes : List ℕ) → size (with_bytes_at self.old at bytes) ≡ size self.old }
         ensures store { (bytes : List ℕ) → store_of (with_bytes_at self.old at bytes) ≡ store_of self.old }
         ensures usable { (bytes : List ℕ) → IsUsable (with_bytes_at self.old at bytes) }
+        ensures none { (bytes : List ℕ) → none_out (with_bytes_at self.old at bytes) ≡ none_out self.old }
         ensures means { (bytes : List ℕ) → MeansBytes W.is_honest W.held self.old → MeansBytes W.is_honest W.held (with_bytes_at self.old at bytes) }
     {
         let f = self.frame(at);

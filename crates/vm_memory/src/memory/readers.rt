@@ -5,7 +5,7 @@ ghost use Rattle.ledger_model.specs.Ledger.{pages};
 ghost use Rattle.ledger_model.specs.Loans.{IsFresh, loans};
 ghost use Rattle.vm_memory.specs.Pages.Here.{here_at};
 ghost use Rattle.ledger_model.specs.WholePages.{HasWholePages};
-ghost use Rattle.vm_memory.specs.Memory.{capacity_of, ledger, processes, ram_of, store_of};
+ghost use Rattle.vm_memory.specs.Memory.{capacity_of, frames_for_pages, ledger, processes, ram_of, store_of};
 ghost use Rattle.vm_memory.specs.Sound.{IsSound};
 ghost use Rattle.vm_memory.specs.Tie.{IsTied};
 ghost use Rattle.xk_base.specs.declared.ids.Number.{Number};
@@ -42,13 +42,21 @@ impl<W: SwapStore> Memory<W> {
         self.pages
     }
 
+    // How many pages stand in frames at most: a frame outside the page tables is always free.
+    pub(crate) fn page_frames(&self) -> u32
+        requires sound { IsSound W.slot_count self.now }
+        ensures { result ≡ frames_for_pages self.now }
+    {
+        self.ram.frames() - TABLE_FRAMES * self.procs - 1
+    }
+
     /// How many pages there may be: one for each frame outside the page tables but the one that is
     /// always free, and one for each slot.
     pub fn cap(&self) -> u32
         requires sound { IsSound W.slot_count self.now }
         ensures { result ≡ capacity_of self.now }
     {
-        self.ram.frames() - TABLE_FRAMES * self.procs - 1 + self.slots
+        self.page_frames() + self.slots
     }
 
     /// Hands the store back. No loan may stand.
@@ -65,6 +73,7 @@ impl<W: SwapStore> Memory<W> {
             procs: _,
             slots: _,
             pages: _,
+            hand: _,
         } = self;
         store
     }

@@ -7,7 +7,7 @@ ghost use Rattle.ledger_model.specs.Places.{in_run, place_after};
 ghost use Rattle.ledger_model.specs.Reach.{role_at};
 ghost use Rattle.ledger_model.specs.RunTests.{any_lacks, any_on_loan, asks_more, is_on_loan};
 ghost use Rattle.ledger_model.specs.Steps.{forget, reduce, remove};
-ghost use Rattle.vm_memory.specs.Bytes.{MeansBytes};
+ghost use Rattle.vm_memory.specs.Bytes.{MeansBytes, none_out};
 ghost use Rattle.vm_memory.specs.Pages.Changing.{ChangesPagesAlone};
 ghost use Rattle.vm_memory.specs.Memory.{IsUsable, ledger, processes, size, store_of};
 ghost use Rattle.vm_memory.specs.Pages.Removing.{HasNoLoan, after_reduce, after_remove, clear_answer, reduce_answer, remove_answer};
@@ -100,6 +100,7 @@ impl<W: SwapStore> Memory<W> {
         ensures tie { IsTied W.held self.new }
         ensures size { size self.new ≡ size self.old }
         ensures store { store_of self.new ≡ store_of self.old }
+        ensures none { none_out self.old ≡ true → none_out self.new ≡ true }
         ensures means { MeansBytes W.is_honest W.held self.old → MeansBytes W.is_honest W.held self.new }
     {
         if self.any(first, n, RunTest::Free) {
@@ -126,6 +127,7 @@ impl<W: SwapStore> Memory<W> {
         ensures tie { IsTied W.held self.new }
         ensures size { size self.new ≡ size self.old }
         ensures store { store_of self.new ≡ store_of self.old }
+        ensures none { none_out self.old ≡ true → none_out self.new ≡ true }
         ensures means { MeansBytes W.is_honest W.held self.old → MeansBytes W.is_honest W.held self.new }
     {
         if self.any(first, n, RunTest::OnLoan) {
@@ -151,6 +153,7 @@ impl<W: SwapStore> Memory<W> {
         ensures tie { IsTied W.held self.new }
         ensures size { size self.new ≡ size self.old }
         ensures store { store_of self.new ≡ store_of self.old }
+        ensures none { none_out self.old ≡ true → none_out self.new ≡ true }
         ensures means { MeansBytes W.is_honest W.held self.old → MeansBytes W.is_honest W.held self.new }
     {
         if self.any(first, n, RunTest::Free) {
@@ -195,6 +198,7 @@ impl<W: SwapStore> Memory<W> {
         ensures tie { IsTied W.held self.new }
         ensures size { size self.new ≡ size self.old }
         ensures store { store_of self.new ≡ store_of self.old }
+        ensures none { none_out self.old ≡ true → none_out self.new ≡ true }
         ensures means { MeansBytes W.is_honest W.held self.old → MeansBytes W.is_honest W.held self.new }
     {
         self.drop_window(pid, Window::Image);

@@ -1,21 +1,25 @@
 //! The memory of one process, as its instructions see it.
 
-ghost use Rattle.std.specs.Prelude.{◌≡◌, ◌+◌, ◌%◌, ◌<◌, ◌≤◌, ℕ, true, length, slice_index, None, Some};
+ghost use Rattle.std.specs.Prelude.{◌≡◌, ◌+◌, ◌%◌, ◌<◌, ◌≤◌, ℕ, true, length, slice_index, None, Some, IfOk, OnOk, OnErr};
 ghost use Rattle.ledger_model.specs.Steps.{written};
 ghost use Rattle.sv32_space.specs.SpelledEntries.{entries};
-ghost use Rattle.vm_memory.specs.Using.EntryAccess.{entry_target};
+ghost use Rattle.sv32_space.specs.EntryReach.{entry_may};
+ghost use Rattle.vm_memory.specs.Using.EntryAccess.{entry_target, is_given_target};
 ghost use Rattle.xk_base.specs.Numbers.Windows.{page_of};
-ghost use Rattle.vm_memory.specs.Memory.{processes, ram_of};
+ghost use Rattle.vm_memory.specs.Bytes.{is_out};
+ghost use Rattle.vm_memory.specs.Memory.{IsUsable, has_failed, processes, ram_of, store_of};
+ghost use Rattle.vm_memory.specs.Pages.Exchanging.{BringsIn};
 ghost use Rattle.vm_memory.specs.Sound.{IsSound};
 ghost use Rattle.vm_memory.specs.Using.UserStores.{DoesStore};
-ghost use Rattle.xk_base.specs.UserMemory.{low_bytes, LoadsNumber, number_at, size_of};
-ghost use Rattle.vm_memory.specs.Using.UserView.{user_view};
+ghost use Rattle.xk_base.specs.Outside.{Rose};
+ghost use Rattle.xk_base.specs.UserMemory.{KeepsContent, low_bytes, LoadsNumber, StoresAsTold, number_at, size_of};
+ghost use Rattle.vm_memory.specs.Using.UserView.{KeepsRest, user_content, user_seen, user_view};
 ghost use Rattle.xk_base.specs.declared.pages.Access.TheVariants.{Store};
 
 use crate::memory::Memory;
 use crate::memory::access::Target;
 use xk_base::limits::PAGE_SIZE;
-use xk_base::{Access, Failed, Pid, Stored, UserMemory, Width};
+use xk_base::{Access, Failed, Pid, Place, Stored, UserMemory, Vpn, Width};
 use xk_ports::SwapStore;
 
 /// A process's memory by virtual addresses. It is fit for use exactly where the memory hasn't
@@ -65,28 +69,60 @@ fn write_number(page: &mut [u8], offset: u32, width: Width, value: u32)
 }
 
 impl<W: SwapStore> Memory<W> {
-    // The number of that width at an address, where the process has the access; 0 in the console's
-    // page.
-    fn load_number(&self, pid: Pid, va: u32, width: Width, access: Access) -> Option<u32>
+    // The number of that width where an access to an address leads; 0 in the console's page.
+    fn read_at(
+        &self,
+        target: Target,
+        pid: Pid,
+        va: u32,
+        width: Width,
+        access: Access,
+    ) -> Option<u32>
         requires sound { IsSound W.slot_count self.now }
         requires aligned { va % size_of width ≡ 0 }
+        requires target { target ≡ entry_target (entries (processes self.now) (ram_of self.now) (page_of pid va)) access }
+        requires given { is_given_target target ≡ entry_may (entries (processes self.now) (ram_of self.now) (page_of pid va)) access }
         ensures { LoadsNumber ((user_view W.held self.now pid).may access va) None (Some ((user_view W.held self.now pid).byte)) va width result }
     {
-        match self.find(pid, va, access) {
+        match target {
             Target::Page(f) => Some(read_number(self.ram.page(f), va % PAGE_SIZE, width)),
             Target::Console => Some(0),
             Target::Nothing => None,
         }
     }
 
-    // Stores the low bytes of a value at an address, where the process may store there and it isn't
-    // the console's page.
-    fn store_number(&mut self, pid: Pid, va: u32, width: Width, value: u32) -> Stored
+    // The number of that width at an address, where the process has the access; 0 in the console's
+    // page.
+    fn load_number(
+        &mut self,
+        pid: Pid,
+        va: u32,
+        width: Width,
+        access: Access,
+    ) -> Result<Option<u32>, Failed>
+        requires sound { IsSound W.slot_count self.old }
+        requires usable { IsUsable self.old }
+        requires aligned { va % size_of width ≡ 0 }
+        ensures gives { IfOk result (λ number. LoadsNumber ((user_view W.held self.old pid).may access va) None
+            (user_content W.is_honest W.held self.old pid) va width number) }
+        ensures brings { BringsIn W.is_honest W.held W.slot_count W.asked W.faults self.old self.new }
+        ensures usable { OnOk result (IsUsable self.new) }
+        ensures failed { OnErr result (has_failed self.new ≡ true) }
+        ensures out { OnErr result (is_out self.old (page_of pid va) ≡ true) }
+        ensures cause { OnErr result (Rose (W.faults (store_of self.old)) (W.faults (store_of self.new))) }
+    {
+        let target = self.find_near(pid, va, access)?;
+        Ok(self.read_at(target, pid, va, width, access))
+    }
+
+    // Stores the low bytes of a value where an access to store leads, if it is a page.
+    fn store_at(&mut self, target: Target, pid: Pid, va: u32, width: Width, value: u32) -> Stored
         requires sound { IsSound W.slot_count self.old }
         requires aligned { va % size_of width ≡ 0 }
+        requires target { target ≡ entry_target (entries (processes self.old) (ram_of self.old) (page_of pid va)) Store }
         ensures { DoesStore self.old self.new pid va width value result }
     {
-        match self.find(pid, va, Access::Store) {
+        match target {
             Target::Page(f) => {
                 write_number(self.ram.page_mut(f), va % PAGE_SIZE, width, value);
                 Stored::Done
@@ -96,18 +132,48 @@ impl<W: SwapStore> Memory<W> {
         }
     }
 
+    // Stores the low bytes of a value at an address, where the process may store there and it isn't
+    // the console's page.
+    fn store_number(
+        &mut self,
+        pid: Pid,
+        va: u32,
+        width: Width,
+        value: u32,
+    ) -> Result<Stored, Failed>
+        requires sound { IsSound W.slot_count self.old }
+        requires usable { IsUsable self.old }
+        requires aligned { va % size_of width ≡ 0 }
+        ensures stores { IfOk result (λ stored. StoresAsTold ((user_view W.held self.old pid).may Store va) ((user_view W.held self.old pid).console va)
+            (user_seen W.is_honest W.held self.old pid) (user_seen W.is_honest W.held self.new pid) va width value stored) }
+        ensures kept { OnErr result (KeepsContent (user_content W.is_honest W.held self.old pid) (user_content W.is_honest W.held self.new pid)) }
+        ensures may { (user_view W.held self.new pid).may ≡ (user_view W.held self.old pid).may }
+        ensures console { (user_view W.held self.new pid).console ≡ (user_view W.held self.old pid).console }
+        ensures rest { KeepsRest W.is_honest W.held W.slot_count W.asked W.faults pid self.old self.new }
+        ensures usable { OnOk result (IsUsable self.new) }
+        ensures failed { OnErr result (has_failed self.new ≡ true) }
+        ensures out { OnErr result (is_out self.old (page_of pid va) ≡ true) }
+        ensures cause { OnErr result (Rose (W.faults (store_of self.old)) (W.faults (store_of self.new))) }
+    {
+        let target = self.find_near(pid, va, Access::Store)?;
+        Ok(self.store_at(target, pid, va, width, value))
+    }
+
     // Whether the process may store at an address.
     fn may_store(&self, pid: Pid, va: u32) -> bool
         requires sound { IsSound W.slot_count self.now }
         ensures { result ≡ (user_view W.held self.now pid).may Store va }
     {
-        self.find(pid, va, Access::Store).is_given()
+        let at = Place {
+            pid,
+            vpn: Vpn(va / PAGE_SIZE),
+        };
+        self.gives(at, Access::Store)
     }
 }
 
 impl<W: SwapStore> UserMemory for User<'_, W> {
     ghost use Rattle.std.specs.Prelude.{◌≡◌, None};
-    ghost use Rattle.vm_memory.specs.Memory.{IsUsable};
     ghost use Rattle.vm_memory.specs.Sound.{IsSound};
     ghost use Rattle.vm_memory.specs.Using.UserView.{user_content, user_view, KeepsRest};
     ghost use Rattle.std.proofs.Common.{◌∙◌};
@@ -132,18 +198,16 @@ impl<W: SwapStore> UserMemory for User<'_, W> {
     ghost rest_over = { λ a b c x y. (y.0 ∙ x.0, y.1 ∙ x.1, pid_rest_over W.is_honest W.held W.slot_count W.asked W.faults a.pid b.pid a.mem.now b.mem.now c.mem.now x.1 x.2 y.2) };
 
     fn fetch(&mut self, va: u32) -> Result<Option<u32>, Failed> {
-        Ok(
-            self.mem
-                .load_number(self.pid, va, Width::Word, Access::Fetch),
-        )
+        self.mem
+            .load_number(self.pid, va, Width::Word, Access::Fetch)
     }
 
     fn load(&mut self, va: u32, width: Width) -> Result<Option<u32>, Failed> {
-        Ok(self.mem.load_number(self.pid, va, width, Access::Load))
+        self.mem.load_number(self.pid, va, width, Access::Load)
     }
 
     fn store(&mut self, va: u32, width: Width, value: u32) -> Result<Stored, Failed> {
-        Ok(self.mem.store_number(self.pid, va, width, value))
+        self.mem.store_number(self.pid, va, width, value)
     }
 
     fn can_store(&self, va: u32, _width: Width) -> bool {

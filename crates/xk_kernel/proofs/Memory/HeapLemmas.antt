@@ -111,6 +111,7 @@ module _ {W : Type 0} (slot_count : W → ℕ) (held : W → Held) (k : Kernel W
       let same : processes mem ≡ processes k.mem = ap (λ z. z.procs) s in
       record {
         mem = sound;
+        mem_slots = ap (λ z. z.slots) s ∙ whole.mem_slots;
         threads = whole.threads ∙ sym same;
         procs = n ∙ whole.procs ∙ sym same;
         cursor = ap (λ n. is_thread_id n k.cursor) same ∙ whole.cursor;

@@ -95,8 +95,8 @@ in_wider first i n p few e =
     in_run-from first n p (record { pid = r.pid; from = r.from; to = omega (arith, high, few) })
 
 -- .. also where only the first of them are
-pub made_first_keeps : (procs capacity : ℕ) (pid : Pid) (window : Window) (at : Option Vpn) (n : ℕ) (right : Right) (old new : Ledger)
-    → is_pid procs pid.0 ≡ true → HasMadeFirst (make_answer procs capacity old pid window at n) pid n right old new → loans new ≡ loans old
+pub made_first_keeps : {Known : Type 0} (procs capacity : ℕ) (pid : Pid) (window : Window) (at : Option Vpn) (n : ℕ) (right : Right) (old new : Ledger)
+    → is_pid procs pid.0 ≡ true → HasMadeFirst Known (make_answer procs capacity old pid window at n) pid n right old new → loans new ≡ loans old
 made_first_keeps procs capacity pid window at n right old new process h =
     let at_first = page_place pid h.first in
     let can : CanMake procs capacity old at_first n = can_answered procs capacity old pid window at n h.first process h.served in

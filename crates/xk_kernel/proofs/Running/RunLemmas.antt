@@ -28,7 +28,7 @@ use Rattle.vm_memory.specs.Bytes.{means_bytes}
 use Rattle.vm_memory.specs.Memory.{IsUsable}
 use Rattle.vm_memory.specs.Sound.{IsSound}
 use Rattle.vm_memory.specs.Using.UserView.{KeepsRest, seen_memory, user_content, user_view}
-use Rattle.vm_memory.proofs.Changing.CallLemmas.{sound-means, sound-none_out}
+use Rattle.vm_memory.proofs.Changing.CallLemmas.{no_slots-means, no_slots-none_out}
 use Rattle.xk_kernel.specs.Running.{machine_after, timed_view}
 use Rattle.xk_kernel.specs.Sound.{IsWhole}
 use Rattle.xk_kernel.specs.State.{as_reservation, machine_of}
@@ -130,16 +130,16 @@ module _ {W P : Type 0} (is_honest : W → Bool) (held : W → Held) (slot_count
     (k : Kernel W) (mem : Memory W) (pid other : Pid) (same : other ≡ pid) (whole : IsWhole slot_count held k) (usable : IsUsable k.mem)
     (rest : KeepsRest is_honest held slot_count asked faults pid k.mem mem) where
   pub stays_usable : IsUsable mem
-  stays_usable = rest.out (sound-none_out slot_count k.mem whole.mem) usable
+  stays_usable = rest.out (no_slots-none_out k.mem whole.mem_slots) usable
 
   abbrev byte : ℕ → ℕ
   byte = (user_view held k.mem pid).byte
 
   known_before : user_content is_honest held k.mem pid ≡ Some byte
-  known_before = told_all (means_bytes is_honest held k.mem) byte (sound-means slot_count is_honest held k.mem whole.mem)
+  known_before = told_all (means_bytes is_honest held k.mem) byte (no_slots-means is_honest held k.mem whole.mem_slots)
 
   known_after : user_content is_honest held mem other ≡ Some (user_view held mem pid).byte
-  known_after = told_all (means_bytes is_honest held mem) (user_view held mem other).byte (sound-means slot_count is_honest held mem (rest.sound whole.mem))
+  known_after = told_all (means_bytes is_honest held mem) (user_view held mem other).byte (no_slots-means is_honest held mem (ap (λ z. z.slots) rest.sizes ∙ whole.mem_slots))
       ∙ ap (λ p. Some (user_view held mem p).byte) same
 
   -- where the timer's page is, and the timer afterwards
@@ -184,7 +184,7 @@ module _ {W P : Type 0} (is_honest : W → Bool) (held : W → Held) (slot_count
           machine =
               (λ i. record (memory_machine held k mem rest.sizes i) { compare = left i })
               ∙ ap (λ l. record (machine_of held k) { ledger = l; compare = compare_after k.timer x.executed })
-              (ledger_by_bytes is_honest held slot_count asked faults pid k.mem mem whole.mem rest (user_view held mem pid).byte refl x.executed
+              (ledger_by_bytes is_honest held slot_count asked faults pid k.mem mem whole.mem whole.mem_slots rest (user_view held mem pid).byte refl x.executed
               (allowed_inside on (timer_now k) (user_view held k.mem pid) x.executed refl lawful)
               (ap (λ (o : Content). unwrap_or o byte) (sym known_after ∙ e.executed.content)))
               ∙ ap (λ (p : Performed). memory_left pid (machine_of held k) p.executed) (sym same_x);
@@ -211,6 +211,7 @@ pub whole_lent : {W : Type 0} (slot_count : W → ℕ) (held : W → Held) (k : 
     → IsWhole slot_count held k → IsWhole slot_count held (record k { threads = threads })
 whole_lent slot_count held k threads count whole = record {
   mem = whole.mem;
+  mem_slots = whole.mem_slots;
   threads = count ∙ whole.threads;
   procs = whole.procs;
   cursor = whole.cursor;
@@ -230,6 +231,7 @@ whole_ran is_honest held slot_count asked faults k mem timer whole pid rest =
     let with : IsWhole slot_count held (with_memory mem k) = whole_with is_honest held slot_count asked faults k mem whole pid rest in
     record {
       mem = with.mem;
+      mem_slots = with.mem_slots;
       threads = with.threads;
       procs = with.procs;
       cursor = with.cursor;

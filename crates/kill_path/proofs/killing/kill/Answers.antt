@@ -2,7 +2,6 @@ use Rattle.std.proofs.Common.{◌≡◌, None, refl, ap, sym, ◌∙◌}
 use Rattle.process_table.specs.ProcessesOf.{process_count as made_for}
 use Rattle.send_path.specs.Parts.{parts_of}
 use Rattle.thread_table.specs.ThreadsOf.{process_count}
-use Rattle.vm_memory.proofs.Changing.CallLemmas.{sound-none_out}
 use Rattle.vm_memory.specs.Memory.{Size, ledger, processes}
 use Rattle.xk_base.proofs.CircleLemmas.{is_pid-bounds}
 use Rattle.xk_base.specs.Tables.Circle.{is_pid}
@@ -115,6 +114,6 @@ returns-clause-mem g c =
       size = c.forget_process.ensures.size;
       store = c.forget_process.ensures.store;
       failed = c.forget_process.ensures.usable ∙ sym usable;
-      none = λ e. sound-none_out g.W.SwapStore.slot_count c.forget_process.new.self c.forget_process.ensures.sound;
+      none = c.forget_process.ensures.none;
       means = c.forget_process.ensures.means;
     }))

@@ -88,6 +88,7 @@ fn booted<W: SwapStore>(alloc: Global, store: W) -> Result<Memory<W>, BootFault<
     ensures sound { IfOk result (λ m. IsSound W.slot_count m) }
     ensures usable { IfOk result (λ m. IsUsable m) }
     ensures two { IfOk result (λ m. processes m ≡ 2) }
+    ensures slots { IfOk result (λ m. (size m).slots ≡ 0) }
     ensures fresh { IfOk result (λ m. IsFresh (loans (ledger W.held m)) ONE) }
 {
     let Ok(plan) = plan(alloc) else {
@@ -127,6 +128,7 @@ fn user_store<W: SwapStore>(memory: &mut Memory<W>, pid: Pid, va: u32, word: u32
 fn load<W: SwapStore>(memory: &mut Memory<W>, pid: Pid, va: u32) -> Option<u32>
     requires sound { IsSound W.slot_count memory.old }
     requires usable { IsUsable memory.old }
+    requires slots { (size memory.old).slots ≡ 0 }
     requires aligned { va % 4 ≡ 0 }
     ensures sound { IsSound W.slot_count memory.new }
     ensures usable { IsUsable memory.new }
@@ -140,6 +142,7 @@ fn load<W: SwapStore>(memory: &mut Memory<W>, pid: Pid, va: u32) -> Option<u32>
 fn store<W: SwapStore>(memory: &mut Memory<W>, pid: Pid, va: u32, word: u32) -> bool
     requires sound { IsSound W.slot_count memory.old }
     requires usable { IsUsable memory.old }
+    requires slots { (size memory.old).slots ≡ 0 }
     requires aligned { va % 4 ≡ 0 }
     ensures sound { IsSound W.slot_count memory.new }
     ensures usable { IsUsable memory.new }
@@ -162,11 +165,13 @@ fn sent_as(kind: LoanKind) -> MemKind
 fn lent<W: SwapStore>(rt: &impl Abort, memory: &mut Memory<W>, kind: LoanKind) -> Option<Loan>
     requires sound { IsSound W.slot_count memory.old }
     requires usable { IsUsable memory.old }
+    requires slots { (size memory.old).slots ≡ 0 }
     requires two { processes memory.old ≡ 2 }
     requires fresh { IsFresh (loans (ledger W.held memory.old)) ONE }
     ensures sound { IsSound W.slot_count memory.new }
     ensures usable { IsUsable memory.new }
     ensures two { processes memory.new ≡ 2 }
+    ensures slots { (size memory.new).slots ≡ 0 }
     ensures loan { MatchOption result Unit (λ loan. (loan.lender ≡ Some (record { pid = LENDER; vpn = record { 0 = 131072 } })) × Stands (loans (ledger W.held memory.new)) loan) }
 {
     assert!(rt; store(memory, LENDER, FROM, 0x1234_5678));
@@ -188,6 +193,7 @@ fn lent<W: SwapStore>(rt: &impl Abort, memory: &mut Memory<W>, kind: LoanKind) -
 fn none_lent<W: SwapStore>(rt: &impl Abort, memory: &mut Memory<W>, last: u32)
     requires sound { IsSound W.slot_count memory.old }
     requires usable { IsUsable memory.old }
+    requires slots { (size memory.old).slots ≡ 0 }
 {
     assert_eq!(rt; memory.at(place(HOLDER, TO)), Here::Nothing);
     assert_eq!(rt; load(memory, HOLDER, TO + 0x1FFC), None);
@@ -201,6 +207,7 @@ fn none_lent<W: SwapStore>(rt: &impl Abort, memory: &mut Memory<W>, last: u32)
 fn lend_script<W: SwapStore>(rt: &impl Abort, memory: &mut Memory<W>)
     requires sound { IsSound W.slot_count memory.old }
     requires usable { IsUsable memory.old }
+    requires slots { (size memory.old).slots ≡ 0 }
     requires two { processes memory.old ≡ 2 }
     requires fresh { IsFresh (loans (ledger W.held memory.old)) ONE }
 {
@@ -238,6 +245,7 @@ fn lent_pages_are_read_by_both(rt: HostRuntime) {
 fn mutable_script<W: SwapStore>(rt: &impl Abort, memory: &mut Memory<W>)
     requires sound { IsSound W.slot_count memory.old }
     requires usable { IsUsable memory.old }
+    requires slots { (size memory.old).slots ≡ 0 }
     requires two { processes memory.old ≡ 2 }
     requires fresh { IsFresh (loans (ledger W.held memory.old)) ONE }
 {
@@ -269,6 +277,7 @@ fn mutably_lent_pages_are_the_holders(rt: HostRuntime) {
 fn orphan_script<W: SwapStore>(rt: &impl Abort, memory: &mut Memory<W>)
     requires sound { IsSound W.slot_count memory.old }
     requires usable { IsUsable memory.old }
+    requires slots { (size memory.old).slots ≡ 0 }
     requires two { processes memory.old ≡ 2 }
     requires fresh { IsFresh (loans (ledger W.held memory.old)) ONE }
 {

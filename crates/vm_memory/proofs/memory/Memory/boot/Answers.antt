@@ -1,13 +1,13 @@
 use Rattle.std.proofs.Common.{◌≡◌, ◌≢◌, ◌+◌, ◌≤◌, List, length, get_or, sum_by, sym, ap, subst, ◌∙◌, arith}
 use Rattle.std.specs.Prelude.{All, AllPairs}
 use Rattle.std.proofs.lemmas.List.{take_all}
-use Rattle.boot_plan.specs.Capacity.{capacity}
+use Rattle.boot_plan.specs.Capacity.{page_frames}
 use Rattle.boot_plan.specs.Lawful.{IsLawfulPage, IsLawfulProcess}
 use Rattle.boot_plan.specs.declared.plans.PagePlan.{PagePlan}
 use Rattle.boot_plan.specs.declared.plans.ProcPlan.{ProcPlan}
 use Rattle.ledger_model.specs.Ledger.{empty_ledger}
 use Rattle.ledger_model.specs.Loans.{bare}
-use Rattle.vm_memory.specs.Memory.{Size, capacity_of, ledger}
+use Rattle.vm_memory.specs.Memory.{Size, frames_for_pages, ledger}
 use Rattle.vm_memory.specs.Starting.{place_pages, place_processes}
 use Rattle.vm_memory.proofs.Booting.BootLemmas.{next_unlent, next_has_none, next_process_room, next_booted}
 use Rattle.vm_memory.proofs.Booting.FirstPageLemmas.{first_is}
@@ -28,15 +28,15 @@ place_process-requires-clause-free g c = next_has_none g.W.SwapStore.slot_count 
 pub place_process-requires-clause-room : goal.place_process-requires-clause-room
 place_process-requires-clause-room g c =
     let same : c.as_slice.result.now ≡ (get_or c.as_slice-processes.result.now c.processes.k c.index-processes-k.result).pages = c.as_slice.ensures ∙ ap (λ (p : ProcPlan). p.pages) c.index-processes-k.is in
-    let room : capacity_of c.in_ok-memory.memory ≡ capacity c.args.plan.now.frames (length c.args.plan.now.procs) c.args.plan.now.slots =
-    ap (λ (s : Size). capacity s.area.frames s.procs s.slots) c.in_ok-memory.ensures.size in
+    let room : frames_for_pages c.in_ok-memory.memory ≡ page_frames c.args.plan.now.frames (length c.args.plan.now.procs) =
+    ap (λ (s : Size). page_frames s.area.frames s.procs) c.in_ok-memory.ensures.size in
     let all : sum_by (λ (p : ProcPlan). length p.pages) c.as_slice-processes.result.now ≡ sum_by (λ (p : ProcPlan). length p.pages) c.args.plan.now.procs =
     ap (sum_by (λ (p : ProcPlan). length p.pages)) c.as_slice-processes.ensures in
-    subst (λ (xs : List PagePlan). c.processes.memory.pages + length xs ≤ capacity_of c.processes.memory) (sym same)
+    subst (λ (xs : List PagePlan). c.processes.memory.pages + length xs ≤ frames_for_pages c.processes.memory) (sym same)
     (next_process_room g.W.SwapStore.slot_count g.W.SwapStore.held c.args.file.now c.as_slice-processes.result.now c.in_ok-memory.memory
     c.in_ok-memory.ensures.sound (ap (λ (s : Size). s.procs) c.in_ok-memory.ensures.size ∙ sym (ap length c.as_slice-processes.ensures))
     c.processes.memory c.processes.k c.processes-test.true c.index-processes-k.result c.processes.invariant
-    (omega (arith, c.requires.lawful.fits)))
+    (omega (arith, c.requires.lawful.fits, c.requires.no_slots)))
 
 pub place_process-requires-clause-lawful : goal.place_process-requires-clause-lawful
 place_process-requires-clause-lawful g c =

@@ -33,6 +33,7 @@ returns g c =
         size = λ w. lent_size c.args.self.now c.args.at w;
         store = λ w. refl;
         usable = λ w. c.requires.usable;
+        none = λ w. refl;
         means = λ w h. h;
       },
     )

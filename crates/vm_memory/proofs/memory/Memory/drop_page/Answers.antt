@@ -1,6 +1,8 @@
-use Rattle.std.proofs.Common.{rules, sym, ◌∙◌}
+use Rattle.std.proofs.Common.{rules, refl, sym, ap, ◌∙◌}
+use Rattle.phys_pages.specs.Owners.{infos}
+use Rattle.phys_pages.specs.declared.infos.Seat.TheVariants.{Slot}
 use Rattle.vm_memory.proofs.Changing.ConsoleStepLemmas.{console_gone_step}
-use Rattle.vm_memory.proofs.Changing.PageStepLemmas.{page_entry, console_entry, own_seat, some_page, gone_step, nothing_gone}
+use Rattle.vm_memory.proofs.Changing.PageStepLemmas.{page_entry, console_entry, own_seat, some_page, gone_step, nothing_gone, seat_freed}
 use Rattle.vm_memory.specs.Memory.{processes}
 use Rattle.sv32_space.specs.SpelledEntries.{entries}
 use Rattle.vm_memory.proofs.memory.Memory.drop_page.Goals as goal
@@ -24,7 +26,16 @@ returns-in-Page g c =
     (page_entry (entries (processes c.args.self.now) c.args.self.now.ram c.args.at) c.in-Page.field-0 c.in-Page.seat (sym c.owned.ensures ∙ c.in-Page.is))
     (record { entries = c.set_entry.ensures.entries; pages = c.set_entry.ensures.pages; made = c.set_entry.ensures.made; area = c.set_entry.ensures.area })
     c.set.ensures.infos c.set.ensures.extent in
-    record { sound = step.sound; ledger = step.ledger; rest = search rules }
+    record {
+      sound = step.sound;
+      ledger = step.ledger;
+      rest = record {
+        size = search rules;
+        store = refl;
+        failed = refl;
+        slots = λ s free. ap (λ I. I (Slot s)) c.set.ensures.infos ∙ seat_freed (infos c.args.self.now.owners) c.in-Page.seat (Slot s) free;
+      };
+    }
 
 pub returns-in-Console : goal.returns-in-Console
 returns-in-Console g c =
@@ -32,4 +43,4 @@ returns-in-Console g c =
     c.in-Console.field-0
     (console_entry (entries (processes c.args.self.now) c.args.self.now.ram c.args.at) c.in-Console.field-0 (sym c.owned.ensures ∙ c.in-Console.is))
     (record { entries = c.set_entry-in-Console.ensures.entries; pages = c.set_entry-in-Console.ensures.pages; made = c.set_entry-in-Console.ensures.made; area = c.set_entry-in-Console.ensures.area }) in
-    record { sound = step.sound; ledger = step.ledger; rest = search rules }
+    record { sound = step.sound; ledger = step.ledger; rest = record { size = search rules; store = refl; failed = refl; slots = λ s free. free } }

@@ -1,26 +1,16 @@
-use Rattle.std.proofs.Common.{◌%◌, sym, ap, ◌∙◌}
-use Rattle.std.specs.Prelude.{slice_index}
-use Rattle.xk_base.specs.UserMemory.{number_at}
-use Rattle.sv32_space.specs.SpelledEntries.{entries}
-use Rattle.xk_base.specs.Numbers.Windows.{page_of}
-use Rattle.vm_memory.specs.Memory.{processes}
-use Rattle.vm_memory.proofs.Using.UserLemmas.{page_gives, console_gives, nothing_given, page_target}
-use Rattle.vm_memory.proofs.Using.WalkTargetLemmas.{page_frame}
+use Rattle.std.proofs.Common.{ap}
+use Rattle.vm_memory.specs.Bytes.{means_bytes}
+use Rattle.vm_memory.specs.Using.UserView.{user_view}
+use Rattle.vm_memory.proofs.Using.NearLemmas.{brings_bytes, brings_may, loads_back}
 use Rattle.vm_memory.proofs.memory.Memory.load_number.Goals as goal
 
-pub page-requires : goal.page-requires
-page-requires g c =
-    let t = page_target (entries (processes c.args.self.now) c.args.self.now.ram (page_of c.args.pid c.args.va)) c.args.access c.in-Page.f (sym c.find.ensures ∙ c.in-Page.is) in
-    let inside = page_frame g.W.SwapStore.slot_count c.args.self.now c.requires.sound (page_of c.args.pid c.args.va) t.side c.in-Page.f t.entry in
-    inside.inside
-
-pub returns-in-Page : goal.returns-in-Page
-returns-in-Page g c =
-    let gives = page_gives g.W.SwapStore.slot_count g.W.SwapStore.held c.args.self.now c.requires.sound c.args.pid c.args.va c.args.access c.in-Page.f c.args.width c.requires.aligned (sym c.find.ensures ∙ c.in-Page.is) in
-    (gives.0, c.read_number.ensures ∙ ap (λ page. number_at (λ i. slice_index page i) (c.args.va % 4096) c.args.width) c.page.ensures.value ∙ gives.1)
-
-pub returns-in-Console : goal.returns-in-Console
-returns-in-Console g c = console_gives g.W.SwapStore.slot_count g.W.SwapStore.held c.args.self.now c.requires.sound c.args.pid c.args.va c.args.access c.args.width c.requires.aligned (sym c.find.ensures ∙ c.in-Console.is)
-
-pub returns-in-Nothing : goal.returns-in-Nothing
-returns-in-Nothing g c = nothing_given g.W.SwapStore.slot_count g.W.SwapStore.held c.args.self.now c.requires.sound c.args.pid c.args.va c.args.access (sym c.find.ensures ∙ c.in-Nothing.is)
+pub returns-clause-gives : goal.returns-clause-gives
+returns-clause-gives g c =
+    let old = c.args.self.now in
+    let new = c.find_near.new.self in
+    loads_back (means_bytes g.W.SwapStore.is_honest g.W.SwapStore.held old) ((user_view g.W.SwapStore.held old c.args.pid).may c.args.access c.args.va)
+    ((user_view g.W.SwapStore.held new c.args.pid).may c.args.access c.args.va)
+    (user_view g.W.SwapStore.held old c.args.pid).byte (user_view g.W.SwapStore.held new c.args.pid).byte c.args.va c.args.width c.read_at.result
+    (ap (λ may. may c.args.access c.args.va) (brings_may g.W.SwapStore.is_honest g.W.SwapStore.held g.W.SwapStore.slot_count g.W.SwapStore.asked g.W.SwapStore.faults old new c.find_near.ensures.brings c.args.pid))
+    (brings_bytes g.W.SwapStore.is_honest g.W.SwapStore.held g.W.SwapStore.slot_count g.W.SwapStore.asked g.W.SwapStore.faults old new c.find_near.ensures.brings c.args.pid)
+    c.read_at.ensures

@@ -27,4 +27,5 @@ returns-clause-rest g c = record {
       c.place_page.ensures.ledger c.place_page.ensures.owners c.fill.new.page (ap length c.fill.ensures ∙ length-page_bytes c.args.file.now c.args.page.now) ∙ c.place_page.ensures.rest.size;
   store = c.place_page.ensures.rest.store;
   failed = c.place_page.ensures.rest.failed;
+  slots = c.place_page.ensures.rest.slots;
 }

@@ -1,4 +1,5 @@
-use Rattle.std.proofs.Common.{◌<◌, rules, sym, subst}
+use Rattle.std.proofs.Common.{◌<◌, rules, refl, sym, ap, subst, ◌∙◌}
+use Rattle.phys_pages.specs.declared.infos.Seat.TheVariants.{Slot}
 use Rattle.phys_pages.specs.Ram.{Area}
 use Rattle.vm_memory.specs.Memory.{processes}
 use Rattle.vm_memory.proofs.Changing.PageStepLemmas.{cleared_made, frame_behind, free_entry, placed_step, user_process}
@@ -20,7 +21,7 @@ returns g c =
     let step = placed_step g.W.SwapStore.slot_count g.W.SwapStore.held c.args.self.now c.requires.sound c.args.at c.clear.new.ram c.args.f c.requires.frame
     c.clear.ensures.pages c.clear.ensures.area c.set_entry.new.ram c.set.new.self c.args.right c.requires.place
     (free_entry g.W.SwapStore.slot_count g.W.SwapStore.held c.args.self.now c.requires.sound c.args.at c.requires.place c.requires.free)
-    c.requires.room
+    c.requires.room c.requires.left
     (record { entries = c.set_entry.ensures.entries; pages = c.set_entry.ensures.pages; made = c.set_entry.ensures.made; area = c.set_entry.ensures.area })
     c.set.ensures.infos c.set.ensures.extent in
-    record { sound = step.sound; ledger = step.ledger; owners = c.set.ensures.infos; pages = search rules; rest = search rules }
+    record { sound = step.sound; ledger = step.ledger; owners = c.set.ensures.infos; pages = search rules; rest = record { size = search rules; store = refl; failed = refl; slots = λ s free. ap (λ I. I (Slot s)) c.set.ensures.infos ∙ free } }

@@ -1,4 +1,4 @@
-use Rattle.vm_memory.proofs.Changing.CallLemmas.{sound-means}
+use Rattle.vm_memory.proofs.Changing.CallLemmas.{alone-means, alone-none_out}
 use Rattle.vm_memory.proofs.Changing.SoundMemoryLemmas.{sound-tied}
 use Rattle.vm_memory.proofs.memory.Memory.reduce_run.Goals as goal
 
@@ -15,4 +15,7 @@ pub returns-clause-tie : goal.returns-clause-tie
 returns-clause-tie g c = sound-tied g.W.SwapStore.slot_count g.W.SwapStore.held c.set_rights.new.self c.set_rights.ensures.sound
 
 pub returns-clause-means : goal.returns-clause-means
-returns-clause-means g c = λ before. sound-means g.W.SwapStore.slot_count g.W.SwapStore.is_honest g.W.SwapStore.held c.set_rights.new.self c.set_rights.ensures.sound
+returns-clause-means g c = alone-means g.W.SwapStore.is_honest g.W.SwapStore.held c.args.self.now c.set_rights.new.self c.set_rights.ensures.rest
+
+pub returns-clause-none : goal.returns-clause-none
+returns-clause-none g c = alone-none_out c.args.self.now c.set_rights.new.self c.set_rights.ensures.rest

@@ -1,4 +1,4 @@
-use Rattle.vm_memory.proofs.Changing.CallLemmas.{sound-means}
+use Rattle.vm_memory.proofs.Changing.CallLemmas.{alone-means, alone-none_out}
 use Rattle.vm_memory.proofs.Changing.SoundMemoryLemmas.{sound-tied}
 use Rattle.vm_memory.proofs.memory.Memory.remove_run.Goals as goal
 
@@ -12,4 +12,7 @@ pub returns-clause-tie : goal.returns-clause-tie
 returns-clause-tie g c = sound-tied g.W.SwapStore.slot_count g.W.SwapStore.held c.drop_pages.new.self c.drop_pages.ensures.sound
 
 pub returns-clause-means : goal.returns-clause-means
-returns-clause-means g c = λ before. sound-means g.W.SwapStore.slot_count g.W.SwapStore.is_honest g.W.SwapStore.held c.drop_pages.new.self c.drop_pages.ensures.sound
+returns-clause-means g c = alone-means g.W.SwapStore.is_honest g.W.SwapStore.held c.args.self.now c.drop_pages.new.self c.drop_pages.ensures.rest
+
+pub returns-clause-none : goal.returns-clause-none
+returns-clause-none g c = alone-none_out c.args.self.now c.drop_pages.new.self c.drop_pages.ensures.rest

@@ -1,14 +1,14 @@
-use Rattle.std.proofs.Common.{refl, sym}
+use Rattle.std.proofs.Common.{sym}
 use Rattle.sv32_space.proofs.RunLemmas.{reduce_none}
 use Rattle.vm_memory.specs.Memory.{ledger}
-use Rattle.vm_memory.proofs.Changing.LoopLemmas.{next_not_lent_reduced, next_within, next_reduced, rest_then}
+use Rattle.vm_memory.proofs.Changing.LoopLemmas.{next_not_lent_reduced, next_within, next_reduced, rest_same, rest_then}
 use Rattle.vm_memory.proofs.memory.Memory.set_rights.Goals as goal
 
 pub loop-i-init : goal.loop-i-init
 loop-i-init g c = record {
   sound = c.requires.sound;
   ledger = sym (reduce_none c.args.first c.args.right (ledger g.W.SwapStore.held c.args.self.now));
-  rest = record { size = refl; store = refl; failed = refl };
+  rest = rest_same c.args.self.now;
 }
 
 pub set_right_above-requires-clause-not_lent : goal.set_right_above-requires-clause-not_lent

@@ -15,6 +15,7 @@ made g c = record {
   procs = length c.as_slice.result.now;
   slots = c.args.plan.now.slots;
   pages = 0;
+  hand = 0;
 }
 
 empty : (g : given.Over) (c : goal.After-frames-frames g) → IsEmpty g.W.SwapStore.slot_count (made g c) (length c.as_slice.result.now) c.args.plan.now.frames

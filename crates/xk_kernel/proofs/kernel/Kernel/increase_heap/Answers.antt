@@ -26,14 +26,14 @@ returns-in-Ok-Ok-clause-whole g c =
     whole_with_parts g.W.SwapStore.slot_count g.W.SwapStore.held c.args.self.now c.requires.whole c.make.new.self c.set_heap.new.self c.make.ensures.size c.make.ensures.sound
     (make_keeps (processes c.args.self.now.mem) (capacity_of c.args.self.now.mem) c.args.self.now.cursor.pid Heap (Some (record { 0 = (536870912 + c.heap-heap.result) / 4096 })) (c.args.bytes / 4096) heap_right c.in-Ok-Ok.field-0 (ledger g.W.SwapStore.held c.args.self.now.mem)
     (ledger g.W.SwapStore.held c.make.new.self) (caller_process g.W.SwapStore.slot_count g.W.SwapStore.held c.args.self.now c.requires.whole) c.in-Ok-Ok.ensures.answer
-    (c.in-Ok-Ok.ensures.whole (means_over g.W.SwapStore.slot_count g.W.SwapStore.is_honest g.W.SwapStore.held c.args.self.now.mem c.make.new.self c.requires.whole.mem c.make.ensures.sound)))
+    (c.in-Ok-Ok.ensures.whole (means_over g.W.SwapStore.is_honest g.W.SwapStore.held c.args.self.now.mem c.make.new.self c.requires.whole.mem_slots c.make.ensures.size)))
     c.set_heap.ensures.count
 
 pub returns-in-Ok-Ok-clause-outcome : goal.returns-in-Ok-Ok-clause-outcome
 returns-in-Ok-Ok-clause-outcome g c =
     increase_done g.W.SwapStore.slot_count g.W.SwapStore.held c.args.self.now c.requires.whole c.requires.matched c.args.bytes c.if-bytes-ne0.false c.heap-heap.result (heap_told g.W.SwapStore.slot_count g.W.SwapStore.held c.args.self.now c.requires.whole c.heap-heap.result c.heap-heap.ensures) (let within : c.heap-heap.result ≤ 16777216 = (heap_within g.W.SwapStore.slot_count g.W.SwapStore.held c.args.self.now c.requires.whole c.heap-heap.result (heap_told g.W.SwapStore.slot_count g.W.SwapStore.held c.args.self.now c.requires.whole c.heap-heap.result c.heap-heap.ensures) c.requires.matched) in let room : c.args.bytes ≤ 16777216 - c.heap-heap.result = c.if-bytes-heap.false in omega (arith, within, room)) c.make.new.self c.set_heap.new.self c.in-Ok-Ok.field-0-0 c.make.ensures.size
     (rw c.in-Ok-Ok.field-0-is at c.in-Ok-Ok.ensures.answer)
-    (rw c.in-Ok-Ok.field-0-is at c.in-Ok-Ok.ensures.whole (means_over g.W.SwapStore.slot_count g.W.SwapStore.is_honest g.W.SwapStore.held c.args.self.now.mem c.make.new.self c.requires.whole.mem c.make.ensures.sound)) c.set_heap.ensures.after
+    (rw c.in-Ok-Ok.field-0-is at c.in-Ok-Ok.ensures.whole (means_over g.W.SwapStore.is_honest g.W.SwapStore.held c.args.self.now.mem c.make.new.self c.requires.whole.mem_slots c.make.ensures.size)) c.set_heap.ensures.after
 
 pub returns-in-Ok-Err-clause-outcome : goal.returns-in-Ok-Err-clause-outcome
 returns-in-Ok-Err-clause-outcome g c =

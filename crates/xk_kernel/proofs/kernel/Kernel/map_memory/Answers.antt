@@ -51,7 +51,7 @@ returns-in-Ok-Ok-clause-whole g c =
     whole_with_mem g.W.SwapStore.slot_count g.W.SwapStore.held c.args.self.now c.make.new.self c.requires.whole c.make.ensures.size c.make.ensures.sound
     (make_keeps (processes c.args.self.now.mem) (capacity_of c.args.self.now.mem) c.args.self.now.cursor.pid Map c.page_asked-at.result (c.args.size / 4096) c.in-Some.right c.in-Ok-Ok.field-0 (ledger g.W.SwapStore.held c.args.self.now.mem)
     (ledger g.W.SwapStore.held c.make.new.self) (caller_process g.W.SwapStore.slot_count g.W.SwapStore.held c.args.self.now c.requires.whole) c.in-Ok-Ok.ensures.answer
-    (c.in-Ok-Ok.ensures.whole (means_over g.W.SwapStore.slot_count g.W.SwapStore.is_honest g.W.SwapStore.held c.args.self.now.mem c.make.new.self c.requires.whole.mem c.make.ensures.sound)))
+    (c.in-Ok-Ok.ensures.whole (means_over g.W.SwapStore.is_honest g.W.SwapStore.held c.args.self.now.mem c.make.new.self c.requires.whole.mem_slots c.make.ensures.size)))
 
 pub returns-in-Ok-Ok-clause-outcome : goal.returns-in-Ok-Ok-clause-outcome
 returns-in-Ok-Ok-clause-outcome g c =
@@ -59,7 +59,7 @@ returns-in-Ok-Ok-clause-outcome g c =
     (eq-eqb c.args.phys 0 c.if-phys-ne0.false) (ne_eqb c.args.phys 4026531840 c.if-phys-eq-CONSOLE_ADDRESS.false)
     c.make.new.self c.in-Ok-Ok.first c.make.ensures.size
     (rw (c.page_asked-at.ensures, c.in-Ok-Ok.field-0-is) at c.in-Ok-Ok.ensures.answer)
-    (rw c.in-Ok-Ok.field-0-is at c.in-Ok-Ok.ensures.whole (means_over g.W.SwapStore.slot_count g.W.SwapStore.is_honest g.W.SwapStore.held c.args.self.now.mem c.make.new.self c.requires.whole.mem c.make.ensures.sound))
+    (rw c.in-Ok-Ok.field-0-is at c.in-Ok-Ok.ensures.whole (means_over g.W.SwapStore.is_honest g.W.SwapStore.held c.args.self.now.mem c.make.new.self c.requires.whole.mem_slots c.make.ensures.size))
 
 pub returns-in-Ok-Err-clause-outcome : goal.returns-in-Ok-Err-clause-outcome
 returns-in-Ok-Err-clause-outcome g c =

@@ -1,0 +1,279 @@
+-- A memory whose pages have moved between frames and slots.
+use Rattle.std.proofs.Common.{◌≡◌, ◌≢◌, ℕ, ◌+◌, ◌*◌, ◌≤◌, Bool, true, false, ◌&&◌, ◌||◌, Option, Some, None, refl, sym, ap, subst, ◌∙◌, inl, inr, arith}
+use Rattle.std.specs.Prelude.{IfNone, IfSome, IsTrue, is_some, Result, Ok, Err, OnOk}
+use Rattle.std.specs.Option.{option_map}
+use Rattle.std.proofs.lemmas.Bool.{and_parts, both_ways, cond-true, cond-false, ne_eqb}
+use Rattle.boot_plan.specs.Capacity.{capacity}
+use Rattle.xk_base.specs.Numbers.Limits.{table_frames}
+use Rattle.xk_base.specs.Tables.Counting.{put_at}
+use Rattle.xk_base.specs.declared.ids.Frame.{Frame as FrameNumber}
+use Rattle.xk_base.specs.declared.ids.Place.{Place}
+use Rattle.xk_base.specs.declared.ids.Slot.{Slot as SlotNumber}
+use Rattle.phys_pages.specs.declared.infos.PageInfo.{PageInfo}
+use Rattle.phys_pages.specs.declared.infos.Seat.{Seat}
+use Rattle.phys_pages.specs.declared.infos.Seat.TheVariants.{Frame, Slot}
+use Rattle.phys_pages.specs.Owners.{AreFramesUsed, AreSlotsUsed, Extent, HasSeat, OwnerTable, extent, frame_seat, infos, seat_eq, slot_seat}
+use Rattle.phys_pages.specs.Ram.{Area, IsPlaced, RamBytes, area, pages as page_of_frame}
+use Rattle.phys_pages.proofs.OwnerLemmas.{infos-within, seat_tells}
+use Rattle.ledger_model.specs.Lawful.{IsLawful}
+use Rattle.ledger_model.specs.Ledger.{pages}
+use Rattle.ledger_model.specs.Loans.{bare}
+use Rattle.ledger_model.proofs.LedgerLemmas.{cases_Option}
+use Rattle.ledger_model.proofs.Pages.BareLemmas.{bare-lawful}
+use Rattle.ledger_model.proofs.Stepping.WritingLemmas.{bare-pages}
+use Rattle.sv32_space.specs.Agreement.{HasUnusedFrame, procs_of}
+use Rattle.sv32_space.specs.PageChanges.{renamed_entry, with_info}
+use Rattle.sv32_space.specs.SpelledEntries.{entries}
+use Rattle.sv32_space.specs.Tie.{Held, agrees, bytes_at, ledger_in}
+use Rattle.sv32_space.specs.declared.sides.Entry.TheVariants.{At}
+use Rattle.sv32_space.specs.declared.sides.Side.{Side}
+use Rattle.loan_flags.specs.Keeping.{tables}
+use Rattle.swap_map.specs.Moving.{KeepsSizes, Moves, StaysPut}
+use Rattle.swap_map.proofs.ExchangeLemmas.{stayed_whole, used_behind}
+use Rattle.xk_ports.specs.Keeping.{KeepsStore, tells_truly}
+use Rattle.vm_memory.specs.declared.memory.Memory.{Memory}
+use Rattle.vm_memory.specs.Bytes.{is_known, none_out, used_frames, used_slots}
+use Rattle.vm_memory.specs.Memory.{blank_ledger, capacity_of, ledger, processes}
+use Rattle.vm_memory.specs.Pages.Exchanging.{IsInFrame, MovesPages}
+use Rattle.vm_memory.specs.Sound.{IsSound}
+use Rattle.vm_memory.proofs.Changing.CallLemmas.{none_out-kept, none_out-slots}
+use Rattle.vm_memory.proofs.Changing.CountLemmas.{each_counts, seats_count}
+use Rattle.vm_memory.proofs.Changing.SoundMemoryLemmas.{bare-ledger}
+
+-- THE WORKHORSE: entries and owners agree, the ledger is the same but for its bytes, and the sizes stay.
+module _ {W : Type 0} (slot_count : W → ℕ) (held : W → Held) (m : Memory W) (sound : IsSound slot_count m)
+    (ram : RamBytes) (owners : OwnerTable) (store : W) (failed : Bool) (hand : ℕ) where
+  abbrev n : Memory W
+  n = record m { ram = ram; owners = owners; store = store; failed = failed; hand = hand }
+
+  module _ (agree : agrees ram owners) (sizes : KeepsSizes (tables m.ram m.owners) (tables ram owners))
+      (rights : bare (ledger held n) ≡ bare (ledger held m)) (slots : slot_count store ≡ slot_count m.store) where
+    bare_blank : bare (blank_ledger n) ≡ bare (blank_ledger m)
+    bare_blank = sym (bare-ledger held n) ∙ (rights ∙ bare-ledger held m)
+
+    lawful_now : IsLawful (processes n) (capacity_of n) (blank_ledger n)
+    lawful_now =
+        let here : IsLawful (processes m) (capacity_of m) (blank_ledger n) =
+        bare-lawful (processes m) (capacity_of m) (blank_ledger m) (blank_ledger n) bare_blank sound.lawful in
+        let same : capacity_of n ≡ capacity_of m = λ i. capacity (sizes.area i).frames (procs_of (sizes.extent i)) (sizes.extent i).slots in
+        let sized : IsLawful (processes m) (capacity_of n) (blank_ledger n) = subst (λ k. IsLawful (processes m) k (blank_ledger n)) (sym same) here in
+        subst (λ t. IsLawful (procs_of t) (capacity_of n) (blank_ledger n)) (sym sizes.extent) sized
+
+    counted_now : m.pages ≡ pages (processes n) (blank_ledger n)
+    counted_now = sound.pages ∙ (sym (bare-pages (processes m) (blank_ledger m) (blank_ledger n) bare_blank)
+        ∙ ap (λ t. pages (procs_of t) (blank_ledger n)) (sym sizes.extent))
+
+    seats_now : used_frames owners + used_slots owners ≡ m.pages
+    unfolding blank_ledger
+    seats_now = seats_count (processes n) (entries (processes n) ram) owners agree.entries ∙ sym counted_now
+
+    pub shifted : (failed ≡ false → HasUnusedFrame (extent owners) (infos owners)) → IsSound slot_count n
+    shifted room = record {
+      agree = agree;
+      procs = sound.procs ∙ sym (ap procs_of sizes.extent);
+      slots = sound.slots ∙ sym (ap (λ (t : Extent). t.slots) sizes.extent);
+      few = subst (λ t. procs_of t ≤ 64) (sym sizes.extent) sound.few;
+      few_slots = sound.few_slots;
+      tables = subst (λ t. table_frames (procs_of t) + 2 ≤ (area ram).frames) (sym sizes.extent)
+          (subst (λ (a : Area). table_frames (processes m) + 2 ≤ a.frames) (sym sizes.area) sound.tables);
+      placed = subst IsPlaced (sym sizes.area) sound.placed;
+      store = subst (λ k. m.slots ≤ k) (sym slots) sound.store;
+      lawful = lawful_now;
+      pages = counted_now;
+      seats = seats_now;
+      room = room;
+    }
+
+    -- .. so that pages have moved
+    pub moved : {P : Type 0} (is_honest : W → Bool) (asked : W → P) (faults : W → ℕ)
+        → (IsTrue (is_known is_honest held m) → ledger held n ≡ ledger held m) → KeepsStore is_honest held slot_count asked faults m.store store
+        → (failed ≡ false → HasUnusedFrame (extent owners) (infos owners)) → MovesPages is_honest held slot_count asked faults m n
+    moved is_honest asked faults whole keeps room = record {
+      sound = shifted room;
+      rights = rights;
+      whole = whole;
+      size = λ i. record { procs = procs_of (sizes.extent i); area = sizes.area i; slots = (sizes.extent i).slots };
+      store = keeps;
+    }
+
+-- a store that stays as it is keeps all of itself
+pub keeps_all : {W P : Type 0} (is_honest : W → Bool) (held : W → Held) (slot_count : W → ℕ) (asked : W → P) (faults : W → ℕ) (store : W)
+    → KeepsStore is_honest held slot_count asked faults store store
+keeps_all is_honest held slot_count asked faults store = record { honest = refl; told = refl; slots = refl; preparations = refl; never_falls = omega arith }
+
+-- .. by what `evict` and `bring` say of it
+pub moved_in : {W P : Type 0} (is_honest : W → Bool) (held : W → Held) (slot_count : W → ℕ) (asked : W → P) (faults : W → ℕ)
+    (m : Memory W) → IsSound slot_count m → (ram : RamBytes) (owners : OwnerTable) (store : W) (failed : Bool) (hand : ℕ)
+    → agrees ram owners → KeepsSizes (tables m.ram m.owners) (tables ram owners)
+    → bare (ledger_in ram owners (held store)) ≡ bare (ledger_in m.ram m.owners (held m.store))
+    → (IsTrue (tells_truly is_honest held m.store) → ledger_in ram owners (held store) ≡ ledger_in m.ram m.owners (held m.store))
+    → KeepsStore is_honest held slot_count asked faults m.store store → (failed ≡ false → HasUnusedFrame (extent owners) (infos owners))
+    → MovesPages is_honest held slot_count asked faults m (record m { ram = ram; owners = owners; store = store; failed = failed; hand = hand })
+unfolding ledger
+moved_in is_honest held slot_count asked faults m sound ram owners store failed hand agree sizes rights whole keeps room =
+    moved slot_count held m sound ram owners store failed hand agree sizes rights keeps.slots is_honest asked faults whole keeps room
+
+-- nothing moves where only the mark of failure and the hand change
+pub unmoved : {W P : Type 0} (is_honest : W → Bool) (held : W → Held) (slot_count : W → ℕ) (asked : W → P) (faults : W → ℕ)
+    (m : Memory W) → IsSound slot_count m → (failed : Bool) (hand : ℕ) → (failed ≡ false → HasUnusedFrame (extent m.owners) (infos m.owners))
+    → MovesPages is_honest held slot_count asked faults m (record m { failed = failed; hand = hand })
+unfolding ledger
+unmoved is_honest held slot_count asked faults m sound failed hand room =
+    moved slot_count held m sound m.ram m.owners m.store failed hand sound.agree (record { area = refl; extent = refl }) refl refl
+    is_honest asked faults (λ known. refl) (keeps_all is_honest held slot_count asked faults m.store) room
+
+pub same_moves : {W P : Type 0} (is_honest : W → Bool) (held : W → Held) (slot_count : W → ℕ) (asked : W → P) (faults : W → ℕ)
+    (m : Memory W) → IsSound slot_count m → MovesPages is_honest held slot_count asked faults m m
+same_moves is_honest held slot_count asked faults m sound =
+    record { sound = sound; rights = refl; whole = λ known. refl; size = refl; store = keeps_all is_honest held slot_count asked faults m.store }
+
+-- what is known stays known
+pub known_kept : {W P : Type 0} (is_honest : W → Bool) (held : W → Held) (slot_count : W → ℕ) (asked : W → P) (faults : W → ℕ) (a b : W)
+    → KeepsStore is_honest held slot_count asked faults a b → (is_honest b && is_some (held b)) ≡ (is_honest a && is_some (held a))
+known_kept is_honest held slot_count asked faults a b keeps = λ i. keeps.honest i && keeps.told i
+
+pub store_then : {W P : Type 0} (is_honest : W → Bool) (held : W → Held) (slot_count : W → ℕ) (asked : W → P) (faults : W → ℕ) (a b c : W)
+    → KeepsStore is_honest held slot_count asked faults a b → KeepsStore is_honest held slot_count asked faults b c
+    → KeepsStore is_honest held slot_count asked faults a c
+store_then is_honest held slot_count asked faults a b c x y = record {
+  honest = y.honest ∙ x.honest;
+  told = y.told ∙ x.told;
+  slots = y.slots ∙ x.slots;
+  preparations = y.preparations ∙ x.preparations;
+  never_falls = omega (arith, x.never_falls, y.never_falls);
+}
+
+pub moves_then : {W P : Type 0} (is_honest : W → Bool) (held : W → Held) (slot_count : W → ℕ) (asked : W → P) (faults : W → ℕ) (a b c : Memory W)
+    → MovesPages is_honest held slot_count asked faults a b → MovesPages is_honest held slot_count asked faults b c
+    → MovesPages is_honest held slot_count asked faults a c
+moves_then is_honest held slot_count asked faults a b c x y = record {
+  sound = y.sound;
+  rights = y.rights ∙ x.rights;
+  whole = λ known. y.whole (known_kept is_honest held slot_count asked faults a.store b.store x.store ∙ known) ∙ x.whole known;
+  size = y.size ∙ x.size;
+  store = store_then is_honest held slot_count asked faults a.store b.store c.store x.store y.store;
+}
+
+-- ---- free seats
+
+-- a frame that is found free
+pub found_room : (table : Extent) (I : Seat → Option PageInfo) (f : FrameNumber) → HasSeat table (Frame f) → I (Frame f) ≡ None → HasUnusedFrame table I
+found_room table I f within free = record { frame = f.0; within = within; free = free }
+
+-- .. by the answer of a search
+pub some_room : (table : Extent) (I : Seat → Option PageInfo) (o : Option FrameNumber) → IfSome o (λ f. HasSeat table (Frame f)) → IfSome o (λ f. I (Frame f) ≡ None)
+    → is_some o ≡ true → HasUnusedFrame table I
+some_room table I None within free h = absurd cc
+some_room table I (Some f) within free h = found_room table I f within free
+
+pub none_all_used : (table : Extent) (owners : OwnerTable) (o : Option FrameNumber)
+    → IfNone o (AreFramesUsed owners ((extent owners).first + (extent owners).frames)) → is_some o ≡ false
+    → AreFramesUsed owners ((extent owners).first + (extent owners).frames)
+none_all_used table owners None used h = used
+none_all_used table owners (Some f) used h = absurd cc
+
+pub frame_used : (owners : OwnerTable) (o : Option FrameNumber) → IfNone o (AreFramesUsed owners ((extent owners).first + (extent owners).frames)) → is_some o ≡ false
+    → (f : FrameNumber) → HasSeat (extent owners) (Frame f) → is_some (infos owners (Frame f)) ≡ true
+frame_used owners o used h f within = none_all_used (extent owners) owners o used h f.0 within.0 within.1
+
+pub all_slots : (owners : OwnerTable) (o : Option SlotNumber) → IfNone o (AreSlotsUsed owners (extent owners).slots) → o ≡ None → AreSlotsUsed owners (extent owners).slots
+all_slots owners None used h = used
+all_slots owners (Some s) used h = absurd cc
+
+pub kept_seat : (old new : Extent) → new ≡ old → (f : FrameNumber) → HasSeat old (Frame f) → HasSeat new (Frame f)
+kept_seat old new same f within = subst (λ t. HasSeat t (Frame f)) (sym same) within
+
+-- no frame is free, and not all slots are used: as many pages as the capacity allows leave one seat
+pub slot_left : {W : Type 0} (slot_count : W → ℕ) (m : Memory W) → IsSound slot_count m
+    → AreFramesUsed m.owners ((extent m.owners).first + (extent m.owners).frames) → AreSlotsUsed m.owners (extent m.owners).slots → ⊥
+slot_left slot_count m sound frames slots =
+    let all : (extent m.owners).frames ≤ used_frames m.owners =
+    each_counts (extent m.owners).frames (λ k. is_some (infos m.owners (frame_seat ((extent m.owners).first + k))))
+    (λ k low. frames ((extent m.owners).first + k) (omega arith) (omega (arith, low))) in
+    let every : (extent m.owners).slots ≤ used_slots m.owners =
+    each_counts (extent m.owners).slots (λ k. is_some (infos m.owners (slot_seat k))) (λ k low. slots k low) in
+    let within : pages (processes m) (blank_ledger m) ≤ capacity_of m = sound.lawful.within in
+    let first : (extent m.owners).first ≡ 21 * processes m = sound.agree.first in
+    let last : (extent m.owners).first + (extent m.owners).frames ≡ (area m.ram).frames = sound.agree.last in
+    omega (arith, all, every, within, first, last, sound.pages, sound.seats, sound.tables)
+
+-- ---- a page goes out
+
+same_seat : (s : Seat) → seat_eq s s ≡ true
+same_seat s = elim (seat_tells s s) [
+  | inl same ↦ same.1
+  | inr apart ↦ absurd (apart.0 refl)
+]
+
+put_here : (I : Seat → Option PageInfo) (s : Seat) (info : Option PageInfo) → put_at seat_eq I s info s ≡ info
+put_here I s info = cond-true (seat_eq s s) info (I s) (same_seat s)
+
+-- a used seat is one of the table
+pub used_within : (owners : OwnerTable) (s : Seat) → is_some (infos owners s) ≡ true → HasSeat (extent owners) s
+used_within owners s used = elim (cases_Option (infos owners s)) [
+  | inl none ↦ absurd (both_ways (is_some (infos owners s)) (ap is_some none) used)
+  | inr some ↦ infos-within owners s some.0 some.1
+]
+
+module _ {W : Type 0} (m : Memory W) (ram : RamBytes) (owners : OwnerTable) (f : FrameNumber) (to : SlotNumber)
+    (moves : Moves (tables m.ram m.owners) (tables ram owners) (Frame f) (Slot to)) where
+  -- its frame is free
+  pub left_free : infos owners (Frame f) ≡ None
+  left_free = ap (λ I. I (Frame f)) moves.infos ∙ put_here (infos m.owners) (Frame f) None
+
+  -- the slot is used
+  pub slot_used : infos owners (Slot to) ≡ infos m.owners (Frame f)
+  slot_used = ap (λ I. I (Slot to)) moves.infos ∙ put_here (with_info (infos m.owners) (Frame f) None) (Slot to) (infos m.owners (Frame f))
+
+  -- so a page is out
+  pub goes_out : is_some (infos m.owners (Frame f)) ≡ true → {A : Type 0} → (n : Memory W) → n.owners ≡ owners → none_out n ≡ true → A
+  goes_out used n same none = absurd (both_ways (is_some (infos owners (Slot to)))
+      (ap is_some (ap (λ o. infos o (Slot to)) (sym same) ∙ none_out-slots n none to)) (ap is_some slot_used ∙ used))
+
+  -- other entries stay
+  pub stays_near : (keep : FrameNumber) → f.0 ≢ keep.0 → (at : Place) (side : Side) → entries (processes m) m.ram at ≡ Some (At side (Frame keep))
+      → entries (procs_of (extent owners)) ram at ≡ Some (At side (Frame keep))
+  stays_near keep other at side e = ap (λ E. E at) moves.entries ∙ (ap (option_map (renamed_entry (Frame f) (Slot to))) e
+      ∙ ap (λ s. Some (At side s)) (cond-false (seat_eq (Frame keep) (Frame f)) (Slot to) (Frame keep) (ne_eqb keep.0 f.0 (λ same. other (sym same)))))
+
+-- a page comes in: its entries name the frame
+pub comes_near : {W : Type 0} (m : Memory W) (ram : RamBytes) (owners : OwnerTable) (from : SlotNumber) (into : FrameNumber)
+    → Moves (tables m.ram m.owners) (tables ram owners) (Slot from) (Frame into)
+    → (at : Place) (side : Side) → entries (processes m) m.ram at ≡ Some (At side (Slot from)) → entries (procs_of (extent owners)) ram at ≡ Some (At side (Frame into))
+comes_near m ram owners from into moves at side e = ap (λ E. E at) moves.entries ∙ (ap (option_map (renamed_entry (Slot from) (Frame into))) e
+    ∙ ap (λ s. Some (At side s)) (cond-true (seat_eq (Slot from) (Slot from)) (Frame into) (Slot from) (same_seat (Slot from))))
+
+-- .. also after another went out
+pub brought_near : {W E : Type 0} (m : Memory W) (ram : RamBytes) (owners : OwnerTable) (n : Memory W) (from : SlotNumber) (into : FrameNumber)
+    → Moves (tables m.ram m.owners) (tables ram owners) (Slot from) (Frame into) → (r : Result (Unit {0}) E)
+    → ((at : Place) (side : Side) → entries (procs_of (extent owners)) ram at ≡ Some (At side (Frame into)) → entries (processes n) n.ram at ≡ Some (At side (Frame into)))
+    → OnOk r ((at : Place) (side : Side) → entries (processes m) m.ram at ≡ Some (At side (Slot from)) → IsInFrame (entries (processes n) n.ram at) side)
+brought_near m ram owners n from into moves (Ok done) keep = λ at side e.
+    record { frame = into; near = keep at side (comes_near m ram owners from into moves at side e) }
+brought_near m ram owners n from into moves (Err e) keep = tt
+
+-- ---- a page doesn't go out, as the store failed
+
+module _ {W : Type 0} (slot_count : W → ℕ) (held : W → Held) (m : Memory W) (sound : IsSound slot_count m)
+    (ram : RamBytes) (owners : OwnerTable) (store : W) (failed : Bool) (hand : ℕ) (stays : StaysPut (tables m.ram m.owners) (tables ram owners))
+    (pages_stay : (g : ℕ) → table_frames (procs_of (extent m.owners)) ≤ g → page_of_frame ram g ≡ page_of_frame m.ram g) where
+  abbrev k : Memory W
+  k = record m { ram = ram; owners = owners; store = store; failed = failed; hand = hand }
+
+  pub still_none : none_out k ≡ true → none_out m ≡ true
+  still_none = none_out-kept k m (λ s free. ap (λ I. I (Slot s)) (sym stays.infos) ∙ free)
+
+  -- where no page is out, all bytes are in frames
+  pub still_whole : none_out m ≡ true → ledger held k ≡ ledger held m
+  unfolding ledger
+  still_whole none = stayed_whole (tables m.ram m.owners) (tables ram owners) sound.agree stays (bytes_at m.ram (held m.store)) (bytes_at ram (held store)) same
+    where
+      same : (s : Seat) (x : PageInfo) → infos m.owners s ≡ Some x → bytes_at ram (held store) s ≡ bytes_at m.ram (held m.store) s
+      same (Frame g) x used = pages_stay g.0 (used_behind m.ram m.owners sound.agree g x used)
+      same (Slot s) x used = absurd (both_ways (is_some (infos m.owners (Slot s))) (ap is_some (none_out-slots m none s)) (ap is_some used))
+
+-- ---- bytes over a call
+
+pub over_splits : (known a b : Bool) → (known || (a && b)) ≡ true → {A : Type 0} → (known ≡ true → A) → (a ≡ true → b ≡ true → A) → A
+over_splits true a b h known none = known refl
+over_splits false a b h known none = none (and_parts a b h).0 (and_parts a b h).1

@@ -1,0 +1,207 @@
+//! Pages come in to frames, and others go out to slots of the store in their place.
+//!
+//! An exchange has two halves: a page comes into the frame that is free, then, where no frame is
+//! free any more, another page goes out to a free slot. Between the halves the memory counts as
+//! failed, and so it stays where the store fails.
+
+ghost use Rattle.std.specs.Prelude.{◌≡◌, ◌≢◌, ℕ, Some, None, true, false, IfOk, OnOk, OnErr};
+ghost use Rattle.ledger_model.specs.Reach.{owner_may};
+ghost use Rattle.phys_pages.specs.Owners.{HasSeat, IsUsed, extent, infos};
+ghost use Rattle.sv32_space.specs.EntryReach.{entry_may, side_may};
+ghost use Rattle.sv32_space.specs.SpelledEntries.{entries};
+ghost use Rattle.sv32_space.specs.declared.sides.Entry.TheVariants.{At};
+ghost use Rattle.sv32_space.specs.declared.sides.Side.{Side};
+ghost use Rattle.vm_memory.specs.Bytes.{MeansBytesOver, is_out, none_out};
+ghost use Rattle.vm_memory.specs.Memory.{IsUsable, has_failed, ledger, processes, ram_of, store_of};
+ghost use Rattle.vm_memory.specs.Pages.Changing.{IsFreeFrame};
+ghost use Rattle.vm_memory.specs.Pages.Exchanging.{BringsIn, IsInFrame, MovesPages, slot_reached};
+ghost use Rattle.vm_memory.specs.Sound.{IsSound};
+ghost use Rattle.vm_memory.specs.Using.EntryAccess.{entry_target, is_given_target};
+ghost use Rattle.xk_base.specs.Numbers.Windows.{page_of};
+ghost use Rattle.xk_base.specs.Outside.{Rose};
+ghost use Rattle.xk_base.specs.declared.ids.Place.{Place};
+
+use crate::memory::Memory;
+use crate::memory::access::Target;
+use phys_pages::Seat;
+use sv32_space::{Entry, Side};
+use swap_map::{bring, evict};
+use xk_base::limits::{PAGE_SIZE, TABLE_FRAMES};
+use xk_base::{Access, Failed, Frame, LoanKind, Pid, Place, Right, Slot, Vpn};
+use xk_ports::SwapStore;
+
+// Whether an owner whose page isn't on loan has the access.
+fn owner_gives(right: Right, access: Access) -> bool
+    ensures { result ≡ owner_may right access }
+{
+    match access {
+        Access::Load => true,
+        Access::Store => right.w,
+        Access::Fetch => right.x,
+    }
+}
+
+// Whether a side of a page gives its process the access.
+fn side_gives(side: Side, access: Access) -> bool
+    ensures { result ≡ side_may side access }
+{
+    match side {
+        Side::Own(right) => owner_gives(right, access),
+        Side::LentOut(right) => owner_gives(
+            Right {
+                w: false,
+                x: right.x,
+            },
+            access,
+        ),
+        Side::LentIn => owner_gives(Right { w: false, x: false }, access),
+        Side::MutOut { x: _ } => false,
+        Side::MutIn => owner_gives(Right { w: true, x: false }, access),
+    }
+}
+
+impl<W: SwapStore> Memory<W> {
+    // A free frame.
+    pub(crate) fn free_frame(&self) -> Frame
+        requires sound { IsSound W.slot_count self.now }
+        requires usable { IsUsable self.now }
+        ensures { IsFreeFrame self.now.owners result.0 }
+    {
+        match self.owners.free_frame() {
+            Some(f) => f,
+            None => unreachable!(),
+        }
+    }
+
+    // The frame, but not that one, whose page goes out: the search goes round from the one at hand.
+    fn victim(&self, keep: Frame) -> Frame
+        requires sound { IsSound W.slot_count self.now }
+        ensures within { HasSeat (extent self.now.owners) (Seat.Frame result) }
+        ensures other { result.0 ≢ keep.0 }
+    {
+        let first = TABLE_FRAMES * self.procs;
+        let end = self.ram.frames();
+        let start = if first <= self.hand && self.hand < end {
+            self.hand
+        } else {
+            first
+        };
+        if start != keep.0 {
+            return Frame(start);
+        }
+        if start + 1 < end {
+            return Frame(start + 1);
+        }
+        Frame(first)
+    }
+
+    // The second half of an exchange: where no frame is free, another page than that in the frame
+    // just filled goes out. On Ok the memory may be used again.
+    pub(crate) fn make_room(&mut self, keep: Frame) -> Result<(), Failed>
+        requires sound { IsSound W.slot_count self.old }
+        requires under_way { has_failed self.old ≡ true }
+        ensures moves { MovesPages W.is_honest W.held W.slot_count W.asked W.faults self.old self.new }
+        // bytes also where no page is out before and after
+        ensures over { MeansBytesOver W.is_honest W.held self.old self.new → ledger W.held self.new ≡ ledger W.held self.old }
+        ensures none { none_out self.new ≡ true → none_out self.old ≡ true }
+        ensures keep { (at : Place) (side : Side) → entries (processes self.old) (ram_of self.old) at ≡ Some (At side (Seat.Frame keep))
+            → entries (processes self.new) (ram_of self.new) at ≡ Some (At side (Seat.Frame keep)) }
+        ensures usable { OnOk result (IsUsable self.new) }
+        ensures failed { OnErr result (has_failed self.new ≡ true) }
+        ensures cause { OnErr result (Rose (W.faults (store_of self.old)) (W.faults (store_of self.new))) }
+    {
+        if self.owners.free_frame().is_some() {
+            self.failed = false;
+            return Ok(());
+        }
+        let Some(to) = self.owners.free_slot() else {
+            unreachable!();
+        };
+        let f = self.victim(keep);
+        evict(&mut self.ram, &mut self.owners, &mut self.store, f, to)?;
+        self.hand = f.0 + 1;
+        self.failed = false;
+        Ok(())
+    }
+
+    // Brings the page of a slot into a frame.
+    fn exchange(&mut self, from: Slot) -> Result<(), Failed>
+        requires sound { IsSound W.slot_count self.old }
+        requires usable { IsUsable self.old }
+        requires used { IsUsed self.old.owners (Seat.Slot from) }
+        ensures moves { MovesPages W.is_honest W.held W.slot_count W.asked W.faults self.old self.new }
+        ensures near { OnOk result ((at : Place) (side : Side) → entries (processes self.old) (ram_of self.old) at ≡ Some (At side (Seat.Slot from))
+            → IsInFrame (entries (processes self.new) (ram_of self.new) at) side) }
+        ensures usable { OnOk result (IsUsable self.new) }
+        ensures failed { OnErr result (has_failed self.new ≡ true) }
+        ensures cause { OnErr result (Rose (W.faults (store_of self.old)) (W.faults (store_of self.new))) }
+    {
+        let f = self.free_frame();
+        self.failed = true;
+        bring(&mut self.ram, &mut self.owners, &mut self.store, from, f)?;
+        self.make_room(f)
+    }
+
+    // The slot of the page that the process reaches at a place by the access, if it is out.
+    fn slot_reached(&self, at: Place, access: Access) -> Option<Slot>
+        requires sound { IsSound W.slot_count self.now }
+        ensures { result ≡ slot_reached (entries (processes self.now) (ram_of self.now) at) access }
+    {
+        if !self.has_place(at) {
+            return None;
+        }
+        match self.entry(at) {
+            Entry::Free => None,
+            Entry::At { side, seat } => match seat {
+                Seat::Frame(_) => None,
+                Seat::Slot(s) => side_gives(side, access).then_some(s),
+            },
+            Entry::OnConsole { w: _ } => None,
+        }
+    }
+
+    // Whether the process has the access at a place, near or not.
+    pub(crate) fn gives(&self, at: Place, access: Access) -> bool
+        requires sound { IsSound W.slot_count self.now }
+        ensures { result ≡ entry_may (entries (processes self.now) (ram_of self.now) at) access }
+    {
+        if !self.has_place(at) {
+            return false;
+        }
+        match self.entry(at) {
+            Entry::Free => false,
+            Entry::At { side, seat: _ } => side_gives(side, access),
+            Entry::OnConsole { w } => owner_gives(Right { w, x: false }, access),
+        }
+    }
+
+    // Where an access at a virtual address leads. A page that the process reaches there by the access
+    // and that is out comes in.
+    pub(crate) fn find_near(&mut self, pid: Pid, va: u32, access: Access) -> Result<Target, Failed>
+        requires sound { IsSound W.slot_count self.old }
+        requires usable { IsUsable self.old }
+        ensures brings { BringsIn W.is_honest W.held W.slot_count W.asked W.faults self.old self.new }
+        ensures target { IfOk result (λ target. target ≡ entry_target (entries (processes self.new) (ram_of self.new) (page_of pid va)) access) }
+        ensures given { IfOk result (λ target. is_given_target target ≡ entry_may (entries (processes self.new) (ram_of self.new) (page_of pid va)) access) }
+        ensures usable { OnOk result (IsUsable self.new) }
+        ensures failed { OnErr result (has_failed self.new ≡ true) }
+        ensures out { OnErr result (is_out self.old (page_of pid va) ≡ true) }
+        ensures cause { OnErr result (Rose (W.faults (store_of self.old)) (W.faults (store_of self.new))) }
+    {
+        let found = self.find(pid, va, access);
+        if found.is_given() {
+            return Ok(found);
+        }
+        let at = Place {
+            pid,
+            vpn: Vpn(va / PAGE_SIZE),
+        };
+        match self.slot_reached(at, access) {
+            None => Ok(Target::Nothing),
+            Some(slot) => {
+                self.exchange(slot)?;
+                Ok(self.find(pid, va, access))
+            }
+        }
+    }
+}
