@@ -1,5 +1,5 @@
 -- When the bytes of a kernel's pages are known, what a machine is but for them, and when pages stand in frames alone.
-use Rattle.std.specs.Prelude.{◌≡◌, ◌<◌, ◌⊎◌, ℕ, Bool, true}
+use Rattle.std.specs.Prelude.{◌≡◌, ◌<◌, ◌==◌, ◌||◌, Bool, true, IsTrue}
 use Rattle.ledger_model.specs.Ledger.{Ledger, pages}
 use Rattle.ledger_model.specs.Loans.{bare}
 use Rattle.machine_model.specs.State.Machine.{Machine}
@@ -23,9 +23,12 @@ pub record ComesTo (known : Type 0) (new target : Machine) : Type 0 where
 abbrev pub KnowsBytes : {W : Type 0} → (W → Bool) → (W → Held) → Kernel W → Kernel W → Type 0
 KnowsBytes is_honest held old new = MeansBytesOver is_honest held old.mem new.mem
 
--- they are so over every call: the store is honest and tells, or none of its slots is used
+-- they are so over every call: the store is honest and tells, or the memory has no slots
+abbrev pub is_trusted : {W : Type 0} → (W → Bool) → (W → Held) → Kernel W → Bool
+is_trusted is_honest held k = is_known is_honest held k.mem || ((size k.mem).slots == 0)
+
 abbrev pub IsTrusted : {W : Type 0} → (W → Bool) → (W → Held) → Kernel W → Type 0
-IsTrusted is_honest held k = (is_known is_honest held k.mem ≡ true) ⊎ ((size k.mem).slots ≡ 0)
+IsTrusted is_honest held k = IsTrue (is_trusted is_honest held k)
 
 -- ---- frames
 

@@ -1,6 +1,6 @@
 //! One step.
 
-ghost use Rattle.std.specs.Prelude.{◌≡◌, ◌<◌, ◌⊎◌, true, false, IfOk, None, OnErr, OnOk, Some, ◌+◌, IsTrue, map};
+ghost use Rattle.std.specs.Prelude.{◌≡◌, ◌<◌, ◌⊎◌, true, false, is_some, IfOk, None, OnErr, OnOk, Some, ◌+◌, IsTrue, map};
 ghost use Rattle.machine_model.specs.Runs.Kept.{Settles};
 ghost use Rattle.machine_model.specs.State.Machine.{Thread as ModelThread};
 ghost use Rattle.machine_model.specs.State.Order.{actor};
@@ -64,6 +64,7 @@ impl<W: SwapStore> Kernel<W> {
         ensures usable { OnOk result (IsUsable self.new) }
         ensures failed { OnErr result (has_failed self.new.mem ≡ true) }
         ensures counts { IfOk result (CountsStep W.held self.old self.new) }
+        ensures there { OnErr result (is_some (actor (machine_of W.held self.old)) ≡ true) }
         // The next state and the records, where bytes are known.
         ensures does { KnowsBytes W.is_honest W.held self.old self.new → IfOk result (DoesStep W.held self.old self.new) }
         // A swap fault comes only where the store's count rose and pages may move. Only there is a page out afterwards.
@@ -89,6 +90,7 @@ impl<W: SwapStore> Kernel<W> {
         ensures usable { OnOk result (IsUsable self.new) }
         ensures failed { OnErr result (has_failed self.new.mem ≡ true) }
         ensures counts { IfOk result (CountsStep W.held self.old self.new) }
+        ensures there { OnErr result (is_some (actor (machine_of W.held self.old)) ≡ true) }
         ensures does { KnowsBytes W.is_honest W.held self.old self.new → IfOk result (DoesStep W.held self.old self.new) }
         ensures cause { OnErr result (Rose (W.faults (store_of self.old.mem)) (W.faults (store_of self.new.mem))) }
         ensures full { OnErr result (MayExchange W.held self.old) }
