@@ -11,7 +11,7 @@ use Rattle.xousim.specs.declared.status.Status.TheVariants.{Done, Usage, ReadFau
 use Rattle.xousim.specs.Outcome.Images.{Image, plan_in}
 use Rattle.xousim.specs.Outcome.Plays.{HasCause, Tells}
 use Rattle.xousim.specs.Outcome.Sides.{Call, HostRose, IsTrusted, IsUnwritten, Prepares, SinkSide, StoreSide, Told}
-use Rattle.xousim.specs.Outcome.Starts.{frames_of}
+use Rattle.xousim.specs.Outcome.Starts.{Room, room_of}
 use Rattle.xousim.specs.Reading.{Asked, IsTold}
 use Rattle.xousim.specs.Telling.{closing}
 use Rattle.xousim.specs.Words.{Play}
@@ -28,16 +28,16 @@ Finishes play machine ending out ReadFault = ⊥
 Finishes play machine ending out NoMemory = ⊥
 Finishes play machine ending out (ImageFault fault) = ⊥
 
--- what was booted: the machine on which the run starts, the frames that there are for pages, and the slots
+-- what was booted: the machine on which the run starts, the room for its pages in RAM, and the slots
 pub record Booted : Type 0 where
   pub machine : Machine
-  pub frames : ℕ
+  pub room : Room
   pub slots : ℕ
 
 -- The image of a command is what was booted, and the store was prepared for it.
 pub record Starts (play : Play) (files : Told) (booted : Booted) (store : StoreSide) : Type 0 where
   pub image : Image files play.image play.slots booted.machine
-  pub frames : booted.frames ≡ frames_of (plan_in image)
+  pub room : booted.room ≡ room_of (plan_in image)
   pub slots : booted.slots ≡ (plan_in image).slots
   pub prepared : Prepares store booted.slots play.store true
 
@@ -51,7 +51,7 @@ pub record EndsNotPicked (play : Play) (call : Call) : Type 0 where
 -- it was picked, and its events were played
 pub record EndsPicked (play : Play) (booted : Booted) (call : Call) : Type 0 where
   pub asked : Asked call.host.asked call.host.asked_after Second play.events true
-  pub cause : HasCause play booted.frames booted.machine call call.status
+  pub cause : HasCause play booted.room booted.machine call call.status
   pub content : IsTrusted call.store booted.slots → Tells play booted.machine call call.status
   pub events_read : call.status ≡ Done → IsTold call.host.left []
 

@@ -6,7 +6,6 @@ use Rattle.event_text.specs.Lines.{whole_lines}
 use Rattle.event_text.specs.Plays.{Call, play_of}
 use Rattle.event_text.specs.declared.event.Event.{Event}
 use Rattle.machine_model.specs.State.Machine.{Machine}
-use Rattle.xk_base.specs.declared.errors.Failed.{Failed}
 use Rattle.xk_kernel.specs.History.{history, play}
 use Rattle.xk_kernel.specs.HistoryMoments.{event_moments, moments_of}
 use Rattle.xk_ports.specs.Told.{GrowsByPrefix, Consumes}
@@ -19,7 +18,7 @@ use Rattle.xousim.specs.declared.playing.events.Advance.{Advance}
 use Rattle.xousim.specs.declared.playing.events.Advance.TheVariants.{Played, Waits, Ended}
 use Rattle.xousim.specs.declared.playing.events.PlayFault.{PlayFault}
 use Rattle.xousim.specs.declared.playing.events.PlayFault.TheVariants.{Write, Swap}
-use Rattle.xousim.specs.Gathering.{Gathered, Gathers, GathersSome, Text}
+use Rattle.xousim.specs.Gathering.{Gathered, GatheredPart, Gathers, GathersSome, Text}
 use Rattle.xousim.specs.History.{History, history_of, with_ending}
 use Rattle.xousim.specs.Outcome.Starts.{ComesFull}
 use Rattle.xousim.specs.Reading.{IsTold}
@@ -33,9 +32,9 @@ use Rattle.xousim.specs.Writing.{Wrote, WroteSome}
 -- what is told of so many of its steps, where the store failed in the next.
 abbrev pub Comes : Telling → Event → ℕ → Stand → Stand → Result Ending PlayFault → Type 0
 Comes tells event limit old new (Ok ending) =
-    Gathered tells old.text new.text (with_ending why.Played (play event limit old.machine)) (Ok ending)
+    Gathered tells old.text new.text (with_ending why.Played (play event limit old.machine)) ending
     × (new.machine ≡ (play event limit old.machine).machine)
-Comes tells event limit old new (Err Write) = Gathered tells old.text new.text (with_ending why.Played (play event limit old.machine)) (Err Failed)
+Comes tells event limit old new (Err Write) = GatheredPart tells old.text new.text (with_ending why.Played (play event limit old.machine))
 Comes tells event limit old new (Err Swap) = GathersSome tells old.text new.text limit (λ done. with_ending why.Played (play event done old.machine))
 
 -- no page is out afterwards, and the store didn't fail
@@ -50,7 +49,7 @@ pub record Plays (tells : Telling) (event : Event) (limit : ℕ) (old new : Stan
   pub trusted : old.trusted ≡ true → Comes tells event limit old new result
   pub near : old.near ≡ true
       → (StaysNear new result × Comes tells event limit old new result)
-      ⊎ ComesFull old.frames old.machine (event_moments event limit old.machine)
+      ⊎ ComesFull old.room old.machine (event_moments event limit old.machine)
 
 -- ---- the events of a file
 
@@ -79,7 +78,7 @@ pub record HasPlayed (run : Run) (taken : List ℕ) (reader : Reader) (now : Sta
   pub took : (play_of calls).taken ≡ taken
   pub trusted : now.trusted ≡ true → Follows run (play_of calls).answered now
   pub near : ((now.near ≡ true) × Follows run (play_of calls).answered now)
-      ⊎ ComesFull now.frames run.start (moments_of (play_of calls).answered run.limit run.start)
+      ⊎ ComesFull now.room run.start (moments_of (play_of calls).answered run.limit run.start)
 
 -- a file that begins with these bytes, whatever bytes follow; none do once the end was said
 abbrev pub ForEach : List ℕ → Bool → (Input → Type 0) → Type 0
@@ -89,7 +88,7 @@ ForEach taken finished P = (more : List ℕ) → (finished ≡ true → more ≡
 abbrev pub EndsSo : Run → List ℕ → Bool → Stand → Ending → Type 0
 EndsSo run taken finished now ending =
     ForEach taken finished (λ input. now.trusted ≡ true
-        → Gathered run.tells run.begun now.text (history_of input run.limit run.start) (Ok ending)
+        → Gathered run.tells run.begun now.text (history_of input run.limit run.start) ending
         × (now.machine ≡ (history_of input run.limit run.start).machine))
 
 -- a part from the front of that was put, where a write failed; what is told of so many steps, where the store failed, and then, trusted or not,
@@ -97,11 +96,11 @@ EndsSo run taken finished now ending =
 abbrev pub FailsSo : Run → List ℕ → Bool → Stand → PlayFault → Type 0
 FailsSo run taken finished now Write =
     ForEach taken finished (λ input. now.trusted ≡ true
-        → Gathered run.tells run.begun now.text (history_of input run.limit run.start) (Err Failed))
+        → GatheredPart run.tells run.begun now.text (history_of input run.limit run.start))
 FailsSo run taken finished now Swap =
     ForEach taken finished (λ input.
         (now.trusted ≡ true → GathersSome run.tells run.begun now.text run.limit (λ done. history_of input done run.start))
-        × ComesFull now.frames run.start (moments_of input.events run.limit run.start))
+        × ComesFull now.room run.start (moments_of input.events run.limit run.start))
 
 -- what came of an answer of the reader
 abbrev pub Advances : Run → List ℕ → Bool → Reader → Stand → Result Advance PlayFault → Type 0
@@ -133,7 +132,7 @@ Runs run left left_after now (Err faults.Swap) =
     (bytes : List ℕ) × IsTold left bytes
     × (now.trusted ≡ true
         → WroteSome run.tells run.begun.out now.text.out run.limit (λ done. history_of (input_of bytes) done run.start))
-    × ComesFull now.frames run.start (moments_of (input_of bytes).events run.limit run.start)
+    × ComesFull now.room run.start (moments_of (input_of bytes).events run.limit run.start)
 Runs run left left_after now (Err faults.Read) =
     (read : List ℕ) × Consumes left left_after read
     × (now.trusted ≡ true

@@ -14,7 +14,7 @@ use Rattle.xousim.specs.declared.status.Status.TheVariants.{Done, Usage, ReadFau
 use Rattle.xousim.specs.History.{History, history_of}
 use Rattle.xousim.specs.Outcome.Images.{EndsUnplanned, Image, plan_in}
 use Rattle.xousim.specs.Outcome.Sides.{Call, HostRose, IsTrusted, IsUnprepared, IsUnwritten, OutRose, Prepares, StoreRose}
-use Rattle.xousim.specs.Outcome.Starts.{ComesFull, Stops, frames_of}
+use Rattle.xousim.specs.Outcome.Starts.{ComesFull, Room, Stops, room_of}
 use Rattle.xousim.specs.Reading.{Asked, IsFile, IsReadOf, IsTold}
 use Rattle.xousim.specs.Telling.{output, told}
 use Rattle.xousim.specs.Words.{Play}
@@ -70,23 +70,23 @@ Tells play machine call (ImageFault fault) = ⊥
 
 -- ---- why it ended
 
--- some state of the run over the event file has more pages than so many frames can hold
-pub record RanFull (play : Play) (frames : ℕ) (machine : Machine) (call : Call) : Type 0 where
+-- some state of the run over the event file has more pages than there are frames for
+pub record RanFull (play : Play) (room : Room) (machine : Machine) (call : Call) : Type 0 where
   pub events : List ℕ
   pub is_file : IsFile call.host.files play.events events
-  pub full : ComesFull frames machine (moments_of (input_of events).events play.limit machine)
+  pub full : ComesFull room machine (moments_of (input_of events).events play.limit machine)
 
 -- Where the event file was picked: whose count of faults rose, by the status; the limit is the one given; and there is no other status.
-abbrev pub HasCause : Play → ℕ → Machine → Call → Status → Type 0
-HasCause play frames machine call ReadFault = HostRose call
-HasCause play frames machine call WriteFault = OutRose call
-HasCause play frames machine call SwapFault = StoreRose call.store × RanFull play frames machine call
-HasCause play frames machine call (StepLimit limit) = limit ≡ play.limit
-HasCause play frames machine call Done = Unit {0}
-HasCause play frames machine call (EventFault line) = Unit {0}
-HasCause play frames machine call Usage = ⊥
-HasCause play frames machine call NoMemory = ⊥
-HasCause play frames machine call (ImageFault fault) = ⊥
+abbrev pub HasCause : Play → Room → Machine → Call → Status → Type 0
+HasCause play room machine call ReadFault = HostRose call
+HasCause play room machine call WriteFault = OutRose call
+HasCause play room machine call SwapFault = StoreRose call.store × RanFull play room machine call
+HasCause play room machine call (StepLimit limit) = limit ≡ play.limit
+HasCause play room machine call Done = Unit {0}
+HasCause play room machine call (EventFault line) = Unit {0}
+HasCause play room machine call Usage = ⊥
+HasCause play room machine call NoMemory = ⊥
+HasCause play room machine call (ImageFault fault) = ⊥
 
 -- ---- calls
 
@@ -125,7 +125,7 @@ pub record EndsPlayed (play : Play) (call : Call) : Type 0 where
   pub machine : Machine
   pub image : Image call.host.files play.image play.slots machine
   pub prepared : Prepares call.store (plan_in image).slots play.store true
-  pub cause : HasCause play (frames_of (plan_in image)) machine call call.status
+  pub cause : HasCause play (room_of (plan_in image)) machine call call.status
   pub content : IsTrusted call.store (plan_in image).slots → Tells play machine call call.status
   -- at the end of a run both files were read to their ends
   pub image_read : call.status ≡ Done → IsTold call.host.image_left []

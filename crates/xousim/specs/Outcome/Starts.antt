@@ -9,17 +9,22 @@ use Rattle.xousim.specs.declared.status.Status.{Status}
 use Rattle.xousim.specs.declared.status.Status.TheVariants.{Done, Usage, ReadFault, WriteFault, ImageFault, EventFault, StepLimit, SwapFault, NoMemory}
 use Rattle.xousim.specs.Outcome.Sides.{Prepares, StoreRose, StoreSide}
 
--- how many frames the plan has for pages: those that no table takes, but for one that stays free for exchanges
-abbrev pub frames_of : BootPlan → ℕ
-frames_of plan = page_frames plan.frames (length plan.procs)
+-- the room for pages in RAM: how many frames there are for them, of a memory for so many processes
+pub record Room : Type 0 where
+  pub frames : ℕ
+  pub processes : ℕ
 
--- the state has more pages than so many frames can hold
-abbrev pub IsFull : ℕ → Machine → Type 0
-IsFull frames machine = frames < pages machine.processes machine.ledger
+-- that of a plan: the frames that no table takes, but for one that stays free for exchanges
+abbrev pub room_of : BootPlan → Room
+room_of plan = record { frames = page_frames plan.frames (length plan.procs); processes = length plan.procs }
+
+-- the state has more pages than there are frames for
+abbrev pub IsFull : Room → Machine → Type 0
+IsFull room machine = room.frames < pages room.processes machine.ledger
 
 -- some state of a run has: its start, or the state after one of its moments
-abbrev pub ComesFull : ℕ → Machine → List Moment → Type 0
-ComesFull frames start moments = (i : ℕ) × IsFull frames (state_at start moments i)
+abbrev pub ComesFull : Room → Machine → List Moment → Type 0
+ComesFull room start moments = (i : ℕ) × IsFull room (state_at start moments i)
 
 -- A run of this plan, which is to start on this machine, doesn't start, by the status: there was no memory, before or after the store was
 -- prepared under this name; or the store failed and its count rose, as it was prepared, or after that where the start has more pages than
@@ -27,7 +32,7 @@ ComesFull frames start moments = (i : ℕ) × IsFull frames (state_at start mome
 abbrev pub Stops : BootPlan → Option (List ℕ) → Machine → StoreSide → Status → Type 0
 Stops plan name start store NoMemory = (store.asked_after ≡ store.asked) ⊎ Prepares store plan.slots name true
 Stops plan name start store SwapFault =
-    StoreRose store × (Prepares store plan.slots name false ⊎ (Prepares store plan.slots name true × IsFull (frames_of plan) start))
+    StoreRose store × (Prepares store plan.slots name false ⊎ (Prepares store plan.slots name true × IsFull (room_of plan) start))
 Stops plan name start store Done = ⊥
 Stops plan name start store Usage = ⊥
 Stops plan name start store ReadFault = ⊥

@@ -5,7 +5,7 @@ ghost use Rattle.std.specs.Prelude.{◌≡◌, ◌≤◌, ◌⊎◌, [], true, A
 ghost use Rattle.boot_plan.specs.FirstPages.{plan_of};
 ghost use Rattle.boot_plan.specs.Lawful.{CanStart, IsLawfulPlan};
 ghost use Rattle.machine_model.specs.State.Machine.{Machine};
-ghost use Rattle.vm_memory.specs.Memory.{frames_for_pages, size, store_of};
+ghost use Rattle.vm_memory.specs.Memory.{size, store_of};
 ghost use Rattle.xk_base.specs.Outside.{Rose};
 ghost use Rattle.xk_kernel.specs.Sound.{IsSound, IsUsable};
 ghost use Rattle.xk_kernel.specs.Start.{start};
@@ -17,9 +17,9 @@ ghost use Rattle.xousim.specs.Gathering.{Text};
 ghost use Rattle.xousim.specs.Outcome.Images.{IsSoundImage, Refuses, RefusesBytes};
 ghost use Rattle.xousim.specs.Outcome.Plays.{EndsRefused, EndsUnstarted};
 ghost use Rattle.xousim.specs.Outcome.Sides.{Call, Prepares, SinkSide, store_side};
-ghost use Rattle.xousim.specs.Outcome.Starts.{Stops, frames_of};
+ghost use Rattle.xousim.specs.Outcome.Starts.{Stops, room_of};
 ghost use Rattle.xousim.specs.Reading.{Asked, AsksFor, IsFile, IsTold};
-ghost use Rattle.xousim.specs.Standing.{Begins, stand};
+ghost use Rattle.xousim.specs.Standing.{Begins, room_in, stand};
 ghost use Rattle.xousim.specs.Words.{play_in};
 
 use crate::commands::command::PlayWords;
@@ -114,7 +114,7 @@ pub fn start_run<W: SwapStore>(
     ensures sound { IfOk result (λ kernel. IsSound W.slot_count W.held kernel) }
     ensures usable { IfOk result (λ kernel. IsUsable kernel) }
     ensures steps { IfOk result (λ kernel. (machine_of W.held kernel).steps ≡ 0) }
-    ensures frames { IfOk result (λ kernel. frames_for_pages kernel.mem ≡ frames_of plan.now) }
+    ensures room { IfOk result (λ kernel. room_in kernel ≡ room_of plan.now) }
     ensures slots { IfOk result (λ kernel. (size kernel.mem).slots ≡ plan.now.slots) }
     ensures prepared { IfOk result (λ kernel. let side = store_side W.is_honest W.held W.asked W.faults store (store_of kernel.mem) in
         Prepares side plan.now.slots (option_copied name.entry) true) }
@@ -146,7 +146,7 @@ pub fn boot_image<H: Host, W: SwapStore>(
     ensures booted { IfOk result (λ kernel. (start : Machine)
         × ((text : Text) → Begins start (stand W.is_honest W.held kernel text))
         × Starts (play_in play.entry) (H.file host.old)
-        (record { machine = start; frames = frames_for_pages kernel.mem; slots = (size kernel.mem).slots })
+        (record { machine = start; room = room_in kernel; slots = (size kernel.mem).slots })
         (store_side W.is_honest W.held W.asked W.faults store (store_of kernel.mem))) }
     ensures sound { IfOk result (λ kernel. IsSound W.slot_count W.held kernel) }
     ensures usable { IfOk result (λ kernel. IsUsable kernel) }

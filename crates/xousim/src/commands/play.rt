@@ -2,7 +2,7 @@
 
 ghost use Rattle.std.specs.Prelude.{◌≡◌, ◌≤◌};
 ghost use Rattle.machine_model.specs.State.Machine.{Machine};
-ghost use Rattle.vm_memory.specs.Memory.{frames_for_pages, size, store_of};
+ghost use Rattle.vm_memory.specs.Memory.{size, store_of};
 ghost use Rattle.xk_kernel.specs.Sound.{IsSound, IsUsable, Keeps};
 ghost use Rattle.xk_kernel.specs.State.{machine_of};
 ghost use Rattle.xk_ports.specs.declared.host.FileSlot.TheVariants.{First, Second};
@@ -10,7 +10,7 @@ ghost use Rattle.xousim.specs.Finish.{Booted, EndsBooted, Finishes};
 ghost use Rattle.xousim.specs.Gathering.{put};
 ghost use Rattle.xousim.specs.Outcome.Plays.{EndsPlay};
 ghost use Rattle.xousim.specs.Outcome.Sides.{Call, SinkSide, store_side};
-ghost use Rattle.xousim.specs.Standing.{Begins, stand};
+ghost use Rattle.xousim.specs.Standing.{Begins, room_in, stand};
 ghost use Rattle.xousim.specs.Words.{play_in};
 
 use crate::commands::booting::boot_image;
@@ -63,7 +63,7 @@ fn play_events<H: Host, K: Sink, W: SwapStore>(
     ensures played { (start : Machine) → Begins start (stand W.is_honest W.held kernel.old (put (K.written out.old))) →
     let booted : Booted = record {
       machine = start;
-      frames = frames_for_pages kernel.old.mem;
+      room = room_in kernel.old;
       slots = (size kernel.old.mem).slots;
     } in let call : Call = record {
       host = record {
