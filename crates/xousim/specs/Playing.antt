@@ -69,16 +69,18 @@ pub record Follows (run : Run) (events : List Event) (now : Stand) : Type 0 wher
   pub there : (history events run.limit run.start).machine ≡ now.machine
   pub gathered : Gathers run.begun now.text (told run.tells (history events run.limit run.start).records)
 
--- What was played so far: after some calls of a reader, with which it took these bytes, the events that it answered. Where the kernel is
--- trusted the run stands where they lead; and so it does without trust, and no page is out, unless some state so far has more pages than there
--- are frames for.
+-- So it is where the kernel is trusted; and so it is without trust, and no page is out, unless some state so far has more pages than there are
+-- frames for.
+pub record Reaches (run : Run) (events : List Event) (now : Stand) : Type 0 where
+  pub trusted : now.trusted ≡ true → Follows run events now
+  pub near : ((now.near ≡ true) × Follows run events now) ⊎ ComesFull now.room run.start (moments_of events run.limit run.start)
+
+-- what was played so far: after some calls of a reader, with which it took these bytes, the events that it answered
 pub record HasPlayed (run : Run) (taken : List ℕ) (reader : Reader) (now : Stand) : Type 0 where
   pub calls : List Call
   pub is_reader : (play_of calls).reader ≡ reader
   pub took : (play_of calls).taken ≡ taken
-  pub trusted : now.trusted ≡ true → Follows run (play_of calls).answered now
-  pub near : ((now.near ≡ true) × Follows run (play_of calls).answered now)
-      ⊎ ComesFull now.room run.start (moments_of (play_of calls).answered run.limit run.start)
+  pub reaches : Reaches run (play_of calls).answered now
 
 -- a file that begins with these bytes, whatever bytes follow; none do once the end was said
 abbrev pub ForEach : List ℕ → Bool → (Input → Type 0) → Type 0
