@@ -531,6 +531,38 @@ unput_swapped run now after taken f front p = λ more may trusted.
     let P : List ℕ → Type 0 = λ text. GathersPart run.begun (put after) text in
     subst P (sym first.1) (part_longer run.begun (put after) _ first.0 (gathers_unput run.begun now.text.out after now.text.held _ some.gathered front))
 
+-- ---- what comes of events, put, where this stood on the sink and was held
+
+pub all_of_it_put : (run : Run) (now : Stand) (out after : Option (List ℕ)) (held taken : List ℕ) (f : Bool) (r : Reader) (ended : Option Ending)
+    → now.text ≡ text out held → Grows out after held → Goes run taken f r now (Ok ended) → Goes run taken f r (with_text now (put after)) (Ok ended)
+all_of_it_put run now out after held taken f r ended same grown goes =
+    let G : Text → Type 0 = λ t. Grows t.out after t.held in put_goes run now after taken f r ended (subst G (sym same) grown) goes
+
+pub part_of_it_put : (run : Run) (now : Stand) (out after : Option (List ℕ)) (held taken : List ℕ) (f : Bool) (r : Reader) (ended : Option Ending)
+    → now.text ≡ text out held → (ended ≡ None → r.finished ≡ f) → GrowsByPrefix out after held → Goes run taken f r now (Ok ended)
+    → FailsSo run taken f (with_text now (put after)) Write
+part_of_it_put run now out after held taken f r ended same waits front goes =
+    let G : Text → Type 0 = λ t. GrowsByPrefix t.out after t.held in unput_fails run now after taken f r ended waits (subst G (sym same) front) goes
+
+-- where the store failed
+pub steps_before_put : (run : Run) (now : Stand) (out after : Option (List ℕ)) (held taken : List ℕ) (f : Bool)
+    → now.text ≡ text out held → Grows out after held → FailsSo run taken f now Swap → FailsSo run taken f (with_text now (put after)) Swap
+steps_before_put run now out after held taken f same grown fails =
+    let G : Text → Type 0 = λ t. Grows t.out after t.held in put_swapped run now after taken f (subst G (sym same) grown) fails
+
+pub steps_before_unput : (run : Run) (now : Stand) (out after : Option (List ℕ)) (held taken : List ℕ) (f : Bool)
+    → now.text ≡ text out held → GrowsByPrefix out after held → FailsSo run taken f now Swap → FailsSo run taken f (with_text now (put after)) Write
+steps_before_unput run now out after held taken f same front fails =
+    let G : Text → Type 0 = λ t. GrowsByPrefix t.out after t.held in unput_swapped run now after taken f (subst G (sym same) front) fails
+
+-- a write failed before: nothing more is put
+pub none_of_it_put : (run : Run) (now : Stand) (out : Option (List ℕ)) (held taken : List ℕ) (f : Bool)
+    → now.text ≡ text out held → FailsSo run taken f now Write → FailsSo run taken f (with_text now (put out)) Write
+none_of_it_put run now out held taken f same fails = λ more may trusted.
+    let P : Text → Type 0 = λ t. GatheredPart run.tells run.begun t (history_of (input_of (taken ++ more)) run.limit run.start) in
+    let part : P (text out held) = subst P same (fails more may trusted) in
+    part
+
 -- ---- the whole lines
 
 -- what was played while the reader waits is the history of the whole lines that it took
@@ -548,14 +580,3 @@ whole_lines_played run now begun out taken r first last waiting p trusted =
     (gathered_same run.tells (put begun) (put out) (history_of (input_of (whole_lines taken)) run.limit run.start) (with_ending Played h) Played
     (ap (λ (i : Input). history_of i run.limit run.start) input)
     (unmet_ends Played h follows.unmet, subst B last (subst A first follows.gathered)))
-
--- ---- a whole file
-
--- whatever holds of each file that begins so holds of this one
-pub of_file : (P : Input → Type 0) (taken more : List ℕ) (f : Bool) → (f ≡ true → more ≡ []) → ForEach taken f P → P (input_of (taken ++ more))
-of_file P taken more f may each = each more may
-
-pub of_whole_file : (P : Input → Type 0) (taken : List ℕ) (f : Bool) → ForEach taken f P → P (input_of taken)
-of_whole_file P taken f each =
-    let Q : List ℕ → Type 0 = λ bytes. P (input_of bytes) in
-    subst Q (append-nil taken) (each [] (λ e. refl))

@@ -2,7 +2,7 @@
 //! of the events of a piece is put before the next piece is read.
 
 ghost use Rattle.std.specs.Prelude.{◌≡◌, ◌≢◌, ◌≤◌, ◌⊎◌, ◌+◌, ◌++◌, [], ℕ, Bool, false, true, List, Option, None, Some, Ok, Err, length, IsTrue, OnOk};
-ghost use Rattle.event_text.specs.Held.{IsWaiting, Reader};
+ghost use Rattle.event_text.specs.Held.{IsWaiting};
 ghost use Rattle.machine_model.specs.State.Machine.{Machine};
 ghost use Rattle.vm_memory.specs.Memory.{store_of};
 ghost use Rattle.xk_base.specs.declared.limits.TheConstants.{EVENT_FILE_LIMIT};
@@ -11,7 +11,7 @@ ghost use Rattle.xk_kernel.specs.Sound.{IsSound, IsUsable, Keeps};
 ghost use Rattle.xk_kernel.specs.State.{machine_of};
 ghost use Rattle.xk_ports.specs.declared.host.FileSlot.TheVariants.{First, Second};
 ghost use Rattle.xousim.specs.Gathering.{Text, put, text};
-ghost use Rattle.xousim.specs.Playing.{Goes, HasPlayed, Run, Runs, run_from};
+ghost use Rattle.xousim.specs.Playing.{FailsSo, Goes, HasPlayed, Run, Runs, run_from};
 ghost use Rattle.xousim.specs.Reading.{IsTold};
 ghost use Rattle.xousim.specs.Standing.{Begins, Stand, stand};
 
@@ -81,26 +81,20 @@ fn feed_piece<K: Sink, W: SwapStore>(
     Ok(None)
 }
 
-/// Puts what is held of events that were played so, unless a write failed: also what is told of the
-/// steps before a fault of the store.
-fn put_played<K: Sink>(
-    ended: Result<Option<Ending>, PlayFault>,
-    out: &mut K,
-    held: &mut Held,
-) -> Result<Option<Ending>, PlayFault>
-    ensures goes { (run : Run) (taken : List ℕ) (finished : Bool) (reader : Reader) (now : Stand) → now.text ≡ text (K.written out.old) held.old.items
-        → (ended ≡ Ok None → reader.finished ≡ finished) → Goes run taken finished reader now ended
-        → Goes run taken finished reader (record now { text = put (K.written out.new) }) result }
-    ensures same { OnOk result (result ≡ ended) }
-    ensures write { result ≡ Err PlayFault.Write → (ended ≡ Err PlayFault.Write) ⊎ Rose (K.faults out.old) (K.faults out.new) }
-    ensures swap { result ≡ Err PlayFault.Swap → ended ≡ Err PlayFault.Swap }
+/// Puts what is held where the store failed: what is told of the steps before. Where a write failed
+/// nothing more is put.
+fn put_before<K: Sink>(fault: PlayFault, out: &mut K, held: &mut Held) -> PlayFault
+    ensures fails { (run : Run) (taken : List ℕ) (finished : Bool) (now : Stand) → now.text ≡ text (K.written out.old) held.old.items
+        → FailsSo run taken finished now fault → FailsSo run taken finished (record now { text = put (K.written out.new) }) result }
+    ensures write { result ≡ PlayFault.Write → (fault ≡ PlayFault.Write) ⊎ Rose (K.faults out.old) (K.faults out.new) }
+    ensures swap { result ≡ PlayFault.Swap → fault ≡ PlayFault.Swap }
     ensures never_falls { K.faults out.old ≤ K.faults out.new }
 {
-    match ended {
-        Err(PlayFault::Write) => Err(PlayFault::Write),
-        Ok(_) | Err(PlayFault::Swap) => match put_held(out, held) {
-            Ok(()) => ended,
-            Err(_) => Err(PlayFault::Write),
+    match fault {
+        PlayFault::Write => PlayFault::Write,
+        PlayFault::Swap => match put_held(out, held) {
+            Ok(()) => PlayFault::Swap,
+            Err(_) => PlayFault::Write,
         },
     }
 }
@@ -137,8 +131,13 @@ fn play_piece<K: Sink, W: SwapStore>(
     ensures never_falls { K.faults out.old ≤ K.faults out.new }
 {
     let mut held = ArrayVec::new();
-    let ended = feed_piece(kernel, reader, piece, tells, limit, out, &mut held);
-    put_played(ended, out, &mut held)
+    match feed_piece(kernel, reader, piece, tells, limit, out, &mut held) {
+        Ok(ended) => match put_held(out, &mut held) {
+            Ok(()) => Ok(ended),
+            Err(_) => Err(PlayFault::Write),
+        },
+        Err(fault) => Err(put_before(fault, out, &mut held)),
+    }
 }
 
 /// Plays all events that the reader knows, writes what is told of them, and answers how the history
@@ -171,8 +170,13 @@ fn play_end<K: Sink, W: SwapStore>(
     ensures never_falls { K.faults out.old ≤ K.faults out.new }
 {
     let mut held = ArrayVec::new();
-    let ended = play_known(kernel, reader, tells, limit, out, &mut held);
-    put_played(ended, out, &mut held)
+    match play_known(kernel, reader, tells, limit, out, &mut held) {
+        Ok(ended) => match put_held(out, &mut held) {
+            Ok(()) => Ok(ended),
+            Err(_) => Err(PlayFault::Write),
+        },
+        Err(fault) => Err(put_before(fault, out, &mut held)),
+    }
 }
 
 /// Reads the event file that was picked at the second slot, plays its events on a booted kernel,
