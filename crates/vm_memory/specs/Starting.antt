@@ -1,5 +1,5 @@
 -- A memory on its way to its first pages.
-use Rattle.std.specs.Prelude.{◌≡◌, ℕ, ◌+◌, ◌<◌, ◌≤◌, Bool, true, List, [], ◌∷◌, None}
+use Rattle.std.specs.Prelude.{◌≡◌, ℕ, ◌+◌, ◌<◌, ◌≤◌, Bool, true, List, [], ◌∷◌, length, sum_by, None}
 use Rattle.xk_base.specs.declared.ids.Pid.{Pid}
 use Rattle.xk_base.specs.declared.ids.Place.{Place}
 use Rattle.boot_plan.specs.declared.plans.PagePlan.{PagePlan}
@@ -32,6 +32,10 @@ abbrev pub FillsInOrder : {W : Type 0} → Memory W → Type 0
 FillsInOrder m = m.pages ≤ frames_for_pages m → FillsFirstFrames m
 
 -- ---- what is placed
+
+-- how many pages these processes have
+abbrev pub page_count : List ProcPlan → ℕ
+page_count plan = sum_by (λ p. length p.pages) plan
 
 -- no page is on loan, and there is no orphan
 pub record IsUnlent (ledger : Ledger) : Type 0 where

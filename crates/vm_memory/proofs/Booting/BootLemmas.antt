@@ -17,7 +17,7 @@ use Rattle.vm_memory.specs.Bytes.{MeansBytes, MeansBytesOver, is_known, none_out
 use Rattle.vm_memory.specs.FirstLedger.{first_ledger}
 use Rattle.vm_memory.specs.Memory.{IsUsable, Size, processes, capacity_of, frames_for_pages, ledger}
 use Rattle.vm_memory.specs.Sound.{IsSound}
-use Rattle.vm_memory.specs.Starting.{FillsInOrder, HasNoPage, IsUnlent, KeepsUnlent, PlacesPages, place_pages, place_processes}
+use Rattle.vm_memory.specs.Starting.{FillsInOrder, HasNoPage, IsUnlent, KeepsUnlent, PlacesPages, page_count, place_pages, place_processes}
 use Rattle.vm_memory.proofs.Booting.FirstPageLemmas.{first_is, processes_unlent, processes_more, processes_home_other}
 use Rattle.vm_memory.proofs.Booting.PlacingLemmas.{kept_placed, none_bare, pages_bare, placed_none, placed_then, unlent_bare}
 use Rattle.vm_memory.proofs.Booting.ProcessPlacedLemmas.{same_frames}
@@ -32,7 +32,7 @@ module _ {W P : Type 0} (is_honest : W → Bool) (held : W → Held) (slot_count
 
   -- the pages of the first k processes are placed
   pub record AreBooted (k : ℕ) (old now : Memory W) : Type 0 where
-    pub placed : PlacesPages is_honest held slot_count asked faults old now (sum_by (λ (p : ProcPlan). length p.pages) (take k plan)) (place_processes file 2 (take k plan))
+    pub placed : PlacesPages is_honest held slot_count asked faults old now (page_count (take k plan)) (place_processes file 2 (take k plan))
     pub order : FillsInOrder now
     pub usable : IsUsable now
 
@@ -48,8 +48,8 @@ module _ {W P : Type 0} (is_honest : W → Bool) (held : W → Held) (slot_count
 
     -- all of them
     pub all_booted : (now : Memory W) (k : ℕ) → k ≡ length plan → AreBooted k old now
-        → PlacesPages is_honest held slot_count asked faults old now (sum_by (λ (p : ProcPlan). length p.pages) plan) (place_processes file 2 plan)
-    all_booted now k all h = subst (λ (ps : List ProcPlan). PlacesPages is_honest held slot_count asked faults old now (sum_by (λ (p : ProcPlan). length p.pages) ps) (place_processes file 2 ps))
+        → PlacesPages is_honest held slot_count asked faults old now (page_count plan) (place_processes file 2 plan)
+    all_booted now k all h = subst (λ (ps : List ProcPlan). PlacesPages is_honest held slot_count asked faults old now (page_count ps) (place_processes file 2 ps))
         (take_all k plan (omega (arith, all))) h.placed
 
     module _ (now : Memory W) (k : ℕ) (low : k < length plan) (d : ProcPlan) (h : AreBooted k old now) where
@@ -84,14 +84,14 @@ module _ {W P : Type 0} (is_honest : W → Bool) (held : W → Held) (slot_count
           let all : sum_by count (take (k + 1) plan ++ drop (k + 1) plan) ≡ sum_by count plan = ap (sum_by count) cut in
           omega (arith, more, all, more_counted)
 
-      pub next_process_room : old.pages + sum_by (λ (p : ProcPlan). length p.pages) plan ≤ capacity_of old → now.pages + length (get_or plan k d).pages ≤ capacity_of now
+      pub next_process_room : old.pages + page_count plan ≤ capacity_of old → now.pages + length (get_or plan k d).pages ≤ capacity_of now
       next_process_room fits =
           let room : capacity_of now ≡ capacity_of old = ap (λ (s : Size). capacity s.area.frames s.procs s.slots) h.placed.size in
           omega (arith, h.placed.pages, counted, room, fits)
 
       -- .. past the frames, where the store was asked
       pub next_process_full : frames_for_pages now < now.pages + length (get_or plan k d).pages
-          → frames_for_pages old < old.pages + sum_by (λ (p : ProcPlan). length p.pages) plan
+          → frames_for_pages old < old.pages + page_count plan
       next_process_full past = omega (arith, past, h.placed.pages, counted, same_frames slot_count old now sound h.placed.sound h.placed.size)
 
       pub next_booted : (new : Memory W)

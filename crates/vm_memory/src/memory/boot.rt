@@ -1,13 +1,12 @@
 //! A memory with its first pages.
 
 ghost use Rattle.xk_base.specs.Tables.Circle.{is_pid};
-ghost use Rattle.std.specs.Prelude.{◌≡◌, ◌≢◌, ℕ, ◌+◌, ◌-◌, ◌*◌, ◌%◌, ◌<◌, ◌≤◌, true, length, sum_by, All, AllPairs, IfOk, IfErr, OnOk, OnErr, Some};
+ghost use Rattle.std.specs.Prelude.{◌≡◌, ◌≢◌, ℕ, ◌+◌, ◌-◌, ◌*◌, ◌%◌, ◌<◌, ◌≤◌, true, length, All, AllPairs, IfOk, IfErr, OnOk, OnErr, Some};
 ghost use Rattle.boot_plan.specs.Capacity.{page_frames};
 ghost use Rattle.xk_base.specs.Numbers.Limits.{table_frames};
 ghost use Rattle.boot_plan.specs.FirstPages.{planned_pages};
 ghost use Rattle.boot_plan.specs.Lawful.{IsLawfulPage, IsLawfulPlan, IsLawfulProcess};
 ghost use Rattle.boot_plan.specs.declared.plans.PagePlan.{PagePlan};
-ghost use Rattle.boot_plan.specs.declared.plans.ProcPlan.{ProcPlan};
 ghost use Rattle.ledger_model.specs.Ledger.{empty_ledger};
 ghost use Rattle.ledger_model.specs.Loans.{bare};
 ghost use Rattle.ledger_model.specs.Places.{is_user_place};
@@ -25,7 +24,7 @@ ghost use Rattle.vm_memory.specs.Pages.Changing.{IsFreeFrame, ChangesPagesAlone}
 ghost use Rattle.vm_memory.specs.FirstLedger.{first_ledger, first_page, page_bytes};
 ghost use Rattle.vm_memory.specs.Memory.{IsUsable, capacity_of, frames_for_pages, ledger, processes, size, store_of};
 ghost use Rattle.vm_memory.specs.Sound.{IsSound};
-ghost use Rattle.vm_memory.specs.Starting.{FillsFirstFrames, FillsInOrder, HasNoPage, IsUnlent, KeepsUnlent, PlacesPages, place_pages, place_processes};
+ghost use Rattle.vm_memory.specs.Starting.{FillsFirstFrames, FillsInOrder, HasNoPage, IsUnlent, KeepsUnlent, PlacesPages, page_count, place_pages, place_processes};
 ghost use Rattle.vm_memory.specs.Tie.{IsTied};
 ghost use Rattle.xk_base.specs.Tables.Counting.{put_at};
 ghost use Rattle.xk_base.specs.Outside.{Rose};
@@ -221,15 +220,14 @@ impl<W: SwapStore> Memory<W> {
         requires processes { processes self.old ≡ length plan.now }
         requires empty { ledger W.held self.old ≡ empty_ledger }
         requires order { FillsInOrder self.old }
-        requires room { self.old.pages + sum_by (λ (p : ProcPlan). length p.pages) plan.now ≤ capacity_of self.old }
+        requires room { self.old.pages + page_count plan.now ≤ capacity_of self.old }
         requires lawful { All (IsLawfulProcess (length file.now)) plan.now }
         ensures keeps { KeepsUnlent W.is_honest W.held W.slot_count W.asked W.faults self.old self.new }
-        ensures placed { OnOk result (PlacesPages W.is_honest W.held W.slot_count W.asked W.faults self.old self.new
-            (sum_by (λ (p : ProcPlan). length p.pages) plan.now) (place_processes file.now 2 plan.now)) }
+        ensures placed { OnOk result (PlacesPages W.is_honest W.held W.slot_count W.asked W.faults self.old self.new (page_count plan.now) (place_processes file.now 2 plan.now)) }
         ensures order { OnOk result (FillsInOrder self.new) }
         ensures usable { OnOk result (IsUsable self.new) }
         ensures cause { OnErr result (Rose (W.faults (store_of self.old)) (W.faults (store_of self.new))) }
-        ensures full { OnErr result (frames_for_pages self.old < self.old.pages + sum_by (λ (p : ProcPlan). length p.pages) plan.now) }
+        ensures full { OnErr result (frames_for_pages self.old < self.old.pages + page_count plan.now) }
     {
         'processes: for k in 0..plan.len() {
             let process = &plan[k];
@@ -239,10 +237,10 @@ impl<W: SwapStore> Memory<W> {
     }
 
     /// A memory with the first pages of a plan, with their bytes from the file that it was made for.
-    /// All memory is taken here; want of it hands the store back. Where there are frames for all
-    /// pages, none goes out, the store isn't called, and it takes time by RAM and the pages; else each page past
-    /// those frames takes up to two passes over the frames and one over the slots, and `SwapFault`, of the store, hands it
-    /// back.
+    /// All memory is taken here. Want of it, or `SwapFault` of the store, hands the store back. Where
+    /// there are frames for all pages, none goes out: the store isn't called, and it takes time by RAM
+    /// and the pages. Else each page past those frames takes up to two passes over the frames and one
+    /// over the slots, and puts another page out.
     pub fn boot(
         alloc: Global,
         plan: &BootPlan,

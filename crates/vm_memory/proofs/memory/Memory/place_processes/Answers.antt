@@ -1,11 +1,11 @@
-use Rattle.std.proofs.Common.{◌≡◌, ◌≢◌, ◌<◌, ◌≤◌, ◌+◌, List, length, get_or, sum_by, take, sym, ap, subst, ◌∙◌, arith}
+use Rattle.std.proofs.Common.{◌≡◌, ◌≢◌, ◌<◌, ◌≤◌, ◌+◌, List, length, get_or, take, sym, ap, subst, ◌∙◌, arith}
 use Rattle.std.specs.Prelude.{All, AllPairs}
 use Rattle.boot_plan.specs.Lawful.{IsLawfulPage}
 use Rattle.boot_plan.specs.declared.plans.PagePlan.{PagePlan}
 use Rattle.boot_plan.specs.declared.plans.ProcPlan.{ProcPlan}
 use Rattle.swap_map.proofs.ExchangeLemmas.{on_err}
 use Rattle.vm_memory.specs.Memory.{capacity_of, frames_for_pages}
-use Rattle.vm_memory.specs.Starting.{PlacesPages, place_pages, place_processes}
+use Rattle.vm_memory.specs.Starting.{PlacesPages, page_count, place_pages, place_processes}
 use Rattle.vm_memory.proofs.Booting.BootLemmas.{all_booted, kept_booted, next_booted, next_has_none, next_process, next_process_full, next_process_room, next_unlent, nothing_booted}
 use Rattle.vm_memory.proofs.Booting.PlacingLemmas.{kept_then}
 use Rattle.vm_memory.proofs.memory.Memory.place_processes.Goals as goal
@@ -62,13 +62,13 @@ processes-preserved g c =
 
 pub returns-in_err-place_process-clause-keeps : goal.returns-in_err-place_process-clause-keeps
 returns-in_err-place_process-clause-keeps g c = kept_then g.W.SwapStore.is_honest g.W.SwapStore.held g.W.SwapStore.slot_count g.W.SwapStore.asked g.W.SwapStore.faults c.args.self.now c.processes.self c.place_process.new.self
-    (sum_by (λ (p : ProcPlan). length p.pages) (take c.processes.k c.args.plan.now)) (place_processes c.args.file.now 2 (take c.processes.k c.args.plan.now))
+    (page_count (take c.processes.k c.args.plan.now)) (place_processes c.args.file.now 2 (take c.processes.k c.args.plan.now))
     c.processes.invariant.placed c.place_process.ensures.keeps
 
 pub returns-in_err-place_process-clause-full : goal.returns-in_err-place_process-clause-full
 returns-in_err-place_process-clause-full g c =
     let same : c.as_slice.result.now ≡ (get_or c.args.plan.now c.processes.k c.index-plan-k.result).pages = c.as_slice.ensures ∙ ap (λ (p : ProcPlan). p.pages) c.index-plan-k.is in
-    on_err c.from_residual.result (frames_for_pages c.args.self.now < c.args.self.now.pages + sum_by (λ (p : ProcPlan). length p.pages) c.args.plan.now)
+    on_err c.from_residual.result (frames_for_pages c.args.self.now < c.args.self.now.pages + page_count c.args.plan.now)
     (next_process_full g.W.SwapStore.is_honest g.W.SwapStore.held g.W.SwapStore.slot_count g.W.SwapStore.asked g.W.SwapStore.faults c.args.file.now c.args.plan.now c.args.self.now
     c.requires.sound c.requires.processes c.requires.empty
     c.processes.self c.processes.k c.processes-test.true c.index-plan-k.result c.processes.invariant
