@@ -55,7 +55,6 @@ module _ {W : Type 0} (slot_count : W → ℕ) (held : W → Held) (old new : Ke
     pub counting_whole : IsWhole slot_count held new → IsWhole slot_count held counting
     counting_whole h = record {
       mem = h.mem;
-      mem_slots = h.mem_slots;
       threads = h.threads;
       procs = h.procs;
       cursor = h.cursor;

@@ -213,7 +213,6 @@ module _ {W : Type 0} (slot_count : W → ℕ) (held : W → Held) (plan : BootP
   booted_sound some threaded made room none = record {
     whole = record {
       mem = mem;
-      mem_slots = ap (λ (s : Size). s.slots) h.size ∙ none;
       threads = threaded ∙ sym count;
       procs = made ∙ sym count;
       cursor = subst (λ (id : ThreadId). IsTrue (is_thread_id (processes k.mem) id)) (sym h.cursor) (subst (λ (n : ℕ). IsTrue (is_thread_id n first_turn)) (sym count) (first_lies (length plan.procs) some));
