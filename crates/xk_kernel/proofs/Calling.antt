@@ -8,6 +8,7 @@ pub mod JoinLemmas
 pub mod JoinerLemmas
 pub mod JoiningLemmas
 pub mod LogLemmas
+pub mod OverLemmas
 pub mod ReplyLemmas
 pub mod ServerCallLemmas
 pub mod SettleLemmas

@@ -79,7 +79,7 @@ either_known : (k s na nb : Bool) → (k || s) ≡ true → (s ≡ true → na �
 either_known true s na nb h f g = refl
 either_known false s na nb h f g = λ i. f h i && g h i
 
-known_none : (k na nb : Bool) → na ≡ true → nb ≡ true → (k || (na && nb)) ≡ true
+pub known_none : (k na nb : Bool) → na ≡ true → nb ≡ true → (k || (na && nb)) ≡ true
 known_none true na nb e f = refl
 known_none false na nb e f = λ i. e i && f i
 

@@ -1,7 +1,7 @@
 -- What a call that makes pages comes to: that state but for bytes, and wholly where these are known; and when there aren't frames
 -- for all pages.
 use Rattle.std.proofs.Common.{◌≡◌, ℕ, ◌+◌, ◌<◌, ◌≤◌, Bool, true, false, refl, sym, subst, ◌∙◌, inl, inr}
-use Rattle.std.specs.Prelude.{Ok}
+use Rattle.std.specs.Prelude.{Ok, Option, Result}
 use Rattle.std.proofs.lemmas.Bool.{cases_lt, false≢true}
 use Rattle.boot_plan.specs.Capacity.{capacity}
 use Rattle.ledger_model.proofs.Stepping.MakingLemmas.{make_pages}
@@ -15,7 +15,6 @@ use Rattle.process_table.specs.ProcessMap.{change}
 use Rattle.process_table.specs.ProcessesOf.{processes_of}
 use Rattle.process_table.specs.State.{with_heap as heap_set}
 use Rattle.process_table.specs.declared.table.Processes.{Processes}
-use Rattle.std.specs.Prelude.{Option, Result}
 use Rattle.sv32_space.specs.Tie.{Held}
 use Rattle.syscall_codec.specs.declared.replies.Reply.{Reply}
 use Rattle.vm_memory.proofs.Changing.AnsweringLemmas.{can_answered}
@@ -24,7 +23,7 @@ use Rattle.vm_memory.specs.Pages.Making.{after_make, make_answer, page_place}
 use Rattle.vm_memory.specs.declared.memory.Memory.{Memory}
 use Rattle.xk_base.specs.Tables.Circle.{is_pid}
 use Rattle.xk_base.specs.declared.errors.XousError.{XousError}
-use Rattle.xk_base.specs.declared.ids.Pid.{Pid}
+use Rattle.xk_base.specs.declared.ids.ThreadId.{ThreadId}
 use Rattle.xk_base.specs.declared.ids.Vpn.{Vpn}
 use Rattle.xk_base.specs.declared.pages.Right.{Right}
 use Rattle.xk_base.specs.declared.windows.Window.{Window}
@@ -69,10 +68,14 @@ pub serves_exactly : {known : Type 0} {W : Type 0} (held : W → Held) (k new : 
     → outcome_of k.cursor (machine_of held new) served ≡ outcome → ServesAs known k.cursor (machine_of held new) outcome served
 serves_exactly held k new outcome served e = record { target = machine_of held new; is = e; comes = comes_same (machine_of held new) (machine_of held new) refl }
 
+pub serves_by : {known : Type 0} (who : ThreadId) (new : Machine) (outcome : Outcome) (served : Result CallerFate XousError)
+    → outcome_of who new served ≡ outcome → ServesAs known who new outcome served
+serves_by who new outcome served e = record { target = new; is = e; comes = comes_same new new refl }
+
 -- .. also where its row is told by other words
-pub serves_row : {known : Type 0} {W : Type 0} (held : W → Held) (k new : Kernel W) (a b : Outcome) (served : Result CallerFate XousError) → a ≡ b
-    → ServesAs known k.cursor (machine_of held new) a served → ServesAs known k.cursor (machine_of held new) b served
-serves_row held k new a b served e h = record { target = h.target; is = h.is ∙ e; comes = h.comes }
+pub serves_row : {known : Type 0} (who : ThreadId) (new : Machine) (a b : Outcome) (served : Result CallerFate XousError) → a ≡ b
+    → ServesAs known who new a served → ServesAs known who new b served
+serves_row who new a b served e h = record { target = h.target; is = h.is ∙ e; comes = h.comes }
 
 -- ---- frames for all pages
 

@@ -1,7 +1,7 @@
 -- MapMemory: where its pages go, and what the answers of the memory are to its caller.
-use Rattle.std.proofs.Common.{◌≡◌, ℕ, ◌+◌, ◌*◌, ◌/◌, ◌<◌, ◌≤◌, if◌then◌else◌, Bool, true, false, not, List, [], ◌∷◌, Option, Some, None, refl, sym, ap, ◌∙◌, arith, nat_lt}
+use Rattle.std.proofs.Common.{◌≡◌, ◌≢◌, ℕ, ◌+◌, ◌*◌, ◌/◌, ◌<◌, ◌≤◌, if◌then◌else◌, Bool, true, false, not, List, [], ◌∷◌, Option, Some, None, refl, sym, ap, ◌∙◌, arith, nat_lt}
 use Rattle.std.specs.Prelude.{◌%◌, ◌==◌, ◌&&◌, ◌||◌, Result, Ok, Err, is_none, unwrap_or}
-use Rattle.std.proofs.lemmas.Bool.{false≢true, eq-eqb, eqb-true, eqb-false}
+use Rattle.std.proofs.lemmas.Bool.{false≢true, eq-eqb, eqb-true, eqb-false, ne_eqb, or_right}
 use Rattle.xk_base.specs.declared.errors.XousError.{XousError}
 use Rattle.xk_base.specs.declared.errors.XousError.TheVariants.{BadAlignment, BadAddress, OutOfMemory, MemoryInUse, InvalidSyscall}
 use Rattle.xk_base.specs.declared.ids.Pid.{Pid}
@@ -167,6 +167,32 @@ module _ {W : Type 0} (held : W → Held) (k : Kernel W) (phys virt bytes flags 
   row_is : (zero console : Bool) → (phys == 0) ≡ zero → (phys == CONSOLE_ADDRESS) ≡ console → row ≡ row_by zero console
   unfolding row_by
   row_is zero console e f = λ i. unless_refused (refusals_by (is_bad_range virt bytes) (are_bad_flags flags) (e i) (f i) wide mapped (virt == 0) fits used (is_none least) (are_too_many m (bytes / 4096))) served
+
+  -- neither the memory nor the console is asked for
+  pub elsewhere_refused : (phys == 0) ≡ false → (phys == CONSOLE_ADDRESS) ≡ false → Refused BadAddress ≡ row
+  unfolding row_by
+  elsewhere_refused e f =
+      sym (row_is false false e f
+      ∙ (λ i. unless_refused (refusals_by (range i) (asked.0 i) false false wide mapped (virt == 0) fits used (is_none least) (are_too_many m (bytes / 4096))) served))
+
+  -- the console has one page, and isn't executed
+  pub wide_refused : (phys == CONSOLE_ADDRESS) ≡ true → wide ≡ true → Refused BadAddress ≡ row
+  unfolding row_by
+  wide_refused f e =
+      sym (row_is (phys == 0) true refl f
+      ∙ (λ i. unless_refused (refusals_by (range i) (asked.0 i) (phys == 0) true (e i) mapped (virt == 0) fits used (is_none least) (are_too_many m (bytes / 4096))) served)
+      ∙ by_memory (phys == 0))
+    where
+      by_memory : (zero : Bool)
+          → unless_refused (refusals_by false false zero true true mapped (virt == 0) fits used (is_none least) (are_too_many m (bytes / 4096))) served ≡ Refused BadAddress
+      by_memory true = refl
+      by_memory false = refl
+
+  pub wide_by_size : bytes ≢ 4096 → wide ≡ true
+  wide_by_size e = ap (λ b. not b || has_flag flags flag_execute) (ne_eqb bytes 4096 e)
+
+  pub wide_by_right : right.x ≡ true → wide ≡ true
+  wide_by_right e = or_right (not (bytes == PAGE_SIZE)) (has_flag flags flag_execute) (sym (ap (λ (r : Right). r.x) asked.1) ∙ e)
 
   -- the machine that the caller is answered with
   abbrev done : Bool → ℕ → Place → Outcome

@@ -15,6 +15,7 @@ use Rattle.boot_plan.specs.declared.plans.ProcPlan.{ProcPlan}
 use Rattle.irq_claims.specs.ClaimMap.{no_claims}
 use Rattle.irq_claims.specs.ClaimsOf.{claims_of}
 use Rattle.ledger_model.specs.Lawful.{IsLawful}
+use Rattle.ledger_model.specs.Ledger.{Ledger}
 use Rattle.ledger_model.proofs.Pages.BareLemmas.{bare-lawful}
 use Rattle.kill_path.specs.Open.{AreServersSound}
 use Rattle.ledger_model.specs.Loans.{bare, loans}
@@ -40,6 +41,8 @@ use Rattle.xk_base.specs.declared.ids.Pid.{Pid}
 use Rattle.xk_base.specs.declared.ids.ThreadId.{ThreadId}
 use Rattle.xk_base.specs.declared.limits.TheConstants.{RECORD_LIMIT, SERVER_LIMIT}
 use Rattle.xk_kernel.proofs.Starting.FirstLedgerLemmas.{IsPlanned, first_no_heap, first_unlent, pid_of_planned, planned_of_pid}
+use Rattle.xk_kernel.proofs.Memory.KnownLemmas.{matched_alike}
+use Rattle.xk_kernel.specs.Knowing.{ComesTo, without_bytes}
 use Rattle.xk_kernel.specs.Sound.{IsSound}
 use Rattle.xk_kernel.specs.Start.{first_threads, start, threads_at_start}
 use Rattle.send_path.specs.Parts.{process_of, server_of, thread_of}
@@ -142,7 +145,7 @@ none_there n seat = elim (cases_lt seat n) [
 -- its parts are those of the plan
 pub record IsBooted {W : Type 0} (held : W → Held) (plan : BootPlan) (file : List ℕ) (k : Kernel W) : Type 0 where
   pub size : size k.mem ≡ record { procs = length plan.procs; area = record { start = plan.ram_start; frames = plan.frames }; slots = plan.slots }
-  pub ledger : ledger held k.mem ≡ first_ledger plan file
+  pub rights : bare (ledger held k.mem) ≡ bare (first_ledger plan file)
   pub threads : (id : ThreadId) → option_map thread_of (threads_of k.threads id) ≡ threads_at_start plan id
   pub procs : processes_of k.procs ≡ new_processes (length plan.procs)
   pub servers : servers_of k.servers ≡ no_servers
@@ -154,12 +157,14 @@ pub record IsBooted {W : Type 0} (held : W → Held) (plan : BootPlan) (file : L
   pub timer : k.timer ≡ None
   pub reserved : k.reserved ≡ None
 
-pub booted_machine : {W : Type 0} (held : W → Held) (plan : BootPlan) (file : List ℕ) (k : Kernel W) → IsBooted held plan file k → machine_of held k ≡ start plan file
+-- it stands for the start, with this ledger
+booted_over : {W : Type 0} (held : W → Held) (plan : BootPlan) (file : List ℕ) (k : Kernel W) → IsBooted held plan file k
+    → (l : Ledger) → ledger held k.mem ≡ l → machine_of held k ≡ record (start plan file) { ledger = l }
 unfolding machine_of start
-booted_machine held plan file k h = λ i. record {
+booted_over held plan file k h l e = λ i. record {
   capacity = ap (λ (s : Size). capacity s.area.frames s.procs s.slots) h.size i;
   processes = ap (λ (s : Size). s.procs) h.size i;
-  ledger = h.ledger i;
+  ledger = e i;
   steps = h.steps i;
   cursor = h.cursor i;
   threads = λ id. h.threads id i;
@@ -173,16 +178,29 @@ booted_machine held plan file k h = λ i. record {
   reserved = option_map as_reservation (h.reserved i);
 }
 
+-- THE MACHINE is the start of the plan but for bytes, and wholly where these are known
+pub booted_comes : {known : Type 0} {W : Type 0} (held : W → Held) (plan : BootPlan) (file : List ℕ) (k : Kernel W) → IsBooted held plan file k
+    → (known → ledger held k.mem ≡ first_ledger plan file) → ComesTo known (machine_of held k) (start plan file)
+unfolding start
+booted_comes held plan file k h whole = record {
+  alike =
+      ap without_bytes (booted_over held plan file k h (ledger held k.mem) refl)
+      ∙ (λ i. record (start plan file) { ledger = h.rights i });
+  whole = λ known. booted_over held plan file k h (first_ledger plan file) (whole known);
+}
+
 module _ {W : Type 0} (slot_count : W → ℕ) (held : W → Held) (plan : BootPlan) (file : List ℕ) (k : Kernel W) (h : IsBooted held plan file k)
     (can : All CanStart plan.procs) (few : length plan.procs ≤ 64) (mem : IsMemorySound slot_count k.mem) where
   ledger_lawful : IsLawful (length plan.procs) (capacity plan.frames (length plan.procs) plan.slots) (first_ledger plan file)
   ledger_lawful =
-      let same : bare (first_ledger plan file) ≡ bare (blank_ledger k.mem) = ap bare (sym h.ledger) ∙ bare-ledger held k.mem in
+      let same : bare (first_ledger plan file) ≡ bare (blank_ledger k.mem) = sym h.rights ∙ bare-ledger held k.mem in
       subst (λ (s : Size). IsLawful s.procs (capacity s.area.frames s.procs s.slots) (first_ledger plan file)) h.size
       (bare-lawful (processes k.mem) (capacity_of k.mem) (blank_ledger k.mem) (first_ledger plan file) same mem.lawful)
 
   pub booted_matched : Matched (machine_of held k)
-  booted_matched = subst Matched (sym (booted_machine held plan file k h)) (start_matched (start plan file) (start_is_start plan file can few ledger_lawful))
+  booted_matched =
+      matched_alike (machine_of held k) (start plan file) (booted_comes {known = ⊥} held plan file k h (λ never. absurd never)).alike
+      (start_matched (start plan file) (start_is_start plan file can few ledger_lawful))
 
   no_server : (n : ℕ) (server : Server) → (servers_of k.servers).live n ≡ Some server → ⊥
   no_server n server e = none-some server (sym (ap (λ (s : ServerState). s.live n) h.servers) ∙ e)
@@ -209,8 +227,8 @@ module _ {W : Type 0} (slot_count : W → ℕ) (held : W → Held) (plan : BootP
   }
 
   pub booted_sound : 1 ≤ length plan.procs → processes_threaded k.threads ≡ length plan.procs → processes_made k.procs ≡ length plan.procs → RECORD_LIMIT ≤ k.log.room
-      → plan.slots ≡ 0 → IsSound slot_count held k
-  booted_sound some threaded made room none = record {
+      → IsSound slot_count held k
+  booted_sound some threaded made room = record {
     whole = record {
       mem = mem;
       threads = threaded ∙ sym count;

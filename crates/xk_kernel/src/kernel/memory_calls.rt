@@ -70,6 +70,7 @@ impl<W: SwapStore> Kernel<W> {
     }
 
     // MapMemory: new pages of zeros, or the console.
+    #[tactic(auto, using(crate::proofs::Memory::MadeLemmas::serves_by))]
     pub(super) fn map_memory(
         &mut self,
         phys: u32,
@@ -178,6 +179,7 @@ impl<W: SwapStore> Kernel<W> {
     }
 
     // IncreaseHeap: pages with R and W stand above the heap.
+    #[tactic(auto, using(crate::proofs::Memory::MadeLemmas::serves_by))]
     pub(super) fn increase_heap(
         &mut self,
         bytes: u32,

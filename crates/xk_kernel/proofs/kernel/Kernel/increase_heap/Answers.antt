@@ -11,7 +11,7 @@ use Rattle.xk_kernel.specs.State.{machine_of}
 use Rattle.xk_kernel.proofs.Memory.HeapGrowthLemmas.{heap_right, increase_by_none, increase_crowds, increase_done, increase_past, increase_refused}
 use Rattle.xk_kernel.proofs.Memory.HeapLemmas.{heap_told, heap_within, whole_with_parts}
 use Rattle.xk_kernel.proofs.Memory.KeptLoanLemmas.{made_first_keeps}
-use Rattle.xk_kernel.proofs.Memory.MadeLemmas.{made_loans, serves_exactly, too_many}
+use Rattle.xk_kernel.proofs.Memory.MadeLemmas.{made_loans, serves_by, too_many}
 use Rattle.xk_kernel.proofs.Memory.MemoryCallLemmas.{caller_process, whole_with_mem}
 use Rattle.xk_kernel.proofs.kernel.Kernel.increase_heap.Goals as goal
 
@@ -20,7 +20,7 @@ overflow_sub-heap g c = (heap_within g.W.SwapStore.slot_count g.W.SwapStore.held
 
 pub returns-then-bytes-heap-clause-outcome : goal.returns-then-bytes-heap-clause-outcome
 returns-then-bytes-heap-clause-outcome g c =
-    serves_exactly g.W.SwapStore.held c.args.self.now c.args.self.now (unless_refused (increase_refusals (machine_of g.W.SwapStore.held c.args.self.now) c.args.bytes) (Served (increase_served (machine_of g.W.SwapStore.held c.args.self.now) c.args.bytes))) (Err InvalidLimit)
+    serves_by _ _ _ (Err InvalidLimit)
     (increase_past g.W.SwapStore.slot_count g.W.SwapStore.held c.args.self.now c.requires.whole c.requires.matched c.args.bytes c.if-bytes-ne0.false c.heap-heap.result (heap_told g.W.SwapStore.slot_count g.W.SwapStore.held c.args.self.now c.requires.whole c.heap-heap.result c.heap-heap.ensures)
     (let over : 16777216 - c.heap-heap.result < c.args.bytes = c.if-bytes-heap.true in omega (arith, over)))
 
@@ -29,7 +29,7 @@ overflow_add-address g c = let within : c.heap-heap.result ≤ 16777216 = (heap_
 
 pub returns-then-bytes-eq0-clause-outcome : goal.returns-then-bytes-eq0-clause-outcome
 returns-then-bytes-eq0-clause-outcome g c =
-    serves_exactly g.W.SwapStore.held c.args.self.now c.args.self.now (unless_refused (increase_refusals (machine_of g.W.SwapStore.held c.args.self.now) c.args.bytes) (Served (increase_served (machine_of g.W.SwapStore.held c.args.self.now) c.args.bytes))) _
+    serves_by _ _ _ _
     (increase_by_none g.W.SwapStore.slot_count g.W.SwapStore.held c.args.self.now c.requires.whole c.requires.matched c.args.bytes c.if-bytes-ne0.false c.heap-heap.result (heap_told g.W.SwapStore.slot_count g.W.SwapStore.held c.args.self.now c.requires.whole c.heap-heap.result c.heap-heap.ensures) (let within : c.heap-heap.result ≤ 16777216 = (heap_within g.W.SwapStore.slot_count g.W.SwapStore.held c.args.self.now c.requires.whole c.heap-heap.result (heap_told g.W.SwapStore.slot_count g.W.SwapStore.held c.args.self.now c.requires.whole c.heap-heap.result c.heap-heap.ensures) c.requires.matched) in let room : c.args.bytes ≤ 16777216 - c.heap-heap.result = c.if-bytes-heap.false in omega (arith, within, room)) c.if-bytes-eq0.true)
 
 pub returns-in-Ok-Ok-clause-whole : goal.returns-in-Ok-Ok-clause-whole
@@ -55,7 +55,7 @@ returns-in-Ok-Ok-clause-near g c none out =
 
 pub returns-in-Ok-Err-clause-outcome : goal.returns-in-Ok-Err-clause-outcome
 returns-in-Ok-Err-clause-outcome g c =
-    serves_exactly g.W.SwapStore.held c.args.self.now c.args.self.now (unless_refused (increase_refusals (machine_of g.W.SwapStore.held c.args.self.now) c.args.bytes) (Served (increase_served (machine_of g.W.SwapStore.held c.args.self.now) c.args.bytes))) (Err c.in-Ok-Err.error)
+    serves_by _ _ _ (Err c.in-Ok-Err.error)
     (increase_refused g.W.SwapStore.slot_count g.W.SwapStore.held c.args.self.now c.requires.whole c.requires.matched c.args.bytes c.if-bytes-ne0.false c.heap-heap.result (heap_told g.W.SwapStore.slot_count g.W.SwapStore.held c.args.self.now c.requires.whole c.heap-heap.result c.heap-heap.ensures) (let within : c.heap-heap.result ≤ 16777216 = (heap_within g.W.SwapStore.slot_count g.W.SwapStore.held c.args.self.now c.requires.whole c.heap-heap.result (heap_told g.W.SwapStore.slot_count g.W.SwapStore.held c.args.self.now c.requires.whole c.heap-heap.result c.heap-heap.ensures) c.requires.matched) in let room : c.args.bytes ≤ 16777216 - c.heap-heap.result = c.if-bytes-heap.false in omega (arith, within, room)) c.in-Ok-Err.error (rw c.in-Ok-Err.field-0-is at c.in-Ok-Err.ensures.answer))
 
 pub returns-in-Err-clause-whole : goal.returns-in-Err-clause-whole

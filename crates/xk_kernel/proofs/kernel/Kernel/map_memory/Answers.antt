@@ -5,14 +5,16 @@ use Rattle.ledger_model.specs.Ledger.{pages}
 use Rattle.machine_model.specs.Calling.MemoryCalls.{are_bad_flags, map_refusals, map_served}
 use Rattle.machine_model.specs.State.Changes.{Served, unless_refused}
 use Rattle.xk_base.specs.Calls.Flags.{right_of}
+use Rattle.xk_base.specs.declared.errors.XousError.TheVariants.{BadAddress}
 use Rattle.xk_base.specs.declared.windows.Window.TheVariants.{Map}
 use Rattle.vm_memory.specs.Bytes.{none_out}
 use Rattle.vm_memory.specs.Memory.{capacity_of, frames_for_pages, ledger, processes}
 use Rattle.xk_kernel.specs.State.{machine_of}
-use Rattle.xk_kernel.proofs.Memory.MadeLemmas.{made_loans, serves_exactly, too_many}
-use Rattle.xk_kernel.proofs.Memory.MapLemmas.{console_done, console_low, console_refused, made_low, map_crowds, map_done, map_refused, narrow}
+use Rattle.xk_kernel.proofs.Memory.MadeLemmas.{made_loans, serves_by, too_many}
+use Rattle.xk_kernel.proofs.Memory.MapLemmas.{console_done, console_low, console_refused, elsewhere_refused, made_low, map_crowds, map_done, map_refused, narrow, wide_by_right, wide_by_size, wide_refused}
 use Rattle.xk_kernel.proofs.Memory.KeptLoanLemmas.{made_first_keeps, make_console_keeps}
 use Rattle.xk_kernel.proofs.Memory.MemoryCallLemmas.{caller_process, right_told, whole_with_mem, with_mem}
+use Rattle.xk_kernel.proofs.kernel.Kernel.map_memory.Goals.{then-size-ne-PAGE_SIZE-via-then-size-ne-PAGE_SIZE, then-size-ne-PAGE_SIZE-via-else-size-ne-PAGE_SIZE+then-right}
 use Rattle.xk_kernel.proofs.kernel.Kernel.map_memory.Goals as goal
 
 pub overflow_mul-result : goal.overflow_mul-result
@@ -30,7 +32,7 @@ returns-in-Ok-clause-whole g c =
 
 pub returns-in-Ok-clause-outcome : goal.returns-in-Ok-clause-outcome
 returns-in-Ok-clause-outcome g c =
-    serves_exactly g.W.SwapStore.held c.args.self.now (with_mem c.make_console.new.self c.args.self.now) (unless_refused (map_refusals (machine_of g.W.SwapStore.held c.args.self.now) c.args.phys c.args.virt c.args.size c.args.flags) (Served (map_served (machine_of g.W.SwapStore.held c.args.self.now) c.args.phys c.args.virt c.args.size c.args.flags))) _
+    serves_by _ _ _ _
     (console_done g.W.SwapStore.held c.args.self.now c.args.phys c.args.virt c.args.size c.args.flags c.in-Some.right (sym c.is_bad_range.ensures ∙ c.if-is_bad_range.false) (right_told (are_bad_flags c.args.flags) (right_of c.args.flags) c.in-Some.right (sym c.in-Some.is ∙ c.right_asked.ensures))
     (eq-eqb c.args.phys 4026531840 c.if-phys-eq-CONSOLE_ADDRESS.true) c.if-size-ne-PAGE_SIZE.false
     (narrow c.args.size c.args.flags c.in-Some.right c.if-size-ne-PAGE_SIZE.false (right_told (are_bad_flags c.args.flags) (right_of c.args.flags) c.in-Some.right (sym c.in-Some.is ∙ c.right_asked.ensures)).1 c.if-right.false)
@@ -39,7 +41,7 @@ returns-in-Ok-clause-outcome g c =
 
 pub returns-in-Err-clause-outcome : goal.returns-in-Err-clause-outcome
 returns-in-Err-clause-outcome g c =
-    serves_exactly g.W.SwapStore.held c.args.self.now c.args.self.now (unless_refused (map_refusals (machine_of g.W.SwapStore.held c.args.self.now) c.args.phys c.args.virt c.args.size c.args.flags) (Served (map_served (machine_of g.W.SwapStore.held c.args.self.now) c.args.phys c.args.virt c.args.size c.args.flags))) (Err c.in-Err.error)
+    serves_by _ _ _ (Err c.in-Err.error)
     (console_refused g.W.SwapStore.held c.args.self.now c.args.phys c.args.virt c.args.size c.args.flags c.in-Some.right (sym c.is_bad_range.ensures ∙ c.if-is_bad_range.false) (right_told (are_bad_flags c.args.flags) (right_of c.args.flags) c.in-Some.right (sym c.in-Some.is ∙ c.right_asked.ensures))
     (eq-eqb c.args.phys 4026531840 c.if-phys-eq-CONSOLE_ADDRESS.true) c.if-size-ne-PAGE_SIZE.false
     (narrow c.args.size c.args.flags c.in-Some.right c.if-size-ne-PAGE_SIZE.false (right_told (are_bad_flags c.args.flags) (right_of c.args.flags) c.in-Some.right (sym c.in-Some.is ∙ c.right_asked.ensures)).1 c.if-right.false)
@@ -77,7 +79,7 @@ returns-in-Ok-Ok-clause-near g c none out =
 
 pub returns-in-Ok-Err-clause-outcome : goal.returns-in-Ok-Err-clause-outcome
 returns-in-Ok-Err-clause-outcome g c =
-    serves_exactly g.W.SwapStore.held c.args.self.now c.args.self.now (unless_refused (map_refusals (machine_of g.W.SwapStore.held c.args.self.now) c.args.phys c.args.virt c.args.size c.args.flags) (Served (map_served (machine_of g.W.SwapStore.held c.args.self.now) c.args.phys c.args.virt c.args.size c.args.flags))) (Err c.in-Ok-Err.error)
+    serves_by _ _ _ (Err c.in-Ok-Err.error)
     (map_refused g.W.SwapStore.held c.args.self.now c.args.phys c.args.virt c.args.size c.args.flags c.in-Some.right (sym c.is_bad_range.ensures ∙ c.if-is_bad_range.false) (right_told (are_bad_flags c.args.flags) (right_of c.args.flags) c.in-Some.right (sym c.in-Some.is ∙ c.right_asked.ensures))
     (eq-eqb c.args.phys 0 c.if-phys-ne0.false) (ne_eqb c.args.phys 4026531840 c.if-phys-eq-CONSOLE_ADDRESS.false)
     c.in-Ok-Err.error (rw (c.page_asked-at.ensures, c.in-Ok-Err.field-0-is) at c.in-Ok-Err.ensures.answer))
@@ -102,3 +104,17 @@ returns-in-Err-make-clause-near g c none out =
     (eq-eqb c.args.phys 0 c.if-phys-ne0.false) (ne_eqb c.args.phys 4026531840 c.if-phys-eq-CONSOLE_ADDRESS.false)
     c.in-Err-make.ensures.partial.first (caller_process g.W.SwapStore.slot_count g.W.SwapStore.held c.args.self.now c.requires.whole) (sym (rw c.page_asked-at.ensures at c.in-Err-make.ensures.partial.served))
     c.in-Err-make.ensures.full
+
+pub returns-then-size-ne-PAGE_SIZE-clause-outcome : goal.returns-then-size-ne-PAGE_SIZE-clause-outcome
+returns-then-size-ne-PAGE_SIZE-clause-outcome g c =
+    serves_by _ _ _ (Err BadAddress)
+    (wide_refused g.W.SwapStore.held c.args.self.now c.args.phys c.args.virt c.args.size c.args.flags c.in-Some.right (sym c.is_bad_range.ensures ∙ c.if-is_bad_range.false) (right_told (are_bad_flags c.args.flags) (right_of c.args.flags) c.in-Some.right (sym c.in-Some.is ∙ c.right_asked.ensures)) (eq-eqb c.args.phys 4026531840 c.if-phys-eq-CONSOLE_ADDRESS.true)
+    (elim c.then-size-ne-PAGE_SIZE.branch [
+      | then-size-ne-PAGE_SIZE-via-then-size-ne-PAGE_SIZE w ↦ wide_by_size g.W.SwapStore.held c.args.self.now c.args.phys c.args.virt c.args.size c.args.flags c.in-Some.right (sym c.is_bad_range.ensures ∙ c.if-is_bad_range.false) (right_told (are_bad_flags c.args.flags) (right_of c.args.flags) c.in-Some.right (sym c.in-Some.is ∙ c.right_asked.ensures)) w.if-size-ne-PAGE_SIZE.true
+      | then-size-ne-PAGE_SIZE-via-else-size-ne-PAGE_SIZE+then-right w ↦ wide_by_right g.W.SwapStore.held c.args.self.now c.args.phys c.args.virt c.args.size c.args.flags c.in-Some.right (sym c.is_bad_range.ensures ∙ c.if-is_bad_range.false) (right_told (are_bad_flags c.args.flags) (right_of c.args.flags) c.in-Some.right (sym c.in-Some.is ∙ c.right_asked.ensures)) w.if-right.true
+    ]))
+
+pub returns-then-phys-ne0-clause-outcome : goal.returns-then-phys-ne0-clause-outcome
+returns-then-phys-ne0-clause-outcome g c =
+    serves_by _ _ _ (Err BadAddress)
+    (elsewhere_refused g.W.SwapStore.held c.args.self.now c.args.phys c.args.virt c.args.size c.args.flags c.in-Some.right (sym c.is_bad_range.ensures ∙ c.if-is_bad_range.false) (right_told (are_bad_flags c.args.flags) (right_of c.args.flags) c.in-Some.right (sym c.in-Some.is ∙ c.right_asked.ensures)) (ne_eqb c.args.phys 0 c.if-phys-ne0.true) (ne_eqb c.args.phys 4026531840 c.if-phys-eq-CONSOLE_ADDRESS.false))
