@@ -1,6 +1,6 @@
 -- The kernel that is booted is sound, and stands for the machine at the start.
 use Rattle.std.proofs.Common.{◌≡◌, ◌⊎◌, ℕ, ◌≤◌, Bool, true, false, List, [], length, Option, Some, None, refl, sym, ap, subst, ◌∙◌, arith, inl, inr}
-use Rattle.std.specs.Prelude.{◌==◌, if◌then◌else◌, IsTrue, replicate}
+use Rattle.std.specs.Prelude.{◌==◌, ◌<◌, if◌then◌else◌, IsTrue, replicate, slice_index_or}
 use Rattle.std.specs.List.{All}
 use Rattle.std.specs.Option.{option_and_then, option_map, option_map_or}
 use Rattle.std.proofs.lemmas.Bool.{cases_Bool, cases_lt, cond-false, eqb-true}
@@ -24,7 +24,7 @@ use Rattle.machine_model.specs.Runs.Matched.{Matched}
 use Rattle.machine_model.specs.State.Start.{HasThread, IsStart}
 use Rattle.machine_model.specs.State.Threads.{first_handler_thread, first_thread, thread_id}
 use Rattle.machine_model.proofs.State.StartLemmas.{start_matched}
-use Rattle.msg_queue.specs.Seats.{empty_seat, seat_of}
+use Rattle.msg_queue.specs.Seats.{Seat, empty_seat, seat_of, used_of}
 use Rattle.process_table.specs.ProcessMap.{ProcessMap, new_processes}
 use Rattle.process_table.specs.ProcessesOf.{process_count as processes_made, processes_of}
 use Rattle.process_table.specs.State.{new_process}
@@ -141,6 +141,13 @@ none_there n seat = elim (cases_lt seat n) [
   | inl low ↦ get_or-replicate n seat empty_seat empty_seat low
   | inr high ↦ get_or_past (replicate n empty_seat) seat empty_seat (let all : length (replicate n empty_seat) ≡ n = length-replicate n empty_seat in omega arith)
 ]
+
+-- so they can be closed
+pub all_empty : (queues : List Seat) → queues ≡ replicate SERVER_LIMIT empty_seat → (k : ℕ) (d : Seat) → k < length queues
+    → used_of (slice_index_or queues k d) ≡ 0
+all_empty queues e k d low =
+    let all : length queues ≡ SERVER_LIMIT = ap length e ∙ length-replicate SERVER_LIMIT empty_seat in
+    ap (λ seats. used_of (slice_index_or seats k d)) e ∙ ap used_of (get_or-replicate SERVER_LIMIT k empty_seat d (omega (arith, low, all)))
 
 -- its parts are those of the plan
 pub record IsBooted {W : Type 0} (held : W → Held) (plan : BootPlan) (file : List ℕ) (k : Kernel W) : Type 0 where

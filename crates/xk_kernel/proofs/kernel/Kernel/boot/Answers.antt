@@ -1,7 +1,7 @@
 use Rattle.std.proofs.Common.{◌≡◌, ◌∙◌, None, refl, ap, arith}
 use Rattle.xk_base.specs.Log.{LogState}
 use Rattle.xk_base.specs.declared.limits.TheConstants.{RECORD_LIMIT}
-use Rattle.xk_kernel.proofs.Starting.BootLemmas.{IsBooted, booted_comes, booted_sound, first_turn}
+use Rattle.xk_kernel.proofs.Starting.BootLemmas.{IsBooted, all_empty, booted_comes, booted_sound, first_turn}
 use Rattle.xk_kernel.specs.declared.kernel.Kernel.{Kernel}
 use Rattle.xk_kernel.proofs.kernel.Kernel.boot.Given.{Over}
 use Rattle.xk_kernel.proofs.kernel.Kernel.boot.Goals as goal
@@ -39,6 +39,9 @@ booted g c = record {
 }
 
 -- src/kernel/boot.rt
+pub close-requires : goal.close-requires
+close-requires g c = all_empty c.in-Ok.tables.4 c.in-Ok.ensures.queues
+
 pub returns-clause-sound : goal.returns-clause-sound
 returns-clause-sound g c =
     let room : c.in-Ok.tables.3.room ≡ RECORD_LIMIT = ap (λ (l : LogState). l.room) c.in-Ok.ensures.log in
