@@ -257,10 +257,11 @@ module _ {W : Type 0} (held : W → Held) (old mid new : Kernel W) (who : Thread
       × (machine_after who m x ≡ m) =
       call_executed m who t x answered in
       let left : machine_of held mid ≡ m = machine ∙ called.1 in
-      let same : words ≡ arguments_of t.regs = said ∙ words_stay m (machine_of held mid) who t u left there is in
-      (told_executed m who t there goes_on none ∙ called.0
-      ∙ ap (λ w. after (Call who w) (call_settled (at who m) (call (at who m) w))) (sym same),
-      begun ∙ ap (at who) left)
+      let same : words ≡ arguments_of t.regs = said ∙ words_stay m (machine_of held mid) who t u left there is in (
+        told_executed m who t there goes_on none ∙ called.0
+            ∙ ap (λ w. after (Call who w) (call_settled (at who m) (call (at who m) w))) (sym same),
+        begun ∙ ap (at who) left,
+      )
 
 -- ---- by the answer of the hart
 

@@ -31,7 +31,6 @@ use Rattle.machine_model.specs.Ending.Ends.{death}
 use Rattle.machine_model.specs.Messaging.ForwardCalls.{forward_call}
 use Rattle.machine_model.specs.Messaging.ReceiveCalls.{receive_call, try_receive_call}
 use Rattle.machine_model.specs.Messaging.ReturnCalls.{return_scalar1_call, return_scalar2_call}
-
 use Rattle.machine_model.specs.Runs.Kept.{Settles}
 use Rattle.machine_model.specs.Runs.Matched.{Matched}
 use Rattle.machine_model.specs.State.Changes.{Told, call_settled, settled}

@@ -3,7 +3,6 @@ use Rattle.std.proofs.Common.{◌≡◌, ℕ, ◌%◌, Bool, true, false, Option
 use Rattle.std.specs.Prelude.{IsTrue, is_some}
 use Rattle.std.specs.Option.{option_map, option_map_or}
 use Rattle.std.proofs.lemmas.Bool.{false≢true}
-
 use Rattle.machine_laws.proofs.Threading.ChangedThreadLemmas.{like_changed}
 use Rattle.machine_laws.proofs.Threading.LikeThreadLemmas.{matched_with}
 use Rattle.machine_laws.proofs.Threading.ThreadMoveLemmas.{matched_claimed}

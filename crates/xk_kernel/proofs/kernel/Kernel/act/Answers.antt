@@ -1,6 +1,6 @@
 -- The thread ends, or its instruction is executed: what the kernel became and told is what the machine makes of it, where bytes are
 -- known; over any bytes the machine stays matched.
-use Rattle.std.proofs.Common.{◌≡◌, ◌+◌, ◌<◌, true, false, [], is_some, map, refl, sym, ap, subst, ◌∙◌, arith, inl}
+use Rattle.std.proofs.Common.{◌≡◌, ◌+◌, ◌<◌, true, false, [], map, sym, ap, subst, ◌∙◌, arith, inl}
 use Rattle.std.proofs.lemmas.Option.{same_Some}
 use Rattle.machine_laws.proofs.Dying.DeathLemmas.{death_keeps}
 use Rattle.machine_laws.proofs.Threading.ThreadStepLemmas.{actor_ready}
@@ -9,7 +9,7 @@ use Rattle.machine_model.specs.Calling.Calls.{call}
 use Rattle.machine_model.specs.Runs.Kept.{Settles}
 use Rattle.machine_model.specs.Runs.Matched.{Matched}
 use Rattle.machine_model.specs.State.Changes.{Told, call_settled, settled}
-use Rattle.machine_model.specs.Ending.Ends.{death, handler_ended, thread_ended}
+use Rattle.machine_model.specs.Ending.Ends.{death}
 use Rattle.machine_model.specs.Hart.Instructions.{Executed}
 use Rattle.machine_model.specs.State.Machine.{Machine, Thread}
 use Rattle.machine_model.specs.Stepping.Step.{after, console_told, ends_handler, ends_thread, executed, performed, record_of}
@@ -19,8 +19,8 @@ use Rattle.rv32_hart.specs.declared.ran.Ran.TheVariants as ran
 use Rattle.vm_memory.specs.Bytes.{MeansBytesOver, is_known, none_out}
 use Rattle.vm_memory.specs.Memory.{IsUsable as IsMemoryUsable, size}
 use Rattle.xk_base.specs.Tables.Circle.{is_thread_id}
-use Rattle.xk_base.specs.Calls.Registers.{arguments_of, reg_at}
-use Rattle.xk_base.specs.declared.records.What.TheVariants.{Call, End, Fault}
+use Rattle.xk_base.specs.Calls.Registers.{reg_at}
+use Rattle.xk_base.specs.declared.records.What.TheVariants.{Call, Fault}
 use Rattle.xk_kernel.specs.Running.{machine_after}
 use Rattle.send_path.specs.Parts.{thread_of}
 use Rattle.xk_kernel.specs.State.{machine_of}

@@ -7,7 +7,7 @@ use Rattle.xk_kernel.specs.Calling.{is_refused_caller}
 use Rattle.xk_kernel.specs.State.{machine_of}
 use Rattle.xk_kernel.specs.Telling.{Tells}
 use Rattle.xk_kernel.proofs.Calling.CallTableLemmas.{destroy_is, others_plain, receive_is, receiver_waits, refused_to_handler, row_is, terminate_is, try_receive_is}
-use Rattle.xk_kernel.proofs.Calling.OverLemmas.{never_out, tells_exactly}
+use Rattle.xk_kernel.proofs.Calling.OverLemmas.{tells_exactly}
 use Rattle.xk_kernel.proofs.kernel.Kernel.call_asked.Goals as goal
 
 pub returns-then-is_refused-clause-tells : goal.returns-then-is_refused-clause-tells

@@ -1,20 +1,19 @@
 -- Each outcome of a call leaves and tells what the machine makes of it.
-use Rattle.std.proofs.Common.{◌≡◌, true, false, [], ◌∷◌, is_some, refl, sym, ap, subst, ◌∙◌, Ok}
+use Rattle.std.proofs.Common.{[], ◌∷◌, is_some, refl, sym, ap, subst, ◌∙◌, Ok}
 use Rattle.machine_model.specs.Calling.Calls.{call}
-use Rattle.machine_model.specs.State.Changes.{Refused, Retried, answering, call_settled}
+use Rattle.machine_model.specs.State.Changes.{answering, call_settled}
 use Rattle.machine_model.specs.State.Machine.{Machine}
 use Rattle.machine_model.specs.State.Threads.{answer_to, change_thread, give_answers, passed}
-use Rattle.std.specs.Prelude.{Err}
 use Rattle.syscall_codec.specs.Replies.{words_of}
-use Rattle.vm_memory.specs.Bytes.{MeansBytesOver, none_out}
+use Rattle.vm_memory.specs.Bytes.{MeansBytesOver}
 use Rattle.xk_base.specs.Tables.Circle.{is_thread_id}
 use Rattle.xk_base.specs.declared.records.What.TheVariants.{Reply}
-use Rattle.xk_kernel.specs.Calling.{IfUndone, ServesAs}
+use Rattle.xk_kernel.specs.Calling.{ServesAs}
 use Rattle.xk_kernel.specs.State.{machine_of}
-use Rattle.xk_kernel.specs.Telling.{Tells, log_with}
-use Rattle.xk_kernel.specs.declared.kernel.calls.CallerFate.TheVariants.{Answered, Retries, Waits}
+use Rattle.xk_kernel.specs.Telling.{log_with}
+use Rattle.xk_kernel.specs.declared.kernel.calls.CallerFate.TheVariants.{Answered, Waits}
 use Rattle.xk_kernel.proofs.Calling.CallerLemmas.{served_there}
-use Rattle.xk_kernel.proofs.Calling.OverLemmas.{tells_exactly, tells_over}
+use Rattle.xk_kernel.proofs.Calling.OverLemmas.{tells_over}
 use Rattle.xk_kernel.proofs.Calling.SettleLemmas.{answered_is, ready_there, there_past, waits_is}
 use Rattle.xk_kernel.proofs.Calling.TellingLemmas.{told_nothing}
 use Rattle.xk_kernel.proofs.kernel.Kernel.call_plain.Goals as goal

@@ -1,13 +1,10 @@
 use Rattle.std.proofs.Common.{Some, ◌+◌, ◌≤◌, ◌<◌, ◌-◌, ◌/◌, arith, sym}
 use Rattle.std.specs.Prelude.{Err}
 use Rattle.ledger_model.specs.Ledger.{pages}
-use Rattle.machine_model.specs.Calling.MemoryCalls.{increase_refusals, increase_served}
-use Rattle.machine_model.specs.State.Changes.{Served, unless_refused}
-use Rattle.xk_base.specs.declared.errors.XousError.TheVariants.{BadAlignment, InvalidLimit}
+use Rattle.xk_base.specs.declared.errors.XousError.TheVariants.{InvalidLimit}
 use Rattle.xk_base.specs.declared.windows.Window.TheVariants.{Heap}
 use Rattle.vm_memory.specs.Bytes.{none_out}
 use Rattle.vm_memory.specs.Memory.{capacity_of, frames_for_pages, ledger, processes}
-use Rattle.xk_kernel.specs.State.{machine_of}
 use Rattle.xk_kernel.proofs.Memory.HeapGrowthLemmas.{heap_right, increase_by_none, increase_crowds, increase_done, increase_past, increase_refused}
 use Rattle.xk_kernel.proofs.Memory.HeapLemmas.{heap_told, heap_within, whole_with_parts}
 use Rattle.xk_kernel.proofs.Memory.KeptLoanLemmas.{made_first_keeps}

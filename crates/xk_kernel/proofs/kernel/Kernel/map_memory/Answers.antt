@@ -2,18 +2,16 @@ use Rattle.std.proofs.Common.{◌+◌, ◌≤◌, ◌/◌, arith, sym, ◌∙◌
 use Rattle.std.specs.Prelude.{Err}
 use Rattle.std.proofs.lemmas.Bool.{eq-eqb, ne_eqb}
 use Rattle.ledger_model.specs.Ledger.{pages}
-use Rattle.machine_model.specs.Calling.MemoryCalls.{are_bad_flags, map_refusals, map_served}
-use Rattle.machine_model.specs.State.Changes.{Served, unless_refused}
+use Rattle.machine_model.specs.Calling.MemoryCalls.{are_bad_flags}
 use Rattle.xk_base.specs.Calls.Flags.{right_of}
 use Rattle.xk_base.specs.declared.errors.XousError.TheVariants.{BadAddress}
 use Rattle.xk_base.specs.declared.windows.Window.TheVariants.{Map}
 use Rattle.vm_memory.specs.Bytes.{none_out}
 use Rattle.vm_memory.specs.Memory.{capacity_of, frames_for_pages, ledger, processes}
-use Rattle.xk_kernel.specs.State.{machine_of}
 use Rattle.xk_kernel.proofs.Memory.MadeLemmas.{made_loans, serves_by, too_many}
 use Rattle.xk_kernel.proofs.Memory.MapLemmas.{console_done, console_low, console_refused, elsewhere_refused, made_low, map_crowds, map_done, map_refused, narrow, wide_by_right, wide_by_size, wide_refused}
 use Rattle.xk_kernel.proofs.Memory.KeptLoanLemmas.{made_first_keeps, make_console_keeps}
-use Rattle.xk_kernel.proofs.Memory.MemoryCallLemmas.{caller_process, right_told, whole_with_mem, with_mem}
+use Rattle.xk_kernel.proofs.Memory.MemoryCallLemmas.{caller_process, right_told, whole_with_mem}
 use Rattle.xk_kernel.proofs.kernel.Kernel.map_memory.Goals.{then-size-ne-PAGE_SIZE-via-then-size-ne-PAGE_SIZE, then-size-ne-PAGE_SIZE-via-else-size-ne-PAGE_SIZE+then-right}
 use Rattle.xk_kernel.proofs.kernel.Kernel.map_memory.Goals as goal
 

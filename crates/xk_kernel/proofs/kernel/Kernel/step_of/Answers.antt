@@ -1,5 +1,5 @@
 -- What the thread did is the step of the machine, once it is counted, where bytes are known; over any bytes the kernel stays sound.
-use Rattle.std.proofs.Common.{◌≡◌, ◌<◌, refl, sym, ap, subst, ◌∙◌, arith}
+use Rattle.std.proofs.Common.{◌<◌, sym, ap, subst, ◌∙◌, arith}
 use Rattle.std.specs.Prelude.{is_some}
 use Rattle.vm_memory.specs.Bytes.{MeansBytesOver, none_out}
 use Rattle.xk_kernel.specs.State.{machine_of}
