@@ -22,6 +22,7 @@ pub use laws::{
 };
 pub use moments::{
     history_is_a_run, history_stays_matched, moments_follow_each_other, moments_keep_the_cursor,
-    moments_stay_matched, run_ends_in_the_last_state, start_has_the_planned_pages, start_of_a_plan_is_matched,
+    moments_stay_matched, run_ends_in_the_last_state, start_has_the_planned_pages,
+    start_of_a_plan_is_matched,
 };
 pub use trust::{near_pages_are_known, trusted_store_stays_trusted};

@@ -122,7 +122,8 @@ impl<W: SwapStore> Kernel<W> {
         // Bytes stand as the plan says where the store is honest and tells, or no page is out.
         ensures start { IfOk result (λ k. ComesTo (MeansBytes W.is_honest W.held k.mem) (machine_of W.held k) (start plan.now file.now)) }
         // A page is out only where the plan has more pages than there are frames for pages.
-        ensures near { planned_pages plan.now ≤ page_frames plan.now.frames (length plan.now.procs) → IfOk result (λ k. none_out k.mem ≡ true) }
+        ensures near { planned_pages plan.now ≤ page_frames plan.now.frames (length plan.now.procs)
+            → IfOk result (λ k. none_out k.mem ≡ true) }
         ensures records { IfOk result (λ k. last_of k ≡ []) }
         ensures tie { IfOk result (λ k. IsTied W.held k.mem) }
         ensures size { let first = plan.now.ram_start in
@@ -132,7 +133,8 @@ impl<W: SwapStore> Kernel<W> {
         ensures back { IfErr result (λ fault. KeepsStore W.is_honest W.held W.slot_count W.asked W.faults store fault.store) }
         // A swap fault comes only where the store's count rose and the pages don't fit in frames.
         ensures cause { IfErr result (λ fault. fault.why ≡ BootError.SwapFault → Rose (W.faults store) (W.faults fault.store)) }
-        ensures out { IfErr result (λ fault. fault.why ≡ BootError.SwapFault → page_frames plan.now.frames (length plan.now.procs) < planned_pages plan.now) }
+        ensures out { IfErr result (λ fault. fault.why ≡ BootError.SwapFault
+            → page_frames plan.now.frames (length plan.now.procs) < planned_pages plan.now) }
     {
         let (threads, procs, servers, log, queues) = match tables(alloc, plan) {
             Ok(tables) => tables,

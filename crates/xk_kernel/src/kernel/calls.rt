@@ -42,12 +42,14 @@ impl<W: SwapStore> Kernel<W> {
         ensures whole { IsWhole W.slot_count W.held self.new }
         ensures usable { OnOk result (IsUsable self.new) }
         ensures tells { let m = machine_of W.held self.old in
-            OnOk result (TellsOver (KnowsBytes W.is_honest W.held self.old self.new) W.held self.old self.new (after (Called self.old.cursor words) (call_settled m (call m words)))) }
+            OnOk result (TellsOver (KnowsBytes W.is_honest W.held self.old self.new) W.held self.old self.new
+            (after (Called self.old.cursor words) (call_settled m (call m words)))) }
         ensures keeps { Keeps W.is_honest W.held W.slot_count W.asked W.faults self.old self.new }
         ensures failed { OnErr result (has_failed self.new.mem ≡ true) }
         ensures cause { OnErr result (Rose (W.faults (store_of self.old.mem)) (W.faults (store_of self.new.mem))) }
         ensures crowded { OnErr result (CrowdsBy W.held self.old (call (machine_of W.held self.old) words)) }
-        ensures near { none_out self.old.mem ≡ true → none_out self.new.mem ≡ false → CrowdsBy W.held self.old (call (machine_of W.held self.old) words) }
+        ensures near { none_out self.old.mem ≡ true → none_out self.new.mem ≡ false
+            → CrowdsBy W.held self.old (call (machine_of W.held self.old) words) }
     {
         self.log.push(What::Call(self.cursor, words));
         match read_call(words) {
@@ -75,12 +77,14 @@ impl<W: SwapStore> Kernel<W> {
         ensures whole { IsWhole W.slot_count W.held self.new }
         ensures usable { OnOk result (IsUsable self.new) }
         ensures tells { let m = machine_of W.held self.old in
-            OnOk result (TellsOver (KnowsBytes W.is_honest W.held self.old self.new) W.held self.old self.new (call_settled m (call m words))) }
+            OnOk result (TellsOver (KnowsBytes W.is_honest W.held self.old self.new) W.held self.old self.new
+            (call_settled m (call m words))) }
         ensures keeps { Keeps W.is_honest W.held W.slot_count W.asked W.faults self.old self.new }
         ensures failed { OnErr result (has_failed self.new.mem ≡ true) }
         ensures cause { OnErr result (Rose (W.faults (store_of self.old.mem)) (W.faults (store_of self.new.mem))) }
         ensures crowded { OnErr result (CrowdsBy W.held self.old (call (machine_of W.held self.old) words)) }
-        ensures near { none_out self.old.mem ≡ true → none_out self.new.mem ≡ false → CrowdsBy W.held self.old (call (machine_of W.held self.old) words) }
+        ensures near { none_out self.old.mem ≡ true → none_out self.new.mem ≡ false
+            → CrowdsBy W.held self.old (call (machine_of W.held self.old) words) }
     {
         if self.is_refused(&asked) {
             self.refuse(XousError::InvalidSyscall);
@@ -113,12 +117,14 @@ impl<W: SwapStore> Kernel<W> {
         ensures whole { IsWhole W.slot_count W.held self.new }
         ensures usable { OnOk result (IsUsable self.new) }
         ensures tells { let m = machine_of W.held self.old in
-            OnOk result (TellsOver (KnowsBytes W.is_honest W.held self.old self.new) W.held self.old self.new (call_settled m (call m words))) }
+            OnOk result (TellsOver (KnowsBytes W.is_honest W.held self.old self.new) W.held self.old self.new
+            (call_settled m (call m words))) }
         ensures keeps { Keeps W.is_honest W.held W.slot_count W.asked W.faults self.old self.new }
         ensures failed { OnErr result (has_failed self.new.mem ≡ true) }
         ensures cause { OnErr result (Rose (W.faults (store_of self.old.mem)) (W.faults (store_of self.new.mem))) }
         ensures crowded { OnErr result (CrowdsBy W.held self.old (call (machine_of W.held self.old) words)) }
-        ensures near { none_out self.old.mem ≡ true → none_out self.new.mem ≡ false → CrowdsBy W.held self.old (call (machine_of W.held self.old) words) }
+        ensures near { none_out self.old.mem ≡ true → none_out self.new.mem ≡ false
+            → CrowdsBy W.held self.old (call (machine_of W.held self.old) words) }
     {
         let who = self.cursor;
         let outcome = self.serve(asked)?;
@@ -171,7 +177,7 @@ impl<W: SwapStore> Kernel<W> {
         ensures outcome { let old = machine_of W.held self.old in
             let new = machine_of W.held self.new in
             IfOk result (λ served. (words : List ℕ) → Asks words asked
-                → ServesAs (KnowsBytes W.is_honest W.held self.old self.new) self.old.cursor new (call old words) served) }
+            → ServesAs (KnowsBytes W.is_honest W.held self.old self.new) self.old.cursor new (call old words) served) }
         ensures undone { IfOk result (λ served. IfUndone served (self.new ≡ self.old)) }
         ensures log { self.new.log ≡ self.old.log }
         ensures keeps { Keeps W.is_honest W.held W.slot_count W.asked W.faults self.old self.new }

@@ -70,6 +70,7 @@ impl<W: SwapStore> Kernel<W> {
     }
 
     // MapMemory: new pages of zeros, or the console.
+    #[tactic(auto, using(crate::proofs::Memory::MadeLemmas::serves_by))]
     pub(super) fn map_memory(
         &mut self,
         phys: u32,
@@ -83,7 +84,8 @@ impl<W: SwapStore> Kernel<W> {
         ensures usable { OnOk result (IsUsable self.new) }
         ensures outcome { let m = machine_of W.held self.old in
             let outcome = unless_refused (map_refusals m phys virt size flags) (Served (map_served m phys virt size flags)) in
-            IfOk result (ServesAs (KnowsBytes W.is_honest W.held self.old self.new) self.old.cursor (machine_of W.held self.new) outcome) }
+            let new = machine_of W.held self.new in
+            IfOk result (ServesAs (KnowsBytes W.is_honest W.held self.old self.new) self.old.cursor new outcome) }
         ensures crowded { let m = machine_of W.held self.old in
             let outcome = unless_refused (map_refusals m phys virt size flags) (Served (map_served m phys virt size flags)) in
             OnErr result (CrowdsBy W.held self.old outcome) }
@@ -178,6 +180,7 @@ impl<W: SwapStore> Kernel<W> {
     }
 
     // IncreaseHeap: pages with R and W stand above the heap.
+    #[tactic(auto, using(crate::proofs::Memory::MadeLemmas::serves_by))]
     pub(super) fn increase_heap(
         &mut self,
         bytes: u32,
@@ -189,7 +192,8 @@ impl<W: SwapStore> Kernel<W> {
         ensures usable { OnOk result (IsUsable self.new) }
         ensures outcome { let m = machine_of W.held self.old in
             let outcome = unless_refused (increase_refusals m bytes) (Served (increase_served m bytes)) in
-            IfOk result (ServesAs (KnowsBytes W.is_honest W.held self.old self.new) self.old.cursor (machine_of W.held self.new) outcome) }
+            let new = machine_of W.held self.new in
+            IfOk result (ServesAs (KnowsBytes W.is_honest W.held self.old self.new) self.old.cursor new outcome) }
         ensures crowded { let m = machine_of W.held self.old in
             let outcome = unless_refused (increase_refusals m bytes) (Served (increase_served m bytes)) in
             OnErr result (CrowdsBy W.held self.old outcome) }

@@ -120,8 +120,10 @@ impl<W: SwapStore> Kernel<W> {
         ensures settles { OnOk result (Settles (machine_of W.held self.old) (machine_of W.held self.new)) }
         ensures tells { OnOk result (TellsFew self.old self.new) }
         ensures cause { OnErr result (Rose (W.faults (store_of self.old.mem)) (W.faults (store_of self.new.mem))) }
-        ensures full { OnErr result ((none_out self.old.mem ≡ false) ⊎ IsCrowded self.old (told_by who (machine_of W.held self.old)).machine.ledger) }
-        ensures out { none_out self.new.mem ≡ false → (none_out self.old.mem ≡ false) ⊎ IsCrowded self.old (told_by who (machine_of W.held self.old)).machine.ledger }
+        ensures full { let left = (told_by who (machine_of W.held self.old)).machine.ledger in
+            OnErr result ((none_out self.old.mem ≡ false) ⊎ IsCrowded self.old left) }
+        ensures out { let left = (told_by who (machine_of W.held self.old)).machine.ledger in
+            none_out self.new.mem ≡ false → (none_out self.old.mem ≡ false) ⊎ IsCrowded self.old left }
         ensures keeps { Keeps W.is_honest W.held W.slot_count W.asked W.faults self.old self.new }
     {
         let thread = self.thread(who);
