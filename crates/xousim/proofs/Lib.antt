@@ -14,6 +14,7 @@ pub mod MovedStartLemmas
 pub mod OnceLemmas
 pub mod PlayingLemmas
 pub mod ReadingLemmas
+pub mod StartingLemmas
 pub mod StandingLemmas
 pub mod StepLemmas
 pub mod StepLimitLemmas
