@@ -46,6 +46,14 @@ trusted_by : (a b : Bool) (P : Type 0) → (a || b) ≡ true → (a ≡ true →
 trusted_by true b P is left right = left refl
 trusted_by false b P is left right = right is
 
+pub no_slots_trusted : {W : Type 0} (honest : W → Bool) (held : W → Held) (k : Kernel W) → (size k.mem).slots ≡ 0 → is_trusted honest held k ≡ true
+no_slots_trusted honest held k none =
+    let test : ((size k.mem).slots == 0) ≡ true = grind (arith, nat_tests) in or_right (is_known honest held k.mem) ((size k.mem).slots == 0) test
+
+pub slots_stay : {W P : Type 0} {honest : W → Bool} {held : W → Held} {slots : W → ℕ} {asked : W → P} {faults : W → ℕ} {old new : Kernel W}
+    → Keeps honest held slots asked faults old new → (size old.mem).slots ≡ 0 → (size new.mem).slots ≡ 0
+slots_stay keeps none = ap (λ (s : Size). s.slots) keeps.size ∙ none
+
 -- over a call of a trusted kernel
 pub trusted_knows : {W P : Type 0} {honest : W → Bool} {held : W → Held} {slots : W → ℕ} {asked : W → P} {faults : W → ℕ} {old new : Kernel W}
     → Keeps honest held slots asked faults old new → is_trusted honest held old ≡ true → KnowsBytes honest held old new
