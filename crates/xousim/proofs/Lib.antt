@@ -15,6 +15,7 @@ pub mod OnceLemmas
 pub mod PlayingLemmas
 pub mod ReadingLemmas
 pub mod StartingLemmas
+pub mod SomeStepsLemmas
 pub mod StandingLemmas
 pub mod StepLemmas
 pub mod StepLimitLemmas

@@ -37,7 +37,8 @@ use Rattle.xousim.proofs.FullLemmas.{events_full_front, events_full_later, first
 use Rattle.xousim.proofs.GatheringLemmas.{all_put, gathers_none, gathers_put, gathers_unput, part_longer}
 use Rattle.xousim.proofs.ToldLemmas.{front_longer}
 use Rattle.xousim.proofs.HistoryLemmas.{behind, gathered_behind, gathered_nothing, gathered_same, history_after, history_one, history_stops, met_ends, met_steps, other_met, part_behind, part_followed, part_same, played_unmet, unmet_ends}
-use Rattle.xousim.proofs.StepLimitLemmas.{history_same, met_records_first, play_grows}
+use Rattle.xousim.proofs.SomeStepsLemmas.{some_first}
+use Rattle.xousim.proofs.StepLimitLemmas.{history_same, play_grows}
 
 -- ---- the start
 
@@ -503,31 +504,11 @@ unput_fails run now after taken f r None same front p = λ more may trusted.
 unput_fails run now after taken f r (Some ending) same front p = λ more may trusted.
     let so = p more may trusted in gathers_unput run.begun now.text.out after now.text.held _ so.0.1 front
 
-met_of : (last : Ending) (h : kernel.History) → (with_ending last h).ending ≡ LimitMet → last ≢ LimitMet → h.met ≡ true
-met_of last h is other = go h.met refl
-  where
-    go : (b : Bool) → h.met ≡ b → h.met ≡ true
-    go true e = e
-    go false e = absurd (other (sym (ap (λ (met : Bool). if met then LimitMet else last) e) ∙ is))
-
-no_limit : (bad : Option ℕ) → end_of bad ≢ LimitMet
-no_limit None = λ e. cc
-no_limit (Some line) = λ e. cc
-
--- what is told of so many steps is a front of what is told of all
-some_first : (tells : Telling) (before after : Text) (limit : ℕ) (start : Machine) (input : Input) (some : GathersSome tells before after limit (λ done. history_of input done start))
-    → (rest : List ℕ) × (told tells (history_of input limit start).records ≡ told tells (history_of input some.done start).records ++ rest)
-some_first tells before after limit start input some =
-    let first = met_records_first input.events some.done limit start some.within (met_of (end_of input.bad) (history input.events some.done start) some.met (no_limit input.bad)) in (
-      told tells first.0,
-      ap (told tells) first.1 ∙ flat_map-append (told_of tells) (history input.events some.done start).records first.0,
-    )
-
 pub unput_swapped : (run : Run) (now : Stand) (after : Option (List ℕ)) (taken : List ℕ) (f : Bool)
     → GrowsByPrefix now.text.out after now.text.held → FailsSo run taken f now Swap → FailsSo run taken f (with_text now (put after)) Write
 unput_swapped run now after taken f front p = λ more may trusted.
     let some = (p more may).0 trusted in
-    let first = some_first run.tells run.begun now.text run.limit run.start (input_of (taken ++ more)) some in
+    let first = some_first run.tells some.done run.limit run.start (input_of (taken ++ more)) some.within some.met in
     let P : List ℕ → Type 0 = λ text. GathersPart run.begun (put after) text in
     subst P (sym first.1) (part_longer run.begun (put after) _ first.0 (gathers_unput run.begun now.text.out after now.text.held _ some.gathered front))
 

@@ -1,8 +1,13 @@
-//! Files have one verdict at most. The functions do nothing; their contracts are the laws.
+//! Files have one verdict at most, and what a run wrote that the store stopped is a front of what it writes. The functions do nothing; their contracts are the laws.
 
-ghost use Rattle.std.specs.Prelude.{◌≡◌, ℕ, List, Option, Some};
+ghost use Rattle.std.specs.Prelude.{◌≡◌, ◌≤◌, ◌++◌, ℕ, List, Option, Some};
+ghost use Rattle.machine_model.specs.State.Machine.{Machine};
+ghost use Rattle.xousim.specs.declared.commands.command.Telling.{Telling};
+ghost use Rattle.xousim.specs.declared.playing.ending.Ending.TheVariants.{LimitMet};
 ghost use Rattle.xousim.specs.declared.status.Status.{Status};
+ghost use Rattle.xousim.specs.Outcome.Plays.{run_of};
 ghost use Rattle.xousim.specs.Outcome.Verdicts.{IsCheckVerdict, IsConvertVerdict, IsVerdict};
+ghost use Rattle.xousim.specs.Telling.{output, told};
 ghost use Rattle.xousim.specs.Words.{Check, Play};
 
 /// Where a host tells its files, no two statuses are verdicts of them for a command.
@@ -22,4 +27,12 @@ pub fn one_verdict_of_check()
 pub fn one_verdict_of_convert()
     ensures { (file : List ℕ → Option (List ℕ)) (name : List ℕ) (one other : Status)
         → IsConvertVerdict (Some file) name one → IsConvertVerdict (Some file) name other → one ≡ other }
+{}
+
+/// What is told as the records of so many steps come, up to a limit that the history meets, is a front of all that is written of
+/// the history up to a higher limit: so it is with what stands on the output after a swap fault.
+#[tactic(auto, using(crate::proofs::SomeStepsLemmas::some_steps_first))]
+pub fn some_steps_are_a_front()
+    ensures { (tells : Telling) (events : List ℕ) (machine : Machine) (done limit : ℕ) → done ≤ limit → (run_of done machine events).ending ≡ LimitMet
+        → (rest : List ℕ) × (output tells (run_of limit machine events) ≡ told tells (run_of done machine events).records ++ rest) }
 {}
