@@ -4,5 +4,6 @@ pub mod FirstLoanLemmas
 pub mod FirstPageLemmas
 pub mod PageFillLemmas
 pub mod PlacedPageLemmas
+pub mod PlacingLemmas
 pub mod ProcessPlacedLemmas
 pub mod SpacesMadeLemmas

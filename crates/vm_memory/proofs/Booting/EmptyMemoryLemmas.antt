@@ -10,6 +10,7 @@ use Rattle.xk_base.proofs.CountingLemmas.{count_below-none}
 use Rattle.xk_base.specs.declared.ids.Place.{Place}
 use Rattle.xk_base.specs.Numbers.Limits.{table_frames}
 use Rattle.phys_pages.specs.declared.infos.Seat.{Seat}
+use Rattle.phys_pages.specs.declared.infos.Seat.TheVariants.{Slot}
 use Rattle.phys_pages.specs.Owners.{Extent, extent, infos, no_infos, frame_seat}
 use Rattle.phys_pages.specs.Ram.{IsPlaced, area}
 use Rattle.ledger_model.specs.Lawful.{IsLawful}
@@ -31,7 +32,8 @@ use Rattle.vm_memory.specs.declared.memory.Memory.{Memory}
 use Rattle.vm_memory.specs.Bytes.{used_frames, used_slots}
 use Rattle.vm_memory.specs.Memory.{processes, capacity_of, ledger, blank_ledger}
 use Rattle.vm_memory.specs.Sound.{IsSound}
-use Rattle.vm_memory.specs.Starting.{AreFreeFrom}
+use Rattle.vm_memory.specs.Starting.{FillsFirstFrames}
+use Rattle.vm_memory.proofs.Changing.CallLemmas.{slots-none_out}
 
 -- ---- an empty ledger is lawful
 
@@ -78,9 +80,9 @@ module _ (procs : ℕ) (E : Entries) (free : (q : Place) → is_user_place procs
 
 -- ---- the memory
 
--- a memory with free entries and free seats
-pub record IsEmpty {W : Type 0} (slot_count : W → ℕ) (m : Memory W) (procs frames : ℕ) : Type 0 where
-  pub extent : extent m.owners ≡ record { first = 21 * procs; frames = frames - 21 * procs; slots = 0 }
+-- a memory with free entries and free seats, and so many slots
+pub record IsEmpty {W : Type 0} (slot_count : W → ℕ) (m : Memory W) (procs frames count : ℕ) : Type 0 where
+  pub extent : extent m.owners ≡ record { first = 21 * procs; frames = frames - 21 * procs; slots = count }
   pub infos : infos m.owners ≡ no_infos
   pub counted : (area m.ram).frames ≡ frames
   pub placed : IsPlaced (area m.ram)
@@ -90,10 +92,12 @@ pub record IsEmpty {W : Type 0} (slot_count : W → ℕ) (m : Memory W) (procs f
   pub few : procs ≤ 64
   pub tables : table_frames procs + 2 ≤ frames
   pub made_for : m.procs ≡ procs
-  pub slots : m.slots ≡ 0
+  pub slots : m.slots ≡ count
+  pub few_slots : count ≤ 16384
+  pub store : count ≤ slot_count m.store
   pub pages : m.pages ≡ 0
 
-module _ {W : Type 0} (slot_count : W → ℕ) (held : W → Held) (m : Memory W) (procs frames : ℕ) (e : IsEmpty slot_count m procs frames) where
+module _ {W : Type 0} (slot_count : W → ℕ) (held : W → Held) (m : Memory W) (procs frames count : ℕ) (e : IsEmpty slot_count m procs frames count) where
   same_procs : processes m ≡ procs
   same_procs = ap procs_of e.extent ∙ back
     where
@@ -116,7 +120,7 @@ module _ {W : Type 0} (slot_count : W → ℕ) (held : W → Held) (m : Memory W
   frames_m : (extent m.owners).frames ≡ frames - 21 * procs
   frames_m = ap (λ (x : Extent). x.frames) e.extent
 
-  slots_m : (extent m.owners).slots ≡ 0
+  slots_m : (extent m.owners).slots ≡ count
   slots_m = ap (λ (x : Extent). x.slots) e.extent
 
   blank_m : blank_ledger m ≡ empty_ledger
@@ -149,10 +153,10 @@ module _ {W : Type 0} (slot_count : W → ℕ) (held : W → Held) (m : Memory W
     procs = e.made_for ∙ sym same_procs;
     slots = e.slots ∙ sym slots_m;
     few = omega (arith, e.few, same_procs);
-    few_slots = omega (arith, e.slots);
+    few_slots = omega (arith, e.slots, e.few_slots);
     tables = omega (arith, e.tables, e.counted, same_procs);
     placed = e.placed;
-    store = omega (arith, e.slots);
+    store = omega (arith, e.slots, e.store);
     lawful = subst (λ l. IsLawful (processes m) (capacity_of m) l) (sym blank_m) (empty_lawful (processes m) (capacity_of m));
     pages = e.pages ∙ sym (ap (pages (processes m)) blank_m ∙ no_pages (processes m));
     seats = count_none ∙ sym e.pages;
@@ -163,5 +167,8 @@ module _ {W : Type 0} (slot_count : W → ℕ) (held : W → Held) (m : Memory W
     };
   }
 
-  pub empty_free : AreFreeFrom m.owners 0
-  empty_free k low high = ap (λ I. I (frame_seat ((extent m.owners).first + k))) e.infos
+  pub empty_fills : FillsFirstFrames m
+  empty_fills = record {
+    none = slots-none_out m (λ s. ap (λ I. I (Slot s)) e.infos);
+    free = λ k low high. ap (λ I. I (frame_seat ((extent m.owners).first + k))) e.infos;
+  }

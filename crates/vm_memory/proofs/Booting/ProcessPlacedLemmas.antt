@@ -1,16 +1,18 @@
--- The pages of a process, as they are placed one after the other.
+-- The pages of a process, as they are placed one after the other, and the frames that they come to.
 use Rattle.xk_base.specs.Tables.Circle.{is_pid}
-use Rattle.std.proofs.Common.{◌≡◌, ◌≢◌, ℕ, ◌+◌, ◌*◌, ◌<◌, ◌≤◌, true, List, take, length, get_or, Some, None, refl, sym, ap, subst, ◌∙◌, arith, length-take}
+use Rattle.std.proofs.Common.{◌≡◌, ◌≢◌, ℕ, ◌+◌, ◌*◌, ◌<◌, ◌≤◌, Bool, true, List, take, length, get_or, Some, None, refl, sym, ap, subst, ◌∙◌, arith, length-take}
 use Rattle.std.specs.Prelude.{All, AllPairs, is_some}
 use Rattle.std.proofs.lemmas.Bool.{and_from}
-use Rattle.std.proofs.lemmas.List.{take_more, get_or-take, get_or_default}
+use Rattle.std.proofs.lemmas.List.{take_more, take_all, get_or-take, get_or_default}
 use Rattle.xk_base.specs.Tables.Counting.{put_at}
 use Rattle.xk_base.specs.declared.ids.Frame.{Frame as FrameNumber}
 use Rattle.xk_base.specs.declared.ids.Pid.{Pid}
 use Rattle.xk_base.specs.declared.ids.Place.{Place}
 use Rattle.xk_base.specs.Numbers.Windows.{window_at}
+use Rattle.boot_plan.specs.Capacity.{capacity}
 use Rattle.boot_plan.specs.Lawful.{IsLawfulPage}
 use Rattle.boot_plan.specs.declared.plans.PagePlan.{PagePlan}
+use Rattle.phys_pages.specs.declared.infos.PageInfo.{PageInfo}
 use Rattle.phys_pages.specs.declared.infos.Seat.{Seat}
 use Rattle.phys_pages.specs.declared.infos.Seat.TheVariants.{Frame, Slot}
 use Rattle.phys_pages.specs.Owners.{extent, infos, frame_seat, seat_eq}
@@ -18,18 +20,19 @@ use Rattle.phys_pages.specs.Ram.{area}
 use Rattle.ledger_model.specs.Ledger.{Ledger}
 use Rattle.ledger_model.specs.Places.{is_user_place}
 use Rattle.ledger_model.specs.Reach.{is_free}
-use Rattle.sv32_space.specs.Agreement.{owned_by}
+use Rattle.ledger_model.proofs.Pages.BareLemmas.{bare-free}
 use Rattle.sv32_space.specs.PageSteps.{place_page}
 use Rattle.sv32_space.specs.Tie.{Held}
 use Rattle.sv32_space.proofs.Ledgers.PageLedgerLemmas.{seat_kept}
 use Rattle.vm_memory.specs.declared.memory.Memory.{Memory}
 use Rattle.vm_memory.specs.Pages.Changing.{IsFreeFrame, ChangesPagesAlone}
 use Rattle.vm_memory.specs.FirstLedger.{first_page}
-use Rattle.vm_memory.specs.Memory.{Size, size, processes, capacity_of, frames_for_pages, ledger}
+use Rattle.vm_memory.specs.Memory.{IsUsable, Size, size, processes, capacity_of, frames_for_pages, ledger}
 use Rattle.vm_memory.specs.Sound.{IsSound}
-use Rattle.vm_memory.specs.Starting.{AreFreeFrom, HasNoPage, IsUnlent, place_pages}
+use Rattle.vm_memory.specs.Starting.{AreFreeFrom, FillsFirstFrames, FillsInOrder, HasNoPage, IsUnlent, KeepsUnlent, PlacesPages, place_pages}
 use Rattle.vm_memory.proofs.Booting.FirstPageLemmas.{free_there, pages_home_else, pages_more, pages_unlent}
-use Rattle.vm_memory.proofs.Changing.LoopLemmas.{rest_same, rest_then}
+use Rattle.vm_memory.proofs.Booting.PlacingLemmas.{kept_placed, kept_then, place_bare, placed_none, placed_then}
+use Rattle.vm_memory.proofs.Changing.CallLemmas.{alone-none_out}
 
 -- a sound memory's table has so many frames, from so many on
 pub record HasTable {W : Type 0} (m : Memory W) : Type 0 where
@@ -65,102 +68,139 @@ abbrev seat_number : Seat → ℕ
 seat_number (Frame g) = g.0
 seat_number (Slot s) = 0
 
--- the first k pages are placed
-pub record ArePlaced {W : Type 0} (slot_count : W → ℕ) (held : W → Held) (file : List ℕ) (pid : Pid) (plan : List PagePlan) (k : ℕ) (old now : Memory W) : Type 0 where
-  pub sound : IsSound slot_count now
-  pub placed : ledger held now ≡ place_pages file pid (take k plan) (ledger held old)
-  pub frames : AreFreeFrom now.owners now.pages
-  pub pages : now.pages ≡ old.pages + k
-  pub rest : ChangesPagesAlone old now
+-- ---- the first frames
 
-module _ {W : Type 0} (slot_count : W → ℕ) (held : W → Held) (file : List ℕ) (pid : Pid) (plan : List PagePlan) (old : Memory W)
-    (sound : IsSound slot_count old) (process : is_pid (processes old) pid.0 ≡ true) (unlent : IsUnlent (ledger held old)) (none : HasNoPage pid.0 (ledger held old))
-    (room : old.pages + length plan ≤ frames_for_pages old) (lawful : All (IsLawfulPage (length file)) plan)
-    (different : AllPairs (λ (a b : PagePlan). a.vpn.0 ≢ b.vpn.0) plan) where
-  pub nothing_placed : AreFreeFrom old.owners old.pages → ArePlaced slot_count held file pid plan 0 old old
-  nothing_placed free = record { sound = sound; placed = refl; frames = free; pages = omega arith; rest = rest_same old }
+module _ {W : Type 0} (slot_count : W → ℕ) (m : Memory W) (sound : IsSound slot_count m) (f : ℕ) (is : f ≡ 21 * m.procs + m.pages) where
+  table : HasTable m
+  table = table_of slot_count m sound
 
-  module _ (now : Memory W) (k : ℕ) (low : k < length plan) (d : PagePlan) (h : ArePlaced slot_count held file pid plan k old now) where
-    abbrev page : PagePlan
-    page = get_or plan k d
+  -- the next one is free while there are frames for one page more
+  pub next_frame : FillsInOrder m → m.pages < frames_for_pages m → IsFreeFrame m.owners f
+  next_frame order left =
+      let there : f ≡ (extent m.owners).first + m.pages = omega (arith, is, table.first, sound.procs) in
+      record {
+        within = (omega arith, omega (arith, table.room));
+        free = ap (λ n. infos m.owners (frame_seat n)) there ∙ (order (omega (arith, left))).free m.pages (omega arith) (omega (arith, table.room));
+      }
 
-    abbrev at : Place
-    at = record { pid = pid; vpn = page.vpn }
+  -- .. and a page that comes there leaves those behind it free
+  pub filled_next : (n : Memory W) (number : FrameNumber) → number.0 ≡ f → (info : PageInfo) → FillsInOrder m → m.pages < frames_for_pages m → IsSound slot_count n
+      → infos n.owners ≡ put_at seat_eq (infos m.owners) (Frame number) (Some info) → n.pages ≡ m.pages + 1 → ChangesPagesAlone m n → FillsInOrder n
+  filled_next n number named info order left new_sound owned counted rest few = record {
+    none = alone-none_out m n rest before.none;
+    free = free_behind;
+  }
+    where
+      before : FillsFirstFrames m
+      before = order (omega (arith, left))
 
-    page_lawful : IsLawfulPage (length file) page
-    page_lawful = lawful k d low
+      tables : ((extent n.owners).first ≡ (extent m.owners).first) × ((extent n.owners).frames ≡ (extent m.owners).frames)
+      tables = same_table slot_count m n sound new_sound rest.size
 
-    same_procs : processes now ≡ processes old
-    same_procs = ap (λ (s : Size). s.procs) h.rest.size
+      free_behind : AreFreeFrom n.owners n.pages
+      free_behind j high inside =
+          let first : (extent n.owners).first + j ≡ (extent m.owners).first + j = omega (arith, tables.0) in
+          let apart : frame_seat ((extent m.owners).first + j) ≢ Frame number =
+          λ same. let there : (extent m.owners).first + j ≡ number.0 = ap seat_number same in omega (arith, there, is, named, table.first, sound.procs, counted) in
+          ap (λ k. infos n.owners (frame_seat k)) first
+          ∙ ap (λ I. I (frame_seat ((extent m.owners).first + j))) owned
+          ∙ seat_kept (infos m.owners) (Frame number) (frame_seat ((extent m.owners).first + j)) (Some info) apart
+          ∙ before.free j (omega (arith, counted)) (omega (arith, tables.1))
 
-    pub next_lies : is_user_place (processes now) at ≡ true
-    next_lies = and_from (is_pid (processes now) pid.0) (is_some (window_at page.vpn.0))
-        (subst (λ n. is_pid n pid.0 ≡ true) (sym same_procs) process) page_lawful.in_window
+-- more pages than frames for them are in no order
+pub filled_past : {W : Type 0} (slot_count : W → ℕ) (m n : Memory W) → IsSound slot_count m → IsSound slot_count n → size n ≡ size m
+    → frames_for_pages m ≤ m.pages → n.pages ≡ m.pages + 1 → FillsInOrder n
+filled_past slot_count m n sound new_sound same past counted few =
+    absurd (omega (arith, past, counted, few, same_frames slot_count m n sound new_sound same))
 
-    taken_size : length (take k plan) ≡ k
-    taken_size = simp length-take (omega arith)
+-- ---- the pages of a process
 
-    no_home : (ledger held now).home at ≡ None
-    no_home = ap (λ (l : Ledger). l.home at) h.placed
-        ∙ pages_home_else file pid (take k plan) (ledger held old) at
-        (λ i e high. let before : i < k = omega (arith, taken_size) in
-        subst (λ (p : PagePlan). p.vpn.0 ≢ page.vpn.0) (sym (get_or-take k plan i e before)) (λ same. different i k d before low (ap_default i e same before)))
-        ∙ none at refl
+module _ {W P : Type 0} (is_honest : W → Bool) (held : W → Held) (slot_count : W → ℕ) (asked : W → P) (faults : W → ℕ) (file : List ℕ) (pid : Pid) (plan : List PagePlan) where
+  -- the first k pages are placed
+  pub record ArePlaced (k : ℕ) (old now : Memory W) : Type 0 where
+    pub placed : PlacesPages is_honest held slot_count asked faults old now k (place_pages file pid (take k plan))
+    pub order : FillsInOrder now
+    pub usable : IsUsable now
+
+  module _ (old : Memory W) (sound : IsSound slot_count old) (process : is_pid (processes old) pid.0 ≡ true) (unlent : IsUnlent (ledger held old))
+      (none : HasNoPage pid.0 (ledger held old)) (room : old.pages + length plan ≤ capacity_of old) (lawful : All (IsLawfulPage (length file)) plan)
+      (different : AllPairs (λ (a b : PagePlan). a.vpn.0 ≢ b.vpn.0) plan) where
+    pub nothing_placed : FillsInOrder old → IsUsable old → ArePlaced 0 old old
+    nothing_placed order usable = record { placed = placed_none is_honest held slot_count asked faults old sound; order = order; usable = usable }
+
+    module _ (now : Memory W) (k : ℕ) (low : k < length plan) (d : PagePlan) (h : ArePlaced k old now) where
+      abbrev page : PagePlan
+      page = get_or plan k d
+
+      abbrev at : Place
+      at = record { pid = pid; vpn = page.vpn }
+
+      abbrev so_far : Ledger
+      so_far = place_pages file pid (take k plan) (ledger held old)
+
+      page_lawful : IsLawfulPage (length file) page
+      page_lawful = lawful k d low
+
+      same_procs : processes now ≡ processes old
+      same_procs = ap (λ (s : Size). s.procs) h.placed.size
+
+      pub next_lies : is_user_place (processes now) at ≡ true
+      next_lies = and_from (is_pid (processes now) pid.0) (is_some (window_at page.vpn.0))
+          (subst (λ n. is_pid n pid.0 ≡ true) (sym same_procs) process) page_lawful.in_window
+
+      taken_size : length (take k plan) ≡ k
+      taken_size = simp length-take (omega arith)
+
+      no_home : so_far.home at ≡ None
+      no_home = pages_home_else file pid (take k plan) (ledger held old) at
+          (λ i e high. let before : i < k = omega (arith, taken_size) in
+          subst (λ (p : PagePlan). p.vpn.0 ≢ page.vpn.0) (sym (get_or-take k plan i e before)) (λ same. different i k d before low (ap_default i e same before)))
+          ∙ none at refl
+        where
+          ap_default : (i : ℕ) (e : PagePlan) → (get_or plan i e).vpn.0 ≡ page.vpn.0 → i < k → (get_or plan i d).vpn.0 ≡ page.vpn.0
+          ap_default i e same before = ap (λ (p : PagePlan). p.vpn.0) (get_or_default plan i d e (omega arith)) ∙ same
+
+      pub next_free : is_free (processes now) (ledger held now) at ≡ true
+      next_free = bare-free (processes now) so_far (ledger held now) at h.placed.rights
+          ∙ free_there (processes now) so_far at (pages_unlent file pid (take k plan) (ledger held old) unlent) no_home
+
+      pub next_room : now.pages + 1 ≤ capacity_of now
+      next_room =
+          let same : capacity_of now ≡ capacity_of old = ap (λ (s : Size). capacity s.area.frames s.procs s.slots) h.placed.size in
+          omega (arith, h.placed.pages, same, room)
+
+      pub next_page : IsLawfulPage (length file) page
+      next_page = page_lawful
+
+      -- .. and the next
+      pub next_placed : (new : Memory W) → PlacesPages is_honest held slot_count asked faults now new 1 (place_page at (first_page file page))
+          → PlacesPages is_honest held slot_count asked faults old new (k + 1) (place_pages file pid (take (k + 1) plan))
+      next_placed new step = placed_then is_honest held slot_count asked faults old now new k 1 (k + 1)
+          (place_pages file pid (take k plan)) (place_page at (first_page file page)) (place_pages file pid (take (k + 1) plan)) h.placed step
+          (λ l x e. place_bare at (first_page file page) l x e) refl
+          (λ l. sym (pages_more file pid (take k plan) page l) ∙ sym (ap (λ xs. place_pages file pid xs l) (take_more plan k d low)))
+
+      pub kept_next : (new : Memory W) → PlacesPages is_honest held slot_count asked faults now new 1 (place_page at (first_page file page))
+          → KeepsUnlent is_honest held slot_count asked faults old new
+      kept_next new step = kept_placed is_honest held slot_count asked faults old new (k + 1) (place_pages file pid (take (k + 1) plan)) (next_placed new step)
+          (pages_unlent file pid (take (k + 1) plan) (ledger held old) unlent)
+
+      -- .. past the frames, where the store was asked
+      pub next_full : frames_for_pages now ≤ now.pages → frames_for_pages old < old.pages + length plan
+      next_full past = omega (arith, past, h.placed.pages, same_frames slot_count old now sound h.placed.sound h.placed.size)
+
+    -- all of them
+    pub all_placed : (now : Memory W) (k : ℕ) → k ≡ length plan → ArePlaced k old now
+        → PlacesPages is_honest held slot_count asked faults old now (length plan) (place_pages file pid plan)
+    all_placed now k all h = placed_as
       where
-        ap_default : (i : ℕ) (e : PagePlan) → (get_or plan i e).vpn.0 ≡ page.vpn.0 → i < k → (get_or plan i d).vpn.0 ≡ page.vpn.0
-        ap_default i e same before = ap (λ (p : PagePlan). p.vpn.0) (get_or_default plan i d e (omega arith)) ∙ same
+        xs : take k plan ≡ plan
+        xs = take_all k plan (omega (arith, all))
 
-    pub next_free : is_free (processes now) (ledger held now) at ≡ true
-    next_free = free_there (processes now) (ledger held now) at
-        (subst (λ l. IsUnlent l) (sym h.placed) (pages_unlent file pid (take k plan) (ledger held old) unlent)) no_home
+        placed_as : PlacesPages is_honest held slot_count asked faults old now (length plan) (place_pages file pid plan)
+        placed_as = subst (λ (i : ℕ). PlacesPages is_honest held slot_count asked faults old now i (place_pages file pid plan)) all
+            (subst (λ (ys : List PagePlan). PlacesPages is_honest held slot_count asked faults old now k (place_pages file pid ys)) xs h.placed)
 
-    table : HasTable now
-    table = table_of slot_count now h.sound
-
-    frames_now : frames_for_pages now ≡ frames_for_pages old
-    frames_now = same_frames slot_count old now sound h.sound h.rest.size
-
-    pub next_left : now.pages + 1 ≤ frames_for_pages now
-    next_left = omega (arith, h.pages, frames_now, room)
-
-    pub next_room : now.pages + 1 ≤ capacity_of now
-    next_room = omega (arith, next_left)
-
-    pub next_frame : (f : ℕ) → f ≡ 21 * now.procs + now.pages → IsFreeFrame now.owners f
-    next_frame f is =
-        let room : now.pages + 1 ≤ frames_for_pages now = next_left in
-        let there : f ≡ (extent now.owners).first + now.pages = omega (arith, is, table.first, h.sound.procs) in
-        record {
-          within = (omega arith, omega (arith, table.room));
-          free = ap (λ n. infos now.owners (frame_seat n)) there ∙ h.frames now.pages (omega arith) (omega (arith, table.room));
-        }
-
-    pub next_page : IsLawfulPage (length file) page
-    next_page = page_lawful
-
-    -- .. and the next
-    pub next_placed : (new : Memory W) (f : FrameNumber) → f.0 ≡ 21 * now.procs + now.pages → IsSound slot_count new
-        → ledger held new ≡ place_page at (first_page file page) (ledger held now)
-        → infos new.owners ≡ put_at seat_eq (infos now.owners) (Frame f) (Some (owned_by at))
-        → new.pages ≡ now.pages + 1 → ChangesPagesAlone now new → ArePlaced slot_count held file pid plan (k + 1) old new
-    next_placed new f is new_sound placed owned counted rest = record {
-      sound = new_sound;
-      placed = placed ∙ ap (place_page at (first_page file page)) h.placed ∙ sym (pages_more file pid (take k plan) page (ledger held old))
-          ∙ sym (ap (λ xs. place_pages file pid xs (ledger held old)) (take_more plan k d low));
-      frames = free_behind;
-      pages = omega (arith, counted, h.pages);
-      rest = rest_then old now new h.rest rest;
-    }
-      where
-        tables : ((extent new.owners).first ≡ (extent now.owners).first) × ((extent new.owners).frames ≡ (extent now.owners).frames)
-        tables = same_table slot_count now new h.sound new_sound rest.size
-
-        free_behind : AreFreeFrom new.owners new.pages
-        free_behind j high inside =
-            let first : (extent new.owners).first + j ≡ (extent now.owners).first + j = omega (arith, tables.0) in
-            let apart : frame_seat ((extent now.owners).first + j) ≢ Frame f =
-            λ same. let n : (extent now.owners).first + j ≡ f.0 = ap seat_number same in omega (arith, n, is, table.first, h.sound.procs, counted) in
-            ap (λ n. infos new.owners (frame_seat n)) first
-            ∙ ap (λ I. I (frame_seat ((extent now.owners).first + j))) owned
-            ∙ seat_kept (infos now.owners) (Frame f) (frame_seat ((extent now.owners).first + j)) (Some (owned_by at)) apart
-            ∙ h.frames j (omega (arith, counted)) (omega (arith, tables.1))
+    pub kept_all : (now : Memory W) (k : ℕ) → ArePlaced k old now → KeepsUnlent is_honest held slot_count asked faults old now
+    kept_all now k h = kept_placed is_honest held slot_count asked faults old now k (place_pages file pid (take k plan)) h.placed
+        (pages_unlent file pid (take k plan) (ledger held old) unlent)

@@ -64,11 +64,11 @@ unfolding none_out
 marked_none m failed = refl
 
 -- what is known over two changes is known over each
-over_from : (known known_now a b : Bool) → known_now ≡ known → (known ≡ false → a ≡ true) → (known ≡ false → b ≡ true) → (known_now || (a && b)) ≡ true
+pub over_from : (known known_now a b : Bool) → known_now ≡ known → (known ≡ false → a ≡ true) → (known ≡ false → b ≡ true) → (known_now || (a && b)) ≡ true
 over_from true known_now a b same first second = or_left known_now (a && b) same
 over_from false known_now a b same first second = or_right known_now (a && b) (and_from a b (first refl) (second refl))
 
-ends_of : (known a b : Bool) → (known || (a && b)) ≡ true → known ≡ false → (a ≡ true) × (b ≡ true)
+pub ends_of : (known a b : Bool) → (known || (a && b)) ≡ true → known ≡ false → (a ≡ true) × (b ≡ true)
 ends_of true a b h none = absurd cc
 ends_of false a b h none = and_parts a b h
 

@@ -1,11 +1,11 @@
 //! A memory with its first pages.
 
 ghost use Rattle.xk_base.specs.Tables.Circle.{is_pid};
-ghost use Rattle.std.specs.Prelude.{◌≡◌, ◌≢◌, ℕ, ◌+◌, ◌-◌, ◌*◌, ◌%◌, ◌<◌, ◌≤◌, true, length, All, AllPairs, IfOk, IfErr, Some};
+ghost use Rattle.std.specs.Prelude.{◌≡◌, ◌≢◌, ℕ, ◌+◌, ◌-◌, ◌*◌, ◌%◌, ◌<◌, ◌≤◌, true, length, All, AllPairs, IfOk, IfErr, OnOk, OnErr, Some};
 ghost use Rattle.boot_plan.specs.Capacity.{page_frames};
 ghost use Rattle.xk_base.specs.Numbers.Limits.{table_frames};
 ghost use Rattle.boot_plan.specs.FirstPages.{planned_pages};
-ghost use Rattle.boot_plan.specs.Lawful.{IsLawfulPage, IsLawfulPlan};
+ghost use Rattle.boot_plan.specs.Lawful.{IsLawfulPage, IsLawfulPlan, IsLawfulProcess};
 ghost use Rattle.boot_plan.specs.declared.plans.PagePlan.{PagePlan};
 ghost use Rattle.ledger_model.specs.Ledger.{empty_ledger};
 ghost use Rattle.ledger_model.specs.Loans.{bare};
@@ -18,25 +18,25 @@ ghost use Rattle.sv32_space.specs.declared.sides.Entry.TheVariants.{Free};
 ghost use Rattle.sv32_space.specs.PageSteps.{place_page};
 ghost use Rattle.sv32_space.specs.Spaces.{IsMade};
 ghost use Rattle.sv32_space.specs.SpelledEntries.{entries};
-ghost use Rattle.vm_memory.specs.Bytes.{MeansBytes};
+ghost use Rattle.vm_memory.specs.Bytes.{MeansBytes, none_out};
 ghost use Rattle.xk_ports.specs.Keeping.{KeepsStore};
 ghost use Rattle.vm_memory.specs.Pages.Changing.{IsFreeFrame, ChangesPagesAlone};
 ghost use Rattle.vm_memory.specs.FirstLedger.{first_ledger, first_page, page_bytes};
 ghost use Rattle.vm_memory.specs.Memory.{IsUsable, capacity_of, frames_for_pages, ledger, processes, size, store_of};
 ghost use Rattle.vm_memory.specs.Sound.{IsSound};
-ghost use Rattle.vm_memory.specs.Starting.{AreFreeFrom, HasNoPage, IsUnlent, place_pages};
+ghost use Rattle.vm_memory.specs.Starting.{FillsFirstFrames, FillsInOrder, HasNoPage, IsUnlent, KeepsUnlent, PlacesPages, page_count, place_pages, place_processes};
 ghost use Rattle.vm_memory.specs.Tie.{IsTied};
 ghost use Rattle.xk_base.specs.Tables.Counting.{put_at};
 ghost use Rattle.xk_base.specs.Outside.{Rose};
 ghost use Rattle.xk_base.specs.declared.ids.Place.{Place};
 
 use crate::memory::{BootError, BootFault, Memory};
-use boot_plan::{BootPlan, PagePlan};
+use boot_plan::{BootPlan, PagePlan, ProcPlan};
 use phys_pages::{Owners, Ram, Seat};
 use std::alloc::Global;
 use sv32_space::new_space;
 use xk_base::limits::TABLE_FRAMES;
-use xk_base::{Frame, NoMemory, Pid, Place};
+use xk_base::{Failed, Frame, NoMemory, Pid, Place};
 use xk_ports::SwapStore;
 
 // Fills a page with its bytes of the file, then zeros.
@@ -91,10 +91,11 @@ impl<W: SwapStore> Memory<W> {
         requires frames { plan.now.frames ≤ 16384 }
         requires start { plan.now.ram_start % 4096 ≡ 0 }
         requires below { plan.now.ram_start + 4096 * plan.now.frames ≤ 0xF000_0000 }
-        requires no_slots { plan.now.slots ≡ 0 }
+        requires few_slots { plan.now.slots ≤ 16384 }
+        requires slots { plan.now.slots ≤ W.slot_count store }
         ensures sound { IfOk result (λ m. IsSound W.slot_count m) }
         ensures usable { IfOk result (λ m. IsUsable m) }
-        ensures free { IfOk result (λ m. AreFreeFrom m.owners 0) }
+        ensures free { IfOk result (λ m. FillsFirstFrames m) }
         ensures ledger { IfOk result (λ m. ledger W.held m ≡ empty_ledger) }
         ensures size { IfOk result (λ m. size m ≡ record { procs = length plan.now.procs; area = record { start = plan.now.ram_start; frames = plan.now.frames }; slots = plan.now.slots }) }
         ensures none { IfOk result (λ m. m.pages ≡ 0) }
@@ -126,7 +127,7 @@ impl<W: SwapStore> Memory<W> {
     }
 
     // Puts a page of the plan at its free home, in a free frame.
-    fn place_first(&mut self, at: Place, f: Frame, page: &PagePlan, file: &[u8])
+    fn place_in(&mut self, at: Place, f: Frame, page: &PagePlan, file: &[u8])
         requires sound { IsSound W.slot_count self.old }
         requires place { is_user_place (processes self.old) at ≡ true }
         requires free { is_free (processes self.old) (ledger W.held self.old) at ≡ true }
@@ -144,32 +145,102 @@ impl<W: SwapStore> Memory<W> {
         fill(self.ram.page_mut(f), file, page);
     }
 
-    // Puts the pages of a process at their homes, in the next frames.
-    fn place_process(&mut self, pid: Pid, plan: &[PagePlan], file: &[u8])
+    // .. in any free frame; where it was the last one, another page goes out.
+    fn place_crowded(&mut self, at: Place, page: &PagePlan, file: &[u8]) -> Result<(), Failed>
         requires sound { IsSound W.slot_count self.old }
+        requires usable { IsUsable self.old }
+        requires place { is_user_place (processes self.old) at ≡ true }
+        requires free { is_free (processes self.old) (ledger W.held self.old) at ≡ true }
+        requires room { self.old.pages + 1 ≤ capacity_of self.old }
+        requires page { IsLawfulPage (length file.now) page.now }
+        ensures placed { PlacesPages W.is_honest W.held W.slot_count W.asked W.faults self.old self.new 1 (place_page at (first_page file.now page.now)) }
+        ensures usable { OnOk result (IsUsable self.new) }
+        ensures cause { OnErr result (Rose (W.faults (store_of self.old)) (W.faults (store_of self.new))) }
+    {
+        let f = self.free_frame();
+        self.failed = true;
+        self.place_in(at, f, page, file);
+        self.make_room(f)
+    }
+
+    // .. in the next of the first frames while there are frames for all pages, so that no frame is
+    // searched for and no page goes out.
+    fn place_first(&mut self, at: Place, page: &PagePlan, file: &[u8]) -> Result<(), Failed>
+        requires sound { IsSound W.slot_count self.old }
+        requires usable { IsUsable self.old }
+        requires place { is_user_place (processes self.old) at ≡ true }
+        requires free { is_free (processes self.old) (ledger W.held self.old) at ≡ true }
+        requires room { self.old.pages + 1 ≤ capacity_of self.old }
+        requires order { FillsInOrder self.old }
+        requires page { IsLawfulPage (length file.now) page.now }
+        ensures placed { PlacesPages W.is_honest W.held W.slot_count W.asked W.faults self.old self.new 1 (place_page at (first_page file.now page.now)) }
+        ensures order { FillsInOrder self.new }
+        ensures usable { OnOk result (IsUsable self.new) }
+        ensures cause { OnErr result (Rose (W.faults (store_of self.old)) (W.faults (store_of self.new))) }
+        ensures full { OnErr result (frames_for_pages self.old ≤ self.old.pages) }
+    {
+        if self.pages < self.page_frames() {
+            let f = Frame(TABLE_FRAMES * self.procs + self.pages);
+            self.place_in(at, f, page, file);
+            return Ok(());
+        }
+        self.place_crowded(at, page, file)
+    }
+
+    // Puts the pages of a process at their homes.
+    fn place_process(&mut self, pid: Pid, plan: &[PagePlan], file: &[u8]) -> Result<(), Failed>
+        requires sound { IsSound W.slot_count self.old }
+        requires usable { IsUsable self.old }
         requires process { is_pid (processes self.old) pid.0 ≡ true }
         requires unlent { IsUnlent (ledger W.held self.old) }
         requires free { HasNoPage pid.0 (ledger W.held self.old) }
-        requires frames { AreFreeFrom self.old.owners self.old.pages }
-        requires room { self.old.pages + length plan.now ≤ frames_for_pages self.old }
+        requires order { FillsInOrder self.old }
+        requires room { self.old.pages + length plan.now ≤ capacity_of self.old }
         requires lawful { All (IsLawfulPage (length file.now)) plan.now }
         requires different { AllPairs (λ (a b : PagePlan). a.vpn.0 ≢ b.vpn.0) plan.now }
-        ensures sound { IsSound W.slot_count self.new }
-        ensures ledger { ledger W.held self.new ≡ place_pages file.now pid plan.now (ledger W.held self.old) }
-        ensures frames { AreFreeFrom self.new.owners self.new.pages }
-        ensures pages { self.new.pages ≡ self.old.pages + length plan.now }
-        ensures rest { ChangesPagesAlone self.old self.new }
+        ensures keeps { KeepsUnlent W.is_honest W.held W.slot_count W.asked W.faults self.old self.new }
+        ensures placed { OnOk result (PlacesPages W.is_honest W.held W.slot_count W.asked W.faults self.old self.new (length plan.now) (place_pages file.now pid plan.now)) }
+        ensures order { OnOk result (FillsInOrder self.new) }
+        ensures usable { OnOk result (IsUsable self.new) }
+        ensures cause { OnErr result (Rose (W.faults (store_of self.old)) (W.faults (store_of self.new))) }
+        ensures full { OnErr result (frames_for_pages self.old < self.old.pages + length plan.now) }
     {
         'pages: for k in 0..plan.len() {
             let page = plan[k];
             let at = Place { pid, vpn: page.vpn };
-            let f = Frame(TABLE_FRAMES * self.procs + self.pages);
-            self.place_first(at, f, &page, file);
+            self.place_first(at, &page, file)?;
         }
+        Ok(())
+    }
+
+    // Puts the pages of all processes at their homes.
+    fn place_processes(&mut self, plan: &[ProcPlan], file: &[u8]) -> Result<(), Failed>
+        requires sound { IsSound W.slot_count self.old }
+        requires usable { IsUsable self.old }
+        requires processes { processes self.old ≡ length plan.now }
+        requires empty { ledger W.held self.old ≡ empty_ledger }
+        requires order { FillsInOrder self.old }
+        requires room { self.old.pages + page_count plan.now ≤ capacity_of self.old }
+        requires lawful { All (IsLawfulProcess (length file.now)) plan.now }
+        ensures keeps { KeepsUnlent W.is_honest W.held W.slot_count W.asked W.faults self.old self.new }
+        ensures placed { OnOk result (PlacesPages W.is_honest W.held W.slot_count W.asked W.faults self.old self.new (page_count plan.now) (place_processes file.now 2 plan.now)) }
+        ensures order { OnOk result (FillsInOrder self.new) }
+        ensures usable { OnOk result (IsUsable self.new) }
+        ensures cause { OnErr result (Rose (W.faults (store_of self.old)) (W.faults (store_of self.new))) }
+        ensures full { OnErr result (frames_for_pages self.old < self.old.pages + page_count plan.now) }
+    {
+        'processes: for k in 0..plan.len() {
+            let process = &plan[k];
+            self.place_process(Pid(k as u8 + 2), process.pages.as_slice(), file)?;
+        }
+        Ok(())
     }
 
     /// A memory with the first pages of a plan, with their bytes from the file that it was made for.
-    /// All memory is taken here. Want of it hands the store back.
+    /// All memory is taken here. Want of it, or `SwapFault` of the store, hands the store back. Where
+    /// there are frames for all pages, none goes out: the store isn't called, and it takes time by RAM
+    /// and the pages. Else each page past those frames takes up to two passes over the frames and one
+    /// over the slots, and puts another page out.
     pub fn boot(
         alloc: Global,
         plan: &BootPlan,
@@ -178,8 +249,6 @@ impl<W: SwapStore> Memory<W> {
     ) -> Result<Memory<W>, BootFault<W>>
         requires lawful { IsLawfulPlan (length file.now) plan.now }
         requires slots { plan.now.slots ≤ W.slot_count store }
-        // This one goes when pages can be out.
-        requires no_slots { plan.now.slots ≡ 0 }
         ensures sound { IfOk result (λ m. IsSound W.slot_count m) }
         ensures usable { IfOk result (λ m. IsUsable m) }
         ensures rights { IfOk result (λ m. bare (ledger W.held m) ≡ bare (first_ledger plan.now file.now)) }
@@ -191,13 +260,16 @@ impl<W: SwapStore> Memory<W> {
         // A swap fault comes only where the store's count rose and the pages don't fit in frames.
         ensures cause { IfErr result (λ fault. fault.why ≡ BootError.SwapFault → Rose (W.faults store) (W.faults fault.store)) }
         ensures out { IfErr result (λ fault. fault.why ≡ BootError.SwapFault → page_frames plan.now.frames (length plan.now.procs) < planned_pages plan.now) }
+        // A page goes out only where there aren't frames for all pages.
+        ensures near { planned_pages plan.now ≤ page_frames plan.now.frames (length plan.now.procs) → IfOk result (λ m. none_out m ≡ true) }
     {
         let mut memory = Memory::without_pages(alloc, plan, store)?;
-        let processes = plan.procs.as_slice();
-        'processes: for k in 0..processes.len() {
-            let process = &processes[k];
-            memory.place_process(Pid(k as u8 + 2), process.pages.as_slice(), file);
+        match memory.place_processes(plan.procs.as_slice(), file) {
+            Ok(()) => Ok(memory),
+            Err(Failed) => Err(BootFault {
+                why: BootError::SwapFault,
+                store: memory.close(),
+            }),
         }
-        Ok(memory)
     }
 }

@@ -8,6 +8,7 @@ ghost use Rattle.vm_memory.specs.Memory.{IsUsable, ledger, processes};
 ghost use Rattle.vm_memory.specs.Sound.{IsSound};
 ghost use Rattle.xk_base.specs.declared.ids.Number.{Number};
 
+mod exchange;
 mod first_pages;
 mod first_run;
 mod loans;
@@ -17,8 +18,8 @@ mod windows;
 use crate::memory::{BootError, BootFault, Memory};
 use boot_plan::{BootPlan, PagePlan, ProcPlan};
 use std::alloc::Global;
-use xk_base::{NoMemory, Pid, Place, Right, Row, Vpn};
-use xk_ports::SwapStore;
+use xk_base::{Frame, NoMemory, Pid, Place, Right, Row, Vpn};
+use xk_ports::{SureStore, SwapStore};
 
 const PID: Pid = Pid(2);
 
@@ -102,6 +103,35 @@ fn end<W: SwapStore>(memory: Memory<W>) -> W {
         procs: _,
         slots: _,
         pages: _,
+        hand: _,
     } = memory;
     store
+}
+
+// A field more, as a copy of the rights of pages, and this pattern doesn't compile.
+#[test]
+fn memory_parts(rt: HostRuntime) {
+    match booted(rt.alloc(), SureStore::new()) {
+        Ok(memory) => {
+            let Memory {
+                ram,
+                owners,
+                store,
+                failed,
+                procs,
+                slots,
+                pages,
+                hand,
+            } = &memory;
+            assert_eq!(rt;
+                (ram.frames(), owners.free_frame()),
+                (4096, Some(Frame(23)))
+            );
+            assert!(rt; store.preparations().is_empty());
+            assert!(rt; !*failed);
+            assert_eq!(rt; (*procs, *slots, *pages, *hand), (1, 0, 2, 0));
+            let _ = end(memory);
+        }
+        Err(_) => assert!(rt; false),
+    }
 }

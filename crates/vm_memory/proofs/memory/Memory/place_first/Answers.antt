@@ -1,31 +1,27 @@
-use Rattle.std.proofs.Common.{ap, ◌∙◌, length}
-use Rattle.ledger_model.specs.Ledger.{Bytes}
-use Rattle.ledger_model.specs.Steps.{new_page}
+use Rattle.std.proofs.Common.{refl, ◌*◌, ◌+◌, arith}
+use Rattle.sv32_space.specs.Agreement.{owned_by}
 use Rattle.sv32_space.specs.PageSteps.{place_page}
-use Rattle.vm_memory.specs.Memory.{ledger}
-use Rattle.vm_memory.proofs.Booting.PlacedPageLemmas.{made_frame, filled_sound, filled_size, filled_ledger, length-page_bytes}
+use Rattle.vm_memory.specs.FirstLedger.{first_page}
+use Rattle.vm_memory.proofs.Booting.PlacingLemmas.{placed_near}
+use Rattle.vm_memory.proofs.Booting.ProcessPlacedLemmas.{filled_next, filled_past, next_frame}
 use Rattle.vm_memory.proofs.memory.Memory.place_first.Goals as goal
 
-pub page_mut-requires : goal.page_mut-requires
-page_mut-requires g c =
-    let there = made_frame g.W.SwapStore.slot_count g.W.SwapStore.held c.args.self.now c.place_page.new.self c.place_page.ensures.sound c.args.at c.args.page.now.right c.args.f
-    c.place_page.ensures.ledger c.place_page.ensures.owners in
-    there.inside
+pub place_in-requires-clause-frame : goal.place_in-requires-clause-frame
+place_in-requires-clause-frame g c = next_frame g.W.SwapStore.slot_count c.args.self.now c.requires.sound (21 * c.args.self.now.procs + c.args.self.now.pages) refl
+    c.requires.order (omega (arith, c.if-self-page_frames.true, c.page_frames.ensures))
 
-pub returns-clause-sound : goal.returns-clause-sound
-returns-clause-sound g c = filled_sound g.W.SwapStore.slot_count g.W.SwapStore.held c.args.self.now c.place_page.new.self c.place_page.ensures.sound c.args.at c.args.page.now.right c.args.f
-    c.place_page.ensures.ledger c.place_page.ensures.owners c.fill.new.page (ap length c.fill.ensures ∙ length-page_bytes c.args.file.now c.args.page.now)
+pub returns-then-self-page_frames-clause-placed : goal.returns-then-self-page_frames-clause-placed
+returns-then-self-page_frames-clause-placed g c =
+    placed_near g.W.SwapStore.is_honest g.W.SwapStore.held g.W.SwapStore.slot_count g.W.SwapStore.asked g.W.SwapStore.faults c.args.self.now c.place_in.new.self
+    (place_page c.args.at (first_page c.args.file.now c.args.page.now)) (record { 0 = 21 * c.args.self.now.procs + c.args.self.now.pages }) (owned_by c.args.at)
+    c.place_in.ensures.sound c.place_in.ensures.ledger c.place_in.ensures.owners c.place_in.ensures.pages c.place_in.ensures.rest
 
-pub returns-clause-ledger : goal.returns-clause-ledger
-returns-clause-ledger g c = filled_ledger g.W.SwapStore.slot_count g.W.SwapStore.held c.args.self.now c.place_page.new.self c.place_page.ensures.sound c.args.at c.args.page.now.right c.args.f
-    c.place_page.ensures.ledger c.place_page.ensures.owners c.fill.new.page (ap length c.fill.ensures ∙ length-page_bytes c.args.file.now c.args.page.now)
-    ∙ ap (λ b. place_page c.args.at (new_page c.args.page.now.right (Bytes b)) (ledger g.W.SwapStore.held c.args.self.now)) c.fill.ensures
+pub returns-then-self-page_frames-clause-order : goal.returns-then-self-page_frames-clause-order
+returns-then-self-page_frames-clause-order g c = filled_next g.W.SwapStore.slot_count c.args.self.now c.requires.sound (21 * c.args.self.now.procs + c.args.self.now.pages) refl
+    c.place_in.new.self (record { 0 = 21 * c.args.self.now.procs + c.args.self.now.pages }) refl (owned_by c.args.at)
+    c.requires.order (omega (arith, c.if-self-page_frames.true, c.page_frames.ensures))
+    c.place_in.ensures.sound c.place_in.ensures.owners c.place_in.ensures.pages c.place_in.ensures.rest
 
-pub returns-clause-rest : goal.returns-clause-rest
-returns-clause-rest g c = record {
-  size = filled_size g.W.SwapStore.slot_count g.W.SwapStore.held c.args.self.now c.place_page.new.self c.place_page.ensures.sound c.args.at c.args.page.now.right c.args.f
-      c.place_page.ensures.ledger c.place_page.ensures.owners c.fill.new.page (ap length c.fill.ensures ∙ length-page_bytes c.args.file.now c.args.page.now) ∙ c.place_page.ensures.rest.size;
-  store = c.place_page.ensures.rest.store;
-  failed = c.place_page.ensures.rest.failed;
-  slots = c.place_page.ensures.rest.slots;
-}
+pub returns-clause-order : goal.returns-clause-order
+returns-clause-order g c = filled_past g.W.SwapStore.slot_count c.args.self.now c.place_crowded.new.self c.requires.sound c.place_crowded.ensures.placed.sound
+    c.place_crowded.ensures.placed.size (omega (arith, c.if-self-page_frames.false, c.page_frames.ensures)) c.place_crowded.ensures.placed.pages

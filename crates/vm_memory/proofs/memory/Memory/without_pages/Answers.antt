@@ -1,7 +1,7 @@
 use Rattle.std.proofs.Common.{◌≡◌, ◌-◌, ◌*◌, false, length, refl, ap, ◌∙◌, arith}
 use Rattle.phys_pages.specs.Ram.{Area}
 use Rattle.vm_memory.specs.declared.memory.Memory.{Memory}
-use Rattle.vm_memory.proofs.Booting.EmptyMemoryLemmas.{IsEmpty, empty_sound, empty_has_none}
+use Rattle.vm_memory.proofs.Booting.EmptyMemoryLemmas.{IsEmpty, empty_fills, empty_sound, empty_has_none}
 use Rattle.vm_memory.proofs.memory.Memory.without_pages.Given as given
 use Rattle.vm_memory.proofs.memory.Memory.without_pages.Goals as goal
 
@@ -18,12 +18,11 @@ made g c = record {
   hand = 0;
 }
 
-empty : (g : given.Over) (c : goal.After-frames-frames g) → IsEmpty g.W.SwapStore.slot_count (made g c) (length c.as_slice.result.now) c.args.plan.now.frames
+empty : (g : given.Over) (c : goal.After-frames-frames g) → IsEmpty g.W.SwapStore.slot_count (made g c) (length c.as_slice.result.now) c.args.plan.now.frames c.args.plan.now.slots
 empty g c =
     let count : length c.as_slice.result.now ≡ length c.args.plan.now.procs = ap length c.as_slice.ensures in
     record {
-      extent = c.in-Ok.ensures.extent
-          ∙ ap (λ s. record { first = 21 * length c.as_slice.result.now; frames = c.args.plan.now.frames - 21 * length c.as_slice.result.now; slots = s }) c.requires.no_slots;
+      extent = c.in-Ok.ensures.extent;
       infos = c.in-Ok.ensures.infos;
       counted = ap (λ (a : Area). a.frames) (c.make_spaces.ensures.area ∙ c.in-Ok.ensures.area);
       placed = c.frames-frames.ensures.placed;
@@ -33,12 +32,17 @@ empty g c =
       few = omega (arith, c.requires.few);
       tables = omega (arith, c.requires.tables);
       made_for = refl;
-      slots = c.requires.no_slots;
+      slots = refl;
+      few_slots = c.requires.few_slots;
+      store = c.requires.slots;
       pages = refl;
     }
 
 pub returns-in-Ok-clause-sound : goal.returns-in-Ok-clause-sound
-returns-in-Ok-clause-sound g c = empty_sound g.W.SwapStore.slot_count g.W.SwapStore.held (made g c) (length c.as_slice.result.now) c.args.plan.now.frames (empty g c)
+returns-in-Ok-clause-sound g c = empty_sound g.W.SwapStore.slot_count g.W.SwapStore.held (made g c) (length c.as_slice.result.now) c.args.plan.now.frames c.args.plan.now.slots (empty g c)
 
 pub returns-in-Ok-clause-ledger : goal.returns-in-Ok-clause-ledger
-returns-in-Ok-clause-ledger g c = empty_has_none g.W.SwapStore.slot_count g.W.SwapStore.held (made g c) (length c.as_slice.result.now) c.args.plan.now.frames (empty g c)
+returns-in-Ok-clause-ledger g c = empty_has_none g.W.SwapStore.slot_count g.W.SwapStore.held (made g c) (length c.as_slice.result.now) c.args.plan.now.frames c.args.plan.now.slots (empty g c)
+
+pub returns-in-Ok-clause-free : goal.returns-in-Ok-clause-free
+returns-in-Ok-clause-free g c = empty_fills g.W.SwapStore.slot_count g.W.SwapStore.held (made g c) (length c.as_slice.result.now) c.args.plan.now.frames c.args.plan.now.slots (empty g c)
