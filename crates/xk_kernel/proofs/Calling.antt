@@ -3,10 +3,12 @@ pub mod CallTableLemmas
 pub mod CallerLemmas
 pub mod CreateLemmas
 pub mod DestroyLemmas
+pub mod EveryCallLemmas
 pub mod JoinLemmas
 pub mod JoinerLemmas
 pub mod JoiningLemmas
 pub mod LogLemmas
+pub mod OverLemmas
 pub mod ReplyLemmas
 pub mod ServerCallLemmas
 pub mod SettleLemmas

@@ -1,7 +1,9 @@
 pub mod HeapGrowthLemmas
 pub mod HeapLemmas
 pub mod KeptLoanLemmas
+pub mod KnownLemmas
 pub mod LedgerAfterLemmas
+pub mod MadeLemmas
 pub mod MapLemmas
 pub mod MemoryCallLemmas
 pub mod MemoryPartLemmas

@@ -2,3 +2,4 @@ pub mod BootLemmas
 pub mod FirstLawfulLemmas
 pub mod FirstLedgerLemmas
 pub mod StartLemmas
+pub mod StartPageLemmas

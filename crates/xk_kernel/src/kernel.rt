@@ -13,6 +13,8 @@ mod ringing;
 mod running;
 mod server_calls;
 mod stepping;
+#[cfg(test)]
+mod tests;
 mod thread_calls;
 mod threads;
 

@@ -31,7 +31,7 @@ use Rattle.vm_memory.specs.Memory.{IsUsable, Size, size, processes, capacity_of,
 use Rattle.vm_memory.specs.Sound.{IsSound}
 use Rattle.vm_memory.specs.Starting.{AreFreeFrom, FillsFirstFrames, FillsInOrder, HasNoPage, IsUnlent, KeepsUnlent, PlacesPages, place_pages}
 use Rattle.vm_memory.proofs.Booting.FirstPageLemmas.{free_there, pages_home_else, pages_more, pages_unlent}
-use Rattle.vm_memory.proofs.Booting.PlacingLemmas.{kept_placed, kept_then, place_bare, placed_none, placed_then}
+use Rattle.vm_memory.proofs.Booting.PlacingLemmas.{kept_placed, place_bare, placed_none, placed_then}
 use Rattle.vm_memory.proofs.Changing.CallLemmas.{alone-none_out}
 
 -- a sound memory's table has so many frames, from so many on

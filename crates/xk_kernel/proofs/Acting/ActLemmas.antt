@@ -16,7 +16,7 @@ use Rattle.machine_model.specs.Stepping.Step.{acted_if_there, after, console_tol
 use Rattle.machine_model.specs.State.Threads.{handler_return, thread_return}
 use Rattle.machine_model.specs.State.Views.{memory_of, stored, timer_set}
 use Rattle.machine_model.specs.Stepping.Reservations.{reservation_of}
-use Rattle.rv32_hart.specs.Running.{ran_of}
+use Rattle.rv32_hart.specs.Running.{IfFailed, UnlessFailed, ran_of}
 use Rattle.rv32_hart.specs.declared.ran.Ran.{Ran}
 use Rattle.rv32_hart.specs.declared.ran.Ran.TheVariants.{Device, Ecall, Failed, Trap}
 use Rattle.rv32_hart.specs.declared.ran.Ran.TheVariants as ran
@@ -223,6 +223,53 @@ module _ {W : Type 0} (held : W → Held) (old mid new : Kernel W) (who : Thread
     few = subst (λ s. s < 4000000000) (sym (ap (λ (m : Machine). m.steps) begun)) few;
     ready = begun_ready acts begun;
   }
+
+  -- .. and so it can where its instruction left the machine matched and the thread as ready
+  pub begun_calls : (slot_count : W → ℕ) → IsWhole slot_count held new → IsUsable new → Matched (machine_of held mid)
+      → ready_at (machine_of held mid) who ≡ true → mid.steps ≡ old.steps → old.steps < 4000000000
+      → machine_of held new ≡ at who (machine_of held mid) → IsCaller slot_count held new
+  unfolding machine_of
+  begun_calls slot_count whole usable h ready steps few begun = record {
+    whole = whole;
+    usable = usable;
+    matched = subst Matched (sym begun) (matched_at who (machine_of held mid) h);
+    few = subst (λ s. s < 4000000000) (sym (ap (λ (m : Machine). m.steps) begun ∙ steps)) few;
+    ready = (λ i. ready_at (begun i) ((begun i).cursor)) ∙ ready;
+  }
+
+  -- the log of a step that begins after the instruction
+  pub begun_log : mid.log ≡ old.log → mid.steps ≡ old.steps → new.log ≡ record mid.log { step = mid.steps + 1; records = [] }
+      → new.log ≡ record old.log { step = old.steps + 1; records = [] }
+  begun_log log steps begins = begins ∙ (λ i. record (log i) { step = steps i + 1; records = [] })
+
+  -- a thread that calls the kernel over known bytes makes the machine's call
+  pub call_known : (t : Thread) (there : (machine_of held old).threads who ≡ Some t) → ends_thread who t.pc ≡ false → ends_handler who t.pc ≡ false
+      → machine_of held mid ≡ machine_after who (machine_of held old) (fetched (machine_of held old) who t there)
+      → ran_of (fetched (machine_of held old) who t there) ≡ Ecall → machine_of held new ≡ at who (machine_of held mid)
+      → (u : Thread) → (machine_of held mid).threads who ≡ Some u → (words : List ℕ) → words ≡ arguments_of u.regs
+      → (told_by who (machine_of held old)
+      ≡ after (Call who words) (call_settled (at who (machine_of held old)) (call (at who (machine_of held old)) words)))
+      × (machine_of held new ≡ at who (machine_of held old))
+  call_known t there goes_on none machine answered begun u is words said =
+      let m : Machine = machine_of held old in
+      let x : Executed = fetched m who t there in
+      let called : (executed (at who m) t x ≡ after (Call who (arguments_of t.regs)) (call_settled (at who m) (call (at who m) (arguments_of t.regs))))
+      × (machine_after who m x ≡ m) =
+      call_executed m who t x answered in
+      let left : machine_of held mid ≡ m = machine ∙ called.1 in
+      let same : words ≡ arguments_of t.regs = said ∙ words_stay m (machine_of held mid) who t u left there is in (
+        told_executed m who t there goes_on none ∙ called.0
+            ∙ ap (λ w. after (Call who w) (call_settled (at who m) (call (at who m) w))) (sym same),
+        begun ∙ ap (at who) left,
+      )
+
+-- ---- by the answer of the hart
+
+pub unless_at : (Fact : Type 0) (answer a : Ran) → answer ≡ a → UnlessFailed answer Fact → UnlessFailed a Fact
+unless_at Fact answer a e h = subst (λ r. UnlessFailed r Fact) e h
+
+pub if_failed_at : (Fact : Type 0) (answer : Ran) → answer ≡ Failed → IfFailed answer Fact → Fact
+if_failed_at Fact answer e h = subst (λ r. IfFailed r Fact) e h
 
 -- a thread that stands where threads end is above tid 1
 pub above_one : (tid pc : ℕ) → (nat_lt 1 tid && (pc == thread_return)) ≡ true → 1 < tid

@@ -117,7 +117,6 @@ pub cursor_whole : {W : Type 0} (slot_count : W → ℕ) (held : W → Held) (k 
     → IsTrue (is_thread_id (processes k.mem) d) → IsWhole slot_count held (record k { cursor = d })
 cursor_whole slot_count held k d h valid = record {
   mem = h.mem;
-  mem_slots = h.mem_slots;
   threads = h.threads;
   procs = h.procs;
   cursor = valid;

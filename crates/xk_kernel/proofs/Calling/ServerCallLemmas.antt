@@ -104,7 +104,6 @@ module _ {W : Type 0} (slot_count : W → ℕ) (held : W → Held) (k : Kernel W
   pub connected_whole : (procs : Processes) → process_count procs ≡ process_count k.procs → IsWhole slot_count held (record k { procs = procs })
   connected_whole procs n = record {
     mem = whole.mem;
-    mem_slots = whole.mem_slots;
     threads = whole.threads;
     procs = n ∙ whole.procs;
     cursor = whole.cursor;
@@ -195,7 +194,6 @@ module _ {W : Type 0} (slot_count : W → ℕ) (held : W → Held) (k : Kernel W
         let shown : machine_with_server (new_server m sid) m ≡ machine_of held (record k { servers = servers }) = sym (machine_served servers sid seat free made) in
         record {
           mem = whole.mem;
-          mem_slots = whole.mem_slots;
           threads = whole.threads;
           procs = whole.procs;
           cursor = whole.cursor;

@@ -34,7 +34,6 @@ pub pushed_whole : {W : Type 0} (slot_count : W → ℕ) (held : W → Held) (k 
     → IsWhole slot_count held (record k { log = log })
 pushed_whole slot_count held k log whole e = record {
   mem = whole.mem;
-  mem_slots = whole.mem_slots;
   threads = whole.threads;
   procs = whole.procs;
   cursor = whole.cursor;
@@ -46,7 +45,6 @@ pushed_whole slot_count held k log whole e = record {
 pub unreserved_whole : {W : Type 0} (slot_count : W → ℕ) (held : W → Held) (k : Kernel W) → IsWhole slot_count held k → IsWhole slot_count held (record k { reserved = None })
 unreserved_whole slot_count held k whole = record {
   mem = whole.mem;
-  mem_slots = whole.mem_slots;
   threads = whole.threads;
   procs = whole.procs;
   cursor = whole.cursor;

@@ -135,7 +135,6 @@ module _ {W : Type 0} (slot_count : W → ℕ) (held : W → Held) (k : Kernel W
     pub dead_whole : IsWhole slot_count held dead
     dead_whole = record {
       mem = sound.mem;
-      mem_slots = ap (λ z. z.slots) keeps.size ∙ whole.mem_slots;
       threads = sound.threads;
       procs = sound.procs;
       cursor = ap (λ n. is_thread_id n k.cursor) procs_stay ∙ whole.cursor;

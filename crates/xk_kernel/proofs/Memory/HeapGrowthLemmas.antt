@@ -12,6 +12,7 @@ use Rattle.xk_base.specs.declared.pages.Right.{Right}
 use Rattle.xk_base.specs.declared.windows.Window.TheVariants.{Heap}
 use Rattle.xk_base.specs.Numbers.Windows.{in_window, page_of}
 use Rattle.ledger_model.specs.Ledger.{Bytes, Ledger, Page, pages}
+use Rattle.ledger_model.specs.Loans.{bare}
 use Rattle.ledger_model.specs.Places.{in_run, place_after, run}
 use Rattle.ledger_model.specs.Reach.{is_free}
 use Rattle.ledger_model.specs.RunTests.{any_used, fits_window}
@@ -29,15 +30,17 @@ use Rattle.sv32_space.specs.Tie.{Held}
 use Rattle.syscall_codec.specs.declared.replies.Reply.TheVariants.{Range}
 use Rattle.vm_memory.specs.declared.memory.Memory.{Memory}
 use Rattle.vm_memory.specs.Pages.Making.{if_room, make_answer, page_place, run_place}
-use Rattle.vm_memory.specs.Memory.{capacity_of, ledger, processes, size}
+use Rattle.vm_memory.specs.Memory.{capacity_of, frames_for_pages, ledger, processes, size}
 use Rattle.vm_memory.proofs.Changing.SoundMemoryLemmas.{pages-ledger}
-use Rattle.xk_kernel.specs.Calling.{outcome_of}
+use Rattle.xk_base.specs.Tables.Circle.{is_pid}
+use Rattle.xk_kernel.specs.Calling.{CrowdsBy, ServesAs, outcome_of}
 use Rattle.xk_kernel.specs.Sound.{IsWhole}
 use Rattle.xk_kernel.specs.State.{machine_of}
 use Rattle.xk_kernel.specs.declared.kernel.Kernel.{Kernel}
 use Rattle.xk_kernel.specs.declared.kernel.calls.CallerFate.TheVariants.{Answered}
 use Rattle.xk_kernel.proofs.Memory.KeptLoanLemmas.{free_below_messages, sound-lawful}
-use Rattle.xk_kernel.proofs.Memory.HeapLemmas.{aligned, machine_with_parts, none_of_three, not_above, on_heap, second_of_three, third_of_three, with_parts}
+use Rattle.xk_kernel.proofs.Memory.MadeLemmas.{crowds_by, grown_comes, made_crowded}
+use Rattle.xk_kernel.proofs.Memory.HeapLemmas.{aligned, none_of_three, not_above, on_heap, second_of_three, third_of_three, with_parts}
 
 abbrev pub heap_right : Right
 heap_right = record { w = true; x = false }
@@ -167,16 +170,32 @@ module _ {W : Type 0} (slot_count : W → ℕ) (held : W → Held) (k : Kernel W
         ∙ none_of_three (not (is_aligned bytes)) (nat_lt heap_limit (heap_of m + bytes)) (are_too_many m (bytes / PAGE_SIZE)) BadAlignment InvalidLimit OutOfMemory
         (Served (increase_served m bytes)) (aligned bytes al) (not_above heap_limit (heap_of m + bytes) (omega (arith, le, told))) room
 
-    pub increase_done : (mem : Memory W) (procs : Processes) (v : Vpn) → size mem ≡ size k.mem → Ok v ≡ answer
-        → ledger held mem ≡ make (page_place k.cursor.pid v) (bytes / 4096) heap_right (ledger held k.mem)
-        → processes_of procs ≡ change k.cursor.pid.0 (heap_set (heap + bytes)) (processes_of k.procs)
-        → outcome_of k.cursor (machine_of held (with_parts mem procs k)) (Ok (Answered (Range (536870912 + heap) bytes))) ≡ row
-    increase_done mem procs v s a e p =
+    -- with the pages that are made
+    abbrev made : Vpn → Ledger
+    made v = make (page_place k.cursor.pid v) (bytes / 4096) heap_right (ledger held k.mem)
+
+    served_by : (v : Vpn) → Ok v ≡ answer
+        → outcome_of k.cursor (on_heap (heap + bytes) (made v) m) (Ok (Answered (Range (536870912 + heap) bytes))) ≡ row
+    served_by v a =
         let done = ok_told over v (a ∙ answered) in
-        ap (λ n. outcome_of k.cursor n (Ok (Answered (Range (536870912 + heap) bytes))))
-        (machine_with_parts slot_count held k whole mem procs (make (page_place k.cursor.pid first) (bytes / 4096) heap_right (ledger held k.mem)) (heap + bytes) s
-        (e ∙ ap (λ x. make (page_place k.cursor.pid x) (bytes / 4096) heap_right (ledger held k.mem)) done.1) p)
+        ap (λ x. outcome_of k.cursor (on_heap (heap + bytes) (made x) m) (Ok (Answered (Range (536870912 + heap) bytes)))) done.1
         ∙ served done.0
+
+    pub increase_done : {known : Type 0} (mem : Memory W) (procs : Processes) (v : Vpn) → size mem ≡ size k.mem → Ok v ≡ answer
+        → bare (ledger held mem) ≡ bare (made v) → (known → ledger held mem ≡ made v)
+        → processes_of procs ≡ change k.cursor.pid.0 (heap_set (heap + bytes)) (processes_of k.procs)
+        → ServesAs known k.cursor (machine_of held (with_parts mem procs k)) row (Ok (Answered (Range (536870912 + heap) bytes)))
+    increase_done mem procs v s a rights known p = record {
+      target = on_heap (heap + bytes) (made v) m;
+      is = served_by v a;
+      comes = grown_comes held k mem (made v) s rights slot_count whole procs (heap + bytes) p known;
+    }
+
+    pub increase_crowds : (v : Vpn) → is_pid (processes k.mem) k.cursor.pid.0 ≡ true → Ok v ≡ answer
+        → frames_for_pages k.mem < pages (processes k.mem) (ledger held k.mem) + bytes / 4096 → CrowdsBy held k row
+    increase_crowds v process a more =
+        crowds_by held k (on_heap (heap + bytes) (made v) m) (Range (536870912 + heap) bytes) row (served_by v a)
+        (made_crowded held k Heap (Some first) (bytes / 4096) heap_right process v (sym a) more)
 
     -- ---- nothing
 

@@ -13,7 +13,7 @@ use Rattle.xk_base.specs.Tables.Circle.{IsPid, is_pid, is_tid, is_thread_id}
 use Rattle.xk_base.specs.Tables.Counting.{put_at}
 use Rattle.boot_plan.specs.Capacity.{capacity}
 use Rattle.ledger_model.specs.Ledger.{Ledger}
-use Rattle.ledger_model.specs.Loans.{loans}
+use Rattle.ledger_model.specs.Loans.{bare, loans}
 use Rattle.ledger_model.specs.Places.{in_run}
 use Rattle.ledger_model.specs.RunTests.{any_on_loan}
 use Rattle.ledger_model.specs.Steps.{remove}
@@ -33,6 +33,7 @@ use Rattle.vm_memory.specs.Memory.{ledger, processes, size}
 use Rattle.vm_memory.specs.Pages.Removing.{clear_answer}
 use Rattle.vm_memory.specs.Sound.{IsSound as IsMemorySound}
 use Rattle.xk_kernel.specs.Calling.{outcome_of}
+use Rattle.xk_kernel.specs.Knowing.{without_bytes}
 use Rattle.xk_kernel.specs.Sound.{IsWhole}
 use Rattle.send_path.specs.Parts.{process_of}
 use Rattle.xk_kernel.specs.State.{machine_of}
@@ -104,6 +105,15 @@ module _ {W : Type 0} (slot_count : W → ℕ) (held : W → Held) (k : Kernel W
             ∙ heap_changed (nat_eq q k.cursor.pid.0) (processes_of k.procs k.cursor.pid.0) (processes_of k.procs q) there.0 heap there.1) i;
       }
 
+  -- .. and without bytes, where the ledgers are the same without theirs
+  pub parts_alike : (mem : Memory W) (procs : Processes) (l : Ledger) (heap : ℕ) → size mem ≡ size k.mem → bare (ledger held mem) ≡ bare l
+      → processes_of procs ≡ change k.cursor.pid.0 (heap_set heap) (processes_of k.procs)
+      → without_bytes (machine_of held (with_parts mem procs k)) ≡ without_bytes (on_heap heap l (machine_of held k))
+  unfolding machine_of
+  parts_alike mem procs l heap s e p =
+      ap (λ (b : Ledger). record (machine_of held (with_parts mem procs k)) { ledger = b }) e
+      ∙ ap (λ (m : Machine). record m { ledger = bare l }) (machine_with_parts mem procs (ledger held mem) heap s refl p)
+
   pub whole_with_parts : (mem : Memory W) (procs : Processes) → size mem ≡ size k.mem → IsMemorySound slot_count mem
       → loans (ledger held mem) ≡ loans (ledger held k.mem)
       → process_count procs ≡ process_count k.procs → IsWhole slot_count held (with_parts mem procs k)
@@ -111,7 +121,6 @@ module _ {W : Type 0} (slot_count : W → ℕ) (held : W → Held) (k : Kernel W
       let same : processes mem ≡ processes k.mem = ap (λ z. z.procs) s in
       record {
         mem = sound;
-        mem_slots = ap (λ z. z.slots) s ∙ whole.mem_slots;
         threads = whole.threads ∙ sym same;
         procs = n ∙ whole.procs ∙ sym same;
         cursor = ap (λ n. is_thread_id n k.cursor) same ∙ whole.cursor;

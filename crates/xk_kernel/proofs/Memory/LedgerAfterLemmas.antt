@@ -16,10 +16,10 @@ use Rattle.rv32_hart.specs.Running.{bytes_after}
 use Rattle.sv32_space.specs.Tie.{Held}
 use Rattle.vm_memory.specs.declared.memory.Memory.{Memory}
 use Rattle.xk_base.specs.Numbers.Windows.{page_of}
-use Rattle.vm_memory.specs.Memory.{Size, processes, ledger, size}
+use Rattle.vm_memory.specs.Bytes.{MeansBytes}
+use Rattle.vm_memory.specs.Memory.{Size, processes, ledger}
 use Rattle.vm_memory.specs.Sound.{IsSound}
 use Rattle.vm_memory.specs.Using.UserView.{KeepsRest, contents_seen, seen_memory, user_view}
-use Rattle.vm_memory.proofs.Changing.CallLemmas.{no_slots-means}
 use Rattle.vm_memory.proofs.Bytes.LedgerByteLemmas.{IsSeenAt, IsTold, same_by_bytes, written_by_bytes, stored_is_loaded}
 use Rattle.vm_memory.proofs.Using.SeenPageLemmas.{told}
 use Rattle.xk_kernel.proofs.Memory.StoreLemmas.{StoresAllowed}
@@ -68,7 +68,7 @@ ledger_after procs pid l CallsKernel = l
 ledger_after procs pid l (Traps cause value) = l
 
 module _ {W P : Type 0} (is_honest : W → Bool) (held : W → Held) (slot_count : W → ℕ) (asked : W → P) (faults : W → ℕ)
-    (pid : Pid) (old new : Memory W) (sound : IsSound slot_count old) (slots : (size old).slots ≡ 0) (rest : KeepsRest is_honest held slot_count asked faults pid old new) where
+    (pid : Pid) (old new : Memory W) (sound : IsSound slot_count old) (means : MeansBytes is_honest held old) (rest : KeepsRest is_honest held slot_count asked faults pid old new) where
   abbrev n : ℕ
   n = processes old
 
@@ -92,14 +92,14 @@ module _ {W P : Type 0} (is_honest : W → Bool) (held : W → Held) (slot_count
     seen_new = ap (λ k. (seen_memory k M pid).byte) (sym same_processes) ∙ seen
 
     same_ledger : byte ≡ (user_view held old pid).byte → M ≡ L
-    same_ledger e = same_by_bytes n L M pid rest.rights told_old told_new (rest.unseen (no_slots-means is_honest held old slots)) (seen_new ∙ e)
+    same_ledger e = same_by_bytes n L M pid rest.rights told_old told_new (rest.unseen means) (seen_new ∙ e)
 
     stored_ledger : (address : ℕ) (width : Width) (value : ℕ) → (user_view held old pid).may Store address ≡ true → (user_view held old pid).console address ≡ false
         → address % size_of width ≡ 0 → byte ≡ with_number (user_view held old pid).byte address width value
         → M ≡ write_to (reach n L (page_of pid address) Store) (address % 4096) (low_bytes width value) L
     stored_ledger address width value may console aligned e =
         let at : IsStoredAt n L pid address = stored_at n L pid address may console in
-        written_by_bytes n L M pid rest.rights told_old told_new (rest.unseen (no_slots-means is_honest held old slots))
+        written_by_bytes n L M pid rest.rights told_old told_new (rest.unseen means)
         address width value aligned at.name at.bytes at.seen (seen_new ∙ e)
         ∙ ap (λ o. write_to o (address % 4096) (low_bytes width value) L) (sym at.reached)
 

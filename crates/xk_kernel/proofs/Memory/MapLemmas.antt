@@ -1,7 +1,7 @@
 -- MapMemory: where its pages go, and what the answers of the memory are to its caller.
-use Rattle.std.proofs.Common.{◌≡◌, ℕ, ◌+◌, ◌*◌, ◌/◌, ◌≤◌, if◌then◌else◌, Bool, true, false, not, List, [], ◌∷◌, Option, Some, None, refl, sym, ap, ◌∙◌, arith, nat_lt}
+use Rattle.std.proofs.Common.{◌≡◌, ◌≢◌, ℕ, ◌+◌, ◌*◌, ◌/◌, ◌<◌, ◌≤◌, if◌then◌else◌, Bool, true, false, not, List, [], ◌∷◌, Option, Some, None, refl, sym, ap, ◌∙◌, arith, nat_lt}
 use Rattle.std.specs.Prelude.{◌%◌, ◌==◌, ◌&&◌, ◌||◌, Result, Ok, Err, is_none, unwrap_or}
-use Rattle.std.proofs.lemmas.Bool.{false≢true, eq-eqb, eqb-true, eqb-false}
+use Rattle.std.proofs.lemmas.Bool.{false≢true, eq-eqb, eqb-true, eqb-false, ne_eqb, or_right}
 use Rattle.xk_base.specs.declared.errors.XousError.{XousError}
 use Rattle.xk_base.specs.declared.errors.XousError.TheVariants.{BadAlignment, BadAddress, OutOfMemory, MemoryInUse, InvalidSyscall}
 use Rattle.xk_base.specs.declared.ids.Pid.{Pid}
@@ -14,6 +14,7 @@ use Rattle.xk_base.specs.Calls.Flags.{flag_execute, has_flag, right_of}
 use Rattle.xk_base.specs.Calls.Replies.{range_words}
 use Rattle.ledger_model.specs.Ledger.{Ledger, pages}
 use Rattle.ledger_model.specs.LeastRun.{least_run}
+use Rattle.ledger_model.specs.Loans.{bare}
 use Rattle.ledger_model.specs.RunTests.{any_used, console_mapped, fits_window}
 use Rattle.ledger_model.specs.Steps.{make, make_console}
 use Rattle.machine_model.specs.State.Changes.{Outcome, Refused, Served, unless_refused}
@@ -23,13 +24,15 @@ use Rattle.sv32_space.specs.Tie.{Held}
 use Rattle.syscall_codec.specs.declared.replies.Reply.TheVariants.{Range}
 use Rattle.vm_memory.specs.declared.memory.Memory.{Memory}
 use Rattle.vm_memory.specs.Pages.Making.{console_answer, if_room, make_answer, page_place, run_found, run_place}
-use Rattle.vm_memory.specs.Memory.{capacity_of, ledger, processes, size}
+use Rattle.vm_memory.specs.Memory.{capacity_of, frames_for_pages, ledger, processes, size}
 use Rattle.vm_memory.proofs.Changing.AnsweringLemmas.{run_answered}
-use Rattle.xk_kernel.specs.Calling.{outcome_of}
+use Rattle.xk_base.specs.Tables.Circle.{is_pid}
+use Rattle.xk_kernel.specs.Calling.{CrowdsBy, ServesAs, outcome_of}
 use Rattle.xk_kernel.specs.State.{machine_of}
 use Rattle.xk_kernel.specs.declared.kernel.Kernel.{Kernel}
 use Rattle.xk_kernel.specs.declared.kernel.calls.CallerFate.TheVariants.{Answered}
-use Rattle.xk_kernel.proofs.Memory.MemoryCallLemmas.{machine_with_mem, with_mem}
+use Rattle.xk_kernel.proofs.Memory.MadeLemmas.{crowds_by, made_comes, made_crowded}
+use Rattle.xk_kernel.proofs.Memory.MemoryCallLemmas.{machine_with_mem, on_ledger, with_mem}
 
 -- ---- ranges
 
@@ -165,6 +168,32 @@ module _ {W : Type 0} (held : W → Held) (k : Kernel W) (phys virt bytes flags 
   unfolding row_by
   row_is zero console e f = λ i. unless_refused (refusals_by (is_bad_range virt bytes) (are_bad_flags flags) (e i) (f i) wide mapped (virt == 0) fits used (is_none least) (are_too_many m (bytes / 4096))) served
 
+  -- neither the memory nor the console is asked for
+  pub elsewhere_refused : (phys == 0) ≡ false → (phys == CONSOLE_ADDRESS) ≡ false → Refused BadAddress ≡ row
+  unfolding row_by
+  elsewhere_refused e f =
+      sym (row_is false false e f
+      ∙ (λ i. unless_refused (refusals_by (range i) (asked.0 i) false false wide mapped (virt == 0) fits used (is_none least) (are_too_many m (bytes / 4096))) served))
+
+  -- the console has one page, and isn't executed
+  pub wide_refused : (phys == CONSOLE_ADDRESS) ≡ true → wide ≡ true → Refused BadAddress ≡ row
+  unfolding row_by
+  wide_refused f e =
+      sym (row_is (phys == 0) true refl f
+      ∙ (λ i. unless_refused (refusals_by (range i) (asked.0 i) (phys == 0) true (e i) mapped (virt == 0) fits used (is_none least) (are_too_many m (bytes / 4096))) served)
+      ∙ by_memory (phys == 0))
+    where
+      by_memory : (zero : Bool)
+          → unless_refused (refusals_by false false zero true true mapped (virt == 0) fits used (is_none least) (are_too_many m (bytes / 4096))) served ≡ Refused BadAddress
+      by_memory true = refl
+      by_memory false = refl
+
+  pub wide_by_size : bytes ≢ 4096 → wide ≡ true
+  wide_by_size e = ap (λ b. not b || has_flag flags flag_execute) (ne_eqb bytes 4096 e)
+
+  pub wide_by_right : right.x ≡ true → wide ≡ true
+  wide_by_right e = or_right (not (bytes == PAGE_SIZE)) (has_flag flags flag_execute) (sym (ap (λ (r : Right). r.x) asked.1) ∙ e)
+
   -- the machine that the caller is answered with
   abbrev done : Bool → ℕ → Place → Outcome
   done console address place = Served (with_ledger m (mapped_ledger console place (bytes / 4096) (right_of flags) m.ledger) (range_words address bytes))
@@ -198,16 +227,33 @@ module _ {W : Type 0} (held : W → Held) (k : Kernel W) (phys virt bytes flags 
     pub map_refused : (error : XousError) → Err error ≡ answer → Refused error ≡ row
     map_refused error e = ap (λ r. told r served) e ∙ pages_row
 
-    pub map_done : (mem : Memory W) (first : Vpn) → size mem ≡ size k.mem → Ok first ≡ answer
-        → ledger held mem ≡ make (page_place k.cursor.pid first) (bytes / 4096) right (ledger held k.mem)
-        → outcome_of k.cursor (machine_of held (with_mem mem k)) (Ok (Answered (Range (4096 * first.0) bytes))) ≡ row
+    -- with the pages that are made
+    abbrev made : Vpn → Ledger
+    made first = make (page_place k.cursor.pid first) (bytes / 4096) right (ledger held k.mem)
+
+    map_served_by : (first : Vpn) → Ok first ≡ answer
+        → outcome_of k.cursor (on_ledger (made first) (machine_of held k)) (Ok (Answered (Range (4096 * first.0) bytes))) ≡ row
     unfolding machine_of
-    map_done mem first s a e =
-        ap (λ n. outcome_of k.cursor n (Ok (Answered (Range (4096 * first.0) bytes))))
-        (machine_with_mem held k mem (make (page_place k.cursor.pid first) (bytes / 4096) (right_of flags) (ledger held k.mem)) s
-        (e ∙ ap (λ r. make (page_place k.cursor.pid first) (bytes / 4096) r (ledger held k.mem)) asked.1))
+    map_served_by first a =
+        ap (λ r. outcome_of k.cursor (on_ledger (make (page_place k.cursor.pid first) (bytes / 4096) r (ledger held k.mem)) (machine_of held k))
+        (Ok (Answered (Range (4096 * first.0) bytes)))) asked.1
         ∙ served_is false first other (not_room (are_too_many m (bytes / 4096)) (run_place (processes k.mem) (ledger held k.mem) k.cursor.pid Map at (bytes / 4096)) first a ∙ run_is)
         ∙ ap (λ r. told r served) a ∙ pages_row
+
+    pub map_done : {known : Type 0} (mem : Memory W) (first : Vpn) → size mem ≡ size k.mem → Ok first ≡ answer
+        → bare (ledger held mem) ≡ bare (made first) → (known → ledger held mem ≡ made first)
+        → ServesAs known k.cursor (machine_of held (with_mem mem k)) row (Ok (Answered (Range (4096 * first.0) bytes)))
+    map_done mem first s a rights whole = record {
+      target = on_ledger (made first) (machine_of held k);
+      is = map_served_by first a;
+      comes = made_comes held k mem (made first) s rights whole;
+    }
+
+    pub map_crowds : (first : Vpn) → is_pid (processes k.mem) k.cursor.pid.0 ≡ true → Ok first ≡ answer
+        → frames_for_pages k.mem < pages (processes k.mem) (ledger held k.mem) + bytes / 4096 → CrowdsBy held k row
+    map_crowds first process a more =
+        crowds_by held k (on_ledger (made first) (machine_of held k)) (Range (4096 * first.0) bytes) row (map_served_by first a)
+        (made_crowded held k Map at (bytes / 4096) right process first (sym a) more)
 
   -- ---- the console
 

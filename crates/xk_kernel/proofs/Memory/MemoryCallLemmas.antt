@@ -21,11 +21,9 @@ use Rattle.xk_base.specs.Numbers.Windows.{page_of}
 use Rattle.sv32_space.specs.Tie.{Held}
 use Rattle.syscall_codec.specs.declared.replies.Reply.TheVariants.{Plain}
 use Rattle.vm_memory.specs.declared.memory.Memory.{Memory}
-use Rattle.vm_memory.specs.Bytes.{MeansBytesOver, is_known, none_out}
 use Rattle.vm_memory.specs.Memory.{ledger, processes, size}
 use Rattle.vm_memory.specs.Pages.Removing.{after_reduce, after_remove, reduce_answer, remove_answer}
 use Rattle.vm_memory.specs.Sound.{IsSound as IsMemorySound}
-use Rattle.vm_memory.proofs.Changing.CallLemmas.{no_slots-none_out}
 use Rattle.xk_kernel.specs.Calling.{outcome_of}
 use Rattle.xk_kernel.specs.Sound.{IsWhole}
 use Rattle.xk_kernel.specs.State.{machine_of}
@@ -57,20 +55,12 @@ whole_with_mem slot_count held k mem whole s sound kept =
     let same : processes mem ≡ processes k.mem = ap (λ z. z.procs) s in
     record {
       mem = sound;
-      mem_slots = ap (λ z. z.slots) s ∙ whole.mem_slots;
       threads = whole.threads ∙ sym same;
       procs = whole.procs ∙ sym same;
       cursor = ap (λ n. is_thread_id n k.cursor) same ∙ whole.cursor;
       room = whole.room;
       servers = servers_over k.servers k.queues (processes k.mem) (processes mem) (loans (ledger held k.mem)) (loans (ledger held mem)) same kept whole.servers;
     }
-
--- no page is out, so that the ledger's bytes mean something
-pub means_over : {W : Type 0} (honest : W → Bool) (held : W → Held) (old new : Memory W) → (size old).slots ≡ 0 → size new ≡ size old
-    → MeansBytesOver honest held old new
-means_over honest held old new none same =
-    or_right (is_known honest held old) (none_out old && none_out new)
-    (and_from (none_out old) (none_out new) (no_slots-none_out old none) (no_slots-none_out new (ap (λ z. z.slots) same ∙ none)))
 
 -- ---- the caller
 

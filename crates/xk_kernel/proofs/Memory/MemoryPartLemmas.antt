@@ -45,7 +45,6 @@ module _ {W P : Type 0} (is_honest : W → Bool) (held : W → Held) (slot_count
   pub whole_with : IsWhole slot_count held (with_memory mem k)
   whole_with = record {
     mem = rest.sound whole.mem;
-    mem_slots = ap (λ (s : Size). s.slots) rest.sizes ∙ whole.mem_slots;
     threads = whole.threads ∙ sym procs;
     procs = whole.procs ∙ sym procs;
     cursor = ap (λ n. is_thread_id n k.cursor) procs ∙ whole.cursor;

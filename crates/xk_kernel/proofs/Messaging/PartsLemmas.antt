@@ -95,7 +95,6 @@ new_whole slot_count held k new next whole sound s room =
     let same : processes new.mem ≡ processes k.mem = ap (λ z. z.procs) s in
     record {
       mem = sound.mem;
-      mem_slots = ap (λ z. z.slots) s ∙ whole.mem_slots;
       threads = sound.processes;
       procs = whole.procs ∙ sym same;
       cursor = ap (λ n. is_thread_id n k.cursor) same ∙ whole.cursor;

@@ -41,7 +41,7 @@ one_death : (o : Option Pid) → length (death_told o) ≤ 1
 one_death None = omega arith
 one_death (Some pid) = omega arith
 
-few_settled : (change : Change) → IsFew 2 (settled change)
+pub few_settled : (change : Change) → IsFew 2 (settled change)
 unfolding settled
 few_settled change =
     let answered : List What = replies change.machine.processes change.answers in
@@ -54,16 +54,16 @@ few_settled change =
     length-append (delivery_told change.delivery) (death_told change.gone) in
     omega (arith, a, b, d, e, f)
 
-few_call : (m : Machine) (outcome : Outcome) → IsFew 2 (call_settled m outcome)
+pub few_call : (m : Machine) (outcome : Outcome) → IsFew 2 (call_settled m outcome)
 unfolding call_settled
 few_call m (Refused error) = omega arith
 few_call m Retried = omega arith
 few_call m (Served change) = few_settled (record change { machine = change_thread m.cursor passed change.machine })
 
-one_more : (what : What) (told : Told) → IsFew 2 told → IsFew 3 (after what told)
+pub one_more : (what : What) (told : Told) → IsFew 2 told → IsFew 3 (after what told)
 one_more what told h = omega (arith, h)
 
-few_console : (m : Machine) (who : ThreadId) (offset value : ℕ) → IsFew 3 (record { machine = m; told = console_told who offset value })
+pub few_console : (m : Machine) (who : ThreadId) (offset value : ℕ) → IsFew 3 (record { machine = m; told = console_told who offset value })
 few_console m who offset value = go (offset == 0)
   where
     go : (b : Bool) → length (if b then Byte who (value % 256) ∷ [] else []) ≤ thread_ids m.processes + 3

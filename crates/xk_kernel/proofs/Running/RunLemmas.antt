@@ -16,7 +16,7 @@ use Rattle.machine_model.specs.State.Threads.{put_thread, with_registers}
 use Rattle.machine_model.specs.State.Views.{memory_of, stored, timer_set}
 use Rattle.machine_model.specs.Runs.Matched.{Matched}
 use Rattle.rv32_atomics.specs.Performing.{Core, DoesPerform, IsPerformed, Performs}
-use Rattle.rv32_hart.specs.Running.{ran_of, registers_after, IfFailed, LeavesRegisters, View, seen}
+use Rattle.rv32_hart.specs.Running.{ran_of, registers_after, LeavesRegisters, View, seen}
 use Rattle.rv32_hart.specs.declared.ran.Ran.{Ran}
 use Rattle.rv32_hart.specs.declared.ran.Ran.TheVariants.{Ecall, Trap, Device, Failed}
 use Rattle.rv32_hart.specs.declared.ran.Ran.TheVariants as ran
@@ -24,15 +24,13 @@ use Rattle.sv32_space.specs.Tie.{Held}
 use Rattle.thread_table.specs.ThreadsOf.{process_count}
 use Rattle.thread_table.specs.declared.table.Threads.{Threads}
 use Rattle.vm_memory.specs.declared.memory.Memory.{Memory}
-use Rattle.vm_memory.specs.Bytes.{means_bytes}
-use Rattle.vm_memory.specs.Memory.{IsUsable}
-use Rattle.vm_memory.specs.Sound.{IsSound}
+use Rattle.vm_memory.specs.Bytes.{MeansBytes, MeansBytesOver, means_bytes}
 use Rattle.vm_memory.specs.Using.UserView.{KeepsRest, seen_memory, user_content, user_view}
-use Rattle.vm_memory.proofs.Changing.CallLemmas.{no_slots-means, no_slots-none_out}
 use Rattle.xk_kernel.specs.Running.{machine_after, timed_view}
 use Rattle.xk_kernel.specs.Sound.{IsWhole}
 use Rattle.xk_kernel.specs.State.{as_reservation, machine_of}
 use Rattle.xk_kernel.specs.declared.kernel.Kernel.{Kernel}
+use Rattle.xk_kernel.proofs.Memory.KnownLemmas.{means_ends}
 use Rattle.xk_kernel.proofs.Memory.MemoryPartLemmas.{memory_machine, whole_with, with_memory}
 use Rattle.xk_kernel.proofs.Memory.LedgerAfterLemmas.{ledger_after, ledger_by_bytes}
 use Rattle.xk_kernel.proofs.Memory.StoreLemmas.{StoresLawfully, stores_lawfully}
@@ -105,15 +103,15 @@ told_all b byte e = cond-true b (Some byte) None e
 abbrev telling : View → (ℕ → ℕ) → View
 telling view byte = record view { content = Some byte }
 
--- a memory that can't fail has executed the instruction
-is_performed : (effect : SeenMemory → Performed) (byte : ℕ → ℕ) (view after : View) (old new : Core) (answer : Ran) (Fit : Type 0)
-    → Fit → IfFailed answer (¬ Fit) → DoesPerform effect (telling view byte) after old new answer
+-- a memory that didn't fail has executed the instruction
+is_performed : (effect : SeenMemory → Performed) (byte : ℕ → ℕ) (view after : View) (old new : Core) (answer : Ran)
+    → (answer ≡ Failed → ⊥) → DoesPerform effect (telling view byte) after old new answer
     → IsPerformed (effect (seen view byte)) (telling view byte) after old new answer
-is_performed effect byte view after old new (ran.Next next) Fit fit f h = h
-is_performed effect byte view after old new Ecall Fit fit f h = h
-is_performed effect byte view after old new (Trap cause value) Fit fit f h = h
-is_performed effect byte view after old new (Device offset value next) Fit fit f h = h
-is_performed effect byte view after old new Failed Fit fit f h = absurd (f fit)
+is_performed effect byte view after old new (ran.Next next) done h = h
+is_performed effect byte view after old new Ecall done h = h
+is_performed effect byte view after old new (Trap cause value) done h = h
+is_performed effect byte view after old new (Device offset value next) done h = h
+is_performed effect byte view after old new Failed done h = absurd (done refl)
 
 -- the kernel with that memory and that compare value
 abbrev pub with_both : {W : Type 0} → Memory W → Option ℕ → Kernel W → Kernel W
@@ -127,19 +125,19 @@ pub record HasRun {W : Type 0} (held : W → Held) (k : Kernel W) (mem : Memory 
   pub machine : machine_of held (with_both mem timer k) ≡ memory_left pid (machine_of held k) (execute_at old.regs pc old.reserved (memory_of (machine_of held k) pid)).executed
 
 module _ {W P : Type 0} (is_honest : W → Bool) (held : W → Held) (slot_count : W → ℕ) (asked : W → P) (faults : W → ℕ)
-    (k : Kernel W) (mem : Memory W) (pid other : Pid) (same : other ≡ pid) (whole : IsWhole slot_count held k) (usable : IsUsable k.mem)
-    (rest : KeepsRest is_honest held slot_count asked faults pid k.mem mem) where
-  pub stays_usable : IsUsable mem
-  stays_usable = rest.out (no_slots-none_out k.mem whole.mem_slots) usable
+    (k : Kernel W) (mem : Memory W) (pid other : Pid) (same : other ≡ pid) (whole : IsWhole slot_count held k)
+    (rest : KeepsRest is_honest held slot_count asked faults pid k.mem mem) (over : MeansBytesOver is_honest held k.mem mem) where
+  means : MeansBytes is_honest held k.mem × MeansBytes is_honest held mem
+  means = means_ends is_honest held slot_count asked faults k.mem mem rest.store over
 
   abbrev byte : ℕ → ℕ
   byte = (user_view held k.mem pid).byte
 
   known_before : user_content is_honest held k.mem pid ≡ Some byte
-  known_before = told_all (means_bytes is_honest held k.mem) byte (no_slots-means is_honest held k.mem whole.mem_slots)
+  known_before = told_all (means_bytes is_honest held k.mem) byte means.0
 
   known_after : user_content is_honest held mem other ≡ Some (user_view held mem pid).byte
-  known_after = told_all (means_bytes is_honest held mem) (user_view held mem other).byte (no_slots-means is_honest held mem (ap (λ z. z.slots) rest.sizes ∙ whole.mem_slots))
+  known_after = told_all (means_bytes is_honest held mem) (user_view held mem other).byte means.1
       ∙ ap (λ p. Some (user_view held mem p).byte) same
 
   -- where the timer's page is, and the timer afterwards
@@ -160,9 +158,9 @@ module _ {W P : Type 0} (is_honest : W → Bool) (held : W → Held) (slot_count
     view_after = timed_view on k.steps timer pages_after
 
     pub has_run : (old new before : Core) (pc : ℕ) (answer : Ran) → old ≡ before → Performs view_before view_after old new pc answer
-        → IfFailed answer (¬ (IsSound slot_count mem × IsUsable mem)) → HasRun held k mem timer pid before new pc answer
+        → (answer ≡ Failed → ⊥) → HasRun held k mem timer pid before new pc answer
     unfolding machine_of seen_memory
-    has_run old new before pc answer same_core h f =
+    has_run old new before pc answer same_core h done =
         let view : SeenMemory = timed_memory on (timer_now k) (user_view held k.mem pid) in
         let x : Performed = execute_at before.regs pc before.reserved view in
         let told : View = telling view_before byte in
@@ -170,7 +168,7 @@ module _ {W P : Type 0} (is_honest : W → Bool) (held : W → Held) (slot_count
         subst (λ (core : Core). Performs told view_after core new pc answer) same_core
         (subst (λ o. Performs (record view_before { content = o }) view_after old new pc answer) known_before h) in
         let e : IsPerformed x told view_after before new answer =
-        is_performed (execute_at before.regs pc before.reserved) byte view_before view_after before new answer (IsSound slot_count mem × IsUsable mem) (rest.sound whole.mem, stays_usable) f known in
+        is_performed (execute_at before.regs pc before.reserved) byte view_before view_after before new answer done known in
         let same_x : execute_at before.regs pc before.reserved (memory_of (machine_of held k) pid) ≡ x =
         ap (execute_at before.regs pc before.reserved)
         (memory_seen held k pid matched ∙ ap (λ b. timed_memory b (timer_now k) (user_view held k.mem pid)) (sym claimed)) in
@@ -184,7 +182,7 @@ module _ {W P : Type 0} (is_honest : W → Bool) (held : W → Held) (slot_count
           machine =
               (λ i. record (memory_machine held k mem rest.sizes i) { compare = left i })
               ∙ ap (λ l. record (machine_of held k) { ledger = l; compare = compare_after k.timer x.executed })
-              (ledger_by_bytes is_honest held slot_count asked faults pid k.mem mem whole.mem whole.mem_slots rest (user_view held mem pid).byte refl x.executed
+              (ledger_by_bytes is_honest held slot_count asked faults pid k.mem mem whole.mem means.0 rest (user_view held mem pid).byte refl x.executed
               (allowed_inside on (timer_now k) (user_view held k.mem pid) x.executed refl lawful)
               (ap (λ (o : Content). unwrap_or o byte) (sym known_after ∙ e.executed.content)))
               ∙ ap (λ (p : Performed). memory_left pid (machine_of held k) p.executed) (sym same_x);
@@ -211,7 +209,6 @@ pub whole_lent : {W : Type 0} (slot_count : W → ℕ) (held : W → Held) (k : 
     → IsWhole slot_count held k → IsWhole slot_count held (record k { threads = threads })
 whole_lent slot_count held k threads count whole = record {
   mem = whole.mem;
-  mem_slots = whole.mem_slots;
   threads = count ∙ whole.threads;
   procs = whole.procs;
   cursor = whole.cursor;
@@ -231,7 +228,6 @@ whole_ran is_honest held slot_count asked faults k mem timer whole pid rest =
     let with : IsWhole slot_count held (with_memory mem k) = whole_with is_honest held slot_count asked faults k mem whole pid rest in
     record {
       mem = with.mem;
-      mem_slots = with.mem_slots;
       threads = with.threads;
       procs = with.procs;
       cursor = with.cursor;

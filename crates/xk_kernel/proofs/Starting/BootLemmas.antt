@@ -1,6 +1,6 @@
 -- The kernel that is booted is sound, and stands for the machine at the start.
 use Rattle.std.proofs.Common.{◌≡◌, ◌⊎◌, ℕ, ◌≤◌, Bool, true, false, List, [], length, Option, Some, None, refl, sym, ap, subst, ◌∙◌, arith, inl, inr}
-use Rattle.std.specs.Prelude.{◌==◌, if◌then◌else◌, IsTrue, replicate}
+use Rattle.std.specs.Prelude.{◌==◌, ◌<◌, if◌then◌else◌, IsTrue, replicate, slice_index_or}
 use Rattle.std.specs.List.{All}
 use Rattle.std.specs.Option.{option_and_then, option_map, option_map_or}
 use Rattle.std.proofs.lemmas.Bool.{cases_Bool, cases_lt, cond-false, eqb-true}
@@ -15,6 +15,7 @@ use Rattle.boot_plan.specs.declared.plans.ProcPlan.{ProcPlan}
 use Rattle.irq_claims.specs.ClaimMap.{no_claims}
 use Rattle.irq_claims.specs.ClaimsOf.{claims_of}
 use Rattle.ledger_model.specs.Lawful.{IsLawful}
+use Rattle.ledger_model.specs.Ledger.{Ledger}
 use Rattle.ledger_model.proofs.Pages.BareLemmas.{bare-lawful}
 use Rattle.kill_path.specs.Open.{AreServersSound}
 use Rattle.ledger_model.specs.Loans.{bare, loans}
@@ -23,7 +24,7 @@ use Rattle.machine_model.specs.Runs.Matched.{Matched}
 use Rattle.machine_model.specs.State.Start.{HasThread, IsStart}
 use Rattle.machine_model.specs.State.Threads.{first_handler_thread, first_thread, thread_id}
 use Rattle.machine_model.proofs.State.StartLemmas.{start_matched}
-use Rattle.msg_queue.specs.Seats.{empty_seat, seat_of}
+use Rattle.msg_queue.specs.Seats.{Seat, empty_seat, seat_of, used_of}
 use Rattle.process_table.specs.ProcessMap.{ProcessMap, new_processes}
 use Rattle.process_table.specs.ProcessesOf.{process_count as processes_made, processes_of}
 use Rattle.process_table.specs.State.{new_process}
@@ -40,6 +41,8 @@ use Rattle.xk_base.specs.declared.ids.Pid.{Pid}
 use Rattle.xk_base.specs.declared.ids.ThreadId.{ThreadId}
 use Rattle.xk_base.specs.declared.limits.TheConstants.{RECORD_LIMIT, SERVER_LIMIT}
 use Rattle.xk_kernel.proofs.Starting.FirstLedgerLemmas.{IsPlanned, first_no_heap, first_unlent, pid_of_planned, planned_of_pid}
+use Rattle.xk_kernel.proofs.Memory.KnownLemmas.{matched_alike}
+use Rattle.xk_kernel.specs.Knowing.{ComesTo, without_bytes}
 use Rattle.xk_kernel.specs.Sound.{IsSound}
 use Rattle.xk_kernel.specs.Start.{first_threads, start, threads_at_start}
 use Rattle.send_path.specs.Parts.{process_of, server_of, thread_of}
@@ -139,10 +142,17 @@ none_there n seat = elim (cases_lt seat n) [
   | inr high ↦ get_or_past (replicate n empty_seat) seat empty_seat (let all : length (replicate n empty_seat) ≡ n = length-replicate n empty_seat in omega arith)
 ]
 
+-- so they can be closed
+pub all_empty : (queues : List Seat) → queues ≡ replicate SERVER_LIMIT empty_seat → (k : ℕ) (d : Seat) → k < length queues
+    → used_of (slice_index_or queues k d) ≡ 0
+all_empty queues e k d low =
+    let all : length queues ≡ SERVER_LIMIT = ap length e ∙ length-replicate SERVER_LIMIT empty_seat in
+    ap (λ seats. used_of (slice_index_or seats k d)) e ∙ ap used_of (get_or-replicate SERVER_LIMIT k empty_seat d (omega (arith, low, all)))
+
 -- its parts are those of the plan
 pub record IsBooted {W : Type 0} (held : W → Held) (plan : BootPlan) (file : List ℕ) (k : Kernel W) : Type 0 where
   pub size : size k.mem ≡ record { procs = length plan.procs; area = record { start = plan.ram_start; frames = plan.frames }; slots = plan.slots }
-  pub ledger : ledger held k.mem ≡ first_ledger plan file
+  pub rights : bare (ledger held k.mem) ≡ bare (first_ledger plan file)
   pub threads : (id : ThreadId) → option_map thread_of (threads_of k.threads id) ≡ threads_at_start plan id
   pub procs : processes_of k.procs ≡ new_processes (length plan.procs)
   pub servers : servers_of k.servers ≡ no_servers
@@ -154,12 +164,14 @@ pub record IsBooted {W : Type 0} (held : W → Held) (plan : BootPlan) (file : L
   pub timer : k.timer ≡ None
   pub reserved : k.reserved ≡ None
 
-pub booted_machine : {W : Type 0} (held : W → Held) (plan : BootPlan) (file : List ℕ) (k : Kernel W) → IsBooted held plan file k → machine_of held k ≡ start plan file
+-- it stands for the start, with this ledger
+booted_over : {W : Type 0} (held : W → Held) (plan : BootPlan) (file : List ℕ) (k : Kernel W) → IsBooted held plan file k
+    → (l : Ledger) → ledger held k.mem ≡ l → machine_of held k ≡ record (start plan file) { ledger = l }
 unfolding machine_of start
-booted_machine held plan file k h = λ i. record {
+booted_over held plan file k h l e = λ i. record {
   capacity = ap (λ (s : Size). capacity s.area.frames s.procs s.slots) h.size i;
   processes = ap (λ (s : Size). s.procs) h.size i;
-  ledger = h.ledger i;
+  ledger = e i;
   steps = h.steps i;
   cursor = h.cursor i;
   threads = λ id. h.threads id i;
@@ -173,16 +185,29 @@ booted_machine held plan file k h = λ i. record {
   reserved = option_map as_reservation (h.reserved i);
 }
 
+-- THE MACHINE is the start of the plan but for bytes, and wholly where these are known
+pub booted_comes : {known : Type 0} {W : Type 0} (held : W → Held) (plan : BootPlan) (file : List ℕ) (k : Kernel W) → IsBooted held plan file k
+    → (known → ledger held k.mem ≡ first_ledger plan file) → ComesTo known (machine_of held k) (start plan file)
+unfolding start
+booted_comes held plan file k h whole = record {
+  alike =
+      ap without_bytes (booted_over held plan file k h (ledger held k.mem) refl)
+      ∙ (λ i. record (start plan file) { ledger = h.rights i });
+  whole = λ known. booted_over held plan file k h (first_ledger plan file) (whole known);
+}
+
 module _ {W : Type 0} (slot_count : W → ℕ) (held : W → Held) (plan : BootPlan) (file : List ℕ) (k : Kernel W) (h : IsBooted held plan file k)
     (can : All CanStart plan.procs) (few : length plan.procs ≤ 64) (mem : IsMemorySound slot_count k.mem) where
   ledger_lawful : IsLawful (length plan.procs) (capacity plan.frames (length plan.procs) plan.slots) (first_ledger plan file)
   ledger_lawful =
-      let same : bare (first_ledger plan file) ≡ bare (blank_ledger k.mem) = ap bare (sym h.ledger) ∙ bare-ledger held k.mem in
+      let same : bare (first_ledger plan file) ≡ bare (blank_ledger k.mem) = sym h.rights ∙ bare-ledger held k.mem in
       subst (λ (s : Size). IsLawful s.procs (capacity s.area.frames s.procs s.slots) (first_ledger plan file)) h.size
       (bare-lawful (processes k.mem) (capacity_of k.mem) (blank_ledger k.mem) (first_ledger plan file) same mem.lawful)
 
   pub booted_matched : Matched (machine_of held k)
-  booted_matched = subst Matched (sym (booted_machine held plan file k h)) (start_matched (start plan file) (start_is_start plan file can few ledger_lawful))
+  booted_matched =
+      matched_alike (machine_of held k) (start plan file) (booted_comes {known = ⊥} held plan file k h (λ never. absurd never)).alike
+      (start_matched (start plan file) (start_is_start plan file can few ledger_lawful))
 
   no_server : (n : ℕ) (server : Server) → (servers_of k.servers).live n ≡ Some server → ⊥
   no_server n server e = none-some server (sym (ap (λ (s : ServerState). s.live n) h.servers) ∙ e)
@@ -209,11 +234,10 @@ module _ {W : Type 0} (slot_count : W → ℕ) (held : W → Held) (plan : BootP
   }
 
   pub booted_sound : 1 ≤ length plan.procs → processes_threaded k.threads ≡ length plan.procs → processes_made k.procs ≡ length plan.procs → RECORD_LIMIT ≤ k.log.room
-      → plan.slots ≡ 0 → IsSound slot_count held k
-  booted_sound some threaded made room none = record {
+      → IsSound slot_count held k
+  booted_sound some threaded made room = record {
     whole = record {
       mem = mem;
-      mem_slots = ap (λ (s : Size). s.slots) h.size ∙ none;
       threads = threaded ∙ sym count;
       procs = made ∙ sym count;
       cursor = subst (λ (id : ThreadId). IsTrue (is_thread_id (processes k.mem) id)) (sym h.cursor) (subst (λ (n : ℕ). IsTrue (is_thread_id n first_turn)) (sym count) (first_lies (length plan.procs) some));

@@ -1,8 +1,7 @@
 use Rattle.std.proofs.Common.{◌≡◌, ◌∙◌, None, refl, ap, arith}
 use Rattle.xk_base.specs.Log.{LogState}
 use Rattle.xk_base.specs.declared.limits.TheConstants.{RECORD_LIMIT}
-use Rattle.vm_memory.proofs.Changing.CallLemmas.{no_slots-means}
-use Rattle.xk_kernel.proofs.Starting.BootLemmas.{IsBooted, booted_machine, booted_sound, first_turn}
+use Rattle.xk_kernel.proofs.Starting.BootLemmas.{IsBooted, all_empty, booted_comes, booted_sound, first_turn}
 use Rattle.xk_kernel.specs.declared.kernel.Kernel.{Kernel}
 use Rattle.xk_kernel.proofs.kernel.Kernel.boot.Given.{Over}
 use Rattle.xk_kernel.proofs.kernel.Kernel.boot.Goals as goal
@@ -26,7 +25,7 @@ kernel g c = record {
 booted : (g : Over) (c : goal.After-new-2 g) → IsBooted g.W.SwapStore.held c.args.plan.now c.args.file.now (kernel g c)
 booted g c = record {
   size = c.in-Ok-boot.ensures.size;
-  ledger = c.in-Ok-boot.ensures.whole (no_slots-means g.W.SwapStore.is_honest g.W.SwapStore.held c.in-Ok-boot.mem (ap (λ z. z.slots) c.in-Ok-boot.ensures.size ∙ c.requires.no_slots));
+  rights = c.in-Ok-boot.ensures.rights;
   threads = c.in-Ok.ensures.threads;
   procs = c.in-Ok.ensures.procs;
   servers = c.in-Ok.ensures.servers;
@@ -40,12 +39,15 @@ booted g c = record {
 }
 
 -- src/kernel/boot.rt
+pub close-requires : goal.close-requires
+close-requires g c = all_empty c.in-Ok.tables.4 c.in-Ok.ensures.queues
+
 pub returns-clause-sound : goal.returns-clause-sound
 returns-clause-sound g c =
     let room : c.in-Ok.tables.3.room ≡ RECORD_LIMIT = ap (λ (l : LogState). l.room) c.in-Ok.ensures.log in
     booted_sound g.W.SwapStore.slot_count g.W.SwapStore.held c.args.plan.now c.args.file.now (kernel g c) (booted g c)
     c.requires.can_start c.requires.lawful.few c.in-Ok-boot.ensures.sound c.requires.lawful.some
-    c.in-Ok.ensures.threaded c.in-Ok.ensures.made (omega arith) c.requires.no_slots
+    c.in-Ok.ensures.threaded c.in-Ok.ensures.made (omega arith)
 
 pub returns-clause-start : goal.returns-clause-start
-returns-clause-start g c = booted_machine g.W.SwapStore.held c.args.plan.now c.args.file.now (kernel g c) (booted g c)
+returns-clause-start g c = booted_comes g.W.SwapStore.held c.args.plan.now c.args.file.now (kernel g c) (booted g c) c.in-Ok-boot.ensures.whole

@@ -1,13 +1,15 @@
 -- A record tells of the call first.
 use Rattle.std.proofs.Common.{ap, subst}
-use Rattle.std.proofs.lemmas.Result.{on_ok_weaker}
+use Rattle.std.proofs.lemmas.Result.{on_err_weaker, on_ok_weaker}
 use Rattle.machine_model.specs.Calling.Calls.{call}
 use Rattle.machine_model.specs.State.Changes.{call_settled}
+use Rattle.machine_model.specs.Stepping.Step.{after}
 use Rattle.xk_base.specs.Log.{LogState}
 use Rattle.xk_base.specs.declared.records.What.TheVariants.{Call as Called}
 use Rattle.xk_kernel.specs.State.{machine_of}
 use Rattle.xk_kernel.specs.Telling.{Tells}
 use Rattle.xk_kernel.proofs.Calling.CallTableLemmas.{unhandled}
+use Rattle.xk_kernel.proofs.Calling.OverLemmas.{tells_exactly, tells_first_over}
 use Rattle.xk_kernel.proofs.Calling.SettleLemmas.{tells_first}
 use Rattle.xk_kernel.proofs.Ending.EventLemmas.{pushed_whole}
 use Rattle.xk_kernel.proofs.kernel.Kernel.call.Goals as goal
@@ -34,7 +36,7 @@ returns-in-Ok-clause-tells g c =
     let m = machine_of g.W.SwapStore.held k in
     on_ok_weaker c.call_asked.result
     (λ tells.
-    tells_first g.W.SwapStore.held k c.call_asked.new.self (Called k.cursor c.args.words) (record k { log = c.push.new.self })
+    tells_first_over g.W.SwapStore.held k c.call_asked.new.self (Called k.cursor c.args.words) (record k { log = c.push.new.self })
     (call_settled m (call m c.args.words)) c.push.ensures tells)
     c.call_asked.ensures.tells
 
@@ -43,7 +45,16 @@ unfolding machine_of
 returns-in-Err-clause-tells g c =
     let k = c.args.self.now in
     let m = machine_of g.W.SwapStore.held k in
-    tells_first g.W.SwapStore.held k c.refuse.new.self (Called k.cursor c.args.words) (record k { log = c.push.new.self }) (call_settled m (call m c.args.words))
+    tells_exactly g.W.SwapStore.held k c.refuse.new.self (after (Called k.cursor c.args.words) (call_settled m (call m c.args.words)))
+    (tells_first g.W.SwapStore.held k c.refuse.new.self (Called k.cursor c.args.words) (record k { log = c.push.new.self }) (call_settled m (call m c.args.words))
     c.push.ensures
     (subst (λ o. Tells g.W.SwapStore.held (record k { log = c.push.new.self }) c.refuse.new.self (call_settled m o))
-    (unhandled m c.args.words c.in-Err.error c.in-Err.ensures.no_other (c.in-Err.ensures.unhandled.0 c.in-Err.ensures.no_other)) c.refuse.ensures.tells)
+    (unhandled m c.args.words c.in-Err.error c.in-Err.ensures.no_other (c.in-Err.ensures.unhandled.0 c.in-Err.ensures.no_other)) c.refuse.ensures.tells))
+
+pub returns-in-Ok-clause-crowded : goal.returns-in-Ok-clause-crowded
+unfolding machine_of
+returns-in-Ok-clause-crowded g c = on_err_weaker c.call_asked.result (λ crowds. crowds) c.call_asked.ensures.crowded
+
+pub returns-in-Ok-clause-near : goal.returns-in-Ok-clause-near
+unfolding machine_of
+returns-in-Ok-clause-near g c = c.call_asked.ensures.near

@@ -1,7 +1,10 @@
--- What the thread did is the step of the machine, once it is counted.
-use Rattle.std.proofs.Common.{◌<◌, arith}
+-- What the thread did is the step of the machine, once it is counted, where bytes are known; over any bytes the kernel stays sound.
+use Rattle.std.proofs.Common.{◌<◌, sym, ap, subst, ◌∙◌, arith}
+use Rattle.std.specs.Prelude.{is_some}
+use Rattle.vm_memory.specs.Bytes.{MeansBytesOver, none_out}
 use Rattle.xk_kernel.specs.State.{machine_of}
-use Rattle.xk_kernel.proofs.Acting.StepOfLemmas.{claim_there, counting_whole, did, did_sound, few_records, of_its_step}
+use Rattle.xk_kernel.proofs.Acting.SettlesLemmas.{on_failure}
+use Rattle.xk_kernel.proofs.Acting.StepOfLemmas.{claim_there, counting_whole, counts_one, did, did_sound, failed_sound, few_records, may_exchange, of_its_step}
 use Rattle.xk_kernel.proofs.kernel.Kernel.step_of.Goals as goal
 
 pub overflow_add-number : goal.overflow_add-number
@@ -18,17 +21,42 @@ pub ring-requires-clause-whole : goal.ring-requires-clause-whole
 ring-requires-clause-whole g c = counting_whole g.W.SwapStore.slot_count g.W.SwapStore.held c.args.self.now c.act.new.self c.args.who c.requires.who c.in_ok-reserved.reserved c.reservation-self.result c.reservation-self.ensures c.in_ok-reserved.ensures.whole
 
 pub ring-requires-clause-claim : goal.ring-requires-clause-claim
-ring-requires-clause-claim g c = claim_there g.W.SwapStore.slot_count g.W.SwapStore.held c.args.self.now c.act.new.self c.args.who c.requires.who c.in_ok-reserved.reserved c.reservation-self.result c.reservation-self.ensures c.in_ok-reserved.ensures.acts c.requires.sound c.requires.usable
+ring-requires-clause-claim g c = claim_there g.W.SwapStore.slot_count g.W.SwapStore.held c.args.self.now c.act.new.self c.args.who c.requires.who c.in_ok-reserved.reserved c.reservation-self.result c.reservation-self.ensures c.in_ok-reserved.ensures.tells c.in_ok-reserved.ensures.settles
 
 pub ring-requires-clause-few : goal.ring-requires-clause-few
-ring-requires-clause-few g c = few_records g.W.SwapStore.slot_count g.W.SwapStore.held c.args.self.now c.act.new.self c.args.who c.requires.who c.in_ok-reserved.reserved c.reservation-self.result c.reservation-self.ensures c.in_ok-reserved.ensures.acts c.in_ok-reserved.ensures.whole
+ring-requires-clause-few g c = few_records g.W.SwapStore.slot_count g.W.SwapStore.held c.args.self.now c.act.new.self c.args.who c.requires.who c.in_ok-reserved.reserved c.reservation-self.result c.reservation-self.ensures c.in_ok-reserved.ensures.tells c.requires.sound.whole
 
 pub ring-requires-clause-step : goal.ring-requires-clause-step
-ring-requires-clause-step g c = of_its_step g.W.SwapStore.slot_count g.W.SwapStore.held c.args.self.now c.act.new.self c.args.who c.requires.who c.in_ok-reserved.reserved c.reservation-self.result c.reservation-self.ensures c.in_ok-reserved.ensures.acts
+ring-requires-clause-step g c = of_its_step g.W.SwapStore.slot_count g.W.SwapStore.held c.args.self.now c.act.new.self c.args.who c.requires.who c.in_ok-reserved.reserved c.reservation-self.result c.reservation-self.ensures c.in_ok-reserved.ensures.tells
 
 pub returns-clause-sound : goal.returns-clause-sound
 returns-clause-sound g c =
-    did_sound g.W.SwapStore.slot_count g.W.SwapStore.held c.args.self.now c.act.new.self c.args.who c.requires.who c.in_ok-reserved.reserved c.reservation-self.result c.reservation-self.ensures c.in_ok-reserved.ensures.acts c.requires.sound c.requires.usable c.ring.new.self c.ring.ensures.whole c.ring.ensures.rings
+    did_sound g.W.SwapStore.slot_count g.W.SwapStore.held c.args.self.now c.act.new.self c.args.who c.requires.who c.in_ok-reserved.reserved c.reservation-self.result c.reservation-self.ensures c.in_ok-reserved.ensures.tells c.in_ok-reserved.ensures.settles c.ring.new.self c.ring.ensures.whole c.ring.ensures.rings
+
+pub returns-clause-counts : goal.returns-clause-counts
+returns-clause-counts g c =
+    (ap is_some c.requires.who, counts_one g.W.SwapStore.slot_count g.W.SwapStore.held c.args.self.now c.act.new.self c.args.who c.requires.who c.in_ok-reserved.reserved c.reservation-self.result c.reservation-self.ensures c.in_ok-reserved.ensures.tells c.ring.new.self c.ring.ensures.rings)
 
 pub returns-clause-does : goal.returns-clause-does
-returns-clause-does g c = did g.W.SwapStore.slot_count g.W.SwapStore.held c.args.self.now c.act.new.self c.args.who c.requires.who c.in_ok-reserved.reserved c.reservation-self.result c.reservation-self.ensures c.in_ok-reserved.ensures.acts c.ring.new.self c.ring.ensures.rings
+returns-clause-does g c known =
+    did g.W.SwapStore.slot_count g.W.SwapStore.held c.args.self.now c.act.new.self c.args.who c.requires.who c.in_ok-reserved.reserved c.reservation-self.result c.reservation-self.ensures
+    (c.in_ok-reserved.ensures.acts (subst (λ mem. MeansBytesOver g.W.SwapStore.is_honest g.W.SwapStore.held c.args.self.now.mem mem) c.ring.ensures.mem known))
+    c.ring.new.self c.ring.ensures.rings
+
+pub returns-clause-out : goal.returns-clause-out
+returns-clause-out g c out =
+    may_exchange g.W.SwapStore.held c.args.self.now c.args.who c.requires.who (c.act.ensures.out (sym (ap (λ mem. none_out mem) c.ring.ensures.mem) ∙ out))
+
+-- ---- the store failed
+
+pub returns-in_err-reserved-clause-there : goal.returns-in_err-reserved-clause-there
+returns-in_err-reserved-clause-there g c = on_failure c.from_residual.result _ (ap is_some c.requires.who)
+
+pub returns-in_err-reserved-clause-full : goal.returns-in_err-reserved-clause-full
+returns-in_err-reserved-clause-full g c = on_failure c.from_residual.result _ (may_exchange g.W.SwapStore.held c.args.self.now c.args.who c.requires.who c.in_err-reserved.ensures.full)
+
+pub returns-in_err-reserved-clause-out : goal.returns-in_err-reserved-clause-out
+returns-in_err-reserved-clause-out g c out = may_exchange g.W.SwapStore.held c.args.self.now c.args.who c.requires.who (c.act.ensures.out out)
+
+pub returns-in_err-reserved-clause-sound : goal.returns-in_err-reserved-clause-sound
+returns-in_err-reserved-clause-sound g c = failed_sound g.W.SwapStore.slot_count g.W.SwapStore.held c.act.new.self c.act.ensures.whole c.in_err-reserved.ensures.failed
