@@ -5,10 +5,16 @@ use Rattle.std.specs.List.{FoldsTo}
 use Rattle.std.proofs.lemmas.Bool.{cases_Bool, cases_lt, cond-true, cond-false}
 use Rattle.std.proofs.lemmas.Bool.Decides.{nat_tests}
 use Rattle.std.proofs.lemmas.List.{get_or_append_left, get_or-append_right, get_or-take, get_or-drop, get_or-replicate, length-replicate, length-take-le}
+use Rattle.std.proofs.lemmas.List.{with_items_is}
+use Rattle.std.proofs.lemmas.List.Edits.{paste_all, length-paste}
+use Rattle.std.proofs.lemmas.Slice.{put_mid-paste}
+use Rattle.std.specs.Vec.{with_items}
+use borrow.Rule.Slice.PartMut.{put_mid}
 use Rattle.xk_base.specs.declared.ids.Pid.{Pid}
 use Rattle.xk_base.specs.declared.ids.ThreadId.{ThreadId}
 use Rattle.xk_base.specs.Tables.Circle.{IsPid, is_thread_id, thread_ids, place_of}
 use Rattle.xk_base.specs.Tables.RowMap.{row_map}
+use Rattle.thread_table.specs.declared.table.Threads.{Threads}
 use Rattle.thread_table.specs.declared.thread.Thread.{Thread}
 use Rattle.thread_table.specs.ThreadMap.{thread_map, without_process}
 use Rattle.thread_table.proofs.PlaceLemmas.{thread_map_read, thread_map_outside}
@@ -86,3 +92,18 @@ thread_map_without n first xs ys pid size is at same =
           | inl here ↦ cond-true (e.pid.0 == pid.0) None (thread_map n xs e) here
           | inr apart ↦ cond-false (e.pid.0 == pid.0) None (thread_map n xs e) apart ∙ thread_map_outside n xs e out
         ]
+
+-- .. as they are filled in the table
+pub emptied_process : (t : Threads) (pid : Pid) (lent left : List (Option Thread)) → lent ≡ t.by_place.items → left ≡ replicate (length left) None → length left ≡ 31
+    → IsPid t.procs pid.0 → thread_map t.procs (with_items t.by_place (put_mid ((pid.0 - 2) * 31) ((pid.0 - 2) * 31 + 31 - (pid.0 - 2) * 31) lent left)).items
+    ≡ without_process pid (thread_map t.procs t.by_place.items)
+emptied_process t pid lent left same none count is =
+    let first = (pid.0 - 2) * 31 in
+    let places = t.by_place in
+    let size : length places.items ≡ thread_ids t.procs = omega arith in
+    let within : first + 31 ≤ length lent = let low = is.0 in let high = is.1 in let long : length lent ≡ length places.items = ap length same in omega arith in
+    let pasted = put_mid-paste first (first + 31 - first) lent left left 31 refl (omega arith) (sym count) in
+    let whole : length lent ≡ places.len = ap length same ∙ sym places.ok.0 in
+    ap (thread_map t.procs) (with_items_is places _ (ap length pasted ∙ length-paste lent first left 31 within (omega arith) ∙ whole)
+    ∙ pasted ∙ paste_all lent first left 31 (sym count) ∙ ap (λ xs. take first xs ++ (left ++ drop (first + 31) xs)) same)
+    ∙ thread_map_without t.procs first places.items left pid size is refl (none ∙ ap (λ k. replicate k None) count)

@@ -30,6 +30,14 @@ abbrev pub is_ready : Option Thread → Bool
 is_ready None = false
 is_ready (Some t) = is_ready_state t.state
 
+-- the id with that tid of the process in a row, counted from 0
+abbrev pub id_in_row : ℕ → ℕ → ThreadId
+id_in_row row tid = record { pid = record { 0 = row + 2 }; tid = record { 0 = tid } }
+
+-- the thread of that id may do the next step
+abbrev pub is_ready_in : ThreadMap → ℕ → ℕ → Bool
+is_ready_in m row tid = is_ready (m (id_in_row row tid))
+
 -- there is such a thread, and it waits for a message at the server
 abbrev pub is_receiving : Serial → Option Thread → Bool
 is_receiving serial None = false

@@ -3,6 +3,7 @@
 
 mod table;
 mod thread;
+mod tids;
 
 pub use table::{Threads, id_at, place_of};
 pub use thread::{Thread, ThreadState};

@@ -1,14 +1,16 @@
 //! The table of threads.
 
-ghost use Rattle.std.specs.Prelude.{◌≡◌, ◌<◌, ◌≤◌, ◌+◌, ◌%◌, true, IfOk, IsSome, Some, is_none, vec_len};
+ghost use Rattle.std.specs.Prelude.{◌≡◌, ◌<◌, ◌≤◌, ◌+◌, ◌-◌, ◌%◌, ℕ, true, false, IfOk, IfSome, IfNone, IsSome, Some, None, is_none, replicate, vec_len};
 ghost use Rattle.std.specs.Option.{option_copied};
-ghost use Rattle.xk_base.specs.Tables.Circle.{IsPid, IsTid, is_thread_id, same_thread, thread_ids, place_of, id_at, id_behind, id_by_tid, ids_until};
+ghost use Rattle.xk_base.specs.Tables.Circle.{IsPid, IsTid, is_thread_id, same_thread, thread_ids, place_of, id_at, id_by_tid};
 ghost use Rattle.xk_base.specs.Tables.Counting.{put_at};
 ghost use Rattle.xk_base.specs.declared.ids.ThreadId.{ThreadId as Id};
 ghost use Rattle.xk_base.specs.declared.limits.TheConstants.{PROCESS_LIMIT};
-ghost use Rattle.thread_table.specs.ThreadMap.{no_threads, without_process, free_tid, thread_above, tids_above, live_threads, receiver, next_ready, is_ready, is_receiving};
+ghost use Rattle.thread_table.specs.ThreadMap.{no_threads, thread_map, without_process, free_tid, thread_above, tids_above, live_threads, receiver, next_ready, id_in_row, is_ready_in, is_receiving};
+ghost use Rattle.thread_table.specs.TidSets.{no_tids, AreMarked};
 
 use crate::thread::{Thread, thread_in};
+use crate::tids::Tids;
 use std::alloc::Global;
 use xk_base::limits::{PROCESS_LIMIT, TID_LIMIT};
 use xk_base::{NoMemory, Pid, Serial, ThreadId, Tid};
@@ -17,13 +19,16 @@ use xk_base::{NoMemory, Pid, Serial, ThreadId, Tid};
 const TIDS: usize = TID_LIMIT as usize;
 
 /// The threads of a fixed number of processes, with a place for each (pid, tid) that they may have, in
-/// ascending order.
+/// ascending order. Searches pass over the tids that are in no process's set.
 #[derive(Debug, Drop)]
 pub struct Threads {
     procs: u32,
     by_place: Vec<Option<Thread>>,
+    there: Vec<Tids>,
     ghost few: { procs ≤ PROCESS_LIMIT },
     ghost whole: { vec_len by_place ≡ thread_ids procs },
+    ghost sets: { vec_len there ≡ procs },
+    ghost marked: { AreMarked there.items (thread_map procs by_place.items) },
 }
 
 /// The place of the id: how many ids of a pid of 2 or more stand before it in ascending order of (pid, tid).
@@ -46,12 +51,49 @@ pub fn id_at(place: usize) -> ThreadId
     }
 }
 
-/// How many ids stand at or before the id.
-fn ids_until(id: ThreadId) -> usize
-    requires { 2 ≤ id.pid.0 }
-    ensures { result ≡ ids_until id }
+/// In which row, counted from 0, the process stands.
+fn row_of(pid: Pid) -> usize
+    requires { 2 ≤ pid.0 }
+    ensures { result ≡ pid.0 - 2 }
 {
-    (id.pid.0 as usize - 2) * TIDS + id.tid.0.min(TID_LIMIT) as usize
+    pid.0 as usize - 2
+}
+
+/// The id with that tid of the process in the row.
+fn id_in_row(row: usize, tid: u8) -> ThreadId
+    requires { row < PROCESS_LIMIT }
+    ensures { result ≡ id_in_row row tid }
+{
+    ThreadId {
+        pid: Pid(row as u8 + 2),
+        tid: Tid(tid),
+    }
+}
+
+/// As many empty sets.
+fn empty_sets(alloc: Global, procs: usize) -> Result<Vec<Tids>, NoMemory>
+    ensures { IfOk result (λ sets. sets.items ≡ replicate procs no_tids) }
+{
+    let Ok(mut sets) = Vec::with_capacity(alloc, procs) else {
+        return Err(NoMemory);
+    };
+    for _set in 0..procs {
+        sets.push_reserved(Tids::none());
+    }
+    Ok(sets)
+}
+
+/// As many empty places.
+fn empty_places(alloc: Global, places: usize) -> Result<Vec<Option<Thread>>, NoMemory>
+    ensures { IfOk result (λ threads. threads.items ≡ replicate places None) }
+{
+    let Ok(mut threads) = Vec::with_capacity(alloc, places) else {
+        return Err(NoMemory);
+    };
+    for _place in 0..places {
+        threads.push_reserved(None);
+    }
+    Ok(threads)
 }
 
 #[tactic(auto, using(crate::proofs::PlaceLemmas::thread_map_laws), unfolding(crate::specs::ThreadsOf::process_count, crate::specs::ThreadsOf::threads_of, crate::specs::Lending::with_thread))]
@@ -69,14 +111,13 @@ impl Threads {
         ensures count { IfOk result (λ t. process_count t ≡ procs) }
         ensures empty { IfOk result (λ t. threads_of t ≡ no_threads) }
     {
-        let places = procs as usize * TIDS;
-        let Ok(mut by_place) = Vec::with_capacity(alloc, places) else {
-            return Err(NoMemory);
-        };
-        for _place in 0..places {
-            by_place.push_reserved(None);
-        }
-        Ok(Threads { procs, by_place })
+        let by_place = empty_places(alloc, procs as usize * TIDS)?;
+        let there = empty_sets(alloc, procs as usize)?;
+        Ok(Threads {
+            procs,
+            by_place,
+            there,
+        })
     }
 
     /// Whether the table has a place for the id.
@@ -132,6 +173,8 @@ impl Threads {
         ensures after { threads_of self.new ≡ put_at same_thread (threads_of self.old) id (Some thread) }
         ensures count { process_count self.new ≡ process_count self.old }
     {
+        let row = row_of(id.pid);
+        self.there[row] = self.there[row].with(id.tid);
         self.by_place[place_of(id)] = Some(thread);
     }
 
@@ -150,7 +193,9 @@ impl Threads {
         ensures after { threads_of self.new ≡ put_at same_thread (threads_of self.old) id None }
         ensures count { process_count self.new ≡ process_count self.old }
     {
+        let row = row_of(id.pid);
         self.by_place[place_of(id)] = None;
+        self.there[row] = self.there[row].without(id.tid);
     }
 
     /// Ends all threads of the process.
@@ -161,6 +206,7 @@ impl Threads {
     {
         let first = (pid.0 as usize - 2) * TIDS;
         self.by_place[first..first + TIDS].fill_with(|| None);
+        self.there[row_of(pid)] = Tids::none();
     }
 
     /// Whether no thread of the process has the tid `k + 2`.
@@ -249,22 +295,47 @@ impl Threads {
         None
     }
 
-    /// The place that many after the first behind the id, in the circle of places.
-    fn place_behind(&self, id: ThreadId, k: usize) -> usize
-        requires id { IsPid (process_count self.now) id.pid.0 }
-        requires k { k < thread_ids (process_count self.now) }
-        ensures { result ≡ (ids_until id + k) % thread_ids (process_count self.now) }
+    /// The row that many after the row of a process; the first follows the last.
+    fn row_behind(&self, own: usize, turn: usize) -> usize
+        requires own { own < process_count self.now }
+        requires turn { turn ≤ process_count self.now }
+        ensures { result ≡ (own + turn) % process_count self.now }
     {
-        (ids_until(id) + k) % (self.procs as usize * TIDS)
+        let procs = self.procs as usize;
+        if own + turn < procs {
+            own + turn
+        } else {
+            own + turn - procs
+        }
     }
 
-    /// Whether a thread that may do the next step stands that many behind the id.
-    fn is_ready_behind(&self, id: ThreadId, k: usize) -> bool
-        requires id { IsPid (process_count self.now) id.pid.0 }
-        requires k { k < thread_ids (process_count self.now) }
-        ensures { result ≡ is_ready (threads_of self.now (id_behind (process_count self.now) id k)) }
+    /// Whether the process in the row has a Ready thread with the tid.
+    fn is_ready_in(&self, row: usize, tid: u8) -> bool
+        requires row { row < process_count self.now }
+        requires tid { IsTid tid }
+        ensures { result ≡ is_ready_in (threads_of self.now) row tid }
     {
-        self.by_place[self.place_behind(id, k)].is_some_and(|thread| thread.state.is_ready())
+        self.by_place[row * TIDS + (tid as usize - 1)].is_some_and(|thread| thread.state.is_ready())
+    }
+
+    /// Of the Ready threads with that tid or a greater one, of the process in the row, the least tid.
+    fn ready_from(&self, row: usize, from: u8) -> Option<u8>
+        requires row { row < process_count self.now }
+        requires from { 1 ≤ from }
+        ensures none { IfNone result ((tid : ℕ) → from ≤ tid → is_ready_in (threads_of self.now) row tid ≡ false) }
+        ensures found { IfSome result (λ tid. (from ≤ tid) × (tid ≤ TID_LIMIT) × (is_ready_in (threads_of self.now) row tid ≡ true)) }
+        ensures first { IfSome result (λ least. (tid : ℕ) → from ≤ tid → tid < least → is_ready_in (threads_of self.now) row tid ≡ false) }
+    {
+        let tids = self.there[row];
+        for tid in from..TID_LIMIT + 1 {
+            if tids.all_below(Tid(tid)) {
+                return None;
+            }
+            if tids.has(Tid(tid)) && self.is_ready_in(row, tid) {
+                return Some(tid);
+            }
+        }
+        None
     }
 
     /// The first Ready thread strictly after the id in the cyclic order of (pid, tid), the id itself
@@ -273,9 +344,17 @@ impl Threads {
         requires { IsPid (process_count self.now) id.pid.0 }
         ensures { result ≡ next_ready (process_count self.now) (threads_of self.now) id }
     {
-        let places = self.procs as usize * TIDS;
-        let first = (0..places).find(|k| self.is_ready_behind(id, *k));
-        Some(id_at(self.place_behind(id, first?)))
+        let own = row_of(id.pid);
+        if let Some(tid) = self.ready_from(own, id.tid.0.min(TID_LIMIT) + 1) {
+            return Some(id_in_row(own, tid));
+        }
+        for turn in 1..self.procs as usize + 1 {
+            let row = self.row_behind(own, turn);
+            if let Some(tid) = self.ready_from(row, 1) {
+                return Some(id_in_row(row, tid));
+            }
+        }
+        None
     }
 }
 

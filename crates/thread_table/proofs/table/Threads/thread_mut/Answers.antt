@@ -6,7 +6,7 @@ pub returns : goal.returns
 returns c =
     let t = c.args.self.now in
     let id = c.args.id in (
-      (refl, λ w. given_back_at t id w _ _ c.place_of.result c.place_of.ensures),
+      (refl, λ w. given_back_at t id w _ _ _ c.place_of.result _ c.place_of.ensures c.requires),
       record {
         lends = tt;
         value = lent_from t id c.place_of.result c.index_mut.result.now c.requires c.place_of.ensures c.index_mut.ensures.value ∙ c.thread_in.ensures.value;

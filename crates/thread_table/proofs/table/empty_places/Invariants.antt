@@ -1,8 +1,8 @@
 use Rattle.std.proofs.Common.{◌≡◌, ◌≤◌, replicate, None, vec_capacity}
-use Rattle.thread_table.proofs.table.Threads.new.Given as goal
+use Rattle.thread_table.proofs.table.empty_places.Given as goal
 
 abbrev pub invariant-loop-place : goal.invariant-loop-place
 invariant-loop-place l = record {
-  made : l.by_place.items ≡ replicate l._place None;
-  room : l.places ≤ vec_capacity l.by_place;
+  made : l.threads.items ≡ replicate l._place None;
+  room : l.places ≤ vec_capacity l.threads;
 }
