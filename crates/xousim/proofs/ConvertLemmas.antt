@@ -9,9 +9,10 @@ use Rattle.kernel_args.specs.Loads.{is_load_outside}
 use Rattle.boot_plan.proofs.NoFaultLemmas.{IsFaultless, all_faultless}
 use Rattle.xk_ports.specs.declared.host.FileSlot.TheVariants.{First}
 use Rattle.xk_base.specs.declared.limits.TheConstants.{IMAGE_LIMIT, SLOT_LIMIT}
-use Rattle.xousim.specs.declared.status.Status.{Status}
-use Rattle.xousim.specs.declared.status.Status.TheVariants.{Done, Usage, ReadFault, WriteFault, ImageFault, EventFault, StepLimit, NoMemory, NotBuilt}
-use Rattle.xousim.specs.Outcome.{Call, EndsConvert, HasCause, IsSoundImage, OutRose, Writes, conversion}
+use Rattle.xousim.specs.declared.status.Status.TheVariants.{WriteFault}
+use Rattle.xousim.specs.Outcome.Convert.{EndsConvert, Writes, conversion}
+use Rattle.xousim.specs.Outcome.Images.{IsSoundImage}
+use Rattle.xousim.specs.Outcome.Sides.{Call, OutRose}
 use Rattle.xousim.specs.Reading.{Asked, IsFile, IsTold}
 use Rattle.xousim.proofs.MatchedLemmas.{no_plan_fault}
 
@@ -36,18 +37,6 @@ convertible image args asked sound first short = record {
   short = short;
 }
 
--- a write that fails has its cause
-pub written_cause : (bytes : List ℕ) (call : Call) (status : Status) → Writes bytes call.out status → (status ≡ WriteFault → OutRose call) → HasCause call status
-written_cause bytes call Done written rose = tt
-written_cause bytes call WriteFault written rose = rose refl
-written_cause bytes call (ImageFault fault) written rose = tt
-written_cause bytes call Usage written rose = absurd written
-written_cause bytes call ReadFault written rose = absurd written
-written_cause bytes call NoMemory written rose = absurd written
-written_cause bytes call NotBuilt written rose = absurd written
-written_cause bytes call (EventFault line) written rose = absurd written
-written_cause bytes call (StepLimit limit) written rose = absurd written
-
 -- what is written of an image that was read
 pub ends_written : (name image bytes : List ℕ) (args : Args) (call : Call) → Asked call.host.asked call.host.asked_after First name true
     → IsFile call.host.files name image → IsSoundImage image (Some SLOT_LIMIT) args → bytes ≡ conversion image args → IsTold call.host.image_left []
@@ -55,7 +44,7 @@ pub ends_written : (name image bytes : List ℕ) (args : Args) (call : Call) →
 ends_written name image bytes args call asked read sound converts left written rose =
     inr (record {
       asked = asked;
-      cause = written_cause bytes call call.status written rose;
+      cause = rose;
       bytes = bytes;
       conversion = record { image = image; read = read; args = args; sound = sound; converts = converts };
       content = written;

@@ -19,7 +19,7 @@ use Rattle.boot_plan.proofs.MovedLemmas.{HasMoved, IsMoved, IsMovedImage, moved_
 use Rattle.machine_model.specs.State.Machine.{Machine}
 use Rattle.xk_base.specs.declared.limits.TheConstants.{IMAGE_LIMIT}
 use Rattle.xk_kernel.specs.Start.{start}
-use Rattle.xousim.specs.Outcome.{Boots, IsSoundImage}
+use Rattle.xousim.specs.Outcome.Images.{Boots, IsSoundImage}
 use Rattle.xousim.proofs.ConvertLemmas.{convertible}
 use Rattle.xousim.proofs.MatchedLemmas.{Cases, no_plan_fault}
 use Rattle.xousim.proofs.MovedStartLemmas.{moved_start}

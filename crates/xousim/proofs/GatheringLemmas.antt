@@ -1,13 +1,13 @@
 -- Telling, one piece after another, while what is told is gathered.
-use Rattle.std.proofs.Common.{◌≡◌, ℕ, List, [], ◌++◌, Option, Result, Ok, Err, sym, ap, ◌∙◌, append_assoc, append-nil}
-use Rattle.xk_base.specs.declared.errors.Failed.{Failed}
+use Rattle.std.proofs.Common.{◌≡◌, ℕ, List, [], ◌++◌, Option, sym, ap, subst, ◌∙◌, append_assoc, append-nil}
 use Rattle.xk_ports.specs.Told.{Grows, GrowsByPrefix}
 use Rattle.xk_ports.proofs.ToldLemmas.{Grows-append, Grows-none}
 use Rattle.xousim.specs.declared.commands.command.Telling.{Telling}
 use Rattle.xousim.specs.declared.playing.ending.Ending.{Ending}
-use Rattle.xousim.specs.Gathering.{Gathered, Gathers, GathersPart, Text, put, text}
+use Rattle.xousim.specs.Gathering.{Gathered, Gathers, GathersPart, GathersSome, Text, put, text}
 use Rattle.xousim.specs.History.{History}
-use Rattle.xousim.specs.Writing.{Wrote}
+use Rattle.xousim.specs.Telling.{told}
+use Rattle.xousim.specs.Writing.{Wrote, WroteSome}
 
 -- nothing is told
 pub gathers_none : (on : Text) → Gathers on on []
@@ -71,10 +71,18 @@ gathers_unput before out after held xs first front = (
 )
 
 -- where all was put before and after, what was told was written
-pub all_put : (tells : Telling) (before after : Option (List ℕ)) (h : History) (result : Result Ending Failed) → Gathered tells (put before) (put after) h result → Wrote tells before after h result
-all_put tells before after h (Ok ending) gathered =
-    (gathered.0, subst_grown before after gathered.1.front _ (gathered.1.cut ∙ append-nil gathered.1.front) gathered.1.grown)
-  where
-    subst_grown : (old new : Option (List ℕ)) (front all : List ℕ) → all ≡ front → Grows old new front → Grows old new all
-    subst_grown old new front all is grown = rw is grown
-all_put tells before after h (Err failed) part = part
+pub put_grown : (before after : Option (List ℕ)) (all : List ℕ) → Gathers (put before) (put after) all → Grows before after all
+put_grown before after all gathered =
+    let P : List ℕ → Type 0 = λ text. Grows before after text in subst P (sym (gathered.cut ∙ append-nil gathered.front)) gathered.grown
+
+pub all_put : (tells : Telling) (before after : Option (List ℕ)) (h : History) (ending : Ending) → Gathered tells (put before) (put after) h ending → Wrote tells before after h ending
+all_put tells before after h ending gathered = record { ended = gathered.0; written = put_grown before after (told tells h.records) gathered.1 }
+
+pub some_put : (tells : Telling) (before after : Option (List ℕ)) (limit : ℕ) (h : ℕ → History) → GathersSome tells (put before) (put after) limit h
+    → WroteSome tells before after limit h
+some_put tells before after limit h some = record {
+  done = some.done;
+  within = some.within;
+  met = some.met;
+  written = put_grown before after (told tells (h some.done).records) some.gathered;
+}

@@ -1,5 +1,7 @@
 pub mod ConvertLemmas
 pub mod ConvertedBootLemmas
+pub mod FileLemmas
+pub mod FullLemmas
 pub mod GatheringLemmas
 pub mod HistoryLemmas
 pub mod KeptLemmas
@@ -9,10 +11,15 @@ pub mod LoadPlayingLemmas
 pub mod LoadTotalsLemmas
 pub mod MatchedLemmas
 pub mod MovedStartLemmas
+pub mod OnceLemmas
 pub mod PlayingLemmas
 pub mod ReadingLemmas
+pub mod StandingLemmas
+pub mod StepLemmas
+pub mod StepLimitLemmas
 pub mod SummaryLemmas
 pub mod TableLemmas
+pub mod TickLemmas
 pub mod ToldLemmas
 pub mod TopLemmas
 pub mod VerdictLemmas

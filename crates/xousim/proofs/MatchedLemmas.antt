@@ -21,7 +21,7 @@ use Rattle.xk_kernel.specs.HistoryMoments.{moments_of}
 use Rattle.xk_kernel.proofs.Running.MomentLemmas.{history_matched, moments_matched}
 use Rattle.xk_kernel.proofs.Starting.FirstLawfulLemmas.{start_of_plan_matched}
 use Rattle.xousim.specs.History.{history_of}
-use Rattle.xousim.specs.Outcome.{Boots}
+use Rattle.xousim.specs.Outcome.Images.{Boots}
 
 -- the cases of an image's fault
 abbrev pub Cases : List ℕ → Option ℕ → Option ArgFault → Bool → Option ArgFault → Type 0

@@ -3,6 +3,7 @@ use Rattle.std.proofs.Common.{◌≡◌, ◌≤◌, refl, inl, inr, ℕ, Bool, L
 use Rattle.std.specs.Option.{option_map}
 use Rattle.xk_base.specs.Outside.{Rose}
 use Rattle.xk_ports.specs.Host.{FileAsked}
+use Rattle.xk_ports.specs.Store.{StoreAsked}
 use Rattle.xk_ports.specs.Told.{Grows, GrowsByPrefix}
 use Rattle.xk_ports.specs.declared.host.FileSlot.TheVariants.{First, Second}
 use Rattle.xk_ports.proofs.ToldLemmas.{Grows-append}
@@ -11,12 +12,15 @@ use Rattle.xousim.specs.declared.commands.command.CommandWords.{CommandWords}
 use Rattle.xousim.specs.declared.commands.command.Telling.{Telling}
 use Rattle.xousim.specs.declared.playing.ending.Ending.{Ending}
 use Rattle.xousim.specs.declared.status.Status.{Status}
-use Rattle.xousim.specs.declared.status.Status.TheVariants.{Done, Usage, ReadFault, WriteFault, ImageFault, EventFault, StepLimit, NoMemory, NotBuilt}
-use Rattle.xousim.specs.Finish.{EndsBooted, Finishes}
+use Rattle.xousim.specs.declared.status.Status.TheVariants.{Done, Usage, ReadFault, WriteFault, ImageFault, EventFault, StepLimit, SwapFault, NoMemory}
+use Rattle.xousim.specs.Finish.{Booted, EndsBooted, Finishes, Starts}
 use Rattle.xousim.specs.History.{History}
-use Rattle.xousim.specs.Outcome.{AsksBoth, Call, Ends, EndsDemo, EndsPlay, HasCause, Image, OutRose, Tells, TellsDemo, Told, run_of}
+use Rattle.xousim.specs.Outcome.Ends.{Ends}
+use Rattle.xousim.specs.Outcome.Plays.{AsksBoth, EndsPlay, HasCause, RanFull, Tells, run_of}
+use Rattle.xousim.specs.Outcome.Sides.{Call, IsTrusted, Prepares, StoreSide, Told}
+use Rattle.xousim.specs.Outcome.Starts.{Room, room_of}
+use Rattle.xousim.specs.Outcome.Images.{Image, plan_in}
 use Rattle.xousim.specs.Reading.{Asked, IsFile, IsTold}
-use Rattle.xk_kernel.specs.Start.{start}
 use Rattle.xousim.specs.Telling.{closing, output, told}
 use Rattle.xousim.specs.Words.{Command, Play, command_in}
 use Rattle.xousim.specs.Writing.{Wrote}
@@ -57,133 +61,144 @@ part_of_whole tells before after h front = (
 
 -- ---- the event file
 
-pub plays_finished : (play : Play) (machine last : Machine) (call : Call) (mid : Option (List ℕ)) (faults : ℕ) (events : List ℕ) (ending : Ending) (status : Status)
-    → IsFile call.host.files play.events events → Wrote play.tells call.out.written mid (run_of play.limit machine events) (Ok ending)
-    → last ≡ (run_of play.limit machine events).machine → call.out.faults ≤ faults
+pub finished_cause : (play : Play) (room : Room) (machine last : Machine) (call : Call) (mid : Option (List ℕ)) (faults : ℕ) (ending : Ending) (status : Status)
+    → call.out.faults ≤ faults
     → Finishes play last ending (record { written = mid; written_after = call.out.written_after; faults = faults; faults_after = call.out.faults_after }) status
-    → HasCause call status × Tells play machine call status
-plays_finished play machine last call mid faults events ending Done is_file wrote there later finished = (
-  tt,
-  record { events = events; is_file = is_file; ended = wrote.0 ∙ finished.0; written = grows_whole play.tells call.out.written mid call.out.written_after (run_of play.limit machine events) ending last wrote.0 there wrote.1 finished.1 },
-)
-plays_finished play machine last call mid faults events ending (EventFault line) is_file wrote there later finished = (
-  tt,
-  record { events = events; is_file = is_file; ended = wrote.0 ∙ finished.0; written = grows_whole play.tells call.out.written mid call.out.written_after (run_of play.limit machine events) ending last wrote.0 there wrote.1 finished.1 },
-)
-plays_finished play machine last call mid faults events ending (StepLimit limit) is_file wrote there later finished = (
-  tt,
-  (
-    finished.0,
-    record { events = events; is_file = is_file; ended = wrote.0 ∙ finished.1; written = grows_whole play.tells call.out.written mid call.out.written_after (run_of play.limit machine events) ending last wrote.0 there wrote.1 finished.2 },
-  ),
-)
-plays_finished play machine last call mid faults events ending WriteFault is_file wrote there later finished = (
-  rose_after call.out.faults faults call.out.faults_after later finished.0,
-  record { events = events; is_file = is_file; written = front_whole play.tells call.out.written mid call.out.written_after (run_of play.limit machine events) ending last wrote.0 there wrote.1 finished.1 },
-)
-plays_finished play machine last call mid faults events ending Usage is_file wrote there later finished = absurd finished
-plays_finished play machine last call mid faults events ending NotBuilt is_file wrote there later finished = absurd finished
-plays_finished play machine last call mid faults events ending ReadFault is_file wrote there later finished = absurd finished
-plays_finished play machine last call mid faults events ending NoMemory is_file wrote there later finished = absurd finished
-plays_finished play machine last call mid faults events ending (ImageFault fault) is_file wrote there later finished = absurd finished
+    → HasCause play room machine call status
+finished_cause play room machine last call mid faults ending Done later finished = tt
+finished_cause play room machine last call mid faults ending (EventFault line) later finished = tt
+finished_cause play room machine last call mid faults ending (StepLimit limit) later finished = finished.0
+finished_cause play room machine last call mid faults ending WriteFault later finished = rose_after call.out.faults faults call.out.faults_after later finished.0
+finished_cause play room machine last call mid faults ending Usage later finished = absurd finished
+finished_cause play room machine last call mid faults ending SwapFault later finished = absurd finished
+finished_cause play room machine last call mid faults ending ReadFault later finished = absurd finished
+finished_cause play room machine last call mid faults ending NoMemory later finished = absurd finished
+finished_cause play room machine last call mid faults ending (ImageFault fault) later finished = absurd finished
+
+pub finished_tells : (play : Play) (machine last : Machine) (call : Call) (mid : Option (List ℕ)) (faults : ℕ) (events : List ℕ) (ending : Ending) (status : Status)
+    → IsFile call.host.files play.events events → Wrote play.tells call.out.written mid (run_of play.limit machine events) ending
+    → last ≡ (run_of play.limit machine events).machine
+    → Finishes play last ending (record { written = mid; written_after = call.out.written_after; faults = faults; faults_after = call.out.faults_after }) status
+    → Tells play machine call status
+finished_tells play machine last call mid faults events ending Done is_file wrote there finished =
+    record { events = events; is_file = is_file; ended = wrote.ended ∙ finished.0; written = grows_whole play.tells call.out.written mid call.out.written_after (run_of play.limit machine events) ending last wrote.ended there wrote.written finished.1 }
+finished_tells play machine last call mid faults events ending (EventFault line) is_file wrote there finished =
+    record { events = events; is_file = is_file; ended = wrote.ended ∙ finished.0; written = grows_whole play.tells call.out.written mid call.out.written_after (run_of play.limit machine events) ending last wrote.ended there wrote.written finished.1 }
+finished_tells play machine last call mid faults events ending (StepLimit limit) is_file wrote there finished =
+    record { events = events; is_file = is_file; ended = wrote.ended ∙ finished.1; written = grows_whole play.tells call.out.written mid call.out.written_after (run_of play.limit machine events) ending last wrote.ended there wrote.written finished.2 }
+finished_tells play machine last call mid faults events ending WriteFault is_file wrote there finished =
+    record { events = events; is_file = is_file; written = front_whole play.tells call.out.written mid call.out.written_after (run_of play.limit machine events) ending last wrote.ended there wrote.written finished.1 }
+finished_tells play machine last call mid faults events ending Usage is_file wrote there finished = absurd finished
+finished_tells play machine last call mid faults events ending SwapFault is_file wrote there finished = absurd finished
+finished_tells play machine last call mid faults events ending ReadFault is_file wrote there finished = absurd finished
+finished_tells play machine last call mid faults events ending NoMemory is_file wrote there finished = absurd finished
+finished_tells play machine last call mid faults events ending (ImageFault fault) is_file wrote there finished = absurd finished
 
 -- ---- a call that began earlier
 
--- the same call from where this was asked for, and the count of the host was so
-abbrev pub begun_at : Option (List FileAsked) → ℕ → Call → Call
-begun_at asked faults call = record call { host = record call.host { asked = asked; faults = faults } }
+-- what was asked for, and the counts, when the call began
+pub record Before : Type 0 where
+  pub files_asked : Option (List FileAsked)
+  pub host_faults : ℕ
+  pub prepared : Option (List StoreAsked)
+  pub store_faults : ℕ
 
-cause_earlier : (asked : Option (List FileAsked)) (faults : ℕ) (call : Call) (status : Status) → faults ≤ call.host.faults → HasCause call status → HasCause (begun_at asked faults call) status
-cause_earlier asked faults call Done later cause = tt
-cause_earlier asked faults call Usage later cause = tt
-cause_earlier asked faults call ReadFault later cause = rose_after faults call.host.faults call.host.faults_after later cause
-cause_earlier asked faults call WriteFault later cause = cause
-cause_earlier asked faults call NoMemory later cause = tt
-cause_earlier asked faults call NotBuilt later cause = tt
-cause_earlier asked faults call (EventFault line) later cause = tt
-cause_earlier asked faults call (StepLimit limit) later cause = tt
-cause_earlier asked faults call (ImageFault fault) later cause = tt
+-- the same call from there, at a host of these files
+abbrev pub begun_at : Told → Before → Call → Call
+begun_at files before call = record call {
+  host = record call.host { files = files; asked = before.files_asked; faults = before.host_faults };
+  store = record call.store { asked = before.prepared; faults = before.store_faults };
+}
 
-tells_earlier : (play : Play) (machine : Machine) (asked : Option (List FileAsked)) (faults : ℕ) (call : Call) (status : Status) → Tells play machine call status → Tells play machine (begun_at asked faults call) status
-tells_earlier play machine asked faults call Done told = record { events = told.events; is_file = told.is_file; ended = told.ended; written = told.written }
-tells_earlier play machine asked faults call (EventFault line) told = record { events = told.events; is_file = told.is_file; ended = told.ended; written = told.written }
-tells_earlier play machine asked faults call (StepLimit limit) told = (told.0, record { events = told.1.events; is_file = told.1.is_file; ended = told.1.ended; written = told.1.written })
-tells_earlier play machine asked faults call NotBuilt told = absurd told
-tells_earlier play machine asked faults call WriteFault told = record { events = told.events; is_file = told.is_file; written = told.written }
-tells_earlier play machine asked faults call ReadFault told = record { bytes = told.bytes; read = told.read; ended = told.ended; written = told.written }
-tells_earlier play machine asked faults call Usage told = absurd told
-tells_earlier play machine asked faults call NoMemory told = absurd told
-tells_earlier play machine asked faults call (ImageFault fault) told = absurd told
+-- the counts didn't fall before
+pub record IsBefore (before : Before) (call : Call) : Type 0 where
+  pub host : before.host_faults ≤ call.host.faults
+  pub store : before.store_faults ≤ call.store.faults
+
+cause_earlier : (play : Play) (room : Room) (machine : Machine) (before : Before) (call : Call) (status : Status) → IsBefore before call
+    → HasCause play room machine call status → HasCause play room machine (begun_at call.host.files before call) status
+cause_earlier play room machine before call Done later cause = tt
+cause_earlier play room machine before call (EventFault line) later cause = tt
+cause_earlier play room machine before call (StepLimit limit) later cause = cause
+cause_earlier play room machine before call ReadFault later cause = rose_after before.host_faults call.host.faults call.host.faults_after later.host cause
+cause_earlier play room machine before call WriteFault later cause = cause
+cause_earlier play room machine before call SwapFault later cause = (
+  rose_after before.store_faults call.store.faults call.store.faults_after later.store cause.0,
+  record { events = cause.1.events; is_file = cause.1.is_file; full = cause.1.full },
+)
+cause_earlier play room machine before call Usage later cause = absurd cause
+cause_earlier play room machine before call NoMemory later cause = absurd cause
+cause_earlier play room machine before call (ImageFault fault) later cause = absurd cause
+
+tells_earlier : (play : Play) (machine : Machine) (before : Before) (call : Call) (status : Status) → Tells play machine call status
+    → Tells play machine (begun_at call.host.files before call) status
+tells_earlier play machine before call Done told = record { events = told.events; is_file = told.is_file; ended = told.ended; written = told.written }
+tells_earlier play machine before call (EventFault line) told = record { events = told.events; is_file = told.is_file; ended = told.ended; written = told.written }
+tells_earlier play machine before call (StepLimit limit) told = record { events = told.events; is_file = told.is_file; ended = told.ended; written = told.written }
+tells_earlier play machine before call SwapFault told =
+    record { events = told.events; is_file = told.is_file; done = told.done; within = told.within; met = told.met; written = told.written }
+tells_earlier play machine before call WriteFault told = record { events = told.events; is_file = told.is_file; written = told.written }
+tells_earlier play machine before call ReadFault told = record { bytes = told.bytes; read = told.read; ended = told.ended; written = told.written }
+tells_earlier play machine before call Usage told = absurd told
+tells_earlier play machine before call NoMemory told = absurd told
+tells_earlier play machine before call (ImageFault fault) told = absurd told
 
 -- both files were asked for
-asks_both : (play : Play) (asked : Option (List FileAsked)) (faults : ℕ) (call : Call) (picked : Bool)
-    → Asked asked call.host.asked First play.image true → Asked call.host.asked call.host.asked_after Second play.events picked → AsksBoth play (begun_at asked faults call) picked
-asks_both play asked faults call picked first second =
-    Grows-append asked call.host.asked call.host.asked_after (record { slot = First; name = play.image; picked = true } ∷ []) (record { slot = Second; name = play.events; picked = picked } ∷ []) first second
+asks_both : (play : Play) (before : Before) (call : Call) (picked : Bool)
+    → Asked before.files_asked call.host.asked First play.image true → Asked call.host.asked call.host.asked_after Second play.events picked
+    → AsksBoth play (begun_at call.host.files before call) picked
+asks_both play before call picked first second =
+    Grows-append before.files_asked call.host.asked call.host.asked_after (record { slot = First; name = play.image; picked = true } ∷ []) (record { slot = Second; name = play.events; picked = picked } ∷ []) first second
 
 -- ---- whole calls
 
-ends_earlier : (play : Play) (machine : Machine) (asked : Option (List FileAsked)) (faults : ℕ) (call : Call)
-    → Image call.host.files play.image play.slots machine → faults ≤ call.host.faults → Asked asked call.host.asked First play.image true → IsTold call.host.image_left []
-    → EndsBooted play machine call → EndsPlay play (begun_at asked faults call)
-ends_earlier play machine asked faults call image later first read (inl unpicked) =
+-- the store was prepared before the run began, and no more preparations were asked for
+prepared_earlier : (play : Play) (booted : Booted) (before : Before) (call : Call) (side : StoreSide) (starts : Starts play call.host.files booted side)
+    → side.asked ≡ before.prepared → side.asked_after ≡ call.store.asked → call.store.asked_after ≡ call.store.asked
+    → Prepares (begun_at call.host.files before call).store (plan_in starts.image).slots play.store true
+prepared_earlier play booted before call side starts first last stays =
+    let S : ℕ → Type 0 = λ slots. Prepares side slots play.store true in
+    let A : Option (List StoreAsked) → Type 0 = λ asked. Grows asked side.asked_after (record { slots = (plan_in starts.image).slots; name = play.store; prepared = true } ∷ []) in
+    let B : Option (List StoreAsked) → Type 0 = λ asked. Grows before.prepared asked (record { slots = (plan_in starts.image).slots; name = play.store; prepared = true } ∷ []) in
+    subst B (last ∙ sym stays) (subst A first (subst S starts.slots starts.prepared))
+
+ends_earlier : (play : Play) (booted : Booted) (before : Before) (call : Call) (side : StoreSide) → Starts play call.host.files booted side
+    → side.asked ≡ before.prepared → side.asked_after ≡ call.store.asked → call.store.asked_after ≡ call.store.asked
+    → IsBefore before call → Asked before.files_asked call.host.asked First play.image true → IsTold call.host.image_left []
+    → EndsBooted play booted call → EndsPlay play (begun_at call.host.files before call)
+ends_earlier play booted before call side starts first last stays later asked read (inl unpicked) =
     inr (inr (inl (record {
-      asked = asks_both play asked faults call false first unpicked.asked;
+      asked = asks_both play before call false asked unpicked.asked;
       ended = unpicked.ended;
-      cause = rose_after faults call.host.faults call.host.faults_after later unpicked.cause;
-      machine = machine;
-      image = image;
+      cause = rose_after before.host_faults call.host.faults call.host.faults_after later.host unpicked.cause;
+      machine = booted.machine;
+      image = starts.image;
+      prepared = prepared_earlier play booted before call side starts first last stays;
       unwritten = unpicked.unwritten;
     })))
-ends_earlier play machine asked faults call image later first read (inr picked) =
+ends_earlier play booted before call side starts first last stays later asked read (inr picked) =
+    let R : Room → Type 0 = λ room. HasCause play room booted.machine call call.status in
+    let T : ℕ → Type 0 = λ slots. IsTrusted call.store slots in
     inr (inr (inr (record {
-      asked = asks_both play asked faults call true first picked.asked;
-      cause = cause_earlier asked faults call call.status later picked.cause;
-      machine = machine;
-      image = image;
-      content = tells_earlier play machine asked faults call call.status picked.content;
+      asked = asks_both play before call true asked picked.asked;
+      machine = booted.machine;
+      image = starts.image;
+      prepared = prepared_earlier play booted before call side starts first last stays;
+      cause = cause_earlier play (room_of (plan_in starts.image)) booted.machine before call call.status later (subst R starts.room picked.cause);
+      content = λ trusted. tells_earlier play booted.machine before call call.status (picked.content (subst T (sym starts.slots) trusted));
       image_read = λ done. read;
       events_read = picked.events_read;
     })))
 
--- the same call at a host of these files
-abbrev pub with_files : Told → Call → Call
-with_files files call = record call { host = record call.host { files = files } }
-
-pub ends_booted : (play : Play) (machine : Machine) (files : Told) (asked : Option (List FileAsked)) (faults : ℕ) (call : Call)
-    → call.host.files ≡ files → Image files play.image play.slots machine → faults ≤ call.host.faults → Asked asked call.host.asked First play.image true → IsTold call.host.image_left []
-    → EndsBooted play machine call → EndsPlay play (begun_at asked faults (with_files files call))
-ends_booted play machine files asked faults call same image later first read booted =
-    let P : Told → Type 0 = λ f. EndsBooted play machine (with_files f call) in
-    ends_earlier play machine asked faults (with_files files call) image later first read (subst P same booted)
+pub ends_booted : (play : Play) (booted : Booted) (files : Told) (before : Before) (call : Call) (side : StoreSide) → call.host.files ≡ files → Starts play files booted side
+    → side.asked ≡ before.prepared → side.asked_after ≡ call.store.asked → call.store.asked_after ≡ call.store.asked
+    → IsBefore before call → Asked before.files_asked call.host.asked First play.image true → IsTold call.host.image_left []
+    → EndsBooted play booted call → EndsPlay play (begun_at files before call)
+ends_booted play booted files before call side same starts first last stays later asked read ended =
+    let S : Told → Type 0 = λ f. Starts play f booted side in
+    let P : Told → Type 0 = λ f. EndsPlay play (begun_at f before call) in
+    subst P same (ends_earlier play booted before call side (subst S (sym same) starts) first last stays later asked read ended)
 
 pub ends_as_read : (read : Option CommandWords) (command : Option Command) (call : Call) → option_map command_in read ≡ command → Ends (option_map command_in read) call → Ends command call
 ends_as_read read command call same ends =
     let P : Option Command → Type 0 = λ c. Ends c call in subst P same ends
-
--- ---- `demo`
-
-cause_of_demo : (clients : ℕ) (call : Call) (status : Status) → (status ≡ WriteFault → OutRose call) → TellsDemo clients call.out status → HasCause call status
-cause_of_demo clients call Done cause content = tt
-cause_of_demo clients call NoMemory cause content = tt
-cause_of_demo clients call WriteFault cause content = cause refl
-cause_of_demo clients call Usage cause content = tt
-cause_of_demo clients call NotBuilt cause content = tt
-cause_of_demo clients call ReadFault cause content = absurd content
-cause_of_demo clients call (ImageFault fault) cause content = tt
-cause_of_demo clients call (EventFault line) cause content = tt
-cause_of_demo clients call (StepLimit limit) cause content = tt
-
-pub demo_ends : (clients : ℕ) (call : Call) → call.host.asked_after ≡ call.host.asked → call.host.faults_after ≡ call.host.faults
-    → (call.status ≡ WriteFault → OutRose call) → TellsDemo clients call.out call.status → EndsDemo clients call
-demo_ends clients call asked faults cause content = record {
-  asked = asked;
-  host_faults = faults;
-  cause = cause_of_demo clients call call.status cause content;
-  content = content;
-}
-
--- no step was done when a machine was booted
-pub boots_at_zero : (file : Told) (name : List ℕ) (slots : Option ℕ) (machine : Machine) → Image file name slots machine → machine.steps ≡ 0
-unfolding start
-boots_at_zero file name slots machine image = ap (λ (m : Machine). m.steps) image.boots.start

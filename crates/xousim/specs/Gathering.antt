@@ -1,9 +1,9 @@
 -- Text on its way to a sink: what stands on the sink, and behind it what is gathered and not put yet.
-use Rattle.std.specs.Prelude.{◌≡◌, ℕ, List, [], ◌++◌, Option, Result, Ok, Err}
-use Rattle.xk_base.specs.declared.errors.Failed.{Failed}
+use Rattle.std.specs.Prelude.{◌≡◌, ◌≤◌, ℕ, List, [], ◌++◌, Option}
 use Rattle.xk_ports.specs.Told.{Grows, GrowsByPrefix}
 use Rattle.xousim.specs.declared.commands.command.Telling.{Telling}
 use Rattle.xousim.specs.declared.playing.ending.Ending.{Ending}
+use Rattle.xousim.specs.declared.playing.ending.Ending.TheVariants.{LimitMet}
 use Rattle.xousim.specs.History.{History}
 use Rattle.xousim.specs.Telling.{told}
 
@@ -29,8 +29,18 @@ pub record Gathers (before after : Text) (told : List ℕ) : Type 0 where
 abbrev pub GathersPart : Text → Text → List ℕ → Type 0
 GathersPart before after told = GrowsByPrefix before.out after.out (before.held ++ told)
 
--- what is told as the records of a history come, where it was played to this ending; a part from the front of that, where
--- the sink failed
-abbrev pub Gathered : Telling → Text → Text → History → Result Ending Failed → Type 0
-Gathered tells before after h (Ok ending) = (h.ending ≡ ending) × Gathers before after (told tells h.records)
-Gathered tells before after h (Err failed) = GathersPart before after (told tells h.records)
+-- what is told as the records of a history come, where it was played to this ending
+abbrev pub Gathered : Telling → Text → Text → History → Ending → Type 0
+Gathered tells before after h ending = (h.ending ≡ ending) × Gathers before after (told tells h.records)
+
+-- .. a part from the front of that, where the sink failed
+abbrev pub GatheredPart : Telling → Text → Text → History → Type 0
+GatheredPart tells before after h = GathersPart before after (told tells h.records)
+
+-- Of a history, by its step limit, what is told as the records of so many steps come, up to which it is met and no further: no more steps were
+-- done.
+pub record GathersSome (tells : Telling) (before after : Text) (limit : ℕ) (h : ℕ → History) : Type 0 where
+  pub done : ℕ
+  pub within : done ≤ limit
+  pub met : (h done).ending ≡ LimitMet
+  pub gathered : Gathers before after (told tells (h done).records)

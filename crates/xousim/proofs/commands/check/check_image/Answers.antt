@@ -2,9 +2,9 @@ use Rattle.std.proofs.Common.{inr}
 use Rattle.xousim.proofs.commands.check.check_image.Goals as goal
 
 pub returns-in-Ok-write_summary-clause-ends : goal.returns-in-Ok-write_summary-clause-ends
-returns-in-Ok-write_summary-clause-ends g c = inr (record {
+returns-in-Ok-write_summary-clause-ends g c = λ store. inr (record {
   asked = c.in-Ok.ensures.picked;
-  cause = tt;
+  cause = λ e. cc;
   plan = c.in-Ok.planned.plan;
   planned = record {
     image = c.in-Ok.planned.bytes.items;
@@ -18,9 +18,9 @@ returns-in-Ok-write_summary-clause-ends g c = inr (record {
 })
 
 pub returns-clause-ends : goal.returns-clause-ends
-returns-clause-ends g c = inr (record {
+returns-clause-ends g c = λ store. inr (record {
   asked = c.in-Ok.ensures.picked;
-  cause = c.in-Err-write_summary.ensures.cause;
+  cause = λ e. c.in-Err-write_summary.ensures.cause;
   plan = c.in-Ok.planned.plan;
   planned = record {
     image = c.in-Ok.planned.bytes.items;

@@ -5,7 +5,7 @@ use Rattle.xousim.proofs.ConvertLemmas.{convertible, ends_written, kept, made}
 use Rattle.xousim.proofs.commands.convert.convert_image.Goals as goal
 
 pub returns-then-planned-ne1-clause-ends : goal.returns-then-planned-ne1-clause-ends
-returns-then-planned-ne1-clause-ends g c =
+returns-then-planned-ne1-clause-ends g c = λ store.
     let planned = c.in-Ok.planned in
     let is = c.in-Ok.ensures in
     let image : List ℕ = planned.bytes.items in
@@ -23,7 +23,7 @@ convert-requires g c =
     subst C (sym same) (convertible image planned.args (Some SLOT_LIMIT) c.in-Ok.ensures.image c.if-planned-ne1.false (subst P same short))
 
 pub returns-in-Ok-convert-clause-ends : goal.returns-in-Ok-convert-clause-ends
-returns-in-Ok-convert-clause-ends g c =
+returns-in-Ok-convert-clause-ends g c = λ store.
     let planned = c.in-Ok.planned in
     let is = c.in-Ok.ensures in
     let image : List ℕ = planned.bytes.items in

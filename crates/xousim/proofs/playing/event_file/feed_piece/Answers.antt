@@ -1,13 +1,12 @@
 use Rattle.std.proofs.Common.{◌≡◌, ◌∙◌, ◌++◌, ◌-◌, subst, sym, ap, false, List, Option, ℕ, Ok, take, drop, length, arith, append_assoc, append-nil, [], refl}
 use Rattle.std.proofs.lemmas.Grind.{common_steps}
-use Rattle.machine_model.specs.State.Machine.{Machine}
 use Rattle.event_text.specs.Held.{Reader}
-use Rattle.xk_kernel.specs.State.{machine_of}
 use Rattle.xousim.specs.declared.playing.ending.Ending.{Ending}
-use Rattle.xousim.specs.Playing.{Goes, HasPlayed}
-use Rattle.xousim.proofs.KeptLemmas.{kept_after, kept_same}
-use Rattle.xousim.proofs.PlayingLemmas.{played_bytes, piece_cut, piece_front, fed_offset, ends_longer, fails_longer, goes_err}
 use Rattle.xousim.specs.Gathering.{text}
+use Rattle.xousim.specs.Playing.{Goes, HasPlayed, run_from}
+use Rattle.xousim.specs.Standing.{Stand, stand}
+use Rattle.xousim.proofs.KeptLemmas.{kept_after, kept_same}
+use Rattle.xousim.proofs.PlayingLemmas.{ends_longer, fails_longer, fed_offset, goes_err, piece_cut, piece_front, played_bytes}
 use Rattle.xousim.proofs.playing.event_file.feed_piece.Goals as goal
 
 pub returns-in_err-play_known-clause-goes : goal.returns-in_err-play_known-clause-goes
@@ -15,30 +14,28 @@ returns-in_err-play_known-clause-goes g c = λ start begun taken p.
     let front = c.rest.invariant.front in
     let t : ℕ = c.feed-taken.result in
     let rest : List ℕ = c.rest.rest.now in
-    let m : Machine = machine_of g.W.SwapStore.held c.rest.kernel in
-    let mid = text (g.K.Sink.written c.rest.out) c.rest.held.items in
-    let out = text (g.K.Sink.written c.play_known.new.out) c.play_known.new.held.items in
+    let run = run_from c.args.tells c.args.limit start begun in
+    let mid : Stand = stand g.W.SwapStore.is_honest g.W.SwapStore.held c.rest.kernel (text (g.K.Sink.written c.rest.out) c.rest.held.items) in
+    let new : Stand = stand g.W.SwapStore.is_honest g.W.SwapStore.held c.play_known.new.kernel (text (g.K.Sink.written c.play_known.new.out) c.play_known.new.held.items) in
     let fed : List ℕ = (taken ++ front.0) ++ take t rest in
-    let P : Reader → Type 0 = λ r. HasPlayed c.args.tells c.args.limit start begun fed r m mid in
+    let P : Reader → Type 0 = λ r. HasPlayed run fed r mid in
     let q : P c.feed-taken.new.self =
-    subst P (sym c.feed-taken.ensures.held) (played_bytes c.args.tells c.args.limit start m begun mid (taken ++ front.0) c.rest.reader (take t rest) c.rest.invariant.waits.1 (front.2 start begun taken p)) in
+    subst P (sym c.feed-taken.ensures.held) (played_bytes run mid (taken ++ front.0) c.rest.reader (take t rest) c.rest.invariant.waits.1 (front.2 start begun taken p)) in
     let unsaid : c.feed-taken.new.self.finished ≡ false = ap (λ (r : Reader). r.finished) c.feed-taken.ensures.held ∙ c.rest.invariant.waits.1 in
-    goes_err c.args.tells c.args.limit start begun (taken ++ c.args.piece.now) false c.play_known.new.reader (machine_of g.W.SwapStore.held c.play_known.new.kernel) out c.from_residual.result c.from_residual.ensures.0
-    (λ failed.
-    fails_longer c.args.tells c.args.limit start begun out fed (drop t rest) (taken ++ c.args.piece.now) c.feed-taken.new.self.finished failed
+    goes_err run (taken ++ c.args.piece.now) false c.play_known.new.reader new c.from_residual.result _ c.from_residual.ensures.1
+    (fails_longer run new fed (drop t rest) (taken ++ c.args.piece.now) c.feed-taken.new.self.finished _
     (piece_cut taken front.0 rest c.args.piece.now t front.1) unsaid
     (c.in_err-play_known.ensures.goes start begun fed q))
 
 pub rest-init : goal.rest-init
 rest-init g c =
-    let m : Machine = machine_of g.W.SwapStore.held c.args.kernel.now in
-    let out = text (g.K.Sink.written c.args.out.now) c.args.held.now.items in
+    let now : Stand = stand g.W.SwapStore.is_honest g.W.SwapStore.held c.args.kernel.now (text (g.K.Sink.written c.args.out.now) c.args.held.now.items) in
     record {
       front = (
         [],
         refl,
         λ start begun taken p.
-            let P : List ℕ → Type 0 = λ l. HasPlayed c.args.tells c.args.limit start begun l c.args.reader.now m out in
+            let P : List ℕ → Type 0 = λ l. HasPlayed (run_from c.args.tells c.args.limit start begun) l c.args.reader.now now in
             subst P (sym (append-nil taken)) p,
       );
       waits = c.requires.waits;
@@ -56,10 +53,8 @@ rest-preserved g c =
     let front = c.rest.invariant.front in
     let t : ℕ = c.feed-taken.result in
     let rest : List ℕ = c.rest.rest.now in
-    let m : Machine = machine_of g.W.SwapStore.held c.rest.kernel in
-    let mid = text (g.K.Sink.written c.rest.out) c.rest.held.items in
-    let next : Machine = machine_of g.W.SwapStore.held c.play_known.new.kernel in
-    let out = text (g.K.Sink.written c.play_known.new.out) c.play_known.new.held.items in
+    let mid : Stand = stand g.W.SwapStore.is_honest g.W.SwapStore.held c.rest.kernel (text (g.K.Sink.written c.rest.out) c.rest.held.items) in
+    let new : Stand = stand g.W.SwapStore.is_honest g.W.SwapStore.held c.play_known.new.kernel (text (g.K.Sink.written c.play_known.new.out) c.play_known.new.held.items) in
     let whole : take (length rest - t) (drop t rest) ≡ drop t rest = grind (arith, common_steps) in
     let left : length (drop t rest) ≡ length rest - t = grind (arith, common_steps) in
     let waits = c.in_ok-play_known.ensures.waits (ap (λ (o : Option Ending). Ok o) c.in-None.is) in
@@ -69,19 +64,20 @@ rest-preserved g c =
         front.0 ++ take t rest,
         rw whole (piece_front front.0 rest c.args.piece.now t front.1),
         λ start begun taken p.
+            let run = run_from c.args.tells c.args.limit start begun in
             let fed : List ℕ = (taken ++ front.0) ++ take t rest in
-            let P : Reader → Type 0 = λ r. HasPlayed c.args.tells c.args.limit start begun fed r m mid in
+            let P : Reader → Type 0 = λ r. HasPlayed run fed r mid in
             let q : P c.feed-taken.new.self =
-            subst P (sym c.feed-taken.ensures.held) (played_bytes c.args.tells c.args.limit start m begun mid (taken ++ front.0) c.rest.reader (take t rest) c.rest.invariant.waits.1 (front.2 start begun taken p)) in
-            let Q : Option Ending → Type 0 = λ o. Goes c.args.tells c.args.limit start begun fed c.feed-taken.new.self.finished c.play_known.new.reader next out (Ok o) in
-            let W : List ℕ → Type 0 = λ l. HasPlayed c.args.tells c.args.limit start begun l c.play_known.new.reader next out in
+            subst P (sym c.feed-taken.ensures.held) (played_bytes run mid (taken ++ front.0) c.rest.reader (take t rest) c.rest.invariant.waits.1 (front.2 start begun taken p)) in
+            let Q : Option Ending → Type 0 = λ o. Goes run fed c.feed-taken.new.self.finished c.play_known.new.reader new (Ok o) in
+            let W : List ℕ → Type 0 = λ l. HasPlayed run l c.play_known.new.reader new in
             subst W (append_assoc taken front.0 (take t rest)) (subst Q c.in-None.is (c.in_ok-play_known.ensures.goes start begun fed q)),
       );
       waits = waits.0;
       inside = waits.1;
       offset = rw whole (omega (arith, left, offset, c.play_known.ensures.offset, c.rest.invariant.offset, c.feed-taken.ensures.within));
       sound = c.play_known.ensures.sound;
-      usable = c.play_known.ensures.usable;
+      usable = c.in_ok-play_known.ensures.usable;
       keeps = kept_after c.rest.invariant.keeps c.play_known.ensures.keeps;
       within = c.in_ok-play_known.ensures.within;
       later = omega (arith, c.rest.invariant.later, c.play_known.ensures.never_falls);
@@ -92,16 +88,15 @@ returns-in-Some-clause-goes g c = λ start begun taken p.
     let front = c.rest.invariant.front in
     let t : ℕ = c.feed-taken.result in
     let rest : List ℕ = c.rest.rest.now in
-    let m : Machine = machine_of g.W.SwapStore.held c.rest.kernel in
-    let mid = text (g.K.Sink.written c.rest.out) c.rest.held.items in
-    let next : Machine = machine_of g.W.SwapStore.held c.play_known.new.kernel in
-    let out = text (g.K.Sink.written c.play_known.new.out) c.play_known.new.held.items in
+    let run = run_from c.args.tells c.args.limit start begun in
+    let mid : Stand = stand g.W.SwapStore.is_honest g.W.SwapStore.held c.rest.kernel (text (g.K.Sink.written c.rest.out) c.rest.held.items) in
+    let new : Stand = stand g.W.SwapStore.is_honest g.W.SwapStore.held c.play_known.new.kernel (text (g.K.Sink.written c.play_known.new.out) c.play_known.new.held.items) in
     let fed : List ℕ = (taken ++ front.0) ++ take t rest in
-    let P : Reader → Type 0 = λ r. HasPlayed c.args.tells c.args.limit start begun fed r m mid in
+    let P : Reader → Type 0 = λ r. HasPlayed run fed r mid in
     let q : P c.feed-taken.new.self =
-    subst P (sym c.feed-taken.ensures.held) (played_bytes c.args.tells c.args.limit start m begun mid (taken ++ front.0) c.rest.reader (take t rest) c.rest.invariant.waits.1 (front.2 start begun taken p)) in
+    subst P (sym c.feed-taken.ensures.held) (played_bytes run mid (taken ++ front.0) c.rest.reader (take t rest) c.rest.invariant.waits.1 (front.2 start begun taken p)) in
     let unsaid : c.feed-taken.new.self.finished ≡ false = ap (λ (r : Reader). r.finished) c.feed-taken.ensures.held ∙ c.rest.invariant.waits.1 in
-    let Q : Option Ending → Type 0 = λ o. Goes c.args.tells c.args.limit start begun fed c.feed-taken.new.self.finished c.play_known.new.reader next out (Ok o) in
-    ends_longer c.args.tells c.args.limit start next begun out fed (drop t rest) (taken ++ c.args.piece.now) c.feed-taken.new.self.finished c.in-Some.ending
+    let Q : Option Ending → Type 0 = λ o. Goes run fed c.feed-taken.new.self.finished c.play_known.new.reader new (Ok o) in
+    ends_longer run new fed (drop t rest) (taken ++ c.args.piece.now) c.feed-taken.new.self.finished c.in-Some.ending
     (piece_cut taken front.0 rest c.args.piece.now t front.1) unsaid
     (subst Q c.in-Some.is (c.in_ok-play_known.ensures.goes start begun fed q))

@@ -4,7 +4,8 @@ use Rattle.machine_model.specs.State.Machine.{Machine}
 use Rattle.xk_kernel.specs.Sound.{IsSound, IsUsable, Keeps}
 use Rattle.xk_kernel.specs.State.{machine_of}
 use Rattle.xk_base.specs.declared.limits.TheConstants.{EVENT_FILE_LIMIT}
-use Rattle.xousim.specs.Playing.{HasPlayed}
+use Rattle.xousim.specs.Playing.{HasPlayed, run_from}
+use Rattle.xousim.specs.Standing.{stand}
 use Rattle.xousim.specs.Gathering.{Text, text}
 use Rattle.xousim.proofs.playing.event_file.feed_piece.Given as goal
 
@@ -13,8 +14,8 @@ abbrev pub invariant-rest : goal.invariant-rest
 invariant-rest g l = record {
   front : (done : List ℕ) × (l.piece ≡ done ++ l.rest)
       × ((start : Machine) (begun : Text) (taken : List ℕ)
-      → HasPlayed l.tells l.limit start begun taken l.fn.reader (machine_of g.W.SwapStore.held l.fn.kernel) (text (g.K.Sink.written l.fn.out) l.fn.held.items)
-      → HasPlayed l.tells l.limit start begun (taken ++ done) l.reader (machine_of g.W.SwapStore.held l.kernel) (text (g.K.Sink.written l.out) l.held.items));
+      → HasPlayed (run_from l.tells l.limit start begun) taken l.fn.reader (stand g.W.SwapStore.is_honest g.W.SwapStore.held l.fn.kernel (text (g.K.Sink.written l.fn.out) l.fn.held.items))
+      → HasPlayed (run_from l.tells l.limit start begun) (taken ++ done) l.reader (stand g.W.SwapStore.is_honest g.W.SwapStore.held l.kernel (text (g.K.Sink.written l.out) l.held.items)));
   waits : IsWaiting l.reader;
   inside : l.reader.start + length l.reader.held ≤ EVENT_FILE_LIMIT;
   offset : l.reader.start + length l.reader.held + length l.rest ≡ l.fn.reader.start + length l.fn.reader.held + length l.piece;

@@ -1,16 +1,19 @@
-use Rattle.std.proofs.Common.{◌≡◌, ◌∙◌, ◌≤◌, ◌+◌, ◌++◌, subst, sym, ap, refl, false, List, [], length, Option, Some, ℕ, Ok, take, arith}
+use Rattle.std.proofs.Common.{◌≡◌, ◌∙◌, ◌≤◌, ◌+◌, ◌++◌, subst, sym, ap, refl, false, List, [], length, Option, Some, ℕ, Ok, Err, take, arith}
 use Rattle.machine_model.specs.State.Machine.{Machine}
 use Rattle.event_text.specs.Held.{Reader, IsWaiting, new_reader}
 use Rattle.event_text.proofs.HeldLemmas.{front_empty}
-use Rattle.xk_kernel.specs.State.{machine_of}
 use Rattle.xk_base.specs.declared.limits.TheConstants.{EVENT_FILE_LIMIT}
 use Rattle.xk_ports.specs.Told.{Consumes}
 use Rattle.xk_ports.specs.declared.host.FileSlot.TheVariants.{Second}
 use Rattle.xousim.specs.declared.playing.ending.Ending.{Ending}
+use Rattle.xousim.specs.declared.playing.events.PlayFault.{PlayFault}
+use Rattle.xousim.specs.declared.playing.events.PlayFault.TheVariants.{Swap, Write}
 use Rattle.xousim.specs.Gathering.{put}
-use Rattle.xousim.specs.Playing.{Goes, HasPlayed}
+use Rattle.xousim.specs.Playing.{FailsSo, Goes, HasPlayed, run_from}
+use Rattle.xousim.specs.Standing.{Begins, Stand, stand}
+use Rattle.xousim.proofs.FileLemmas.{runs_ended, runs_swapped, runs_unwritten, told_all}
 use Rattle.xousim.proofs.KeptLemmas.{kept_after, kept_same}
-use Rattle.xousim.proofs.PlayingLemmas.{played_none, played_end, whole_lines_played, file_ends, file_ends_with, file_fails}
+use Rattle.xousim.proofs.PlayingLemmas.{played_end, played_none, whole_lines_played}
 use Rattle.xousim.proofs.ToldLemmas.{Consumes-none, Consumes-append, consumed_whole, consumed_rest, nothing_left}
 use Rattle.xousim.proofs.playing.event_file.play_file.Goals as goal
 
@@ -22,11 +25,16 @@ new_inside r is = rw is (omega arith)
 
 pub pieces-init : goal.pieces-init
 pieces-init g c =
-    let m : Machine = machine_of g.W.SwapStore.held c.args.kernel.now in
     let out = g.K.Sink.written c.args.out.now in
-    let P : Reader → Type 0 = λ r. HasPlayed c.args.tells c.args.limit m (put out) [] r m (put out) in
+    let now : Stand = stand g.W.SwapStore.is_honest g.W.SwapStore.held c.args.kernel.now (put out) in
     record {
-      front = ([], Consumes-none (g.H.Host.left c.args.host.now Second), subst P (sym c.new-reader.ensures) (played_none c.args.tells c.args.limit m (put out)));
+      front = (
+        [],
+        Consumes-none (g.H.Host.left c.args.host.now Second),
+        λ start begins.
+            let P : Reader → Type 0 = λ r. HasPlayed (run_from c.args.tells c.args.limit start (put out)) [] r now in
+            subst P (sym c.new-reader.ensures) (played_none c.args.tells c.args.limit start now begins),
+      );
       waits = new_waits c.new-reader.result c.new-reader.ensures;
       inside = new_inside c.new-reader.result c.new-reader.ensures;
       sound = c.requires.sound;
@@ -41,72 +49,87 @@ pieces-init g c =
     }
 
 pub returns-in_default-clause-runs : goal.returns-in_default-clause-runs
-returns-in_default-clause-runs g c =
+returns-in_default-clause-runs g c = λ start begins.
     let front = c.pieces.invariant.front in
+    let out = g.K.Sink.written c.pieces.out in
+    let run = run_from c.args.tells c.args.limit start (put (g.K.Sink.written c.args.out.now)) in
+    let now : Stand = stand g.W.SwapStore.is_honest g.W.SwapStore.held c.pieces.kernel (put out) in
     let P : Option (List ℕ) → Type 0 = λ left. Consumes (g.H.Host.left c.args.host.now Second) left front.0 in (
       front.0,
       subst P (sym c.in_default.ensures.kept) front.1,
-      whole_lines_played c.args.tells c.args.limit (machine_of g.W.SwapStore.held c.args.kernel.now) (machine_of g.W.SwapStore.held c.pieces.kernel) (g.K.Sink.written c.args.out.now) (g.K.Sink.written c.pieces.out) front.0 c.pieces.reader
-          c.pieces.invariant.waits front.2,
+      whole_lines_played run now (g.K.Sink.written c.args.out.now) out front.0 c.pieces.reader refl refl c.pieces.invariant.waits (front.2 start begins),
     )
 
 pub returns-in-Ok-Some-clause-runs : goal.returns-in-Ok-Some-clause-runs
-returns-in-Ok-Some-clause-runs g c =
+returns-in-Ok-Some-clause-runs g c = λ start begins.
     let front = c.pieces.invariant.front in
-    let start : Machine = machine_of g.W.SwapStore.held c.args.kernel.now in
     let begun = g.K.Sink.written c.args.out.now in
-    let mid = g.K.Sink.written c.pieces.out in
-    let m : Machine = machine_of g.W.SwapStore.held c.pieces.kernel in
-    let next : Machine = machine_of g.W.SwapStore.held c.play_end.new.kernel in
+    let mid : Stand = stand g.W.SwapStore.is_honest g.W.SwapStore.held c.pieces.kernel (put (g.K.Sink.written c.pieces.out)) in
     let out = g.K.Sink.written c.play_end.new.out in
-    let P : Reader → Type 0 = λ r. HasPlayed c.args.tells c.args.limit start (put begun) front.0 r m (put mid) in
-    let q : P c.finish.new.self = subst P (sym c.finish.ensures) (played_end c.args.tells c.args.limit start m (put begun) (put mid) front.0 c.pieces.reader front.2) in
-    let Q : Option Ending → Type 0 = λ o. Goes c.args.tells c.args.limit start (put begun) front.0 c.finish.new.self.finished c.play_end.new.reader next (put out) (Ok o) in
-    let ends = file_ends c.args.tells c.args.limit start next begun out front.0 c.finish.new.self.finished c.in-Ok-Some.ending (subst Q c.in-Ok-Some.field-0-is (c.in-Ok-Some.ensures.goes start (put begun) front.0 q)) in (
-      front.0,
-      consumed_whole (g.H.Host.left c.args.host.now Second) (g.H.Host.left c.pieces.host Second) front.0 front.1
-          (nothing_left (g.H.Host.left c.pieces.host Second) c.in-Ok.count c.in-Ok.ensures.end c.if-count-eq0.true),
-      ends.0,
-      ends.1,
-    )
+    let new : Stand = stand g.W.SwapStore.is_honest g.W.SwapStore.held c.play_end.new.kernel (put out) in
+    let run = run_from c.args.tells c.args.limit start (put begun) in
+    let P : Reader → Type 0 = λ r. HasPlayed run front.0 r mid in
+    let q : P c.finish.new.self = subst P (sym c.finish.ensures) (played_end run mid front.0 c.pieces.reader (front.2 start begins)) in
+    let left = g.H.Host.left c.args.host.now Second in
+    let told = told_all left front.0 (consumed_whole left (g.H.Host.left c.pieces.host Second) front.0 front.1
+    (nothing_left (g.H.Host.left c.pieces.host Second) c.in-Ok.count c.in-Ok.ensures.end c.if-count-eq0.true)) in
+    let Q : Option Ending → Type 0 = λ o. Goes run front.0 c.finish.new.self.finished c.play_end.new.reader new (Ok o) in
+    runs_ended c.args.tells c.args.limit start begun out left (g.H.Host.left c.read.new.self Second) new front.0 [] c.finish.new.self.finished (λ e. refl) told c.in-Ok-Some.ending
+    (subst Q c.in-Ok-Some.field-0-is (c.in-Ok-Some.ensures.goes start (put begun) front.0 q))
 
-pub returns-in-Err-clause-runs : goal.returns-in-Err-clause-runs
-returns-in-Err-clause-runs g c =
+pub returns-in-Err-Write-clause-runs : goal.returns-in-Err-Write-clause-runs
+returns-in-Err-Write-clause-runs g c = λ start begins.
     let front = c.pieces.invariant.front in
-    let start : Machine = machine_of g.W.SwapStore.held c.args.kernel.now in
     let begun = g.K.Sink.written c.args.out.now in
-    let mid = g.K.Sink.written c.pieces.out in
-    let m : Machine = machine_of g.W.SwapStore.held c.pieces.kernel in
+    let mid : Stand = stand g.W.SwapStore.is_honest g.W.SwapStore.held c.pieces.kernel (put (g.K.Sink.written c.pieces.out)) in
     let out = g.K.Sink.written c.play_end.new.out in
-    let P : Reader → Type 0 = λ r. HasPlayed c.args.tells c.args.limit start (put begun) front.0 r m (put mid) in
-    let q : P c.finish.new.self = subst P (sym c.finish.ensures) (played_end c.args.tells c.args.limit start m (put begun) (put mid) front.0 c.pieces.reader front.2) in (
-      front.0,
-      consumed_whole (g.H.Host.left c.args.host.now Second) (g.H.Host.left c.pieces.host Second) front.0 front.1
-          (nothing_left (g.H.Host.left c.pieces.host Second) c.in-Ok.count c.in-Ok.ensures.end c.if-count-eq0.true),
-      file_fails c.args.tells c.args.limit start begun out front.0 c.finish.new.self.finished c.in-Err.field-0
-          (c.in-Err.ensures.goes start (put begun) front.0 q),
-    )
+    let new : Stand = stand g.W.SwapStore.is_honest g.W.SwapStore.held c.play_end.new.kernel (put out) in
+    let run = run_from c.args.tells c.args.limit start (put begun) in
+    let P : Reader → Type 0 = λ r. HasPlayed run front.0 r mid in
+    let q : P c.finish.new.self = subst P (sym c.finish.ensures) (played_end run mid front.0 c.pieces.reader (front.2 start begins)) in
+    let left = g.H.Host.left c.args.host.now Second in
+    let told = told_all left front.0 (consumed_whole left (g.H.Host.left c.pieces.host Second) front.0 front.1
+    (nothing_left (g.H.Host.left c.pieces.host Second) c.in-Ok.count c.in-Ok.ensures.end c.if-count-eq0.true)) in
+    let F : PlayFault → Type 0 = λ fault. FailsSo run front.0 c.finish.new.self.finished new fault in
+    runs_unwritten c.args.tells c.args.limit start begun out left (g.H.Host.left c.read.new.self Second) new front.0 [] c.finish.new.self.finished (λ e. refl) told
+    (subst F c.in-Err-Write.field-0-is (c.in-Err-Write.ensures.goes start (put begun) front.0 q))
+
+pub returns-in-Err-Swap-clause-runs : goal.returns-in-Err-Swap-clause-runs
+returns-in-Err-Swap-clause-runs g c = λ start begins.
+    let front = c.pieces.invariant.front in
+    let begun = g.K.Sink.written c.args.out.now in
+    let mid : Stand = stand g.W.SwapStore.is_honest g.W.SwapStore.held c.pieces.kernel (put (g.K.Sink.written c.pieces.out)) in
+    let out = g.K.Sink.written c.play_end.new.out in
+    let new : Stand = stand g.W.SwapStore.is_honest g.W.SwapStore.held c.play_end.new.kernel (put out) in
+    let run = run_from c.args.tells c.args.limit start (put begun) in
+    let P : Reader → Type 0 = λ r. HasPlayed run front.0 r mid in
+    let q : P c.finish.new.self = subst P (sym c.finish.ensures) (played_end run mid front.0 c.pieces.reader (front.2 start begins)) in
+    let left = g.H.Host.left c.args.host.now Second in
+    let told = told_all left front.0 (consumed_whole left (g.H.Host.left c.pieces.host Second) front.0 front.1
+    (nothing_left (g.H.Host.left c.pieces.host Second) c.in-Ok.count c.in-Ok.ensures.end c.if-count-eq0.true)) in
+    let F : PlayFault → Type 0 = λ fault. FailsSo run front.0 c.finish.new.self.finished new fault in
+    runs_swapped c.args.tells c.args.limit start begun out left (g.H.Host.left c.read.new.self Second) new front.0 [] c.finish.new.self.finished (λ e. refl) told
+    (subst F c.in-Err-Swap.field-0-is (c.in-Err-Swap.ensures.goes start (put begun) front.0 q))
 
 pub pieces-preserved : goal.pieces-preserved
 pieces-preserved g c =
     let front = c.pieces.invariant.front in
-    let start : Machine = machine_of g.W.SwapStore.held c.args.kernel.now in
     let begun = g.K.Sink.written c.args.out.now in
-    let next : Machine = machine_of g.W.SwapStore.held c.play_piece.new.kernel in
-    let out = g.K.Sink.written c.play_piece.new.out in
+    let new : Stand = stand g.W.SwapStore.is_honest g.W.SwapStore.held c.play_piece.new.kernel (put (g.K.Sink.written c.play_piece.new.out)) in
     let piece : List ℕ = take c.in-Ok.count c.read.new.into in
     let waits = c.in-Ok-None-play_piece.ensures.waits (ap (λ (o : Option Ending). Ok o) c.in-Ok-None-play_piece.field-0-is) in
-    let Q : Option Ending → Type 0 = λ o. Goes c.args.tells c.args.limit start (put begun) (front.0 ++ piece) false c.play_piece.new.reader next (put out) (Ok o) in
     record {
       front = (
         front.0 ++ piece,
         Consumes-append (g.H.Host.left c.args.host.now Second) (g.H.Host.left c.pieces.host Second) (g.H.Host.left c.read.new.self Second) front.0 piece front.1 c.in-Ok.ensures.taken,
-        subst Q c.in-Ok-None-play_piece.field-0-is (c.in-Ok-None-play_piece.ensures.goes start (put begun) front.0 front.2),
+        λ start begins.
+            let Q : Option Ending → Type 0 = λ o. Goes (run_from c.args.tells c.args.limit start (put begun)) (front.0 ++ piece) false c.play_piece.new.reader new (Ok o) in
+            subst Q c.in-Ok-None-play_piece.field-0-is (c.in-Ok-None-play_piece.ensures.goes start (put begun) front.0 (front.2 start begins)),
       );
       waits = waits.0;
       inside = waits.1;
       sound = c.play_piece.ensures.sound;
-      usable = c.play_piece.ensures.usable;
+      usable = c.in-Ok-None-play_piece.ensures.usable;
       keeps = kept_after c.pieces.invariant.keeps c.play_piece.ensures.keeps;
       within = c.in-Ok-None-play_piece.ensures.within;
       picked = c.in-Ok.ensures.still_picked Second ∙ c.pieces.invariant.picked;
@@ -117,28 +140,49 @@ pieces-preserved g c =
     }
 
 pub returns-in-Ok-Some-play_piece-clause-runs : goal.returns-in-Ok-Some-play_piece-clause-runs
-returns-in-Ok-Some-play_piece-clause-runs g c =
+returns-in-Ok-Some-play_piece-clause-runs g c = λ start begins.
     let front = c.pieces.invariant.front in
-    let start : Machine = machine_of g.W.SwapStore.held c.args.kernel.now in
     let begun = g.K.Sink.written c.args.out.now in
+    let out = g.K.Sink.written c.play_piece.new.out in
+    let new : Stand = stand g.W.SwapStore.is_honest g.W.SwapStore.held c.play_piece.new.kernel (put out) in
+    let run = run_from c.args.tells c.args.limit start (put begun) in
     let piece : List ℕ = take c.in-Ok.count c.read.new.into in
-    let used = Consumes-append (g.H.Host.left c.args.host.now Second) (g.H.Host.left c.pieces.host Second) (g.H.Host.left c.read.new.self Second) front.0 piece front.1 c.in-Ok.ensures.taken in
-    let rest = consumed_rest (g.H.Host.left c.args.host.now Second) (g.H.Host.left c.read.new.self Second) (front.0 ++ piece) used in
-    let Q : Option Ending → Type 0 = λ o. Goes c.args.tells c.args.limit start (put begun) (front.0 ++ piece) false c.play_piece.new.reader (machine_of g.W.SwapStore.held c.play_piece.new.kernel) (put (g.K.Sink.written c.play_piece.new.out)) (Ok o) in
-    let all : Q (Some c.in-Ok-Some-play_piece.ending) = subst Q c.in-Ok-Some-play_piece.field-0-is (c.in-Ok-Some-play_piece.ensures.goes start (put begun) front.0 front.2) in
-    let ends = file_ends_with c.args.tells c.args.limit start (machine_of g.W.SwapStore.held c.play_piece.new.kernel) begun (g.K.Sink.written c.play_piece.new.out) (front.0 ++ piece) rest.0 false c.in-Ok-Some-play_piece.ending
-    (λ e. cc) all in
-    ((front.0 ++ piece) ++ rest.0, rest.1, ends.0, ends.1)
+    let left = g.H.Host.left c.args.host.now Second in
+    let used = Consumes-append left (g.H.Host.left c.pieces.host Second) (g.H.Host.left c.read.new.self Second) front.0 piece front.1 c.in-Ok.ensures.taken in
+    let rest = consumed_rest left (g.H.Host.left c.read.new.self Second) (front.0 ++ piece) used in
+    let Q : Option Ending → Type 0 = λ o. Goes run (front.0 ++ piece) false c.play_piece.new.reader new (Ok o) in
+    runs_ended c.args.tells c.args.limit start begun out left (g.H.Host.left c.read.new.self Second) new (front.0 ++ piece) rest.0 false (λ e. cc) rest.1 c.in-Ok-Some-play_piece.ending
+    (subst Q c.in-Ok-Some-play_piece.field-0-is (c.in-Ok-Some-play_piece.ensures.goes start (put begun) front.0 (front.2 start begins)))
 
 pub returns-in-Ok-Some-play_piece-clause-end : goal.returns-in-Ok-Some-play_piece-clause-end
 returns-in-Ok-Some-play_piece-clause-end g c = λ e. absurd (c.in-Ok-Some-play_piece.ensures.unended (cc))
 
-pub returns-in-Err-play_piece-clause-runs : goal.returns-in-Err-play_piece-clause-runs
-returns-in-Err-play_piece-clause-runs g c =
+pub returns-in-Err-Write-play_piece-clause-runs : goal.returns-in-Err-Write-play_piece-clause-runs
+returns-in-Err-Write-play_piece-clause-runs g c = λ start begins.
     let front = c.pieces.invariant.front in
-    let start : Machine = machine_of g.W.SwapStore.held c.args.kernel.now in
     let begun = g.K.Sink.written c.args.out.now in
+    let out = g.K.Sink.written c.play_piece.new.out in
+    let new : Stand = stand g.W.SwapStore.is_honest g.W.SwapStore.held c.play_piece.new.kernel (put out) in
+    let run = run_from c.args.tells c.args.limit start (put begun) in
     let piece : List ℕ = take c.in-Ok.count c.read.new.into in
-    let used = Consumes-append (g.H.Host.left c.args.host.now Second) (g.H.Host.left c.pieces.host Second) (g.H.Host.left c.read.new.self Second) front.0 piece front.1 c.in-Ok.ensures.taken in
-    let rest = consumed_rest (g.H.Host.left c.args.host.now Second) (g.H.Host.left c.read.new.self Second) (front.0 ++ piece) used in
-    ((front.0 ++ piece) ++ rest.0, rest.1, c.in-Err-play_piece.ensures.goes start (put begun) front.0 front.2 rest.0 (λ e. cc))
+    let left = g.H.Host.left c.args.host.now Second in
+    let used = Consumes-append left (g.H.Host.left c.pieces.host Second) (g.H.Host.left c.read.new.self Second) front.0 piece front.1 c.in-Ok.ensures.taken in
+    let rest = consumed_rest left (g.H.Host.left c.read.new.self Second) (front.0 ++ piece) used in
+    let F : PlayFault → Type 0 = λ fault. FailsSo run (front.0 ++ piece) false new fault in
+    runs_unwritten c.args.tells c.args.limit start begun out left (g.H.Host.left c.read.new.self Second) new (front.0 ++ piece) rest.0 false (λ e. cc) rest.1
+    (subst F c.in-Err-Write-play_piece.field-0-is (c.in-Err-Write-play_piece.ensures.goes start (put begun) front.0 (front.2 start begins)))
+
+pub returns-in-Err-Swap-play_piece-clause-runs : goal.returns-in-Err-Swap-play_piece-clause-runs
+returns-in-Err-Swap-play_piece-clause-runs g c = λ start begins.
+    let front = c.pieces.invariant.front in
+    let begun = g.K.Sink.written c.args.out.now in
+    let out = g.K.Sink.written c.play_piece.new.out in
+    let new : Stand = stand g.W.SwapStore.is_honest g.W.SwapStore.held c.play_piece.new.kernel (put out) in
+    let run = run_from c.args.tells c.args.limit start (put begun) in
+    let piece : List ℕ = take c.in-Ok.count c.read.new.into in
+    let left = g.H.Host.left c.args.host.now Second in
+    let used = Consumes-append left (g.H.Host.left c.pieces.host Second) (g.H.Host.left c.read.new.self Second) front.0 piece front.1 c.in-Ok.ensures.taken in
+    let rest = consumed_rest left (g.H.Host.left c.read.new.self Second) (front.0 ++ piece) used in
+    let F : PlayFault → Type 0 = λ fault. FailsSo run (front.0 ++ piece) false new fault in
+    runs_swapped c.args.tells c.args.limit start begun out left (g.H.Host.left c.read.new.self Second) new (front.0 ++ piece) rest.0 false (λ e. cc) rest.1
+    (subst F c.in-Err-Swap-play_piece.field-0-is (c.in-Err-Swap-play_piece.ensures.goes start (put begun) front.0 (front.2 start begins)))

@@ -1,19 +1,22 @@
 use Rattle.std.proofs.Common.{◌≡◌, ◌≤◌, ◌+◌, ◌-◌, List, ℕ, length}
 use Rattle.event_text.specs.Held.{IsWaiting}
+use Rattle.machine_model.specs.State.Machine.{Machine}
 use Rattle.xk_kernel.specs.Sound.{IsSound, IsUsable, Keeps}
 use Rattle.xk_kernel.specs.State.{machine_of}
 use Rattle.xk_base.specs.declared.limits.TheConstants.{EVENT_FILE_LIMIT}
 use Rattle.xk_ports.specs.Told.{Consumes}
 use Rattle.xk_ports.specs.declared.host.FileSlot.TheVariants.{First, Second}
 use Rattle.xousim.specs.Gathering.{put}
-use Rattle.xousim.specs.Playing.{HasPlayed}
+use Rattle.xousim.specs.Playing.{HasPlayed, run_from}
+use Rattle.xousim.specs.Standing.{Begins, stand}
 use Rattle.xousim.proofs.playing.event_file.play_file.Given as goal
 
 -- The front of the file was read and fed, and what became known by it was played.
 abbrev pub invariant-pieces : goal.invariant-pieces
 invariant-pieces g l = record {
   front : (taken : List ℕ) × Consumes (g.H.Host.left l.fn.host Second) (g.H.Host.left l.host Second) taken
-      × HasPlayed l.tells l.limit (machine_of g.W.SwapStore.held l.fn.kernel) (put (g.K.Sink.written l.fn.out)) taken l.reader (machine_of g.W.SwapStore.held l.kernel) (put (g.K.Sink.written l.out));
+      × ((start : Machine) → Begins start (stand g.W.SwapStore.is_honest g.W.SwapStore.held l.fn.kernel (put (g.K.Sink.written l.fn.out)))
+      → HasPlayed (run_from l.tells l.limit start (put (g.K.Sink.written l.fn.out))) taken l.reader (stand g.W.SwapStore.is_honest g.W.SwapStore.held l.kernel (put (g.K.Sink.written l.out))));
   waits : IsWaiting l.reader;
   inside : l.reader.start + length l.reader.held ≤ EVENT_FILE_LIMIT;
   sound : IsSound g.W.SwapStore.slot_count g.W.SwapStore.held l.kernel;

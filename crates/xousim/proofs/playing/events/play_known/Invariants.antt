@@ -2,7 +2,8 @@ use Rattle.std.proofs.Common.{◌≡◌, ◌≤◌, ◌+◌, List, ℕ, length}
 use Rattle.machine_model.specs.State.Machine.{Machine}
 use Rattle.xk_kernel.specs.Sound.{IsSound, IsUsable, Keeps}
 use Rattle.xk_kernel.specs.State.{machine_of}
-use Rattle.xousim.specs.Playing.{HasPlayed}
+use Rattle.xousim.specs.Playing.{HasPlayed, run_from}
+use Rattle.xousim.specs.Standing.{stand}
 use Rattle.xousim.specs.Gathering.{Text, text}
 use Rattle.xousim.proofs.playing.events.play_known.Given as goal
 
@@ -10,8 +11,8 @@ use Rattle.xousim.proofs.playing.events.play_known.Given as goal
 abbrev pub invariant-answers : goal.invariant-answers
 invariant-answers g l = record {
   goes : (start : Machine) (begun : Text) (taken : List ℕ)
-      → HasPlayed l.tells l.limit start begun taken l.fn.reader (machine_of g.W.SwapStore.held l.fn.kernel) (text (g.K.Sink.written l.fn.out) l.fn.held.items)
-      → HasPlayed l.tells l.limit start begun taken l.reader (machine_of g.W.SwapStore.held l.kernel) (text (g.K.Sink.written l.out) l.held.items);
+      → HasPlayed (run_from l.tells l.limit start begun) taken l.fn.reader (stand g.W.SwapStore.is_honest g.W.SwapStore.held l.fn.kernel (text (g.K.Sink.written l.fn.out) l.fn.held.items))
+      → HasPlayed (run_from l.tells l.limit start begun) taken l.reader (stand g.W.SwapStore.is_honest g.W.SwapStore.held l.kernel (text (g.K.Sink.written l.out) l.held.items));
   sound : IsSound g.W.SwapStore.slot_count g.W.SwapStore.held l.kernel;
   usable : IsUsable l.kernel;
   keeps : Keeps g.W.SwapStore.is_honest g.W.SwapStore.held g.W.SwapStore.slot_count g.W.SwapStore.asked g.W.SwapStore.faults l.fn.kernel l.kernel;

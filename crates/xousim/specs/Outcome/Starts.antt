@@ -1,0 +1,42 @@
+-- A run starts: its store is prepared, and its plan is booted.
+use Rattle.std.specs.Prelude.{◌≡◌, ◌<◌, ◌⊎◌, ℕ, Bool, true, false, List, Option, length}
+use Rattle.boot_plan.specs.Capacity.{page_frames}
+use Rattle.boot_plan.specs.declared.plans.BootPlan.{BootPlan}
+use Rattle.ledger_model.specs.Ledger.{pages}
+use Rattle.machine_model.specs.State.Machine.{Machine}
+use Rattle.machine_model.specs.Runs.Moments.{Moment, state_at}
+use Rattle.xousim.specs.declared.status.Status.{Status}
+use Rattle.xousim.specs.declared.status.Status.TheVariants.{Done, Usage, ReadFault, WriteFault, ImageFault, EventFault, StepLimit, SwapFault, NoMemory}
+use Rattle.xousim.specs.Outcome.Sides.{Prepares, StoreRose, StoreSide}
+
+-- the room for pages in RAM: how many frames there are for them, of a memory for so many processes
+pub record Room : Type 0 where
+  pub frames : ℕ
+  pub processes : ℕ
+
+-- that of a plan: the frames that no table takes, but for one that stays free for exchanges
+abbrev pub room_of : BootPlan → Room
+room_of plan = record { frames = page_frames plan.frames (length plan.procs); processes = length plan.procs }
+
+-- the state has more pages than there are frames for
+abbrev pub IsFull : Room → Machine → Type 0
+IsFull room machine = room.frames < pages room.processes machine.ledger
+
+-- some state of a run has: its start, or the state after one of its moments
+abbrev pub ComesFull : Room → Machine → List Moment → Type 0
+ComesFull room start moments = (i : ℕ) × IsFull room (state_at start moments i)
+
+-- A run of this plan, which is to start on this machine, doesn't start, by the status: there was no memory, before or after the store was
+-- prepared under this name; or the store failed and its count rose, as it was prepared, or after that where the start has more pages than
+-- there are frames for.
+abbrev pub Stops : BootPlan → Option (List ℕ) → Machine → StoreSide → Status → Type 0
+Stops plan name start store NoMemory = (store.asked_after ≡ store.asked) ⊎ Prepares store plan.slots name true
+Stops plan name start store SwapFault =
+    StoreRose store × (Prepares store plan.slots name false ⊎ (Prepares store plan.slots name true × IsFull (room_of plan) start))
+Stops plan name start store Done = ⊥
+Stops plan name start store Usage = ⊥
+Stops plan name start store ReadFault = ⊥
+Stops plan name start store WriteFault = ⊥
+Stops plan name start store (ImageFault fault) = ⊥
+Stops plan name start store (EventFault line) = ⊥
+Stops plan name start store (StepLimit limit) = ⊥
