@@ -7,6 +7,7 @@ pub mod Load
 pub mod Outcome
 pub mod Playing
 pub mod Reading
+pub mod Splits
 pub mod Status
 pub mod Summary
 pub mod Table
