@@ -2,7 +2,7 @@
 use Rattle.std.specs.Prelude.{◌≡◌, ℕ, ◌<◌, ◌==◌, ◌&&◌, Bool, true, List, Result, Ok, Err, [], ◌∷◌, not}
 use Rattle.std.specs.Bool.{⊤}
 use Rattle.std.specs.List.{list_any}
-use Rattle.machine_model.specs.State.Changes.{Outcome, Refused, Retried, Served, only, answering, unless_refused}
+use Rattle.machine_model.specs.State.Changes.{Outcome, Refused, Retried, Served, call_settled, only, answering, unless_refused}
 use Rattle.machine_model.specs.State.Connections.{connect_caller, own_connections}
 use Rattle.machine_model.specs.Runs.Matched.{Matched}
 use Rattle.machine_model.specs.State.Machine.{Machine}
@@ -18,6 +18,7 @@ use Rattle.xk_base.specs.declared.errors.XousError.{XousError}
 use Rattle.xk_base.specs.declared.errors.XousError.TheVariants.{InvalidLimit}
 use Rattle.xk_base.specs.declared.ids.Serial.{Serial}
 use Rattle.xk_base.specs.declared.ids.ThreadId.{ThreadId}
+use Rattle.xk_kernel.specs.Knowing.{ComesTo, IsCrowded}
 use Rattle.xk_kernel.specs.Sound.{IsUsable, IsWhole}
 use Rattle.xk_kernel.specs.State.{machine_of}
 use Rattle.xk_kernel.specs.declared.kernel.Kernel.{Kernel}
@@ -60,6 +61,17 @@ outcome_by who m Retries = Retried
 abbrev pub outcome_of : ThreadId → Machine → Result CallerFate XousError → Outcome
 outcome_of who m (Err error) = Refused error
 outcome_of who m (Ok fate) = outcome_by who m fate
+
+-- The outcome of a call over the state that it comes to: that of its row, with the machine as it is but for bytes, and wholly where
+-- these are known.
+pub record ServesAs (known : Type 0) (who : ThreadId) (new : Machine) (outcome : Outcome) (served : Result CallerFate XousError) : Type 0 where
+  pub target : Machine
+  pub is : outcome_of who target served ≡ outcome
+  pub comes : ComesTo known new target
+
+-- the state that a call with this outcome leads to has more pages than there are frames for
+abbrev pub CrowdsBy : {W : Type 0} → (W → Held) → Kernel W → Outcome → Type 0
+CrowdsBy held k outcome = IsCrowded k (call_settled (machine_of held k) outcome).machine.ledger
 
 -- this holds after a call that isn't done, as it is refused or will be made again
 abbrev pub IfUndone : Result CallerFate XousError → Type 0 → Type 0

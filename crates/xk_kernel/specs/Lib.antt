@@ -1,6 +1,7 @@
 pub mod History
 pub mod HistoryMoments
 pub mod Interleaving
+pub mod Knowing
 pub mod Acting
 pub mod Calling
 pub mod Ringing

@@ -21,8 +21,6 @@ IsUsable k = IsMemoryUsable k.mem
 -- the parts are sound, and were made for one number of processes
 pub record IsWhole {W : Type 0} (slot_count : W → ℕ) (held : W → Held) (k : Kernel W) : Type 0 where
   pub mem : IsMemorySound slot_count k.mem
-  -- This part goes when the kernel's pages can be out.
-  pub mem_slots : (size k.mem).slots ≡ 0
   pub threads : processes_threaded k.threads ≡ processes k.mem
   pub procs : processes_made k.procs ≡ processes k.mem
   pub cursor : IsTrue (is_thread_id (processes k.mem) k.cursor)

@@ -1,12 +1,13 @@
 //! The kernel: it boots a plan, takes events and does the steps of the abstract machine, over pages in a modelled RAM. Beside
 //! it stands its history: what a list of events makes of the machine. The definitions stand in `specs/`; the functions of
-//! `interleavings`, `laws` and `moments` are laws of them: each function's contract is the law, and its body is empty.
+//! `interleavings`, `laws`, `moments` and `trust` are laws of them: each function's contract is the law, and its body is empty.
 #![tactic(auto)]
 
 mod interleavings;
 mod kernel;
 mod laws;
 mod moments;
+mod trust;
 
 pub use interleavings::{
     interleavings_are_played, interleavings_are_played_up_to_the_limit, limit_is_not_met_within,
@@ -21,5 +22,6 @@ pub use laws::{
 };
 pub use moments::{
     history_is_a_run, history_stays_matched, moments_follow_each_other, moments_keep_the_cursor,
-    moments_stay_matched, run_ends_in_the_last_state, start_of_a_plan_is_matched,
+    moments_stay_matched, run_ends_in_the_last_state, start_has_the_planned_pages, start_of_a_plan_is_matched,
 };
+pub use trust::{near_pages_are_known, trusted_store_stays_trusted};

@@ -1,9 +1,11 @@
 //! Laws of the moments that a history goes through. Whatever holds of each run holds so of each history.
 
 ghost use Rattle.std.specs.Prelude.{ℕ, ◌≡◌, All, List, [], ◌++◌, length, if◌then◌else◌, IsTrue};
+ghost use Rattle.boot_plan.specs.FirstPages.{planned_pages};
 ghost use Rattle.boot_plan.specs.Lawful.{CanStart, IsLawfulPlan};
 ghost use Rattle.boot_plan.specs.declared.plans.BootPlan.{BootPlan};
 ghost use Rattle.event_text.specs.declared.event.Event.{Event};
+ghost use Rattle.ledger_model.specs.Ledger.{pages};
 ghost use Rattle.xk_base.specs.Tables.Circle.{is_thread_id};
 ghost use Rattle.machine_model.specs.State.Machine.{Machine};
 ghost use Rattle.machine_model.specs.Runs.Matched.{Matched};
@@ -36,6 +38,12 @@ pub fn moments_follow_each_other()
 /// The start of a lawful plan, whose processes can start, is matched.
 pub fn start_of_a_plan_is_matched()
     ensures { (plan : BootPlan) (file : List ℕ) → IsLawfulPlan (length file) plan → All CanStart plan.procs → Matched (start plan file) }
+{}
+
+/// The start of a lawful plan has as many pages as the plan.
+pub fn start_has_the_planned_pages()
+    ensures { (plan : BootPlan) (file : List ℕ) → IsLawfulPlan (length file) plan
+        → pages (start plan file).processes (start plan file).ledger ≡ planned_pages plan }
 {}
 
 /// Every moment of a history from a matched state is matched.

@@ -1,5 +1,5 @@
 -- The parts of a call: the events of a booted image are played, and what is told at the end is written.
-use Rattle.std.specs.Prelude.{◌≡◌, ◌⊎◌, true, false, []}
+use Rattle.std.specs.Prelude.{◌≡◌, ◌⊎◌, ℕ, true, false, []}
 use Rattle.machine_model.specs.State.Machine.{Machine}
 use Rattle.xk_base.specs.Outside.{Rose}
 use Rattle.xk_ports.specs.declared.host.FileSlot.TheVariants.{Second}
@@ -7,8 +7,11 @@ use Rattle.xk_ports.specs.Told.{Grows, GrowsByPrefix}
 use Rattle.xousim.specs.declared.playing.ending.Ending.{Ending}
 use Rattle.xousim.specs.declared.playing.ending.Ending.TheVariants.{Played, LimitMet, BadLine}
 use Rattle.xousim.specs.declared.status.Status.{Status}
-use Rattle.xousim.specs.declared.status.Status.TheVariants.{Done, Usage, ReadFault, WriteFault, ImageFault, EventFault, StepLimit, NoMemory, NotBuilt}
-use Rattle.xousim.specs.Outcome.{Call, HasCause, HostRose, IsUnwritten, SinkSide, Tells}
+use Rattle.xousim.specs.declared.status.Status.TheVariants.{Done, Usage, ReadFault, WriteFault, ImageFault, EventFault, StepLimit, SwapFault, NoMemory}
+use Rattle.xousim.specs.Outcome.Images.{Image, plan_in}
+use Rattle.xousim.specs.Outcome.Plays.{HasCause, Tells}
+use Rattle.xousim.specs.Outcome.Sides.{Call, HostRose, IsTrusted, IsUnwritten, Prepares, SinkSide, StoreSide, Told}
+use Rattle.xousim.specs.Outcome.Starts.{frames_of}
 use Rattle.xousim.specs.Reading.{Asked, IsTold}
 use Rattle.xousim.specs.Telling.{closing}
 use Rattle.xousim.specs.Words.{Play}
@@ -20,10 +23,23 @@ Finishes play machine ending out (EventFault line) = (ending ≡ BadLine line) �
 Finishes play machine ending out (StepLimit limit) = (limit ≡ play.limit) × (ending ≡ LimitMet) × Grows out.written out.written_after (closing play.tells machine ending)
 Finishes play machine ending out WriteFault = Rose out.faults out.faults_after × GrowsByPrefix out.written out.written_after (closing play.tells machine ending)
 Finishes play machine ending out Usage = ⊥
-Finishes play machine ending out NotBuilt = ⊥
+Finishes play machine ending out SwapFault = ⊥
 Finishes play machine ending out ReadFault = ⊥
 Finishes play machine ending out NoMemory = ⊥
 Finishes play machine ending out (ImageFault fault) = ⊥
+
+-- what was booted: the machine on which the run starts, the frames that there are for pages, and the slots
+pub record Booted : Type 0 where
+  pub machine : Machine
+  pub frames : ℕ
+  pub slots : ℕ
+
+-- The image of a command is what was booted, and the store was prepared for it.
+pub record Starts (play : Play) (files : Told) (booted : Booted) (store : StoreSide) : Type 0 where
+  pub image : Image files play.image play.slots booted.machine
+  pub frames : booted.frames ≡ frames_of (plan_in image)
+  pub slots : booted.slots ≡ (plan_in image).slots
+  pub prepared : Prepares store booted.slots play.store true
 
 -- the event file was asked for and wasn't picked, and nothing was written
 pub record EndsNotPicked (play : Play) (call : Call) : Type 0 where
@@ -33,12 +49,12 @@ pub record EndsNotPicked (play : Play) (call : Call) : Type 0 where
   pub unwritten : IsUnwritten call
 
 -- it was picked, and its events were played
-pub record EndsPicked (play : Play) (machine : Machine) (call : Call) : Type 0 where
+pub record EndsPicked (play : Play) (booted : Booted) (call : Call) : Type 0 where
   pub asked : Asked call.host.asked call.host.asked_after Second play.events true
-  pub cause : HasCause call call.status
-  pub content : Tells play machine call call.status
+  pub cause : HasCause play booted.frames booted.machine call call.status
+  pub content : IsTrusted call.store booted.slots → Tells play booted.machine call call.status
   pub events_read : call.status ≡ Done → IsTold call.host.left []
 
 -- what holds of a call from where its image was booted
-abbrev pub EndsBooted : Play → Machine → Call → Type 0
-EndsBooted play machine call = EndsNotPicked play call ⊎ EndsPicked play machine call
+abbrev pub EndsBooted : Play → Booted → Call → Type 0
+EndsBooted play booted call = EndsNotPicked play call ⊎ EndsPicked play booted call

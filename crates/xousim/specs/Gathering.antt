@@ -1,9 +1,10 @@
 -- Text on its way to a sink: what stands on the sink, and behind it what is gathered and not put yet.
-use Rattle.std.specs.Prelude.{◌≡◌, ℕ, List, [], ◌++◌, Option, Result, Ok, Err}
+use Rattle.std.specs.Prelude.{◌≡◌, ◌≤◌, ℕ, List, [], ◌++◌, Option, Result, Ok, Err}
 use Rattle.xk_base.specs.declared.errors.Failed.{Failed}
 use Rattle.xk_ports.specs.Told.{Grows, GrowsByPrefix}
 use Rattle.xousim.specs.declared.commands.command.Telling.{Telling}
 use Rattle.xousim.specs.declared.playing.ending.Ending.{Ending}
+use Rattle.xousim.specs.declared.playing.ending.Ending.TheVariants.{LimitMet}
 use Rattle.xousim.specs.History.{History}
 use Rattle.xousim.specs.Telling.{told}
 
@@ -34,3 +35,11 @@ GathersPart before after told = GrowsByPrefix before.out after.out (before.held 
 abbrev pub Gathered : Telling → Text → Text → History → Result Ending Failed → Type 0
 Gathered tells before after h (Ok ending) = (h.ending ≡ ending) × Gathers before after (told tells h.records)
 Gathered tells before after h (Err failed) = GathersPart before after (told tells h.records)
+
+-- Of a history, by its step limit, what is told as the records of so many steps come, up to which it is met and no further: no more steps were
+-- done.
+pub record GathersSome (tells : Telling) (before after : Text) (limit : ℕ) (h : ℕ → History) : Type 0 where
+  pub done : ℕ
+  pub within : done ≤ limit
+  pub met : (h done).ending ≡ LimitMet
+  pub gathered : Gathers before after (told tells (h done).records)

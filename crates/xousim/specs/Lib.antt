@@ -1,5 +1,4 @@
 pub mod Adapters
-pub mod Built
 pub mod Finish
 pub mod Gathering
 pub mod History
@@ -8,6 +7,7 @@ pub mod Outcome
 pub mod Playing
 pub mod Reading
 pub mod Splits
+pub mod Standing
 pub mod Status
 pub mod Summary
 pub mod Table

@@ -3,7 +3,7 @@ use Rattle.std.specs.Prelude.{ℕ, List, [], ◌++◌, codes, decimal, ◌==◌,
 use Rattle.kernel_args.specs.FaultNumbers.{too_short, not_xarg, bad_version, bad_total, bad_check, bad_ram, no_process, too_many_processes, bad_ini, bad_names, bad_slots}
 use Rattle.boot_plan.specs.FaultNumbers.{section_outside, section_misaligned, sections_overlap, load_outside, bad_load, entry_outside, ram_too_small}
 use Rattle.xousim.specs.declared.status.Status.{Status}
-use Rattle.xousim.specs.declared.status.Status.TheVariants.{Done, Usage, ReadFault, WriteFault, ImageFault, EventFault, StepLimit, NoMemory, NotBuilt}
+use Rattle.xousim.specs.declared.status.Status.TheVariants.{Done, Usage, ReadFault, WriteFault, ImageFault, EventFault, StepLimit, SwapFault, NoMemory}
 
 -- the number with which the program ends
 abbrev pub number_of : Status → ℕ
@@ -14,8 +14,8 @@ number_of WriteFault = 4
 number_of (ImageFault fault) = 5
 number_of (EventFault line) = 6
 number_of (StepLimit limit) = 7
+number_of SwapFault = 8
 number_of NoMemory = 9
-number_of NotBuilt = 10
 
 -- the name of an image's fault by its number; 17 is TooLong
 abbrev pub fault_name : ℕ → List ℕ
@@ -48,5 +48,5 @@ note_of WriteFault = codes "write fault\n"
 note_of (ImageFault fault) = codes "image fault " ++ fault_name fault.what ++ codes " at " ++ decimal fault.at ++ codes "\n"
 note_of (EventFault line) = codes "event fault at line " ++ decimal line ++ codes "\n"
 note_of (StepLimit limit) = codes "step limit " ++ decimal limit ++ codes "\n"
+note_of SwapFault = codes "swap fault\n"
 note_of NoMemory = codes "no memory\n"
-note_of NotBuilt = codes "not built\n"

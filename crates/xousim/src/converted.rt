@@ -6,7 +6,7 @@ ghost use Rattle.kernel_args.specs.Converting.{converted};
 ghost use Rattle.kernel_args.specs.Image.{Spells};
 ghost use Rattle.machine_model.specs.State.Machine.{Machine};
 ghost use Rattle.xk_base.specs.declared.limits.TheConstants.{IMAGE_LIMIT};
-ghost use Rattle.xousim.specs.Outcome.{Boots};
+ghost use Rattle.xousim.specs.Outcome.Images.{Boots};
 
 /// Whatever machine an image of version 1 boots, for whatever slots that are asked for, the image that it
 /// is converted into has no fault and boots that machine too: so both play alike.

@@ -9,7 +9,7 @@ ghost use Rattle.machine_model.specs.State.Machine.{Machine};
 ghost use Rattle.xk_base.specs.declared.limits.TheConstants.{SLOT_LIMIT};
 ghost use Rattle.xk_kernel.specs.HistoryMoments.{moments_of};
 ghost use Rattle.xousim.specs.History.{history_of};
-ghost use Rattle.xousim.specs.Outcome.{Boots};
+ghost use Rattle.xousim.specs.Outcome.Images.{Boots};
 
 /// Whatever image boots a machine, that machine is matched.
 pub fn booted_machine_is_matched()

@@ -4,7 +4,7 @@ ghost use Rattle.std.specs.Prelude.{◌≡◌, ◌+◌, ◌≤◌, [], ◌++◌,
 ghost use Rattle.arrayvec.specs.ArrayVec.{array_vec_len};
 ghost use Rattle.xk_ports.specs.Told.{Grows, GrowsByPrefix};
 ghost use Rattle.xousim.specs.Status.{fault_name, note_of};
-ghost use Rattle.xousim.specs.Outcome.{Notes, SinkSide};
+ghost use Rattle.xousim.specs.Outcome.Sides.{Notes, SinkSide};
 
 use crate::outside::text::{Line, put, put_number};
 use crate::status::Status;
@@ -74,8 +74,8 @@ fn note(status: Status) -> Line
             put_number(&mut note, limit);
             put(&mut note, b"\n");
         }
+        Status::SwapFault => put(&mut note, b"swap fault\n"),
         Status::NoMemory => put(&mut note, b"no memory\n"),
-        Status::NotBuilt => put(&mut note, b"not built\n"),
     }
     note
 }

@@ -22,10 +22,10 @@ pub enum Status {
     EventFault(u32),
     /// The run met this step limit.
     StepLimit(u32),
+    /// The swap store failed.
+    SwapFault,
     /// There was no memory.
     NoMemory,
-    /// The swap store isn't built yet: the run has slots, or names a file for them.
-    NotBuilt,
 }
 
 impl Status {
@@ -41,8 +41,8 @@ impl Status {
             Status::ImageFault(_) => 5,
             Status::EventFault(_) => 6,
             Status::StepLimit(_) => 7,
+            Status::SwapFault => 8,
             Status::NoMemory => 9,
-            Status::NotBuilt => 10,
         }
     }
 }

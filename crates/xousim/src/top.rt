@@ -1,9 +1,10 @@
 //! The top call: words in, a status and what the command tells out.
 
-ghost use Rattle.std.specs.Prelude.{◌≡◌, ◌≤◌};
-ghost use Rattle.xk_ports.specs.Keeping.{KeepsStore};
+ghost use Rattle.std.specs.Prelude.{◌≤◌};
 ghost use Rattle.xk_ports.specs.declared.host.FileSlot.TheVariants.{First, Second};
-ghost use Rattle.xousim.specs.Outcome.{Call, Ends, IsComplete, Notes, SinkSide};
+ghost use Rattle.xousim.specs.Outcome.Ends.{Ends};
+ghost use Rattle.xousim.specs.Outcome.Sides.{Call, Notes, SinkSide, store_side};
+ghost use Rattle.xousim.specs.Outcome.Verdicts.{IsComplete};
 ghost use Rattle.xousim.specs.Status.{note_of};
 ghost use Rattle.xousim.specs.Words.{command_of};
 
@@ -11,7 +12,7 @@ use crate::commands::check::check_image;
 use crate::commands::command::CommandWords;
 use crate::commands::convert::convert_image;
 use crate::commands::demo::play_demo;
-use crate::commands::play::{is_built, play_image};
+use crate::commands::play::play_image;
 use crate::commands::words::read_words;
 use crate::notes::write_note;
 use crate::status::{Ended, Status};
@@ -42,9 +43,10 @@ fn run_words<H: Host, K: Sink, W: SwapStore>(
         faults = K.faults out.old;
         faults_after = K.faults out.new;
       };
+      store = store_side W.is_honest W.held W.asked W.faults store result.store;
       status = result.status;
     } in Ends (command_of words.now) call }
-    ensures store { KeepsStore W.is_honest W.held W.slot_count W.asked W.faults store result.store }
+    ensures store { W.faults store ≤ W.faults result.store }
     ensures host { H.faults host.old ≤ H.faults host.new }
     ensures out { K.faults out.old ≤ K.faults out.new }
 {
@@ -53,15 +55,7 @@ fn run_words<H: Host, K: Sink, W: SwapStore>(
             status: Status::Usage,
             store,
         },
-        Some(CommandWords::Play(play)) => {
-            if is_built(&play) {
-                return play_image(alloc, play, host, out, store);
-            }
-            Ended {
-                status: Status::NotBuilt,
-                store,
-            }
-        }
+        Some(CommandWords::Play(play)) => play_image(alloc, play, host, out, store),
         Some(CommandWords::Check(check)) => Ended {
             status: check_image(alloc, check, host, out),
             store,
@@ -76,7 +70,8 @@ fn run_words<H: Host, K: Sink, W: SwapStore>(
 
 /// Runs the program with the words of its command line. The images and events are read from
 /// `host`, what the command tells is appended to `out`, and a text for any status but `Done` to
-/// `notes`. The store holds the pages that are out, and is handed back.
+/// `notes`. The store is prepared once for each run, holds its pages that are out, and is handed
+/// back.
 pub fn xous_main<H: Host, K: Sink, N: Sink, W: SwapStore>(
     alloc: Global,
     words: &[String],
@@ -101,6 +96,7 @@ pub fn xous_main<H: Host, K: Sink, N: Sink, W: SwapStore>(
         faults = K.faults out.old;
         faults_after = K.faults out.new;
       };
+      store = store_side W.is_honest W.held W.asked W.faults store result.store;
       status = result.status;
     } in Ends (command_of words.now) call × IsComplete (command_of words.now) call }
     ensures noted { let side : SinkSide = record {
@@ -109,7 +105,7 @@ pub fn xous_main<H: Host, K: Sink, N: Sink, W: SwapStore>(
       faults = N.faults notes.old;
       faults_after = N.faults notes.new;
     } in Notes side (note_of result.status) }
-    ensures store { KeepsStore W.is_honest W.held W.slot_count W.asked W.faults store result.store }
+    ensures store { W.faults store ≤ W.faults result.store }
     ensures host { H.faults host.old ≤ H.faults host.new }
     ensures out { K.faults out.old ≤ K.faults out.new }
     ensures notes { N.faults notes.old ≤ N.faults notes.new }

@@ -2,7 +2,7 @@
 
 ghost use Rattle.std.specs.Prelude.{◌≡◌, ℕ, List, Option, Some};
 ghost use Rattle.xousim.specs.declared.status.Status.{Status};
-ghost use Rattle.xousim.specs.Outcome.{IsCheckVerdict, IsConvertVerdict, IsVerdict};
+ghost use Rattle.xousim.specs.Outcome.Verdicts.{IsCheckVerdict, IsConvertVerdict, IsVerdict};
 ghost use Rattle.xousim.specs.Words.{Check, Play};
 
 /// Where a host tells its files, no two statuses are verdicts of them for a command.

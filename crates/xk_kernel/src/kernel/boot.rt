@@ -1,7 +1,9 @@
 //! A kernel is booted.
 
 ghost use Rattle.std.specs.Option.{option_map};
-ghost use Rattle.std.specs.Prelude.{◌≡◌, ◌≤◌, ◌==◌, if◌then◌else◌, [], All, None, IfErr, IfOk, length, replicate};
+ghost use Rattle.std.specs.Prelude.{◌≡◌, ◌≤◌, ◌<◌, ◌==◌, true, if◌then◌else◌, [], All, None, IfErr, IfOk, length, replicate};
+ghost use Rattle.boot_plan.specs.Capacity.{page_frames};
+ghost use Rattle.boot_plan.specs.FirstPages.{planned_pages};
 ghost use Rattle.boot_plan.specs.Lawful.{CanStart, IsLawfulPlan};
 ghost use Rattle.msg_queue.specs.Seats.{empty_seat};
 ghost use Rattle.process_table.specs.ProcessMap.{new_processes};
@@ -11,12 +13,15 @@ ghost use Rattle.server_table.specs.ServersOf.{servers_of};
 ghost use Rattle.thread_table.specs.ThreadMap.{no_threads};
 ghost use Rattle.thread_table.specs.ThreadsOf.{process_count, threads_of};
 ghost use Rattle.xk_ports.specs.Keeping.{KeepsStore};
+ghost use Rattle.vm_memory.specs.Bytes.{MeansBytes, none_out};
 ghost use Rattle.vm_memory.specs.Memory.{size, store_of};
 ghost use Rattle.vm_memory.specs.Tie.{IsTied};
+ghost use Rattle.xk_base.specs.Outside.{Rose};
 ghost use Rattle.xk_base.specs.Tables.Circle.{IsPid};
 ghost use Rattle.xk_base.specs.declared.ids.ThreadId.{ThreadId as Id};
 ghost use Rattle.xk_base.specs.declared.ids.Tid.{Tid as TidNumber};
 ghost use Rattle.xk_base.specs.declared.limits.TheConstants.{RECORD_LIMIT, SERVER_LIMIT};
+ghost use Rattle.xk_kernel.specs.Knowing.{ComesTo};
 ghost use Rattle.xk_kernel.specs.Sound.{IsSound, IsUsable};
 ghost use Rattle.xk_kernel.specs.Start.{first_threads, start, threads_at_start};
 ghost use Rattle.send_path.specs.Parts.{thread_of};
@@ -101,7 +106,8 @@ fn tables(alloc: Global, plan: &BootPlan) -> Result<Tables, NoMemory>
 
 impl<W: SwapStore> Kernel<W> {
     /// Boots the processes of a plan with the bytes of its file. All memory of the run is taken
-    /// here; want of it hands the store back.
+    /// here. Want of it hands the store back, and so does a store that fails, which is asked only
+    /// where the plan has more pages than there are frames for.
     pub fn boot(
         alloc: Global,
         plan: &BootPlan,
@@ -111,11 +117,12 @@ impl<W: SwapStore> Kernel<W> {
         requires lawful { IsLawfulPlan (length file.now) plan.now }
         requires can_start { All CanStart plan.now.procs }
         requires slots { plan.now.slots ≤ W.slot_count store }
-        // This one goes when pages can be out.
-        requires no_slots { plan.now.slots ≡ 0 }
         ensures sound { IfOk result (λ k. IsSound W.slot_count W.held k) }
         ensures usable { IfOk result (λ k. IsUsable k) }
-        ensures start { IfOk result (λ k. machine_of W.held k ≡ start plan.now file.now) }
+        // Bytes stand as the plan says where the store is honest and tells, or no page is out.
+        ensures start { IfOk result (λ k. ComesTo (MeansBytes W.is_honest W.held k.mem) (machine_of W.held k) (start plan.now file.now)) }
+        // A page is out only where the plan has more pages than there are frames for pages.
+        ensures near { planned_pages plan.now ≤ page_frames plan.now.frames (length plan.now.procs) → IfOk result (λ k. none_out k.mem ≡ true) }
         ensures records { IfOk result (λ k. last_of k ≡ []) }
         ensures tie { IfOk result (λ k. IsTied W.held k.mem) }
         ensures size { let first = plan.now.ram_start in
@@ -123,8 +130,9 @@ impl<W: SwapStore> Kernel<W> {
             IfOk result (λ k. size k.mem ≡ record { procs = length plan.now.procs; area = record { start = first; frames = frames }; slots = plan.now.slots }) }
         ensures store { IfOk result (λ k. KeepsStore W.is_honest W.held W.slot_count W.asked W.faults store (store_of k.mem)) }
         ensures back { IfErr result (λ fault. KeepsStore W.is_honest W.held W.slot_count W.asked W.faults store fault.store) }
-        // Until pages can be out, want of memory is all that can come.
-        ensures want { IfErr result (λ fault. fault.why ≡ BootError.NoMemory) }
+        // A swap fault comes only where the store's count rose and the pages don't fit in frames.
+        ensures cause { IfErr result (λ fault. fault.why ≡ BootError.SwapFault → Rose (W.faults store) (W.faults fault.store)) }
+        ensures out { IfErr result (λ fault. fault.why ≡ BootError.SwapFault → page_frames plan.now.frames (length plan.now.procs) < planned_pages plan.now) }
     {
         let (threads, procs, servers, log, queues) = match tables(alloc, plan) {
             Ok(tables) => tables,

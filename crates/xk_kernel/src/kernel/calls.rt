@@ -1,18 +1,22 @@
 //! System calls.
 
-ghost use Rattle.std.specs.Prelude.{ℕ, List, ◌≡◌, ◌+◌, ◌<◌, ◌≤◌, true, false, length, IsOk, OnOk, IfOk};
+ghost use Rattle.std.specs.Prelude.{ℕ, List, ◌≡◌, ◌+◌, ◌<◌, ◌≤◌, true, false, length, OnErr, OnOk, IfOk};
 ghost use Rattle.machine_model.specs.Calling.Calls.{call};
 ghost use Rattle.machine_model.specs.State.Changes.{Refused, Retried, call_settled};
 ghost use Rattle.machine_model.specs.State.Order.{ready_at};
 ghost use Rattle.machine_model.specs.Stepping.Step.{after};
 ghost use Rattle.syscall_codec.specs.Calls.{Asks};
+ghost use Rattle.vm_memory.specs.Bytes.{none_out};
+ghost use Rattle.vm_memory.specs.Memory.{has_failed, store_of};
+ghost use Rattle.xk_base.specs.Outside.{Rose};
 ghost use Rattle.xk_base.specs.Tables.Circle.{thread_ids};
 ghost use Rattle.xk_base.specs.declared.limits.TheConstants.{PROCESS_LIMIT};
 ghost use Rattle.xk_base.specs.declared.records.What.TheVariants.{Call as Called};
-ghost use Rattle.xk_kernel.specs.Calling.{IfUndone, IsCaller, is_plain_call, is_refused_caller, outcome_of};
+ghost use Rattle.xk_kernel.specs.Calling.{CrowdsBy, IfUndone, IsCaller, ServesAs, is_plain_call, is_refused_caller};
+ghost use Rattle.xk_kernel.specs.Knowing.{KnowsBytes};
 ghost use Rattle.xk_kernel.specs.Sound.{IsUsable, IsWhole, Keeps};
 ghost use Rattle.xk_kernel.specs.State.{machine_of};
-ghost use Rattle.xk_kernel.specs.Telling.{Tells};
+ghost use Rattle.xk_kernel.specs.Telling.{Tells, TellsOver};
 
 use crate::kernel::{Kernel, SwapFault};
 use syscall_codec::{Call, Reply, can_wait, read_call, reply_words};
@@ -38,9 +42,12 @@ impl<W: SwapStore> Kernel<W> {
         ensures whole { IsWhole W.slot_count W.held self.new }
         ensures usable { OnOk result (IsUsable self.new) }
         ensures tells { let m = machine_of W.held self.old in
-            OnOk result (Tells W.held self.old self.new (after (Called self.old.cursor words) (call_settled m (call m words)))) }
+            OnOk result (TellsOver (KnowsBytes W.is_honest W.held self.old self.new) W.held self.old self.new (after (Called self.old.cursor words) (call_settled m (call m words)))) }
         ensures keeps { Keeps W.is_honest W.held W.slot_count W.asked W.faults self.old self.new }
-        ensures sure { IsOk result }
+        ensures failed { OnErr result (has_failed self.new.mem ≡ true) }
+        ensures cause { OnErr result (Rose (W.faults (store_of self.old.mem)) (W.faults (store_of self.new.mem))) }
+        ensures crowded { OnErr result (CrowdsBy W.held self.old (call (machine_of W.held self.old) words)) }
+        ensures near { none_out self.old.mem ≡ true → none_out self.new.mem ≡ false → CrowdsBy W.held self.old (call (machine_of W.held self.old) words) }
     {
         self.log.push(What::Call(self.cursor, words));
         match read_call(words) {
@@ -68,9 +75,12 @@ impl<W: SwapStore> Kernel<W> {
         ensures whole { IsWhole W.slot_count W.held self.new }
         ensures usable { OnOk result (IsUsable self.new) }
         ensures tells { let m = machine_of W.held self.old in
-            OnOk result (Tells W.held self.old self.new (call_settled m (call m words))) }
+            OnOk result (TellsOver (KnowsBytes W.is_honest W.held self.old self.new) W.held self.old self.new (call_settled m (call m words))) }
         ensures keeps { Keeps W.is_honest W.held W.slot_count W.asked W.faults self.old self.new }
-        ensures sure { IsOk result }
+        ensures failed { OnErr result (has_failed self.new.mem ≡ true) }
+        ensures cause { OnErr result (Rose (W.faults (store_of self.old.mem)) (W.faults (store_of self.new.mem))) }
+        ensures crowded { OnErr result (CrowdsBy W.held self.old (call (machine_of W.held self.old) words)) }
+        ensures near { none_out self.old.mem ≡ true → none_out self.new.mem ≡ false → CrowdsBy W.held self.old (call (machine_of W.held self.old) words) }
     {
         if self.is_refused(&asked) {
             self.refuse(XousError::InvalidSyscall);
@@ -103,9 +113,12 @@ impl<W: SwapStore> Kernel<W> {
         ensures whole { IsWhole W.slot_count W.held self.new }
         ensures usable { OnOk result (IsUsable self.new) }
         ensures tells { let m = machine_of W.held self.old in
-            OnOk result (Tells W.held self.old self.new (call_settled m (call m words))) }
+            OnOk result (TellsOver (KnowsBytes W.is_honest W.held self.old self.new) W.held self.old self.new (call_settled m (call m words))) }
         ensures keeps { Keeps W.is_honest W.held W.slot_count W.asked W.faults self.old self.new }
-        ensures sure { IsOk result }
+        ensures failed { OnErr result (has_failed self.new.mem ≡ true) }
+        ensures cause { OnErr result (Rose (W.faults (store_of self.old.mem)) (W.faults (store_of self.new.mem))) }
+        ensures crowded { OnErr result (CrowdsBy W.held self.old (call (machine_of W.held self.old) words)) }
+        ensures near { none_out self.old.mem ≡ true → none_out self.new.mem ≡ false → CrowdsBy W.held self.old (call (machine_of W.held self.old) words) }
     {
         let who = self.cursor;
         let outcome = self.serve(asked)?;
@@ -157,11 +170,16 @@ impl<W: SwapStore> Kernel<W> {
         ensures usable { OnOk result (IsUsable self.new) }
         ensures outcome { let old = machine_of W.held self.old in
             let new = machine_of W.held self.new in
-            IfOk result (λ served. (words : List ℕ) → Asks words asked → outcome_of self.old.cursor new served ≡ call old words) }
+            IfOk result (λ served. (words : List ℕ) → Asks words asked
+                → ServesAs (KnowsBytes W.is_honest W.held self.old self.new) self.old.cursor new (call old words) served) }
         ensures undone { IfOk result (λ served. IfUndone served (self.new ≡ self.old)) }
         ensures log { self.new.log ≡ self.old.log }
         ensures keeps { Keeps W.is_honest W.held W.slot_count W.asked W.faults self.old self.new }
-        ensures sure { IsOk result }
+        ensures failed { OnErr result (has_failed self.new.mem ≡ true) }
+        ensures cause { OnErr result (Rose (W.faults (store_of self.old.mem)) (W.faults (store_of self.new.mem))) }
+        ensures crowded { OnErr result ((words : List ℕ) → Asks words asked → CrowdsBy W.held self.old (call (machine_of W.held self.old) words)) }
+        ensures near { none_out self.old.mem ≡ true → none_out self.new.mem ≡ false → (words : List ℕ) → Asks words asked
+            → CrowdsBy W.held self.old (call (machine_of W.held self.old) words) }
     {
         match asked {
             Call::MapMemory {

@@ -11,6 +11,7 @@ ghost use Rattle.xk_base.specs.Tables.Circle.{is_pid, thread_ids};
 ghost use Rattle.xk_base.specs.declared.limits.TheConstants.{PROCESS_LIMIT};
 ghost use Rattle.xk_base.specs.declared.records.What.TheVariants.{End};
 ghost use Rattle.xk_kernel.specs.Calling.{IsCaller};
+ghost use Rattle.xk_kernel.specs.Knowing.{PutsNoneOut};
 ghost use Rattle.xk_kernel.specs.Sound.{IsUsable, IsWhole, Keeps};
 ghost use Rattle.xk_kernel.specs.State.{machine_of};
 ghost use Rattle.xk_kernel.specs.Telling.{Tells};
@@ -36,6 +37,7 @@ impl<W: SwapStore> Kernel<W> {
         ensures whole { IsWhole W.slot_count W.held self.new }
         ensures usable { IsUsable self.new }
         ensures tells { Tells W.held self.old self.new (settled (death pid (machine_of W.held self.old))) }
+        ensures none { PutsNoneOut self.old self.new }
         ensures keeps { Keeps W.is_honest W.held W.slot_count W.asked W.faults self.old self.new }
     {
         let timed = self.has_timer(pid);
@@ -60,6 +62,7 @@ impl<W: SwapStore> Kernel<W> {
         ensures whole { IsWhole W.slot_count W.held self.new }
         ensures usable { IsUsable self.new }
         ensures tells { Tells W.held self.old self.new (after cause (settled (death self.old.cursor.pid (machine_of W.held self.old)))) }
+        ensures none { PutsNoneOut self.old self.new }
         ensures keeps { Keeps W.is_honest W.held W.slot_count W.asked W.faults self.old self.new }
     {
         self.log.push(cause);
@@ -73,6 +76,7 @@ impl<W: SwapStore> Kernel<W> {
         ensures whole { IsWhole W.slot_count W.held self.new }
         ensures usable { IsUsable self.new }
         ensures tells { let m = machine_of W.held self.old in Tells W.held self.old self.new (call_settled m (Served (death self.old.cursor.pid m))) }
+        ensures none { PutsNoneOut self.old self.new }
         ensures keeps { Keeps W.is_honest W.held W.slot_count W.asked W.faults self.old self.new }
     {
         self.kill(self.cursor.pid);
@@ -122,6 +126,7 @@ impl<W: SwapStore> Kernel<W> {
         ensures whole { IsWhole W.slot_count W.held self.new }
         ensures usable { IsUsable self.new }
         ensures tells { Tells W.held self.old self.new (after (End self.old.cursor) (settled (thread_ended self.old.cursor a0 (machine_of W.held self.old)))) }
+        ensures none { PutsNoneOut self.old self.new }
         ensures keeps { Keeps W.is_honest W.held W.slot_count W.asked W.faults self.old self.new }
     {
         let who = self.cursor;

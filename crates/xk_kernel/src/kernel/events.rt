@@ -3,6 +3,7 @@
 ghost use Rattle.std.specs.Prelude.{◌≡◌};
 ghost use Rattle.machine_model.specs.Stepping.Events.{picked};
 ghost use Rattle.vm_memory.specs.Tie.{IsTied};
+ghost use Rattle.xk_kernel.specs.Knowing.{PutsNoneOut};
 ghost use Rattle.xk_kernel.specs.Sound.{IsSound, IsUsable, IsWhole, Keeps};
 ghost use Rattle.xk_kernel.specs.State.{machine_of};
 ghost use Rattle.xk_kernel.specs.Stepping.{Becomes, event_done};
@@ -34,6 +35,7 @@ impl<W: SwapStore> Kernel<W> {
         ensures sound { IsSound W.slot_count W.held self.new }
         ensures usable { IsUsable self.new }
         ensures does { Becomes W.held self.new (event_done e (machine_of W.held self.old)) }
+        ensures none { PutsNoneOut self.old self.new }
         ensures tie { IsTied W.held self.new.mem }
         ensures keeps { Keeps W.is_honest W.held W.slot_count W.asked W.faults self.old self.new }
     {

@@ -1,12 +1,16 @@
 //! The five calls on memory. The caller is the thread whose turn it is.
 
-ghost use Rattle.std.specs.Prelude.{◌≡◌, ◌==◌, ◌/◌, if◌then◌else◌, None, Some, IfOk, IsOk, OnOk};
+ghost use Rattle.std.specs.Prelude.{◌≡◌, ◌==◌, ◌/◌, true, false, if◌then◌else◌, None, Some, IfOk, OnErr, OnOk};
 ghost use Rattle.machine_model.specs.State.Changes.{Served, unless_refused};
 ghost use Rattle.machine_model.specs.Runs.Matched.{AreHeapsMatched};
 ghost use Rattle.machine_model.specs.Calling.MemoryCalls.{are_bad_flags, is_bad_range, decrease_refusals, decrease_served, increase_refusals, increase_served, map_refusals, map_served, unmap_refusals, unmap_served, update_refusals, update_served};
+ghost use Rattle.vm_memory.specs.Bytes.{none_out};
+ghost use Rattle.vm_memory.specs.Memory.{has_failed, store_of};
 ghost use Rattle.xk_base.specs.Numbers.Windows.{page_of};
+ghost use Rattle.xk_base.specs.Outside.{Rose};
 ghost use Rattle.xk_base.specs.Calls.Flags.{right_of};
-ghost use Rattle.xk_kernel.specs.Calling.{IfUndone, outcome_of};
+ghost use Rattle.xk_kernel.specs.Calling.{CrowdsBy, IfUndone, ServesAs, outcome_of};
+ghost use Rattle.xk_kernel.specs.Knowing.{KnowsBytes, PutsNoneOut};
 ghost use Rattle.xk_kernel.specs.Sound.{IsUsable, IsWhole, Keeps};
 ghost use Rattle.xk_kernel.specs.State.{machine_of};
 
@@ -77,11 +81,20 @@ impl<W: SwapStore> Kernel<W> {
         requires usable { IsUsable self.old }
         ensures whole { IsWhole W.slot_count W.held self.new }
         ensures usable { OnOk result (IsUsable self.new) }
-        ensures outcome { IfOk result (λ served. outcome_of self.old.cursor (machine_of W.held self.new) served ≡ unless_refused (map_refusals (machine_of W.held self.old) phys virt size flags) (Served (map_served (machine_of W.held self.old) phys virt size flags))) }
+        ensures outcome { let m = machine_of W.held self.old in
+            let outcome = unless_refused (map_refusals m phys virt size flags) (Served (map_served m phys virt size flags)) in
+            IfOk result (ServesAs (KnowsBytes W.is_honest W.held self.old self.new) self.old.cursor (machine_of W.held self.new) outcome) }
+        ensures crowded { let m = machine_of W.held self.old in
+            let outcome = unless_refused (map_refusals m phys virt size flags) (Served (map_served m phys virt size flags)) in
+            OnErr result (CrowdsBy W.held self.old outcome) }
+        ensures near { let m = machine_of W.held self.old in
+            let outcome = unless_refused (map_refusals m phys virt size flags) (Served (map_served m phys virt size flags)) in
+            none_out self.old.mem ≡ true → none_out self.new.mem ≡ false → CrowdsBy W.held self.old outcome }
         ensures undone { IfOk result (λ served. IfUndone served (self.new ≡ self.old)) }
         ensures log { self.new.log ≡ self.old.log }
         ensures keeps { Keeps W.is_honest W.held W.slot_count W.asked W.faults self.old self.new }
-        ensures sure { IsOk result }
+        ensures failed { OnErr result (has_failed self.new.mem ≡ true) }
+        ensures cause { OnErr result (Rose (W.faults (store_of self.old.mem)) (W.faults (store_of self.new.mem))) }
     {
         if is_bad_range(virt, size) {
             return Ok(Err(XousError::BadAlignment));
@@ -121,6 +134,7 @@ impl<W: SwapStore> Kernel<W> {
         ensures outcome { outcome_of self.old.cursor (machine_of W.held self.new) result ≡ unless_refused (unmap_refusals (machine_of W.held self.old) address size) (Served (unmap_served (machine_of W.held self.old) address size)) }
         ensures undone { IfUndone result (self.new ≡ self.old) }
         ensures log { self.new.log ≡ self.old.log }
+        ensures none { PutsNoneOut self.old self.new }
         ensures keeps { Keeps W.is_honest W.held W.slot_count W.asked W.faults self.old self.new }
     {
         if is_bad_range(address, size) {
@@ -147,6 +161,7 @@ impl<W: SwapStore> Kernel<W> {
         ensures outcome { outcome_of self.old.cursor (machine_of W.held self.new) result ≡ unless_refused (update_refusals (machine_of W.held self.old) address size flags) (Served (update_served (machine_of W.held self.old) address size flags)) }
         ensures undone { IfUndone result (self.new ≡ self.old) }
         ensures log { self.new.log ≡ self.old.log }
+        ensures none { PutsNoneOut self.old self.new }
         ensures keeps { Keeps W.is_honest W.held W.slot_count W.asked W.faults self.old self.new }
     {
         if is_bad_range(address, size) {
@@ -172,11 +187,20 @@ impl<W: SwapStore> Kernel<W> {
         requires matched { AreHeapsMatched (machine_of W.held self.old).process (machine_of W.held self.old).ledger }
         ensures whole { IsWhole W.slot_count W.held self.new }
         ensures usable { OnOk result (IsUsable self.new) }
-        ensures outcome { IfOk result (λ served. outcome_of self.old.cursor (machine_of W.held self.new) served ≡ unless_refused (increase_refusals (machine_of W.held self.old) bytes) (Served (increase_served (machine_of W.held self.old) bytes))) }
+        ensures outcome { let m = machine_of W.held self.old in
+            let outcome = unless_refused (increase_refusals m bytes) (Served (increase_served m bytes)) in
+            IfOk result (ServesAs (KnowsBytes W.is_honest W.held self.old self.new) self.old.cursor (machine_of W.held self.new) outcome) }
+        ensures crowded { let m = machine_of W.held self.old in
+            let outcome = unless_refused (increase_refusals m bytes) (Served (increase_served m bytes)) in
+            OnErr result (CrowdsBy W.held self.old outcome) }
+        ensures near { let m = machine_of W.held self.old in
+            let outcome = unless_refused (increase_refusals m bytes) (Served (increase_served m bytes)) in
+            none_out self.old.mem ≡ true → none_out self.new.mem ≡ false → CrowdsBy W.held self.old outcome }
         ensures undone { IfOk result (λ served. IfUndone served (self.new ≡ self.old)) }
         ensures log { self.new.log ≡ self.old.log }
         ensures keeps { Keeps W.is_honest W.held W.slot_count W.asked W.faults self.old self.new }
-        ensures sure { IsOk result }
+        ensures failed { OnErr result (has_failed self.new.mem ≡ true) }
+        ensures cause { OnErr result (Rose (W.faults (store_of self.old.mem)) (W.faults (store_of self.new.mem))) }
     {
         if bytes % PAGE_SIZE != 0 {
             return Ok(Err(XousError::BadAlignment));
@@ -212,6 +236,7 @@ impl<W: SwapStore> Kernel<W> {
         ensures outcome { outcome_of self.old.cursor (machine_of W.held self.new) result ≡ unless_refused (decrease_refusals (machine_of W.held self.old) bytes) (Served (decrease_served (machine_of W.held self.old) bytes)) }
         ensures undone { IfUndone result (self.new ≡ self.old) }
         ensures log { self.new.log ≡ self.old.log }
+        ensures none { PutsNoneOut self.old self.new }
         ensures keeps { Keeps W.is_honest W.held W.slot_count W.asked W.faults self.old self.new }
     {
         if bytes % PAGE_SIZE != 0 {

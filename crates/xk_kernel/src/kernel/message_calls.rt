@@ -8,6 +8,7 @@ ghost use Rattle.xk_base.specs.Calls.CallNumbers.{forward_message as forward_num
 ghost use Rattle.xk_base.specs.Calls.CallNumbers.{send_message as send_number, try_send_message as try_number};
 ghost use Rattle.xk_base.specs.Calls.CallWords.{call_number};
 ghost use Rattle.xk_kernel.specs.Calling.{IsCaller, is_refused_caller};
+ghost use Rattle.xk_kernel.specs.Knowing.{PutsNoneOut};
 ghost use Rattle.xk_kernel.specs.Sound.{IsUsable, IsWhole, Keeps};
 ghost use Rattle.xk_kernel.specs.State.{machine_of};
 ghost use Rattle.xk_kernel.specs.Telling.{Tells};
@@ -29,6 +30,7 @@ impl<W: SwapStore> Kernel<W> {
         ensures usable { IsUsable self.new }
         ensures tells { let m = machine_of W.held self.old in
             Tells W.held self.old self.new (call_settled m (table_row words m)) }
+        ensures none { PutsNoneOut self.old self.new }
         ensures keeps { Keeps W.is_honest W.held W.slot_count W.asked W.faults self.old self.new }
     {
         let sent = send(
@@ -59,6 +61,7 @@ impl<W: SwapStore> Kernel<W> {
         ensures usable { IsUsable self.new }
         ensures tells { let m = machine_of W.held self.old in
             Tells W.held self.old self.new (call_settled m (receive_row sid waits m)) }
+        ensures none { PutsNoneOut self.old self.new }
         ensures keeps { Keeps W.is_honest W.held W.slot_count W.asked W.faults self.old self.new }
     {
         let received = receive(
@@ -85,6 +88,7 @@ impl<W: SwapStore> Kernel<W> {
         ensures usable { IsUsable self.new }
         ensures tells { let m = machine_of W.held self.old in
             Tells W.held self.old self.new (call_settled m (table_row words m)) }
+        ensures none { PutsNoneOut self.old self.new }
         ensures keeps { Keeps W.is_honest W.held W.slot_count W.asked W.faults self.old self.new }
     {
         let returned = give_back(
@@ -111,6 +115,7 @@ impl<W: SwapStore> Kernel<W> {
         ensures usable { IsUsable self.new }
         ensures tells { let m = machine_of W.held self.old in
             Tells W.held self.old self.new (call_settled m (table_row words m)) }
+        ensures none { PutsNoneOut self.old self.new }
         ensures keeps { Keeps W.is_honest W.held W.slot_count W.asked W.faults self.old self.new }
     {
         let forwarded = forward(

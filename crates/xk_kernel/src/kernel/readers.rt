@@ -5,6 +5,7 @@ ghost use Rattle.machine_model.specs.State.Order.{actor, ready_at, turn};
 ghost use Rattle.vm_memory.specs.Pages.Here.{here_at};
 ghost use Rattle.vm_memory.specs.Memory.{ram_of, store_of};
 ghost use Rattle.vm_memory.specs.Tie.{IsTied};
+ghost use Rattle.xk_kernel.specs.Knowing.{PutsNoneOut};
 ghost use Rattle.xk_kernel.specs.Sound.{IsSound, IsUsable, IsWhole, Keeps};
 ghost use Rattle.xk_kernel.specs.State.{machine_of};
 ghost use Rattle.xk_kernel.specs.Stepping.{last_of};
@@ -101,6 +102,7 @@ impl<W: SwapStore> Kernel<W> {
         ensures usable { IsUsable self.new }
         ensures machine { machine_of W.held self.new ≡ turn (machine_of W.held self.old) }
         ensures last { last_of self.new ≡ last_of self.old }
+        ensures none { PutsNoneOut self.old self.new }
         ensures tie { IsTied W.held self.new.mem }
         ensures keeps { Keeps W.is_honest W.held W.slot_count W.asked W.faults self.old self.new }
     {

@@ -1,13 +1,18 @@
 //! The instruction of a thread is executed over the memory of its process, with the timer's page over it
 //! where the process has claimed the timer's interrupt.
 
-ghost use Rattle.std.specs.Prelude.{◌≡◌, ◌%◌, false, IsSome, Some};
+ghost use Rattle.std.specs.Prelude.{◌≡◌, ◌%◌, true, false, IsSome, Some};
 ghost use Rattle.machine_model.specs.Runs.Matched.{Matched};
 ghost use Rattle.machine_model.specs.State.Machine.{Thread as ModelThread};
+ghost use Rattle.machine_model.specs.State.Order.{ready_at};
 ghost use Rattle.machine_model.specs.Stepping.Reservations.{reserved_by};
 ghost use Rattle.machine_model.specs.Stepping.Step.{performed};
 ghost use Rattle.rv32_atomics.specs.Performing.{Core, Performs};
-ghost use Rattle.rv32_hart.specs.Running.{IfFailed, LeavesRegisters, View, ran_of};
+ghost use Rattle.rv32_hart.specs.Running.{GoesOnAligned, IfFailed, LeavesRegisters, UnlessFailed, View, ran_of};
+ghost use Rattle.vm_memory.specs.Bytes.{none_out};
+ghost use Rattle.vm_memory.specs.Memory.{has_failed, store_of};
+ghost use Rattle.xk_base.specs.Outside.{Rose};
+ghost use Rattle.xk_kernel.specs.Knowing.{KnowsBytes, PutsNoneOut};
 ghost use Rattle.xk_kernel.specs.Running.{machine_after, timed_view};
 ghost use Rattle.xk_kernel.specs.Sound.{IsUsable, IsWhole, Keeps};
 ghost use Rattle.xk_kernel.specs.State.{machine_of};
@@ -45,7 +50,11 @@ fn run_over<U: UserMemory>(
     ensures rest { U.same_rest inner result }
     // A timer whose page isn't there stays.
     ensures timer { on ≡ false → timer.new ≡ timer.old }
+    ensures fit { UnlessFailed ran.new (U.fit result) }
     ensures unfit { IfFailed ran.new (¬ U.fit result) }
+    ensures cause { IfFailed ran.new (Rose (U.faults inner) (U.faults result)) }
+    // Also where memory tells nothing.
+    ensures aligned { GoesOnAligned ran.new }
     ensures thread { thread.new ≡ record thread.old { regs = thread.new.regs } }
 {
     let mut view = TimerView {
@@ -86,14 +95,25 @@ impl<W: SwapStore> Kernel<W> {
         requires aligned { (t : ModelThread) → (machine_of W.held self.old).threads who ≡ Some t → t.pc % 4 ≡ 0 }
         requires reserved { reserved.old ≡ reserved_by who (machine_of W.held self.old).reserved }
         ensures whole { IsWhole W.slot_count W.held self.new }
-        // No page is out yet, so memory doesn't fail.
-        ensures usable { IsUsable self.new }
+        ensures usable { UnlessFailed result (IsUsable self.new) }
+        ensures failed { IfFailed result (has_failed self.new.mem ≡ true) }
+        ensures cause { IfFailed result (Rose (W.faults (store_of self.old.mem)) (W.faults (store_of self.new.mem))) }
+        ensures out { IfFailed result (none_out self.old.mem ≡ false) }
+        // Over known bytes it is the instruction that the machine performs.
         ensures answer { let m = machine_of W.held self.old in
-            (t : ModelThread) → m.threads who ≡ Some t → result ≡ ran_of (performed m who t).executed }
+            KnowsBytes W.is_honest W.held self.old self.new → UnlessFailed result
+            ((t : ModelThread) → m.threads who ≡ Some t → result ≡ ran_of (performed m who t).executed) }
         ensures machine { let m = machine_of W.held self.old in
-            (t : ModelThread) → m.threads who ≡ Some t → machine_of W.held self.new ≡ machine_after who m (performed m who t).executed }
+            KnowsBytes W.is_honest W.held self.old self.new → UnlessFailed result
+            ((t : ModelThread) → m.threads who ≡ Some t → machine_of W.held self.new ≡ machine_after who m (performed m who t).executed) }
         ensures reserved { let m = machine_of W.held self.old in
-            (t : ModelThread) → m.threads who ≡ Some t → reserved.new ≡ (performed m who t).reserved }
+            KnowsBytes W.is_honest W.held self.old self.new → UnlessFailed result
+            ((t : ModelThread) → m.threads who ≡ Some t → reserved.new ≡ (performed m who t).reserved) }
+        // Over any bytes the machine stays matched, its thread is as ready as before, and no step is counted.
+        ensures matched { Matched (machine_of W.held self.new) }
+        ensures ready { ready_at (machine_of W.held self.new) who ≡ ready_at (machine_of W.held self.old) who }
+        ensures steps { self.new.steps ≡ self.old.steps }
+        ensures none { PutsNoneOut self.old self.new }
         ensures log { self.new.log ≡ self.old.log }
         ensures keeps { Keeps W.is_honest W.held W.slot_count W.asked W.faults self.old self.new }
     {

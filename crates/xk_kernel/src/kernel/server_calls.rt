@@ -13,6 +13,7 @@ ghost use Rattle.xk_base.specs.Tables.Connections.{cid_for, has_room};
 ghost use Rattle.xk_base.specs.declared.errors.XousError.TheVariants.{ServerNotFound as NotFound};
 ghost use Rattle.xk_base.specs.declared.limits.TheConstants.{PROCESS_LIMIT};
 ghost use Rattle.xk_kernel.specs.Calling.{IfUndone, IsCaller, connected_outcome, outcome_of};
+ghost use Rattle.xk_kernel.specs.Knowing.{PutsNoneOut};
 ghost use Rattle.xk_kernel.specs.Sound.{IsUsable, IsWhole, Keeps};
 ghost use Rattle.xk_kernel.specs.State.{machine_of};
 ghost use Rattle.xk_kernel.specs.Telling.{Tells};
@@ -147,6 +148,7 @@ impl<W: SwapStore> Kernel<W> {
         ensures usable { IsUsable self.new }
         ensures tells { let m = machine_of W.held self.old in
             Tells W.held self.old self.new (call_settled m (unless_refused (own_server_refusals m sid) (Served (destroy_served m sid)))) }
+        ensures none { PutsNoneOut self.old self.new }
         ensures keeps { Keeps W.is_honest W.held W.slot_count W.asked W.faults self.old self.new }
     {
         match self.own_server(sid) {

@@ -1,23 +1,23 @@
 //! One step.
 
-ghost use Rattle.std.specs.Prelude.{◌≡◌, ◌<◌, ◌⊎◌, true, false, IfOk, IsOk, None, OnErr, OnOk, Some, length, ◌+◌, ◌≤◌, IsTrue, [], map};
-ghost use Rattle.ledger_model.specs.Ledger.{pages};
+ghost use Rattle.std.specs.Prelude.{◌≡◌, ◌<◌, ◌⊎◌, true, false, is_some, IfOk, None, OnErr, OnOk, Some, ◌+◌, IsTrue, map};
+ghost use Rattle.machine_model.specs.Runs.Kept.{Settles};
 ghost use Rattle.machine_model.specs.State.Machine.{Thread as ModelThread};
 ghost use Rattle.machine_model.specs.State.Order.{actor};
 ghost use Rattle.std.specs.Option.{option_map};
 ghost use Rattle.machine_model.specs.Stepping.Reservations.{reservation_of};
-ghost use Rattle.machine_model.specs.Stepping.Step.{console_told, ends_handler, ends_thread, record_of, step};
+ghost use Rattle.machine_model.specs.Stepping.Step.{console_told, ends_handler, ends_thread, record_of};
 ghost use Rattle.vm_memory.specs.Bytes.{none_out};
-ghost use Rattle.vm_memory.specs.Memory.{processes, frames_for_pages, store_of};
+ghost use Rattle.vm_memory.specs.Memory.{has_failed, processes, store_of};
 ghost use Rattle.vm_memory.specs.Tie.{IsTied};
 ghost use Rattle.xk_base.specs.Tables.Circle.{is_thread_id};
 ghost use Rattle.xk_base.specs.Calls.Registers.{reg_at};
 ghost use Rattle.xk_base.specs.Outside.{Rose};
-ghost use Rattle.xk_kernel.specs.Acting.{Acts};
+ghost use Rattle.xk_kernel.specs.Acting.{Acts, TellsFew, told_by};
+ghost use Rattle.xk_kernel.specs.Knowing.{IsCrowded, KnowsBytes, PutsNoneOut};
 ghost use Rattle.xk_kernel.specs.Sound.{IsSound, IsUsable, IsWhole, Keeps};
 ghost use Rattle.xk_kernel.specs.State.{as_reservation, machine_of};
-ghost use Rattle.xk_kernel.specs.Stepping.{DoesStep};
-ghost use Rattle.xk_kernel.specs.Telling.{log_with};
+ghost use Rattle.xk_kernel.specs.Stepping.{CountsStep, DoesStep, MayExchange};
 
 use crate::kernel::interrupts::HANDLER_RETURN;
 use crate::kernel::threads::THREAD_RETURN;
@@ -53,18 +53,24 @@ fn ends_handler(who: ThreadId, pc: u32) -> bool
 
 impl<W: SwapStore> Kernel<W> {
     /// Does the next step: one instruction, one whole system call, one end of a thread or of an
-    /// interrupt handler, or one fatal trap. `Idle` comes exactly where no thread is Ready. A step of a thread that goes on searches nothing, and no step takes memory.
+    /// interrupt handler, or one fatal trap. `Idle` comes exactly where no thread is Ready. A step of a
+    /// thread that goes on searches nothing, and no step takes memory. Only `close` may follow
+    /// a `SwapFault`.
     pub fn step(&mut self) -> Result<Stepped, SwapFault>
         requires sound { IsSound W.slot_count W.held self.old }
         requires usable { IsUsable self.old }
         requires few { (machine_of W.held self.old).steps < 4000000000 }
         ensures sound { IsSound W.slot_count W.held self.new }
         ensures usable { OnOk result (IsUsable self.new) }
-        ensures does { IfOk result (DoesStep W.held self.old self.new) }
+        ensures failed { OnErr result (has_failed self.new.mem ≡ true) }
+        ensures counts { IfOk result (CountsStep W.held self.old self.new) }
+        ensures there { OnErr result (is_some (actor (machine_of W.held self.old)) ≡ true) }
+        // The next state and the records, where bytes are known.
+        ensures does { KnowsBytes W.is_honest W.held self.old self.new → IfOk result (DoesStep W.held self.old self.new) }
+        // A swap fault comes only where the store's count rose and pages may move. Only there is a page out afterwards.
         ensures cause { OnErr result (Rose (W.faults (store_of self.old.mem)) (W.faults (store_of self.new.mem))) }
-        ensures full { OnErr result ((none_out self.old.mem ≡ false) ⊎ (frames_for_pages self.old.mem < pages (machine_of W.held self.old).processes (step (machine_of W.held self.old)).machine.ledger)) }
-        // Until pages can be out the store isn't used.
-        ensures sure { IsOk result }
+        ensures full { OnErr result (MayExchange W.held self.old) }
+        ensures out { none_out self.new.mem ≡ false → MayExchange W.held self.old }
         ensures tie { IsTied W.held self.new.mem }
         ensures keeps { Keeps W.is_honest W.held W.slot_count W.asked W.faults self.old self.new }
     {
@@ -82,8 +88,13 @@ impl<W: SwapStore> Kernel<W> {
         requires who { actor (machine_of W.held self.old) ≡ Some who }
         ensures sound { IsSound W.slot_count W.held self.new }
         ensures usable { OnOk result (IsUsable self.new) }
-        ensures does { IfOk result (DoesStep W.held self.old self.new) }
-        ensures sure { IsOk result }
+        ensures failed { OnErr result (has_failed self.new.mem ≡ true) }
+        ensures counts { IfOk result (CountsStep W.held self.old self.new) }
+        ensures there { OnErr result (is_some (actor (machine_of W.held self.old)) ≡ true) }
+        ensures does { KnowsBytes W.is_honest W.held self.old self.new → IfOk result (DoesStep W.held self.old self.new) }
+        ensures cause { OnErr result (Rose (W.faults (store_of self.old.mem)) (W.faults (store_of self.new.mem))) }
+        ensures full { OnErr result (MayExchange W.held self.old) }
+        ensures out { none_out self.new.mem ≡ false → MayExchange W.held self.old }
         ensures keeps { Keeps W.is_honest W.held W.slot_count W.asked W.faults self.old self.new }
     {
         let number = self.steps + 1;
@@ -103,8 +114,14 @@ impl<W: SwapStore> Kernel<W> {
         requires who { actor (machine_of W.held self.old) ≡ Some who }
         ensures whole { IsWhole W.slot_count W.held self.new }
         ensures usable { OnOk result (IsUsable self.new) }
-        ensures acts { IfOk result (Acts W.held self.old self.new who) }
-        ensures sure { IsOk result }
+        ensures failed { OnErr result (has_failed self.new.mem ≡ true) }
+        ensures acts { KnowsBytes W.is_honest W.held self.old self.new → IfOk result (Acts W.held self.old self.new who) }
+        // Over any bytes the machine is matched once the step is counted, and the log tells of it.
+        ensures settles { OnOk result (Settles (machine_of W.held self.old) (machine_of W.held self.new)) }
+        ensures tells { OnOk result (TellsFew self.old self.new) }
+        ensures cause { OnErr result (Rose (W.faults (store_of self.old.mem)) (W.faults (store_of self.new.mem))) }
+        ensures full { OnErr result ((none_out self.old.mem ≡ false) ⊎ IsCrowded self.old (told_by who (machine_of W.held self.old)).machine.ledger) }
+        ensures out { none_out self.new.mem ≡ false → (none_out self.old.mem ≡ false) ⊎ IsCrowded self.old (told_by who (machine_of W.held self.old)).machine.ledger }
         ensures keeps { Keeps W.is_honest W.held W.slot_count W.asked W.faults self.old self.new }
     {
         let thread = self.thread(who);
@@ -152,6 +169,7 @@ impl<W: SwapStore> Kernel<W> {
         ensures whole { IsWhole W.slot_count W.held self.new }
         ensures usable { IsUsable self.new }
         ensures acts { Acts W.held self.old self.new who None }
+        ensures none { PutsNoneOut self.old self.new }
         ensures keeps { Keeps W.is_honest W.held W.slot_count W.asked W.faults self.old self.new }
     {
         self.begin(who);
@@ -168,6 +186,7 @@ impl<W: SwapStore> Kernel<W> {
         ensures whole { IsWhole W.slot_count W.held self.new }
         ensures usable { IsUsable self.new }
         ensures acts { Acts W.held self.old self.new who None }
+        ensures none { PutsNoneOut self.old self.new }
         ensures keeps { Keeps W.is_honest W.held W.slot_count W.asked W.faults self.old self.new }
     {
         self.begin(who);

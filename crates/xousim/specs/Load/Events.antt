@@ -2,6 +2,7 @@
 use Rattle.std.specs.Prelude.{ℕ, ◌+◌, ◌*◌, ◌%◌, List, None, map}
 use Rattle.std.specs.List.{range_with_len}
 use Rattle.boot_plan.specs.FirstPages.{plan_of}
+use Rattle.boot_plan.specs.declared.plans.BootPlan.{BootPlan}
 use Rattle.event_text.specs.declared.event.Event.{Event}
 use Rattle.event_text.specs.declared.event.Event.TheVariants.{Tick}
 use Rattle.machine_model.specs.State.Machine.{Machine}
@@ -26,9 +27,12 @@ load_events clients = first_events (1000 * clients)
 abbrev pub most_steps : ℕ
 most_steps = 13 * (1000 * 31)
 
--- the machine that the image boots, without slots
+-- the plan of the image, without slots, and the machine that it boots
+abbrev pub load_plan : ℕ → BootPlan
+load_plan clients = plan_of (load_args clients) None
+
 abbrev pub load_machine : ℕ → Machine
-load_machine clients = start (plan_of (load_args clients) None) (load_image clients)
+load_machine clients = start (load_plan clients) (load_image clients)
 
 -- the history of the load, up to the step limit of a call that names none
 abbrev pub load_history : ℕ → History

@@ -1,27 +1,37 @@
-//! An image is read, planned and booted.
+//! An image is read and planned, and its run starts: the store is prepared, and the plan is booted.
 
+ghost use Rattle.std.specs.Option.{option_copied};
 ghost use Rattle.std.specs.Prelude.{◌≡◌, ◌≤◌, ◌⊎◌, [], true, All, length, IfOk, IfErr, IfSome, OnOk};
 ghost use Rattle.boot_plan.specs.FirstPages.{plan_of};
 ghost use Rattle.boot_plan.specs.Lawful.{CanStart, IsLawfulPlan};
-ghost use Rattle.xk_ports.specs.Keeping.{KeepsStore};
-ghost use Rattle.vm_memory.specs.Memory.{store_of};
+ghost use Rattle.machine_model.specs.State.Machine.{Machine};
+ghost use Rattle.vm_memory.specs.Memory.{frames_for_pages, size, store_of};
 ghost use Rattle.xk_base.specs.Outside.{Rose};
 ghost use Rattle.xk_kernel.specs.Sound.{IsSound, IsUsable};
+ghost use Rattle.xk_kernel.specs.Start.{start};
 ghost use Rattle.xk_kernel.specs.State.{machine_of};
 ghost use Rattle.xk_ports.specs.Host.{other_slot};
 ghost use Rattle.xk_ports.specs.declared.host.FileSlot.TheVariants.{First, Second};
-ghost use Rattle.xousim.specs.Outcome.{HasSlots, Image, IsSoundImage, Refuses, RefusesBytes};
+ghost use Rattle.xousim.specs.Finish.{Starts};
+ghost use Rattle.xousim.specs.Gathering.{Text};
+ghost use Rattle.xousim.specs.Outcome.Images.{IsSoundImage, Refuses, RefusesBytes};
+ghost use Rattle.xousim.specs.Outcome.Plays.{EndsRefused, EndsUnstarted};
+ghost use Rattle.xousim.specs.Outcome.Sides.{Call, Prepares, SinkSide, store_side};
+ghost use Rattle.xousim.specs.Outcome.Starts.{Stops, frames_of};
 ghost use Rattle.xousim.specs.Reading.{Asked, AsksFor, IsFile, IsTold};
+ghost use Rattle.xousim.specs.Standing.{Begins, stand};
+ghost use Rattle.xousim.specs.Words.{play_in};
 
+use crate::commands::command::PlayWords;
 use crate::outside::reading::{Content, ReadError, read_file};
 use crate::status::{Ended, Status};
 use boot_plan::{BootPlan, PlanError, TOO_LONG, plan};
 use kernel_args::{ArgFault, Args, ArgsError, read_args};
 use std::alloc::Global;
-use vm_memory::BootFault;
+use vm_memory::{BootError, BootFault};
 use xk_base::limits::IMAGE_LIMIT;
 use xk_kernel::Kernel;
-use xk_ports::{FileSlot, Host, SwapStore};
+use xk_ports::{FileSlot, Host, StoreFault, SwapStore};
 
 /// Plans the first pages of the image of these bytes, for a run that asks for these slots, or says why
 /// not: `ImageFault` or `NoMemory`.
@@ -89,44 +99,81 @@ pub fn plan_image<H: Host>(
     }
 }
 
-/// Reads the image of that name and boots it, or says why not, and hands the store back then. A run
-/// that asks for these slots and has some isn't built.
+/// Prepares the store for a run of this plan, under this name if there is one, and boots the plan with the
+/// bytes of its file; or says why not, `SwapFault` or `NoMemory`, and hands the store back.
+pub fn start_run<W: SwapStore>(
+    alloc: Global,
+    plan: &BootPlan,
+    file: &[u8],
+    name: Option<&str>,
+    store: W,
+) -> Result<Kernel<W>, Ended<W>>
+    requires lawful { IsLawfulPlan (length file.now) plan.now }
+    requires can_start { All CanStart plan.now.procs }
+    ensures begins { IfOk result (λ kernel. (text : Text) → Begins (start plan.now file.now) (stand W.is_honest W.held kernel text)) }
+    ensures sound { IfOk result (λ kernel. IsSound W.slot_count W.held kernel) }
+    ensures usable { IfOk result (λ kernel. IsUsable kernel) }
+    ensures steps { IfOk result (λ kernel. (machine_of W.held kernel).steps ≡ 0) }
+    ensures frames { IfOk result (λ kernel. frames_for_pages kernel.mem ≡ frames_of plan.now) }
+    ensures slots { IfOk result (λ kernel. (size kernel.mem).slots ≡ plan.now.slots) }
+    ensures prepared { IfOk result (λ kernel. let side = store_side W.is_honest W.held W.asked W.faults store (store_of kernel.mem) in
+        Prepares side plan.now.slots (option_copied name.entry) true) }
+    ensures count { IfOk result (λ kernel. W.faults store ≤ W.faults (store_of kernel.mem)) }
+    ensures stopped { IfErr result (λ ended. let side = store_side W.is_honest W.held W.asked W.faults store ended.store in
+        Stops plan.now (option_copied name.entry) (start plan.now file.now) side ended.status) }
+    ensures back { IfErr result (λ ended. W.faults store ≤ W.faults ended.store) }
+{
+    let mut store = store;
+    match store.prepare(alloc, plan.slots, name) {
+        Ok(()) => {}
+        Err(StoreFault::Failed) => return Err(Ended { status: Status::SwapFault, store }),
+        Err(StoreFault::NoMemory) => return Err(Ended { status: Status::NoMemory, store }),
+    }
+    match Kernel::boot(alloc, plan, file, store) {
+        Ok(kernel) => Ok(kernel),
+        Err(BootFault { why: BootError::SwapFault, store }) => Err(Ended { status: Status::SwapFault, store }),
+        Err(BootFault { why: BootError::NoMemory, store }) => Err(Ended { status: Status::NoMemory, store }),
+    }
+}
+
+/// Reads the image of a command and starts its run, or says why not, and hands the store back then.
 pub fn boot_image<H: Host, W: SwapStore>(
     alloc: Global,
     host: &mut H,
-    name: &str,
-    asked: Option<u32>,
+    play: PlayWords,
     store: W,
 ) -> Result<Kernel<W>, Ended<W>>
-    requires { IfSome asked (λ n. n ≤ 16384) }
-    ensures booted { IfOk result (λ kernel. Image (H.file host.old) name.now asked (machine_of W.held kernel)) }
+    ensures booted { IfOk result (λ kernel. (start : Machine)
+        × ((text : Text) → Begins start (stand W.is_honest W.held kernel text))
+        × Starts (play_in play.entry) (H.file host.old)
+        (record { machine = start; frames = frames_for_pages kernel.mem; slots = (size kernel.mem).slots })
+        (store_side W.is_honest W.held W.asked W.faults store (store_of kernel.mem))) }
     ensures sound { IfOk result (λ kernel. IsSound W.slot_count W.held kernel) }
     ensures usable { IfOk result (λ kernel. IsUsable kernel) }
-    ensures store { IfOk result (λ kernel. KeepsStore W.is_honest W.held W.slot_count W.asked W.faults store (store_of kernel.mem)) }
-    ensures end { IfOk result (λ kernel. IsTold (H.left host.new First) []) }
-    ensures refused { IfErr result (λ ended. Refuses (H.file host.old) name.now asked (Rose (H.faults host.old) (H.faults host.new)) ended.status
-        ⊎ ((ended.status ≡ Status.NotBuilt) × HasSlots (H.file host.old) name.now asked × Asked (H.asked host.old) (H.asked host.new) First name.now true)) }
-    ensures back { IfErr result (λ ended. KeepsStore W.is_honest W.held W.slot_count W.asked W.faults store ended.store) }
-    ensures asks { AsksFor (H.asked host.old) (H.asked host.new) First name.now }
-    ensures picked { OnOk result (Asked (H.asked host.old) (H.asked host.new) First name.now true) }
+    ensures steps { IfOk result (λ kernel. (machine_of W.held kernel).steps ≡ 0) }
+    ensures count { IfOk result (λ kernel. W.faults store ≤ W.faults (store_of kernel.mem)) }
+    ensures end { OnOk result (IsTold (H.left host.new First) []) }
+    ensures picked { OnOk result (Asked (H.asked host.old) (H.asked host.new) First play.entry.image.now true) }
+    ensures ends { (out : SinkSide) → out.written_after ≡ out.written → IfErr result (λ ended. let call : Call = record {
+      host = record {
+        files = H.file host.old;
+        asked = H.asked host.old;
+        asked_after = H.asked host.new;
+        image_left = H.left host.new First;
+        left = H.left host.new Second;
+        faults = H.faults host.old;
+        faults_after = H.faults host.new;
+      };
+      out = out;
+      store = store_side W.is_honest W.held W.asked W.faults store ended.store;
+      status = ended.status;
+    } in EndsRefused (play_in play.entry) call ⊎ EndsUnstarted (play_in play.entry) call) }
+    ensures back { IfErr result (λ ended. W.faults store ≤ W.faults ended.store) }
     ensures file { H.file host.new ≡ H.file host.old }
     ensures never_falls { H.faults host.old ≤ H.faults host.new }
 {
-    let planned = match plan_image(alloc, host, name, asked) {
-        Ok(planned) => planned,
-        Err(status) => return Err(Ended { status, store }),
-    };
-    if planned.plan.slots > 0 {
-        return Err(Ended {
-            status: Status::NotBuilt,
-            store,
-        });
-    }
-    match Kernel::boot(alloc, &planned.plan, planned.bytes.as_slice(), store) {
-        Ok(kernel) => Ok(kernel),
-        Err(BootFault { why: _, store }) => Err(Ended {
-            status: Status::NoMemory,
-            store,
-        }),
+    match plan_image(alloc, host, play.image, play.slots) {
+        Ok(planned) => start_run(alloc, &planned.plan, planned.bytes.as_slice(), play.store, store),
+        Err(status) => Err(Ended { status, store }),
     }
 }

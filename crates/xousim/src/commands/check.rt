@@ -1,8 +1,9 @@
 //! `check`: an image is planned.
 
-ghost use Rattle.std.specs.Prelude.{◌≡◌, ◌≤◌};
+ghost use Rattle.std.specs.Prelude.{◌≤◌};
 ghost use Rattle.xk_ports.specs.declared.host.FileSlot.TheVariants.{First, Second};
-ghost use Rattle.xousim.specs.Outcome.{Call, EndsCheck};
+ghost use Rattle.xousim.specs.Outcome.Check.{EndsCheck};
+ghost use Rattle.xousim.specs.Outcome.Sides.{Call, StoreSide};
 ghost use Rattle.xousim.specs.Words.{check_in};
 
 use crate::commands::booting::plan_image;
@@ -19,7 +20,7 @@ pub fn check_image<H: Host, K: Sink>(
     host: &mut H,
     out: &mut K,
 ) -> Status
-    ensures ends { let call : Call = record {
+    ensures ends { (store : StoreSide) → let call : Call = record {
       host = record {
         files = H.file host.old;
         asked = H.asked host.old;
@@ -35,6 +36,7 @@ pub fn check_image<H: Host, K: Sink>(
         faults = K.faults out.old;
         faults_after = K.faults out.new;
       };
+      store = store;
       status = result;
     } in EndsCheck (check_in check.entry) call }
     ensures host { H.faults host.old ≤ H.faults host.new }

@@ -3,7 +3,8 @@
 ghost use Rattle.std.specs.Prelude.{◌≡◌, ◌≤◌, length};
 ghost use Rattle.xk_base.specs.Outside.{Rose};
 ghost use Rattle.xk_ports.specs.declared.host.FileSlot.TheVariants.{First, Second};
-ghost use Rattle.xousim.specs.Outcome.{Call, EndsConvert, SinkSide, Writes};
+ghost use Rattle.xousim.specs.Outcome.Convert.{EndsConvert, Writes};
+ghost use Rattle.xousim.specs.Outcome.Sides.{Call, SinkSide, StoreSide};
 
 use crate::commands::booting::plan_image;
 use crate::status::Status;
@@ -39,7 +40,7 @@ pub fn convert_image<H: Host, K: Sink>(
     host: &mut H,
     out: &mut K,
 ) -> Status
-    ensures ends { let call : Call = record {
+    ensures ends { (store : StoreSide) → let call : Call = record {
       host = record {
         files = H.file host.old;
         asked = H.asked host.old;
@@ -55,6 +56,7 @@ pub fn convert_image<H: Host, K: Sink>(
         faults = K.faults out.old;
         faults_after = K.faults out.new;
       };
+      store = store;
       status = result;
     } in EndsConvert image.now call }
     ensures host { H.faults host.old ≤ H.faults host.new }

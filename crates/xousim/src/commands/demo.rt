@@ -1,18 +1,19 @@
 //! `demo`: the load of so many clients is made and played, and summed up in a line.
 
-ghost use Rattle.std.specs.Prelude.{◌≡◌, ◌≤◌, All, IfErr, IfOk, length};
-ghost use Rattle.boot_plan.specs.FirstPages.{plan_of};
+ghost use Rattle.std.specs.Prelude.{◌≡◌, ◌≤◌, true, All, IfErr, IfOk, None, length};
 ghost use Rattle.boot_plan.specs.Lawful.{CanStart, IsLawfulPlan};
-ghost use Rattle.vm_memory.specs.Memory.{store_of};
+ghost use Rattle.vm_memory.specs.Memory.{size, store_of};
 ghost use Rattle.xk_base.specs.Outside.{Rose};
 ghost use Rattle.xk_kernel.specs.Sound.{IsSound, IsUsable};
 ghost use Rattle.xk_kernel.specs.State.{machine_of};
-ghost use Rattle.xk_ports.specs.Keeping.{KeepsStore};
-ghost use Rattle.xousim.specs.Load.Events.{load_machine};
-ghost use Rattle.xousim.specs.Load.Image.{load_args, load_image};
-ghost use Rattle.xousim.specs.Outcome.{SinkSide, TellsDemo};
+ghost use Rattle.xousim.specs.Load.Events.{load_machine, load_plan};
+ghost use Rattle.xousim.specs.Load.Image.{load_image};
+ghost use Rattle.xousim.specs.Outcome.Demo.{Demonstrates};
+ghost use Rattle.xousim.specs.Outcome.Sides.{Prepares, SinkSide, store_side};
+ghost use Rattle.xousim.specs.Outcome.Starts.{Stops};
 ghost use Rattle.xousim.specs.declared.status.Status.TheVariants.{WriteFault};
 
+use crate::commands::booting::start_run;
 use crate::commands::command::DemoWords;
 use crate::load::image::load_image;
 use crate::load::playing::play_load;
@@ -20,7 +21,6 @@ use crate::load::totals::demo_line;
 use crate::status::{Ended, Status};
 use boot_plan::{BootPlan, PlanError, plan};
 use std::alloc::Global;
-use vm_memory::BootFault;
 use xk_base::{NoMemory, Row};
 use xk_kernel::Kernel;
 use xk_ports::{Sink, SwapStore, put_all};
@@ -29,7 +29,7 @@ use xk_ports::{Sink, SwapStore, put_all};
 fn plan_load(alloc: Global, clients: u32) -> Result<(Row<u8>, BootPlan), NoMemory>
     requires { clients ≤ 31 }
     ensures image { IfOk result (λ load. load.0 ≡ load_image clients) }
-    ensures planned { IfOk result (λ load. load.1 ≡ plan_of (load_args clients) None) }
+    ensures planned { IfOk result (λ load. load.1 ≡ load_plan clients) }
     ensures lawful { IfOk result (λ load. IsLawfulPlan (length load.0) load.1) }
     ensures can_start { IfOk result (λ load. All CanStart load.1.procs) }
 {
@@ -42,21 +42,26 @@ fn plan_load(alloc: Global, clients: u32) -> Result<(Row<u8>, BootPlan), NoMemor
     }
 }
 
-/// Boots the load of so many clients, or hands the store back for want of memory.
-fn boot_load<W: SwapStore>(alloc: Global, clients: u32, store: W) -> Result<Kernel<W>, W>
+/// Starts the run of the load of so many clients, or says why not and hands the store back.
+fn boot_load<W: SwapStore>(alloc: Global, clients: u32, store: W) -> Result<Kernel<W>, Ended<W>>
     requires { clients ≤ 31 }
     ensures booted { IfOk result (λ kernel. machine_of W.held kernel ≡ load_machine clients) }
     ensures sound { IfOk result (λ kernel. IsSound W.slot_count W.held kernel) }
     ensures usable { IfOk result (λ kernel. IsUsable kernel) }
-    ensures store { IfOk result (λ kernel. KeepsStore W.is_honest W.held W.slot_count W.asked W.faults store (store_of kernel.mem)) }
-    ensures back { IfErr result (λ back. KeepsStore W.is_honest W.held W.slot_count W.asked W.faults store back) }
+    ensures slots { IfOk result (λ kernel. (size kernel.mem).slots ≡ 0) }
+    ensures prepared { IfOk result (λ kernel. let side = store_side W.is_honest W.held W.asked W.faults store (store_of kernel.mem) in
+        Prepares side 0 None true) }
+    ensures count { IfOk result (λ kernel. W.faults store ≤ W.faults (store_of kernel.mem)) }
+    ensures stopped { IfErr result (λ ended. let side = store_side W.is_honest W.held W.asked W.faults store ended.store in
+        Stops (load_plan clients) None (load_machine clients) side ended.status) }
+    ensures back { IfErr result (λ ended. W.faults store ≤ W.faults ended.store) }
 {
-    let Ok((image, plan)) = plan_load(alloc, clients) else {
-        return Err(store);
-    };
-    match Kernel::boot(alloc, &plan, image.as_slice(), store) {
-        Ok(kernel) => Ok(kernel),
-        Err(BootFault { why: _, store }) => Err(store),
+    match plan_load(alloc, clients) {
+        Ok((image, plan)) => start_run(alloc, &plan, image.as_slice(), None, store),
+        Err(NoMemory) => Err(Ended {
+            status: Status::NoMemory,
+            store,
+        }),
     }
 }
 
@@ -67,14 +72,14 @@ pub fn play_demo<K: Sink, W: SwapStore>(
     out: &mut K,
     store: W,
 ) -> Ended<W>
-    ensures told { let side : SinkSide = record {
+    ensures told { let out_side : SinkSide = record {
       written = K.written out.old;
       written_after = K.written out.new;
       faults = K.faults out.old;
       faults_after = K.faults out.new;
-    } in TellsDemo demo.clients side result.status }
+    } in Demonstrates demo.clients out_side (store_side W.is_honest W.held W.asked W.faults store result.store) result.status }
     ensures cause { result.status ≡ WriteFault → Rose (K.faults out.old) (K.faults out.new) }
-    ensures store { KeepsStore W.is_honest W.held W.slot_count W.asked W.faults store result.store }
+    ensures store { W.faults store ≤ W.faults result.store }
     ensures never_falls { K.faults out.old ≤ K.faults out.new }
 {
     match boot_load(alloc, demo.clients, store) {
@@ -87,9 +92,6 @@ pub fn play_demo<K: Sink, W: SwapStore>(
             };
             Ended { status, store }
         }
-        Err(store) => Ended {
-            status: Status::NoMemory,
-            store,
-        },
+        Err(ended) => ended,
     }
 }

@@ -1,13 +1,16 @@
 //! `trace`, `run` and `ledger`: the events of a file are played on an image.
 
 ghost use Rattle.std.specs.Prelude.{◌≡◌, ◌≤◌};
-ghost use Rattle.xk_ports.specs.Keeping.{KeepsStore};
+ghost use Rattle.machine_model.specs.State.Machine.{Machine};
+ghost use Rattle.vm_memory.specs.Memory.{frames_for_pages, size, store_of};
 ghost use Rattle.xk_kernel.specs.Sound.{IsSound, IsUsable, Keeps};
 ghost use Rattle.xk_kernel.specs.State.{machine_of};
 ghost use Rattle.xk_ports.specs.declared.host.FileSlot.TheVariants.{First, Second};
-ghost use Rattle.xousim.specs.Built.{is_play_built};
-ghost use Rattle.xousim.specs.Finish.{EndsBooted, Finishes};
-ghost use Rattle.xousim.specs.Outcome.{Call, EndsPlay, SinkSide};
+ghost use Rattle.xousim.specs.Finish.{Booted, EndsBooted, Finishes};
+ghost use Rattle.xousim.specs.Gathering.{put};
+ghost use Rattle.xousim.specs.Outcome.Plays.{EndsPlay};
+ghost use Rattle.xousim.specs.Outcome.Sides.{Call, SinkSide, store_side};
+ghost use Rattle.xousim.specs.Standing.{Begins, stand};
 ghost use Rattle.xousim.specs.Words.{play_in};
 
 use crate::commands::booting::boot_image;
@@ -19,13 +22,6 @@ use crate::status::{Ended, Status};
 use std::alloc::Global;
 use xk_kernel::Kernel;
 use xk_ports::{FileSlot, Host, Sink, SwapStore};
-
-/// Whether a command that plays events is built.
-pub fn is_built(play: &PlayWords) -> bool
-    ensures { result ≡ is_play_built (play_in play.now) }
-{
-    play.store.is_none()
-}
 
 /// Writes what is told at the end of a history that ended in this way, and gives the status.
 fn finish<K: Sink, W: SwapStore>(
@@ -64,7 +60,12 @@ fn play_events<H: Host, K: Sink, W: SwapStore>(
     requires sound { IsSound W.slot_count W.held kernel.old }
     requires usable { IsUsable kernel.old }
     requires within { (machine_of W.held kernel.old).steps ≤ play.limit }
-    ensures played { let call : Call = record {
+    ensures played { (start : Machine) → Begins start (stand W.is_honest W.held kernel.old (put (K.written out.old))) →
+    let booted : Booted = record {
+      machine = start;
+      frames = frames_for_pages kernel.old.mem;
+      slots = (size kernel.old.mem).slots;
+    } in let call : Call = record {
       host = record {
         files = H.file host.old;
         asked = H.asked host.old;
@@ -80,10 +81,10 @@ fn play_events<H: Host, K: Sink, W: SwapStore>(
         faults = K.faults out.old;
         faults_after = K.faults out.new;
       };
+      store = store_side W.is_honest W.held W.asked W.faults (store_of kernel.old.mem) (store_of kernel.new.mem);
       status = result;
-    } in EndsBooted (play_in play.entry) (machine_of W.held kernel.old) call }
+    } in EndsBooted (play_in play.entry) booted call }
     ensures sound { IsSound W.slot_count W.held kernel.new }
-    ensures usable { IsUsable kernel.new }
     ensures keeps { Keeps W.is_honest W.held W.slot_count W.asked W.faults kernel.old kernel.new }
     ensures first { H.left host.new First ≡ H.left host.old First }
     ensures host { H.faults host.old ≤ H.faults host.new }
@@ -96,6 +97,7 @@ fn play_events<H: Host, K: Sink, W: SwapStore>(
         Ok(ending) => finish(kernel, play, ending, out),
         Err(RunFault::Read) => Status::ReadFault,
         Err(RunFault::Write) => Status::WriteFault,
+        Err(RunFault::Swap) => Status::SwapFault,
     }
 }
 
@@ -123,13 +125,14 @@ pub fn play_image<H: Host, K: Sink, W: SwapStore>(
         faults = K.faults out.old;
         faults_after = K.faults out.new;
       };
+      store = store_side W.is_honest W.held W.asked W.faults store result.store;
       status = result.status;
     } in EndsPlay (play_in play.entry) call }
-    ensures store { KeepsStore W.is_honest W.held W.slot_count W.asked W.faults store result.store }
+    ensures store { W.faults store ≤ W.faults result.store }
     ensures host { H.faults host.old ≤ H.faults host.new }
     ensures out { K.faults out.old ≤ K.faults out.new }
 {
-    match boot_image(alloc, host, play.image, play.slots, store) {
+    match boot_image(alloc, host, play, store) {
         Ok(mut kernel) => {
             let status = play_events(&mut kernel, host, play, out);
             Ended {

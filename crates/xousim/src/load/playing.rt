@@ -2,6 +2,7 @@
 
 ghost use Rattle.std.specs.Prelude.{◌≡◌, ◌<◌, ◌≤◌, ◌+◌, ◌*◌, ◌++◌, false, List};
 ghost use Rattle.event_text.specs.declared.event.Event.TheVariants.{Tick};
+ghost use Rattle.vm_memory.specs.Memory.{size};
 ghost use Rattle.xk_base.specs.declared.limits.TheConstants.{DEFAULT_STEPS};
 ghost use Rattle.xk_base.specs.declared.records.Rec.{Rec as Record};
 ghost use Rattle.xk_kernel.specs.History.{history, play};
@@ -22,10 +23,11 @@ fn tick_at(i: u32) -> u32
     1 + 7 * i % 13
 }
 
-/// Plays a tick of at most so many steps, and counts its records.
+/// Plays a tick of at most so many steps on a kernel without slots, and counts its records.
 fn play_tick<W: SwapStore>(kernel: &mut Kernel<W>, count: u32, totals: &mut Totals)
     requires sound { IsSound W.slot_count W.held kernel.old }
     requires usable { IsUsable kernel.old }
+    requires slots { (size kernel.old.mem).slots ≡ 0 }
     requires room { (machine_of W.held kernel.old).steps + count ≤ most_steps }
     requires within { IsWithin (machine_of W.held kernel.old).steps totals.old }
     ensures counted { let tick = play (Tick count) DEFAULT_STEPS (machine_of W.held kernel.old) in
@@ -43,7 +45,7 @@ fn play_tick<W: SwapStore>(kernel: &mut Kernel<W>, count: u32, totals: &mut Tota
                 kernel.end_turn();
                 return;
             }
-            // The store isn't used until pages can be out.
+            // Without slots the store isn't used.
             Err(SwapFault) => unreachable!(),
         }
         totals.count_all(kernel.last());
@@ -51,11 +53,12 @@ fn play_tick<W: SwapStore>(kernel: &mut Kernel<W>, count: u32, totals: &mut Tota
     kernel.end_turn();
 }
 
-/// Plays the events of the load of so many clients on a kernel that was booted, and counts their records. They don't meet the
-/// step limit of a call that names none.
+/// Plays the events of the load of so many clients on a kernel that was booted without slots, and counts their records. They
+/// don't meet the step limit of a call that names none.
 pub fn play_load<W: SwapStore>(kernel: &mut Kernel<W>, clients: u32) -> Totals
     requires sound { IsSound W.slot_count W.held kernel.old }
     requires usable { IsUsable kernel.old }
+    requires slots { (size kernel.old.mem).slots ≡ 0 }
     requires start { (machine_of W.held kernel.old).steps ≡ 0 }
     requires few { clients ≤ 31 }
     ensures counted { result ≡ totals_of (history (load_events clients) DEFAULT_STEPS (machine_of W.held kernel.old)).records }

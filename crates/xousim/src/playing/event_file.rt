@@ -1,26 +1,27 @@
 //! The event file is read in pieces, each event is played as soon as it is known, and what is told
 //! of the events of a piece is put before the next piece is read.
 
-ghost use Rattle.std.specs.Prelude.{◌≡◌, ◌≢◌, ◌≤◌, ◌+◌, ◌++◌, [], ℕ, false, true, List, Option, None, Some, Ok, Err, length, IsTrue, OnOk, OnErr};
-ghost use Rattle.event_text.specs.Held.{IsWaiting};
+ghost use Rattle.std.specs.Prelude.{◌≡◌, ◌≢◌, ◌≤◌, ◌⊎◌, ◌+◌, ◌++◌, [], ℕ, Bool, false, true, List, Option, None, Some, Ok, Err, length, IsTrue, OnOk};
+ghost use Rattle.event_text.specs.Held.{IsWaiting, Reader};
 ghost use Rattle.machine_model.specs.State.Machine.{Machine};
+ghost use Rattle.vm_memory.specs.Memory.{store_of};
 ghost use Rattle.xk_base.specs.declared.limits.TheConstants.{EVENT_FILE_LIMIT};
 ghost use Rattle.xk_base.specs.Outside.{Rose};
 ghost use Rattle.xk_kernel.specs.Sound.{IsSound, IsUsable, Keeps};
 ghost use Rattle.xk_kernel.specs.State.{machine_of};
 ghost use Rattle.xk_ports.specs.declared.host.FileSlot.TheVariants.{First, Second};
 ghost use Rattle.xousim.specs.Gathering.{Text, put, text};
-ghost use Rattle.xousim.specs.Playing.{Goes, HasPlayed, Runs};
+ghost use Rattle.xousim.specs.Playing.{Goes, HasPlayed, Run, Runs, run_from};
 ghost use Rattle.xousim.specs.Reading.{IsTold};
+ghost use Rattle.xousim.specs.Standing.{Begins, Stand, stand};
 
 use crate::commands::command::Telling;
 use crate::outside::reading::PIECE;
 use crate::playing::ending::Ending;
-use crate::playing::events::play_known;
+use crate::playing::events::{PlayFault, play_known};
 use crate::playing::gathering::{Held, put_held};
 use arrayvec::ArrayVec;
 use event_text::EventReader;
-use xk_base::Failed;
 use xk_kernel::Kernel;
 use xk_ports::{FileSlot, Host, Sink, SwapStore};
 
@@ -31,6 +32,8 @@ pub enum RunFault {
     Read,
     /// The output couldn't be written.
     Write,
+    /// The swap store failed.
+    Swap,
 }
 
 /// Feeds a piece of the event file to a reader that waits, plays the events that become known and
@@ -44,22 +47,26 @@ fn feed_piece<K: Sink, W: SwapStore>(
     limit: u32,
     out: &mut K,
     held: &mut Held,
-) -> Result<Option<Ending>, Failed>
+) -> Result<Option<Ending>, PlayFault>
     requires sound { IsSound W.slot_count W.held kernel.old }
     requires usable { IsUsable kernel.old }
     requires limit { limit ≤ 4000000000 }
     requires within { (machine_of W.held kernel.old).steps ≤ limit }
     requires waits { IsWaiting reader.old }
     requires inside { reader.old.start + length reader.old.held ≤ EVENT_FILE_LIMIT }
-    ensures goes { (start : Machine) (begun : Text) (taken : List ℕ) → HasPlayed tells limit start begun taken reader.old (machine_of W.held kernel.old) (text (K.written out.old) held.old.items) → Goes tells limit start begun (taken ++ piece.now) false reader.new (machine_of W.held kernel.new) (text (K.written out.new) held.new.items) result }
+    ensures goes { let old = stand W.is_honest W.held kernel.old (text (K.written out.old) held.old.items) in
+        let new = stand W.is_honest W.held kernel.new (text (K.written out.new) held.new.items) in
+        (start : Machine) (begun : Text) (taken : List ℕ) → let run = run_from tells limit start begun in
+        HasPlayed run taken reader.old old → Goes run (taken ++ piece.now) false reader.new new result }
     ensures sound { IsSound W.slot_count W.held kernel.new }
-    ensures usable { IsUsable kernel.new }
+    ensures usable { OnOk result (IsUsable kernel.new) }
     ensures keeps { Keeps W.is_honest W.held W.slot_count W.asked W.faults kernel.old kernel.new }
     ensures within { OnOk result ((machine_of W.held kernel.new).steps ≤ limit) }
     ensures waits { result ≡ Ok None → IsWaiting reader.new × (reader.new.start + length reader.new.held ≤ EVENT_FILE_LIMIT) }
     ensures unended { result ≢ Ok (Some Ending.Played) }
     ensures offset { result ≡ Ok None → reader.new.start + length reader.new.held ≡ reader.old.start + length reader.old.held + length piece.now }
-    ensures cause { OnErr result (Rose (K.faults out.old) (K.faults out.new)) }
+    ensures write { result ≡ Err PlayFault.Write → Rose (K.faults out.old) (K.faults out.new) }
+    ensures swap { result ≡ Err PlayFault.Swap → Rose (W.faults (store_of kernel.old.mem)) (W.faults (store_of kernel.new.mem)) }
     ensures never_falls { K.faults out.old ≤ K.faults out.new }
 {
     let mut rest = piece;
@@ -74,6 +81,30 @@ fn feed_piece<K: Sink, W: SwapStore>(
     Ok(None)
 }
 
+/// Puts what is held of events that were played so, unless a write failed: also what is told of the
+/// steps before a fault of the store.
+fn put_played<K: Sink>(
+    ended: Result<Option<Ending>, PlayFault>,
+    out: &mut K,
+    held: &mut Held,
+) -> Result<Option<Ending>, PlayFault>
+    ensures goes { (run : Run) (taken : List ℕ) (finished : Bool) (reader : Reader) (now : Stand) → now.text ≡ text (K.written out.old) held.old.items
+        → (ended ≡ Ok None → reader.finished ≡ finished) → Goes run taken finished reader now ended
+        → Goes run taken finished reader (record now { text = put (K.written out.new) }) result }
+    ensures same { OnOk result (result ≡ ended) }
+    ensures write { result ≡ Err PlayFault.Write → (ended ≡ Err PlayFault.Write) ⊎ Rose (K.faults out.old) (K.faults out.new) }
+    ensures swap { result ≡ Err PlayFault.Swap → ended ≡ Err PlayFault.Swap }
+    ensures never_falls { K.faults out.old ≤ K.faults out.new }
+{
+    match ended {
+        Err(PlayFault::Write) => Err(PlayFault::Write),
+        Ok(_) | Err(PlayFault::Swap) => match put_held(out, held) {
+            Ok(()) => ended,
+            Err(_) => Err(PlayFault::Write),
+        },
+    }
+}
+
 /// Plays the events that become known by a piece of the event file, writes what is told of them, and
 /// answers how the history ended, or None where the reader waits for the next piece.
 fn play_piece<K: Sink, W: SwapStore>(
@@ -83,28 +114,31 @@ fn play_piece<K: Sink, W: SwapStore>(
     tells: Telling,
     limit: u32,
     out: &mut K,
-) -> Result<Option<Ending>, Failed>
+) -> Result<Option<Ending>, PlayFault>
     requires sound { IsSound W.slot_count W.held kernel.old }
     requires usable { IsUsable kernel.old }
     requires limit { limit ≤ 4000000000 }
     requires within { (machine_of W.held kernel.old).steps ≤ limit }
     requires waits { IsWaiting reader.old }
     requires inside { reader.old.start + length reader.old.held ≤ EVENT_FILE_LIMIT }
-    ensures goes { (start : Machine) (begun : Text) (taken : List ℕ) → HasPlayed tells limit start begun taken reader.old (machine_of W.held kernel.old) (put (K.written out.old)) → Goes tells limit start begun (taken ++ piece.now) false reader.new (machine_of W.held kernel.new) (put (K.written out.new)) result }
+    ensures goes { let old = stand W.is_honest W.held kernel.old (put (K.written out.old)) in
+        let new = stand W.is_honest W.held kernel.new (put (K.written out.new)) in
+        (start : Machine) (begun : Text) (taken : List ℕ) → let run = run_from tells limit start begun in
+        HasPlayed run taken reader.old old → Goes run (taken ++ piece.now) false reader.new new result }
     ensures sound { IsSound W.slot_count W.held kernel.new }
-    ensures usable { IsUsable kernel.new }
+    ensures usable { OnOk result (IsUsable kernel.new) }
     ensures keeps { Keeps W.is_honest W.held W.slot_count W.asked W.faults kernel.old kernel.new }
     ensures within { OnOk result ((machine_of W.held kernel.new).steps ≤ limit) }
     ensures waits { result ≡ Ok None → IsWaiting reader.new × (reader.new.start + length reader.new.held ≤ EVENT_FILE_LIMIT) }
     ensures unended { result ≢ Ok (Some Ending.Played) }
     ensures offset { result ≡ Ok None → reader.new.start + length reader.new.held ≡ reader.old.start + length reader.old.held + length piece.now }
-    ensures cause { OnErr result (Rose (K.faults out.old) (K.faults out.new)) }
+    ensures write { result ≡ Err PlayFault.Write → Rose (K.faults out.old) (K.faults out.new) }
+    ensures swap { result ≡ Err PlayFault.Swap → Rose (W.faults (store_of kernel.old.mem)) (W.faults (store_of kernel.new.mem)) }
     ensures never_falls { K.faults out.old ≤ K.faults out.new }
 {
     let mut held = ArrayVec::new();
-    let ended = feed_piece(kernel, reader, piece, tells, limit, out, &mut held)?;
-    put_held(out, &mut held)?;
-    Ok(ended)
+    let ended = feed_piece(kernel, reader, piece, tells, limit, out, &mut held);
+    put_played(ended, out, &mut held)
 }
 
 /// Plays all events that the reader knows, writes what is told of them, and answers how the history
@@ -115,27 +149,30 @@ fn play_end<K: Sink, W: SwapStore>(
     tells: Telling,
     limit: u32,
     out: &mut K,
-) -> Result<Option<Ending>, Failed>
+) -> Result<Option<Ending>, PlayFault>
     requires sound { IsSound W.slot_count W.held kernel.old }
     requires usable { IsUsable kernel.old }
     requires limit { limit ≤ 4000000000 }
     requires within { (machine_of W.held kernel.old).steps ≤ limit }
-    ensures goes { (start : Machine) (begun : Text) (taken : List ℕ) → HasPlayed tells limit start begun taken reader.old (machine_of W.held kernel.old) (put (K.written out.old)) → Goes tells limit start begun taken reader.old.finished reader.new (machine_of W.held kernel.new) (put (K.written out.new)) result }
+    ensures goes { let old = stand W.is_honest W.held kernel.old (put (K.written out.old)) in
+        let new = stand W.is_honest W.held kernel.new (put (K.written out.new)) in
+        (start : Machine) (begun : Text) (taken : List ℕ) → let run = run_from tells limit start begun in
+        HasPlayed run taken reader.old old → Goes run taken reader.old.finished reader.new new result }
     ensures sound { IsSound W.slot_count W.held kernel.new }
-    ensures usable { IsUsable kernel.new }
+    ensures usable { OnOk result (IsUsable kernel.new) }
     ensures keeps { Keeps W.is_honest W.held W.slot_count W.asked W.faults kernel.old kernel.new }
     ensures within { OnOk result ((machine_of W.held kernel.new).steps ≤ limit) }
     ensures waits { result ≡ Ok None → IsWaiting reader.new × (reader.new.start + length reader.new.held ≤ EVENT_FILE_LIMIT) }
     ensures offset { reader.new.start + length reader.new.held ≡ reader.old.start + length reader.old.held }
     ensures finished { reader.new.finished ≡ reader.old.finished }
     ensures end { result ≡ Ok (Some Ending.Played) → reader.new.finished ≡ true }
-    ensures cause { OnErr result (Rose (K.faults out.old) (K.faults out.new)) }
+    ensures write { result ≡ Err PlayFault.Write → Rose (K.faults out.old) (K.faults out.new) }
+    ensures swap { result ≡ Err PlayFault.Swap → Rose (W.faults (store_of kernel.old.mem)) (W.faults (store_of kernel.new.mem)) }
     ensures never_falls { K.faults out.old ≤ K.faults out.new }
 {
     let mut held = ArrayVec::new();
-    let ended = play_known(kernel, reader, tells, limit, out, &mut held)?;
-    put_held(out, &mut held)?;
-    Ok(ended)
+    let ended = play_known(kernel, reader, tells, limit, out, &mut held);
+    put_played(ended, out, &mut held)
 }
 
 /// Reads the event file that was picked at the second slot, plays its events on a booted kernel,
@@ -152,13 +189,17 @@ pub fn play_file<H: Host, K: Sink, W: SwapStore>(
     requires usable { IsUsable kernel.old }
     requires limit { limit ≤ 4000000000 }
     requires within { (machine_of W.held kernel.old).steps ≤ limit }
-    ensures runs { Runs tells (H.left host.old Second) (H.left host.new Second) limit (machine_of W.held kernel.old) (machine_of W.held kernel.new) (K.written out.old) (K.written out.new) result }
+    ensures runs { let old = stand W.is_honest W.held kernel.old (put (K.written out.old)) in
+        let new = stand W.is_honest W.held kernel.new (put (K.written out.new)) in
+        (start : Machine) → Begins start old
+        → Runs (run_from tells limit start (put (K.written out.old))) (H.left host.old Second) (H.left host.new Second) new result }
     ensures sound { IsSound W.slot_count W.held kernel.new }
-    ensures usable { IsUsable kernel.new }
+    ensures usable { OnOk result (IsUsable kernel.new) }
     ensures keeps { Keeps W.is_honest W.held W.slot_count W.asked W.faults kernel.old kernel.new }
     ensures end { result ≡ Ok Ending.Played → IsTold (H.left host.new Second) [] }
     ensures read { result ≡ Err RunFault.Read → Rose (H.faults host.old) (H.faults host.new) }
     ensures write { result ≡ Err RunFault.Write → Rose (K.faults out.old) (K.faults out.new) }
+    ensures swap { result ≡ Err RunFault.Swap → Rose (W.faults (store_of kernel.old.mem)) (W.faults (store_of kernel.new.mem)) }
     ensures asked { H.asked host.new ≡ H.asked host.old }
     ensures first { H.left host.new First ≡ H.left host.old First }
     ensures host { H.faults host.old ≤ H.faults host.new }
@@ -175,13 +216,15 @@ pub fn play_file<H: Host, K: Sink, W: SwapStore>(
             return match play_end(kernel, &mut reader, tells, limit, out) {
                 Ok(Some(ending)) => Ok(ending),
                 Ok(None) => unreachable!(),
-                Err(_) => Err(RunFault::Write),
+                Err(PlayFault::Write) => Err(RunFault::Write),
+                Err(PlayFault::Swap) => Err(RunFault::Swap),
             };
         }
         match play_piece(kernel, &mut reader, &piece[..count], tells, limit, out) {
             Ok(None) => {}
             Ok(Some(ending)) => return Ok(ending),
-            Err(_) => return Err(RunFault::Write),
+            Err(PlayFault::Write) => return Err(RunFault::Write),
+            Err(PlayFault::Swap) => return Err(RunFault::Swap),
         }
     }
 }

@@ -1,17 +1,19 @@
 //! Events are played, and what a command tells of their records is gathered as they come.
 
-ghost use Rattle.std.specs.Prelude.{◌≡◌, ◌≤◌, ◌<◌, ◌+◌, ℕ, true, List, Option, None, Some, Ok, length, OnOk, OnErr};
+ghost use Rattle.std.specs.Prelude.{◌≡◌, ◌≤◌, ◌<◌, ◌+◌, ℕ, true, List, Option, None, Some, Ok, Err, length, OnOk, OnErr};
 ghost use Rattle.event_text.specs.Held.{IsWaiting};
 ghost use Rattle.machine_model.specs.State.Machine.{Machine};
+ghost use Rattle.vm_memory.specs.Bytes.{none_out};
+ghost use Rattle.vm_memory.specs.Memory.{store_of};
 ghost use Rattle.xk_base.specs.declared.limits.TheConstants.{EVENT_FILE_LIMIT};
 ghost use Rattle.xk_base.specs.Outside.{Rose};
-ghost use Rattle.xk_kernel.specs.History.{play, reached};
 ghost use Rattle.xk_kernel.specs.Sound.{IsSound, IsUsable, Keeps};
 ghost use Rattle.xk_kernel.specs.State.{machine_of};
 ghost use Rattle.xk_kernel.specs.Stepping.{event_done};
-ghost use Rattle.xousim.specs.Gathering.{Gathered, Text, text};
-ghost use Rattle.xousim.specs.History.{with_ending};
-ghost use Rattle.xousim.specs.Playing.{Advances, Goes, HasPlayed};
+ghost use Rattle.xousim.specs.Gathering.{Gathers, GathersPart, Text, text};
+ghost use Rattle.xousim.specs.Playing.{Advances, Goes, HasPlayed, Plays, run_from};
+ghost use Rattle.xousim.specs.Standing.{stand};
+ghost use Rattle.xousim.specs.Telling.{told};
 
 use crate::commands::command::Telling;
 use crate::playing::ending::Ending;
@@ -22,7 +24,17 @@ use xk_base::Failed;
 use xk_kernel::{Kernel, Stepped, SwapFault};
 use xk_ports::{Sink, SwapStore};
 
-/// Plays a tick of at most `count` steps.
+/// Why a run over events stopped early.
+#[derive(Clone, Copy, Debug, PartialEq, Eq)]
+pub enum PlayFault {
+    /// The output couldn't be written.
+    Write,
+    /// The swap store failed.
+    Swap,
+}
+
+/// Plays a tick of at most `count` steps. Where the store fails in a step, what is told of the steps
+/// before it was gathered.
 fn play_tick<K: Sink, W: SwapStore>(
     kernel: &mut Kernel<W>,
     count: u32,
@@ -30,19 +42,20 @@ fn play_tick<K: Sink, W: SwapStore>(
     limit: u32,
     out: &mut K,
     held: &mut Held,
-) -> Result<Ending, Failed>
+) -> Result<Ending, PlayFault>
     requires sound { IsSound W.slot_count W.held kernel.old }
     requires usable { IsUsable kernel.old }
     requires limit { limit ≤ 4000000000 }
     requires within { (machine_of W.held kernel.old).steps ≤ limit }
-    ensures gathered { let tick = play (Event.Tick count) limit (machine_of W.held kernel.old) in
-        Gathered tells (text (K.written out.old) held.old.items) (text (K.written out.new) held.new.items) (with_ending Ending.Played tick) result }
-    ensures machine { OnOk result (machine_of W.held kernel.new ≡ (play (Event.Tick count) limit (machine_of W.held kernel.old)).machine) }
+    ensures plays { let old = stand W.is_honest W.held kernel.old (text (K.written out.old) held.old.items) in
+        let new = stand W.is_honest W.held kernel.new (text (K.written out.new) held.new.items) in
+        Plays tells (Event.Tick count) limit old new result }
     ensures sound { IsSound W.slot_count W.held kernel.new }
-    ensures usable { IsUsable kernel.new }
+    ensures usable { OnOk result (IsUsable kernel.new) }
     ensures keeps { Keeps W.is_honest W.held W.slot_count W.asked W.faults kernel.old kernel.new }
     ensures within { OnOk result ((machine_of W.held kernel.new).steps ≤ limit) }
-    ensures cause { OnErr result (Rose (K.faults out.old) (K.faults out.new)) }
+    ensures write { result ≡ Err PlayFault.Write → Rose (K.faults out.old) (K.faults out.new) }
+    ensures swap { result ≡ Err PlayFault.Swap → Rose (W.faults (store_of kernel.old.mem)) (W.faults (store_of kernel.new.mem)) }
     ensures never_falls { K.faults out.old ≤ K.faults out.new }
 {
     'steps: for done in 0..count {
@@ -59,10 +72,11 @@ fn play_tick<K: Sink, W: SwapStore>(
                 kernel.end_turn();
                 return Ok(Ending::Played);
             }
-            // The store isn't used until pages can be out.
-            Err(SwapFault) => unreachable!(),
+            Err(SwapFault) => return Err(PlayFault::Swap),
         }
-        gather_records(tells, kernel.last(), out, held)?;
+        let Ok(()) = gather_records(tells, kernel.last(), out, held) else {
+            return Err(PlayFault::Write);
+        };
     }
     kernel.end_turn();
     Ok(Ending::Played)
@@ -75,12 +89,15 @@ fn play_at_once<K: Sink, W: SwapStore>(
     tells: Telling,
     out: &mut K,
     held: &mut Held,
-) -> Result<Ending, Failed>
+) -> Result<(), Failed>
     requires sound { IsSound W.slot_count W.held kernel.old }
     requires usable { IsUsable kernel.old }
+    ensures machine { machine_of W.held kernel.new ≡ (event_done event (machine_of W.held kernel.old)).machine }
     ensures gathered { let done = event_done event (machine_of W.held kernel.old) in
-        Gathered tells (text (K.written out.old) held.old.items) (text (K.written out.new) held.new.items) (with_ending Ending.Played (reached done)) result }
-    ensures machine { OnOk result (machine_of W.held kernel.new ≡ (event_done event (machine_of W.held kernel.old)).machine) }
+        OnOk result (Gathers (text (K.written out.old) held.old.items) (text (K.written out.new) held.new.items) (told tells done.records)) }
+    ensures front { let done = event_done event (machine_of W.held kernel.old) in
+        OnErr result (GathersPart (text (K.written out.old) held.old.items) (text (K.written out.new) held.new.items) (told tells done.records)) }
+    ensures near { none_out kernel.old.mem ≡ true → none_out kernel.new.mem ≡ true }
     ensures sound { IsSound W.slot_count W.held kernel.new }
     ensures usable { IsUsable kernel.new }
     ensures keeps { Keeps W.is_honest W.held W.slot_count W.asked W.faults kernel.old kernel.new }
@@ -88,8 +105,7 @@ fn play_at_once<K: Sink, W: SwapStore>(
     ensures never_falls { K.faults out.old ≤ K.faults out.new }
 {
     kernel.event_start(event);
-    gather_records(tells, kernel.last(), out, held)?;
-    Ok(Ending::Played)
+    gather_records(tells, kernel.last(), out, held)
 }
 
 /// Plays an event.
@@ -100,26 +116,30 @@ fn play_event<K: Sink, W: SwapStore>(
     limit: u32,
     out: &mut K,
     held: &mut Held,
-) -> Result<Ending, Failed>
+) -> Result<Ending, PlayFault>
     requires sound { IsSound W.slot_count W.held kernel.old }
     requires usable { IsUsable kernel.old }
     requires limit { limit ≤ 4000000000 }
     requires within { (machine_of W.held kernel.old).steps ≤ limit }
-    ensures gathered { let played = play event limit (machine_of W.held kernel.old) in
-        Gathered tells (text (K.written out.old) held.old.items) (text (K.written out.new) held.new.items) (with_ending Ending.Played played) result }
-    ensures machine { OnOk result (machine_of W.held kernel.new ≡ (play event limit (machine_of W.held kernel.old)).machine) }
+    ensures plays { let old = stand W.is_honest W.held kernel.old (text (K.written out.old) held.old.items) in
+        let new = stand W.is_honest W.held kernel.new (text (K.written out.new) held.new.items) in
+        Plays tells event limit old new result }
     ensures sound { IsSound W.slot_count W.held kernel.new }
-    ensures usable { IsUsable kernel.new }
+    ensures usable { OnOk result (IsUsable kernel.new) }
     ensures keeps { Keeps W.is_honest W.held W.slot_count W.asked W.faults kernel.old kernel.new }
     ensures within { OnOk result ((machine_of W.held kernel.new).steps ≤ limit) }
-    ensures cause { OnErr result (Rose (K.faults out.old) (K.faults out.new)) }
+    ensures write { result ≡ Err PlayFault.Write → Rose (K.faults out.old) (K.faults out.new) }
+    ensures swap { result ≡ Err PlayFault.Swap → Rose (W.faults (store_of kernel.old.mem)) (W.faults (store_of kernel.new.mem)) }
     ensures never_falls { K.faults out.old ≤ K.faults out.new }
 {
     match event {
         Event::Tick(count) => play_tick(kernel, count, tells, limit, out, held),
-        Event::Pick(_, _) | Event::Irq(_) | Event::Kill(_) => play_at_once(
+        Event::Pick(_, _) | Event::Irq(_) | Event::Kill(_) => match play_at_once(
             kernel, event, tells, out, held,
-        ),
+        ) {
+            Ok(()) => Ok(Ending::Played),
+            Err(_) => Err(PlayFault::Write),
+        },
     }
 }
 
@@ -142,14 +162,17 @@ fn play_next<K: Sink, W: SwapStore>(
     limit: u32,
     out: &mut K,
     held: &mut Held,
-) -> Result<Advance, Failed>
+) -> Result<Advance, PlayFault>
     requires sound { IsSound W.slot_count W.held kernel.old }
     requires usable { IsUsable kernel.old }
     requires limit { limit ≤ 4000000000 }
     requires within { (machine_of W.held kernel.old).steps ≤ limit }
-    ensures advances { (start : Machine) (begun : Text) (taken : List ℕ) → HasPlayed tells limit start begun taken reader.old (machine_of W.held kernel.old) (text (K.written out.old) held.old.items) → Advances tells limit start begun taken reader.old.finished reader.new (machine_of W.held kernel.new) (text (K.written out.new) held.new.items) result }
+    ensures advances { let old = stand W.is_honest W.held kernel.old (text (K.written out.old) held.old.items) in
+        let new = stand W.is_honest W.held kernel.new (text (K.written out.new) held.new.items) in
+        (start : Machine) (begun : Text) (taken : List ℕ) → let run = run_from tells limit start begun in
+        HasPlayed run taken reader.old old → Advances run taken reader.old.finished reader.new new result }
     ensures sound { IsSound W.slot_count W.held kernel.new }
-    ensures usable { IsUsable kernel.new }
+    ensures usable { OnOk result (IsUsable kernel.new) }
     ensures keeps { Keeps W.is_honest W.held W.slot_count W.asked W.faults kernel.old kernel.new }
     ensures within { OnOk result ((machine_of W.held kernel.new).steps ≤ limit) }
 
@@ -160,7 +183,8 @@ fn play_next<K: Sink, W: SwapStore>(
     ensures finished { reader.new.finished ≡ reader.old.finished }
     ensures end { result ≡ Ok (Advance.Ended Ending.Played) → reader.new.finished ≡ true }
 
-    ensures cause { OnErr result (Rose (K.faults out.old) (K.faults out.new)) }
+    ensures write { result ≡ Err PlayFault.Write → Rose (K.faults out.old) (K.faults out.new) }
+    ensures swap { result ≡ Err PlayFault.Swap → Rose (W.faults (store_of kernel.old.mem)) (W.faults (store_of kernel.new.mem)) }
     ensures never_falls { K.faults out.old ≤ K.faults out.new }
 {
     match reader.next() {
@@ -183,21 +207,25 @@ pub fn play_known<K: Sink, W: SwapStore>(
     limit: u32,
     out: &mut K,
     held: &mut Held,
-) -> Result<Option<Ending>, Failed>
+) -> Result<Option<Ending>, PlayFault>
     requires sound { IsSound W.slot_count W.held kernel.old }
     requires usable { IsUsable kernel.old }
     requires limit { limit ≤ 4000000000 }
     requires within { (machine_of W.held kernel.old).steps ≤ limit }
-    ensures goes { (start : Machine) (begun : Text) (taken : List ℕ) → HasPlayed tells limit start begun taken reader.old (machine_of W.held kernel.old) (text (K.written out.old) held.old.items) → Goes tells limit start begun taken reader.old.finished reader.new (machine_of W.held kernel.new) (text (K.written out.new) held.new.items) result }
+    ensures goes { let old = stand W.is_honest W.held kernel.old (text (K.written out.old) held.old.items) in
+        let new = stand W.is_honest W.held kernel.new (text (K.written out.new) held.new.items) in
+        (start : Machine) (begun : Text) (taken : List ℕ) → let run = run_from tells limit start begun in
+        HasPlayed run taken reader.old old → Goes run taken reader.old.finished reader.new new result }
     ensures sound { IsSound W.slot_count W.held kernel.new }
-    ensures usable { IsUsable kernel.new }
+    ensures usable { OnOk result (IsUsable kernel.new) }
     ensures keeps { Keeps W.is_honest W.held W.slot_count W.asked W.faults kernel.old kernel.new }
     ensures within { OnOk result ((machine_of W.held kernel.new).steps ≤ limit) }
     ensures waits { result ≡ Ok None → IsWaiting reader.new × (reader.new.start + length reader.new.held ≤ EVENT_FILE_LIMIT) }
     ensures offset { reader.new.start + length reader.new.held ≡ reader.old.start + length reader.old.held }
     ensures finished { reader.new.finished ≡ reader.old.finished }
     ensures end { result ≡ Ok (Some Ending.Played) → reader.new.finished ≡ true }
-    ensures cause { OnErr result (Rose (K.faults out.old) (K.faults out.new)) }
+    ensures write { result ≡ Err PlayFault.Write → Rose (K.faults out.old) (K.faults out.new) }
+    ensures swap { result ≡ Err PlayFault.Swap → Rose (W.faults (store_of kernel.old.mem)) (W.faults (store_of kernel.new.mem)) }
     ensures never_falls { K.faults out.old ≤ K.faults out.new }
 {
     'answers: loop {

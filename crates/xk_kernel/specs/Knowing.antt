@@ -1,0 +1,41 @@
+-- When the bytes of a kernel's pages are known, what a machine is but for them, and when pages stand in frames alone.
+use Rattle.std.specs.Prelude.{◌≡◌, ◌<◌, ◌==◌, ◌||◌, Bool, true, IsTrue}
+use Rattle.ledger_model.specs.Ledger.{Ledger, pages}
+use Rattle.ledger_model.specs.Loans.{bare}
+use Rattle.machine_model.specs.State.Machine.{Machine}
+use Rattle.sv32_space.specs.Tie.{Held}
+use Rattle.vm_memory.specs.Bytes.{MeansBytesOver, is_known, none_out}
+use Rattle.vm_memory.specs.Memory.{frames_for_pages, processes, size}
+use Rattle.xk_kernel.specs.declared.kernel.Kernel.{Kernel}
+
+-- ---- bytes
+
+-- the machine without the bytes of its pages
+abbrev pub without_bytes : Machine → Machine
+without_bytes m = record m { ledger = bare m.ledger }
+
+-- The state is that one: but for the bytes of pages, whatever the store does; and wholly where these are known.
+pub record ComesTo (known : Type 0) (new target : Machine) : Type 0 where
+  pub alike : without_bytes new ≡ without_bytes target
+  pub whole : known → new ≡ target
+
+-- bytes are known over a call: the store is honest and tells, or no page is out before and after
+abbrev pub KnowsBytes : {W : Type 0} → (W → Bool) → (W → Held) → Kernel W → Kernel W → Type 0
+KnowsBytes is_honest held old new = MeansBytesOver is_honest held old.mem new.mem
+
+-- they are so over every call: the store is honest and tells, or the memory has no slots
+abbrev pub is_trusted : {W : Type 0} → (W → Bool) → (W → Held) → Kernel W → Bool
+is_trusted is_honest held k = is_known is_honest held k.mem || ((size k.mem).slots == 0)
+
+abbrev pub IsTrusted : {W : Type 0} → (W → Bool) → (W → Held) → Kernel W → Type 0
+IsTrusted is_honest held k = IsTrue (is_trusted is_honest held k)
+
+-- ---- frames
+
+-- where no page is out before, none is out after
+abbrev pub PutsNoneOut : {W : Type 0} → Kernel W → Kernel W → Type 0
+PutsNoneOut old new = none_out old.mem ≡ true → none_out new.mem ≡ true
+
+-- the ledger has more pages than the kernel has frames for pages
+abbrev pub IsCrowded : {W : Type 0} → Kernel W → Ledger → Type 0
+IsCrowded k ledger = frames_for_pages k.mem < pages (processes k.mem) ledger

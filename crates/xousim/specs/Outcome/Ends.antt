@@ -1,0 +1,21 @@
+-- How every call ends, by its words.
+use Rattle.std.specs.Prelude.{Option, Some, None}
+use Rattle.xousim.specs.declared.status.Status.TheVariants.{Usage}
+use Rattle.xousim.specs.Outcome.Check.{EndsCheck}
+use Rattle.xousim.specs.Outcome.Convert.{EndsConvert}
+use Rattle.xousim.specs.Outcome.Demo.{EndsDemo}
+use Rattle.xousim.specs.Outcome.Plays.{EndsPlay}
+use Rattle.xousim.specs.Outcome.Sides.{Call, IsUnprepared, IsUntouched}
+use Rattle.xousim.specs.Words.{Command, Plays, Checks, Converts, Demo}
+
+-- by its command; `check` and `convert` don't touch the store
+abbrev pub EndsCommand : Command → Call → Type 0
+EndsCommand (Plays play) call = EndsPlay play call
+EndsCommand (Checks check) call = EndsCheck check call × IsUnprepared call.store
+EndsCommand (Converts image) call = EndsConvert image call × IsUnprepared call.store
+EndsCommand (Demo clients) call = EndsDemo clients call
+
+-- What holds of a call whose words are this command, or none.
+abbrev pub Ends : Option Command → Call → Type 0
+Ends None call = IsUntouched Usage call
+Ends (Some command) call = EndsCommand command call

@@ -1,0 +1,103 @@
+-- The one status of a call in which no count rose.
+use Rattle.std.specs.Prelude.{◌≡◌, ◌<◌, ◌≤◌, ◌⊎◌, ℕ, List, length, Option, Some, None}
+use Rattle.kernel_args.specs.declared.args.Args.{Args}
+use Rattle.boot_plan.specs.ImageFault.{IsImageFault}
+use Rattle.boot_plan.specs.Slots.{slots_used}
+use Rattle.boot_plan.specs.declared.plans.BootPlan.{BootPlan}
+use Rattle.machine_model.specs.State.Machine.{Machine}
+use Rattle.xk_base.specs.declared.limits.TheConstants.{IMAGE_LIMIT, SLOT_LIMIT}
+use Rattle.xousim.specs.declared.playing.ending.Ending.{Ending}
+use Rattle.xousim.specs.declared.playing.ending.Ending.TheVariants.{Played, LimitMet, BadLine}
+use Rattle.xousim.specs.declared.status.Status.{Status}
+use Rattle.xousim.specs.declared.status.Status.TheVariants.{Done, Usage, ReadFault, WriteFault, ImageFault, EventFault, StepLimit, SwapFault, NoMemory}
+use Rattle.xousim.specs.Outcome.Convert.{IsConversion, long_file}
+use Rattle.xousim.specs.Outcome.Images.{Image, IsPlanned, IsSoundImage}
+use Rattle.xousim.specs.Outcome.Plays.{run_of}
+use Rattle.xousim.specs.Outcome.Sides.{Call, HostRose, IsTrusted, IsUnwritten, OutRose, StoreRose, Told}
+use Rattle.xousim.specs.Reading.{IsFile}
+use Rattle.xousim.specs.Words.{Check, Command, Plays, Checks, Converts, Demo, Play}
+
+-- the verdict of the files, or there was no memory and nothing was written
+abbrev pub IsVerdictOr : Type 0 → Call → Type 0
+IsVerdictOr verdict call = verdict ⊎ ((call.status ≡ NoMemory) × IsUnwritten call)
+
+-- ---- `trace`, `run` and `ledger`
+
+-- the image boots a machine, and its history over the event file ends in this way
+pub record RunsTo (file : Told) (play : Play) (ending : Ending) : Type 0 where
+  pub machine : Machine
+  pub image : Image file play.image play.slots machine
+  pub events : List ℕ
+  pub is_file : IsFile file play.events events
+  pub ended : (run_of play.limit machine events).ending ≡ ending
+
+-- What the files alone say of a status. A fault outside and want of memory are no verdict.
+abbrev pub IsVerdict : Told → Play → Status → Type 0
+IsVerdict file play Done = RunsTo file play Played
+IsVerdict file play (EventFault line) = RunsTo file play (BadLine line)
+IsVerdict file play (StepLimit limit) = (limit ≡ play.limit) × RunsTo file play LimitMet
+IsVerdict file play (ImageFault fault) = (image : List ℕ) × IsFile file play.image image × IsImageFault image play.slots (Some fault)
+IsVerdict file play Usage = ⊥
+IsVerdict file play ReadFault = ⊥
+IsVerdict file play WriteFault = ⊥
+IsVerdict file play SwapFault = ⊥
+IsVerdict file play NoMemory = ⊥
+
+-- whatever image it plays, the run is trusted
+abbrev pub IsTrustedPlay : Play → Call → Type 0
+IsTrustedPlay play call =
+    (image : List ℕ) (args : Args) → IsFile call.host.files play.image image → IsSoundImage image play.slots args
+    → IsTrusted call.store (slots_used args play.slots)
+
+-- a call ends with the verdict of its files, or for want of memory with nothing written
+abbrev pub IsPlayComplete : Play → Call → Type 0
+IsPlayComplete play call = IsTrustedPlay play call → IsVerdictOr (IsVerdict call.host.files play call.status) call
+
+-- ---- `check`
+
+-- what the image alone says of the status of `check`
+abbrev pub IsCheckVerdict : Told → Check → Status → Type 0
+IsCheckVerdict file check Done = (plan : BootPlan) × IsPlanned file check.image check.slots plan
+IsCheckVerdict file check (ImageFault fault) = (image : List ℕ) × IsFile file check.image image × IsImageFault image check.slots (Some fault)
+IsCheckVerdict file check (EventFault line) = ⊥
+IsCheckVerdict file check (StepLimit limit) = ⊥
+IsCheckVerdict file check SwapFault = ⊥
+IsCheckVerdict file check Usage = ⊥
+IsCheckVerdict file check ReadFault = ⊥
+IsCheckVerdict file check WriteFault = ⊥
+IsCheckVerdict file check NoMemory = ⊥
+
+abbrev pub IsCheckComplete : Check → Call → Type 0
+IsCheckComplete check call = IsVerdictOr (IsCheckVerdict call.host.files check call.status) call
+
+-- ---- `convert`
+
+-- what the image alone says of the status of `convert`: it has a fault, or it is converted, or into too many bytes
+abbrev pub IsConvertVerdict : Told → List ℕ → Status → Type 0
+IsConvertVerdict file name Done = (bytes : List ℕ) × IsConversion file name bytes × (length bytes ≤ IMAGE_LIMIT)
+IsConvertVerdict file name (ImageFault fault) =
+    ((image : List ℕ) × IsFile file name image × IsImageFault image (Some SLOT_LIMIT) (Some fault))
+    ⊎ ((bytes : List ℕ) × IsConversion file name bytes × (IMAGE_LIMIT < length bytes) × (fault ≡ long_file))
+IsConvertVerdict file name (EventFault line) = ⊥
+IsConvertVerdict file name (StepLimit limit) = ⊥
+IsConvertVerdict file name SwapFault = ⊥
+IsConvertVerdict file name Usage = ⊥
+IsConvertVerdict file name ReadFault = ⊥
+IsConvertVerdict file name WriteFault = ⊥
+IsConvertVerdict file name NoMemory = ⊥
+
+abbrev pub IsConvertComplete : List ℕ → Call → Type 0
+IsConvertComplete image call = IsVerdictOr (IsConvertVerdict call.host.files image call.status) call
+
+-- ---- all commands
+
+abbrev pub IsCommandComplete : Command → Call → Type 0
+IsCommandComplete (Plays play) call = IsPlayComplete play call
+IsCommandComplete (Checks check) call = IsCheckComplete check call
+IsCommandComplete (Converts image) call = IsConvertComplete image call
+IsCommandComplete (Demo clients) call = IsVerdictOr (call.status ≡ Done) call
+
+-- where no count rose, a call ends as the words and the files say
+abbrev pub IsComplete : Option Command → Call → Type 0
+IsComplete None call = call.status ≡ Usage
+IsComplete (Some command) call = (¬ HostRose call) → (¬ OutRose call) → (¬ StoreRose call.store) → IsCommandComplete command call
