@@ -11,6 +11,7 @@ pub mod MatchedLemmas
 pub mod MovedStartLemmas
 pub mod PlayingLemmas
 pub mod ReadingLemmas
+pub mod SplitCallLemmas
 pub mod SplitLemmas
 pub mod SummaryLemmas
 pub mod TableLemmas

@@ -26,7 +26,8 @@ use Rattle.boot_plan.proofs.NoFaultLemmas.{IsFaultless, all_faultless}
 use Rattle.machine_model.specs.State.Machine.{Machine}
 use Rattle.xk_kernel.specs.Start.{start}
 use Rattle.xousim.specs.declared.commands.command.Telling.{Telling}
-use Rattle.xousim.specs.Outcome.{Boots, IsSoundImage, run_of}
+use Rattle.xousim.specs.Outcome.Images.{Boots, IsSoundImage}
+use Rattle.xousim.specs.Outcome.Plays.{run_of}
 use Rattle.xousim.specs.Splits.{Setup, DifferInRam, HasCapacity, SplitOneCapacity, says_ram}
 use Rattle.xousim.specs.Telling.{output}
 use Rattle.xousim.proofs.MatchedLemmas.{no_plan_fault}

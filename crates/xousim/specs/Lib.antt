@@ -6,6 +6,7 @@ pub mod Load
 pub mod Outcome
 pub mod Playing
 pub mod Reading
+pub mod SplitCalls
 pub mod Splits
 pub mod Standing
 pub mod Status

@@ -3,7 +3,7 @@ use Rattle.std.specs.Prelude.{◌≡◌, ℕ, ◌/◌, Bool, false, ◌&&◌, �
 use Rattle.kernel_args.specs.declared.args.Args.{Args}
 use Rattle.boot_plan.specs.Capacity.{capacity}
 use Rattle.boot_plan.specs.Slots.{slots_used}
-use Rattle.xousim.specs.Outcome.{IsSoundImage}
+use Rattle.xousim.specs.Outcome.Images.{IsSoundImage}
 
 -- an image, and the slots that its run asks for
 pub record Setup : Type 0 where
