@@ -14,6 +14,8 @@ pub mod MovedStartLemmas
 pub mod OnceLemmas
 pub mod PlayingLemmas
 pub mod ReadingLemmas
+pub mod SplitCallLemmas
+pub mod SplitLemmas
 pub mod StandingLemmas
 pub mod StepLemmas
 pub mod StepLimitLemmas

@@ -1,4 +1,5 @@
--- An image whose row of tags is exchanged for another, so that all behind it moves, starts in the same state.
+-- The start, by what it has of a plan: an image whose row of tags is exchanged for another, so that all behind it moves, starts in the
+-- same state.
 use Rattle.std.proofs.Common.{◌≡◌, ◌∙◌, ap, sym, refl, ℕ, zero, suc, ◌+◌, ◌-◌, ◌*◌, ◌/◌, ◌≤◌, min, Bool, true, false, cond, ◌==◌, nat_le, nat_lt, List, [], ◌∷◌, ◌++◌, map, length, find, slice_get, slice_index_or, Option, Some, None, unwrap_or, arith}
 use Rattle.std.specs.Prelude.{if◌then◌else◌}
 use Rattle.std.specs.List.{range_with_len, AllByRecursion}
@@ -35,11 +36,11 @@ abbrev shown_page : List ℕ → PagePlan → ℕ × Page
 shown_page file page = (page.vpn.0, first_page file page)
 
 -- a process: its entry and its first pages
-record Shown : Type 0 where
-  entry : ℕ
-  pages : List (ℕ × Page)
+pub record Shown : Type 0 where
+  pub entry : ℕ
+  pub pages : List (ℕ × Page)
 
-abbrev shown : List ℕ → ProcPlan → Shown
+abbrev pub shown : List ℕ → ProcPlan → Shown
 shown file p = record { entry = p.entry; pages = map (shown_page file) p.pages }
 
 -- the page at a page number
@@ -79,10 +80,10 @@ thread_of : (file : List ℕ) (tid : ℕ) (o : Option ProcPlan)
 thread_of file tid None = refl
 thread_of file tid (Some p) = refl
 
--- the machine at the start, by what it has of a plan
-abbrev started : ℕ → ℕ → List Shown → Machine
-started frames slots processes = record {
-  capacity = capacity frames (length processes) slots;
+-- the machine at the start, by what it has of a plan: room for so many pages, and the processes
+abbrev pub started : ℕ → List Shown → Machine
+started room processes = record {
+  capacity = room;
   processes = length processes;
   ledger = record { home = λ p. option_and_then (λ s. found p.vpn.0 s.pages) (shown_at processes p.pid.0); orphan = λ p. None };
   steps = 0;
@@ -123,9 +124,14 @@ start_is : (plan : BootPlan) (file : List ℕ)
 unfolding start first_ledger
 start_is plan file = refl
 
-start_shown : (plan : BootPlan) (file : List ℕ) → start plan file ≡ started plan.frames plan.slots (map (shown file) plan.procs)
+-- the pages that a plan has room for
+abbrev pub room_of : BootPlan → ℕ
+room_of plan = capacity plan.frames (length plan.procs) plan.slots
+
+pub start_shown : (plan : BootPlan) (file : List ℕ) → start plan file ≡ started (room_of plan) (map (shown file) plan.procs)
 start_shown plan file =
     let n = length plan.procs in
+    let room = room_of plan in
     let same : n ≡ length (map (shown file) plan.procs) = sym (length-map plan.procs (shown file)) in
     let home = λ (p : Place). option_map (first_page file) (option_and_then (planned_page p.vpn.0) (process_of plan p.pid.0)) in
     let homes : home ≡ (λ p. option_and_then (λ s. found p.vpn.0 s.pages) (shown_at (map (shown file) plan.procs) p.pid.0)) =
@@ -133,9 +139,9 @@ start_shown plan file =
     let threads : threads_at_start plan ≡ (λ id. option_and_then (λ s. first_threads s.entry id.tid.0) (shown_at (map (shown file) plan.procs) id.pid.0)) =
     fun_ext (λ id. thread_of file id.tid.0 (process_of plan id.pid.0) ∙ ap (option_and_then (λ s. first_threads s.entry id.tid.0)) (process_shown file plan id.pid.0)) in
     start_is plan file
-    ∙ ap (λ k. with_parts (capacity plan.frames k plan.slots) k home (threads_at_start plan)) same
-    ∙ ap (λ h. with_parts (capacity plan.frames (length (map (shown file) plan.procs)) plan.slots) (length (map (shown file) plan.procs)) h (threads_at_start plan)) homes
-    ∙ ap (λ t. with_parts (capacity plan.frames (length (map (shown file) plan.procs)) plan.slots) (length (map (shown file) plan.procs))
+    ∙ ap (λ k. with_parts room k home (threads_at_start plan)) same
+    ∙ ap (λ h. with_parts room (length (map (shown file) plan.procs)) h (threads_at_start plan)) homes
+    ∙ ap (λ t. with_parts room (length (map (shown file) plan.procs))
     (λ p. option_and_then (λ s. found p.vpn.0 s.pages) (shown_at (map (shown file) plan.procs) p.pid.0)) t) threads
 
 -- ---- what has moved looks the same
@@ -174,6 +180,13 @@ page_shown file moved page other h =
     (ap (λ (r : Right). record { right = r; contents = Bytes (page_bytes moved other); loan = None }) h.right
     ∙ ap (λ (bs : List ℕ). record { right = page.right; contents = Bytes bs; loan = None }) bytes)
 
+-- the same process, whose bytes stand in the file from `before` on and have moved so
+pub record StandsMoved (before after : ℕ) (p q : ProcArgs) : Type 0 where
+  pub behind : before ≤ p.load
+  pub load : q.load + before ≡ p.load + after
+  pub entry : q.entry ≡ p.entry
+  pub sections : q.sections ≡ p.sections
+
 module _ (file moved : List ℕ) (before after : ℕ) (h : HasMoved file moved before after) where
   run_shown : (offset there : ℕ) (s : Section) → before ≤ offset → there + before ≡ offset + after → (i n : ℕ)
       → map (shown_page moved) (map (section_page there s) (range_with_len i n)) ≡ map (shown_page file) (map (section_page offset s) (range_with_len i n))
@@ -200,7 +213,7 @@ module _ (file moved : List ℕ) (before after : ℕ) (h : HasMoved file moved b
       ap (λ e. e ∷ map (shown_page moved) (map zero_page vs)) (page_shown file moved (zero_page v) (zero_page v) (record { vpn = refl; right = refl; byte = λ k. no_byte file moved k }))
       ∙ ap (λ es. shown_page file (zero_page v) ∷ es) (zero_shown vs)
 
-  process_moved : (p q : ProcArgs) → IsMoved file before after p q → shown moved (process_plan q) ≡ shown file (process_plan p)
+  process_moved : (p q : ProcArgs) → StandsMoved before after p q → shown moved (process_plan q) ≡ shown file (process_plan p)
   process_moved p q m =
       let zeros = map zero_page (stack_pages ++ interrupt_page ∷ []) in
       let pages : map (shown_page moved) (process_pages q) ≡ map (shown_page file) (process_pages p) =
@@ -212,7 +225,7 @@ module _ (file moved : List ℕ) (before after : ℕ) (h : HasMoved file moved b
       ap (λ (e : ℕ). record { entry = e; pages = map (shown_page moved) (process_pages q) }) m.entry
       ∙ ap (λ (es : List (ℕ × Page)). record { entry = p.entry; pages = es }) pages
 
-  processes_moved : (f : ProcArgs → ProcArgs) (ps : List ProcArgs) → AllByRecursion (λ p. IsMoved file before after p (f p)) ps
+  pub processes_moved : (f : ProcArgs → ProcArgs) (ps : List ProcArgs) → AllByRecursion (λ p. StandsMoved before after p (f p)) ps
       → map (shown moved) (map process_plan (map f ps)) ≡ map (shown file) (map process_plan ps)
   processes_moved f [] m = refl
   processes_moved f (p ∷ ps) m =
@@ -221,13 +234,27 @@ module _ (file moved : List ℕ) (before after : ℕ) (h : HasMoved file moved b
 
 -- ---- the start
 
+each_stands : (file : List ℕ) (before after : ℕ) (f : ProcArgs → ProcArgs) (ps : List ProcArgs)
+    → AllByRecursion (λ p. IsMoved file before after p (f p)) ps
+    → AllByRecursion (λ p. StandsMoved before after p (f p)) ps
+each_stands file before after f [] m = tt
+each_stands file before after f (p ∷ ps) m =
+    (record { behind = m.0.behind; load = m.0.load; entry = m.0.entry; sections = m.0.sections }, each_stands file before after f ps m.1)
+
 pub moved_start : (file moved : List ℕ) (args other : Args) (asked : Option ℕ) → IsMovedImage file moved args other
     → start (plan_of other asked) moved ≡ start (plan_of args asked) file
 moved_start file moved args other asked m =
     let slots = λ (o : Option ℕ). unwrap_or (option_or asked o) 0 in
+    let processes = map (shown moved) (map process_plan other.procs) in
+    let old = 4 * args.words in
+    let new = 4 * other.words in
+    let same = processes_moved file moved old new m.bytes m.change args.procs (each_stands file old new m.change args.procs m.each) in
     start_shown (plan_of other asked) moved
-    ∙ ap (λ size. started (size / 4096) (slots other.slots) (map (shown moved) (map process_plan other.procs))) m.ram_size
-    ∙ ap (λ o. started (args.ram_size / 4096) (slots o) (map (shown moved) (map process_plan other.procs))) m.slots
-    ∙ ap (λ ps. started (args.ram_size / 4096) (slots args.slots) (map (shown moved) (map process_plan ps))) m.procs
-    ∙ ap (λ ss. started (args.ram_size / 4096) (slots args.slots) ss) (processes_moved file moved (4 * args.words) (4 * other.words) m.bytes m.change args.procs m.each)
+    ∙ ap (λ size. started (capacity (size / 4096) (length (map process_plan other.procs)) (slots other.slots)) processes) m.ram_size
+    ∙ ap (λ o. started (capacity (args.ram_size / 4096) (length (map process_plan other.procs)) (slots o)) processes) m.slots
+    ∙ ap (λ n. started (capacity (args.ram_size / 4096) n (slots args.slots)) processes) (ap (λ (ps : List ProcArgs). length (map process_plan ps)) m.procs)
+    ∙ ap (λ n. started (capacity (args.ram_size / 4096) n (slots args.slots)) processes)
+    (length-map (map m.change args.procs) process_plan ∙ length-map args.procs m.change ∙ sym (length-map args.procs process_plan))
+    ∙ ap (λ ps. started (room_of (plan_of args asked)) (map (shown moved) (map process_plan ps))) m.procs
+    ∙ ap (λ ss. started (room_of (plan_of args asked)) ss) same
     ∙ sym (start_shown (plan_of args asked) file)

@@ -6,6 +6,8 @@ pub mod Load
 pub mod Outcome
 pub mod Playing
 pub mod Reading
+pub mod SplitCalls
+pub mod Splits
 pub mod Standing
 pub mod Status
 pub mod Summary
