@@ -9,6 +9,7 @@ pub mod LoadPlayingLemmas
 pub mod LoadTotalsLemmas
 pub mod MatchedLemmas
 pub mod MovedStartLemmas
+pub mod PageFileLemmas
 pub mod PlayingLemmas
 pub mod ReadingLemmas
 pub mod SummaryLemmas

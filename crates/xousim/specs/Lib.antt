@@ -5,7 +5,9 @@ pub mod Gathering
 pub mod History
 pub mod Load
 pub mod Outcome
+pub mod PageFile
 pub mod Playing
+pub mod ProgramStore
 pub mod Reading
 pub mod Status
 pub mod Summary
