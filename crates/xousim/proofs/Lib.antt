@@ -12,6 +12,7 @@ pub mod LoadTotalsLemmas
 pub mod MatchedLemmas
 pub mod MovedStartLemmas
 pub mod OnceLemmas
+pub mod PageFileLemmas
 pub mod PlayingLemmas
 pub mod ReadingLemmas
 pub mod SplitCallLemmas

@@ -4,7 +4,9 @@ pub mod Gathering
 pub mod History
 pub mod Load
 pub mod Outcome
+pub mod PageFile
 pub mod Playing
+pub mod ProgramStore
 pub mod Reading
 pub mod SplitCalls
 pub mod Splits
