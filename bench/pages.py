@@ -2,7 +2,7 @@
 """What pages that are out cost: steps a second, and how many pages go out and come in.
 
 The program of the machine goes over 64 pages again and again, and adds one to a word of each. It is
-run with frames for all its pages, for 64, for 32 and for 2 of them, and with slots of the swap store
+run with frames for all its pages, for 64, for 32, for 8 and for 2 of them, and with slots of the swap store
 for the rest, so that the capacity is the same. Which page goes out isn't promised by the program; it
 is counted here. The bytes that `ledger` writes are the same in each run, which is checked.
 
@@ -26,7 +26,7 @@ OWN_PAGES = 10  # the code, eight of the stack and one for interrupts
 ALL_PAGES = LOOP_PAGES + OWN_PAGES
 TABLE_FRAMES = 21
 FREE_FRAMES = 1  # through which pages are exchanged
-SPLITS = (ALL_PAGES, 64, 32, 2)  # frames for pages; the others have slots
+SPLITS = (ALL_PAGES, 64, 32, 8, 2)  # frames for pages; the others have slots
 AT, STRIDE = 10, 11
 
 
