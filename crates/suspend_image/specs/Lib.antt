@@ -1,4 +1,5 @@
 pub mod Forms
+pub mod LoanParts
 pub mod Machines
 pub mod PageParts
 pub mod Parts

@@ -11,6 +11,9 @@ mod writing;
 
 pub use faults::{NOT_STATE, STATE_CHECK, STATE_FORM, STATE_LENGTH, StateError};
 pub use laws::spelled_once_or_faulty;
+pub use matching::capacity::are_within;
+pub use matching::holders::are_holders_apart;
+pub use matching::loans::are_loans_sent;
 pub use matching::pages::{are_heaps_matched, are_holders_living, are_homes_living};
 pub use matching::places::{are_orphans_placed, are_pages_placed, has_one_console};
 pub use matching::search::are_places_apart;

@@ -1,7 +1,11 @@
 //! Whether the machine can be in a state that was read: parts of its invariant, each told from the
 //! rows.
 
+pub mod capacity;
+pub mod holders;
+pub mod loans;
 pub mod messages;
+pub mod order;
 pub mod pages;
 pub mod places;
 pub mod search;

@@ -1,4 +1,5 @@
 -- Rows by their keys.
+pub mod DifferLemmas
 pub mod KeyLemmas
 pub mod OrderLemmas
 pub mod SearchLemmas

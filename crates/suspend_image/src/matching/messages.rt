@@ -6,11 +6,18 @@ ghost use Rattle.suspend_image.specs.ServerParts.{is_sought as is_sought_of, man
 
 use crate::state::{MessageRow, ServerRow};
 
-/// What is looked for among messages: that of a number, or of a number and a sender.
+/// The numbers of the kinds of messages that lend pages.
+pub const LEND_MUT: u32 = 1;
+
+pub const LEND: u32 = 2;
+
+/// What is looked for among messages: that of a number, of a number and a sender, or the lend or
+/// mutable lend of a number.
 #[derive(Clone, Copy)]
 pub enum Sought {
     Numbered(u32),
     SentAs(u32, u32, u32),
+    LentBy(u32),
 }
 
 fn is_sought(sought: Sought, message: &MessageRow) -> bool
@@ -23,6 +30,9 @@ fn is_sought(sought: Sought, message: &MessageRow) -> bool
                 && message.sender_pid != 0
                 && pid == message.sender_pid
                 && tid == message.sender_tid
+        }
+        Sought::LentBy(number) => {
+            message.number == number && (message.kind == LEND_MUT || message.kind == LEND)
         }
     }
 }

@@ -26,16 +26,16 @@ const LAST_OF_MAP: u32 = 0x6_0fff;
 /// The number of the kind Shared, and the least right of the console.
 const SHARED: u32 = 1;
 
-const CONSOLE: u32 = 4;
+pub const CONSOLE: u32 = 4;
 
-fn is_pid(n: u32, pid: u32) -> bool
+pub fn is_pid(n: u32, pid: u32) -> bool
     ensures { result ≡ is_pid_of n pid }
 {
     2 <= pid && (pid as u64) < n as u64 + 2
 }
 
 /// Whether the home of a page lies in a window of one of n processes.
-fn is_home_placed(n: u32, page: &PageRow) -> bool
+pub fn is_home_placed(n: u32, page: &PageRow) -> bool
     ensures { result ≡ is_home_placed_of n page.now }
 {
     is_pid(n, page.pid) && window_of(Vpn(page.page)).is_some()
