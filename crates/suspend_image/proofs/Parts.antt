@@ -1,5 +1,6 @@
 -- Parts of the machine's invariant, told from rows.
 pub mod Keys
+pub mod Loans
 pub mod Pages
 pub mod Processes
 pub mod Servers

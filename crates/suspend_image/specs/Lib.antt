@@ -5,6 +5,7 @@ pub mod PageParts
 pub mod Parts
 pub mod Reading
 pub mod Rows
+pub mod RunParts
 pub mod ServerParts
 pub mod Sheets
 pub mod Spelling

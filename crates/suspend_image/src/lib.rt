@@ -16,6 +16,7 @@ pub use matching::holders::are_holders_apart;
 pub use matching::loans::are_loans_sent;
 pub use matching::pages::{are_heaps_matched, are_holders_living, are_homes_living};
 pub use matching::places::{are_orphans_placed, are_pages_placed, has_one_console};
+pub use matching::runs::are_one_run;
 pub use matching::search::are_places_apart;
 pub use matching::senders::are_senders_matched;
 pub use matching::servers::{are_next_above, are_servers_matched};

@@ -8,6 +8,7 @@ pub mod messages;
 pub mod order;
 pub mod pages;
 pub mod places;
+pub mod runs;
 pub mod search;
 pub mod senders;
 pub mod servers;

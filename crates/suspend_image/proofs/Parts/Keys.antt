@@ -1,4 +1,5 @@
 -- Rows by their keys.
+pub mod CountLemmas
 pub mod DifferLemmas
 pub mod KeyLemmas
 pub mod OrderLemmas
