@@ -1,5 +1,5 @@
 pub mod Forms
-pub mod LoanParts
+pub mod LendParts
 pub mod Machines
 pub mod PageParts
 pub mod Parts

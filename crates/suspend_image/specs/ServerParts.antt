@@ -7,7 +7,7 @@ use Rattle.suspend_image.specs.declared.state.ProcRow.{ProcRow}
 use Rattle.suspend_image.specs.declared.state.ServerRow.{ServerRow}
 use Rattle.suspend_image.specs.declared.state.ThreadRow.{ThreadRow}
 use Rattle.suspend_image.specs.declared.matching.messages.Sought.{Sought}
-use Rattle.suspend_image.specs.declared.matching.messages.Sought.TheVariants.{Numbered, SentAs, LentBy}
+use Rattle.suspend_image.specs.declared.matching.messages.Sought.TheVariants.{Numbered, SentAs}
 use Rattle.suspend_image.specs.Machines.{processes_of}
 
 -- a server of a living process
@@ -51,7 +51,6 @@ is_lent_by number m = m.number == number && (m.kind == 1 || m.kind == 2)
 abbrev pub is_sought : Sought → MessageRow → Bool
 is_sought (Numbered number) = is_numbered number
 is_sought (SentAs number pid tid) = is_sent_as number pid tid
-is_sought (LentBy number) = is_lent_by number
 
 -- how many messages of a server pass a test
 abbrev pub many_at : (MessageRow → Bool) → ServerRow → ℕ

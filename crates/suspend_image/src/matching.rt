@@ -3,7 +3,7 @@
 
 pub mod capacity;
 pub mod holders;
-pub mod loans;
+pub mod lends;
 pub mod messages;
 pub mod order;
 pub mod pages;

@@ -3,4 +3,5 @@ pub mod CountLemmas
 pub mod DifferLemmas
 pub mod KeyLemmas
 pub mod OrderLemmas
+pub mod SameLemmas
 pub mod SearchLemmas

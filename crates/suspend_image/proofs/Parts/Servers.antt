@@ -2,7 +2,7 @@
 pub mod NextLemmas
 pub mod OneLemmas
 pub mod SenderLemmas
-pub mod SentLemmas
 pub mod ServerLemmas
 pub mod ServerRowLemmas
 pub mod ServersLemmas
+pub mod TotalLemmas

@@ -11,13 +11,11 @@ pub const LEND_MUT: u32 = 1;
 
 pub const LEND: u32 = 2;
 
-/// What is looked for among messages: that of a number, of a number and a sender, or the lend or
-/// mutable lend of a number.
+/// What is looked for among messages: that of a number, or of a number and a sender.
 #[derive(Clone, Copy)]
 pub enum Sought {
     Numbered(u32),
     SentAs(u32, u32, u32),
-    LentBy(u32),
 }
 
 fn is_sought(sought: Sought, message: &MessageRow) -> bool
@@ -30,9 +28,6 @@ fn is_sought(sought: Sought, message: &MessageRow) -> bool
                 && message.sender_pid != 0
                 && pid == message.sender_pid
                 && tid == message.sender_tid
-        }
-        Sought::LentBy(number) => {
-            message.number == number && (message.kind == LEND_MUT || message.kind == LEND)
         }
     }
 }

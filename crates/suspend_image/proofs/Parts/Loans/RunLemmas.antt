@@ -95,13 +95,13 @@ pub record Follows (r s : Run) : Type 0 where
   pub shared : r.shared ≡ s.shared
   pub number : r.number ≡ s.number
 
-beq_true : (a b : Bool) → beq a b ≡ true → a ≡ b
+pub beq_true : (a b : Bool) → beq a b ≡ true → a ≡ b
 beq_true true true e = refl
 beq_true true false e = absurd cc
 beq_true false true e = absurd cc
 beq_true false false e = refl
 
-beq_same : (a b : Bool) → a ≡ b → beq a b ≡ true
+pub beq_same : (a b : Bool) → a ≡ b → beq a b ≡ true
 beq_same true true e = refl
 beq_same true false e = absurd cc
 beq_same false true e = absurd cc

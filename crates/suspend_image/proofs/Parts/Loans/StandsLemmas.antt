@@ -50,7 +50,7 @@ no_none x e = absurd cc
 -- ---- nothing of a number
 
 -- no run is of the number, so no page is
-no_page : (rows : List Run) (n : ℕ) → Ascending None rows → AllByRecursion IsSingle rows → count_by (is_run_of n) (joined rows) ≡ 0 → HasNoPage rows n
+pub no_page : (rows : List Run) (n : ℕ) → Ascending None rows → AllByRecursion IsSingle rows → count_by (is_run_of n) (joined rows) ≡ 0 → HasNoPage rows n
 no_page rows n forms single none k e found is =
     let over = run_over rows forms single k e found in
     let some = among_counted n (joined rows) over.0 over.1 (over.2 ∙ is) in
@@ -73,7 +73,7 @@ none_left rows number k none = go (find (is_run k) rows) refl
 -- ---- the one run of a number stands
 
 -- what is at a place of a run
-at_place : (rows : List Run) (r : Run) → Ascending None rows → AllByRecursion IsSingle rows → Among (joined rows) r → count_by (is_run_of r.number) (joined rows) ≤ 1
+pub at_place : (rows : List Run) (r : Run) → Ascending None rows → AllByRecursion IsSingle rows → Among (joined rows) r → count_by (is_run_of r.number) (joined rows) ≤ 1
     → (k : ℕ × ℕ) (e : Run) → find (is_run k) rows ≡ Some e → e.number ≡ r.number → (at : IsRunAt rows r k) × (at.page ≡ e)
 at_place rows r forms single among few k e found is =
     let over = run_over rows forms single k e found in
@@ -206,19 +206,18 @@ orphans_stand all homes left says r among few none = record {
 
 -- ---- the pages of a loan that stands
 
-shared_of : LoanKind → Bool
+abbrev pub shared_of : LoanKind → Bool
 shared_of Shared = true
 shared_of Exclusive = false
 
 shared_said : (r : Run) (kind : LoanKind) → kind_said r ≡ kind → r.shared ≡ shared_of kind
-unfolding shared_of
 shared_said r kind e = own r.shared ∙ ap shared_of e
   where
     own : (b : Bool) → b ≡ shared_of (cond b Shared Exclusive)
     own true = refl
     own false = refl
 
-span_of : Place → Place → LoanRun → Span
+abbrev pub span_of : Place → Place → LoanRun → Span
 span_of first holder r = record {
   pid = first.pid.0;
   page = first.vpn.0;
@@ -230,8 +229,7 @@ span_of first holder r = record {
 
 module _ (all : Loans) (homes left : List Run) (says : Says all homes left) (r : LoanRun) (stands : Stands all r) where
   -- a page at a home is one of the loan
-  of_lender : (from : Place) → r.lender ≡ Some from → IsSpan homes r.number.0 (span_of from r.holder r)
-  unfolding span_of
+  pub of_lender : (from : Place) → r.lender ≡ Some from → IsSpan homes r.number.0 (span_of from r.holder r)
   of_lender from lender = record { inside = inside; there = there }
     where
       inside : (k : ℕ × ℕ) (e : Run) → find (is_run k) homes ≡ Some e → e.number ≡ r.number.0 → IsInside (span_of from r.holder r) k e
@@ -271,8 +269,7 @@ module _ (all : Loans) (homes left : List Run) (says : Says all homes left) (r :
       no_none (orphan_said e) (sym (orphan_of_number-at r.number (orphan_said e) (ap number_of is)) ∙ sym (ap (orphan_of_number r.number) here) ∙ stands.orphans p ∙ orphan_of_run-lent r from p lender)
 
   -- an orphan is one of the loan
-  of_dead : r.lender ≡ None → IsSpan left r.number.0 (span_of r.holder r.holder r)
-  unfolding span_of
+  pub of_dead : r.lender ≡ None → IsSpan left r.number.0 (span_of r.holder r.holder r)
   of_dead dead = record { inside = inside; there = there }
     where
       inside : (k : ℕ × ℕ) (e : Run) → find (is_run k) left ≡ Some e → e.number ≡ r.number.0 → IsInside (span_of r.holder r.holder r) k e
@@ -334,7 +331,7 @@ abbrev pub IsOne : Loans → Number → Type 0
 IsOne all number = IsFresh all number ⊎ ((r : LoanRun) × (r.number ≡ number) × Stands all r)
 
 module _ (all : Loans) (homes left : List Run) (says : Says all homes left) where
-  fresh_of : (number : Number) → HasNoPage homes number.0 → HasNoPage left number.0 → IsFresh all number
+  pub fresh_of : (number : Number) → HasNoPage homes number.0 → HasNoPage left number.0 → IsFresh all number
   fresh_of number no_loan no_orphan = record {
     homes = λ p. ap (of_number number) (says.home p) ∙ none_lent homes number (key_of p) no_loan;
     orphans = λ p. ap (orphan_of_number number) (says.orphan p) ∙ none_left left number (key_of p) no_orphan;
