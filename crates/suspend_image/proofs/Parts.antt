@@ -4,4 +4,6 @@ pub mod Loans
 pub mod Pages
 pub mod Processes
 pub mod Servers
+pub mod FirstLemmas
+pub mod PartLemmas
 pub mod Threads

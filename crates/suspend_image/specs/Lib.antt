@@ -1,3 +1,4 @@
+pub mod FileFaults
 pub mod Forms
 pub mod LendParts
 pub mod Machines
@@ -10,4 +11,5 @@ pub mod ServerParts
 pub mod Sheets
 pub mod Spelling
 pub mod StateFaults
+pub mod UnmatchedParts
 pub mod Words
