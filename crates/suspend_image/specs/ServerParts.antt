@@ -43,6 +43,10 @@ is_numbered number m = m.number == number
 abbrev pub is_sent_as : ℕ → ℕ → ℕ → MessageRow → Bool
 is_sent_as number pid tid m = m.number == number && (not (m.sender_pid == 0) && (pid == m.sender_pid && tid == m.sender_tid))
 
+-- .. and as a lend or mutable lend
+abbrev pub is_lent_by : ℕ → MessageRow → Bool
+is_lent_by number m = m.number == number && (m.kind == 1 || m.kind == 2)
+
 -- what is looked for among messages
 abbrev pub is_sought : Sought → MessageRow → Bool
 is_sought (Numbered number) = is_numbered number

@@ -5,3 +5,4 @@ pub mod SenderLemmas
 pub mod ServerLemmas
 pub mod ServerRowLemmas
 pub mod ServersLemmas
+pub mod TotalLemmas

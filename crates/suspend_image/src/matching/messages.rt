@@ -6,6 +6,11 @@ ghost use Rattle.suspend_image.specs.ServerParts.{is_sought as is_sought_of, man
 
 use crate::state::{MessageRow, ServerRow};
 
+/// The numbers of the kinds of messages that lend pages.
+pub const LEND_MUT: u32 = 1;
+
+pub const LEND: u32 = 2;
+
 /// What is looked for among messages: that of a number, or of a number and a sender.
 #[derive(Clone, Copy)]
 pub enum Sought {

@@ -8,17 +8,13 @@ ghost use Rattle.suspend_image.specs.Machines.{threads_of, servers_of};
 ghost use Rattle.suspend_image.specs.Parts.{Ascend, AscendInTwo};
 ghost use Rattle.suspend_image.specs.ServerParts.{all_messages, is_sender as is_sender_of, is_waiting_for as is_waiting_for_of, is_waited_for as is_waited_for_of, is_to_answer as is_to_answer_of, is_queueable as is_queueable_of, is_sized as is_sized_of, are_messages_right as are_messages_right_of, are_senders_told as are_senders_told_of};
 
-use crate::matching::messages::{Sought, has_one};
+use crate::matching::messages::{LEND, LEND_MUT, Sought, has_one};
 use crate::state::{MessageRow, ServerRow, ThreadRow};
 
 /// The number of the state Waiting.
 const WAITING: u32 = 2;
 
-/// The numbers of the kinds of messages that a clause names.
-const LEND_MUT: u32 = 1;
-
-const LEND: u32 = 2;
-
+/// The numbers of the other kinds of messages that a clause names.
 const MOVE: u32 = 3;
 
 const BLOCKING_SCALAR: u32 = 5;

@@ -184,11 +184,11 @@ sent_all threads rows in_two ascend senders =
 
 -- ---- queued, held and sized
 
-abbrev kind_of : ℕ → MsgKind
+abbrev pub kind_of : ℕ → MsgKind
 kind_of k = unwrap_or (kind_at k) Scalar
 
 -- what holds of each of the kinds, and of all other numbers, holds of each number
-by_kind : (P : ℕ → Type 0) (k : ℕ) → P 1 → P 2 → P 3 → P 4 → P 5
+pub by_kind : (P : ℕ → Type 0) (k : ℕ) → P 1 → P 2 → P 3 → P 4 → P 5
     → (eqb k 1 ≡ false → eqb k 2 ≡ false → eqb k 3 ≡ false → eqb k 4 ≡ false → eqb k 5 ≡ false → P k) → P k
 by_kind P k one two three four five other =
     elim (cases_Bool (eqb k 1)) [
