@@ -82,3 +82,17 @@ pub tick_full : (room : Room) (n limit : ℕ) (m : Machine) → 1 ≤ n → is_s
 unfolding state_at
 tick_full room n limit m some ready more full =
     subst (ComesFull room m) (sym (tick_is n limit m some ready more)) (suc full.0, full.1)
+
+-- the state after its first step is one of them
+pub step_full : (room : Room) (n limit : ℕ) (m : Machine) → 1 ≤ n → is_some (actor m) ≡ true → m.steps ≢ limit → IsFull room (step m).machine
+    → ComesFull room m (event_moments (Tick n) limit m)
+step_full room n limit m some ready more crowd =
+    tick_full room n limit m some ready more (full_start room (step m).machine (event_moments (Tick (n - 1)) limit (step m).machine) crowd)
+
+-- the states of the rest, on the machine to which the step leads
+pub step_on_full : (room later : Room) (n limit : ℕ) (m next : Machine) → 1 ≤ n → is_some (actor m) ≡ true → m.steps ≢ limit → later ≡ room → next ≡ (step m).machine
+    → ComesFull later next (event_moments (Tick (n - 1)) limit next) → ComesFull room m (event_moments (Tick n) limit m)
+step_on_full room later n limit m next some ready more same there full =
+    let A : Machine → Type 0 = λ x. ComesFull later x (event_moments (Tick (n - 1)) limit x) in
+    let B : Room → Type 0 = λ r. ComesFull r (step m).machine (event_moments (Tick (n - 1)) limit (step m).machine) in
+    tick_full room n limit m some ready more (subst B same (subst A there full))

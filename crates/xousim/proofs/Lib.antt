@@ -18,6 +18,7 @@ pub mod ReadingLemmas
 pub mod SplitCallLemmas
 pub mod SplitLemmas
 pub mod StandingLemmas
+pub mod StartingLemmas
 pub mod StepLemmas
 pub mod StepLimitLemmas
 pub mod SummaryLemmas

@@ -1,5 +1,5 @@
 -- The history of the events of a load: it doesn't meet the limit, and a step tells little.
-use Rattle.std.proofs.Common.{◌≡◌, ◌==◌, ◌+◌, ◌*◌, ◌≤◌, ℕ, zero, suc, Bool, true, false, List, [], ◌∷◌, ◌++◌, length, map, Option, Some, None, is_some, refl, ap, subst, ◌∙◌, arith}
+use Rattle.std.proofs.Common.{◌≡◌, ◌==◌, ◌+◌, ◌*◌, ◌≤◌, ℕ, zero, suc, Bool, true, false, List, [], ◌∷◌, ◌++◌, length, map, Option, Some, None, is_some, refl, ap, subst, ◌∙◌, arith, ◌-◌, sym}
 use Rattle.std.specs.Prelude.{if◌then◌else◌}
 use Rattle.std.proofs.lemmas.Bool.Decides.{nat_tests}
 use Rattle.std.proofs.lemmas.List.{length-map}
@@ -23,6 +23,9 @@ use Rattle.xk_kernel.proofs.Running.HistoryLemmas.{history_none}
 use Rattle.xk_kernel.proofs.Running.LimitLemmas.{step_steps, turn_steps}
 use Rattle.xk_base.specs.declared.limits.TheConstants.{DEFAULT_STEPS}
 use Rattle.xk_kernel.specs.Start.{start}
+use Rattle.xk_kernel.specs.HistoryMoments.{event_moments, moments_of}
+use Rattle.xousim.specs.Outcome.Starts.{ComesFull, Room}
+use Rattle.xousim.proofs.FullLemmas.{events_full_front, events_full_later, first_event_full}
 use Rattle.xousim.specs.Load.Events.{first_events, load_history, load_machine, tick_at}
 use Rattle.xousim.proofs.HistoryLemmas.{history_after, history_one}
 
@@ -139,3 +142,36 @@ load_meets_no_limit clients few = (history_unmet (1000 * clients) DEFAULT_STEPS 
 pub load_starts_at_zero : (clients : ℕ) → (load_machine clients).steps ≡ 0
 unfolding start
 load_starts_at_zero clients = refl
+
+-- ---- a state with more pages than there are frames for
+
+-- a history of more events has the same states
+more_events_full : (d k : ℕ) (room : Room) (limit : ℕ) (m : Machine) → ComesFull room m (moments_of (first_events k) limit m)
+    → ComesFull room m (moments_of (first_events (k + d)) limit m)
+more_events_full zero k room limit m full =
+    let same : k ≡ k + 0 = omega arith in
+    let F : ℕ → Type 0 = λ n. ComesFull room m (moments_of (first_events n) limit m) in
+    subst F same full
+more_events_full (suc d) k room limit m full =
+    let next : (k + d) + 1 ≡ k + suc d = omega arith in
+    let E : List Event → Type 0 = λ events. ComesFull room m (moments_of events limit m) in
+    let F : ℕ → Type 0 = λ n. ComesFull room m (moments_of (first_events n) limit m) in
+    subst F next
+    (subst E (sym (events_more (k + d)))
+    (events_full_front room limit m (first_events (k + d)) (Tick (tick_at (k + d)) ∷ []) (more_events_full d k room limit m full)))
+
+-- the states of a tick are among those of the load
+pub load_full : (room later : Room) (k count limit n : ℕ) (start m : Machine) → k + 1 ≤ count → (history (first_events k) limit start).met ≡ false
+    → (history (first_events k) limit start).machine ≡ m → later ≡ room → n ≡ tick_at k → ComesFull later m (event_moments (Tick n) limit m)
+    → ComesFull room start (moments_of (first_events count) limit start)
+load_full room later k count limit n start m inside unmet there same tick full =
+    let all : (k + 1) + (count - (k + 1)) ≡ count = omega arith in
+    let T : ℕ → Type 0 = λ x. ComesFull later m (event_moments (Tick x) limit m) in
+    let R : Room → Type 0 = λ r. ComesFull r m (event_moments (Tick (tick_at k)) limit m) in
+    let E : List Event → Type 0 = λ events. ComesFull room start (moments_of events limit start) in
+    let F : ℕ → Type 0 = λ x. ComesFull room start (moments_of (first_events x) limit start) in
+    subst F all
+    (more_events_full (count - (k + 1)) (k + 1) room limit start
+    (subst E (sym (events_more k))
+    (events_full_later room limit start m (first_events k) (Tick (tick_at k) ∷ []) unmet there
+    (first_event_full room limit m (Tick (tick_at k)) [] (subst R same (subst T tick full))))))

@@ -1,16 +1,18 @@
 -- Where a run stands, from one call of the kernel to the next.
-use Rattle.std.proofs.Common.{◌≡◌, ◌<◌, ◌==◌, ◌&&◌, ◌||◌, ◌∙◌, ℕ, Bool, true, false, IsTrue, is_some, refl, sym, ap, subst, arith}
+use Rattle.std.proofs.Common.{◌≡◌, ◌<◌, ◌==◌, ◌&&◌, ◌||◌, ◌∙◌, ℕ, Bool, true, false, List, Option, IsTrue, is_some, refl, sym, ap, subst, arith}
 use Rattle.std.proofs.lemmas.Bool.Decides.{nat_tests}
 use Rattle.boot_plan.specs.Capacity.{page_frames}
 use Rattle.phys_pages.specs.Owners.{extent, infos, slot_seat}
 use Rattle.sv32_space.specs.Tie.{Held}
 use Rattle.vm_memory.specs.Bytes.{MeansBytes, is_known, none_out, used_slots}
-use Rattle.vm_memory.specs.Memory.{Size, size}
+use Rattle.vm_memory.specs.Memory.{Size, size, store_of}
 use Rattle.vm_memory.specs.declared.memory.Memory.{Memory}
 use Rattle.xk_base.specs.Tables.Counting.{count_below}
 use Rattle.xk_kernel.specs.Knowing.{KnowsBytes, is_trusted}
 use Rattle.xk_kernel.specs.Sound.{Keeps}
 use Rattle.xk_kernel.specs.declared.kernel.Kernel.{Kernel}
+use Rattle.xk_ports.specs.Store.{StoreAsked}
+use Rattle.xousim.specs.Outcome.Sides.{IsTrusted, store_side}
 use Rattle.xousim.specs.Standing.{room_in}
 
 -- ---- what stays
@@ -44,6 +46,14 @@ trusted_by : (a b : Bool) (P : Type 0) → (a || b) ≡ true → (a ≡ true →
 trusted_by true b P is left right = left refl
 trusted_by false b P is left right = right is
 
+pub no_slots_trusted : {W : Type 0} (honest : W → Bool) (held : W → Held) (k : Kernel W) → (size k.mem).slots ≡ 0 → is_trusted honest held k ≡ true
+no_slots_trusted honest held k none =
+    let test : ((size k.mem).slots == 0) ≡ true = grind (arith, nat_tests) in or_right (is_known honest held k.mem) ((size k.mem).slots == 0) test
+
+pub slots_stay : {W P : Type 0} {honest : W → Bool} {held : W → Held} {slots : W → ℕ} {asked : W → P} {faults : W → ℕ} {old new : Kernel W}
+    → Keeps honest held slots asked faults old new → (size old.mem).slots ≡ 0 → (size new.mem).slots ≡ 0
+slots_stay keeps none = ap (λ (s : Size). s.slots) keeps.size ∙ none
+
 -- over a call of a trusted kernel
 pub trusted_knows : {W P : Type 0} {honest : W → Bool} {held : W → Held} {slots : W → ℕ} {asked : W → P} {faults : W → ℕ} {old new : Kernel W}
     → Keeps honest held slots asked faults old new → is_trusted honest held old ≡ true → KnowsBytes honest held old new
@@ -72,3 +82,9 @@ near_knows honest held old new before after =
 
 pub near_means : {W : Type 0} (honest : W → Bool) (held : W → Held) (k : Kernel W) → none_out k.mem ≡ true → MeansBytes honest held k.mem
 near_means honest held k near = or_right (is_known honest held k.mem) (none_out k.mem) near
+
+-- what a call says of trust by its store, a kernel says by its own
+pub trusted_side : {W : Type 0} {honest : W → Bool} {held : W → Held} {slots : W → ℕ} {asked : W → Option (List StoreAsked)} {faults : W → ℕ} {old new : Kernel W}
+    → Keeps honest held slots asked faults old new
+    → IsTrusted (store_side honest held asked faults (store_of old.mem) (store_of new.mem)) (size old.mem).slots → is_trusted honest held new ≡ true
+trusted_side {honest = honest} {held = held} {new = new} keeps trusted = ap (λ (s : Size). is_known honest held new.mem || (s.slots == 0)) keeps.size ∙ trusted

@@ -21,7 +21,7 @@ use Rattle.xousim.specs.Outcome.Starts.{ComesFull, IsFull, Room}
 use Rattle.xousim.specs.Playing.{Comes, Plays, StaysNear}
 use Rattle.xousim.specs.Standing.{Stand}
 use Rattle.xousim.specs.Telling.{told}
-use Rattle.xousim.proofs.FullLemmas.{full_start, tick_full}
+use Rattle.xousim.proofs.FullLemmas.{full_start, step_full, tick_full}
 use Rattle.xousim.proofs.GatheringLemmas.{gathers_none}
 use Rattle.xousim.proofs.HistoryLemmas.{gathered_behind, gathered_nothing, gathered_same, gathered_stopped, met_steps, part_behind, part_front, part_same}
 use Rattle.xousim.proofs.StepLimitLemmas.{play_grows}
@@ -154,12 +154,6 @@ comes_unwritten : (tells : Telling) (n limit : ℕ) (old new : Stand) → 1 ≤ 
 comes_unwritten tells n limit old new some ready more part =
     part_same tells old.text new.text _ _ (ap (with_ending Played) (tick_steps n limit old.machine some ready more))
     (part_front tells old.text new.text (step old.machine).records (with_ending Played (play (Tick (n - 1)) limit (step old.machine).machine)) part)
-
--- the state after a step is one of the tick's
-step_full : (room : Room) (n limit : ℕ) (m : Machine) → 1 ≤ n → is_some (actor m) ≡ true → m.steps ≢ limit → IsFull room (step m).machine
-    → ComesFull room m (event_moments (Tick n) limit m)
-step_full room n limit m some ready more crowd =
-    tick_full room n limit m some ready more (full_start room (step m).machine (event_moments (Tick (n - 1)) limit (step m).machine) crowd)
 
 pub plays_unwritten : (tells : Telling) (n limit : ℕ) (old new : Stand) → 1 ≤ n → FailsOne tells limit old new → Plays tells (Tick n) limit old new (Err Write)
 plays_unwritten tells n limit old new some one = record {

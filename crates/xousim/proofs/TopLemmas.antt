@@ -7,6 +7,7 @@ use Rattle.xk_ports.specs.Store.{StoreAsked}
 use Rattle.xk_ports.specs.Told.{Grows, GrowsByPrefix}
 use Rattle.xk_ports.specs.declared.host.FileSlot.TheVariants.{First, Second}
 use Rattle.xk_ports.proofs.ToldLemmas.{Grows-append}
+use Rattle.machine_model.specs.Runs.Moments.{Moment}
 use Rattle.machine_model.specs.State.Machine.{Machine}
 use Rattle.xousim.specs.declared.commands.command.CommandWords.{CommandWords}
 use Rattle.xousim.specs.declared.commands.command.Telling.{Telling}
@@ -18,7 +19,7 @@ use Rattle.xousim.specs.History.{History}
 use Rattle.xousim.specs.Outcome.Ends.{Ends}
 use Rattle.xousim.specs.Outcome.Plays.{AsksBoth, EndsPlay, HasCause, RanFull, Tells, run_of}
 use Rattle.xousim.specs.Outcome.Sides.{Call, IsTrusted, Prepares, StoreSide, Told}
-use Rattle.xousim.specs.Outcome.Starts.{Room, room_of}
+use Rattle.xousim.specs.Outcome.Starts.{ComesFull, Room, room_of}
 use Rattle.xousim.specs.Outcome.Images.{Image, plan_in}
 use Rattle.xousim.specs.Reading.{Asked, IsFile, IsTold}
 use Rattle.xousim.specs.Telling.{closing, output, told}
@@ -93,6 +94,10 @@ finished_tells play machine last call mid faults events ending SwapFault is_file
 finished_tells play machine last call mid faults events ending ReadFault is_file wrote there finished = absurd finished
 finished_tells play machine last call mid faults events ending NoMemory is_file wrote there finished = absurd finished
 finished_tells play machine last call mid faults events ending (ImageFault fault) is_file wrote there finished = absurd finished
+
+-- a run comes full in the room that it began in
+pub full_on : (one other : Room) (start : Machine) (moments : List Moment) → other ≡ one → ComesFull other start moments → ComesFull one start moments
+full_on one other start moments same full = let C : Room → Type 0 = λ room. ComesFull room start moments in subst C same full
 
 -- ---- a call that began earlier
 

@@ -7,7 +7,6 @@ use Rattle.kernel_args.specs.Image.{Spells}
 use Rattle.kernel_args.proofs.ImageLemmas.{spelled_once}
 use Rattle.boot_plan.specs.FirstPages.{plan_of}
 use Rattle.boot_plan.specs.ImageFault.{IsImageFault}
-use Rattle.boot_plan.specs.Slots.{slots_used}
 use Rattle.boot_plan.proofs.ImageFaultLemmas.{image_fault_once}
 use Rattle.machine_model.specs.State.Machine.{Machine}
 use Rattle.xk_base.specs.declared.limits.TheConstants.{IMAGE_LIMIT, SLOT_LIMIT}
@@ -15,10 +14,17 @@ use Rattle.xk_kernel.specs.Start.{start}
 use Rattle.xousim.specs.declared.playing.ending.Ending.{Ending}
 use Rattle.xousim.specs.declared.playing.ending.Ending.TheVariants.{Played, LimitMet, BadLine}
 use Rattle.xousim.specs.declared.status.Status.{Status}
-use Rattle.xousim.specs.declared.status.Status.TheVariants.{Done, Usage, ReadFault, WriteFault, ImageFault, EventFault, StepLimit, NoMemory, NotBuilt}
-use Rattle.xousim.specs.Outcome.{Boots, Call, Ends, EndsCheck, EndsConvert, EndsIfBuilt, EndsPlay, HasCause, HasSlots, HostRose, Image, IsCheckComplete, IsCheckVerdict, IsCommandComplete, IsComplete, IsConversion, IsConvertComplete, IsConvertVerdict, IsPlanned, IsPlayComplete, IsUnwritten, IsVerdict, OutRose, Ran, Refuses, RunsTo, Summarizes, Tells, TellsDemo, Writes, conversion, long_file, run_of}
+use Rattle.xousim.specs.declared.status.Status.TheVariants.{Done, Usage, ReadFault, WriteFault, ImageFault, EventFault, StepLimit, SwapFault, NoMemory}
+use Rattle.xousim.specs.Outcome.Check.{EndsCheck, Summarizes}
+use Rattle.xousim.specs.Outcome.Convert.{EndsConvert, IsConversion, Writes, conversion, long_file}
+use Rattle.xousim.specs.Outcome.Demo.{Demonstrates, TellsDemo}
+use Rattle.xousim.specs.Outcome.Ends.{Ends, EndsCommand}
+use Rattle.xousim.specs.Outcome.Images.{Boots, Image, IsPlanned, Refuses, plan_in}
+use Rattle.xousim.specs.Outcome.Plays.{EndsPlay, HasCause, Ran, Tells, run_of}
+use Rattle.xousim.specs.Outcome.Sides.{Call, HostRose, IsTrusted, IsUnwritten, OutRose, StoreRose, StoreSide}
+use Rattle.xousim.specs.Outcome.Starts.{Room, Stops}
+use Rattle.xousim.specs.Outcome.Verdicts.{IsCheckComplete, IsCheckVerdict, IsCommandComplete, IsComplete, IsConvertComplete, IsConvertVerdict, IsPlayComplete, IsTrustedPlay, IsVerdict, IsVerdictOr, RunsTo}
 use Rattle.boot_plan.specs.declared.plans.BootPlan.{BootPlan}
-use Rattle.xousim.specs.Built.{is_built}
 use Rattle.xousim.specs.Reading.{IsFile}
 use Rattle.xousim.specs.Words.{Check, Command, Plays, Checks, Converts, Demo, Play}
 
@@ -60,23 +66,7 @@ boots_no_fault file name slots machine image fault boots read faulty =
     let P : List ℕ → Type 0 = λ bytes. IsImageFault bytes slots (Some fault) in
     none_is_some fault (one_fault boots.bytes slots None (Some fault) boots.boots.sound.no_fault (subst P (same_bytes file name image boots.bytes read boots.read) faulty))
 
--- an image whose run has slots has no fault, and boots no machine in a run without them
-slots_no_fault : (file : List ℕ → Option (List ℕ)) (name : List ℕ) (asked : Option ℕ) (image : List ℕ) (fault : ArgFault)
-    → HasSlots (Some file) name asked → IsFile (Some file) name image → IsImageFault image asked (Some fault) → ⊥
-slots_no_fault file name asked image fault has read faulty =
-    let P : List ℕ → Type 0 = λ bytes. IsImageFault bytes asked (Some fault) in
-    none_is_some fault (one_fault has.bytes asked None (Some fault) has.sound.no_fault (subst P (same_bytes file name image has.bytes read has.read) faulty))
-
-slots_no_boot : (file : List ℕ → Option (List ℕ)) (name : List ℕ) (asked : Option ℕ) (machine : Machine)
-    → Image (Some file) name asked machine → HasSlots (Some file) name asked → ⊥
-slots_no_boot file name asked machine image has =
-    let P : List ℕ → Type 0 = λ bytes. Spells bytes has.args in
-    let spelled = subst P (same_bytes file name has.bytes image.bytes has.read image.read) has.sound.spelled in
-    let same : has.args ≡ image.boots.args = spelled_once image.bytes has.args image.boots.args spelled image.boots.sound.spelled in
-    let some : 0 < slots_used image.boots.args asked = subst (λ (args : Args). 0 < slots_used args asked) same has.some in
-    omega (arith, image.no_slots)
-
--- ---- each verdict is that of a run, of an image with a fault or of one whose run has slots
+-- ---- each verdict is that of a run, or of an image with a fault
 
 same_fault : (one other : ArgFault) → Some one ≡ Some other → ImageFault one ≡ ImageFault other
 same_fault one other e = ap (λ (f : ArgFault). ImageFault f) (same_Some one other e)
@@ -99,18 +89,15 @@ OfRun file play status = (ending : Ending) × RunsTo (Some file) play ending × 
 abbrev OfFault : (List ℕ → Option (List ℕ)) → Play → Status → Type 0
 OfFault file play status = (fault : ArgFault) × (image : List ℕ) × IsFile (Some file) play.image image × IsImageFault image play.slots (Some fault) × (status ≡ ImageFault fault)
 
-abbrev OfSlots : (List ℕ → Option (List ℕ)) → Play → Status → Type 0
-OfSlots file play status = HasSlots (Some file) play.image play.slots × (status ≡ NotBuilt)
-
 abbrev Sorts : (List ℕ → Option (List ℕ)) → Play → Status → Type 0
-Sorts file play status = OfRun file play status ⊎ OfFault file play status ⊎ OfSlots file play status
+Sorts file play status = OfRun file play status ⊎ OfFault file play status
 
 sorts : (file : List ℕ → Option (List ℕ)) (play : Play) (status : Status) → IsVerdict (Some file) play status → Sorts file play status
 sorts file play Done a = inl (Played, a, refl)
 sorts file play (EventFault line) a = inl (BadLine line, a, refl)
 sorts file play (StepLimit limit) a = inl (LimitMet, a.1, ap (λ (l : ℕ). StepLimit l) a.0)
-sorts file play (ImageFault fault) a = inr (inl (fault, a.0, a.1, a.2, refl))
-sorts file play NotBuilt a = inr (inr (a, refl))
+sorts file play (ImageFault fault) a = inr (fault, a.0, a.1, a.2, refl)
+sorts file play SwapFault a = absurd a
 sorts file play Usage a = absurd a
 sorts file play ReadFault a = absurd a
 sorts file play WriteFault a = absurd a
@@ -119,19 +106,11 @@ sorts file play NoMemory a = absurd a
 run_fault : (file : List ℕ → Option (List ℕ)) (play : Play) (one other : Status) → OfRun file play one → OfFault file play other → ⊥
 run_fault file play one other a b = boots_no_fault file play.image play.slots a.1.machine b.1 b.0 a.1.image b.2 b.3
 
-run_slots : (file : List ℕ → Option (List ℕ)) (play : Play) (one other : Status) → OfRun file play one → OfSlots file play other → ⊥
-run_slots file play one other a b = slots_no_boot file play.image play.slots a.1.machine a.1.image b.0
-
 agree : (file : List ℕ → Option (List ℕ)) (play : Play) (one other : Status) → Sorts file play one → Sorts file play other → one ≡ other
 agree file play one other (inl a) (inl b) = a.2 ∙ (ap (status_of play.limit) (endings_agree file play a.0 b.0 a.1 b.1) ∙ sym b.2)
-agree file play one other (inl a) (inr (inl b)) = absurd (run_fault file play one other a b)
-agree file play one other (inl a) (inr (inr b)) = absurd (run_slots file play one other a b)
-agree file play one other (inr (inl a)) (inl b) = absurd (run_fault file play other one b a)
-agree file play one other (inr (inl a)) (inr (inl b)) = a.4 ∙ (faults_agree file play.image play.slots a.1 b.1 a.0 b.0 a.2 a.3 b.2 b.3 ∙ sym b.4)
-agree file play one other (inr (inl a)) (inr (inr b)) = absurd (slots_no_fault file play.image play.slots a.1 a.0 b.0 a.2 a.3)
-agree file play one other (inr (inr a)) (inl b) = absurd (run_slots file play other one b a)
-agree file play one other (inr (inr a)) (inr (inl b)) = absurd (slots_no_fault file play.image play.slots b.1 b.0 a.0 b.2 b.3)
-agree file play one other (inr (inr a)) (inr (inr b)) = a.1 ∙ sym b.1
+agree file play one other (inl a) (inr b) = absurd (run_fault file play one other a b)
+agree file play one other (inr a) (inl b) = absurd (run_fault file play other one b a)
+agree file play one other (inr a) (inr b) = a.4 ∙ (faults_agree file play.image play.slots a.1 b.1 a.0 b.0 a.2 a.3 b.2 b.3 ∙ sym b.4)
 
 pub one_verdict_of_files : (file : List ℕ → Option (List ℕ)) (play : Play) (one other : Status) → IsVerdict (Some file) play one → IsVerdict (Some file) play other → one ≡ other
 one_verdict_of_files file play one other a b = agree file play one other (sorts file play one a) (sorts file play other b)
@@ -142,7 +121,7 @@ refused_complete : (play : Play) (call : Call) (status : Status) → (¬ HostRos
     → Refuses call.host.files play.image play.slots (HostRose call) status → IsUnwritten call
     → IsVerdict call.host.files play status ⊎ ((status ≡ NoMemory) × IsUnwritten call)
 refused_complete play call (ImageFault fault) quiet refused unwritten = inl refused
-refused_complete play call NotBuilt quiet refused unwritten = absurd refused
+refused_complete play call SwapFault quiet refused unwritten = absurd refused
 refused_complete play call NoMemory quiet refused unwritten = inr (refl, unwritten)
 refused_complete play call Usage quiet refused unwritten = absurd refused
 refused_complete play call ReadFault quiet refused unwritten = absurd (quiet refused)
@@ -156,24 +135,40 @@ runs_to : (play : Play) (machine : Machine) (call : Call) (ending : Ending)
 runs_to play machine call ending image ran =
     record { machine = machine; image = image; events = ran.events; is_file = ran.is_file; ended = ran.ended }
 
-played_complete : (play : Play) (machine : Machine) (call : Call) (status : Status) → (¬ HostRose call) → (¬ OutRose call)
-    → Image call.host.files play.image play.slots machine → HasCause call status → Tells play machine call status
+unstarted_complete : (play : Play) (machine : Machine) (call : Call) (plan : BootPlan) (status : Status) → (¬ StoreRose call.store)
+    → Stops plan play.store machine call.store status → IsUnwritten call
     → IsVerdict call.host.files play status ⊎ ((status ≡ NoMemory) × IsUnwritten call)
-played_complete play machine call Done quiet calm image cause told = inl (runs_to play machine call Played image told)
-played_complete play machine call (EventFault line) quiet calm image cause told = inl (runs_to play machine call (BadLine line) image told)
-played_complete play machine call (StepLimit limit) quiet calm image cause told = inl (told.0, runs_to play machine call LimitMet image told.1)
-played_complete play machine call NotBuilt quiet calm image cause told = absurd told
-played_complete play machine call WriteFault quiet calm image cause told = absurd (calm cause)
-played_complete play machine call ReadFault quiet calm image cause told = absurd (quiet cause)
-played_complete play machine call Usage quiet calm image cause told = absurd told
-played_complete play machine call NoMemory quiet calm image cause told = absurd told
-played_complete play machine call (ImageFault fault) quiet calm image cause told = absurd told
+unstarted_complete play machine call plan NoMemory still stopped unwritten = inr (refl, unwritten)
+unstarted_complete play machine call plan SwapFault still stopped unwritten = absurd (still stopped.0)
+unstarted_complete play machine call plan Done still stopped unwritten = absurd stopped
+unstarted_complete play machine call plan Usage still stopped unwritten = absurd stopped
+unstarted_complete play machine call plan ReadFault still stopped unwritten = absurd stopped
+unstarted_complete play machine call plan WriteFault still stopped unwritten = absurd stopped
+unstarted_complete play machine call plan (ImageFault fault) still stopped unwritten = absurd stopped
+unstarted_complete play machine call plan (EventFault line) still stopped unwritten = absurd stopped
+unstarted_complete play machine call plan (StepLimit limit) still stopped unwritten = absurd stopped
 
-play_complete : (play : Play) (call : Call) → EndsPlay play call → (¬ HostRose call) → (¬ OutRose call) → IsPlayComplete play call
-play_complete play call (inl refused) quiet calm = refused_complete play call call.status quiet refused.refused refused.unwritten
-play_complete play call (inr (inl has)) quiet calm = inl (subst (IsVerdict call.host.files play) (sym has.ended) has.cause)
-play_complete play call (inr (inr (inl unpicked))) quiet calm = absurd (quiet unpicked.cause)
-play_complete play call (inr (inr (inr played))) quiet calm = played_complete play played.machine call call.status quiet calm played.image played.cause played.content
+played_complete : (play : Play) (room : Room) (machine : Machine) (call : Call) (status : Status) → (¬ HostRose call) → (¬ OutRose call) → (¬ StoreRose call.store)
+    → Image call.host.files play.image play.slots machine → HasCause play room machine call status → Tells play machine call status
+    → IsVerdict call.host.files play status ⊎ ((status ≡ NoMemory) × IsUnwritten call)
+played_complete play room machine call Done quiet calm still image cause told = inl (runs_to play machine call Played image told)
+played_complete play room machine call (EventFault line) quiet calm still image cause told = inl (runs_to play machine call (BadLine line) image told)
+played_complete play room machine call (StepLimit limit) quiet calm still image cause told = inl (cause, runs_to play machine call LimitMet image told)
+played_complete play room machine call SwapFault quiet calm still image cause told = absurd (still cause.0)
+played_complete play room machine call WriteFault quiet calm still image cause told = absurd (calm cause)
+played_complete play room machine call ReadFault quiet calm still image cause told = absurd (quiet cause)
+played_complete play room machine call Usage quiet calm still image cause told = absurd told
+played_complete play room machine call NoMemory quiet calm still image cause told = absurd told
+played_complete play room machine call (ImageFault fault) quiet calm still image cause told = absurd told
+
+play_complete : (play : Play) (call : Call) → EndsPlay play call → (¬ HostRose call) → (¬ OutRose call) → (¬ StoreRose call.store) → IsPlayComplete play call
+play_complete play call (inl refused) quiet calm still trusted = refused_complete play call call.status quiet refused.image.refused refused.image.unwritten
+play_complete play call (inr (inl unstarted)) quiet calm still trusted =
+    unstarted_complete play unstarted.machine call (plan_in unstarted.image) call.status still unstarted.stopped unstarted.unwritten
+play_complete play call (inr (inr (inl unpicked))) quiet calm still trusted = absurd (quiet unpicked.cause)
+play_complete play call (inr (inr (inr played))) quiet calm still trusted =
+    played_complete play _ played.machine call call.status quiet calm still played.image played.cause
+    (played.content (trusted played.image.bytes played.image.boots.args played.image.read played.image.boots.sound))
 
 refused_check_complete : (check : Check) (call : Call) (status : Status) → (¬ HostRose call)
     → Refuses call.host.files check.image check.slots (HostRose call) status → IsUnwritten call
@@ -181,7 +176,7 @@ refused_check_complete : (check : Check) (call : Call) (status : Status) → (¬
 refused_check_complete check call (ImageFault fault) quiet refused unwritten = inl refused
 refused_check_complete check call NoMemory quiet refused unwritten = inr (refl, unwritten)
 refused_check_complete check call ReadFault quiet refused unwritten = absurd (quiet refused)
-refused_check_complete check call NotBuilt quiet refused unwritten = absurd refused
+refused_check_complete check call SwapFault quiet refused unwritten = absurd refused
 refused_check_complete check call Usage quiet refused unwritten = absurd refused
 refused_check_complete check call Done quiet refused unwritten = absurd refused
 refused_check_complete check call (EventFault line) quiet refused unwritten = absurd refused
@@ -189,11 +184,11 @@ refused_check_complete check call (StepLimit limit) quiet refused unwritten = ab
 refused_check_complete check call WriteFault quiet refused unwritten = absurd refused
 
 planned_complete : (check : Check) (plan : BootPlan) (call : Call) (status : Status) → (¬ OutRose call)
-    → IsPlanned call.host.files check.image check.slots plan → HasCause call status → Summarizes plan call.out status
+    → IsPlanned call.host.files check.image check.slots plan → (status ≡ WriteFault → OutRose call) → Summarizes plan call.out status
     → IsCheckVerdict call.host.files check status ⊎ ((status ≡ NoMemory) × IsUnwritten call)
 planned_complete check plan call Done calm planned cause content = inl (plan, planned)
-planned_complete check plan call WriteFault calm planned cause content = absurd (calm cause)
-planned_complete check plan call NotBuilt calm planned cause content = absurd content
+planned_complete check plan call WriteFault calm planned cause content = absurd (calm (cause refl))
+planned_complete check plan call SwapFault calm planned cause content = absurd content
 planned_complete check plan call Usage calm planned cause content = absurd content
 planned_complete check plan call ReadFault calm planned cause content = absurd content
 planned_complete check plan call NoMemory calm planned cause content = absurd content
@@ -211,7 +206,7 @@ refused_convert_complete : (name : List ℕ) (call : Call) (status : Status) →
 refused_convert_complete name call (ImageFault fault) quiet refused unwritten = inl (inl refused)
 refused_convert_complete name call NoMemory quiet refused unwritten = inr (refl, unwritten)
 refused_convert_complete name call ReadFault quiet refused unwritten = absurd (quiet refused)
-refused_convert_complete name call NotBuilt quiet refused unwritten = absurd refused
+refused_convert_complete name call SwapFault quiet refused unwritten = absurd refused
 refused_convert_complete name call Usage quiet refused unwritten = absurd refused
 refused_convert_complete name call Done quiet refused unwritten = absurd refused
 refused_convert_complete name call (EventFault line) quiet refused unwritten = absurd refused
@@ -219,12 +214,12 @@ refused_convert_complete name call (StepLimit limit) quiet refused unwritten = a
 refused_convert_complete name call WriteFault quiet refused unwritten = absurd refused
 
 converted_complete : (name bytes : List ℕ) (call : Call) (status : Status) → (¬ OutRose call)
-    → IsConversion call.host.files name bytes → HasCause call status → Writes bytes call.out status
+    → IsConversion call.host.files name bytes → (status ≡ WriteFault → OutRose call) → Writes bytes call.out status
     → IsConvertVerdict call.host.files name status ⊎ ((status ≡ NoMemory) × IsUnwritten call)
 converted_complete name bytes call Done calm converts cause content = inl (bytes, converts, content.0)
 converted_complete name bytes call (ImageFault fault) calm converts cause content = inl (inr (bytes, converts, content.0, content.1))
-converted_complete name bytes call WriteFault calm converts cause content = absurd (calm cause)
-converted_complete name bytes call NotBuilt calm converts cause content = absurd content
+converted_complete name bytes call WriteFault calm converts cause content = absurd (calm (cause refl))
+converted_complete name bytes call SwapFault calm converts cause content = absurd content
 converted_complete name bytes call Usage calm converts cause content = absurd content
 converted_complete name bytes call ReadFault calm converts cause content = absurd content
 converted_complete name bytes call NoMemory calm converts cause content = absurd content
@@ -236,28 +231,44 @@ convert_complete name call (inl refused) quiet calm = refused_convert_complete n
 convert_complete name call (inr converted) quiet calm =
     converted_complete name converted.bytes call call.status calm converted.conversion converted.cause converted.content
 
-demo_complete : (clients : ℕ) (call : Call) (status : Status) → (¬ OutRose call) → HasCause call status → TellsDemo clients call.out status
-    → (status ≡ Done) ⊎ ((status ≡ NoMemory) × IsUnwritten call)
-demo_complete clients call Done calm cause content = inl refl
-demo_complete clients call NoMemory calm cause content = inr (refl, content)
-demo_complete clients call WriteFault calm cause content = absurd (calm cause)
-demo_complete clients call NotBuilt calm cause content = absurd content
-demo_complete clients call Usage calm cause content = absurd content
-demo_complete clients call ReadFault calm cause content = absurd content
-demo_complete clients call (ImageFault fault) calm cause content = absurd content
-demo_complete clients call (EventFault line) calm cause content = absurd content
-demo_complete clients call (StepLimit limit) calm cause content = absurd content
+demo_unstarted : (clients : ℕ) (call : Call) (plan : BootPlan) (name : Option (List ℕ)) (machine : Machine) (status : Status) → (¬ StoreRose call.store)
+    → Stops plan name machine call.store status → IsUnwritten call → (status ≡ Done) ⊎ ((status ≡ NoMemory) × IsUnwritten call)
+demo_unstarted clients call plan name machine NoMemory still stopped unwritten = inr (refl, unwritten)
+demo_unstarted clients call plan name machine SwapFault still stopped unwritten = absurd (still stopped.0)
+demo_unstarted clients call plan name machine Done still stopped unwritten = absurd stopped
+demo_unstarted clients call plan name machine Usage still stopped unwritten = absurd stopped
+demo_unstarted clients call plan name machine ReadFault still stopped unwritten = absurd stopped
+demo_unstarted clients call plan name machine WriteFault still stopped unwritten = absurd stopped
+demo_unstarted clients call plan name machine (ImageFault fault) still stopped unwritten = absurd stopped
+demo_unstarted clients call plan name machine (EventFault line) still stopped unwritten = absurd stopped
+demo_unstarted clients call plan name machine (StepLimit limit) still stopped unwritten = absurd stopped
 
-command_complete : (built : Bool) (command : Command) (call : Call) → EndsIfBuilt built command call → (¬ HostRose call) → (¬ OutRose call) → IsCommandComplete built command call
-command_complete false command call ends quiet calm = ends.ended
-command_complete true (Plays play) call ends quiet calm = play_complete play call ends quiet calm
-command_complete true (Checks check) call ends quiet calm = check_complete check call ends quiet calm
-command_complete true (Converts image) call ends quiet calm = convert_complete image call ends quiet calm
-command_complete true (Demo clients) call ends quiet calm = demo_complete clients call call.status calm ends.cause ends.content
+demo_told : (clients : ℕ) (call : Call) (status : Status) → (¬ OutRose call) → (¬ StoreRose call.store) → (status ≡ WriteFault → OutRose call)
+    → TellsDemo clients call.out call.store status → (status ≡ Done) ⊎ ((status ≡ NoMemory) × IsUnwritten call)
+demo_told clients call Done calm still cause content = inl refl
+demo_told clients call WriteFault calm still cause content = absurd (calm (cause refl))
+demo_told clients call SwapFault calm still cause content = absurd (still content.0)
+demo_told clients call NoMemory calm still cause content = absurd content
+demo_told clients call Usage calm still cause content = absurd content
+demo_told clients call ReadFault calm still cause content = absurd content
+demo_told clients call (ImageFault fault) calm still cause content = absurd content
+demo_told clients call (EventFault line) calm still cause content = absurd content
+demo_told clients call (StepLimit limit) calm still cause content = absurd content
+
+demo_complete : (clients : ℕ) (call : Call) → (¬ OutRose call) → (¬ StoreRose call.store) → (call.status ≡ WriteFault → OutRose call)
+    → Demonstrates clients call.out call.store call.status → (call.status ≡ Done) ⊎ ((call.status ≡ NoMemory) × IsUnwritten call)
+demo_complete clients call calm still cause (inl unstarted) = demo_unstarted clients call _ _ _ call.status still unstarted.stopped unstarted.unwritten
+demo_complete clients call calm still cause (inr played) = demo_told clients call call.status calm still cause played.content
+
+command_complete : (command : Command) (call : Call) → EndsCommand command call → (¬ HostRose call) → (¬ OutRose call) → (¬ StoreRose call.store) → IsCommandComplete command call
+command_complete (Plays play) call ends quiet calm still = play_complete play call ends quiet calm still
+command_complete (Checks check) call ends quiet calm still = check_complete check call ends.0 quiet calm
+command_complete (Converts image) call ends quiet calm still = convert_complete image call ends.0 quiet calm
+command_complete (Demo clients) call ends quiet calm still = demo_complete clients call calm still ends.cause ends.content
 
 pub ends_complete : (command : Option Command) (call : Call) → Ends command call → IsComplete command call
 ends_complete None call ends = ends.ended
-ends_complete (Some command) call ends = λ quiet calm. command_complete (is_built command) command call ends quiet calm
+ends_complete (Some command) call ends = λ quiet calm still. command_complete command call ends quiet calm still
 
 -- ---- the verdict of an image alone
 
@@ -275,21 +286,21 @@ one_verdict_of_image file check (ImageFault fault) Done a b = absurd (planned_no
 one_verdict_of_image file check (ImageFault fault) (ImageFault two) a b = faults_agree file check.image check.slots a.0 b.0 fault two a.1 a.2 b.1 b.2
 one_verdict_of_image file check (EventFault line) other a b = absurd a
 one_verdict_of_image file check (StepLimit limit) other a b = absurd a
-one_verdict_of_image file check NotBuilt other a b = absurd a
+one_verdict_of_image file check SwapFault other a b = absurd a
 one_verdict_of_image file check Usage other a b = absurd a
 one_verdict_of_image file check ReadFault other a b = absurd a
 one_verdict_of_image file check WriteFault other a b = absurd a
 one_verdict_of_image file check NoMemory other a b = absurd a
 one_verdict_of_image file check Done (EventFault line) a b = absurd b
 one_verdict_of_image file check Done (StepLimit limit) a b = absurd b
-one_verdict_of_image file check Done NotBuilt a b = absurd b
+one_verdict_of_image file check Done SwapFault a b = absurd b
 one_verdict_of_image file check Done Usage a b = absurd b
 one_verdict_of_image file check Done ReadFault a b = absurd b
 one_verdict_of_image file check Done WriteFault a b = absurd b
 one_verdict_of_image file check Done NoMemory a b = absurd b
 one_verdict_of_image file check (ImageFault fault) (EventFault line) a b = absurd b
 one_verdict_of_image file check (ImageFault fault) (StepLimit limit) a b = absurd b
-one_verdict_of_image file check (ImageFault fault) NotBuilt a b = absurd b
+one_verdict_of_image file check (ImageFault fault) SwapFault a b = absurd b
 one_verdict_of_image file check (ImageFault fault) Usage a b = absurd b
 one_verdict_of_image file check (ImageFault fault) ReadFault a b = absurd b
 one_verdict_of_image file check (ImageFault fault) WriteFault a b = absurd b
@@ -332,7 +343,7 @@ converting file name (ImageFault fault) (inl a) = Faulty fault a.0 a.1 a.2 refl
 converting file name (ImageFault fault) (inr a) = Long a.0 a.1 a.2 (ap (λ (f : ArgFault). ImageFault f) a.3)
 converting file name (EventFault line) a = absurd a
 converting file name (StepLimit limit) a = absurd a
-converting file name NotBuilt a = absurd a
+converting file name SwapFault a = absurd a
 converting file name Usage a = absurd a
 converting file name ReadFault a = absurd a
 converting file name WriteFault a = absurd a

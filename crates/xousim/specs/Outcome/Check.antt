@@ -1,5 +1,5 @@
 -- How a call of `check` ends.
-use Rattle.std.specs.Prelude.{◌≡◌, ◌⊎◌, true, [], Unit}
+use Rattle.std.specs.Prelude.{◌≡◌, ◌⊎◌, true, []}
 use Rattle.boot_plan.specs.declared.plans.BootPlan.{BootPlan}
 use Rattle.xk_ports.specs.declared.host.FileSlot.TheVariants.{First}
 use Rattle.xk_ports.specs.Told.{Grows, GrowsByPrefix}

@@ -1,26 +1,30 @@
 -- How a call of `demo` ends.
 use Rattle.std.specs.Prelude.{◌≡◌, ◌⊎◌, ℕ, true, None}
-use Rattle.boot_plan.specs.FirstPages.{plan_of}
+use Rattle.xk_base.specs.declared.limits.TheConstants.{DEFAULT_STEPS}
+use Rattle.xk_kernel.specs.HistoryMoments.{moments_of}
 use Rattle.xk_ports.specs.Told.{Grows, GrowsByPrefix}
 use Rattle.xousim.specs.declared.status.Status.{Status}
 use Rattle.xousim.specs.declared.status.Status.TheVariants.{Done, Usage, ReadFault, WriteFault, ImageFault, EventFault, StepLimit, SwapFault, NoMemory}
-use Rattle.xousim.specs.Load.Events.{load_history, load_machine, load_plan}
+use Rattle.xousim.specs.Load.Events.{load_events, load_history, load_machine, load_plan}
 use Rattle.xousim.specs.Load.Totals.{demo_line, totals_of}
-use Rattle.xousim.specs.Outcome.Sides.{Call, IsUnwritten, OutRose, Prepares, SinkSide, StoreSide}
-use Rattle.xousim.specs.Outcome.Starts.{Stops}
+use Rattle.xousim.specs.Outcome.Sides.{Call, OutRose, Prepares, SinkSide, StoreRose, StoreSide}
+use Rattle.xousim.specs.Outcome.Starts.{ComesFull, Stops, room_of}
 
--- The load of so many clients was played, in a run without slots, and what was written, by the status: the line that sums up its history, or
--- a part of it.
-abbrev pub TellsDemo : ℕ → SinkSide → Status → Type 0
-TellsDemo clients out Done = Grows out.written out.written_after (demo_line clients (totals_of (load_history clients).records))
-TellsDemo clients out WriteFault = GrowsByPrefix out.written out.written_after (demo_line clients (totals_of (load_history clients).records))
-TellsDemo clients out NoMemory = ⊥
-TellsDemo clients out SwapFault = ⊥
-TellsDemo clients out Usage = ⊥
-TellsDemo clients out ReadFault = ⊥
-TellsDemo clients out (ImageFault fault) = ⊥
-TellsDemo clients out (EventFault line) = ⊥
-TellsDemo clients out (StepLimit limit) = ⊥
+-- The load of so many clients was played, in a run without slots, and what was written, by the status: the line that sums up its history, a
+-- part of it, or nothing, where the store failed: its count rose, and some state of the run has more pages than there are frames for.
+abbrev pub TellsDemo : ℕ → SinkSide → StoreSide → Status → Type 0
+TellsDemo clients out store Done = Grows out.written out.written_after (demo_line clients (totals_of (load_history clients).records))
+TellsDemo clients out store WriteFault = GrowsByPrefix out.written out.written_after (demo_line clients (totals_of (load_history clients).records))
+TellsDemo clients out store NoMemory = ⊥
+TellsDemo clients out store SwapFault =
+    StoreRose store
+    × ComesFull (room_of (load_plan clients)) (load_machine clients) (moments_of (load_events clients) DEFAULT_STEPS (load_machine clients))
+    × (out.written_after ≡ out.written)
+TellsDemo clients out store Usage = ⊥
+TellsDemo clients out store ReadFault = ⊥
+TellsDemo clients out store (ImageFault fault) = ⊥
+TellsDemo clients out store (EventFault line) = ⊥
+TellsDemo clients out store (StepLimit limit) = ⊥
 
 -- the load isn't played, and nothing was written
 pub record DemoUnstarted (clients : ℕ) (out : SinkSide) (store : StoreSide) (status : Status) : Type 0 where
@@ -30,7 +34,7 @@ pub record DemoUnstarted (clients : ℕ) (out : SinkSide) (store : StoreSide) (s
 -- the load is played
 pub record DemoPlayed (clients : ℕ) (out : SinkSide) (store : StoreSide) (status : Status) : Type 0 where
   pub prepared : Prepares store 0 None true
-  pub content : TellsDemo clients out status
+  pub content : TellsDemo clients out store status
 
 abbrev pub Demonstrates : ℕ → SinkSide → StoreSide → Status → Type 0
 Demonstrates clients out store status = DemoUnstarted clients out store status ⊎ DemoPlayed clients out store status

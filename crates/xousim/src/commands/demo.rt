@@ -1,28 +1,31 @@
 //! `demo`: the load of so many clients is made and played, and summed up in a line.
 
-ghost use Rattle.std.specs.Prelude.{◌≡◌, ◌≤◌, true, All, IfErr, IfOk, None, length};
+ghost use Rattle.std.specs.Prelude.{◌≡◌, ◌≤◌, ◌⊎◌, true, All, IfErr, IfOk, None, length};
 ghost use Rattle.boot_plan.specs.Lawful.{CanStart, IsLawfulPlan};
 ghost use Rattle.vm_memory.specs.Memory.{size, store_of};
 ghost use Rattle.xk_base.specs.Outside.{Rose};
 ghost use Rattle.xk_kernel.specs.Sound.{IsSound, IsUsable};
 ghost use Rattle.xk_kernel.specs.State.{machine_of};
+ghost use Rattle.xk_ports.specs.Told.{Grows, GrowsByPrefix};
 ghost use Rattle.xousim.specs.Load.Events.{load_machine, load_plan};
 ghost use Rattle.xousim.specs.Load.Image.{load_image};
+ghost use Rattle.xousim.specs.Load.Totals.{demo_line};
 ghost use Rattle.xousim.specs.Outcome.Demo.{Demonstrates};
 ghost use Rattle.xousim.specs.Outcome.Sides.{Prepares, SinkSide, store_side};
-ghost use Rattle.xousim.specs.Outcome.Starts.{Stops};
-ghost use Rattle.xousim.specs.declared.status.Status.TheVariants.{WriteFault};
+ghost use Rattle.xousim.specs.Outcome.Starts.{Stops, room_of};
+ghost use Rattle.xousim.specs.Standing.{room_in};
+ghost use Rattle.xousim.specs.declared.status.Status.TheVariants.{Done, WriteFault};
 
 use crate::commands::booting::start_run;
 use crate::commands::command::DemoWords;
 use crate::load::image::load_image;
 use crate::load::playing::play_load;
-use crate::load::totals::demo_line;
+use crate::load::totals::{Totals, demo_line};
 use crate::status::{Ended, Status};
 use boot_plan::{BootPlan, PlanError, plan};
 use std::alloc::Global;
 use xk_base::{NoMemory, Row};
-use xk_kernel::Kernel;
+use xk_kernel::{Kernel, SwapFault};
 use xk_ports::{Sink, SwapStore, put_all};
 
 /// The image of the load of so many clients, and its plan.
@@ -49,6 +52,7 @@ fn boot_load<W: SwapStore>(alloc: Global, clients: u32, store: W) -> Result<Kern
     ensures sound { IfOk result (λ kernel. IsSound W.slot_count W.held kernel) }
     ensures usable { IfOk result (λ kernel. IsUsable kernel) }
     ensures slots { IfOk result (λ kernel. (size kernel.mem).slots ≡ 0) }
+    ensures room { IfOk result (λ kernel. room_in kernel ≡ room_of (load_plan clients)) }
     ensures prepared { IfOk result (λ kernel. let side = store_side W.is_honest W.held W.asked W.faults store (store_of kernel.mem) in
         Prepares side 0 None true) }
     ensures count { IfOk result (λ kernel. W.faults store ≤ W.faults (store_of kernel.mem)) }
@@ -62,6 +66,20 @@ fn boot_load<W: SwapStore>(alloc: Global, clients: u32, store: W) -> Result<Kern
             status: Status::NoMemory,
             store,
         }),
+    }
+}
+
+/// Writes the line that sums up a load.
+fn write_totals<K: Sink>(clients: u32, totals: Totals, out: &mut K) -> Status
+    ensures ended { (result ≡ Done) ⊎ (result ≡ WriteFault) }
+    ensures written { result ≡ Done → Grows (K.written out.old) (K.written out.new) (demo_line clients totals) }
+    ensures front { result ≡ WriteFault → GrowsByPrefix (K.written out.old) (K.written out.new) (demo_line clients totals) }
+    ensures cause { result ≡ WriteFault → Rose (K.faults out.old) (K.faults out.new) }
+    ensures never_falls { K.faults out.old ≤ K.faults out.new }
+{
+    match put_all(out, demo_line(clients, totals).as_slice()) {
+        Ok(()) => Status::Done,
+        Err(_) => Status::WriteFault,
     }
 }
 
@@ -84,13 +102,14 @@ pub fn play_demo<K: Sink, W: SwapStore>(
 {
     match boot_load(alloc, demo.clients, store) {
         Ok(mut kernel) => {
-            let totals = play_load(&mut kernel, demo.clients);
-            let store = kernel.close();
-            let status = match put_all(out, demo_line(demo.clients, totals).as_slice()) {
-                Ok(()) => Status::Done,
-                Err(_) => Status::WriteFault,
+            let status = match play_load(&mut kernel, demo.clients) {
+                Ok(totals) => write_totals(demo.clients, totals, out),
+                Err(SwapFault) => Status::SwapFault,
             };
-            Ended { status, store }
+            Ended {
+                status,
+                store: kernel.close(),
+            }
         }
         Err(ended) => ended,
     }

@@ -1,28 +1,71 @@
-use Rattle.std.proofs.Common.{◌≡◌, ℕ, List, [], Option, refl, sym, subst, inl, inr, arith}
-use Rattle.xousim.specs.Reading.{IsTold}
-use Rattle.machine_model.specs.State.Machine.{Machine}
+use Rattle.std.proofs.Common.{◌≡◌, ◌∙◌, ℕ, List, [], Option, refl, sym, ap, subst, inl, inr, arith}
+use Rattle.vm_memory.specs.Memory.{size, store_of}
 use Rattle.xk_kernel.specs.State.{machine_of}
-use Rattle.xousim.proofs.TopLemmas.{ends_booted, boots_at_zero}
-use Rattle.xousim.specs.Words.{play_in}
+use Rattle.xk_ports.specs.declared.host.FileSlot.TheVariants.{First, Second}
+use Rattle.xousim.specs.Finish.{Booted}
+use Rattle.xousim.specs.Gathering.{put}
+use Rattle.xousim.specs.Outcome.Plays.{EndsPlay}
+use Rattle.xousim.specs.Outcome.Sides.{Call, SinkSide, store_side}
+use Rattle.xousim.specs.Reading.{IsTold}
+use Rattle.xousim.specs.Standing.{room_in}
+use Rattle.xousim.specs.Words.{Play, play_in}
+use Rattle.xousim.proofs.TopLemmas.{Before, begun_at, ends_booted}
 use Rattle.xousim.proofs.commands.play.play_image.Goals as goal
 
 pub play_events-status-requires-clause-within : goal.play_events-status-requires-clause-within
-play_events-status-requires-clause-within g c =
-    let zero : (machine_of g.W.SwapStore.held c.in-Ok.kernel).steps ≡ 0 = boots_at_zero (g.H.Host.file c.args.host.now) c.args.play.image.now c.args.play.slots (machine_of g.W.SwapStore.held c.in-Ok.kernel) c.in-Ok.ensures.booted in
-    omega arith
+play_events-status-requires-clause-within g c = omega (arith, c.in-Ok.ensures.steps)
 
 pub returns-in-Ok-clause-ends : goal.returns-in-Ok-clause-ends
 returns-in-Ok-clause-ends g c =
     let file = g.H.Host.file c.args.host.now in
-    let machine : Machine = machine_of g.W.SwapStore.held c.in-Ok.kernel in
+    let play : Play = play_in c.args.play in
+    let booted = c.in-Ok.ensures.booted in
+    let kernel = c.in-Ok.kernel in
+    let after = c.play_events-status.new.kernel in
+    let begin : Booted = record { machine = booted.0; room = room_in kernel; slots = (size kernel.mem).slots } in
     let I : Option (List ℕ) → Type 0 = λ left. IsTold left [] in
-    ends_booted (play_in c.args.play) machine file (g.H.Host.asked c.args.host.now) (g.H.Host.faults c.args.host.now) _
-    c.boot_image.ensures.file c.in-Ok.ensures.booted c.boot_image.ensures.never_falls c.in-Ok.ensures.picked
-    (subst I (sym c.play_events-status.ensures.first) c.in-Ok.ensures.end) c.play_events-status.ensures.played
+    let before : Before = record {
+      files_asked = g.H.Host.asked c.args.host.now;
+      host_faults = g.H.Host.faults c.args.host.now;
+      prepared = g.W.SwapStore.asked c.args.store;
+      store_faults = g.W.SwapStore.faults c.args.store;
+    } in
+    let call : Call = record {
+      host = record {
+        files = g.H.Host.file c.boot_image.new.host;
+        asked = g.H.Host.asked c.boot_image.new.host;
+        asked_after = g.H.Host.asked c.play_events-status.new.host;
+        image_left = g.H.Host.left c.play_events-status.new.host First;
+        left = g.H.Host.left c.play_events-status.new.host Second;
+        faults = g.H.Host.faults c.boot_image.new.host;
+        faults_after = g.H.Host.faults c.play_events-status.new.host;
+      };
+      out = record {
+        written = g.K.Sink.written c.args.out.now;
+        written_after = g.K.Sink.written c.play_events-status.new.out;
+        faults = g.K.Sink.faults c.args.out.now;
+        faults_after = g.K.Sink.faults c.play_events-status.new.out;
+      };
+      store = store_side g.W.SwapStore.is_honest g.W.SwapStore.held g.W.SwapStore.asked g.W.SwapStore.faults (store_of kernel.mem) (store_of after.mem);
+      status = c.play_events-status.result;
+    } in
+    let S : g.row.W.Denot → Type 0 = λ store. EndsPlay play (record (begun_at file before call) { store = store_side g.W.SwapStore.is_honest g.W.SwapStore.held g.W.SwapStore.asked g.W.SwapStore.faults c.args.store store }) in
+    subst S (sym c.close.ensures)
+    (ends_booted play begin file before call (store_side g.W.SwapStore.is_honest g.W.SwapStore.held g.W.SwapStore.asked g.W.SwapStore.faults c.args.store (store_of kernel.mem))
+    c.boot_image.ensures.file booted.2 refl refl c.play_events-status.ensures.keeps.store.preparations
+    (record { host = c.boot_image.ensures.never_falls; store = c.in-Ok.ensures.count }) c.in-Ok.ensures.picked
+    (subst I (sym c.play_events-status.ensures.first) c.in-Ok.ensures.end)
+    (c.play_events-status.ensures.played booted.0 (booted.1 (put (g.K.Sink.written c.args.out.now)))))
 
 pub returns-in-Err-clause-ends : goal.returns-in-Err-clause-ends
 returns-in-Err-clause-ends g c =
-    elim c.in-Err.ensures.refused [
-      | inl refused ↦ inl (record { asked = c.boot_image.ensures.asks; refused = refused; unwritten = refl })
-      | inr has ↦ inr (inl (record { asked = has.2; ended = has.0; cause = has.1; unwritten = refl }))
+    let out : SinkSide = record {
+      written = g.K.Sink.written c.args.out.now;
+      written_after = g.K.Sink.written c.args.out.now;
+      faults = g.K.Sink.faults c.args.out.now;
+      faults_after = g.K.Sink.faults c.args.out.now;
+    } in
+    elim (c.in-Err.ensures.ends out refl) [
+      | inl refused ↦ inl refused
+      | inr unstarted ↦ inr (inl unstarted)
     ]

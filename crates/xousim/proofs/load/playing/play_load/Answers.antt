@@ -1,4 +1,4 @@
-use Rattle.std.proofs.Common.{◌≡◌, ◌+◌, ◌++◌, ℕ, sym, ap, ◌∙◌, subst, arith}
+use Rattle.std.proofs.Common.{◌≡◌, ◌+◌, ◌++◌, ℕ, sym, ap, ◌∙◌, subst, arith, ◌*◌}
 use Rattle.event_text.specs.declared.event.Event.TheVariants.{Tick}
 use Rattle.machine_model.specs.State.Machine.{Machine}
 use Rattle.machine_model.specs.Stepping.Events.{nothing}
@@ -8,7 +8,9 @@ use Rattle.xk_kernel.specs.State.{machine_of}
 use Rattle.xousim.specs.Load.Events.{first_events, tick_at}
 use Rattle.xousim.specs.Load.Totals.{IsWithin, totals_of}
 use Rattle.xousim.proofs.KeptLemmas.{kept_after, kept_same}
-use Rattle.xousim.proofs.LoadHistoryLemmas.{events_none, few_ticks, history_more, tick_unmet}
+use Rattle.xousim.proofs.LoadHistoryLemmas.{events_none, few_ticks, history_more, load_full, tick_unmet}
+use Rattle.xousim.proofs.StandingLemmas.{room_stays, slots_stay}
+use Rattle.xousim.specs.Standing.{room_in}
 use Rattle.xousim.proofs.LoadPlayingLemmas.{event_counted}
 use Rattle.xousim.proofs.LoadTotalsLemmas.{within_start}
 use Rattle.xousim.proofs.load.playing.play_load.Goals as goal
@@ -34,6 +36,7 @@ play_tick-requires g c =
     record {
       sound = c.events.invariant.sound;
       usable = c.events.invariant.usable;
+      slots = slots_stay c.events.invariant.keeps c.requires.slots;
       room = omega (arith, few, c.tick_at.ensures, c.events.invariant.steps, c.requires.few);
       within = c.events.invariant.within;
     }
@@ -50,9 +53,9 @@ events-preserved g c =
     let more : history (first_events (i + 1)) DEFAULT_STEPS start ≡ behind before.records (behind tick.records (reached (nothing tick.machine))) =
     history_more i DEFAULT_STEPS start m c.events.invariant.unmet c.events.invariant.there over.0 in
     let to : machine_of g.W.SwapStore.held c.play_tick.new.kernel ≡ tick.machine =
-    c.play_tick.ensures.machine ∙ ap (λ (n : ℕ). (play (Tick n) DEFAULT_STEPS m).machine) c.tick_at.ensures in
+    c.in-Ok.ensures.machine ∙ ap (λ (n : ℕ). (play (Tick n) DEFAULT_STEPS m).machine) c.tick_at.ensures in
     let counted : c.play_tick.new.totals ≡ totals_of (before.records ++ tick.records) =
-    c.play_tick.ensures.counted before.records c.events.invariant.counted
+    c.in-Ok.ensures.counted before.records c.events.invariant.counted
     ∙ ap (λ (n : ℕ). totals_of (before.records ++ (play (Tick n) DEFAULT_STEPS m).records)) c.tick_at.ensures in
     let steps : (machine_of g.W.SwapStore.held c.play_tick.new.kernel).steps ≡ tick.machine.steps = ap (λ (x : Machine). x.steps) to in
     record {
@@ -60,8 +63,14 @@ events-preserved g c =
       there = ap (λ (h : History). h.machine) more ∙ sym to;
       counted = event_counted c.play_tick.new.totals before.records tick (history (first_events (i + 1)) DEFAULT_STEPS start) counted more;
       steps = omega (arith, steps, over.1, few, c.events.invariant.steps);
-      within = c.play_tick.ensures.within;
+      within = c.in-Ok.ensures.within;
       sound = c.play_tick.ensures.sound;
-      usable = c.play_tick.ensures.usable;
+      usable = c.in-Ok.ensures.usable;
       keeps = kept_after c.events.invariant.keeps c.play_tick.ensures.keeps;
     }
+
+pub returns-in_default-clause-full : goal.returns-in_default-clause-full
+returns-in_default-clause-full g c =
+    load_full (room_in c.args.kernel.now) (room_in c.events.kernel) c.events.i (1000 * c.args.clients) DEFAULT_STEPS c.tick_at.result
+    (machine_of g.W.SwapStore.held c.args.kernel.now) (machine_of g.W.SwapStore.held c.events.kernel) (omega arith) c.events.invariant.unmet c.events.invariant.there
+    (room_stays c.events.invariant.keeps) c.tick_at.ensures c.in_default.ensures.full

@@ -13,13 +13,19 @@ use Rattle.xk_kernel.specs.declared.kernel.Stepped.TheVariants.{Did, Idle}
 use Rattle.xk_kernel.proofs.Running.HistoryLemmas.{tick_zero, tick_idle, tick_steps}
 use Rattle.xk_kernel.proofs.Running.LimitLemmas.{step_steps, turn_steps}
 use Rattle.xousim.proofs.KeptLemmas.{kept_after, kept_same}
+use Rattle.xk_kernel.specs.HistoryMoments.{event_moments}
+use Rattle.xousim.specs.Outcome.Starts.{ComesFull}
+use Rattle.xousim.specs.Standing.{room_in}
+use Rattle.xousim.proofs.FullLemmas.{step_full, step_on_full}
+use Rattle.xousim.proofs.StandingLemmas.{no_slots_none_out, no_slots_trusted, room_stays, slots_stay, trusted_knows}
+use Rattle.xousim.proofs.StepLemmas.{full_where_near}
 use Rattle.xousim.proofs.LoadPlayingLemmas.{few_told, tick_on, tick_over, within_more, within_same}
 use Rattle.xousim.proofs.load.playing.play_tick.Goals as goal
 
 pub returns-in-Ok-Idle-clause-counted : goal.returns-in-Ok-Idle-clause-counted
 returns-in-Ok-Idle-clause-counted g c before is =
     let D : Stepped → Type 0 = λ s. DoesStep g.W.SwapStore.held c.steps.kernel c.step.new.self s in
-    let does : D Idle = subst D c.in-Ok-Idle.field-0-is c.in-Ok-Idle.ensures.does in
+    let does : D Idle = subst D c.in-Ok-Idle.field-0-is (c.in-Ok-Idle.ensures.does (trusted_knows c.step.ensures.keeps (no_slots_trusted g.W.SwapStore.is_honest g.W.SwapStore.held c.steps.kernel (slots_stay c.steps.invariant.keeps c.requires.slots)))) in
     let m : Machine = machine_of g.W.SwapStore.held c.steps.kernel in
     let so_far = c.steps.invariant.rest before is in
     tick_over c.steps.totals before so_far.0 (play (Tick (c.args.count - c.steps.done)) DEFAULT_STEPS m)
@@ -29,7 +35,7 @@ returns-in-Ok-Idle-clause-counted g c before is =
 pub returns-in-Ok-Idle-clause-machine : goal.returns-in-Ok-Idle-clause-machine
 returns-in-Ok-Idle-clause-machine g c =
     let D : Stepped → Type 0 = λ s. DoesStep g.W.SwapStore.held c.steps.kernel c.step.new.self s in
-    let does : D Idle = subst D c.in-Ok-Idle.field-0-is c.in-Ok-Idle.ensures.does in
+    let does : D Idle = subst D c.in-Ok-Idle.field-0-is (c.in-Ok-Idle.ensures.does (trusted_knows c.step.ensures.keeps (no_slots_trusted g.W.SwapStore.is_honest g.W.SwapStore.held c.steps.kernel (slots_stay c.steps.invariant.keeps c.requires.slots)))) in
     let m : Machine = machine_of g.W.SwapStore.held c.steps.kernel in
     c.end_turn.ensures.machine
     ∙ (ap turn does.1
@@ -39,7 +45,7 @@ returns-in-Ok-Idle-clause-machine g c =
 pub returns-in-Ok-Idle-clause-within : goal.returns-in-Ok-Idle-clause-within
 returns-in-Ok-Idle-clause-within g c =
     let D : Stepped → Type 0 = λ s. DoesStep g.W.SwapStore.held c.steps.kernel c.step.new.self s in
-    let does : D Idle = subst D c.in-Ok-Idle.field-0-is c.in-Ok-Idle.ensures.does in
+    let does : D Idle = subst D c.in-Ok-Idle.field-0-is (c.in-Ok-Idle.ensures.does (trusted_knows c.step.ensures.keeps (no_slots_trusted g.W.SwapStore.is_honest g.W.SwapStore.held c.steps.kernel (slots_stay c.steps.invariant.keeps c.requires.slots)))) in
     let m : Machine = machine_of g.W.SwapStore.held c.steps.kernel in
     within_same m.steps _ c.steps.totals c.steps.invariant.within
     (ap (λ (x : Machine). x.steps) c.end_turn.ensures.machine ∙ (turn_steps (machine_of g.W.SwapStore.held c.step.new.self) ∙ ap (λ (x : Machine). x.steps) does.1))
@@ -51,6 +57,9 @@ steps-init g c =
     record {
       rest = λ before is. (before, is, ap (λ (n : ℕ). before ++ (ticks n).records) all);
       machine = ap (λ (n : ℕ). (ticks n).machine) all;
+      full = (let m : Machine = machine_of g.W.SwapStore.held c.args.kernel.now in
+      let F : ℕ → Type 0 = λ n. ComesFull (room_in c.args.kernel.now) m (event_moments (Tick n) DEFAULT_STEPS m) in
+      λ full. subst F all full);
       steps = omega arith;
       within = c.requires.within;
       sound = c.requires.sound;
@@ -61,7 +70,7 @@ steps-init g c =
 pub count_all-requires : goal.count_all-requires
 count_all-requires g c =
     let D : Stepped → Type 0 = λ s. DoesStep g.W.SwapStore.held c.steps.kernel c.step.new.self s in
-    let does : D Did = subst D c.in-Ok-Did.field-0-is c.in-Ok-Did.ensures.does in
+    let does : D Did = subst D c.in-Ok-Did.field-0-is (c.in-Ok-Did.ensures.does (trusted_knows c.step.ensures.keeps (no_slots_trusted g.W.SwapStore.is_honest g.W.SwapStore.held c.steps.kernel (slots_stay c.steps.invariant.keeps c.requires.slots)))) in
     let few = few_told g.W.SwapStore.slot_count g.W.SwapStore.held (machine_of g.W.SwapStore.held c.steps.kernel) c.step.new.self c.last.result.now
     c.step.ensures.sound does.1.machine (c.last.ensures ∙ does.1.records) in
     record {
@@ -72,7 +81,7 @@ count_all-requires g c =
 pub steps-preserved : goal.steps-preserved
 steps-preserved g c =
     let D : Stepped → Type 0 = λ s. DoesStep g.W.SwapStore.held c.steps.kernel c.step.new.self s in
-    let does : D Did = subst D c.in-Ok-Did.field-0-is c.in-Ok-Did.ensures.does in
+    let does : D Did = subst D c.in-Ok-Did.field-0-is (c.in-Ok-Did.ensures.does (trusted_knows c.step.ensures.keeps (no_slots_trusted g.W.SwapStore.is_honest g.W.SwapStore.held c.steps.kernel (slots_stay c.steps.invariant.keeps c.requires.slots)))) in
     let m : Machine = machine_of g.W.SwapStore.held c.steps.kernel in
     let count : ℕ = c.args.count - c.steps.done in
     let left : ℕ = c.args.count - (c.steps.done + 1) in
@@ -96,6 +105,11 @@ steps-preserved g c =
                 (play (Tick c.args.count) DEFAULT_STEPS (machine_of g.W.SwapStore.held c.args.kernel.now)) so_far.2 there,
           );
       machine = sym (ap (λ (h : History). h.machine) there) ∙ c.steps.invariant.machine;
+      full = λ full.
+          let F : ℕ → Type 0 = λ n. ComesFull (room_in c.step.new.self) (machine_of g.W.SwapStore.held c.step.new.self) (event_moments (Tick n) DEFAULT_STEPS (machine_of g.W.SwapStore.held c.step.new.self)) in
+          c.steps.invariant.full
+          (step_on_full (room_in c.steps.kernel) (room_in c.step.new.self) count DEFAULT_STEPS m (machine_of g.W.SwapStore.held c.step.new.self) (omega arith) does.0 more
+          (room_stays c.step.ensures.keeps) does.1.machine (subst F (sym fewer) full));
       steps = omega (arith, steps, c.steps.invariant.steps);
       within = within_more m.steps _ (length c.last.result.now) c.steps.totals c.count_all.new.self c.steps.invariant.within steps few
           c.count_all.ensures.sends c.count_all.ensures.gone;
@@ -126,3 +140,12 @@ returns-clause-within g c =
     let m : Machine = machine_of g.W.SwapStore.held c.steps.kernel in
     within_same m.steps _ c.steps.totals c.steps.invariant.within
     (ap (λ (x : Machine). x.steps) c.end_turn-2.ensures.machine ∙ turn_steps m)
+
+pub returns-in-Err-clause-full : goal.returns-in-Err-clause-full
+returns-in-Err-clause-full g c =
+    let m : Machine = machine_of g.W.SwapStore.held c.steps.kernel in
+    let more : m.steps ≢ DEFAULT_STEPS = λ e. absurd (omega (arith, e, c.steps.invariant.steps, c.requires.room)) in
+    let near = no_slots_none_out c.steps.kernel.mem (slots_stay c.steps.invariant.keeps c.requires.slots) in
+    c.steps.invariant.full
+    (step_full (room_in c.steps.kernel) (c.args.count - c.steps.done) DEFAULT_STEPS m (omega arith) c.in-Err.ensures.there more
+    (full_where_near g.W.SwapStore.held c.steps.kernel c.in-Err.ensures.full near))

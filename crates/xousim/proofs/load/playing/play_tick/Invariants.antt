@@ -2,10 +2,14 @@ use Rattle.std.proofs.Common.{◌≡◌, ◌≤◌, ◌+◌, ◌-◌, ◌++◌, 
 use Rattle.event_text.specs.declared.event.Event.TheVariants.{Tick}
 use Rattle.xk_base.specs.declared.limits.TheConstants.{DEFAULT_STEPS}
 use Rattle.xk_base.specs.declared.records.Rec.{Rec}
+use Rattle.vm_memory.specs.Memory.{store_of}
 use Rattle.xk_kernel.specs.History.{play}
+use Rattle.xk_kernel.specs.HistoryMoments.{event_moments}
 use Rattle.xk_kernel.specs.Sound.{IsSound, IsUsable, Keeps}
 use Rattle.xk_kernel.specs.State.{machine_of}
 use Rattle.xousim.specs.Load.Totals.{IsWithin, totals_of}
+use Rattle.xousim.specs.Outcome.Starts.{ComesFull}
+use Rattle.xousim.specs.Standing.{room_in}
 use Rattle.xousim.proofs.load.playing.play_tick.Given as goal
 
 -- What was counted, with what is left of the tick, is the whole.
@@ -17,6 +21,8 @@ invariant-steps g l = record {
       ≡ before ++ (play (Tick l.count) DEFAULT_STEPS (machine_of g.W.SwapStore.held l.fn.kernel)).records);
   machine : (play (Tick (l.count - l.done)) DEFAULT_STEPS (machine_of g.W.SwapStore.held l.kernel)).machine
       ≡ (play (Tick l.count) DEFAULT_STEPS (machine_of g.W.SwapStore.held l.fn.kernel)).machine;
+  full : ComesFull (room_in l.kernel) (machine_of g.W.SwapStore.held l.kernel) (event_moments (Tick (l.count - l.done)) DEFAULT_STEPS (machine_of g.W.SwapStore.held l.kernel))
+      → ComesFull (room_in l.fn.kernel) (machine_of g.W.SwapStore.held l.fn.kernel) (event_moments (Tick l.count) DEFAULT_STEPS (machine_of g.W.SwapStore.held l.fn.kernel));
   steps : (machine_of g.W.SwapStore.held l.kernel).steps ≤ (machine_of g.W.SwapStore.held l.fn.kernel).steps + l.done;
   within : IsWithin (machine_of g.W.SwapStore.held l.kernel).steps l.totals;
   sound : IsSound g.W.SwapStore.slot_count g.W.SwapStore.held l.kernel;
