@@ -1,12 +1,18 @@
 -- A run that starts: its store is prepared, and its plan is booted.
-use Rattle.std.proofs.Common.{◌≡◌, ◌<◌, ◌≤◌, ◌⊎◌, ◌∙◌, inl, inr, ℕ, Bool, true, false, nat_lt, List, [], ◌∷◌, length, Option, Result, Ok, Err, IfOk, IfErr, refl, sym, ap, subst, arith}
+use Rattle.std.proofs.Common.{◌≡◌, ◌<◌, ◌≤◌, ◌⊎◌, ◌∙◌, inl, inr, ℕ, Bool, true, false, nat_lt, List, [], ◌∷◌, length, Option, None, Result, Ok, Err, IfOk, IfErr, refl, sym, ap, subst, arith}
 use Rattle.std.proofs.lemmas.Bool.Decides.{nat_tests}
 use Rattle.boot_plan.specs.Capacity.{page_frames}
 use Rattle.boot_plan.specs.FirstPages.{plan_of, planned_pages}
 use Rattle.boot_plan.specs.Lawful.{IsLawfulPlan}
 use Rattle.kernel_args.specs.declared.args.Args.{Args}
 use Rattle.xousim.specs.Outcome.Images.{Image, IsSoundImage}
-use Rattle.xousim.specs.Outcome.Sides.{Told}
+use Rattle.xousim.specs.Outcome.Demo.{TellsDemo}
+use Rattle.xousim.specs.Outcome.Sides.{SinkSide, StoreSide, Told}
+use Rattle.xousim.specs.Load.Events.{load_history, load_machine, load_plan}
+use Rattle.xousim.specs.Load.Image.{load_image}
+use Rattle.xousim.specs.Load.Totals.{demo_line, totals_of}
+use Rattle.xousim.specs.declared.status.Status.{Status}
+use Rattle.xousim.specs.declared.status.Status.TheVariants.{Done, WriteFault}
 use Rattle.xousim.specs.Reading.{IsFile}
 use Rattle.boot_plan.specs.declared.plans.BootPlan.{BootPlan}
 use Rattle.machine_model.specs.State.Machine.{Machine}
@@ -20,9 +26,9 @@ use Rattle.xk_kernel.specs.State.{machine_of}
 use Rattle.xk_kernel.specs.declared.kernel.Kernel.{Kernel}
 use Rattle.xk_kernel.proofs.Starting.StartPageLemmas.{start_pages}
 use Rattle.xk_ports.specs.Store.{StoreAsked}
-use Rattle.xk_ports.specs.Told.{Grows}
+use Rattle.xk_ports.specs.Told.{Grows, GrowsByPrefix}
 use Rattle.xousim.specs.Gathering.{Text}
-use Rattle.xousim.specs.Outcome.Starts.{IsFull, Room, room_of}
+use Rattle.xousim.specs.Outcome.Starts.{IsFull, Room, Stops, room_of}
 use Rattle.xousim.specs.Standing.{Begins, room_in, stand}
 use Rattle.xousim.proofs.StandingLemmas.{near_means, trusted_means}
 
@@ -93,3 +99,33 @@ image_of file name bytes read asked args plan is_file sound planned same = recor
     start = ap (λ (p : BootPlan). start p read) planned ∙ ap (λ (l : List ℕ). start (plan_of args asked) l) same;
   };
 }
+
+pub both_ok : {T E : Type 0} (r : Result T E) (A B Q : T → Type 0) → ((x : T) → A x → B x → Q x) → IfOk r A → IfOk r B → IfOk r Q
+both_ok (Ok x) A B Q f a b = f x a b
+both_ok (Err e) A B Q f a b = tt
+
+-- ---- the load of `demo`
+
+pub load_starts : (clients : ℕ) (plan : BootPlan) (bytes : List ℕ) → plan ≡ load_plan clients → bytes ≡ load_image clients → start plan bytes ≡ load_machine clients
+load_starts clients plan bytes planned same =
+    ap (λ (p : BootPlan). start p bytes) planned ∙ ap (λ (l : List ℕ). start (load_plan clients) l) same
+
+pub load_stops : (one other : Machine) (first second : BootPlan) (store : StoreSide) (status : Status) → one ≡ other → first ≡ second → Stops first None one store status
+    → Stops second None other store status
+load_stops one other first second store status there same stopped =
+    let M : Machine → Type 0 = λ m. Stops first None m store status in
+    let P : BootPlan → Type 0 = λ p. Stops p None other store status in
+    subst P same (subst M there stopped)
+
+-- what was written of a load that was played
+pub load_told : (clients : ℕ) (out : SinkSide) (store : StoreSide) (line : List ℕ) (status : Status) → line ≡ demo_line clients (totals_of (load_history clients).records)
+    → (status ≡ Done) ⊎ (status ≡ WriteFault) → (status ≡ Done → Grows out.written out.written_after line)
+    → (status ≡ WriteFault → GrowsByPrefix out.written out.written_after line) → TellsDemo clients out store status
+load_told clients out store line status is (inl done) whole front =
+    let S : Status → Type 0 = λ s. TellsDemo clients out store s in
+    let G : List ℕ → Type 0 = λ l. Grows out.written out.written_after l in
+    subst S (sym done) (subst G is (whole done))
+load_told clients out store line status is (inr failed) whole front =
+    let S : Status → Type 0 = λ s. TellsDemo clients out store s in
+    let G : List ℕ → Type 0 = λ l. GrowsByPrefix out.written out.written_after l in
+    subst S (sym failed) (subst G is (front failed))

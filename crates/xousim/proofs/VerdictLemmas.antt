@@ -25,6 +25,7 @@ use Rattle.xousim.specs.Outcome.Sides.{Call, HostRose, IsTrusted, IsUnwritten, O
 use Rattle.xousim.specs.Outcome.Starts.{Room, Stops}
 use Rattle.xousim.specs.Outcome.Verdicts.{IsCheckComplete, IsCheckVerdict, IsCommandComplete, IsComplete, IsConvertComplete, IsConvertVerdict, IsPlayComplete, IsTrustedPlay, IsVerdict, IsVerdictOr, RunsTo}
 use Rattle.boot_plan.specs.declared.plans.BootPlan.{BootPlan}
+use Rattle.xousim.specs.Load.Events.{load_machine, load_plan}
 use Rattle.xousim.specs.Reading.{IsFile}
 use Rattle.xousim.specs.Words.{Check, Command, Plays, Checks, Converts, Demo, Play}
 
@@ -257,7 +258,7 @@ demo_told clients call (StepLimit limit) calm still cause content = absurd conte
 
 demo_complete : (clients : ℕ) (call : Call) → (¬ OutRose call) → (¬ StoreRose call.store) → (call.status ≡ WriteFault → OutRose call)
     → Demonstrates clients call.out call.store call.status → (call.status ≡ Done) ⊎ ((call.status ≡ NoMemory) × IsUnwritten call)
-demo_complete clients call calm still cause (inl unstarted) = demo_unstarted clients call _ _ _ call.status still unstarted.stopped unstarted.unwritten
+demo_complete clients call calm still cause (inl unstarted) = demo_unstarted clients call (load_plan clients) None (load_machine clients) call.status still unstarted.stopped unstarted.unwritten
 demo_complete clients call calm still cause (inr played) = demo_told clients call call.status calm still cause played.content
 
 command_complete : (command : Command) (call : Call) → EndsCommand command call → (¬ HostRose call) → (¬ OutRose call) → (¬ StoreRose call.store) → IsCommandComplete command call

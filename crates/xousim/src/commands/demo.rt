@@ -28,17 +28,24 @@ use xk_base::{NoMemory, Row};
 use xk_kernel::{Kernel, SwapFault};
 use xk_ports::{Sink, SwapStore, put_all};
 
-/// The image of the load of so many clients, and its plan.
-fn plan_load(alloc: Global, clients: u32) -> Result<(Row<u8>, BootPlan), NoMemory>
+/// The image of a load, and its plan.
+#[derive(Debug, Drop)]
+struct PlannedLoad {
+    image: Row<u8>,
+    plan: BootPlan,
+}
+
+/// Makes the image of the load of so many clients, and plans it.
+fn plan_load(alloc: Global, clients: u32) -> Result<PlannedLoad, NoMemory>
     requires { clients ≤ 31 }
-    ensures image { IfOk result (λ load. load.0 ≡ load_image clients) }
-    ensures planned { IfOk result (λ load. load.1 ≡ load_plan clients) }
-    ensures lawful { IfOk result (λ load. IsLawfulPlan (length load.0) load.1) }
-    ensures can_start { IfOk result (λ load. All CanStart load.1.procs) }
+    ensures image { IfOk result (λ load. load.image ≡ load_image clients) }
+    ensures planned { IfOk result (λ load. load.plan ≡ load_plan clients) }
+    ensures lawful { IfOk result (λ load. IsLawfulPlan (length load.image) load.plan) }
+    ensures can_start { IfOk result (λ load. All CanStart load.plan.procs) }
 {
     let (args, image) = load_image(alloc, clients)?;
     match plan(alloc, &args, image.as_slice(), None) {
-        Ok(plan) => Ok((image, plan)),
+        Ok(plan) => Ok(PlannedLoad { image, plan }),
         Err(PlanError::NoMemory) => Err(NoMemory),
         // The image of a load has no fault.
         Err(PlanError::Fault(_)) => unreachable!(),
@@ -51,6 +58,7 @@ fn boot_load<W: SwapStore>(alloc: Global, clients: u32, store: W) -> Result<Kern
     ensures booted { IfOk result (λ kernel. machine_of W.held kernel ≡ load_machine clients) }
     ensures sound { IfOk result (λ kernel. IsSound W.slot_count W.held kernel) }
     ensures usable { IfOk result (λ kernel. IsUsable kernel) }
+    ensures steps { IfOk result (λ kernel. (machine_of W.held kernel).steps ≡ 0) }
     ensures slots { IfOk result (λ kernel. (size kernel.mem).slots ≡ 0) }
     ensures room { IfOk result (λ kernel. room_in kernel ≡ room_of (load_plan clients)) }
     ensures prepared { IfOk result (λ kernel. let side = store_side W.is_honest W.held W.asked W.faults store (store_of kernel.mem) in
@@ -61,7 +69,7 @@ fn boot_load<W: SwapStore>(alloc: Global, clients: u32, store: W) -> Result<Kern
     ensures back { IfErr result (λ ended. W.faults store ≤ W.faults ended.store) }
 {
     match plan_load(alloc, clients) {
-        Ok((image, plan)) => start_run(alloc, &plan, image.as_slice(), None, store),
+        Ok(load) => start_run(alloc, &load.plan, load.image.as_slice(), None, store),
         Err(NoMemory) => Err(Ended {
             status: Status::NoMemory,
             store,
@@ -100,17 +108,21 @@ pub fn play_demo<K: Sink, W: SwapStore>(
     ensures store { W.faults store ≤ W.faults result.store }
     ensures never_falls { K.faults out.old ≤ K.faults out.new }
 {
-    match boot_load(alloc, demo.clients, store) {
-        Ok(mut kernel) => {
-            let status = match play_load(&mut kernel, demo.clients) {
-                Ok(totals) => write_totals(demo.clients, totals, out),
-                Err(SwapFault) => Status::SwapFault,
-            };
+    let mut kernel = match boot_load(alloc, demo.clients, store) {
+        Ok(kernel) => kernel,
+        Err(ended) => return ended,
+    };
+    match play_load(&mut kernel, demo.clients) {
+        Ok(totals) => {
+            let status = write_totals(demo.clients, totals, out);
             Ended {
                 status,
                 store: kernel.close(),
             }
         }
-        Err(ended) => ended,
+        Err(SwapFault) => Ended {
+            status: Status::SwapFault,
+            store: kernel.close(),
+        },
     }
 }

@@ -1,0 +1,38 @@
+use Rattle.std.proofs.Common.{◌≡◌, ◌∙◌, ap, subst, ℕ, List, Option, None}
+use Rattle.boot_plan.specs.declared.plans.BootPlan.{BootPlan}
+use Rattle.vm_memory.specs.Memory.{size}
+use Rattle.xk_kernel.specs.Start.{start}
+use Rattle.xousim.specs.Gathering.{Text, put}
+use Rattle.xousim.specs.Load.Events.{load_machine, load_plan}
+use Rattle.xousim.specs.Load.Image.{load_image}
+use Rattle.xousim.specs.Outcome.Sides.{store_side}
+use Rattle.xousim.specs.Outcome.Starts.{Stops}
+use Rattle.xousim.specs.Standing.{Begins, stand}
+use Rattle.xousim.proofs.StandingLemmas.{no_slots_trusted}
+use Rattle.xousim.proofs.StartingLemmas.{both_ok, if_err, load_starts, load_stops}
+use Rattle.xousim.proofs.commands.demo.boot_load.Goals as goal
+
+pub returns-in-Ok-clause-booted : goal.returns-in-Ok-clause-booted
+returns-in-Ok-clause-booted g c =
+    let load = c.in-Ok.load in
+    let bytes : List ℕ = c.as_slice.result.now in
+    both_ok c.start_run.result
+    (λ k. (text : Text) → Begins (start load.plan bytes) (stand g.W.SwapStore.is_honest g.W.SwapStore.held k text))
+    (λ k. (size k.mem).slots ≡ load.plan.slots)
+    _
+    (λ k begins slots.
+    (begins (put None)).trusted (no_slots_trusted g.W.SwapStore.is_honest g.W.SwapStore.held k (slots ∙ ap (λ (p : BootPlan). p.slots) c.in-Ok.ensures.planned))
+    ∙ load_starts c.args.clients load.plan bytes c.in-Ok.ensures.planned (c.as_slice.ensures ∙ c.in-Ok.ensures.image))
+    c.start_run.ensures.begins c.start_run.ensures.slots
+
+pub returns-in-Ok-clause-stopped : goal.returns-in-Ok-clause-stopped
+returns-in-Ok-clause-stopped g c =
+    let load = c.in-Ok.load in
+    let bytes : List ℕ = c.as_slice.result.now in
+    let there = load_starts c.args.clients load.plan bytes c.in-Ok.ensures.planned (c.as_slice.ensures ∙ c.in-Ok.ensures.image) in
+    if_err c.start_run.result
+    (λ e. Stops load.plan None (start load.plan bytes) (store_side g.W.SwapStore.is_honest g.W.SwapStore.held g.W.SwapStore.asked g.W.SwapStore.faults c.args.store e.store) e.status)
+    _
+    (λ e stopped. load_stops (start load.plan bytes) (load_machine c.args.clients) load.plan (load_plan c.args.clients)
+    (store_side g.W.SwapStore.is_honest g.W.SwapStore.held g.W.SwapStore.asked g.W.SwapStore.faults c.args.store e.store) e.status there c.in-Ok.ensures.planned stopped)
+    c.start_run.ensures.stopped
