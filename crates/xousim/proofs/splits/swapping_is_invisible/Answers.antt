@@ -1,5 +1,5 @@
 -- How a capacity is split isn't seen.
-use Rattle.xousim.proofs.SplitLemmas.{splits_boot_alike, splits_play_alike, splits_tell_alike}
+use Rattle.xousim.proofs.Splitting.SplitLemmas.{splits_boot_alike, splits_play_alike, splits_tell_alike}
 use Rattle.xousim.proofs.splits.swapping_is_invisible.Goals as goal
 
 pub returns-clause-boots : goal.returns-clause-boots

@@ -3,7 +3,6 @@ use Rattle.std.proofs.Common.{◌≡◌, ◌⊎◌, inl, inr, ℕ, true, Ok, Err
 use Rattle.event_text.specs.declared.event.Event.{Event}
 use Rattle.event_text.specs.declared.event.Event.TheVariants.{Pick, Irq, Kill}
 use Rattle.machine_model.specs.State.Machine.{Machine}
-
 use Rattle.xk_base.specs.declared.ids.Pid.{Pid}
 use Rattle.xk_base.specs.declared.ids.Tid.{Tid}
 use Rattle.xk_kernel.specs.History as kernel
@@ -16,7 +15,7 @@ use Rattle.xousim.specs.History.{with_ending}
 use Rattle.xousim.specs.Playing.{Comes, Plays}
 use Rattle.xousim.specs.Standing.{Stand}
 use Rattle.xousim.specs.Telling.{told}
-use Rattle.xousim.proofs.HistoryLemmas.{gathered_same, part_same, play_other}
+use Rattle.xousim.proofs.Playing.HistoryLemmas.{gathered_same, part_same, play_other}
 
 abbrev pub IsOther : Event → Type 0
 IsOther event = ((pid : Pid) × (tid : Tid) × (event ≡ Pick pid tid)) ⊎ (((k : ℕ) × (event ≡ Irq k)) ⊎ ((pid : Pid) × (event ≡ Kill pid)))
@@ -28,6 +27,7 @@ plays_once tells event limit old new other there stays gathered = record { trust
   where
     is : kernel.play event limit old.machine ≡ kernel.reached (event_done event old.machine)
     is = play_other event limit old.machine other
+
     comes : Comes tells event limit old new (Ok Played)
     comes = (
       gathered_same tells old.text new.text _ _ Played (ap (with_ending Played) is) (refl, gathered),

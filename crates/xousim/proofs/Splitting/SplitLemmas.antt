@@ -30,8 +30,8 @@ use Rattle.xousim.specs.Outcome.Images.{Boots, IsSoundImage}
 use Rattle.xousim.specs.Outcome.Plays.{run_of}
 use Rattle.xousim.specs.Splits.{Setup, DifferInRam, HasCapacity, SplitOneCapacity, says_ram}
 use Rattle.xousim.specs.Telling.{output}
-use Rattle.xousim.proofs.MatchedLemmas.{no_plan_fault}
-use Rattle.xousim.proofs.MovedStartLemmas.{StandsMoved, processes_moved, room_of, shown, start_shown, started}
+use Rattle.xousim.proofs.Images.MatchedLemmas.{no_plan_fault}
+use Rattle.xousim.proofs.Images.MovedStartLemmas.{StandsMoved, processes_moved, room_of, shown, start_shown, started}
 
 -- ---- bytes
 

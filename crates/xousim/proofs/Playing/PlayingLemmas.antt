@@ -33,11 +33,11 @@ use Rattle.xousim.specs.Standing.{Begins, Stand}
 use Rattle.xousim.specs.Gathering.{Gathered, GatheredPart, Gathers, GathersPart, GathersSome, Text, put, text}
 use Rattle.xousim.specs.Writing.{Wrote}
 use Rattle.xk_kernel.proofs.Running.HistoryLemmas.{history_first, history_none}
-use Rattle.xousim.proofs.FullLemmas.{events_full_front, events_full_later, first_event_full, full_start}
-use Rattle.xousim.proofs.GatheringLemmas.{all_put, gathers_none, gathers_put, gathers_unput, part_longer}
-use Rattle.xousim.proofs.ToldLemmas.{front_longer}
-use Rattle.xousim.proofs.HistoryLemmas.{behind, gathered_behind, gathered_nothing, gathered_same, history_after, history_one, history_stops, met_ends, met_steps, other_met, part_behind, part_followed, part_same, played_unmet, unmet_ends}
-use Rattle.xousim.proofs.StepLimitLemmas.{history_same, met_records_first, play_grows}
+use Rattle.xousim.proofs.Playing.FullLemmas.{events_full_front, events_full_later, first_event_full, full_start}
+use Rattle.xousim.proofs.Playing.GatheringLemmas.{all_put, gathers_none, gathers_put, gathers_unput, part_longer}
+use Rattle.xousim.proofs.Playing.ToldLemmas.{front_longer}
+use Rattle.xousim.proofs.Playing.HistoryLemmas.{behind, gathered_behind, gathered_nothing, gathered_same, history_after, history_one, history_stops, met_ends, met_steps, other_met, part_behind, part_followed, part_same, played_unmet, unmet_ends}
+use Rattle.xousim.proofs.Playing.StepLimitLemmas.{history_same, met_records_first, play_grows}
 
 -- ---- the start
 
@@ -70,12 +70,15 @@ played_none tells limit start now begins = record {
   where
     run : Run
     run = run_from tells limit start now.text
+
     is : history (play_of []).answered limit start ≡ kernel.reached (nothing start)
     is = ap (λ (events : List Event). history events limit start) new_answered ∙ history_none limit start
+
     follows : now.machine ≡ start → Follows run (play_of []).answered now
     follows there =
         let all = start_with tells start now.text (history (play_of []).answered limit start) is in
         record { unmet = all.0; there = all.1 ∙ sym there; gathered = all.2 }
+
     go : ((now.near ≡ true) × (now.machine ≡ start)) ⊎ IsFull now.room start
         → ((now.near ≡ true) × Follows run (play_of []).answered now) ⊎ ComesFull now.room start (moments_of (play_of []).answered limit start)
     go (inl both) = inl (both.0, follows both.1)
@@ -199,11 +202,13 @@ reaches_more run mid next answered event trust room plays reaches = record {
   where
     moments : List Moment
     moments = moments_of (answered ++ event ∷ []) run.limit run.start
+
     played : Follows run answered mid
         → ((next.near ≡ true) × Comes run.tells event run.limit mid next (Ok Played)) ⊎ ComesFull mid.room mid.machine (event_moments event run.limit mid.machine)
         → ((next.near ≡ true) × Follows run (answered ++ event ∷ []) next) ⊎ ComesFull next.room run.start (moments_of (answered ++ event ∷ []) run.limit run.start)
     played follows (inl both) = inl (both.0, follows_more run mid next answered event follows both.1)
     played follows (inr full) = inr (same_room mid.room next.room run.start _ room (event_full run mid answered event [] follows full))
+
     go : ((mid.near ≡ true) × Follows run answered mid) ⊎ ComesFull mid.room run.start (moments_of answered run.limit run.start)
         → ((next.near ≡ true) × Follows run (answered ++ event ∷ []) next) ⊎ ComesFull next.room run.start (moments_of (answered ++ event ∷ []) run.limit run.start)
     go (inl both) = played both.1 (plays.near both.0)
@@ -376,6 +381,7 @@ fails_swapped run mid next taken r event found trust room plays p = λ more may.
         (whole_at run mid taken r more done may p follows within ∙ ap (behind A.records) is)
         (gathered_behind run.tells run.begun mid.text next.text A.records (with_ending Played played) LimitMet follows.gathered (comes.met, comes.gathered)) in
         record { done = done; within = comes.within; met = wrote.0; gathered = wrote.1 }
+
     full : (more : List ℕ) → (r.finished ≡ true → more ≡ []) → ComesFull next.room run.start (moments_of (input_of (taken ++ more)).events run.limit run.start)
     full more may =
         let rest : Input = left_of (after_next r) more in
@@ -391,6 +397,7 @@ fails_swapped run mid next taken r event found trust room plays p = λ more may.
             → ComesFull mid.room run.start (moments_of ((play_of p.calls).answered ++ event ∷ events) run.limit run.start)
         swapped events follows (inl none) = absurd none.0
         swapped events follows (inr crowd) = event_full run mid (play_of p.calls).answered event events follows crowd
+
         go : ((mid.near ≡ true) × Follows run (play_of p.calls).answered mid) ⊎ ComesFull mid.room run.start (moments_of (play_of p.calls).answered run.limit run.start)
             → (events : List Event) → ComesFull mid.room run.start (moments_of ((play_of p.calls).answered ++ event ∷ events) run.limit run.start)
         go (inl both) events = swapped events both.1 (plays.near both.0)
@@ -465,6 +472,7 @@ put_reached run events now after grown reaches = record { trusted = λ trusted. 
   where
     follows : Follows run events now → Follows run events (with_text now (put after))
     follows f = record { unmet = f.unmet; there = f.there; gathered = gathers_put run.begun now.text.out after now.text.held _ f.gathered grown }
+
     go : ((now.near ≡ true) × Follows run events now) ⊎ ComesFull now.room run.start (moments_of events run.limit run.start)
         → ((now.near ≡ true) × Follows run events (with_text now (put after))) ⊎ ComesFull now.room run.start (moments_of events run.limit run.start)
     go (inl both) = inl (both.0, follows both.1)

@@ -20,9 +20,9 @@ use Rattle.machine_model.specs.State.Machine.{Machine}
 use Rattle.xk_base.specs.declared.limits.TheConstants.{IMAGE_LIMIT}
 use Rattle.xk_kernel.specs.Start.{start}
 use Rattle.xousim.specs.Outcome.Images.{Boots, IsSoundImage}
-use Rattle.xousim.proofs.ConvertLemmas.{convertible}
-use Rattle.xousim.proofs.MatchedLemmas.{Cases, no_plan_fault}
-use Rattle.xousim.proofs.MovedStartLemmas.{moved_start}
+use Rattle.xousim.proofs.Images.ConvertLemmas.{convertible}
+use Rattle.xousim.proofs.Images.MatchedLemmas.{Cases, no_plan_fault}
+use Rattle.xousim.proofs.Images.MovedStartLemmas.{moved_start}
 
 -- ---- the image is moved
 

@@ -14,7 +14,7 @@ use Rattle.xousim.specs.Outcome.Convert.{EndsConvert, Writes, conversion}
 use Rattle.xousim.specs.Outcome.Images.{IsSoundImage}
 use Rattle.xousim.specs.Outcome.Sides.{Call, OutRose}
 use Rattle.xousim.specs.Reading.{Asked, IsFile, IsTold}
-use Rattle.xousim.proofs.MatchedLemmas.{no_plan_fault}
+use Rattle.xousim.proofs.Images.MatchedLemmas.{no_plan_fault}
 
 -- an image of another version stays as it is
 pub kept : (image : List ℕ) (args : Args) → args.version ≢ 1 → image ≡ conversion image args

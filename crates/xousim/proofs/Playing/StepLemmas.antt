@@ -18,8 +18,8 @@ use Rattle.xousim.specs.Gathering.{Gathers, GathersPart, Text}
 use Rattle.xousim.specs.Outcome.Starts.{IsFull}
 use Rattle.xousim.specs.Standing.{room_in, stand}
 use Rattle.xousim.specs.Telling.{told}
-use Rattle.xousim.proofs.StandingLemmas.{near_knows, room_stays, trust_stays, trusted_knows}
-use Rattle.xousim.proofs.TickLemmas.{DoesOne, FailsOne, StepsTo}
+use Rattle.xousim.proofs.Playing.StandingLemmas.{near_knows, room_stays, trust_stays, trusted_knows}
+use Rattle.xousim.proofs.Playing.TickLemmas.{DoesOne, FailsOne, StepsTo}
 
 -- where no page is out before, none is out after, or the state after the step has more pages than there are frames for
 pub near_or_full : {W : Type 0} (held : W → Held) (old new : Kernel W) (P : Type 0) → (none_out new.mem ≡ false → MayExchange held old) → none_out old.mem ≡ true
@@ -29,6 +29,7 @@ near_or_full held old new P out near known = go (none_out new.mem) refl
     crowd : MayExchange held old → ((none_out new.mem ≡ true) × P) ⊎ IsFull (room_in old) (step (machine_of held old)).machine
     crowd (inl is) = absurd (false≢true (sym is ∙ near))
     crowd (inr full) = inr full
+
     go : (b : Bool) → none_out new.mem ≡ b → ((none_out new.mem ≡ true) × P) ⊎ IsFull (room_in old) (step (machine_of held old)).machine
     go true is = inl (is, known is)
     go false is = crowd (out is)

@@ -23,7 +23,7 @@ use Rattle.xousim.specs.SplitCalls.{EndAlike, PlaysOn, is_cut_short}
 use Rattle.xousim.specs.Splits.{Setup, SplitOneCapacity}
 use Rattle.xousim.specs.Telling.{output}
 use Rattle.xousim.specs.Words.{Play}
-use Rattle.xousim.proofs.SplitLemmas.{splits_play_alike}
+use Rattle.xousim.proofs.Splitting.SplitLemmas.{splits_play_alike}
 
 -- the status of a history that ends so
 abbrev status_of : ℕ → Ending → Status

@@ -21,10 +21,10 @@ use Rattle.xousim.specs.Outcome.Starts.{ComesFull, IsFull, Room}
 use Rattle.xousim.specs.Playing.{Comes, Plays, StaysNear}
 use Rattle.xousim.specs.Standing.{Stand}
 use Rattle.xousim.specs.Telling.{told}
-use Rattle.xousim.proofs.FullLemmas.{full_start, step_full, tick_full}
-use Rattle.xousim.proofs.GatheringLemmas.{gathers_none}
-use Rattle.xousim.proofs.HistoryLemmas.{gathered_behind, gathered_nothing, gathered_same, gathered_stopped, met_steps, part_behind, part_front, part_same}
-use Rattle.xousim.proofs.StepLimitLemmas.{play_grows}
+use Rattle.xousim.proofs.Playing.FullLemmas.{full_start, step_full, tick_full}
+use Rattle.xousim.proofs.Playing.GatheringLemmas.{gathers_none}
+use Rattle.xousim.proofs.Playing.HistoryLemmas.{gathered_behind, gathered_nothing, gathered_same, gathered_stopped, met_steps, part_behind, part_front, part_same}
+use Rattle.xousim.proofs.Playing.StepLimitLemmas.{play_grows}
 
 -- ---- a step
 
@@ -89,10 +89,12 @@ plays_later tells n limit old mid new result some one plays = record {
         let A : Machine → Type 0 = λ x. ComesFull mid.room x (event_moments (Tick (n - 1)) limit x) in
         let B : Room → Type 0 = λ r. ComesFull r (step old.machine).machine (event_moments (Tick (n - 1)) limit (step old.machine).machine) in
         tick_full old.room n limit old.machine some one.actor one.more (subst B one.room (subst A is later))
+
     rest : StepsTo tells old mid → (StaysNear new result × Comes tells (Tick (n - 1)) limit mid new result) ⊎ ComesFull mid.room mid.machine (event_moments (Tick (n - 1)) limit mid.machine)
         → (StaysNear new result × Comes tells (Tick n) limit old new result) ⊎ ComesFull old.room old.machine (event_moments (Tick n) limit old.machine)
     rest did (inl both) = inl (both.0, comes_later tells n limit old mid new result some one.actor one.more did both.1)
     rest did (inr later) = inr (full mid.machine did.machine later)
+
     go : ((mid.near ≡ true) × StepsTo tells old mid) ⊎ IsFull old.room (step old.machine).machine
         → (StaysNear new result × Comes tells (Tick n) limit old new result) ⊎ ComesFull old.room old.machine (event_moments (Tick n) limit old.machine)
     go (inl both) = rest both.1 (plays.near both.0)
