@@ -1,7 +1,7 @@
 pub mod Images
-pub mod Load
+pub mod Loading
 pub mod Outcome
 pub mod Output
-pub mod Outside
-pub mod Playing
+pub mod Reading
 pub mod Splitting
+pub mod Telling

@@ -30,7 +30,7 @@ use Rattle.xk_ports.specs.Told.{Grows, GrowsByPrefix}
 use Rattle.xousim.specs.Gathering.{Text}
 use Rattle.xousim.specs.Outcome.Starts.{IsFull, Room, Stops, room_of}
 use Rattle.xousim.specs.Standing.{Begins, room_in, stand}
-use Rattle.xousim.proofs.Playing.StandingLemmas.{near_means, trusted_means}
+use Rattle.xousim.proofs.Telling.StandingLemmas.{near_means, trusted_means}
 
 -- the start has more pages than there are frames for where its plan has
 pub start_full : (plan : BootPlan) (file : List ℕ) → IsLawfulPlan (length file) plan → page_frames plan.frames (length plan.procs) < planned_pages plan

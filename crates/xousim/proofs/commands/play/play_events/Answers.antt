@@ -16,8 +16,8 @@ use Rattle.xousim.specs.Playing.{Runs, run_from}
 use Rattle.xousim.specs.Reading.{Asked}
 use Rattle.xousim.specs.Standing.{room_in, stand}
 use Rattle.xousim.specs.Words.{Play, play_in}
-use Rattle.xousim.proofs.Outside.ReadingLemmas.{told_file, read_of_file}
-use Rattle.xousim.proofs.Playing.StandingLemmas.{room_stays, trusted_side}
+use Rattle.xousim.proofs.Reading.ReadingLemmas.{told_file, read_of_file}
+use Rattle.xousim.proofs.Telling.StandingLemmas.{room_stays, trusted_side}
 use Rattle.xousim.proofs.Outcome.TopLemmas.{finished_cause, finished_tells, full_on, part_of_whole, rose_after}
 use Rattle.xousim.proofs.commands.play.play_events.Goals as goal
 

@@ -16,10 +16,10 @@ use Rattle.xousim.proofs.Outcome.KeptLemmas.{kept_after, kept_same}
 use Rattle.xk_kernel.specs.HistoryMoments.{event_moments}
 use Rattle.xousim.specs.Outcome.Starts.{ComesFull}
 use Rattle.xousim.specs.Standing.{room_in}
-use Rattle.xousim.proofs.Playing.FullLemmas.{step_full, step_on_full}
-use Rattle.xousim.proofs.Playing.StandingLemmas.{no_slots_none_out, no_slots_trusted, room_stays, slots_stay, trusted_knows}
-use Rattle.xousim.proofs.Playing.StepLemmas.{full_where_near}
-use Rattle.xousim.proofs.Load.LoadPlayingLemmas.{few_told, tick_on, tick_over, within_more, within_same}
+use Rattle.xousim.proofs.Telling.FullLemmas.{step_full, step_on_full}
+use Rattle.xousim.proofs.Telling.StandingLemmas.{no_slots_none_out, no_slots_trusted, room_stays, slots_stay, trusted_knows}
+use Rattle.xousim.proofs.Telling.StepLemmas.{full_where_near}
+use Rattle.xousim.proofs.Loading.LoadPlayingLemmas.{few_told, tick_on, tick_over, within_more, within_same}
 use Rattle.xousim.proofs.load.playing.play_tick.Goals as goal
 
 pub returns-in-Ok-Idle-clause-counted : goal.returns-in-Ok-Idle-clause-counted

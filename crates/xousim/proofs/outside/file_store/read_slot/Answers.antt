@@ -1,5 +1,5 @@
 use Rattle.std.proofs.lemmas.Result.{on_ok_weaker}
-use Rattle.xousim.proofs.PageFileLemmas.{GivesPage-read}
+use Rattle.xousim.proofs.Reading.PageFileLemmas.{GivesPage-read}
 use Rattle.xousim.proofs.outside.file_store.read_slot.Goals as goal
 
 pub returns-clause-got : goal.returns-clause-got

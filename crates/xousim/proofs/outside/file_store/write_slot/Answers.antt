@@ -1,5 +1,5 @@
 use Rattle.std.proofs.lemmas.Result.{on_ok_weaker, on_err_weaker}
-use Rattle.xousim.proofs.PageFileLemmas.{slots_in-written_at, SpoilsSlot-written}
+use Rattle.xousim.proofs.Reading.PageFileLemmas.{slots_in-written_at, SpoilsSlot-written}
 use Rattle.xousim.proofs.outside.file_store.write_slot.Goals as goal
 
 pub returns-clause-put : goal.returns-clause-put

@@ -1,5 +1,5 @@
 use Rattle.xousim.specs.PageFile.{slots_in}
-use Rattle.xousim.proofs.PageFileLemmas.{HoldsZeros-more}
+use Rattle.xousim.proofs.Reading.PageFileLemmas.{HoldsZeros-more}
 use Rattle.xousim.proofs.outside.file_store.write_zeros.Goals as goal
 
 pub loop-slot-preserved : goal.loop-slot-preserved

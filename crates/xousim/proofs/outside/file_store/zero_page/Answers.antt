@@ -1,4 +1,4 @@
-use Rattle.xousim.proofs.PageFileLemmas.{IsZeroPage-replicate}
+use Rattle.xousim.proofs.Reading.PageFileLemmas.{IsZeroPage-replicate}
 use Rattle.xousim.proofs.outside.file_store.zero_page.Goals as goal
 
 pub returns : goal.returns

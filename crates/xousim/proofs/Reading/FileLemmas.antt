@@ -15,8 +15,8 @@ use Rattle.xousim.specs.History.{history_of}
 use Rattle.xousim.specs.Playing.{EndsSo, FailsSo, HasPlayed, Runs, run_from}
 use Rattle.xousim.specs.Reading.{IsTold}
 use Rattle.xousim.specs.Standing.{Stand}
-use Rattle.xousim.proofs.Playing.GatheringLemmas.{all_put, some_put}
-use Rattle.xousim.proofs.Playing.PlayingLemmas.{whole_lines_played, with_text}
+use Rattle.xousim.proofs.Telling.GatheringLemmas.{all_put, some_put}
+use Rattle.xousim.proofs.Telling.PlayingLemmas.{whole_lines_played, with_text}
 
 -- a run that begins where this stood on the sink, and stands where this does
 module _ (tells : Telling) (limit : ℕ) (start : Machine) (begun out left left_after : Option (List ℕ)) (now : Stand) (taken more : List ℕ) (f : Bool)

@@ -25,9 +25,9 @@ use Rattle.xk_base.specs.declared.limits.TheConstants.{DEFAULT_STEPS}
 use Rattle.xk_kernel.specs.Start.{start}
 use Rattle.xk_kernel.specs.HistoryMoments.{event_moments, moments_of}
 use Rattle.xousim.specs.Outcome.Starts.{ComesFull, Room}
-use Rattle.xousim.proofs.Playing.FullLemmas.{events_full_front, events_full_later, first_event_full}
+use Rattle.xousim.proofs.Telling.FullLemmas.{events_full_front, events_full_later, first_event_full}
 use Rattle.xousim.specs.Load.Events.{first_events, load_history, load_machine, tick_at}
-use Rattle.xousim.proofs.Playing.HistoryLemmas.{history_after, history_one}
+use Rattle.xousim.proofs.Telling.HistoryLemmas.{history_after, history_one}
 
 -- ---- a step tells little
 

@@ -19,7 +19,7 @@ use Rattle.xousim.specs.declared.playing.ending.Ending.{Ending}
 use Rattle.xousim.specs.declared.playing.ending.Ending.TheVariants.{Played, LimitMet}
 use Rattle.xousim.specs.History.{History, with_ending}
 use Rattle.xousim.specs.Gathering.{Gathered, GatheredPart, Gathers, GathersPart, Text}
-use Rattle.xousim.proofs.Playing.GatheringLemmas.{gathers_append, gathers_none, part_later, part_longer}
+use Rattle.xousim.proofs.Telling.GatheringLemmas.{gathers_append, gathers_none, part_later, part_longer}
 
 -- the same history after some records
 abbrev pub behind : List Rec → History → History

@@ -18,8 +18,8 @@ use Rattle.xousim.specs.Gathering.{Gathers, GathersPart, Text}
 use Rattle.xousim.specs.Outcome.Starts.{IsFull}
 use Rattle.xousim.specs.Standing.{room_in, stand}
 use Rattle.xousim.specs.Telling.{told}
-use Rattle.xousim.proofs.Playing.StandingLemmas.{near_knows, room_stays, trust_stays, trusted_knows}
-use Rattle.xousim.proofs.Playing.TickLemmas.{DoesOne, FailsOne, StepsTo}
+use Rattle.xousim.proofs.Telling.StandingLemmas.{near_knows, room_stays, trust_stays, trusted_knows}
+use Rattle.xousim.proofs.Telling.TickLemmas.{DoesOne, FailsOne, StepsTo}
 
 -- where no page is out before, none is out after, or the state after the step has more pages than there are frames for
 pub near_or_full : {W : Type 0} (held : W → Held) (old new : Kernel W) (P : Type 0) → (none_out new.mem ≡ false → MayExchange held old) → none_out old.mem ≡ true

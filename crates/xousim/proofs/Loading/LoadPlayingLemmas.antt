@@ -12,7 +12,7 @@ use Rattle.xk_kernel.specs.State.{machine_of}
 use Rattle.xk_kernel.specs.declared.kernel.Kernel.{Kernel}
 use Rattle.xousim.specs.Load.Totals.{IsWithin, step_records, totals_of}
 use Rattle.xousim.specs.declared.load.totals.Totals.{Totals}
-use Rattle.xousim.proofs.Load.LoadHistoryLemmas.{few_stepped}
+use Rattle.xousim.proofs.Loading.LoadHistoryLemmas.{few_stepped}
 
 -- no record is left of a tick
 pub tick_over : (totals : Totals) (before mid : List Rec) (rest whole : History) → totals ≡ totals_of mid → mid ++ rest.records ≡ before ++ whole.records

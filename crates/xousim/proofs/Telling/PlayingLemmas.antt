@@ -33,11 +33,11 @@ use Rattle.xousim.specs.Standing.{Begins, Stand}
 use Rattle.xousim.specs.Gathering.{Gathered, GatheredPart, Gathers, GathersPart, GathersSome, Text, put, text}
 use Rattle.xousim.specs.Writing.{Wrote}
 use Rattle.xk_kernel.proofs.Running.HistoryLemmas.{history_first, history_none}
-use Rattle.xousim.proofs.Playing.FullLemmas.{events_full_front, events_full_later, first_event_full, full_start}
-use Rattle.xousim.proofs.Playing.GatheringLemmas.{all_put, gathers_none, gathers_put, gathers_unput, part_longer}
-use Rattle.xousim.proofs.Playing.ToldLemmas.{front_longer}
-use Rattle.xousim.proofs.Playing.HistoryLemmas.{behind, gathered_behind, gathered_nothing, gathered_same, history_after, history_one, history_stops, met_ends, met_steps, other_met, part_behind, part_followed, part_same, played_unmet, unmet_ends}
-use Rattle.xousim.proofs.Playing.StepLimitLemmas.{history_same, met_records_first, play_grows}
+use Rattle.xousim.proofs.Telling.FullLemmas.{events_full_front, events_full_later, first_event_full, full_start}
+use Rattle.xousim.proofs.Telling.GatheringLemmas.{all_put, gathers_none, gathers_put, gathers_unput, part_longer}
+use Rattle.xousim.proofs.Telling.ToldLemmas.{front_longer}
+use Rattle.xousim.proofs.Telling.HistoryLemmas.{behind, gathered_behind, gathered_nothing, gathered_same, history_after, history_one, history_stops, met_ends, met_steps, other_met, part_behind, part_followed, part_same, played_unmet, unmet_ends}
+use Rattle.xousim.proofs.Telling.StepLimitLemmas.{history_same, met_records_first, play_grows}
 
 -- ---- the start
 

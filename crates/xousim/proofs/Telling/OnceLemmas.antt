@@ -15,7 +15,7 @@ use Rattle.xousim.specs.History.{with_ending}
 use Rattle.xousim.specs.Playing.{Comes, Plays}
 use Rattle.xousim.specs.Standing.{Stand}
 use Rattle.xousim.specs.Telling.{told}
-use Rattle.xousim.proofs.Playing.HistoryLemmas.{gathered_same, part_same, play_other}
+use Rattle.xousim.proofs.Telling.HistoryLemmas.{gathered_same, part_same, play_other}
 
 abbrev pub IsOther : Event → Type 0
 IsOther event = ((pid : Pid) × (tid : Tid) × (event ≡ Pick pid tid)) ⊎ (((k : ℕ) × (event ≡ Irq k)) ⊎ ((pid : Pid) × (event ≡ Kill pid)))

@@ -21,10 +21,10 @@ use Rattle.xousim.specs.Outcome.Starts.{ComesFull, IsFull, Room}
 use Rattle.xousim.specs.Playing.{Comes, Plays, StaysNear}
 use Rattle.xousim.specs.Standing.{Stand}
 use Rattle.xousim.specs.Telling.{told}
-use Rattle.xousim.proofs.Playing.FullLemmas.{full_start, step_full, tick_full}
-use Rattle.xousim.proofs.Playing.GatheringLemmas.{gathers_none}
-use Rattle.xousim.proofs.Playing.HistoryLemmas.{gathered_behind, gathered_nothing, gathered_same, gathered_stopped, met_steps, part_behind, part_front, part_same}
-use Rattle.xousim.proofs.Playing.StepLimitLemmas.{play_grows}
+use Rattle.xousim.proofs.Telling.FullLemmas.{full_start, step_full, tick_full}
+use Rattle.xousim.proofs.Telling.GatheringLemmas.{gathers_none}
+use Rattle.xousim.proofs.Telling.HistoryLemmas.{gathered_behind, gathered_nothing, gathered_same, gathered_stopped, met_steps, part_behind, part_front, part_same}
+use Rattle.xousim.proofs.Telling.StepLimitLemmas.{play_grows}
 
 -- ---- a step
 
