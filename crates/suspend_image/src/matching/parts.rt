@@ -168,7 +168,7 @@ fn is_part_matched(alloc: Global, part: Part, state: &State) -> Result<bool, NoM
     match part {
         Part::Ledger => is_ledger_matched(alloc, state),
         Part::Loans => are_loans_matched(alloc, servers, pages, state.orphans.as_slice()),
-        Part::Senders => Ok(are_senders_matched(threads, servers)),
+        Part::Senders => are_senders_matched(alloc, threads, servers),
         Part::Receivers => Ok(are_receivers_matched(servers, threads)),
         Part::Joiners => Ok(are_joiners_matched(threads)),
         Part::Threads => Ok(is_code_matched(state)),

@@ -15,7 +15,7 @@ use Rattle.suspend_image.specs.PageParts.{same_key}
 use Rattle.suspend_image.proofs.Parts.Keys.KeyLemmas.{Less as IsLess, pair_is, pair_own, less_apart, less_through}
 use Rattle.suspend_image.proofs.Parts.Keys.SearchLemmas.{order_of, Ranked, ranked}
 
-total : IsTotalOrder order_of
+pub total : IsTotalOrder order_of
 total = then_total (on_total (λ (p : ℕ × ℕ). p.0) nat_cmp_total) (on_total (λ (p : ℕ × ℕ). p.1) nat_cmp_total)
 
 -- ---- one test of keys
@@ -63,7 +63,7 @@ less_is Equal e = absurd cc
 less_is Greater e = absurd cc
 
 -- neither is below the other
-tied : (a b : ℕ × ℕ) → false ≡ is_lt (order_of a b) → is_lt (order_of b a) ≡ false → same_key a b ≡ true
+pub tied : (a b : ℕ × ℕ) → false ≡ is_lt (order_of a b) → is_lt (order_of b a) ≡ false → same_key a b ≡ true
 tied a b one other = go (order_of a b) (ranked a b) one
   where
     go : (o : Ordering) → Ranked o a b → false ≡ is_lt o → same_key a b ≡ true

@@ -1,7 +1,7 @@
 use Rattle.std.proofs.Common.{List, sym, subst, ◌↔◌}
 use Rattle.std.specs.Prelude.{IsTrue, IfOk}
 use Rattle.ledger_model.specs.Loans.{loans}
-use Rattle.machine_model.specs.Runs.Matched.{AreLoansMatched, AreJoinersMatched}
+use Rattle.machine_model.specs.Runs.Matched.{AreLoansMatched, AreSendersMatched, AreJoinersMatched}
 use Rattle.suspend_image.specs.declared.matching.parts.Part.{Part}
 use Rattle.suspend_image.specs.declared.state.OrphanRow.{OrphanRow}
 use Rattle.suspend_image.specs.declared.state.PageRow.{PageRow}
@@ -23,6 +23,13 @@ returns-in-Loans c file =
     let two = subst (λ (ps : List PageRow). IfOk c.are_loans_matched.result (λ told. IsTrue told ↔ AreLoansMatched (loans (ledger_of file ps s.orphans)) (servers_of c.as_slice-servers.result.now))) c.as_slice-pages.ensures one in
     let three = subst (λ (ss : List ServerRow). IfOk c.are_loans_matched.result (λ told. IsTrue told ↔ AreLoansMatched (loans (ledger_of file s.pages s.orphans)) (servers_of ss))) c.as_slice-servers.ensures two in
     subst (λ (p : Part). IfOk c.are_loans_matched.result (λ told. IsTrue told ↔ Holds p (machine_of file s))) (sym c.in-Loans.is) three
+
+pub returns-in-Senders : goal.returns-in-Senders
+returns-in-Senders c file =
+    let one = subst (λ (ts : List ThreadRow). IfOk c.are_senders_matched.result (λ told. IsTrue told ↔ AreSendersMatched (threads_of ts) (servers_of c.as_slice-servers.result.now))) c.as_slice-threads.ensures
+    c.are_senders_matched.ensures in
+    let two = subst (λ (ss : List ServerRow). IfOk c.are_senders_matched.result (λ told. IsTrue told ↔ AreSendersMatched (threads_of c.args.state.now.threads) (servers_of ss))) c.as_slice-servers.ensures one in
+    subst (λ (p : Part). IfOk c.are_senders_matched.result (λ told. IsTrue told ↔ Holds p (machine_of file c.args.state.now))) (sym c.in-Senders.is) two
 
 pub returns-in-Joiners : goal.returns-in-Joiners
 returns-in-Joiners c file =
