@@ -65,8 +65,10 @@ module _ (w : Wait) where
           → count_by (same_wait w) (cond b [] ((record { pid = m.sender_pid; tid = m.sender_tid; number = m.number }) ∷ []) ++ flat_map message_wait ms)
           ≡ cond (sent m) 1 0 + count_by (same_wait w) (flat_map message_wait ms)
       go true e =
-          let isnt : sent m ≡ false = ap (λ (b : Bool). eqb m.number w.number && (not b && (eqb w.pid m.sender_pid && eqb w.tid m.sender_tid))) e ∙ none_sent (eqb m.number w.number) (eqb w.pid m.sender_pid && eqb w.tid m.sender_tid) in
-          sym (zero-add (count_by (same_wait w) (flat_map message_wait ms))) ∙ ap (λ (b : Bool). cond b 1 0 + count_by (same_wait w) (flat_map message_wait ms)) (sym isnt)
+          let isnt : sent m ≡ false = ap (λ (b : Bool). eqb m.number w.number && (not b && (eqb w.pid m.sender_pid && eqb w.tid m.sender_tid))) e
+          ∙ none_sent (eqb m.number w.number) (eqb w.pid m.sender_pid && eqb w.tid m.sender_tid) in
+          sym (zero-add (count_by (same_wait w) (flat_map message_wait ms)))
+          ∙ ap (λ (b : Bool). cond b 1 0 + count_by (same_wait w) (flat_map message_wait ms)) (sym isnt)
       go false e =
           let same : same_wait w (record { pid = m.sender_pid; tid = m.sender_tid; number = m.number }) ≡ sent m =
           turned (eqb w.pid m.sender_pid) (eqb w.tid m.sender_tid) (eqb w.number m.number)
@@ -78,7 +80,8 @@ module _ (w : Wait) where
   server_counted : (s : ServerRow) → count_by (same_wait w) (waits_of s) ≡ many_at sent s
   server_counted s =
       sum_by-append (λ x. cond (same_wait w x) 1 0) (flat_map message_wait s.queued) (flat_map message_wait s.held)
-      ∙ ap (λ (k : ℕ). k + count_by (same_wait w) (flat_map message_wait s.held)) (message_counted s.queued) ∙ ap (λ (k : ℕ). count_by sent s.queued + k) (message_counted s.held)
+      ∙ ap (λ (k : ℕ). k + count_by (same_wait w) (flat_map message_wait s.held)) (message_counted s.queued)
+      ∙ ap (λ (k : ℕ). count_by sent s.queued + k) (message_counted s.held)
 
   pub said_counted : (rows : List ServerRow) → count_by (same_wait w) (flat_map waits_of rows) ≡ total sent rows
   said_counted rows = listed waits_of (same_wait w) sent server_counted rows
@@ -125,7 +128,8 @@ kept_once before (t ∷ rows) forms k =
       | inl is ↦ (
           subst (λ (xs : List Wait). count_by (is_wait_at k) xs ≤ 1) (sym (first_wait t rows is)) (elim (cases_Bool (is_thread k t)) [
             | inl same ↦ (
-                let none = subst (λ (z : ℕ × ℕ). count_by (is_wait_at z) (flat_map thread_wait rows) ≡ 0) (pair_is thread_key k t same) (none_behind (thread_key t) (thread_key t) rows (λ x low. low) forms.1) in
+                let none = subst (λ (z : ℕ × ℕ). count_by (is_wait_at z) (flat_map thread_wait rows) ≡ 0) (pair_is thread_key k t same)
+                (none_behind (thread_key t) (thread_key t) rows (λ x low. low) forms.1) in
                 let one = count_yes (is_wait_at k) (own_wait t) (flat_map thread_wait rows) same in
                 omega arith
                 )
@@ -157,7 +161,8 @@ module _ (who : ThreadId) (number : Number) where
       ∙ waiting_state t.state t.waits number
 
   waits_rest : (t : ThreadRow) (rows : List ThreadRow) → is_thread k t ≡ false → waits (t ∷ rows) ≡ waits rows
-  waits_rest t rows isnt = ap (λ (b : Bool). option_map_or (λ u. is_state_for number u.state) (option_map thread_of (cond b (some t) (find (is_thread k) rows))) false) isnt
+  waits_rest t rows isnt = ap (λ (b : Bool). option_map_or (λ u. is_state_for number u.state)
+      (option_map thread_of (cond b (some t) (find (is_thread k) rows))) false) isnt
 
   own_same : (t : ThreadRow) → is_thread k t ≡ true → same_wait wait (own_wait t) ≡ eqb t.waits number.0
   own_same t is =
@@ -180,12 +185,14 @@ module _ (who : ThreadId) (number : Number) where
       elim (cases_Bool (is_thread k t)) [
         | inl is ↦ (
             let few = count_less (same_wait wait) (is_wait_at k) at_key (flat_map thread_wait rows) in
-            let zero = subst (λ (z : ℕ × ℕ). count_by (is_wait_at z) (flat_map thread_wait rows) ≡ 0) (pair_is thread_key k t is) (none_behind (thread_key t) (thread_key t) rows (λ x low. low) forms.1) in
+            let zero = subst (λ (z : ℕ × ℕ). count_by (is_wait_at z) (flat_map thread_wait rows) ≡ 0) (pair_is thread_key k t is)
+            (none_behind (thread_key t) (thread_key t) rows (λ x low. low) forms.1) in
             let none : count_by (same_wait wait) (flat_map thread_wait rows) ≡ 0 = omega arith in
             elim (cases_Bool (eqb t.state 2)) [
               | inl waiting ↦ (
                   let says : waits (t ∷ rows) ≡ eqb t.waits number.0 = waits_first t rows is ∙ ap (λ (b : Bool). b && eqb t.waits number.0) waiting in
-                  let first = count_first (same_wait wait) (own_wait t) (flat_map thread_wait rows) ∙ ap (λ (b : Bool). cond b 1 0 + count_by (same_wait wait) (flat_map thread_wait rows)) (own_same t is ∙ sym says) in
+                  let first = count_first (same_wait wait) (own_wait t) (flat_map thread_wait rows)
+                  ∙ ap (λ (b : Bool). cond b 1 0 + count_by (same_wait wait) (flat_map thread_wait rows)) (own_same t is ∙ sym says) in
                   let all = ap (count_by (same_wait wait)) (first_wait t rows waiting) ∙ first in
                   omega arith
                   )
@@ -199,7 +206,8 @@ module _ (who : ThreadId) (number : Number) where
             let says = waits_rest t rows isnt in
             elim (cases_Bool (eqb t.state 2)) [
               | inl waiting ↦ (
-                  ap (count_by (same_wait wait)) (first_wait t rows waiting) ∙ count_no (same_wait wait) (own_wait t) (flat_map thread_wait rows) (own_differs t isnt) ∙ rest
+                  ap (count_by (same_wait wait)) (first_wait t rows waiting)
+                  ∙ count_no (same_wait wait) (own_wait t) (flat_map thread_wait rows) (own_differs t isnt) ∙ rest
                   ∙ sym (ap (λ (b : Bool). cond b 1 0) says)
                   )
               | inr other ↦ ap (count_by (same_wait wait)) (first_other t rows other) ∙ rest ∙ sym (ap (λ (b : Bool). cond b 1 0) says)
@@ -213,11 +221,13 @@ abbrev pub Senders : List ThreadRow → List ServerRow → Type 0
 Senders threads rows = (who : ThreadId) (number : Number) → HasIf (waits_for (threads_of threads) who number) (servers_of rows) (is_message_of who number)
 
 module _ (threads : List ThreadRow) (rows : List ServerRow) (in_two : AscendInTwo thread_key threads) (ascend : Ascend server_key rows) where
-  if_total : (who : ThreadId) (number : Number) (b : Bool) → total (is_sent_as number.0 who.pid.0 who.tid.0) rows ≡ cond b 1 0 → HasIf b (servers_of rows) (is_message_of who number)
+  if_total : (who : ThreadId) (number : Number) (b : Bool) → total (is_sent_as number.0 who.pid.0 who.tid.0) rows ≡ cond b 1 0
+      → HasIf b (servers_of rows) (is_message_of who number)
   if_total who number true e = (one_total (is_message_of who number) (is_sent_as number.0 who.pid.0 who.tid.0) (sent_tells who number) rows ascend).0 e
   if_total who number false e = (none_total (is_message_of who number) (is_sent_as number.0 who.pid.0 who.tid.0) (sent_tells who number) rows ascend).0 e
 
-  total_if : (who : ThreadId) (number : Number) (b : Bool) → HasIf b (servers_of rows) (is_message_of who number) → total (is_sent_as number.0 who.pid.0 who.tid.0) rows ≡ cond b 1 0
+  total_if : (who : ThreadId) (number : Number) (b : Bool) → HasIf b (servers_of rows) (is_message_of who number)
+      → total (is_sent_as number.0 who.pid.0 who.tid.0) rows ≡ cond b 1 0
   total_if who number true h = (one_total (is_message_of who number) (is_sent_as number.0 who.pid.0 who.tid.0) (sent_tells who number) rows ascend).1 h
   total_if who number false h = (none_total (is_message_of who number) (is_sent_as number.0 who.pid.0 who.tid.0) (sent_tells who number) rows ascend).1 h
 
@@ -230,7 +240,8 @@ module _ (threads : List ThreadRow) (rows : List ServerRow) (in_two : AscendInTw
   senders_all senders w =
       let who : ThreadId = thread_at_id w.pid w.tid in
       let number : Number = record { 0 = w.number } in
-      said_counted w rows ∙ total_if who number (waits_for (threads_of threads) who number) (senders who number) ∙ sym (kept_counted who number None threads in_two)
+      said_counted w rows ∙ total_if who number (waits_for (threads_of threads) who number) (senders who number)
+      ∙ sym (kept_counted who number None threads in_two)
 
   -- ---- part 3
 
@@ -240,8 +251,10 @@ module _ (threads : List ThreadRow) (rows : List ServerRow) (in_two : AscendInTw
   pub messages_right : AreSendersMatched (threads_of threads) (servers_of rows) → list_all are_messages_right rows ≡ true
   messages_right matched = right.1 (λ n server e. (matched.queued n server e, matched.held n server e, matched.sized n server e))
 
-  pub senders_matched : list_all are_messages_right rows ≡ true → (told : Bool) → (IsTrue told → AreAlikeWaits (flat_map waits_of rows) (flat_map thread_wait threads))
-      → (HaveSameWaits (flat_map waits_of rows) (flat_map thread_wait threads) → IsTrue told) → IsTrue told ↔ AreSendersMatched (threads_of threads) (servers_of rows)
+  pub senders_matched : list_all are_messages_right rows ≡ true → (told : Bool)
+      → (IsTrue told → AreAlikeWaits (flat_map waits_of rows) (flat_map thread_wait threads))
+      → (HaveSameWaits (flat_map waits_of rows) (flat_map thread_wait threads) → IsTrue told)
+      → IsTrue told ↔ AreSendersMatched (threads_of threads) (servers_of rows)
   senders_matched messages told alike same = (
     λ holds. (
         let own = right.0 messages in

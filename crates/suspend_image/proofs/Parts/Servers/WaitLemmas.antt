@@ -75,7 +75,9 @@ module _ (said kept said_in_order kept_in_order : List Wait) (p : IsPermutation 
       → ((k : ℕ × ℕ) → count_by (is_wait_at k) kept ≤ 1) → HaveSameWaits said kept → told ≡ true
   same_waits rise_said rise_kept few same =
       let lists = same_list same_wait wait_is wait_own low low_own key key_own anti said_in_order kept_in_order
-      (in_order same_wait wait_is wait_own low low_own key key_own anti said_in_order (ordered said_in_order rise_said)) (in_order same_wait wait_is wait_own low low_own key key_own anti kept_in_order (ordered kept_in_order rise_kept))
+      (in_order same_wait wait_is wait_own low low_own key key_own anti said_in_order (ordered said_in_order rise_said))
+      (in_order same_wait wait_is wait_own low low_own key key_own anti kept_in_order (ordered kept_in_order rise_kept))
       (λ w. permuted (same_wait w) said said_in_order p ∙ same w ∙ sym (permuted (same_wait w) kept kept_in_order q))
       (λ w. subst (λ (n : ℕ). n ≤ 1) (sym (permuted (key w) kept kept_in_order q)) (few (wait_key w))) in
-      is ∙ subst (λ (z : List Wait). pointwise same_wait said_in_order z ≡ true) lists (pointwise_own same_wait wait_is wait_own low low_own key key_own anti said_in_order)
+      is ∙ subst (λ (z : List Wait). pointwise same_wait said_in_order z ≡ true) lists
+      (pointwise_own same_wait wait_is wait_own low low_own key key_own anti said_in_order)
