@@ -38,7 +38,8 @@ is_lend_numbered number l = l.number == number
 -- they are one lend
 abbrev pub same_lend : Lend → Lend → Bool
 same_lend a b =
-    a.number == b.number && (beq a.shared b.shared && (beq a.is_lent b.is_lent && (a.lender == b.lender && (a.holder == b.holder && (a.first == b.first && a.end == b.end)))))
+    a.number == b.number && (beq a.shared b.shared && (beq a.is_lent b.is_lent
+    && (a.lender == b.lender && (a.holder == b.holder && (a.first == b.first && a.end == b.end)))))
 
 -- each lend stands equally often in both
 abbrev pub HaveSame : List Lend → List Lend → Type 0

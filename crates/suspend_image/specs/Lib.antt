@@ -12,4 +12,5 @@ pub mod Sheets
 pub mod Spelling
 pub mod StateFaults
 pub mod UnmatchedParts
+pub mod WaitParts
 pub mod Words

@@ -8,6 +8,7 @@ use Rattle.machine_model.specs.Runs.Matched.{AreHomesLiving, IsLedgerMatched, Ar
 use Rattle.suspend_image.specs.declared.matching.parts.Part.{Part}
 use Rattle.suspend_image.specs.declared.matching.parts.Part.TheVariants as parts
 use Rattle.suspend_image.specs.declared.state.State.{State}
+use Rattle.suspend_image.specs.Machines.{processes_of, ledger_of}
 use Rattle.suspend_image.specs.Rows.{thread_key, server_key, claim_key, page_key, orphan_key}
 use Rattle.suspend_image.specs.Parts.{Ascend, AscendInTwo, are_processes_told, is_thread_living, is_claim_living}
 use Rattle.suspend_image.specs.PageParts.{is_page_placed, is_orphan_placed, is_only_console, is_holder_apart, is_orphan_apart, is_home_living, is_holder_living}
@@ -40,6 +41,10 @@ are_keys_told s =
     && (list_all (is_below_next s.next_number s.next_serial) s.servers && list_all (leads_below s.next_serial) s.procs)))))
 
 -- ---- the parts
+
+-- part 1 of the machine that a state says
+abbrev pub IsLedgerRight : List ℕ → State → Type 0
+IsLedgerRight file s = IsLedgerMatched s.n s.cap (processes_of s.procs) (ledger_of file s.pages s.orphans)
 
 abbrev pub number_of : Part → ℕ
 number_of parts.Ledger = 1

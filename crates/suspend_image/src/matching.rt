@@ -13,6 +13,7 @@ pub mod runs;
 pub mod search;
 pub mod senders;
 pub mod servers;
+pub mod waits;
 
 ghost use Rattle.std.specs.Prelude.{◌≡◌, ◌↔◌, ◌==◌, ◌%◌, ◌&&◌, ◌||◌, ◌≤◌, not, nat_lt, nat_le, length, IsTrue};
 ghost use Rattle.std.specs.List.{list_any, list_all};

@@ -42,7 +42,8 @@ module _ (file : List ℕ) (s : State) (rows : AreRowsInOrder s) where
   console = one_console_told file s.orphans s.pages (list_all (is_only_console s.pages) s.pages) rows.pages refl
 
   apart : IsTrue (list_all (is_holder_apart s.pages s.orphans) s.pages && list_all (is_orphan_apart s.pages) s.orphans) ↔ ArePlacesApart ledger
-  apart = places_apart_told file s.pages s.orphans (list_all (is_holder_apart s.pages s.orphans) s.pages && list_all (is_orphan_apart s.pages) s.orphans) rows.pages rows.orphans refl
+  apart = places_apart_told file s.pages s.orphans
+      (list_all (is_holder_apart s.pages s.orphans) s.pages && list_all (is_orphan_apart s.pages) s.orphans) rows.pages rows.orphans refl
 
   homes : IsTrue (list_all (is_home_living s.procs) s.pages) ↔ AreHomesLiving (processes_of s.procs) ledger
   homes = homes_told file s.orphans s.procs s.pages (list_all (is_home_living s.procs) s.pages) rows.pages refl
@@ -98,7 +99,8 @@ module _ (file : List ℕ) (s : State) (rows : AreRowsInOrder s) where
       (homes.1 matched.homes_live) (holders.1 matched.holders_live)
 
   -- where all else of part 1 holds, runs tell it
-  pub runs_told : is_ledger_told s ≡ true → AreWithin s.n s.cap ledger → AreHoldersApart ledger → (r : Result Bool NoMemory) → IfOk r (λ told. IsTrue told ↔ AreOneRuns ledger)
+  pub runs_told : is_ledger_told s ≡ true → AreWithin s.n s.cap ledger → AreHoldersApart ledger → (r : Result Bool NoMemory)
+      → IfOk r (λ told. IsTrue told ↔ AreOneRuns ledger)
       → IfOk r (λ told. IsTrue told ↔ IsLedgerMatched s.n s.cap (processes_of s.procs) ledger)
   runs_told told within alone r is =
       if_ok (λ b. IsTrue b ↔ AreOneRuns ledger) (λ b. IsTrue b ↔ IsLedgerMatched s.n s.cap (processes_of s.procs) ledger) r
@@ -120,7 +122,8 @@ module _ (file : List ℕ) (s : State) (rows : AreRowsInOrder s) where
 
   above : IsTrue (list_all (is_below_next s.next_number s.next_serial) s.servers && list_all (leads_below s.next_serial) s.procs)
       ↔ AreNextAbove s.next_number s.next_serial (processes_of s.procs) (servers_of s.servers)
-  above = above_told s.next_number s.next_serial s.procs s.servers (list_all (is_below_next s.next_number s.next_serial) s.servers && list_all (leads_below s.next_serial) s.procs) rows.servers refl
+  above = above_told s.next_number s.next_serial s.procs s.servers
+      (list_all (is_below_next s.next_number s.next_serial) s.servers && list_all (leads_below s.next_serial) s.procs) rows.servers refl
 
   pub keys_right : are_keys_told s ≡ true → AreNextStepped s.next_number s.next_serial s.steps → AreKeysMatched (machine_of file s)
   keys_right told stepped =
@@ -141,4 +144,5 @@ module _ (file : List ℕ) (s : State) (rows : AreRowsInOrder s) where
 
   pub keys_told : AreKeysMatched (machine_of file s) → are_keys_told s ≡ true
   keys_told matched =
-      all_six _ _ _ _ _ _ (ids.1 matched.ids) (homes.1 matched.pages) (processes.1 matched.processes) (servers.1 matched.servers) (claims.1 matched.claims) (above.1 matched.above)
+      all_six _ _ _ _ _ _ (ids.1 matched.ids) (homes.1 matched.pages) (processes.1 matched.processes) (servers.1 matched.servers)
+      (claims.1 matched.claims) (above.1 matched.above)

@@ -10,11 +10,15 @@ ghost use Rattle.suspend_image.specs.Machines.{ledger_of, servers_of};
 ghost use Rattle.suspend_image.specs.Parts.{Ascend, AscendInTwo};
 ghost use Rattle.suspend_image.specs.LendParts.{message_lend, lends_of, loan_lend as loan_lend_of, orphan_lend as orphan_lend_of, is_lend_numbered, HaveSame, AreAlike};
 
-use crate::matching::messages::{LEND, LEND_MUT};
 use crate::matching::runs::{Run, are_numbers_apart, loan_runs, orphan_runs};
 use crate::state::{MessageRow, OrphanRow, PageRow, ServerRow};
 use std::alloc::Global;
 use xk_base::NoMemory;
+
+/// The numbers of the kinds of messages that lend pages.
+pub const LEND_MUT: u32 = 1;
+
+pub const LEND: u32 = 2;
 
 /// A lend, as its message says it or as its pages do.
 #[derive(Clone, Copy, Debug, PartialEq, Eq)]

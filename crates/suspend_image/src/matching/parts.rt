@@ -1,9 +1,9 @@
 //! The parts of the machine's invariant in their order, and the first that a state doesn't have.
 
 ghost use Rattle.std.specs.Prelude.{◌≡◌, ◌≤◌, ◌↔◌, ℕ, List, IsTrue, IfOk, MatchOption};
-ghost use Rattle.machine_model.specs.Runs.Matched.{AreThreadsMatched, AreHandlersMatched, IsLedgerMatched, Matched};
-ghost use Rattle.suspend_image.specs.Machines.{threads_of, claims_of, processes_of, ledger_of, machine_of};
-ghost use Rattle.suspend_image.specs.UnmatchedParts.{number_of, is_ledger_told as is_ledger_told_of, are_keys_told as are_keys_told_of, AreRowsInOrder, AreKeysMatched, Holds, IsFirstUnmatched};
+ghost use Rattle.machine_model.specs.Runs.Matched.{AreThreadsMatched, AreHandlersMatched, Matched};
+ghost use Rattle.suspend_image.specs.Machines.{threads_of, claims_of, processes_of, machine_of};
+ghost use Rattle.suspend_image.specs.UnmatchedParts.{number_of, is_ledger_told as is_ledger_told_of, are_keys_told as are_keys_told_of, AreRowsInOrder, AreKeysMatched, IsLedgerRight, Holds, IsFirstUnmatched};
 
 use crate::matching::capacity::are_within;
 use crate::matching::holders::are_holders_apart;
@@ -106,7 +106,7 @@ fn is_ledger_told(state: &State) -> bool
 /// Part 1: the ledger is lawful, and homes, holders and places of orphans have living pids.
 fn is_ledger_matched(alloc: Global, state: &State) -> Result<bool, NoMemory>
     requires { AreRowsInOrder state.now }
-    ensures { (file : List ℕ) → IfOk result (λ told. IsTrue told ↔ IsLedgerMatched state.now.n state.now.cap (processes_of state.now.procs) (ledger_of file state.now.pages state.now.orphans)) }
+    ensures { (file : List ℕ) → IfOk result (λ told. IsTrue told ↔ IsLedgerRight file state.now) }
 {
     let pages = state.pages.as_slice();
     let orphans = state.orphans.as_slice();
@@ -168,7 +168,7 @@ fn is_part_matched(alloc: Global, part: Part, state: &State) -> Result<bool, NoM
     match part {
         Part::Ledger => is_ledger_matched(alloc, state),
         Part::Loans => are_loans_matched(alloc, servers, pages, state.orphans.as_slice()),
-        Part::Senders => Ok(are_senders_matched(threads, servers)),
+        Part::Senders => are_senders_matched(alloc, threads, servers),
         Part::Receivers => Ok(are_receivers_matched(servers, threads)),
         Part::Joiners => Ok(are_joiners_matched(threads)),
         Part::Threads => Ok(is_code_matched(state)),

@@ -49,7 +49,8 @@ once_of_distinct : (keys : List (ℕ × ℕ)) → IsDistinct same_key keys → A
 once_of_distinct [] distinct k = omega arith
 once_of_distinct (a ∷ keys) distinct k = elim (cases_Bool (is_key k a)) [
   | inl is ↦ (
-      let none = flipped k keys (subst (λ (z : ℕ × ℕ). AllByRecursion (λ b. same_key z b ≡ false) keys) (same_is a k is) (IsDistinct-head same_key a keys distinct)) in
+      let none = flipped k keys (subst (λ (z : ℕ × ℕ). AllByRecursion (λ b. same_key z b ≡ false) keys) (same_is a k is)
+      (IsDistinct-head same_key a keys distinct)) in
       let one = count_yes (is_key k) a keys is in
       let zero = count_none (is_key k) keys none in
       omega arith

@@ -15,7 +15,7 @@ use Rattle.suspend_image.specs.PageParts.{same_key}
 use Rattle.suspend_image.proofs.Parts.Keys.KeyLemmas.{Less as IsLess, pair_is, pair_own, less_apart, less_through}
 use Rattle.suspend_image.proofs.Parts.Keys.SearchLemmas.{order_of, Ranked, ranked}
 
-total : IsTotalOrder order_of
+pub total : IsTotalOrder order_of
 total = then_total (on_total (λ (p : ℕ × ℕ). p.0) nat_cmp_total) (on_total (λ (p : ℕ × ℕ). p.1) nat_cmp_total)
 
 -- ---- one test of keys
@@ -63,7 +63,7 @@ less_is Equal e = absurd cc
 less_is Greater e = absurd cc
 
 -- neither is below the other
-tied : (a b : ℕ × ℕ) → false ≡ is_lt (order_of a b) → is_lt (order_of b a) ≡ false → same_key a b ≡ true
+pub tied : (a b : ℕ × ℕ) → false ≡ is_lt (order_of a b) → is_lt (order_of b a) ≡ false → same_key a b ≡ true
 tied a b one other = go (order_of a b) (ranked a b) one
   where
     go : (o : Ordering) → Ranked o a b → false ≡ is_lt o → same_key a b ≡ true
@@ -75,14 +75,17 @@ tied a b one other = go (order_of a b) (ranked a b) one
 
 distinct_sorted : (sorted : List (ℕ × ℕ)) → IsDistinct (eq_by_cmp order_of) sorted → IsDistinct same_key sorted
 distinct_sorted sorted distinct =
-    IsDistinct-from_apart same_key sorted (λ i j d low within. sym (eq_told (get_or sorted i d) (get_or sorted j d)) ∙ apart_from_distinct (eq_by_cmp order_of) sorted i j d distinct low within)
+    IsDistinct-from_apart same_key sorted
+    (λ i j d low within. sym (eq_told (get_or sorted i d) (get_or sorted j d)) ∙ apart_from_distinct (eq_by_cmp order_of) sorted i j d distinct low within)
 
 pub differ_told : (keys sorted : List (ℕ × ℕ)) (told : Bool) → IsPermutation keys sorted → IsSorted order_of sorted
     → IsAllAdjacentAnswer (λ x y b. b ≡ is_lt (order_of x y)) sorted told → IsTrue told ↔ IsDistinct same_key keys
 differ_told keys sorted true moved ascends answer = (
   λ holds.
       IsDistinct-IsPermutation same_key same_flips sorted keys (IsPermutation-sym keys sorted moved)
-      (distinct_sorted sorted (IsDistinct-from_sorted order_of sorted (sorted_from_all_adjacent total sorted (0, 0) (λ k within. less_is (order_of (get_or sorted k (0, 0)) (get_or sorted (k + 1) (0, 0))) (answer k (0, 0) within))))),
+      (distinct_sorted sorted (IsDistinct-from_sorted order_of sorted
+      (sorted_from_all_adjacent total sorted (0, 0)
+      (λ k within. less_is (order_of (get_or sorted k (0, 0)) (get_or sorted (k + 1) (0, 0))) (answer k (0, 0) within))))),
   λ distinct. refl,
 )
 differ_told keys sorted false moved ascends answer = (

@@ -37,7 +37,8 @@ counted_has test P (x ∷ xs) some all = elim (cases_Bool (test x)) [
 ]
 
 module _ {A : Type 0} (eq : A → A → Bool) (is : (x y : A) → eq x y ≡ true → x ≡ y) (own : (x : A) → eq x x ≡ true)
-    (low : A → A → Type 0) (low_own : (x : A) → low x x) (key : A → A → Bool) (key_own : (x : A) → key x x ≡ true) (anti : (x y : A) → low x y → low y x → key x y ≡ true) where
+    (low : A → A → Type 0) (low_own : (x : A) → low x x) (key : A → A → Bool) (key_own : (x : A) → key x x ≡ true)
+    (anti : (x y : A) → low x y → low y x → key x y ≡ true) where
   -- each stands before those behind it
   abbrev pub InOrder : List A → Type 0
   InOrder [] = Unit {0}

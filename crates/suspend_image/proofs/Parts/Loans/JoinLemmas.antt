@@ -33,7 +33,8 @@ and_true false = refl
 keys_counted : (n : ℕ) (runs : List Run) → count_by (is_key (n, 0)) (run_keys runs) ≡ count_by (is_run_of n) runs
 keys_counted n [] = refl
 keys_counted n (r ∷ runs) =
-    count_first (is_key (n, 0)) (r.number, 0) (run_keys runs) ∙ ap (λ (b : Bool). cond b 1 0 + count_by (is_key (n, 0)) (run_keys runs)) (and_true (eqb r.number n))
+    count_first (is_key (n, 0)) (r.number, 0) (run_keys runs)
+    ∙ ap (λ (b : Bool). cond b 1 0 + count_by (is_key (n, 0)) (run_keys runs)) (and_true (eqb r.number n))
     ∙ ap (λ (m : ℕ). cond (eqb r.number n) 1 0 + m) (keys_counted n runs) ∙ sym (count_first (is_run_of n) r runs)
 
 keys_few : (k : ℕ × ℕ) (runs : List Run) → count_by (is_key k) (run_keys runs) ≤ count_by (is_run_of k.0) runs
@@ -55,10 +56,12 @@ keys_few k (r ∷ runs) =
           )
     ]
 
-both_counted : (k : ℕ × ℕ) (loans left : List Run) → count_by (is_key k) (run_keys loans ++ run_keys left) ≡ count_by (is_key k) (run_keys loans) + count_by (is_key k) (run_keys left)
+both_counted : (k : ℕ × ℕ) (loans left : List Run)
+    → count_by (is_key k) (run_keys loans ++ run_keys left) ≡ count_by (is_key k) (run_keys loans) + count_by (is_key k) (run_keys left)
 both_counted k loans left = sum_by-append (λ a. cond (is_key k a) 1 0) (run_keys loans) (run_keys left)
 
-pub apart_told : (loans left : List Run) (told : Bool) → IsTrue told ↔ IsDistinct same_key (run_keys loans ++ run_keys left) → IsTrue told ↔ AreNumbersApart loans left
+pub apart_told : (loans left : List Run) (told : Bool) → IsTrue told ↔ IsDistinct same_key (run_keys loans ++ run_keys left)
+    → IsTrue told ↔ AreNumbersApart loans left
 apart_told loans left told is =
     let once = distinct_told (run_keys loans ++ run_keys left) in (
       λ holds n. (

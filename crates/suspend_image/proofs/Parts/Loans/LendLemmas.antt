@@ -15,11 +15,13 @@ use Rattle.suspend_image.proofs.Parts.Loans.RunLemmas.{Among, beq_true, beq_same
 
 -- ---- one lend
 
-pub lend_from : (a b : Lend) → a.number ≡ b.number → a.shared ≡ b.shared → a.is_lent ≡ b.is_lent → a.lender ≡ b.lender → a.holder ≡ b.holder → a.first ≡ b.first → a.end ≡ b.end → a ≡ b
+pub lend_from : (a b : Lend) → a.number ≡ b.number → a.shared ≡ b.shared → a.is_lent ≡ b.is_lent → a.lender ≡ b.lender → a.holder ≡ b.holder
+    → a.first ≡ b.first → a.end ≡ b.end → a ≡ b
 lend_from a b n s i l h f e =
     ap (λ (x : ℕ). record a { number = x }) n ∙ ap (λ (x : Bool). record a { number = b.number; shared = x }) s
     ∙ ap (λ (x : Bool). record a { number = b.number; shared = b.shared; is_lent = x }) i
-    ∙ ap (λ (x : ℕ). record b { lender = x; holder = a.holder; first = a.first; end = a.end }) l ∙ ap (λ (x : ℕ). record b { holder = x; first = a.first; end = a.end }) h
+    ∙ ap (λ (x : ℕ). record b { lender = x; holder = a.holder; first = a.first; end = a.end }) l
+    ∙ ap (λ (x : ℕ). record b { holder = x; first = a.first; end = a.end }) h
     ∙ ap (λ (x : ℕ). record b { first = x; end = a.end }) f ∙ ap (λ (x : ℕ). record b { end = x }) e
 
 pub lend_is : (a b : Lend) → same_lend a b ≡ true → a ≡ b
@@ -30,15 +32,18 @@ lend_is a b same =
     let four = and_parts (eqb a.lender b.lender) _ three.1 in
     let five = and_parts (eqb a.holder b.holder) _ four.1 in
     let six = and_parts (eqb a.first b.first) (eqb a.end b.end) five.1 in
-    lend_from a b (eqb-true a.number b.number one.0) (beq_true a.shared b.shared two.0) (beq_true a.is_lent b.is_lent three.0) (eqb-true a.lender b.lender four.0)
+    lend_from a b (eqb-true a.number b.number one.0) (beq_true a.shared b.shared two.0) (beq_true a.is_lent b.is_lent three.0)
+    (eqb-true a.lender b.lender four.0)
     (eqb-true a.holder b.holder five.0) (eqb-true a.first b.first six.0) (eqb-true a.end b.end six.1)
 
-all_seven : (a b c d e f g : Bool) → a ≡ true → b ≡ true → c ≡ true → d ≡ true → e ≡ true → f ≡ true → g ≡ true → (a && (b && (c && (d && (e && (f && g)))))) ≡ true
+all_seven : (a b c d e f g : Bool) → a ≡ true → b ≡ true → c ≡ true → d ≡ true → e ≡ true → f ≡ true → g ≡ true
+    → (a && (b && (c && (d && (e && (f && g)))))) ≡ true
 all_seven a b c d e f g p q r s t u v = rw (p, q, r, s, t, u, v) refl
 
 pub lend_own : (a : Lend) → same_lend a a ≡ true
 lend_own a =
-    all_seven _ _ _ _ _ _ _ (eq-eqb a.number a.number refl) (beq_same a.shared a.shared refl) (beq_same a.is_lent a.is_lent refl) (eq-eqb a.lender a.lender refl)
+    all_seven _ _ _ _ _ _ _ (eq-eqb a.number a.number refl) (beq_same a.shared a.shared refl) (beq_same a.is_lent a.is_lent refl)
+    (eq-eqb a.lender a.lender refl)
     (eq-eqb a.holder a.holder refl) (eq-eqb a.first a.first refl) (eq-eqb a.end a.end refl)
 
 -- ---- in order of their numbers
@@ -72,10 +77,12 @@ module _ (said made said_in_order made_in_order : List Lend) (p : IsPermutation 
       → ((number : ℕ) → count_by (is_lend_numbered number) made ≤ 1) → HaveSame said made → told ≡ true
   same_alike rise_said rise_made few same =
       let lists = same_list same_lend lend_is lend_own low low_own key key_own anti said_in_order made_in_order
-      (in_order same_lend lend_is lend_own low low_own key key_own anti said_in_order rise_said) (in_order same_lend lend_is lend_own low low_own key key_own anti made_in_order rise_made)
+      (in_order same_lend lend_is lend_own low low_own key key_own anti said_in_order rise_said)
+      (in_order same_lend lend_is lend_own low low_own key key_own anti made_in_order rise_made)
       (λ l. permuted (same_lend l) said said_in_order p ∙ same l ∙ sym (permuted (same_lend l) made made_in_order q))
       (λ l. subst (λ (n : ℕ). n ≤ 1) (sym (permuted (key l) made made_in_order q)) (few l.number)) in
-      is ∙ subst (λ (z : List Lend). pointwise same_lend said_in_order z ≡ true) lists (pointwise_own same_lend lend_is lend_own low low_own key key_own anti said_in_order)
+      is ∙ subst (λ (z : List Lend). pointwise same_lend said_in_order z ≡ true) lists
+      (pointwise_own same_lend lend_is lend_own low low_own key key_own anti said_in_order)
 
 -- ---- the lends of runs
 
@@ -83,7 +90,8 @@ abbrev pub made_of : List Run → List Run → List Lend
 made_of loans left = map loan_lend loans ++ map orphan_lend left
 
 -- in either order of the runs
-pub made_back : (loans left one two : List Run) → reverse loans ≡ one → reverse left ≡ two → (test : Lend → Bool) → count_by test (made_of one two) ≡ count_by test (made_of loans left)
+pub made_back : (loans left one two : List Run) → reverse loans ≡ one → reverse left ≡ two → (test : Lend → Bool)
+    → count_by test (made_of one two) ≡ count_by test (made_of loans left)
 made_back loans left one two e f test =
     let moved = IsPermutation-append (map loan_lend loans) (map loan_lend one) (map orphan_lend left) (map orphan_lend two)
     (IsPermutation-map loan_lend loans one (subst (IsPermutation loans) e (IsPermutation-reverse loans)))
@@ -116,7 +124,8 @@ any_made test (r ∷ loans) left e = elim (cases_Bool (test (loan_lend r))) [
       )
 ]
 
-pub made_orphan : (test : Lend → Bool) (loans left : List Run) (r : Run) → Among left r → test (orphan_lend r) ≡ true → list_any test (made_of loans left) ≡ true
+pub made_orphan : (test : Lend → Bool) (loans left : List Run) (r : Run) → Among left r → test (orphan_lend r) ≡ true
+    → list_any test (made_of loans left) ≡ true
 made_orphan test [] [] r in_none is = absurd in_none
 made_orphan test [] (s ∷ left) r (inl same) is = (let here = ap (λ (z : Run). test (orphan_lend z)) same ∙ is in rw here refl)
 made_orphan test [] (s ∷ left) r (inr later) is =

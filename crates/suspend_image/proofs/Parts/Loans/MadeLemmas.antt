@@ -39,7 +39,8 @@ KindTold k = (kind : LoanKind) → loan_kind (kind_of k) ≡ Some kind → (is_l
 
 kind_told : (k : ℕ) → KindTold k
 kind_told k =
-    by_kind (λ (n : ℕ). (kind : LoanKind) → loan_kind (kind_of n) ≡ Some kind → (is_lend n ≡ true) × (kind_lent n ≡ kind)) k (λ kind e. (refl, some_same Exclusive kind e))
+    by_kind (λ (n : ℕ). (kind : LoanKind) → loan_kind (kind_of n) ≡ Some kind → (is_lend n ≡ true) × (kind_lent n ≡ kind)) k
+    (λ kind e. (refl, some_same Exclusive kind e))
     (λ kind e. (refl, some_same Shared kind e)) (λ kind e. absurd cc) (λ kind e. absurd cc) (λ kind e. absurd cc) (λ a b c d f kind e. (
     let none : loan_kind (kind_of k) ≡ None = rw (a, b, c, d, f) refl in
     absurd cc
@@ -47,7 +48,8 @@ kind_told k =
 
 lend_told : (k : ℕ) → is_lend k ≡ true → loan_kind (kind_of k) ≡ Some (kind_lent k)
 lend_told k is =
-    by_kind (λ (n : ℕ). is_lend n ≡ true → loan_kind (kind_of n) ≡ Some (kind_lent n)) k (λ e. refl) (λ e. refl) (λ e. absurd cc) (λ e. absurd cc) (λ e. absurd cc)
+    by_kind (λ (n : ℕ). is_lend n ≡ true → loan_kind (kind_of n) ≡ Some (kind_lent n)) k (λ e. refl) (λ e. refl) (λ e. absurd cc) (λ e. absurd cc)
+    (λ e. absurd cc)
     (λ a b c d f e. absurd (both_ways (eqb k 2) b (either (eqb k 1) (eqb k 2) a e))) is
 
 shared_lent : (k : ℕ) → shared_of (kind_lent k) ≡ eqb k 2
@@ -69,7 +71,8 @@ record IsRunOf (r : Run) (s : Span) : Type 0 where
   holder_page : r.holder_page ≡ s.holder_page
   shared : r.shared ≡ s.shared
 
-span_is_run : (rows : List Run) → Ascending None rows → AllByRecursion IsSingle rows → (r : Run) → Among (joined rows) r → count_by (is_run_of r.number) (joined rows) ≤ 1
+span_is_run : (rows : List Run) → Ascending None rows → AllByRecursion IsSingle rows → (r : Run) → Among (joined rows) r
+    → count_by (is_run_of r.number) (joined rows) ≤ 1
     → (s : Span) → IsSpan rows r.number s → 1 ≤ s.count → IsRunOf r s
 span_is_run rows forms single r among few s span more =
     let own = among_has (IsIn rows) (joined rows) r (each_in None rows forms single) among in
@@ -162,7 +165,8 @@ module _ (all : Loans) (homes left : List Run) (says : Says all homes left) (apa
     kind_is : (r : Run) (kind : LoanKind) → kind_lent m.kind ≡ kind → eqb m.kind 2 ≡ r.shared → kind_said r ≡ kind
     kind_is r kind k e = ap (λ (b : Bool). cond b Shared Exclusive) (sym e) ∙ k
 
-    by_loan : (kind : LoanKind) → kind_lent m.kind ≡ kind → (r : Run) → Among (joined homes) r → said ≡ loan_lend r → IsLendMatched all (server_of s) (message_of m) kind
+    by_loan : (kind : LoanKind) → kind_lent m.kind ≡ kind → (r : Run) → Among (joined homes) r → said ≡ loan_lend r
+        → IsLendMatched all (server_of s) (message_of m) kind
     by_loan kind k r among same =
         let some = nonempty_loan r among in
         let first : m.first ≡ r.holder_page = ap (λ (l : Lend). l.first) same in
@@ -171,7 +175,8 @@ module _ (all : Loans) (homes left : List Run) (says : Says all homes left) (apa
         let lent : not (eqb m.sender_pid 0) ≡ true = ap (λ (l : Lend). l.is_lent) same in
         let there : sender_of m ≡ Some (thread_at_id m.sender_pid m.sender_tid) = sender_there (eqb m.sender_pid 0) lent in
         let run : lent_run r ≡ run_said kind (Some (home_of r)) =
-        run_same (lent_run r) (run_said kind (Some (home_of r))) refl (sym (ap (λ (l : Lend). l.holder) same)) (sym first) (omega arith) (kind_is r kind k (ap (λ (l : Lend). l.shared) same))
+        run_same (lent_run r) (run_said kind (Some (home_of r))) refl (sym (ap (λ (l : Lend). l.holder) same)) (sym first) (omega arith)
+        (kind_is r kind k (ap (λ (l : Lend). l.shared) same))
         (sym (ap (λ (l : Lend). l.number) same)) in
         let own : (lender : Place) × (lender.pid ≡ record { 0 = m.sender_pid }) × Stands all (run_said kind (Some lender)) =
         (home_of r, ap (λ (n : ℕ). record { 0 = n }) (sym lender), subst (λ (x : LoanRun). Stands all x) run (loan_stands r among)) in
@@ -184,7 +189,8 @@ module _ (all : Loans) (homes left : List Run) (says : Says all homes left) (apa
         sender_there true e = absurd cc
         sender_there false e = refl
 
-    by_orphan : (kind : LoanKind) → kind_lent m.kind ≡ kind → (r : Run) → Among (joined left) r → said ≡ orphan_lend r → IsLendMatched all (server_of s) (message_of m) kind
+    by_orphan : (kind : LoanKind) → kind_lent m.kind ≡ kind → (r : Run) → Among (joined left) r → said ≡ orphan_lend r
+        → IsLendMatched all (server_of s) (message_of m) kind
     by_orphan kind k r among same =
         let some = nonempty_orphan r among in
         let first : m.first ≡ r.holder_page = ap (λ (l : Lend). l.first) same in
@@ -192,11 +198,13 @@ module _ (all : Loans) (homes left : List Run) (says : Says all homes left) (apa
         let lent : not (eqb m.sender_pid 0) ≡ false = ap (λ (l : Lend). l.is_lent) same in
         let gone : sender_of m ≡ None = sender_gone (eqb m.sender_pid 0) lent in
         let run : left_run r ≡ run_said kind None =
-        run_same (left_run r) (run_said kind None) refl (sym (ap (λ (l : Lend). l.holder) same)) (sym first) (omega arith) (kind_is r kind k (ap (λ (l : Lend). l.shared) same))
+        run_same (left_run r) (run_said kind None) refl (sym (ap (λ (l : Lend). l.holder) same)) (sym first) (omega arith)
+        (kind_is r kind k (ap (λ (l : Lend). l.shared) same))
         (sym (ap (λ (l : Lend). l.number) same)) in
         record {
           count = omega arith;
-          loan = subst (λ (o : Option ThreadId). IsOnLoan all (server_of s) (message_of m) kind o) (sym gone) (subst (λ (x : LoanRun). Stands all x) run (orphan_stands r among));
+          loan = subst (λ (o : Option ThreadId). IsOnLoan all (server_of s) (message_of m) kind o) (sym gone)
+              (subst (λ (x : LoanRun). Stands all x) run (orphan_stands r among));
         }
       where
         sender_gone : (b : Bool) → not b ≡ false → cond b None (Some (thread_at_id m.sender_pid m.sender_tid)) ≡ None
@@ -226,7 +234,8 @@ module _ (all : Loans) (homes left : List Run) (says : Says all homes left) (apa
         let number : over.0.number ≡ m.number = over.2 ∙ zero.2 in
         let few = apart over.0.number in
         let once : count_by (is_run_of over.0.number) (joined homes) ≤ 1 = omega arith in
-        let is = span_is_run homes says.homes_ascend says.homes_single over.0 over.1 once span (subst (λ (n : ℕ). IsSpan homes n span) (sym number) is_span) more in
+        let is = span_is_run homes says.homes_ascend says.homes_single over.0 over.1 once span
+        (subst (λ (n : ℕ). IsSpan homes n span) (sym number) is_span) more in
         let count = is.count in
         let nonempty = is.nonempty in
         let first : over.0.holder_page ≡ m.first = is.holder_page in
@@ -258,7 +267,8 @@ module _ (all : Loans) (homes left : List Run) (says : Says all homes left) (apa
     made_left lent = go (is_lend m.kind) refl
       where
         sender : (b : Bool) → eqb m.sender_pid 0 ≡ b → 1 ≤ m.count
-            → IsOnLoan all (server_of s) (message_of m) (kind_lent m.kind) (cond b None (Some (thread_at_id m.sender_pid m.sender_tid))) → list_any (same_lend said) made ≡ true
+            → IsOnLoan all (server_of s) (message_of m) (kind_lent m.kind) (cond b None (Some (thread_at_id m.sender_pid m.sender_tid)))
+            → list_any (same_lend said) made ≡ true
         sender true e more loan = of_orphan (kind_lent m.kind) refl more e (eqb-true m.sender_pid 0 e) loan
         sender false e more loan = of_loan (kind_lent m.kind) refl more loan.0 (ap (λ (p : Pid). p.0) loan.1) e loan.2
 
@@ -267,7 +277,8 @@ module _ (all : Loans) (homes left : List Run) (says : Says all homes left) (apa
         go true e =
             let own = lent (kind_lent m.kind) (lend_told m.kind e) in
             let there = sender (eqb m.sender_pid 0) refl own.count own.loan in
-            subst (λ (b : Bool). list_all (λ l. list_any (same_lend l) made) (cond b (said ∷ []) []) ≡ true) (sym e) (and_true (list_any (same_lend said) made) there)
+            subst (λ (b : Bool). list_all (λ l. list_any (same_lend l) made) (cond b (said ∷ []) []) ≡ true) (sym e)
+            (and_true (list_any (same_lend said) made) there)
 
     pub made_told : IsTrue (is_made made s.pid m) ↔ IsMessageLent all (server_of s) (message_of m)
     made_told = (made_right, made_left)

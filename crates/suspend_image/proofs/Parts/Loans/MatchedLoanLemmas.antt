@@ -88,7 +88,8 @@ lent_counted n pid (m ∷ ms) =
         ∙ ap (λ (b : Bool). cond b 1 0 + count_by (is_lend_numbered n) (flat_map (message_lend pid) ms)) (and_true (eqb m.number n))
     go false =
         let none : cond (eqb m.number n && false) 1 0 ≡ 0 = ap (λ (b : Bool). cond b 1 0) (and_false (eqb m.number n)) in
-        sym (zero-add (count_by (is_lend_numbered n) (flat_map (message_lend pid) ms))) ∙ ap (λ (k : ℕ). k + count_by (is_lend_numbered n) (flat_map (message_lend pid) ms)) (sym none)
+        sym (zero-add (count_by (is_lend_numbered n) (flat_map (message_lend pid) ms)))
+        ∙ ap (λ (k : ℕ). k + count_by (is_lend_numbered n) (flat_map (message_lend pid) ms)) (sym none)
 
 server_counted : (n : ℕ) (s : ServerRow) → count_by (is_lend_numbered n) (lends_of s) ≡ many_at (is_lent_by n) s
 server_counted n s =
@@ -115,7 +116,8 @@ all_of_server P s =
     ∙ ap (λ (b : Bool). b && list_all P (flat_map (message_lend s.pid) s.held)) (all_flat (message_lend s.pid) P s.queued)
     ∙ ap (λ (b : Bool). list_all (λ m. list_all P (message_lend s.pid m)) s.queued && b) (all_flat (message_lend s.pid) P s.held)
 
-all_said : (P : Lend → Bool) (rows : List ServerRow) → list_all P (flat_map lends_of rows) ≡ list_all (λ s. all_messages (λ m. list_all P (message_lend s.pid m)) s) rows
+all_said : (P : Lend → Bool) (rows : List ServerRow)
+    → list_all P (flat_map lends_of rows) ≡ list_all (λ s. all_messages (λ m. list_all P (message_lend s.pid m)) s) rows
 all_said P rows =
     all_flat lends_of P rows
     ∙ all_same (λ s. list_all P (lends_of s)) (λ s. all_messages (λ m. list_all P (message_lend s.pid m)) s) rows (all_of_server P)
@@ -193,7 +195,8 @@ counted_message test P (m ∷ ms) some all = elim (cases_Bool (test m)) [
       )
 ]
 
-server_of_count : (test : Message → Bool) (o : Option Server) → count_at test o ≡ 1 → (server : Server) × (o ≡ Some server) × (count_in test (messages_of server) ≡ 1)
+server_of_count : (test : Message → Bool) (o : Option Server) → count_at test o ≡ 1
+    → (server : Server) × (o ≡ Some server) × (count_in test (messages_of server) ≡ 1)
 server_of_count test None e = absurd (omega arith)
 server_of_count test (Some server) e = (server, refl, e)
 
@@ -215,7 +218,8 @@ one_lent all rows each number h =
     let own = message.2 kind.0 kind.1 in
     go server.0 message.0 kind.0 (ap number_of (eqb-true message.0.number.0 number.0 both.0)) message.0.sender own.loan
   where
-    go : (server : Server) (message : Message) (kind : LoanKind) → message.number ≡ number → (sender : Option ThreadId) → IsOnLoan all server message kind sender → IsOne all number
+    go : (server : Server) (message : Message) (kind : LoanKind) → message.number ≡ number → (sender : Option ThreadId)
+        → IsOnLoan all server message kind sender → IsOne all number
     go server message kind same (Some sender) loan = inr (lend_run server message kind (Some loan.0), same, loan.2)
     go server message kind same None loan = inr (lend_run server message kind None, same, loan)
 
@@ -235,7 +239,8 @@ module _ (all : Loans) (homes left : List Run) (says : Says all homes left) (row
       (λ s. messages_told (is_made made s.pid) (IsMessageLent all (server_of s)) (λ m. made_told all homes left says apart s m) s) rows ascend
 
   -- where a number is that of a run, one lend has it
-  sent_of : AreAlike said made → AreNumbersApart (joined homes) (joined left) → (n : ℕ) → 1 ≤ count_by (is_run_of n) (joined homes) + count_by (is_run_of n) (joined left)
+  sent_of : AreAlike said made → AreNumbersApart (joined homes) (joined left) → (n : ℕ)
+      → 1 ≤ count_by (is_run_of n) (joined homes) + count_by (is_run_of n) (joined left)
       → HasOne (servers_of rows) (is_lend_of (number_of n))
   sent_of alike apart n some =
       let few = apart n in
@@ -248,7 +253,8 @@ module _ (all : Loans) (homes left : List Run) (says : Says all homes left) (row
   unfolding LendsMatched
   matched_of apart alike =
       let each : list_all (λ l. list_any (same_lend l) made) said ≡ true =
-      all_of_counted (λ l. list_any (same_lend l) made) said (λ l some. any_of_count (same_lend l) made (subst (λ (n : ℕ). 1 ≤ n) (alike (same_lend l)) some)) in
+      all_of_counted (λ l. list_any (same_lend l) made) said
+      (λ l some. any_of_count (same_lend l) made (subst (λ (n : ℕ). 1 ≤ n) (alike (same_lend l)) some)) in
       record {
         lends = (lends_matched apart).0 (sym (all_said (λ l. list_any (same_lend l) made) rows) ∙ each);
         loans_sent = λ p loan e. (
@@ -298,7 +304,8 @@ module _ (all : Loans) (homes left : List Run) (says : Says all homes left) (row
               one_lent all rows matched.lends number (subst (λ (n : ℕ). HasOne (servers_of rows) (is_lend_of (number_of n))) r.2 (orphan_lent matched r.0 r.1))
               )
           | inr no_orphan ↦ (
-              inl (fresh_of all homes left says number (no_page homes number.0 says.homes_ascend says.homes_single no_loan) (no_page left number.0 says.left_ascend says.left_single no_orphan))
+              inl (fresh_of all homes left says number (no_page homes number.0 says.homes_ascend says.homes_single no_loan)
+              (no_page left number.0 says.left_ascend says.left_single no_orphan))
               )
         ]
       ])
@@ -323,7 +330,8 @@ module _ (all : Loans) (homes left : List Run) (says : Says all homes left) (row
       let apart = apart_of_matched matched in
       let few = apart l.number in
       let runs = made_counted l.number (joined homes) (joined left) in
-      let each : list_all (λ x. list_any (same_lend x) made) said ≡ true = all_said (λ x. list_any (same_lend x) made) rows ∙ (lends_matched apart).1 matched.lends in
+      let each : list_all (λ x. list_any (same_lend x) made) said ≡ true = all_said (λ x. list_any (same_lend x) made) rows
+      ∙ (lends_matched apart).1 matched.lends in
       let have = all_have (λ x. list_any (same_lend x) made) said each in
       let less_said = count_less (same_lend l) (is_lend_numbered l.number) (of_one_number l) said in
       let less_made = count_less (same_lend l) (is_lend_numbered l.number) (of_one_number l) made in
@@ -343,7 +351,8 @@ module _ (all : Loans) (homes left : List Run) (says : Says all homes left) (row
                   let many = eqb-false (count_by (same_lend l) made) 0 some in
                   let once = lent_once matched l.number (omega (arith, many)) in
                   let others = none_of_count (same_lend l) said zero in
-                  let x = counted_has (is_lend_numbered l.number) (λ y. (list_any (same_lend y) made ≡ true) × (same_lend l y ≡ false)) said (omega arith) (pair_all said have others) in
+                  let x = counted_has (is_lend_numbered l.number) (λ y. (list_any (same_lend y) made ≡ true) × (same_lend l y ≡ false)) said
+                  (omega arith) (pair_all said have others) in
                   let there = count_of_any (same_lend x.0) made x.2.0 in
                   let number : x.0.number ≡ l.number = eqb-true x.0.number l.number x.1 in
                   let two = count_two (same_lend l) (same_lend x.0) (is_lend_numbered l.number) (λ y is. apart_lends x.0 y is x.2.1) (of_one_number l)
@@ -371,7 +380,8 @@ module _ (all : Loans) (homes left : List Run) (says : Says all homes left) (row
 
 -- ---- as a function tells it, of runs from the last to the first
 
-module _ (file : List ℕ) (servers : List ServerRow) (pages : List PageRow) (orphans : List OrphanRow) (p : Ascend server_key servers) (q : AscendInTwo page_key pages)
+module _ (file : List ℕ) (servers : List ServerRow) (pages : List PageRow) (orphans : List OrphanRow) (p : Ascend server_key servers)
+    (q : AscendInTwo page_key pages)
     (r : AscendInTwo orphan_key orphans) (runs left : List Run) (e : reverse runs ≡ loan_runs pages) (f : reverse left ≡ orphan_runs orphans) where
   abbrev ledger_loans : Loans
   ledger_loans = loans (ledger_of file pages orphans)
@@ -393,7 +403,9 @@ module _ (file : List ℕ) (servers : List ServerRow) (pages : List PageRow) (or
       → (HaveSame (flat_map lends_of servers) (made_of runs left) → IsTrue told) → IsTrue told ↔ AreLoansMatched ledger_loans (servers_of servers)
   loans_told apart told alike same = (
     λ holds.
-        matched_of ledger_loans (flat_map run_of pages) (map orphan_run orphans) says servers p (back.0 apart) (λ test. alike holds test ∙ sym (made_back runs left (loan_runs pages) (orphan_runs orphans) e f test)),
+        matched_of ledger_loans (flat_map run_of pages) (map orphan_run orphans) says servers p (back.0 apart)
+        (λ test. alike holds test ∙ sym (made_back runs left (loan_runs pages) (orphan_runs orphans) e f test)),
     λ matched.
-        same (λ l. same_of_matched ledger_loans (flat_map run_of pages) (map orphan_run orphans) says servers p matched l ∙ made_back runs left (loan_runs pages) (orphan_runs orphans) e f (same_lend l)),
+        same (λ l. same_of_matched ledger_loans (flat_map run_of pages) (map orphan_run orphans) says servers p matched l
+        ∙ made_back runs left (loan_runs pages) (orphan_runs orphans) e f (same_lend l)),
   )

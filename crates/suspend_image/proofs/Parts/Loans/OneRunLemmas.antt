@@ -139,7 +139,8 @@ clash rows n s a b span in_a in_b first p q low =
     ]
 
 none_behind : (rows : List Run) (n : ℕ) (s : Span) → IsSpan rows n s → (a : Run) → IsIn rows a → a.number ≡ n → (k : ℕ × ℕ) (runs : List Run)
-    → ((b : Run) → Less k (run_key b) → Less (run_key a) (run_key b)) → Ascending (Some k) runs → AllByRecursion (IsIn rows) runs → AllByRecursion (IsFirst rows) runs
+    → ((b : Run) → Less k (run_key b) → Less (run_key a) (run_key b)) → Ascending (Some k) runs → AllByRecursion (IsIn rows) runs
+    → AllByRecursion (IsFirst rows) runs
     → AllByRecursion (λ r. is_run_of n r ≡ false) runs
 none_behind rows n s span a in_a p k [] low forms own first = tt
 none_behind rows n s span a in_a p k (b ∷ runs) low forms own first =
@@ -156,7 +157,8 @@ once : (rows : List Run) (n : ℕ) (s : Span) → IsSpan rows n s → (before : 
 once rows n s span before [] forms own first = omega arith
 once rows n s span before (a ∷ runs) forms own first = elim (cases_Bool (is_run_of n a)) [
   | inl does ↦ (
-      let none = count_none (is_run_of n) runs (none_behind rows n s span a own.0 (eqb-true a.number n does) (run_key a) runs (λ b low. low) forms.1 own.1 first.1) in
+      let none = count_none (is_run_of n) runs
+      (none_behind rows n s span a own.0 (eqb-true a.number n does) (run_key a) runs (λ b low. low) forms.1 own.1 first.1) in
       let one = count_yes (is_run_of n) a runs does in
       omega arith
       )

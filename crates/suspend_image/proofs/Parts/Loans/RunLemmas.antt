@@ -51,11 +51,13 @@ lower_first None r (s ∷ rows) form forms = ((omega arith, omega arith), forms.
 lower_first (Some a) r (s ∷ rows) form forms = lower a (run_key r) (s ∷ rows) (form_behind a r form) forms
 
 pub run_above : (before k : ℕ × ℕ) (rows : List Run) (r : Run) → Ascending (Some before) rows → find (is_run k) rows ≡ Some r → Less before k
-run_above before k rows r forms e = above_of run_key is_run Less RunForm form_behind (pair_is run_key) (pair_own run_key) less_apart less_through before k rows r forms e
+run_above before k rows r forms e = above_of run_key is_run Less RunForm form_behind (pair_is run_key)
+    (pair_own run_key) less_apart less_through before k rows r forms e
 
 pub run_behind : (k : ℕ × ℕ) (s : Run) (rows : List Run) (r : Run) → Ascending (Some (run_key s)) rows → find (is_run k) rows ≡ Some r
     → find (is_run k) (s ∷ rows) ≡ Some r
-run_behind k s rows r forms e = behind_of run_key is_run Less RunForm form_behind (pair_is run_key) (pair_own run_key) less_apart less_through k s rows r forms e
+run_behind k s rows r forms e = behind_of run_key is_run Less RunForm form_behind (pair_is run_key)
+    (pair_own run_key) less_apart less_through k s rows r forms e
 
 pub run_first : (r : Run) (rows : List Run) → find (is_run (run_key r)) (r ∷ rows) ≡ Some r
 run_first r rows = ap (λ (b : Bool). cond b (some r) (find (is_run (run_key r)) rows)) (pair_own run_key r)
@@ -128,7 +130,8 @@ all_six a b c d e f p q r s t u = rw (p, q, r, s, t, u) refl
 
 follows : (r s : Run) → Follows r s → is_followed_by r s ≡ true
 follows r s f =
-    all_six _ _ _ _ _ _ (eq-eqb r.pid s.pid f.pid) (eq-eqb (r.page + 1) s.page f.page) (eq-eqb r.holder_pid s.holder_pid f.holder_pid) (eq-eqb r.end s.holder_page f.holder_page)
+    all_six _ _ _ _ _ _ (eq-eqb r.pid s.pid f.pid) (eq-eqb (r.page + 1) s.page f.page) (eq-eqb r.holder_pid s.holder_pid f.holder_pid)
+    (eq-eqb r.end s.holder_page f.holder_page)
     (beq_same r.shared s.shared f.shared) (eq-eqb r.number s.number f.number)
 
 -- a run with the page in front
@@ -196,7 +199,8 @@ grown_in r s rows single forms f own =
           number = a.number ∙ sym f.number;
         }
 
-behind_in : (r : Run) (rows : List Run) → Ascending (Some (run_key r)) rows → (runs : List Run) → AllByRecursion (IsIn rows) runs → AllByRecursion (IsIn (r ∷ rows)) runs
+behind_in : (r : Run) (rows : List Run) → Ascending (Some (run_key r)) rows → (runs : List Run) → AllByRecursion (IsIn rows) runs
+    → AllByRecursion (IsIn (r ∷ rows)) runs
 behind_in r rows forms [] all = tt
 behind_in r rows forms (s ∷ runs) all = (
   record {
@@ -316,7 +320,8 @@ each_covered before (r ∷ rows) forms single k e found =
           let some = own.0.some in
           subst (λ (b : Bool). IsCovered (JoinOf r s ss b) k) (sym does) (first_covered r s.end ss k (omega arith) is)
           )
-      | inr doesnt ↦ (let one = single.0 in subst (λ (b : Bool). IsCovered (JoinOf r s ss b) k) (sym doesnt) (first_covered r r.end (s ∷ ss) k (omega arith) is))
+      | inr doesnt ↦ (let one = single.0 in subst (λ (b : Bool). IsCovered (JoinOf r s ss b) k) (sym doesnt)
+          (first_covered r r.end (s ∷ ss) k (omega arith) is))
     ]
 
     tail : (runs : List Run) → IsCovered runs k → IsCovered (join r runs) k
@@ -403,7 +408,8 @@ far_firsts r rows a (s ∷ runs) low forms own =
     let behind = form_behind a s forms.0 in
     (far_first r s rows (far_away r a s low behind) own.0, far_firsts r rows (run_key s) runs (less_through (run_key r) a (run_key s) low behind) forms.1 own.1)
 
-pub each_first : (before : Option (ℕ × ℕ)) (rows : List Run) → Ascending before rows → AllByRecursion IsSingle rows → AllByRecursion (IsFirst rows) (joined rows)
+pub each_first : (before : Option (ℕ × ℕ)) (rows : List Run) → Ascending before rows → AllByRecursion IsSingle rows
+    → AllByRecursion (IsFirst rows) (joined rows)
 each_first before [] forms single = tt
 each_first before (r ∷ rows) forms single =
     go (joined rows) (runs_ascend (Some (run_key r)) rows forms.1) (each_first (Some (run_key r)) rows forms.1 single.1)

@@ -98,7 +98,8 @@ homes_said file k before (r ∷ rows) forms =
           let goal = λ (z : List Run). loan_of (option_map (ledger_page file) (find (is_page k) (r ∷ rows))) ≡ option_map loan_said (find (is_run k) z) in
           elim (cases_Bool (is_page k r)) [
             | inl is ↦ (
-                let above : Ascending (Some k) (lent rows) = subst (λ (z : ℕ × ℕ). Ascending (Some z) (lent rows)) (pair_is page_key k r is) (lent_ascend (Some (page_key r)) rows forms.1) in
+                let above : Ascending (Some k) (lent rows) = subst (λ (z : ℕ × ℕ). Ascending (Some z) (lent rows)) (pair_is page_key k r is)
+                (lent_ascend (Some (page_key r)) rows forms.1) in
                 subst goal (sym (first_free r rows free)) (ap look is ∙ ap says free ∙ sym (none_at k (lent rows) above (find (is_run k) (lent rows)) refl))
                 )
             | inr isnt ↦ subst goal (sym (first_free r rows free)) (ap look isnt ∙ others)

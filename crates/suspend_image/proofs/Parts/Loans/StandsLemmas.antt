@@ -63,7 +63,8 @@ none_lent rows number k none = go (find (is_run k) rows) refl
     go None e = refl
     go (Some r) e = of_number-apart number (loan_said r) (λ is. none k r e (ap (λ (z : Number). z.0) is))
 
-none_left : (rows : List Run) (number : Number) (k : ℕ × ℕ) → HasNoPage rows number.0 → orphan_of_number number (option_map orphan_said (find (is_run k) rows)) ≡ None
+none_left : (rows : List Run) (number : Number) (k : ℕ × ℕ) → HasNoPage rows number.0
+    → orphan_of_number number (option_map orphan_said (find (is_run k) rows)) ≡ None
 none_left rows number k none = go (find (is_run k) rows) refl
   where
     go : (o : Option Run) → find (is_run k) rows ≡ o → orphan_of_number number (option_map orphan_said o) ≡ None
@@ -73,7 +74,8 @@ none_left rows number k none = go (find (is_run k) rows) refl
 -- ---- the one run of a number stands
 
 -- what is at a place of a run
-pub at_place : (rows : List Run) (r : Run) → Ascending None rows → AllByRecursion IsSingle rows → Among (joined rows) r → count_by (is_run_of r.number) (joined rows) ≤ 1
+pub at_place : (rows : List Run) (r : Run) → Ascending None rows → AllByRecursion IsSingle rows → Among (joined rows) r
+    → count_by (is_run_of r.number) (joined rows) ≤ 1
     → (k : ℕ × ℕ) (e : Run) → find (is_run k) rows ≡ Some e → e.number ≡ r.number → (at : IsRunAt rows r k) × (at.page ≡ e)
 at_place rows r forms single among few k e found is =
     let over = run_over rows forms single k e found in
@@ -102,7 +104,8 @@ loans_stand all homes left says r among few none = record {
     own : IsIn homes r
     own = among_has (IsIn homes) (joined homes) r (each_in None homes says.homes_ascend says.homes_single) among
 
-    go : (p : Place) (o : Option Run) → find (is_run (key_of p)) homes ≡ o → of_number (number_of r.number) (option_map loan_said o) ≡ loan_of_run (lent_run r) p
+    go : (p : Place) (o : Option Run) → find (is_run (key_of p)) homes ≡ o
+        → of_number (number_of r.number) (option_map loan_said o) ≡ loan_of_run (lent_run r) p
     go p None e = elim (cases_Bool (in_run (home_of r) (r.end - r.holder_page) p)) [
       | inl inside ↦ (
           let h = in_run-true (home_of r) (r.end - r.holder_page) p inside in
@@ -121,7 +124,13 @@ loans_stand all homes left says r among few none = record {
           let holder_page = subst (λ (z : Run). z.holder_page ≡ r.holder_page + (p.vpn.0 - r.page)) here.1 at.holder_page in
           let shared = subst (λ (z : Run). z.shared ≡ r.shared) here.1 at.shared in
           of_number-at (number_of r.number) (loan_said e) (ap number_of number)
-          ∙ ap (λ (l : PageLoan). some l) (loan_same (loan_said e) (record { holder = moved (home_of r) (holder_of r) p; kind = kind_said r; number = number_of r.number }) holder_pid holder_page (kind_same e r shared) number)
+          ∙ ap (λ (l : PageLoan). some l)
+          (loan_same (loan_said e) (record {
+            holder = moved (home_of r)
+                (holder_of r) p;
+            kind = kind_said r;
+            number = number_of r.number;
+          }) holder_pid holder_page (kind_same e r shared) number)
           ∙ sym (loan_of_run-inside (lent_run r) (home_of r) p refl inside)
           )
       | inr isnt ↦ (
@@ -172,7 +181,8 @@ orphans_stand all homes left says r among few none = record {
         let to = h.to in
         run_at left r own (key_of p) (h.pid ∙ alone.pid) (omega arith) (omega arith)
 
-    go : (p : Place) (o : Option Run) → find (is_run (key_of p)) left ≡ o → orphan_of_number (number_of r.number) (option_map orphan_said o) ≡ orphan_of_run (left_run r) p
+    go : (p : Place) (o : Option Run) → find (is_run (key_of p)) left ≡ o
+        → orphan_of_number (number_of r.number) (option_map orphan_said o) ≡ orphan_of_run (left_run r) p
     go p None e = elim (cases_Bool (in_run (holder_of r) (r.end - r.holder_page) p)) [
       | inl inside ↦ (let at = inside_at p inside in no_none at.page (sym at.found ∙ e))
       | inr outside ↦ sym (orphan_of_run-outside (left_run r) p outside)
@@ -236,11 +246,13 @@ module _ (all : Loans) (homes left : List Run) (says : Says all homes left) (r :
       inside k e found is =
           let p : Place = place_at k.0 k.1 in
           let here : all.home p ≡ Some (loan_said e) = says.home p ∙ ap (option_map loan_said) found in
-          let own : some (loan_said e) ≡ loan_of_run r p = sym (of_number-at r.number (loan_said e) (ap number_of is)) ∙ sym (ap (of_number r.number) here) ∙ stands.homes p in
+          let own : some (loan_said e) ≡ loan_of_run r p = sym (of_number-at r.number (loan_said e) (ap number_of is))
+          ∙ sym (ap (of_number r.number) here) ∙ stands.homes p in
           elim (cases_Bool (in_run from r.count p)) [
             | inl at ↦ (
                 let h = in_run-true from r.count p at in
-                let same = some_same (loan_said e) (record { holder = moved from r.holder p; kind = r.kind; number = r.number }) (own ∙ loan_of_run-inside r from p lender at) in
+                let same = some_same (loan_said e) (record { holder = moved from r.holder p; kind = r.kind; number = r.number })
+                (own ∙ loan_of_run-inside r from p lender at) in
                 let low = h.from in
                 let page : e.holder_page ≡ r.holder.vpn.0 + (k.1 - from.vpn.0) = ap (λ (l : PageLoan). l.holder.vpn.0) same in
                 record {
@@ -259,14 +271,16 @@ module _ (all : Loans) (homes left : List Run) (says : Says all homes left) (r :
       there i low =
           let p = place_after from i in
           let own = stands-home all r from p stands lender (in_run-after from r.count i low) in
-          let m = mapped loan_said (find (is_run (key_of p)) homes) (record { holder = moved from r.holder p; kind = r.kind; number = r.number }) (sym (says.home p) ∙ own) in
+          let m = mapped loan_said (find (is_run (key_of p)) homes) (record { holder = moved from r.holder p; kind = r.kind; number = r.number })
+          (sym (says.home p) ∙ own) in
           (m.0, m.1, ap (λ (l : PageLoan). l.number.0) m.2)
 
   no_orphan_of_lender : (from : Place) → r.lender ≡ Some from → HasNoPage left r.number.0
   no_orphan_of_lender from lender k e found is =
       let p : Place = place_at k.0 k.1 in
       let here : all.orphan p ≡ Some (orphan_said e) = says.orphan p ∙ ap (option_map orphan_said) found in
-      no_none (orphan_said e) (sym (orphan_of_number-at r.number (orphan_said e) (ap number_of is)) ∙ sym (ap (orphan_of_number r.number) here) ∙ stands.orphans p ∙ orphan_of_run-lent r from p lender)
+      no_none (orphan_said e) (sym (orphan_of_number-at r.number (orphan_said e) (ap number_of is)) ∙ sym (ap (orphan_of_number r.number) here)
+      ∙ stands.orphans p ∙ orphan_of_run-lent r from p lender)
 
   -- an orphan is one of the loan
   pub of_dead : r.lender ≡ None → IsSpan left r.number.0 (span_of r.holder r.holder r)
@@ -301,7 +315,8 @@ module _ (all : Loans) (homes left : List Run) (says : Says all homes left) (r :
       there : (i : ℕ) → i < r.count → (e : Run) × (find (is_run (r.holder.pid.0, r.holder.vpn.0 + i)) left ≡ Some e) × (e.number ≡ r.number.0)
       there i low =
           let p = place_after r.holder i in
-          let own = orphan_of_number-Some r.number (all.orphan p) (record { kind = r.kind; number = r.number }) (stands.orphans p ∙ orphan_of_run-inside r p dead (in_run-after r.holder r.count i low)) in
+          let own = orphan_of_number-Some r.number (all.orphan p) (record { kind = r.kind; number = r.number })
+          (stands.orphans p ∙ orphan_of_run-inside r p dead (in_run-after r.holder r.count i low)) in
           let m = mapped orphan_said (find (is_run (key_of p)) left) (record { kind = r.kind; number = r.number }) (sym (says.orphan p) ∙ own.0) in
           (m.0, m.1, ap (λ (l : OrphanLoan). l.number.0) m.2)
 
@@ -309,7 +324,8 @@ module _ (all : Loans) (homes left : List Run) (says : Says all homes left) (r :
   no_loan_of_dead dead k e found is =
       let p : Place = place_at k.0 k.1 in
       let here : all.home p ≡ Some (loan_said e) = says.home p ∙ ap (option_map loan_said) found in
-      no_none (loan_said e) (sym (of_number-at r.number (loan_said e) (ap number_of is)) ∙ sym (ap (of_number r.number) here) ∙ stands.homes p ∙ loan_of_run-None r p dead)
+      no_none (loan_said e) (sym (of_number-at r.number (loan_said e) (ap number_of is)) ∙ sym (ap (of_number r.number) here) ∙ stands.homes p
+      ∙ loan_of_run-None r p dead)
 
   -- one run at most is of its number
   pub stands_once : count_by (is_run_of r.number.0) (joined homes) + count_by (is_run_of r.number.0) (joined left) ≤ 1
@@ -345,17 +361,28 @@ module _ (all : Loans) (homes left : List Run) (says : Says all homes left) wher
             let some = among_counted number.0 (joined homes) r.0 r.1 r.2 in
             let none = no_page left number.0 says.left_ascend says.left_single (omega arith) in
             let once : count_by (is_run_of number.0) (joined homes) ≤ 1 = omega arith in
-            inr (lent_run r.0, ap number_of r.2, loans_stand all homes left says r.0 r.1 (subst (λ (n : ℕ). count_by (is_run_of n) (joined homes) ≤ 1) (sym r.2) once) (subst (HasNoPage left) (sym r.2) none))
+            inr (
+              lent_run r.0,
+              ap number_of r.2,
+              loans_stand all homes left says r.0 r.1
+                  (subst (λ (n : ℕ). count_by (is_run_of n) (joined homes) ≤ 1) (sym r.2) once) (subst (HasNoPage left) (sym r.2) none),
+            )
             )
         | inr no_loan ↦ (
             elim (one_or_none number.0 (joined left)) [
               | inl r ↦ (
                   let none = no_page homes number.0 says.homes_ascend says.homes_single no_loan in
                   let once : count_by (is_run_of number.0) (joined left) ≤ 1 = omega arith in
-                  inr (left_run r.0, ap number_of r.2, orphans_stand all homes left says r.0 r.1 (subst (λ (n : ℕ). count_by (is_run_of n) (joined left) ≤ 1) (sym r.2) once) (subst (HasNoPage homes) (sym r.2) none))
+                  inr (
+                    left_run r.0,
+                    ap number_of r.2,
+                    orphans_stand all homes left says r.0 r.1
+                        (subst (λ (n : ℕ). count_by (is_run_of n) (joined left) ≤ 1) (sym r.2) once) (subst (HasNoPage homes) (sym r.2) none),
+                  )
                   )
               | inr no_orphan ↦ (
-                  inl (fresh_of number (no_page homes number.0 says.homes_ascend says.homes_single no_loan) (no_page left number.0 says.left_ascend says.left_single no_orphan))
+                  inl (fresh_of number (no_page homes number.0 says.homes_ascend says.homes_single no_loan)
+                  (no_page left number.0 says.left_ascend says.left_single no_orphan))
                   )
             ]
             )
@@ -379,7 +406,8 @@ module _ (all : Loans) (homes left : List Run) (says : Says all homes left) wher
   apart_of_one one n = elim (one (number_of n)) [
     | inl fresh ↦ fresh_none (number_of n) fresh
     | inr r ↦ (
-        subst (λ (m : ℕ). count_by (is_run_of m) (joined homes) + count_by (is_run_of m) (joined left) ≤ 1) (ap (λ (z : Number). z.0) r.1) (stands_once all homes left says r.0 r.2)
+        subst (λ (m : ℕ). count_by (is_run_of m) (joined homes) + count_by (is_run_of m) (joined left) ≤ 1) (ap (λ (z : Number). z.0) r.1)
+        (stands_once all homes left says r.0 r.2)
         )
   ]
 

@@ -136,7 +136,8 @@ alone_distinct before (r ∷ rows) forms alone =
       | inl free ↦ subst (IsDistinct same_key) (sym (first_free r rows free)) rest
       | inr on ↦ (
           let own : found (page_key r) (r ∷ rows) ≡ Some r = ap (λ (b : Bool). cond b (some r) (found (page_key r) rows)) (pair_own page_key r) in
-          let head = from_found (λ z. same_key (holder_key r) z ≡ false) (Some (page_key r)) rows forms.1 (λ k x e lent. apart k x e lent own on (cases_Bool (same_key (holder_key r) (holder_key x)))) in
+          let head = from_found (λ z. same_key (holder_key r) z ≡ false) (Some (page_key r)) rows forms.1
+          (λ k x e lent. apart k x e lent own on (cases_Bool (same_key (holder_key r) (holder_key x)))) in
           subst (IsDistinct same_key) (sym (first_holder r rows on)) (IsDistinct-cons same_key (holder_key r) (holders rows) head rest)
           )
     ]
@@ -144,7 +145,8 @@ alone_distinct before (r ∷ rows) forms alone =
     apart : (k : ℕ × ℕ) (x : PageRow) → found k rows ≡ Some x → eqb x.kind 0 ≡ false → found (page_key r) (r ∷ rows) ≡ Some r → eqb r.kind 0 ≡ false
         → (same_key (holder_key r) (holder_key x) ≡ true) ⊎ (same_key (holder_key r) (holder_key x) ≡ false) → same_key (holder_key r) (holder_key x) ≡ false
     apart k x e lent own on (inl same) =
-        let low = key_above page_key is_page Less PageForm (λ before p low. less_behind 0 0 before (page_key p) low.0 low.1) (pair_is page_key) (pair_own page_key)
+        let low = key_above page_key is_page Less PageForm (λ before p low. less_behind 0 0 before (page_key p) low.0 low.1) (pair_is page_key)
+        (pair_own page_key)
         less_apart less_through (page_key r) k rows x forms.1 e in
         let is = alone (page_key r) k r x own (stays k r rows x forms.1 e) on lent (same_is (holder_key r) (holder_key x) same) in
         absurd (less_apart k (subst (λ (z : ℕ × ℕ). Less z k) is low))
@@ -176,13 +178,16 @@ holders_apart_told file orphans rows told ascend tells = (
       let x_lent = lent_row file x.0 a (subst (λ (page : Page). page.loan ≡ Some a) (sym x.2) first.2) in
       let y_lent = lent_row file y.0 b (subst (λ (page : Page). page.loan ≡ Some b) (sym y.2) second.2) in
       let holder : holder_key x.0 ≡ holder_key y.0 =
-      ap (λ (l : PageLoan). (l.holder.pid.0, l.holder.vpn.0)) x_lent.1 ∙ ap (λ (at : Place). (at.pid.0, at.vpn.0)) same ∙ sym (ap (λ (l : PageLoan). (l.holder.pid.0, l.holder.vpn.0)) y_lent.1) in
+      ap (λ (l : PageLoan). (l.holder.pid.0, l.holder.vpn.0)) x_lent.1 ∙ ap (λ (at : Place). (at.pid.0, at.vpn.0)) same
+      ∙ sym (ap (λ (l : PageLoan). (l.holder.pid.0, l.holder.vpn.0)) y_lent.1) in
       ap (λ (k : ℕ × ℕ). place_at k.0 k.1) (alone (p.pid.0, p.vpn.0) (q.pid.0, q.vpn.0) x.0 y.0 x.1 y.1 x_lent.0 y_lent.0 holder)
       ),
   λ apart.
       tells.1 (alone_distinct None rows ascend (λ p q x y one other on lent same. (
-      let first : loan_of ((ledger_of file rows orphans).home (place_at p.0 p.1)) ≡ Some (loan_row x) = ap (λ (o : Option PageRow). loan_of (option_map (ledger_page file) o)) one ∙ row_lent file x on in
-      let second : loan_of ((ledger_of file rows orphans).home (place_at q.0 q.1)) ≡ Some (loan_row y) = ap (λ (o : Option PageRow). loan_of (option_map (ledger_page file) o)) other ∙ row_lent file y lent in
+      let first : loan_of ((ledger_of file rows orphans).home (place_at p.0 p.1)) ≡ Some (loan_row x) = ap
+      (λ (o : Option PageRow). loan_of (option_map (ledger_page file) o)) one ∙ row_lent file x on in
+      let second : loan_of ((ledger_of file rows orphans).home (place_at q.0 q.1)) ≡ Some (loan_row y) = ap
+      (λ (o : Option PageRow). loan_of (option_map (ledger_page file) o)) other ∙ row_lent file y lent in
       let is = apart (place_at p.0 p.1) (place_at q.0 q.1) (loan_row x) (loan_row y) first second (ap (λ (k : ℕ × ℕ). place_at k.0 k.1) same) in
       ap (λ (at : Place). (at.pid.0, at.vpn.0)) is
       ))),

@@ -36,7 +36,8 @@ and_true true = refl
 and_true false = refl
 
 -- Rows by their keys, of which some are good, and those at places of the machine count.
-module _ {A : Type 0} (key : A → ℕ × ℕ) (n : ℕ) (good counts : A → Bool) (tells : (x : A) → counts x ≡ (is_user_place n (place_at (key x).0 (key x).1) && good x)) where
+module _ {A : Type 0} (key : A → ℕ × ℕ) (n : ℕ) (good counts : A → Bool)
+    (tells : (x : A) → counts x ≡ (is_user_place n (place_at (key x).0 (key x).1) && good x)) where
   abbrev Form : Option (ℕ × ℕ) → A → Type 0
   Form before x = (least_first 0 before ≤ (key x).0) × (least_second 0 before (key x).0 ≤ (key x).1)
 
@@ -71,14 +72,16 @@ module _ {A : Type 0} (key : A → ℕ × ℕ) (n : ℕ) (good counts : A → Bo
   ]
 
   -- where the row isn't counted, the count is that of the others
-  uncounted : (x : A) (rows : List A) → AreInOrder Form key (Some (key x)) rows → counts x ≡ false → count_places n (there (x ∷ rows)) ≡ count_places n (there rows)
+  uncounted : (x : A) (rows : List A) → AreInOrder Form key (Some (key x)) rows → counts x ≡ false
+      → count_places n (there (x ∷ rows)) ≡ count_places n (there rows)
   unfolding count_places key_of
   uncounted x rows forms not = count_below-same _ _ _ (λ k low. each (nth_place k) (place_at-lies n k low) (is_at (key_of (nth_place k)) x) refl)
     where
       each : (p : Place) → is_user_place n p ≡ true → (b : Bool) → is_at (key_of p) x ≡ b → there (x ∷ rows) p ≡ there rows p
       each p lies true is =
           let same : own x ≡ p = ap (λ (k : ℕ × ℕ). place_at k.0 k.1) (pair_is key (key_of p) x is) in
-          let bad : good x ≡ false = sym (ap (λ (b : Bool). b && good x) (subst (λ (q : Place). is_user_place n q ≡ true) (sym same) lies)) ∙ sym (tells x) ∙ not in
+          let bad : good x ≡ false = sym (ap (λ (b : Bool). b && good x) (subst (λ (q : Place). is_user_place n q ≡ true) (sym same) lies))
+          ∙ sym (tells x) ∙ not in
           subst (λ (q : Place). there (x ∷ rows) q ≡ there rows q) same (at_own x rows ∙ bad ∙ sym (behind_own x rows forms))
       each p lies false isnt = ap (λ (b : Bool). is_good (cond b (some x) (find (is_at (key_of p)) rows))) isnt
 
@@ -123,15 +126,18 @@ orphan_counted : (file : List ℕ) (o : Option OrphanRow) → is_some (option_ma
 orphan_counted file None = refl
 orphan_counted file (Some o) = refl
 
-pub within_told : (n cap : ℕ) (file : List ℕ) (rows : List PageRow) (orphans : List OrphanRow) (told : Bool) → AscendInTwo page_key rows → AscendInTwo orphan_key orphans
+pub within_told : (n cap : ℕ) (file : List ℕ) (rows : List PageRow) (orphans : List OrphanRow) (told : Bool) → AscendInTwo page_key rows
+    → AscendInTwo orphan_key orphans
     → told ≡ leb (count_by (is_counted_page n) rows + count_by (is_counted_orphan n) orphans) cap → IsTrue told ↔ AreWithin n cap (ledger_of file rows orphans)
 unfolding pages
 within_told n cap file rows orphans told rows_ascend orphans_ascend is =
     let ledger = ledger_of file rows orphans in
     let first : count_places n (λ p. is_counted (ledger.home p)) ≡ count_by (is_counted_page n) rows =
-    count_places-same n _ _ (λ p. page_counted file (find (at_key page_key (p.pid.0, p.vpn.0)) rows)) ∙ places_counted page_key n (λ p. ltb p.right 4) (is_counted_page n) (λ p. refl) None rows rows_ascend in
+    count_places-same n _ _ (λ p. page_counted file (find (at_key page_key (p.pid.0, p.vpn.0)) rows))
+    ∙ places_counted page_key n (λ p. ltb p.right 4) (is_counted_page n) (λ p. refl) None rows rows_ascend in
     let second : count_places n (λ p. is_some (ledger.orphan p)) ≡ count_by (is_counted_orphan n) orphans =
-    count_places-same n _ _ (λ p. orphan_counted file (find (at_key orphan_key (p.pid.0, p.vpn.0)) orphans)) ∙ places_counted orphan_key n (λ o. true) (is_counted_orphan n) (λ o. and_true _) None orphans orphans_ascend in (
+    count_places-same n _ _ (λ p. orphan_counted file (find (at_key orphan_key (p.pid.0, p.vpn.0)) orphans))
+    ∙ places_counted orphan_key n (λ o. true) (is_counted_orphan n) (λ o. and_true _) None orphans orphans_ascend in (
       λ holds. (let low = leb-true _ _ (sym is ∙ holds) in omega (arith, first, second, low)),
       λ within. is ∙ le-leb _ _ (omega (arith, first, second, within)),
     )

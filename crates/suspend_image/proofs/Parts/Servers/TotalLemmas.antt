@@ -29,7 +29,8 @@ abbrev pub total : (MessageRow → Bool) → List ServerRow → ℕ
 total good rows = sum_by (many_at good) rows
 
 -- .. as many as things that rows have, of which those of a row that pass are as many as its messages that do
-pub listed : {A : Type 0} (things : ServerRow → List A) (test : A → Bool) (good : MessageRow → Bool) → ((s : ServerRow) → count_by test (things s) ≡ many_at good s)
+pub listed : {A : Type 0} (things : ServerRow → List A) (test : A → Bool) (good : MessageRow → Bool)
+    → ((s : ServerRow) → count_by test (things s) ≡ many_at good s)
     → (rows : List ServerRow) → count_by test (flat_map things rows) ≡ total good rows
 listed things test good each [] = refl
 listed things test good each (s ∷ rows) =

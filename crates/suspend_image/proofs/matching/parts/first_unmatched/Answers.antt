@@ -13,8 +13,10 @@ returns-then-not-branch c file =
 
 pub loop-number-preserved : goal.loop-number-preserved
 loop-number-preserved c file =
-    hold_more (machine_of file c.args.state.now) c.part_at-part.result c.loop-number.number c.part_at-part.ensures ((c.in_ok-is_part_matched.ensures file).0 c.if-not-branch.false) (c.loop-number.invariant file)
+    hold_more (machine_of file c.args.state.now) c.part_at-part.result c.loop-number.number c.part_at-part.ensures
+    ((c.in_ok-is_part_matched.ensures file).0 c.if-not-branch.false) (c.loop-number.invariant file)
 
 pub returns : goal.returns
 returns c file =
-    all_of (machine_of file c.args.state.now) (let ten : c.loop-number.number ≡ 10 = omega arith in subst (λ (n : ℕ). HoldBelow (machine_of file c.args.state.now) n) ten (c.loop-number.invariant file))
+    all_of (machine_of file c.args.state.now)
+    (let ten : c.loop-number.number ≡ 10 = omega arith in subst (λ (n : ℕ). HoldBelow (machine_of file c.args.state.now) n) ten (c.loop-number.invariant file))

@@ -8,5 +8,6 @@ loop-page-init c = ap (λ (xs : List Run). joined_onto c.args.pages.items (rever
 
 pub loop-page-preserved : goal.loop-page-preserved
 loop-page-preserved c =
-    ap (λ (xs : List Run). joined_onto c.pop.new.self.items xs) c.in_ok-put_in_front.ensures ∙ sym (onto_last c.pop.new.self.items c.in-Some.page (reverse c.loop-page.runs.items))
+    ap (λ (xs : List Run). joined_onto c.pop.new.self.items xs) c.in_ok-put_in_front.ensures
+    ∙ sym (onto_last c.pop.new.self.items c.in-Some.page (reverse c.loop-page.runs.items))
     ∙ ap (λ (xs : List Run). joined_onto xs (reverse c.loop-page.runs.items)) (sym c.in-Some.ensures.items) ∙ c.loop-page.invariant
