@@ -134,6 +134,19 @@ fn house_too_small(rt: HostRuntime) -> Result<(), Fail> {
     Ok(())
 }
 
+/// The first call of the store, which prepares the slots, fails.
+#[test]
+fn fault_of_the_store(rt: HostRuntime) -> Result<(), Fail> {
+    let alloc = rt.alloc();
+    let image = with_ram(alloc, &FIRST_IMAGE, 0x1_7000)?;
+    let texts = ["trace", "i", "e", "1000", "9"];
+    let run = call(alloc, &texts, image.as_slice(), b"tick 100", 1)?;
+    assert_eq!(rt; run.status, Status::SwapFault);
+    assert_eq!(rt; run.out.as_slice(), b"".as_slice());
+    assert_eq!(rt; run.notes.as_slice(), b"swap fault\n".as_slice());
+    Ok(())
+}
+
 /// More calls of the store than a run makes.
 const CALLS: u64 = 2000;
 
