@@ -17,7 +17,7 @@ use Rattle.xousim.specs.History.{History}
 use Rattle.xousim.specs.Outcome.Images.{Boots, IsSoundImage, Refuses, plan_in}
 use Rattle.xousim.specs.Outcome.Plays.{EndsPlay, EndsPlayed, HasCause, Ran, Tells, run_of}
 use Rattle.xousim.specs.Outcome.Sides.{Call, HostRose, IsTrusted, StoreSide}
-use Rattle.xousim.specs.Outcome.Starts.{Stops, frames_of}
+use Rattle.xousim.specs.Outcome.Starts.{Room, Stops, room_of}
 use Rattle.xousim.specs.Reading.{IsFile}
 use Rattle.xousim.specs.SplitCalls.{EndAlike, PlaysOn, is_cut_short}
 use Rattle.xousim.specs.Splits.{Setup, SplitOneCapacity}
@@ -53,17 +53,17 @@ not_stopped plan name start store (ImageFault fault) s whole = s
 not_stopped plan name start store (EventFault line) s whole = s
 not_stopped plan name start store (StepLimit limit) s whole = s
 
-ran : (play : Play) (frames : ℕ) (machine : Machine) (call : Call) (status : Status) → Tells play machine call status → HasCause play frames machine call status
+ran : (play : Play) (room : Room) (machine : Machine) (call : Call) (status : Status) → Tells play machine call status → HasCause play room machine call status
     → is_cut_short status ≡ false → (ending : Ending) × Ran play machine call ending × (status ≡ status_of play.limit ending)
-ran play frames machine call Done tells cause whole = (Played, tells, refl)
-ran play frames machine call (EventFault line) tells cause whole = (BadLine line, tells, refl)
-ran play frames machine call (StepLimit limit) tells cause whole = (LimitMet, tells, ap (λ (l : ℕ). StepLimit l) cause)
-ran play frames machine call ReadFault tells cause whole = absurd (not_whole whole)
-ran play frames machine call WriteFault tells cause whole = absurd (not_whole whole)
-ran play frames machine call SwapFault tells cause whole = absurd (not_whole whole)
-ran play frames machine call NoMemory tells cause whole = absurd tells
-ran play frames machine call Usage tells cause whole = absurd tells
-ran play frames machine call (ImageFault fault) tells cause whole = absurd tells
+ran play room machine call Done tells cause whole = (Played, tells, refl)
+ran play room machine call (EventFault line) tells cause whole = (BadLine line, tells, refl)
+ran play room machine call (StepLimit limit) tells cause whole = (LimitMet, tells, ap (λ (l : ℕ). StepLimit l) cause)
+ran play room machine call ReadFault tells cause whole = absurd (not_whole whole)
+ran play room machine call WriteFault tells cause whole = absurd (not_whole whole)
+ran play room machine call SwapFault tells cause whole = absurd (not_whole whole)
+ran play room machine call NoMemory tells cause whole = absurd tells
+ran play room machine call Usage tells cause whole = absurd tells
+ran play room machine call (ImageFault fault) tells cause whole = absurd tells
 
 module _ (setup : Setup) (events : List ℕ) (play : Play) (call : Call) (plays : PlaysOn setup events play call) (args : Args)
     (sound : IsSoundImage setup.image setup.asked args) where
@@ -96,7 +96,7 @@ module _ (setup : Setup) (events : List ℕ) (play : Play) (call : Call) (plays 
       subst (λ (asked : Option ℕ). Boots setup.image asked e.machine) plays.slots
       (subst (λ (bytes : List ℕ). Boots bytes play.slots e.machine) (is_bytes play.image image.bytes setup.image plays.image image.read) image.boots) in
       let trusted : IsTrusted call.store (plan_in image).slots = plays.trusted image.bytes image.boots.args image.read image.boots.sound in
-      let r = ran play (frames_of (plan_in image)) e.machine call call.status (e.content trusted) e.cause plays.whole in
+      let r = ran play (room_of (plan_in image)) e.machine call call.status (e.content trusted) e.cause plays.whole in
       let same : r.1.events ≡ events = is_bytes play.events r.1.events events plays.event_file r.1.is_file in
       record {
         machine = e.machine;
