@@ -94,13 +94,13 @@ def tag(name, *words):
     return name + struct.pack("<HH", crc_x25(contents), len(words)) + contents
 
 
-def image(code, processes=1, zero_pages=0):
+def image(code, processes=1, zero_pages=0, ram_bytes=RAM_BYTES):
     """So many processes, each with this code in an executable section and a section of zeros."""
     sections = 2 if zero_pages else 1
     row_bytes = 28 + processes * (8 + 8 + 8 * sections)
     load = row_bytes
     name = int.from_bytes(b"sram", "little")
-    row = tag(b"XArg", row_bytes // 4, 1, 0x4000_0000, RAM_BYTES, name)
+    row = tag(b"XArg", row_bytes // 4, 1, 0x4000_0000, ram_bytes, name)
     words = [load, ENTRY, ENTRY, 4 * len(code) | EXECUTABLE << 24]
     if zero_pages:
         words += [ZEROS, zero_pages * PAGE | (WRITABLE | ZERO_FILLED) << 24]

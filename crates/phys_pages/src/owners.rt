@@ -126,3 +126,6 @@ impl Owners {
         let _ = &self.slots;
     }
 }
+
+#[cfg(test)]
+pub(crate) mod parts;

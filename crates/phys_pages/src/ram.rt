@@ -132,3 +132,6 @@ impl Ram {
         are_bytes(self.bytes.as_slice());
     }
 }
+
+#[cfg(test)]
+pub(crate) mod parts;

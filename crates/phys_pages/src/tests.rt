@@ -71,6 +71,20 @@ const HOME: Place = Place {
     vpn: Vpn(0x1_0000),
 };
 
+// A field more, as a copy of the rights, and the patterns of `parts` don't compile.
+#[test]
+fn memory_parts(rt: HostRuntime) {
+    let ram = Ram::new(rt.alloc(), START, 22);
+    let owners = Owners::new(rt.alloc(), Frame(21), 1, 2);
+    match (ram, owners) {
+        (Ok(ram), Ok(owners)) => {
+            assert_eq!(rt; ram::parts::parts(&ram), (START, 22 * 4096));
+            assert_eq!(rt; owners::parts::parts(&owners), (Frame(21), 1, 2));
+        }
+        _ => assert!(rt; false),
+    }
+}
+
 #[test]
 fn full_but_for_the_last_frame(rt: HostRuntime) {
     let holder = Place {

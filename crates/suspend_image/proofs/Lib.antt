@@ -1,3 +1,4 @@
+pub mod FaultLemmas
 pub mod FoundSpelled
 pub mod Parts
 pub mod RowLoopLemmas

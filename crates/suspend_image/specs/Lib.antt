@@ -1,11 +1,16 @@
+pub mod FileFaults
 pub mod Forms
+pub mod LendParts
 pub mod Machines
 pub mod PageParts
 pub mod Parts
 pub mod Reading
 pub mod Rows
+pub mod RunParts
 pub mod ServerParts
 pub mod Sheets
 pub mod Spelling
 pub mod StateFaults
+pub mod UnmatchedParts
+pub mod WaitParts
 pub mod Words

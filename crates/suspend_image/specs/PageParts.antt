@@ -1,10 +1,10 @@
 -- What the invariant of the machine asks of pages, as tests of the rows.
-use Rattle.std.specs.Prelude.{◌≡◌, ℕ, ◌+◌, ◌/◌, ◌%◌, ◌==◌, ◌&&◌, ◌||◌, not, nat_le, nat_lt, Bool, true, false, IsTrue, List, Some, None}
+use Rattle.std.specs.Prelude.{◌≡◌, ℕ, ◌+◌, ◌/◌, ◌%◌, ◌==◌, ◌&&◌, ◌||◌, ◌≤◌, not, nat_le, nat_lt, Bool, true, false, IsTrue, if◌then◌else◌, List, [], ◌∷◌, Some, None}
 use Rattle.std.specs.List.{list_all, list_any}
 use Rattle.xk_base.specs.declared.ids.Place.{Place}
 use Rattle.xk_base.specs.declared.pages.LoanKind.TheVariants.{Exclusive}
 use Rattle.xk_base.specs.declared.windows.Window.TheVariants.{Message, Map}
-use Rattle.ledger_model.specs.Ledger.{Console, Page, PageLoan, Orphan, Ledger, loan_at}
+use Rattle.ledger_model.specs.Ledger.{Console, Page, PageLoan, Orphan, Ledger, loan_at, pages}
 use Rattle.ledger_model.specs.Places.{is_user_place, is_place_in}
 use Rattle.machine_model.specs.State.Machine.{Process}
 use Rattle.machine_model.specs.Runs.Matched.{is_alive}
@@ -108,3 +108,36 @@ pub record ArePlacesApart (ledger : Ledger) : Type 0 where
   pub holder_no_home : (p : Place) (loan : PageLoan) → loan_at ledger p ≡ Some loan → ledger.home loan.holder ≡ None
   pub holder_no_orphan : (p : Place) (loan : PageLoan) → loan_at ledger p ≡ Some loan → ledger.orphan loan.holder ≡ None
   pub orphan_no_home : (p : Place) (orphan : Orphan) → ledger.orphan p ≡ Some orphan → ledger.home p ≡ None
+
+-- ---- holders
+
+-- two keys of two numbers are one
+abbrev pub same_key : ℕ × ℕ → ℕ × ℕ → Bool
+same_key a b = a.0 == b.0 && a.1 == b.1
+
+-- the place at which its holder has a page
+abbrev pub holder_key : PageRow → ℕ × ℕ
+holder_key p = (p.holder_pid, p.holder_page)
+
+-- .. where it is on loan, as a list of at most one
+abbrev pub holder_of : PageRow → List (ℕ × ℕ)
+holder_of p = if p.kind == 0 then [] else holder_key p ∷ []
+
+-- part 1 of holders' places: no two pages on loan have one
+abbrev pub AreHoldersApart : Ledger → Type 0
+AreHoldersApart ledger =
+    (p q : Place) (a b : PageLoan) → loan_at ledger p ≡ Some a → loan_at ledger q ≡ Some b → a.holder ≡ b.holder → p ≡ q
+
+-- ---- the capacity
+
+-- a page that counts: it has a place of the machine and isn't the console
+abbrev pub is_counted_page : ℕ → PageRow → Bool
+is_counted_page n p = is_home_placed n p && nat_lt p.right 4
+
+-- .. and an orphan that does
+abbrev pub is_counted_orphan : ℕ → OrphanRow → Bool
+is_counted_orphan n o = is_user_place n (place_at o.pid o.page)
+
+-- part 1 of the capacity: there is room for all pages and orphans
+abbrev pub AreWithin : ℕ → ℕ → Ledger → Type 0
+AreWithin n capacity ledger = pages n ledger ≤ capacity

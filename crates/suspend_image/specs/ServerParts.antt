@@ -5,9 +5,6 @@ use Rattle.std.specs.List.{list_all, list_any, count_by}
 use Rattle.suspend_image.specs.declared.state.MessageRow.{MessageRow}
 use Rattle.suspend_image.specs.declared.state.ProcRow.{ProcRow}
 use Rattle.suspend_image.specs.declared.state.ServerRow.{ServerRow}
-use Rattle.suspend_image.specs.declared.state.ThreadRow.{ThreadRow}
-use Rattle.suspend_image.specs.declared.matching.messages.Sought.{Sought}
-use Rattle.suspend_image.specs.declared.matching.messages.Sought.TheVariants.{Numbered, SentAs}
 use Rattle.suspend_image.specs.Machines.{processes_of}
 
 -- a server of a living process
@@ -43,10 +40,9 @@ is_numbered number m = m.number == number
 abbrev pub is_sent_as : ℕ → ℕ → ℕ → MessageRow → Bool
 is_sent_as number pid tid m = m.number == number && (not (m.sender_pid == 0) && (pid == m.sender_pid && tid == m.sender_tid))
 
--- what is looked for among messages
-abbrev pub is_sought : Sought → MessageRow → Bool
-is_sought (Numbered number) = is_numbered number
-is_sought (SentAs number pid tid) = is_sent_as number pid tid
+-- .. and as a lend or mutable lend
+abbrev pub is_lent_by : ℕ → MessageRow → Bool
+is_lent_by number m = m.number == number && (m.kind == 1 || m.kind == 2)
 
 -- how many messages of a server pass a test
 abbrev pub many_at : (MessageRow → Bool) → ServerRow → ℕ
@@ -74,18 +70,6 @@ are_few_apart procs rows =
 
 -- ---- senders
 
--- a thread that is Waiting is the sender of exactly one message of that number
-abbrev pub is_sender : List ServerRow → ThreadRow → Bool
-is_sender rows t = not (t.state == 2) || has_one (is_sent_as t.waits t.pid t.tid) rows
-
--- a thread is Waiting for a message of this number
-abbrev pub is_waiting_for : MessageRow → ThreadRow → Bool
-is_waiting_for m t = (t.pid == m.sender_pid && t.tid == m.sender_tid) && (t.state == 2 && t.waits == m.number)
-
--- a message has no sender, or one that is Waiting for it
-abbrev pub is_waited_for : List ThreadRow → MessageRow → Bool
-is_waited_for threads m = m.sender_pid == 0 || list_any (is_waiting_for m) threads
-
 -- it is to be answered: a lend of either kind or a blocking scalar
 abbrev pub is_to_answer : MessageRow → Bool
 is_to_answer m = m.kind == 1 || (m.kind == 2 || m.kind == 5)
@@ -101,8 +85,3 @@ is_sized m = m.kind == 1 || (m.kind == 2 || (m.kind == 3 || (m.first == 0 && m.c
 -- the messages of a server are queued, held and sized as their kinds say
 abbrev pub are_messages_right : ServerRow → Bool
 are_messages_right s = list_all is_queueable s.queued && (list_all is_to_answer s.held && all_messages is_sized s)
-
--- they are, their senders wait, and who waits is a sender
-abbrev pub are_senders_told : List ThreadRow → List ServerRow → Bool
-are_senders_told threads rows =
-    list_all are_messages_right rows && (list_all (all_messages (is_waited_for threads)) rows && list_all (is_sender rows) threads)

@@ -1,9 +1,13 @@
 //! What holds of every list of bytes.
 
 ghost use Rattle.std.specs.Prelude.{◌≡◌, ℕ, ◌<◌, List, None, Ok, slice_index};
+ghost use Rattle.kernel_args.specs.declared.faults.ArgFault.{ArgFault};
+ghost use Rattle.machine_model.specs.Runs.Matched.{Matched};
 ghost use Rattle.suspend_image.specs.declared.state.State.{State};
 ghost use Rattle.suspend_image.specs.Forms.{Spells};
 ghost use Rattle.suspend_image.specs.StateFaults.{state_of, state_fault};
+ghost use Rattle.suspend_image.specs.Machines.{machine_of};
+ghost use Rattle.suspend_image.specs.FileFaults.{IsFirstFault};
 
 /// Bytes spell exactly one state, or they have a fault, and never both; reading finds the state that
 /// they spell. The function does nothing; its contract is the law.
@@ -12,4 +16,11 @@ pub fn spelled_once_or_faulty()
     ensures once { (file : List ℕ) (one other : State) → Spells file one → Spells file other → one ≡ other }
     ensures never_both { (file : List ℕ) (state : State) → Spells file state → state_fault file ≡ None }
     ensures read { (file : List ℕ) (state : State) → Spells file state → state_of file ≡ Ok state }
+{}
+
+/// No file has two first faults, and none has one that spells a state in which the machine can be.
+/// The function does nothing; its contract is the law.
+pub fn matched_or_faulty()
+    ensures once { (file : List ℕ) (one other : ArgFault) → IsFirstFault file one → IsFirstFault file other → one ≡ other }
+    ensures never_both { (file : List ℕ) (state : State) (fault : ArgFault) → Spells file state → Matched (machine_of file state) → IsFirstFault file fault → ⊥ }
 {}

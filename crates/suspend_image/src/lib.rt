@@ -9,10 +9,15 @@ mod reading;
 mod state;
 mod writing;
 
-pub use faults::{NOT_STATE, STATE_CHECK, STATE_FORM, STATE_LENGTH, StateError};
-pub use laws::spelled_once_or_faulty;
+pub use faults::{NOT_STATE, STATE_CHECK, STATE_FORM, STATE_LENGTH, STATE_UNMATCHED, StateError};
+pub use laws::{matched_or_faulty, spelled_once_or_faulty};
+pub use matching::capacity::are_within;
+pub use matching::holders::are_holders_apart;
+pub use matching::lends::are_loans_matched;
 pub use matching::pages::{are_heaps_matched, are_holders_living, are_homes_living};
+pub use matching::parts::{Part, first_unmatched};
 pub use matching::places::{are_orphans_placed, are_pages_placed, has_one_console};
+pub use matching::runs::are_one_run;
 pub use matching::search::are_places_apart;
 pub use matching::senders::are_senders_matched;
 pub use matching::servers::{are_next_above, are_servers_matched};

@@ -1,12 +1,19 @@
 //! Whether the machine can be in a state that was read: parts of its invariant, each told from the
 //! rows.
 
+pub mod capacity;
+pub mod holders;
+pub mod lends;
 pub mod messages;
+pub mod order;
 pub mod pages;
+pub mod parts;
 pub mod places;
+pub mod runs;
 pub mod search;
 pub mod senders;
 pub mod servers;
+pub mod waits;
 
 ghost use Rattle.std.specs.Prelude.{◌≡◌, ◌↔◌, ◌==◌, ◌%◌, ◌&&◌, ◌||◌, ◌≤◌, not, nat_lt, nat_le, length, IsTrue};
 ghost use Rattle.std.specs.List.{list_any, list_all};
@@ -147,7 +154,7 @@ fn is_thread_living(n: u32, procs: &[ProcRow], thread: &ThreadRow) -> bool
         && is_alive(procs, thread.pid)
 }
 
-fn all_threads_living(n: u32, procs: &[ProcRow], threads: &[ThreadRow]) -> bool
+pub fn all_threads_living(n: u32, procs: &[ProcRow], threads: &[ThreadRow]) -> bool
     ensures { result ≡ list_all (is_thread_living_of n procs.now) threads.now }
 {
     threads
@@ -173,7 +180,7 @@ fn is_claim_living(procs: &[ProcRow], claim: &ClaimRow) -> bool
     claim.number < INTERRUPT_LIMIT as u32 && is_alive(procs, claim.pid)
 }
 
-fn all_claims_living(procs: &[ProcRow], claims: &[ClaimRow]) -> bool
+pub fn all_claims_living(procs: &[ProcRow], claims: &[ClaimRow]) -> bool
     ensures { result ≡ list_all (is_claim_living_of procs.now) claims.now }
 {
     claims.iter().all(|claim| is_claim_living(procs, claim))
@@ -229,7 +236,7 @@ fn all_apart(procs: &[ProcRow]) -> bool
 }
 
 /// The limits are looked at first, so that few serials are compared.
-fn are_processes_told(n: u32, procs: &[ProcRow]) -> bool
+pub fn are_processes_told(n: u32, procs: &[ProcRow]) -> bool
     ensures { result ≡ are_processes_told_of n procs.now }
 {
     n <= PROCESS_LIMIT as u32 && all_within_limits(procs) && all_apart(procs)

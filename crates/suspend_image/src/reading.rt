@@ -14,9 +14,16 @@ ghost use Rattle.kernel_args.specs.Faults.{first_fault};
 ghost use Rattle.suspend_image.specs.Reading.{Gives};
 ghost use Rattle.suspend_image.specs.Forms.{Spells};
 ghost use Rattle.suspend_image.specs.StateFaults.{state_at, is_not_state as is_not_state_of, is_bad_state_check, header_faults, state_fault, IsFault};
+ghost use Rattle.machine_model.specs.Runs.Matched.{Matched};
+ghost use Rattle.suspend_image.specs.Machines.{machine_of};
+ghost use Rattle.suspend_image.specs.FileFaults.{IsRefused, state_unmatched};
+ghost use Rattle.suspend_image.specs.UnmatchedParts.{number_of};
 ghost use Rattle.suspend_image.specs.declared.faults.StateError.TheVariants.{Fault};
 
-use crate::faults::{NOT_STATE, STATE_CHECK, STATE_FORM, STATE_LENGTH, StateError};
+use crate::faults::{
+    NOT_STATE, STATE_CHECK, STATE_FORM, STATE_LENGTH, STATE_UNMATCHED, StateError,
+};
+use crate::matching::parts::{Part, first_unmatched};
 use crate::reading::broken::Broken;
 use crate::reading::claims::front_claims;
 use crate::reading::numbers::{front_numbers, front_reserved, front_timer};
@@ -115,10 +122,9 @@ fn header_fault(bytes: &[u8]) -> Option<ArgFault>
     Some(ArgFault { what, at })
 }
 
-/// Reads a state file: the state that it spells, or its first fault. Whether that state is one that
-/// the machine can be in isn't looked at yet.
+/// The state that a file spells, or the first fault of its form.
 #[tactic(auto, unfolding(crate::specs::StateFaults::state_fault))]
-pub fn read_state(alloc: Global, bytes: &[u8]) -> Result<State, StateError>
+fn spelled_state(alloc: Global, bytes: &[u8]) -> Result<State, StateError>
     ensures spelled { IfOk result (Spells bytes.now) }
     ensures fault { IfErr result (IsFault (state_fault bytes.now)) }
 {
@@ -133,5 +139,28 @@ pub fn read_state(alloc: Global, bytes: &[u8]) -> Result<State, StateError>
             at: (size as usize).saturating_sub(left) as u32,
         })),
         Err(Broken::NoMemory) => Err(StateError::NoMemory),
+    }
+}
+
+/// The fault of a state that the machine can't be in.
+fn unmatched(part: Part) -> StateError
+    ensures { result ≡ Fault (record { what = state_unmatched; at = number_of part }) }
+{
+    StateError::Fault(ArgFault {
+        what: STATE_UNMATCHED,
+        at: part.number(),
+    })
+}
+
+/// Reads a state file: the state that it spells, one that the machine can be in, or its first fault.
+pub fn read_state(alloc: Global, bytes: &[u8]) -> Result<State, StateError>
+    ensures spelled { IfOk result (Spells bytes.now) }
+    ensures matched { IfOk result (λ state. Matched (machine_of bytes.now state)) }
+    ensures fault { IfErr result (IsRefused bytes.now) }
+{
+    let state = spelled_state(alloc, bytes)?;
+    match first_unmatched(alloc, &state)? {
+        None => Ok(state),
+        Some(part) => Err(unmatched(part)),
     }
 }

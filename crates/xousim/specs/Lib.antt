@@ -4,8 +4,12 @@ pub mod Gathering
 pub mod History
 pub mod Load
 pub mod Outcome
+pub mod PageFile
 pub mod Playing
+pub mod ProgramStore
 pub mod Reading
+pub mod SplitCalls
+pub mod Splits
 pub mod Standing
 pub mod Status
 pub mod Summary

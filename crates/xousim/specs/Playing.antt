@@ -90,19 +90,19 @@ ForEach taken finished P = (more : List ℕ) → (finished ≡ true → more ≡
 abbrev pub EndsSo : Run → List ℕ → Bool → Stand → Ending → Type 0
 EndsSo run taken finished now ending =
     ForEach taken finished (λ input. now.trusted ≡ true
-        → Gathered run.tells run.begun now.text (history_of input run.limit run.start) ending
-        × (now.machine ≡ (history_of input run.limit run.start).machine))
+    → Gathered run.tells run.begun now.text (history_of input run.limit run.start) ending
+    × (now.machine ≡ (history_of input run.limit run.start).machine))
 
 -- a part from the front of that was put, where a write failed; what is told of so many steps, where the store failed, and then, trusted or not,
 -- some state has more pages than there are frames for
 abbrev pub FailsSo : Run → List ℕ → Bool → Stand → PlayFault → Type 0
 FailsSo run taken finished now Write =
     ForEach taken finished (λ input. now.trusted ≡ true
-        → GatheredPart run.tells run.begun now.text (history_of input run.limit run.start))
+    → GatheredPart run.tells run.begun now.text (history_of input run.limit run.start))
 FailsSo run taken finished now Swap =
     ForEach taken finished (λ input.
-        (now.trusted ≡ true → GathersSome run.tells run.begun now.text run.limit (λ done. history_of input done run.start))
-        × ComesFull now.room run.start (moments_of input.events run.limit run.start))
+    (now.trusted ≡ true → GathersSome run.tells run.begun now.text run.limit (λ done. history_of input done run.start))
+    × ComesFull now.room run.start (moments_of input.events run.limit run.start))
 
 -- what came of an answer of the reader
 abbrev pub Advances : Run → List ℕ → Bool → Reader → Stand → Result Advance PlayFault → Type 0
@@ -124,18 +124,18 @@ abbrev pub Runs : Run → Option (List ℕ) → Option (List ℕ) → Stand → 
 Runs run left left_after now (Ok ending) =
     (bytes : List ℕ) × IsTold left bytes
     × (now.trusted ≡ true
-        → Wrote run.tells run.begun.out now.text.out (history_of (input_of bytes) run.limit run.start) ending
-        × (now.machine ≡ (history_of (input_of bytes) run.limit run.start).machine))
+    → Wrote run.tells run.begun.out now.text.out (history_of (input_of bytes) run.limit run.start) ending
+    × (now.machine ≡ (history_of (input_of bytes) run.limit run.start).machine))
 Runs run left left_after now (Err faults.Write) =
     (bytes : List ℕ) × IsTold left bytes
     × (now.trusted ≡ true
-        → GrowsByPrefix run.begun.out now.text.out (told run.tells (history_of (input_of bytes) run.limit run.start).records))
+    → GrowsByPrefix run.begun.out now.text.out (told run.tells (history_of (input_of bytes) run.limit run.start).records))
 Runs run left left_after now (Err faults.Swap) =
     (bytes : List ℕ) × IsTold left bytes
     × (now.trusted ≡ true
-        → WroteSome run.tells run.begun.out now.text.out run.limit (λ done. history_of (input_of bytes) done run.start))
+    → WroteSome run.tells run.begun.out now.text.out run.limit (λ done. history_of (input_of bytes) done run.start))
     × ComesFull now.room run.start (moments_of (input_of bytes).events run.limit run.start)
 Runs run left left_after now (Err faults.Read) =
     (read : List ℕ) × Consumes left left_after read
     × (now.trusted ≡ true
-        → Wrote run.tells run.begun.out now.text.out (history_of (input_of (whole_lines read)) run.limit run.start) why.Played)
+    → Wrote run.tells run.begun.out now.text.out (history_of (input_of (whole_lines read)) run.limit run.start) why.Played)

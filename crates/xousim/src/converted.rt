@@ -10,7 +10,7 @@ ghost use Rattle.xousim.specs.Outcome.Images.{Boots};
 
 /// Whatever machine an image of version 1 boots, for whatever slots that are asked for, the image that it
 /// is converted into has no fault and boots that machine too: so both play alike.
-#[tactic(auto, using(crate::proofs::ConvertedBootLemmas::converted_boots))]
+#[tactic(auto, using(crate::proofs::Images::ConvertedBootLemmas::converted_boots))]
 pub fn converted_image_boots_the_same()
     ensures { (image : List ℕ) (args : Args) (asked : Option ℕ) (machine : Machine) → Spells image args → args.version ≡ 1
         → length (converted image args) ≤ IMAGE_LIMIT → Boots image asked machine → Boots (converted image args) asked machine }

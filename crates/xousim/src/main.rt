@@ -9,6 +9,7 @@ mod matched;
 mod notes;
 mod outside;
 mod playing;
+mod splits;
 mod status;
 #[cfg(test)]
 mod tests;
@@ -17,12 +18,25 @@ mod verdict;
 
 use notes::write_note;
 use outside::adapters::{ErrSink, FileHost, StdSink};
+use outside::page_file::RealDisk;
+use outside::program_store::ProgramStore;
 use status::{Ended, Status};
-use std::env;
 use std::io::ErrorKind;
 use std::process::ExitCode;
+use std::rt::Files;
+use std::{env, fs, io};
 use top::xous_main;
-use xk_ports::{MemStore, Sink};
+use xk_ports::Sink;
+
+/// Opens three files, which stay open as long as the answer lives.
+///
+/// A file that is opened takes the least descriptor that is free, which is that of a standard stream
+/// where the program was started without it. While these three are open no later file takes one of
+/// 0 to 2, so no file gets what is written to a stream. They can't be written to: a write to a
+/// stream that is closed fails as it would without them.
+fn hold_descriptors<R: Files>(rt: &R) -> io::Result<(R::File, R::File, R::File)> {
+    Ok((fs::open(rt, "/")?, fs::open(rt, "/")?, fs::open(rt, "/")?))
+}
 
 /// Ends before there are words to look at, with a note.
 fn end<N: Sink>(status: Status, notes: &mut N) -> ExitCode {
@@ -33,6 +47,9 @@ fn end<N: Sink>(status: Status, notes: &mut N) -> ExitCode {
 fn main(rt: HostRuntime) -> ExitCode {
     let alloc = rt.alloc();
     let mut notes = ErrSink::new(rt.stderr());
+    let Ok(_held) = hold_descriptors(&rt) else {
+        return end(Status::ReadFault, &mut notes);
+    };
     let words: Vec<String> = match env::args(&rt) {
         Ok(args) => match args.skip(1).collect(alloc) {
             Ok(words) => words,
@@ -46,7 +63,8 @@ fn main(rt: HostRuntime) -> ExitCode {
     };
     let mut host = FileHost::new(&rt);
     let mut out = StdSink::new(rt.stdout());
-    let store = MemStore::new(Vec::new(alloc));
+    let disk = RealDisk::new(&rt);
+    let store = ProgramStore::new(alloc, &disk);
     let Ended { status, store: _ } = xous_main(
         alloc,
         words.as_slice(),

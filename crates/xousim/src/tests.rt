@@ -16,6 +16,7 @@ mod processes;
 mod programs;
 mod scalars;
 mod servers;
+mod swapping;
 mod timer;
 mod versions;
 

@@ -1,4 +1,7 @@
 -- Rows by their keys.
+pub mod CountLemmas
+pub mod DifferLemmas
 pub mod KeyLemmas
 pub mod OrderLemmas
+pub mod SameLemmas
 pub mod SearchLemmas

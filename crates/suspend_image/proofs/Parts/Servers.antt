@@ -2,6 +2,9 @@
 pub mod NextLemmas
 pub mod OneLemmas
 pub mod SenderLemmas
+pub mod SentWaitLemmas
 pub mod ServerLemmas
 pub mod ServerRowLemmas
 pub mod ServersLemmas
+pub mod TotalLemmas
+pub mod WaitLemmas

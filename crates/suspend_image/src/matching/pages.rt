@@ -71,7 +71,7 @@ fn is_home_living(procs: &[ProcRow], page: &PageRow) -> bool
     is_alive(procs, page.pid)
 }
 
-fn all_homes_living(procs: &[ProcRow], pages: &[PageRow]) -> bool
+pub fn all_homes_living(procs: &[ProcRow], pages: &[PageRow]) -> bool
     ensures { result ≡ list_all (is_home_living_of procs.now) pages.now }
 {
     pages.iter().all(|page| is_home_living(procs, page))
@@ -91,7 +91,7 @@ fn is_holder_living(procs: &[ProcRow], page: &PageRow) -> bool
     page.kind == 0 || is_alive(procs, page.holder_pid)
 }
 
-fn all_holders_living(procs: &[ProcRow], pages: &[PageRow]) -> bool
+pub fn all_holders_living(procs: &[ProcRow], pages: &[PageRow]) -> bool
     ensures { result ≡ list_all (is_holder_living_of procs.now) pages.now }
 {
     pages.iter().all(|page| is_holder_living(procs, page))

@@ -26,16 +26,16 @@ const LAST_OF_MAP: u32 = 0x6_0fff;
 /// The number of the kind Shared, and the least right of the console.
 const SHARED: u32 = 1;
 
-const CONSOLE: u32 = 4;
+pub const CONSOLE: u32 = 4;
 
-fn is_pid(n: u32, pid: u32) -> bool
+pub fn is_pid(n: u32, pid: u32) -> bool
     ensures { result ≡ is_pid_of n pid }
 {
     2 <= pid && (pid as u64) < n as u64 + 2
 }
 
 /// Whether the home of a page lies in a window of one of n processes.
-fn is_home_placed(n: u32, page: &PageRow) -> bool
+pub fn is_home_placed(n: u32, page: &PageRow) -> bool
     ensures { result ≡ is_home_placed_of n page.now }
 {
     is_pid(n, page.pid) && window_of(Vpn(page.page)).is_some()
@@ -77,7 +77,7 @@ fn is_page_placed(n: u32, page: &PageRow) -> bool
         && is_lent_writable(page)
 }
 
-fn all_pages_placed(n: u32, pages: &[PageRow]) -> bool
+pub fn all_pages_placed(n: u32, pages: &[PageRow]) -> bool
     ensures { result ≡ list_all (is_page_placed_of n) pages.now }
 {
     pages.iter().all(|page| is_page_placed(n, page))
@@ -102,7 +102,7 @@ fn is_orphan_placed(n: u32, procs: &[ProcRow], orphan: &OrphanRow) -> bool
         && is_alive(procs, orphan.pid)
 }
 
-fn all_orphans_placed(n: u32, procs: &[ProcRow], orphans: &[OrphanRow]) -> bool
+pub fn all_orphans_placed(n: u32, procs: &[ProcRow], orphans: &[OrphanRow]) -> bool
     ensures { result ≡ list_all (is_orphan_placed_of n procs.now) orphans.now }
 {
     orphans
@@ -138,7 +138,7 @@ fn is_only_console(pages: &[PageRow], page: &PageRow) -> bool
 }
 
 /// The first two consoles end the look, so that pages are looked at twice at most.
-fn all_only_consoles(pages: &[PageRow]) -> bool
+pub fn all_only_consoles(pages: &[PageRow]) -> bool
     ensures { result ≡ list_all (is_only_console_of pages.now) pages.now }
 {
     pages.iter().all(|page| is_only_console(pages, page))

@@ -60,7 +60,7 @@ fn all_orphans_apart(pages: &[PageRow], orphans: &[OrphanRow]) -> bool
         .all(|orphan| !is_home(pages, orphan.pid, orphan.page))
 }
 
-fn are_places_told(pages: &[PageRow], orphans: &[OrphanRow]) -> bool
+pub fn are_places_told(pages: &[PageRow], orphans: &[OrphanRow]) -> bool
     requires pages { AscendInTwo page_key pages.now }
     requires orphans { AscendInTwo orphan_key orphans.now }
     ensures { result ≡ (list_all (is_holder_apart_of pages.now orphans.now) pages.now && list_all (is_orphan_apart_of pages.now) orphans.now) }

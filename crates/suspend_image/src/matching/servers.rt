@@ -93,7 +93,7 @@ fn all_lead_below(serial: u32, procs: &[ProcRow]) -> bool
     procs.iter().all(|process| leads_below(serial, process))
 }
 
-fn all_are_below(number: u32, serial: u32, procs: &[ProcRow], servers: &[ServerRow]) -> bool
+pub fn all_are_below(number: u32, serial: u32, procs: &[ProcRow], servers: &[ServerRow]) -> bool
     ensures { result ≡ (list_all (is_below_next_of number serial) servers.now && list_all (leads_below_of serial) procs.now) }
 {
     all_below_next(number, serial, servers) && all_lead_below(serial, procs)
@@ -117,7 +117,7 @@ fn are_few_apart(procs: &[ProcRow], servers: &[ServerRow]) -> bool
 }
 
 /// The limits are looked at first, so that few messages are compared.
-fn are_servers_told(procs: &[ProcRow], servers: &[ServerRow]) -> bool
+pub fn are_servers_told(procs: &[ProcRow], servers: &[ServerRow]) -> bool
     ensures { result ≡ (are_few_apart_of procs.now servers.now && are_all_alone_of servers.now) }
 {
     are_few_apart(procs, servers) && are_all_alone(servers)

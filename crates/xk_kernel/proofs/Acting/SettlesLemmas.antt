@@ -20,17 +20,15 @@ use Rattle.machine_model.specs.State.Order.{ready_at}
 use Rattle.machine_model.specs.State.Threads.{handler_return, put_thread, thread_id, thread_return}
 use Rattle.machine_model.specs.Stepping.Step.{after, ends_handler, ends_thread, record_of}
 use Rattle.sv32_space.specs.Tie.{Held}
-use Rattle.vm_memory.specs.Bytes.{none_out}
 use Rattle.vm_memory.specs.Memory.{Size, frames_for_pages, processes, size}
 use Rattle.xk_base.proofs.CircleLemmas.{same_ids}
 use Rattle.xk_base.specs.Log.{LogState}
 use Rattle.xk_base.specs.Tables.Circle.{thread_ids}
 use Rattle.xk_base.specs.declared.ids.ThreadId.{ThreadId}
-use Rattle.xk_base.specs.declared.records.What.{What}
 use Rattle.xk_base.specs.declared.records.What.TheVariants.{Call}
 use Rattle.xk_kernel.specs.Acting.{IsDone, TellsFew, told_by}
 use Rattle.xk_kernel.specs.Calling.{CrowdsBy}
-use Rattle.xk_kernel.specs.Knowing.{IsCrowded, PutsNoneOut, without_bytes}
+use Rattle.xk_kernel.specs.Knowing.{IsCrowded, without_bytes}
 use Rattle.xk_kernel.specs.State.{machine_of}
 use Rattle.xk_kernel.specs.Telling.{log_with}
 use Rattle.xk_kernel.specs.declared.kernel.Kernel.{Kernel}

@@ -1,6 +1,6 @@
 -- Every call of a Ready caller keeps the machine matched, once its step is counted.
 use Rattle.std.proofs.Common.{◌≡◌, ℕ, Bool, true, false, List, refl, sym, ap, subst, ◌∙◌}
-use Rattle.std.specs.Prelude.{◌==◌, Some}
+use Rattle.std.specs.Prelude.{Some}
 use Rattle.std.specs.List.{AllByRecursion}
 use Rattle.std.specs.Option.{option_map_or}
 use Rattle.machine_laws.proofs.Calling.AnsweredCallLemmas.{Keeps, refused_keeps}
@@ -27,13 +27,12 @@ use Rattle.machine_model.specs.Calling.Calls.{call}
 use Rattle.machine_model.specs.Calling.MemoryCalls.{decrease_call, increase_call, map_call, unmap_call, update_call}
 use Rattle.machine_model.specs.Calling.ServerCalls.{connect_call, create_server_call, named_sid, try_connect_call}
 use Rattle.machine_model.specs.Calling.ThreadCalls.{terminate_call}
-use Rattle.machine_model.specs.Ending.Ends.{death}
 use Rattle.machine_model.specs.Messaging.ForwardCalls.{forward_call}
 use Rattle.machine_model.specs.Messaging.ReceiveCalls.{receive_call, try_receive_call}
 use Rattle.machine_model.specs.Messaging.ReturnCalls.{return_scalar1_call, return_scalar2_call}
 use Rattle.machine_model.specs.Runs.Kept.{Settles}
 use Rattle.machine_model.specs.Runs.Matched.{Matched}
-use Rattle.machine_model.specs.State.Changes.{Told, call_settled, settled}
+use Rattle.machine_model.specs.State.Changes.{Told, call_settled}
 use Rattle.machine_model.specs.State.Machine.{Machine}
 use Rattle.machine_model.specs.State.Order.{ready_at}
 use Rattle.xk_base.specs.Calls.CallNumbers.{call_numbers, is_call_number}

@@ -1,14 +1,12 @@
 -- What a call tells over bytes that may not be known.
-use Rattle.std.proofs.Common.{◌≡◌, true, false, List, ◌∷◌, [], sym, ap, ◌∙◌}
+use Rattle.std.proofs.Common.{◌≡◌, List, ◌∷◌, [], sym, ap, ◌∙◌}
 use Rattle.std.proofs.lemmas.List.{append_assoc}
-use Rattle.std.proofs.lemmas.Bool.{false≢true}
 use Rattle.machine_model.specs.State.Changes.{Told}
 use Rattle.machine_model.specs.State.Machine.{Machine}
 use Rattle.machine_model.specs.Stepping.Step.{after}
 use Rattle.sv32_space.specs.Tie.{Held}
-use Rattle.vm_memory.specs.Bytes.{none_out}
 use Rattle.xk_base.specs.declared.records.What.{What}
-use Rattle.xk_kernel.specs.Knowing.{ComesTo, PutsNoneOut, without_bytes}
+use Rattle.xk_kernel.specs.Knowing.{ComesTo, without_bytes}
 use Rattle.xk_kernel.specs.State.{machine_of}
 use Rattle.xk_kernel.specs.Telling.{Tells, TellsOver, log_with}
 use Rattle.xk_kernel.specs.declared.kernel.Kernel.{Kernel}
@@ -42,7 +40,3 @@ module _ {W : Type 0} (held : W → Held) (old new : Kernel W) where
     machine = tells.machine;
     log = tells.log ∙ ap (log_with done.told) log ∙ ap (λ records. record old.log { records = records }) (append_assoc old.log.records _ _);
   }
-
--- what puts no page out leaves none out
-pub never_out : {W : Type 0} {Fact : Type 0} (old new : Kernel W) → PutsNoneOut old new → none_out old.mem ≡ true → none_out new.mem ≡ false → Fact
-never_out old new stays none out = absurd (false≢true (sym out ∙ stays none))

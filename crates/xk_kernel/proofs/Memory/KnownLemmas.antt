@@ -16,7 +16,6 @@ use Rattle.vm_memory.proofs.Changing.CallLemmas.{no_slots-none_out}
 use Rattle.vm_memory.specs.Bytes.{MeansBytes, MeansBytesOver, is_known, none_out}
 use Rattle.vm_memory.specs.Memory.{Size, size, store_of}
 use Rattle.vm_memory.specs.declared.memory.Memory.{Memory}
-use Rattle.xk_base.specs.declared.ids.Place.{Place}
 use Rattle.xk_kernel.specs.Knowing.{ComesTo, IsTrusted, KnowsBytes, is_trusted, without_bytes}
 use Rattle.xk_kernel.specs.Sound.{Keeps}
 use Rattle.xk_kernel.specs.declared.kernel.Kernel.{Kernel}
@@ -49,10 +48,6 @@ matched_alike new target e h =
 
 pub comes_same : {known : Type 0} (new target : Machine) → new ≡ target → ComesTo known new target
 comes_same new target e = record { alike = ap without_bytes e; whole = λ _. e }
-
--- .. where less is known
-pub comes_weaker : {known less : Type 0} {new target : Machine} → (less → known) → ComesTo known new target → ComesTo less new target
-comes_weaker f h = record { alike = h.alike; whole = λ k. h.whole (f k) }
 
 -- what leaves the ledger alone comes to what it makes of the target
 pub comes_through : {known : Type 0} {new target : Machine} (f : Machine → Machine) → ((m : Machine) → without_bytes (f m) ≡ f (without_bytes m))

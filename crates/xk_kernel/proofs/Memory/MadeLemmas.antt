@@ -64,10 +64,6 @@ module _ {W : Type 0} (held : W → Held) (k : Kernel W) (mem : Memory W) (l : L
   }
 
 -- a call whose state is known serves as its row
-pub serves_exactly : {known : Type 0} {W : Type 0} (held : W → Held) (k new : Kernel W) (outcome : Outcome) (served : Result CallerFate XousError)
-    → outcome_of k.cursor (machine_of held new) served ≡ outcome → ServesAs known k.cursor (machine_of held new) outcome served
-serves_exactly held k new outcome served e = record { target = machine_of held new; is = e; comes = comes_same (machine_of held new) (machine_of held new) refl }
-
 pub serves_by : {known : Type 0} (who : ThreadId) (new : Machine) (outcome : Outcome) (served : Result CallerFate XousError)
     → outcome_of who new served ≡ outcome → ServesAs known who new outcome served
 serves_by who new outcome served e = record { target = new; is = e; comes = comes_same new new refl }

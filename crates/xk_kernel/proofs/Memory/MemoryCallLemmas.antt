@@ -1,8 +1,8 @@
 -- A kernel whose memory alone changed: the machine that it stands for, and that it is whole; and the calls that remove and reduce
 -- pages.
 use Rattle.std.proofs.Common.{◌≡◌, ℕ, ◌/◌, if◌then◌else◌, Bool, true, false, [], ◌∷◌, Some, None, refl, sym, ap, ◌∙◌}
-use Rattle.std.specs.Prelude.{◌&&◌, Result, Ok, Err}
-use Rattle.std.proofs.lemmas.Bool.{false≢true, and_from, and_parts, or_right}
+use Rattle.std.specs.Prelude.{Result, Ok, Err}
+use Rattle.std.proofs.lemmas.Bool.{false≢true, and_parts}
 use Rattle.std.proofs.lemmas.Option.{none-some, same_Some}
 use Rattle.xk_base.specs.Tables.Circle.{is_pid, is_tid, is_thread_id}
 use Rattle.xk_base.specs.declared.errors.XousError.{XousError}

@@ -126,13 +126,35 @@ pub fn start_run<W: SwapStore>(
     let mut store = store;
     match store.prepare(alloc, plan.slots, name) {
         Ok(()) => {}
-        Err(StoreFault::Failed) => return Err(Ended { status: Status::SwapFault, store }),
-        Err(StoreFault::NoMemory) => return Err(Ended { status: Status::NoMemory, store }),
+        Err(StoreFault::Failed) => return Err(Ended {
+            status: Status::SwapFault,
+            store,
+        }),
+        Err(StoreFault::NoMemory) => return Err(Ended {
+            status: Status::NoMemory,
+            store,
+        }),
     }
     match Kernel::boot(alloc, plan, file, store) {
         Ok(kernel) => Ok(kernel),
-        Err(BootFault { why: BootError::SwapFault, store }) => Err(Ended { status: Status::SwapFault, store }),
-        Err(BootFault { why: BootError::NoMemory, store }) => Err(Ended { status: Status::NoMemory, store }),
+        Err(
+            BootFault {
+                why: BootError::SwapFault,
+                store,
+            },
+        ) => Err(Ended {
+            status: Status::SwapFault,
+            store,
+        }),
+        Err(
+            BootFault {
+                why: BootError::NoMemory,
+                store,
+            },
+        ) => Err(Ended {
+            status: Status::NoMemory,
+            store,
+        }),
     }
 }
 
@@ -173,7 +195,13 @@ pub fn boot_image<H: Host, W: SwapStore>(
     ensures never_falls { H.faults host.old ≤ H.faults host.new }
 {
     match plan_image(alloc, host, play.image, play.slots) {
-        Ok(planned) => start_run(alloc, &planned.plan, planned.bytes.as_slice(), play.store, store),
+        Ok(planned) => start_run(
+            alloc,
+            &planned.plan,
+            planned.bytes.as_slice(),
+            play.store,
+            store,
+        ),
         Err(status) => Err(Ended { status, store }),
     }
 }

@@ -61,29 +61,29 @@ fn play_events<H: Host, K: Sink, W: SwapStore>(
     requires usable { IsUsable kernel.old }
     requires within { (machine_of W.held kernel.old).steps ≤ play.limit }
     ensures played { (start : Machine) → Begins start (stand W.is_honest W.held kernel.old (put (K.written out.old))) →
-    let booted : Booted = record {
-      machine = start;
-      room = room_in kernel.old;
-      slots = (size kernel.old.mem).slots;
-    } in let call : Call = record {
-      host = record {
-        files = H.file host.old;
-        asked = H.asked host.old;
-        asked_after = H.asked host.new;
-        image_left = H.left host.new First;
-        left = H.left host.new Second;
-        faults = H.faults host.old;
-        faults_after = H.faults host.new;
-      };
-      out = record {
-        written = K.written out.old;
-        written_after = K.written out.new;
-        faults = K.faults out.old;
-        faults_after = K.faults out.new;
-      };
-      store = store_side W.is_honest W.held W.asked W.faults (store_of kernel.old.mem) (store_of kernel.new.mem);
-      status = result;
-    } in EndsBooted (play_in play.entry) booted call }
+        let booted : Booted = record {
+          machine = start;
+          room = room_in kernel.old;
+          slots = (size kernel.old.mem).slots;
+        } in let call : Call = record {
+          host = record {
+            files = H.file host.old;
+            asked = H.asked host.old;
+            asked_after = H.asked host.new;
+            image_left = H.left host.new First;
+            left = H.left host.new Second;
+            faults = H.faults host.old;
+            faults_after = H.faults host.new;
+          };
+          out = record {
+            written = K.written out.old;
+            written_after = K.written out.new;
+            faults = K.faults out.old;
+            faults_after = K.faults out.new;
+          };
+          store = store_side W.is_honest W.held W.asked W.faults (store_of kernel.old.mem) (store_of kernel.new.mem);
+          status = result;
+        } in EndsBooted (play_in play.entry) booted call }
     ensures sound { IsSound W.slot_count W.held kernel.new }
     ensures keeps { Keeps W.is_honest W.held W.slot_count W.asked W.faults kernel.old kernel.new }
     ensures first { H.left host.new First ≡ H.left host.old First }

@@ -7,14 +7,14 @@ ghost use Rattle.xousim.specs.Load.Events.{load_history};
 ghost use Rattle.xousim.specs.Load.Image.{load_args, load_image};
 
 /// The image of a load says what it is made for, and has no fault without slots, nor has its plan.
-#[tactic(auto, using(crate::proofs::LoadImageLemmas::load_spells, crate::proofs::LoadImageLemmas::load_has_no_fault))]
+#[tactic(auto, using(crate::proofs::Loading::LoadImageLemmas::load_spells, crate::proofs::Loading::LoadImageLemmas::load_has_no_fault))]
 pub fn load_has_no_fault()
     ensures spells { (clients : ℕ) → clients ≤ 31 → Spells (load_image clients) (load_args clients) }
     ensures no_fault { (clients : ℕ) → clients ≤ 31 → IsImageFault (load_image clients) None None }
 {}
 
 /// Its history doesn't meet the step limit of a call that names none.
-#[tactic(auto, using(crate::proofs::LoadHistoryLemmas::load_meets_no_limit))]
+#[tactic(auto, using(crate::proofs::Loading::LoadHistoryLemmas::load_meets_no_limit))]
 pub fn load_meets_no_limit()
     ensures { (clients : ℕ) → clients ≤ 31 → (load_history clients).met ≡ false }
 {}

@@ -181,19 +181,18 @@ fn plan_of_an_image(rt: HostRuntime) -> Result<(), Fail> {
     Ok(())
 }
 
-/// Commands that are words of a stated form, and aren't built.
+/// A run with a slot that no page needs, and one that names a store.
 #[test]
-fn commands_not_built(rt: HostRuntime) -> Result<(), Fail> {
-    let lists: [&[&str]; 2] = [
-        ["trace", "i", "e", "100", "1"].as_slice(),
-        ["run", "i", "e", "100", "0", "s"].as_slice(),
-    ];
-    for list in lists {
-        let run = call(rt.alloc(), list, b"tick 100")?;
-        assert_eq!(rt; run.status, Status::NotBuilt);
-        assert_eq!(rt; run.out.as_slice(), b"".as_slice());
-        assert_eq!(rt; run.notes.as_slice(), b"not built\n".as_slice());
-    }
+fn commands_with_slots(rt: HostRuntime) -> Result<(), Fail> {
+    let alloc = rt.alloc();
+    let run = call(alloc, &["trace", "i", "e", "100", "1"], b"tick 100")?;
+    assert_eq!(rt; run.status, Status::Done);
+    let lines = first_lines(alloc, "end 100 done")?;
+    assert_eq!(rt; run.out.as_slice(), lines.as_slice());
+    let run = call(alloc, &["run", "i", "e", "100", "0", "s"], b"tick 100")?;
+    assert_eq!(rt; run.status, Status::Done);
+    assert_eq!(rt; run.out.as_slice(), b"h".as_slice());
+    assert_eq!(rt; run.notes.as_slice(), b"".as_slice());
     Ok(())
 }
 

@@ -1,6 +1,6 @@
 //! Images of processes that have one section of code each.
 
-use kernel_args::{Args, ProcArgs, Section, writable, write_args};
+use kernel_args::{Args, ProcArgs, Section, crc_x25, writable, write_args};
 use std::alloc::Global;
 use std::test::Fail;
 use xk_base::Row;
@@ -76,6 +76,18 @@ fn push_code(bytes: &mut Vec<u8>, code: &[u32]) -> Result<(), Fail> {
         bytes.extend_from_slice(&[0; 4])?;
     }
     Ok(())
+}
+
+/// The image with a RAM of so many bytes: its first tag, `XArg`, has the contents from 8 up to 28.
+pub fn with_ram(alloc: Global, image: &[u8], ram: u32) -> Result<Vec<u8>, Fail> {
+    let mut bytes = image.to_vec(alloc)?;
+    if bytes.len() < 28 {
+        return Err(Fail::from("no such image"));
+    }
+    bytes.as_mut_slice()[20..24].copy_from_slice(&ram.to_le_bytes());
+    let check = crc_x25(&bytes.as_slice()[8..28]);
+    bytes.as_mut_slice()[4..6].copy_from_slice(&check.to_le_bytes());
+    Ok(bytes)
 }
 
 /// The image with these words written into it, each at its offset.

@@ -4,6 +4,7 @@ ghost use Rattle.std.specs.Prelude.{◌<◌};
 
 use super::image::{START, image_of};
 use super::lines::transcript;
+use super::swapping::trace_with_one_page;
 use super::{Outcome, trace};
 use crate::status::Status;
 use Act::{Call, Return, Store, Tell};
@@ -88,7 +89,8 @@ pub enum Act {
     Return,
 }
 
-/// The run of these programs over these events has just these lines.
+/// The run of these programs over these events has just these lines: with all pages in RAM, and with
+/// one page in RAM and the others in slots.
 pub fn expect_run(
     rt: &impl Abort,
     alloc: Global,
@@ -96,9 +98,12 @@ pub fn expect_run(
     events: &[u8],
     lines: &[&str],
 ) -> Result<(), Fail> {
+    let lines = transcript(alloc, lines)?;
     let run = play(alloc, processes, events)?;
     assert_eq!(rt; run.status, Status::Done);
-    let lines = transcript(alloc, lines)?;
+    assert_eq!(rt; run.out.as_slice(), lines.as_slice());
+    let run = trace_with_one_page(alloc, processes, events)?;
+    assert_eq!(rt; run.status, Status::Done);
     assert_eq!(rt; run.out.as_slice(), lines.as_slice());
     Ok(())
 }

@@ -17,7 +17,7 @@ use Rattle.suspend_image.proofs.Parts.Keys.KeyLemmas.{Less as IsLess, pair_is, l
 abbrev pub order_of : ℕ × ℕ → ℕ × ℕ → Ordering
 order_of a k = ordering_then (nat_cmp a.0 k.0) (nat_cmp a.1 k.1)
 
-abbrev Ranked : Ordering → ℕ × ℕ → ℕ × ℕ → Type 0
+abbrev pub Ranked : Ordering → ℕ × ℕ → ℕ × ℕ → Type 0
 Ranked o a k = MatchOrdering o (IsLess a k) (a ≡ k) (IsLess k a)
 
 ranked_by : (a k : ℕ × ℕ) (one two : Ordering) → MatchOrdering one (a.0 < k.0) (a.0 ≡ k.0) (k.0 < a.0) → MatchOrdering two (a.1 < k.1) (a.1 ≡ k.1) (k.1 < a.1)
@@ -28,7 +28,7 @@ ranked_by a k Equal Less first second = inr (first, second)
 ranked_by a k Equal Equal first second = ap (λ (n : ℕ). (n, a.1)) first ∙ ap (λ (n : ℕ). (k.0, n)) second
 ranked_by a k Equal Greater first second = inr (sym first, second)
 
-ranked : (a k : ℕ × ℕ) → Ranked (order_of a k) a k
+pub ranked : (a k : ℕ × ℕ) → Ranked (order_of a k) a k
 ranked a k = ranked_by a k (nat_cmp a.0 k.0) (nat_cmp a.1 k.1) (ranks a.0 k.0 _ refl) (ranks a.1 k.1 _ refl)
 
 -- the answers rise

@@ -45,7 +45,7 @@ counted_by test good tells xs =
     step false n = omega arith
 
 -- of a server
-counted_at : (test : Message → Bool) (good : MessageRow → Bool) → Tells test good → (s : ServerRow) → count_in test (messages_of (server_of s)) ≡ many_at good s
+pub counted_at : (test : Message → Bool) (good : MessageRow → Bool) → Tells test good → (s : ServerRow) → count_in test (messages_of (server_of s)) ≡ many_at good s
 counted_at test good tells s =
     ap (count_in test) (sym (map-append message_of s.queued s.held)) ∙ counted_by test good tells (s.queued ++ s.held)
     ∙ sum_by-append (λ m. cond (good m) 1 0) s.queued s.held

@@ -1,4 +1,4 @@
-use Rattle.xousim.proofs.MatchedLemmas.{moments_of_runs_matched, runs_matched}
+use Rattle.xousim.proofs.Images.MatchedLemmas.{moments_of_runs_matched, runs_matched}
 use Rattle.xousim.proofs.matched.every_state_is_matched.Goals as goal
 
 pub returns-clause-moments : goal.returns-clause-moments

@@ -1,5 +1,5 @@
 use Rattle.xousim.specs.Words.{command_of}
-use Rattle.xousim.proofs.VerdictLemmas.{ends_complete}
+use Rattle.xousim.proofs.Outcome.VerdictLemmas.{ends_complete}
 use Rattle.xousim.proofs.top.xous_main.Goals as goal
 
 pub returns-clause-ends : goal.returns-clause-ends

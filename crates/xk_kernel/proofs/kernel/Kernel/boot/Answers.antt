@@ -1,4 +1,4 @@
-use Rattle.std.proofs.Common.{◌≡◌, ◌∙◌, None, refl, ap, arith}
+use Rattle.std.proofs.Common.{◌≡◌, None, refl, ap, arith}
 use Rattle.xk_base.specs.Log.{LogState}
 use Rattle.xk_base.specs.declared.limits.TheConstants.{RECORD_LIMIT}
 use Rattle.xk_kernel.proofs.Starting.BootLemmas.{IsBooted, all_empty, booted_comes, booted_sound, first_turn}

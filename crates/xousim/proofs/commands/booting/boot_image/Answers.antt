@@ -10,7 +10,7 @@ use Rattle.xousim.specs.Outcome.Plays.{EndsRefused, EndsUnstarted}
 use Rattle.xousim.specs.Outcome.Sides.{Prepares, store_side}
 use Rattle.xousim.specs.Outcome.Starts.{Stops, room_of}
 use Rattle.xousim.specs.Standing.{Begins, room_in, stand}
-use Rattle.xousim.proofs.StartingLemmas.{all_ok, if_err, image_of}
+use Rattle.xousim.proofs.Images.StartingLemmas.{all_ok, if_err, image_of}
 use Rattle.xousim.proofs.commands.booting.boot_image.Goals as goal
 
 pub returns-in-Ok-clause-booted : goal.returns-in-Ok-clause-booted
@@ -33,7 +33,7 @@ returns-in-Ok-clause-booted g c =
         room = room ∙ ap room_of is.planned;
         slots = slots ∙ ap (λ (p : BootPlan). p.slots) is.planned;
         prepared = (let P : ℕ → Type 0 = λ n. Prepares (store_side g.W.SwapStore.is_honest g.W.SwapStore.held g.W.SwapStore.asked g.W.SwapStore.faults c.args.store (store_of k.mem)) n (option_copied c.args.play.store) true in
-        subst P (sym slots) prepared);
+            subst P (sym slots) prepared);
       },
     ))
     c.start_run.ensures.begins c.start_run.ensures.room c.start_run.ensures.slots c.start_run.ensures.prepared
@@ -52,7 +52,7 @@ returns-in-Ok-clause-ends g c = λ out unwritten.
       machine = start planned.plan bytes;
       image = image;
       stopped = (let S : BootPlan → Type 0 = λ p. Stops p (option_copied c.args.play.store) (start planned.plan bytes) (store_side g.W.SwapStore.is_honest g.W.SwapStore.held g.W.SwapStore.asked g.W.SwapStore.faults c.args.store e.store) e.status in
-      subst S is.planned stopped);
+          subst S is.planned stopped);
       unwritten = unwritten;
     }))
     c.start_run.ensures.stopped

@@ -1,7 +1,7 @@
 use Rattle.std.proofs.Common.{◌≡◌, ◌≤◌, ◌∙◌, ap, sym, subst, List, ℕ, length, Some, arith}
 use Rattle.kernel_args.specs.Converting.{IsConvertible, converted}
 use Rattle.xk_base.specs.declared.limits.TheConstants.{IMAGE_LIMIT, SLOT_LIMIT}
-use Rattle.xousim.proofs.ConvertLemmas.{convertible, ends_written, kept, made}
+use Rattle.xousim.proofs.Images.ConvertLemmas.{convertible, ends_written, kept, made}
 use Rattle.xousim.proofs.commands.convert.convert_image.Goals as goal
 
 pub returns-then-planned-ne1-clause-ends : goal.returns-then-planned-ne1-clause-ends

@@ -8,8 +8,8 @@ use Rattle.xousim.specs.Load.Image.{load_image}
 use Rattle.xousim.specs.Outcome.Sides.{store_side}
 use Rattle.xousim.specs.Outcome.Starts.{Stops}
 use Rattle.xousim.specs.Standing.{Begins, stand}
-use Rattle.xousim.proofs.StandingLemmas.{no_slots_trusted}
-use Rattle.xousim.proofs.StartingLemmas.{both_ok, if_err, load_starts, load_stops}
+use Rattle.xousim.proofs.Telling.StandingLemmas.{no_slots_trusted}
+use Rattle.xousim.proofs.Images.StartingLemmas.{both_ok, if_err, load_starts, load_stops}
 use Rattle.xousim.proofs.commands.demo.boot_load.Goals as goal
 
 pub returns-in-Ok-clause-booted : goal.returns-in-Ok-clause-booted

@@ -12,7 +12,7 @@ use Rattle.xousim.specs.Outcome.Sides.{SinkSide, StoreSide, store_side}
 use Rattle.xousim.specs.Outcome.Starts.{ComesFull, Room, room_of}
 use Rattle.xousim.specs.Standing.{room_in}
 use Rattle.xousim.specs.declared.status.Status.TheVariants.{SwapFault}
-use Rattle.xousim.proofs.StartingLemmas.{asked_on, load_told, rose_before}
+use Rattle.xousim.proofs.Images.StartingLemmas.{asked_on, load_told, rose_before}
 use Rattle.xousim.proofs.commands.demo.play_demo.Goals as goal
 
 pub returns-in-Ok-play_load-clause-told : goal.returns-in-Ok-play_load-clause-told

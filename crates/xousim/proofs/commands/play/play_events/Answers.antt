@@ -16,9 +16,9 @@ use Rattle.xousim.specs.Playing.{Runs, run_from}
 use Rattle.xousim.specs.Reading.{Asked}
 use Rattle.xousim.specs.Standing.{room_in, stand}
 use Rattle.xousim.specs.Words.{Play, play_in}
-use Rattle.xousim.proofs.ReadingLemmas.{told_file, read_of_file}
-use Rattle.xousim.proofs.StandingLemmas.{room_stays, trusted_side}
-use Rattle.xousim.proofs.TopLemmas.{finished_cause, finished_tells, full_on, part_of_whole, rose_after}
+use Rattle.xousim.proofs.Reading.ReadingLemmas.{told_file, read_of_file}
+use Rattle.xousim.proofs.Telling.StandingLemmas.{room_stays, trusted_side}
+use Rattle.xousim.proofs.Outcome.TopLemmas.{finished_cause, finished_tells, full_on, part_of_whole, rose_after}
 use Rattle.xousim.proofs.commands.play.play_events.Goals as goal
 
 pub returns-in-Ok-play_file-clause-played : goal.returns-in-Ok-play_file-clause-played
@@ -80,8 +80,8 @@ returns-in-Err-Read-clause-played g c = λ start begins.
     inr (record {
       asked = subst A (sym c.play_file.ensures.asked) c.in-Ok.ensures.asked;
       cause = (let faults = g.H.Host.faults in
-      rose_after (faults c.args.host.now) (faults c.pick_file.new.self) (faults c.play_file.new.host) c.pick_file.ensures.never_falls
-      (c.in-Err-Read.ensures.read (ap (λ (f : RunFault). Err f) c.in-Err-Read.field-0-is)));
+          rose_after (faults c.args.host.now) (faults c.pick_file.new.self) (faults c.play_file.new.host) c.pick_file.ensures.never_falls
+          (c.in-Err-Read.ensures.read (ap (λ (f : RunFault). Err f) c.in-Err-Read.field-0-is)));
       content = λ trusted.
           let wrote = runs.2 (trusted_side c.play_file.ensures.keeps trusted) in
           record {

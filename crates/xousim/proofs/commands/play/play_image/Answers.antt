@@ -9,7 +9,7 @@ use Rattle.xousim.specs.Outcome.Sides.{Call, SinkSide, store_side}
 use Rattle.xousim.specs.Reading.{IsTold}
 use Rattle.xousim.specs.Standing.{room_in}
 use Rattle.xousim.specs.Words.{Play, play_in}
-use Rattle.xousim.proofs.TopLemmas.{Before, begun_at, ends_booted}
+use Rattle.xousim.proofs.Outcome.TopLemmas.{Before, begun_at, ends_booted}
 use Rattle.xousim.proofs.commands.play.play_image.Goals as goal
 
 pub play_events-status-requires-clause-within : goal.play_events-status-requires-clause-within

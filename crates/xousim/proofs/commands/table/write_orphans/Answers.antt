@@ -7,8 +7,8 @@ use Rattle.xk_base.specs.declared.ids.Place.{Place}
 use Rattle.ledger_model.specs.Places.{place_at}
 use Rattle.xousim.specs.Table.{orphan_line, orphans_text}
 use Rattle.vm_memory.specs.declared.memory.Here.{Here}
-use Rattle.xousim.proofs.TableLemmas.{few_processes, all_orphans, blank_orphan, is_orphan, listed_text, orphan_line_in, text_next, text_none, text_split}
-use Rattle.xousim.proofs.ToldLemmas.{on_err, prefix_after}
+use Rattle.xousim.proofs.Output.TableLemmas.{few_processes, all_orphans, blank_orphan, is_orphan, listed_text, orphan_line_in, text_next, text_none, text_split}
+use Rattle.xousim.proofs.Telling.ToldLemmas.{on_err, prefix_after}
 use Rattle.xousim.proofs.commands.table.write_orphans.Goals as goal
 
 pub loop-number-init : goal.loop-number-init

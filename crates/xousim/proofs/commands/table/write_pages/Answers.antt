@@ -7,8 +7,8 @@ use Rattle.xk_base.specs.declared.ids.Place.{Place}
 use Rattle.ledger_model.specs.Places.{place_at}
 use Rattle.xousim.specs.Table.{page_line, pages_text}
 use Rattle.vm_memory.specs.declared.memory.Here.{Here}
-use Rattle.xousim.proofs.TableLemmas.{few_processes, all_pages, blank_page, is_home, listed_text, page_line_in, text_next, text_none, text_split}
-use Rattle.xousim.proofs.ToldLemmas.{on_err, prefix_after}
+use Rattle.xousim.proofs.Output.TableLemmas.{few_processes, all_pages, blank_page, is_home, listed_text, page_line_in, text_next, text_none, text_split}
+use Rattle.xousim.proofs.Telling.ToldLemmas.{on_err, prefix_after}
 use Rattle.xousim.proofs.commands.table.write_pages.Goals as goal
 
 pub loop-number-init : goal.loop-number-init

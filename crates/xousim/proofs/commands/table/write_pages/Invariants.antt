@@ -1,7 +1,7 @@
 use Rattle.std.proofs.Common.{◌≤◌}
 use Rattle.xk_kernel.specs.State.{machine_of}
 use Rattle.xk_ports.specs.Told.{Grows}
-use Rattle.xousim.proofs.TableLemmas.{is_home, listed_text, page_line_in}
+use Rattle.xousim.proofs.Output.TableLemmas.{is_home, listed_text, page_line_in}
 use Rattle.xousim.proofs.commands.table.write_pages.Given as goal
 
 -- the text of the places so far was written

@@ -2,7 +2,7 @@ use Rattle.machine_model.specs.State.Machine.{Machine}
 use Rattle.xk_kernel.specs.State.{machine_of}
 use Rattle.xk_ports.specs.Told.{GrowsByPrefix}
 use Rattle.xousim.specs.Table.{orphans_text, pages_text, table_of}
-use Rattle.xousim.proofs.ToldLemmas.{front_later, front_longer, on_err, on_err_map}
+use Rattle.xousim.proofs.Telling.ToldLemmas.{front_later, front_longer, on_err, on_err_map}
 use Rattle.xousim.proofs.commands.table.write_table.Goals as goal
 
 pub returns-in_err-write_pages-clause-front : goal.returns-in_err-write_pages-clause-front

@@ -1,6 +1,6 @@
 use Rattle.std.proofs.Common.{sym, subst}
 use Rattle.kernel_args.specs.Writing.{IsWritable}
-use Rattle.xousim.proofs.LoadImageLemmas.{load_is_writable}
+use Rattle.xousim.proofs.Loading.LoadImageLemmas.{load_is_writable}
 use Rattle.xousim.proofs.load.image.load_image.Goals as goal
 
 pub write_args-requires : goal.write_args-requires

@@ -7,12 +7,12 @@ use Rattle.xk_kernel.specs.History.{History, behind, history, play, reached}
 use Rattle.xk_kernel.specs.State.{machine_of}
 use Rattle.xousim.specs.Load.Events.{first_events, tick_at}
 use Rattle.xousim.specs.Load.Totals.{IsWithin, totals_of}
-use Rattle.xousim.proofs.KeptLemmas.{kept_after, kept_same}
-use Rattle.xousim.proofs.LoadHistoryLemmas.{events_none, few_ticks, history_more, load_full, tick_unmet}
-use Rattle.xousim.proofs.StandingLemmas.{room_stays, slots_stay}
+use Rattle.xousim.proofs.Outcome.KeptLemmas.{kept_after, kept_same}
+use Rattle.xousim.proofs.Loading.LoadHistoryLemmas.{events_none, few_ticks, history_more, load_full, tick_unmet}
+use Rattle.xousim.proofs.Telling.StandingLemmas.{room_stays, slots_stay}
 use Rattle.xousim.specs.Standing.{room_in}
-use Rattle.xousim.proofs.LoadPlayingLemmas.{event_counted}
-use Rattle.xousim.proofs.LoadTotalsLemmas.{within_start}
+use Rattle.xousim.proofs.Loading.LoadPlayingLemmas.{event_counted}
+use Rattle.xousim.proofs.Loading.LoadTotalsLemmas.{within_start}
 use Rattle.xousim.proofs.load.playing.play_load.Goals as goal
 
 pub events-init : goal.events-init

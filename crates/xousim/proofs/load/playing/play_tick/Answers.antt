@@ -12,14 +12,14 @@ use Rattle.xk_kernel.specs.declared.kernel.Stepped.{Stepped}
 use Rattle.xk_kernel.specs.declared.kernel.Stepped.TheVariants.{Did, Idle}
 use Rattle.xk_kernel.proofs.Running.HistoryLemmas.{tick_zero, tick_idle, tick_steps}
 use Rattle.xk_kernel.proofs.Running.LimitLemmas.{step_steps, turn_steps}
-use Rattle.xousim.proofs.KeptLemmas.{kept_after, kept_same}
+use Rattle.xousim.proofs.Outcome.KeptLemmas.{kept_after, kept_same}
 use Rattle.xk_kernel.specs.HistoryMoments.{event_moments}
 use Rattle.xousim.specs.Outcome.Starts.{ComesFull}
 use Rattle.xousim.specs.Standing.{room_in}
-use Rattle.xousim.proofs.FullLemmas.{step_full, step_on_full}
-use Rattle.xousim.proofs.StandingLemmas.{no_slots_none_out, no_slots_trusted, room_stays, slots_stay, trusted_knows}
-use Rattle.xousim.proofs.StepLemmas.{full_where_near}
-use Rattle.xousim.proofs.LoadPlayingLemmas.{few_told, tick_on, tick_over, within_more, within_same}
+use Rattle.xousim.proofs.Telling.FullLemmas.{step_full, step_on_full}
+use Rattle.xousim.proofs.Telling.StandingLemmas.{no_slots_none_out, no_slots_trusted, room_stays, slots_stay, trusted_knows}
+use Rattle.xousim.proofs.Telling.StepLemmas.{full_where_near}
+use Rattle.xousim.proofs.Loading.LoadPlayingLemmas.{few_told, tick_on, tick_over, within_more, within_same}
 use Rattle.xousim.proofs.load.playing.play_tick.Goals as goal
 
 pub returns-in-Ok-Idle-clause-counted : goal.returns-in-Ok-Idle-clause-counted
@@ -58,8 +58,8 @@ steps-init g c =
       rest = λ before is. (before, is, ap (λ (n : ℕ). before ++ (ticks n).records) all);
       machine = ap (λ (n : ℕ). (ticks n).machine) all;
       full = (let m : Machine = machine_of g.W.SwapStore.held c.args.kernel.now in
-      let F : ℕ → Type 0 = λ n. ComesFull (room_in c.args.kernel.now) m (event_moments (Tick n) DEFAULT_STEPS m) in
-      λ full. subst F all full);
+          let F : ℕ → Type 0 = λ n. ComesFull (room_in c.args.kernel.now) m (event_moments (Tick n) DEFAULT_STEPS m) in
+          λ full. subst F all full);
       steps = omega arith;
       within = c.requires.within;
       sound = c.requires.sound;

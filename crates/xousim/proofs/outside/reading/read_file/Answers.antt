@@ -1,4 +1,4 @@
-use Rattle.xousim.proofs.ReadingLemmas.{if_ok_map, content_of}
+use Rattle.xousim.proofs.Reading.ReadingLemmas.{if_ok_map, content_of}
 use Rattle.xousim.specs.Reading.{IsContent, IsContentOf}
 use Rattle.xousim.proofs.outside.reading.read_file.Goals as goal
 

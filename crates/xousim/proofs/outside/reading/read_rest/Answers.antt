@@ -1,6 +1,6 @@
 use Rattle.std.proofs.Common.{arith}
 use Rattle.std.proofs.lemmas.Grind.{common_steps}
-use Rattle.xousim.proofs.ToldLemmas.{consumed_front}
+use Rattle.xousim.proofs.Telling.ToldLemmas.{consumed_front}
 use Rattle.xousim.proofs.outside.reading.read_rest.Goals as goal
 
 pub returns-clause-content : goal.returns-clause-content

@@ -5,8 +5,8 @@ use Rattle.xousim.specs.declared.playing.ending.Ending.{Ending}
 use Rattle.xousim.specs.Gathering.{text}
 use Rattle.xousim.specs.Playing.{Goes, HasPlayed, run_from}
 use Rattle.xousim.specs.Standing.{Stand, stand}
-use Rattle.xousim.proofs.KeptLemmas.{kept_after, kept_same}
-use Rattle.xousim.proofs.PlayingLemmas.{ends_longer, fails_longer, fed_offset, goes_err, piece_cut, piece_front, played_bytes}
+use Rattle.xousim.proofs.Outcome.KeptLemmas.{kept_after, kept_same}
+use Rattle.xousim.proofs.Telling.PlayingLemmas.{ends_longer, fails_longer, fed_offset, goes_err, piece_cut, piece_front, played_bytes}
 use Rattle.xousim.proofs.playing.event_file.feed_piece.Goals as goal
 
 pub returns-in_err-play_known-clause-goes : goal.returns-in_err-play_known-clause-goes

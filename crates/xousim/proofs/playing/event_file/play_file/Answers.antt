@@ -11,10 +11,10 @@ use Rattle.xousim.specs.declared.playing.events.PlayFault.TheVariants.{Swap, Wri
 use Rattle.xousim.specs.Gathering.{put}
 use Rattle.xousim.specs.Playing.{FailsSo, Goes, HasPlayed, run_from}
 use Rattle.xousim.specs.Standing.{Begins, Stand, stand}
-use Rattle.xousim.proofs.FileLemmas.{runs_ended, runs_swapped, runs_unwritten, told_all}
-use Rattle.xousim.proofs.KeptLemmas.{kept_after, kept_same}
-use Rattle.xousim.proofs.PlayingLemmas.{played_end, played_none, whole_lines_played}
-use Rattle.xousim.proofs.ToldLemmas.{Consumes-none, Consumes-append, consumed_whole, consumed_rest, nothing_left}
+use Rattle.xousim.proofs.Reading.FileLemmas.{runs_ended, runs_swapped, runs_unwritten, told_all}
+use Rattle.xousim.proofs.Outcome.KeptLemmas.{kept_after, kept_same}
+use Rattle.xousim.proofs.Telling.PlayingLemmas.{played_end, played_none, whole_lines_played}
+use Rattle.xousim.proofs.Telling.ToldLemmas.{Consumes-none, Consumes-append, consumed_whole, consumed_rest, nothing_left}
 use Rattle.xousim.proofs.playing.event_file.play_file.Goals as goal
 
 new_waits : (r : Reader) → r ≡ new_reader → IsWaiting r

@@ -3,7 +3,7 @@ use Rattle.xousim.specs.declared.playing.ending.Ending.{Ending}
 use Rattle.xousim.specs.Gathering.{put, text}
 use Rattle.xousim.specs.Playing.{HasPlayed, run_from}
 use Rattle.xousim.specs.Standing.{Stand, stand}
-use Rattle.xousim.proofs.PlayingLemmas.{all_of_it_put, part_of_it_put}
+use Rattle.xousim.proofs.Telling.PlayingLemmas.{all_of_it_put, part_of_it_put}
 use Rattle.xousim.proofs.playing.event_file.play_piece.Goals as goal
 
 pub returns-in-Ok-put_held-clause-goes : goal.returns-in-Ok-put_held-clause-goes

@@ -1,7 +1,7 @@
 use Rattle.std.proofs.Common.{subst}
 use Rattle.xousim.specs.declared.playing.events.PlayFault.{PlayFault}
 use Rattle.xousim.specs.Playing.{FailsSo}
-use Rattle.xousim.proofs.PlayingLemmas.{none_of_it_put, steps_before_put, steps_before_unput}
+use Rattle.xousim.proofs.Telling.PlayingLemmas.{none_of_it_put, steps_before_put, steps_before_unput}
 use Rattle.xousim.proofs.playing.event_file.put_before.Goals as goal
 
 pub returns-in-Write-clause-fails : goal.returns-in-Write-clause-fails

@@ -2,8 +2,8 @@ use Rattle.std.proofs.Common.{◌≡◌, ap, ◌∙◌, arith}
 use Rattle.xk_kernel.specs.State.{machine_of}
 use Rattle.xousim.specs.Gathering.{text}
 use Rattle.xousim.specs.Standing.{Stand, stand}
-use Rattle.xousim.proofs.HistoryLemmas.{done_steps}
-use Rattle.xousim.proofs.OnceLemmas.{plays_once, plays_once_unwritten}
+use Rattle.xousim.proofs.Telling.HistoryLemmas.{done_steps}
+use Rattle.xousim.proofs.Telling.OnceLemmas.{plays_once, plays_once_unwritten}
 use Rattle.xousim.proofs.playing.events.play_event.Goals as goal
 
 pub returns-in-Ok : goal.returns-in-Ok

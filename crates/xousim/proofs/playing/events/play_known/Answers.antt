@@ -3,7 +3,7 @@ use Rattle.xousim.specs.declared.playing.events.Advance.{Advance}
 use Rattle.xousim.specs.Gathering.{text}
 use Rattle.xousim.specs.Playing.{Advances, EndsSo, FailsSo, run_from}
 use Rattle.xousim.specs.Standing.{Stand, stand}
-use Rattle.xousim.proofs.PlayingLemmas.{goes_err}
+use Rattle.xousim.proofs.Telling.PlayingLemmas.{goes_err}
 use Rattle.xousim.proofs.playing.events.play_known.Goals as goal
 
 pub returns-in_err-play_next-clause-goes : goal.returns-in_err-play_next-clause-goes

@@ -11,8 +11,8 @@ use Rattle.xousim.specs.declared.playing.events.PlayFault.{PlayFault}
 use Rattle.xousim.specs.Gathering.{text}
 use Rattle.xousim.specs.Playing.{HasPlayed, Plays, run_from}
 use Rattle.xousim.specs.Standing.{Stand, stand}
-use Rattle.xousim.proofs.PlayingLemmas.{advances_err, ends_bad, ends_event, ends_whole, fails_event, played_event, played_no_event}
-use Rattle.xousim.proofs.StandingLemmas.{room_stays, trust_stays}
+use Rattle.xousim.proofs.Telling.PlayingLemmas.{advances_err, ends_bad, ends_event, ends_whole, fails_event, played_event, played_no_event}
+use Rattle.xousim.proofs.Telling.StandingLemmas.{room_stays, trust_stays}
 use Rattle.xousim.proofs.playing.events.play_next.Goals as goal
 
 pub returns-in_err-ending-in-Event-clause-advances : goal.returns-in_err-ending-in-Event-clause-advances

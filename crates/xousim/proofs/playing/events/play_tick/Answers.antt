@@ -17,9 +17,9 @@ use Rattle.xousim.specs.Gathering.{Gathers, GathersPart, text}
 use Rattle.xousim.specs.Playing.{Plays}
 use Rattle.xousim.specs.Standing.{Stand, stand}
 use Rattle.xousim.specs.Telling.{told}
-use Rattle.xousim.proofs.KeptLemmas.{kept_after, kept_same}
-use Rattle.xousim.proofs.StepLemmas.{full_where_near, step_does, step_unwritten, steps_shown}
-use Rattle.xousim.proofs.TickLemmas.{comes_idle, comes_met, comes_over, plays_later, plays_surely, plays_swap, plays_unwritten}
+use Rattle.xousim.proofs.Outcome.KeptLemmas.{kept_after, kept_same}
+use Rattle.xousim.proofs.Telling.StepLemmas.{full_where_near, step_does, step_unwritten, steps_shown}
+use Rattle.xousim.proofs.Telling.TickLemmas.{comes_idle, comes_met, comes_over, plays_later, plays_surely, plays_swap, plays_unwritten}
 use Rattle.xousim.proofs.playing.events.play_tick.Goals as goal
 
 pub returns-then-ready-clause-plays : goal.returns-then-ready-clause-plays

@@ -1,4 +1,4 @@
-use Rattle.xousim.proofs.ToldLemmas.{front_longer, on_err}
+use Rattle.xousim.proofs.Telling.ToldLemmas.{front_longer, on_err}
 use Rattle.xousim.specs.Gathering.{GathersPart, text}
 use Rattle.xousim.proofs.playing.gathering.gather.Goals as goal
 

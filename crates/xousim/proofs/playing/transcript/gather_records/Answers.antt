@@ -1,7 +1,7 @@
 use Rattle.std.proofs.Common.{ℕ, arith, suc, List, take, drop, sym, subst}
 use Rattle.xousim.specs.Telling.{told}
-use Rattle.xousim.proofs.GatheringLemmas.{gathers_append, part_after}
-use Rattle.xousim.proofs.ToldLemmas.{on_err, told_at, told_next}
+use Rattle.xousim.proofs.Telling.GatheringLemmas.{gathers_append, part_after}
+use Rattle.xousim.proofs.Telling.ToldLemmas.{on_err, told_at, told_next}
 use Rattle.xousim.specs.Gathering.{Gathers, GathersPart, text}
 use Rattle.xousim.proofs.playing.transcript.gather_records.Goals as goal
 

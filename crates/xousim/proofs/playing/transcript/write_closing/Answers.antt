@@ -6,7 +6,7 @@ use Rattle.xk_ports.specs.Told.{GrowsByPrefix}
 use Rattle.xousim.specs.declared.commands.command.Telling.{Telling}
 use Rattle.xousim.specs.Table.{table_of}
 use Rattle.xousim.specs.Telling.{closing, last_line}
-use Rattle.xousim.proofs.ToldLemmas.{front_later, front_longer, on_err, on_err_map}
+use Rattle.xousim.proofs.Telling.ToldLemmas.{front_later, front_longer, on_err, on_err_map}
 use Rattle.xousim.proofs.playing.transcript.write_closing.Goals as goal
 
 pub returns-in_err-write_table-in-Ledger-clause-front : goal.returns-in_err-write_table-in-Ledger-clause-front

@@ -1,7 +1,7 @@
 use Rattle.std.proofs.Common.{◌≡◌, false, nat_eq, refl}
 use Rattle.std.specs.Prelude.{slice_index}
 use Rattle.std.proofs.lemmas.Bool.{ne_eqb}
-use Rattle.xousim.proofs.LoadTotalsLemmas.{counted_gone, counted_none, counted_other, counted_send, counted_word}
+use Rattle.xousim.proofs.Loading.LoadTotalsLemmas.{counted_gone, counted_none, counted_other, counted_send, counted_word}
 use Rattle.xousim.proofs.load.totals.Totals.count.Goals as goal
 use Rattle.xousim.proofs.load.totals.Totals.count.Goals.{else-thread-ne-SERVER-via-then-thread-ne-SERVER+else-words-eq-RETURNED, else-thread-ne-SERVER-via-else-thread-ne-SERVER}
 

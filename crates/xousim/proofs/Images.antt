@@ -1,0 +1,5 @@
+pub mod ConvertLemmas
+pub mod ConvertedBootLemmas
+pub mod MatchedLemmas
+pub mod MovedStartLemmas
+pub mod StartingLemmas

@@ -1,0 +1,4 @@
+pub mod LoadHistoryLemmas
+pub mod LoadImageLemmas
+pub mod LoadPlayingLemmas
+pub mod LoadTotalsLemmas

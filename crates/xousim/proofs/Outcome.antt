@@ -1,0 +1,3 @@
+pub mod KeptLemmas
+pub mod TopLemmas
+pub mod VerdictLemmas

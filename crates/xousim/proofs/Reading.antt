@@ -1,0 +1,3 @@
+pub mod FileLemmas
+pub mod PageFileLemmas
+pub mod ReadingLemmas

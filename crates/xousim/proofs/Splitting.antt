@@ -1,0 +1,2 @@
+pub mod SplitCallLemmas
+pub mod SplitLemmas

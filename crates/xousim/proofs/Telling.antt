@@ -1,0 +1,11 @@
+pub mod FullLemmas
+pub mod GatheringLemmas
+pub mod HistoryLemmas
+pub mod OnceLemmas
+pub mod PlayingLemmas
+pub mod SomeStepsLemmas
+pub mod StandingLemmas
+pub mod StepLemmas
+pub mod StepLimitLemmas
+pub mod TickLemmas
+pub mod ToldLemmas

@@ -1,0 +1,35 @@
+//! How a capacity is split into frames of RAM and slots of the swap store isn't seen. The functions do
+//! nothing; their contracts are the laws.
+
+ghost use Rattle.std.specs.Prelude.{◌≡◌, ◌↔◌, ℕ, List};
+ghost use Rattle.machine_model.specs.State.Machine.{Machine};
+ghost use Rattle.xousim.specs.declared.commands.command.Telling.{Telling};
+ghost use Rattle.xousim.specs.Outcome.Images.{Boots};
+ghost use Rattle.xousim.specs.Outcome.Plays.{run_of};
+ghost use Rattle.xousim.specs.Outcome.Sides.{Call};
+ghost use Rattle.xousim.specs.SplitCalls.{EndAlike, PlaysOn};
+ghost use Rattle.xousim.specs.Splits.{Setup, SplitOneCapacity};
+ghost use Rattle.xousim.specs.Telling.{output};
+ghost use Rattle.xousim.specs.Words.{Play};
+
+/// Two images that differ in nothing but RAM start, RAM size and the check number over them, each without
+/// a fault in a run whose slots give the two one capacity, boot the same machine. So they have the same
+/// history, whatever the events and the step limit are, and `trace`, `run` and `ledger` tell the same
+/// bytes of it.
+pub fn swapping_is_invisible()
+    ensures boots { (one other : Setup) (machine : Machine) → SplitOneCapacity one other
+        → (Boots one.image one.asked machine ↔ Boots other.image other.asked machine) }
+    ensures history { (one other : Setup) (machine twin : Machine) (events : List ℕ) (limit : ℕ) → SplitOneCapacity one other
+        → Boots one.image one.asked machine → Boots other.image other.asked twin → run_of limit machine events ≡ run_of limit twin events }
+    ensures output { (one other : Setup) (machine twin : Machine) (tells : Telling) (events : List ℕ) (limit : ℕ) → SplitOneCapacity one other
+        → Boots one.image one.asked machine → Boots other.image other.asked twin
+        → output tells (run_of limit machine events) ≡ output tells (run_of limit twin events) }
+{}
+
+/// Two calls of one command, `trace`, `run` or `ledger`, that play the same events on two such images end with one
+/// status and write the same. Neither is ended by a fault outside or want of memory, and both runs are trusted.
+pub fn split_calls_end_alike()
+    ensures { (one other : Setup) (events : List ℕ) (play twin : Play) (call answer : Call) → SplitOneCapacity one other
+        → PlaysOn one events play call → PlaysOn other events twin answer
+        → play.tells ≡ twin.tells → play.limit ≡ twin.limit → EndAlike call answer }
+{}

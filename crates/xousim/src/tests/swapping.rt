@@ -1,0 +1,235 @@
+//! Runs with one page in RAM: every change of page is an exchange with the store.
+
+use super::image::{patched, with_ram};
+use super::lends::{LENDER, LENT_AND_RETURNED, READER};
+use super::lines::transcript;
+use super::programs::{Act, image_of_programs};
+use super::{FIRST_IMAGE, FIRST_RECORDS, FIRST_WORD, Outcome, first_lines, words};
+use crate::status::{Ended, Status};
+use crate::top::xous_main;
+use kernel_args::ArgFault;
+use std::alloc::Global;
+use std::process::Abort;
+use std::test::Fail;
+use xk_ports::{MemHost, MemSink, MemStore};
+
+/// For so many processes, the bytes of a RAM with one frame that is neither a table nor kept free, and
+/// the slots that make up for the rest of 4,096 frames.
+const ONE_PAGE: [(u32, &str); 6] = [
+    (0x2000, "4094"),
+    (0x1_7000, "4073"),
+    (0x2_C000, "4052"),
+    (0x4_1000, "4031"),
+    (0x5_6000, "4010"),
+    (0x6_B000, "3989"),
+];
+
+/// The run of these programs with one page in RAM, and with as many pages in all as in 16 MiB.
+pub fn trace_with_one_page(
+    alloc: Global,
+    processes: &[[&[Act]; 2]],
+    events: &[u8],
+) -> Result<Outcome, Fail> {
+    let Some((ram, slots)) = ONE_PAGE.get(processes.len()) else {
+        return Err(Fail::from("no such RAM"));
+    };
+    let image = image_of_programs(alloc, processes)?;
+    let image = with_ram(alloc, image.as_slice(), *ram)?;
+    let texts = ["trace", "i", "e", "10000000", *slots];
+    call(alloc, &texts, image.as_slice(), events, 0)
+}
+
+/// Runs the program with these words on the image `i` and the event file `e`. The call of the store with
+/// this number fails, or none for 0.
+fn call(
+    alloc: Global,
+    texts: &[&str],
+    image: &[u8],
+    events: &[u8],
+    failing: u64,
+) -> Result<Outcome, Fail> {
+    let mut files = Vec::new(alloc);
+    files.push((String::from_str(alloc, "i")?, image.to_vec(alloc)?))?;
+    files.push((String::from_str(alloc, "e")?, events.to_vec(alloc)?))?;
+    let mut host = MemHost::new(alloc, files, 4096, Vec::new(alloc), 100)?;
+    let mut out = MemSink::new(alloc, 50_000, Vec::new(alloc))?;
+    let mut notes = MemSink::new(alloc, 100, Vec::new(alloc))?;
+    let words = words(alloc, texts)?;
+    let mut fails = Vec::new(alloc);
+    fails.push(failing)?;
+    let Ended { status, store: _ } = xous_main(
+        alloc,
+        words.as_slice(),
+        &mut host,
+        &mut out,
+        &mut notes,
+        MemStore::new(fails),
+    );
+    Ok(Outcome {
+        status,
+        out: out.as_slice().to_vec(alloc)?,
+        notes: notes.as_slice().to_vec(alloc)?,
+    })
+}
+
+/// Ten pages in one frame and nine slots, and in ten frames.
+const FULL_HOUSES: [(u32, &str); 2] = [(0x1_7000, "9"), (0x2_0000, "0")];
+
+#[test]
+fn full_house(rt: HostRuntime) -> Result<(), Fail> {
+    let alloc = rt.alloc();
+    let lines = first_lines(alloc, "end 100 done")?;
+    for (ram, slots) in FULL_HOUSES {
+        let image = with_ram(alloc, &FIRST_IMAGE, ram)?;
+        let texts = ["trace", "i", "e", "1000", slots];
+        let run = call(alloc, &texts, image.as_slice(), b"tick 100", 0)?;
+        assert_eq!(rt; run.status, Status::Done);
+        assert_eq!(rt; run.out.as_slice(), lines.as_slice());
+        let run = call(alloc, &["check", "i", slots], image.as_slice(), b"", 0)?;
+        let plan = run.out.as_slice();
+        assert!(rt; plan.ends_with(b"pages 10 cap 10\n"));
+    }
+    Ok(())
+}
+
+/// The second word of the code makes a1 zero, and the eighth loops: the process asks for a page.
+const ASKS_FOR_A_PAGE: [(u16, u32); 2] = [
+    (FIRST_WORD as u16 + 4, 0x0000_0593),
+    (FIRST_WORD as u16 + 28, 0x0000_006F),
+];
+
+/// In either house there is no room for one page more.
+#[test]
+fn full_house_has_no_room(rt: HostRuntime) -> Result<(), Fail> {
+    let alloc = rt.alloc();
+    let lines = ["6 2.2 call 2 0 0 1000 6", "6 2.2 reply 1 3", "end 100 done"];
+    let lines = transcript(alloc, &lines)?;
+    let asking = patched(alloc, &FIRST_IMAGE, &ASKS_FOR_A_PAGE)?;
+    for (ram, slots) in FULL_HOUSES {
+        let image = with_ram(alloc, asking.as_slice(), ram)?;
+        let texts = ["trace", "i", "e", "1000", slots];
+        let run = call(alloc, &texts, image.as_slice(), b"tick 100", 0)?;
+        assert_eq!(rt; run.status, Status::Done);
+        assert_eq!(rt; run.out.as_slice(), lines.as_slice());
+    }
+    Ok(())
+}
+
+/// With a slot fewer the pages of the process have no room.
+#[test]
+fn house_too_small(rt: HostRuntime) -> Result<(), Fail> {
+    let alloc = rt.alloc();
+    let image = with_ram(alloc, &FIRST_IMAGE, 0x1_7000)?;
+    let texts = ["trace", "i", "e", "1000", "8"];
+    let run = call(alloc, &texts, image.as_slice(), b"tick 100", 0)?;
+    assert_eq!(rt;
+        run.status,
+        Status::ImageFault(ArgFault { what: 16, at: 0 })
+    );
+    assert_eq!(rt; run.out.as_slice(), b"".as_slice());
+    assert_eq!(rt;
+        run.notes.as_slice(),
+        b"image fault RamTooSmall at 0\n".as_slice()
+    );
+    Ok(())
+}
+
+/// The first call of the store, which prepares the slots, fails.
+#[test]
+fn fault_of_the_store(rt: HostRuntime) -> Result<(), Fail> {
+    let alloc = rt.alloc();
+    let image = with_ram(alloc, &FIRST_IMAGE, 0x1_7000)?;
+    let texts = ["trace", "i", "e", "1000", "9"];
+    let run = call(alloc, &texts, image.as_slice(), b"tick 100", 1)?;
+    assert_eq!(rt; run.status, Status::SwapFault);
+    assert_eq!(rt; run.out.as_slice(), b"".as_slice());
+    assert_eq!(rt; run.notes.as_slice(), b"swap fault\n".as_slice());
+    Ok(())
+}
+
+/// More calls of the store than a run makes.
+const CALLS: u64 = 2000;
+
+/// An image with one page in RAM, its slots and its events.
+#[derive(Drop)]
+struct House {
+    image: Vec<u8>,
+    slots: &'static str,
+    events: &'static [u8],
+}
+
+/// Each call of the store fails, as long as there is one that can: there stand the lines of whole steps.
+/// The answer is the last of these calls that leaves so many lines, or 0 for none.
+fn expect_swap_faults(
+    rt: &impl Abort,
+    alloc: Global,
+    house: &House,
+    lines: &[&str],
+    sought: usize,
+) -> Result<u64, Fail> {
+    let texts = ["trace", "i", "e", "1000", house.slots];
+    let mut last = 0;
+    for failing in 1..CALLS {
+        let run = call(alloc, &texts, house.image.as_slice(), house.events, failing)?;
+        if run.status == Status::Done {
+            let whole = transcript(alloc, lines)?;
+            assert_eq!(rt; run.out.as_slice(), whole.as_slice());
+            return Ok(last);
+        }
+        assert_eq!(rt; run.status, Status::SwapFault);
+        assert_eq!(rt; run.notes.as_slice(), b"swap fault\n".as_slice());
+        let told = whole_steps(alloc, lines, run.out.as_slice())?;
+        assert!(rt; failing > 1 || told == 0);
+        if told == sought {
+            last = failing;
+        }
+    }
+    Err(Fail::from("more calls than expected"))
+}
+
+/// How many lines a part of a run has that ends between two of its steps.
+fn whole_steps(alloc: Global, lines: &[&str], part: &[u8]) -> Result<usize, Fail> {
+    let mut last = "";
+    for (told, line) in lines.iter().enumerate() {
+        let step = line.split(' ').next().unwrap_or("");
+        let Some(before) = lines.get(..told) else {
+            return Err(Fail::from("no such lines"));
+        };
+        if step != last && transcript(alloc, before)?.as_slice() == part {
+            return Ok(told);
+        }
+        last = step;
+    }
+    Err(Fail::from("no part that ends between two steps"))
+}
+
+#[test]
+fn full_house_on_a_failing_store(rt: HostRuntime) -> Result<(), Fail> {
+    let alloc = rt.alloc();
+    let house = House {
+        image: with_ram(alloc, &FIRST_IMAGE, 0x1_7000)?,
+        slots: "9",
+        events: b"tick 100",
+    };
+    let [called, replied, told] = FIRST_RECORDS;
+    let lines = [called, replied, told, "end 100 done"];
+    let at_boot = expect_swap_faults(&rt, alloc, &house, &lines, 0)?;
+    assert!(rt; at_boot > 0);
+    Ok(())
+}
+
+/// Some calls fail during the loan: behind the nine lines up to the message that the server gets.
+#[test]
+fn lend_and_return_on_a_failing_store(rt: HostRuntime) -> Result<(), Fail> {
+    let alloc = rt.alloc();
+    let processes: [[&[Act]; 2]; 2] = [[&READER, &[]], [&LENDER, &[]]];
+    let image = image_of_programs(alloc, &processes)?;
+    let house = House {
+        image: with_ram(alloc, image.as_slice(), 0x2_C000)?,
+        slots: "20",
+        events: b"tick 126\ntick 24\n",
+    };
+    let during = expect_swap_faults(&rt, alloc, &house, &LENT_AND_RETURNED, 9)?;
+    assert!(rt; during > 0);
+    Ok(())
+}
