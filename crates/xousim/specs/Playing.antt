@@ -19,7 +19,7 @@ use Rattle.xousim.specs.declared.playing.events.Advance.TheVariants.{Played, Wai
 use Rattle.xousim.specs.declared.playing.events.PlayFault.{PlayFault}
 use Rattle.xousim.specs.declared.playing.events.PlayFault.TheVariants.{Write, Swap}
 use Rattle.xousim.specs.Gathering.{Gathered, GatheredPart, Gathers, GathersSome, Text}
-use Rattle.xousim.specs.History.{History, history_of, with_ending}
+use Rattle.xousim.specs.History.{history_of, with_ending}
 use Rattle.xousim.specs.Outcome.Starts.{ComesFull}
 use Rattle.xousim.specs.Reading.{IsTold}
 use Rattle.xousim.specs.Standing.{Stand}

@@ -1,5 +1,5 @@
 -- An image without a fault is converted.
-use Rattle.std.proofs.Common.{◌≡◌, ◌≢◌, ◌≤◌, ap, sym, refl, ℕ, Bool, true, false, ◌==◌, List, [], length, Option, Some, inr, arith}
+use Rattle.std.proofs.Common.{◌≡◌, ◌≢◌, ◌≤◌, ap, sym, ℕ, Bool, true, false, ◌==◌, List, [], length, Option, Some, inr, arith}
 use Rattle.std.specs.Prelude.{if◌then◌else◌}
 use Rattle.std.proofs.lemmas.Bool.Decides.{nat_tests}
 use Rattle.std.proofs.lemmas.List.Elements.{All-weaker}

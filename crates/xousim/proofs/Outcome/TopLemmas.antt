@@ -1,5 +1,5 @@
 -- The parts of a call, put together.
-use Rattle.std.proofs.Common.{◌≡◌, ◌≤◌, refl, inl, inr, ℕ, Bool, List, [], ◌∷◌, ◌++◌, Option, true, false, Ok, sym, ap, ◌∙◌, subst, arith, append_assoc}
+use Rattle.std.proofs.Common.{◌≡◌, ◌≤◌, inl, inr, ℕ, Bool, List, [], ◌∷◌, ◌++◌, Option, true, false, sym, ap, ◌∙◌, subst, arith, append_assoc}
 use Rattle.std.specs.Option.{option_map}
 use Rattle.xk_base.specs.Outside.{Rose}
 use Rattle.xk_ports.specs.Host.{FileAsked}
@@ -17,10 +17,10 @@ use Rattle.xousim.specs.declared.status.Status.TheVariants.{Done, Usage, ReadFau
 use Rattle.xousim.specs.Finish.{Booted, EndsBooted, Finishes, Starts}
 use Rattle.xousim.specs.History.{History}
 use Rattle.xousim.specs.Outcome.Ends.{Ends}
-use Rattle.xousim.specs.Outcome.Plays.{AsksBoth, EndsPlay, HasCause, RanFull, Tells, run_of}
+use Rattle.xousim.specs.Outcome.Plays.{AsksBoth, EndsPlay, HasCause, Tells, run_of}
 use Rattle.xousim.specs.Outcome.Sides.{Call, IsTrusted, Prepares, StoreSide, Told}
 use Rattle.xousim.specs.Outcome.Starts.{ComesFull, Room, room_of}
-use Rattle.xousim.specs.Outcome.Images.{Image, plan_in}
+use Rattle.xousim.specs.Outcome.Images.{plan_in}
 use Rattle.xousim.specs.Reading.{Asked, IsFile, IsTold}
 use Rattle.xousim.specs.Telling.{closing, output, told}
 use Rattle.xousim.specs.Words.{Command, Play, command_in}

@@ -1,5 +1,5 @@
 -- The files decide the status.
-use Rattle.std.proofs.Common.{◌≡◌, ◌<◌, ◌≤◌, ◌⊎◌, inl, inr, ℕ, length, Bool, true, false, List, Option, Some, None, refl, sym, ap, ◌∙◌, subst, arith}
+use Rattle.std.proofs.Common.{◌≡◌, ◌<◌, ◌≤◌, ◌⊎◌, inl, inr, ℕ, length, List, Option, Some, None, refl, sym, ap, ◌∙◌, subst, arith}
 use Rattle.std.proofs.lemmas.Option.{same_Some}
 use Rattle.kernel_args.specs.declared.args.Args.{Args}
 use Rattle.kernel_args.specs.declared.faults.ArgFault.{ArgFault}
@@ -21,9 +21,9 @@ use Rattle.xousim.specs.Outcome.Demo.{Demonstrates, TellsDemo}
 use Rattle.xousim.specs.Outcome.Ends.{Ends, EndsCommand}
 use Rattle.xousim.specs.Outcome.Images.{Boots, Image, IsPlanned, Refuses, plan_in}
 use Rattle.xousim.specs.Outcome.Plays.{EndsPlay, HasCause, Ran, Tells, run_of}
-use Rattle.xousim.specs.Outcome.Sides.{Call, HostRose, IsTrusted, IsUnwritten, OutRose, StoreRose, StoreSide}
+use Rattle.xousim.specs.Outcome.Sides.{Call, HostRose, IsUnwritten, OutRose, StoreRose}
 use Rattle.xousim.specs.Outcome.Starts.{Room, Stops}
-use Rattle.xousim.specs.Outcome.Verdicts.{IsCheckComplete, IsCheckVerdict, IsCommandComplete, IsComplete, IsConvertComplete, IsConvertVerdict, IsPlayComplete, IsTrustedPlay, IsVerdict, IsVerdictOr, RunsTo}
+use Rattle.xousim.specs.Outcome.Verdicts.{IsCheckComplete, IsCheckVerdict, IsCommandComplete, IsComplete, IsConvertComplete, IsConvertVerdict, IsPlayComplete, IsVerdict, RunsTo}
 use Rattle.boot_plan.specs.declared.plans.BootPlan.{BootPlan}
 use Rattle.xousim.specs.Load.Events.{load_machine, load_plan}
 use Rattle.xousim.specs.Reading.{IsFile}

@@ -1,22 +1,18 @@
 -- What comes of a whole file, by what came of the bytes that were read of it.
-use Rattle.std.proofs.Common.{◌≡◌, ℕ, Bool, true, false, List, [], ◌++◌, Option, Some, None, Ok, Err, refl, sym, subst, append-nil}
-use Rattle.event_text.specs.EventFile.{Input, input_of}
-use Rattle.event_text.specs.Held.{Reader, IsWaiting}
-use Rattle.event_text.specs.Lines.{whole_lines}
+use Rattle.std.proofs.Common.{◌≡◌, ℕ, Bool, true, List, [], ◌++◌, Option, Ok, Err, sym, subst, append-nil}
+use Rattle.event_text.specs.EventFile.{input_of}
 use Rattle.machine_model.specs.State.Machine.{Machine}
-use Rattle.xk_ports.specs.Told.{Consumes}
 use Rattle.xousim.specs.declared.commands.command.Telling.{Telling}
 use Rattle.xousim.specs.declared.playing.ending.Ending.{Ending}
-use Rattle.xousim.specs.declared.playing.ending.Ending.TheVariants.{Played}
 use Rattle.xousim.specs.declared.playing.event_file.RunFault.TheVariants as faults
 use Rattle.xousim.specs.declared.playing.events.PlayFault.TheVariants.{Write, Swap}
 use Rattle.xousim.specs.Gathering.{put}
 use Rattle.xousim.specs.History.{history_of}
-use Rattle.xousim.specs.Playing.{EndsSo, FailsSo, HasPlayed, Runs, run_from}
+use Rattle.xousim.specs.Playing.{EndsSo, FailsSo, Runs, run_from}
 use Rattle.xousim.specs.Reading.{IsTold}
 use Rattle.xousim.specs.Standing.{Stand}
 use Rattle.xousim.proofs.Telling.GatheringLemmas.{all_put, some_put}
-use Rattle.xousim.proofs.Telling.PlayingLemmas.{whole_lines_played, with_text}
+use Rattle.xousim.proofs.Telling.PlayingLemmas.{with_text}
 
 -- a run that begins where this stood on the sink, and stands where this does
 module _ (tells : Telling) (limit : ℕ) (start : Machine) (begun out left left_after : Option (List ℕ)) (now : Stand) (taken more : List ℕ) (f : Bool)

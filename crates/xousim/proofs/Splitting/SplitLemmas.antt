@@ -1,5 +1,5 @@
 -- Two images that differ in RAM alone spell the same arguments but for RAM, and so boot the same machine where their capacities are one.
-use Rattle.std.proofs.Common.{◌≡◌, ◌∙◌, ap, sym, subst, refl, ℕ, zero, suc, ◌+◌, ◌-◌, ◌*◌, ◌/◌, ◌<◌, ◌≤◌, ◌^◌, false, ◌||◌, nat_lt, List, [], ◌∷◌, ◌++◌, map, length, take, drop, get_or, Option, arith}
+use Rattle.std.proofs.Common.{◌≡◌, ◌∙◌, ap, sym, subst, refl, ℕ, ◌+◌, ◌-◌, ◌*◌, ◌/◌, ◌<◌, ◌≤◌, false, nat_lt, List, [], ◌∷◌, ◌++◌, map, length, take, drop, get_or, arith}
 use Rattle.std.specs.Prelude.{◌↔◌, codes}
 use Rattle.std.specs.List.{flat_map, AllByRecursion}
 use Rattle.std.proofs.lemmas.Bool.Decides.{nat_tests}
@@ -28,7 +28,7 @@ use Rattle.xk_kernel.specs.Start.{start}
 use Rattle.xousim.specs.declared.commands.command.Telling.{Telling}
 use Rattle.xousim.specs.Outcome.Images.{Boots, IsSoundImage}
 use Rattle.xousim.specs.Outcome.Plays.{run_of}
-use Rattle.xousim.specs.Splits.{Setup, DifferInRam, HasCapacity, SplitOneCapacity, says_ram}
+use Rattle.xousim.specs.Splits.{Setup, DifferInRam, SplitOneCapacity, says_ram}
 use Rattle.xousim.specs.Telling.{output}
 use Rattle.xousim.proofs.Images.MatchedLemmas.{no_plan_fault}
 use Rattle.xousim.proofs.Images.MovedStartLemmas.{StandsMoved, processes_moved, room_of, shown, start_shown, started}

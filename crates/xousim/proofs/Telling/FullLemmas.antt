@@ -1,5 +1,5 @@
 -- States of a run with more pages than there are frames for.
-use Rattle.std.proofs.Common.{◌≡◌, ◌≢◌, ◌≤◌, ◌<◌, ◌-◌, ◌==◌, ◌∙◌, ℕ, zero, suc, Bool, true, false, List, [], ◌∷◌, ◌++◌, length, is_some, refl, sym, ap, subst, arith, append-nil}
+use Rattle.std.proofs.Common.{◌≡◌, ◌≢◌, ◌≤◌, ◌-◌, ◌==◌, ◌∙◌, ℕ, zero, suc, Bool, true, false, List, [], ◌∷◌, ◌++◌, length, is_some, sym, ap, subst, arith}
 use Rattle.std.specs.Prelude.{if◌then◌else◌}
 use Rattle.std.proofs.lemmas.Bool.Decides.{nat_tests}
 use Rattle.event_text.specs.declared.event.Event.{Event}
@@ -8,7 +8,7 @@ use Rattle.machine_model.specs.Runs.Moments.{ByStep, ByTurn, Moment, state_at}
 use Rattle.machine_model.specs.State.Machine.{Machine}
 use Rattle.machine_model.specs.State.Order.{actor}
 use Rattle.machine_model.specs.Stepping.Step.{step}
-use Rattle.xk_kernel.specs.History.{History, history, play}
+use Rattle.xk_kernel.specs.History.{history}
 use Rattle.xk_kernel.specs.HistoryMoments.{event_moments, moment_by, moments_of, tick_moments}
 use Rattle.xk_kernel.proofs.Running.MomentLemmas.{history_last, moments_append}
 use Rattle.xousim.specs.Outcome.Starts.{ComesFull, IsFull, Room}

@@ -1,8 +1,7 @@
 -- An event without steps.
-use Rattle.std.proofs.Common.{◌≡◌, ◌⊎◌, inl, inr, ℕ, true, Ok, Err, refl, sym, ap, ◌∙◌}
+use Rattle.std.proofs.Common.{◌≡◌, ◌⊎◌, inl, ℕ, true, Ok, Err, refl, sym, ap, ◌∙◌}
 use Rattle.event_text.specs.declared.event.Event.{Event}
 use Rattle.event_text.specs.declared.event.Event.TheVariants.{Pick, Irq, Kill}
-use Rattle.machine_model.specs.State.Machine.{Machine}
 use Rattle.xk_base.specs.declared.ids.Pid.{Pid}
 use Rattle.xk_base.specs.declared.ids.Tid.{Tid}
 use Rattle.xk_kernel.specs.History as kernel

@@ -8,7 +8,7 @@ use Rattle.xk_kernel.specs.History as kernel
 use Rattle.xk_kernel.specs.History.{history}
 use Rattle.xousim.specs.declared.commands.command.Telling.{Telling}
 use Rattle.xousim.specs.declared.playing.ending.Ending.{Ending}
-use Rattle.xousim.specs.declared.playing.ending.Ending.TheVariants.{BadLine, LimitMet, Played}
+use Rattle.xousim.specs.declared.playing.ending.Ending.TheVariants.{LimitMet}
 use Rattle.xousim.specs.History.{end_of, history_of, with_ending}
 use Rattle.xousim.specs.Outcome.Plays.{run_of}
 use Rattle.xousim.specs.Telling.{closing, output, told, told_of}

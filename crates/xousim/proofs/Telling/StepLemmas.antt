@@ -1,18 +1,16 @@
 -- A step of a kernel, as a run stands before and after it.
-use Rattle.std.proofs.Common.{◌≡◌, ◌≢◌, ◌⊎◌, ◌∙◌, inl, inr, ℕ, Bool, true, false, List, is_some, refl, sym, ap, subst}
+use Rattle.std.proofs.Common.{◌≡◌, ◌≢◌, ◌⊎◌, ◌∙◌, inl, inr, ℕ, Bool, true, false, List, refl, sym, subst}
 use Rattle.std.proofs.lemmas.Bool.{false≢true}
-use Rattle.machine_model.specs.State.Machine.{Machine}
-use Rattle.machine_model.specs.State.Order.{actor}
 use Rattle.machine_model.specs.Stepping.Step.{step}
 use Rattle.sv32_space.specs.Tie.{Held}
 use Rattle.vm_memory.specs.Bytes.{none_out}
 use Rattle.xk_base.specs.declared.records.Rec.{Rec}
-use Rattle.xk_kernel.specs.Knowing.{IsCrowded, KnowsBytes}
+use Rattle.xk_kernel.specs.Knowing.{KnowsBytes}
 use Rattle.xk_kernel.specs.Sound.{Keeps}
 use Rattle.xk_kernel.specs.State.{machine_of}
 use Rattle.xk_kernel.specs.Stepping.{CountsStep, DoesStep, MayExchange, last_of}
 use Rattle.xk_kernel.specs.declared.kernel.Kernel.{Kernel}
-use Rattle.xk_kernel.specs.declared.kernel.Stepped.TheVariants.{Did, Idle}
+use Rattle.xk_kernel.specs.declared.kernel.Stepped.TheVariants.{Did}
 use Rattle.xousim.specs.declared.commands.command.Telling.{Telling}
 use Rattle.xousim.specs.Gathering.{Gathers, GathersPart, Text}
 use Rattle.xousim.specs.Outcome.Starts.{IsFull}

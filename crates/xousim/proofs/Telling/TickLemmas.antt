@@ -1,5 +1,5 @@
 -- A tick, one step further: what comes of the rest comes of the whole.
-use Rattle.std.proofs.Common.{◌≡◌, ◌≢◌, ◌+◌, ◌-◌, ◌≤◌, ◌⊎◌, ◌∙◌, inl, inr, ℕ, Bool, true, false, List, [], Option, Result, Ok, Err, is_some, refl, sym, ap, subst, arith}
+use Rattle.std.proofs.Common.{◌≡◌, ◌≢◌, ◌+◌, ◌-◌, ◌≤◌, ◌⊎◌, ◌∙◌, inl, inr, ℕ, true, false, Result, Ok, Err, is_some, refl, sym, ap, subst, arith}
 use Rattle.event_text.specs.declared.event.Event.TheVariants.{Tick}
 use Rattle.machine_model.specs.State.Machine.{Machine}
 use Rattle.machine_model.specs.State.Order.{actor, turn}
@@ -15,14 +15,13 @@ use Rattle.xousim.specs.declared.playing.ending.Ending.{Ending}
 use Rattle.xousim.specs.declared.playing.ending.Ending.TheVariants.{Played, LimitMet}
 use Rattle.xousim.specs.declared.playing.events.PlayFault.{PlayFault}
 use Rattle.xousim.specs.declared.playing.events.PlayFault.TheVariants.{Write, Swap}
-use Rattle.xousim.specs.Gathering.{Gathered, Gathers, GathersPart, GathersSome, Text}
-use Rattle.xousim.specs.History.{History, with_ending}
+use Rattle.xousim.specs.Gathering.{Gathered, Gathers, GathersPart, Text}
+use Rattle.xousim.specs.History.{with_ending}
 use Rattle.xousim.specs.Outcome.Starts.{ComesFull, IsFull, Room}
 use Rattle.xousim.specs.Playing.{Comes, Plays, StaysNear}
 use Rattle.xousim.specs.Standing.{Stand}
 use Rattle.xousim.specs.Telling.{told}
 use Rattle.xousim.proofs.Telling.FullLemmas.{full_start, step_full, tick_full}
-use Rattle.xousim.proofs.Telling.GatheringLemmas.{gathers_none}
 use Rattle.xousim.proofs.Telling.HistoryLemmas.{gathered_behind, gathered_nothing, gathered_same, gathered_stopped, met_steps, part_behind, part_front, part_same}
 use Rattle.xousim.proofs.Telling.StepLimitLemmas.{play_grows}
 

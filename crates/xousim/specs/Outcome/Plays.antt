@@ -1,6 +1,5 @@
 -- How a call ends that plays events.
 use Rattle.std.specs.Prelude.{◌≡◌, ◌≤◌, ◌⊎◌, ℕ, Bool, true, false, List, [], ◌∷◌}
-use Rattle.boot_plan.specs.declared.plans.BootPlan.{BootPlan}
 use Rattle.event_text.specs.EventFile.{input_of}
 use Rattle.event_text.specs.Lines.{whole_lines}
 use Rattle.machine_model.specs.State.Machine.{Machine}

@@ -1,5 +1,5 @@
 -- A run starts: its store is prepared, and its plan is booted.
-use Rattle.std.specs.Prelude.{◌≡◌, ◌<◌, ◌⊎◌, ℕ, Bool, true, false, List, Option, length}
+use Rattle.std.specs.Prelude.{◌≡◌, ◌<◌, ◌⊎◌, ℕ, true, false, List, Option, length}
 use Rattle.boot_plan.specs.Capacity.{page_frames}
 use Rattle.boot_plan.specs.declared.plans.BootPlan.{BootPlan}
 use Rattle.ledger_model.specs.Ledger.{pages}

@@ -1,12 +1,9 @@
-use Rattle.std.proofs.Common.{◌≡◌, ◌∙◌, ap, inr, refl, sym, subst, ℕ, true, List, Option}
+use Rattle.std.proofs.Common.{◌≡◌, ◌∙◌, ap, inr, sym, subst, ℕ, true, List}
 use Rattle.std.specs.Option.{option_copied}
 use Rattle.boot_plan.specs.declared.plans.BootPlan.{BootPlan}
 use Rattle.vm_memory.specs.Memory.{size, store_of}
 use Rattle.xk_kernel.specs.Start.{start}
-use Rattle.xk_kernel.specs.declared.kernel.Kernel.{Kernel}
-use Rattle.xousim.specs.declared.status.Ended.{Ended}
 use Rattle.xousim.specs.Gathering.{Text}
-use Rattle.xousim.specs.Outcome.Plays.{EndsRefused, EndsUnstarted}
 use Rattle.xousim.specs.Outcome.Sides.{Prepares, store_side}
 use Rattle.xousim.specs.Outcome.Starts.{Stops, room_of}
 use Rattle.xousim.specs.Standing.{Begins, room_in, stand}

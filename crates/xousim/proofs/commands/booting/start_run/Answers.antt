@@ -1,6 +1,4 @@
-use Rattle.std.proofs.Common.{refl, sym, inr, true, ap}
-use Rattle.vm_memory.specs.declared.memory.BootError.{BootError}
-use Rattle.xk_kernel.specs.Start.{start}
+use Rattle.std.proofs.Common.{refl, inr}
 use Rattle.xousim.proofs.Images.StartingLemmas.{asked_on, begins, room_is, rose_before, start_full, starts_at_zero}
 use Rattle.xousim.proofs.commands.booting.start_run.Goals as goal
 

@@ -1,10 +1,9 @@
-use Rattle.std.proofs.Common.{◌≡◌, ◌∙◌, ap, subst, ℕ, List, Option, None}
+use Rattle.std.proofs.Common.{◌≡◌, ◌∙◌, ap, ℕ, List, None}
 use Rattle.boot_plan.specs.declared.plans.BootPlan.{BootPlan}
 use Rattle.vm_memory.specs.Memory.{size}
 use Rattle.xk_kernel.specs.Start.{start}
 use Rattle.xousim.specs.Gathering.{Text, put}
 use Rattle.xousim.specs.Load.Events.{load_machine, load_plan}
-use Rattle.xousim.specs.Load.Image.{load_image}
 use Rattle.xousim.specs.Outcome.Sides.{store_side}
 use Rattle.xousim.specs.Outcome.Starts.{Stops}
 use Rattle.xousim.specs.Standing.{Begins, stand}

@@ -1,15 +1,14 @@
-use Rattle.std.proofs.Common.{◌≡◌, ℕ, List, Option, ap, ◌∙◌, subst, sym, refl, inr}
+use Rattle.std.proofs.Common.{◌≡◌, ℕ, ap, ◌∙◌, subst, sym, refl, inr}
 use Rattle.machine_model.specs.State.Machine.{Machine}
 use Rattle.vm_memory.specs.Memory.{store_of}
 use Rattle.xk_base.specs.declared.limits.TheConstants.{DEFAULT_STEPS}
 use Rattle.xk_kernel.specs.History.{history}
 use Rattle.xk_kernel.specs.HistoryMoments.{moments_of}
-use Rattle.xk_kernel.specs.State.{machine_of}
 use Rattle.xousim.specs.Load.Events.{load_events, load_history, load_machine}
 use Rattle.xousim.specs.Load.Totals.{demo_line, totals_of}
 use Rattle.xousim.specs.Outcome.Demo.{Demonstrates}
-use Rattle.xousim.specs.Outcome.Sides.{SinkSide, StoreSide, store_side}
-use Rattle.xousim.specs.Outcome.Starts.{ComesFull, Room, room_of}
+use Rattle.xousim.specs.Outcome.Sides.{SinkSide, store_side}
+use Rattle.xousim.specs.Outcome.Starts.{ComesFull, Room}
 use Rattle.xousim.specs.Standing.{room_in}
 use Rattle.xousim.specs.declared.status.Status.TheVariants.{SwapFault}
 use Rattle.xousim.proofs.Images.StartingLemmas.{asked_on, load_told, rose_before}

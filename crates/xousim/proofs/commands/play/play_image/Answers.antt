@@ -1,6 +1,5 @@
-use Rattle.std.proofs.Common.{◌≡◌, ◌∙◌, ℕ, List, [], Option, refl, sym, ap, subst, inl, inr, arith}
+use Rattle.std.proofs.Common.{ℕ, List, [], Option, refl, sym, subst, inl, inr, arith}
 use Rattle.vm_memory.specs.Memory.{size, store_of}
-use Rattle.xk_kernel.specs.State.{machine_of}
 use Rattle.xk_ports.specs.declared.host.FileSlot.TheVariants.{First, Second}
 use Rattle.xousim.specs.Finish.{Booted}
 use Rattle.xousim.specs.Gathering.{put}

@@ -2,7 +2,6 @@ use Rattle.std.proofs.Common.{◌≡◌, ◌≤◌, ◌+◌, ◌-◌, ◌++◌, 
 use Rattle.event_text.specs.declared.event.Event.TheVariants.{Tick}
 use Rattle.xk_base.specs.declared.limits.TheConstants.{DEFAULT_STEPS}
 use Rattle.xk_base.specs.declared.records.Rec.{Rec}
-use Rattle.vm_memory.specs.Memory.{store_of}
 use Rattle.xk_kernel.specs.History.{play}
 use Rattle.xk_kernel.specs.HistoryMoments.{event_moments}
 use Rattle.xk_kernel.specs.Sound.{IsSound, IsUsable, Keeps}

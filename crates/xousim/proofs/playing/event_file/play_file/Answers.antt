@@ -1,5 +1,4 @@
-use Rattle.std.proofs.Common.{◌≡◌, ◌∙◌, ◌≤◌, ◌+◌, ◌++◌, subst, sym, ap, refl, false, List, [], length, Option, Some, ℕ, Ok, Err, take, arith}
-use Rattle.machine_model.specs.State.Machine.{Machine}
+use Rattle.std.proofs.Common.{◌≡◌, ◌∙◌, ◌≤◌, ◌+◌, ◌++◌, subst, sym, ap, refl, false, List, [], length, Option, ℕ, Ok, take, arith}
 use Rattle.event_text.specs.Held.{Reader, IsWaiting, new_reader}
 use Rattle.event_text.proofs.HeldLemmas.{front_empty}
 use Rattle.xk_base.specs.declared.limits.TheConstants.{EVENT_FILE_LIMIT}
@@ -7,10 +6,9 @@ use Rattle.xk_ports.specs.Told.{Consumes}
 use Rattle.xk_ports.specs.declared.host.FileSlot.TheVariants.{Second}
 use Rattle.xousim.specs.declared.playing.ending.Ending.{Ending}
 use Rattle.xousim.specs.declared.playing.events.PlayFault.{PlayFault}
-use Rattle.xousim.specs.declared.playing.events.PlayFault.TheVariants.{Swap, Write}
 use Rattle.xousim.specs.Gathering.{put}
 use Rattle.xousim.specs.Playing.{FailsSo, Goes, HasPlayed, run_from}
-use Rattle.xousim.specs.Standing.{Begins, Stand, stand}
+use Rattle.xousim.specs.Standing.{Stand, stand}
 use Rattle.xousim.proofs.Reading.FileLemmas.{runs_ended, runs_swapped, runs_unwritten, told_all}
 use Rattle.xousim.proofs.Outcome.KeptLemmas.{kept_after, kept_same}
 use Rattle.xousim.proofs.Telling.PlayingLemmas.{played_end, played_none, whole_lines_played}

@@ -1,6 +1,6 @@
 use Rattle.std.proofs.Common.{◌++◌, false, List, ℕ, Option, Ok, ap, refl, subst, sym}
 use Rattle.xousim.specs.declared.playing.ending.Ending.{Ending}
-use Rattle.xousim.specs.Gathering.{put, text}
+use Rattle.xousim.specs.Gathering.{text}
 use Rattle.xousim.specs.Playing.{HasPlayed, run_from}
 use Rattle.xousim.specs.Standing.{Stand, stand}
 use Rattle.xousim.proofs.Telling.PlayingLemmas.{all_of_it_put, part_of_it_put}

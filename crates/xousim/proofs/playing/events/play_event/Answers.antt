@@ -1,4 +1,3 @@
-use Rattle.std.proofs.Common.{◌≡◌, ap, ◌∙◌, arith}
 use Rattle.xk_kernel.specs.State.{machine_of}
 use Rattle.xousim.specs.Gathering.{text}
 use Rattle.xousim.specs.Standing.{Stand, stand}

@@ -1,6 +1,5 @@
-use Rattle.std.proofs.Common.{◌≡◌, ◌≢◌, ◌+◌, ◌-◌, ℕ, refl, sym, ap, ◌∙◌, subst, arith, List, Ok, Err, true}
+use Rattle.std.proofs.Common.{◌≡◌, ◌≢◌, ◌+◌, ◌-◌, ℕ, refl, sym, ap, ◌∙◌, subst, arith, List, Ok, Err}
 use Rattle.event_text.specs.declared.event.Event.TheVariants.{Tick}
-use Rattle.machine_model.specs.State.Machine.{Machine}
 use Rattle.machine_model.specs.State.Order.{turn}
 use Rattle.xk_base.specs.declared.records.Rec.{Rec}
 use Rattle.vm_memory.specs.Bytes.{none_out}

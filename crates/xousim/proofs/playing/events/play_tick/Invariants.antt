@@ -1,4 +1,4 @@
-use Rattle.std.proofs.Common.{◌≡◌, ◌≤◌, ◌-◌, Result}
+use Rattle.std.proofs.Common.{◌≤◌, ◌-◌, Result}
 use Rattle.event_text.specs.declared.event.Event.TheVariants.{Tick}
 use Rattle.xk_kernel.specs.Sound.{IsSound, IsUsable, Keeps}
 use Rattle.xk_kernel.specs.State.{machine_of}
