@@ -40,6 +40,7 @@ pub enum Operation {
 
 /// The operation of an instruction that stands at `pc`, where the registers are `x`. All its sources
 /// are read here, before anything is written.
+#[inline(always)]
 pub fn operation_of(insn: Insn, x: &Regs, pc: u32) -> Operation
     requires { IsInRange insn }
     ensures is { (mem : Memory) → effect_of mem x.now pc result ≡ effect mem x.now pc insn }

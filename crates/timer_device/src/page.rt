@@ -41,6 +41,8 @@ impl<U: UserMemory> UserMemory for TimerView<U> {
     // What stands under the page stays as it is, and no access shows it.
     ghost content = { λ v. U.content v.inner };
 
+    ghost out = { λ v. U.out v.inner };
+
     ghost timer = { λ v. timer_with v.on (record { steps = v.steps; compare = v.timer }) (U.timer v.inner) };
 
     ghost fit = { λ v. U.fit v.inner };

@@ -26,6 +26,8 @@ impl UserMemory for OneWord {
 
     ghost content = { λ memory. None };
 
+    ghost out = { λ memory a. false };
+
     ghost timer = { λ memory. None };
 
     ghost fit = { λ memory. Unit {0} };

@@ -1,6 +1,6 @@
 //! Memory as the instructions of a process see it.
 
-ghost use Rattle.std.specs.Prelude.{◌≡◌, ◌%◌, ◌≤◌, ℕ, Bool, Option, IfOk, OnErr};
+ghost use Rattle.std.specs.Prelude.{◌≡◌, ◌%◌, ◌≤◌, ℕ, Bool, true, Option, IfOk, OnErr};
 ghost use Rattle.xk_base.specs.declared.pages.Access.{Access};
 ghost use Rattle.xk_base.specs.declared.pages.Access.TheVariants.{Fetch, Load, Store};
 ghost use Rattle.xk_base.specs.Outside.{Rose};
@@ -12,7 +12,7 @@ use crate::pages::{Stored, Width};
 /// The memory of a process by virtual addresses, as its instructions see it.
 ///
 /// It may have to bring a page from outside; where that fails, it counts a fault and answers
-/// `Failed`, and it isn't fit for use from then on. Addresses are aligned to the width of the
+/// `Failed`, and it isn't fit for use from then on. It never does so for a page that isn't out. Addresses are aligned to the width of the
 /// access: the hart traps before it asks for any other.
 pub trait UserMemory {
     /// Which access the process has at an address.
@@ -23,6 +23,9 @@ pub trait UserMemory {
 
     /// Where it is told: the byte at each address; 0 in the console's page and in the timer's.
     ghost content: { Self → Content };
+
+    /// Whether the page of an address is out, so that an access has to bring it.
+    ghost out: { Self → ℕ → Bool };
 
     /// The timer, where its page is there: for the process that has claimed its interrupt.
     ghost timer: { Self → Option Timer };
@@ -49,6 +52,7 @@ pub trait UserMemory {
         ensures fit { IfOk result (λ _. fit self.new) }
         ensures unfit { OnErr result (¬ fit self.new) }
         ensures cause { OnErr result (Rose (faults self.old) (faults self.new)) }
+        ensures out { OnErr result (out self.old va ≡ true) }
         ensures never_falls { faults self.old ≤ faults self.new };
 
     /// The number of that width at an address, lowest byte first and not sign-extended, where the
@@ -66,6 +70,7 @@ pub trait UserMemory {
         ensures fit { IfOk result (λ _. fit self.new) }
         ensures unfit { OnErr result (¬ fit self.new) }
         ensures cause { OnErr result (Rose (faults self.old) (faults self.new)) }
+        ensures out { OnErr result (out self.old va ≡ true) }
         ensures never_falls { faults self.old ≤ faults self.new };
 
     /// Stores the low bytes of a value at an address, lowest byte first, where the process may store
@@ -84,6 +89,7 @@ pub trait UserMemory {
         ensures fit { IfOk result (λ _. fit self.new) }
         ensures unfit { OnErr result (¬ fit self.new) }
         ensures cause { OnErr result (Rose (faults self.old) (faults self.new)) }
+        ensures out { OnErr result (out self.old va ≡ true) }
         ensures never_falls { faults self.old ≤ faults self.new };
 
     /// Whether the process may store at an address.

@@ -42,7 +42,7 @@ impl SmallMemory {
 }
 
 impl UserMemory for SmallMemory {
-    ghost use Rattle.std.specs.Prelude.{Some, None, nat_lt, nat_le, ◌&&◌, slice_index};
+    ghost use Rattle.std.specs.Prelude.{Some, None, false, nat_lt, nat_le, ◌&&◌, slice_index};
     ghost use Rattle.std.proofs.Common.{rules};
 
     ghost may = { λ memory access a. nat_lt a 512 };
@@ -50,6 +50,8 @@ impl UserMemory for SmallMemory {
     ghost console = { λ memory a. nat_le 496 a && nat_lt a 512 };
 
     ghost content = { λ memory. Some (slice_index memory.bytes) };
+
+    ghost out = { λ memory a. false };
 
     ghost timer = { λ memory. None };
 

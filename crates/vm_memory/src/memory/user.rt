@@ -175,7 +175,9 @@ impl<W: SwapStore> Memory<W> {
 impl<W: SwapStore> UserMemory for User<'_, W> {
     ghost use Rattle.std.specs.Prelude.{◌≡◌, None};
     ghost use Rattle.vm_memory.specs.Sound.{IsSound};
+    ghost use Rattle.vm_memory.specs.Bytes.{is_out};
     ghost use Rattle.vm_memory.specs.Using.UserView.{user_content, user_view, KeepsRest};
+    ghost use Rattle.xk_base.specs.Numbers.Windows.{page_of};
     ghost use Rattle.std.proofs.Common.{◌∙◌};
     ghost use Rattle.vm_memory.specs.Using.UserRest.{pid_rest_over};
 
@@ -184,6 +186,8 @@ impl<W: SwapStore> UserMemory for User<'_, W> {
     ghost console = { λ u. (user_view W.held u.mem.now u.pid).console };
 
     ghost content = { λ u. user_content W.is_honest W.held u.mem.now u.pid };
+
+    ghost out = { λ u va. is_out u.mem.now (page_of u.pid va) };
 
     ghost timer = { λ u. None };
 
