@@ -10,11 +10,11 @@ use crate::decoding::decode_atomic;
 use crate::execute::execute;
 use crate::fields::fields_of;
 use crate::kind::{kind_of, reserves};
-use rv32_hart::{Ran, run_one};
+use rv32_hart::{Ran, run_word};
 use xk_base::{Failed, Regs, UserMemory};
 
 /// Executes the instruction at `pc`, which is a multiple of 4, over a memory that is fit for use: an
-/// atomic one itself, and any other by `run_one`. `reserved` is the address that the thread has
+/// atomic one itself, and any other by `run_word`. `reserved` is the address that the thread has
 /// reserved.
 ///
 /// On a trap, an ECALL and a failure the registers are as before; on a trap and an ECALL nothing is
@@ -64,7 +64,7 @@ pub fn run_any<U: UserMemory>(
             ran
         }
         None => {
-            let ran = run_one(regs, pc, mem);
+            let ran = run_word(word, regs, pc, mem);
             *reserved = reserved_after(ran, before, before);
             ran
         }

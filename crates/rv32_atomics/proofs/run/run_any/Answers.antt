@@ -25,10 +25,10 @@ pub returns-in-None-clause-performs : goal.returns-in-None-clause-performs
 returns-in-None-clause-performs g c =
     let gives = rw c.in-Ok-Some.field-0-is at c.in-Ok-Some.ensures.gives in
     performs_base (g.U.UserMemory.may c.args.mem.now) (g.U.UserMemory.console c.args.mem.now) (g.U.UserMemory.timer c.args.mem.now) _ _ _ _ _ _ _
-    c.args.pc c.in-Ok-Some.word c.run_one-ran.result gives.0 gives.1 c.fetch.ensures.kept
+    c.args.pc c.in-Ok-Some.word c.run_word-ran.result gives.0 gives.1 c.fetch.ensures.kept
     (sym c.decode_atomic.ensures.means ∙ ap (option_map meaning) c.in-None.is)
     c.reserved_after-in-None.ensures
-    (rw (c.fetch.ensures.may, c.fetch.ensures.console, c.fetch.ensures.timer) at c.run_one-ran.ensures.executes)
+    (rw (c.fetch.ensures.may, c.fetch.ensures.console, c.fetch.ensures.timer) at c.run_word-ran.ensures.executes)
 
 pub returns-in-Some-clause-reserved : goal.returns-in-Some-clause-reserved
 returns-in-Some-clause-reserved g c =
@@ -36,4 +36,4 @@ returns-in-Some-clause-reserved g c =
 
 pub returns-in-None-clause-reserved : goal.returns-in-None-clause-reserved
 returns-in-None-clause-reserved g c =
-    leaves_reserved c.run_one-ran.result c.args.reserved.now c.args.reserved.now c.reserved_after-in-None.result c.reserved_after-in-None.ensures
+    leaves_reserved c.run_word-ran.result c.args.reserved.now c.args.reserved.now c.reserved_after-in-None.result c.reserved_after-in-None.ensures
