@@ -1,5 +1,6 @@
 pub mod AnsweredLemmas
 pub mod ChangeLemmas
 pub mod Lemmas
+pub mod ListedLemmas
 pub mod MadeLemmas
 pub mod SerialLemmas
