@@ -1,12 +1,13 @@
--- What is known of a process's pages stays so over a store.
+-- What is known of a process's pages, over the accesses of a process.
 use Rattle.std.proofs.Common.{◌≡◌, ℕ, ◌/◌, ◌%◌, if◌then◌else◌, Bool, true, false, Option, Some, None, refl, sym, ap, subst, ◌∙◌}
-use Rattle.std.specs.Prelude.{◌==◌}
-use Rattle.std.proofs.lemmas.Bool.{eqb-true}
+use Rattle.std.specs.Prelude.{◌==◌, Result, Ok, Err, OnOk, OnErr}
+use Rattle.std.proofs.lemmas.Bool.{eqb-true, false≢true}
 use Rattle.std.proofs.lemmas.Option.{same_Some}
 use Rattle.xk_base.specs.UserMemory.{size_of}
 use Rattle.xk_base.specs.declared.ids.Frame.{Frame}
 use Rattle.xk_base.specs.declared.ids.Pid.{Pid}
 use Rattle.xk_base.specs.declared.pages.Access.{Access}
+use Rattle.xk_base.specs.declared.pages.Access.TheVariants.{Fetch, Load, Store}
 use Rattle.xk_base.specs.declared.pages.Stored.{Stored}
 use Rattle.xk_base.specs.declared.pages.Stored.TheVariants.{Done, Device, Fault}
 use Rattle.xk_base.specs.declared.pages.Width.{Width}
@@ -17,10 +18,10 @@ use Rattle.vm_memory.specs.declared.memory.Memory.{Memory}
 use Rattle.vm_memory.specs.declared.memory.access.Target.TheVariants.{Page}
 use Rattle.vm_memory.specs.declared.memory.known.KnownPage.{KnownPage}
 use Rattle.vm_memory.specs.declared.memory.known.KnownPages.{KnownPages}
-use Rattle.vm_memory.specs.Memory.{processes}
+use Rattle.vm_memory.specs.Memory.{IsUsable, has_failed, processes}
 use Rattle.vm_memory.specs.Sound.{IsSound}
 use Rattle.vm_memory.specs.Using.EntryAccess.{entry_target}
-use Rattle.vm_memory.specs.Using.Known.{Remembers, frame_if_page, known_page}
+use Rattle.vm_memory.specs.Using.Known.{Remembers, frame_if_page, known_page, no_pages}
 use Rattle.vm_memory.specs.Using.UserStores.{DoesStore}
 use Rattle.vm_memory.proofs.Using.UserStoringLemmas.{entries_stay}
 
@@ -54,3 +55,21 @@ known_leads m pid va access known frame remembers found = go (known_page known a
         → entry_target (entries (processes m) m.ram (page_of pid va)) access ≡ Page frame
     go None e is = cc
     go (Some page) e is = by_number page e (page.vpn.0 == va / 4096) refl is
+
+-- nothing is known of no page
+pub remembers_none : {W : Type 0} (m : Memory W) (pid : Pid) → Remembers m pid no_pages
+remembers_none m pid Fetch page e = absurd cc
+remembers_none m pid Load page e = absurd cc
+remembers_none m pid Store page e = absurd cc
+
+-- ---- it is fit on Ok alone
+
+pub known_fit : {W A E : Type 0} (slot_count : W → ℕ) (m : Memory W) (pid : Pid) (known : KnownPages) (r : Result A E)
+    → IsSound slot_count m → Remembers m pid known → OnOk r (IsUsable m) → OnOk r (IsSound slot_count m × IsUsable m × Remembers m pid known)
+known_fit slot_count m pid known (Ok x) sound remembers usable = (sound, usable, remembers)
+known_fit slot_count m pid known (Err e) sound remembers usable = tt
+
+pub known_unfit : {W A E : Type 0} (slot_count : W → ℕ) (m : Memory W) (pid : Pid) (known : KnownPages) (r : Result A E)
+    → OnErr r (has_failed m ≡ true) → OnErr r (IsSound slot_count m × IsUsable m × Remembers m pid known → ⊥)
+known_unfit slot_count m pid known (Ok x) failed = tt
+known_unfit slot_count m pid known (Err e) failed = λ fit. false≢true (sym fit.1 ∙ failed)

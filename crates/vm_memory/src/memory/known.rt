@@ -141,6 +141,7 @@ impl<W: SwapStore> Memory<W> {
         ensures brings { BringsIn W.is_honest W.held W.slot_count W.asked W.faults self.old self.new }
         ensures usable { OnOk result (IsUsable self.new) }
         ensures failed { OnErr result (has_failed self.new ≡ true) }
+        ensures out { OnErr result (is_out self.old (page_of pid va) ≡ true) }
         ensures cause { OnErr result (Rose (W.faults (store_of self.old)) (W.faults (store_of self.new))) }
     {
         let target = self.find_known(known, pid, va, access)?;
@@ -169,6 +170,7 @@ impl<W: SwapStore> Memory<W> {
         ensures rest { KeepsRest W.is_honest W.held W.slot_count W.asked W.faults pid self.old self.new }
         ensures usable { OnOk result (IsUsable self.new) }
         ensures failed { OnErr result (has_failed self.new ≡ true) }
+        ensures out { OnErr result (is_out self.old (page_of pid va) ≡ true) }
         ensures cause { OnErr result (Rose (W.faults (store_of self.old)) (W.faults (store_of self.new))) }
     {
         let target = self.find_known(known, pid, va, Access::Store)?;
@@ -179,8 +181,10 @@ impl<W: SwapStore> Memory<W> {
 impl<W: SwapStore> UserMemory for KnownUser<'_, W> {
     ghost use Rattle.std.specs.Prelude.{◌≡◌, None};
     ghost use Rattle.vm_memory.specs.Sound.{IsSound};
+    ghost use Rattle.vm_memory.specs.Bytes.{is_out};
     ghost use Rattle.vm_memory.specs.Using.Known.{Remembers};
     ghost use Rattle.vm_memory.specs.Using.UserView.{user_content, user_view, KeepsRest};
+    ghost use Rattle.xk_base.specs.Numbers.Windows.{page_of};
     ghost use Rattle.std.proofs.Common.{◌∙◌};
     ghost use Rattle.vm_memory.specs.Using.UserRest.{pid_rest_over};
 
@@ -190,6 +194,8 @@ impl<W: SwapStore> UserMemory for KnownUser<'_, W> {
 
     ghost content = { λ u. user_content W.is_honest W.held u.mem.now u.pid };
 
+    ghost out = { λ u va. is_out u.mem.now (page_of u.pid va) };
+
     ghost timer = { λ u. None };
 
     ghost fit = { λ u. IsSound W.slot_count u.mem.now × IsUsable u.mem.now × Remembers u.mem.now u.pid u.known };
@@ -197,12 +203,18 @@ impl<W: SwapStore> UserMemory for KnownUser<'_, W> {
     ghost faults = { λ u. W.faults u.mem.now.store };
 
     // What is known stays what the walk gives.
-    ghost same_rest = { λ a b. (b.mem.ghost_name ≡ a.mem.ghost_name) × (b.pid ≡ a.pid) × KeepsRest W.is_honest W.held W.slot_count W.asked W.faults a.pid a.mem.now b.mem.now
+    ghost same_rest = { λ a b. (b.mem.ghost_name ≡ a.mem.ghost_name) × (b.pid ≡ a.pid)
+        × KeepsRest W.is_honest W.held W.slot_count W.asked W.faults a.pid a.mem.now b.mem.now
         × (Remembers a.mem.now a.pid a.known → Remembers b.mem.now b.pid b.known) };
 
     ghost bounded = { λ u. W.bounded u.mem.now.store };
 
-    ghost rest_over = { λ a b c x y. (y.0 ∙ x.0, y.1 ∙ x.1, pid_rest_over W.is_honest W.held W.slot_count W.asked W.faults a.pid b.pid a.mem.now b.mem.now c.mem.now x.1 x.2 y.2, λ known. y.3 (x.3 known)) };
+    ghost rest_over = { λ a b c x y. (
+      y.0 ∙ x.0,
+      y.1 ∙ x.1,
+      pid_rest_over W.is_honest W.held W.slot_count W.asked W.faults a.pid b.pid a.mem.now b.mem.now c.mem.now x.1 x.2 y.2,
+      λ known. y.3 (x.3 known),
+    ) };
 
     fn fetch(&mut self, va: u32) -> Result<Option<u32>, Failed> {
         self.mem

@@ -116,7 +116,14 @@ impl<W: SwapStore> Memory<W> {
     }
 
     // Stores the low bytes of a value where an access to store leads, if it is a page.
-    pub(super) fn store_at(&mut self, target: Target, pid: Pid, va: u32, width: Width, value: u32) -> Stored
+    pub(super) fn store_at(
+        &mut self,
+        target: Target,
+        pid: Pid,
+        va: u32,
+        width: Width,
+        value: u32,
+    ) -> Stored
         requires sound { IsSound W.slot_count self.old }
         requires aligned { va % size_of width ≡ 0 }
         requires target { target ≡ entry_target (entries (processes self.old) (ram_of self.old) (page_of pid va)) Store }
