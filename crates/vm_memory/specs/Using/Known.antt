@@ -2,7 +2,6 @@
 use Rattle.std.specs.Prelude.{◌≡◌, ◌==◌, if◌then◌else◌, Option, Some, None}
 use Rattle.xk_base.specs.declared.ids.Frame.{Frame}
 use Rattle.xk_base.specs.declared.ids.Pid.{Pid}
-use Rattle.xk_base.specs.declared.ids.Place.{Place}
 use Rattle.xk_base.specs.declared.ids.Vpn.{Vpn}
 use Rattle.xk_base.specs.declared.pages.Access.{Access}
 use Rattle.xk_base.specs.declared.pages.Access.TheVariants.{Fetch, Load, Store}
