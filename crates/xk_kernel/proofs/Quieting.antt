@@ -1,2 +1,5 @@
 pub mod HandLemmas
+pub mod InstructionLemmas
 pub mod QuietStepLemmas
+pub mod RowLemmas
+pub mod TurnLemmas

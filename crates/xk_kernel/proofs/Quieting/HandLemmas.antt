@@ -1,5 +1,5 @@
 -- The machine with a thread in hand, and its quiet steps.
-use Rattle.std.proofs.Common.{◌≡◌, ℕ, ◌+◌, if◌then◌else◌, Bool, true, false, not, ◌&&◌, ◌||◌, is_some, Option, Some, None, refl, sym, ap, subst, ◌∙◌}
+use Rattle.std.proofs.Common.{◌≡◌, ℕ, ◌+◌, if◌then◌else◌, Bool, true, false, not, ◌&&◌, ◌||◌, is_some, [], Option, Some, None, refl, sym, ap, ◌∙◌}
 use Rattle.std.specs.Prelude.{◌%◌}
 use Rattle.std.specs.Option.{option_map_or}
 use Rattle.std.proofs.lemmas.Bool.{false≢true}
@@ -8,8 +8,7 @@ use Rattle.machine_model.specs.Hart.Atomics.{Performed, execute_at}
 use Rattle.machine_model.specs.Hart.Instructions.{Executed, Next, Stores, StoresToConsole, StoresToTimer, CallsKernel, Traps}
 use Rattle.machine_model.specs.State.Machine.{Machine, Ready, Thread}
 use Rattle.machine_model.specs.State.Order.{is_ready, ready_at}
-use Rattle.machine_model.specs.State.Threads.{put_thread}
-use Rattle.machine_model.specs.State.Views.{contents_seen, is_of_timer_page, memory_of, page_reached, stored, timer_of}
+use Rattle.machine_model.specs.State.Views.{contents_seen, is_of_timer_page, memory_of, page_reached, stored}
 use Rattle.machine_model.specs.Stepping.Interrupts.{is_claim_of}
 use Rattle.machine_model.specs.Stepping.Reservations.{reservation_of, reserved_by}
 use Rattle.machine_model.specs.Stepping.Step.{Recorded, ends_handler, ends_thread, performed, step}
@@ -25,7 +24,7 @@ use Rattle.xk_base.specs.UserMemory.{Memory as SeenMemory, Timer, timer_at}
 use Rattle.xk_base.specs.declared.ids.Pid.{Pid}
 use Rattle.xk_base.specs.declared.ids.ThreadId.{ThreadId}
 use Rattle.xk_base.specs.declared.limits.TheConstants.{TIMER_INTERRUPT}
-use Rattle.xk_kernel.specs.Quiet.{goes_on, in_hand, is_quiet, thread_goes_on}
+use Rattle.xk_kernel.specs.Quiet.{goes_on, in_hand, is_quiet}
 use Rattle.xk_kernel.specs.Running.{machine_after}
 use Rattle.xk_kernel.proofs.Acting.ThreadLemmas.{put_there}
 use Rattle.xk_kernel.proofs.Quieting.QuietStepLemmas.{IsQuietBy, last_fails, not_quiet, quiet_parts, quiet_step_is, quiet_whole}

@@ -66,9 +66,10 @@ impl<W: SwapStore> Kernel<W> {
         let mut thread = *self.thread(who);
         let mut reserved = self.reserved_by(who);
         let done = self.quiet_steps(&mut thread, &mut reserved, until)?;
-        if done > 0 {
-            self.take_back(who, thread, reserved, done);
+        if done == 0 {
+            return Ok(0);
         }
+        self.take_back(who, thread, reserved, done);
         Ok(done)
     }
 
@@ -114,8 +115,8 @@ impl<W: SwapStore> Kernel<W> {
         ensures most { IfOk result (λ done. done ≤ most) }
         ensures runs { let who = self.old.cursor in
             let old = in_hand who (thread_of thread.old) reserved.old self.old.steps (machine_of W.held self.old) in
-            MeansBytes W.is_honest W.held self.old.mem
-            → IfOk result (λ done. RunsQuietly most done old (in_hand who (thread_of thread.new) reserved.new (self.old.steps + done) (machine_of W.held self.new))) }
+            MeansBytes W.is_honest W.held self.old.mem → IfOk result (λ done. RunsQuietly most done old
+            (in_hand who (thread_of thread.new) reserved.new (self.old.steps + done) (machine_of W.held self.new))) }
     {
         let mut known = KnownPages::new();
         'steps: for done in 0..most {
@@ -193,7 +194,8 @@ impl<W: SwapStore> Kernel<W> {
     fn take_back(&mut self, who: ThreadId, thread: Thread, reserved: Option<u32>, done: u32)
         requires there { IsSome ((machine_of W.held self.old).threads who) }
         requires few { self.old.steps + done ≤ 4000000000 }
-        ensures machine { machine_of W.held self.new ≡ in_hand who (thread_of thread) reserved (self.old.steps + done) (machine_of W.held self.old) }
+        ensures machine { machine_of W.held self.new
+            ≡ in_hand who (thread_of thread) reserved (self.old.steps + done) (machine_of W.held self.old) }
         ensures whole { IsWhole W.slot_count W.held self.old → IsWhole W.slot_count W.held self.new }
         ensures mem { self.new.mem ≡ self.old.mem }
         ensures log { self.new.log ≡ record self.old.log { step = self.old.steps + done; records = [] } }
