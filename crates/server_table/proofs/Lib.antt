@@ -3,4 +3,5 @@ pub mod ChangeLemmas
 pub mod Lemmas
 pub mod ListedLemmas
 pub mod MadeLemmas
+pub mod SavedLemmas
 pub mod SerialLemmas
