@@ -1,13 +1,17 @@
 //! What holds of every list of bytes.
 
-ghost use Rattle.std.specs.Prelude.{◌≡◌, ℕ, ◌<◌, List, None, Ok, slice_index};
+ghost use Rattle.std.specs.Prelude.{◌≡◌, ℕ, ◌<◌, ◌≤◌, List, length, None, Ok, slice_index};
 ghost use Rattle.kernel_args.specs.declared.faults.ArgFault.{ArgFault};
 ghost use Rattle.machine_model.specs.Runs.Matched.{Matched};
+ghost use Rattle.machine_model.specs.State.Machine.{Machine};
 ghost use Rattle.suspend_image.specs.declared.state.State.{State};
 ghost use Rattle.suspend_image.specs.Forms.{Spells};
 ghost use Rattle.suspend_image.specs.StateFaults.{state_of, state_fault};
 ghost use Rattle.suspend_image.specs.Machines.{machine_of};
 ghost use Rattle.suspend_image.specs.FileFaults.{IsFirstFault};
+ghost use Rattle.suspend_image.specs.Saveable.{IsSaveable, SpellsMachine};
+ghost use Rattle.suspend_image.specs.Sheets.{room_for};
+ghost use Rattle.suspend_image.specs.StateBytes.{saved_bytes};
 
 /// Bytes spell exactly one state, or they have a fault, and never both; reading finds the state that
 /// they spell. The function does nothing; its contract is the law.
@@ -23,4 +27,17 @@ pub fn spelled_once_or_faulty()
 pub fn matched_or_faulty()
     ensures once { (file : List ℕ) (one other : ArgFault) → IsFirstFault file one → IsFirstFault file other → one ≡ other }
     ensures never_both { (file : List ℕ) (state : State) (fault : ArgFault) → Spells file state → Matched (machine_of file state) → IsFirstFault file fault → ⊥ }
+{}
+
+/// The bytes that spell a state of the machine fit into a sheet that was made for its processes and its
+/// capacity. The function does nothing; its contract is the law.
+pub fn saved_state_fits()
+    ensures { (m : Machine) → Matched m → IsSaveable m → length (saved_bytes m) ≤ room_for m.processes m.capacity }
+{}
+
+/// The bytes that spell a state of the machine are read as that state, and spell no other. The function
+/// does nothing; its contract is the law.
+pub fn saved_state_is_spelled()
+    ensures spelled { (m : Machine) → Matched m → IsSaveable m → SpellsMachine (saved_bytes m) m }
+    ensures once { (m other : Machine) → Matched m → IsSaveable m → Matched other → IsSaveable other → saved_bytes m ≡ saved_bytes other → m ≡ other }
 {}
