@@ -4,6 +4,7 @@ pub mod EntryLemmas
 pub mod PlacedAgainLemmas
 pub mod RiseLemmas
 pub mod RoomLemmas
+pub mod SavingLemmas
 pub mod ServerAgainLemmas
 pub mod StateAgainLemmas
 pub mod ThreadAgainLemmas

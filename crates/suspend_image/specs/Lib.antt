@@ -9,6 +9,7 @@ pub mod Rows
 pub mod RunParts
 pub mod Saveable
 pub mod SavedRows
+pub mod Saving
 pub mod ServerParts
 pub mod Sheets
 pub mod Spelling

@@ -1,5 +1,5 @@
--- What state bytes ask of a state of the machine beside its invariant: numbers that fit into words. The types of the kernel keep it of
--- the state that it holds.
+-- What state bytes ask of a state of the machine beside its invariant: sizes, and numbers that fit into words. The types of the kernel
+-- keep it of the state that it holds.
 use Rattle.std.specs.Prelude.{◌≡◌, ℕ, ◌≤◌, IsTrue, List, ◌∷◌, length, Some, All}
 use Rattle.xk_base.specs.declared.ids.Place.{Place}
 use Rattle.xk_base.specs.declared.ids.ThreadId.{ThreadId}
@@ -15,27 +15,28 @@ use Rattle.suspend_image.specs.Machines.{machine_of}
 use Rattle.suspend_image.specs.Reading.{greatest}
 use Rattle.suspend_image.specs.SavedRows.{state_waits}
 
--- 32 registers, of which the first is 0
-pub record AreRegisters (regs : List ℕ) : Type 0 where
-  pub count : length regs ≡ 32
-  pub zero : (others : List ℕ) × (regs ≡ 0 ∷ others)
-  pub fit : All (λ r. r ≤ greatest) regs
+-- A thread has 32 registers, an identifier and a message have four words, and a page has 4,096 bytes.
+pub record HasSizes (m : Machine) : Type 0 where
+  pub registers : (id : ThreadId) (t : Thread) → m.threads id ≡ Some t → length t.regs ≡ 32
+  pub identifiers : (serial : ℕ) (s : Server) → m.servers serial ≡ Some s → length s.sid.0 ≡ 4
+  pub words : (serial : ℕ) (s : Server) → m.servers serial ≡ Some s → All (λ message. length message.words ≡ 4) (messages_of s)
+  pub whole : HasWholePages m.ledger
 
+-- the first register is 0
 pub record IsThreadSaveable (t : Thread) : Type 0 where
   pub pc : t.pc ≤ greatest
   pub waits : state_waits t.state ≤ greatest
-  pub regs : AreRegisters t.regs
+  pub zero : (others : List ℕ) × (t.regs ≡ 0 ∷ others)
+  pub regs : All (λ r. r ≤ greatest) t.regs
 
 pub record IsMessageSaveable (m : Message) : Type 0 where
   pub number : m.number.0 ≤ greatest
   pub id : m.id ≤ greatest
-  pub four : length m.words ≡ 4
   pub words : All (λ w. w ≤ greatest) m.words
   pub first : m.first.0 ≤ greatest
   pub count : m.count ≤ greatest
 
 pub record IsServerSaveable (s : Server) : Type 0 where
-  pub four : length s.sid.0 ≡ 4
   pub sid : All (λ w. w ≤ greatest) s.sid.0
   pub messages : All IsMessageSaveable (messages_of s)
 
@@ -44,6 +45,7 @@ pub record IsClaimSaveable (c : Claim) : Type 0 where
   pub argument : c.argument ≤ greatest
 
 pub record IsSaveable (m : Machine) : Type 0 where
+  pub sizes : HasSizes m
   pub capacity : m.capacity ≤ 32768
   pub some_process : 1 ≤ m.processes
   pub steps : m.steps ≤ 4000000000
@@ -54,7 +56,6 @@ pub record IsSaveable (m : Machine) : Type 0 where
   pub threads : (id : ThreadId) (t : Thread) → m.threads id ≡ Some t → IsThreadSaveable t
   pub servers : (serial : ℕ) (s : Server) → m.servers serial ≡ Some s → IsServerSaveable s
   pub claims : (number : ℕ) (c : Claim) → m.claims number ≡ Some c → IsClaimSaveable c
-  pub whole : HasWholePages m.ledger
   pub loans : (p : Place) (page : Page) (loan : PageLoan) → m.ledger.home p ≡ Some page → page.loan ≡ Some loan → loan.number.0 ≤ greatest
   pub orphans : (p : Place) (o : Orphan) → m.ledger.orphan p ≡ Some o → o.number.0 ≤ greatest
 

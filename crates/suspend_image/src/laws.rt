@@ -1,6 +1,6 @@
 //! What holds of every list of bytes.
 
-ghost use Rattle.std.specs.Prelude.{◌≡◌, ℕ, ◌<◌, ◌≤◌, List, length, None, Ok, slice_index};
+ghost use Rattle.std.specs.Prelude.{◌≡◌, ℕ, ◌<◌, ◌≤◌, ◌^◌, List, [], ◌++◌, drop, length, None, Ok, slice_index};
 ghost use Rattle.kernel_args.specs.declared.faults.ArgFault.{ArgFault};
 ghost use Rattle.machine_model.specs.Runs.Matched.{Matched};
 ghost use Rattle.machine_model.specs.State.Machine.{Machine};
@@ -9,9 +9,11 @@ ghost use Rattle.suspend_image.specs.Forms.{Spells};
 ghost use Rattle.suspend_image.specs.StateFaults.{state_of, state_fault};
 ghost use Rattle.suspend_image.specs.Machines.{machine_of};
 ghost use Rattle.suspend_image.specs.FileFaults.{IsFirstFault};
-ghost use Rattle.suspend_image.specs.Saveable.{IsSaveable, SpellsMachine};
-ghost use Rattle.suspend_image.specs.Sheets.{room_for};
-ghost use Rattle.suspend_image.specs.StateBytes.{saved_bytes};
+ghost use Rattle.suspend_image.specs.Saveable.{HasSizes, IsSaveable, SpellsMachine};
+ghost use Rattle.suspend_image.specs.Saving.{IsSaving};
+ghost use Rattle.suspend_image.specs.Sheets.{SheetBytes, HasRoom, room_for, with_bytes, appended, begun};
+ghost use Rattle.suspend_image.specs.Spelling.{with_header};
+ghost use Rattle.suspend_image.specs.StateBytes.{saved_parts, saved_bytes};
 
 /// Bytes spell exactly one state, or they have a fault, and never both; reading finds the state that
 /// they spell. The function does nothing; its contract is the law.
@@ -32,7 +34,7 @@ pub fn matched_or_faulty()
 /// The bytes that spell a state of the machine fit into a sheet that was made for its processes and its
 /// capacity. The function does nothing; its contract is the law.
 pub fn saved_state_fits()
-    ensures { (m : Machine) → Matched m → IsSaveable m → length (saved_bytes m) ≤ room_for m.processes m.capacity }
+    ensures { (m : Machine) → Matched m → HasSizes m → length (saved_bytes m) ≤ room_for m.processes m.capacity }
 {}
 
 /// The bytes that spell a state of the machine are read as that state, and spell no other. The function
@@ -40,4 +42,13 @@ pub fn saved_state_fits()
 pub fn saved_state_is_spelled()
     ensures spelled { (m : Machine) → Matched m → IsSaveable m → SpellsMachine (saved_bytes m) m }
     ensures once { (m other : Machine) → Matched m → IsSaveable m → Matched other → IsSaveable other → saved_bytes m ≡ saved_bytes other → m ≡ other }
+{}
+
+/// A state of the machine is written piece by piece: the pieces in their order have room, and together
+/// they are its bytes. The function does nothing; its contract is the law.
+pub fn saved_piece_by_piece()
+    ensures begun { (m : Machine) (sheet : SheetBytes) → length (saved_bytes m) ≤ sheet.room → length (saved_bytes m) < 2 ^ 32 → IsSaving m (saved_parts m) (with_bytes (begun []) sheet) }
+    ensures room { (m : Machine) (piece rest : List ℕ) (sheet : SheetBytes) → IsSaving m (piece ++ rest) sheet → HasRoom sheet piece }
+    ensures next { (m : Machine) (piece rest : List ℕ) (sheet : SheetBytes) → IsSaving m (piece ++ rest) sheet → IsSaving m rest (appended piece sheet) }
+    ensures end { (m : Machine) (sheet : SheetBytes) → IsSaving m [] sheet → with_header (drop 16 sheet.bytes) ≡ saved_bytes m }
 {}

@@ -252,9 +252,6 @@ page_form file back n before e known follows ends =
     }
 
 module _ (file back : List ℕ) (n : ℕ) where
-
-
-
   head_ends : (e : Place × Page) (es : List (Place × Page)) → Ends file (flat_map saved_page (e ∷ es) ++ back)
       → Ends file (saved_page e ++ (flat_map saved_page es ++ back))
   head_ends e es ends = record {

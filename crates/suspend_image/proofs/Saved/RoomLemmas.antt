@@ -27,7 +27,7 @@ use Rattle.suspend_image.specs.Sheets.{room_for}
 use Rattle.suspend_image.specs.Spelling.{machine_bytes, proc_bytes, thread_bytes, message_bytes, server_bytes, claim_bytes, page_words, orphan_words, rows_bytes, with_header}
 use Rattle.suspend_image.specs.SavedRows.{machine_row, proc_row, thread_row, message_row, server_row, claim_row, page_row, orphan_row}
 use Rattle.suspend_image.specs.StateBytes.{pids, thread_entries, server_entries, claim_entries, page_entries, orphan_entries, bytes_of, saved_process, saved_thread, saved_server, saved_claim, saved_page, saved_orphan, saved_parts, saved_bytes}
-use Rattle.suspend_image.specs.Saveable.{IsThreadSaveable, IsMessageSaveable, IsServerSaveable, IsSaveable}
+use Rattle.suspend_image.specs.Saveable.{HasSizes}
 use Rattle.suspend_image.proofs.Sheets.SpellingLemmas.{length-word_bytes}
 use Rattle.suspend_image.proofs.Saved.EntryLemmas.{some, At, entries_hold, entries_few}
 
@@ -107,26 +107,28 @@ pub both_by_recursion : {A : Type 0} (P : A → Type 0) (xs ys : List A) → All
 both_by_recursion P [] ys all = (tt, all)
 both_by_recursion P (x ∷ xs) ys all = (let rest = both_by_recursion P xs ys all.1 in ((all.0, rest.0), rest.1))
 
-messages_few : (ms : List Message) → AllByRecursion IsMessageSaveable ms → AllByRecursion (λ r. length (message_bytes r) ≤ 44) (map message_row ms)
-messages_few [] all = tt
-messages_few (m ∷ ms) all = (message_size m all.0.four, messages_few ms all.1)
+abbrev HasFour : Message → Type 0
+HasFour m = length m.words ≡ 4
 
-messages_size : (ms : List Message) → AllByRecursion IsMessageSaveable ms → length (flat_map message_bytes (map message_row ms)) ≤ length ms * 44
+messages_few : (ms : List Message) → AllByRecursion HasFour ms → AllByRecursion (λ r. length (message_bytes r) ≤ 44) (map message_row ms)
+messages_few [] all = tt
+messages_few (m ∷ ms) all = (message_size m all.0, messages_few ms all.1)
+
+messages_size : (ms : List Message) → AllByRecursion HasFour ms → length (flat_map message_bytes (map message_row ms)) ≤ length ms * 44
 messages_size ms all =
     let few = flat_map_few message_bytes 44 (map message_row ms) (messages_few ms all) in
     let many = length-map ms message_row in
     omega (arith, few, many)
 
-server_size : (n : ℕ) (s : Server) → IsServerSaveable s → slots_used s ≤ 128 → length (server_bytes (server_row n s)) ≤ 5664
+server_size : (n : ℕ) (s : Server) → length s.sid.0 ≡ 4 → All HasFour (messages_of s) → slots_used s ≤ 128 → length (server_bytes (server_row n s)) ≤ 5664
 unfolding server_bytes
-server_size n s saveable slots =
+server_size n s four each_four slots =
     let row = server_row n s in
-    let each = both_by_recursion IsMessageSaveable s.queued s.held (by_recursion IsMessageSaveable (messages_of s) saveable.messages) in
+    let each = both_by_recursion HasFour s.queued s.held (by_recursion HasFour (messages_of s) each_four) in
     let queued = messages_size s.queued each.0 in
     let held = messages_size s.held each.1 in
     let words = length-word_bytes (row.sid ++ row.serial ∷ row.pid ∷ length row.queued ∷ length row.held ∷ []) in
     let numbers = length-append row.sid (row.serial ∷ row.pid ∷ length row.queued ∷ length row.held ∷ []) in
-    let four = saveable.four in
     let messages = length-append (flat_map message_bytes row.queued) (flat_map message_bytes row.held) in
     let all = length-append (word_bytes (row.sid ++ row.serial ∷ row.pid ∷ length row.queued ∷ length row.held ∷ []))
     (flat_map message_bytes row.queued ++ flat_map message_bytes row.held) in
@@ -221,7 +223,7 @@ homes_few n capacity l lawful = go (first_place n (λ p. uncounted (l.home p))) 
 
 -- ---- each part
 
-module _ (m : Machine) (matched : Matched m) (saveable : IsSaveable m) where
+module _ (m : Machine) (matched : Matched m) (sizes : HasSizes m) where
   processes_size : length (flat_map (saved_process m) (pids m.processes)) ≤ m.processes * 140
   processes_size =
       let each = flat_map_few (saved_process m) 140 (pids m.processes)
@@ -234,7 +236,7 @@ module _ (m : Machine) (matched : Matched m) (saveable : IsSaveable m) where
   threads_size =
       let ids = listed_ids m.processes (λ id. is_some (m.threads id)) in
       let each = rows_few saved_thread 144 (thread_entries m)
-      (all_by (At m.threads) (λ e. length (saved_thread e) ≤ 144) (λ e at. thread_size e.0 e.1 (saveable.threads e.0 e.1 at).regs.count)
+      (all_by (At m.threads) (λ e. length (saved_thread e) ≤ 144) (λ e at. thread_size e.0 e.1 (sizes.registers e.0 e.1 at))
       (thread_entries m) (entries_hold m.threads ids)) in
       let few = entries_few m.threads ids in
       let most = ids_few m.processes (λ id. is_some (m.threads id)) in
@@ -245,7 +247,7 @@ module _ (m : Machine) (matched : Matched m) (saveable : IsSaveable m) where
       let serials = listed_below m.next_serial (λ serial. is_some (m.servers serial)) in
       let each = rows_few saved_server 5664 (server_entries m)
       (all_by (At m.servers) (λ e. length (saved_server e) ≤ 5664)
-      (λ e at. server_size e.0 e.1 (saveable.servers e.0 e.1 at) (matched.body.servers.slots e.0 e.1 at))
+      (λ e at. server_size e.0 e.1 (sizes.identifiers e.0 e.1 at) (sizes.words e.0 e.1 at) (matched.body.servers.slots e.0 e.1 at))
       (server_entries m) (entries_hold m.servers serials)) in
       let few = entries_few m.servers serials in
       let many = length-listed_below m.next_serial (λ serial. is_some (m.servers serial)) in
@@ -273,14 +275,14 @@ module _ (m : Machine) (matched : Matched m) (saveable : IsSaveable m) where
       go (Bytes bytes) is =
           let words = page_words_size e.0 e.1 in
           let both = length-append (page_words (page_row 0 e.0 e.1)) bytes in
-          let size = (saveable.whole.each (Homed e.0) bytes (ap (option_map (λ page. page.contents)) at ∙ ap some is)).size in
+          let size = (sizes.whole.each (Homed e.0) bytes (ap (option_map (λ page. page.contents)) at ∙ ap some is)).size in
           omega (arith, words, both, size)
 
   orphan_size : (e : Place × Orphan) → At m.ledger.orphan e → length (saved_orphan e) ≤ 4112
   orphan_size e at =
       let words = orphan_words_size e.0 e.1 in
       let both = length-append (orphan_words (orphan_row 0 e.0 e.1)) e.1.bytes in
-      let size = (saveable.whole.each (Orphaned e.0) e.1.bytes (ap (option_map (λ o. Bytes o.bytes)) at)).size in
+      let size = (sizes.whole.each (Orphaned e.0) e.1.bytes (ap (option_map (λ o. Bytes o.bytes)) at)).size in
       omega (arith, words, both, size)
 
   pages_size : length (rows_bytes saved_page (page_entries m)) ≤ 4 + (count_places m.processes (λ p. is_counted (m.ledger.home p)) + 1) * 4124

@@ -30,7 +30,7 @@ use Rattle.suspend_image.specs.Forms.{IsWord, IsWithin, IsPid, IsField, IsMessag
 use Rattle.suspend_image.specs.Machines.{sender_of, message_of, server_of, servers_of, thread_at_id}
 use Rattle.suspend_image.specs.SavedRows.{sender_pid, sender_tid, message_row, server_row}
 use Rattle.suspend_image.specs.StateBytes.{server_entries}
-use Rattle.suspend_image.specs.Saveable.{IsMessageSaveable, IsServerSaveable, IsSaveable}
+use Rattle.suspend_image.specs.Saveable.{IsMessageSaveable, IsSaveable}
 use Rattle.suspend_image.proofs.Saved.EntryLemmas.{some, At, entries_hold, has_of, lookup_told, found_told, tells_each}
 use Rattle.suspend_image.proofs.Saved.RiseLemmas.{Follows, number_low, in_order, entries_rise, numbers_rise, all_follow_none}
 use Rattle.suspend_image.proofs.Saved.RoomLemmas.{by_recursion, both_by_recursion, all_by}
@@ -56,6 +56,7 @@ is_there k low = ap not (isnt_zero k low)
 pub record IsRight (n : ℕ) (m : Message) : Type 0 where
   pub sender : (who : ThreadId) → m.sender ≡ Some who → IsId n who
   pub sized : IsSized m
+  pub four : length m.words ≡ 4
   pub keeps : IsMessageSaveable m
 
 pid_field : (n : ℕ) (o : Option ThreadId) → ((who : ThreadId) → o ≡ Some who → IsId n who)
@@ -94,7 +95,7 @@ message_form n m right =
       sender_tid = sender.1;
       kind = kind_form m.kind;
       id = word m.id right.keeps.id;
-      four = right.keeps.four;
+      four = right.four;
       words = words_form m.words right.keeps.words;
       first = size_field m.kind m.first.0 right.keeps.first (λ none. (right.sized none).0);
       count = size_field m.kind m.count right.keeps.count (λ none. (right.sized none).1);
@@ -122,7 +123,13 @@ sender_again n (Some who) known =
 message_again : (n : ℕ) (m : Message) → IsRight n m → message_of (message_row m) ≡ m
 message_again n m right =
     ap (λ (o : Option ThreadId). record {
-      number = m.number; sender = o; kind = unwrap_or (kind_at (kind_number m.kind)) Scalar; id = m.id; words = m.words; first = m.first; count = m.count
+      number = m.number;
+      sender = o;
+      kind = unwrap_or (kind_at (kind_number m.kind)) Scalar;
+      id = m.id;
+      words = m.words;
+      first = m.first;
+      count = m.count;
     }) (sender_again n m.sender right.sender)
     ∙ ap (λ (k : MsgKind). record { number = m.number; sender = m.sender; kind = k; id = m.id; words = m.words; first = m.first; count = m.count })
     (kind_again m.kind)
@@ -173,6 +180,7 @@ module _ (m : Machine) (matched : Matched m) (saveable : IsSaveable m) where
       by_recursion (IsRight m.processes) (messages_of s) (λ k d within. record {
         sender = senders_known serial s at k d within;
         sized = matched.body.senders.sized serial s at k d within;
+        four = saveable.sizes.words serial s at k d within;
         keeps = (saveable.servers serial s at).messages k d within;
       })
 
@@ -190,7 +198,7 @@ module _ (m : Machine) (matched : Matched m) (saveable : IsSaveable m) where
       let held = length-map e.1.held message_row in
       let right = both_by_recursion (IsRight m.processes) e.1.queued e.1.held (all_right e.0 e.1 at) in
       record {
-        four = keeps.four;
+        four = saveable.sizes.identifiers e.0 e.1 at;
         sid = words_form e.1.sid.0 keeps.sid;
         serial = record { at_least = number_low before e.0 follows; at_most = omega (arith, below, stepped, steps) };
         pid = record { at_least = least; at_most = omega (arith, most) };

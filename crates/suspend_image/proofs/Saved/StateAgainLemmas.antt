@@ -145,7 +145,7 @@ module _ (m : Machine) (matched : Matched m) (saveable : IsSaveable m) where
       record {
         place = user_place m.processes e.0 (lawful.home_lies e.0 e.1 at);
         loan = λ loan is. (message_place m.processes loan.holder (lawful.holder_lies e.0 loan (ap loan_of at ∙ is)), saveable.loans e.0 e.1 loan at is);
-        whole = λ bytes is. (saveable.whole.each (Homed e.0) bytes (ap (option_map (λ page. page.contents)) at ∙ ap some is)).size;
+        whole = λ bytes is. (saveable.sizes.whole.each (Homed e.0) bytes (ap (option_map (λ page. page.contents)) at ∙ ap some is)).size;
       }
 
   pages_known : AllByRecursion (IsKnown m.processes) (page_entries m)
@@ -156,7 +156,7 @@ module _ (m : Machine) (matched : Matched m) (saveable : IsSaveable m) where
   orphan_known e at = record {
     place = message_place m.processes e.0 (matched.body.ledger.lawful.orphan_lies e.0 e.1 at);
     number = saveable.orphans e.0 e.1 at;
-    whole = (saveable.whole.each (Orphaned e.0) e.1.bytes (ap (option_map (λ o. Bytes o.bytes)) at)).size;
+    whole = (saveable.sizes.whole.each (Orphaned e.0) e.1.bytes (ap (option_map (λ o. Bytes o.bytes)) at)).size;
   }
 
   orphans_known : AllByRecursion (IsOrphanKnown m.processes) (orphan_entries m)
@@ -228,7 +228,7 @@ module _ (m : Machine) (matched : Matched m) (saveable : IsSaveable m) where
 
   few : length (saved_bytes m) < 0x100000000
   few =
-      let fits = saved_fits m matched saveable in
+      let fits = saved_fits m matched saveable.sizes in
       let capacity = saveable.capacity in
       let processes = matched.body.processes.few in
       omega (arith, fits, capacity, processes)
@@ -257,11 +257,11 @@ module _ (m : Machine) (matched : Matched m) (saveable : IsSaveable m) where
       let serials = matched.rest.stepped.serial_steps in
       let cursor = id_bounds m.processes m.cursor saveable.cursor in
       let reserved = reserved_form m.processes m.reserved (λ r is. (id_bounds m.processes r.who (saveable.reserved_by r is), saveable.reserved_at r is)) in
-      let threads = threads_many m matched saveable in
-      let servers = servers_many m matched saveable in
-      let claims = claims_many m matched saveable in
-      let pages = pages_few m matched saveable in
-      let orphans = orphans_few m matched saveable in
+      let threads = threads_many m matched saveable.sizes in
+      let servers = servers_many m matched saveable.sizes in
+      let claims = claims_many m matched saveable.sizes in
+      let pages = pages_few m matched saveable.sizes in
+      let orphans = orphans_few m matched saveable.sizes in
       let thread_rows = length-map (thread_entries m) (λ e. thread_row e.0 e.1) in
       let server_rows = length-map (server_entries m) (λ e. server_row e.0 e.1) in
       let claim_rows = length-map (claim_entries m) (λ e. claim_row m.pending e.0 e.1) in

@@ -20,7 +20,7 @@ use Rattle.suspend_image.specs.Forms.{IsWord, IsWithin, IsThreadRow, AreInOrder,
 use Rattle.suspend_image.specs.Machines.{thread_of, thread_state, threads_of}
 use Rattle.suspend_image.specs.SavedRows.{thread_row, state_number, state_waits}
 use Rattle.suspend_image.specs.StateBytes.{thread_entries}
-use Rattle.suspend_image.specs.Saveable.{AreRegisters, IsThreadSaveable, IsSaveable}
+use Rattle.suspend_image.specs.Saveable.{IsSaveable}
 use Rattle.suspend_image.proofs.Parts.Keys.KeyLemmas.{Less}
 use Rattle.suspend_image.proofs.Saved.EntryLemmas.{At, entries_hold, has_of, lookup_told, Tells, found_told, tells_each}
 use Rattle.suspend_image.proofs.Saved.RiseLemmas.{Follows, first_low, second_low, in_order, entries_rise, ids_rise, id_key, all_follow_none}
@@ -84,7 +84,7 @@ module _ (m : Machine) (matched : Matched m) (saveable : IsSaveable m) where
   thread_form before e at follows =
       let id = id_bounds m.processes e.0 (matched.body.ids.known e.0 e.1 at) in
       let keeps = saveable.threads e.0 e.1 at in
-      let count = keeps.regs.count in
+      let count = saveable.sizes.registers e.0 e.1 at in
       let pid_least = id.pid_least in
       let tid_least = id.tid_least in
       record {
@@ -94,7 +94,7 @@ module _ (m : Machine) (matched : Matched m) (saveable : IsSaveable m) where
         state = state_form e.1.state;
         waits = waits_form e.1.state keeps.waits (λ tid is. joins_tid e.0 e.1 tid at is);
         registers = (let less = length-drop 1 e.1.regs in omega (arith, less, count));
-        regs = registers_form e.1.regs (by_recursion (λ r. r ≤ greatest) e.1.regs keeps.regs.fit);
+        regs = registers_form e.1.regs (by_recursion (λ r. r ≤ greatest) e.1.regs keeps.regs);
       }
 
   pub threads_form : AreInOrder (IsThreadRow m.processes) thread_key None (map (λ e. thread_row e.0 e.1) (thread_entries m))
@@ -114,13 +114,14 @@ module _ (m : Machine) (matched : Matched m) (saveable : IsSaveable m) where
   state_again (Joining tid) = refl
   state_again Idle = refl
 
-  registers_again : (regs : List ℕ) → AreRegisters regs → 0 ∷ drop 1 regs ≡ regs
-  registers_again regs is = ap (λ (xs : List ℕ). 0 ∷ drop 1 xs) is.zero.1 ∙ sym is.zero.1
+  registers_again : (regs others : List ℕ) → regs ≡ 0 ∷ others → 0 ∷ drop 1 regs ≡ regs
+  registers_again regs others is = ap (λ (xs : List ℕ). 0 ∷ drop 1 xs) is ∙ sym is
 
   thread_again : (e : ThreadId × Thread) → At m.threads e → thread_of (thread_row e.0 e.1) ≡ e.1
   thread_again e at =
+      let zero = (saveable.threads e.0 e.1 at).zero in
       ap (λ (regs : List ℕ). record { pc = e.1.pc; regs = regs; state = thread_state (state_number e.1.state) (state_waits e.1.state) })
-      (registers_again e.1.regs (saveable.threads e.0 e.1 at).regs)
+      (registers_again e.1.regs zero.0 zero.1)
       ∙ ap (λ (s : ThreadState). record { pc = e.1.pc; regs = e.1.regs; state = s }) (state_again e.1.state)
 
   id_is : (a b : ThreadId) → same_thread a b ≡ true → a ≡ b
