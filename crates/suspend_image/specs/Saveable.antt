@@ -9,6 +9,7 @@ use Rattle.ledger_model.specs.Ledger.{Page, PageLoan, Orphan}
 use Rattle.ledger_model.specs.WholePages.{HasWholePages}
 use Rattle.machine_model.specs.State.Machine.{Machine, Thread, Server, Claim, Reservation}
 use Rattle.machine_model.specs.State.Servers.{messages_of}
+use Rattle.machine_model.specs.Runs.Matched.{Matched}
 use Rattle.suspend_image.specs.declared.state.State.{State}
 use Rattle.suspend_image.specs.Forms.{Spells}
 use Rattle.suspend_image.specs.Machines.{machine_of}
@@ -64,3 +65,8 @@ pub record SpellsMachine (file : List ℕ) (m : Machine) : Type 0 where
   pub state : State
   pub spelled : Spells file state
   pub machine : machine_of file state ≡ m
+
+-- a state of the machine that state bytes spell
+pub record IsSpellable (m : Machine) : Type 0 where
+  pub matched : Matched m
+  pub saveable : IsSaveable m

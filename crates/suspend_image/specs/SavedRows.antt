@@ -1,5 +1,5 @@
 -- The rows of a state of the machine: the words that what it has is spelled by. What has a key is told with its key.
-use Rattle.std.specs.Prelude.{ℕ, ◌+◌, Bool, if◌then◌else◌, is_some, List, [], map, drop, Option, Some, None}
+use Rattle.std.specs.Prelude.{ℕ, ◌+◌, Bool, if◌then◌else◌, is_some, [], map, drop, Option, Some, None}
 use Rattle.std.specs.Option.{unwrap_or}
 use Rattle.xk_base.specs.declared.ids.Place.{Place}
 use Rattle.xk_base.specs.declared.ids.ThreadId.{ThreadId}

@@ -12,7 +12,7 @@ mod writing;
 pub use faults::{NOT_STATE, STATE_CHECK, STATE_FORM, STATE_LENGTH, STATE_UNMATCHED, StateError};
 pub use laws::{
     matched_or_faulty, saved_piece_by_piece, saved_state_fits, saved_state_is_spelled,
-    spelled_once_or_faulty,
+    spelled_file_is_saved, spelled_once_or_faulty,
 };
 pub use matching::capacity::are_within;
 pub use matching::holders::are_holders_apart;

@@ -1,5 +1,5 @@
 -- The claims and the processes of a state, as rows: they have the form, and say what there is.
-use Rattle.std.proofs.Common.{◌≡◌, ℕ, zero, suc, ◌+◌, ◌-◌, ◌≤◌, ◌<◌, Bool, true, false, cond, eqb, ltb, List, [], ◌∷◌, ◌++◌, map, length, get_or, Option, Some, None, refl, sym, ap, subst, ◌∙◌, arith, inl, inr}
+use Rattle.std.proofs.Common.{◌≡◌, ℕ, zero, suc, ◌+◌, ◌-◌, ◌≤◌, ◌<◌, Bool, true, false, cond, eqb, ltb, List, [], ◌∷◌, ◌++◌, map, length, get_or, Option, None, refl, sym, ap, ◌∙◌, arith, inl, inr}
 use Rattle.std.specs.Prelude.{◌&&◌, ◌||◌, is_some}
 use Rattle.std.specs.List.{AllByRecursion, list_any}
 use Rattle.std.proofs.lemmas.Bool.{cases_Bool, cases_lt, eqb-true, eq-eqb, ltb-true, ltb-false}
@@ -22,7 +22,7 @@ use Rattle.suspend_image.specs.StateBytes.{pids, claim_entries}
 use Rattle.suspend_image.specs.Saveable.{IsSaveable}
 use Rattle.suspend_image.proofs.Saved.EntryLemmas.{At, entries_hold, has_of, lookup, lookup_told, found_told, tells_each}
 use Rattle.suspend_image.proofs.Saved.RiseLemmas.{Follows, number_low, in_order, entries_rise, numbers_rise, all_follow_none}
-use Rattle.suspend_image.proofs.Saved.RoomLemmas.{by_recursion, all_by, all_of}
+use Rattle.suspend_image.proofs.Saved.RoomLemmas.{by_recursion, all_of}
 use Rattle.suspend_image.proofs.Saved.ThreadAgainLemmas.{word}
 
 pub flag_form : (b : Bool) → IsFlag (flag b)

@@ -1,29 +1,27 @@
 -- The pages and orphans of a state, as rows whose bytes stand in the file: they have the form, are spelled, and say what there is.
-use Rattle.std.proofs.Common.{◌≡◌, ℕ, ◌+◌, ◌-◌, ◌/◌, ◌%◌, ◌≤◌, ◌<◌, Bool, true, false, not, cond, eqb, leb, ltb, List, [], ◌∷◌, ◌++◌, map, length, take, drop, Option, Some, None, refl, sym, ap, subst, ◌∙◌, append_assoc, arith}
+use Rattle.std.proofs.Common.{◌≡◌, ℕ, ◌+◌, ◌-◌, ◌/◌, ◌%◌, ◌≤◌, Bool, true, false, not, cond, eqb, ltb, List, [], ◌∷◌, ◌++◌, length, take, drop, Option, Some, None, refl, sym, ap, subst, ◌∙◌, append_assoc, arith}
 use Rattle.std.specs.Prelude.{◌&&◌, is_some, if◌then◌else◌}
 use Rattle.std.specs.List.{flat_map, AllByRecursion}
-use Rattle.std.specs.Option.{option_map}
-use Rattle.std.proofs.lemmas.Bool.{cases_Bool, and_parts, eqb-true, eq-eqb}
+use Rattle.std.proofs.lemmas.Bool.{and_parts, eqb-true, eq-eqb}
 use Rattle.std.proofs.lemmas.Bool.Decides.{nat_tests}
 use Rattle.std.proofs.lemmas.List.{length-append, take-append-le, take_all, drop_at}
 use Rattle.xk_base.specs.declared.ids.Place.{Place}
 use Rattle.xk_base.specs.declared.pages.LoanKind.{LoanKind}
 use Rattle.xk_base.specs.declared.pages.LoanKind.TheVariants.{Shared, Exclusive}
-use Rattle.xk_base.specs.declared.pages.Right.{Right}
 use Rattle.xk_base.specs.declared.windows.Window.TheVariants.{Message}
 use Rattle.xk_base.specs.Numbers.Windows.{in_window, window_at}
 use Rattle.xk_base.specs.Tables.Circle.{is_pid}
 use Rattle.xk_base.proofs.CircleLemmas.{is_pid-bounds}
-use Rattle.ledger_model.specs.Ledger.{Contents, Console, Bytes, Page, PageLoan, Orphan, Homed, Orphaned}
+use Rattle.ledger_model.specs.Ledger.{Contents, Console, Bytes, Page, PageLoan, Orphan}
 use Rattle.ledger_model.specs.Places.{is_user_place, is_place_in, same_place}
 use Rattle.suspend_image.specs.declared.state.OrphanRow.{OrphanRow}
 use Rattle.suspend_image.specs.declared.state.PageRow.{PageRow}
 use Rattle.suspend_image.specs.Rows.{page_key, orphan_key}
-use Rattle.suspend_image.specs.Reading.{greatest, least_first, least_second}
-use Rattle.suspend_image.specs.Forms.{IsWord, IsWithin, IsField, StandsBefore, IsPageRow, IsOrphanRow, ArePlaced}
+use Rattle.suspend_image.specs.Reading.{greatest}
+use Rattle.suspend_image.specs.Forms.{IsWithin, IsField, StandsBefore, IsPageRow, IsOrphanRow, ArePlaced}
 use Rattle.suspend_image.specs.Spelling.{contents_at, page_words, page_bytes, orphan_words, orphan_bytes}
-use Rattle.suspend_image.specs.Machines.{page_loan, ledger_page, ledger_orphan, loan_kind_of}
-use Rattle.suspend_image.specs.SavedRows.{flag, right_number, loan_number, holder_pid, holder_page, kind_of_loan, number_of_loan, page_row, orphan_row}
+use Rattle.suspend_image.specs.Machines.{ledger_page, ledger_orphan, loan_kind_of}
+use Rattle.suspend_image.specs.SavedRows.{right_number, loan_number, holder_pid, holder_page, kind_of_loan, number_of_loan, page_row, orphan_row}
 use Rattle.suspend_image.specs.StateBytes.{bytes_of, saved_page, saved_orphan}
 use Rattle.suspend_image.proofs.Parts.Keys.KeyLemmas.{Less}
 use Rattle.suspend_image.proofs.Saved.EntryLemmas.{some, Tells}
@@ -120,7 +118,7 @@ kind_again Shared = refl
 kind_again Exclusive = refl
 
 -- what a row says of its loan
-abbrev said_loan : ℕ → ℕ → ℕ → ℕ → Option PageLoan
+abbrev pub said_loan : ℕ → ℕ → ℕ → ℕ → Option PageLoan
 said_loan pid page kind number =
     cond (eqb kind 0) None (Some (record { holder = record { pid = record { 0 = pid }; vpn = record { 0 = page } }; kind = loan_kind_of kind; number = record { 0 = number } }))
 

@@ -1,6 +1,5 @@
 -- Keys are listed in ascending order, and so stand entries and rows.
-use Rattle.std.proofs.Common.{◌≡◌, ℕ, zero, suc, ◌+◌, ◌*◌, ◌/◌, ◌%◌, ◌≤◌, ◌<◌, Bool, true, false, cond, eqb, ltb, List, [], ◌∷◌, ◌++◌, map, length, Option, Some, None, refl, sym, subst, arith, inl, inr}
-use Rattle.std.specs.Prelude.{◌||◌, ◌&&◌, All}
+use Rattle.std.proofs.Common.{◌≡◌, ℕ, suc, ◌+◌, ◌*◌, ◌/◌, ◌≤◌, ◌<◌, Bool, true, false, cond, eqb, ltb, List, [], ◌∷◌, ◌++◌, map, Option, Some, None, sym, subst, arith, inl, inr}
 use Rattle.std.specs.List.{AllByRecursion, AllPairs}
 use Rattle.std.specs.Option.{option_map_or}
 use Rattle.std.proofs.lemmas.Bool.{cases_Bool, cases_lt, and_parts, eqb-true, ltb-true}
@@ -12,7 +11,7 @@ use Rattle.xk_base.specs.Tables.Counting.{listed_below}
 use Rattle.xk_base.proofs.CountingLemmas.{listed_below-ascends}
 use Rattle.ledger_model.specs.Places.{listed_places, is_before}
 use Rattle.ledger_model.proofs.Loans.NumberingLemmas.{listed_places-ascends}
-use Rattle.suspend_image.specs.StateBytes.{entry, entries}
+use Rattle.suspend_image.specs.StateBytes.{entries}
 use Rattle.suspend_image.specs.Reading.{after, least_first, least_second}
 use Rattle.suspend_image.specs.Forms.{AreInOrder}
 use Rattle.suspend_image.proofs.Parts.Keys.KeyLemmas.{Less, either}
@@ -34,7 +33,7 @@ all_map : {A B : Type 0} (P : B → Type 0) (g : A → B) (Q : A → Type 0) →
 all_map P g Q next [] all = tt
 all_map P g Q next (x ∷ xs) all = (next x all.0, all_map P g Q next xs all.1)
 
-rises_map : {A B : Type 0} (less : A → A → Type 0) (other : B → B → Type 0) (g : A → B) → ((x y : A) → less x y → other (g x) (g y))
+pub rises_map : {A B : Type 0} (less : A → A → Type 0) (other : B → B → Type 0) (g : A → B) → ((x y : A) → less x y → other (g x) (g y))
     → (xs : List A) → Rises less xs → Rises other (map g xs)
 rises_map less other g next [] rises = tt
 rises_map less other g next (x ∷ xs) rises = (

@@ -1,10 +1,9 @@
 -- How a state is written piece by piece: each piece has room, the parts come in their order, and the rows of a part one after the other.
-use Rattle.std.proofs.Common.{◌≡◌, ℕ, zero, suc, ◌+◌, ◌-◌, ◌≤◌, ◌<◌, ◌^◌, Bool, true, false, cond, List, [], ◌∷◌, ◌++◌, map, length, take, drop, Option, Some, None, refl, sym, ap, subst, ◌∙◌, append_assoc, arith}
+use Rattle.std.proofs.Common.{◌≡◌, ℕ, zero, suc, ◌+◌, ◌-◌, ◌≤◌, ◌<◌, ◌^◌, Bool, cond, List, [], ◌∷◌, ◌++◌, map, length, drop, Option, Some, None, refl, sym, ap, subst, ◌∙◌, append_assoc, arith}
 use Rattle.std.specs.Prelude.{is_some}
 use Rattle.std.specs.List.{flat_map}
 use Rattle.std.specs.Option.{option_map_or}
 use Rattle.std.proofs.lemmas.List.{length-append, append-nil}
-use Rattle.std.proofs.lemmas.List.Concat.{flat_map-cons}
 use Rattle.xk_base.specs.Tables.Counting.{listed_below}
 use Rattle.machine_model.specs.State.Machine.{Machine}
 use Rattle.suspend_image.specs.declared.state.ProcRow.{ProcRow}
@@ -14,7 +13,7 @@ use Rattle.suspend_image.specs.Sheets.{SheetBytes, HasRoom, with_bytes, appended
 use Rattle.suspend_image.specs.Spelling.{machine_bytes, proc_bytes, message_bytes, server_bytes, rows_bytes, with_header}
 use Rattle.suspend_image.specs.SavedRows.{machine_row}
 use Rattle.suspend_image.specs.StateBytes.{entries, pids, thread_entries, server_entries, claim_entries, page_entries, orphan_entries, saved_process, saved_thread, saved_server, saved_claim, saved_page, saved_orphan, saved_parts, saved_bytes}
-use Rattle.suspend_image.specs.Saving.{IsSaving}
+use Rattle.suspend_image.specs.Saving.{FitsSheet, IsSaving}
 use Rattle.suspend_image.proofs.Sheets.SpellingLemmas.{word_bytes-append}
 
 -- ---- piece by piece
@@ -24,9 +23,8 @@ unfolding saved_bytes
 saved_length m = omega arith
 
 -- `begin_state` begins it
-pub saving_begun : (m : Machine) (sheet : SheetBytes) → length (saved_bytes m) ≤ sheet.room → length (saved_bytes m) < 2 ^ 32
-    → IsSaving m (saved_parts m) (with_bytes (begun []) sheet)
-saving_begun m sheet room few = record { bytes = refl; room = room; few = few }
+pub saving_begun : (m : Machine) (sheet : SheetBytes) → FitsSheet m sheet → IsSaving m (saved_parts m) (with_bytes (begun []) sheet)
+saving_begun m sheet fits = record { bytes = refl; fits = record { room = fits.room; few = fits.few } }
 
 -- the next piece has room ..
 pub piece_has_room : (m : Machine) (piece rest : List ℕ) (sheet : SheetBytes) → IsSaving m (piece ++ rest) sheet → HasRoom sheet piece
@@ -35,16 +33,15 @@ piece_has_room m piece rest sheet saving =
     let whole : length (sheet.bytes ++ (piece ++ rest)) ≡ length (begun (saved_parts m)) = ap (λ (b : List ℕ). length b) saving.bytes in
     let one = length-append sheet.bytes (piece ++ rest) in
     let two = length-append piece rest in
-    let room = saving.room in
-    let few = saving.few in
+    let room = saving.fits.room in
+    let few = saving.fits.few in
     record { room = omega (arith, all, whole, one, two, room); few = omega (arith, all, whole, one, two, few) }
 
 -- .. and once it was appended, the others are to come
 pub piece_saved : (m : Machine) (piece rest : List ℕ) (sheet : SheetBytes) → IsSaving m (piece ++ rest) sheet → IsSaving m rest (appended piece sheet)
 piece_saved m piece rest sheet saving = record {
   bytes = append_assoc sheet.bytes piece rest ∙ saving.bytes;
-  room = saving.room;
-  few = saving.few;
+  fits = record { room = saving.fits.room; few = saving.fits.few };
 }
 
 -- what is to come, told in another way
@@ -63,7 +60,7 @@ pub saved_few : (m : Machine) (sheet : SheetBytes) → IsSaving m [] sheet → l
 saved_few m sheet saving =
     let all = saved_length m in
     let whole : length sheet.bytes ≡ length (begun (saved_parts m)) = ap (λ (b : List ℕ). length b) (all_saved m sheet saving) in
-    let few = saving.few in
+    let few = saving.fits.few in
     omega (arith, all, whole, few)
 
 pub saved_whole : (m : Machine) (sheet : SheetBytes) → IsSaving m [] sheet → with_header (drop 16 sheet.bytes) ≡ saved_bytes m

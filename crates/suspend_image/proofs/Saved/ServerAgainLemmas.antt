@@ -1,33 +1,31 @@
 -- The servers of a state with their messages, as rows: they have the form, and say what there is.
-use Rattle.std.proofs.Common.{◌≡◌, ℕ, ◌+◌, ◌≤◌, ◌<◌, Bool, true, false, cond, eqb, leb, List, [], ◌∷◌, ◌++◌, map, length, Option, Some, None, refl, sym, ap, subst, ◌∙◌, arith, inl, inr}
-use Rattle.std.specs.Prelude.{◌&&◌, is_some, not, nat_le, IsTrue, All, slice_index_or}
-use Rattle.std.specs.List.{AllByRecursion, find}
-use Rattle.std.specs.Option.{option_map, option_map_or, unwrap_or}
+use Rattle.std.proofs.Common.{◌≡◌, ℕ, ◌+◌, ◌≤◌, ◌<◌, Bool, true, false, cond, eqb, List, [], ◌∷◌, map, length, Option, Some, None, refl, sym, ap, subst, ◌∙◌, arith, inl, inr}
+use Rattle.std.specs.Prelude.{is_some, not, nat_le, All, slice_index_or}
+use Rattle.std.specs.List.{AllByRecursion}
+use Rattle.std.specs.Option.{option_map_or, unwrap_or}
 use Rattle.std.proofs.lemmas.Bool.{cases_Bool, eqb-true, eq-eqb, ne_eqb, both_ways}
 use Rattle.std.proofs.lemmas.List.{length-map}
 use Rattle.xk_base.specs.declared.ids.Number.{Number}
-use Rattle.xk_base.specs.declared.ids.Pid.{Pid}
 use Rattle.xk_base.specs.declared.ids.ThreadId.{ThreadId}
 use Rattle.xk_base.specs.declared.messages.Message.{Message}
 use Rattle.xk_base.specs.declared.messages.MsgKind.{MsgKind}
 use Rattle.xk_base.specs.declared.messages.MsgKind.TheVariants.{LendMut, Lend, Move, Scalar, BlockingScalar}
 use Rattle.xk_base.specs.Calls.Kinds.{kind_number, kind_at}
-use Rattle.xk_base.specs.Tables.Circle.{is_pid, is_thread_id, same_thread}
+use Rattle.xk_base.specs.Tables.Circle.{same_thread}
 use Rattle.xk_base.specs.Tables.Counting.{listed_below}
 use Rattle.xk_base.proofs.CircleLemmas.{is_pid-bounds}
 use Rattle.xk_base.proofs.CountingLemmas.{listed_below-contains}
 use Rattle.machine_model.specs.Messaging.MessageCounts.{count_in, count_at, HasIf}
 use Rattle.machine_model.specs.Messaging.Messages.{carries_pages, is_of_number, is_sent_by}
 use Rattle.machine_model.specs.State.Machine.{Machine, Server, Thread}
-use Rattle.machine_model.specs.State.Servers.{messages_of, slots_used}
+use Rattle.machine_model.specs.State.Servers.{messages_of}
 use Rattle.machine_model.specs.Runs.Matched.{Matched, IsSized, is_sent_as, waits_for, is_waiting_for}
 use Rattle.machine_model.proofs.Matching.CountLemmas.{none_pass}
-use Rattle.suspend_image.specs.declared.state.MessageRow.{MessageRow}
 use Rattle.suspend_image.specs.declared.state.ServerRow.{ServerRow}
 use Rattle.suspend_image.specs.Rows.{server_key}
-use Rattle.suspend_image.specs.Reading.{greatest, after}
-use Rattle.suspend_image.specs.Forms.{IsWord, IsWithin, IsPid, IsField, IsMessageRow, IsServerRow, AreInOrder}
-use Rattle.suspend_image.specs.Machines.{sender_of, message_of, server_of, servers_of, thread_at_id}
+use Rattle.suspend_image.specs.Reading.{greatest}
+use Rattle.suspend_image.specs.Forms.{IsWord, IsWithin, IsField, IsMessageRow, IsServerRow, AreInOrder}
+use Rattle.suspend_image.specs.Machines.{message_of, server_of, servers_of, thread_at_id}
 use Rattle.suspend_image.specs.SavedRows.{sender_pid, sender_tid, message_row, server_row}
 use Rattle.suspend_image.specs.StateBytes.{server_entries}
 use Rattle.suspend_image.specs.Saveable.{IsMessageSaveable, IsSaveable}
@@ -112,7 +110,7 @@ kind_again Move = refl
 kind_again Scalar = refl
 kind_again BlockingScalar = refl
 
-abbrev sender_at : ℕ → ℕ → Option ThreadId
+abbrev pub sender_at : ℕ → ℕ → Option ThreadId
 sender_at pid tid = cond (eqb pid 0) None (Some (thread_at_id pid tid))
 
 sender_again : (n : ℕ) (o : Option ThreadId) → ((who : ThreadId) → o ≡ Some who → IsId n who) → sender_at (sender_pid o) (sender_tid o) ≡ o

@@ -1,15 +1,14 @@
 -- State bytes are read as the state that they spell.
-use Rattle.std.proofs.Common.{◌≡◌, ℕ, ◌+◌, ◌≤◌, ◌<◌, Bool, true, false, cond, eqb, List, [], ◌∷◌, ◌++◌, map, length, Option, Some, None, refl, sym, ap, subst, ◌∙◌, append_assoc, arith}
+use Rattle.std.proofs.Common.{◌≡◌, ℕ, ◌+◌, ◌≤◌, ◌<◌, true, cond, eqb, List, [], ◌∷◌, ◌++◌, map, length, Option, Some, None, refl, sym, ap, subst, ◌∙◌, append_assoc, arith}
 use Rattle.std.specs.Prelude.{is_some, codes}
 use Rattle.std.specs.List.{flat_map, AllByRecursion}
 use Rattle.std.specs.Option.{option_map, unwrap_or}
 use Rattle.std.proofs.lemmas.List.{length-map}
 use Rattle.std.proofs.lemmas.List.Folds.{flat_map-map}
 use Rattle.xk_base.specs.declared.ids.Place.{Place}
-use Rattle.xk_base.specs.declared.ids.ThreadId.{ThreadId}
 use Rattle.xk_base.specs.declared.windows.Window.TheVariants.{Message}
 use Rattle.kernel_args.specs.CheckNumber.{check_number}
-use Rattle.ledger_model.specs.Ledger.{Bytes, Page, PageLoan, Orphan, Homed, Orphaned, loan_of}
+use Rattle.ledger_model.specs.Ledger.{Bytes, Page, Orphan, Homed, Orphaned, loan_of}
 use Rattle.ledger_model.specs.Listings.{home_places, orphan_places}
 use Rattle.ledger_model.specs.Places.{is_user_place, same_place}
 use Rattle.ledger_model.proofs.Loans.NumberingLemmas.{listed_places-contains, is_place_in-user}

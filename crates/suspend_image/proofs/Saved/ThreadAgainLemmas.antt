@@ -1,28 +1,24 @@
 -- The threads and the processes of a state, as rows: they have the form, and say what there is.
-use Rattle.std.proofs.Common.{◌≡◌, ℕ, zero, suc, ◌+◌, ◌-◌, ◌≤◌, ◌<◌, Bool, true, false, cond, eqb, leb, ltb, List, [], ◌∷◌, ◌++◌, map, drop, length, get_or, Option, Some, None, refl, sym, ap, subst, ◌∙◌, arith, inl, inr, length-drop}
-use Rattle.std.specs.Prelude.{◌&&◌, is_some, IsTrue, IsFalse, All}
-use Rattle.std.specs.List.{AllByRecursion, find}
-use Rattle.std.specs.Option.{option_map}
-use Rattle.std.proofs.lemmas.Bool.{cases_Bool, and_parts, eqb-true, eq-eqb, leb-true, ltb-true}
-use Rattle.std.proofs.lemmas.List.{length-map}
-use Rattle.xk_base.specs.declared.ids.Pid.{Pid}
-use Rattle.xk_base.specs.declared.ids.Serial.{Serial}
+use Rattle.std.proofs.Common.{◌≡◌, ℕ, ◌+◌, ◌≤◌, true, eqb, leb, List, [], ◌∷◌, map, drop, Option, Some, None, refl, sym, ap, ◌∙◌, arith, length-drop}
+use Rattle.std.specs.Prelude.{◌&&◌, is_some}
+use Rattle.std.specs.List.{AllByRecursion}
+use Rattle.std.proofs.lemmas.Bool.{and_parts, eqb-true, eq-eqb, leb-true}
 use Rattle.xk_base.specs.declared.ids.ThreadId.{ThreadId}
 use Rattle.xk_base.specs.declared.ids.Tid.{Tid}
 use Rattle.xk_base.specs.Tables.Circle.{is_pid, is_thread_id, listed_ids, same_thread}
-use Rattle.xk_base.proofs.CircleLemmas.{is_pid-bounds, listed_ids-passes, listed_ids-contains, same_ids}
-use Rattle.machine_model.specs.State.Machine.{Machine, Process, Thread, ThreadState, Ready, Receiving, Waiting, Joining, Idle}
+use Rattle.xk_base.proofs.CircleLemmas.{is_pid-bounds, listed_ids-contains, same_ids}
+use Rattle.machine_model.specs.State.Machine.{Machine, Thread, ThreadState, Ready, Receiving, Waiting, Joining, Idle}
 use Rattle.machine_model.specs.Runs.Matched.{Matched}
 use Rattle.suspend_image.specs.declared.state.ThreadRow.{ThreadRow}
 use Rattle.suspend_image.specs.Rows.{thread_key}
-use Rattle.suspend_image.specs.Reading.{greatest, least_first, least_second}
+use Rattle.suspend_image.specs.Reading.{greatest}
 use Rattle.suspend_image.specs.Forms.{IsWord, IsWithin, IsThreadRow, AreInOrder, waits_bounds}
 use Rattle.suspend_image.specs.Machines.{thread_of, thread_state, threads_of}
 use Rattle.suspend_image.specs.SavedRows.{thread_row, state_number, state_waits}
 use Rattle.suspend_image.specs.StateBytes.{thread_entries}
 use Rattle.suspend_image.specs.Saveable.{IsSaveable}
 use Rattle.suspend_image.proofs.Parts.Keys.KeyLemmas.{Less}
-use Rattle.suspend_image.proofs.Saved.EntryLemmas.{At, entries_hold, has_of, lookup_told, Tells, found_told, tells_each}
+use Rattle.suspend_image.proofs.Saved.EntryLemmas.{At, entries_hold, has_of, lookup_told, found_told, tells_each}
 use Rattle.suspend_image.proofs.Saved.RiseLemmas.{Follows, first_low, second_low, in_order, entries_rise, ids_rise, id_key, all_follow_none}
 use Rattle.suspend_image.proofs.Saved.RoomLemmas.{by_recursion, all_by}
 
@@ -45,6 +41,14 @@ id_bounds n id is =
     let least = pid.0 in
     let most = pid.1 in
     record { pid_least = least; pid_most = omega (arith, most); tid_least = leb-true _ _ tid.0; tid_most = leb-true _ _ tid.1 }
+
+pub id_is : (a b : ThreadId) → same_thread a b ≡ true → a ≡ b
+id_is a b same =
+    let both = and_parts (eqb a.pid.0 b.pid.0) (eqb a.tid.0 b.tid.0) same in
+    same_ids a b (eqb-true a.pid.0 b.pid.0 both.0) (eqb-true a.tid.0 b.tid.0 both.1)
+
+pub id_own : (a : ThreadId) → same_thread a a ≡ true
+id_own a = rw (eq-eqb a.pid.0 a.pid.0 refl, eq-eqb a.tid.0 a.tid.0 refl) refl
 
 -- ---- the form of a thread
 
@@ -123,14 +127,6 @@ module _ (m : Machine) (matched : Matched m) (saveable : IsSaveable m) where
       ap (λ (regs : List ℕ). record { pc = e.1.pc; regs = regs; state = thread_state (state_number e.1.state) (state_waits e.1.state) })
       (registers_again e.1.regs zero.0 zero.1)
       ∙ ap (λ (s : ThreadState). record { pc = e.1.pc; regs = e.1.regs; state = s }) (state_again e.1.state)
-
-  id_is : (a b : ThreadId) → same_thread a b ≡ true → a ≡ b
-  id_is a b same =
-      let both = and_parts (eqb a.pid.0 b.pid.0) (eqb a.tid.0 b.tid.0) same in
-      same_ids a b (eqb-true a.pid.0 b.pid.0 both.0) (eqb-true a.tid.0 b.tid.0 both.1)
-
-  id_own : (a : ThreadId) → same_thread a a ≡ true
-  id_own a = rw (eq-eqb a.pid.0 a.pid.0 refl, eq-eqb a.tid.0 a.tid.0 refl) refl
 
   pub threads_again : (id : ThreadId) → threads_of (map (λ e. thread_row e.0 e.1) (thread_entries m)) id ≡ m.threads id
   threads_again id =
