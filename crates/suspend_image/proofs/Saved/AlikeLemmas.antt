@@ -24,7 +24,8 @@ module _ {R K : Type 0} (less : K → K → Type 0) (through : (a b c : K) → l
   rows_above form behind b (r ∷ rows) forms =
       let low = behind b r forms.0 in (
         low,
-        all_by (λ z. less (key r) (key z)) (λ z. less b (key z)) (λ z high. through b (key r) (key z) low high) rows (rows_above form behind (key r) rows forms.1),
+        all_by (λ z. less (key r) (key z)) (λ z. less b (key z)) (λ z high. through b (key r) (key z) low high) rows
+            (rows_above form behind (key r) rows forms.1),
       )
 
   pub rows_rise : (form : Option K → R → Type 0) → ((b : K) (r : R) → form (Some b) r → less b (key r)) → (before : Option K) (rows : List R)

@@ -120,7 +120,11 @@ kind_again Exclusive = refl
 -- what a row says of its loan
 abbrev pub said_loan : ℕ → ℕ → ℕ → ℕ → Option PageLoan
 said_loan pid page kind number =
-    cond (eqb kind 0) None (Some (record { holder = record { pid = record { 0 = pid }; vpn = record { 0 = page } }; kind = loan_kind_of kind; number = record { 0 = number } }))
+    cond (eqb kind 0) None (Some (record {
+      holder = record { pid = record { 0 = pid }; vpn = record { 0 = page } };
+      kind = loan_kind_of kind;
+      number = record { 0 = number };
+    }))
 
 loan_again : (o : Option PageLoan) → said_loan (holder_pid o) (holder_page o) (kind_of_loan o) (number_of_loan o) ≡ o
 loan_again None = refl
@@ -210,7 +214,10 @@ page_stands : (file back words : List ℕ) (w x : Bool) (c : Contents) → ((byt
     × ((if ltb (right_number (record { w = w; x = x }) c) 4 then Bytes (contents_at file (begin (length file) (length back) c)) else Console) ≡ c)
 page_stands file back words w x Console whole ends = rw (right_console w x) (refl, refl, refl)
 page_stands file back words w x (Bytes bytes) whole ends =
-    let behind : Ends file (bytes ++ back) = ends_behind file words (bytes ++ back) (record { front = ends.front; parts = ends.parts ∙ ap (λ (b : List ℕ). ends.front ++ b) (append_assoc words bytes back) }) in
+    let behind : Ends file (bytes ++ back) = ends_behind file words (bytes ++ back) (record {
+      front = ends.front;
+      parts = ends.parts ∙ ap (λ (b : List ℕ). ends.front ++ b) (append_assoc words bytes back);
+    }) in
     let stands = stand file bytes back (whole bytes refl) behind in
     rw (right_bytes w x bytes) (stands.0, stands.1, ap (λ (b : List ℕ). Bytes b) stands.1)
 
@@ -268,7 +275,8 @@ module _ (file back : List ℕ) (n : ℕ) where
       (page_spelled file (flat_map saved_page es ++ back) n e all.0 (head_ends e es ends))
       ∙ ap (λ (b : List ℕ). saved_page e ++ b) (pages_spelled es all.1 (tail_ends e es ends))
 
-  pub pages_placed : (before : Option (ℕ × ℕ)) (es : List (Place × Page)) → AllByRecursion (IsKnown n) es → Rises (λ a b. Less (place_key a.0) (place_key b.0)) es
+  pub pages_placed : (before : Option (ℕ × ℕ)) (es : List (Place × Page)) → AllByRecursion (IsKnown n) es
+      → Rises (λ a b. Less (place_key a.0) (place_key b.0)) es
       → AllByRecursion (λ e. Follows Less before (place_key e.0)) es → Ends file (flat_map saved_page es ++ back)
       → ArePlaced (IsPageRow (length file) n) page_key (page_bytes file) (length back) before (page_rows (length file) back es)
   pages_placed before [] all rises follow ends = tt
@@ -354,7 +362,8 @@ module _ (file : List ℕ) (n : ℕ) where
   }
 
   pub orphans_placed : (before : Option (ℕ × ℕ)) (es : List (Place × Orphan)) → AllByRecursion (IsOrphanKnown n) es
-      → Rises (λ a b. Less (place_key a.0) (place_key b.0)) es → AllByRecursion (λ e. Follows Less before (place_key e.0)) es → Ends file (flat_map saved_orphan es)
+      → Rises (λ a b. Less (place_key a.0) (place_key b.0)) es → AllByRecursion (λ e. Follows Less before (place_key e.0)) es
+      → Ends file (flat_map saved_orphan es)
       → ArePlaced (IsOrphanRow (length file) n) orphan_key (orphan_bytes file) 0 before (orphan_rows (length file) es)
   orphans_placed before [] all rises follow ends = tt
   orphans_placed before (e ∷ es) all rises follow ends =

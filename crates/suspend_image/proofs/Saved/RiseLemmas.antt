@@ -29,7 +29,8 @@ rises_of less (x ∷ xs) pairs = (
   rises_of less xs (λ i j d low within. pairs (suc i) (suc j) d (omega (arith, low)) (omega (arith, within))),
 )
 
-all_map : {A B : Type 0} (P : B → Type 0) (g : A → B) (Q : A → Type 0) → ((x : A) → Q x → P (g x)) → (xs : List A) → AllByRecursion Q xs → AllByRecursion P (map g xs)
+all_map : {A B : Type 0} (P : B → Type 0) (g : A → B) (Q : A → Type 0) → ((x : A) → Q x → P (g x))
+    → (xs : List A) → AllByRecursion Q xs → AllByRecursion P (map g xs)
 all_map P g Q next [] all = tt
 all_map P g Q next (x ∷ xs) all = (next x all.0, all_map P g Q next xs all.1)
 

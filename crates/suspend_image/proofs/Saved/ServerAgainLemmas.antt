@@ -161,7 +161,8 @@ module _ (m : Machine) (matched : Matched m) (saveable : IsSaveable m) where
       ap (count_at (is_sent_as who number)) (sym at)
       ∙ subst (λ (b : Bool). HasIf b m.servers (is_sent_as who number)) none (matched.body.senders.senders who number) serial
 
-  senders_known : (serial : ℕ) (s : Server) → m.servers serial ≡ Some s → All (λ x. (who : ThreadId) → x.sender ≡ Some who → IsId m.processes who) (messages_of s)
+  senders_known : (serial : ℕ) (s : Server) → m.servers serial ≡ Some s
+      → All (λ x. (who : ThreadId) → x.sender ≡ Some who → IsId m.processes who) (messages_of s)
   senders_known serial s at k d within who is =
       let x = slice_index_or (messages_of s) k d in
       elim (cases_Bool (waits_for m.threads who x.number)) [

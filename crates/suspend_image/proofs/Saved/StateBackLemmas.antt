@@ -188,8 +188,10 @@ module _ (file : List ℕ) (s : State) (spells : Spells file s) (matched : Match
       (λ before r. (least_first 0 before ≤ (orphan_key r).0) × (least_second 0 before (orphan_key r).0 ≤ (orphan_key r).1))
       (λ b r low. less_behind 0 0 b (orphan_key r) low.0 low.1) None s.orphans (orphans_ascend file s spells) in
       let same = table_same m.ledger.orphan same_place place_is place_own (λ a b. Less (place_key a) (place_key b)) (λ k. less_apart (place_key k))
-      (λ a b c. less_through (place_key a) (place_key b) (place_key c)) (ledger_orphan file) keyed (λ k r. eqb r.pid k.pid.0 && eqb r.page k.vpn.0) (λ k r. refl)
-      s.orphans (orphan_places s.n m.ledger) (orphan_places_rise s.n m.ledger) (orphan_places_all s.n s.cap m.ledger matched.body.ledger.lawful) up (λ k. refl) in
+      (λ a b c. less_through (place_key a) (place_key b) (place_key c)) (ledger_orphan file) keyed
+      (λ k r. eqb r.pid k.pid.0 && eqb r.page k.vpn.0) (λ k r. refl)
+      s.orphans (orphan_places s.n m.ledger) (orphan_places_rise s.n m.ledger)
+      (orphan_places_all s.n s.cap m.ledger matched.body.ledger.lawful) up (λ k. refl) in
       rows_alike saved_orphan (orphan_bytes file) (λ r. (keyed r, ledger_orphan file r)) (orphan_entries m) s.orphans same
       (placed_all (IsOrphanRow (length file) s.n) orphan_key (orphan_bytes file)
       (λ r. saved_orphan (place_at r.pid r.page, ledger_orphan file r) ≡ orphan_bytes file r)
