@@ -6,4 +6,5 @@ pub mod Memory
 pub mod Messaging
 pub mod Ringing
 pub mod Running
+pub mod Saving
 pub mod Starting

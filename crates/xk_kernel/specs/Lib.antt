@@ -6,6 +6,7 @@ pub mod Acting
 pub mod Calling
 pub mod Ringing
 pub mod Running
+pub mod Saving
 pub mod Sound
 pub mod Start
 pub mod State

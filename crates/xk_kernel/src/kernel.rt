@@ -11,6 +11,7 @@ mod message_calls;
 mod readers;
 mod ringing;
 mod running;
+mod saving;
 mod server_calls;
 mod stepping;
 #[cfg(test)]
