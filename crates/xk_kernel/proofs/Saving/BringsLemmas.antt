@@ -2,7 +2,13 @@
 use Rattle.std.proofs.Common.{◌≡◌, ℕ, ◌≤◌, Bool, true, refl, sym, ap, ◌∙◌, arith}
 use Rattle.sv32_space.specs.Tie.{Held}
 use Rattle.vm_memory.specs.Bytes.{MeansBytes, none_out}
-use Rattle.vm_memory.specs.Memory.{store_of}
+use Rattle.std.specs.Prelude.{◌||◌, Err, Ok, OnErr, Result}
+use Rattle.vm_memory.proofs.Using.NearLemmas.{brings_reaches}
+use Rattle.vm_memory.specs.Memory.{Size, ledger, processes, store_of}
+use Rattle.vm_memory.specs.Using.Access.{reaches_bytes}
+use Rattle.xk_base.specs.Outside.{Rose}
+use Rattle.xk_base.specs.declared.ids.Place.{Place}
+use Rattle.xk_base.specs.declared.pages.Access.{Access}
 use Rattle.vm_memory.specs.Sound.{IsSound}
 use Rattle.vm_memory.specs.declared.memory.Memory.{Memory}
 use Rattle.xk_kernel.specs.Saving.Written.{BringsPages}
@@ -48,3 +54,27 @@ module _ {W P : Type 0} (is_honest : W → Bool) (held : W → Held) (slot_count
     size = y.size ∙ x.size;
     store = store_both (store_of a) (store_of b) (store_of c) x.store y.store;
   }
+
+  -- what a process reaches stays
+  pub brings_may : (a b : Memory W) → BringsPages is_honest held slot_count asked faults a b → (at : Place) (access : Access)
+      → reaches_bytes (processes b) (ledger held b) at access ≡ reaches_bytes (processes a) (ledger held a) at access
+  brings_may a b x at access = brings_reaches is_honest held slot_count asked faults a b (record {
+    moves = record {
+      sound = x.sound;
+      rights = x.rights;
+      whole = λ known. x.whole (ap (λ k. k || none_out a) known);
+      size = x.size;
+      store = x.store;
+    };
+    none = x.none;
+  }) at access
+
+  pub brings_procs : (a b : Memory W) → BringsPages is_honest held slot_count asked faults a b → processes b ≡ processes a
+  brings_procs a b x = ap (λ (s : Size). s.procs) x.size
+
+pub rose_later : (a b c : ℕ) → a ≤ b → Rose b c → Rose a c
+rose_later a b c le rose = omega arith
+
+pub on_err : {T E : Type 0} (r : Result T E) (P : Type 0) → P → OnErr r P
+on_err (Ok x) P p = tt
+on_err (Err e) P p = p

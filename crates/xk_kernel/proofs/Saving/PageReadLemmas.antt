@@ -11,7 +11,11 @@ use Rattle.ledger_model.specs.Ledger.{Bytes, Console, Contents, Ledger, Orphan, 
 use Rattle.ledger_model.specs.Reach.{FreePlace, HomePlace, HolderPlace, OrphanPlace, Role, holder_role, home_may, home_or, holder_may, lent_role, lender_of, orphan_or_holder, reach, role_at}
 use Rattle.phys_pages.specs.declared.infos.LoanInfo.{LoanInfo}
 use Rattle.suspend_image.proofs.Sheets.SpellingLemmas.{both_appended, none_appended}
-use Rattle.suspend_image.specs.Sheets.{SheetBytes, appended}
+use Rattle.suspend_image.specs.Sheets.{HasRoom, SheetBytes, appended}
+use Rattle.suspend_image.specs.declared.state.OrphanRow.{OrphanRow}
+use Rattle.suspend_image.specs.declared.state.PageRow.{PageRow}
+use Rattle.xk_kernel.specs.Saving.Written.{Fits}
+use Rattle.xk_kernel.proofs.Saving.SheetLemmas.{fits_behind, fits_less, has_room}
 use Rattle.suspend_image.specs.Spelling.{orphan_words, page_words}
 use Rattle.vm_memory.specs.Pages.Here.{here_at, here_of, info_of_loan}
 use Rattle.vm_memory.specs.Using.Access.{contents_reached, reaches_bytes}
@@ -278,3 +282,24 @@ right_is r console = go r.w r.x console
     go false true false = refl
     go false false true = refl
     go false false false = refl
+
+-- ---- room
+
+pub row_room : (sheet : SheetBytes) (row : PageRow) → Fits sheet 4124 → HasRoom sheet (page_words row)
+row_room sheet row fits = has_room sheet 4124 (page_words row) fits (let size = length-page row in omega arith)
+
+pub page_room : (old new : SheetBytes) (row : PageRow) → Fits old 4124 → new ≡ appended (page_words row) old → Fits new 4096
+page_room old new row fits is = fits_behind old new (page_words row) 28 4096 (record { is = is; few = let size = length-page row in omega arith }) fits
+
+pub orphan_row_room : (sheet : SheetBytes) (row : OrphanRow) → Fits sheet 4124 → HasRoom sheet (orphan_words row)
+orphan_row_room sheet row fits = has_room sheet 4124 (orphan_words row) fits (let size = length-orphan row in omega arith)
+
+pub orphan_room : (old new : SheetBytes) (row : OrphanRow) → Fits old 4124 → new ≡ appended (orphan_words row) old → Fits new 4096
+orphan_room old new row fits is =
+    fits_less new 4108 4096 (fits_behind old new (orphan_words row) 16 4108 (record { is = is; few = let size = length-orphan row in omega arith }) fits) (omega arith)
+
+-- what was read in a memory with the same ledger
+pub told_by : (procs now : ℕ) (l m : Ledger) (from at : Place) (bytes : List ℕ) → now ≡ procs → m ≡ l → at ≡ from
+    → contents_reached now m at Load ≡ Some (Bytes bytes) → contents_reached procs l from Load ≡ Some (Bytes bytes)
+told_by procs now l m from at bytes same ledgers place told =
+    sym (λ i. contents_reached (same i) (ledgers i) (place i) Load) ∙ told

@@ -13,6 +13,7 @@ use Rattle.xk_base.specs.Tables.Connections.{connected_to}
 use Rattle.xk_base.specs.declared.ids.Serial.{Serial}
 use Rattle.xk_base.specs.declared.messages.Message.{Message}
 use denote.Bor.{Bor}
+use mir.Val.{bool_byte}
 use Rattle.std.specs.Option.{option_copied, option_map, option_map_or}
 use Rattle.irq_claims.specs.ClaimsOf.{claims_of}
 use Rattle.irq_claims.specs.declared.claims.Claim.{Claim as TableClaim}
@@ -80,6 +81,11 @@ is_some-copied (Some x) = refl
 pub is_some-map : {A B : Type 0} (f : A → B) (o : Option A) → is_some (option_map f o) ≡ is_some o
 is_some-map f None = refl
 is_some-map f (Some x) = refl
+
+-- a yes as a number
+pub byte_is : (b : Bool) → bool_byte b ≡ (if b then 1 else 0)
+byte_is true = refl
+byte_is false = refl
 
 -- ---- what a list has, place by place
 

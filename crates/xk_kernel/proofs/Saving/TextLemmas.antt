@@ -154,6 +154,16 @@ texts_next known here row now k start sheet new many there texts text alike know
     small true = omega arith
     small false = omega arith
 
+-- as the loop has it
+pub texts_first : (known : Type 0) (row : ℕ → Option PageText) (start sheet : SheetBytes) → sheet ≡ start → HasTexts known row 0 start sheet 0
+texts_first known row start sheet is = subst (λ (s : SheetBytes). HasTexts known row 0 start s 0) (sym is) (texts_none known row start)
+
+pub texts_counted : (known here : Type 0) (row now : ℕ → Option PageText) (k : ℕ) (start sheet new : SheetBytes) (many more : ℕ) (there : Bool)
+    → HasTexts known row k start sheet many → AppendsText here sheet new (now k) there → option_map text_words (now k) ≡ option_map text_words (row k)
+    → (known → here) → (known → now k ≡ row k) → more ≡ (if there then 1 else 0) → HasTexts known row (k + 1) start new (many + more)
+texts_counted known here row now k start sheet new many more there texts text alike knows same one =
+    subst (λ n. HasTexts known row (k + 1) start new (many + n)) (sym one) (texts_next known here row now k start sheet new many there texts text alike knows same)
+
 -- room for one more, and one to spare
 pub texts_room : (known : Type 0) (row : ℕ → Option PageText) (k n : ℕ) (start sheet : SheetBytes) (many : ℕ) → HasTexts known row k start sheet many → k ≤ n
     → Fits start (4124 * (length (rows_below n row) + 1)) → Fits sheet 4124
@@ -168,7 +178,7 @@ texts_room known row k n start sheet many texts low fits =
     let words = fits.few in
     record { room = omega arith; few = omega arith }
 
-pub texts_all : (known : Type 0) (row : ℕ → Option PageText) (n : ℕ) (old sheet new : SheetBytes) (many : ℕ) → HasTexts known row n (appended (word 0) old) sheet many
+texts_all : (known : Type 0) (row : ℕ → Option PageText) (n : ℕ) (old sheet new : SheetBytes) (many : ℕ) → HasTexts known row n (appended (word 0) old) sheet many
     → new ≡ with_bytes (with_word (length old.bytes) many sheet.bytes) sheet → AppendsTexts known old new (rows_below n row)
 texts_all known row n old sheet new many texts is =
     let written = texts.written in
@@ -184,3 +194,9 @@ texts_all known row n old sheet new many texts is =
       is = is ∙ numbered text_bytes written old sheet many (texts.count ∙ sym same) texts.is;
       few = omega arith;
     }
+
+pub texts_done : (known : Type 0) (row : ℕ → Option PageText) (k n : ℕ) (old sheet new : SheetBytes) (many at : ℕ) → HasTexts known row k (appended (word 0) old) sheet many → k ≡ n
+    → at ≡ length old.bytes → new ≡ with_bytes (with_word at many sheet.bytes) sheet → AppendsTexts known old new (rows_below n row)
+texts_done known row k n old sheet new many at texts end place is =
+    texts_all known row n old sheet new many (subst (λ j. HasTexts known row j (appended (word 0) old) sheet many) end texts)
+    (is ∙ ap (λ p. with_bytes (with_word p many sheet.bytes) sheet) place)

@@ -157,20 +157,19 @@ fn write_home<W: SwapStore>(
     ensures room { sheet.new.room ≡ sheet.old.room }
 {
     let home = place_at(number);
-    match mem.at(home) {
-        Here::Own {
-            right,
-            console,
-            loan,
-        } => {
-            write_page_words(sheet, &page_row(home, right, console, loan));
-            if !console {
-                write_contents(mem, sheet, reading_place(home, loan))?;
-            }
-            Ok(true)
-        }
-        Here::Lent { .. } | Here::Nothing => Ok(false),
+    let Here::Own {
+        right,
+        console,
+        loan,
+    } = mem.at(home)
+    else {
+        return Ok(false);
+    };
+    write_page_words(sheet, &page_row(home, right, console, loan));
+    if !console {
+        write_contents(mem, sheet, reading_place(home, loan))?;
     }
+    Ok(true)
 }
 
 // Appends the orphan whose place has that number, and answers whether it is an orphan's.
@@ -191,18 +190,20 @@ fn write_orphan<W: SwapStore>(
     ensures room { sheet.new.room ≡ sheet.old.room }
 {
     let place = place_at(number);
-    match mem.at(place) {
-        Here::Lent {
-            kind,
-            lender: None,
-            number: message,
-        } => {
-            write_orphan_words(sheet, &orphan_row(place, kind, message));
-            write_contents(mem, sheet, place)?;
-            Ok(true)
-        }
-        Here::Lent { .. } | Here::Own { .. } | Here::Nothing => Ok(false),
+    let Here::Lent {
+        kind,
+        lender,
+        number: message,
+    } = mem.at(place)
+    else {
+        return Ok(false);
+    };
+    if lender.is_some() {
+        return Ok(false);
     }
+    write_orphan_words(sheet, &orphan_row(place, kind, message));
+    write_contents(mem, sheet, place)?;
+    Ok(true)
 }
 
 /// Appends the number of pages, and the pages in order of their homes.

@@ -7,7 +7,7 @@ use Rattle.xk_base.specs.declared.ids.Serial.{Serial}
 use Rattle.xk_kernel.specs.Saving.SavedRows.{flag}
 use Rattle.xk_kernel.proofs.Saving.ProcessLemmas.{connections_room, front_room, process_appended, serial_row}
 use Rattle.xk_kernel.proofs.Saving.SheetLemmas.{written_more, written_none}
-use Rattle.xk_kernel.proofs.Saving.TableLemmas.{connection_at}
+use Rattle.xk_kernel.proofs.Saving.TableLemmas.{byte_is, connection_at}
 use Rattle.xk_kernel.proofs.kernel.saving.processes.write_process.Goals as goal
 
 pub push_words-requires : goal.push_words-requires
@@ -35,4 +35,4 @@ returns c =
     let many = c.connection_count-many.ensures in
     let few = c.requires.few in
     process_appended (processes_of c.args.procs.now c.args.pid.0) c.args.sheet.now c.push_words.new.self c.loop-k.sheet _ _ c.connection_count-many.result c.loop-k.k
-    (c.from.ensures ∙ ap flag c.alive.ensures) c.heap.ensures c.connection_count-many.ensures c.push_words.ensures c.loop-k.invariant (omega arith) (omega arith)
+    (c.from.ensures ∙ byte_is c.alive.result ∙ ap flag c.alive.ensures) c.heap.ensures c.connection_count-many.ensures c.push_words.ensures c.loop-k.invariant (omega arith) (omega arith)
