@@ -303,3 +303,27 @@ pub told_by : (procs now : ℕ) (l m : Ledger) (from at : Place) (bytes : List �
     → contents_reached now m at Load ≡ Some (Bytes bytes) → contents_reached procs l from Load ≡ Some (Bytes bytes)
 told_by procs now l m from at bytes same ledgers place told =
     sym (λ i. contents_reached (same i) (ledgers i) (place i) Load) ∙ told
+
+-- ---- a place that a page is lent to
+
+none_of : {A : Type 0} (o : Option A) → is_some o ≡ false → o ≡ None
+none_of None e = refl
+none_of (Some x) e = absurd (false≢true (sym e))
+
+lender_of_lent : (kind other : LoanKind) (lender from : Option Place) (number message : Number) → Lent kind lender number ≡ Lent other from message → lender ≡ from
+lender_of_lent kind other lender from number message e = cc
+
+-- a lender stands there
+pub lent_by : (here : Here) (kind : LoanKind) (lender : Option Place) (number : Number) → here ≡ Lent kind lender number → is_some lender ≡ true
+    → (other : LoanKind) (message : Number) → here ≡ Lent other None message → ⊥
+lent_by here kind lender number e some other message q =
+    false≢true (sym (ap is_some (lender_of_lent kind other lender None number message (sym e ∙ q))) ∙ some)
+
+-- .. or none
+pub lent_alone : (here : Here) (kind : LoanKind) (lender : Option Place) (number : Number) → here ≡ Lent kind lender number → is_some lender ≡ false
+    → here ≡ Lent kind None number
+lent_alone here kind lender number e none = e ∙ ap (λ (o : Option Place). Lent kind o number) (none_of lender none)
+
+pub told_at : (procs now : ℕ) (l m : Ledger) (at : Place) (bytes : List ℕ) → now ≡ procs → m ≡ l
+    → contents_reached now m at Load ≡ Some (Bytes bytes) → contents_reached procs l at Load ≡ Some (Bytes bytes)
+told_at procs now l m at bytes same ledgers told = told_by procs now l m at at bytes same ledgers refl told

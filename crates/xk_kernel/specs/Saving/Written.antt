@@ -1,6 +1,7 @@
 -- What a save leaves: in the sheet, and of the memory whose pages it brings in.
 use Rattle.std.specs.Prelude.{◌≡◌, ℕ, ◌+◌, ◌*◌, ◌<◌, ◌≤◌, ◌^◌, Bool, true, List, [], ◌∷◌, ◌++◌, length, map, Option, is_some}
 use Rattle.std.specs.List.{flat_map}
+use Rattle.ledger_model.specs.Ledger.{Ledger}
 use Rattle.ledger_model.specs.Loans.{bare}
 use Rattle.machine_model.specs.State.Machine.{Machine, Reservation}
 use Rattle.suspend_image.specs.Sheets.{SheetBytes, appended}
@@ -50,14 +51,14 @@ pub record BringsPages {W P : Type 0} (is_honest : W → Bool) (held : W → Hel
 
 -- ---- the whole
 
--- The pages and orphans of the machine were written, with their own words, and bytes which are their own where bytes are known.
-pub record WritesPages (known : Type 0) (m : Machine) (old new : SheetBytes) : Type 0 where
+-- The pages and orphans of a ledger were written, with their own words, and bytes which are their own where bytes are known.
+pub record WritesPages (known : Type 0) (procs : ℕ) (pages : Ledger) (old new : SheetBytes) : Type 0 where
   pub homes : List PageText
   pub orphans : List PageText
-  pub homes_alike : map text_words homes ≡ map text_words (home_texts m.processes m.ledger)
-  pub orphans_alike : map text_words orphans ≡ map text_words (orphan_texts m.processes m.ledger)
-  pub homes_told : known → homes ≡ home_texts m.processes m.ledger
-  pub orphans_told : known → orphans ≡ orphan_texts m.processes m.ledger
+  pub homes_alike : map text_words homes ≡ map text_words (home_texts procs pages)
+  pub orphans_alike : map text_words orphans ≡ map text_words (orphan_texts procs pages)
+  pub homes_told : known → homes ≡ home_texts procs pages
+  pub orphans_told : known → orphans ≡ orphan_texts procs pages
   pub is : new ≡ appended (rows_bytes text_bytes homes ++ rows_bytes text_bytes orphans) old
   pub few : length new.bytes < 2 ^ 32
 

@@ -99,7 +99,7 @@ impl<W: SwapStore> Kernel<W> {
         ensures usable { OnOk result (IsUsable self.new) }
         ensures failed { OnErr result (has_failed self.new.mem ≡ true) }
         ensures cause { OnErr result (Rose (W.faults (store_of self.old.mem)) (W.faults (store_of self.new.mem))) }
-        ensures pages { OnOk result (WritesPages (MeansBytes W.is_honest W.held self.old.mem) (machine_of W.held self.new) sheet.old sheet.new) }
+        ensures pages { OnOk result (WritesPages (MeansBytes W.is_honest W.held self.old.mem) (processes self.new.mem) (ledger W.held self.new.mem) sheet.old sheet.new) }
         ensures room { sheet.new.room ≡ sheet.old.room }
     {
         let procs = self.processes();
