@@ -35,7 +35,8 @@ use xk_ports::SwapStore;
 
 // The words of a reservation: whether there is one, its thread, and the address.
 fn reserved_words(reserved: Option<(ThreadId, u32)>) -> [u32; 4]
-    ensures { result ≡ reserved_numbers (option_map as_reservation reserved) }
+    ensures are { result ≡ reserved_numbers (option_map as_reservation reserved) }
+    ensures four { length result ≡ 4 }
 {
     match reserved {
         Some((who, address)) => [1, u32::from(who.pid.0), u32::from(who.tid.0), address],
