@@ -9,6 +9,7 @@ pub mod PagesPartLemmas
 pub mod PartLemmas
 pub mod ProcessLemmas
 pub mod RowsBelowLemmas
+pub mod SavingLemmas
 pub mod ServerLoopLemmas
 pub mod SheetLemmas
 pub mod SizeLemmas

@@ -28,9 +28,9 @@ pub messages_appended : (xs : List Held) (k n : ℕ) (old sheet : SheetBytes) �
     → Appends old sheet (flat_map message_bytes (map message_row (map message_of xs))) (44 * n)
 messages_appended xs k n old sheet written end all =
     let rows : rows_below k (held_row xs) ≡ map message_row (map message_of xs) =
-        ap (λ j. rows_below j (held_row xs)) (end ∙ all) ∙ rows_of_all (λ (h : Held). message_row (message_of h)) xs ∙ map_twice xs in
+    ap (λ j. rows_below j (held_row xs)) (end ∙ all) ∙ rows_of_all (λ (h : Held). message_row (message_of h)) xs ∙ map_twice xs in
     let same : flat_map message_bytes (rows_below k (held_row xs)) ≡ flat_map message_bytes (map message_row (map message_of xs)) =
-        ap (λ (rs : List MessageRow). flat_map message_bytes rs) rows in
+    ap (λ (rs : List MessageRow). flat_map message_bytes rs) rows in
     let size = ap (λ (bs : List ℕ). length bs) same in
     let few = written.few in
     record {
@@ -52,14 +52,14 @@ server_appended row old one two three new sid serial pid queued held is_sid four
     let q = flat_map message_bytes row.queued in
     let h = flat_map message_bytes row.held in
     let middle : word_bytes (serial ∷ pid ∷ queued ∷ held ∷ []) ≡ server_middle row =
-        λ i. word_bytes (is_serial i ∷ is_pid i ∷ is_queued i ∷ is_held i ∷ []) in
+    λ i. word_bytes (is_serial i ∷ is_pid i ∷ is_queued i ∷ is_held i ∷ []) in
     let first : Appends old one (word_bytes sid) 16 = words_appended old one sid 4 a four in
     let second : Appends one two (word_bytes (serial ∷ pid ∷ queued ∷ held ∷ [])) 16 = words_appended one two (serial ∷ pid ∷ queued ∷ held ∷ []) 4 b refl in
     let messages : Appends two new (q ++ h) (44 * queued + 44 * held) = appends_both two three new q h (44 * queued) (44 * held) c d in
     let back = appends_both one two new (word_bytes (serial ∷ pid ∷ queued ∷ held ∷ [])) (q ++ h) 16 (44 * queued + 44 * held) second messages in
     let whole = appends_both old one new (word_bytes sid) (word_bytes (serial ∷ pid ∷ queued ∷ held ∷ []) ++ (q ++ h)) 16 (16 + (44 * queued + 44 * held)) first back in
     let text : word_bytes sid ++ (word_bytes (serial ∷ pid ∷ queued ∷ held ∷ []) ++ (q ++ h)) ≡ server_bytes row =
-        (λ i. word_bytes (is_sid i) ++ (middle i ++ (q ++ h))) ∙ sym (server_in_four row) in
+    (λ i. word_bytes (is_sid i) ++ (middle i ++ (q ++ h))) ∙ sym (server_in_four row) in
     let size = ap (λ (bs : List ℕ). length bs) text in
     let most = whole.few in
     record {
@@ -82,9 +82,9 @@ pub record SeatRoom (old : SheetBytes) (words : List ℕ) : Type 0 where
 pub seat_room : (old : SheetBytes) (sid : List ℕ) → length sid ≡ 4 → Fits old 5664 → SeatRoom old sid
 seat_room old sid four fits =
     let first : (one : SheetBytes) → one ≡ appended (word_bytes sid) old → Fits one 5648 =
-        λ one is. fits_behind old one (word_bytes sid) 16 5648 (words_appended old one sid 4 is four) fits in
+    λ one is. fits_behind old one (word_bytes sid) 16 5648 (words_appended old one sid 4 is four) fits in
     let second : (one two : SheetBytes) (a b c d : ℕ) → one ≡ appended (word_bytes sid) old → two ≡ appended (word_bytes (a ∷ b ∷ c ∷ d ∷ [])) one → Fits two 5632 =
-        λ one two a b c d is so. fits_behind one two (word_bytes (a ∷ b ∷ c ∷ d ∷ [])) 16 5632 (words_appended one two (a ∷ b ∷ c ∷ d ∷ []) 4 so refl) (first one is) in
+    λ one two a b c d is so. fits_behind one two (word_bytes (a ∷ b ∷ c ∷ d ∷ [])) 16 5632 (words_appended one two (a ∷ b ∷ c ∷ d ∷ []) 4 so refl) (first one is) in
     record {
       sid = has_room old 5664 (word_bytes sid) fits (let size = length-word_bytes sid in omega arith);
       middle = λ one a b c d is. has_room one 5648 (word_bytes (a ∷ b ∷ c ∷ d ∷ [])) (first one is) (let size = length-word_bytes (a ∷ b ∷ c ∷ d ∷ []) in omega arith);

@@ -65,7 +65,6 @@ homes_few n capacity l lawful = go (first_place n (λ p. uncounted (l.home p))) 
         ]) in
         omega (arith, one)
 
-
 homes_many : (n : ℕ) (l : Ledger) → length (home_texts n l) ≡ count_places n (λ p. is_some (l.home p))
 unfolding count_places
 homes_many n l =

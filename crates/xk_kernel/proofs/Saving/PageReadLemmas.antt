@@ -90,7 +90,7 @@ module _ (l : Ledger) (p : Place) (r : Right) (console : Bool) (info : Option Lo
   pub seen_words : page_words (page_row 0 p (seen_page r console info)) ≡ page_words (page_row 0 p seen.page)
   seen_words =
       let right : right_number r (if console then Console else Bytes []) ≡ right_number seen.page.right seen.page.contents =
-          (λ i. right_number (sym seen.right i) (if sym seen.whether i then Console else Bytes [])) ∙ right_back seen.page.right seen.page.contents in
+      (λ i. right_number (sym seen.right i) (if sym seen.whether i then Console else Bytes [])) ∙ right_back seen.page.right seen.page.contents in
       (λ i. page_words (record (page_row 0 p (record (seen_page r console info) { loan = seen_loan i })) { right = right i }))
 
   -- ---- where it is read
@@ -143,7 +143,7 @@ module _ (l : Ledger) (p : Place) (r : Right) (console : Bool) (info : Option Lo
         let both = length-append (page_words (page_row 0 p seen.page)) [] in
         let none = no_bytes seen.page.contents (seen.whether ∙ e) in
         let whole : home_text p seen.page ≡ record { words = page_words (page_row 0 p seen.page); contents = [] } =
-            ap (λ (bytes : List ℕ). record { words = page_words (page_row 0 p seen.page); contents = bytes }) none in
+        ap (λ (bytes : List ℕ). record { words = page_words (page_row 0 p seen.page); contents = bytes }) none in
         record {
           there = ap is_some (sym text);
           written = Some (record { words = page_words (page_row 0 p seen.page); contents = [] });
@@ -250,9 +250,9 @@ module _ (l : Ledger) (p : Place) (kind : LoanKind) (number : Number) (seen : Is
       → new ≡ appended bytes mid → length bytes ≡ 4096 → (known → Some (Bytes seen.orphan.bytes) ≡ Some (Bytes bytes)) → AppendsText known old new (orphan_at l k) true
   orphan_written k same old mid new bytes first second many own =
       let text : orphan_at l k ≡ Some (orphan_text p seen.orphan) =
-          (λ i. option_map (orphan_text (sym same i)) (l.orphan (sym same i))) ∙ ap (option_map (orphan_text p)) seen.there in
+      (λ i. option_map (orphan_text (sym same i)) (l.orphan (sym same i))) ∙ ap (option_map (orphan_text p)) seen.there in
       let words : orphan_words (orphan_row 0 p (record { kind = kind; bytes = []; number = number })) ≡ orphan_words (orphan_row 0 p seen.orphan) =
-          λ i. orphan_words (orphan_row 0 p (record { kind = sym seen.same_kind i; bytes = []; number = sym seen.same_number i })) in
+      λ i. orphan_words (orphan_row 0 p (record { kind = sym seen.same_kind i; bytes = []; number = sym seen.same_number i })) in
       let size = length-orphan (orphan_row 0 p seen.orphan) in
       let both = length-append (orphan_words (orphan_row 0 p seen.orphan)) bytes in
       record {

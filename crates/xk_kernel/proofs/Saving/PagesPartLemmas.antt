@@ -1,5 +1,6 @@
 -- The pages and then the orphans of a memory are written.
 use Rattle.std.proofs.Common.{◌≡◌, ℕ, ◌+◌, ◌*◌, ◌≤◌, ◌<◌, ◌^◌, Bool, List, ◌++◌, map, length, refl, sym, ap, subst, ◌∙◌, arith}
+use Rattle.std.specs.Prelude.{Err, Ok, OnErr, OnOk, Result}
 use Rattle.std.proofs.lemmas.List.{length-append, length-map}
 use Rattle.ledger_model.specs.Lawful.{IsLawful}
 use Rattle.ledger_model.specs.Ledger.{Ledger}
@@ -76,3 +77,11 @@ module _ {W P : Type 0} (is_honest : W → Bool) (held : W → Held) (slot_count
             ∙ both_appended s (rows_bytes text_bytes homes.written) (rows_bytes text_bytes orphans.written);
         few = omega arith;
       })
+
+pub on_ok_to : {T E : Type 0} (r : Result T E) (P Q : Type 0) → (P → Q) → OnOk r P → OnOk r Q
+on_ok_to (Ok x) P Q f h = f h
+on_ok_to (Err e) P Q f h = tt
+
+pub on_err_to : {T E : Type 0} (r : Result T E) (P Q : Type 0) → (P → Q) → OnErr r P → OnErr r Q
+on_err_to (Ok x) P Q f h = tt
+on_err_to (Err e) P Q f h = f h

@@ -28,7 +28,7 @@ pub reserved_room : (old sheet : SheetBytes) (a b c d e f g h i : ℕ) (words : 
     → length words ≡ 4 → HasRoom sheet (word_bytes words)
 reserved_room old sheet a b c d e f g h i words fits is four =
     let left : Fits sheet 16 = fits_behind old sheet (word_bytes (a ∷ b ∷ c ∷ d ∷ e ∷ f ∷ g ∷ h ∷ i ∷ [])) 36 16
-        (record { is = is; few = let size = length-word_bytes (a ∷ b ∷ c ∷ d ∷ e ∷ f ∷ g ∷ h ∷ i ∷ []) in omega arith }) fits in
+    (record { is = is; few = let size = length-word_bytes (a ∷ b ∷ c ∷ d ∷ e ∷ f ∷ g ∷ h ∷ i ∷ []) in omega arith }) fits in
     has_room sheet 16 (word_bytes words) left (let size = length-word_bytes words in omega arith)
 
 pub numbers_appended : (m : Machine) (old mid new : SheetBytes) (cap n steps pid tid number serial armed compare : ℕ) (words : List ℕ)
@@ -40,8 +40,8 @@ unfolding machine_bytes
 numbers_appended m old mid new cap n steps pid tid number serial armed compare words a b c d e f g h i r first second =
     let front : List ℕ = cap ∷ n ∷ steps ∷ pid ∷ tid ∷ number ∷ serial ∷ armed ∷ compare ∷ [] in
     let text : word_bytes front ++ word_bytes words ≡ machine_bytes (machine_row m) =
-        sym (word_bytes-append front words)
-        ∙ λ j. word_bytes (a j ∷ b j ∷ c j ∷ d j ∷ e j ∷ f j ∷ g j ∷ h j ∷ i j ∷ r j) in
+    sym (word_bytes-append front words)
+    ∙ λ j. word_bytes (a j ∷ b j ∷ c j ∷ d j ∷ e j ∷ f j ∷ g j ∷ h j ∷ i j ∷ r j) in
     let size = length-machine (machine_row m) in
     record {
       is = second ∙ ap (λ (s : SheetBytes). appended (word_bytes words) s) first ∙ both_appended old (word_bytes front) (word_bytes words)
@@ -78,12 +78,12 @@ front_room m a fits =
     let n = m.processes in
     let whole : Fits a (52 + (140 * n + (4464 * n + 363152))) = fits_less a (363208 + 4604 * n) (52 + (140 * n + (4464 * n + 363152))) fits (omega arith) in
     let second : (b : SheetBytes) → Appends a b (machine_bytes (machine_row m)) 52 → Fits b (140 * n + (4464 * n + 363152)) =
-        λ b x. fits_behind a b (machine_bytes (machine_row m)) 52 (140 * n + (4464 * n + 363152)) x whole in
+    λ b x. fits_behind a b (machine_bytes (machine_row m)) 52 (140 * n + (4464 * n + 363152)) x whole in
     let third : (b c : SheetBytes) → Appends a b (machine_bytes (machine_row m)) 52 → Appends b c (procs_part m) (140 * n) → Fits c (4464 * n + 363152) =
-        λ b c x y. fits_behind b c (procs_part m) (140 * n) (4464 * n + 363152) y (second b x) in
+    λ b c x y. fits_behind b c (procs_part m) (140 * n) (4464 * n + 363152) y (second b x) in
     let fourth : (b c d : SheetBytes) → Appends a b (machine_bytes (machine_row m)) 52 → Appends b c (procs_part m) (140 * n)
-        → Appends c d (threads_part m) (4 + 144 * thread_ids n) → Fits d 363148 =
-        λ b c d x y z. fits_behind c d (threads_part m) (4 + 144 * thread_ids n) 363148 z (fits_less c (4464 * n + 363152) ((4 + 144 * thread_ids n) + 363148) (third b c x y) (omega arith)) in
+    → Appends c d (threads_part m) (4 + 144 * thread_ids n) → Fits d 363148 =
+    λ b c d x y z. fits_behind c d (threads_part m) (4 + 144 * thread_ids n) 363148 z (fits_less c (4464 * n + 363152) ((4 + 144 * thread_ids n) + 363148) (third b c x y) (omega arith)) in
     record {
       numbers = fits_less a (52 + (140 * n + (4464 * n + 363152))) 52 whole (omega arith);
       procs = second;
@@ -102,9 +102,9 @@ front_appended m a b c d e f x y z v w =
     let back3 = appends_both c d f (threads_part m) (servers_part m ++ claims_part m) (4 + 144 * thread_ids n) (362500 + 644) z back4 in
     let back2 = appends_both b c f (procs_part m) (threads_part m ++ (servers_part m ++ claims_part m)) (140 * n) ((4 + 144 * thread_ids n) + (362500 + 644)) y back3 in
     let whole = appends_both a b f (machine_bytes (machine_row m)) (procs_part m ++ (threads_part m ++ (servers_part m ++ claims_part m))) 52
-        (140 * n + ((4 + 144 * thread_ids n) + (362500 + 644))) x back2 in
+    (140 * n + ((4 + 144 * thread_ids n) + (362500 + 644))) x back2 in
     let text : machine_bytes (machine_row m) ++ (procs_part m ++ (threads_part m ++ (servers_part m ++ claims_part m))) ≡ front_parts m =
-        λ i. machine_bytes (machine_row m) ++ (procs_spelled m i ++ (threads_spelled m i ++ (servers_spelled m i ++ claims_spelled m i))) in
+    λ i. machine_bytes (machine_row m) ++ (procs_spelled m i ++ (threads_spelled m i ++ (servers_spelled m i ++ claims_spelled m i))) in
     let size = ap (λ (bytes : List ℕ). length bytes) text in
     let most = whole.few in
     record {

@@ -31,7 +31,7 @@ module _ (t : Servers) (q : List Seat) where
   rows_few few n =
       let count = length-rows row n in
       let same : count_below n (λ k. is_some (row k)) ≡ count_below n (λ k. is_some (servers_shown t q k)) =
-          count_below-same n (λ k. is_some (row k)) (λ k. is_some (servers_shown t q k)) (λ k low. is_some-map (server_row k) (servers_shown t q k)) in
+      count_below-same n (λ k. is_some (row k)) (λ k. is_some (servers_shown t q k)) (λ k low. is_some-map (server_row k) (servers_shown t q k)) in
       let most = few n in
       omega arith
 

@@ -77,7 +77,7 @@ module _ {A : Type 0} (spell : A → List ℕ) (most : ℕ) (row : ℕ → Optio
   written_more k start sheet new many x written e is small =
       let rows = rows_below k row in
       let text : flat_map spell (rows_below (k + 1) row) ≡ flat_map spell rows ++ spell x =
-          ap (λ (xs : List A). flat_map spell xs) (rows-more row k x e) ∙ flat_map-append spell rows (x ∷ []) ∙ ap (λ (bs : List ℕ). flat_map spell rows ++ bs) (append-nil (spell x)) in
+      ap (λ (xs : List A). flat_map spell xs) (rows-more row k x e) ∙ flat_map-append spell rows (x ∷ []) ∙ ap (λ (bs : List ℕ). flat_map spell rows ++ bs) (append-nil (spell x)) in
       let size = ap (λ (bs : List ℕ). length bs) text in
       let both = length-append (flat_map spell rows) (spell x) in
       let count = length-more row k x e in
@@ -143,10 +143,10 @@ unfolding rows_bytes
 numbered spell rows old sheet many count is =
     let text = flat_map spell rows in
     let set : with_word (length old.bytes) many sheet.bytes ≡ old.bytes ++ (word many ++ text) =
-        ap (λ (s : SheetBytes). with_word (length old.bytes) many s.bytes) is ∙ word_set old.bytes text 0 many in
+    ap (λ (s : SheetBytes). with_word (length old.bytes) many s.bytes) is ∙ word_set old.bytes text 0 many in
     let number : word many ≡ word_bytes (length rows ∷ []) = ap word count ∙ sym (number_bytes (length rows)) in
     let bytes : with_word (length old.bytes) many sheet.bytes ≡ old.bytes ++ (word_bytes (length rows ∷ []) ++ text) =
-        set ∙ ap (λ (xs : List ℕ). old.bytes ++ (xs ++ text)) number in
+    set ∙ ap (λ (xs : List ℕ). old.bytes ++ (xs ++ text)) number in
     let wide : sheet.room ≡ old.room = ap (λ (s : SheetBytes). s.room) is in
     λ i. record { bytes = bytes i; room = wide i }
 

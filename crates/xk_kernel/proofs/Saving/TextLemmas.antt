@@ -124,14 +124,14 @@ texts_next known here row now k start sheet new many there texts text alike know
     let is_there : there ≡ is_some (row k) = text.there ∙ sym (is_some-words (now k)) ∙ ap is_some alike ∙ is_some-words (row k) in
     let flag : (if there then 1 else 0) ≡ length (listed (row k)) = ap (λ (b : Bool). if b then 1 else 0) is_there ∙ sym one in
     let bytes : flat_map text_bytes (old ++ listed text.written) ≡ flat_map text_bytes old ++ text_if text.written =
-        flat_map-append text_bytes old (listed text.written) ∙ ap (λ (bs : List ℕ). flat_map text_bytes old ++ bs) (bytes_listed text.written) in
+    flat_map-append text_bytes old (listed text.written) ∙ ap (λ (bs : List ℕ). flat_map text_bytes old ++ bs) (bytes_listed text.written) in
     let told_many = texts.count in
     let low = texts.below in
     let at_most = small there in
     let size = ap (λ (bs : List ℕ). length bs) bytes ∙ length-append (flat_map text_bytes old) (text_if text.written) in
     let so_far = texts.few in
     let written_there : is_some text.written ≡ there =
-        sym (is_some-words text.written) ∙ ap is_some text.alike ∙ is_some-words (now k) ∙ sym text.there in
+    sym (is_some-words text.written) ∙ ap is_some text.alike ∙ is_some-words (now k) ∙ sym text.there in
     let more = text_few text.written there written_there text.few in
     record {
       written = old ++ listed text.written;
@@ -139,7 +139,7 @@ texts_next known here row now k start sheet new many there texts text alike know
       alike = map-append text_words old (listed text.written)
           ∙ ap (λ (xs : List (List ℕ)). xs ++ map text_words (listed text.written)) texts.alike
           ∙ ap (λ (xs : List (List ℕ)). map text_words (rows_below k row) ++ xs)
-            (words_listed text.written ∙ ap listed (text.alike ∙ alike) ∙ sym (words_listed (row k)))
+          (words_listed text.written ∙ ap listed (text.alike ∙ alike) ∙ sym (words_listed (row k)))
           ∙ sym (map-append text_words (rows_below k row) (listed (row k)))
           ∙ ap (λ (xs : List PageText). map text_words xs) (sym next);
       told = λ is_known. ap (λ (xs : List PageText). xs ++ listed text.written) (texts.told is_known)
@@ -183,7 +183,7 @@ texts_all : (known : Type 0) (row : ℕ → Option PageText) (n : ℕ) (old shee
 texts_all known row n old sheet new many texts is =
     let written = texts.written in
     let same : length written ≡ length (rows_below n row) =
-        sym (length-map written text_words) ∙ ap (λ (xs : List (List ℕ)). length xs) texts.alike ∙ length-map (rows_below n row) text_words in
+    sym (length-map written text_words) ∙ ap (λ (xs : List (List ℕ)). length xs) texts.alike ∙ length-map (rows_below n row) text_words in
     let size = length-numbered text_bytes written in
     let few = texts.few in
     let told = texts.count in

@@ -50,7 +50,7 @@ impl<W: SwapStore> Kernel<W> {
         requires whole { IsWhole W.slot_count W.held self.now }
         ensures { result ≡ processes self.now.mem }
     {
-        0
+        self.procs.procs()
     }
 
     // Appends the numbers of the whole machine.

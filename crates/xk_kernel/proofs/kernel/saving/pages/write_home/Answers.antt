@@ -34,7 +34,7 @@ write_contents-requires-clause-may g c =
     let l : Ledger = ledger g.W.SwapStore.held c.args.mem.now in
     ap (λ (at : Place). reaches_bytes (processes c.args.mem.now) l at Load) c.reading_place.ensures
     ∙ seen_may l c.place_at-home.result c.in-Own.right c.in-Own.console c.in-Own.loan (home_seen (processes c.args.mem.now) (ledger g.W.SwapStore.held c.args.mem.now) c.place_at-home.result c.in-Own.right c.in-Own.console c.in-Own.loan (sym c.at.ensures ∙ c.in-Own.is))
-      (processes c.args.mem.now) (capacity_of c.args.mem.now) (sound_lawful g.W.SwapStore.slot_count g.W.SwapStore.held c.args.mem.now c.requires.sound) c.if-not-console.true
+    (processes c.args.mem.now) (capacity_of c.args.mem.now) (sound_lawful g.W.SwapStore.slot_count g.W.SwapStore.held c.args.mem.now c.requires.sound) c.if-not-console.true
 
 pub write_contents-requires-clause-room : goal.write_contents-requires-clause-room
 write_contents-requires-clause-room g c = page_room c.args.sheet.now c.write_page_words.new.sheet c.page_row.result c.requires.room c.write_page_words.ensures
@@ -49,10 +49,10 @@ returns-in_ok-write_contents-clause-text g c =
     (c.write_page_words.ensures ∙ ap (λ (row : PageRow). appended (page_words row) c.args.sheet.now) c.page_row.ensures)
     wrote.bytes.is wrote.bytes.size
     (λ means. sym (seen_reached l c.place_at-home.result c.in-Own.right c.in-Own.console c.in-Own.loan seen (processes c.args.mem.now) (capacity_of c.args.mem.now)
-      (sound_lawful g.W.SwapStore.slot_count g.W.SwapStore.held c.args.mem.now c.requires.sound))
+    (sound_lawful g.W.SwapStore.slot_count g.W.SwapStore.held c.args.mem.now c.requires.sound))
     ∙ told_by (processes c.args.mem.now) (processes c.write_contents.new.mem) l (ledger g.W.SwapStore.held c.write_contents.new.mem) _ c.reading_place.result _
-      (brings_procs g.W.SwapStore.is_honest g.W.SwapStore.held g.W.SwapStore.slot_count g.W.SwapStore.asked g.W.SwapStore.faults c.args.mem.now c.write_contents.new.mem wrote.brings)
-      (wrote.brings.whole means) c.reading_place.ensures wrote.bytes.page)
+    (brings_procs g.W.SwapStore.is_honest g.W.SwapStore.held g.W.SwapStore.slot_count g.W.SwapStore.asked g.W.SwapStore.faults c.args.mem.now c.write_contents.new.mem wrote.brings)
+    (wrote.brings.whole means) c.reading_place.ensures wrote.bytes.page)
 
 pub returns-else-not-console-clause-text : goal.returns-else-not-console-clause-text
 returns-else-not-console-clause-text g c =

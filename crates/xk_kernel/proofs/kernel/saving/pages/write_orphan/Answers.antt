@@ -54,7 +54,7 @@ returns-clause-text g c =
     (c.write_orphan_words.ensures ∙ ap (λ (row : OrphanRow). appended (orphan_words row) c.args.sheet.now) c.orphan_row.ensures)
     wrote.bytes.is wrote.bytes.size
     (λ means. sym (orphan_reached l c.place_at-place.result c.in-Lent.kind c.in-Lent.message seen (processes c.args.mem.now) (capacity_of c.args.mem.now)
-      (sound_lawful g.W.SwapStore.slot_count g.W.SwapStore.held c.args.mem.now c.requires.sound))
+    (sound_lawful g.W.SwapStore.slot_count g.W.SwapStore.held c.args.mem.now c.requires.sound))
     ∙ told_at (processes c.args.mem.now) (processes c.write_contents.new.mem) l (ledger g.W.SwapStore.held c.write_contents.new.mem) c.place_at-place.result _
-      (brings_procs g.W.SwapStore.is_honest g.W.SwapStore.held g.W.SwapStore.slot_count g.W.SwapStore.asked g.W.SwapStore.faults c.args.mem.now c.write_contents.new.mem wrote.brings)
-      (wrote.brings.whole means) wrote.bytes.page)
+    (brings_procs g.W.SwapStore.is_honest g.W.SwapStore.held g.W.SwapStore.slot_count g.W.SwapStore.asked g.W.SwapStore.faults c.args.mem.now c.write_contents.new.mem wrote.brings)
+    (wrote.brings.whole means) wrote.bytes.page)
