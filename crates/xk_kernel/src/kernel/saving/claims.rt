@@ -29,7 +29,8 @@ fn claim_row(number: u8, claim: &Claim) -> ClaimRow
 /// Appends the number of claims, and the claims in order of their numbers.
 pub(super) fn write_claims(sheet: &mut Sheet, claims: &Claims)
     requires { Fits sheet.old 644 }
-    ensures { Appends sheet.old sheet.new (rows_bytes claim_bytes (rows_below INTERRUPT_LIMIT (claim_at (pending_shown claims.now) (claims_shown claims.now)))) 644 }
+    ensures { let rows = rows_below INTERRUPT_LIMIT (claim_at (pending_shown claims.now) (claims_shown claims.now)) in
+        Appends sheet.old sheet.new (rows_bytes claim_bytes rows) 644 }
 {
     let at = sheet.as_slice().len() as u32;
     sheet.push_word(0);

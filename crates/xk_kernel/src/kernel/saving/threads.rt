@@ -74,7 +74,8 @@ fn thread_row(id: ThreadId, thread: &Thread) -> ThreadRow
 pub(super) fn write_threads(sheet: &mut Sheet, threads: &Threads, procs: u32)
     requires many { procs ≤ PROCESS_LIMIT }
     requires room { Fits sheet.old (4 + 144 * thread_ids procs) }
-    ensures { Appends sheet.old sheet.new (rows_bytes thread_bytes (rows_below (thread_ids procs) (thread_at (threads_shown threads.now)))) (4 + 144 * thread_ids procs) }
+    ensures { let rows = rows_below (thread_ids procs) (thread_at (threads_shown threads.now)) in
+        Appends sheet.old sheet.new (rows_bytes thread_bytes rows) (4 + 144 * thread_ids procs) }
 {
     let at = sheet.as_slice().len() as u32;
     sheet.push_word(0);
