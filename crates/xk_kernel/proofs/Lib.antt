@@ -7,4 +7,5 @@ pub mod Messaging
 pub mod Quieting
 pub mod Ringing
 pub mod Running
+pub mod Saving
 pub mod Starting

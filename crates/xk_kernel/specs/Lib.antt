@@ -7,6 +7,7 @@ pub mod Calling
 pub mod Quiet
 pub mod Ringing
 pub mod Running
+pub mod Saving
 pub mod Sound
 pub mod Start
 pub mod State

@@ -12,6 +12,7 @@ mod quiet;
 mod readers;
 mod ringing;
 mod running;
+mod saving;
 mod server_calls;
 mod stepping;
 #[cfg(test)]

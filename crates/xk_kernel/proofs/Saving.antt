@@ -1,0 +1,17 @@
+pub mod BringsLemmas
+pub mod EntryLemmas
+pub mod FrontLemmas
+pub mod MessageLemmas
+pub mod NextServerLemmas
+pub mod PageCountLemmas
+pub mod PageReadLemmas
+pub mod PagesPartLemmas
+pub mod PartLemmas
+pub mod ProcessLemmas
+pub mod RowsBelowLemmas
+pub mod SavingLemmas
+pub mod ServerLoopLemmas
+pub mod SheetLemmas
+pub mod SizeLemmas
+pub mod TableLemmas
+pub mod TextLemmas
