@@ -4,6 +4,7 @@ pub mod Interleaving
 pub mod Knowing
 pub mod Acting
 pub mod Calling
+pub mod Resuming
 pub mod Ringing
 pub mod Running
 pub mod Sound

@@ -9,6 +9,7 @@ mod interrupts;
 mod memory_calls;
 mod message_calls;
 mod readers;
+mod resuming;
 mod ringing;
 mod running;
 mod server_calls;

@@ -1,0 +1,10 @@
+pub mod ClaimRowLemmas
+pub mod FillingLemmas
+pub mod FrameLemmas
+pub mod OrphanLemmas
+pub mod PageRowLemmas
+pub mod ProcessRowLemmas
+pub mod RowLemmas
+pub mod ServerRowLemmas
+pub mod SizeLemmas
+pub mod ThreadRowLemmas

@@ -1,0 +1,8 @@
+//! A kernel is built again from a state.
+
+mod claims;
+mod messages;
+mod processes;
+mod servers;
+mod sizes;
+mod threads;
