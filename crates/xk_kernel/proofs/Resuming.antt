@@ -1,10 +1,13 @@
 pub mod ClaimRowLemmas
+pub mod ComingLemmas
 pub mod FillingLemmas
 pub mod FrameLemmas
+pub mod LendLemmas
 pub mod OrphanLemmas
 pub mod PageRowLemmas
 pub mod ProcessRowLemmas
 pub mod RowLemmas
 pub mod ServerRowLemmas
 pub mod SizeLemmas
+pub mod StandingLemmas
 pub mod ThreadRowLemmas
