@@ -5,7 +5,9 @@ pub mod FrameLemmas
 pub mod LendLemmas
 pub mod OrphanLemmas
 pub mod PageRowLemmas
+pub mod PagesBackLemmas
 pub mod ProcessRowLemmas
+pub mod PuttingLemmas
 pub mod RowLemmas
 pub mod ServerRowLemmas
 pub mod SizeLemmas

@@ -1,5 +1,5 @@
 -- Pages that were made for orphans are filled one after the other.
-use Rattle.std.proofs.Common.{◌≡◌, ℕ, ◌+◌, ◌-◌, ◌≤◌, ◌<◌, Bool, true, false, ◌&&◌, List, length, Option, Some, None, refl, sym, ap, subst, ◌∙◌, arith, inl, inr}
+use Rattle.std.proofs.Common.{◌≡◌, ℕ, ◌+◌, ◌-◌, ◌<◌, Bool, true, false, ◌&&◌, List, length, Some, None, refl, sym, ap, ◌∙◌, arith, inl, inr}
 use Rattle.std.specs.Prelude.{◌==◌, ◌||◌, nat_le, nat_lt, if◌then◌else◌}
 use Rattle.std.specs.Option.{option_map}
 use Rattle.std.proofs.lemmas.Bool.{cases_Bool}
@@ -72,8 +72,8 @@ next_filled whole from n to i l orphan bytes low there same long =
     here = grind (arith, nat_tests)
 
     homes : (p : Place) → (if same_place p (place_after from i)
-            then option_map (written_page 0 bytes) (if in_run from i p then option_map page_of_orphan (whole.orphan (moved from to p)) else (if in_run from n p then Some (new_page filling_right (Bytes zero_page)) else l.home p))
-            else (if in_run from i p then option_map page_of_orphan (whole.orphan (moved from to p)) else (if in_run from n p then Some (new_page filling_right (Bytes zero_page)) else l.home p)))
+        then option_map (written_page 0 bytes) (if in_run from i p then option_map page_of_orphan (whole.orphan (moved from to p)) else (if in_run from n p then Some (new_page filling_right (Bytes zero_page)) else l.home p))
+        else (if in_run from i p then option_map page_of_orphan (whole.orphan (moved from to p)) else (if in_run from n p then Some (new_page filling_right (Bytes zero_page)) else l.home p)))
         ≡ (if in_run from (i + 1) p then option_map page_of_orphan (whole.orphan (moved from to p)) else (if in_run from n p then Some (new_page filling_right (Bytes zero_page)) else l.home p))
     homes p = elim (cases_Bool (same_place p (place_after from i))) [
       | inl own ↦

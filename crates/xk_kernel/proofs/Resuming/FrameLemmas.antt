@@ -1,13 +1,13 @@
 -- Where no page is out, there are frames for all pages: each stands in a frame of its own, and one frame more is free.
-use Rattle.std.proofs.Common.{◌≡◌, ℕ, ◌+◌, ◌-◌, ◌≤◌, ◌<◌, Bool, true, false, Option, Some, None, refl, sym, ap, ◌∙◌, arith, inl, inr}
-use Rattle.std.specs.Prelude.{◌≢◌, ◌==◌, is_some, if◌then◌else◌}
+use Rattle.std.proofs.Common.{◌≡◌, ℕ, ◌+◌, ◌-◌, ◌≤◌, ◌<◌, Bool, true, false, refl, ap, ◌∙◌, arith}
+use Rattle.std.specs.Prelude.{◌==◌, is_some, if◌then◌else◌}
 use Rattle.std.proofs.lemmas.Bool.{cond-false, cond-true, eq-eqb, eqb-true, ne_eqb}
 use Rattle.phys_pages.specs.Owners.{extent, infos, frame_seat}
 use Rattle.ledger_model.specs.Ledger.{pages}
 use Rattle.sv32_space.specs.Tie.{Held}
 use Rattle.vm_memory.proofs.Booting.ProcessPlacedLemmas.{table_of}
 use Rattle.vm_memory.proofs.Changing.SoundMemoryLemmas.{pages-ledger}
-use Rattle.vm_memory.specs.Bytes.{none_out, used_frames, used_slots}
+use Rattle.vm_memory.specs.Bytes.{none_out, used_slots}
 use Rattle.vm_memory.specs.Memory.{IsUsable, frames_for_pages, ledger, processes}
 use Rattle.vm_memory.specs.Sound.{IsSound}
 use Rattle.vm_memory.specs.declared.memory.Memory.{Memory}

@@ -1,7 +1,7 @@
 -- One loan more of a state stands: that of pages from their lender's places, or that of orphans.
-use Rattle.std.proofs.Common.{◌≡◌, ℕ, ◌+◌, Bool, true, false, Option, Some, None, refl, sym, ap, subst, ◌∙◌, inl, inr}
+use Rattle.std.proofs.Common.{◌≡◌, ℕ, Bool, true, false, Option, Some, None, refl, sym, ap, ◌∙◌, inl, inr}
 use Rattle.std.specs.Prelude.{◌≢◌, ◌==◌, ◌||◌, if◌then◌else◌}
-use Rattle.std.specs.Option.{option_and_then, option_map}
+use Rattle.std.specs.Option.{option_map}
 use Rattle.std.proofs.lemmas.Bool.{cases_Bool, cond-false, cond-true, eq-eqb}
 use Rattle.ledger_model.proofs.LedgerLemmas.{same_ledger, same_number-apart}
 use Rattle.ledger_model.proofs.Loans.OfNumberLemmas.{loan_of_run-outside, of_number-None, orphan_of_number-None, orphan_of_run-outside, stands-home, stands-orphan}
@@ -76,7 +76,7 @@ module _ (whole : Ledger) (part : Standing) (from : Place) (n : ℕ) (to : Place
     where
       homes : (p : Place) → (if part.homes p then option_map (page_among (and_number part.loans number)) (whole.home p) else None)
           ≡ (if in_run from n p then option_map (with_loan (loan_to p)) (if part.homes p then option_map (page_among part.loans) (whole.home p) else None)
-              else (if part.homes p then option_map (page_among part.loans) (whole.home p) else None))
+          else (if part.homes p then option_map (page_among part.loans) (whole.home p) else None))
       homes p =
           ap (λ b. if b then option_map (page_among (and_number part.loans number)) (whole.home p) else None) (all_homes p)
           ∙ (elim (cases_Bool (in_run from n p)) [
@@ -88,7 +88,7 @@ module _ (whole : Ledger) (part : Standing) (from : Place) (n : ℕ) (to : Place
                 ∙ sym (cond-false (in_run from n p) (option_map (with_loan (loan_to p)) (option_map (page_among part.loans) (whole.home p))) (option_map (page_among part.loans) (whole.home p)) outside)
           ]
           ∙ ap (λ b. if in_run from n p then option_map (with_loan (loan_to p)) (if b then option_map (page_among part.loans) (whole.home p) else None)
-              else (if b then option_map (page_among part.loans) (whole.home p) else None)) (sym (all_homes p)))
+          else (if b then option_map (page_among part.loans) (whole.home p) else None)) (sym (all_homes p)))
 
 -- ---- orphans
 

@@ -1,5 +1,5 @@
 -- Pages that are lent and lose their lender become the orphans of the run to which they were lent.
-use Rattle.std.proofs.Common.{◌≡◌, ℕ, ◌+◌, ◌<◌, Bool, true, false, List, [], Option, Some, None, refl, sym, ap, subst, ◌∙◌, inl, inr}
+use Rattle.std.proofs.Common.{◌≡◌, ℕ, true, false, List, [], Some, None, refl, sym, ap, subst, ◌∙◌, inl, inr}
 use Rattle.std.specs.Prelude.{if◌then◌else◌}
 use Rattle.std.specs.Option.{option_map}
 use Rattle.std.proofs.lemmas.Bool.{both_ways, cases_Bool, cond-false, cond-true}
@@ -46,14 +46,14 @@ module _ (procs capacity : ℕ) (whole now : Ledger) (from : Place) (n : ℕ) (t
   unfolding lend with_orphan_pages
   lent_inside p orphan inside is =
       ap (λ b. if b then option_map (with_loan (loan_to p)) (if b then option_map page_of_orphan (whole.orphan (moved from to p)) else now.home p)
-          else (if b then option_map page_of_orphan (whole.orphan (moved from to p)) else now.home p)) inside
+      else (if b then option_map page_of_orphan (whole.orphan (moved from to p)) else now.home p)) inside
       ∙ ap (λ o. option_map (with_loan (loan_to p)) (option_map page_of_orphan o)) is
 
   lent_outside : (p : Place) → in_run from n p ≡ false → lent.home p ≡ None
   unfolding lend with_orphan_pages
   lent_outside p outside =
       ap (λ b. if b then option_map (with_loan (loan_to p)) (if b then option_map page_of_orphan (whole.orphan (moved from to p)) else now.home p)
-          else (if b then option_map page_of_orphan (whole.orphan (moved from to p)) else now.home p)) outside
+      else (if b then option_map page_of_orphan (whole.orphan (moved from to p)) else now.home p)) outside
       ∙ no_homes p
 
   lent_orphan : (q : Place) → lent.orphan q ≡ now.orphan q

@@ -1,6 +1,6 @@
 -- A page of a state comes back: it is made at its free home, filled, and reduced to its right.
-use Rattle.std.proofs.Common.{◌≡◌, ℕ, zero, suc, ◌+◌, ◌-◌, ◌/◌, ◌%◌, ◌≤◌, ◌<◌, Bool, true, false, ◌&&◌, List, [], ◌∷◌, ◌++◌, length, take, drop, Option, Some, None, Result, Ok, Err, refl, sym, ap, subst, ◌∙◌, arith, inl, inr}
-use Rattle.std.specs.Prelude.{◌==◌, ◌||◌, not, nat_le, nat_lt, is_some, IsTrue, if◌then◌else◌}
+use Rattle.std.proofs.Common.{◌≡◌, ℕ, ◌+◌, ◌-◌, ◌/◌, ◌%◌, ◌≤◌, ◌<◌, Bool, true, false, ◌&&◌, List, ◌++◌, length, Option, Some, None, Ok, Err, refl, sym, ap, subst, ◌∙◌, arith, inl, inr}
+use Rattle.std.specs.Prelude.{◌==◌, ◌||◌, not, nat_lt, is_some, if◌then◌else◌}
 use Rattle.std.specs.Option.{option_map, option_map_or, option_and_then}
 use Rattle.std.proofs.lemmas.Bool.{cases_Bool, false≢true}
 use Rattle.std.proofs.lemmas.Bool.Decides.{nat_tests}
@@ -10,18 +10,18 @@ use Rattle.std.proofs.lemmas.Option.{none-some, same_Some}
 use Rattle.ledger_model.proofs.LedgerLemmas.{reach-role, role_at-home}
 use Rattle.ledger_model.specs.Ledger.{Bytes, Console, Contents, Homed, Ledger, Page, contents_of, has_bytes, pages}
 use Rattle.ledger_model.specs.Loans.{bare, bare_contents, bare_page}
-use Rattle.ledger_model.specs.Places.{in_run, is_place_in, is_user_place, run, same_place}
+use Rattle.ledger_model.specs.Places.{in_run, run, same_place}
 use Rattle.ledger_model.specs.Reach.{HomePlace, home_may, is_free, is_free_role, reach, role_at}
 use Rattle.ledger_model.specs.Conditions.{is_within}
 use Rattle.ledger_model.specs.RunTests.{any_free, any_lacks, any_on_loan, any_used, asks_more, console_mapped, fits_window, is_on_loan}
 use Rattle.ledger_model.specs.Steps.{make, make_console, new_page, reduce, with_right, write, written, written_page, zero_page}
-use Rattle.suspend_image.specs.Machines.{ledger_page, place_at}
+use Rattle.suspend_image.specs.Machines.{ledger_page}
 use Rattle.suspend_image.specs.Spelling.{contents_at}
 use Rattle.suspend_image.specs.declared.state.PageRow.{PageRow}
 use Rattle.sv32_space.specs.PageSteps.{place_page, without_loan}
 use Rattle.vm_memory.specs.Pages.Making.{console_answer, if_room, make_answer}
 use Rattle.vm_memory.specs.Pages.Removing.{reduce_answer}
-use Rattle.vm_memory.specs.Using.Access.{contents_reached, reaches_bytes}
+use Rattle.vm_memory.specs.Using.Access.{reaches_bytes}
 use Rattle.xk_kernel.specs.Resuming.Standing.{IsHomeOf}
 use Rattle.xk_base.specs.Numbers.Windows.{in_window, window_at}
 use Rattle.xk_base.specs.declared.errors.XousError.TheVariants.{AccessDenied, BadAddress, MemoryInUse, ShareViolation}
@@ -179,9 +179,9 @@ page_back at right x bytes l long = λ i. record { home = λ p. at_place p (in_r
   where
     at_place : (p : Place) (b s : Bool) → b ≡ s
         → (if b then option_map (with_right right) (if s then option_map (written_page 0 bytes) (if b then Some (new_page (record { w = true; x = x }) (Bytes zero_page)) else l.home p)
-            else (if b then Some (new_page (record { w = true; x = x }) (Bytes zero_page)) else l.home p))
-            else (if s then option_map (written_page 0 bytes) (if b then Some (new_page (record { w = true; x = x }) (Bytes zero_page)) else l.home p)
-            else (if b then Some (new_page (record { w = true; x = x }) (Bytes zero_page)) else l.home p)))
+        else (if b then Some (new_page (record { w = true; x = x }) (Bytes zero_page)) else l.home p))
+        else (if s then option_map (written_page 0 bytes) (if b then Some (new_page (record { w = true; x = x }) (Bytes zero_page)) else l.home p)
+        else (if b then Some (new_page (record { w = true; x = x }) (Bytes zero_page)) else l.home p)))
         ≡ (if s then Some (record { right = right; contents = Bytes bytes; loan = None }) else l.home p)
     at_place p true true e = ap (λ xs. Some (record { right = right; contents = Bytes xs; loan = None })) (written_all zero_page bytes zero_long long)
     at_place p false false e = refl

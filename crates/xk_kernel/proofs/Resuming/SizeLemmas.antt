@@ -1,18 +1,17 @@
 -- The plan without pages is lawful, and a memory booted from it has an empty ledger.
-use Rattle.std.proofs.Common.{◌≡◌, ℕ, zero, suc, ◌+◌, ◌-◌, ◌*◌, ◌%◌, ◌≤◌, ◌<◌, Bool, true, false, List, [], ◌∷◌, length, Option, Some, None, Result, Ok, Err, refl, sym, ap, subst, ◌∙◌, arith, inl, inr}
-use Rattle.std.specs.Prelude.{◌||◌, IfOk, nat_le, replicate, slice_get, slice_index_or, sum_by, if◌then◌else◌}
-use Rattle.std.specs.List.{All}
+use Rattle.std.proofs.Common.{◌≡◌, ℕ, zero, suc, ◌-◌, ◌≤◌, Bool, true, false, List, [], length, None, Result, Ok, Err, refl, sym, ap, subst, ◌∙◌, arith, inl, inr}
+use Rattle.std.specs.Prelude.{◌||◌, IfOk, nat_le, replicate, slice_get, sum_by, if◌then◌else◌}
 use Rattle.std.specs.Option.{option_and_then, option_map}
 use Rattle.std.proofs.lemmas.Bool.{cases_Bool}
 use Rattle.std.proofs.lemmas.List.{get_or-replicate, length-replicate}
 use Rattle.std.proofs.lemmas.List.Elements.{All-nil}
 use Rattle.std.proofs.lemmas.List.Sums.{sum_by-cons}
-use Rattle.boot_plan.specs.Capacity.{capacity, page_frames}
+use Rattle.boot_plan.specs.Capacity.{page_frames}
 use Rattle.boot_plan.specs.FirstPages.{planned_pages}
 use Rattle.boot_plan.specs.Lawful.{IsLawfulPage, IsLawfulPlan, IsLawfulProcess}
 use Rattle.boot_plan.specs.declared.plans.BootPlan.{BootPlan}
 use Rattle.boot_plan.specs.declared.plans.ProcPlan.{ProcPlan}
-use Rattle.ledger_model.specs.Ledger.{Ledger, empty_ledger}
+use Rattle.ledger_model.specs.Ledger.{empty_ledger}
 use Rattle.ledger_model.specs.Loans.{bare}
 use Rattle.suspend_image.specs.declared.state.State.{State}
 use Rattle.sv32_space.specs.Tie.{Held}
@@ -22,9 +21,8 @@ use Rattle.vm_memory.specs.Memory.{IsUsable, ledger}
 use Rattle.vm_memory.specs.Sound.{IsSound}
 use Rattle.vm_memory.specs.declared.memory.BootFault.{BootFault}
 use Rattle.vm_memory.specs.declared.memory.Memory.{Memory}
-use Rattle.xk_base.specs.Numbers.Limits.{table_frames}
 use Rattle.xk_kernel.specs.Resuming.Coming.{HasCome}
-use Rattle.xk_kernel.specs.Resuming.Resumable.{CanResume, CanSplit, plan_without_pages, process_without_pages, resumed_frames}
+use Rattle.xk_kernel.specs.Resuming.Resumable.{CanResume, CanSplit, plan_without_pages, process_without_pages}
 
 no_pages : (n : ℕ) → sum_by (λ (p : ProcPlan). length p.pages) (replicate n process_without_pages) ≡ 0
 no_pages zero = refl
@@ -82,7 +80,6 @@ module _ (s : State) (slots : ℕ) where
           procs = λ k d low. subst (IsLawfulProcess 0) (sym (get_or-replicate s.n k process_without_pages d (omega (arith, count, low)))) no_process_pages;
           fits = let none = none_planned in omega (arith, none);
         }
-
 
 -- there are frames for no page
 fits_in_frames : (s : State) (slots : ℕ) (p : BootPlan) → p ≡ plan_without_pages s slots → planned_pages p ≤ page_frames p.frames (length p.procs)

@@ -1,8 +1,8 @@
 -- The ledger of a state as its pages come back row after row.
-use Rattle.std.proofs.Common.{◌≡◌, ℕ, ◌+◌, ◌/◌, ◌%◌, ◌≤◌, ◌<◌, Bool, true, false, cond, ◌&&◌, List, [], ◌∷◌, length, drop, take, get_or, Option, Some, None, refl, sym, ap, subst, ◌∙◌, arith, inl, inr}
+use Rattle.std.proofs.Common.{◌≡◌, ℕ, ◌+◌, ◌/◌, ◌%◌, ◌≤◌, ◌<◌, Bool, true, false, ◌&&◌, List, length, drop, take, get_or, Option, Some, None, refl, sym, ap, subst, ◌∙◌, arith, inl, inr}
 use Rattle.std.specs.Prelude.{◌≢◌, not, ◌==◌, ◌||◌, is_some, nat_lt, IsTrue, if◌then◌else◌}
-use Rattle.std.specs.List.{find, list_any}
-use Rattle.std.specs.Option.{option_and_then, option_map}
+use Rattle.std.specs.List.{find}
+use Rattle.std.specs.Option.{option_map}
 use Rattle.std.proofs.lemmas.Bool.{cases_Bool, cond-false, cond-true, eqb-false, false≢true}
 use Rattle.std.proofs.lemmas.Bool.Decides.{nat_tests}
 use Rattle.std.proofs.lemmas.List.{length-drop, length-take-le}
@@ -16,8 +16,8 @@ use Rattle.ledger_model.proofs.Stepping.WritingLemmas.{write_pages}
 use Rattle.ledger_model.specs.Conditions.{CanMake, is_console}
 use Rattle.ledger_model.specs.Ledger.{Bytes, Console, Contents, Homed, Ledger, Orphan, Page, PageLoan, has_bytes, is_counted, loan_at, loan_of, pages}
 use Rattle.ledger_model.specs.Loans.{loan_of_orphan, loans}
-use Rattle.ledger_model.specs.Places.{count_places, in_run, is_place_in, is_user_place, same_place}
-use Rattle.ledger_model.specs.Reach.{is_free, lender_of}
+use Rattle.ledger_model.specs.Places.{in_run, is_place_in, is_user_place, same_place}
+use Rattle.ledger_model.specs.Reach.{is_free}
 use Rattle.ledger_model.specs.RunTests.{console_mapped}
 use Rattle.ledger_model.specs.Steps.{make, write}
 use Rattle.suspend_image.proofs.Parts.Keys.KeyLemmas.{Less, less_apart, less_behind, less_through, pair_is, pair_own}

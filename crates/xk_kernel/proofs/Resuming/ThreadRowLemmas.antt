@@ -7,7 +7,6 @@ use Rattle.std.proofs.lemmas.Bool.{cases_Bool, cases_eq, cond-false, eqb-true, e
 use Rattle.std.proofs.lemmas.Grind.{get_or-set_at}
 use Rattle.std.proofs.lemmas.List.{ext_get_or, get_or-set_other, length-set}
 use Rattle.std.proofs.lemmas.Option.{none-some}
-use Rattle.machine_model.specs.State.Machine.{Thread}
 use Rattle.send_path.specs.Parts.{thread_of}
 use Rattle.suspend_image.proofs.Parts.Keys.KeyLemmas.{Less, less_apart, less_behind, less_through, pair_is}
 use Rattle.suspend_image.specs.Forms.{AreInOrder, IsThreadRow}
@@ -108,7 +107,7 @@ module _ (n : ℕ) (rows : List ThreadRow) (forms : AreInOrder (IsThreadRow n) t
     -- .. and then it is
     pub next_back : (new : Threads) → process_count new ≡ process_count threads
         → ((id : ThreadId) → option_map thread_of (threads_of new id)
-            ≡ (if same_thread id (thread_at_id row.pid row.tid) then Some (row_thread row) else option_map thread_of (threads_of threads id)))
+        ≡ (if same_thread id (thread_at_id row.pid row.tid) then Some (row_thread row) else option_map thread_of (threads_of threads id)))
         → AreBackTo n rows new (k + 1)
     next_back new count after = record {
       count = count ∙ back.count;

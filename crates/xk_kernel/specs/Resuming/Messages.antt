@@ -5,7 +5,7 @@ use Rattle.std.specs.Option.{option_and_then, option_map, option_map_or}
 use Rattle.ledger_model.specs.Loans.{LoanRun, loans}
 use Rattle.msg_queue.specs.Seats.{Seat, empty_seat, seat_of}
 use Rattle.msg_queue.specs.declared.held.Held.{Held}
-use Rattle.suspend_image.specs.Machines.{loan_kind_of, message_of, place_at}
+use Rattle.suspend_image.specs.Machines.{message_of, place_at}
 use Rattle.suspend_image.specs.declared.state.MessageRow.{MessageRow}
 use Rattle.suspend_image.specs.declared.state.PageRow.{PageRow}
 use Rattle.suspend_image.specs.declared.state.ServerRow.{ServerRow}

@@ -1,5 +1,5 @@
 -- What the rows of a state are in the tables of a kernel.
-use Rattle.std.specs.Prelude.{ℕ, ◌==◌, List, map}
+use Rattle.std.specs.Prelude.{◌==◌, List, map}
 use Rattle.irq_claims.specs.declared.claims.Claim.{Claim}
 use Rattle.process_table.specs.State.{ProcessState}
 use Rattle.server_table.specs.declared.table.ServerSeat.{ServerSeat}

@@ -48,11 +48,7 @@ pub(super) fn make_run<W: SwapStore>(
 }
 
 // Fills the page with its home at a place, which can be written there, with these 4096 bytes.
-pub(super) fn fill<W: SwapStore>(
-    mem: &mut Memory<W>,
-    at: Place,
-    bytes: &[u8],
-) -> Result<(), Failed>
+pub(super) fn fill<W: SwapStore>(mem: &mut Memory<W>, at: Place, bytes: &[u8]) -> Result<(), Failed>
     requires sound { IsSound W.slot_count mem.old }
     requires usable { IsUsable mem.old }
     requires may { reaches_bytes (processes mem.old) (ledger W.held mem.old) at Store ≡ true }

@@ -12,8 +12,11 @@ use xk_base::{LoanKind, Message, MsgKind, Number, Pid, Place, ThreadId, Tid, Vpn
 
 /// The numbers of the kinds of messages.
 const LEND_MUT: u32 = 1;
+
 const LEND: u32 = 2;
+
 const MOVE: u32 = 3;
+
 const BLOCKING_SCALAR: u32 = 5;
 
 // The kind of a message of the state.

@@ -1,4 +1,4 @@
-use Rattle.std.proofs.Common.{◌≡◌, ◌<◌, List, length, get_or, Option, Some, None, refl, sym, ap, subst, arith}
+use Rattle.std.proofs.Common.{◌≡◌, ◌<◌, List, length, get_or, Some, None, sym, ap, subst, arith}
 use Rattle.std.specs.Prelude.{nat_eq}
 use Rattle.irq_claims.specs.ClaimsOf.{claims_of}
 use Rattle.suspend_image.specs.declared.state.ClaimRow.{ClaimRow}
@@ -37,7 +37,7 @@ rows-preserved c =
     next_claimed c.args.state.now.n c.args.state.now.claims c.requires.resumable.resumable.spelled.form.claims c.rows.row-index no_row
     (omega (arith, c.rows-test.true, ap length c.as_slice-row-items.ensures)) c.rows.claims c.rows.invariant c.claim_again.new.claims
     (subst (λ (rows : List ClaimRow). claims_of c.claim_again.new.claims
-        ≡ put_at nat_eq (claims_of c.rows.claims) (get_or rows c.rows.row-index no_row).number (Some (row_claim (get_or rows c.rows.row-index no_row))))
+    ≡ put_at nat_eq (claims_of c.rows.claims) (get_or rows c.rows.row-index no_row).number (Some (row_claim (get_or rows c.rows.row-index no_row))))
     c.as_slice-row-items.ensures c.claim_again.ensures)
 
 pub returns-clause-claims : goal.returns-clause-claims

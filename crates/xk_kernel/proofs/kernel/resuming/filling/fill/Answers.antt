@@ -1,4 +1,4 @@
-use Rattle.std.proofs.Common.{◌≡◌, ap, length, ◌∙◌}
+use Rattle.std.proofs.Common.{ap, length, ◌∙◌}
 use Rattle.ledger_model.proofs.Stepping.WritingLemmas.{bare-loans}
 use Rattle.vm_memory.specs.Loaning.Lending.{with_bytes_at}
 use Rattle.vm_memory.specs.Memory.{Size, ledger, processes}

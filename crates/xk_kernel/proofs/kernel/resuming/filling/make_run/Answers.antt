@@ -1,4 +1,4 @@
-use Rattle.std.proofs.Common.{◌≡◌, Some, ap, ◌∙◌}
+use Rattle.std.proofs.Common.{Some, ap, ◌∙◌}
 use Rattle.ledger_model.specs.Loans.{bare}
 use Rattle.vm_memory.specs.Memory.{capacity_of, ledger, processes}
 use Rattle.vm_memory.specs.Pages.Making.{make_answer}

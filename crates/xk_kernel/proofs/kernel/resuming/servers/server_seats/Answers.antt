@@ -1,4 +1,4 @@
-use Rattle.std.proofs.Common.{◌≡◌, ◌<◌, List, length, get_or, refl, sym, ap, subst, ◌∙◌, arith}
+use Rattle.std.proofs.Common.{◌<◌, List, length, get_or, sym, ap, subst, ◌∙◌, arith}
 use Rattle.suspend_image.specs.declared.state.ServerRow.{ServerRow}
 use Rattle.xk_kernel.specs.Resuming.Tables.{row_seat}
 use Rattle.xk_kernel.proofs.Resuming.ServerRowLemmas.{all_seated, next_seated, server_pid_small}

@@ -1,4 +1,3 @@
-use Rattle.std.proofs.Common.{◌≡◌, sym, subst}
 use Rattle.xk_kernel.proofs.Resuming.SizeLemmas.{booted_empty}
 use Rattle.xk_kernel.proofs.kernel.resuming.sizes.empty_memory.Goals as goal
 

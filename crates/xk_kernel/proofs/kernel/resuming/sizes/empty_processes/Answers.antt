@@ -1,7 +1,5 @@
-use Rattle.std.proofs.Common.{◌≡◌, List, ◌∷◌, ◌++◌, [], ap, ◌∙◌, replicate, arith}
+use Rattle.std.proofs.Common.{◌∷◌, ◌++◌, [], ap, ◌∙◌, replicate, arith}
 use Rattle.std.proofs.lemmas.List.{replicate_more}
-use Rattle.boot_plan.specs.declared.plans.ProcPlan.{ProcPlan}
-use Rattle.boot_plan.specs.declared.plans.PagePlan.{PagePlan}
 use Rattle.xk_kernel.specs.Resuming.Resumable.{process_without_pages}
 use Rattle.xk_kernel.proofs.kernel.resuming.sizes.empty_processes.Goals as goal
 

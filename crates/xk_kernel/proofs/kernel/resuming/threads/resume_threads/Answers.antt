@@ -1,4 +1,4 @@
-use Rattle.std.proofs.Common.{◌≡◌, ℕ, ◌<◌, List, [], length, get_or, Option, Some, None, refl, sym, ap, subst, ◌∙◌, arith}
+use Rattle.std.proofs.Common.{◌≡◌, ℕ, List, [], length, get_or, Some, None, sym, ap, subst, ◌∙◌, arith}
 use Rattle.std.specs.Prelude.{if◌then◌else◌}
 use Rattle.std.specs.Option.{option_map}
 use Rattle.send_path.specs.Parts.{thread_of}
@@ -41,8 +41,8 @@ rows-preserved c =
     next_back c.args.state.now.n c.args.state.now.threads c.requires.resumable.resumable.spelled.form.threads c.rows.row-index no_row
     (omega (arith, c.rows-test.true, ap length c.as_slice-row-items.ensures)) c.rows.threads c.rows.invariant c.start_thread.new.threads c.start_thread.ensures.count
     (subst (λ (rows : List ThreadRow). (id : ThreadId) → option_map thread_of (threads_of c.start_thread.new.threads id)
-        ≡ (if same_thread id (thread_at_id (get_or rows c.rows.row-index no_row).pid (get_or rows c.rows.row-index no_row).tid)
-            then Some (row_thread (get_or rows c.rows.row-index no_row)) else option_map thread_of (threads_of c.rows.threads id)))
+    ≡ (if same_thread id (thread_at_id (get_or rows c.rows.row-index no_row).pid (get_or rows c.rows.row-index no_row).tid)
+    then Some (row_thread (get_or rows c.rows.row-index no_row)) else option_map thread_of (threads_of c.rows.threads id)))
     c.as_slice-row-items.ensures c.start_thread.ensures.after)
 
 pub returns-clause-threads : goal.returns-clause-threads
