@@ -5,6 +5,7 @@ pub mod Knowing
 pub mod Acting
 pub mod Calling
 pub mod Quiet
+pub mod Resuming
 pub mod Ringing
 pub mod Running
 pub mod Saving

@@ -10,6 +10,7 @@ mod memory_calls;
 mod message_calls;
 mod quiet;
 mod readers;
+mod resuming;
 mod ringing;
 mod running;
 mod saving;

@@ -1,0 +1,15 @@
+pub mod ClaimRowLemmas
+pub mod ComingLemmas
+pub mod FillingLemmas
+pub mod FrameLemmas
+pub mod LendLemmas
+pub mod OrphanLemmas
+pub mod PageRowLemmas
+pub mod PagesBackLemmas
+pub mod ProcessRowLemmas
+pub mod PuttingLemmas
+pub mod RowLemmas
+pub mod ServerRowLemmas
+pub mod SizeLemmas
+pub mod StandingLemmas
+pub mod ThreadRowLemmas
