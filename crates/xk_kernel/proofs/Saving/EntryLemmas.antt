@@ -23,8 +23,8 @@ use Rattle.xk_base.specs.declared.ids.Place.{Place}
 use Rattle.xk_base.specs.declared.ids.ThreadId.{ThreadId}
 use Rattle.xk_base.specs.declared.limits.TheConstants.{INTERRUPT_LIMIT}
 use Rattle.xk_kernel.specs.Saving.Rows.{PageText, claim_at, home_at, home_text, home_texts, listed, orphan_at, orphan_text, orphan_texts, proc_at, rows_below, server_at, text_bytes, thread_at}
-use Rattle.xk_kernel.specs.Saving.SavedRows.{claim_row, proc_row, server_row, thread_row}
-use Rattle.xk_kernel.specs.Saving.StateBytes.{claim_entries, entries, entry, orphan_entries, page_entries, pids, saved_claim, saved_orphan, saved_page, saved_process, saved_server, saved_thread, server_entries, thread_entries}
+use Rattle.suspend_image.specs.SavedRows.{claim_row, proc_row, server_row, thread_row}
+use Rattle.suspend_image.specs.StateBytes.{claim_entries, entries, entry, orphan_entries, page_entries, pids, saved_claim, saved_orphan, saved_page, saved_process, saved_server, saved_thread, server_entries, thread_entries}
 use Rattle.xk_kernel.proofs.Saving.RowsBelowLemmas.{rows-next, rows-suc, rows-zero}
 
 -- ---- the rows of a list

@@ -16,7 +16,7 @@ use Rattle.xk_base.specs.Tables.Counting.{count_below}
 use Rattle.xk_base.specs.declared.ids.Pid.{Pid}
 use Rattle.xk_base.specs.declared.limits.TheConstants.{INTERRUPT_LIMIT}
 use Rattle.xk_kernel.specs.Saving.Rows.{claim_at, proc_at, rows_below, server_at, thread_at}
-use Rattle.xk_kernel.specs.Saving.SavedRows.{machine_row}
+use Rattle.suspend_image.specs.SavedRows.{machine_row}
 use Rattle.xk_kernel.specs.Saving.Written.{Appends, Fits, front_parts}
 use Rattle.xk_kernel.specs.State.{machine_of}
 use Rattle.xk_kernel.specs.declared.kernel.Kernel.{Kernel}

@@ -12,7 +12,7 @@ use Rattle.suspend_image.specs.Words.{word_bytes}
 use Rattle.suspend_image.specs.declared.state.MessageRow.{MessageRow}
 use Rattle.suspend_image.specs.declared.state.ServerRow.{ServerRow}
 use Rattle.xk_kernel.specs.Saving.Rows.{rows_below}
-use Rattle.xk_kernel.specs.Saving.SavedRows.{message_row}
+use Rattle.suspend_image.specs.SavedRows.{message_row}
 use Rattle.xk_kernel.specs.Saving.Written.{Appends, Fits}
 use Rattle.xk_kernel.proofs.Saving.EntryLemmas.{rows_of_all}
 use Rattle.xk_kernel.proofs.Saving.SheetLemmas.{HasWritten, appends_both, fits_behind, fits_less, has_room}

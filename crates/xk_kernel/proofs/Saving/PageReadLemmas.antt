@@ -30,8 +30,8 @@ use Rattle.xk_base.specs.declared.pages.Right.{Right}
 use Rattle.xk_kernel.proofs.Saving.SizeLemmas.{length-orphan, length-page}
 use Rattle.xk_kernel.specs.Saving.Pages.{AppendsText, as_loan, loan_of_info, reading_place, reading_place_by, seen_page, text_if}
 use Rattle.xk_kernel.specs.Saving.Rows.{PageText, home_at, home_text, orphan_at, orphan_text, text_bytes, text_words}
-use Rattle.xk_kernel.specs.Saving.SavedRows.{flag, orphan_row, page_row, right_number}
-use Rattle.xk_kernel.specs.Saving.StateBytes.{bytes_of}
+use Rattle.suspend_image.specs.SavedRows.{flag, orphan_row, page_row, right_number}
+use Rattle.suspend_image.specs.StateBytes.{bytes_of}
 use Rattle.ledger_model.specs.Places.{place_at}
 
 -- ---- what stands at a place

@@ -11,8 +11,8 @@ use Rattle.suspend_image.specs.Words.{word_bytes}
 use Rattle.xk_base.specs.Tables.Circle.{thread_ids}
 use Rattle.xk_base.specs.declared.limits.TheConstants.{INTERRUPT_LIMIT}
 use Rattle.xk_kernel.specs.Saving.Rows.{claim_at, proc_at, rows_below, server_at, thread_at}
-use Rattle.xk_kernel.specs.Saving.SavedRows.{flag, machine_row}
-use Rattle.xk_kernel.specs.Saving.StateBytes.{claim_entries, pids, saved_claim, saved_process, saved_server, saved_thread, server_entries, thread_entries}
+use Rattle.suspend_image.specs.SavedRows.{flag, machine_row}
+use Rattle.suspend_image.specs.StateBytes.{claim_entries, pids, saved_claim, saved_process, saved_server, saved_thread, server_entries, thread_entries}
 use Rattle.xk_kernel.specs.Saving.Written.{Appends, Fits, front_parts, reserved_numbers}
 use Rattle.xk_kernel.proofs.Saving.EntryLemmas.{claims_spelled, procs_spelled, servers_spelled, threads_spelled}
 use Rattle.xk_kernel.proofs.Saving.SheetLemmas.{appends_both, fits_behind, fits_less, has_room}

@@ -13,7 +13,7 @@ use Rattle.suspend_image.specs.Words.{word, word_bytes}
 use Rattle.suspend_image.specs.declared.state.ProcRow.{ProcRow}
 use Rattle.xk_base.specs.declared.ids.Serial.{Serial}
 use Rattle.xk_kernel.specs.Saving.Rows.{rows_below}
-use Rattle.xk_kernel.specs.Saving.SavedRows.{flag, proc_row}
+use Rattle.suspend_image.specs.SavedRows.{flag, proc_row}
 use Rattle.xk_kernel.specs.Saving.Written.{Appends, Fits}
 use Rattle.xk_kernel.proofs.Saving.EntryLemmas.{rows_of_all}
 use Rattle.xk_kernel.proofs.Saving.SheetLemmas.{HasWritten, has_room, written_room}

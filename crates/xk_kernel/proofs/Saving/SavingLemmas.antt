@@ -22,7 +22,7 @@ use Rattle.xk_kernel.proofs.Saving.SheetLemmas.{fits_behind, fits_less}
 use Rattle.xk_kernel.specs.Knowing.{ComesTo, without_bytes}
 use Rattle.xk_kernel.specs.Saving.Kept.{with_memory}
 use Rattle.xk_kernel.specs.Saving.Rows.{PageText, text_bytes}
-use Rattle.xk_kernel.specs.Saving.StateBytes.{saved_bytes, saved_parts}
+use Rattle.suspend_image.specs.StateBytes.{saved_bytes, saved_parts}
 use Rattle.xk_kernel.specs.Saving.Written.{Appends, BringsPages, Fits, IsSaved, WritesPages, front_parts}
 use Rattle.xk_kernel.specs.Sound.{IsSound, IsUsable, IsWhole, Keeps}
 use Rattle.xk_kernel.specs.State.{machine_of}

@@ -12,7 +12,7 @@ use Rattle.suspend_image.specs.declared.state.ServerRow.{ServerRow}
 use Rattle.xk_base.proofs.CountingLemmas.{count_below-same}
 use Rattle.xk_base.specs.Tables.Counting.{count_below}
 use Rattle.xk_kernel.specs.Saving.Rows.{rows_below, server_at}
-use Rattle.xk_kernel.specs.Saving.SavedRows.{server_row}
+use Rattle.suspend_image.specs.SavedRows.{server_row}
 use Rattle.xk_kernel.specs.Saving.Servers.{IsNext, IsNextServer, table_server}
 use Rattle.xk_kernel.specs.Saving.Written.{Appends, Fits}
 use Rattle.xk_kernel.specs.declared.kernel.saving.servers.Seated.{Seated}

@@ -30,7 +30,7 @@ use Rattle.thread_table.specs.declared.thread.Thread.{Thread as TableThread}
 use Rattle.xk_base.specs.Tables.Circle.{id_at}
 use Rattle.xk_base.specs.declared.ids.ThreadId.{ThreadId}
 use Rattle.xk_kernel.specs.Saving.Rows.{claim_at, server_at, thread_at}
-use Rattle.xk_kernel.specs.Saving.SavedRows.{claim_row, message_row, server_row, thread_row}
+use Rattle.suspend_image.specs.SavedRows.{claim_row, message_row, server_row, thread_row}
 
 -- ---- claims
 

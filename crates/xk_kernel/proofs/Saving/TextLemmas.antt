@@ -17,7 +17,7 @@ use Rattle.xk_base.specs.declared.ids.Place.{Place}
 use Rattle.xk_base.specs.declared.pages.Right.{Right}
 use Rattle.xk_kernel.specs.Saving.Pages.{AppendsText, text_if}
 use Rattle.xk_kernel.specs.Saving.Rows.{PageText, home_at, home_text, listed, orphan_at, orphan_text, rows_below, text_bytes, text_words}
-use Rattle.xk_kernel.specs.Saving.SavedRows.{orphan_row, page_row, right_number}
+use Rattle.suspend_image.specs.SavedRows.{orphan_row, page_row, right_number}
 use Rattle.xk_kernel.specs.Saving.Written.{Appends, AppendsTexts, Fits}
 use Rattle.xk_kernel.proofs.Saving.RowsBelowLemmas.{length_listed, length-grows, rows-next, rows-suc, rows-zero}
 use Rattle.xk_kernel.proofs.Saving.SheetLemmas.{length-numbered, numbered}

@@ -12,8 +12,8 @@ use Rattle.suspend_image.specs.declared.state.ThreadRow.{ThreadRow}
 use Rattle.xk_base.specs.Tables.Circle.{id_at}
 use Rattle.xk_base.specs.declared.ids.Place.{Place}
 use Rattle.xk_base.specs.declared.ids.ThreadId.{ThreadId}
-use Rattle.xk_kernel.specs.Saving.SavedRows.{claim_row, orphan_row, page_row, proc_row, server_row, thread_row}
-use Rattle.xk_kernel.specs.Saving.StateBytes.{bytes_of}
+use Rattle.suspend_image.specs.SavedRows.{claim_row, orphan_row, page_row, proc_row, server_row, thread_row}
+use Rattle.suspend_image.specs.StateBytes.{bytes_of}
 
 -- the row of a number, where it has one
 abbrev pub listed : {A : Type 0} → Option A → List A

@@ -12,8 +12,8 @@ use Rattle.vm_memory.specs.Memory.{ledger, size, store_of}
 use Rattle.vm_memory.specs.Sound.{IsSound}
 use Rattle.vm_memory.specs.declared.memory.Memory.{Memory}
 use Rattle.xk_kernel.specs.Saving.Rows.{PageText, home_texts, orphan_texts, text_bytes, text_words}
-use Rattle.xk_kernel.specs.Saving.SavedRows.{flag, machine_row, reserved_address, reserved_pid, reserved_tid}
-use Rattle.xk_kernel.specs.Saving.StateBytes.{claim_entries, pids, saved_claim, saved_process, saved_server, saved_thread, server_entries, thread_entries}
+use Rattle.suspend_image.specs.SavedRows.{flag, machine_row, reserved_address, reserved_pid, reserved_tid}
+use Rattle.suspend_image.specs.StateBytes.{claim_entries, pids, saved_claim, saved_process, saved_server, saved_thread, server_entries, thread_entries}
 use Rattle.xk_ports.specs.Keeping.{KeepsStore}
 
 -- so many bytes more fit behind those of a sheet, and a word counts them all

@@ -6,7 +6,7 @@ ghost use Rattle.kill_path.specs.Claims.{claim_of, claims_shown, pending_shown};
 ghost use Rattle.suspend_image.specs.Spelling.{claim_bytes, rows_bytes};
 ghost use Rattle.xk_base.specs.declared.limits.TheConstants.{INTERRUPT_LIMIT};
 ghost use Rattle.xk_kernel.specs.Saving.Rows.{claim_at, rows_below};
-ghost use Rattle.xk_kernel.specs.Saving.SavedRows.{claim_row};
+ghost use Rattle.suspend_image.specs.SavedRows.{claim_row};
 ghost use Rattle.xk_kernel.specs.Saving.Written.{Appends, Fits};
 
 use irq_claims::{Claim, Claims};

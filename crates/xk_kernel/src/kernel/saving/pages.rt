@@ -13,7 +13,7 @@ ghost use Rattle.xk_base.specs.declared.pages.Access.TheVariants.{Load};
 ghost use Rattle.xk_base.specs.declared.limits.TheConstants.{PROCESS_LIMIT};
 ghost use Rattle.xk_kernel.specs.Saving.Pages.{AppendsBytes, AppendsText, as_loan, reading_place, seen_page};
 ghost use Rattle.xk_kernel.specs.Saving.Rows.{home_at, home_texts, orphan_at, orphan_texts};
-ghost use Rattle.xk_kernel.specs.Saving.SavedRows.{loan_number, orphan_row, page_row, right_number};
+ghost use Rattle.suspend_image.specs.SavedRows.{loan_number, orphan_row, page_row, right_number};
 ghost use Rattle.xk_kernel.specs.Saving.Written.{AppendsTexts, BringsPages, Fits};
 
 use phys_pages::LoanInfo;

@@ -9,7 +9,7 @@ ghost use Rattle.xk_base.specs.Tables.Circle.{IsPid};
 ghost use Rattle.xk_base.specs.declared.ids.Pid.{Pid as ProcessId};
 ghost use Rattle.xk_base.specs.declared.limits.TheConstants.{CONNECTION_LIMIT, PROCESS_LIMIT};
 ghost use Rattle.xk_kernel.specs.Saving.Rows.{proc_at, rows_below};
-ghost use Rattle.xk_kernel.specs.Saving.SavedRows.{proc_row};
+ghost use Rattle.suspend_image.specs.SavedRows.{proc_row};
 ghost use Rattle.xk_kernel.specs.Saving.Written.{Appends, Fits};
 
 use process_table::Processes;

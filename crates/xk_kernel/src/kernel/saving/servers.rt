@@ -10,7 +10,7 @@ ghost use Rattle.xk_base.specs.Tables.Counting.{count_below};
 ghost use Rattle.xk_base.specs.declared.limits.TheConstants.{MESSAGE_LIMIT, SERVER_LIMIT};
 ghost use Rattle.xk_kernel.specs.Saving.Rows.{rows_below, server_at};
 ghost use Rattle.xk_base.specs.Calls.Kinds.{kind_number};
-ghost use Rattle.xk_kernel.specs.Saving.SavedRows.{message_row, server_row};
+ghost use Rattle.suspend_image.specs.SavedRows.{message_row, server_row};
 ghost use Rattle.xk_kernel.specs.Saving.Servers.{IsNextServer, lower_seated, table_server};
 ghost use Rattle.xk_kernel.specs.Saving.Written.{Appends, Fits};
 

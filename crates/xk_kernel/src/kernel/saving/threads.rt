@@ -7,7 +7,7 @@ ghost use Rattle.thread_table.specs.ThreadsOf.{process_count};
 ghost use Rattle.xk_base.specs.Tables.Circle.{thread_ids};
 ghost use Rattle.xk_base.specs.declared.limits.TheConstants.{PROCESS_LIMIT};
 ghost use Rattle.xk_kernel.specs.Saving.Rows.{rows_below, thread_at};
-ghost use Rattle.xk_kernel.specs.Saving.SavedRows.{state_number, state_waits, thread_row};
+ghost use Rattle.suspend_image.specs.SavedRows.{state_number, state_waits, thread_row};
 ghost use Rattle.xk_kernel.specs.Saving.Written.{Appends, Fits};
 
 use suspend_image::{Sheet, ThreadRow, write_thread};

@@ -1,7 +1,7 @@
 use Rattle.std.proofs.Common.{◌≡◌, ◌∙◌, ap, refl}
 use Rattle.std.specs.Prelude.{is_some, unwrap_or}
 use Rattle.std.specs.Option.{option_map}
-use Rattle.xk_kernel.specs.Saving.SavedRows.{flag}
+use Rattle.suspend_image.specs.SavedRows.{flag}
 use Rattle.xk_kernel.specs.State.{machine_of}
 use Rattle.xk_kernel.proofs.Saving.PartLemmas.{numbers_appended, numbers_room, reserved_room}
 use Rattle.xk_kernel.proofs.Saving.TableLemmas.{byte_is}

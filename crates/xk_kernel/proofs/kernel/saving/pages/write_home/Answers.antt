@@ -11,7 +11,7 @@ use Rattle.xk_base.specs.declared.ids.Place.{Place}
 use Rattle.xk_base.specs.declared.pages.Access.TheVariants.{Load}
 use Rattle.xk_kernel.specs.Saving.Pages.{as_loan, reading_place, seen_page}
 use Rattle.xk_kernel.specs.Saving.Rows.{home_at}
-use Rattle.xk_kernel.specs.Saving.SavedRows.{page_row}
+use Rattle.suspend_image.specs.SavedRows.{page_row}
 use Rattle.xk_kernel.proofs.Saving.BringsLemmas.{brings_none, brings_procs}
 use Rattle.xk_kernel.proofs.Saving.PageReadLemmas.{console_written, home_seen, no_home, none_seen, none_written, page_room, page_written, row_room, seen_may, seen_reached, told_by}
 use Rattle.xk_kernel.proofs.kernel.saving.pages.write_home.Goals as goal

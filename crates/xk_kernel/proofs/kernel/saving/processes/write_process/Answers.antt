@@ -4,7 +4,7 @@ use Rattle.process_table.specs.ProcessesOf.{processes_of}
 use Rattle.send_path.specs.Parts.{processes_shown}
 use Rattle.suspend_image.specs.Words.{word}
 use Rattle.xk_base.specs.declared.ids.Serial.{Serial}
-use Rattle.xk_kernel.specs.Saving.SavedRows.{flag}
+use Rattle.suspend_image.specs.SavedRows.{flag}
 use Rattle.xk_kernel.proofs.Saving.ProcessLemmas.{connections_room, front_room, process_appended, serial_row}
 use Rattle.xk_kernel.proofs.Saving.SheetLemmas.{written_more, written_none}
 use Rattle.xk_kernel.proofs.Saving.TableLemmas.{byte_is, connection_at}

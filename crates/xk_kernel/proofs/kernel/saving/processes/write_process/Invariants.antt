@@ -6,7 +6,7 @@ use Rattle.suspend_image.specs.Sheets.{appended}
 use Rattle.suspend_image.specs.Words.{word, word_bytes}
 use Rattle.xk_base.specs.declared.ids.Serial.{Serial}
 use Rattle.xk_kernel.proofs.Saving.SheetLemmas.{HasWritten}
-use Rattle.xk_kernel.specs.Saving.SavedRows.{flag}
+use Rattle.suspend_image.specs.SavedRows.{flag}
 use Rattle.xk_kernel.proofs.kernel.saving.processes.write_process.Given as goal
 
 -- the serials so far were appended

@@ -4,7 +4,7 @@ use Rattle.msg_queue.specs.Seats.{message_of, seat_of}
 use Rattle.msg_queue.specs.declared.held.Held.{Held}
 use Rattle.suspend_image.specs.Spelling.{message_bytes}
 use Rattle.xk_kernel.proofs.Saving.SheetLemmas.{HasWritten}
-use Rattle.xk_kernel.specs.Saving.SavedRows.{message_row}
+use Rattle.suspend_image.specs.SavedRows.{message_row}
 use Rattle.xk_kernel.proofs.kernel.saving.servers.write_queued.Given as goal
 
 -- the messages so far were appended

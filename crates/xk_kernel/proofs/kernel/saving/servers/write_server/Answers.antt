@@ -4,7 +4,7 @@ use Rattle.std.proofs.lemmas.List.{length-map}
 use Rattle.msg_queue.specs.Seats.{message_of, seat_of}
 use Rattle.send_path.specs.Parts.{server_with}
 use Rattle.suspend_image.specs.Words.{word_bytes}
-use Rattle.xk_kernel.specs.Saving.SavedRows.{message_row, server_row}
+use Rattle.suspend_image.specs.SavedRows.{message_row, server_row}
 use Rattle.xk_kernel.specs.Saving.Servers.{table_server}
 use Rattle.xk_kernel.proofs.Saving.MessageLemmas.{held_many, seat_room, server_appended}
 use Rattle.xk_kernel.proofs.kernel.saving.servers.write_server.Goals as goal
