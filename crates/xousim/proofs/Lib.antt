@@ -3,5 +3,6 @@ pub mod Loading
 pub mod Outcome
 pub mod Output
 pub mod Reading
+pub mod Resumed
 pub mod Splitting
 pub mod Telling
