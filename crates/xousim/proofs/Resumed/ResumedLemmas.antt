@@ -61,16 +61,18 @@ pub resumed_goes_on : (before after : List Event) (limit : ℕ) (start : Machine
 resumed_goes_on before after limit start file state matched saveable cut =
     let first : History = history before limit start in
     let joined : IsJoined (followed_by first (history after limit)) first (history after limit first.machine)
-        = unmet_joined first (history after limit) cut.unmet in
+    = unmet_joined first (history after limit) cut.unmet in
     let all : IsJoined (history (before ++ after) limit start) first (history after limit first.machine)
-        = subst (λ (whole : History). IsJoined whole first (history after limit first.machine)) (sym (history_append before after limit start)) joined in
+    = subst (λ (whole : History). IsJoined whole first (history after limit first.machine)) (sym (history_append before after limit start)) joined in
     subst (λ (m : Machine). IsJoined (history (before ++ after) limit start) first (history after limit m))
     (sym (suspended_is_resumed before limit start file state matched saveable cut)) all
 
 -- ---- the limit
 
 within_limit : (limit : ℕ) (m : Machine) → m.steps ≤ limit → limit_from limit m ≡ limit
-within_limit limit m within = ap (λ (b : Bool). if b then limit else m.steps) (grind (arith, nat_tests) : nat_le m.steps limit ≡ true)
+within_limit limit m within =
+    let test : nat_le m.steps limit ≡ true = grind (arith, nat_tests) in
+    ap (λ (b : Bool). if b then limit else m.steps) test
 
 pub resumed_limit : (before : List Event) (limit : ℕ) (start : Machine) (file : List ℕ) (state : State) → Matched start → start.steps ≤ limit
     → IsSaveable (history before limit start).machine → IsCut before limit start file state → limit_from limit (machine_of file state) ≡ limit

@@ -157,12 +157,7 @@ fn read_suspend<'a>(words: &'a [String]) -> Option<SuspendWords<'a>>
 }
 
 /// A run that is to be resumed, with these numbers.
-fn resume_with<'a>(
-    state: &'a String,
-    events: &'a String,
-    limit: u32,
-    slots: u32,
-) -> ResumeWords<'a>
+fn resume_with<'a>(state: &'a String, events: &'a String, limit: u32, slots: u32) -> ResumeWords<'a>
     requires limited { limit ≤ 4000000000 }
     requires few { slots ≤ 16384 }
     ensures { Some (resume_in result) ≡ resume_with state.now events.now (Some limit) (Some slots) }
