@@ -16,7 +16,7 @@ ghost use Rattle.xousim.specs.Resumed.{IsCut, IsJoined};
 /// A state is read of the bytes of each state to which events lead, and it is that one. The numbers of
 /// the state fit into words, as they do in each state that a kernel holds: of every state that `suspend`
 /// writes the top call says so.
-#[tactic(auto, using(crate::proofs::Resumed::ResumedLemmas::suspended_is_read, crate::proofs::Resumed::ResumedLemmas::suspended_is_resumed))]
+#[tactic(auto, using(crate::proofs::Continuing::ResumedLemmas::suspended_is_read, crate::proofs::Continuing::ResumedLemmas::suspended_is_resumed))]
 pub fn suspended_state_is_read()
     ensures read { (before : List Event) (limit : ℕ) (start : Machine) → Matched start → let last = (history before limit start).machine in
         IsSaveable last → (state : State) × IsResumable (saved_bytes last) state }
@@ -28,7 +28,7 @@ pub fn suspended_state_is_read()
 /// Where the events before don't meet the limit, the history of all events is theirs, followed by that of
 /// the events after from the state that is read of the saved bytes. The limit stays, as no step goes
 /// beyond it.
-#[tactic(auto, using(crate::proofs::Resumed::ResumedLemmas::resumed_goes_on, crate::proofs::Resumed::ResumedLemmas::resumed_limit))]
+#[tactic(auto, using(crate::proofs::Continuing::ResumedLemmas::resumed_goes_on, crate::proofs::Continuing::ResumedLemmas::resumed_limit))]
 pub fn resumed_run_goes_on()
     ensures goes_on { (before after : List Event) (limit : ℕ) (start : Machine) (file : List ℕ) (state : State) → Matched start
         → IsSaveable (history before limit start).machine → IsCut before limit start file state
