@@ -1,5 +1,5 @@
 -- State files that are read: the states that a run of so many slots goes on from, and the first fault of the other files.
-use Rattle.std.specs.Prelude.{◌≡◌, ◌<◌, ◌≤◌, ◌⊎◌, ◌-◌, ℕ, nat_lt, MatchBool, List, length}
+use Rattle.std.specs.Prelude.{◌≡◌, ◌<◌, ◌≤◌, ◌⊎◌, ℕ, nat_lt, MatchBool, List, length}
 use Rattle.kernel_args.specs.declared.faults.ArgFault.{ArgFault}
 use Rattle.boot_plan.specs.FaultNumbers.{too_long}
 use Rattle.machine_model.specs.State.Machine.{Machine}
@@ -39,7 +39,7 @@ pub record IsSplitFault (file : List ℕ) (slots : ℕ) (fault : ArgFault) : Typ
   pub state : State
   pub resumable : IsResumable file state
   pub split : IsBadSplit state slots
-  pub fault : fault ≡ record { what = bad_split; at = 0 }
+  pub named : fault ≡ record { what = bad_split; at = 0 }
 
 -- The first fault of a state file for a run of so many slots: it is too long, it has one of the faults of every state file, or it can't be
 -- split so.
