@@ -14,6 +14,7 @@ mod lines;
 mod memory_calls;
 mod processes;
 mod programs;
+mod resuming;
 mod scalars;
 mod servers;
 mod swapping;

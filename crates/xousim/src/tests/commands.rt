@@ -33,7 +33,7 @@ fn call_with(alloc: Global, words: &[String], events: &[u8]) -> Result<Outcome, 
 }
 
 /// Lists of words of none of the stated forms, with a bar between two words.
-const OF_NO_FORM: [&str; 25] = [
+const OF_NO_FORM: [&str; 32] = [
     "--help",
     "trace",
     "trace|i",
@@ -59,10 +59,17 @@ const OF_NO_FORM: [&str; 25] = [
     "demo|0",
     "demo|32",
     "demo|3|3",
+    "suspend",
+    "suspend|i",
+    "suspend|i|e|0",
+    "suspend|i|e|5|0|s",
+    "resume|s",
+    "resume|s|e|5|16385",
+    "resume|s|e|5|0|s",
 ];
 
 const USAGE: &[u8] =
-    b"usage: xousim trace|run|ledger IMAGE EVENTS [STEPS [SLOTS [STORE]]] | check IMAGE [SLOTS] | convert IMAGE | demo N\n";
+    b"usage: xousim trace|run|ledger IMAGE EVENTS [STEPS [SLOTS [STORE]]] | check IMAGE [SLOTS] | convert IMAGE | demo N | suspend IMAGE EVENTS [STEPS [SLOTS]] | resume STATE EVENTS [STEPS [SLOTS]]\n";
 
 /// The words that stand between the bars of a line.
 fn words_of(alloc: Global, line: &str) -> Result<Vec<String>, Fail> {

@@ -54,6 +54,7 @@ returns-in_default g c = record {
       let new : Stand = stand g.W.SwapStore.is_honest g.W.SwapStore.held c.play_event.new.kernel (text (g.K.Sink.written c.play_event.new.out) c.play_event.new.held.items) in
       ends_event (run_from c.args.tells c.args.limit start begun) old new taken r c.in-Event.event c.in_ok-ending-in-Event.ending (sym c.in-Event.ensures.answer)
       (trust_stays c.play_event.ensures.keeps) c.in_default.not-Played c.in_ok-ending-in-Event.ensures.plays p;
+  near = λ start begun taken e p. absurd (c.in_default.not-Played (same_ending c.in_ok-ending-in-Event.ending e));
   sound = c.play_event.ensures.sound;
   usable = c.in_ok-ending-in-Event.ensures.usable;
   keeps = c.play_event.ensures.keeps;
