@@ -1,5 +1,5 @@
 -- The search for the least free run: what is known when it has looked at the first k places of the window.
-use Rattle.std.proofs.Common.{◌≡◌, ◌≢◌, ℕ, ◌+◌, ◌-◌, ◌<◌, ◌≤◌, Bool, true, false, ◌&&◌, Option, Some, None, refl, sym, ap, subst, ◌∙◌, inl, inr, arith}
+use Rattle.std.proofs.Common.{◌≡◌, ◌≢◌, ℕ, ◌+◌, ◌-◌, ◌*◌, ◌/◌, ◌%◌, ◌<◌, ◌≤◌, List, IsSome, IsTrue, Bool, true, false, ◌&&◌, Option, Some, None, refl, sym, ap, subst, ◌∙◌, inl, inr, arith}
 use Rattle.std.specs.Prelude.{nat_le, is_some, []}
 use Rattle.std.specs.List.{list_all}
 use Rattle.std.specs.Option.{option_map}
@@ -9,8 +9,13 @@ use Rattle.xk_base.specs.declared.ids.Pid.{Pid}
 use Rattle.xk_base.specs.declared.ids.Place.{Place}
 use Rattle.xk_base.specs.declared.ids.Vpn.{Vpn}
 use Rattle.xk_base.specs.declared.windows.Window.{Window}
+use Rattle.xk_base.specs.declared.windows.Window.TheVariants.{Image, Heap, Message, Map, Stack}
 use Rattle.xk_base.specs.Tables.Circle.{is_pid}
-use Rattle.xk_base.specs.Numbers.Windows.{first_page, in_window, last_page}
+use Rattle.xk_base.specs.Numbers.Windows.{first_page, in_window, last_page, window_at}
+use Rattle.phys_pages.specs.Ram.{Area, RamBytes, area, word_in}
+use Rattle.sv32_space.specs.SpelledEntries.{entries, entry_spelled}
+use Rattle.sv32_space.specs.Spellings.{kind_at}
+use Rattle.sv32_space.specs.Tables.{IsTableOf}
 use Rattle.xk_base.specs.Tables.Counting.{least_below}
 use Rattle.xk_base.proofs.CountingLemmas.{least_below-None, least_below-Some}
 use Rattle.ledger_model.specs.LeastRun.{IsLeastRun, is_free_run, least_run, window_pages, window_place}
@@ -46,14 +51,51 @@ each_free : (E : Entries) (first : Place) (n : ℕ) → ((i : ℕ) → i < n →
 unfolding all_free
 each_free E first n h = list_all-run (λ p. is_free_entry (E p)) first n h
 
+-- ---- the words of the window's tables
+
+page_in : (window : Window) (v : ℕ) → first_page window ≤ v → v ≤ last_page window → IsSome (window_at v)
+page_in Image v low high = grind (arith, nat_tests)
+page_in Heap v low high = grind (arith, nat_tests)
+page_in Message v low high = grind (arith, nat_tests)
+page_in Map v low high = grind (arith, nat_tests)
+page_in Stack v low high = grind (arith, nat_tests)
+
+-- a page number from the window's first up to its last is in the window
+pub page_there : (window : Window) (first last k : ℕ) → first ≡ first_page window → last ≡ last_page window → k < last + 1 - first
+    → IsSome (window_at (first + k))
+page_there window first last k a b low = page_in window (first + k) (omega (arith, a)) (omega (arith, a, b, low))
+
+pub first_there : (window : Window) (first : ℕ) → first ≡ first_page window → IsSome (window_at first)
+first_there window first at = subst (λ v. IsSome (window_at v)) (sym at) (first_in window)
+  where
+    first_in : (window : Window) → IsSome (window_at (first_page window))
+    first_in Image = refl
+    first_in Heap = refl
+    first_in Message = refl
+    first_in Map = refl
+    first_in Stack = refl
+
+-- the table of a place is that of the next one too, but where a table begins
+pub same_table : (ram : RamBytes) (pid : Pid) (v w : Vpn) (table : List ℕ) → v.0 / 1024 ≡ w.0 / 1024
+    → IsTableOf ram (record { pid = pid; vpn = v }) table → IsTableOf ram (record { pid = pid; vpn = w }) table
+same_table ram pid v w table same told procs q process window here part = told procs q process window here (part ∙ sym same)
+
+-- nothing stands where a word is 0
+pub zero_is_free : (a : Area) (word : ℕ) → word ≡ 0 → is_free_entry (entry_spelled a word) ≡ true
+unfolding kind_at
+zero_is_free a word zero = ap (λ n. is_free_entry (entry_spelled a n)) zero
+
 -- what was told of the k-th place
-pub looked : (E : Entries) (pid : Pid) (window : Window) (first : Vpn) (k : ℕ) (entry : Option Entry) (told b : Bool) → first.0 ≡ first_page window
-    → E (place_after (record { pid = pid; vpn = first }) k) ≡ entry → told ≡ is_free_entry entry → told ≡ b
-    → is_free_entry (E (window_place pid window k)) ≡ b
-looked E pid window first k entry told b at seen said e =
-    let same : place_after (record { pid = pid; vpn = first }) k ≡ window_place pid window k =
-    place_from (place_after (record { pid = pid; vpn = first }) k) (window_place pid window k) refl (ap (λ x. x + k) at) in
-    sym (ap (λ q. is_free_entry (E q)) same) ∙ (ap is_free_entry seen ∙ (sym said ∙ e))
+pub looked : (procs : ℕ) (ram : RamBytes) (pid : Pid) (window : Window) (first k : ℕ) (table : List ℕ) (word : ℕ) (told b : Bool) → first ≡ first_page window
+    → IsTrue (is_pid procs pid.0) → IsSome (window_at (first + k)) → IsTableOf ram (record { pid = pid; vpn = record { 0 = first + k } }) table
+    → word ≡ word_in table (4 * ((first + k) % 1024)) → told ≡ is_free_entry (entry_spelled (area ram) word) → told ≡ b
+    → is_free_entry (entries procs ram (window_place pid window k)) ≡ b
+looked procs ram pid window first k table word told b at process there is read said e =
+    let same : record { pid = pid; vpn = record { 0 = first + k } } ≡ window_place pid window k =
+    place_from (record { pid = pid; vpn = record { 0 = first + k } }) (window_place pid window k) refl (ap (λ x. x + k) at) in
+    sym (ap (λ q. is_free_entry (entries procs ram q)) same)
+    ∙ (ap is_free_entry (is procs (record { pid = pid; vpn = record { 0 = first + k } }) process there refl refl ∙ sym (ap (entry_spelled (area ram)) read))
+    ∙ (sym said ∙ e))
 
 -- no run that begins before `start` will do; the places from there on are free, but too few so far
 pub record IsSearched (E : Entries) (pid : Pid) (window : Window) (n start k : ℕ) : Type 0 where

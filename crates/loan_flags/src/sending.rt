@@ -14,7 +14,7 @@ use xk_base::{MemKind, Place, Vpn, XousError, window_of};
 
 // The entry of the place `i` pages above another; `None` outside the windows too.
 #[tactic(auto, using(crate::proofs::SendingLemmas::no_entry_outside, crate::proofs::SendingLemmas::no_entry_past))]
-pub(crate) fn entry_above(ram: &Ram, first: Place, i: u32) -> Option<Entry>
+fn entry_above(ram: &Ram, first: Place, i: u32) -> Option<Entry>
     requires { IsMade ram.now first.pid.0 }
     ensures { (procs : ℕ) → IsTrue (is_pid procs first.pid.0) → entries procs ram.now (place_after first i) ≡ result }
 {

@@ -1,8 +1,9 @@
 //! The table of processes.
 
-ghost use Rattle.std.specs.Prelude.{◌≡◌, ◌≤◌, IfOk, OnOk, OnErr};
+ghost use Rattle.std.specs.Prelude.{◌≡◌, ◌≤◌, IfOk, OnOk, OnErr, vec_len};
 ghost use Rattle.xk_base.specs.Tables.Circle.{IsPid};
 ghost use Rattle.xk_base.specs.Tables.Connections.{connected_to, has_room};
+ghost use Rattle.xk_base.specs.declared.limits.TheConstants.{PROCESS_LIMIT};
 ghost use Rattle.process_table.specs.State.{dead_process, connection, with_heap, with_connection};
 ghost use Rattle.process_table.specs.ProcessMap.{new_processes, change, is_alive, heap_of, connections_of};
 
@@ -15,6 +16,7 @@ use xk_base::{Cid, NoMemory, Pid, Serial, XousError};
 #[derive(Debug, Drop)]
 pub struct Processes {
     by_pid: Vec<Process>,
+    ghost few: { vec_len by_pid ≤ PROCESS_LIMIT },
 }
 
 #[tactic(auto, using(crate::proofs::ByPidLemmas::by_pid_laws), unfolding(crate::specs::ProcessesOf::process_count, crate::specs::ProcessesOf::processes_of))]
@@ -35,6 +37,13 @@ impl Processes {
             by_pid.push_reserved(Process::new());
         }
         Ok(Processes { by_pid })
+    }
+
+    /// The number of processes that the table was made for.
+    pub fn procs(&self) -> u32
+        ensures { result ≡ process_count self.now }
+    {
+        self.by_pid.len() as u32
     }
 
     /// Whether the process is there and alive, for any pid.
@@ -153,6 +162,7 @@ mod tests {
             processes.set_heap(Pid(3), 8192);
             assert_eq!(rt; processes.connect(Pid(3), Serial(1)), Ok(Cid(2)));
             processes.end(Pid(3));
+            assert_eq!(rt; processes.procs(), 2);
             assert_eq!(rt; processes.heap(Pid(2)), 4096);
             assert_eq!(rt; processes.heap(Pid(3)), 0);
             assert_eq!(rt; processes.server_of(Pid(3), Cid(2)), None);

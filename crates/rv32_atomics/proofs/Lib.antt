@@ -1,4 +1,5 @@
 pub mod AmoLemmas
+pub mod LeavingLemmas
 pub mod PerformingLemmas
 pub mod ReadingLemmas
 pub mod TableLemmas

@@ -6,14 +6,15 @@ use Rattle.xk_base.specs.declared.pages.Access.TheVariants.{Fetch}
 use Rattle.xk_base.specs.declared.pages.Width.TheVariants.{Word}
 use Rattle.xk_base.specs.Calls.Registers.{reg_at}
 use Rattle.xk_base.specs.UserMemory.{Content, KeepsContent, Memory, StandsAt, Timer, number_at}
-use Rattle.machine_model.specs.Hart.Instructions.{Executed, Next, Stores, StoresToConsole, StoresToTimer, CallsKernel, Traps, execute_base, execute_base_at, fetch_page_fault}
+use Rattle.machine_model.specs.Hart.Instructions.{Executed, Next, Stores, StoresToConsole, StoresToTimer, CallsKernel, Traps, execute_base, fetch_page_fault}
 use Rattle.machine_model.specs.Hart.Atomics.{Atomic, Performed, atomic_at, atomic_effect, execute, execute_at, leaving, perform, reserves, unless_ended}
 use Rattle.rv32_hart.specs.declared.ran.Ran.{Ran}
 use Rattle.rv32_hart.specs.declared.ran.Ran.TheVariants.{Ecall, Trap, Device, Failed}
 use Rattle.rv32_hart.specs.declared.ran.Ran.TheVariants as ran
-use Rattle.rv32_hart.specs.Running.{DoesExecute, ExecutesOver, IsExecuted, OverBytes, View, execute_fetched, ran_of}
+use Rattle.rv32_hart.specs.Running.{DoesExecute, IsExecuted, OverBytes, View, execute_fetched, ran_of}
 use Rattle.rv32_hart.proofs.AccessLemmas.{over_map}
-use Rattle.rv32_hart.proofs.ExecutingLemmas.{over, through, told, traps}
+use Rattle.rv32_hart.proofs.ExecutingLemmas.{agree, over, through, told, traps}
+use Rattle.rv32_hart.proofs.ExecutingLemmas.{fetched as fetched_word}
 use Rattle.rv32_atomics.specs.declared.atomic.Atomic as TableAtomic
 use Rattle.rv32_atomics.specs.declared.fields.Fields.{Fields}
 use Rattle.rv32_atomics.specs.declared.kind.Kind.{Kind}
@@ -49,7 +50,7 @@ leaves_reserved Ecall before left new e = e
 leaves_reserved (Trap cause value) before left new e = e
 leaves_reserved Failed before left new e = e
 
-abbrev core : List ℕ → Option ℕ → Core
+abbrev pub core : List ℕ → Option ℕ → Core
 core regs reserved = record { regs = regs; reserved = reserved }
 
 module _ (may : Access → ℕ → Bool) (console : ℕ → Bool) (timer : Option Timer) (after : View) (old new : List ℕ) (before kept : Option ℕ) where
@@ -118,41 +119,22 @@ module _ (may : Access → ℕ → Bool) (console : ℕ → Bool) (timer : Optio
       (performs (λ mem. atomic_effect mem old pc before atomic) (reserves old before atomic) (Some byte) answer e
       (through may console timer after old new (λ mem. atomic_effect mem old pc before atomic) (Some byte) middle answer k h))
 
-  -- where nothing is told, the base table's instruction is that of some word
-  some_word : (pc : ℕ) (answer : Ran) → DoesExecute (execute_base_at old pc) (view None) after old new answer
-      → (word : ℕ) × DoesExecute (execute_fetched old pc word) (view None) after old new answer
-  unfolding execute_base_at
-  some_word pc Failed h = (0, h)
-  some_word pc (ran.Next next) h = (number_at h.0 pc Word, (h.0, h.1))
-  some_word pc Ecall h = (number_at h.0 pc Word, (h.0, h.1))
-  some_word pc (Trap cause value) h = (number_at h.0 pc Word, (h.0, h.1))
-  some_word pc (Device offset value next) h = (number_at h.0 pc Word, (h.0, h.1))
-
-  untold : (middle : Content) (pc : ℕ) (answer : Ran) → ExecutesOver middle (view middle) after old new pc answer
-      → (word : ℕ) × DoesExecute (execute_fetched old pc word) (view None) after old new answer
-  untold None pc answer h = h
-  untold (Some byte) pc answer h =
-      some_word pc answer (through may console timer after old new (execute_base_at old pc) None (Some byte) answer tt h)
-
-  based : (pc word : ℕ) (byte : ℕ → ℕ) → may Fetch pc ≡ true → word ≡ number_at byte pc Word → atomic_at word ≡ None
-      → leaving before (execute_base_at old pc (at byte)) ≡ execute_at old pc before (at byte)
-  unfolding execute_base_at
-  based pc word byte m s i =
-      ap (leaving before)
-      (cond-true (may Fetch pc) (execute_base old pc (number_at byte pc Word) (at byte)) (Traps fetch_page_fault pc) m
-      ∙ ap (λ w. execute_base old pc w (at byte)) (sym s))
-      ∙ fetched pc word None byte m s i
-
   pub performs_base : (content middle : Content) (pc word : ℕ) (answer : Ran)
       → may Fetch pc ≡ true → StandsAt content pc Word word → KeepsContent content middle → atomic_at word ≡ None
-      → kept ≡ reserved_after answer before before → ExecutesOver middle (view middle) after old new pc answer
+      → kept ≡ reserved_after answer before before → DoesExecute (execute_base old pc word) (view middle) after old new answer
       → PerformsOver content (view content) after (core old before) (core new kept) pc answer
   performs_base None middle pc word answer m s k i e h =
-      let some = untold middle pc answer h in
-      inr (some.0, performs (execute_fetched old pc some.0) before None answer e some.1)
+      inr (
+        word,
+        performs (execute_fetched old pc word) before None answer e
+            (agree may console timer after old new (execute_fetched old pc word) (execute_base old pc word) None answer
+            (fetched_word may console timer after old new pc word m)
+            (through may console timer after old new (execute_base old pc word) None middle answer k h)),
+      )
   performs_base (Some byte) middle pc word answer m s k i e h =
-      agree_there (execute_at old pc before) (λ mem. leaving before (execute_base_at old pc mem)) byte answer (based pc word byte m s i)
-      (performs (execute_base_at old pc) before (Some byte) answer e (subst (λ c. ExecutesOver c (view c) after old new pc answer) k h))
+      agree_there (execute_at old pc before) (λ mem. leaving before (execute_base old pc word mem)) byte answer (fetched pc word None byte m s i)
+      (performs (execute_base old pc word) before (Some byte) answer e
+      (through may console timer after old new (execute_base old pc word) (Some byte) middle answer k h))
 
 -- a fetch that is denied traps, and nothing is reserved any more
 pub performs_denied : (may : Access → ℕ → Bool) (console : ℕ → Bool) (timer : Option Timer) (after : View) (old : List ℕ) (before : Option ℕ)

@@ -1,6 +1,6 @@
 -- What running any instruction at the pc comes to: what the tables of instructions give for the registers, the pc, the thread's
 -- reservation and the memory that the process sees.
-use Rattle.std.specs.Prelude.{◌≡◌, ℕ, true, not, List, ◌⊎◌, if◌then◌else◌, Option, Some, None}
+use Rattle.std.specs.Prelude.{◌≡◌, ℕ, Bool, true, false, not, List, ◌⊎◌, if◌then◌else◌, Option, Some, None}
 use Rattle.xk_base.specs.declared.pages.Access.TheVariants.{Fetch, Store}
 use Rattle.xk_base.specs.declared.pages.Width.TheVariants.{Word}
 use Rattle.xk_base.specs.UserMemory.{Memory, Content}
@@ -9,7 +9,7 @@ use Rattle.machine_model.specs.Hart.Instructions.{Executed, Traps, puts, store_p
 use Rattle.rv32_hart.specs.declared.ran.Ran.{Ran}
 use Rattle.rv32_hart.specs.declared.ran.Ran.TheVariants.{Ecall, Trap, Device, Failed}
 use Rattle.rv32_hart.specs.declared.ran.Ran.TheVariants as ran
-use Rattle.rv32_hart.specs.Running.{IsExecuted, KeepsView, OverBytes, View, execute_fetched, seen}
+use Rattle.rv32_hart.specs.Running.{DoesExecute, IsExecuted, KeepsView, OverBytes, View, execute_fetched, seen}
 
 -- the word goes to the address, where the process may store there
 abbrev pub puts_if_allowed : Memory → ℕ → ℕ → List ℕ → ℕ → Executed
@@ -28,6 +28,15 @@ reserved_after (Device offset value pc) before left = left
 reserved_after Ecall before left = None
 reserved_after (Trap cause value) before left = None
 reserved_after Failed before left = before
+
+-- on a trap, a call of the kernel and a failure the registers are as before, also where memory tells nothing. An SC and an AMO that
+-- store to a device have written rd.
+abbrev pub LeavesRegistersUnlessDone : List ℕ → List ℕ → Ran → Type 0
+LeavesRegistersUnlessDone old new (ran.Next pc) = Unit {0}
+LeavesRegistersUnlessDone old new (Device offset value pc) = Unit {0}
+LeavesRegistersUnlessDone old new Ecall = new ≡ old
+LeavesRegistersUnlessDone old new (Trap cause value) = new ≡ old
+LeavesRegistersUnlessDone old new Failed = new ≡ old
 
 -- on a trap and a call of the kernel nothing is reserved any more, and on a failure it is as before, also where memory tells nothing
 abbrev pub LeavesReserved : Option ℕ → Option ℕ → Ran → Type 0
@@ -71,3 +80,32 @@ PerformsOver None before after old new pc answer =
 
 abbrev pub Performs : View → View → Core → Core → ℕ → Ran → Type 0
 Performs before after old new pc answer = PerformsOver before.content before after old new pc answer
+
+-- ---- .. or left as it is
+
+-- the thread goes on, and stored to no device
+abbrev pub goes_on : Ran → Bool
+goes_on (ran.Next pc) = true
+goes_on (Device offset value pc) = false
+goes_on Ecall = false
+goes_on (Trap cause value) = false
+goes_on Failed = false
+
+-- where the thread goes on, what the instruction leaves to it; else what it had before
+abbrev pub core_left : Core → Core → Ran → Core
+core_left old done answer = if goes_on answer then done else old
+
+-- An instruction of this effect over memory is executed, and leaves this reservation unless it traps; or it is left so.
+pub record ExecutesOrLeaves (effect : Memory → Executed) (left : Option ℕ) (before after : View) (old new : Core) (answer : Ran) : Type 0 where
+  pub done : Core
+  pub executes : DoesExecute effect before after old.regs done.regs answer
+  pub reserved : done.reserved ≡ reserved_after answer old.reserved left
+  pub core : new ≡ core_left old done answer
+
+-- THE INSTRUCTION AT THE PC IS PERFORMED, OR LEFT: which it is, is said by the registers and the reservation with which it would be
+-- performed. They are the thread's where it goes on by it; on any other answer, also where memory tells nothing, the thread has
+-- those of before.
+pub record PerformsOrLeaves (before after : View) (old new : Core) (pc : ℕ) (answer : Ran) : Type 0 where
+  pub done : Core
+  pub performs : Performs before after old done pc answer
+  pub core : new ≡ core_left old done answer

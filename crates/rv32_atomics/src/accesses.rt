@@ -7,9 +7,9 @@ ghost use Rattle.xk_base.specs.declared.pages.Width.TheVariants.{Word};
 ghost use Rattle.rv32_words.specs.Formats.{IsRegister};
 ghost use Rattle.machine_model.specs.Hart.Atomics.{is_reserved, operates, result_of, stores_conditionally};
 ghost use Rattle.machine_model.specs.Hart.Instructions.{following, loads};
-ghost use Rattle.rv32_hart.specs.Running.{DoesExecute, View, LeavesRegisters, GoesOnAligned, UnlessFailed, IfFailed};
+ghost use Rattle.rv32_hart.specs.Running.{DoesExecute, View, GoesOnAligned, UnlessFailed, IfFailed};
 ghost use Rattle.rv32_atomics.specs.Meaning.{operation_of};
-ghost use Rattle.rv32_atomics.specs.Performing.{puts_if_allowed};
+ghost use Rattle.rv32_atomics.specs.Performing.{LeavesRegistersUnlessDone, puts_if_allowed};
 
 use crate::causes::{LOAD_MISALIGNED, LOAD_PAGE_FAULT, STORE_MISALIGNED, STORE_PAGE_FAULT};
 use crate::kind::{Operation, result};
@@ -31,7 +31,7 @@ pub fn load<U: UserMemory>(mem: &mut U, regs: &mut Regs, pc: u32, rd: u8, addres
     ensures executes { let before : View = record { may = U.may mem.old; console = U.console mem.old; content = U.content mem.old; timer = U.timer mem.old } in
         let after : View = record { may = U.may mem.new; console = U.console mem.new; content = U.content mem.new; timer = U.timer mem.new } in
         DoesExecute (λ mem. loads mem regs.old pc rd address Word (λ word. word)) before after regs.old regs.new result }
-    ensures leaves { LeavesRegisters regs.old regs.new result }
+    ensures leaves { LeavesRegistersUnlessDone regs.old regs.new result }
     ensures aligned { GoesOnAligned result }
     ensures may { U.may mem.new ≡ U.may mem.old }
     ensures console { U.console mem.new ≡ U.console mem.old }
@@ -77,7 +77,7 @@ fn put<U: UserMemory>(
     ensures executes { let before : View = record { may = U.may mem.old; console = U.console mem.old; content = U.content mem.old; timer = U.timer mem.old } in
         let after : View = record { may = U.may mem.new; console = U.console mem.new; content = U.content mem.new; timer = U.timer mem.new } in
         DoesExecute (λ mem. puts_if_allowed mem address value (with_reg regs.old rd loaded) (following pc)) before after regs.old regs.new result }
-    ensures leaves { LeavesRegisters regs.old regs.new result }
+    ensures leaves { LeavesRegistersUnlessDone regs.old regs.new result }
     ensures aligned { GoesOnAligned result }
     ensures may { U.may mem.new ≡ U.may mem.old }
     ensures console { U.console mem.new ≡ U.console mem.old }
@@ -124,7 +124,7 @@ pub fn store_conditionally<U: UserMemory>(
     ensures executes { let before : View = record { may = U.may mem.old; console = U.console mem.old; content = U.content mem.old; timer = U.timer mem.old } in
         let after : View = record { may = U.may mem.new; console = U.console mem.new; content = U.content mem.new; timer = U.timer mem.new } in
         DoesExecute (λ mem. stores_conditionally mem regs.old pc rd address reserved value) before after regs.old regs.new result }
-    ensures leaves { LeavesRegisters regs.old regs.new result }
+    ensures leaves { LeavesRegistersUnlessDone regs.old regs.new result }
     ensures aligned { GoesOnAligned result }
     ensures may { U.may mem.new ≡ U.may mem.old }
     ensures console { U.console mem.new ≡ U.console mem.old }
@@ -179,7 +179,7 @@ pub fn operate<U: UserMemory>(
     ensures executes { let before : View = record { may = U.may mem.old; console = U.console mem.old; content = U.content mem.old; timer = U.timer mem.old } in
         let after : View = record { may = U.may mem.new; console = U.console mem.new; content = U.content mem.new; timer = U.timer mem.new } in
         DoesExecute (λ mem. operates mem regs.old pc rd address (λ old. result_of (operation_of operation) old operand)) before after regs.old regs.new result }
-    ensures leaves { LeavesRegisters regs.old regs.new result }
+    ensures leaves { LeavesRegistersUnlessDone regs.old regs.new result }
     ensures aligned { GoesOnAligned result }
     ensures may { U.may mem.new ≡ U.may mem.old }
     ensures console { U.console mem.new ≡ U.console mem.old }

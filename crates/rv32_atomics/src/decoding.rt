@@ -21,6 +21,7 @@ pub const AMO: u32 = 0b010_1111;
 pub const WORD: u32 = 0b010;
 
 /// The atomic instruction of a word; none for a word outside the table.
+#[inline(always)]
 pub fn decode_atomic(word: u32) -> Option<Atomic>
     // The answer spells the word with its registers in range, and None says that nothing does.
     ensures found { MatchOption result ((a : Atomic) → ¬ Spells a word) (λ a. Spells a word) }
@@ -33,6 +34,7 @@ pub fn decode_atomic(word: u32) -> Option<Atomic>
 }
 
 /// The table, read by the word's fields.
+#[inline(always)]
 #[tactic(auto, unfolding(crate::specs::Reading::reading))]
 fn read(word: u32) -> Option<Atomic>
     ensures { result ≡ reading word }
@@ -45,6 +47,7 @@ fn read(word: u32) -> Option<Atomic>
 }
 
 /// The instruction of these fields.
+#[inline(never)]
 fn variant(f: Fields) -> Option<Atomic>
     ensures { result ≡ variant f }
 {

@@ -3,8 +3,9 @@
 ghost use Rattle.std.specs.Prelude.{◌≡◌, ◌≤◌, ◌%◌};
 ghost use Rattle.xk_base.specs.Outside.{Rose};
 ghost use Rattle.machine_model.specs.Hart.Atomics.{atomic_effect};
-ghost use Rattle.rv32_hart.specs.Running.{DoesExecute, View, LeavesRegisters, GoesOnAligned, UnlessFailed, IfFailed};
+ghost use Rattle.rv32_hart.specs.Running.{DoesExecute, View, GoesOnAligned, UnlessFailed, IfFailed};
 ghost use Rattle.rv32_atomics.specs.Meaning.{meaning};
+ghost use Rattle.rv32_atomics.specs.Performing.{LeavesRegistersUnlessDone};
 ghost use Rattle.rv32_atomics.specs.Table.{IsInRange};
 
 use crate::accesses::{load, operate, store_conditionally};
@@ -29,7 +30,7 @@ pub fn execute<U: UserMemory>(
     ensures executes { let before : View = record { may = U.may mem.old; console = U.console mem.old; content = U.content mem.old; timer = U.timer mem.old } in
         let after : View = record { may = U.may mem.new; console = U.console mem.new; content = U.content mem.new; timer = U.timer mem.new } in
         DoesExecute (λ mem. atomic_effect mem regs.old pc reserved (meaning atomic)) before after regs.old regs.new result }
-    ensures leaves { LeavesRegisters regs.old regs.new result }
+    ensures leaves { LeavesRegistersUnlessDone regs.old regs.new result }
     ensures aligned { GoesOnAligned result }
     ensures may { U.may mem.new ≡ U.may mem.old }
     ensures console { U.console mem.new ≡ U.console mem.old }

@@ -65,6 +65,9 @@ const LR: u32 = 0x1006_252f;
 /// SC a0, a1, (a2).
 const SC: u32 = 0x18b6_252f;
 
+/// SW a1, (a2).
+const SW: u32 = 0x00b6_2023;
+
 /// What comes of one instruction at address 0.
 #[derive(Clone, Copy, Debug, PartialEq, Eq)]
 struct Outcome {
@@ -77,6 +80,18 @@ struct Outcome {
 /// The instruction of the word at address 0, with a1 and the address in a2, where `old` stands at 256
 /// and this address is reserved.
 fn outcome_of(word: u32, a1: u32, a2: u32, old: u32, reserved: Option<u32>) -> Outcome {
+    outcome_by(false, word, a1, a2, old, reserved)
+}
+
+/// The same by `run_any`, or where it `leaves` by `run_or_leave`.
+fn outcome_by(
+    leaves: bool,
+    word: u32,
+    a1: u32,
+    a2: u32,
+    old: u32,
+    reserved: Option<u32>,
+) -> Outcome {
     let mut memory = SmallMemory { bytes: [0; 512] };
     let _ = memory.store(0, Width::Word, word);
     let _ = memory.store(256, Width::Word, old);
@@ -85,7 +100,11 @@ fn outcome_of(word: u32, a1: u32, a2: u32, old: u32, reserved: Option<u32>) -> O
     regs.set(11, a1);
     regs.set(12, a2);
     let mut left = reserved;
-    let ran = run_any(&mut regs, 0, &mut left, &mut memory);
+    let ran = if leaves {
+        run_or_leave(&mut regs, 0, &mut left, &mut memory)
+    } else {
+        run_any(&mut regs, 0, &mut left, &mut memory)
+    };
     Outcome {
         ran,
         a0: regs.get(10),
@@ -166,6 +185,44 @@ fn traps(rt: HostRuntime) {
     assert_eq!(rt; outcome_of(SC, 5, 496, 9, Some(496)).a0, 0);
     assert_eq!(rt; outcome_of(AMOS[0], 5, 496, 9, None).ran, device);
     assert_eq!(rt; outcome_of(AMOS[0], 5, 496, 9, None).a0, 0);
+}
+
+/// Where the thread goes on it has what the instruction leaves, and else what it had before.
+#[test]
+fn leaving(rt: HostRuntime) {
+    let kept = |ran: Ran, a0: u32, stored: u32, reserved: Option<u32>| Outcome {
+        ran,
+        a0,
+        stored,
+        reserved,
+    };
+    let device = Ran::Device {
+        offset: 496,
+        value: 5,
+        next: 4,
+    };
+    for word in &[SC, AMOS[0], SW] {
+        let left = kept(device, 7, 9, Some(496));
+        assert_eq!(rt;
+            outcome_by(true, *word, 5, 496, 9, Some(496)),
+            left,
+            "{word:08x}"
+        );
+    }
+    let call = kept(Ran::Ecall, 7, 9, Some(256));
+    assert_eq!(rt; outcome_by(true, 0x0000_0073, 5, 256, 9, Some(256)), call);
+    let trap = Ran::Trap {
+        cause: 6,
+        value: 258,
+    };
+    assert_eq!(rt;
+        outcome_by(true, SC, 5, 258, 9, Some(256)),
+        kept(trap, 7, 9, Some(256))
+    );
+    let next = kept(Ran::Next(4), 0, 5, None);
+    assert_eq!(rt; outcome_by(true, SC, 5, 256, 9, Some(256)), next);
+    let swapped = kept(Ran::Next(4), 9, 5, Some(256));
+    assert_eq!(rt; outcome_by(true, AMOS[0], 5, 256, 9, Some(256)), swapped);
 }
 
 /// Each word decodes to its instruction, and that encodes to the word.

@@ -86,20 +86,29 @@ module _ (may : Access → ℕ → Bool) (console : ℕ → Bool) (timer : Optio
         told_word (Trap cause value) h = h
         told_word (Device offset value next) h = h
 
-    fetched : (pc word : ℕ) (insn : Option Insn) → may Fetch pc ≡ true → insn_at word ≡ insn → (byte : ℕ → ℕ)
-        → effect_if_any (over byte) old pc word insn ≡ execute_fetched old pc word (over byte)
+    -- what a word does is what its instruction does, if it has one
+    decoded : (pc word : ℕ) (insn : Option Insn) → insn_at word ≡ insn → (byte : ℕ → ℕ)
+        → effect_if_any (over byte) old pc word insn ≡ execute_base old pc word (over byte)
     unfolding execute_base
-    fetched pc word insn m i byte =
-        ap (effect_if_any (over byte) old pc word) (sym i)
-        ∙ sym (cond-true (may Fetch pc) (execute_base old pc word (over byte)) (Traps fetch_page_fault pc) m)
+    decoded pc word insn i byte = ap (effect_if_any (over byte) old pc word) (sym i)
 
-    pub executes_insn : (before middle : Content) (pc word : ℕ) (insn : Insn) (answer : Ran)
-        → may Fetch pc ≡ true → StandsAt before pc Word word → KeepsContent before middle → insn_at word ≡ Some insn
-        → DoesExecute (λ mem. effect mem old pc insn) (told middle) after old new answer → ExecutesOver before (told before) after old new pc answer
-    executes_insn before middle pc word insn answer m s k i h =
+    pub executes_insn : (before : Content) (pc word : ℕ) (insn : Insn) (answer : Ran) → insn_at word ≡ Some insn
+        → DoesExecute (λ mem. effect mem old pc insn) (told before) after old new answer
+        → DoesExecute (execute_base old pc word) (told before) after old new answer
+    executes_insn before pc word insn answer i h =
+        agree (execute_base old pc word) (λ mem. effect mem old pc insn) before answer (decoded pc word (Some insn) i) h
+
+    -- where the process may fetch it
+    pub fetched : (pc word : ℕ) → may Fetch pc ≡ true → (byte : ℕ → ℕ) → execute_base old pc word (over byte) ≡ execute_fetched old pc word (over byte)
+    fetched pc word m byte = sym (cond-true (may Fetch pc) (execute_base old pc word (over byte)) (Traps fetch_page_fault pc) m)
+
+    pub executes_word : (before middle : Content) (pc word : ℕ) (answer : Ran)
+        → may Fetch pc ≡ true → StandsAt before pc Word word → KeepsContent before middle
+        → DoesExecute (execute_base old pc word) (told middle) after old new answer → ExecutesOver before (told before) after old new pc answer
+    executes_word before middle pc word answer m s k h =
         of_word before pc word answer s
-        (agree (execute_fetched old pc word) (λ mem. effect mem old pc insn) before answer (fetched pc word (Some insn) m i)
-        (through (λ mem. effect mem old pc insn) before middle answer k h))
+        (agree (execute_fetched old pc word) (execute_base old pc word) before answer (fetched pc word m)
+        (through (execute_base old pc word) before middle answer k h))
 
   -- ---- traps
 
@@ -108,6 +117,10 @@ module _ (may : Access → ℕ → Bool) (console : ℕ → Bool) (timer : Optio
   trap_over cause value None after regs k t = ((λ a. 0), record { answer = refl; registers = refl; content = tt; timer = t })
   trap_over cause value (Some byte) after regs k t = record { answer = refl; registers = refl; content = k; timer = t }
 
+  keeps_told : (content : Content) → KeepsContent content content
+  keeps_told None = tt
+  keeps_told (Some byte) = refl
+
   -- a trap leaves what is told
   pub traps : (f : Memory → Executed) (cause value : ℕ) (before : Content) (after : View) (regs : List ℕ)
       → ((byte : ℕ → ℕ) → f (over byte) ≡ Traps cause value) → KeepsContent before after.content → after.timer ≡ timer
@@ -115,12 +128,11 @@ module _ (may : Access → ℕ → Bool) (console : ℕ → Bool) (timer : Optio
   traps f cause value before after regs e k t =
       agree after regs regs f (λ mem. Traps cause value) before (Trap cause value) (λ byte. sym (e byte)) (trap_over cause value before after regs k t)
 
-  pub executes_nothing : (before : Content) (after : View) (regs : List ℕ) (pc word : ℕ)
-      → may Fetch pc ≡ true → StandsAt before pc Word word → KeepsContent before after.content → after.timer ≡ timer → insn_at word ≡ None
-      → ExecutesOver before (told before) after regs regs pc (Trap illegal_instruction word)
-  executes_nothing before after regs pc word m s k t i =
-      of_word after regs regs before pc word (Trap illegal_instruction word) s
-      (traps (execute_fetched regs pc word) illegal_instruction word before after regs (λ byte. sym (fetched after regs regs pc word None m i byte)) k t)
+  pub executes_nothing : (before : Content) (regs : List ℕ) (pc word : ℕ) → insn_at word ≡ None
+      → DoesExecute (execute_base regs pc word) (told before) (told before) regs regs (Trap illegal_instruction word)
+  executes_nothing before regs pc word i =
+      traps (execute_base regs pc word) illegal_instruction word before (told before) regs
+      (λ byte. sym (decoded (told before) regs regs pc word None i byte)) (keeps_told before) refl
 
   pub fetch_denied : (before : Content) (after : View) (regs : List ℕ) (pc : ℕ)
       → may Fetch pc ≡ false → KeepsContent before after.content → after.timer ≡ timer

@@ -111,10 +111,11 @@ ExecutesOver None before after old new pc answer = (word : ℕ) × DoesExecute (
 abbrev pub Executes : View → View → List ℕ → List ℕ → ℕ → Ran → Type 0
 Executes before after old new pc answer = ExecutesOver before.content before after old new pc answer
 
--- on a trap, a call of the kernel and a failure the registers are as before, also where memory tells nothing
+-- on a trap, a call of the kernel and a failure the registers are as before, also where memory tells nothing; and where a store
+-- went to a device, since a store writes no register
 abbrev pub LeavesRegisters : List ℕ → List ℕ → Ran → Type 0
 LeavesRegisters old new (ran.Next pc) = Unit {0}
-LeavesRegisters old new (Device offset value pc) = Unit {0}
+LeavesRegisters old new (Device offset value pc) = new ≡ old
 LeavesRegisters old new Ecall = new ≡ old
 LeavesRegisters old new (Trap cause value) = new ≡ old
 LeavesRegisters old new Failed = new ≡ old

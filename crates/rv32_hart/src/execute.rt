@@ -17,6 +17,7 @@ use rv32_words::Insn;
 use xk_base::{Regs, UserMemory};
 
 /// Executes an instruction that stands at `pc`.
+#[inline(always)]
 pub fn execute<U: UserMemory>(insn: Insn, regs: &mut Regs, pc: u32, mem: &mut U) -> Ran
     requires fields { IsInRange insn }
     requires aligned { pc % 4 ≡ 0 }
@@ -39,6 +40,7 @@ pub fn execute<U: UserMemory>(insn: Insn, regs: &mut Regs, pc: u32, mem: &mut U)
 }
 
 /// Does what an instruction that stands at `pc` does, with its sources read.
+#[inline(always)]
 fn perform<U: UserMemory>(operation: Operation, regs: &mut Regs, pc: u32, mem: &mut U) -> Ran
     requires register { WritesRegister operation }
     requires aligned { pc % 4 ≡ 0 }

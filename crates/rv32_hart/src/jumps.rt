@@ -11,6 +11,7 @@ use crate::ran::Ran;
 use xk_base::Regs;
 
 /// The pc of the instruction that follows.
+#[inline(always)]
 pub fn following(pc: u32) -> u32
     ensures { result ≡ following pc }
 {
@@ -18,6 +19,7 @@ pub fn following(pc: u32) -> u32
 }
 
 /// Jumps to the target; `rd` gets the pc of the instruction that follows.
+#[inline(always)]
 pub fn jump(regs: &mut Regs, pc: u32, rd: u8, target: u32) -> Ran
     requires { IsRegister rd }
     ensures executes { IsExecutedAlone (jumps regs.old pc rd target) regs.old regs.new result }
@@ -35,6 +37,7 @@ pub fn jump(regs: &mut Regs, pc: u32, rd: u8, target: u32) -> Ran
 }
 
 /// Branches by the offset in bytes, if the branch is taken, and else goes on.
+#[inline(always)]
 pub fn branch(pc: u32, taken: bool, offset: i32) -> Ran
     requires { pc % 4 ≡ 0 }
     ensures executes { (regs : List ℕ) → IsExecutedAlone (branches regs pc offset taken) regs regs result }

@@ -12,7 +12,7 @@ mod run;
 mod stores;
 
 pub use ran::Ran;
-pub use run::run_one;
+pub use run::{run_one, run_word};
 
 #[cfg(test)]
 mod tests;

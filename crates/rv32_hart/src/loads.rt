@@ -15,6 +15,7 @@ use crate::ran::Ran;
 use xk_base::{Failed, Regs, UserMemory, Width};
 
 /// Whether the address is a multiple of the width.
+#[inline(always)]
 pub fn is_aligned(address: u32, width: Width) -> bool
     ensures { result ≡ (address % size_of width == 0) }
 {
@@ -27,6 +28,7 @@ pub fn is_aligned(address: u32, width: Width) -> bool
 }
 
 /// A number of that width as a word; its sign is extended if it is a signed number.
+#[inline(always)]
 fn extend(value: u32, width: Width, signed: bool) -> u32
     ensures { result ≡ extended width signed value }
 {

@@ -99,6 +99,7 @@ pub fn operation_of(insn: Insn, x: &Regs, pc: u32) -> Operation
 }
 
 /// The address of a load, a store or a JALR.
+#[inline(always)]
 fn address(x: &Regs, rs1: u8, imm: i32) -> u32
     requires { IsRegister rs1 }
     ensures { result ≡ address_of x.now rs1 imm }
@@ -107,6 +108,7 @@ fn address(x: &Regs, rs1: u8, imm: i32) -> u32
 }
 
 /// The address with bit 0 cleared.
+#[inline(always)]
 fn even(address: u32) -> u32
     ensures { result ≡ address - address % 2 }
 {

@@ -2,7 +2,8 @@
 
 ghost use Rattle.std.specs.Prelude.{◌≡◌, ◌≤◌, ◌%◌};
 ghost use Rattle.xk_base.specs.Outside.{Rose};
-ghost use Rattle.rv32_hart.specs.Running.{Executes, View, LeavesRegisters, GoesOnAligned, UnlessFailed, IfFailed};
+ghost use Rattle.machine_model.specs.Hart.Instructions.{execute_base};
+ghost use Rattle.rv32_hart.specs.Running.{DoesExecute, Executes, View, LeavesRegisters, GoesOnAligned, UnlessFailed, IfFailed};
 
 use crate::causes::{FETCH_PAGE_FAULT, ILLEGAL_INSTRUCTION};
 use crate::execute::execute;
@@ -13,8 +14,9 @@ use xk_base::{Failed, Regs, UserMemory};
 /// Executes the instruction at `pc`, which is a multiple of 4, over a memory that is fit for use.
 ///
 /// It fetches once, and moves bytes at most once. On a trap, an ECALL and a failure the registers
-/// are as before. `Failed` comes only where the count of faults of `mem` rose, and `mem` isn't fit
-/// then; on every other answer it stays fit.
+/// are as before, and so they are where a store goes to a device, since a store writes none. `Failed`
+/// comes only where the count of faults of `mem` rose, and `mem` isn't fit then; on every other answer
+/// it stays fit.
 pub fn run_one<U: UserMemory>(regs: &mut Regs, pc: u32, mem: &mut U) -> Ran
     requires aligned { pc % 4 ≡ 0 }
     requires fit { U.fit mem.old }
@@ -31,16 +33,35 @@ pub fn run_one<U: UserMemory>(regs: &mut Regs, pc: u32, mem: &mut U) -> Ran
     ensures cause { IfFailed result (Rose (U.faults mem.old) (U.faults mem.new)) }
     ensures never_falls { U.faults mem.old ≤ U.faults mem.new }
 {
-    let word = match mem.fetch(pc) {
-        Ok(Some(word)) => word,
-        Ok(None) => {
-            return Ran::Trap {
-                cause: FETCH_PAGE_FAULT,
-                value: pc,
-            };
-        }
-        Err(Failed) => return Ran::Failed,
-    };
+    match mem.fetch(pc) {
+        Ok(Some(word)) => run_word(word, regs, pc, mem),
+        Ok(None) => Ran::Trap {
+            cause: FETCH_PAGE_FAULT,
+            value: pc,
+        },
+        Err(Failed) => Ran::Failed,
+    }
+}
+
+/// Executes the instruction that a word spells, which was fetched at `pc`, a multiple of 4, over a memory
+/// that is fit for use. A word that spells none is a trap. Registers and memory are left as by `run_one`.
+#[inline(always)]
+pub fn run_word<U: UserMemory>(word: u32, regs: &mut Regs, pc: u32, mem: &mut U) -> Ran
+    requires aligned { pc % 4 ≡ 0 }
+    requires fit { U.fit mem.old }
+    ensures executes { let before : View = record { may = U.may mem.old; console = U.console mem.old; content = U.content mem.old; timer = U.timer mem.old } in
+        let after : View = record { may = U.may mem.new; console = U.console mem.new; content = U.content mem.new; timer = U.timer mem.new } in
+        DoesExecute (execute_base regs.old pc word) before after regs.old regs.new result }
+    ensures leaves { LeavesRegisters regs.old regs.new result }
+    ensures aligned { GoesOnAligned result }
+    ensures may { U.may mem.new ≡ U.may mem.old }
+    ensures console { U.console mem.new ≡ U.console mem.old }
+    ensures rest { (before : U) → U.same_rest before mem.old → U.same_rest before mem.new }
+    ensures fit { UnlessFailed result (U.fit mem.new) }
+    ensures unfit { IfFailed result (¬ U.fit mem.new) }
+    ensures cause { IfFailed result (Rose (U.faults mem.old) (U.faults mem.new)) }
+    ensures never_falls { U.faults mem.old ≤ U.faults mem.new }
+{
     match decode(word) {
         Some(insn) => execute(insn, regs, pc, mem),
         None => Ran::Trap {

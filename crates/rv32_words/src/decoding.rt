@@ -16,6 +16,7 @@ use crate::opcodes::{
 };
 
 /// The instruction of a word; none for a word outside the table.
+#[inline(always)]
 pub fn decode(word: u32) -> Option<Insn>
     ensures is { result ≡ insn_at word }
     // The answer spells the word with its fields in range, and None says that nothing does.
@@ -27,6 +28,7 @@ pub fn decode(word: u32) -> Option<Insn>
 }
 
 /// The table, read by the word's opcode.
+#[inline(always)]
 #[tactic(auto, unfolding(crate::specs::Reading::insn_at))]
 fn by_opcode(word: u32) -> Option<Insn>
     ensures { result ≡ insn_at word }

@@ -24,10 +24,8 @@ pub fn pass(threads: &mut Threads, id: ThreadId)
     ensures after { threads_shown threads.new ≡ changed_thread id passed (threads_shown threads.old) }
     ensures count { process_count threads.new ≡ process_count threads.old }
 {
-    if let Some(thread) = threads.get(id) {
-        let mut thread = *thread;
+    if let Some(thread) = threads.get_mut(id) {
         thread.pc = thread.pc.wrapping_add(INSTRUCTION_SIZE);
-        threads.set(id, thread);
     }
 }
 
@@ -36,10 +34,8 @@ pub(crate) fn wait(threads: &mut Threads, id: ThreadId, state: ThreadState)
     ensures after { threads_shown threads.new ≡ changed_thread id (with_state (state_of state)) (threads_shown threads.old) }
     ensures count { process_count threads.new ≡ process_count threads.old }
 {
-    if let Some(thread) = threads.get(id) {
-        let mut thread = *thread;
+    if let Some(thread) = threads.get_mut(id) {
         thread.state = state;
-        threads.set(id, thread);
     }
 }
 
@@ -49,11 +45,9 @@ pub fn answer(threads: &mut Threads, id: ThreadId, words: [u32; 8])
     ensures after { threads_shown threads.new ≡ answered (answer_to id words) (threads_shown threads.old) }
     ensures count { process_count threads.new ≡ process_count threads.old }
 {
-    if let Some(thread) = threads.get(id) {
-        let mut thread = *thread;
+    if let Some(thread) = threads.get_mut(id) {
         thread.regs.set_arguments(words);
         thread.state = ThreadState::Ready;
-        threads.set(id, thread);
     }
 }
 

@@ -1,21 +1,21 @@
 -- What a new server and the end of one change.
-use Rattle.std.proofs.Common.{◌≡◌, ℕ, ◌+◌, ◌<◌, ◌≤◌, Bool, true, false, List, length, set, replicate, Option, Some, None, nat_eq, is_some, refl, ap, sym, subst, ◌∙◌, ◌⊎◌, inl, inr, add-one, arith}
+use Rattle.std.proofs.Common.{◌≡◌, ℕ, zero, suc, ◌+◌, ◌<◌, ◌≤◌, Bool, true, false, List, length, set, replicate, Option, Some, None, nat_eq, is_some, refl, ap, sym, subst, ◌∙◌, ◌⊎◌, inl, inr, arith}
 use Rattle.std.proofs.lemmas.List.Folds.{position_or_len-set}
 use Rattle.std.proofs.lemmas.List.Quantifiers.{position-Some}
 use Rattle.std.specs.Option.{option_map, option_and_then}
 use Rattle.std.proofs.lemmas.Bool.{cases_eq, both_ways, false_from_ne_true, cond-true, cond-false, eq-eqb, ne_eqb}
-use Rattle.std.proofs.lemmas.List.{length-set, get_or-set_same, get_or-set_other}
+use Rattle.std.proofs.lemmas.List.{length-set, get_or_past, get_or-set_same, get_or-set_other}
 use Rattle.std.proofs.lemmas.Option.{none-some, same_Some}
 use Rattle.xk_base.specs.declared.limits.TheConstants.{SERVER_LIMIT}
 use Rattle.xk_base.specs.Tables.Counting.{count_below, put_at}
 use Rattle.xk_base.specs.Tables.RowMap.{row_map}
-use Rattle.xk_base.proofs.CountingLemmas.{count_below-same, count_below-one, count_below-none}
+use Rattle.xk_base.proofs.CountingLemmas.{count_below-one, count_below-none}
 use Rattle.xk_base.proofs.RowMapLemmas.{row_map_replicate}
 use Rattle.server_table.specs.declared.table.ServerSeat.{ServerSeat}
 use Rattle.server_table.specs.Seats.{has_serial, server_of, seat_with, by_serial, AreApart, AreCounted}
 use Rattle.xk_base.specs.Tables.Sids.{same_sid}
 use Rattle.server_table.specs.ServerState.{Server}
-use Rattle.server_table.proofs.SerialLemmas.{taken, by_serial_is, by_serial_found}
+use Rattle.server_table.proofs.SerialLemmas.{within, taken, by_serial_is, by_serial_found}
 
 -- what a place of the list has after a write
 row_here : (xs : List (Option ServerSeat)) (i : ℕ) (v : Option ServerSeat) → i < length xs → row_map (set xs i v) i ≡ v
@@ -59,21 +59,18 @@ apart_empty next = record {
   sids = λ i j a b h k s. absurd (empty_row i a h);
 }
 
-pub by_serial_empty : (n : ℕ) → by_serial (replicate SERVER_LIMIT None) n ≡ None
-by_serial_empty n = go (by_serial (replicate SERVER_LIMIT None) n) refl
+-- where every seat is empty, no serial finds a server
+nobody : (xs : List (Option ServerSeat)) → ((i : ℕ) → row_map xs i ≡ None) → (n : ℕ) → by_serial xs n ≡ None
+nobody xs none n = go (by_serial xs n) refl
   where
-    go : (o : Option Server) → by_serial (replicate SERVER_LIMIT None) n ≡ o → by_serial (replicate SERVER_LIMIT None) n ≡ None
+    go : (o : Option Server) → by_serial xs n ≡ o → by_serial xs n ≡ None
     go None q = q
     go (Some v) q =
-        let at : (i : ℕ) × (e : ServerSeat) × (row_map (replicate SERVER_LIMIT None) i ≡ Some e) × (e.serial.0 ≡ n) × (server_of i e ≡ v) =
-        by_serial_found (replicate SERVER_LIMIT None) n v q in
-        absurd (empty_row at.0 at.1 at.2)
+        let at : (i : ℕ) × (e : ServerSeat) × (row_map xs i ≡ Some e) × (e.serial.0 ≡ n) × (server_of i e ≡ v) = by_serial_found xs n v q in
+        absurd (none-some at.1 (sym (none at.0) ∙ at.2))
 
-pub counted_empty : (next : ℕ) → AreCounted (replicate SERVER_LIMIT None) next
-counted_empty next =
-    count_below-none next (λ n. is_some (by_serial (replicate SERVER_LIMIT None) n)) (λ n l. ap is_some (by_serial_empty n))
-    ∙ sym (count_below-none SERVER_LIMIT (λ i. is_some (row_map (replicate SERVER_LIMIT None) i))
-    (λ i l. ap (λ f. is_some (f i)) (row_map_replicate SERVER_LIMIT)))
+pub by_serial_empty : (n : ℕ) → by_serial (replicate SERVER_LIMIT None) n ≡ None
+by_serial_empty n = nobody (replicate SERVER_LIMIT None) (λ i. ap (λ f. f i) (row_map_replicate SERVER_LIMIT)) n
 
 -- ---- a new server
 
@@ -144,23 +141,6 @@ by_serial_made xs next i e apart size l free serial = λ k n. at n k
           ∙ sym (cond-false (nat_eq n next) (Some (server_of i e)) (by_serial xs n) (ne_eqb n next other))
     ]
 
-pub counted_made : (xs : List (Option ServerSeat)) (next i : ℕ) (e : ServerSeat) → AreCounted xs next → i < SERVER_LIMIT → i < length xs
-    → row_map xs i ≡ None → by_serial (set xs i (Some e)) ≡ put_at nat_eq (by_serial xs) next (Some (server_of i e))
-    → AreCounted (set xs i (Some e)) (next + 1)
-unfolding count_below
-counted_made xs next i e counted few l free map =
-    let f : ℕ → Bool = λ n. is_some (by_serial xs n) in
-    let g : ℕ → Bool = λ n. is_some (by_serial (set xs i (Some e)) n) in
-    let last : g next ≡ true = ap (λ m. is_some (m next)) map ∙ ap is_some (cond-true (nat_eq next next) (Some (server_of i e)) (by_serial xs next) (eq-eqb next next refl)) in
-    let same : count_below next g ≡ count_below next f = count_below-same next g f (λ n b.
-    ap (λ m. is_some (m n)) map ∙ ap is_some (cond-false (nat_eq n next) (Some (server_of i e)) (by_serial xs n) (ne_eqb n next (λ e. omega arith)))) in
-    let more : count_below (next + 1) g ≡ count_below next g + 1 = rw (add-one, last) refl in
-    let seats : count_below SERVER_LIMIT (λ j. is_some (row_map (set xs i (Some e)) j)) ≡ count_below SERVER_LIMIT (λ j. is_some (row_map xs j)) + 1 =
-    count_below-one SERVER_LIMIT i (λ j. is_some (row_map (set xs i (Some e)) j)) (λ j. is_some (row_map xs j)) few
-    (ap is_some (row_here xs i (Some e) l)) (ap is_some free) (λ j b apart. ap is_some (row_there xs i j (Some e) apart)) in
-    let before : count_below next f ≡ count_below SERVER_LIMIT (λ j. is_some (row_map xs j)) = counted in
-    omega (arith, more, same, seats, before)
-
 -- ---- the end of a server
 
 pub apart_removed : (xs : List (Option ServerSeat)) (next i : ℕ) → AreApart xs next → i < length xs → AreApart (set xs i None) next
@@ -195,22 +175,6 @@ by_serial_removed xs next i e apart l here = λ k n. at n k
           ∙ sym (cond-false (nat_eq n e.serial.0) None (by_serial xs n) (ne_eqb n e.serial.0 other))
     ]
 
-pub counted_removed : (xs : List (Option ServerSeat)) (next i : ℕ) (e : ServerSeat) → AreApart xs next → AreCounted xs next → length xs ≡ SERVER_LIMIT
-    → i < length xs → row_map xs i ≡ Some e → by_serial (set xs i None) ≡ put_at nat_eq (by_serial xs) e.serial.0 None → AreCounted (set xs i None) next
-counted_removed xs next i e apart counted size l here map =
-    let f : ℕ → Bool = λ n. is_some (by_serial xs n) in
-    let g : ℕ → Bool = λ n. is_some (by_serial (set xs i None) n) in
-    let lost : g e.serial.0 ≡ false = ap (λ m. is_some (m e.serial.0)) map
-    ∙ ap is_some (cond-true (nat_eq e.serial.0 e.serial.0) None (by_serial xs e.serial.0) (eq-eqb e.serial.0 e.serial.0 refl)) in
-    let fewer : count_below next f ≡ count_below next g + 1 =
-    count_below-one next e.serial.0 f g (apart.below i e here) (ap is_some (by_serial_is xs next i e apart size here)) lost
-    (λ n b other. sym (ap (λ m. is_some (m n)) map ∙ ap is_some (cond-false (nat_eq n e.serial.0) None (by_serial xs n) (ne_eqb n e.serial.0 other)))) in
-    let seats : count_below SERVER_LIMIT (λ j. is_some (row_map xs j)) ≡ count_below SERVER_LIMIT (λ j. is_some (row_map (set xs i None) j)) + 1 =
-    count_below-one SERVER_LIMIT i (λ j. is_some (row_map xs j)) (λ j. is_some (row_map (set xs i None) j)) (omega arith)
-    (ap is_some here) (ap is_some (row_here xs i None l)) (λ j b other. sym (ap is_some (row_there xs i j None other))) in
-    let before : count_below next f ≡ count_below SERVER_LIMIT (λ j. is_some (row_map xs j)) = counted in
-    omega (arith, fewer, seats, before)
-
 -- a serial that finds nothing is taken out already
 pub nothing_removed : (xs : List (Option ServerSeat)) (n : ℕ) → by_serial xs n ≡ None → by_serial xs ≡ put_at nat_eq (by_serial xs) n None
 nothing_removed xs n gone = λ i q. at q i
@@ -220,3 +184,46 @@ nothing_removed xs n gone = λ i q. at q i
       | inl same ↦ ap (by_serial xs) same ∙ gone ∙ sym (cond-true (nat_eq q n) None (by_serial xs q) (eq-eqb q n same))
       | inr other ↦ sym (cond-false (nat_eq q n) None (by_serial xs q) (ne_eqb q n other))
     ]
+
+-- ---- how many there are
+
+-- a seat that is emptied takes one server and one seat with it
+counted_back : (xs : List (Option ServerSeat)) (next i : ℕ) (e : ServerSeat) → AreApart xs next → length xs ≡ SERVER_LIMIT
+    → i < length xs → row_map xs i ≡ Some e → AreCounted (set xs i None) next → AreCounted xs next
+counted_back xs next i e apart size l here counted =
+    let f : ℕ → Bool = λ n. is_some (by_serial xs n) in
+    let g : ℕ → Bool = λ n. is_some (by_serial (set xs i None) n) in
+    let map : by_serial (set xs i None) ≡ put_at nat_eq (by_serial xs) e.serial.0 None = by_serial_removed xs next i e apart l here in
+    let lost : g e.serial.0 ≡ false = ap (λ m. is_some (m e.serial.0)) map
+    ∙ ap is_some (cond-true (nat_eq e.serial.0 e.serial.0) None (by_serial xs e.serial.0) (eq-eqb e.serial.0 e.serial.0 refl)) in
+    let fewer : count_below next f ≡ count_below next g + 1 =
+    count_below-one next e.serial.0 f g (apart.below i e here) (ap is_some (by_serial_is xs next i e apart size here)) lost
+    (λ n b other. sym (ap (λ m. is_some (m n)) map ∙ ap is_some (cond-false (nat_eq n e.serial.0) None (by_serial xs n) (ne_eqb n e.serial.0 other)))) in
+    let seats : count_below SERVER_LIMIT (λ j. is_some (row_map xs j)) ≡ count_below SERVER_LIMIT (λ j. is_some (row_map (set xs i None) j)) + 1 =
+    count_below-one SERVER_LIMIT i (λ j. is_some (row_map xs j)) (λ j. is_some (row_map (set xs i None) j)) (omega arith)
+    (ap is_some here) (ap is_some (row_here xs i None l)) (λ j b other. sym (ap is_some (row_there xs i j None other))) in
+    let after : count_below next g ≡ count_below SERVER_LIMIT (λ j. is_some (row_map (set xs i None) j)) = counted in
+    omega (arith, fewer, seats, after)
+
+counted_up_to : (k : ℕ) (xs : List (Option ServerSeat)) (next : ℕ) → AreApart xs next → length xs ≡ SERVER_LIMIT
+    → ((i : ℕ) → k ≤ i → row_map xs i ≡ None) → AreCounted xs next
+counted_up_to zero xs next apart size none =
+    count_below-none next (λ n. is_some (by_serial xs n)) (λ n l. ap is_some (nobody xs (λ i. none i (omega arith)) n))
+    ∙ sym (count_below-none SERVER_LIMIT (λ i. is_some (row_map xs i)) (λ i l. ap is_some (none i (omega arith))))
+counted_up_to (suc k) xs next apart size none = go (row_map xs k) refl (counted_up_to k xs next apart size)
+    (λ inside. counted_up_to k (set xs k None) next (apart_removed xs next k apart inside) (length-set xs k None ∙ size))
+  where
+    go : (o : Option ServerSeat) → row_map xs k ≡ o → (((i : ℕ) → k ≤ i → row_map xs i ≡ None) → AreCounted xs next)
+        → (k < length xs → ((i : ℕ) → k ≤ i → row_map (set xs k None) i ≡ None) → AreCounted (set xs k None) next) → AreCounted xs next
+    go None q as_they_are without =
+        as_they_are (λ i l. elim (cases_eq i k) [ inl same ↦ ap (row_map xs) same ∙ q | inr other ↦ none i (omega arith) ])
+    go (Some e) q as_they_are without =
+        let inside : k < length xs = within xs k e q in
+        counted_back xs next k e apart size inside q (without inside (λ i l. elim (cases_eq i k) [
+          | inl same ↦ ap (row_map (set xs k None)) same ∙ row_here xs k None inside
+          | inr other ↦ row_there xs k i None other ∙ none i (omega arith)
+        ]))
+
+-- servers that are apart are counted, however they came to their seats
+pub counted_apart : (xs : List (Option ServerSeat)) (next : ℕ) → AreApart xs next → length xs ≡ SERVER_LIMIT → AreCounted xs next
+counted_apart xs next apart size = counted_up_to SERVER_LIMIT xs next apart size (λ i l. get_or_past xs i None (omega arith))

@@ -1,5 +1,6 @@
 -- The table after a new server, and after the end of one.
 use Rattle.std.proofs.Common.{◌≡◌, ℕ, ◌+◌, ◌<◌, List, length, set, Option, Some, None, nat_eq, is_none, ap, sym, ◌∙◌, refl, arith}
+use Rattle.std.proofs.lemmas.List.{length-set}
 use Rattle.xk_base.specs.declared.ids.Pid.{Pid}
 use Rattle.xk_base.specs.declared.ids.Sid.{Sid}
 use Rattle.xk_base.specs.declared.limits.TheConstants.{SERVER_LIMIT}
@@ -10,7 +11,7 @@ use Rattle.server_table.specs.declared.table.ServerSeat.{ServerSeat}
 use Rattle.server_table.specs.Seats.{server_of, by_serial, seat_with, AreApart, AreCounted}
 use Rattle.server_table.specs.ServerState.{with_sid, with_server, without_server, free_seat}
 use Rattle.server_table.proofs.AnsweredLemmas.{state, fresh_sid, fresh_sid', free_seat_is, empty_is}
-use Rattle.server_table.proofs.ChangeLemmas.{apart_made, by_serial_made, counted_made, apart_removed, by_serial_removed, counted_removed, nothing_removed}
+use Rattle.server_table.proofs.ChangeLemmas.{apart_made, by_serial_made, apart_removed, by_serial_removed, nothing_removed, counted_apart}
 use Rattle.server_table.proofs.SerialLemmas.{seat_with_found, by_serial_none}
 
 -- what is put at the seat of a new server
@@ -28,11 +29,11 @@ made_map : (xs : List (Option ServerSeat)) (next i : ℕ) (sid : Sid) (pid : Pid
 made_map xs next i sid pid apart size l new empty =
     by_serial_made xs next i (new_seat sid next pid) (made_apart xs next i sid pid apart size l new) size (omega arith) (empty_is xs i empty) refl
 
-pub made_counted : (xs : List (Option ServerSeat)) (next i : ℕ) (sid : Sid) (pid : Pid) → AreApart xs next → AreCounted xs next → length xs ≡ SERVER_LIMIT
-    → i < SERVER_LIMIT → with_sid sid (state xs next) ≡ None → least_below SERVER_LIMIT (λ j. is_none (row_map xs j)) ≡ Some i
-    → AreCounted (set xs i (Some (new_seat sid next pid))) (next + 1)
-made_counted xs next i sid pid apart counted size l new empty =
-    counted_made xs next i (new_seat sid next pid) counted l (omega arith) (empty_is xs i empty) (made_map xs next i sid pid apart size l new empty)
+pub made_counted : (xs : List (Option ServerSeat)) (next i : ℕ) (sid : Sid) (pid : Pid) → AreApart xs next → length xs ≡ SERVER_LIMIT → i < SERVER_LIMIT
+    → with_sid sid (state xs next) ≡ None → AreCounted (set xs i (Some (new_seat sid next pid))) (next + 1)
+made_counted xs next i sid pid apart size l new =
+    counted_apart (set xs i (Some (new_seat sid next pid))) (next + 1) (made_apart xs next i sid pid apart size l new)
+    (length-set xs i (Some (new_seat sid next pid)) ∙ size)
 
 pub made_state : (xs : List (Option ServerSeat)) (next i : ℕ) (sid : Sid) (pid : Pid) → AreApart xs next → length xs ≡ SERVER_LIMIT → i < SERVER_LIMIT
     → with_sid sid (state xs next) ≡ None → least_below SERVER_LIMIT (λ j. is_none (row_map xs j)) ≡ Some i
@@ -52,11 +53,10 @@ removed_map xs next n i apart size l at =
     let here : (e : ServerSeat) × (row_map xs i ≡ Some e) × (e.serial.0 ≡ n) = seat_with_found xs n i at in
     by_serial_removed xs next i here.0 apart (omega arith) here.1 ∙ ap (λ m. put_at nat_eq (by_serial xs) m None) here.2
 
-pub removed_counted : (xs : List (Option ServerSeat)) (next n i : ℕ) → AreApart xs next → AreCounted xs next → length xs ≡ SERVER_LIMIT → i < SERVER_LIMIT
-    → seat_with xs n ≡ Some i → AreCounted (set xs i None) next
-removed_counted xs next n i apart counted size l at =
-    let here : (e : ServerSeat) × (row_map xs i ≡ Some e) × (e.serial.0 ≡ n) = seat_with_found xs n i at in
-    counted_removed xs next i here.0 apart counted size (omega arith) here.1 (by_serial_removed xs next i here.0 apart (omega arith) here.1)
+pub removed_counted : (xs : List (Option ServerSeat)) (next i : ℕ) → AreApart xs next → length xs ≡ SERVER_LIMIT → i < SERVER_LIMIT
+    → AreCounted (set xs i None) next
+removed_counted xs next i apart size l =
+    counted_apart (set xs i None) next (removed_apart xs next i apart size l) (length-set xs i None ∙ size)
 
 pub removed_state : (xs : List (Option ServerSeat)) (next n i : ℕ) → AreApart xs next → length xs ≡ SERVER_LIMIT → i < SERVER_LIMIT → seat_with xs n ≡ Some i
     → state (set xs i None) next ≡ without_server n (state xs next)

@@ -1,3 +1,4 @@
+pub mod Listed
 pub mod Seats
 pub mod ServersOf
 pub mod ServerState

@@ -1,8 +1,10 @@
 //! The table of servers.
 
-ghost use Rattle.std.specs.Prelude.{◌≡◌, ◌<◌, Option, IfOk, IfSome, OnOk, OnErr, is_none, position, vec_len};
+ghost use Rattle.std.specs.Prelude.{◌≡◌, ◌<◌, ◌≤◌, All, AllPairs, Option, IfOk, IfSome, OnOk, OnErr, is_none, length, position, slice_get, vec_len};
+ghost use Rattle.std.specs.List.Sorted.{IsStrictlyIncreasing};
 ghost use Rattle.std.specs.Option.{option_map};
 ghost use Rattle.xk_base.specs.declared.limits.TheConstants.{SERVER_LIMIT};
+ghost use Rattle.server_table.specs.Listed.{serials_of, HaveTwoSids, listed_servers};
 ghost use Rattle.server_table.specs.Seats.{has_serial, seat_has_sid, seat_with, own_serial, AreApart, AreCounted};
 ghost use Rattle.server_table.specs.ServerState.{no_servers, with_sid, least_of, at_seat, free_seat, made_answer, with_server, without_server};
 
@@ -55,6 +57,13 @@ fn has_sid(seat: &Option<ServerSeat>, sid: Sid) -> bool
     seat.is_some_and(|server| server.sid == sid)
 }
 
+/// What sits at the seat where each server sits at its place in the list.
+fn seated(rows: &[ServerSeat], seat: usize) -> Option<ServerSeat>
+    ensures { result ≡ slice_get rows.now seat }
+{
+    rows.get(seat).copied()
+}
+
 impl Servers {
     ghost use Rattle.server_table.specs.ServersOf.{servers_of};
 
@@ -69,6 +78,24 @@ impl Servers {
             seats.push_reserved(None);
         }
         Ok(Servers { next: 1, seats })
+    }
+
+    /// A table with exactly these servers, each at the seat of its place in the list, whose next server
+    /// gets the serial `next`. It takes all memory that servers will ever need.
+    pub fn resume(alloc: Global, rows: &[ServerSeat], next: u32) -> Result<Servers, NoMemory>
+        requires few { length rows.now ≤ SERVER_LIMIT }
+        requires ascending { IsStrictlyIncreasing (serials_of rows.now) }
+        requires given { All (λ serial. serial < next) (serials_of rows.now) }
+        requires named { AllPairs HaveTwoSids rows.now }
+        ensures { IfOk result (λ t. servers_of t ≡ listed_servers rows.now next) }
+    {
+        let Ok(mut seats) = Vec::with_capacity(alloc, SEATS) else {
+            return Err(NoMemory);
+        };
+        for seat in 0..SEATS {
+            seats.push_reserved(seated(rows, seat));
+        }
+        Ok(Servers { next, seats })
     }
 
     /// The serial that the next server gets.
@@ -209,6 +236,37 @@ mod tests {
                 Some(Serial(2))
             );
             assert_eq!(rt; servers.at_seat(63), None);
+        } else {
+            assert!(rt; false);
+        }
+    }
+
+    #[test]
+    fn servers_go_on_after_a_resume(rt: HostRuntime) {
+        let rows = [
+            ServerSeat {
+                sid: SID,
+                serial: Serial(3),
+                pid: Pid(4),
+            },
+            ServerSeat {
+                sid: Sid([0; 4]),
+                serial: Serial(7),
+                pid: Pid(2),
+            },
+        ];
+        if let Ok(mut servers) = Servers::resume(rt.alloc(), &rows, 9) {
+            assert_eq!(rt; servers.next_serial(), Serial(9));
+            for (seat, row) in rows.iter().enumerate() {
+                assert_eq!(rt; servers.find(row.sid), Some(row.serial));
+                assert_eq!(rt; servers.owner(row.serial), Some(row.pid));
+                assert_eq!(rt; servers.seat(row.serial), Some(seat as u8));
+            }
+            assert_eq!(rt; servers.owner(Serial(1)), None);
+            assert_eq!(rt; servers.any_of(Pid(2)), Some(Serial(7)));
+            assert_eq!(rt; make(&mut servers, Sid([9; 4]), 2), Some(Ok(Serial(9))));
+            assert_eq!(rt; servers.seat(Serial(9)), Some(2));
+            assert_eq!(rt; servers.next_serial(), Serial(10));
         } else {
             assert!(rt; false);
         }

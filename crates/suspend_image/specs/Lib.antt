@@ -7,9 +7,13 @@ pub mod Parts
 pub mod Reading
 pub mod Rows
 pub mod RunParts
+pub mod Saveable
+pub mod SavedRows
+pub mod Saving
 pub mod ServerParts
 pub mod Sheets
 pub mod Spelling
+pub mod StateBytes
 pub mod StateFaults
 pub mod UnmatchedParts
 pub mod WaitParts

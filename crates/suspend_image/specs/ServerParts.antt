@@ -1,7 +1,7 @@
 -- What the invariant of the machine asks of servers and their messages, as tests of the rows.
-use Rattle.std.specs.Prelude.{ℕ, ◌+◌, ◌==◌, ◌&&◌, ◌||◌, not, nat_le, nat_lt, nat_eq, if◌then◌else◌, Bool, List, length}
+use Rattle.std.specs.Prelude.{ℕ, ◌+◌, ◌≤◌, ◌==◌, ◌&&◌, ◌||◌, not, nat_le, nat_lt, nat_eq, if◌then◌else◌, Bool, List, ◌++◌, length, map}
 use Rattle.std.specs.Cmp.Lexicographic.{pointwise}
-use Rattle.std.specs.List.{list_all, list_any, count_by}
+use Rattle.std.specs.List.{list_all, flat_map, count_by}
 use Rattle.suspend_image.specs.declared.state.MessageRow.{MessageRow}
 use Rattle.suspend_image.specs.declared.state.ProcRow.{ProcRow}
 use Rattle.suspend_image.specs.declared.state.ServerRow.{ServerRow}
@@ -31,7 +31,7 @@ is_below_next number serial s = nat_lt s.serial serial && all_messages (λ m. na
 abbrev pub leads_below : ℕ → ProcRow → Bool
 leads_below serial p = list_all (λ s. nat_lt s serial) p.serials
 
--- ---- one message among all
+-- ---- messages among all
 
 -- a message of this number, and as that of a thread, which is its sender
 abbrev pub is_numbered : ℕ → MessageRow → Bool
@@ -48,20 +48,20 @@ is_lent_by number m = m.number == number && (m.kind == 1 || m.kind == 2)
 abbrev pub many_at : (MessageRow → Bool) → ServerRow → ℕ
 many_at good s = count_by good s.queued + count_by good s.held
 
--- it is this server, or has no such message
-abbrev pub is_without : (MessageRow → Bool) → ServerRow → ServerRow → Bool
-is_without good s t = t.serial == s.serial || many_at good t == 0
+-- the messages of a server, queued and held
+abbrev pub messages_at : ServerRow → List MessageRow
+messages_at s = s.queued ++ s.held
 
--- exactly one message of all servers passes the test
-abbrev pub has_one : (MessageRow → Bool) → List ServerRow → Bool
-has_one good rows = list_any (λ s. many_at good s == 1 && list_all (is_without good s) rows) rows
+-- no number is that of two messages of all servers
+abbrev pub AreMessagesApart : List ServerRow → Type 0
+AreMessagesApart rows = (number : ℕ) → count_by (is_numbered number) (flat_map messages_at rows) ≤ 1
 
--- each message of a server is the one of its number
-abbrev pub is_alone : List ServerRow → MessageRow → Bool
-is_alone rows m = has_one (is_numbered m.number) rows
+-- the number of a message as a key of two numbers, and those of a server's messages
+abbrev pub message_key : MessageRow → ℕ × ℕ
+message_key m = (m.number, 0)
 
-abbrev pub are_all_alone : List ServerRow → Bool
-are_all_alone rows = list_all (all_messages (is_alone rows)) rows
+abbrev pub message_keys : ServerRow → List (ℕ × ℕ)
+message_keys s = map message_key s.queued ++ map message_key s.held
 
 -- there are few servers, with slots for their messages, of living processes, and no two have one identifier
 abbrev pub are_few_apart : List ProcRow → List ServerRow → Bool

@@ -12,7 +12,7 @@ use Rattle.suspend_image.specs.Machines.{processes_of, ledger_of}
 use Rattle.suspend_image.specs.Rows.{thread_key, server_key, claim_key, page_key, orphan_key}
 use Rattle.suspend_image.specs.Parts.{Ascend, AscendInTwo, are_processes_told, is_thread_living, is_claim_living}
 use Rattle.suspend_image.specs.PageParts.{is_page_placed, is_orphan_placed, is_only_console, is_holder_apart, is_orphan_apart, is_home_living, is_holder_living}
-use Rattle.suspend_image.specs.ServerParts.{are_few_apart, are_all_alone, is_below_next, leads_below}
+use Rattle.suspend_image.specs.ServerParts.{are_few_apart, is_below_next, leads_below}
 
 -- the rows of a state stand in order of their keys, and there are as many processes as it says
 pub record AreRowsInOrder (s : State) : Type 0 where
@@ -33,11 +33,11 @@ is_ledger_told s =
     && ((list_all (is_holder_apart s.pages s.orphans) s.pages && list_all (is_orphan_apart s.pages) s.orphans)
     && (list_all (is_home_living s.procs) s.pages && list_all (is_holder_living s.procs) s.pages))))
 
--- part 8 without the steps
+-- part 8 without the steps and the numbers of messages
 abbrev pub are_keys_told : State → Bool
 are_keys_told s =
     list_all (is_thread_living s.n s.procs) s.threads && (list_all (is_home_living s.procs) s.pages && (are_processes_told s.n s.procs
-    && ((are_few_apart s.procs s.servers && are_all_alone s.servers) && (list_all (is_claim_living s.procs) s.claims
+    && (are_few_apart s.procs s.servers && (list_all (is_claim_living s.procs) s.claims
     && (list_all (is_below_next s.next_number s.next_serial) s.servers && list_all (leads_below s.next_serial) s.procs)))))
 
 -- ---- the parts

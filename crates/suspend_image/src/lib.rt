@@ -10,7 +10,10 @@ mod state;
 mod writing;
 
 pub use faults::{NOT_STATE, STATE_CHECK, STATE_FORM, STATE_LENGTH, STATE_UNMATCHED, StateError};
-pub use laws::{matched_or_faulty, spelled_once_or_faulty};
+pub use laws::{
+    matched_or_faulty, saved_piece_by_piece, saved_state_fits, saved_state_is_spelled,
+    spelled_file_is_saved, spelled_once_or_faulty,
+};
 pub use matching::capacity::are_within;
 pub use matching::holders::are_holders_apart;
 pub use matching::lends::are_loans_matched;

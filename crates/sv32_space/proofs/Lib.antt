@@ -7,4 +7,5 @@ pub mod ReachLemmas
 pub mod RunLemmas
 pub mod SpaceLemmas
 pub mod SpellingLemmas
+pub mod TableLemmas
 pub mod WalkLemmas

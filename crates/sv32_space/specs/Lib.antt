@@ -11,4 +11,5 @@ pub mod PageChanges
 pub mod PageSteps
 pub mod Small
 pub mod StandsFor
+pub mod Tables
 pub mod Tie

@@ -15,12 +15,14 @@ pub mod small;
 pub mod space_laws;
 mod spaces;
 pub mod standing_laws;
+mod tables;
 mod walking;
 
 pub use entries::{entry_of, kind_of};
-pub use place_entries::{entry_at, set_entry};
+pub use place_entries::{entry_at, entry_said, set_entry};
 pub use sides::{Entry, EntryKind, Side};
 pub use spaces::{leaf, new_space, root_of, set_leaf};
+pub use tables::{entry_word, maps_console, table_of};
 pub use walking::{Walked, walk};
 
 #[cfg(test)]

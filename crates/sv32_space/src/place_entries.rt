@@ -4,7 +4,7 @@ ghost use Rattle.phys_pages.specs.Ram.{area, pages};
 ghost use Rattle.std.specs.Prelude.{IfSome, IsSome, IsTrue, Some, ℕ, ◌*◌, ◌≡◌, ◌≤◌};
 ghost use Rattle.sv32_space.specs.PageChanges.{with_entry};
 ghost use Rattle.sv32_space.specs.Spaces.{IsMade};
-ghost use Rattle.sv32_space.specs.SpelledEntries.{IsEntry, console_entry, entries, entry_of_kind, kind_for};
+ghost use Rattle.sv32_space.specs.SpelledEntries.{IsEntry, console_entry, entries, entry_of_kind, entry_spelled, kind_for};
 ghost use Rattle.sv32_space.specs.Spellings.{IsKind};
 ghost use Rattle.xk_base.specs.Tables.Circle.{is_pid};
 ghost use Rattle.xk_base.specs.Numbers.Limits.{table_frames};
@@ -17,7 +17,7 @@ use phys_pages::{Ram, Seat};
 use xk_base::limits::{CONSOLE_ADDRESS, PAGE_SIZE};
 use xk_base::{Place, Right, Slot};
 
-const CONSOLE_PPN: u32 = CONSOLE_ADDRESS / PAGE_SIZE;
+pub(crate) const CONSOLE_PPN: u32 = CONSOLE_ADDRESS / PAGE_SIZE;
 
 // The console's entry, where a side may stand in it.
 fn on_console(side: Side) -> Option<Entry>
@@ -93,19 +93,27 @@ fn spelled(ram: &Ram, entry: Entry) -> EntryKind
     }
 }
 
+/// What a word of a table says. `None` where it is no spelling, or names neither a frame of RAM nor a
+/// slot, nor the console's page as its owner may have it.
+pub fn entry_said(ram: &Ram, word: u32) -> Option<Entry>
+    ensures is { result ≡ entry_spelled (area ram.now) word }
+    ensures fits { IfSome result (λ entry. IsEntry (area ram.now) entry) }
+{
+    match kind_of(word) {
+        Some(kind) => entry_told(ram, kind),
+        None => None,
+    }
+}
+
 /// What the entry of a place says. `None` where it names neither a frame of RAM nor a slot, nor the
 /// console's page as its owner may have it.
-#[tactic(auto, using(crate::proofs::KindLemmas::entry_is))]
 pub fn entry_at(ram: &Ram, at: Place) -> Option<Entry>
     requires made { IsMade ram.now at.pid.0 }
     requires window { IsSome (window_at at.vpn.0) }
     ensures is { (procs : ℕ) → IsTrue (is_pid procs at.pid.0) → entries procs ram.now at ≡ result }
     ensures fits { IfSome result (λ entry. IsEntry (area ram.now) entry) }
 {
-    match kind_of(leaf(ram, at)) {
-        Some(kind) => entry_told(ram, kind),
-        None => unreachable!(),
-    }
+    entry_said(ram, leaf(ram, at))
 }
 
 /// Writes the entry of a place. Every other entry stays, and every frame outside the tables.

@@ -50,7 +50,7 @@ fn table_in(first: Frame, window: Window, i: u32) -> Frame
 
 // The frame of the table that a place's entry stands in.
 #[tactic(auto, using(crate::proofs::SpaceLemmas::table_of_page))]
-fn table_at(at: Place) -> Frame
+pub(crate) fn table_at(at: Place) -> Frame
     requires process { 2 ≤ at.pid.0 }
     requires window { IsSome (window_at at.vpn.0) }
     ensures table { (w : Window) → window_at at.vpn.0 ≡ Some w → result.0 ≡ table_frame (root_at at.pid.0) w (at.vpn.0 / 1024) }

@@ -12,6 +12,7 @@ ghost use Rattle.sv32_space.specs.Spaces.{root_at, IsMade};
 ghost use Rattle.sv32_space.specs.SpelledEntries.{entries};
 ghost use Rattle.sv32_space.specs.Walk.{entry_in_table, flag, is_valid, is_leaf, is_pointer, lets_through, is_aligned, from_last_level, from_large_leaf, from_pointer, from_root, walk_of, vpn_1};
 
+use crate::tables::entry_word;
 use phys_pages::Ram;
 use xk_base::limits::PAGE_SIZE;
 use xk_base::{Access, Frame};
@@ -76,7 +77,7 @@ fn table_entry(ram: &Ram, ppn: u32, index: u32) -> Option<u32>
     ensures { result ≡ entry_in_table ram.now ppn index }
 {
     match ram.frame_of(ppn) {
-        Some(_) => Some(ram.word(ppn * PAGE_SIZE + 4 * index)),
+        Some(f) => Some(entry_word(ram.page(f), index)),
         None => None,
     }
 }

@@ -1,3 +1,4 @@
+pub mod KnownPageLemmas
 pub mod NearLemmas
 pub mod NowhereLemmas
 pub mod ReachedLemmas

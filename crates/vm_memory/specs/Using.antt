@@ -1,5 +1,6 @@
 pub mod Access
 pub mod EntryAccess
+pub mod Known
 pub mod UserRest
 pub mod UserStores
 pub mod UserView

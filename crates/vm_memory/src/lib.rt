@@ -4,4 +4,4 @@
 pub mod laws;
 mod memory;
 
-pub use memory::{BootError, BootFault, Here, Memory, User};
+pub use memory::{BootError, BootFault, Here, KnownPages, KnownUser, Memory, User};

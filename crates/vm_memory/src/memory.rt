@@ -4,6 +4,7 @@ mod access;
 mod boot;
 mod changes;
 mod exchange;
+mod known;
 mod lending;
 mod making;
 mod pages;
@@ -14,6 +15,7 @@ mod run_tests;
 mod tests;
 mod user;
 
+pub use known::{KnownPages, KnownUser};
 use phys_pages::{LoanInfo, Owners, Ram};
 use thiserror::Error;
 pub use user::User;

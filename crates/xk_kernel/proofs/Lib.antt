@@ -4,6 +4,7 @@ pub mod Ending
 pub mod Interrupting
 pub mod Memory
 pub mod Messaging
+pub mod Quieting
 pub mod Ringing
 pub mod Running
 pub mod Starting

@@ -4,6 +4,8 @@ pub mod Interleaving
 pub mod Knowing
 pub mod Acting
 pub mod Calling
+pub mod Quiet
+pub mod QuietOver
 pub mod Ringing
 pub mod Running
 pub mod Sound

@@ -8,6 +8,7 @@ mod interrupt_calls;
 mod interrupts;
 mod memory_calls;
 mod message_calls;
+mod quiet;
 mod readers;
 mod ringing;
 mod running;

@@ -3,6 +3,8 @@ pub mod GatheringLemmas
 pub mod HistoryLemmas
 pub mod OnceLemmas
 pub mod PlayingLemmas
+pub mod QuietLemmas
+pub mod RestLemmas
 pub mod SomeStepsLemmas
 pub mod StandingLemmas
 pub mod StepLemmas

@@ -5,6 +5,7 @@ use Rattle.event_text.specs.Held.{Reader}
 use Rattle.event_text.specs.Lines.{whole_lines}
 use Rattle.event_text.specs.Plays.{Call, play_of}
 use Rattle.event_text.specs.declared.event.Event.{Event}
+use Rattle.event_text.specs.declared.event.Event.TheVariants.{Tick}
 use Rattle.machine_model.specs.State.Machine.{Machine}
 use Rattle.xk_kernel.specs.History.{history, play}
 use Rattle.xk_kernel.specs.HistoryMoments.{event_moments, moments_of}
@@ -50,6 +51,12 @@ pub record Plays (tells : Telling) (event : Event) (limit : ℕ) (old new : Stan
   pub near : old.near ≡ true
       → (StaysNear new result × Comes tells event limit old new result)
       ⊎ ComesFull old.room old.machine (event_moments event limit old.machine)
+
+-- A tick of which so many steps were left was played on: whatever comes of the steps that are left then comes of all of them. A fault ends it.
+abbrev pub PlaysOn : Telling → ℕ → ℕ → Stand → Stand → Result ℕ PlayFault → Type 0
+PlaysOn tells left limit old new (Ok rest) =
+    (last : Stand) (result : Result Ending PlayFault) → Plays tells (Tick rest) limit new last result → Plays tells (Tick left) limit old last result
+PlaysOn tells left limit old new (Err fault) = Plays tells (Tick left) limit old new (Err fault)
 
 -- ---- the events of a file
 

@@ -11,7 +11,7 @@ use Rattle.suspend_image.specs.Machines.{ledger_of, processes_of, threads_of, se
 use Rattle.suspend_image.specs.Parts.{are_processes_told, is_thread_living, is_claim_living}
 use Rattle.suspend_image.specs.PageParts.{is_page_placed, is_orphan_placed, is_only_console, is_holder_apart, is_orphan_apart, is_home_living, is_holder_living, ArePagesPlaced, AreOrphansPlaced, HasOneConsole, ArePlacesApart, AreHoldersLiving, AreHoldersApart, AreWithin}
 use Rattle.suspend_image.specs.RunParts.{AreOneRuns}
-use Rattle.suspend_image.specs.ServerParts.{are_few_apart, are_all_alone, is_below_next, leads_below}
+use Rattle.suspend_image.specs.ServerParts.{are_few_apart, is_below_next, leads_below, AreMessagesApart}
 use Rattle.suspend_image.specs.UnmatchedParts.{AreRowsInOrder, AreKeysMatched, is_ledger_told, are_keys_told}
 use Rattle.suspend_image.proofs.Parts.Loans.ToldLemmas.{if_ok}
 use Rattle.suspend_image.proofs.Parts.Pages.ApartLemmas.{places_apart_told}
@@ -22,7 +22,7 @@ use Rattle.suspend_image.proofs.Parts.Pages.PlacedLemmas.{pages_placed_told, one
 use Rattle.suspend_image.proofs.Parts.Processes.ClaimLemmas.{claims_told}
 use Rattle.suspend_image.proofs.Parts.Processes.ConnectionLemmas.{processes_matched_told}
 use Rattle.suspend_image.proofs.Parts.Servers.NextLemmas.{above_told}
-use Rattle.suspend_image.proofs.Parts.Servers.ServersLemmas.{servers_matched_told}
+use Rattle.suspend_image.proofs.Parts.Servers.ServersLemmas.{servers_right, servers_told, apart_of}
 use Rattle.suspend_image.proofs.Parts.Threads.EachThreadLemmas.{thread_ids_told}
 
 all_six : (a b c d e f : Bool) → a ≡ true → b ≡ true → c ≡ true → d ≡ true → e ≡ true → f ≡ true → (a && (b && (c && (d && (e && f))))) ≡ true
@@ -114,9 +114,6 @@ module _ (file : List ℕ) (s : State) (rows : AreRowsInOrder s) where
   processes : IsTrue (are_processes_told s.n s.procs) ↔ AreProcessesMatched s.n (processes_of s.procs)
   processes = processes_matched_told s.n s.procs (are_processes_told s.n s.procs) rows.procs refl
 
-  servers : IsTrue (are_few_apart s.procs s.servers && are_all_alone s.servers) ↔ AreServersMatched (processes_of s.procs) (servers_of s.servers)
-  servers = servers_matched_told s.procs s.servers (are_few_apart s.procs s.servers && are_all_alone s.servers) rows.servers refl
-
   claims : IsTrue (list_all (is_claim_living s.procs) s.claims) ↔ AreClaimsMatched (processes_of s.procs) (claims_of s.claims) (pending_of s.claims)
   claims = claims_told s.procs s.claims (list_all (is_claim_living s.procs) s.claims) rows.claims refl
 
@@ -125,18 +122,19 @@ module _ (file : List ℕ) (s : State) (rows : AreRowsInOrder s) where
   above = above_told s.next_number s.next_serial s.procs s.servers
       (list_all (is_below_next s.next_number s.next_serial) s.servers && list_all (leads_below s.next_serial) s.procs) rows.servers refl
 
-  pub keys_right : are_keys_told s ≡ true → AreNextStepped s.next_number s.next_serial s.steps → AreKeysMatched (machine_of file s)
-  keys_right told stepped =
+  pub keys_right : are_keys_told s ≡ true → AreNextStepped s.next_number s.next_serial s.steps → AreMessagesApart s.servers
+      → AreKeysMatched (machine_of file s)
+  keys_right told stepped apart =
       let one = and_parts (list_all (is_thread_living s.n s.procs) s.threads) _ told in
       let two = and_parts (list_all (is_home_living s.procs) s.pages) _ one.1 in
       let three = and_parts (are_processes_told s.n s.procs) _ two.1 in
-      let four = and_parts (are_few_apart s.procs s.servers && are_all_alone s.servers) _ three.1 in
+      let four = and_parts (are_few_apart s.procs s.servers) _ three.1 in
       let five = and_parts (list_all (is_claim_living s.procs) s.claims) _ four.1 in
       record {
         ids = ids.0 one.0;
         pages = homes.0 two.0;
         processes = processes.0 three.0;
-        servers = servers.0 four.0;
+        servers = servers_right s.procs s.servers rows.servers four.0 apart;
         claims = claims.0 five.0;
         above = above.0 five.1;
         stepped = stepped;
@@ -144,5 +142,15 @@ module _ (file : List ℕ) (s : State) (rows : AreRowsInOrder s) where
 
   pub keys_told : AreKeysMatched (machine_of file s) → are_keys_told s ≡ true
   keys_told matched =
-      all_six _ _ _ _ _ _ (ids.1 matched.ids) (homes.1 matched.pages) (processes.1 matched.processes) (servers.1 matched.servers)
-      (claims.1 matched.claims) (above.1 matched.above)
+      all_six _ _ _ _ _ _ (ids.1 matched.ids) (homes.1 matched.pages) (processes.1 matched.processes)
+      (servers_told s.procs s.servers rows.servers matched.servers) (claims.1 matched.claims) (above.1 matched.above)
+
+  -- where all else of part 8 holds, the numbers of messages tell it
+  pub numbers_told : are_keys_told s ≡ true → AreNextStepped s.next_number s.next_serial s.steps → (r : Result Bool NoMemory)
+      → IfOk r (λ told. IsTrue told ↔ AreMessagesApart s.servers) → IfOk r (λ told. IsTrue told ↔ AreKeysMatched (machine_of file s))
+  numbers_told told stepped r is =
+      if_ok (λ b. IsTrue b ↔ AreMessagesApart s.servers) (λ b. IsTrue b ↔ AreKeysMatched (machine_of file s)) r
+      (λ b apart. (
+        λ holds. keys_right told stepped (apart.0 holds),
+        λ matched. apart.1 (apart_of s.procs s.servers rows.servers matched.servers),
+      )) is

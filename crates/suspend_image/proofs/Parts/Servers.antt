@@ -1,6 +1,7 @@
 -- Parts that speak of servers, their messages and the threads that wait.
+pub mod CountedLemmas
+pub mod MessageLemmas
 pub mod NextLemmas
-pub mod OneLemmas
 pub mod SenderLemmas
 pub mod SentWaitLemmas
 pub mod ServerLemmas

@@ -1,80 +1,49 @@
-//! Whether one message of all servers has a number.
+//! Whether no two messages of all servers have one number, told from the rows: numbers are listed and
+//! sorted.
 
-ghost use Rattle.std.specs.Prelude.{◌≡◌, ◌+◌, ◌==◌, ◌&&◌};
-ghost use Rattle.std.specs.List.{list_all, list_any, count_by};
-ghost use Rattle.suspend_image.specs.ServerParts.{is_numbered, many_at, is_without as is_without_of, has_one as has_one_of, is_alone as is_alone_of, all_messages, are_all_alone as are_all_alone_of};
+ghost use Rattle.std.specs.Prelude.{◌≡◌, ◌↔◌, ◌++◌, map, IsTrue, OnOk, IfOk};
+ghost use Rattle.std.specs.List.{flat_map};
+ghost use Rattle.suspend_image.specs.ServerParts.{message_key, message_keys, AreMessagesApart};
 
+use crate::matching::order::are_different;
 use crate::state::{MessageRow, ServerRow};
+use std::alloc::Global;
+use xk_base::NoMemory;
 
-fn count_numbered(number: u32, messages: &[MessageRow]) -> usize
-    ensures { result ≡ count_by (is_numbered number) messages.now }
+/// Adds the numbers of messages to keys.
+fn add_messages(keys: &mut Vec<(u32, u32)>, messages: &[MessageRow]) -> Result<(), NoMemory>
+    ensures { OnOk result (keys.new.items ≡ keys.old.items ++ map message_key messages.now) }
 {
-    messages
-        .iter()
-        .filter(|message| message.number == number)
-        .count()
+    for message in messages {
+        if keys.push((message.number, 0)).is_err() {
+            return Err(NoMemory);
+        }
+    }
+    Ok(())
 }
 
-/// How many of a server's messages have the number.
-fn count_at(number: u32, server: &ServerRow) -> usize
-    ensures { result ≡ many_at (is_numbered number) server.now }
+fn add_server(keys: &mut Vec<(u32, u32)>, server: &ServerRow) -> Result<(), NoMemory>
+    ensures { OnOk result (keys.new.items ≡ keys.old.items ++ message_keys server.now) }
 {
-    count_numbered(number, server.queued.as_slice())
-        + count_numbered(number, server.held.as_slice())
+    add_messages(keys, server.queued.as_slice())?;
+    add_messages(keys, server.held.as_slice())
 }
 
-/// Whether it is this server, or has no such message.
-fn is_without(number: u32, server: &ServerRow, other: &ServerRow) -> bool
-    ensures { result ≡ is_without_of (is_numbered number) server.now other.now }
+/// The numbers of the messages of all servers.
+fn numbers(alloc: Global, servers: &[ServerRow]) -> Result<Vec<(u32, u32)>, NoMemory>
+    ensures { IfOk result (λ keys. keys.items ≡ flat_map message_keys servers.now) }
 {
-    other.serial == server.serial || count_at(number, other) == 0
-}
-
-fn are_without(number: u32, servers: &[ServerRow], server: &ServerRow) -> bool
-    ensures { result ≡ list_all (is_without_of (is_numbered number) server.now) servers.now }
-{
-    servers
-        .iter()
-        .all(|other| is_without(number, server, other))
-}
-
-fn is_one_at(number: u32, servers: &[ServerRow], server: &ServerRow) -> bool
-    ensures { result ≡ (many_at (is_numbered number) server.now == 1 && list_all (is_without_of (is_numbered number) server.now) servers.now) }
-{
-    count_at(number, server) == 1 && are_without(number, servers, server)
-}
-
-/// Whether exactly one message of all servers has the number.
-pub fn has_one(number: u32, servers: &[ServerRow]) -> bool
-    ensures { result ≡ has_one_of (is_numbered number) servers.now }
-{
-    servers
-        .iter()
-        .any(|server| is_one_at(number, servers, server))
-}
-
-/// Whether a message is the one of its number.
-fn is_alone(servers: &[ServerRow], message: &MessageRow) -> bool
-    ensures { result ≡ is_alone_of servers.now message.now }
-{
-    has_one(message.number, servers)
-}
-
-fn are_alone(servers: &[ServerRow], messages: &[MessageRow]) -> bool
-    ensures { result ≡ list_all (is_alone_of servers.now) messages.now }
-{
-    messages.iter().all(|message| is_alone(servers, message))
-}
-
-fn are_alone_at(servers: &[ServerRow], server: &ServerRow) -> bool
-    ensures { result ≡ all_messages (is_alone_of servers.now) server.now }
-{
-    are_alone(servers, server.queued.as_slice()) && are_alone(servers, server.held.as_slice())
+    let mut keys = Vec::new(alloc);
+    for server in servers {
+        add_server(&mut keys, server)?;
+    }
+    Ok(keys)
 }
 
 /// Whether no two messages of all servers have one number.
-pub fn are_all_alone(servers: &[ServerRow]) -> bool
-    ensures { result ≡ are_all_alone_of servers.now }
+pub fn are_messages_apart(alloc: Global, servers: &[ServerRow]) -> Result<bool, NoMemory>
+    ensures { IfOk result (λ told. IsTrue told ↔ AreMessagesApart servers.now) }
 {
-    servers.iter().all(|server| are_alone_at(servers, server))
+    let keys = numbers(alloc, servers)?;
+    Ok(are_different(keys))
 }

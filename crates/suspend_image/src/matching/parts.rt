@@ -8,12 +8,13 @@ ghost use Rattle.suspend_image.specs.UnmatchedParts.{number_of, is_ledger_told a
 use crate::matching::capacity::are_within;
 use crate::matching::holders::are_holders_apart;
 use crate::matching::lends::are_loans_matched;
+use crate::matching::messages::are_messages_apart;
 use crate::matching::pages::{all_holders_living, all_homes_living, are_heaps_matched};
 use crate::matching::places::{all_only_consoles, all_orphans_placed, all_pages_placed};
 use crate::matching::runs::are_one_run;
 use crate::matching::search::are_places_told;
 use crate::matching::senders::are_senders_matched;
-use crate::matching::servers::{all_are_below, are_servers_told};
+use crate::matching::servers::{all_are_below, are_few_apart};
 use crate::matching::{
     all_claims_living, all_threads_living, are_handlers_matched, are_joiners_matched,
     are_numbers_stepped, are_processes_told, are_receivers_matched, are_threads_matched,
@@ -131,7 +132,7 @@ fn is_code_matched(state: &State) -> bool
         && are_handlers_matched(state.claims.as_slice())
 }
 
-/// Part 8 without the steps.
+/// What of part 8 takes no memory to tell, without the steps.
 fn are_keys_told(state: &State) -> bool
     ensures { result ≡ are_keys_told_of state.now }
 {
@@ -140,20 +141,23 @@ fn are_keys_told(state: &State) -> bool
     all_threads_living(state.n, procs, state.threads.as_slice())
         && all_homes_living(procs, state.pages.as_slice())
         && are_processes_told(state.n, procs)
-        && are_servers_told(procs, servers)
+        && are_few_apart(procs, servers)
         && all_claims_living(procs, state.claims.as_slice())
         && all_are_below(state.next_number, state.next_serial, procs, servers)
 }
 
 /// Part 8: keys, limits and the dead.
-fn are_keys_matched(state: &State) -> bool
+fn are_keys_matched(alloc: Global, state: &State) -> Result<bool, NoMemory>
     requires { AreRowsInOrder state.now }
-    ensures { (file : List ℕ) → IsTrue result ↔ AreKeysMatched (machine_of file state.now) }
+    ensures { (file : List ℕ) → IfOk result (λ told. IsTrue told ↔ AreKeysMatched (machine_of file state.now)) }
 {
     if !are_numbers_stepped(state) {
-        return false;
+        return Ok(false);
     }
-    are_keys_told(state)
+    if !are_keys_told(state) {
+        return Ok(false);
+    }
+    are_messages_apart(alloc, state.servers.as_slice())
 }
 
 /// Whether a part of the invariant holds of a state.
@@ -173,7 +177,7 @@ fn is_part_matched(alloc: Global, part: Part, state: &State) -> Result<bool, NoM
         Part::Joiners => Ok(are_joiners_matched(threads)),
         Part::Threads => Ok(is_code_matched(state)),
         Part::Heaps => Ok(are_heaps_matched(procs, pages)),
-        Part::Keys => Ok(are_keys_matched(state)),
+        Part::Keys => are_keys_matched(alloc, state),
         Part::Timer => Ok(is_timer_matched(state)),
     }
 }

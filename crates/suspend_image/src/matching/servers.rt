@@ -1,16 +1,18 @@
 //! Whether the machine can have the servers and messages of a state that was read, told from the rows.
 
-ghost use Rattle.std.specs.Prelude.{◌≡◌, ◌↔◌, ◌≤◌, ◌&&◌, nat_lt, nat_le, length, IsTrue};
+ghost use Rattle.std.specs.Prelude.{◌≡◌, ◌↔◌, ◌≤◌, ◌&&◌, nat_lt, nat_le, length, IsTrue, IfOk};
 ghost use Rattle.std.specs.List.{list_all};
 ghost use Rattle.machine_model.specs.Runs.Matched.{AreNextAbove, AreServersMatched};
 ghost use Rattle.suspend_image.specs.Rows.{server_key};
 ghost use Rattle.suspend_image.specs.Machines.{servers_of, processes_of};
 ghost use Rattle.suspend_image.specs.Parts.{Ascend};
-ghost use Rattle.suspend_image.specs.ServerParts.{has_slots as has_slots_of, is_server_living as is_server_living_of, is_apart as is_apart_of, all_messages, is_below_next as is_below_next_of, leads_below as leads_below_of, are_few_apart as are_few_apart_of, are_all_alone as are_all_alone_of};
+ghost use Rattle.suspend_image.specs.ServerParts.{has_slots as has_slots_of, is_server_living as is_server_living_of, is_apart as is_apart_of, all_messages, is_below_next as is_below_next_of, leads_below as leads_below_of, are_few_apart as are_few_apart_of};
 
 use crate::matching::is_alive;
-use crate::matching::messages::are_all_alone;
+use crate::matching::messages::are_messages_apart;
 use crate::state::{MessageRow, ProcRow, ServerRow};
+use std::alloc::Global;
+use xk_base::NoMemory;
 use xk_base::limits::{MESSAGE_LIMIT, SERVER_LIMIT};
 
 fn is_server_living(procs: &[ProcRow], server: &ServerRow) -> bool
@@ -107,7 +109,9 @@ pub fn are_next_above(number: u32, serial: u32, procs: &[ProcRow], servers: &[Se
     all_are_below(number, serial, procs, servers)
 }
 
-fn are_few_apart(procs: &[ProcRow], servers: &[ServerRow]) -> bool
+/// What of the servers takes no memory to tell. The limits are looked at first, so that few identifiers
+/// are compared.
+pub fn are_few_apart(procs: &[ProcRow], servers: &[ServerRow]) -> bool
     ensures { result ≡ are_few_apart_of procs.now servers.now }
 {
     servers.len() <= SERVER_LIMIT as usize
@@ -116,18 +120,18 @@ fn are_few_apart(procs: &[ProcRow], servers: &[ServerRow]) -> bool
         && all_are_apart(servers)
 }
 
-/// The limits are looked at first, so that few messages are compared.
-pub fn are_servers_told(procs: &[ProcRow], servers: &[ServerRow]) -> bool
-    ensures { result ≡ (are_few_apart_of procs.now servers.now && are_all_alone_of servers.now) }
-{
-    are_few_apart(procs, servers) && are_all_alone(servers)
-}
-
 /// Part 8, of the servers: few, of living processes, no two of one identifier, with slots for their
 /// messages, of which no two have one number.
-pub fn are_servers_matched(procs: &[ProcRow], servers: &[ServerRow]) -> bool
+pub fn are_servers_matched(
+    alloc: Global,
+    procs: &[ProcRow],
+    servers: &[ServerRow],
+) -> Result<bool, NoMemory>
     requires { Ascend server_key servers.now }
-    ensures { IsTrue result ↔ AreServersMatched (processes_of procs.now) (servers_of servers.now) }
+    ensures { IfOk result (λ told. IsTrue told ↔ AreServersMatched (processes_of procs.now) (servers_of servers.now)) }
 {
-    are_servers_told(procs, servers)
+    if !are_few_apart(procs, servers) {
+        return Ok(false);
+    }
+    are_messages_apart(alloc, servers)
 }

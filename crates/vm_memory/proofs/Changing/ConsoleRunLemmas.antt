@@ -1,54 +1,61 @@
 -- Where the console is looked for: in the Map windows of the processes.
 use Rattle.xk_base.specs.Tables.Circle.{is_pid}
-use Rattle.std.proofs.Common.{◌≡◌, ℕ, ◌+◌, ◌-◌, ◌<◌, ◌≤◌, Bool, true, false, not, Option, Some, None, refl, sym, ap, subst, ◌∙◌, inl, inr, arith}
+use Rattle.std.proofs.Common.{◌≡◌, ℕ, ◌+◌, ◌-◌, ◌<◌, ◌≤◌, true, false, not, Option, Some, None, refl, ap, subst, ◌∙◌, inl, inr, arith}
 use Rattle.std.specs.Prelude.{is_some, nat_le, nat_lt}
+use Rattle.std.specs.List.{list_any}
+use Rattle.std.specs.Option.{option_and_then}
 use Rattle.std.proofs.lemmas.Bool.{and_from, and_parts, both_ways, false_from_ne_true, leb-true, le-leb, ltb-true}
 use Rattle.xk_base.specs.Numbers.Windows.{first_page, in_window, last_page}
 use Rattle.xk_base.specs.declared.ids.Pid.{Pid}
 use Rattle.xk_base.specs.declared.ids.Place.{Place}
-use Rattle.xk_base.specs.declared.ids.Vpn.{Vpn}
 use Rattle.xk_base.specs.declared.windows.Window.TheVariants.{Map}
 use Rattle.std.proofs.lemmas.Bool.Decides.{nat_tests}
-use Rattle.vm_memory.specs.declared.memory.Here.{Here}
-use Rattle.vm_memory.specs.Pages.Here.{here_at}
 use Rattle.phys_pages.specs.Owners.{infos}
 use Rattle.ledger_model.specs.Conditions.{is_console}
 use Rattle.ledger_model.specs.LeastRun.{window_pages, window_place}
 use Rattle.ledger_model.specs.Ledger.{Ledger, Page, Contents, Console, Bytes, has_bytes}
-use Rattle.ledger_model.specs.Places.{first_place, is_place_in, is_user_place, place_after}
+use Rattle.ledger_model.specs.Places.{first_place, is_place_in, is_user_place, place_after, run}
 use Rattle.ledger_model.specs.RunTests.{console_mapped}
 use Rattle.ledger_model.proofs.LedgerLemmas.{cases_Option}
 use Rattle.ledger_model.proofs.Loans.NumberingLemmas.{first_place-none, first_place-None, is_place_in-user}
 use Rattle.ledger_model.proofs.PlaceLemmas.{place_from}
-use Rattle.sv32_space.specs.EntryLedger.{ledger_of}
+use Rattle.sv32_space.specs.declared.sides.Side.TheVariants.{Own, LentOut, LentIn, MutOut, MutIn}
+use Rattle.sv32_space.specs.declared.sides.Entry.{Entry}
+use Rattle.sv32_space.specs.declared.sides.Entry.TheVariants.{Free, At, OnConsole}
+use Rattle.sv32_space.specs.Agreement.{Infos}
+use Rattle.sv32_space.specs.EntryLedger.{SeatBytes, ledger_of, page_of_entry}
+use Rattle.sv32_space.specs.Tables.{has_console as entry_has_console, is_console_entry}
 use Rattle.sv32_space.specs.SpelledEntries.{entries}
 use Rattle.sv32_space.specs.Tie.{Held, bytes_at}
 use Rattle.vm_memory.specs.declared.memory.Memory.{Memory}
 use Rattle.vm_memory.specs.Memory.{blank_ledger, ledger, processes}
-use Rattle.vm_memory.specs.Loaning.RunTests.{has_console, is_console_here}
+use Rattle.vm_memory.specs.Loaning.RunTests.{has_console}
 use Rattle.vm_memory.specs.Sound.{IsSound}
 use Rattle.vm_memory.proofs.Changing.ChangedLemmas.{no_bytes}
 use Rattle.vm_memory.proofs.Changing.ConsoleStepLemmas.{console_told}
-use Rattle.vm_memory.proofs.Changing.RunLemmas.{console_here}
-use Rattle.ledger_model.proofs.Runs.RunTestLemmas.{each_fails, none_passes, some_passes}
+use Rattle.ledger_model.proofs.Runs.RunTestLemmas.{each_fails, none_passes}
 
 -- ---- one process
 
-pub console_found : (l : Ledger) (pid : Pid) (i : ℕ) → i < 4096 → is_console (l.home (place_after (window_place pid Map 0) i)) ≡ true → has_console l pid ≡ true
-console_found l pid i low t = some_passes (λ p. is_console (l.home p)) (window_place pid Map 0) (window_pages Map) i low t
-
-pub console_missed : (l : Ledger) (pid : Pid) → ((i : ℕ) → i < 4096 → is_console (l.home (place_after (window_place pid Map 0) i)) ≡ false) → has_console l pid ≡ false
+console_missed : (l : Ledger) (pid : Pid) → ((i : ℕ) → i < 4096 → is_console (l.home (place_after (window_place pid Map 0) i)) ≡ false) → has_console l pid ≡ false
 console_missed l pid h = none_passes (λ p. is_console (l.home p)) (window_place pid Map 0) (window_pages Map) h
 
--- what was told of the i-th place
-pub console_looked : (procs : ℕ) (l : Ledger) (pid : Pid) (first : Vpn) (i : ℕ) (here : Here) (told b : Bool) → first.0 ≡ first_page Map
-    → here ≡ here_at procs l (place_after (record { pid = pid; vpn = first }) i) → told ≡ is_console_here here → told ≡ b
-    → is_console (l.home (place_after (window_place pid Map 0) i)) ≡ b
-console_looked procs l pid first i here told b at seen said e =
-    let same : place_after (record { pid = pid; vpn = first }) i ≡ place_after (window_place pid Map 0) i =
-    place_from (place_after (record { pid = pid; vpn = first }) i) (place_after (window_place pid Map 0) i) refl (omega (arith, at)) in
-    sym (ap (λ p. is_console (l.home p)) same)
-    ∙ (sym (console_here procs l (place_after (record { pid = pid; vpn = first }) i)) ∙ (sym (ap is_console_here seen) ∙ (sym said ∙ e)))
+-- by the entries of its places
+home_console : (I : Infos) (B : SeatBytes) (o : Option Entry) → is_console_entry o ≡ is_console (option_and_then (page_of_entry I B) o)
+home_console I B None = refl
+home_console I B (Some Free) = refl
+home_console I B (Some (At (Own r) s)) = refl
+home_console I B (Some (At (LentOut r) s)) = refl
+home_console I B (Some (At LentIn s)) = refl
+home_console I B (Some (At (MutOut x) s)) = refl
+home_console I B (Some (At MutIn s)) = refl
+home_console I B (Some (OnConsole w)) = refl
+
+pub console_by_entries : {W : Type 0} (held : W → Held) (m : Memory W) (pid : Pid)
+    → entry_has_console (entries (processes m) m.ram) pid ≡ has_console (ledger held m) pid
+unfolding ledger ledger_of
+console_by_entries held m pid = λ i.
+    list_any (λ p. home_console (infos m.owners) (bytes_at m.ram (held m.store)) (entries (processes m) m.ram p) i) (run (window_place pid Map 0) (window_pages Map))
 
 -- ---- all processes
 

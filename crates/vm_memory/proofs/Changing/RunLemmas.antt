@@ -6,7 +6,7 @@ use Rattle.std.specs.Option.{option_map}
 use Rattle.std.proofs.lemmas.Bool.{both_ways, cond-false, false_from_ne_true}
 use Rattle.xk_base.specs.declared.ids.Place.{Place}
 use Rattle.xk_base.specs.declared.pages.Right.{Right}
-use Rattle.ledger_model.specs.Conditions.{CanMake, is_console, is_lent}
+use Rattle.ledger_model.specs.Conditions.{CanMake, is_lent}
 use Rattle.ledger_model.specs.Ledger.{Ledger, Page, PageLoan, Orphan, loan_at}
 use Rattle.ledger_model.specs.Loans.{Loans, loans}
 use Rattle.ledger_model.specs.Places.{first_place, in_run, place_after, run}
@@ -22,7 +22,7 @@ use Rattle.ledger_model.proofs.Stepping.RemovingLemmas.{remove_home, remove_orph
 use Rattle.vm_memory.specs.declared.memory.run_tests.RunTest.{RunTest}
 use Rattle.vm_memory.specs.declared.memory.run_tests.RunTest.TheVariants.{Used, Free, OnLoan, Lacks}
 use Rattle.vm_memory.specs.Pages.Here.{here_at, here_of, info_of_loan}
-use Rattle.vm_memory.specs.Loaning.RunTests.{any_passes, is_console_here, is_loan_here, is_nothing, lacks_here, passes}
+use Rattle.vm_memory.specs.Loaning.RunTests.{any_passes, is_loan_here, is_nothing, lacks_here, passes}
 
 -- ---- what is told of a place
 
@@ -47,35 +47,29 @@ unfolding is_free
 free_here procs l p = nothing_by_role (role_at procs l p)
 
 -- a place without a home has no right to tell
-lent_tells : (asked : Right) (home : Place) (o : Option PageLoan)
-    → (lacks_here asked (here_of (lent_role home o)) ≡ false) × (is_console_here (here_of (lent_role home o)) ≡ false)
-lent_tells asked home None = (refl, refl)
-lent_tells asked home (Some loan) = (refl, refl)
+lent_tells : (asked : Right) (home : Place) (o : Option PageLoan) → lacks_here asked (here_of (lent_role home o)) ≡ false
+lent_tells asked home None = refl
+lent_tells asked home (Some loan) = refl
 
-holder_tells : (asked : Right) (l : Ledger) (o : Option Place)
-    → (lacks_here asked (here_of (holder_role l o)) ≡ false) × (is_console_here (here_of (holder_role l o)) ≡ false)
-holder_tells asked l None = (refl, refl)
+holder_tells : (asked : Right) (l : Ledger) (o : Option Place) → lacks_here asked (here_of (holder_role l o)) ≡ false
+holder_tells asked l None = refl
 holder_tells asked l (Some home) = lent_tells asked home (loan_at l home)
 
 orphan_tells : (asked : Right) (l : Ledger) (o : Option Orphan) (q : Option Place)
-    → (lacks_here asked (here_of (orphan_or_holder o (holder_role l q))) ≡ false) × (is_console_here (here_of (orphan_or_holder o (holder_role l q))) ≡ false)
+    → lacks_here asked (here_of (orphan_or_holder o (holder_role l q))) ≡ false
 orphan_tells asked l None q = holder_tells asked l q
-orphan_tells asked l (Some orphan) q = (refl, refl)
+orphan_tells asked l (Some orphan) q = refl
 
 home_tells : (procs : ℕ) (asked : Right) (l : Ledger) (p : Place) (o : Option Page) → l.home p ≡ o
-    → (lacks_here asked (here_at procs l p) ≡ asks_more asked o) × (is_console_here (here_at procs l p) ≡ is_console o)
+    → lacks_here asked (here_at procs l p) ≡ asks_more asked o
 unfolding role_at
 home_tells procs asked l p None e =
     let role : role_at procs l p ≡ orphan_or_holder (l.orphan p) (holder_role l (lender_of procs l p)) =
     ap (λ o. home_or o (orphan_or_holder (l.orphan p) (holder_role l (lender_of procs l p)))) e in
-    let told = orphan_tells asked l (l.orphan p) (lender_of procs l p) in
-    (ap (λ r. lacks_here asked (here_of r)) role ∙ told.0, ap (λ r. is_console_here (here_of r)) role ∙ told.1)
+    ap (λ r. lacks_here asked (here_of r)) role ∙ orphan_tells asked l (l.orphan p) (lender_of procs l p)
 home_tells procs asked l p (Some page) e =
     let role : role_at procs l p ≡ HomePlace page = role_at-home procs l p page e in
-    (ap (λ r. lacks_here asked (here_of r)) role, ap (λ r. is_console_here (here_of r)) role)
-
-pub console_here : (procs : ℕ) (l : Ledger) (p : Place) → is_console_here (here_at procs l p) ≡ is_console (l.home p)
-console_here procs l p = (home_tells procs (record { w = false; x = false }) l p (l.home p) refl).1
+    ap (λ r. lacks_here asked (here_of r)) role
 
 -- ---- what is asked of a run
 
@@ -89,7 +83,7 @@ asked_here : (test : RunTest) (procs : ℕ) (l : Ledger) (p : Place) → passes 
 asked_here Used procs l p = ap not (free_here procs l p)
 asked_here Free procs l p = free_here procs l p
 asked_here OnLoan procs l p = loan_by_role (role_at procs l p)
-asked_here (Lacks right) procs l p = (home_tells procs right l p (l.home p) refl).0
+asked_here (Lacks right) procs l p = home_tells procs right l p (l.home p) refl
 
 any_asked : (test : RunTest) (procs : ℕ) (l : Ledger) (first : Place) (n : ℕ) → any_passes test procs l first n ≡ list_any (asked test procs l) (run first n)
 unfolding any_used any_free any_on_loan any_lacks

@@ -109,7 +109,7 @@ module _ {W : Type 0} (slot_count : W → ℕ) (held : W → Held) (m : Memory W
   pub stored_sound : IsSound slot_count n
   stored_sound = sound_after slot_count held m sound n.ram f page (area-with_page m.ram f.0 page) now frame.no_table
 
-  entries_stay : entries (processes m) n.ram ≡ E
+  pub entries_stay : entries (processes m) n.ram ≡ E
   entries_stay = same_entries slot_count held m sound n.ram f page (area-with_page m.ram f.0 page) now frame.no_table
 
   pub stored_size : size n ≡ size m

@@ -25,11 +25,6 @@ is_loan_here Nothing = false
 is_loan_here (Own right console loan) = is_some loan
 is_loan_here (Lent kind lender number) = true
 
-abbrev pub is_console_here : Here → Bool
-is_console_here Nothing = false
-is_console_here (Own right console loan) = console
-is_console_here (Lent kind lender number) = false
-
 abbrev pub lacks_here : Right → Here → Bool
 lacks_here asked Nothing = false
 lacks_here asked (Own right console loan) = not (is_within asked right)

@@ -6,10 +6,11 @@ ghost use Rattle.ledger_model.specs.Places.{place_after};
 ghost use Rattle.ledger_model.specs.RunTests.{console_mapped, fits_window};
 ghost use Rattle.vm_memory.specs.Pages.Here.{here_at};
 ghost use Rattle.vm_memory.specs.Memory.{ledger, processes};
-ghost use Rattle.vm_memory.specs.Loaning.RunTests.{any_passes, has_console, is_console_here, is_loan_here, is_nothing, lacks_here, passes};
+ghost use Rattle.vm_memory.specs.Loaning.RunTests.{any_passes, is_loan_here, is_nothing, lacks_here, passes};
 ghost use Rattle.vm_memory.specs.Sound.{IsSound};
 
 use crate::memory::{Here, Memory};
+use sv32_space::maps_console;
 use xk_base::{Pid, Place, Right, Vpn, Window};
 use xk_ports::SwapStore;
 
@@ -59,24 +60,6 @@ fn is_on_loan(here: Here) -> bool
             lender: _,
             number: _,
         } => true,
-    }
-}
-
-fn is_console(here: Here) -> bool
-    ensures { result ≡ is_console_here here }
-{
-    match here {
-        Here::Nothing => false,
-        Here::Own {
-            right: _,
-            console,
-            loan: _,
-        } => console,
-        Here::Lent {
-            kind: _,
-            lender: _,
-            number: _,
-        } => false,
     }
 }
 
@@ -153,31 +136,13 @@ impl<W: SwapStore> Memory<W> {
         false
     }
 
-    // Whether a process has mapped the console.
-    fn has_console(&self, pid: Pid) -> bool
-        requires sound { IsSound W.slot_count self.now }
-        ensures { result ≡ has_console (ledger W.held self.now) pid }
-    {
-        let first = Place {
-            pid,
-            vpn: Window::Map.first(),
-        };
-        let pages = Window::Map.last().0 + 1 - first.vpn.0;
-        for i in 0..pages {
-            if is_console(self.here_above(first, i)) {
-                return true;
-            }
-        }
-        false
-    }
-
-    // Whether any process has mapped it.
+    // Whether any process has mapped the console.
     pub(crate) fn console_mapped(&self) -> bool
         requires sound { IsSound W.slot_count self.now }
         ensures { result ≡ console_mapped (processes self.now) (ledger W.held self.now) }
     {
         for k in 0..self.procs {
-            if self.has_console(Pid(2 + k as u8)) {
+            if maps_console(&self.ram, Pid(2 + k as u8)) {
                 return true;
             }
         }

@@ -11,6 +11,7 @@ ghost use Rattle.xk_base.specs.declared.ids.Number.{Number};
 mod exchange;
 mod first_pages;
 mod first_run;
+mod known;
 mod loans;
 mod user;
 mod windows;

@@ -70,7 +70,7 @@ fn write_number(page: &mut [u8], offset: u32, width: Width, value: u32)
 
 impl<W: SwapStore> Memory<W> {
     // The number of that width where an access to an address leads; 0 in the console's page.
-    fn read_at(
+    pub(super) fn read_at(
         &self,
         target: Target,
         pid: Pid,
@@ -116,7 +116,14 @@ impl<W: SwapStore> Memory<W> {
     }
 
     // Stores the low bytes of a value where an access to store leads, if it is a page.
-    fn store_at(&mut self, target: Target, pid: Pid, va: u32, width: Width, value: u32) -> Stored
+    pub(super) fn store_at(
+        &mut self,
+        target: Target,
+        pid: Pid,
+        va: u32,
+        width: Width,
+        value: u32,
+    ) -> Stored
         requires sound { IsSound W.slot_count self.old }
         requires aligned { va % size_of width ≡ 0 }
         requires target { target ≡ entry_target (entries (processes self.old) (ram_of self.old) (page_of pid va)) Store }
@@ -160,7 +167,7 @@ impl<W: SwapStore> Memory<W> {
     }
 
     // Whether the process may store at an address.
-    fn may_store(&self, pid: Pid, va: u32) -> bool
+    pub(super) fn may_store(&self, pid: Pid, va: u32) -> bool
         requires sound { IsSound W.slot_count self.now }
         ensures { result ≡ (user_view W.held self.now pid).may Store va }
     {

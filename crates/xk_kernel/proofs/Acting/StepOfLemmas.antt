@@ -35,14 +35,14 @@ use Rattle.xk_kernel.specs.declared.kernel.Stepped.TheVariants.{Did}
 use Rattle.xk_kernel.proofs.Ringing.RingLemmas.{all_of_step}
 
 -- what its actor did, counted, with the reservation that it leaves
-abbrev counted_by : ThreadId → Machine → Told
+abbrev pub counted_by : ThreadId → Machine → Told
 counted_by who m = counted (record m { cursor = who }) (m.threads who) (told_by who m)
 
-abbrev stepped_to : ℕ → Told → Recorded
+abbrev pub stepped_to : ℕ → Told → Recorded
 stepped_to number done = record { machine = done.machine; records = map (record_of number) done.told }
 
 -- the step is that of its actor, and then the timer
-step_is : (m : Machine) (who : ThreadId) → actor m ≡ Some who → step m ≡ stepped_to (m.steps + 1) (timed (counted_by who m))
+pub step_is : (m : Machine) (who : ThreadId) → actor m ≡ Some who → step m ≡ stepped_to (m.steps + 1) (timed (counted_by who m))
 unfolding step step_by
 step_is m who acts = ap (λ a. step_by_if a m) acts
 

@@ -55,7 +55,7 @@ module _ {W P : Type 0} (is_honest : W → Bool) (held : W → Held) (slot_count
   unfolding machine_of
   alike_memory = ap without_bytes (memory_machine held k mem rest.sizes) ∙ (λ i. record (machine_of held k) { ledger = rest.rights i })
 
-  matched_memory : Matched (machine_of held (with_memory mem k))
+  pub matched_memory : Matched (machine_of held (with_memory mem k))
   matched_memory = matched_alike (machine_of held (with_memory mem k)) (machine_of held k) alike_memory matched
 
   -- with the timer that the instruction leaves

@@ -15,8 +15,8 @@ use Rattle.machine_model.specs.State.Machine.{Machine, Thread}
 use Rattle.machine_model.specs.State.Threads.{put_thread, with_registers}
 use Rattle.machine_model.specs.State.Views.{memory_of, stored, timer_set}
 use Rattle.machine_model.specs.Runs.Matched.{Matched}
-use Rattle.rv32_atomics.specs.Performing.{Core, DoesPerform, IsPerformed, Performs}
-use Rattle.rv32_hart.specs.Running.{ran_of, registers_after, LeavesRegisters, View, seen}
+use Rattle.rv32_atomics.specs.Performing.{Core, DoesPerform, IsPerformed, LeavesRegistersUnlessDone, Performs}
+use Rattle.rv32_hart.specs.Running.{ran_of, registers_after, View, seen}
 use Rattle.rv32_hart.specs.declared.ran.Ran.{Ran}
 use Rattle.rv32_hart.specs.declared.ran.Ran.TheVariants.{Ecall, Trap, Device, Failed}
 use Rattle.rv32_hart.specs.declared.ran.Ran.TheVariants as ran
@@ -236,10 +236,10 @@ whole_ran is_honest held slot_count asked faults k mem timer whole pid rest =
     }
 
 -- a thread that stays has its registers as before
-pub registers_stay : (answer : Ran) (old new : List ℕ) → Stays answer → LeavesRegisters old new answer → new ≡ old
-registers_stay answer old new (inl e) leaves = subst (λ a. LeavesRegisters old new a) e leaves
-registers_stay answer old new (inr (inl e)) leaves = subst (λ a. LeavesRegisters old new a) e.2 leaves
-registers_stay answer old new (inr (inr e)) leaves = subst (λ a. LeavesRegisters old new a) e leaves
+pub registers_stay : (answer : Ran) (old new : List ℕ) → Stays answer → LeavesRegistersUnlessDone old new answer → new ≡ old
+registers_stay answer old new (inl e) leaves = subst (λ a. LeavesRegistersUnlessDone old new a) e leaves
+registers_stay answer old new (inr (inl e)) leaves = subst (λ a. LeavesRegistersUnlessDone old new a) e.2 leaves
+registers_stay answer old new (inr (inr e)) leaves = subst (λ a. LeavesRegistersUnlessDone old new a) e leaves
 
 -- what holds of the thread that is there
 pub of_thread : (o : Option Thread) (t : Thread) → o ≡ Some t → (Holds : Thread → Type 0) → Holds t → (u : Thread) → o ≡ Some u → Holds u

@@ -7,8 +7,8 @@ ghost use Rattle.machine_model.specs.State.Machine.{Thread as ModelThread};
 ghost use Rattle.machine_model.specs.State.Order.{ready_at};
 ghost use Rattle.machine_model.specs.Stepping.Reservations.{reserved_by};
 ghost use Rattle.machine_model.specs.Stepping.Step.{performed};
-ghost use Rattle.rv32_atomics.specs.Performing.{Core, Performs};
-ghost use Rattle.rv32_hart.specs.Running.{GoesOnAligned, IfFailed, LeavesRegisters, UnlessFailed, View, ran_of};
+ghost use Rattle.rv32_atomics.specs.Performing.{Core, LeavesRegistersUnlessDone, Performs};
+ghost use Rattle.rv32_hart.specs.Running.{GoesOnAligned, IfFailed, UnlessFailed, View, ran_of};
 ghost use Rattle.vm_memory.specs.Bytes.{none_out};
 ghost use Rattle.vm_memory.specs.Memory.{has_failed, store_of};
 ghost use Rattle.xk_base.specs.Outside.{Rose};
@@ -46,7 +46,7 @@ fn run_over<U: UserMemory>(
         let old : Core = record { regs = thread.old.regs; reserved = reserved.old } in
         let new : Core = record { regs = thread.new.regs; reserved = reserved.new } in
         Performs (timed_view on steps timer.old told) (timed_view on steps timer.new left) old new thread.old.pc ran.new }
-    ensures leaves { LeavesRegisters thread.old.regs thread.new.regs ran.new }
+    ensures leaves { LeavesRegistersUnlessDone thread.old.regs thread.new.regs ran.new }
     ensures rest { U.same_rest inner result }
     // A timer whose page isn't there stays.
     ensures timer { on ≡ false → timer.new ≡ timer.old }

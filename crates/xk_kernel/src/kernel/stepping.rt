@@ -30,7 +30,7 @@ use xk_ports::SwapStore;
 const A0: u8 = 10;
 
 // The reservation of a thread that has reserved this address.
-fn reservation(who: ThreadId, reserved: Option<u32>) -> Option<(ThreadId, u32)>
+pub(super) fn reservation(who: ThreadId, reserved: Option<u32>) -> Option<(ThreadId, u32)>
     ensures { option_map as_reservation result ≡ reservation_of who reserved }
 {
     let address = reserved?;
@@ -38,17 +38,19 @@ fn reservation(who: ThreadId, reserved: Option<u32>) -> Option<(ThreadId, u32)>
 }
 
 // Whether a fetch there ends the thread.
-fn ends_thread(who: ThreadId, pc: u32) -> bool
+#[inline(always)]
+pub(super) fn ends_thread(who: ThreadId, pc: u32) -> bool
     ensures { result ≡ ends_thread who pc }
 {
-    who.tid.0 > 1 && pc == THREAD_RETURN
+    pc == THREAD_RETURN && who.tid.0 > 1
 }
 
 // Whether a fetch there ends the interrupt handler.
-fn ends_handler(who: ThreadId, pc: u32) -> bool
+#[inline(always)]
+pub(super) fn ends_handler(who: ThreadId, pc: u32) -> bool
     ensures { result ≡ ends_handler who pc }
 {
-    who.tid.0 == 1 && pc == HANDLER_RETURN
+    pc == HANDLER_RETURN && who.tid.0 == 1
 }
 
 impl<W: SwapStore> Kernel<W> {

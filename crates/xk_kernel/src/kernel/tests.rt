@@ -1,7 +1,7 @@
 //! The kernel of the image of the first run, taken apart.
 
-ghost use Rattle.std.specs.Prelude.{◌≤◌, length, IfOk};
-ghost use Rattle.xk_kernel.specs.Sound.{IsSound};
+ghost use Rattle.std.specs.Prelude.{◌≤◌, length, IfOk, IfSome};
+ghost use Rattle.xk_kernel.specs.Sound.{IsSound, IsUsable};
 
 use crate::kernel::Kernel;
 use boot_plan::plan;
@@ -25,6 +25,7 @@ const FIRST_IMAGE: [u8; 88] = [
 fn image_kernel<W: SwapStore>(alloc: Global, image: &[u8], store: W) -> Result<Kernel<W>, W>
     requires few { length image.now ≤ 67108864 }
     ensures sound { IfOk result (λ k. IsSound W.slot_count W.held k) }
+    ensures usable { IfOk result (λ k. IsUsable k) }
 {
     let Ok(args) = read_args(alloc, image) else {
         return Err(store);
@@ -69,6 +70,54 @@ fn memory_parts(rt: HostRuntime) {
             assert_eq!(rt; (*cursor, *next, *steps), (first, 1, 0));
             assert!(rt; timer.compare().is_none());
             assert!(rt; reserved.is_none());
+            let _ = kernel.close();
+        }
+        Err(_) => assert!(rt; false),
+    }
+}
+
+// How many of the next 7 steps are quiet, and then one step.
+fn run_and_step<W: SwapStore>(kernel: &mut Kernel<W>) -> Option<u32>
+    requires sound { IsSound W.slot_count W.held kernel.old }
+    requires usable { IsUsable kernel.old }
+    ensures sound { IsSound W.slot_count W.held kernel.new }
+    ensures usable { IfSome result (λ _. IsUsable kernel.new) }
+{
+    if kernel.steps() > 100 {
+        return None;
+    }
+    let Ok(done) = kernel.run_quiet(7) else {
+        return None;
+    };
+    if kernel.steps() > 200 {
+        return None;
+    }
+    match kernel.step() {
+        Ok(_) => Some(done),
+        Err(_) => None,
+    }
+}
+
+// The same three times.
+fn three_runs<W: SwapStore>(kernel: &mut Kernel<W>) -> Option<[u32; 3]>
+    requires sound { IsSound W.slot_count W.held kernel.old }
+    requires usable { IsUsable kernel.old }
+    ensures sound { IsSound W.slot_count W.held kernel.new }
+{
+    let first = run_and_step(kernel)?;
+    let second = run_and_step(kernel)?;
+    let third = run_and_step(kernel)?;
+    Some([first, second, third])
+}
+
+// Five instructions stand before its call, one before its store to the console, and then it loops.
+#[test]
+fn quiet_runs(rt: HostRuntime) {
+    match image_kernel(rt.alloc(), &FIRST_IMAGE, SureStore::new()) {
+        Ok(mut kernel) => {
+            let runs = three_runs(&mut kernel);
+            assert_eq!(rt; runs, Some([5, 1, 7]));
+            assert_eq!(rt; kernel.steps(), 16);
             let _ = kernel.close();
         }
         Err(_) => assert!(rt; false),

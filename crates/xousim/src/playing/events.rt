@@ -1,6 +1,6 @@
 //! Events are played, and what a command tells of their records is gathered as they come.
 
-ghost use Rattle.std.specs.Prelude.{◌≡◌, ◌≤◌, ◌<◌, ◌+◌, ℕ, true, List, Option, None, Some, Ok, Err, length, OnOk, OnErr};
+ghost use Rattle.std.specs.Prelude.{◌≡◌, ◌≤◌, ◌<◌, ◌+◌, ℕ, true, List, Option, None, Some, Ok, Err, length, IfOk, OnOk, OnErr};
 ghost use Rattle.event_text.specs.Held.{IsWaiting};
 ghost use Rattle.machine_model.specs.State.Machine.{Machine};
 ghost use Rattle.vm_memory.specs.Bytes.{none_out};
@@ -11,7 +11,7 @@ ghost use Rattle.xk_kernel.specs.Sound.{IsSound, IsUsable, Keeps};
 ghost use Rattle.xk_kernel.specs.State.{machine_of};
 ghost use Rattle.xk_kernel.specs.Stepping.{event_done};
 ghost use Rattle.xousim.specs.Gathering.{Gathers, GathersPart, Text, text};
-ghost use Rattle.xousim.specs.Playing.{Advances, Goes, HasPlayed, Plays, run_from};
+ghost use Rattle.xousim.specs.Playing.{Advances, Goes, HasPlayed, Plays, PlaysOn, run_from};
 ghost use Rattle.xousim.specs.Standing.{stand};
 ghost use Rattle.xousim.specs.Telling.{told};
 
@@ -31,6 +31,81 @@ pub enum PlayFault {
     Write,
     /// The swap store failed.
     Swap,
+}
+
+/// Plays the next step of a tick of which so many are left, below the limit, and answers how many are left
+/// then: none where no thread is Ready.
+fn play_step<K: Sink, W: SwapStore>(
+    kernel: &mut Kernel<W>,
+    left: u32,
+    tells: Telling,
+    limit: u32,
+    out: &mut K,
+    held: &mut Held,
+) -> Result<u32, PlayFault>
+    requires sound { IsSound W.slot_count W.held kernel.old }
+    requires usable { IsUsable kernel.old }
+    requires limit { limit ≤ 4000000000 }
+    requires below { (machine_of W.held kernel.old).steps < limit }
+    requires some { 0 < left }
+    ensures on { let old = stand W.is_honest W.held kernel.old (text (K.written out.old) held.old.items) in
+        let new = stand W.is_honest W.held kernel.new (text (K.written out.new) held.new.items) in
+        PlaysOn tells left limit old new result }
+    ensures fewer { IfOk result (λ rest. rest < left) }
+    ensures sound { IsSound W.slot_count W.held kernel.new }
+    ensures usable { OnOk result (IsUsable kernel.new) }
+    ensures keeps { Keeps W.is_honest W.held W.slot_count W.asked W.faults kernel.old kernel.new }
+    ensures within { OnOk result ((machine_of W.held kernel.new).steps ≤ limit) }
+    ensures write { result ≡ Err PlayFault.Write → Rose (K.faults out.old) (K.faults out.new) }
+    ensures swap { result ≡ Err PlayFault.Swap → Rose (W.faults (store_of kernel.old.mem)) (W.faults (store_of kernel.new.mem)) }
+    ensures never_falls { K.faults out.old ≤ K.faults out.new }
+{
+    match kernel.step() {
+        Ok(Stepped::Did) => {}
+        Ok(Stepped::Idle) => return Ok(0),
+        Err(SwapFault) => return Err(PlayFault::Swap),
+    }
+    let Ok(()) = gather_records(tells, kernel.last(), out, held) else {
+        return Err(PlayFault::Write);
+    };
+    Ok(left - 1)
+}
+
+/// Plays the next steps of a tick of which so many are left, below the limit, and answers how many are left
+/// then: a run of quiet ones, and then the one that isn't quiet, unless the tick or the limit ends the run.
+fn play_run<K: Sink, W: SwapStore>(
+    kernel: &mut Kernel<W>,
+    left: u32,
+    tells: Telling,
+    limit: u32,
+    out: &mut K,
+    held: &mut Held,
+) -> Result<u32, PlayFault>
+    requires sound { IsSound W.slot_count W.held kernel.old }
+    requires usable { IsUsable kernel.old }
+    requires limit { limit ≤ 4000000000 }
+    requires below { (machine_of W.held kernel.old).steps < limit }
+    requires some { 0 < left }
+    ensures on { let old = stand W.is_honest W.held kernel.old (text (K.written out.old) held.old.items) in
+        let new = stand W.is_honest W.held kernel.new (text (K.written out.new) held.new.items) in
+        PlaysOn tells left limit old new result }
+    ensures fewer { IfOk result (λ rest. rest < left) }
+    ensures sound { IsSound W.slot_count W.held kernel.new }
+    ensures usable { OnOk result (IsUsable kernel.new) }
+    ensures keeps { Keeps W.is_honest W.held W.slot_count W.asked W.faults kernel.old kernel.new }
+    ensures within { OnOk result ((machine_of W.held kernel.new).steps ≤ limit) }
+    ensures write { result ≡ Err PlayFault.Write → Rose (K.faults out.old) (K.faults out.new) }
+    ensures swap { result ≡ Err PlayFault.Swap → Rose (W.faults (store_of kernel.old.mem)) (W.faults (store_of kernel.new.mem)) }
+    ensures never_falls { K.faults out.old ≤ K.faults out.new }
+{
+    let most = left.min(limit - kernel.steps());
+    let Ok(done) = kernel.run_quiet(most) else {
+        return Err(PlayFault::Swap);
+    };
+    if done == most {
+        return Ok(left - done);
+    }
+    play_step(kernel, left - done, tells, limit, out, held)
 }
 
 /// Plays a tick of at most `count` steps. Where the store fails in a step, what is told of the steps
@@ -58,7 +133,8 @@ fn play_tick<K: Sink, W: SwapStore>(
     ensures swap { result ≡ Err PlayFault.Swap → Rose (W.faults (store_of kernel.old.mem)) (W.faults (store_of kernel.new.mem)) }
     ensures never_falls { K.faults out.old ≤ K.faults out.new }
 {
-    'steps: for done in 0..count {
+    let mut left = count;
+    'runs: while left > 0 {
         if kernel.steps() == limit {
             if kernel.ready() {
                 return Ok(Ending::LimitMet);
@@ -66,17 +142,7 @@ fn play_tick<K: Sink, W: SwapStore>(
             kernel.end_turn();
             return Ok(Ending::Played);
         }
-        match kernel.step() {
-            Ok(Stepped::Did) => {}
-            Ok(Stepped::Idle) => {
-                kernel.end_turn();
-                return Ok(Ending::Played);
-            }
-            Err(SwapFault) => return Err(PlayFault::Swap),
-        }
-        let Ok(()) = gather_records(tells, kernel.last(), out, held) else {
-            return Err(PlayFault::Write);
-        };
+        left = play_run(kernel, left, tells, limit, out, held)?;
     }
     kernel.end_turn();
     Ok(Ending::Played)

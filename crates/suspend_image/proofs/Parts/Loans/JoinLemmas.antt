@@ -1,14 +1,14 @@
 -- Runs are made from the last page to the first, and their numbers are compared as keys.
-use Rattle.std.proofs.Common.{◌≡◌, ℕ, ◌+◌, ◌≤◌, Bool, true, false, cond, eqb, List, [], ◌∷◌, ◌++◌, reverse, refl, sym, ap, subst, ◌∙◌, arith, inl, inr, ◌↔◌}
-use Rattle.std.specs.Prelude.{◌&&◌, IsTrue}
+use Rattle.std.proofs.Common.{◌≡◌, ℕ, ◌+◌, ◌≤◌, Bool, cond, List, [], ◌∷◌, ◌++◌, reverse, refl, sym, ap, ◌∙◌, arith, ◌↔◌}
+use Rattle.std.specs.Prelude.{IsTrue}
 use Rattle.std.specs.List.{count_by, IsDistinct}
-use Rattle.std.proofs.lemmas.Bool.{cases_Bool, and_parts}
 use Rattle.std.proofs.lemmas.List.Sorted.{IsPermutation-reverse, sum_by-IsPermutation}
 use Rattle.std.proofs.lemmas.List.Sums.{sum_by-append}
 use Rattle.suspend_image.specs.declared.matching.runs.Run.{Run}
 use Rattle.suspend_image.specs.PageParts.{same_key}
 use Rattle.suspend_image.specs.RunParts.{join, joined, is_run_of, run_keys, AreNumbersApart}
-use Rattle.suspend_image.proofs.Parts.Keys.CountLemmas.{count_first, count_yes, count_no, is_key, AreOnce, distinct_told}
+use Rattle.suspend_image.proofs.Parts.Keys.CountLemmas.{is_key, distinct_told}
+use Rattle.suspend_image.proofs.Parts.Keys.NumberLemmas.{keys_counted, keys_few}
 
 -- ---- pages in front of runs
 
@@ -26,35 +26,8 @@ onto_none (r ∷ rows) = ap (join r) (onto_none rows)
 
 -- ---- numbers as keys
 
-and_true : (b : Bool) → (b && true) ≡ b
-and_true true = refl
-and_true false = refl
-
-keys_counted : (n : ℕ) (runs : List Run) → count_by (is_key (n, 0)) (run_keys runs) ≡ count_by (is_run_of n) runs
-keys_counted n [] = refl
-keys_counted n (r ∷ runs) =
-    count_first (is_key (n, 0)) (r.number, 0) (run_keys runs)
-    ∙ ap (λ (b : Bool). cond b 1 0 + count_by (is_key (n, 0)) (run_keys runs)) (and_true (eqb r.number n))
-    ∙ ap (λ (m : ℕ). cond (eqb r.number n) 1 0 + m) (keys_counted n runs) ∙ sym (count_first (is_run_of n) r runs)
-
-keys_few : (k : ℕ × ℕ) (runs : List Run) → count_by (is_key k) (run_keys runs) ≤ count_by (is_run_of k.0) runs
-keys_few k [] = omega arith
-keys_few k (r ∷ runs) =
-    let few = keys_few k runs in
-    elim (cases_Bool (is_key k (r.number, 0))) [
-      | inl is ↦ (
-          let one = count_yes (is_key k) (r.number, 0) (run_keys runs) is in
-          let other = count_yes (is_run_of k.0) r runs (and_parts (eqb r.number k.0) (eqb 0 k.1) is).0 in
-          omega arith
-          )
-      | inr isnt ↦ (
-          let one = count_no (is_key k) (r.number, 0) (run_keys runs) isnt in
-          elim (cases_Bool (eqb r.number k.0)) [
-            | inl does ↦ (let other = count_yes (is_run_of k.0) r runs does in omega arith)
-            | inr doesnt ↦ (let other = count_no (is_run_of k.0) r runs doesnt in omega arith)
-          ]
-          )
-    ]
+abbrev run_number : Run → ℕ
+run_number r = r.number
 
 both_counted : (k : ℕ × ℕ) (loans left : List Run)
     → count_by (is_key k) (run_keys loans ++ run_keys left) ≡ count_by (is_key k) (run_keys loans) + count_by (is_key k) (run_keys left)
@@ -67,16 +40,16 @@ apart_told loans left told is =
       λ holds n. (
           let few = once.0 (is.0 holds) (n, 0) in
           let all = both_counted (n, 0) loans left in
-          let one = keys_counted n loans in
-          let two = keys_counted n left in
+          let one = keys_counted run_number n loans in
+          let two = keys_counted run_number n left in
           omega arith
           ),
       λ apart.
           is.1 (once.1 (λ k. (
           let few = apart k.0 in
           let all = both_counted k loans left in
-          let one = keys_few k loans in
-          let two = keys_few k left in
+          let one = keys_few run_number k loans in
+          let two = keys_few run_number k left in
           omega arith
           ))),
     )

@@ -35,7 +35,7 @@ use Rattle.suspend_image.specs.ServerParts.{all_messages, many_at, is_lent_by}
 use Rattle.suspend_image.proofs.Parts.Keys.CountLemmas.{count_first, count_yes, count_no, none_of_count}
 use Rattle.suspend_image.proofs.Parts.Keys.KeyLemmas.{mapped, either}
 use Rattle.suspend_image.proofs.Parts.Keys.SameLemmas.{count_less, counted_has}
-use Rattle.suspend_image.proofs.Parts.Servers.OneLemmas.{Tells}
+use Rattle.suspend_image.proofs.Parts.Servers.CountedLemmas.{Tells}
 use Rattle.suspend_image.proofs.Parts.Servers.SenderLemmas.{kind_of, by_kind}
 use Rattle.suspend_image.proofs.Parts.Servers.ServerRowLemmas.{servers_told, messages_told}
 use Rattle.suspend_image.proofs.Parts.Servers.TotalLemmas.{total, listed, one_total}

@@ -19,7 +19,7 @@ use Rattle.suspend_image.specs.Machines.{thread_state, sender_of, message_of, se
 use Rattle.suspend_image.specs.ServerParts.{is_sent_as, is_to_answer, is_queueable, is_sized, are_messages_right}
 use Rattle.suspend_image.proofs.Parts.Threads.ThreadLemmas.{state_by}
 use Rattle.suspend_image.proofs.Parts.Servers.ServerRowLemmas.{each_told, messages_told}
-use Rattle.suspend_image.proofs.Parts.Servers.OneLemmas.{Tells}
+use Rattle.suspend_image.proofs.Parts.Servers.CountedLemmas.{Tells}
 
 abbrev number_of : ℕ → Number
 number_of n = record { 0 = n }

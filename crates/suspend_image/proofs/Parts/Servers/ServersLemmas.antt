@@ -1,8 +1,9 @@
--- Servers are matched exactly where tests of the rows hold.
-use Rattle.std.proofs.Common.{◌≡◌, ℕ, Bool, true, false, leb, List, length, refl, sym, ap, ◌∙◌, arith, inl, inr, ◌↔◌}
-use Rattle.std.specs.Prelude.{◌&&◌, IsTrue}
-use Rattle.std.specs.List.{list_all}
-use Rattle.std.proofs.lemmas.Bool.{cases_Bool, and_parts, eq-eqb, ne_eqb, both_ways}
+-- Servers are matched exactly where tests of the rows hold, and no two messages have one number.
+use Rattle.std.proofs.Common.{◌≡◌, ℕ, ◌≤◌, Bool, true, cond, leb, List, length, sym, subst, refl, ◌↔◌}
+use Rattle.std.specs.Prelude.{◌&&◌}
+use Rattle.std.specs.List.{list_all, flat_map, count_by}
+use Rattle.std.proofs.lemmas.Bool.{and_parts}
+use Rattle.std.proofs.lemmas.List.Sums.{sum_by-append}
 use Rattle.xk_base.specs.declared.ids.Number.{Number}
 use Rattle.machine_model.specs.Messaging.Messages.{is_of_number}
 use Rattle.machine_model.specs.Messaging.MessageCounts.{HasAtMostOne}
@@ -12,67 +13,50 @@ use Rattle.suspend_image.specs.declared.state.ServerRow.{ServerRow}
 use Rattle.suspend_image.specs.Rows.{server_key}
 use Rattle.suspend_image.specs.Machines.{servers_of, processes_of}
 use Rattle.suspend_image.specs.Parts.{Ascend}
-use Rattle.suspend_image.specs.ServerParts.{is_server_living, has_slots, is_apart, is_numbered, has_one, is_alone, are_all_alone, are_few_apart}
+use Rattle.suspend_image.specs.ServerParts.{is_server_living, has_slots, is_apart, is_numbered, messages_at, are_few_apart, AreMessagesApart}
 use Rattle.suspend_image.proofs.Parts.Servers.ServerLemmas.{living_told, slots_told, sids_told, few_told}
-use Rattle.suspend_image.proofs.Parts.Servers.OneLemmas.{one_told, none_right, all_messages_pass}
+use Rattle.suspend_image.proofs.Parts.Servers.TotalLemmas.{total, listed, at_most_total}
 
 number_of : ℕ → Number
 number_of n = record { 0 = n }
 
 -- ---- no two messages have one number
 
-alone_right : (rows : List ServerRow) → Ascend server_key rows → are_all_alone rows ≡ true → (number : Number) → HasAtMostOne (servers_of rows) (is_of_number number)
-alone_right rows ascend all number = elim (cases_Bool (has_one (is_numbered number.0) rows)) [
-  | inl one ↦ inr ((one_told (is_of_number number) (is_numbered number.0) (λ m. refl) rows ascend).0 one)
-  | inr none ↦ inl (none_right (is_of_number number) (is_numbered number.0) (λ m. refl) rows ascend (is_alone rows) all (λ m alone. ne_eqb m.number number.0 (λ e. both_ways (has_one (is_numbered number.0) rows) none (sym (ap (λ (k : ℕ). has_one (is_numbered k) rows) e) ∙ alone))))
-]
+counted : (rows : List ServerRow) (n : ℕ) → count_by (is_numbered n) (flat_map messages_at rows) ≡ total (is_numbered n) rows
+counted rows n = listed messages_at (is_numbered n) (is_numbered n) (λ s. sum_by-append (λ m. cond (is_numbered n m) 1 0) s.queued s.held) rows
 
-alone_all : (rows : List ServerRow) → Ascend server_key rows → ((number : Number) → HasAtMostOne (servers_of rows) (is_of_number number)) → are_all_alone rows ≡ true
+pub messages_apart_told : (rows : List ServerRow) → Ascend server_key rows
+    → AreMessagesApart rows ↔ ((number : Number) → HasAtMostOne (servers_of rows) (is_of_number number))
 unfolding number_of
-alone_all rows ascend most =
-    all_messages_pass (λ m. is_of_number (number_of m.number)) (is_alone rows) rows ascend (λ m. inr (eq-eqb m.number m.number refl)) (λ m n some. (
-    elim (most (number_of m.number)) [
-      | inl none ↦ (let zero = none n in absurd (omega (arith, some, zero)))
-      | inr one ↦ (one_told (is_of_number (number_of m.number)) (is_numbered m.number) (λ k. refl) rows ascend).1 one
-    ]
-    ))
+messages_apart_told rows ascend =
+    let most = λ (number : Number). at_most_total (is_of_number number) (is_numbered number.0) (λ m. refl) rows ascend in (
+      λ apart number. (most number).0 (subst (λ (k : ℕ). k ≤ 1) (counted rows number.0) (apart number.0)),
+      λ few n. subst (λ (k : ℕ). k ≤ 1) (sym (counted rows n)) ((most (number_of n)).1 (few (number_of n))),
+    )
 
 -- ---- all
 
-pub servers_matched_told : (procs : List ProcRow) (rows : List ServerRow) (told : Bool) → Ascend server_key rows
-    → told ≡ (are_few_apart procs rows && are_all_alone rows) → IsTrue told ↔ AreServersMatched (processes_of procs) (servers_of rows)
-servers_matched_told procs rows told ascend is =
-    let living = living_told procs rows ascend in
-    let slots = slots_told rows ascend in
-    let sids = sids_told rows ascend in
-    let few = few_told rows ascend in (
-      λ holds. (
-          let both = and_parts (are_few_apart procs rows) (are_all_alone rows) (sym is ∙ holds) in
-          let first = and_parts (leb (length rows) 64) _ both.0 in
-          let second = and_parts (list_all has_slots rows) _ first.1 in
-          let third = and_parts (list_all (is_server_living procs) rows) _ second.1 in
-          record {
-            living = living.0 third.0;
-            sids = sids.0 third.1;
-            numbers = alone_right rows ascend both.1;
-            few = few.0 first.0;
-            slots = slots.0 second.0;
-          }
-          ),
-      λ matched. (
-          let a : leb (length rows) 64 ≡ true = few.1 matched.few in
-          let b : list_all has_slots rows ≡ true = slots.1 matched.slots in
-          let c : list_all (is_server_living procs) rows ≡ true = living.1 matched.living in
-          let d : list_all (λ s. list_all (is_apart s) rows) rows ≡ true = sids.1 matched.sids in
-          let e : are_all_alone rows ≡ true = alone_all rows ascend matched.numbers in
-          is ∙ all_five _ _ _ _ _ a b c d e
-          ),
-    )
-  where
-    all_five : (a b c d e : Bool) → a ≡ true → b ≡ true → c ≡ true → d ≡ true → e ≡ true → ((a && (b && (c && d))) && e) ≡ true
-    all_five true true true true true p q r s t = refl
-    all_five false b c d e p q r s t = absurd cc
-    all_five true false c d e p q r s t = absurd cc
-    all_five true true false d e p q r s t = absurd cc
-    all_five true true true false e p q r s t = absurd cc
-    all_five true true true true false p q r s t = absurd cc
+all_four : (a b c d : Bool) → a ≡ true → b ≡ true → c ≡ true → d ≡ true → (a && (b && (c && d))) ≡ true
+all_four a b c d p q r s = rw (p, q, r, s) refl
+
+module _ (procs : List ProcRow) (rows : List ServerRow) (ascend : Ascend server_key rows) where
+  pub servers_right : are_few_apart procs rows ≡ true → AreMessagesApart rows → AreServersMatched (processes_of procs) (servers_of rows)
+  servers_right told apart =
+      let one = and_parts (leb (length rows) 64) _ told in
+      let two = and_parts (list_all has_slots rows) _ one.1 in
+      let three = and_parts (list_all (is_server_living procs) rows) _ two.1 in
+      record {
+        living = (living_told procs rows ascend).0 three.0;
+        sids = (sids_told rows ascend).0 three.1;
+        numbers = (messages_apart_told rows ascend).0 apart;
+        few = (few_told rows ascend).0 one.0;
+        slots = (slots_told rows ascend).0 two.0;
+      }
+
+  pub servers_told : AreServersMatched (processes_of procs) (servers_of rows) → are_few_apart procs rows ≡ true
+  servers_told matched =
+      all_four _ _ _ _ ((few_told rows ascend).1 matched.few) ((slots_told rows ascend).1 matched.slots)
+      ((living_told procs rows ascend).1 matched.living) ((sids_told rows ascend).1 matched.sids)
+
+  pub apart_of : AreServersMatched (processes_of procs) (servers_of rows) → AreMessagesApart rows
+  apart_of matched = (messages_apart_told rows ascend).1 matched.numbers

@@ -16,7 +16,7 @@ use Rattle.suspend_image.specs.Machines.{server_of, servers_of}
 use Rattle.suspend_image.specs.Parts.{Ascend}
 use Rattle.suspend_image.specs.ServerParts.{many_at}
 use Rattle.suspend_image.proofs.Parts.Keys.KeyLemmas.{some, key_above, number_is, number_own}
-use Rattle.suspend_image.proofs.Parts.Servers.OneLemmas.{Tells, counted_at}
+use Rattle.suspend_image.proofs.Parts.Servers.CountedLemmas.{Tells, counted_at}
 
 abbrev Form : Option ℕ → ServerRow → Type 0
 Form before s = after before ≤ server_key s

@@ -79,7 +79,7 @@ fn plan(alloc: Global) -> Result<BootPlan, NoMemory>
 }
 
 #[tactic(auto, using(crate::proofs::Booting::FirstLoanLemmas::first_fresh))]
-fn booted<W: SwapStore>(alloc: Global, store: W) -> Result<Memory<W>, BootFault<W>>
+pub(super) fn booted<W: SwapStore>(alloc: Global, store: W) -> Result<Memory<W>, BootFault<W>>
     requires { 4 ≤ W.slot_count store }
     ensures sound { IfOk result (λ m. IsSound W.slot_count m) }
     ensures usable { IfOk result (λ m. IsUsable m) }

@@ -61,7 +61,7 @@ fn console<U: UserMemory>(rt: &impl Abort, user: &mut U) -> Result<(), Failed>
     Ok(())
 }
 
-fn all<U: UserMemory>(rt: &impl Abort, user: &mut U) -> Result<(), Failed>
+pub(super) fn all<U: UserMemory>(rt: &impl Abort, user: &mut U) -> Result<(), Failed>
     requires fit { U.fit user.old }
 {
     widths(rt, user)?;

@@ -87,3 +87,29 @@ fn map_window_ends(rt: HostRuntime) {
         Err(_) => assert!(rt; false),
     }
 }
+
+// The console is found at the last page of the map window, and no more once it is removed.
+fn last_page_script<W: SwapStore>(rt: &impl Abort, memory: &mut Memory<W>)
+    requires sound { IsSound W.slot_count memory.old }
+    requires usable { IsUsable memory.old }
+    requires process { is_pid (processes memory.old) 2 ≡ true }
+{
+    let mapped = memory.make_console(PID, Some(Vpn(0x6_0FFF)), false);
+    assert_eq!(rt; mapped, Ok(Vpn(0x6_0FFF)));
+    let mapped = memory.make_console(PID, None, false);
+    assert_eq!(rt; mapped, Err(XousError::MemoryInUse));
+    assert_eq!(rt; memory.remove_run(at(0x6_0FFF), 1), Ok(()));
+    let mapped = memory.make_console(PID, None, false);
+    assert_eq!(rt; mapped, Ok(Vpn(0x6_0000)));
+}
+
+#[test]
+fn console_at_the_last_page_is_found(rt: HostRuntime) {
+    match booted(rt.alloc(), SureStore::new()) {
+        Ok(mut memory) => {
+            last_page_script(&rt, &mut memory);
+            let _ = end(memory);
+        }
+        Err(_) => assert!(rt; false),
+    }
+}

@@ -35,8 +35,7 @@ invariant_of-self-clause-counted c =
     let size : length c.args.self.now.seats.items ≡ SERVER_LIMIT = omega arith in
     let missing : is_some (with_sid c.args.sid (state c.args.self.now.seats.items c.args.self.now.next)) ≡ false = ap is_some (sym c.find.ensures) ∙ sym c.is_some.ensures ∙ c.if-is_some.false in
     let new : with_sid c.args.sid (state c.args.self.now.seats.items c.args.self.now.next) ≡ None = with_sid_missing c.args.sid (state c.args.self.now.seats.items c.args.self.now.next) missing in
-    made_counted c.args.self.now.seats.items c.args.self.now.next c.in-Some.seat c.args.sid c.args.pid c.args.self.now.apart c.args.self.now.counted size c.in-Some.ensures.within new
-    (sym (position_is_least is_none c.args.self.now.seats.items SERVER_LIMIT (omega arith)) ∙ sym c.in-Some.ensures.found)
+    made_counted c.args.self.now.seats.items c.args.self.now.next c.in-Some.seat c.args.sid c.args.pid c.args.self.now.apart size c.in-Some.ensures.within new
 
 pub returns-clause-answer : goal.returns-clause-answer
 unfolding servers_of

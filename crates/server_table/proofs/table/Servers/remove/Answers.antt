@@ -12,7 +12,7 @@ invariant_of-self-clause-apart c =
 pub invariant_of-self-clause-counted : goal.invariant_of-self-clause-counted
 invariant_of-self-clause-counted c =
     let size : length c.args.self.now.seats.items ≡ SERVER_LIMIT = omega arith in
-    removed_counted c.args.self.now.seats.items c.args.self.now.next c.args.s.0 c.in-Some.seat c.args.self.now.apart c.args.self.now.counted size c.in-Some.ensures.within (sym c.in-Some.ensures.found)
+    removed_counted c.args.self.now.seats.items c.args.self.now.next c.in-Some.seat c.args.self.now.apart size c.in-Some.ensures.within
 
 pub returns-in-Some : goal.returns-in-Some
 unfolding servers_of

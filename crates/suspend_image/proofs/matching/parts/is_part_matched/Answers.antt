@@ -45,4 +45,5 @@ returns-in-Joiners c file =
 
 pub returns-in-Keys : goal.returns-in-Keys
 returns-in-Keys c file =
-    subst (λ (p : Part). IsTrue c.are_keys_matched.result ↔ Holds p (machine_of file c.args.state.now)) (sym c.in-Keys.is) (c.are_keys_matched.ensures file)
+    subst (λ (p : Part). IfOk c.are_keys_matched.result (λ told. IsTrue told ↔ Holds p (machine_of file c.args.state.now))) (sym c.in-Keys.is)
+    (c.are_keys_matched.ensures file)

@@ -1,0 +1,85 @@
+-- An instruction of a thread in hand over its memory, while that is lent, is the quiet step of every kernel around it, or isn't done.
+use Rattle.std.proofs.Common.{◌≡◌, ℕ, ◌+◌, Bool, true, false, Option, refl, sym, ap, subst, ◌∙◌, inl, inr}
+use Rattle.machine_model.specs.Stepping.Step.{ends_handler, ends_thread}
+use Rattle.rv32_atomics.specs.Performing.{Core, Performs, PerformsOrLeaves, core_left}
+use Rattle.rv32_hart.specs.declared.ran.Ran.{Ran}
+use Rattle.rv32_hart.specs.declared.ran.Ran.TheVariants as ran
+use Rattle.send_path.specs.Parts.{thread_of}
+use Rattle.sv32_space.specs.Tie.{Held}
+use Rattle.thread_table.specs.States.{is_ready_state}
+use Rattle.thread_table.specs.declared.thread.Thread.{Thread as TableThread}
+use Rattle.vm_memory.proofs.Using.UserKeepLemmas.{rest_same}
+use Rattle.vm_memory.specs.Using.UserView.{KeepsRest}
+use Rattle.vm_memory.specs.declared.memory.Memory.{Memory}
+use Rattle.xk_base.specs.declared.ids.Pid.{Pid}
+use Rattle.xk_base.specs.declared.ids.ThreadId.{ThreadId}
+use Rattle.xk_kernel.specs.Quiet.{StepsIfQuiet, in_hand}
+use Rattle.xk_kernel.specs.QuietOver.{StepsOver, Taken, around}
+use Rattle.xk_kernel.specs.State.{machine_of}
+use Rattle.xk_kernel.specs.declared.kernel.Kernel.{Kernel}
+use Rattle.xk_kernel.proofs.Quieting.InstructionLemmas.{IsOther, end_is_loud, handler_end_is_loud, has_done, next_done, next_is_quiet, other_done, other_is_loud, view_of}
+
+-- a thread of the table in hand
+abbrev pub taken : TableThread → Option ℕ → Taken
+taken t reserved = record { thread = thread_of t; reserved = reserved }
+
+abbrev pub core_of : TableThread → Option ℕ → Core
+core_of t reserved = record { regs = t.regs; reserved = reserved }
+
+-- what it has afterwards, by the answer
+left_by_next : (old done new : Core) (answer : Ran) (next : ℕ) → answer ≡ ran.Next next → new ≡ core_left old done answer → new ≡ done
+left_by_next old done new answer next is e = e ∙ ap (core_left old done) is
+
+left_by_other : (old done new : Core) (answer : Ran) → IsOther answer → new ≡ core_left old done answer → new ≡ old
+left_by_other old done new answer (inl is) e = e ∙ ap (core_left old done) is
+left_by_other old done new answer (inr (inl is)) e = e ∙ ap (core_left old done) is.2
+left_by_other old done new answer (inr (inr is)) e = e ∙ ap (core_left old done) is.3
+
+module _ {W P : Type 0} (is_honest : W → Bool) (held : W → Held) (slot_count : W → ℕ) (asked : W → P) (faults : W → ℕ)
+    (who : ThreadId) (old : Memory W) (t : TableThread) (ready : is_ready_state t.state ≡ true) (reserved : Option ℕ) where
+  -- where the thread or its handler ends, there is no quiet step
+  pub end_over : ends_thread who t.pc ≡ true → StepsOver is_honest held slot_count who old old (taken t reserved) (taken t reserved) false
+  end_over e k may n undue means =
+      end_is_loud is_honest held slot_count asked faults (around old who k) old who.pid refl may.whole may.matched may.untimed
+      (rest_same is_honest held slot_count asked faults who.pid old) t ready reserved n e
+
+  pub handler_end_over : ends_handler who t.pc ≡ true → StepsOver is_honest held slot_count who old old (taken t reserved) (taken t reserved) false
+  handler_end_over e k may n undue means =
+      handler_end_is_loud is_honest held slot_count asked faults (around old who k) old who.pid refl may.whole may.matched may.untimed
+      (rest_same is_honest held slot_count asked faults who.pid old) t ready reserved n e
+
+  -- the process of the memory is the thread's, then and now
+  module _ (pid other : Pid) (own : pid ≡ who.pid) (same : other ≡ pid) (new : Memory W)
+      (kept : KeepsRest is_honest held slot_count asked faults pid old new) (core : Core) (answer : Ran)
+      (run : PerformsOrLeaves (view_of is_honest held old pid) (view_of is_honest held new other) (core_of t reserved) core t.pc answer) where
+    rest : KeepsRest is_honest held slot_count asked faults who.pid old new
+    rest = subst (λ p. KeepsRest is_honest held slot_count asked faults p old new) own kept
+
+    performs : Performs (view_of is_honest held old who.pid) (view_of is_honest held new other) (core_of t reserved) run.done t.pc answer
+    performs = subst (λ p. Performs (view_of is_honest held old p) (view_of is_honest held new other) (core_of t reserved) run.done t.pc answer) own run.performs
+
+    -- an instruction by which the thread doesn't go on isn't done
+    pub other_over : IsOther answer
+        → StepsOver is_honest held slot_count who old new (taken t reserved) (taken (record t { regs = core.regs }) core.reserved) false
+    other_over is k may n undue means =
+        let a : Kernel W = around old who k in
+        let done = has_done is_honest held slot_count asked faults a new other (same ∙ own) may.whole may.matched may.untimed rest
+        (core_of t reserved) run.done t.pc answer performs (other_done answer is) means in
+        subst (λ (c : Core). StepsIfQuiet false (in_hand who (thread_of t) reserved n (machine_of held (around old who k)))
+        (in_hand who (thread_of (record t { regs = c.regs })) c.reserved n (machine_of held (around new who k))))
+        (sym (left_by_other (core_of t reserved) run.done core answer is run.core))
+        (other_is_loud is_honest held slot_count asked faults a new other (same ∙ own) may.whole may.matched may.untimed rest t ready reserved n
+        run.done answer done is)
+
+    -- any other is the quiet step
+    pub next_over : (next : ℕ) → answer ≡ ran.Next next → ends_thread who t.pc ≡ false → ends_handler who t.pc ≡ false
+        → StepsOver is_honest held slot_count who old new (taken t reserved) (taken (record t { regs = core.regs; pc = next }) core.reserved) true
+    next_over next is past stays k may n undue means =
+        let a : Kernel W = around old who k in
+        let done = has_done is_honest held slot_count asked faults a new other (same ∙ own) may.whole may.matched may.untimed rest
+        (core_of t reserved) run.done t.pc answer performs (next_done answer next is) means in
+        subst (λ (c : Core). StepsIfQuiet true (in_hand who (thread_of t) reserved n (machine_of held (around old who k)))
+        (in_hand who (thread_of (record t { regs = c.regs; pc = next })) c.reserved (n + 1) (machine_of held (around new who k))))
+        (sym (left_by_next (core_of t reserved) run.done core answer next is run.core))
+        (next_is_quiet is_honest held slot_count asked faults a new other (same ∙ own) may.whole may.matched may.untimed rest t ready reserved n
+        run.done answer done next is undue past stays)

@@ -1,0 +1,49 @@
+-- Quiet steps over the memory of a kernel alone, while the kernel has lent it: what is said of them is said of every kernel that has
+-- this memory.
+use Rattle.std.specs.Prelude.{◌≡◌, ℕ, ◌+◌, ◌<◌, Bool, false, Option}
+use Rattle.machine_model.specs.Runs.Matched.{Matched}
+use Rattle.machine_model.specs.State.Machine.{Machine, Thread}
+use Rattle.machine_model.specs.Stepping.Interrupts.{is_claim_of}
+use Rattle.machine_model.specs.Stepping.Timer.{is_due}
+use Rattle.sv32_space.specs.Tie.{Held}
+use Rattle.vm_memory.specs.Bytes.{MeansBytes}
+use Rattle.vm_memory.specs.declared.memory.Memory.{Memory}
+use Rattle.xk_base.specs.declared.ids.ThreadId.{ThreadId}
+use Rattle.xk_base.specs.declared.limits.TheConstants.{TIMER_INTERRUPT}
+use Rattle.xk_kernel.specs.Quiet.{RunsQuietly, StepsIfQuiet, in_hand, steps_after}
+use Rattle.xk_kernel.specs.Sound.{IsWhole}
+use Rattle.xk_kernel.specs.State.{machine_of}
+use Rattle.xk_kernel.specs.declared.kernel.Kernel.{Kernel}
+
+-- the kernel with this memory, at the turn of that thread
+abbrev pub around : {W : Type 0} → Memory W → ThreadId → Kernel W → Kernel W
+around mem who k = record k { mem = mem; cursor = who }
+
+-- A thread of the kernel may do quiet steps out of its table: the kernel is whole and matched, and its process hasn't the timer's page.
+pub record MayStep {W : Type 0} (slot_count : W → ℕ) (held : W → Held) (k : Kernel W) : Type 0 where
+  pub whole : IsWhole slot_count held k
+  pub matched : Matched (machine_of held k)
+  pub untimed : is_claim_of k.cursor.pid ((machine_of held k).claims TIMER_INTERRUPT) ≡ false
+
+-- a thread out of its table, with the address that it has reserved
+pub record Taken : Type 0 where
+  pub thread : Thread
+  pub reserved : Option ℕ
+
+-- the machine of the kernel with this memory and with the thread in hand, after so many steps
+abbrev pub machine_with : {W : Type 0} → (W → Held) → Kernel W → ThreadId → Memory W → Taken → ℕ → Machine
+machine_with held k who mem taken n = in_hand who taken.thread taken.reserved n (machine_of held (around mem who k))
+
+-- What came of a step that was to be done only if it is quiet, in every kernel around the memory whose timer isn't due at its end,
+-- with any number of steps done before it, where bytes mean something.
+abbrev pub StepsOver : {W : Type 0} → (W → Bool) → (W → Held) → (W → ℕ) → ThreadId → Memory W → Memory W → Taken → Taken → Bool → Type 0
+StepsOver {W} is_honest held slot_count who old new taken left quiet =
+    (k : Kernel W) → MayStep slot_count held (around old who k) → (n : ℕ) → is_due k.timer (n + 1) ≡ false → MeansBytes is_honest held old
+    → StepsIfQuiet quiet (machine_with held k who old taken n) (machine_with held k who new left (steps_after quiet n))
+
+-- a quiet run of at most so many steps, in every kernel around the memory whose timer isn't due at the end of any of them
+abbrev pub RunsOver : {W : Type 0} → (W → Bool) → (W → Held) → (W → ℕ) → ThreadId → Memory W → Memory W → Taken → Taken → ℕ → ℕ → Type 0
+RunsOver {W} is_honest held slot_count who old new taken left most done =
+    (k : Kernel W) → MayStep slot_count held (around old who k) → ((j : ℕ) → j < most → is_due k.timer (k.steps + j + 1) ≡ false)
+    → MeansBytes is_honest held old
+    → RunsQuietly most done (machine_with held k who old taken k.steps) (machine_with held k who new left (k.steps + done))
