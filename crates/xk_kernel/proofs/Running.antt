@@ -3,4 +3,5 @@ pub mod InterleavingLemmas
 pub mod LimitLemmas
 pub mod MomentLemmas
 pub mod RanLemmas
+pub mod ReservedLemmas
 pub mod RunLemmas

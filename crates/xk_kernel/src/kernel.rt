@@ -10,8 +10,10 @@ mod memory_calls;
 mod message_calls;
 mod quiet;
 mod readers;
+mod resuming;
 mod ringing;
 mod running;
+mod saving;
 mod server_calls;
 mod stepping;
 #[cfg(test)]

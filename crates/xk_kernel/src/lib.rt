@@ -21,8 +21,8 @@ pub use laws::{
     tick_zero_ends_the_turn, unready_thread_is_not_picked,
 };
 pub use moments::{
-    history_is_a_run, history_stays_matched, moments_follow_each_other, moments_keep_the_cursor,
-    moments_stay_matched, run_ends_in_the_last_state, start_has_the_planned_pages,
-    start_of_a_plan_is_matched,
+    history_is_a_run, history_keeps_the_reservation, history_stays_matched,
+    moments_follow_each_other, moments_keep_the_cursor, moments_stay_matched,
+    run_ends_in_the_last_state, start_has_the_planned_pages, start_of_a_plan_is_matched,
 };
 pub use trust::{near_pages_are_known, trusted_store_stays_trusted};

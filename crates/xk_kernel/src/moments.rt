@@ -12,6 +12,7 @@ ghost use Rattle.machine_model.specs.Runs.Matched.{Matched};
 ghost use Rattle.machine_model.specs.Runs.Moments.{IsRun, state_at};
 ghost use Rattle.xk_kernel.specs.History.{history};
 ghost use Rattle.xk_kernel.specs.HistoryMoments.{moments_of};
+ghost use Rattle.xk_kernel.specs.Reserved.{IsReservedByThread};
 ghost use Rattle.xk_kernel.specs.Start.{start};
 
 /// The moments of a history are a run from its start.
@@ -62,4 +63,13 @@ pub fn moments_keep_the_cursor()
     ensures { (events : List Event) (limit : ℕ) (start : Machine) → Matched start
         → IsTrue (is_thread_id start.processes start.cursor) → (i : ℕ)
         → IsTrue (is_thread_id (state_at start (moments_of events limit start) i).processes (state_at start (moments_of events limit start) i).cursor) }
+{}
+
+/// Where the reservation of a matched start is that of an id that a thread of its processes can have, or there is
+/// none, it is so in the last state of a history. The start of a plan has none. What is said of a saved state rests
+/// on it.
+pub fn history_keeps_the_reservation()
+    ensures kept { (events : List Event) (limit : ℕ) (start : Machine) → Matched start → IsReservedByThread start
+        → IsReservedByThread (history events limit start).machine }
+    ensures start { (plan : BootPlan) (file : List ℕ) → IsReservedByThread (start plan file) }
 {}

@@ -1,3 +1,4 @@
+pub mod Continuing
 pub mod Images
 pub mod Loading
 pub mod Outcome

@@ -1,6 +1,7 @@
 pub mod FullLemmas
 pub mod GatheringLemmas
 pub mod HistoryLemmas
+pub mod NearLemmas
 pub mod OnceLemmas
 pub mod PlayingLemmas
 pub mod QuietLemmas

@@ -1,6 +1,8 @@
 -- The parts of a call: the events of a booted image are played, and what is told at the end is written.
-use Rattle.std.specs.Prelude.{◌≡◌, ◌⊎◌, ℕ, true, false, []}
+use Rattle.std.specs.Prelude.{◌≡◌, ◌⊎◌, ℕ, Bool, true, false, [], None}
 use Rattle.machine_model.specs.State.Machine.{Machine}
+use Rattle.suspend_image.specs.Saveable.{IsSpellable}
+use Rattle.suspend_image.specs.StateBytes.{saved_bytes}
 use Rattle.xk_base.specs.Outside.{Rose}
 use Rattle.xk_ports.specs.declared.host.FileSlot.TheVariants.{Second}
 use Rattle.xk_ports.specs.Told.{Grows, GrowsByPrefix}
@@ -10,11 +12,13 @@ use Rattle.xousim.specs.declared.status.Status.{Status}
 use Rattle.xousim.specs.declared.status.Status.TheVariants.{Done, Usage, ReadFault, WriteFault, ImageFault, EventFault, StepLimit, SwapFault, NoMemory}
 use Rattle.xousim.specs.Outcome.Images.{Image, plan_in}
 use Rattle.xousim.specs.Outcome.Plays.{HasCause, Tells}
-use Rattle.xousim.specs.Outcome.Sides.{Call, HostRose, IsTrusted, IsUnwritten, Prepares, SinkSide, StoreSide, Told}
+use Rattle.xousim.specs.Outcome.Sides.{Call, HostRose, IsTrusted, IsUnwritten, Prepares, SinkSide, StoreRose, StoreSide, Told}
 use Rattle.xousim.specs.Outcome.Starts.{Room, room_of}
+use Rattle.xousim.specs.Outcome.States.{StateFile, room_from}
+use Rattle.xousim.specs.Outcome.Suspends.{Saves, silent}
 use Rattle.xousim.specs.Reading.{Asked, IsTold}
 use Rattle.xousim.specs.Telling.{closing}
-use Rattle.xousim.specs.Words.{Play}
+use Rattle.xousim.specs.Words.{Play, Resume, Suspend}
 
 -- what is told at the end of a history that came to this machine was written, or a part of it, and this is the status
 abbrev pub Finishes : Play → Machine → Ending → SinkSide → Status → Type 0
@@ -58,3 +62,49 @@ pub record EndsPicked (play : Play) (booted : Booted) (call : Call) : Type 0 whe
 -- what holds of a call from where its image was booted
 abbrev pub EndsBooted : Play → Booted → Call → Type 0
 EndsBooted play booted call = EndsNotPicked play call ⊎ EndsPicked play booted call
+
+-- ---- `suspend`
+
+-- the last state was saved, the status being this one: its state bytes were written, or a part of them, or nothing
+abbrev pub SavesState : Machine → SinkSide → Status → Type 0
+SavesState machine out Done = IsSpellable machine × Grows out.written out.written_after (saved_bytes machine)
+SavesState machine out WriteFault = GrowsByPrefix out.written out.written_after (saved_bytes machine)
+SavesState machine out SwapFault = out.written_after ≡ out.written
+SavesState machine out Usage = ⊥
+SavesState machine out ReadFault = ⊥
+SavesState machine out NoMemory = ⊥
+SavesState machine out (ImageFault fault) = ⊥
+SavesState machine out (EventFault line) = ⊥
+SavesState machine out (StepLimit limit) = ⊥
+
+-- whose count rose as it was saved, by the status: the store's only where a page is out
+abbrev pub HasSaveCause : Bool → SinkSide → StoreSide → Status → Type 0
+HasSaveCause near out store Done = Unit {0}
+HasSaveCause near out store WriteFault = Rose out.faults out.faults_after
+HasSaveCause near out store SwapFault = StoreRose store × (near ≡ false)
+HasSaveCause near out store Usage = ⊥
+HasSaveCause near out store ReadFault = ⊥
+HasSaveCause near out store NoMemory = ⊥
+HasSaveCause near out store (ImageFault fault) = ⊥
+HasSaveCause near out store (EventFault line) = ⊥
+HasSaveCause near out store (StepLimit limit) = ⊥
+
+-- the event file was picked, its events were played, and the last state was saved
+pub record EndsSavedPicked (suspend : Suspend) (booted : Booted) (call : Call) : Type 0 where
+  pub asked : Asked call.host.asked call.host.asked_after Second suspend.events true
+  pub cause : HasCause (silent suspend) booted.room booted.machine call call.status
+  pub content : IsTrusted call.store booted.slots → Saves suspend booted.machine call call.status
+  pub events_read : call.status ≡ Done → IsTold call.host.left []
+
+-- what holds of a call of `suspend` from where its image was booted
+abbrev pub EndsSilently : Suspend → Booted → Call → Type 0
+EndsSilently suspend booted call = EndsNotPicked (silent suspend) call ⊎ EndsSavedPicked suspend booted call
+
+-- ---- `resume`
+
+-- The state file of a command is what was resumed, and the store was prepared for it.
+pub record Continues (resume : Resume) (files : Told) (booted : Booted) (store : StoreSide) : Type 0 where
+  pub state : StateFile files resume.state resume.slots booted.machine
+  pub room : booted.room ≡ room_from booted.machine resume.slots
+  pub slots : booted.slots ≡ resume.slots
+  pub prepared : Prepares store resume.slots None true

@@ -19,11 +19,16 @@ text out held = record { out = out; held = held }
 abbrev pub put : Option (List ℕ) → Text
 put out = text out []
 
+-- These bytes were put on a sink. Where they are none the sink wasn't touched: what it tells is the same, also where it tells nothing.
+pub record Puts (before after : Option (List ℕ)) (bytes : List ℕ) : Type 0 where
+  pub grown : Grows before after bytes
+  pub still : bytes ≡ [] → after ≡ before
+
 -- these bytes were told: a front of what was held and of them was put, and the rest is held
 pub record Gathers (before after : Text) (told : List ℕ) : Type 0 where
   pub front : List ℕ
   pub cut : before.held ++ told ≡ front ++ after.held
-  pub grown : Grows before.out after.out front
+  pub puts : Puts before.out after.out front
 
 -- .. but the sink failed: of what was held and of these bytes a part from the front was put
 abbrev pub GathersPart : Text → Text → List ℕ → Type 0

@@ -8,9 +8,11 @@ pub mod PageFile
 pub mod Playing
 pub mod ProgramStore
 pub mod Reading
+pub mod Resumed
 pub mod SplitCalls
 pub mod Splits
 pub mod Standing
+pub mod StateFiles
 pub mod Status
 pub mod Summary
 pub mod Table

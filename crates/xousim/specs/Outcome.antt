@@ -2,7 +2,10 @@
 pub mod Sides
 pub mod Images
 pub mod Starts
+pub mod States
 pub mod Plays
+pub mod Suspends
+pub mod Resumes
 pub mod Check
 pub mod Convert
 pub mod Demo

@@ -111,6 +111,11 @@ FailsSo run taken finished now Swap =
     (now.trusted ≡ true → GathersSome run.tells run.begun now.text run.limit (λ done. history_of input done run.start))
     × ComesFull now.room run.start (moments_of input.events run.limit run.start))
 
+-- where all events of the file were played, no page is out, unless some state has more pages than there are frames for
+abbrev pub IsNearAtEnd : Run → List ℕ → Bool → Stand → Type 0
+IsNearAtEnd run taken finished now =
+    ForEach taken finished (λ input. (now.near ≡ true) ⊎ ComesFull now.room run.start (moments_of input.events run.limit run.start))
+
 -- what came of an answer of the reader
 abbrev pub Advances : Run → List ℕ → Bool → Reader → Stand → Result Advance PlayFault → Type 0
 Advances run taken finished reader now (Ok Played) = HasPlayed run taken reader now
@@ -123,6 +128,12 @@ abbrev pub Goes : Run → List ℕ → Bool → Reader → Stand → Result (Opt
 Goes run taken finished reader now (Ok None) = HasPlayed run taken reader now
 Goes run taken finished reader now (Ok (Some ending)) = EndsSo run taken finished now ending
 Goes run taken finished reader now (Err fault) = FailsSo run taken finished now fault
+
+-- after a whole file was played, no page is out, unless some state has more pages than there are frames for
+pub record LeavesNear (run : Run) (left : Option (List ℕ)) (now : Stand) : Type 0 where
+  pub bytes : List ℕ
+  pub told : IsTold left bytes
+  pub near : (now.near ≡ true) ⊎ ComesFull now.room run.start (moments_of (input_of bytes).events run.limit run.start)
 
 -- What came of a file, by the bytes that were left of it before and after. Where the kernel is trusted, the history of all of it was played and
 -- written; or, where a write failed, a part of it; or, where the store failed, so many steps of it; or, where a read failed, the history of the

@@ -2,8 +2,11 @@
 use Rattle.std.specs.Prelude.{ℕ, List, [], ◌++◌, codes, decimal, ◌==◌, if◌then◌else◌}
 use Rattle.kernel_args.specs.FaultNumbers.{too_short, not_xarg, bad_version, bad_total, bad_check, bad_ram, no_process, too_many_processes, bad_ini, bad_names, bad_slots}
 use Rattle.boot_plan.specs.FaultNumbers.{section_outside, section_misaligned, sections_overlap, load_outside, bad_load, entry_outside, ram_too_small}
+use Rattle.suspend_image.specs.FileFaults.{state_unmatched}
+use Rattle.suspend_image.specs.StateFaults.{not_state, state_length, state_check, state_form}
 use Rattle.xousim.specs.declared.status.Status.{Status}
 use Rattle.xousim.specs.declared.status.Status.TheVariants.{Done, Usage, ReadFault, WriteFault, ImageFault, EventFault, StepLimit, SwapFault, NoMemory}
+use Rattle.xousim.specs.StateFiles.{bad_split}
 
 -- the number with which the program ends
 abbrev pub number_of : Status → ℕ
@@ -17,7 +20,7 @@ number_of (StepLimit limit) = 7
 number_of SwapFault = 8
 number_of NoMemory = 9
 
--- the name of an image's fault by its number; 17 is TooLong
+-- the name of the fault of an image or of a state file by its number; 17 is TooLong
 abbrev pub fault_name : ℕ → List ℕ
 fault_name what =
     if what == too_short then codes "TooShort" else (
@@ -37,12 +40,19 @@ fault_name what =
     if what == load_outside then codes "LoadOutside" else (
     if what == bad_load then codes "BadLoad" else (
     if what == entry_outside then codes "EntryOutside" else (
-    if what == ram_too_small then codes "RamTooSmall" else codes "TooLong")))))))))))))))))
+    if what == ram_too_small then codes "RamTooSmall" else (
+    if what == not_state then codes "NotState" else (
+    if what == state_length then codes "StateLength" else (
+    if what == state_check then codes "StateCheck" else (
+    if what == state_form then codes "StateForm" else (
+    if what == state_unmatched then codes "StateUnmatched" else (
+    if what == bad_split then codes "BadSplit" else codes "TooLong")))))))))))))))))))))))
 
 -- the text of a status on the notes; a run to its end has none
 abbrev pub note_of : Status → List ℕ
 note_of Done = []
-note_of Usage = codes "usage: xousim trace|run|ledger IMAGE EVENTS [STEPS [SLOTS [STORE]]] | check IMAGE [SLOTS] | convert IMAGE | demo N\n"
+note_of Usage = codes "usage: xousim trace|run|ledger IMAGE EVENTS [STEPS [SLOTS [STORE]]] | check IMAGE [SLOTS] | convert IMAGE | demo N | "
+    ++ codes "suspend IMAGE EVENTS [STEPS [SLOTS]] | resume STATE EVENTS [STEPS [SLOTS]]\n"
 note_of ReadFault = codes "read fault\n"
 note_of WriteFault = codes "write fault\n"
 note_of (ImageFault fault) = codes "image fault " ++ fault_name fault.what ++ codes " at " ++ decimal fault.at ++ codes "\n"

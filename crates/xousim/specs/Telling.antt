@@ -8,7 +8,7 @@ use Rattle.xk_base.specs.declared.records.Rec.{Rec}
 use Rattle.xk_base.specs.declared.records.What.{What}
 use Rattle.xk_base.specs.declared.records.What.TheVariants.{Byte, Call, End, Fault, Gone, Irq, Reply, Retry}
 use Rattle.xousim.specs.declared.commands.command.Telling.{Telling}
-use Rattle.xousim.specs.declared.commands.command.Telling.TheVariants.{Ledger, Run, Trace}
+use Rattle.xousim.specs.declared.commands.command.Telling.TheVariants.{Ledger, Nothing, Run, Trace}
 use Rattle.xousim.specs.declared.playing.ending.Ending.{Ending}
 use Rattle.xousim.specs.declared.playing.ending.Ending.TheVariants.{BadLine, LimitMet, Played}
 use Rattle.xousim.specs.History.{History}
@@ -30,6 +30,7 @@ abbrev pub told_of : Telling → Rec → List ℕ
 told_of Trace rec = line_of rec
 told_of Run rec = console_byte rec.what
 told_of Ledger rec = []
+told_of Nothing rec = []
 
 -- .. of records in order
 abbrev pub told : Telling → List Rec → List ℕ
@@ -46,6 +47,7 @@ abbrev pub closing : Telling → Machine → Ending → List ℕ
 closing Trace machine ending = last_line machine.steps ending
 closing Run machine ending = []
 closing Ledger machine ending = table_of machine ++ last_line machine.steps ending
+closing Nothing machine ending = []
 
 -- All that a command writes of a history: `trace` the lines of its records and the last line, `run` the bytes for the
 -- console, `ledger` the table of the pages of its last state and the last line.

@@ -10,6 +10,8 @@ use Rattle.xousim.specs.declared.commands.command.CheckWords.{CheckWords}
 use Rattle.xousim.specs.declared.commands.command.CommandWords.{CommandWords}
 use Rattle.xousim.specs.declared.commands.command.CommandWords.TheVariants as words
 use Rattle.xousim.specs.declared.commands.command.PlayWords.{PlayWords}
+use Rattle.xousim.specs.declared.commands.command.ResumeWords.{ResumeWords}
+use Rattle.xousim.specs.declared.commands.command.SuspendWords.{SuspendWords}
 use Rattle.xousim.specs.declared.commands.command.Telling.{Telling}
 use Rattle.xousim.specs.declared.commands.command.Telling.TheVariants.{Ledger, Run, Trace}
 
@@ -30,12 +32,28 @@ pub record Check : Type 0 where
   pub image : List ℕ
   pub slots : Option ℕ
 
+-- `suspend`: the names of the image and of the event file, the step limit, and the slots of the swap store where they are asked for
+pub record Suspend : Type 0 where
+  pub image : List ℕ
+  pub events : List ℕ
+  pub limit : ℕ
+  pub slots : Option ℕ
+
+-- `resume`: the names of the state file and of the event file, the step limit, and the slots of the swap store
+pub record Resume : Type 0 where
+  pub state : List ℕ
+  pub events : List ℕ
+  pub limit : ℕ
+  pub slots : ℕ
+
 -- .. and `convert` with the name of the image
 pub data Command : Type 0 where
   Plays : Play → Command
   Checks : Check → Command
   Converts : List ℕ → Command
   Demo : ℕ → Command
+  Suspends : Suspend → Command
+  Resumes : Resume → Command
 
 -- ---- numbers
 
@@ -97,6 +115,40 @@ abbrev pub convert_of : List Word → Option (List ℕ)
 convert_of (image ∷ []) = Some (string_bytes image)
 convert_of words = None
 
+-- `suspend` whose numbers may be none
+abbrev pub suspend_with : Word → Word → Option ℕ → Option (Option ℕ) → Option Suspend
+suspend_with image events limit slots =
+    option_and_then (λ limit. option_map (λ slots. record {
+      image = string_bytes image;
+      events = string_bytes events;
+      limit = limit;
+      slots = slots;
+    }) slots) limit
+
+-- `IMAGE EVENTS [STEPS [SLOTS]]`
+abbrev pub suspend_of : List Word → Option Suspend
+suspend_of (image ∷ events ∷ []) = suspend_with image events (Some DEFAULT_STEPS) (Some None)
+suspend_of (image ∷ events ∷ steps ∷ []) = suspend_with image events (limit_of steps) (Some None)
+suspend_of (image ∷ events ∷ steps ∷ slots ∷ []) = suspend_with image events (limit_of steps) (asked_of slots)
+suspend_of words = None
+
+-- `resume` whose numbers may be none
+abbrev pub resume_with : Word → Word → Option ℕ → Option ℕ → Option Resume
+resume_with state events limit slots =
+    option_and_then (λ limit. option_map (λ slots. record {
+      state = string_bytes state;
+      events = string_bytes events;
+      limit = limit;
+      slots = slots;
+    }) slots) limit
+
+-- `STATE EVENTS [STEPS [SLOTS]]`: a run that is resumed has no slots where none are asked for
+abbrev pub resume_of : List Word → Option Resume
+resume_of (state ∷ events ∷ []) = resume_with state events (Some DEFAULT_STEPS) (Some 0)
+resume_of (state ∷ events ∷ steps ∷ []) = resume_with state events (limit_of steps) (Some 0)
+resume_of (state ∷ events ∷ steps ∷ slots ∷ []) = resume_with state events (limit_of steps) (slots_of slots)
+resume_of words = None
+
 -- `N`, the clients of the load
 abbrev pub demo_of : List Word → Option ℕ
 demo_of (clients ∷ []) = number_within 1 31 (string_bytes clients)
@@ -113,7 +165,9 @@ command_after first rest =
     if is_word first (codes "ledger") then option_map Plays (play_of Ledger rest) else (
     if is_word first (codes "check") then option_map Checks (check_of rest) else (
     if is_word first (codes "convert") then option_map Converts (convert_of rest) else (
-    if is_word first (codes "demo") then option_map Demo (demo_of rest) else None)))))
+    if is_word first (codes "demo") then option_map Demo (demo_of rest) else (
+    if is_word first (codes "suspend") then option_map Suspends (suspend_of rest) else (
+    if is_word first (codes "resume") then option_map Resumes (resume_of rest) else None)))))))
 
 -- the command that words are, or None where they have no stated form
 unfoldable pub command_of : List Word → Option Command
@@ -135,8 +189,26 @@ play_in play = record {
 abbrev pub check_in : CheckWords → Check
 check_in check = record { image = check.image.now; slots = check.slots }
 
+abbrev pub suspend_in : SuspendWords → Suspend
+suspend_in suspend = record {
+  image = suspend.image.now;
+  events = suspend.events.now;
+  limit = suspend.limit;
+  slots = suspend.slots;
+}
+
+abbrev pub resume_in : ResumeWords → Resume
+resume_in resume = record {
+  state = resume.state.now;
+  events = resume.events.now;
+  limit = resume.limit;
+  slots = resume.slots;
+}
+
 abbrev pub command_in : CommandWords → Command
 command_in (words.Play play) = Plays (play_in play)
 command_in (words.Check check) = Checks (check_in check)
 command_in (words.Convert image) = Converts image.now
 command_in (words.Demo demo) = Demo demo.clients
+command_in (words.Suspend suspend) = Suspends (suspend_in suspend)
+command_in (words.Resume resume) = Resumes (resume_in resume)

@@ -9,6 +9,7 @@ mod matched;
 mod notes;
 mod outside;
 mod playing;
+mod resumed;
 mod splits;
 mod status;
 #[cfg(test)]

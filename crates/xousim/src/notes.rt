@@ -6,12 +6,13 @@ ghost use Rattle.xk_ports.specs.Told.{Grows, GrowsByPrefix};
 ghost use Rattle.xousim.specs.Status.{fault_name, note_of};
 ghost use Rattle.xousim.specs.Outcome.Sides.{Notes, SinkSide};
 
+use crate::commands::states::BAD_SPLIT;
 use crate::outside::text::{Line, put, put_number};
 use crate::status::Status;
 use kernel_args::ArgFault;
 use xk_ports::{Sink, put_all};
 
-/// The name of an image's fault.
+/// The name of the fault of an image or of a state file.
 fn name(what: u8) -> &'static [u8]
     ensures name { result.now ≡ fault_name what }
     ensures short { length result.now ≤ 17 }
@@ -35,6 +36,12 @@ fn name(what: u8) -> &'static [u8]
         boot_plan::BAD_LOAD => b"BadLoad",
         boot_plan::ENTRY_OUTSIDE => b"EntryOutside",
         boot_plan::RAM_TOO_SMALL => b"RamTooSmall",
+        suspend_image::NOT_STATE => b"NotState",
+        suspend_image::STATE_LENGTH => b"StateLength",
+        suspend_image::STATE_CHECK => b"StateCheck",
+        suspend_image::STATE_FORM => b"StateForm",
+        suspend_image::STATE_UNMATCHED => b"StateUnmatched",
+        BAD_SPLIT => b"BadSplit",
         _ => b"TooLong",
     }
 }
@@ -50,6 +57,21 @@ fn put_fault(note: &mut Line, fault: ArgFault)
     put(note, b"\n");
 }
 
+/// The line is cut in two, each of which is short enough to be read.
+fn put_usage(note: &mut Line)
+    requires { note.old.items ≡ [] }
+    ensures { note.new.items ≡ note_of Status.Usage }
+{
+    put(
+        note,
+        b"usage: xousim trace|run|ledger IMAGE EVENTS [STEPS [SLOTS [STORE]]] | check IMAGE [SLOTS] | convert IMAGE | demo N | ",
+    );
+    put(
+        note,
+        b"suspend IMAGE EVENTS [STEPS [SLOTS]] | resume STATE EVENTS [STEPS [SLOTS]]\n",
+    );
+}
+
 /// The note of a status.
 fn note(status: Status) -> Line
     ensures { result.items ≡ note_of status }
@@ -57,10 +79,7 @@ fn note(status: Status) -> Line
     let mut note = Line::new();
     match status {
         Status::Done => {}
-        Status::Usage => put(
-            &mut note,
-            b"usage: xousim trace|run|ledger IMAGE EVENTS [STEPS [SLOTS [STORE]]] | check IMAGE [SLOTS] | convert IMAGE | demo N\n",
-        ),
+        Status::Usage => put_usage(&mut note),
         Status::ReadFault => put(&mut note, b"read fault\n"),
         Status::WriteFault => put(&mut note, b"write fault\n"),
         Status::ImageFault(fault) => put_fault(&mut note, fault),

@@ -5,6 +5,7 @@ mod commands;
 mod deaths;
 mod drivers;
 mod examples;
+pub mod expecting;
 mod forwards;
 mod hostile;
 mod image;
@@ -14,8 +15,11 @@ mod lines;
 mod memory_calls;
 mod processes;
 mod programs;
+mod resuming;
+mod running;
 mod scalars;
 mod servers;
+mod state_damage;
 mod swapping;
 mod timer;
 mod versions;
@@ -23,12 +27,19 @@ mod versions;
 use crate::outside::adapters::{ErrSink, FileHost, StdSink};
 use crate::status::{Ended, Status};
 use crate::top::xous_main;
+use expecting::{
+    expect_bytes, expect_number, expect_out, expect_outcome, expect_run_of, expect_status,
+};
 use kernel_args::ArgFault;
 use lines::transcript;
+use running::{
+    Outcome, Outside, SOUND, host_of, outcome_of, run, sink_of, trace, two_files, words,
+};
 use std::alloc::Global;
 use std::fs::OpenOptions;
+use std::process::Abort;
 use std::test::Fail;
-use xk_ports::{MemHost, MemSink, MemStore, SureSink, SureStore};
+use xk_ports::{MemHost, SureSink, SureStore};
 
 /// A process that maps the console, stores one byte there and loops.
 const FIRST_IMAGE: [u8; 88] = [
@@ -67,146 +78,85 @@ fn first_lines(alloc: Global, last: &str) -> Result<Vec<u8>, Fail> {
     transcript(alloc, &[call, reply, byte, last])
 }
 
-/// What a run left: its status, its output and its notes.
-#[derive(Drop)]
-struct Outcome {
-    status: Status,
-    out: Vec<u8>,
-    notes: Vec<u8>,
-}
-
-fn words(alloc: Global, texts: &[&str]) -> Result<Vec<String>, Fail> {
-    let mut words = Vec::new(alloc);
-    for text in texts {
-        words.push(String::from_str(alloc, text)?)?;
-    }
-    Ok(words)
-}
-
-/// Runs `trace` over an image and an event file that come in pieces of this many bytes, where these
-/// calls of the host and of the output fail.
-fn trace_in_pieces(
-    alloc: Global,
-    piece: usize,
-    image: &[u8],
-    events: &[u8],
-    host_fails: &[u64],
-    out_fails: &[u64],
-) -> Result<Outcome, Fail> {
-    let mut files = Vec::new(alloc);
-    files.push((String::from_str(alloc, "i")?, image.to_vec(alloc)?))?;
-    files.push((String::from_str(alloc, "e")?, events.to_vec(alloc)?))?;
-    let mut host = MemHost::new(alloc, files, piece.max(1), host_fails.to_vec(alloc)?, 100)?;
-    let mut out = MemSink::new(alloc, 50_000, out_fails.to_vec(alloc)?)?;
-    let mut notes = MemSink::new(alloc, 100, Vec::new(alloc))?;
-    let words = words(alloc, &["trace", "i", "e"])?;
-    let store = MemStore::new(Vec::new(alloc));
-    let Ended { status, store: _ } = xous_main(
-        alloc,
-        words.as_slice(),
-        &mut host,
-        &mut out,
-        &mut notes,
-        store,
-    );
-    Ok(Outcome {
-        status,
-        out: out.as_slice().to_vec(alloc)?,
-        notes: notes.as_slice().to_vec(alloc)?,
-    })
-}
-
-/// The same with pieces of 7 bytes.
-fn trace(
-    alloc: Global,
-    image: &[u8],
-    events: &[u8],
-    host_fails: &[u64],
-    out_fails: &[u64],
-) -> Result<Outcome, Fail> {
-    trace_in_pieces(alloc, 7, image, events, host_fails, out_fails)
-}
-
 #[test]
 fn first_run(rt: HostRuntime) -> Result<(), Fail> {
-    let run = trace(rt.alloc(), &FIRST_IMAGE, b"tick 100", &[], &[])?;
-    assert_eq!(rt; run.status, Status::Done);
     let lines = first_lines(rt.alloc(), "end 100 done")?;
-    assert_eq!(rt; run.out.as_slice(), lines.as_slice());
-    assert_eq!(rt; run.notes.as_slice(), b"".as_slice());
-    Ok(())
+    let left = (Status::Done, lines.as_slice(), b"".as_slice());
+    expect_run_of(&rt, rt.alloc(), &FIRST_IMAGE, b"tick 100", left)
 }
 
 #[test]
 fn greatest_tick(rt: HostRuntime) -> Result<(), Fail> {
-    let run = trace(rt.alloc(), &FIRST_IMAGE, b"tick 4294967295\n", &[], &[])?;
-    assert_eq!(rt; run.status, Status::StepLimit(10_000_000));
     let lines = first_lines(rt.alloc(), "end 10000000 limit")?;
-    assert_eq!(rt; run.out.as_slice(), lines.as_slice());
-    assert_eq!(rt; run.notes.as_slice(), b"step limit 10000000\n".as_slice());
-    Ok(())
+    let notes = b"step limit 10000000\n".as_slice();
+    let left = (Status::StepLimit(10_000_000), lines.as_slice(), notes);
+    expect_run_of(&rt, rt.alloc(), &FIRST_IMAGE, b"tick 4294967295\n", left)
 }
 
 #[test]
 fn empty_event_file(rt: HostRuntime) -> Result<(), Fail> {
-    let run = trace(rt.alloc(), &FIRST_IMAGE, b"", &[], &[])?;
-    assert_eq!(rt; run.status, Status::Done);
-    assert_eq!(rt; run.out.as_slice(), b"end 0 done\n".as_slice());
+    let left = (Status::Done, b"end 0 done\n".as_slice(), b"".as_slice());
+    expect_run_of(&rt, rt.alloc(), &FIRST_IMAGE, b"", left)
+}
+
+#[test]
+fn no_image(rt: HostRuntime) -> Result<(), Fail> {
+    let status = Status::ImageFault(ArgFault { what: 1, at: 0 });
+    let notes = b"image fault TooShort at 0\n".as_slice();
+    expect_run_of(&rt, rt.alloc(), b"", b"", (status, b"".as_slice(), notes))
+}
+
+/// The image has a fault, with this note.
+fn expect_image_fault(
+    rt: &impl Abort,
+    alloc: Global,
+    image: &[u8],
+    events: &[u8],
+    notes: &[u8],
+) -> Result<(), Fail> {
+    let run = trace(alloc, image, events)?;
+    expect_number(rt, run.status, 5);
+    expect_bytes(rt, run.notes.as_slice(), notes);
     Ok(())
 }
 
 #[test]
 fn images_with_faults(rt: HostRuntime) -> Result<(), Fail> {
-    let run = trace(rt.alloc(), b"", b"", &[], &[])?;
-    assert_eq!(rt; run.status, Status::ImageFault(ArgFault { what: 1, at: 0 }));
-    assert_eq!(rt; run.out.as_slice(), b"".as_slice());
-    assert_eq!(rt;
-        run.notes.as_slice(),
-        b"image fault TooShort at 0\n".as_slice()
-    );
-    let run = trace(rt.alloc(), &[0; 28], b"", &[], &[])?;
-    assert_eq!(rt;
-        run.notes.as_slice(),
-        b"image fault NotXArg at 0\n".as_slice()
-    );
+    let alloc = rt.alloc();
+    expect_image_fault(&rt, alloc, &[0; 28], b"", b"image fault NotXArg at 0\n")?;
     let mut damaged = FIRST_IMAGE;
     damaged[12] = 2;
-    let run = trace(rt.alloc(), &damaged, b"", &[], &[])?;
-    assert_eq!(rt;
-        run.notes.as_slice(),
-        b"image fault BadCheck at 0\n".as_slice()
-    );
-    Ok(())
+    expect_image_fault(&rt, alloc, &damaged, b"", b"image fault BadCheck at 0\n")
 }
 
 #[test]
 fn damage_in_an_unused_part(rt: HostRuntime) -> Result<(), Fail> {
-    let run = trace(rt.alloc(), &IMAGE_WITH_TAG, b"tick 100", &[], &[])?;
-    assert_eq!(rt; run.status, Status::Done);
+    let alloc = rt.alloc();
+    let run = trace(alloc, &IMAGE_WITH_TAG, b"tick 100")?;
+    expect_status(&rt, run.status, Status::Done);
     let mut damaged = IMAGE_WITH_TAG;
     damaged[36] ^= 1;
-    let run = trace(rt.alloc(), &damaged, b"tick 100", &[], &[])?;
-    assert_eq!(rt; run.status.number(), 5);
-    assert_eq!(rt;
-        run.notes.as_slice(),
-        b"image fault BadCheck at 28\n".as_slice()
-    );
-    Ok(())
+    expect_image_fault(
+        &rt,
+        alloc,
+        &damaged,
+        b"tick 100",
+        b"image fault BadCheck at 28\n",
+    )
 }
 
 /// A process asks for its pid, destroys a server that there isn't, and executes a word of 0.
+const CALLS_AND_A_TRAP: [u32; 4] = [
+    0x02B0_0513, // a0 = 43, GetProcessId
+    0x0000_0073, // call
+    0x0290_0513, // a0 = 41, DestroyServer
+    0x0000_0073, // call
+];
+
 #[test]
 fn calls_and_a_trap(rt: HostRuntime) -> Result<(), Fail> {
     let alloc = rt.alloc();
-    let code = [
-        0x02B0_0513, // a0 = 43, GetProcessId
-        0x0000_0073, // call
-        0x0290_0513, // a0 = 41, DestroyServer
-        0x0000_0073, // call
-    ];
-    let one = image::image(alloc, 1, &code)?;
-    let run = trace(alloc, one.as_slice(), b"irq 20\ntick 9\n", &[], &[])?;
-    assert_eq!(rt; run.status, Status::Done);
+    let one = image::image(alloc, 1, &CALLS_AND_A_TRAP)?;
     let lines = [
         "2 2.2 call 2b",
         "2 2.2 reply e 2",
@@ -216,75 +166,104 @@ fn calls_and_a_trap(rt: HostRuntime) -> Result<(), Fail> {
         "5 2 gone",
         "end 5 done",
     ];
-    assert_eq!(rt; run.out.as_slice(), transcript(alloc, &lines)?.as_slice());
-    assert_eq!(rt; run.notes.as_slice(), b"".as_slice());
+    let lines = transcript(alloc, &lines)?;
+    let left = (Status::Done, lines.as_slice(), b"".as_slice());
+    expect_run_of(&rt, alloc, one.as_slice(), b"irq 20\ntick 9\n", left)
+}
+
+/// The run of a process that begins with this word.
+fn expect_end(rt: &impl Abort, alloc: Global, first_word: u32, lines: &[u8]) -> Result<(), Fail> {
+    let mut image = FIRST_IMAGE;
+    image[FIRST_WORD..FIRST_WORD + 4].copy_from_slice(&first_word.to_le_bytes());
+    let run = trace(alloc, &image, b"tick 100")?;
+    expect_out(rt, &run, Status::Done, lines);
     Ok(())
 }
 
 /// A trap ends the process, and so does the end of its thread.
 #[test]
 fn ends_of_the_process(rt: HostRuntime) -> Result<(), Fail> {
-    let rows: [(u32, &[u8]); 3] = [
-        (
-            0x0010_0073,
-            b"1 2.2 fault 3 00010000\n1 2 gone\nend 1 done\n",
-        ),
-        (0x0000_8067, b"2 2.2 end\n2 2 gone\nend 2 done\n"),
-        (
-            0x0000_0000,
-            b"1 2.2 fault 2 00000000\n1 2 gone\nend 1 done\n",
-        ),
-    ];
-    for (first_word, lines) in rows {
-        let mut image = FIRST_IMAGE;
-        image[FIRST_WORD..FIRST_WORD + 4].copy_from_slice(&first_word.to_le_bytes());
-        let run = trace(rt.alloc(), &image, b"tick 100", &[], &[])?;
-        assert_eq!(rt; run.status, Status::Done);
-        assert_eq!(rt; run.out.as_slice(), lines);
-    }
+    let alloc = rt.alloc();
+    let lines = b"1 2.2 fault 3 00010000\n1 2 gone\nend 1 done\n";
+    expect_end(&rt, alloc, 0x0010_0073, lines)?;
+    expect_end(
+        &rt,
+        alloc,
+        0x0000_8067,
+        b"2 2.2 end\n2 2 gone\nend 2 done\n",
+    )?;
+    let lines = b"1 2.2 fault 2 00000000\n1 2 gone\nend 1 done\n";
+    expect_end(&rt, alloc, 0x0000_0000, lines)
+}
+
+/// The first run where a call of the outside fails leaves nothing but a note.
+fn expect_fault_outside(
+    rt: &impl Abort,
+    alloc: Global,
+    outside: Outside,
+    status: Status,
+    notes: &[u8],
+) -> Result<(), Fail> {
+    let run = run(
+        alloc,
+        &["trace", "i", "e"],
+        &FIRST_IMAGE,
+        b"tick 100",
+        outside,
+    )?;
+    expect_outcome(rt, &run, status, b"", notes);
     Ok(())
 }
 
 #[test]
 fn faults_outside(rt: HostRuntime) -> Result<(), Fail> {
-    let run = trace(rt.alloc(), &FIRST_IMAGE, b"tick 100", &[1], &[])?;
-    assert_eq!(rt; run.status, Status::ReadFault);
-    assert_eq!(rt; run.out.as_slice(), b"".as_slice());
-    assert_eq!(rt; run.notes.as_slice(), b"read fault\n".as_slice());
-    let run = trace(rt.alloc(), &FIRST_IMAGE, b"tick 100", &[], &[1])?;
-    assert_eq!(rt; run.status, Status::WriteFault);
-    assert_eq!(rt; run.out.as_slice(), b"".as_slice());
-    assert_eq!(rt; run.notes.as_slice(), b"write fault\n".as_slice());
+    let host = Outside { host: 1, ..SOUND };
+    expect_fault_outside(&rt, rt.alloc(), host, Status::ReadFault, b"read fault\n")?;
+    let out = Outside { out: 1, ..SOUND };
+    expect_fault_outside(&rt, rt.alloc(), out, Status::WriteFault, b"write fault\n")
+}
+
+/// The events before a bad line are played.
+#[test]
+fn bad_line_after_output(rt: HostRuntime) -> Result<(), Fail> {
+    let lines = transcript(rt.alloc(), &FIRST_RECORDS[..2])?;
+    let notes = b"event fault at line 2\n".as_slice();
+    let left = (Status::EventFault(2), lines.as_slice(), notes);
+    expect_run_of(&rt, rt.alloc(), &FIRST_IMAGE, b"tick 6\ntick x\n", left)
+}
+
+/// The events of the lines that were read before a read fault are played. Calls 2 to 90 read the image, 91
+/// picks the event file, and 99 reads its eighth byte.
+#[test]
+fn read_fault_after_output(rt: HostRuntime) -> Result<(), Fail> {
+    let alloc = rt.alloc();
+    let lines = transcript(alloc, &FIRST_RECORDS[..2])?;
+    let outside = Outside {
+        piece: 1,
+        host: 99,
+        ..SOUND
+    };
+    let events = b"tick 6\ntick 94\n";
+    let run = run(alloc, &["trace", "i", "e"], &FIRST_IMAGE, events, outside)?;
+    expect_number(&rt, run.status, 3);
+    expect_bytes(&rt, run.out.as_slice(), lines.as_slice());
     Ok(())
 }
 
-/// The events before a bad line are played, and so are those of the lines that were read before a
-/// read fault.
-#[test]
-fn faults_after_output(rt: HostRuntime) -> Result<(), Fail> {
-    let lines = transcript(rt.alloc(), &FIRST_RECORDS[..2])?;
-    let run = trace(rt.alloc(), &FIRST_IMAGE, b"tick 6\ntick x\n", &[], &[])?;
-    assert_eq!(rt; run.status, Status::EventFault(2));
-    assert_eq!(rt; run.out.as_slice(), lines.as_slice());
-    assert_eq!(rt; run.notes.as_slice(), b"event fault at line 2\n".as_slice());
-    // Calls 2 to 90 read the image, 91 picks the event file, and 99 reads its eighth byte.
-    let events = b"tick 6\ntick 94\n";
-    let run = trace_in_pieces(rt.alloc(), 1, &FIRST_IMAGE, events, &[99], &[])?;
-    assert_eq!(rt; run.status.number(), 3);
-    assert_eq!(rt; run.out.as_slice(), lines.as_slice());
-    Ok(())
+/// A host of the first run.
+fn first_host(alloc: Global) -> Result<MemHost, Fail> {
+    let files = two_files(alloc, &FIRST_IMAGE, b"tick 100")?;
+    host_of(alloc, files, 4096, 0)
 }
 
 #[test]
 fn first_run_sure(rt: HostRuntime) -> Result<(), Fail> {
     let alloc = rt.alloc();
-    let mut files = Vec::new(alloc);
-    files.push((String::from_str(alloc, "i")?, FIRST_IMAGE.to_vec(alloc)?))?;
-    files.push((String::from_str(alloc, "e")?, b"tick 100".to_vec(alloc)?))?;
-    let mut host = MemHost::new(alloc, files, 4096, Vec::new(alloc), 100)?;
+    let lines = first_lines(alloc, "end 100 done")?;
+    let words = words(alloc, &["trace", "i", "e"])?;
+    let mut host = first_host(alloc)?;
     let mut out = SureSink::new(alloc, 1000)?;
     let mut notes = SureSink::new(alloc, 100)?;
-    let words = words(alloc, &["trace", "i", "e"])?;
     let store = SureStore::new();
     let Ended { status, store: _ } = xous_main(
         alloc,
@@ -294,33 +273,42 @@ fn first_run_sure(rt: HostRuntime) -> Result<(), Fail> {
         &mut notes,
         store,
     );
-    assert_eq!(rt; status, Status::Done);
-    let lines = first_lines(alloc, "end 100 done")?;
-    assert_eq!(rt; out.as_slice(), lines.as_slice());
+    expect_status(&rt, status, Status::Done);
+    expect_bytes(&rt, out.as_slice(), lines.as_slice());
     Ok(())
+}
+
+/// Runs `trace` over a real file.
+fn trace_real(rt: &HostRuntime, name: &str) -> Result<Outcome, Fail> {
+    let alloc = rt.alloc();
+    let words = words(alloc, &["trace", name, name])?;
+    let mut host = FileHost::new(rt);
+    let mut out = sink_of(alloc, 100, 0)?;
+    let mut notes = sink_of(alloc, 100, 0)?;
+    let store = SureStore::new();
+    let Ended { status, store: _ } = xous_main(
+        alloc,
+        words.as_slice(),
+        &mut host,
+        &mut out,
+        &mut notes,
+        store,
+    );
+    outcome_of(alloc, status, &out, &notes)
+}
+
+fn expect_read_fault(rt: &impl Abort, run: &Outcome) {
+    expect_number(rt, run.status, 3);
+    expect_bytes(rt, run.notes.as_slice(), b"read fault\n");
 }
 
 /// A file that isn't there and a folder in place of a file are read faults.
 #[test]
 fn real_files(rt: HostRuntime) -> Result<(), Fail> {
-    let alloc = rt.alloc();
-    for name in ["no-such-file", "."] {
-        let mut host = FileHost::new(&rt);
-        let mut out = MemSink::new(alloc, 100, Vec::new(alloc))?;
-        let mut notes = MemSink::new(alloc, 100, Vec::new(alloc))?;
-        let words = words(alloc, &["trace", name, name])?;
-        let store = SureStore::new();
-        let Ended { status, store: _ } = xous_main(
-            alloc,
-            words.as_slice(),
-            &mut host,
-            &mut out,
-            &mut notes,
-            store,
-        );
-        assert_eq!(rt; status.number(), 3);
-        assert_eq!(rt; notes.as_slice(), b"read fault\n".as_slice());
-    }
+    let run = trace_real(&rt, "no-such-file")?;
+    expect_read_fault(&rt, &run);
+    let run = trace_real(&rt, ".")?;
+    expect_read_fault(&rt, &run);
     Ok(())
 }
 
@@ -328,13 +316,10 @@ fn real_files(rt: HostRuntime) -> Result<(), Fail> {
 #[test]
 fn real_streams(rt: HostRuntime) -> Result<(), Fail> {
     let alloc = rt.alloc();
-    let mut files = Vec::new(alloc);
-    files.push((String::from_str(alloc, "i")?, FIRST_IMAGE.to_vec(alloc)?))?;
-    files.push((String::from_str(alloc, "e")?, b"tick 100".to_vec(alloc)?))?;
-    let mut host = MemHost::new(alloc, files, 4096, Vec::new(alloc), 100)?;
+    let words = words(alloc, &["trace", "i", "e"])?;
+    let mut host = first_host(alloc)?;
     let mut out = StdSink::new(OpenOptions::new().write(true).open(&rt, "/dev/full")?);
     let mut notes = ErrSink::new(OpenOptions::new().write(true).open(&rt, "/dev/full")?);
-    let words = words(alloc, &["trace", "i", "e"])?;
     let store = SureStore::new();
     let Ended { status, store: _ } = xous_main(
         alloc,
@@ -344,6 +329,6 @@ fn real_streams(rt: HostRuntime) -> Result<(), Fail> {
         &mut notes,
         store,
     );
-    assert_eq!(rt; status.number(), 4);
+    expect_number(&rt, status, 4);
     Ok(())
 }

@@ -13,6 +13,8 @@ use crate::commands::command::CommandWords;
 use crate::commands::convert::convert_image;
 use crate::commands::demo::play_demo;
 use crate::commands::play::play_image;
+use crate::commands::resume::resume_run;
+use crate::commands::suspend::suspend_run;
 use crate::commands::words::read_words;
 use crate::notes::write_note;
 use crate::status::{Ended, Status};
@@ -65,10 +67,12 @@ fn run_words<H: Host, K: Sink, W: SwapStore>(
             store,
         },
         Some(CommandWords::Demo(demo)) => play_demo(alloc, demo, out, store),
+        Some(CommandWords::Suspend(suspend)) => suspend_run(alloc, suspend, host, out, store),
+        Some(CommandWords::Resume(resume)) => resume_run(alloc, resume, host, out, store),
     }
 }
 
-/// Runs the program with the words of its command line. The images and events are read from
+/// Runs the program with the words of its command line. Images, states and events are read from
 /// `host`, what the command tells is appended to `out`, and a text for any status but `Done` to
 /// `notes`. The store is prepared once for each run, holds its pages that are out, and is handed
 /// back.

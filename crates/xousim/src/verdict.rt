@@ -6,9 +6,9 @@ ghost use Rattle.xousim.specs.declared.commands.command.Telling.{Telling};
 ghost use Rattle.xousim.specs.declared.playing.ending.Ending.TheVariants.{LimitMet};
 ghost use Rattle.xousim.specs.declared.status.Status.{Status};
 ghost use Rattle.xousim.specs.Outcome.Plays.{run_of};
-ghost use Rattle.xousim.specs.Outcome.Verdicts.{IsCheckVerdict, IsConvertVerdict, IsVerdict};
+ghost use Rattle.xousim.specs.Outcome.Verdicts.{IsCheckVerdict, IsConvertVerdict, IsResumeVerdict, IsVerdict};
 ghost use Rattle.xousim.specs.Telling.{output, told};
-ghost use Rattle.xousim.specs.Words.{Check, Play};
+ghost use Rattle.xousim.specs.Words.{Check, Play, Resume};
 
 /// Where a host tells its files, no two statuses are verdicts of them for a command.
 #[tactic(auto, using(crate::proofs::Outcome::VerdictLemmas::one_verdict_of_files))]
@@ -27,6 +27,13 @@ pub fn one_verdict_of_check()
 pub fn one_verdict_of_convert()
     ensures { (file : List ℕ → Option (List ℕ)) (name : List ℕ) (one other : Status)
         → IsConvertVerdict (Some file) name one → IsConvertVerdict (Some file) name other → one ≡ other }
+{}
+
+/// .. and of the state file and the event file for `resume`. For `suspend` they have the verdict that they have for `trace`.
+#[tactic(auto, using(crate::proofs::Outcome::ResumeVerdictLemmas::one_verdict_of_states))]
+pub fn one_verdict_of_resume()
+    ensures { (file : List ℕ → Option (List ℕ)) (resume : Resume) (one other : Status)
+        → IsResumeVerdict (Some file) resume one → IsResumeVerdict (Some file) resume other → one ≡ other }
 {}
 
 /// What is told as the records of so many steps come, up to a limit that the history meets, is a front of all that is written of

@@ -45,6 +45,12 @@ pub starts_at_zero : {W : Type 0} (held : W → Held) (known : Type 0) (k : Kern
 unfolding start
 starts_at_zero held known k plan file comes = ap (λ (m : Machine). m.steps) comes.alike
 
+-- and nothing is reserved
+pub starts_unreserved : {W : Type 0} (held : W → Held) (known : Type 0) (k : Kernel W) (plan : BootPlan) (file : List ℕ)
+    → ComesTo known (machine_of held k) (start plan file) → (machine_of held k).reserved ≡ None
+unfolding start
+starts_unreserved held known k plan file comes = ap (λ (m : Machine). m.reserved) comes.alike
+
 -- the room of a kernel, by how large its memory is
 pub room_is : {W : Type 0} (k : Kernel W) (plan : BootPlan) (s : Size) → size k.mem ≡ s → s.area.frames ≡ plan.frames → s.procs ≡ length plan.procs → room_in k ≡ room_of plan
 room_is k plan s is frames procs =

@@ -120,7 +120,7 @@ pub record IsBefore (before : Before) (call : Call) : Type 0 where
   pub host : before.host_faults ≤ call.host.faults
   pub store : before.store_faults ≤ call.store.faults
 
-cause_earlier : (play : Play) (room : Room) (machine : Machine) (before : Before) (call : Call) (status : Status) → IsBefore before call
+pub cause_earlier : (play : Play) (room : Room) (machine : Machine) (before : Before) (call : Call) (status : Status) → IsBefore before call
     → HasCause play room machine call status → HasCause play room machine (begun_at call.host.files before call) status
 cause_earlier play room machine before call Done later cause = tt
 cause_earlier play room machine before call (EventFault line) later cause = tt
@@ -135,7 +135,7 @@ cause_earlier play room machine before call Usage later cause = absurd cause
 cause_earlier play room machine before call NoMemory later cause = absurd cause
 cause_earlier play room machine before call (ImageFault fault) later cause = absurd cause
 
-tells_earlier : (play : Play) (machine : Machine) (before : Before) (call : Call) (status : Status) → Tells play machine call status
+pub tells_earlier : (play : Play) (machine : Machine) (before : Before) (call : Call) (status : Status) → Tells play machine call status
     → Tells play machine (begun_at call.host.files before call) status
 tells_earlier play machine before call Done told = record { events = told.events; is_file = told.is_file; ended = told.ended; written = told.written }
 tells_earlier play machine before call (EventFault line) told = record { events = told.events; is_file = told.is_file; ended = told.ended; written = told.written }
@@ -149,7 +149,7 @@ tells_earlier play machine before call NoMemory told = absurd told
 tells_earlier play machine before call (ImageFault fault) told = absurd told
 
 -- both files were asked for
-asks_both : (play : Play) (before : Before) (call : Call) (picked : Bool)
+pub asks_both : (play : Play) (before : Before) (call : Call) (picked : Bool)
     → Asked before.files_asked call.host.asked First play.image true → Asked call.host.asked call.host.asked_after Second play.events picked
     → AsksBoth play (begun_at call.host.files before call) picked
 asks_both play before call picked first second =
@@ -158,7 +158,7 @@ asks_both play before call picked first second =
 -- ---- whole calls
 
 -- the store was prepared before the run began, and no more preparations were asked for
-prepared_earlier : (play : Play) (booted : Booted) (before : Before) (call : Call) (side : StoreSide) (starts : Starts play call.host.files booted side)
+pub prepared_earlier : (play : Play) (booted : Booted) (before : Before) (call : Call) (side : StoreSide) (starts : Starts play call.host.files booted side)
     → side.asked ≡ before.prepared → side.asked_after ≡ call.store.asked → call.store.asked_after ≡ call.store.asked
     → Prepares (begun_at call.host.files before call).store (plan_in starts.image).slots play.store true
 prepared_earlier play booted before call side starts first last stays =

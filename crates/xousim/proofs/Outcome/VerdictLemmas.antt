@@ -23,15 +23,17 @@ use Rattle.xousim.specs.Outcome.Images.{Boots, Image, IsPlanned, Refuses, plan_i
 use Rattle.xousim.specs.Outcome.Plays.{EndsPlay, HasCause, Ran, Tells, run_of}
 use Rattle.xousim.specs.Outcome.Sides.{Call, HostRose, IsUnwritten, OutRose, StoreRose}
 use Rattle.xousim.specs.Outcome.Starts.{Room, Stops}
-use Rattle.xousim.specs.Outcome.Verdicts.{IsCheckComplete, IsCheckVerdict, IsCommandComplete, IsComplete, IsConvertComplete, IsConvertVerdict, IsPlayComplete, IsVerdict, RunsTo}
+use Rattle.xousim.specs.Outcome.Suspends.{EndsSuspend, Saves, silent}
+use Rattle.xousim.specs.Outcome.Verdicts.{IsCheckComplete, IsCheckVerdict, IsCommandComplete, IsComplete, IsConvertComplete, IsConvertVerdict, IsPlayComplete, IsSuspendComplete, IsVerdict, RunsTo}
 use Rattle.boot_plan.specs.declared.plans.BootPlan.{BootPlan}
 use Rattle.xousim.specs.Load.Events.{load_machine, load_plan}
 use Rattle.xousim.specs.Reading.{IsFile}
-use Rattle.xousim.specs.Words.{Check, Command, Plays, Checks, Converts, Demo, Play}
+use Rattle.xousim.specs.Words.{Check, Command, Plays, Checks, Converts, Demo, Suspends, Resumes, Play, Suspend}
+use Rattle.xousim.proofs.Outcome.ResumeEndLemmas.{resume_complete}
 
 -- ---- what a file has is one
 
-same_bytes : (file : List ℕ → Option (List ℕ)) (name one other : List ℕ) → IsFile (Some file) name one → IsFile (Some file) name other → one ≡ other
+pub same_bytes : (file : List ℕ → Option (List ℕ)) (name one other : List ℕ) → IsFile (Some file) name one → IsFile (Some file) name other → one ≡ other
 same_bytes file name one other a b = same_Some _ _ (sym a ∙ b)
 
 one_fault : (bytes : List ℕ) (slots : Option ℕ) (one other : Option ArgFault) → IsImageFault bytes slots one → IsImageFault bytes slots other → one ≡ other
@@ -79,7 +81,7 @@ faults_agree file name slots image other one two read faulty read_other faulty_o
     same_fault one two (one_fault image slots (Some one) (Some two) faulty (subst P (same_bytes file name other image read_other read) faulty_other))
 
 -- the status of a history that ends so
-abbrev status_of : ℕ → Ending → Status
+abbrev pub status_of : ℕ → Ending → Status
 status_of limit Played = Done
 status_of limit LimitMet = StepLimit limit
 status_of limit (BadLine line) = EventFault line
@@ -261,11 +263,45 @@ demo_complete : (clients : ℕ) (call : Call) → (¬ OutRose call) → (¬ Stor
 demo_complete clients call calm still cause (inl unstarted) = demo_unstarted clients call (load_plan clients) None (load_machine clients) call.status still unstarted.stopped unstarted.unwritten
 demo_complete clients call calm still cause (inr played) = demo_told clients call call.status calm still cause played.content
 
+-- ---- `suspend`
+
+saved_complete : (suspend : Suspend) (room : Room) (machine : Machine) (call : Call) (status : Status)
+    → (¬ HostRose call) → (¬ OutRose call) → (¬ StoreRose call.store)
+    → Image call.host.files suspend.image suspend.slots machine → HasCause (silent suspend) room machine call status → Saves suspend machine call status
+    → IsVerdict call.host.files (silent suspend) status ⊎ ((status ≡ NoMemory) × IsUnwritten call)
+saved_complete suspend room machine call Done quiet calm still image cause saved =
+    inl (record { machine = machine; image = image; events = saved.events; is_file = saved.is_file; ended = saved.ended })
+saved_complete suspend room machine call (EventFault line) quiet calm still image cause saved =
+    inl (record { machine = machine; image = image; events = saved.events; is_file = saved.is_file; ended = saved.ended })
+saved_complete suspend room machine call (StepLimit limit) quiet calm still image cause saved =
+    inl (cause, record { machine = machine; image = image; events = saved.events; is_file = saved.is_file; ended = saved.ended })
+saved_complete suspend room machine call SwapFault quiet calm still image cause saved = absurd (still cause.0)
+saved_complete suspend room machine call WriteFault quiet calm still image cause saved = absurd (calm cause)
+saved_complete suspend room machine call ReadFault quiet calm still image cause saved = absurd (quiet cause)
+saved_complete suspend room machine call Usage quiet calm still image cause saved = absurd saved
+saved_complete suspend room machine call NoMemory quiet calm still image cause saved = absurd saved
+saved_complete suspend room machine call (ImageFault fault) quiet calm still image cause saved = absurd saved
+
+suspend_complete : (suspend : Suspend) (call : Call) → EndsSuspend suspend call → (¬ HostRose call) → (¬ OutRose call) → (¬ StoreRose call.store)
+    → IsSuspendComplete suspend call
+suspend_complete suspend call (inl refused) quiet calm still trusted =
+    refused_complete (silent suspend) call call.status quiet refused.image.refused refused.image.unwritten
+suspend_complete suspend call (inr (inl unstarted)) quiet calm still trusted =
+    unstarted_complete (silent suspend) unstarted.machine call (plan_in unstarted.image) call.status still unstarted.stopped unstarted.unwritten
+suspend_complete suspend call (inr (inr (inl unpicked))) quiet calm still trusted = absurd (quiet unpicked.cause)
+suspend_complete suspend call (inr (inr (inr saved))) quiet calm still trusted =
+    saved_complete suspend _ saved.machine call call.status quiet calm still saved.image saved.cause
+    (saved.content (trusted saved.image.bytes saved.image.boots.args saved.image.read saved.image.boots.sound))
+
+-- ---- all commands
+
 command_complete : (command : Command) (call : Call) → EndsCommand command call → (¬ HostRose call) → (¬ OutRose call) → (¬ StoreRose call.store) → IsCommandComplete command call
 command_complete (Plays play) call ends quiet calm still = play_complete play call ends quiet calm still
 command_complete (Checks check) call ends quiet calm still = check_complete check call ends.0 quiet calm
 command_complete (Converts image) call ends quiet calm still = convert_complete image call ends.0 quiet calm
 command_complete (Demo clients) call ends quiet calm still = demo_complete clients call calm still ends.cause ends.content
+command_complete (Suspends suspend) call ends quiet calm still = suspend_complete suspend call ends quiet calm still
+command_complete (Resumes resume) call ends quiet calm still = resume_complete resume call ends quiet calm still
 
 pub ends_complete : (command : Option Command) (call : Call) → Ends command call → IsComplete command call
 ends_complete None call ends = ends.ended

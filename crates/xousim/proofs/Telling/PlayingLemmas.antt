@@ -1,7 +1,7 @@
 -- What was played so far, one answer of the reader further.
 use Rattle.std.proofs.Common.{◌≡◌, ◌≢◌, ◌≤◌, ◌⊎◌, ◌+◌, inl, inr, ℕ, arith, take, drop, length, length-append, length-take, Bool, true, false, List, [], ◌∷◌, ◌++◌, Option, Some, None, Result, Ok, Err, IsErrAnd, refl, sym, ap, ◌∙◌, subst, append_assoc, append-nil}
 use Rattle.std.proofs.lemmas.List.{take-append-drop}
-use Rattle.xk_ports.specs.Told.{Grows, GrowsByPrefix}
+use Rattle.xk_ports.specs.Told.{GrowsByPrefix}
 use Rattle.xousim.specs.declared.commands.command.Telling.{Telling}
 use Rattle.xousim.specs.Telling.{told}
 use Rattle.machine_model.specs.Runs.Moments.{Moment}
@@ -28,7 +28,7 @@ use Rattle.xousim.specs.History.{History, with_ending, history_of, end_of}
 use Rattle.xousim.specs.Outcome.Starts.{ComesFull, IsFull, Room}
 use Rattle.xousim.specs.Playing.{Advances, Comes, EndsSo, FailsSo, Follows, ForEach, Goes, HasPlayed, Plays, Reaches, Run, run_from}
 use Rattle.xousim.specs.Standing.{Begins, Stand}
-use Rattle.xousim.specs.Gathering.{Gathered, GatheredPart, Gathers, GathersPart, GathersSome, Text, put, text}
+use Rattle.xousim.specs.Gathering.{Gathered, GatheredPart, Gathers, GathersPart, GathersSome, Puts, Text, put, text}
 use Rattle.xousim.specs.Writing.{Wrote}
 use Rattle.xk_kernel.proofs.Running.HistoryLemmas.{history_first, history_none}
 use Rattle.xousim.proofs.Telling.FullLemmas.{events_full_front, events_full_later, first_event_full, full_start}
@@ -233,7 +233,7 @@ played_event run mid next taken r event found trust room plays p =
 -- ---- the rest
 
 -- the input of a file is what was answered, and behind it what the reader has left
-left_is : (run : Run) (now : Stand) (taken : List ℕ) (r : Reader) (more : List ℕ) → (r.finished ≡ true → more ≡ []) → (p : HasPlayed run taken r now)
+pub left_is : (run : Run) (now : Stand) (taken : List ℕ) (r : Reader) (more : List ℕ) → (r.finished ≡ true → more ≡ []) → (p : HasPlayed run taken r now)
     → with_events (play_of p.calls).answered (left_of r more) ≡ input_of (taken ++ more)
 left_is run now taken r more may p =
     let follows : MayFollow (play_of p.calls) more = λ f. may (sym (ap (λ (x : Reader). x.finished) p.is_reader) ∙ f) in
@@ -465,7 +465,7 @@ goes_err run taken finished r now (Err e) fault same fails = let F : PlayFault �
 abbrev pub with_text : Stand → Text → Stand
 with_text now text = record now { text = text }
 
-put_reached : (run : Run) (events : List Event) (now : Stand) (after : Option (List ℕ)) → Grows now.text.out after now.text.held → Reaches run events now
+put_reached : (run : Run) (events : List Event) (now : Stand) (after : Option (List ℕ)) → Puts now.text.out after now.text.held → Reaches run events now
     → Reaches run events (with_text now (put after))
 put_reached run events now after grown reaches = record { trusted = λ trusted. follows (reaches.trusted trusted); near = go reaches.near }
   where
@@ -479,7 +479,7 @@ put_reached run events now after grown reaches = record { trusted = λ trusted. 
 
 -- all of it
 pub put_goes : (run : Run) (now : Stand) (after : Option (List ℕ)) (taken : List ℕ) (f : Bool) (r : Reader) (ended : Option Ending)
-    → Grows now.text.out after now.text.held → Goes run taken f r now (Ok ended) → Goes run taken f r (with_text now (put after)) (Ok ended)
+    → Puts now.text.out after now.text.held → Goes run taken f r now (Ok ended) → Goes run taken f r (with_text now (put after)) (Ok ended)
 put_goes run now after taken f r None grown p = record {
   calls = p.calls;
   is_reader = p.is_reader;
@@ -491,7 +491,7 @@ put_goes run now after taken f r (Some ending) grown p = λ more may trusted.
 
 -- .. also where the store failed
 pub put_swapped : (run : Run) (now : Stand) (after : Option (List ℕ)) (taken : List ℕ) (f : Bool)
-    → Grows now.text.out after now.text.held → FailsSo run taken f now Swap → FailsSo run taken f (with_text now (put after)) Swap
+    → Puts now.text.out after now.text.held → FailsSo run taken f now Swap → FailsSo run taken f (with_text now (put after)) Swap
 put_swapped run now after taken f grown p = λ more may.
     let so = p more may in (
       λ trusted.
@@ -521,9 +521,9 @@ unput_swapped run now after taken f front p = λ more may trusted.
 -- ---- what comes of events, put, where this stood on the sink and was held
 
 pub all_of_it_put : (run : Run) (now : Stand) (out after : Option (List ℕ)) (held taken : List ℕ) (f : Bool) (r : Reader) (ended : Option Ending)
-    → now.text ≡ text out held → Grows out after held → Goes run taken f r now (Ok ended) → Goes run taken f r (with_text now (put after)) (Ok ended)
+    → now.text ≡ text out held → Puts out after held → Goes run taken f r now (Ok ended) → Goes run taken f r (with_text now (put after)) (Ok ended)
 all_of_it_put run now out after held taken f r ended same grown goes =
-    let G : Text → Type 0 = λ t. Grows t.out after t.held in put_goes run now after taken f r ended (subst G (sym same) grown) goes
+    let G : Text → Type 0 = λ t. Puts t.out after t.held in put_goes run now after taken f r ended (subst G (sym same) grown) goes
 
 pub part_of_it_put : (run : Run) (now : Stand) (out after : Option (List ℕ)) (held taken : List ℕ) (f : Bool) (r : Reader) (ended : Option Ending)
     → now.text ≡ text out held → (ended ≡ None → r.finished ≡ f) → GrowsByPrefix out after held → Goes run taken f r now (Ok ended)
@@ -533,9 +533,9 @@ part_of_it_put run now out after held taken f r ended same waits front goes =
 
 -- where the store failed
 pub steps_before_put : (run : Run) (now : Stand) (out after : Option (List ℕ)) (held taken : List ℕ) (f : Bool)
-    → now.text ≡ text out held → Grows out after held → FailsSo run taken f now Swap → FailsSo run taken f (with_text now (put after)) Swap
+    → now.text ≡ text out held → Puts out after held → FailsSo run taken f now Swap → FailsSo run taken f (with_text now (put after)) Swap
 steps_before_put run now out after held taken f same grown fails =
-    let G : Text → Type 0 = λ t. Grows t.out after t.held in put_swapped run now after taken f (subst G (sym same) grown) fails
+    let G : Text → Type 0 = λ t. Puts t.out after t.held in put_swapped run now after taken f (subst G (sym same) grown) fails
 
 pub steps_before_unput : (run : Run) (now : Stand) (out after : Option (List ℕ)) (held taken : List ℕ) (f : Bool)
     → now.text ≡ text out held → GrowsByPrefix out after held → FailsSo run taken f now Swap → FailsSo run taken f (with_text now (put after)) Write

@@ -6,7 +6,9 @@ use Rattle.xousim.specs.Outcome.Convert.{EndsConvert}
 use Rattle.xousim.specs.Outcome.Demo.{EndsDemo}
 use Rattle.xousim.specs.Outcome.Plays.{EndsPlay}
 use Rattle.xousim.specs.Outcome.Sides.{Call, IsUnprepared, IsUntouched}
-use Rattle.xousim.specs.Words.{Command, Plays, Checks, Converts, Demo}
+use Rattle.xousim.specs.Outcome.Resumes.{EndsResume}
+use Rattle.xousim.specs.Outcome.Suspends.{EndsSuspend}
+use Rattle.xousim.specs.Words.{Command, Plays, Checks, Converts, Demo, Suspends, Resumes}
 
 -- by its command; `check` and `convert` don't touch the store
 abbrev pub EndsCommand : Command → Call → Type 0
@@ -14,6 +16,8 @@ EndsCommand (Plays play) call = EndsPlay play call
 EndsCommand (Checks check) call = EndsCheck check call × IsUnprepared call.store
 EndsCommand (Converts image) call = EndsConvert image call × IsUnprepared call.store
 EndsCommand (Demo clients) call = EndsDemo clients call
+EndsCommand (Suspends suspend) call = EndsSuspend suspend call
+EndsCommand (Resumes resume) call = EndsResume resume call
 
 -- What holds of a call whose words are this command, or none.
 abbrev pub Ends : Option Command → Call → Type 0

@@ -26,17 +26,21 @@ IsFull room machine = room.frames < pages room.processes machine.ledger
 abbrev pub ComesFull : Room → Machine → List Moment → Type 0
 ComesFull room start moments = (i : ℕ) × IsFull room (state_at start moments i)
 
--- A run of this plan, which is to start on this machine, doesn't start, by the status: there was no memory, before or after the store was
--- prepared under this name; or the store failed and its count rose, as it was prepared, or after that where the start has more pages than
--- there are frames for.
+-- A run of so many slots, with this room for pages in RAM, which is to start on this machine, doesn't start, by the status: there was no
+-- memory, before or after the store was prepared under this name; or the store failed and its count rose, as it was prepared, or after that
+-- where the start has more pages than there are frames for.
+abbrev pub StopsIn : Room → ℕ → Option (List ℕ) → Machine → StoreSide → Status → Type 0
+StopsIn room slots name start store NoMemory = (store.asked_after ≡ store.asked) ⊎ Prepares store slots name true
+StopsIn room slots name start store SwapFault =
+    StoreRose store × (Prepares store slots name false ⊎ (Prepares store slots name true × IsFull room start))
+StopsIn room slots name start store Done = ⊥
+StopsIn room slots name start store Usage = ⊥
+StopsIn room slots name start store ReadFault = ⊥
+StopsIn room slots name start store WriteFault = ⊥
+StopsIn room slots name start store (ImageFault fault) = ⊥
+StopsIn room slots name start store (EventFault line) = ⊥
+StopsIn room slots name start store (StepLimit limit) = ⊥
+
+-- a run of this plan doesn't start
 abbrev pub Stops : BootPlan → Option (List ℕ) → Machine → StoreSide → Status → Type 0
-Stops plan name start store NoMemory = (store.asked_after ≡ store.asked) ⊎ Prepares store plan.slots name true
-Stops plan name start store SwapFault =
-    StoreRose store × (Prepares store plan.slots name false ⊎ (Prepares store plan.slots name true × IsFull (room_of plan) start))
-Stops plan name start store Done = ⊥
-Stops plan name start store Usage = ⊥
-Stops plan name start store ReadFault = ⊥
-Stops plan name start store WriteFault = ⊥
-Stops plan name start store (ImageFault fault) = ⊥
-Stops plan name start store (EventFault line) = ⊥
-Stops plan name start store (StepLimit limit) = ⊥
+Stops plan name start store status = StopsIn (room_of plan) plan.slots name start store status

@@ -13,9 +13,13 @@ use Rattle.xousim.specs.declared.status.Status.TheVariants.{Done, Usage, ReadFau
 use Rattle.xousim.specs.Outcome.Convert.{IsConversion, long_file}
 use Rattle.xousim.specs.Outcome.Images.{Image, IsPlanned, IsSoundImage}
 use Rattle.xousim.specs.Outcome.Plays.{run_of}
+use Rattle.xousim.specs.Outcome.Resumes.{limit_from}
 use Rattle.xousim.specs.Outcome.Sides.{Call, HostRose, IsTrusted, IsUnwritten, OutRose, StoreRose, Told}
+use Rattle.xousim.specs.Outcome.States.{StateFile}
+use Rattle.xousim.specs.Outcome.Suspends.{silent}
 use Rattle.xousim.specs.Reading.{IsFile}
-use Rattle.xousim.specs.Words.{Check, Command, Plays, Checks, Converts, Demo, Play}
+use Rattle.xousim.specs.StateFiles.{IsStateFault}
+use Rattle.xousim.specs.Words.{Check, Command, Plays, Checks, Converts, Demo, Suspends, Resumes, Play, Resume, Suspend}
 
 -- the verdict of the files, or there was no memory and nothing was written
 abbrev pub IsVerdictOr : Type 0 → Call → Type 0
@@ -89,6 +93,39 @@ IsConvertVerdict file name NoMemory = ⊥
 abbrev pub IsConvertComplete : List ℕ → Call → Type 0
 IsConvertComplete image call = IsVerdictOr (IsConvertVerdict call.host.files image call.status) call
 
+-- ---- `suspend`
+
+-- its files have the verdict that they have for `trace`
+abbrev pub IsSuspendComplete : Suspend → Call → Type 0
+IsSuspendComplete suspend call = IsPlayComplete (silent suspend) call
+
+-- ---- `resume`
+
+-- a run goes on from this machine, the one of the state file, and its history over the event file ends in this way
+pub record GoesOnTo (file : Told) (resume : Resume) (machine : Machine) (ending : Ending) : Type 0 where
+  pub state : StateFile file resume.state resume.slots machine
+  pub events : List ℕ
+  pub is_file : IsFile file resume.events events
+  pub ended : (run_of (limit_from resume.limit machine) machine events).ending ≡ ending
+
+-- what the files alone say of the status of `resume`
+abbrev pub IsResumeVerdict : Told → Resume → Status → Type 0
+IsResumeVerdict file resume Done = (machine : Machine) × GoesOnTo file resume machine Played
+IsResumeVerdict file resume (EventFault line) = (machine : Machine) × GoesOnTo file resume machine (BadLine line)
+IsResumeVerdict file resume (StepLimit limit) =
+    (machine : Machine) × (limit ≡ limit_from resume.limit machine) × GoesOnTo file resume machine LimitMet
+IsResumeVerdict file resume (ImageFault fault) = (bytes : List ℕ) × IsFile file resume.state bytes × IsStateFault bytes resume.slots fault
+IsResumeVerdict file resume Usage = ⊥
+IsResumeVerdict file resume ReadFault = ⊥
+IsResumeVerdict file resume WriteFault = ⊥
+IsResumeVerdict file resume SwapFault = ⊥
+IsResumeVerdict file resume NoMemory = ⊥
+
+-- a call whose run is trusted ends with the verdict of its files, or for want of memory with nothing written
+abbrev pub IsResumeComplete : Resume → Call → Type 0
+IsResumeComplete resume call =
+    IsTrusted call.store resume.slots → IsVerdictOr (IsResumeVerdict call.host.files resume call.status) call
+
 -- ---- all commands
 
 abbrev pub IsCommandComplete : Command → Call → Type 0
@@ -96,6 +133,8 @@ IsCommandComplete (Plays play) call = IsPlayComplete play call
 IsCommandComplete (Checks check) call = IsCheckComplete check call
 IsCommandComplete (Converts image) call = IsConvertComplete image call
 IsCommandComplete (Demo clients) call = IsVerdictOr (call.status ≡ Done) call
+IsCommandComplete (Suspends suspend) call = IsSuspendComplete suspend call
+IsCommandComplete (Resumes resume) call = IsResumeComplete resume call
 
 -- where no count rose, a call ends as the words and the files say
 abbrev pub IsComplete : Option Command → Call → Type 0

@@ -1,7 +1,7 @@
 //! An image is read and planned, and its run starts: the store is prepared, and the plan is booted.
 
 ghost use Rattle.std.specs.Option.{option_copied};
-ghost use Rattle.std.specs.Prelude.{◌≡◌, ◌≤◌, ◌⊎◌, [], true, All, length, IfOk, IfErr, IfSome, OnOk};
+ghost use Rattle.std.specs.Prelude.{◌≡◌, ◌≤◌, ◌⊎◌, [], true, All, None, length, IfOk, IfErr, IfSome, OnOk};
 ghost use Rattle.boot_plan.specs.FirstPages.{plan_of};
 ghost use Rattle.boot_plan.specs.Lawful.{CanStart, IsLawfulPlan};
 ghost use Rattle.machine_model.specs.State.Machine.{Machine};
@@ -114,6 +114,7 @@ pub fn start_run<W: SwapStore>(
     ensures sound { IfOk result (λ kernel. IsSound W.slot_count W.held kernel) }
     ensures usable { IfOk result (λ kernel. IsUsable kernel) }
     ensures steps { IfOk result (λ kernel. (machine_of W.held kernel).steps ≡ 0) }
+    ensures unreserved { IfOk result (λ kernel. (machine_of W.held kernel).reserved ≡ None) }
     ensures room { IfOk result (λ kernel. room_in kernel ≡ room_of plan.now) }
     ensures slots { IfOk result (λ kernel. (size kernel.mem).slots ≡ plan.now.slots) }
     ensures prepared { IfOk result (λ kernel. let side = store_side W.is_honest W.held W.asked W.faults store (store_of kernel.mem) in

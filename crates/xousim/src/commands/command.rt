@@ -11,6 +11,8 @@ pub enum Telling {
     Run,
     /// The table of the pages of the last state, and a last line.
     Ledger,
+    /// Nothing: what becomes of the last state is left to the command.
+    Nothing,
 }
 
 /// `trace`, `run` or `ledger`: the events of a file are played on an image.
@@ -28,6 +30,34 @@ pub struct PlayWords<'a> {
     pub store: Option<&'a str>,
     ghost limited: { limit ≤ 4000000000 },
     ghost few: { unwrap_or slots 0 ≤ 16384 },
+}
+
+/// `suspend`: the events of a file are played on an image, and the last state is written.
+#[derive(Clone, Copy, Debug)]
+pub struct SuspendWords<'a> {
+    /// The names of the two files.
+    pub image: &'a str,
+    pub events: &'a str,
+    /// The step limit.
+    pub limit: u32,
+    /// The slots of the swap store, where the image's own aren't taken.
+    pub slots: Option<u32>,
+    ghost limited: { limit ≤ 4000000000 },
+    ghost few: { unwrap_or slots 0 ≤ 16384 },
+}
+
+/// `resume`: the events of a file are played on from a state that was written.
+#[derive(Clone, Copy, Debug)]
+pub struct ResumeWords<'a> {
+    /// The names of the two files.
+    pub state: &'a str,
+    pub events: &'a str,
+    /// The step limit, where the state hasn't more steps.
+    pub limit: u32,
+    /// The slots of the swap store.
+    pub slots: u32,
+    ghost limited: { limit ≤ 4000000000 },
+    ghost few: { slots ≤ 16384 },
 }
 
 /// `check`: an image is planned.
@@ -56,4 +86,6 @@ pub enum CommandWords<'a> {
     Convert(&'a str),
     /// The load of so many clients.
     Demo(DemoWords),
+    Suspend(SuspendWords<'a>),
+    Resume(ResumeWords<'a>),
 }

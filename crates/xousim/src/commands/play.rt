@@ -51,7 +51,7 @@ fn finish<K: Sink, W: SwapStore>(
 }
 
 /// Picks the event file, plays its events on a booted kernel, and writes what is told of them.
-fn play_events<H: Host, K: Sink, W: SwapStore>(
+pub fn play_events<H: Host, K: Sink, W: SwapStore>(
     kernel: &mut Kernel<W>,
     host: &mut H,
     play: PlayWords,

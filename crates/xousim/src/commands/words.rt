@@ -2,9 +2,12 @@
 
 ghost use Rattle.std.specs.Prelude.{◌≡◌, ◌≤◌, IfSome};
 ghost use Rattle.std.specs.Option.{option_map};
-ghost use Rattle.xousim.specs.Words.{check_in, check_of, convert_of, command_in, command_of, demo_of, limit_of, play_in, play_of, play_with, slots_of};
+ghost use Rattle.xousim.specs.Words.{check_in, check_of, convert_of, command_in, command_of, demo_of, limit_of, play_in, play_of, play_with, resume_in, resume_of, resume_with};
+ghost use Rattle.xousim.specs.Words.{slots_of, suspend_in, suspend_of, suspend_with};
 
-use crate::commands::command::{CheckWords, CommandWords, DemoWords, PlayWords, Telling};
+use crate::commands::command::{
+    CheckWords, CommandWords, DemoWords, PlayWords, ResumeWords, SuspendWords, Telling,
+};
 use crate::commands::numbers::read_number;
 use xk_base::limits::{DEFAULT_STEPS, SLOT_LIMIT, STEP_LIMIT};
 
@@ -115,6 +118,77 @@ fn read_demo(words: &[String]) -> Option<DemoWords>
     }
 }
 
+/// A run that is to be suspended, with these numbers.
+fn suspend_with<'a>(
+    image: &'a String,
+    events: &'a String,
+    limit: u32,
+    slots: Option<u32>,
+) -> SuspendWords<'a>
+    requires limited { limit ≤ 4000000000 }
+    requires few { IfSome slots (λ n. n ≤ 16384) }
+    ensures { Some (suspend_in result) ≡ suspend_with image.now events.now (Some limit) (Some slots) }
+{
+    SuspendWords {
+        image: image.as_str(),
+        events: events.as_str(),
+        limit,
+        slots,
+    }
+}
+
+/// Reads `IMAGE EVENTS [STEPS [SLOTS]]`.
+fn read_suspend<'a>(words: &'a [String]) -> Option<SuspendWords<'a>>
+    ensures { option_map suspend_in result ≡ suspend_of words.now }
+{
+    match words {
+        [image, events] => Some(suspend_with(image, events, DEFAULT_STEPS, None)),
+        [image, events, steps] => {
+            let limit = read_limit(steps)?;
+            Some(suspend_with(image, events, limit, None))
+        }
+        [image, events, steps, slots] => {
+            let limit = read_limit(steps)?;
+            let slots = read_slots(slots)?;
+            Some(suspend_with(image, events, limit, Some(slots)))
+        }
+        _ => None,
+    }
+}
+
+/// A run that is to be resumed, with these numbers.
+fn resume_with<'a>(state: &'a String, events: &'a String, limit: u32, slots: u32) -> ResumeWords<'a>
+    requires limited { limit ≤ 4000000000 }
+    requires few { slots ≤ 16384 }
+    ensures { Some (resume_in result) ≡ resume_with state.now events.now (Some limit) (Some slots) }
+{
+    ResumeWords {
+        state: state.as_str(),
+        events: events.as_str(),
+        limit,
+        slots,
+    }
+}
+
+/// Reads `STATE EVENTS [STEPS [SLOTS]]`.
+fn read_resume<'a>(words: &'a [String]) -> Option<ResumeWords<'a>>
+    ensures { option_map resume_in result ≡ resume_of words.now }
+{
+    match words {
+        [state, events] => Some(resume_with(state, events, DEFAULT_STEPS, 0)),
+        [state, events, steps] => {
+            let limit = read_limit(steps)?;
+            Some(resume_with(state, events, limit, 0))
+        }
+        [state, events, steps, slots] => {
+            let limit = read_limit(steps)?;
+            let slots = read_slots(slots)?;
+            Some(resume_with(state, events, limit, slots))
+        }
+        _ => None,
+    }
+}
+
 /// The command that the words are, where they have one of the stated forms.
 #[tactic(auto, unfolding(crate::specs::Words::command_of))]
 pub fn read_words<'a>(words: &'a [String]) -> Option<CommandWords<'a>>
@@ -128,6 +202,8 @@ pub fn read_words<'a>(words: &'a [String]) -> Option<CommandWords<'a>>
         "check" => Some(CommandWords::Check(read_check(rest)?)),
         "convert" => Some(CommandWords::Convert(read_convert(rest)?)),
         "demo" => Some(CommandWords::Demo(read_demo(rest)?)),
+        "suspend" => Some(CommandWords::Suspend(read_suspend(rest)?)),
+        "resume" => Some(CommandWords::Resume(read_resume(rest)?)),
         _ => None,
     }
 }

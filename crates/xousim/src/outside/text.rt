@@ -7,12 +7,12 @@ ghost use Rattle.trace_text.specs.Words.{hex_text, word_text};
 use arrayvec::ArrayVec;
 use itoa::Buffer;
 
-/// A line. The longest, the usage line, has 115 bytes.
-pub type Line = ArrayVec<u8, 128>;
+/// A line. The longest, the usage line, has 192 bytes.
+pub type Line = ArrayVec<u8, 256>;
 
 /// Appends text for which there is room.
 pub fn put(line: &mut Line, text: &[u8])
-    requires { array_vec_len line.old + length text.now ≤ 128 }
+    requires { array_vec_len line.old + length text.now ≤ 256 }
     ensures text { line.new.items ≡ line.old.items ++ text.now }
     ensures len { array_vec_len line.new ≡ array_vec_len line.old + length text.now }
 {
@@ -24,7 +24,7 @@ pub fn put(line: &mut Line, text: &[u8])
 
 /// Appends a number in decimal.
 pub fn put_number(line: &mut Line, number: u32)
-    requires { array_vec_len line.old + 10 ≤ 128 }
+    requires { array_vec_len line.old + 10 ≤ 256 }
     ensures text { line.new.items ≡ line.old.items ++ decimal number }
     ensures len { array_vec_len line.new ≤ array_vec_len line.old + 10 }
 {
@@ -35,7 +35,7 @@ pub fn put_number(line: &mut Line, number: u32)
 /// Appends a word as eight hexadecimal digits.
 #[tactic(auto, using(trace_text::proofs::DigitLemmas::encoded_word))]
 pub fn put_word(line: &mut Line, word: u32)
-    requires { array_vec_len line.old + 8 ≤ 128 }
+    requires { array_vec_len line.old + 8 ≤ 256 }
     ensures text { line.new.items ≡ line.old.items ++ word_text word }
     ensures len { array_vec_len line.new ≡ array_vec_len line.old + 8 }
 {
@@ -49,7 +49,7 @@ pub fn put_word(line: &mut Line, word: u32)
 /// Appends the five lowest hexadecimal digits of a number.
 #[tactic(auto, using(trace_text::proofs::DigitLemmas::encoded_word))]
 pub fn put_five_digits(line: &mut Line, number: u32)
-    requires { array_vec_len line.old + 5 ≤ 128 }
+    requires { array_vec_len line.old + 5 ≤ 256 }
     ensures text { line.new.items ≡ line.old.items ++ hex_text 5 number }
     ensures len { array_vec_len line.new ≡ array_vec_len line.old + 5 }
 {

@@ -11,7 +11,7 @@ ghost use Rattle.xk_kernel.specs.Sound.{IsSound, IsUsable, Keeps};
 ghost use Rattle.xk_kernel.specs.State.{machine_of};
 ghost use Rattle.xk_ports.specs.declared.host.FileSlot.TheVariants.{First, Second};
 ghost use Rattle.xousim.specs.Gathering.{Text, put, text};
-ghost use Rattle.xousim.specs.Playing.{FailsSo, Goes, HasPlayed, Run, Runs, run_from};
+ghost use Rattle.xousim.specs.Playing.{FailsSo, Goes, HasPlayed, IsNearAtEnd, LeavesNear, Run, Runs, run_from};
 ghost use Rattle.xousim.specs.Reading.{IsTold};
 ghost use Rattle.xousim.specs.Standing.{Begins, Stand, stand};
 
@@ -157,6 +157,10 @@ fn play_end<K: Sink, W: SwapStore>(
         let new = stand W.is_honest W.held kernel.new (put (K.written out.new)) in
         (start : Machine) (begun : Text) (taken : List ℕ) → let run = run_from tells limit start begun in
         HasPlayed run taken reader.old old → Goes run taken reader.old.finished reader.new new result }
+    ensures near { let old = stand W.is_honest W.held kernel.old (put (K.written out.old)) in
+        let new = stand W.is_honest W.held kernel.new (put (K.written out.new)) in
+        (start : Machine) (begun : Text) (taken : List ℕ) → let run = run_from tells limit start begun in
+        result ≡ Ok (Some Ending.Played) → HasPlayed run taken reader.old old → IsNearAtEnd run taken reader.old.finished new }
     ensures sound { IsSound W.slot_count W.held kernel.new }
     ensures usable { OnOk result (IsUsable kernel.new) }
     ensures keeps { Keeps W.is_honest W.held W.slot_count W.asked W.faults kernel.old kernel.new }
@@ -197,9 +201,14 @@ pub fn play_file<H: Host, K: Sink, W: SwapStore>(
         let new = stand W.is_honest W.held kernel.new (put (K.written out.new)) in
         (start : Machine) → Begins start old
         → Runs (run_from tells limit start (put (K.written out.old))) (H.left host.old Second) (H.left host.new Second) new result }
+    ensures near { let old = stand W.is_honest W.held kernel.old (put (K.written out.old)) in
+        let new = stand W.is_honest W.held kernel.new (put (K.written out.new)) in
+        (start : Machine) → Begins start old → result ≡ Ok Ending.Played
+        → LeavesNear (run_from tells limit start (put (K.written out.old))) (H.left host.old Second) new }
     ensures sound { IsSound W.slot_count W.held kernel.new }
     ensures usable { OnOk result (IsUsable kernel.new) }
     ensures keeps { Keeps W.is_honest W.held W.slot_count W.asked W.faults kernel.old kernel.new }
+    ensures within { OnOk result ((machine_of W.held kernel.new).steps ≤ limit) }
     ensures end { result ≡ Ok Ending.Played → IsTold (H.left host.new Second) [] }
     ensures read { result ≡ Err RunFault.Read → Rose (H.faults host.old) (H.faults host.new) }
     ensures write { result ≡ Err RunFault.Write → Rose (K.faults out.old) (K.faults out.new) }

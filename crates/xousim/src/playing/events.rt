@@ -11,7 +11,7 @@ ghost use Rattle.xk_kernel.specs.Sound.{IsSound, IsUsable, Keeps};
 ghost use Rattle.xk_kernel.specs.State.{machine_of};
 ghost use Rattle.xk_kernel.specs.Stepping.{event_done};
 ghost use Rattle.xousim.specs.Gathering.{Gathers, GathersPart, Text, text};
-ghost use Rattle.xousim.specs.Playing.{Advances, Goes, HasPlayed, Plays, PlaysOn, run_from};
+ghost use Rattle.xousim.specs.Playing.{Advances, Goes, HasPlayed, IsNearAtEnd, Plays, PlaysOn, run_from};
 ghost use Rattle.xousim.specs.Standing.{stand};
 ghost use Rattle.xousim.specs.Telling.{told};
 
@@ -237,6 +237,10 @@ fn play_next<K: Sink, W: SwapStore>(
         let new = stand W.is_honest W.held kernel.new (text (K.written out.new) held.new.items) in
         (start : Machine) (begun : Text) (taken : List ℕ) → let run = run_from tells limit start begun in
         HasPlayed run taken reader.old old → Advances run taken reader.old.finished reader.new new result }
+    ensures near { let old = stand W.is_honest W.held kernel.old (text (K.written out.old) held.old.items) in
+        let new = stand W.is_honest W.held kernel.new (text (K.written out.new) held.new.items) in
+        (start : Machine) (begun : Text) (taken : List ℕ) → let run = run_from tells limit start begun in
+        result ≡ Ok (Advance.Ended Ending.Played) → HasPlayed run taken reader.old old → IsNearAtEnd run taken reader.old.finished new }
     ensures sound { IsSound W.slot_count W.held kernel.new }
     ensures usable { OnOk result (IsUsable kernel.new) }
     ensures keeps { Keeps W.is_honest W.held W.slot_count W.asked W.faults kernel.old kernel.new }
@@ -282,6 +286,10 @@ pub fn play_known<K: Sink, W: SwapStore>(
         let new = stand W.is_honest W.held kernel.new (text (K.written out.new) held.new.items) in
         (start : Machine) (begun : Text) (taken : List ℕ) → let run = run_from tells limit start begun in
         HasPlayed run taken reader.old old → Goes run taken reader.old.finished reader.new new result }
+    ensures near { let old = stand W.is_honest W.held kernel.old (text (K.written out.old) held.old.items) in
+        let new = stand W.is_honest W.held kernel.new (text (K.written out.new) held.new.items) in
+        (start : Machine) (begun : Text) (taken : List ℕ) → let run = run_from tells limit start begun in
+        result ≡ Ok (Some Ending.Played) → HasPlayed run taken reader.old old → IsNearAtEnd run taken reader.old.finished new }
     ensures sound { IsSound W.slot_count W.held kernel.new }
     ensures usable { OnOk result (IsUsable kernel.new) }
     ensures keeps { Keeps W.is_honest W.held W.slot_count W.asked W.faults kernel.old kernel.new }

@@ -2,8 +2,8 @@
 
 ghost use Rattle.std.specs.Prelude.{◌≡◌, ◌≤◌, [], length, OnOk, OnErr};
 ghost use Rattle.xk_base.specs.Outside.{Rose};
-ghost use Rattle.xk_ports.specs.Told.{Grows, GrowsByPrefix};
-ghost use Rattle.xousim.specs.Gathering.{Gathers, GathersPart, text};
+ghost use Rattle.xk_ports.specs.Told.{GrowsByPrefix};
+ghost use Rattle.xousim.specs.Gathering.{Gathers, GathersPart, Puts, text};
 
 use arrayvec::ArrayVec;
 use xk_base::Failed;
@@ -15,14 +15,17 @@ pub const ROOM: usize = 16384;
 /// Bytes that are held for a sink.
 pub type Held = ArrayVec<u8, ROOM>;
 
-/// Puts what is held at once.
+/// Puts what is held at once. Where nothing is held the sink isn't asked.
 pub fn put_held<K: Sink>(out: &mut K, held: &mut Held) -> Result<(), Failed>
-    ensures put { OnOk result (Grows (K.written out.old) (K.written out.new) held.old.items) }
+    ensures put { OnOk result (Puts (K.written out.old) (K.written out.new) held.old.items) }
     ensures empty { OnOk result (held.new.items ≡ []) }
     ensures front { OnErr result (GrowsByPrefix (K.written out.old) (K.written out.new) held.old.items) }
     ensures cause { OnErr result (Rose (K.faults out.old) (K.faults out.new)) }
     ensures never_falls { K.faults out.old ≤ K.faults out.new }
 {
+    if held.is_empty() {
+        return Ok(());
+    }
     put_all(out, held.as_slice())?;
     held.clear();
     Ok(())

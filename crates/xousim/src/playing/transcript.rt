@@ -65,7 +65,7 @@ fn gather_told<K: Sink>(
     match tells {
         Telling::Trace => gather_record(rec, out, held),
         Telling::Run => gather_byte(&rec.what, out, held),
-        Telling::Ledger => Ok(()),
+        Telling::Ledger | Telling::Nothing => Ok(()),
     }
 }
 
@@ -129,7 +129,7 @@ pub fn write_closing<K: Sink, W: SwapStore>(
 {
     match tells {
         Telling::Trace => write_last_line(ending, kernel.steps(), out),
-        Telling::Run => Ok(()),
+        Telling::Run | Telling::Nothing => Ok(()),
         Telling::Ledger => {
             write_table(kernel, out)?;
             write_last_line(ending, kernel.steps(), out)

@@ -1,10 +1,8 @@
 //! Atomic instructions.
 
-use super::image::image;
-use super::lines::transcript;
-use super::trace;
-use crate::status::Status;
+use super::expecting::expect_code;
 use std::alloc::Global;
+use std::process::Abort;
 use std::test::Fail;
 
 /// Each of three words in the heap meets an AMO; what a0 got and what was stored are told by a Yield.
@@ -55,13 +53,14 @@ const OPERATIONS_LINES: [&str; 9] = [
 
 #[test]
 fn operations_on_words(rt: HostRuntime) -> Result<(), Fail> {
-    let alloc = rt.alloc();
-    let words = image(alloc, 1, &OPERATIONS)?;
-    let run = trace(alloc, words.as_slice(), b"tick 30", &[], &[])?;
-    assert_eq!(rt; run.status, Status::Done);
-    let lines = transcript(alloc, &OPERATIONS_LINES)?;
-    assert_eq!(rt; run.out.as_slice(), lines.as_slice());
-    Ok(())
+    expect_code(
+        &rt,
+        rt.alloc(),
+        1,
+        &OPERATIONS,
+        b"tick 30",
+        &OPERATIONS_LINES,
+    )
 }
 
 /// A thread makes another that loops, reserves a word of the heap and stores 7 there where its
@@ -87,10 +86,13 @@ const RESERVING: [u32; 18] = [
     0x0000_006F, // loop
 ];
 
-/// The transcript of that program over these events, of so many steps, where SC gave and left this.
-fn reserves(alloc: Global, events: &[u8], lines: [&str; 3]) -> Result<bool, Fail> {
-    let words = image(alloc, 1, &RESERVING)?;
-    let run = trace(alloc, words.as_slice(), events, &[], &[])?;
+/// The lines of that program over these events, where the last three are these.
+fn expect_reserves(
+    rt: &impl Abort,
+    alloc: Global,
+    events: &[u8],
+    lines: [&str; 3],
+) -> Result<(), Fail> {
     let [call, reply, end] = lines;
     let lines = [
         "3 2.2 call a 1000",
@@ -101,28 +103,35 @@ fn reserves(alloc: Global, events: &[u8], lines: [&str; 3]) -> Result<bool, Fail
         reply,
         end,
     ];
-    Ok(run.status == Status::Done && run.out.as_slice() == transcript(alloc, &lines)?.as_slice())
+    expect_code(rt, alloc, 1, &RESERVING, events, &lines)
+}
+
+/// SC gave 0, and the word is 7.
+const STORED: [&str; 3] = [
+    "16 2.2 call 3 0 20000000 7",
+    "16 2.2 reply 0",
+    "end 16 done",
+];
+
+/// A pick and the end of a turn keep a reservation.
+#[test]
+fn reservations_that_are_kept(rt: HostRuntime) -> Result<(), Fail> {
+    let alloc = rt.alloc();
+    let kept = b"tick 11\npick 2 2\ntick 5\n";
+    expect_reserves(&rt, alloc, kept, STORED)?;
+    let singly = [b"pick 2 2\ntick 1\n".as_slice(); 16].concat(alloc)?;
+    expect_reserves(&rt, alloc, singly.as_slice(), STORED)
 }
 
 /// A step of another thread ends a reservation, and so does a kill, also of a process that isn't
-/// there. A pick and the end of a turn keep it.
+/// there.
 #[test]
-fn reservations(rt: HostRuntime) -> Result<(), Fail> {
+fn reservations_that_end(rt: HostRuntime) -> Result<(), Fail> {
     let alloc = rt.alloc();
-    let stored = [
-        "16 2.2 call 3 0 20000000 7",
-        "16 2.2 reply 0",
-        "end 16 done",
-    ];
-    let kept = b"tick 11\npick 2 2\ntick 5\n".as_slice();
-    assert!(rt; reserves(alloc, kept, stored)?);
-    let singly = [b"pick 2 2\ntick 1\n".as_slice(); 16].concat(alloc)?;
-    assert!(rt; reserves(alloc, singly.as_slice(), stored)?);
     let passed = ["17 2.2 call 3 1 20000000", "17 2.2 reply 0", "end 17 done"];
-    let broken = b"tick 11\npick 2 3\ntick 1\npick 2 2\ntick 5\n".as_slice();
-    assert!(rt; reserves(alloc, broken, passed)?);
+    let broken = b"tick 11\npick 2 3\ntick 1\npick 2 2\ntick 5\n";
+    expect_reserves(&rt, alloc, broken, passed)?;
     let killed = ["16 2.2 call 3 1 20000000", "16 2.2 reply 0", "end 16 done"];
-    let kill = b"tick 11\nkill 3\npick 2 2\ntick 5\n".as_slice();
-    assert!(rt; reserves(alloc, kill, killed)?);
-    Ok(())
+    let kill = b"tick 11\nkill 3\npick 2 2\ntick 5\n";
+    expect_reserves(&rt, alloc, kill, killed)
 }

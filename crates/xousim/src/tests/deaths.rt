@@ -61,7 +61,7 @@ fn a_store_during_the_loan(rt: HostRuntime) -> Result<(), Fail> {
 }
 
 /// A server writes in the page of a lender that is dead, gives it back, and gets a new page.
-const HEIR: [Act; 7] = [
+pub const HEIR: [Act; 7] = [
     Call([CREATE_SERVER, 1, 2, 3, 4, 0, 0, 0]),
     Call([RECEIVE, 1, 2, 3, 4, 0, 0, 0]),
     Store(MESSAGE, 0x99),
@@ -71,13 +71,13 @@ const HEIR: [Act; 7] = [
     Tell(HEAP, HEAP),
 ];
 
-const MUTABLE_LENDER: [Act; 3] = [
+pub const MUTABLE_LENDER: [Act; 3] = [
     Call([CONNECT, 1, 2, 3, 4, 0, 0, 0]),
     Call([INCREASE_HEAP, PAGE, 0, 0, 0, 0, 0, 0]),
     Call([SEND, 2, 1, 7, HEAP, PAGE, 0, 0]),
 ];
 
-const LENDER_KILLED: [&str; 19] = [
+pub const LENDER_KILLED: [&str; 19] = [
     "17 2.2 call e 1 2 3 4",
     "17 2.2 reply 13 1 2 3 4 2",
     "34 2.2 call f 1 2 3 4",

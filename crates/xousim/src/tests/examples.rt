@@ -1,8 +1,9 @@
 //! The stored examples: each image is played over its events, and what is written is the stored
 //! transcript. `tools/copy-examples` makes these copies of the files in the folder `examples`.
 
+use super::expecting::expect_out;
 use super::lines::transcript_of;
-use super::trace;
+use super::running::trace;
 use crate::status::Status;
 use std::alloc::Global;
 use std::process::Abort;
@@ -360,10 +361,9 @@ fn expect_example(rt: &impl Abort, alloc: Global, example: &Example) -> Result<(
         return Err(Fail::from("no image"));
     };
     for run in example.runs {
-        let played = trace(alloc, image.as_slice(), run.events, &[], &[])?;
+        let played = trace(alloc, image.as_slice(), run.events)?;
         let lines = transcript_of(alloc, run.lines)?;
-        assert_eq!(rt; played.status, Status::Done);
-        assert_eq!(rt; played.out.as_slice(), lines.as_slice());
+        expect_out(rt, &played, Status::Done, lines.as_slice());
     }
     Ok(())
 }

@@ -1,9 +1,11 @@
 //! Interrupts: claims, handlers, and numbers that are pending.
 
+use super::expecting::{expect_code, expect_out};
 use super::image::image;
-use super::lines::transcript;
-use super::trace;
+use super::running::trace;
 use crate::status::Status;
+use std::alloc::Global;
+use std::process::Abort;
 use std::test::Fail;
 
 /// A process claims number 4 with argument 9. Its handler makes a call that there isn't, so that its
@@ -37,14 +39,8 @@ const PENDING_LINES: [&str; 11] = [
 /// Two interrupts that come while the handler runs are one, which is delivered at its end.
 #[test]
 fn pending_is_a_set(rt: HostRuntime) -> Result<(), Fail> {
-    let alloc = rt.alloc();
-    let one = image(alloc, 1, &PENDING)?;
     let events = b"tick 6\nirq 4\nirq 4\nirq 4\ntick 3\npick 2 1\ntick 4\n";
-    let run = trace(alloc, one.as_slice(), events, &[], &[])?;
-    assert_eq!(rt; run.status, Status::Done);
-    let lines = transcript(alloc, &PENDING_LINES)?;
-    assert_eq!(rt; run.out.as_slice(), lines.as_slice());
-    Ok(())
+    expect_code(&rt, rt.alloc(), 1, &PENDING, events, &PENDING_LINES)
 }
 
 /// Claims that are refused, and one that isn't where nobody has claimed number 4. Its handler joins a
@@ -101,37 +97,46 @@ const CLAIM_LINES: [&str; 22] = [
 /// Two processes claim one number; its interrupts end with the process that has it.
 #[test]
 fn claims_and_refusals(rt: HostRuntime) -> Result<(), Fail> {
-    let alloc = rt.alloc();
-    let two = image(alloc, 2, &CLAIMS)?;
     let events = b"irq 4\ntick 17\ntick 17\nirq 4\ntick 4\nkill 2\nirq 4\ntick 1\n";
-    let run = trace(alloc, two.as_slice(), events, &[], &[])?;
-    assert_eq!(rt; run.status, Status::Done);
-    let lines = transcript(alloc, &CLAIM_LINES)?;
-    assert_eq!(rt; run.out.as_slice(), lines.as_slice());
+    expect_code(&rt, rt.alloc(), 2, &CLAIMS, events, &CLAIM_LINES)
+}
+
+/// The run of the first process over these events ends so, and writes this.
+fn expect_events(
+    rt: &impl Abort,
+    alloc: Global,
+    events: &[u8],
+    status: Status,
+    out: &[u8],
+) -> Result<(), Fail> {
+    let one = image(alloc, 1, &PENDING)?;
+    let run = trace(alloc, one.as_slice(), events)?;
+    expect_out(rt, &run, status, out);
     Ok(())
 }
 
-/// Lines of an event file that are good, though not all are events, and lines that are bad.
+/// Lines of an event file that are good, though not all are events.
 #[test]
-fn event_lines(rt: HostRuntime) -> Result<(), Fail> {
-    let alloc = rt.alloc();
-    let one = image(alloc, 1, &PENDING)?;
+fn good_event_lines(rt: HostRuntime) -> Result<(), Fail> {
     let good = b"tick 5\r\n   \n# note\n  kill   7  \nirq 31\n";
-    let run = trace(alloc, one.as_slice(), good, &[], &[])?;
-    assert_eq!(rt; run.out.as_slice(), b"end 5 done\n".as_slice());
-    let rows: [(&[u8], u32); 4] = [
-        (b"irq 31\nirq 32\n", 2),
-        (b"tick 0\ntick 4294967296\n", 2),
-        (
-            b"# a line of 65 bytes is bad, though it is no event, as it is one \n",
-            1,
-        ),
-        (b"irq\n", 1),
-    ];
-    for (events, line) in rows {
-        let run = trace(alloc, one.as_slice(), events, &[], &[])?;
-        assert_eq!(rt; run.status, Status::EventFault(line));
-        assert_eq!(rt; run.out.as_slice(), b"".as_slice());
+    expect_events(&rt, rt.alloc(), good, Status::Done, b"end 5 done\n")
+}
+
+/// Events with one bad line, and its number.
+const BAD_LINES: [(&[u8], u32); 4] = [
+    (b"irq 31\nirq 32\n", 2),
+    (b"tick 0\ntick 4294967296\n", 2),
+    (
+        b"# a line of 65 bytes is bad, though it is no event, as it is one \n",
+        1,
+    ),
+    (b"irq\n", 1),
+];
+
+#[test]
+fn bad_event_lines(rt: HostRuntime) -> Result<(), Fail> {
+    for (events, line) in BAD_LINES {
+        expect_events(&rt, rt.alloc(), events, Status::EventFault(line), b"")?;
     }
     Ok(())
 }

@@ -1,9 +1,6 @@
 //! Calls on memory, one after another.
 
-use super::image::image;
-use super::lines::transcript;
-use super::trace;
-use crate::status::Status;
+use super::expecting::expect_code;
 use std::test::Fail;
 
 /// The heap grows by a page, which loses its W and is unmapped.
@@ -111,17 +108,11 @@ const MAP_LINES: [&str; 13] = [
 ];
 
 #[test]
-fn memory_calls(rt: HostRuntime) -> Result<(), Fail> {
-    let alloc = rt.alloc();
-    let heap = image(alloc, 1, &HEAP)?;
-    let run = trace(alloc, heap.as_slice(), b"tick 26", &[], &[])?;
-    assert_eq!(rt; run.status, Status::Done);
-    let lines = transcript(alloc, &HEAP_LINES)?;
-    assert_eq!(rt; run.out.as_slice(), lines.as_slice());
-    let map = image(alloc, 1, &MAP)?;
-    let run = trace(alloc, map.as_slice(), b"tick 36", &[], &[])?;
-    assert_eq!(rt; run.status, Status::Done);
-    let lines = transcript(alloc, &MAP_LINES)?;
-    assert_eq!(rt; run.out.as_slice(), lines.as_slice());
-    Ok(())
+fn calls_on_the_heap(rt: HostRuntime) -> Result<(), Fail> {
+    expect_code(&rt, rt.alloc(), 1, &HEAP, b"tick 26", &HEAP_LINES)
+}
+
+#[test]
+fn calls_on_the_map_window(rt: HostRuntime) -> Result<(), Fail> {
+    expect_code(&rt, rt.alloc(), 1, &MAP, b"tick 36", &MAP_LINES)
 }

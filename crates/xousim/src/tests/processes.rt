@@ -1,43 +1,28 @@
 //! Several processes and threads.
 
-use super::image::image;
-use super::lines::transcript;
-use super::trace;
-use crate::status::Status;
+use super::expecting::expect_code;
 use std::test::Fail;
 
 /// `JAL x0, 0`.
 const LOOP: u32 = 0x0000_006F;
 
+/// The last of 32 asks for its pid.
+const ASKS_FOR_ITS_PID: [u32; 3] = [0x02B0_0513, 0x0000_0073, LOOP];
+
+const LAST_PID: [&str; 4] = [
+    "2 33.2 call 2b",
+    "2 33.2 reply e 21",
+    "2 33 gone",
+    "end 3 done",
+];
+
 #[test]
 fn processes_in_turn(rt: HostRuntime) -> Result<(), Fail> {
     let alloc = rt.alloc();
-    let two = image(alloc, 2, &[LOOP])?;
-    let run = trace(
-        alloc,
-        two.as_slice(),
-        b"tick 3\npick 2 2\nkill 3\ntick 2\n",
-        &[],
-        &[],
-    )?;
-    assert_eq!(rt; run.status, Status::Done);
-    assert_eq!(rt; run.out.as_slice(), b"3 3 gone\nend 5 done\n".as_slice());
-    // The last of 32 asks for its pid.
-    let most = image(alloc, 32, &[0x02B0_0513, 0x0000_0073, LOOP])?;
+    let events = b"tick 3\npick 2 2\nkill 3\ntick 2\n";
+    expect_code(&rt, alloc, 2, &[LOOP], events, &["3 3 gone", "end 5 done"])?;
     let events = b"pick 33 2\ntick 2\nkill 33\npick 33 2\ntick 1\n";
-    let run = trace(alloc, most.as_slice(), events, &[], &[])?;
-    assert_eq!(rt; run.status, Status::Done);
-    let lines = transcript(
-        alloc,
-        &[
-            "2 33.2 call 2b",
-            "2 33.2 reply e 21",
-            "2 33 gone",
-            "end 3 done",
-        ],
-    )?;
-    assert_eq!(rt; run.out.as_slice(), lines.as_slice());
-    Ok(())
+    expect_code(&rt, alloc, 32, &ASKS_FOR_ITS_PID, events, &LAST_PID)
 }
 
 /// A thread makes another, joins it, yields and ends; the other yields and ends with 7.
@@ -85,13 +70,7 @@ const JOINING_LINES: [&str; 20] = [
 /// and 12, 2.3 13 and 14, 3.3 15 to 17, 2.2 18 and 19, 2.3 20 to 22, 2.2 23 to 26.
 #[test]
 fn threads_join_and_yield(rt: HostRuntime) -> Result<(), Fail> {
-    let alloc = rt.alloc();
-    let two = image(alloc, 2, &JOINING)?;
     let events =
         b"tick 4\npick 3 2\ntick 6\ntick 2\ntick 3\npick 3 3\ntick 2\ntick 4\nkill 3\ntick 10\n";
-    let run = trace(alloc, two.as_slice(), events, &[], &[])?;
-    assert_eq!(rt; run.status, Status::Done);
-    let lines = transcript(alloc, &JOINING_LINES)?;
-    assert_eq!(rt; run.out.as_slice(), lines.as_slice());
-    Ok(())
+    expect_code(&rt, rt.alloc(), 2, &JOINING, events, &JOINING_LINES)
 }

@@ -2,11 +2,10 @@
 
 ghost use Rattle.std.specs.Prelude.{◌<◌};
 
+use super::expecting::expect_transcript;
 use super::image::{START, image_of};
-use super::lines::transcript;
+use super::running::{Outcome, trace};
 use super::swapping::trace_with_one_page;
-use super::{Outcome, trace};
-use crate::status::Status;
 use Act::{Call, Return, Store, Tell};
 use rv32_words::{Insn, encode};
 use std::alloc::Global;
@@ -98,20 +97,16 @@ pub fn expect_run(
     events: &[u8],
     lines: &[&str],
 ) -> Result<(), Fail> {
-    let lines = transcript(alloc, lines)?;
     let run = play(alloc, processes, events)?;
-    assert_eq!(rt; run.status, Status::Done);
-    assert_eq!(rt; run.out.as_slice(), lines.as_slice());
+    expect_transcript(rt, alloc, &run, lines)?;
     let run = trace_with_one_page(alloc, processes, events)?;
-    assert_eq!(rt; run.status, Status::Done);
-    assert_eq!(rt; run.out.as_slice(), lines.as_slice());
-    Ok(())
+    expect_transcript(rt, alloc, &run, lines)
 }
 
 /// The run of these programs over these events.
 pub fn play(alloc: Global, processes: &[[&[Act]; 2]], events: &[u8]) -> Result<Outcome, Fail> {
     let image = image_of_programs(alloc, processes)?;
-    trace(alloc, image.as_slice(), events, &[], &[])
+    trace(alloc, image.as_slice(), events)
 }
 
 /// The image of processes whose threads do these acts and then loop: of each process those that the

@@ -1,12 +1,11 @@
 //! Messages of words alone, and a server that is full.
 
-use super::lines::transcript;
+use super::expecting::expect_last_lines;
 use super::programs::Act::Call;
 use super::programs::{
     Act, CONNECT, CREATE_SERVER, CREATE_THREAD, RECEIVE, RETURN_SCALAR1, RETURN_SCALAR2, SECOND,
     SEND, TRY_SEND, expect_run, play,
 };
-use crate::status::Status;
 use std::test::Fail;
 
 /// A server answers what it gets with two values, and then again.
@@ -112,8 +111,5 @@ fn a_full_server_takes_no_more(rt: HostRuntime) -> Result<(), Fail> {
         [&FURTHER_SENDER, &[]],
     ];
     let run = play(alloc, &processes, FULL_EVENTS)?;
-    assert_eq!(rt; run.status, Status::Done);
-    let lines = transcript(alloc, &FULL_LINES)?;
-    assert!(rt; run.out.as_slice().ends_with(lines.as_slice()));
-    Ok(())
+    expect_last_lines(&rt, alloc, &run, &FULL_LINES)
 }

@@ -1,9 +1,6 @@
 //! Servers are made and connected to.
 
-use super::image::image;
-use super::lines::transcript;
-use super::trace;
-use crate::status::Status;
+use super::expecting::expect_code;
 use std::test::Fail;
 
 /// A server is made and connected to; then there is none.
@@ -38,11 +35,5 @@ const SERVER_LINES: [&str; 11] = [
 
 #[test]
 fn servers_are_made_and_found(rt: HostRuntime) -> Result<(), Fail> {
-    let alloc = rt.alloc();
-    let servers = image(alloc, 1, &SERVERS)?;
-    let run = trace(alloc, servers.as_slice(), b"tick 13", &[], &[])?;
-    assert_eq!(rt; run.status, Status::Done);
-    let lines = transcript(alloc, &SERVER_LINES)?;
-    assert_eq!(rt; run.out.as_slice(), lines.as_slice());
-    Ok(())
+    expect_code(&rt, rt.alloc(), 1, &SERVERS, b"tick 13", &SERVER_LINES)
 }

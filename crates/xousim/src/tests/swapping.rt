@@ -1,17 +1,17 @@
 //! Runs with one page in RAM: every change of page is an exchange with the store.
 
+use super::expecting::{expect_bytes, expect_out, expect_outcome, expect_status};
 use super::image::{patched, with_ram};
 use super::lends::{LENDER, LENT_AND_RETURNED, READER};
 use super::lines::transcript;
 use super::programs::{Act, image_of_programs};
-use super::{FIRST_IMAGE, FIRST_RECORDS, FIRST_WORD, Outcome, first_lines, words};
-use crate::status::{Ended, Status};
-use crate::top::xous_main;
+use super::running::{Outcome, Outside, SOUND, run};
+use super::{FIRST_IMAGE, FIRST_RECORDS, FIRST_WORD, first_lines};
+use crate::status::Status;
 use kernel_args::ArgFault;
 use std::alloc::Global;
 use std::process::Abort;
 use std::test::Fail;
-use xk_ports::{MemHost, MemSink, MemStore};
 
 /// For so many processes, the bytes of a RAM with one frame that is neither a table nor kept free, and
 /// the slots that make up for the rest of 4,096 frames.
@@ -48,46 +48,62 @@ fn call(
     events: &[u8],
     failing: u64,
 ) -> Result<Outcome, Fail> {
-    let mut files = Vec::new(alloc);
-    files.push((String::from_str(alloc, "i")?, image.to_vec(alloc)?))?;
-    files.push((String::from_str(alloc, "e")?, events.to_vec(alloc)?))?;
-    let mut host = MemHost::new(alloc, files, 4096, Vec::new(alloc), 100)?;
-    let mut out = MemSink::new(alloc, 50_000, Vec::new(alloc))?;
-    let mut notes = MemSink::new(alloc, 100, Vec::new(alloc))?;
-    let words = words(alloc, texts)?;
-    let mut fails = Vec::new(alloc);
-    fails.push(failing)?;
-    let Ended { status, store: _ } = xous_main(
-        alloc,
-        words.as_slice(),
-        &mut host,
-        &mut out,
-        &mut notes,
-        MemStore::new(fails),
-    );
-    Ok(Outcome {
-        status,
-        out: out.as_slice().to_vec(alloc)?,
-        notes: notes.as_slice().to_vec(alloc)?,
-    })
+    let outside = Outside {
+        store: failing,
+        ..SOUND
+    };
+    run(alloc, texts, image, events, outside)
 }
 
 /// Ten pages in one frame and nine slots, and in ten frames.
 const FULL_HOUSES: [(u32, &str); 2] = [(0x1_7000, "9"), (0x2_0000, "0")];
 
+/// The run of an image in a house of this RAM and these slots.
+fn run_in_house(
+    alloc: Global,
+    image: &[u8],
+    (ram, slots): (u32, &str),
+    failing: u64,
+) -> Result<Outcome, Fail> {
+    let image = with_ram(alloc, image, ram)?;
+    let texts = ["trace", "i", "e", "1000", slots];
+    call(alloc, &texts, image.as_slice(), b"tick 100", failing)
+}
+
+fn expect_in_house(
+    rt: &impl Abort,
+    alloc: Global,
+    image: &[u8],
+    house: (u32, &str),
+    out: &[u8],
+) -> Result<(), Fail> {
+    let run = run_in_house(alloc, image, house, 0)?;
+    expect_out(rt, &run, Status::Done, out);
+    Ok(())
+}
+
 #[test]
 fn full_house(rt: HostRuntime) -> Result<(), Fail> {
     let alloc = rt.alloc();
     let lines = first_lines(alloc, "end 100 done")?;
-    for (ram, slots) in FULL_HOUSES {
-        let image = with_ram(alloc, &FIRST_IMAGE, ram)?;
-        let texts = ["trace", "i", "e", "1000", slots];
-        let run = call(alloc, &texts, image.as_slice(), b"tick 100", 0)?;
-        assert_eq!(rt; run.status, Status::Done);
-        assert_eq!(rt; run.out.as_slice(), lines.as_slice());
-        let run = call(alloc, &["check", "i", slots], image.as_slice(), b"", 0)?;
-        let plan = run.out.as_slice();
-        assert!(rt; plan.ends_with(b"pages 10 cap 10\n"));
+    for house in FULL_HOUSES {
+        expect_in_house(&rt, alloc, &FIRST_IMAGE, house, lines.as_slice())?;
+    }
+    Ok(())
+}
+
+/// All pages of the house are taken.
+fn expect_plan(rt: &impl Abort, alloc: Global, (ram, slots): (u32, &str)) -> Result<(), Fail> {
+    let image = with_ram(alloc, &FIRST_IMAGE, ram)?;
+    let run = call(alloc, &["check", "i", slots], image.as_slice(), b"", 0)?;
+    assert!(rt; run.out.as_slice().ends_with(b"pages 10 cap 10\n"));
+    Ok(())
+}
+
+#[test]
+fn plan_of_a_full_house(rt: HostRuntime) -> Result<(), Fail> {
+    for house in FULL_HOUSES {
+        expect_plan(&rt, rt.alloc(), house)?;
     }
     Ok(())
 }
@@ -105,12 +121,8 @@ fn full_house_has_no_room(rt: HostRuntime) -> Result<(), Fail> {
     let lines = ["6 2.2 call 2 0 0 1000 6", "6 2.2 reply 1 3", "end 100 done"];
     let lines = transcript(alloc, &lines)?;
     let asking = patched(alloc, &FIRST_IMAGE, &ASKS_FOR_A_PAGE)?;
-    for (ram, slots) in FULL_HOUSES {
-        let image = with_ram(alloc, asking.as_slice(), ram)?;
-        let texts = ["trace", "i", "e", "1000", slots];
-        let run = call(alloc, &texts, image.as_slice(), b"tick 100", 0)?;
-        assert_eq!(rt; run.status, Status::Done);
-        assert_eq!(rt; run.out.as_slice(), lines.as_slice());
+    for house in FULL_HOUSES {
+        expect_in_house(&rt, alloc, asking.as_slice(), house, lines.as_slice())?;
     }
     Ok(())
 }
@@ -118,32 +130,17 @@ fn full_house_has_no_room(rt: HostRuntime) -> Result<(), Fail> {
 /// With a slot fewer the pages of the process have no room.
 #[test]
 fn house_too_small(rt: HostRuntime) -> Result<(), Fail> {
-    let alloc = rt.alloc();
-    let image = with_ram(alloc, &FIRST_IMAGE, 0x1_7000)?;
-    let texts = ["trace", "i", "e", "1000", "8"];
-    let run = call(alloc, &texts, image.as_slice(), b"tick 100", 0)?;
-    assert_eq!(rt;
-        run.status,
-        Status::ImageFault(ArgFault { what: 16, at: 0 })
-    );
-    assert_eq!(rt; run.out.as_slice(), b"".as_slice());
-    assert_eq!(rt;
-        run.notes.as_slice(),
-        b"image fault RamTooSmall at 0\n".as_slice()
-    );
+    let run = run_in_house(rt.alloc(), &FIRST_IMAGE, (0x1_7000, "8"), 0)?;
+    let status = Status::ImageFault(ArgFault { what: 16, at: 0 });
+    expect_outcome(&rt, &run, status, b"", b"image fault RamTooSmall at 0\n");
     Ok(())
 }
 
 /// The first call of the store, which prepares the slots, fails.
 #[test]
 fn fault_of_the_store(rt: HostRuntime) -> Result<(), Fail> {
-    let alloc = rt.alloc();
-    let image = with_ram(alloc, &FIRST_IMAGE, 0x1_7000)?;
-    let texts = ["trace", "i", "e", "1000", "9"];
-    let run = call(alloc, &texts, image.as_slice(), b"tick 100", 1)?;
-    assert_eq!(rt; run.status, Status::SwapFault);
-    assert_eq!(rt; run.out.as_slice(), b"".as_slice());
-    assert_eq!(rt; run.notes.as_slice(), b"swap fault\n".as_slice());
+    let run = run_in_house(rt.alloc(), &FIRST_IMAGE, (0x1_7000, "9"), 1)?;
+    expect_outcome(&rt, &run, Status::SwapFault, b"", b"swap fault\n");
     Ok(())
 }
 
@@ -156,6 +153,24 @@ struct House {
     image: Vec<u8>,
     slots: &'static str,
     events: &'static [u8],
+}
+
+/// A call of the store fails in this run of these lines: those of whole steps stand there, and the answer is
+/// how many they are. Or it is none where all was done.
+fn lines_before_fault(
+    rt: &impl Abort,
+    alloc: Global,
+    lines: &[&str],
+    run: &Outcome,
+) -> Result<Option<usize>, Fail> {
+    if run.status == Status::Done {
+        let whole = transcript(alloc, lines)?;
+        expect_bytes(rt, run.out.as_slice(), whole.as_slice());
+        return Ok(None);
+    }
+    expect_status(rt, run.status, Status::SwapFault);
+    expect_bytes(rt, run.notes.as_slice(), b"swap fault\n");
+    Ok(Some(whole_steps(alloc, lines, run.out.as_slice())?))
 }
 
 /// Each call of the store fails, as long as there is one that can: there stand the lines of whole steps.
@@ -171,14 +186,9 @@ fn expect_swap_faults(
     let mut last = 0;
     for failing in 1..CALLS {
         let run = call(alloc, &texts, house.image.as_slice(), house.events, failing)?;
-        if run.status == Status::Done {
-            let whole = transcript(alloc, lines)?;
-            assert_eq!(rt; run.out.as_slice(), whole.as_slice());
+        let Some(told) = lines_before_fault(rt, alloc, lines, &run)? else {
             return Ok(last);
-        }
-        assert_eq!(rt; run.status, Status::SwapFault);
-        assert_eq!(rt; run.notes.as_slice(), b"swap fault\n".as_slice());
-        let told = whole_steps(alloc, lines, run.out.as_slice())?;
+        };
         assert!(rt; failing > 1 || told == 0);
         if told == sought {
             last = failing;

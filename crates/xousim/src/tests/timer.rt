@@ -1,9 +1,8 @@
 //! The timer's page and its interrupt.
 
-use super::image::image;
-use super::lines::transcript;
-use super::trace;
-use crate::status::Status;
+use super::expecting::expect_code;
+use std::alloc::Global;
+use std::process::Abort;
 use std::test::Fail;
 
 /// A process claims number 20 with argument 9, and arms the timer in step 25. Then it tells what the
@@ -69,21 +68,19 @@ const NEVER_LINES: [&str; 5] = [
     "end 100 done",
 ];
 
+/// The lines of the process where it arms the timer with this step.
+fn expect_armed(rt: &impl Abort, alloc: Global, compare: u32, lines: &[&str]) -> Result<(), Fail> {
+    let mut words = ARMED;
+    words[COMPARE_WORD] |= compare << 20;
+    expect_code(rt, alloc, 1, &words, b"tick 100", lines)
+}
+
 /// Armed with a later step, with the step itself, and with one that is past.
 #[test]
 fn raises_in_its_step(rt: HostRuntime) -> Result<(), Fail> {
-    let alloc = rt.alloc();
-    let rows: [(u32, &[&str]); 3] = [(30, &LATER_LINES), (25, &AT_ONCE_LINES), (24, &NEVER_LINES)];
-    for (compare, expected) in rows {
-        let mut words = ARMED;
-        words[COMPARE_WORD] |= compare << 20;
-        let one = image(alloc, 1, &words)?;
-        let run = trace(alloc, one.as_slice(), b"tick 100", &[], &[])?;
-        assert_eq!(rt; run.status, Status::Done);
-        let lines = transcript(alloc, expected)?;
-        assert_eq!(rt; run.out.as_slice(), lines.as_slice());
-    }
-    Ok(())
+    expect_armed(&rt, rt.alloc(), 30, &LATER_LINES)?;
+    expect_armed(&rt, rt.alloc(), 25, &AT_ONCE_LINES)?;
+    expect_armed(&rt, rt.alloc(), 24, &NEVER_LINES)
 }
 
 /// The same process frees number 20 again in step 28, and loads from the page in step 31.
@@ -122,13 +119,7 @@ const FREED_LINES: [&str; 7] = [
 /// A timer whose interrupt is freed raises nothing, and its page is gone.
 #[test]
 fn ends_with_the_claim(rt: HostRuntime) -> Result<(), Fail> {
-    let alloc = rt.alloc();
-    let one = image(alloc, 1, &FREED)?;
-    let run = trace(alloc, one.as_slice(), b"tick 100", &[], &[])?;
-    assert_eq!(rt; run.status, Status::Done);
-    let lines = transcript(alloc, &FREED_LINES)?;
-    assert_eq!(rt; run.out.as_slice(), lines.as_slice());
-    Ok(())
+    expect_code(&rt, rt.alloc(), 1, &FREED, b"tick 100", &FREED_LINES)
 }
 
 /// Of two processes the first claims number 20, and arms the timer with step 22. The other claims number
@@ -170,14 +161,8 @@ const BOTH_LINES: [&str; 11] = [
 /// The end of a handler and the timer start handlers of two processes in one step.
 #[test]
 fn two_handlers_start_in_a_step(rt: HostRuntime) -> Result<(), Fail> {
-    let alloc = rt.alloc();
-    let two = image(alloc, 2, &BOTH)?;
     let events = b"tick 9\ntick 11\nirq 4\nirq 4\ntick 2\n";
-    let run = trace(alloc, two.as_slice(), events, &[], &[])?;
-    assert_eq!(rt; run.status, Status::Done);
-    let lines = transcript(alloc, &BOTH_LINES)?;
-    assert_eq!(rt; run.out.as_slice(), lines.as_slice());
-    Ok(())
+    expect_code(&rt, rt.alloc(), 2, &BOTH, events, &BOTH_LINES)
 }
 
 /// Of two processes the first claims number 20, and arms the timer with step 17. The other loads from the
@@ -213,12 +198,6 @@ const LOADED_LINES: [&str; 9] = [
 /// The interrupt of a step comes before a death in it.
 #[test]
 fn is_told_before_a_death(rt: HostRuntime) -> Result<(), Fail> {
-    let alloc = rt.alloc();
-    let two = image(alloc, 2, &LOADED)?;
     let events = b"tick 9\ntick 8\npick 2 1\ntick 3\n";
-    let run = trace(alloc, two.as_slice(), events, &[], &[])?;
-    assert_eq!(rt; run.status, Status::Done);
-    let lines = transcript(alloc, &LOADED_LINES)?;
-    assert_eq!(rt; run.out.as_slice(), lines.as_slice());
-    Ok(())
+    expect_code(&rt, rt.alloc(), 2, &LOADED, events, &LOADED_LINES)
 }

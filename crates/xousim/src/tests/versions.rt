@@ -2,13 +2,14 @@
 
 ghost use Rattle.std.specs.Prelude.{◌≡◌, ◌+◌, length, vec_len, IfOk};
 
-use super::{FIRST_IMAGE, Outcome, first_lines, words};
-use crate::status::{Ended, Status};
-use crate::top::xous_main;
+use super::expecting::{expect_bytes, expect_out, expect_status};
+use super::running::{Outcome, SOUND, add_file, run_words, two_files, words};
+use super::{FIRST_IMAGE, first_lines};
+use crate::status::Status;
 use kernel_args::{ArgFault, crc_x25};
 use std::alloc::Global;
+use std::process::Abort;
 use std::test::Fail;
-use xk_ports::{MemHost, MemSink, MemStore};
 
 /// The row of tags of the first run's image in version 2.
 const SECOND_ROW: [u8; 56] = [
@@ -39,48 +40,55 @@ fn image_of(alloc: Global, row: &[u8]) -> Result<Vec<u8>, Fail>
 /// Runs the program with these words on the image `i`, an event file `e` of 100 steps, and one `f` of 64 in which
 /// the process with the greatest pid dies.
 fn call(alloc: Global, image: &[u8], texts: &[&str]) -> Result<Outcome, Fail> {
-    let mut files = Vec::new(alloc);
-    files.push((String::from_str(alloc, "i")?, image.to_vec(alloc)?))?;
-    files.push((String::from_str(alloc, "e")?, b"tick 100".to_vec(alloc)?))?;
-    let last = b"pick 65 2\ntick 64\nkill 65\n";
-    files.push((String::from_str(alloc, "f")?, last.to_vec(alloc)?))?;
-    let mut host = MemHost::new(alloc, files, 4096, Vec::new(alloc), 100)?;
-    let mut out = MemSink::new(alloc, 2000, Vec::new(alloc))?;
-    let mut notes = MemSink::new(alloc, 200, Vec::new(alloc))?;
+    let mut files = two_files(alloc, image, b"tick 100")?;
+    add_file(alloc, &mut files, "f", b"pick 65 2\ntick 64\nkill 65\n")?;
     let words = words(alloc, texts)?;
-    let store = MemStore::new(Vec::new(alloc));
-    let Ended { status, store: _ } = xous_main(
-        alloc,
-        words.as_slice(),
-        &mut host,
-        &mut out,
-        &mut notes,
-        store,
-    );
-    Ok(Outcome {
-        status,
-        out: out.as_slice().to_vec(alloc)?,
-        notes: notes.as_slice().to_vec(alloc)?,
-    })
+    run_words(alloc, words.as_slice(), files, SOUND)
+}
+
+/// The program is done, with these words on this image, and writes this.
+fn expect_done(
+    rt: &impl Abort,
+    alloc: Global,
+    image: &[u8],
+    texts: &[&str],
+    out: &[u8],
+) -> Result<(), Fail> {
+    let run = call(alloc, image, texts)?;
+    expect_out(rt, &run, Status::Done, out);
+    Ok(())
+}
+
+/// The image has this fault, and this note is written.
+fn expect_fault(
+    rt: &impl Abort,
+    alloc: Global,
+    image: &[u8],
+    texts: &[&str],
+    (fault, notes): (ArgFault, &[u8]),
+) -> Result<(), Fail> {
+    let run = call(alloc, image, texts)?;
+    expect_status(rt, run.status, Status::ImageFault(fault));
+    expect_bytes(rt, run.notes.as_slice(), notes);
+    Ok(())
 }
 
 #[test]
 fn first_run_is_converted(rt: HostRuntime) -> Result<(), Fail> {
     let alloc = rt.alloc();
     let second = image_of(alloc, &SECOND_ROW)?;
-    let run = call(alloc, &FIRST_IMAGE, &["convert", "i"])?;
-    assert_eq!(rt; run.status, Status::Done);
-    assert_eq!(rt; run.out.as_slice(), second.as_slice());
-    let run = call(alloc, second.as_slice(), &["convert", "i"])?;
-    assert_eq!(rt; run.status, Status::Done);
-    assert_eq!(rt; run.out.as_slice(), second.as_slice());
-    let run = call(alloc, second.as_slice(), &["trace", "i", "e"])?;
-    assert_eq!(rt; run.status, Status::Done);
+    let second = second.as_slice();
+    expect_done(&rt, alloc, &FIRST_IMAGE, &["convert", "i"], second)?;
+    expect_done(&rt, alloc, second, &["convert", "i"], second)?;
     let lines = first_lines(alloc, "end 100 done")?;
-    assert_eq!(rt; run.out.as_slice(), lines.as_slice());
-    let run = call(alloc, b"", &["convert", "i"])?;
-    assert_eq!(rt; run.status, Status::ImageFault(ArgFault { what: 1, at: 0 }));
-    Ok(())
+    expect_done(&rt, alloc, second, &["trace", "i", "e"], lines.as_slice())
+}
+
+#[test]
+fn no_image_is_converted(rt: HostRuntime) -> Result<(), Fail> {
+    let fault = ArgFault { what: 1, at: 0 };
+    let told = (fault, b"image fault TooShort at 0\n".as_slice());
+    expect_fault(&rt, rt.alloc(), b"", &["convert", "i"], told)
 }
 
 /// A changed byte of the code is found by the check word.
@@ -89,45 +97,27 @@ fn damaged_code_is_no_load(rt: HostRuntime) -> Result<(), Fail> {
     let alloc = rt.alloc();
     let mut damaged = image_of(alloc, &SECOND_ROW)?;
     damaged.as_mut_slice()[56] ^= 1;
-    let run = call(alloc, damaged.as_slice(), &["trace", "i", "e"])?;
-    assert_eq!(rt;
-        run.status,
-        Status::ImageFault(ArgFault { what: 18, at: 2 })
-    );
-    assert_eq!(rt;
-        run.notes.as_slice(),
-        b"image fault BadLoad at 2\n".as_slice()
-    );
-    Ok(())
+    let fault = ArgFault { what: 18, at: 2 };
+    let told = (fault, b"image fault BadLoad at 2\n".as_slice());
+    expect_fault(&rt, alloc, damaged.as_slice(), &["trace", "i", "e"], told)
 }
+
+const PLAN: &[u8] = b"ram 40000000 00017000\n\
+    pid 2 entry 00010000 sections 1 pages 10\n\
+    pages 10 cap 10\n";
 
 /// The image's slots are taken where the words ask for none.
 #[test]
 fn image_gives_slots(rt: HostRuntime) -> Result<(), Fail> {
     let alloc = rt.alloc();
     let image = image_of(alloc, &ROW_WITH_SLOTS)?;
-    let run = call(alloc, image.as_slice(), &["check", "i"])?;
-    assert_eq!(rt;
-        run.out.as_slice(),
-        b"ram 40000000 00017000\n\
-          pid 2 entry 00010000 sections 1 pages 10\n\
-          pages 10 cap 10\n"
-            .as_slice()
-    );
-    let run = call(alloc, image.as_slice(), &["trace", "i", "e"])?;
-    assert_eq!(rt; run.status, Status::Done);
+    let image = image.as_slice();
+    expect_done(&rt, alloc, image, &["check", "i"], PLAN)?;
     let lines = first_lines(alloc, "end 100 done")?;
-    assert_eq!(rt; run.out.as_slice(), lines.as_slice());
-    let run = call(alloc, image.as_slice(), &["trace", "i", "e", "100", "8"])?;
-    assert_eq!(rt;
-        run.status,
-        Status::ImageFault(ArgFault { what: 16, at: 0 })
-    );
-    assert_eq!(rt;
-        run.notes.as_slice(),
-        b"image fault RamTooSmall at 0\n".as_slice()
-    );
-    Ok(())
+    expect_done(&rt, alloc, image, &["trace", "i", "e"], lines.as_slice())?;
+    let fault = ArgFault { what: 16, at: 0 };
+    let told = (fault, b"image fault RamTooSmall at 0\n".as_slice());
+    expect_fault(&rt, alloc, image, &["trace", "i", "e", "100", "8"], told)
 }
 
 /// Appends a tag of five words.
@@ -169,14 +159,10 @@ fn image_of_loops(alloc: Global, count: u8) -> Result<Vec<u8>, Fail> {
 fn most_processes(rt: HostRuntime) -> Result<(), Fail> {
     let alloc = rt.alloc();
     let most = image_of_loops(alloc, 64)?;
-    let run = call(alloc, most.as_slice(), &["trace", "i", "f"])?;
-    assert_eq!(rt; run.status, Status::Done);
-    assert_eq!(rt; run.out.as_slice(), b"64 65 gone\nend 64 done\n".as_slice());
+    let out = b"64 65 gone\nend 64 done\n";
+    expect_done(&rt, alloc, most.as_slice(), &["trace", "i", "f"], out)?;
     let more = image_of_loops(alloc, 65)?;
-    let run = call(alloc, more.as_slice(), &["trace", "i", "f"])?;
-    assert_eq!(rt;
-        run.status,
-        Status::ImageFault(ArgFault { what: 8, at: 1820 })
-    );
-    Ok(())
+    let fault = ArgFault { what: 8, at: 1820 };
+    let told = (fault, b"image fault TooManyProcesses at 1820\n".as_slice());
+    expect_fault(&rt, alloc, more.as_slice(), &["trace", "i", "f"], told)
 }

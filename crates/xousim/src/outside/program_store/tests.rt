@@ -2,12 +2,19 @@
 
 use super::ProgramStore;
 use crate::outside::page_file::RealDisk;
+use crate::tests::expecting::expect_bytes;
 use std::fs;
+use std::process::Abort;
 use std::test::Fail;
 use xk_base::Slot;
 use xk_ports::{StoreFault, SwapStore};
 
 const NAME: &str = "real_store.swap";
+
+/// The bytes of the second slot's page and those behind it.
+fn expect_file(rt: &impl Abort, bytes: &[u8]) {
+    assert!(rt; bytes.len() == 8197 && bytes[4096..8192] == [5; 4096] && bytes[8192..] == [7; 5]);
+}
 
 /// A file that is longer than its two slots gets zeros there, keeps a page at its place and keeps
 /// its tail. The next store over it finds none of that page.
@@ -21,14 +28,12 @@ fn real_store(rt: HostRuntime) -> Result<(), Fail> {
         store.prepare(alloc, 2, Some(NAME))?;
         let mut page = [1; 4096];
         store.get_page(Slot(1), &mut page)?;
-        assert!(rt; page == [0; 4096]);
+        expect_bytes(&rt, &page, &[0; 4096]);
         store.put_page(Slot(1), &[5; 4096])?;
         store.get_page(Slot(0), &mut page)?;
-        assert!(rt; page == [0; 4096]);
+        expect_bytes(&rt, &page, &[0; 4096]);
         let bytes = fs::read(&rt, NAME)?;
-        assert!(rt;
-            bytes.len() == 8197 && bytes[4096..8192] == [5; 4096] && bytes[8192..] == [7; 5]
-        );
+        expect_file(&rt, bytes.as_slice());
     }
     fs::remove_file(&rt, NAME)?;
     Ok(())

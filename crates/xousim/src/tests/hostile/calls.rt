@@ -1,9 +1,10 @@
 //! Each call with arguments at the ends of their ranges.
 
 use crate::status::Status;
+use crate::tests::expecting::expect_status;
 use crate::tests::image::image;
 use crate::tests::lines::push_record;
-use crate::tests::trace;
+use crate::tests::running::trace;
 use std::alloc::Global;
 use std::process::Abort;
 use std::test::Fail;
@@ -301,8 +302,8 @@ fn expect_script(rt: &impl Abort, alloc: Global, mut script: Script) -> Result<(
     push_call(&mut script, [22, 0, 0, 0, 0, 0, 0, 0])?;
     tell(&mut script, What::Gone(Pid(2)))?;
     let image = image(alloc, 1, script.code.as_slice())?;
-    let run = trace(alloc, image.as_slice(), b"tick 10000\n", &[], &[])?;
-    assert_eq!(rt; run.status, Status::Done);
+    let run = trace(alloc, image.as_slice(), b"tick 10000\n")?;
+    expect_status(rt, run.status, Status::Done);
     assert!(rt; run.out.as_slice().starts_with(script.told.as_slice()));
     assert!(rt; run.out.len() < script.told.len() + 20);
     Ok(())

@@ -1,9 +1,11 @@
 //! User code that jumps and stores where it may not, and that changes itself.
 
 use crate::status::Status;
+use crate::tests::FIRST_IMAGE;
+use crate::tests::expecting::{expect_lines, expect_out};
 use crate::tests::image::{image_of, patched};
-use crate::tests::lines::{push_record, transcript};
-use crate::tests::{FIRST_IMAGE, trace, trace_in_pieces};
+use crate::tests::lines::push_record;
+use crate::tests::running::{SOUND, run};
 use std::alloc::Global;
 use std::process::Abort;
 use std::test::Fail;
@@ -293,21 +295,6 @@ fn one_process(
     patched(alloc, image.as_slice(), second)
 }
 
-/// The run of this image over these events has just these lines.
-pub fn expect_lines(
-    rt: &impl Abort,
-    alloc: Global,
-    image: &[u8],
-    events: &[u8],
-    lines: &[&str],
-) -> Result<(), Fail> {
-    let run = trace(alloc, image, events, &[], &[])?;
-    assert_eq!(rt; run.status, Status::Done);
-    let lines = transcript(alloc, lines)?;
-    assert_eq!(rt; run.out.as_slice(), lines.as_slice());
-    Ok(())
-}
-
 fn expect_cases(
     rt: &impl Abort,
     alloc: Global,
@@ -350,15 +337,23 @@ fn ends_of_uses(alloc: Global, steps: u32, cause: u8, last: &str) -> Result<Vec<
     Ok(text)
 }
 
+fn expect_ends_of_uses(
+    rt: &impl Abort,
+    alloc: Global,
+    (word, steps, cause, last): (u32, u32, u8, &str),
+) -> Result<(), Fail> {
+    let image = image_of_uses(alloc, word)?;
+    let texts = ["trace", "i", "e"];
+    let run = run(alloc, &texts, image.as_slice(), b"tick 100\n", SOUND)?;
+    let lines = ends_of_uses(alloc, steps, cause, last)?;
+    expect_out(rt, &run, Status::Done, lines.as_slice());
+    Ok(())
+}
+
 #[test]
 fn pages_that_are_not_there(rt: HostRuntime) -> Result<(), Fail> {
-    let alloc = rt.alloc();
-    for (word, steps, cause, last) in USES {
-        let image = image_of_uses(alloc, word)?;
-        let run = trace_in_pieces(alloc, 4096, image.as_slice(), b"tick 100\n", &[], &[])?;
-        let lines = ends_of_uses(alloc, steps, cause, last)?;
-        assert_eq!(rt; run.status, Status::Done);
-        assert_eq!(rt; run.out.as_slice(), lines.as_slice());
+    for of_use in USES {
+        expect_ends_of_uses(&rt, rt.alloc(), of_use)?;
     }
     Ok(())
 }

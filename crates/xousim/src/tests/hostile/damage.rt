@@ -1,9 +1,11 @@
 //! Damaged images, each with the fault that the rules name and its place.
 
-use super::failing::{Files, NOTHING, run};
+use super::failing::NOTHING;
 use crate::status::Status;
 use crate::tests::FIRST_IMAGE;
+use crate::tests::expecting::{expect_bytes, expect_number, expect_status};
 use crate::tests::image::patched;
+use crate::tests::running::{Outcome, run};
 use kernel_args::crc_x25;
 use std::alloc::Global;
 use std::process::Abort;
@@ -280,23 +282,24 @@ fn put_check(image: &mut [u8], tag: u16) -> Result<(), Fail> {
 }
 
 /// `check` of the image tells this fault, or none where there is no text.
-fn expect_fault(rt: &impl Abort, alloc: Global, image: Vec<u8>, fault: &str) -> Result<(), Fail> {
-    let files = Files {
-        image,
-        events: Vec::new(alloc),
-    };
-    let run = run(alloc, &["check", "i"], &files, NOTHING)?;
+fn expect_fault(rt: &impl Abort, alloc: Global, image: &[u8], fault: &str) -> Result<(), Fail> {
+    let run = run(alloc, &["check", "i"], image, b"", NOTHING)?;
     if fault.is_empty() {
-        assert_eq!(rt; run.status, Status::Done);
-        assert!(rt; run.notes.is_empty());
+        expect_status(rt, run.status, Status::Done);
+        expect_bytes(rt, run.notes.as_slice(), b"");
         return Ok(());
     }
+    expect_note(rt, alloc, &run, fault)
+}
+
+/// The note of this fault, and nothing else.
+fn expect_note(rt: &impl Abort, alloc: Global, run: &Outcome, fault: &str) -> Result<(), Fail> {
     let mut note = b"image fault ".to_vec(alloc)?;
     note.extend_from_slice(fault.as_bytes())?;
     note.push(b'\n')?;
-    assert_eq!(rt; run.status.number(), 5);
-    assert_eq!(rt; run.notes.as_slice(), note.as_slice());
-    assert!(rt; run.out.is_empty());
+    expect_number(rt, run.status, 5);
+    expect_bytes(rt, run.out.as_slice(), b"");
+    expect_bytes(rt, run.notes.as_slice(), note.as_slice());
     Ok(())
 }
 
@@ -307,7 +310,7 @@ fn expect_faults(rt: &impl Abort, alloc: Global, table: &Table) -> Result<(), Fa
         if let Some(tag) = table.tag {
             put_check(damaged.as_mut_slice(), tag)?;
         }
-        expect_fault(rt, alloc, damaged, fault)?;
+        expect_fault(rt, alloc, damaged.as_slice(), fault)?;
     }
     Ok(())
 }
@@ -343,7 +346,7 @@ fn expect_cuts(rt: &impl Abort, alloc: Global, cuts: Cuts) -> Result<(), Fail> {
         let Some(front) = image.get(..4 * usize::from(words)) else {
             return Err(Fail::from("no such front"));
         };
-        expect_fault(rt, alloc, front.to_vec(alloc)?, fault)?;
+        expect_fault(rt, alloc, front, fault)?;
     }
     Ok(())
 }
@@ -387,15 +390,22 @@ fn repeated(alloc: Global, from: usize, count: u8) -> Result<Vec<u8>, Fail> {
     Ok(image)
 }
 
+fn expect_repeated(
+    rt: &impl Abort,
+    alloc: Global,
+    (from, words, count, fault): Repeated,
+) -> Result<(), Fail> {
+    let rows = repeated(alloc, from, count)?;
+    let mut image = patched(alloc, rows.as_slice(), words)?;
+    put_check(image.as_mut_slice(), 28)?;
+    put_check(image.as_mut_slice(), 0)?;
+    expect_fault(rt, alloc, image.as_slice(), fault)
+}
+
 #[test]
 fn counts_at_their_greatest(rt: HostRuntime) -> Result<(), Fail> {
-    let alloc = rt.alloc();
-    for (from, words, count, fault) in REPEATED {
-        let rows = repeated(alloc, from, count)?;
-        let mut image = patched(alloc, rows.as_slice(), words)?;
-        put_check(image.as_mut_slice(), 28)?;
-        put_check(image.as_mut_slice(), 0)?;
-        expect_fault(&rt, alloc, image, fault)?;
+    for row in REPEATED {
+        expect_repeated(&rt, rt.alloc(), row)?;
     }
     Ok(())
 }

@@ -1,12 +1,12 @@
 //! User code at the ends of windows and of runs that are lent.
 
-use super::code::{TO_T0, expect_lines};
-use crate::status::Status;
+use super::code::TO_T0;
+use crate::tests::expecting::{expect_last_lines, expect_lines};
 use crate::tests::image::{image_of, patched};
-use crate::tests::lines::transcript;
 use crate::tests::programs::PAGE;
-use crate::tests::trace;
+use crate::tests::running::trace;
 use std::alloc::Global;
+use std::process::Abort;
 use std::test::Fail;
 
 /// LUI a1, 0.
@@ -150,20 +150,27 @@ const LINES: [&str; 55] = [
     "end 111 done",
 ];
 
-#[test]
-fn ends_of_windows(rt: HostRuntime) -> Result<(), Fail> {
-    let alloc = rt.alloc();
+fn code_of(alloc: Global, (size, start, address, rest): Act) -> Result<Vec<u32>, Fail> {
+    let mut code = [TO_A1 | size].to_vec(alloc)?;
+    code.extend_from_slice(start)?;
+    code.push(TO_T0 | address)?;
+    code.extend_from_slice(&rest)?;
+    Ok(code)
+}
+
+fn image_of_acts(alloc: Global) -> Result<Vec<u8>, Fail> {
     let mut codes = Vec::new(alloc);
-    for (size, start, address, rest) in ACTS {
-        let mut code = [TO_A1 | size].to_vec(alloc)?;
-        code.extend_from_slice(start)?;
-        code.push(TO_T0 | address)?;
-        code.extend_from_slice(&rest)?;
-        codes.push(code)?;
+    for act in ACTS {
+        codes.push(code_of(alloc, act)?)?;
     }
     let whole = image_of(alloc, codes.as_slice())?;
-    let image = patched(alloc, whole.as_slice(), &MUCH_RAM)?;
-    expect_lines(&rt, alloc, image.as_slice(), b"tick 300\n", &LINES)
+    patched(alloc, whole.as_slice(), &MUCH_RAM)
+}
+
+#[test]
+fn ends_of_windows(rt: HostRuntime) -> Result<(), Fail> {
+    let image = image_of_acts(rt.alloc())?;
+    expect_lines(&rt, rt.alloc(), image.as_slice(), b"tick 300\n", &LINES)
 }
 
 /// A server receives.
@@ -331,15 +338,16 @@ fn lent_image(alloc: Global, kind: u32, acts: &[u32]) -> Result<Vec<u8>, Fail> {
     image_of(alloc, codes.as_slice())
 }
 
+fn expect_lent(rt: &impl Abort, alloc: Global, case: &LentCase) -> Result<(), Fail> {
+    let image = lent_image(alloc, case.kind, case.acts)?;
+    let run = trace(alloc, image.as_slice(), case.events)?;
+    expect_last_lines(rt, alloc, &run, case.lines)
+}
+
 #[test]
 fn ends_of_lent_runs(rt: HostRuntime) -> Result<(), Fail> {
-    let alloc = rt.alloc();
     for case in &LENT {
-        let image = lent_image(alloc, case.kind, case.acts)?;
-        let run = trace(alloc, image.as_slice(), case.events, &[], &[])?;
-        let lines = transcript(alloc, case.lines)?;
-        assert_eq!(rt; run.status, Status::Done);
-        assert!(rt; run.out.as_slice().ends_with(lines.as_slice()));
+        expect_lent(&rt, rt.alloc(), case)?;
     }
     Ok(())
 }

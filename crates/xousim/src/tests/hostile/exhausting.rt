@@ -1,9 +1,10 @@
 //! Processes that take all that there is.
 
-use crate::status::Status;
+use crate::tests::expecting::expect_last_lines;
 use crate::tests::image::{image_of, patched};
-use crate::tests::lines::transcript;
-use crate::tests::trace;
+use crate::tests::running::trace;
+use std::alloc::Global;
+use std::process::Abort;
 use std::test::Fail;
 
 /// A process takes pages, threads, servers with their connections, and slots, each until it is refused,
@@ -163,20 +164,30 @@ const TAILS: [Tail; 6] = [
     ),
 ];
 
-#[test]
-fn all_is_taken(rt: HostRuntime) -> Result<(), Fail> {
-    let alloc = rt.alloc();
+fn image_of_takers(alloc: Global) -> Result<Vec<u8>, Fail> {
     let mut codes = Vec::new(alloc);
     codes.push(TAKER.to_vec(alloc)?)?;
     codes.push(MAKER.to_vec(alloc)?)?;
     codes.push(LATE.to_vec(alloc)?)?;
     let whole = image_of(alloc, codes.as_slice())?;
-    let image = patched(alloc, whole.as_slice(), &FEW_FRAMES)?;
-    for (events, lines) in TAILS {
-        let run = trace(alloc, image.as_slice(), events, &[], &[])?;
-        let lines = transcript(alloc, lines)?;
-        assert_eq!(rt; run.status, Status::Done);
-        assert!(rt; run.out.as_slice().ends_with(lines.as_slice()));
+    patched(alloc, whole.as_slice(), &FEW_FRAMES)
+}
+
+fn expect_tail(
+    rt: &impl Abort,
+    alloc: Global,
+    image: &[u8],
+    (events, lines): Tail,
+) -> Result<(), Fail> {
+    let run = trace(alloc, image, events)?;
+    expect_last_lines(rt, alloc, &run, lines)
+}
+
+#[test]
+fn all_is_taken(rt: HostRuntime) -> Result<(), Fail> {
+    let image = image_of_takers(rt.alloc())?;
+    for tail in TAILS {
+        expect_tail(&rt, rt.alloc(), image.as_slice(), tail)?;
     }
     Ok(())
 }

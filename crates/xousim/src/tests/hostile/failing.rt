@@ -1,94 +1,66 @@
 //! Each call of the host and of the output fails in turn, over a page that is lent and returned.
 
-use crate::status::{Ended, Status};
+use crate::status::Status;
+use crate::tests::FIRST_IMAGE;
+use crate::tests::expecting::{
+    expect_bytes, expect_out, expect_outcome, expect_status, expect_transcript,
+};
 use crate::tests::image::patched;
 use crate::tests::lends::{LENDER, LENT_AND_RETURNED, READER};
 use crate::tests::lines::transcript;
 use crate::tests::programs::{Act, image_of_programs};
-use crate::tests::{FIRST_IMAGE, Outcome, words};
-use crate::top::xous_main;
+use crate::tests::running::{Outcome, Outside, run};
 use std::alloc::Global;
 use std::process::Abort;
 use std::test::Fail;
-use xk_ports::{MemHost, MemSink, MemStore};
 
-/// Both files come in pieces of this many bytes.
-const PIECE: usize = 1000;
-
-/// The image and the event file.
-#[derive(Drop)]
-pub struct Files {
-    pub image: Vec<u8>,
-    pub events: Vec<u8>,
-}
-
-/// The call of the host, of the output and of the notes that fails, or 0 for none.
-#[derive(Clone, Copy, Debug)]
-pub struct Failing {
-    pub host: u64,
-    pub out: u64,
-    pub notes: u64,
-}
-
-pub const NOTHING: Failing = Failing {
+/// Both files come in pieces of 1,000 bytes, and no call fails.
+pub const NOTHING: Outside = Outside {
+    piece: 1000,
     host: 0,
     out: 0,
     notes: 0,
+    store: 0,
 };
 
-fn only(alloc: Global, call: u64) -> Result<Vec<u64>, Fail> {
-    let mut fails = Vec::new(alloc);
-    fails.push(call)?;
-    Ok(fails)
+/// The image and the event file.
+#[derive(Drop)]
+struct Files {
+    image: Vec<u8>,
+    events: Vec<u8>,
 }
 
 /// Runs the program with these words on the files `i` and `e`.
-pub fn run(
+fn run_over(
     alloc: Global,
     texts: &[&str],
-    given: &Files,
-    failing: Failing,
+    files: &Files,
+    outside: Outside,
 ) -> Result<Outcome, Fail> {
-    let mut files = Vec::new(alloc);
-    files.push((String::from_str(alloc, "i")?, given.image.to_vec(alloc)?))?;
-    files.push((String::from_str(alloc, "e")?, given.events.to_vec(alloc)?))?;
-    let mut host = MemHost::new(alloc, files, PIECE, only(alloc, failing.host)?, 100)?;
-    let mut out = MemSink::new(alloc, 5000, only(alloc, failing.out)?)?;
-    let mut notes = MemSink::new(alloc, 100, only(alloc, failing.notes)?)?;
-    let words = words(alloc, texts)?;
-    let store = MemStore::new(Vec::new(alloc));
-    let Ended { status, store: _ } = xous_main(
-        alloc,
-        words.as_slice(),
-        &mut host,
-        &mut out,
-        &mut notes,
-        store,
-    );
-    Ok(Outcome {
-        status,
-        out: out.as_slice().to_vec(alloc)?,
-        notes: notes.as_slice().to_vec(alloc)?,
-    })
+    let (image, events) = (files.image.as_slice(), files.events.as_slice());
+    run(alloc, texts, image, events, outside)
 }
 
 /// RAM of 512 frames, so that a run is short.
 const SMALL_RAM: [(u16, u32); 2] = [(20, 0x0020_0000), (4, 0x0005_7553)];
 
-/// A page is lent and returned. The image has 4,172 bytes. The event file has 1,257: its second event
-/// is whole with the second piece, behind 31 lines that are none.
-fn lend_and_return(alloc: Global) -> Result<Files, Fail> {
-    let processes: [[&[Act]; 2]; 2] = [[&READER, &[]], [&LENDER, &[]]];
+fn far_events(alloc: Global) -> Result<Vec<u8>, Fail> {
     let mut events = b"tick 126\n".to_vec(alloc)?;
     for _ in 0..31 {
         events.extend_from_slice(b"# between the return and the next store\n")?;
     }
     events.extend_from_slice(b"tick 24\n")?;
+    Ok(events)
+}
+
+/// A page is lent and returned. The image has 4,172 bytes. The event file has 1,257: its second event
+/// is whole with the second piece, behind 31 lines that are none.
+fn lend_and_return(alloc: Global) -> Result<Files, Fail> {
+    let processes: [[&[Act]; 2]; 2] = [[&READER, &[]], [&LENDER, &[]]];
     let image = image_of_programs(alloc, &processes)?;
-    Ok(Files {
-        image: patched(alloc, image.as_slice(), &SMALL_RAM)?,
-        events,
-    })
+    let image = patched(alloc, image.as_slice(), &SMALL_RAM)?;
+    let events = far_events(alloc)?;
+    Ok(Files { image, events })
 }
 
 /// A command, what it writes, and how many lines of that stand there after each call of the host that fails.
@@ -168,11 +140,25 @@ fn expect_done(
     files: &Files,
     command: &Command,
 ) -> Result<(), Fail> {
-    let run = run(alloc, command.words, files, NOTHING)?;
-    assert_eq!(rt; run.status, Status::Done);
-    assert_eq!(rt;
-        run.out.as_slice(),
-        transcript(alloc, command.lines)?.as_slice()
+    let run = run_over(alloc, command.words, files, NOTHING)?;
+    expect_transcript(rt, alloc, &run, command.lines)
+}
+
+/// This call of the host fails: there stand these lines.
+fn expect_read_fault(
+    rt: &impl Abort,
+    alloc: Global,
+    files: &Files,
+    (words, host, lines): (&[&str], u64, &[&str]),
+) -> Result<(), Fail> {
+    let run = run_over(alloc, words, files, Outside { host, ..NOTHING })?;
+    let told = transcript(alloc, lines)?;
+    expect_outcome(
+        rt,
+        &run,
+        Status::ReadFault,
+        told.as_slice(),
+        b"read fault\n",
     );
     Ok(())
 }
@@ -185,23 +171,26 @@ fn expect_read_faults(
     command: &Command,
 ) -> Result<(), Fail> {
     for (before, told) in command.told.iter().enumerate() {
-        let failing = Failing {
-            host: before as u64 + 1,
-            ..NOTHING
-        };
-        let run = run(alloc, command.words, files, failing)?;
         let Some(lines) = command.lines.get(..*told) else {
             return Err(Fail::from("no such lines"));
         };
-        assert_eq!(rt; run.status, Status::ReadFault, "call {}", failing.host);
-        assert_eq!(rt; run.out.as_slice(), transcript(alloc, lines)?.as_slice());
-        assert_eq!(rt; run.notes.as_slice(), b"read fault\n".as_slice());
+        let fault = (command.words, before as u64 + 1, lines);
+        expect_read_fault(rt, alloc, files, fault)?;
     }
     Ok(())
 }
 
 /// More writes than a run has.
 const WRITES: u64 = 100;
+
+/// This write fails: there stands a part of the whole.
+fn expect_write_fault(rt: &impl Abort, run: &Outcome, out: u64, whole: &[u8]) {
+    let told = run.out.as_slice();
+    expect_status(rt, run.status, Status::WriteFault);
+    expect_bytes(rt, run.notes.as_slice(), b"write fault\n");
+    assert!(rt; whole.starts_with(told));
+    assert!(rt; out > 1 || told.is_empty());
+}
 
 /// Each write fails, as long as there is one that can: there stands a part from the front. How the text
 /// is cut into writes is no rule, so no more is expected.
@@ -213,15 +202,12 @@ fn expect_write_faults(
 ) -> Result<(), Fail> {
     let whole = transcript(alloc, command.lines)?;
     for out in 1..WRITES {
-        let run = run(alloc, command.words, files, Failing { out, ..NOTHING })?;
+        let run = run_over(alloc, command.words, files, Outside { out, ..NOTHING })?;
         if run.status == Status::Done {
-            assert_eq!(rt; run.out.as_slice(), whole.as_slice());
+            expect_bytes(rt, run.out.as_slice(), whole.as_slice());
             return Ok(());
         }
-        assert_eq!(rt; run.status, Status::WriteFault);
-        assert!(rt; whole.as_slice().starts_with(run.out.as_slice()));
-        assert!(rt; out > 1 || run.out.is_empty());
-        assert_eq!(rt; run.notes.as_slice(), b"write fault\n".as_slice());
+        expect_write_fault(rt, &run, out, whole.as_slice());
     }
     Err(Fail::from("more writes than expected"))
 }
@@ -247,49 +233,98 @@ fn each_write_fails(rt: HostRuntime) -> Result<(), Fail> {
     Ok(())
 }
 
-/// The image is picked and read as above. A write that fails leaves nothing.
-#[test]
-fn a_conversion_fails(rt: HostRuntime) -> Result<(), Fail> {
-    let alloc = rt.alloc();
-    let files = lend_and_return(alloc)?;
-    for host in 1..=7 {
-        let run = run(
-            alloc,
-            &["convert", "i"],
-            &files,
-            Failing { host, ..NOTHING },
-        )?;
-        assert_eq!(rt; run.status, Status::ReadFault);
-        assert_eq!(rt; run.out.as_slice(), b"".as_slice());
-    }
-    let failing = Failing { out: 1, ..NOTHING };
-    let run = run(alloc, &["convert", "i"], &files, failing)?;
-    assert_eq!(rt; run.status, Status::WriteFault);
-    assert_eq!(rt; run.out.as_slice(), b"".as_slice());
+/// The status and the output of this command where a call fails.
+fn expect_fault(
+    rt: &impl Abort,
+    alloc: Global,
+    files: &Files,
+    (words, outside): (&[&str], Outside),
+    (status, out): (Status, &[u8]),
+) -> Result<(), Fail> {
+    let run = run_over(alloc, words, files, outside)?;
+    expect_out(rt, &run, status, out);
     Ok(())
+}
+
+/// The image is picked and read as above.
+#[test]
+fn a_conversion_reads_and_fails(rt: HostRuntime) -> Result<(), Fail> {
+    let files = lend_and_return(rt.alloc())?;
+    for host in 1..=7 {
+        let call: (&[&str], Outside) = (&["convert", "i"], Outside { host, ..NOTHING });
+        expect_fault(&rt, rt.alloc(), &files, call, (Status::ReadFault, b""))?;
+    }
+    Ok(())
+}
+
+/// A write that fails leaves nothing.
+fn expect_no_output(
+    rt: &impl Abort,
+    alloc: Global,
+    files: &Files,
+    words: &[&str],
+) -> Result<(), Fail> {
+    let call = (words, Outside { out: 1, ..NOTHING });
+    expect_fault(rt, alloc, files, call, (Status::WriteFault, b""))
+}
+
+#[test]
+fn a_conversion_writes_and_fails(rt: HostRuntime) -> Result<(), Fail> {
+    let files = lend_and_return(rt.alloc())?;
+    expect_no_output(&rt, rt.alloc(), &files, &["convert", "i"])
+}
+
+/// The first run's image, and these events.
+fn first_run_over_far_events(alloc: Global) -> Result<Files, Fail> {
+    let image = FIRST_IMAGE.to_vec(alloc)?;
+    let events = far_events(alloc)?;
+    Ok(Files { image, events })
 }
 
 /// The byte of the first run, which comes with the first piece of the events. The first call picks the
 /// image, the second reads it, the third finds its end, and the fourth picks the event file.
 #[test]
 fn a_read_fails_after_a_byte(rt: HostRuntime) -> Result<(), Fail> {
-    let alloc = rt.alloc();
-    let mut files = lend_and_return(alloc)?;
-    files.image = FIRST_IMAGE.to_vec(alloc)?;
-    let told: [&[u8]; 7] = [b"", b"", b"", b"", b"", b"h", b"h"];
-    for (before, told) in told.iter().enumerate() {
-        let failing = Failing {
-            host: before as u64 + 1,
-            ..NOTHING
-        };
-        let run = run(alloc, &["run", "i", "e"], &files, failing)?;
-        assert_eq!(rt; run.status, Status::ReadFault);
-        assert_eq!(rt; run.out.as_slice(), *told);
+    let files = first_run_over_far_events(rt.alloc())?;
+    let told: [(u64, &[u8]); 7] = [
+        (1, b""),
+        (2, b""),
+        (3, b""),
+        (4, b""),
+        (5, b""),
+        (6, b"h"),
+        (7, b"h"),
+    ];
+    for (host, told) in told {
+        let call: (&[&str], Outside) = (&["run", "i", "e"], Outside { host, ..NOTHING });
+        expect_fault(&rt, rt.alloc(), &files, call, (Status::ReadFault, told))?;
     }
-    let failing = Failing { out: 1, ..NOTHING };
-    let run = run(alloc, &["run", "i", "e"], &files, failing)?;
-    assert_eq!(rt; run.status, Status::WriteFault);
-    assert_eq!(rt; run.out.as_slice(), b"".as_slice());
+    Ok(())
+}
+
+#[test]
+fn a_write_fails_at_a_byte(rt: HostRuntime) -> Result<(), Fail> {
+    let files = first_run_over_far_events(rt.alloc())?;
+    expect_no_output(&rt, rt.alloc(), &files, &["run", "i", "e"])
+}
+
+/// The status where the notes fail too.
+fn expect_without_notes(
+    rt: &impl Abort,
+    alloc: Global,
+    words: &[&str],
+    host: u64,
+    status: Status,
+) -> Result<(), Fail> {
+    let files = lend_and_return(alloc)?;
+    let outside = Outside {
+        host,
+        notes: 1,
+        ..NOTHING
+    };
+    let run = run_over(alloc, words, &files, outside)?;
+    expect_status(rt, run.status, status);
+    expect_bytes(rt, run.notes.as_slice(), b"");
     Ok(())
 }
 
@@ -297,23 +332,10 @@ fn a_read_fails_after_a_byte(rt: HostRuntime) -> Result<(), Fail> {
 #[test]
 fn notes_fail(rt: HostRuntime) -> Result<(), Fail> {
     let alloc = rt.alloc();
-    let files = lend_and_return(alloc)?;
-    let rows: [(&[&str], u64, Status); 3] = [
-        (&["trace", "i", "e", "149"], 0, Status::StepLimit(149)),
-        (&["run", "i", "e"], 10, Status::ReadFault),
-        (&["trace", "i"], 0, Status::Usage),
-    ];
-    for (words, host, status) in rows {
-        let failing = Failing {
-            host,
-            out: 0,
-            notes: 1,
-        };
-        let run = run(alloc, words, &files, failing)?;
-        assert_eq!(rt; run.status, status);
-        assert_eq!(rt; run.notes.as_slice(), b"".as_slice());
-    }
-    Ok(())
+    let limit = Status::StepLimit(149);
+    expect_without_notes(&rt, alloc, &["trace", "i", "e", "149"], 0, limit)?;
+    expect_without_notes(&rt, alloc, &["run", "i", "e"], 10, Status::ReadFault)?;
+    expect_without_notes(&rt, alloc, &["trace", "i"], 0, Status::Usage)
 }
 
 /// The limit comes while a process waits for its page.
@@ -321,10 +343,9 @@ fn notes_fail(rt: HostRuntime) -> Result<(), Fail> {
 fn limit_during_a_loan(rt: HostRuntime) -> Result<(), Fail> {
     let alloc = rt.alloc();
     let files = lend_and_return(alloc)?;
-    let run = run(alloc, &["trace", "i", "e", "100"], &files, NOTHING)?;
-    assert_eq!(rt; run.status, Status::StepLimit(100));
     let mut told = transcript(alloc, &LENT_AND_RETURNED[..9])?;
     told.extend_from_slice(b"end 100 limit\n")?;
-    assert_eq!(rt; run.out.as_slice(), told.as_slice());
-    Ok(())
+    let words: [&str; 4] = ["trace", "i", "e", "100"];
+    let left = (Status::StepLimit(100), told.as_slice());
+    expect_fault(&rt, alloc, &files, (&words, NOTHING), left)
 }

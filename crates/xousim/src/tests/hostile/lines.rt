@@ -1,9 +1,11 @@
 //! Bad event lines, each with its number.
 
 use crate::status::Status;
+use crate::tests::expecting::expect_out;
 use crate::tests::image::patched;
 use crate::tests::lines::transcript;
-use crate::tests::{FIRST_IMAGE, FIRST_RECORDS, Outcome, trace};
+use crate::tests::running::{Outcome, trace};
+use crate::tests::{FIRST_IMAGE, FIRST_RECORDS};
 use std::alloc::Global;
 use std::process::Abort;
 use std::test::Fail;
@@ -72,7 +74,7 @@ fn play(alloc: Global, image: &[u8], texts: &[&str]) -> Result<Outcome, Fail> {
     for text in texts {
         events.extend_from_slice(text.as_bytes())?;
     }
-    trace(alloc, image, events.as_slice(), &[], &[])
+    trace(alloc, image, events.as_slice())
 }
 
 /// Texts before and behind a bad line, the number of the bad line, and how many of the first run's
@@ -98,8 +100,8 @@ fn expect_bad(
         return Err(Fail::from("no such records"));
     };
     let run = play(alloc, image, &[before, line, behind])?;
-    assert_eq!(rt; run.status, Status::EventFault(number));
-    assert_eq!(rt; run.out.as_slice(), transcript(alloc, records)?.as_slice());
+    let told = transcript(alloc, records)?;
+    expect_out(rt, &run, Status::EventFault(number), told.as_slice());
     assert!(rt; run.notes.as_slice().starts_with(b"event fault at line "));
     Ok(())
 }
@@ -126,15 +128,19 @@ fn bad_event_lines(rt: HostRuntime) -> Result<(), Fail> {
     Ok(())
 }
 
+fn expect_good(rt: &impl Abort, alloc: Global, image: &[u8], line: &str) -> Result<(), Fail> {
+    let run = play(alloc, image, &["kill 2\n", line, "\n", line])?;
+    expect_out(rt, &run, Status::Done, b"0 2 gone\nend 0 done\n");
+    Ok(())
+}
+
 /// Each behind the end of the only process, and again as the last line without its line feed.
 #[test]
 fn good_event_lines(rt: HostRuntime) -> Result<(), Fail> {
     let alloc = rt.alloc();
     let image = patched(alloc, &FIRST_IMAGE, &SMALL_RAM)?;
     for line in GOOD_LINES {
-        let run = play(alloc, image.as_slice(), &["kill 2\n", line, "\n", line])?;
-        assert_eq!(rt; run.status, Status::Done, "{}", line);
-        assert_eq!(rt; run.out.as_slice(), b"0 2 gone\nend 0 done\n".as_slice());
+        expect_good(&rt, alloc, image.as_slice(), line)?;
     }
     Ok(())
 }

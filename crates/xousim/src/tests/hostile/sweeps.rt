@@ -2,9 +2,10 @@
 
 use super::calls::{CALLER, VALUES};
 use crate::status::Status;
+use crate::tests::expecting::expect_status;
 use crate::tests::image::image_of;
 use crate::tests::programs::{HEAP, PAGE};
-use crate::tests::trace;
+use crate::tests::running::trace;
 use std::alloc::Global;
 use std::process::Abort;
 use std::test::Fail;
@@ -148,6 +149,12 @@ fn count(text: &[u8], part: &[u8; 10]) -> usize {
         .count()
 }
 
+/// So many calls have a reply, and one has none.
+fn expect_each(rt: &impl Abort, out: &[u8], replies: usize) {
+    assert_eq!(rt; count(out, b" 2.2 reply"), replies);
+    assert_eq!(rt; count(out, b" 2.2 call "), replies.wrapping_add(1));
+}
+
 /// Each of the calls has one reply, and the process ends by itself.
 fn expect_replies(rt: &impl Abort, alloc: Global, exit: u32, calls: &[u32]) -> Result<(), Fail> {
     let mut code = CALLER.to_vec(alloc)?;
@@ -158,14 +165,9 @@ fn expect_replies(rt: &impl Abort, alloc: Global, exit: u32, calls: &[u32]) -> R
     codes.push(SERVING.to_vec(alloc)?)?;
     let image = image_of(alloc, codes.as_slice())?;
     let events = b"pick 3 2\ntick 12\npick 2 2\ntick 10000\n";
-    let run = trace(alloc, image.as_slice(), events, &[], &[])?;
-    assert_eq!(rt; run.status, Status::Done);
-    let replies = count(run.out.as_slice(), b" 2.2 reply");
-    assert_eq!(rt; replies, calls.len() / 8);
-    assert_eq!(rt;
-        count(run.out.as_slice(), b" 2.2 call "),
-        replies.wrapping_add(1)
-    );
+    let run = trace(alloc, image.as_slice(), events)?;
+    expect_status(rt, run.status, Status::Done);
+    expect_each(rt, run.out.as_slice(), calls.len() / 8);
     Ok(())
 }
 

@@ -1,5 +1,5 @@
 use Rattle.std.proofs.Common.{refl, inr}
-use Rattle.xousim.proofs.Images.StartingLemmas.{asked_on, begins, room_is, rose_before, start_full, starts_at_zero}
+use Rattle.xousim.proofs.Images.StartingLemmas.{asked_on, begins, room_is, rose_before, start_full, starts_at_zero, starts_unreserved}
 use Rattle.xousim.proofs.commands.booting.start_run.Goals as goal
 
 pub returns-in-Ok-boot-clause-begins : goal.returns-in-Ok-boot-clause-begins
@@ -9,6 +9,10 @@ returns-in-Ok-boot-clause-begins g c = λ text.
 
 pub returns-in-Ok-boot-clause-steps : goal.returns-in-Ok-boot-clause-steps
 returns-in-Ok-boot-clause-steps g c = starts_at_zero g.W.SwapStore.held _ c.in-Ok-boot.kernel c.args.plan.now c.args.file.now c.in-Ok-boot.ensures.start
+
+pub returns-in-Ok-boot-clause-unreserved : goal.returns-in-Ok-boot-clause-unreserved
+returns-in-Ok-boot-clause-unreserved g c =
+    starts_unreserved g.W.SwapStore.held _ c.in-Ok-boot.kernel c.args.plan.now c.args.file.now c.in-Ok-boot.ensures.start
 
 pub returns-in-Err-SwapFault-clause-stopped : goal.returns-in-Err-SwapFault-clause-stopped
 returns-in-Err-SwapFault-clause-stopped g c =

@@ -33,3 +33,12 @@ returns-in-Err-clause-goes g c = λ start begun taken p.
     let P : List ℕ → Type 0 = λ held. HasPlayed run taken c.args.reader.now (stand g.W.SwapStore.is_honest g.W.SwapStore.held c.args.kernel.now (text (g.K.Sink.written c.args.out.now) held)) in
     let q : P c.new-held.result.items = subst P (sym c.new-held.ensures) p in
     c.put_before.ensures.fails run taken c.args.reader.now.finished now refl (c.in-Err.ensures.goes start begun taken q)
+
+pub returns-in-Ok-put_held-clause-near : goal.returns-in-Ok-put_held-clause-near
+returns-in-Ok-put_held-clause-near g c = λ start begun taken e p.
+    let run = run_from c.args.tells c.args.limit start begun in
+    let out = g.K.Sink.written c.args.out.now in
+    let old : List ℕ → Stand = λ held. stand g.W.SwapStore.is_honest g.W.SwapStore.held c.args.kernel.now (text out held) in
+    let P : List ℕ → Type 0 = λ held. HasPlayed run taken c.args.reader.now (old held) in
+    let q : P c.new-held.result.items = subst P (sym c.new-held.ensures) p in
+    c.in-Ok.ensures.near start begun taken e q

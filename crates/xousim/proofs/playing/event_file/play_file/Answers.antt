@@ -1,16 +1,19 @@
-use Rattle.std.proofs.Common.{◌≡◌, ◌∙◌, ◌≤◌, ◌+◌, ◌++◌, subst, sym, ap, refl, false, List, [], length, Option, ℕ, Ok, take, arith}
+use Rattle.std.proofs.Common.{◌≡◌, ◌∙◌, ◌≤◌, ◌+◌, ◌++◌, subst, sym, ap, refl, false, List, [], length, Option, Some, ℕ, Result, Ok, take, arith}
 use Rattle.event_text.specs.Held.{Reader, IsWaiting, new_reader}
 use Rattle.event_text.proofs.HeldLemmas.{front_empty}
 use Rattle.xk_base.specs.declared.limits.TheConstants.{EVENT_FILE_LIMIT}
 use Rattle.xk_ports.specs.Told.{Consumes}
 use Rattle.xk_ports.specs.declared.host.FileSlot.TheVariants.{Second}
 use Rattle.xousim.specs.declared.playing.ending.Ending.{Ending}
+use Rattle.xousim.specs.declared.playing.ending.Ending.TheVariants.{Played}
+use Rattle.xousim.specs.declared.playing.event_file.RunFault.{RunFault}
 use Rattle.xousim.specs.declared.playing.events.PlayFault.{PlayFault}
 use Rattle.xousim.specs.Gathering.{put}
 use Rattle.xousim.specs.Playing.{FailsSo, Goes, HasPlayed, run_from}
 use Rattle.xousim.specs.Standing.{Stand, stand}
 use Rattle.xousim.proofs.Reading.FileLemmas.{runs_ended, runs_swapped, runs_unwritten, told_all}
 use Rattle.xousim.proofs.Outcome.KeptLemmas.{kept_after, kept_same}
+use Rattle.xousim.proofs.Telling.NearLemmas.{file_near}
 use Rattle.xousim.proofs.Telling.PlayingLemmas.{played_end, played_none, whole_lines_played}
 use Rattle.xousim.proofs.Telling.ToldLemmas.{Consumes-none, Consumes-append, consumed_whole, consumed_rest, nothing_left}
 use Rattle.xousim.proofs.playing.event_file.play_file.Goals as goal
@@ -74,6 +77,28 @@ returns-in-Ok-Some-clause-runs g c = λ start begins.
     let Q : Option Ending → Type 0 = λ o. Goes run front.0 c.finish.new.self.finished c.play_end.new.reader new (Ok o) in
     runs_ended c.args.tells c.args.limit start begun out left (g.H.Host.left c.read.new.self Second) new front.0 [] c.finish.new.self.finished (λ e. refl) told c.in-Ok-Some.ending
     (subst Q c.in-Ok-Some.field-0-is (c.in-Ok-Some.ensures.goes start (put begun) front.0 q))
+
+ended_played : (ended : Option Ending) (ending : Ending) → ended ≡ Some ending → ◌≡◌ {A = Result Ending RunFault} (Ok ending) (Ok Played)
+    → ◌≡◌ {A = Result (Option Ending) PlayFault} (Ok ended) (Ok (Some Played))
+ended_played ended ending is e = cc
+
+pub returns-in-Ok-Some-clause-near : goal.returns-in-Ok-Some-clause-near
+returns-in-Ok-Some-clause-near g c = λ start begins e.
+    let front = c.pieces.invariant.front in
+    let begun = g.K.Sink.written c.args.out.now in
+    let mid : Stand = stand g.W.SwapStore.is_honest g.W.SwapStore.held c.pieces.kernel (put (g.K.Sink.written c.pieces.out)) in
+    let new : Stand = stand g.W.SwapStore.is_honest g.W.SwapStore.held c.play_end.new.kernel (put (g.K.Sink.written c.play_end.new.out)) in
+    let run = run_from c.args.tells c.args.limit start (put begun) in
+    let P : Reader → Type 0 = λ r. HasPlayed run front.0 r mid in
+    let q : P c.finish.new.self = subst P (sym c.finish.ensures) (played_end run mid front.0 c.pieces.reader (front.2 start begins)) in
+    let left = g.H.Host.left c.args.host.now Second in
+    let told = told_all left front.0 (consumed_whole left (g.H.Host.left c.pieces.host Second) front.0 front.1
+    (nothing_left (g.H.Host.left c.pieces.host Second) c.in-Ok.count c.in-Ok.ensures.end c.if-count-eq0.true)) in
+    file_near run new left front.0 c.finish.new.self.finished told
+    (c.in-Ok-Some.ensures.near start (put begun) front.0 (ended_played _ c.in-Ok-Some.ending c.in-Ok-Some.field-0-is e) q)
+
+pub returns-in-Ok-Some-play_piece-clause-near : goal.returns-in-Ok-Some-play_piece-clause-near
+returns-in-Ok-Some-play_piece-clause-near g c = λ start begins e. absurd (c.in-Ok-Some-play_piece.ensures.unended (cc))
 
 pub returns-in-Err-Write-clause-runs : goal.returns-in-Err-Write-clause-runs
 returns-in-Err-Write-clause-runs g c = λ start begins.

@@ -1,7 +1,11 @@
-use Rattle.std.proofs.Common.{subst, Bool, Ok}
+use Rattle.std.proofs.Common.{◌≡◌, subst, Bool, Option, Some, Ok, Result}
+use Rattle.xousim.specs.declared.playing.ending.Ending.{Ending}
+use Rattle.xousim.specs.declared.playing.ending.Ending.TheVariants as why
 use Rattle.xousim.specs.declared.playing.events.Advance.{Advance}
+use Rattle.xousim.specs.declared.playing.events.Advance.TheVariants.{Ended}
+use Rattle.xousim.specs.declared.playing.events.PlayFault.{PlayFault}
 use Rattle.xousim.specs.Gathering.{text}
-use Rattle.xousim.specs.Playing.{Advances, EndsSo, FailsSo, run_from}
+use Rattle.xousim.specs.Playing.{Advances, EndsSo, FailsSo, IsNearAtEnd, run_from}
 use Rattle.xousim.specs.Standing.{Stand, stand}
 use Rattle.xousim.proofs.Telling.PlayingLemmas.{goes_err}
 use Rattle.xousim.proofs.playing.events.play_known.Goals as goal
@@ -22,3 +26,18 @@ returns-in-Ended-clause-goes g c = λ start begun taken p.
     let Q : Bool → Type 0 = λ f. EndsSo run taken f new c.in-Ended.ending in
     subst Q c.answers.invariant.finished
     (subst P c.in-Ended.is (c.in_ok-play_next.ensures.advances start begun taken (c.answers.invariant.goes start begun taken p)))
+
+ended_played : (advance : Advance) (ending : Ending) → advance ≡ Ended ending
+    → ◌≡◌ {A = Result (Option Ending) PlayFault} (Ok (Some ending)) (Ok (Some why.Played))
+    → ◌≡◌ {A = Result Advance PlayFault} (Ok advance) (Ok (Ended why.Played))
+ended_played advance ending is e = cc
+
+pub returns-in-Ended-clause-near : goal.returns-in-Ended-clause-near
+returns-in-Ended-clause-near g c = λ start begun taken e p.
+    let out = g.K.Sink.written c.play_next.new.out in
+    let kernel = c.play_next.new.kernel in
+    let new : Stand = stand g.W.SwapStore.is_honest g.W.SwapStore.held kernel (text out c.play_next.new.held.items) in
+    let run = run_from c.args.tells c.args.limit start begun in
+    let P : Bool → Type 0 = λ f. IsNearAtEnd run taken f new in
+    subst P c.answers.invariant.finished
+    (c.in_ok-play_next.ensures.near start begun taken (ended_played _ c.in-Ended.ending c.in-Ended.is e) (c.answers.invariant.goes start begun taken p))

@@ -11,6 +11,7 @@ use Rattle.xousim.specs.declared.playing.events.PlayFault.{PlayFault}
 use Rattle.xousim.specs.Gathering.{text}
 use Rattle.xousim.specs.Playing.{HasPlayed, Plays, run_from}
 use Rattle.xousim.specs.Standing.{Stand, stand}
+use Rattle.xousim.proofs.Telling.NearLemmas.{near_so_far}
 use Rattle.xousim.proofs.Telling.PlayingLemmas.{advances_err, ends_bad, ends_event, ends_whole, fails_event, played_event, played_no_event}
 use Rattle.xousim.proofs.Telling.StandingLemmas.{room_stays, trust_stays}
 use Rattle.xousim.proofs.playing.events.play_next.Goals as goal
@@ -54,6 +55,7 @@ returns-in_default g c = record {
       let new : Stand = stand g.W.SwapStore.is_honest g.W.SwapStore.held c.play_event.new.kernel (text (g.K.Sink.written c.play_event.new.out) c.play_event.new.held.items) in
       ends_event (run_from c.args.tells c.args.limit start begun) old new taken r c.in-Event.event c.in_ok-ending-in-Event.ending (sym c.in-Event.ensures.answer)
       (trust_stays c.play_event.ensures.keeps) c.in_default.not-Played c.in_ok-ending-in-Event.ensures.plays p;
+  near = λ start begun taken e p. absurd (c.in_default.not-Played (same_ending c.in_ok-ending-in-Event.ending e));
   sound = c.play_event.ensures.sound;
   usable = c.in_ok-ending-in-Event.ensures.usable;
   keeps = c.play_event.ensures.keeps;
@@ -98,3 +100,8 @@ returns-in-End-clause-finished g c = ap (λ (r : Reader). r.finished) c.next.ens
 pub returns-in-End-clause-end : goal.returns-in-End-clause-end
 returns-in-End-clause-end g c = λ e.
     ap (λ (r : Reader). r.finished) c.next.ensures.after ∙ (next_finished c.args.reader.now ∙ (left_end c.args.reader.now (sym c.in-End.ensures.answer)).0)
+
+pub returns-in-End-clause-near : goal.returns-in-End-clause-near
+returns-in-End-clause-near g c = λ start begun taken e p.
+    let now : Stand = stand g.W.SwapStore.is_honest g.W.SwapStore.held c.args.kernel.now (text (g.K.Sink.written c.args.out.now) c.args.held.now.items) in
+    near_so_far (run_from c.args.tells c.args.limit start begun) now taken c.args.reader.now p

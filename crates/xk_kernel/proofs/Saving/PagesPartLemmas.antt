@@ -1,0 +1,91 @@
+-- The pages and then the orphans of a memory are written.
+use Rattle.std.proofs.Common.{◌≡◌, ℕ, ◌+◌, ◌*◌, Bool, List, map, length, sym, ap, subst, ◌∙◌, arith}
+use Rattle.std.specs.Prelude.{Err, Ok, OnErr, OnOk, Result}
+use Rattle.std.proofs.lemmas.List.{length-append, length-map}
+use Rattle.ledger_model.specs.Lawful.{IsLawful}
+use Rattle.ledger_model.specs.Ledger.{Ledger}
+use Rattle.ledger_model.specs.Loans.{bare}
+use Rattle.suspend_image.proofs.Sheets.SpellingLemmas.{both_appended}
+use Rattle.suspend_image.specs.Sheets.{SheetBytes, appended}
+use Rattle.suspend_image.specs.Spelling.{rows_bytes}
+use Rattle.sv32_space.specs.Tie.{Held}
+use Rattle.vm_memory.specs.Bytes.{MeansBytes}
+use Rattle.vm_memory.specs.Memory.{ledger, processes}
+use Rattle.vm_memory.specs.declared.memory.Memory.{Memory}
+use Rattle.xk_kernel.specs.Saving.Rows.{PageText, home_at, home_texts, orphan_at, orphan_texts, text_bytes, text_words}
+use Rattle.xk_kernel.specs.Saving.Written.{AppendsTexts, BringsPages, Fits, WritesPages}
+use Rattle.xk_kernel.proofs.Saving.PageCountLemmas.{texts_few}
+use Rattle.xk_kernel.proofs.Saving.SheetLemmas.{fits_less}
+use Rattle.xk_kernel.proofs.Saving.TextLemmas.{home_alike, orphan_alike, texts_alike}
+
+-- as many are alike
+alike_many : (xs ys : List PageText) → map text_words xs ≡ map text_words ys → length xs ≡ length ys
+alike_many xs ys e = sym (length-map xs text_words) ∙ ap (λ (ws : List (List ℕ)). length ws) e ∙ length-map ys text_words
+
+pub homes_room : (sheet : SheetBytes) (n capacity : ℕ) (l : Ledger) → IsLawful n capacity l → Fits sheet (8 + 4124 * (capacity + 3))
+    → Fits sheet (4 + 4124 * (length (home_texts n l) + 1))
+homes_room sheet n capacity l lawful fits =
+    let few = texts_few n capacity l lawful in
+    fits_less sheet (8 + 4124 * (capacity + 3)) (4 + 4124 * (length (home_texts n l) + 1)) fits (omega arith)
+
+module _ {W P : Type 0} (is_honest : W → Bool) (held : W → Held) (slot_count : W → ℕ) (asked : W → P) (faults : W → ℕ) (a b : Memory W)
+    (x : BringsPages is_honest held slot_count asked faults a b) (n : ℕ) where
+  homes_same : map text_words (home_texts n (ledger held b)) ≡ map text_words (home_texts n (ledger held a))
+  homes_same = texts_alike (home_at (ledger held b)) (home_at (ledger held a)) (20464 * n) (home_alike (ledger held b) (ledger held a) x.rights)
+
+  orphans_same : map text_words (orphan_texts n (ledger held b)) ≡ map text_words (orphan_texts n (ledger held a))
+  orphans_same = texts_alike (orphan_at (ledger held b)) (orphan_at (ledger held a)) (20464 * n) (orphan_alike (ledger held b) (ledger held a) x.rights)
+
+  pub orphans_room : {known : Type 0} (capacity : ℕ) (s t : SheetBytes) → IsLawful n capacity (ledger held a) → Fits s (8 + 4124 * (capacity + 3))
+      → AppendsTexts known s t (home_texts n (ledger held a)) → Fits t (4 + 4124 * (length (orphan_texts n (ledger held b)) + 1))
+  orphans_room capacity s t lawful fits texts =
+      let few = texts_few n capacity (ledger held a) lawful in
+      let many = alike_many (orphan_texts n (ledger held b)) (orphan_texts n (ledger held a)) orphans_same in
+      let size = texts.few in
+      let same = ap (λ (q : SheetBytes). length q.bytes) texts.is in
+      let wide = ap (λ (q : SheetBytes). q.room) texts.is in
+      let both = length-append s.bytes (rows_bytes text_bytes texts.written) in
+      let room = fits.room in
+      let low = fits.few in
+      record { room = omega arith; few = omega arith }
+
+  -- .. and the orphans, with those of the pages that were written before
+  pub both_written : (m : Memory W) (y : BringsPages is_honest held slot_count asked faults b m) (s t u : SheetBytes) (capacity : ℕ)
+      → IsLawful n capacity (ledger held a)
+      → Fits s (8 + 4124 * (capacity + 3)) → n ≡ processes m
+      → AppendsTexts (MeansBytes is_honest held a) s t (home_texts n (ledger held a))
+      → AppendsTexts (MeansBytes is_honest held b) t u (orphan_texts n (ledger held b))
+      → WritesPages (MeansBytes is_honest held a) (processes m) (ledger held m) s u
+  both_written m y s t u capacity lawful fits procs homes orphans =
+      let few = texts_few n capacity (ledger held a) lawful in
+      let many = alike_many (orphan_texts n (ledger held b)) (orphan_texts n (ledger held a)) orphans_same in
+      let size_homes = homes.few in
+      let size_orphans = orphans.few in
+      let first = ap (λ (q : SheetBytes). length q.bytes) homes.is in
+      let second = ap (λ (q : SheetBytes). length q.bytes) orphans.is in
+      let both = length-append s.bytes (rows_bytes text_bytes homes.written) in
+      let all = length-append t.bytes (rows_bytes text_bytes orphans.written) in
+      let low = fits.few in
+      let rights : bare (ledger held m) ≡ bare (ledger held a) = y.rights ∙ x.rights in
+      let at : ℕ → Type 0 = λ k. WritesPages (MeansBytes is_honest held a) k (ledger held m) s u in
+      subst at procs (record {
+        homes = homes.written;
+        orphans = orphans.written;
+        homes_alike = homes.alike ∙ sym (texts_alike (home_at (ledger held m)) (home_at (ledger held a)) (20464 * n)
+            (home_alike (ledger held m) (ledger held a) rights));
+        orphans_alike = orphans.alike ∙ sym (texts_alike (orphan_at (ledger held m)) (orphan_at (ledger held b)) (20464 * n)
+            (orphan_alike (ledger held m) (ledger held b) y.rights));
+        homes_told = λ means. homes.told means ∙ ap (home_texts n) (sym (y.whole (x.means means) ∙ x.whole means));
+        orphans_told = λ means. orphans.told (x.means means) ∙ ap (orphan_texts n) (sym (y.whole (x.means means)));
+        is = orphans.is ∙ ap (λ (q : SheetBytes). appended (rows_bytes text_bytes orphans.written) q) homes.is
+            ∙ both_appended s (rows_bytes text_bytes homes.written) (rows_bytes text_bytes orphans.written);
+        few = omega arith;
+      })
+
+pub on_ok_to : {T E : Type 0} (r : Result T E) (P Q : Type 0) → (P → Q) → OnOk r P → OnOk r Q
+on_ok_to (Ok x) P Q f h = f h
+on_ok_to (Err e) P Q f h = tt
+
+pub on_err_to : {T E : Type 0} (r : Result T E) (P Q : Type 0) → (P → Q) → OnErr r P → OnErr r Q
+on_err_to (Ok x) P Q f h = tt
+on_err_to (Err e) P Q f h = f h

@@ -1,0 +1,16 @@
+use Rattle.kill_path.specs.Claims.{claims_shown, pending_shown}
+use Rattle.suspend_image.specs.Sheets.{appended}
+use Rattle.suspend_image.specs.Spelling.{claim_bytes}
+use Rattle.suspend_image.specs.Words.{word}
+use Rattle.xk_kernel.proofs.Saving.SheetLemmas.{HasWritten}
+use Rattle.suspend_image.specs.Saveable.{IsClaimSaveable}
+use Rattle.xk_kernel.specs.Saving.Fitting.{EachBelow}
+use Rattle.xk_kernel.specs.Saving.Rows.{claim_at}
+use Rattle.xk_kernel.proofs.kernel.saving.claims.write_claims.Given as goal
+
+-- the claims of the numbers so far were appended, and each fits
+abbrev pub invariant-loop-number : goal.invariant-loop-number
+invariant-loop-number l = record {
+  written : HasWritten claim_bytes 20 (claim_at (pending_shown l.claims) (claims_shown l.claims)) l.number (appended (word 0) l.fn.sheet) l.sheet l.many;
+  fit : EachBelow l.number (claims_shown l.claims) IsClaimSaveable;
+}

@@ -1,0 +1,17 @@
+use Rattle.std.proofs.Common.{◌∙◌}
+use Rattle.xk_base.specs.declared.pages.Access.TheVariants.{Load}
+use Rattle.xk_kernel.proofs.Saving.BringsLemmas.{brings_may}
+use Rattle.xk_kernel.proofs.kernel.saving.pages.write_contents.Goals as goal
+
+pub bytes-requires-clause-may : goal.bytes-requires-clause-may
+bytes-requires-clause-may g c =
+    brings_may g.W.SwapStore.is_honest g.W.SwapStore.held g.W.SwapStore.slot_count g.W.SwapStore.asked g.W.SwapStore.faults c.args.mem.now c.reach.new.self
+    (record {
+      sound = c.in_ok-reach.ensures.sound;
+      rights = c.in_ok-reach.ensures.rights;
+      whole = c.in_ok-reach.ensures.whole;
+      means = c.in_ok-reach.ensures.means;
+      none = c.in_ok-reach.ensures.none;
+      size = c.in_ok-reach.ensures.size;
+      store = c.in_ok-reach.ensures.store;
+    }) c.args.at Load ∙ c.requires.may

@@ -1,0 +1,2 @@
+pub mod ReserverLemmas
+pub mod ResumedLemmas

@@ -1,0 +1,150 @@
+-- The state file and the event file of `resume` have one verdict at most.
+use Rattle.std.proofs.Common.{◌≡◌, ◌⊎◌, inl, inr, ℕ, Bool, true, false, nat_lt, MatchBool, length, List, Option, Some, refl, sym, ap, ◌∙◌, subst, arith}
+use Rattle.std.proofs.lemmas.Bool.Decides.{nat_tests}
+use Rattle.kernel_args.specs.declared.faults.ArgFault.{ArgFault}
+use Rattle.boot_plan.specs.FaultNumbers.{too_long}
+use Rattle.machine_model.specs.State.Machine.{Machine}
+use Rattle.suspend_image.specs.declared.state.State.{State}
+use Rattle.suspend_image.specs.FileFaults.{IsFirstFault}
+use Rattle.suspend_image.specs.Machines.{machine_of}
+use Rattle.suspend_image.proofs.FaultLemmas.{fault_once, matched_has_no_fault}
+use Rattle.suspend_image.proofs.SpellsLemmas.{spelled_once}
+use Rattle.xk_kernel.specs.Resuming.Resumable.{CanSplit, IsResumable}
+use Rattle.xousim.specs.declared.commands.states.TheConstants.{STATE_LIMIT}
+use Rattle.xousim.specs.declared.playing.ending.Ending.{Ending}
+use Rattle.xousim.specs.declared.playing.ending.Ending.TheVariants.{Played, LimitMet, BadLine}
+use Rattle.xousim.specs.declared.status.Status.{Status}
+use Rattle.xousim.specs.declared.status.Status.TheVariants.{Done, Usage, ReadFault, WriteFault, ImageFault, EventFault, StepLimit, SwapFault, NoMemory}
+use Rattle.xousim.specs.Outcome.Plays.{run_of}
+use Rattle.xousim.specs.Outcome.Resumes.{limit_from}
+use Rattle.xousim.specs.Outcome.States.{StateFile}
+use Rattle.xousim.specs.Outcome.Verdicts.{GoesOnTo, IsResumeVerdict}
+use Rattle.xousim.specs.Reading.{IsFile}
+use Rattle.xousim.specs.StateFiles.{IsBadSplit, IsSplitFault, IsStateFault, Restores}
+use Rattle.xousim.specs.Words.{Resume}
+use Rattle.xousim.proofs.Outcome.VerdictLemmas.{same_bytes, status_of}
+
+-- ---- what a state file has is one
+
+one_state : (file : List ℕ) (one other : State) → IsResumable file one → IsResumable file other → one ≡ other
+one_state file one other a b = spelled_once file one other a.spelled b.spelled
+
+-- a run goes on from one machine
+one_machine : (file : List ℕ) (slots : ℕ) (one other : Machine) → Restores file slots one → Restores file slots other → one ≡ other
+one_machine file slots one other a b =
+    a.resumed ∙ (ap (machine_of file) (one_state file a.state b.state a.sound.resumable b.sound.resumable) ∙ sym b.resumed)
+
+states_agree : (file : List ℕ → Option (List ℕ)) (name : List ℕ) (slots : ℕ) (one other : Machine)
+    → StateFile (Some file) name slots one → StateFile (Some file) name slots other → one ≡ other
+states_agree file name slots one other a b =
+    let P : List ℕ → Type 0 = λ bytes. Restores bytes slots other in
+    one_machine a.bytes slots one other a.restores (subst P (same_bytes file name b.bytes a.bytes b.read a.read) b.restores)
+
+-- pages can't be split well and badly
+never_both : (state : State) (slots : ℕ) → CanSplit state slots → IsBadSplit state slots → ⊥
+never_both state slots can (inl few) = omega (arith, can.fewer)
+never_both state slots can (inr many) = omega (arith, can.frames)
+
+-- ---- its fault
+
+-- the cases of its first fault: it is too long, or it isn't
+abbrev Cases : List ℕ → ℕ → ArgFault → Bool → Type 0
+Cases file slots fault long =
+    MatchBool long (fault ≡ record { what = too_long; at = 0 }) (IsFirstFault file fault ⊎ IsSplitFault file slots fault)
+
+first_or_split : (file : List ℕ) (slots : ℕ) (one other : ArgFault) → IsFirstFault file one ⊎ IsSplitFault file slots one
+    → IsFirstFault file other ⊎ IsSplitFault file slots other → one ≡ other
+first_or_split file slots one other (inl a) (inl b) = fault_once file one other a b
+first_or_split file slots one other (inl a) (inr b) = absurd (matched_has_no_fault file b.state one b.resumable.spelled b.resumable.matched a)
+first_or_split file slots one other (inr a) (inl b) = absurd (matched_has_no_fault file a.state other a.resumable.spelled a.resumable.matched b)
+first_or_split file slots one other (inr a) (inr b) = a.named ∙ sym b.named
+
+one_fault : (file : List ℕ) (slots : ℕ) (one other : ArgFault) → IsStateFault file slots one → IsStateFault file slots other → one ≡ other
+one_fault file slots one other = go (nat_lt STATE_LIMIT (length file))
+  where
+    go : (long : Bool) → Cases file slots one long → Cases file slots other long → one ≡ other
+    go true a b = a ∙ sym b
+    go false a b = first_or_split file slots one other a b
+
+faults_agree : (file : List ℕ → Option (List ℕ)) (name : List ℕ) (slots : ℕ) (bytes two : List ℕ) (one other : ArgFault)
+    → IsFile (Some file) name bytes → IsStateFault bytes slots one → IsFile (Some file) name two → IsStateFault two slots other → one ≡ other
+faults_agree file name slots bytes two one other read faulty read_two faulty_two =
+    let P : List ℕ → Type 0 = λ b. IsStateFault b slots other in
+    one_fault bytes slots one other faulty (subst P (same_bytes file name two bytes read_two read) faulty_two)
+
+-- a file from which a run goes on has none
+restored_no_fault : (file : List ℕ) (slots : ℕ) (machine : Machine) (fault : ArgFault) → Restores file slots machine → IsStateFault file slots fault → ⊥
+restored_no_fault file slots machine fault r = go (nat_lt STATE_LIMIT (length file)) short
+  where
+    short : nat_lt STATE_LIMIT (length file) ≡ false
+    short = let few = r.sound.short in grind (arith, nat_tests)
+
+    split : IsSplitFault file slots fault → ⊥
+    split bad =
+        let B : State → Type 0 = λ s. IsBadSplit s slots in
+        never_both r.state slots r.sound.split (subst B (one_state file bad.state r.state bad.resumable r.sound.resumable) bad.split)
+
+    go : (long : Bool) → long ≡ false → Cases file slots fault long → ⊥
+    go true unlong a = cc
+    go false unlong (inl first) = matched_has_no_fault file r.state fault r.sound.resumable.spelled r.sound.resumable.matched first
+    go false unlong (inr bad) = split bad
+
+file_no_fault : (file : List ℕ → Option (List ℕ)) (name : List ℕ) (slots : ℕ) (machine : Machine) (bytes : List ℕ) (fault : ArgFault)
+    → StateFile (Some file) name slots machine → IsFile (Some file) name bytes → IsStateFault bytes slots fault → ⊥
+file_no_fault file name slots machine bytes fault state read faulty =
+    let P : List ℕ → Type 0 = λ b. IsStateFault b slots fault in
+    restored_no_fault state.bytes slots machine fault state.restores (subst P (same_bytes file name bytes state.bytes read state.read) faulty)
+
+-- ---- each verdict is that of a run that goes on, or of a state file with a fault
+
+abbrev OfRun : (List ℕ → Option (List ℕ)) → Resume → Status → Type 0
+OfRun file resume status =
+    (machine : Machine) × (ending : Ending) × GoesOnTo (Some file) resume machine ending × (status ≡ status_of (limit_from resume.limit machine) ending)
+
+abbrev OfFault : (List ℕ → Option (List ℕ)) → Resume → Status → Type 0
+OfFault file resume status =
+    (fault : ArgFault) × (bytes : List ℕ) × IsFile (Some file) resume.state bytes × IsStateFault bytes resume.slots fault × (status ≡ ImageFault fault)
+
+abbrev Sorts : (List ℕ → Option (List ℕ)) → Resume → Status → Type 0
+Sorts file resume status = OfRun file resume status ⊎ OfFault file resume status
+
+sorts : (file : List ℕ → Option (List ℕ)) (resume : Resume) (status : Status) → IsResumeVerdict (Some file) resume status → Sorts file resume status
+sorts file resume Done a = inl (a.0, Played, a.1, refl)
+sorts file resume (EventFault line) a = inl (a.0, BadLine line, a.1, refl)
+sorts file resume (StepLimit limit) a = inl (a.0, LimitMet, a.2, ap (λ (l : ℕ). StepLimit l) a.1)
+sorts file resume (ImageFault fault) a = inr (fault, a.0, a.1, a.2, refl)
+sorts file resume SwapFault a = absurd a
+sorts file resume Usage a = absurd a
+sorts file resume ReadFault a = absurd a
+sorts file resume WriteFault a = absurd a
+sorts file resume NoMemory a = absurd a
+
+-- a history ends in one way
+endings_agree : (file : List ℕ → Option (List ℕ)) (resume : Resume) (one other : Machine) (first second : Ending) → one ≡ other
+    → GoesOnTo (Some file) resume one first → GoesOnTo (Some file) resume other second → first ≡ second
+endings_agree file resume one other first second same a b =
+    let events : a.events ≡ b.events = same_bytes file resume.events a.events b.events a.is_file b.is_file in
+    sym a.ended
+    ∙ (ap (λ (m : Machine). (run_of (limit_from resume.limit m) m a.events).ending) same
+    ∙ (ap (λ (bytes : List ℕ). (run_of (limit_from resume.limit other) other bytes).ending) events ∙ b.ended))
+
+runs_agree : (file : List ℕ → Option (List ℕ)) (resume : Resume) (one other : Status) → OfRun file resume one → OfRun file resume other → one ≡ other
+runs_agree file resume one other a b =
+    let same : a.0 ≡ b.0 = states_agree file resume.state resume.slots a.0 b.0 a.2.state b.2.state in
+    a.3
+    ∙ (ap (λ (m : Machine). status_of (limit_from resume.limit m) a.1) same
+    ∙ (ap (status_of (limit_from resume.limit b.0)) (endings_agree file resume a.0 b.0 a.1 b.1 same a.2 b.2) ∙ sym b.3))
+
+run_fault : (file : List ℕ → Option (List ℕ)) (resume : Resume) (one other : Status) → OfRun file resume one → OfFault file resume other → ⊥
+run_fault file resume one other a b = file_no_fault file resume.state resume.slots a.0 b.1 b.0 a.2.state b.2 b.3
+
+agree : (file : List ℕ → Option (List ℕ)) (resume : Resume) (one other : Status) → Sorts file resume one → Sorts file resume other → one ≡ other
+agree file resume one other (inl a) (inl b) = runs_agree file resume one other a b
+agree file resume one other (inl a) (inr b) = absurd (run_fault file resume one other a b)
+agree file resume one other (inr a) (inl b) = absurd (run_fault file resume other one b a)
+agree file resume one other (inr a) (inr b) =
+    a.4 ∙ (ap (λ (f : ArgFault). ImageFault f) (faults_agree file resume.state resume.slots a.1 b.1 a.0 b.0 a.2 a.3 b.2 b.3) ∙ sym b.4)
+
+pub one_verdict_of_states : (file : List ℕ → Option (List ℕ)) (resume : Resume) (one other : Status)
+    → IsResumeVerdict (Some file) resume one → IsResumeVerdict (Some file) resume other → one ≡ other
+one_verdict_of_states file resume one other a b = agree file resume one other (sorts file resume one a) (sorts file resume other b)

@@ -1,0 +1,256 @@
+-- The parts of a call of `suspend`, put together.
+use Rattle.std.proofs.Common.{◌≡◌, ◌≤◌, ◌+◌, ◌⊎◌, inl, inr, ℕ, Bool, true, false, List, [], ◌∷◌, length, Option, None, Result, Ok, Err, IfErr, IsErrAnd}
+use Rattle.std.proofs.Common.{refl, sym, ap, ◌∙◌, subst, arith}
+use Rattle.boot_plan.specs.Capacity.{capacity, page_frames}
+use Rattle.boot_plan.specs.declared.plans.BootPlan.{BootPlan}
+use Rattle.event_text.specs.EventFile.{input_of}
+use Rattle.machine_model.specs.Runs.Matched.{Matched}
+use Rattle.machine_model.specs.State.Machine.{Machine}
+use Rattle.suspend_image.specs.Saveable.{IsSpellable}
+use Rattle.suspend_image.specs.Sheets.{room_for}
+use Rattle.suspend_image.specs.StateBytes.{saved_bytes}
+use Rattle.sv32_space.specs.Tie.{Held}
+use Rattle.vm_memory.specs.Memory.{Size, capacity_of, processes as processes_in, size}
+use Rattle.xk_base.specs.Outside.{Rose}
+use Rattle.xk_base.specs.declared.records.Rec.{Rec}
+use Rattle.xk_kernel.specs.HistoryMoments.{moments_of}
+use Rattle.xk_kernel.specs.Sound.{Keeps}
+use Rattle.xk_kernel.specs.State.{machine_of}
+use Rattle.xk_kernel.specs.declared.kernel.Kernel.{Kernel}
+use Rattle.xk_ports.specs.Host.{IsLeftOf}
+use Rattle.xk_ports.specs.Told.{Grows, GrowsByPrefix}
+use Rattle.xk_ports.specs.declared.host.FileSlot.TheVariants.{First}
+use Rattle.xousim.specs.declared.commands.command.Telling.TheVariants.{Nothing}
+use Rattle.xousim.specs.declared.playing.ending.Ending.{Ending}
+use Rattle.xousim.specs.declared.playing.ending.Ending.TheVariants.{Played}
+use Rattle.xousim.specs.declared.status.Status.{Status}
+use Rattle.xousim.specs.declared.status.Status.TheVariants.{Done, Usage, ReadFault, WriteFault, ImageFault, EventFault, StepLimit, SwapFault, NoMemory}
+use Rattle.xousim.specs.Finish.{Booted, EndsSilently, HasSaveCause, SavesState, Starts}
+use Rattle.xousim.specs.Gathering.{Text}
+use Rattle.xousim.specs.History.{History}
+use Rattle.xousim.specs.Outcome.Images.{plan_in}
+use Rattle.xousim.specs.Outcome.Plays.{HasCause, RanFull, run_of}
+use Rattle.xousim.specs.Outcome.Sides.{Call, IsTrusted, StoreSide, Told}
+use Rattle.xousim.specs.Outcome.Starts.{ComesFull, Room, room_of}
+use Rattle.xousim.specs.Outcome.Suspends.{EndsSuspend, RanUnsaved, Saves, saved_at, saved_of, silent}
+use Rattle.xousim.specs.Playing.{LeavesNear, run_from}
+use Rattle.xk_kernel.specs.Reserved.{IsReservedByThread}
+use Rattle.xousim.specs.Reading.{Asked, IsFile, IsTold}
+use Rattle.xousim.specs.Standing.{Stand, room_in}
+use Rattle.xousim.specs.Telling.{told}
+use Rattle.xousim.specs.Words.{Play, Suspend}
+use Rattle.xousim.specs.Writing.{Wrote, WroteSome}
+use Rattle.xousim.proofs.Continuing.ReserverLemmas.{history_reserver, unreserved_known}
+use Rattle.xousim.proofs.Outcome.TopLemmas.{Before, IsBefore, asks_both, begun_at, cause_earlier, full_on, prepared_earlier, rose_after}
+use Rattle.xousim.proofs.Reading.ReadingLemmas.{told_file}
+use Rattle.xousim.proofs.Telling.GatheringLemmas.{first_none}
+
+-- ---- the start
+
+-- what holds of an error holds of an answer that is it
+pub if_error : {T E : Type 0} (r : Result T E) (P : E → Type 0) (e : E) → IsErrAnd r (λ x. x ≡ e) → P e → IfErr r P
+if_error (Ok x) P e same p = tt
+if_error (Err x) P e same p = subst P (sym same) p
+
+at_most_itself : (n : ℕ) → n ≤ n
+at_most_itself n = omega arith
+
+-- a sheet that was made for a plan has the room that every state of its run has
+pub sheet_room : {W : Type 0} (held : W → Held) (k : Kernel W) (plan : BootPlan) (n cap room : ℕ) → room_in k ≡ room_of plan
+    → (size k.mem).slots ≡ plan.slots → n ≡ length plan.procs → cap ≡ capacity plan.frames (length plan.procs) plan.slots → room ≡ room_for n cap
+    → room_for (machine_of held k).processes (machine_of held k).capacity ≤ room
+unfolding machine_of
+sheet_room held k plan n cap room same slots processes pages is =
+    let own : ℕ = room_for (processes_in k.mem) (capacity_of k.mem) in
+    let needed : own ≡ room_for (length plan.procs) (capacity plan.frames (length plan.procs) plan.slots) =
+    ap (λ (r : Room). room_for r.processes (r.frames + (size k.mem).slots)) same
+    ∙ ap (λ (s : ℕ). room_for (length plan.procs) (page_frames plan.frames (length plan.procs) + s)) slots in
+    let made : room ≡ room_for (length plan.procs) (capacity plan.frames (length plan.procs) plan.slots) =
+    is ∙ (ap (λ (x : ℕ). room_for x cap) processes ∙ ap (λ (x : ℕ). room_for (length plan.procs) x) pages) in
+    let L : ℕ → Type 0 = λ x. own ≤ x in
+    subst L (needed ∙ sym made) (at_most_itself own)
+
+-- .. which stays so
+pub room_kept : {W P : Type 0} {honest : W → Bool} {held : W → Held} {slots : W → ℕ} {asked : W → P} {faults : W → ℕ} {old new : Kernel W} (room : ℕ)
+    → Keeps honest held slots asked faults old new → room_for (machine_of held old).processes (machine_of held old).capacity ≤ room
+    → room_for (machine_of held new).processes (machine_of held new).capacity ≤ room
+unfolding machine_of
+room_kept room keeps within =
+    let F : Size → Type 0 = λ s. room_for s.procs (capacity s.area.frames s.procs s.slots) ≤ room in subst F (sym keeps.size) within
+
+-- ---- nothing is told
+
+nothing_told : (records : List Rec) → told Nothing records ≡ []
+nothing_told [] = refl
+nothing_told (rec ∷ records) = nothing_told records
+
+-- so the sink wasn't touched
+pub untouched : (before after : Option (List ℕ)) (h : History) (ending : Ending) → Wrote Nothing before after h ending → after ≡ before
+untouched before after h ending wrote = wrote.still (nothing_told h.records)
+
+pub unsaved : (suspend : Suspend) (machine : Machine) (call : Call) (events : List ℕ) (ending : Ending) → IsFile call.host.files suspend.events events
+    → Wrote Nothing call.out.written call.out.written_after (run_of suspend.limit machine events) ending → RanUnsaved suspend machine call ending
+unsaved suspend machine call events ending is_file wrote = record {
+  events = events;
+  is_file = is_file;
+  ended = wrote.ended;
+  unwritten = untouched call.out.written call.out.written_after (run_of suspend.limit machine events) ending wrote;
+}
+
+-- .. also where the store failed
+pub steps_untouched : (before after : Option (List ℕ)) (limit : ℕ) (h : ℕ → History) → WroteSome Nothing before after limit h → after ≡ before
+steps_untouched before after limit h some = some.still (nothing_told (h some.done).records)
+
+-- ---- the last state
+
+-- its reservation is that of a thread of the processes
+pub last_reserver : (limit : ℕ) (events : List ℕ) (old start last : Machine) → old ≡ start → Matched old → old.reserved ≡ None
+    → last ≡ (run_of limit start events).machine → IsReservedByThread last
+last_reserver limit events old start last is matched none there =
+    let known : IsReservedByThread start = subst IsReservedByThread is (unreserved_known old none) in
+    subst IsReservedByThread (sym there) (history_reserver (input_of events).events limit start (subst Matched is matched) known)
+
+-- where a page is out at the end of the events, some state of the run had more pages than there are frames for
+pub full_where_out : (play : Play) (room : Room) (start : Machine) (call : Call) (begun : Text) (left : Option (List ℕ)) (now : Stand)
+    → IsLeftOf call.host.files play.events left → now.room ≡ room → LeavesNear (run_from play.tells play.limit start begun) left now
+    → now.near ≡ false → RanFull play room start call
+full_where_out play room start call begun left now of same leaves out = record {
+  events = leaves.bytes;
+  is_file = told_file call.host.files play.events left leaves.bytes of leaves.told;
+  full = go leaves.near;
+}
+  where
+    go : (now.near ≡ true) ⊎ ComesFull now.room start (moments_of (input_of leaves.bytes).events play.limit start)
+        → ComesFull room start (moments_of (input_of leaves.bytes).events play.limit start)
+    go (inl near) = absurd (cc)
+    go (inr full) = full_on room now.room start (moments_of (input_of leaves.bytes).events play.limit start) same full
+
+pub saved_cause : (play : Play) (room : Room) (machine : Machine) (call : Call) (near : Bool) (mid : Option (List ℕ)) (faults : ℕ) (store : StoreSide)
+    (status : Status) → call.out.faults ≤ faults → call.store.faults ≤ store.faults → store.faults_after ≡ call.store.faults_after
+    → (near ≡ false → RanFull play room machine call)
+    → HasSaveCause near (record {
+      written = mid;
+      written_after = call.out.written_after;
+      faults = faults;
+      faults_after = call.out.faults_after;
+    }) store status → HasCause play room machine call status
+saved_cause play room machine call near mid faults store Done later before same full cause = tt
+saved_cause play room machine call near mid faults store WriteFault later before same full cause =
+    rose_after call.out.faults faults call.out.faults_after later cause
+saved_cause play room machine call near mid faults store SwapFault later before same full cause =
+    let R : ℕ → Type 0 = λ after. Rose store.faults after in
+    (rose_after call.store.faults store.faults call.store.faults_after before (subst R same cause.0), full cause.1)
+saved_cause play room machine call near mid faults store Usage later before same full cause = absurd cause
+saved_cause play room machine call near mid faults store ReadFault later before same full cause = absurd cause
+saved_cause play room machine call near mid faults store NoMemory later before same full cause = absurd cause
+saved_cause play room machine call near mid faults store (ImageFault fault) later before same full cause = absurd cause
+saved_cause play room machine call near mid faults store (EventFault line) later before same full cause = absurd cause
+saved_cause play room machine call near mid faults store (StepLimit limit) later before same full cause = absurd cause
+
+pub saved_tells : (suspend : Suspend) (machine last : Machine) (call : Call) (mid : Option (List ℕ)) (faults : ℕ) (events : List ℕ) (status : Status)
+    → IsFile call.host.files suspend.events events → Wrote Nothing call.out.written mid (run_of suspend.limit machine events) Played
+    → last ≡ (run_of suspend.limit machine events).machine
+    → SavesState last (record {
+      written = mid;
+      written_after = call.out.written_after;
+      faults = faults;
+      faults_after = call.out.faults_after;
+    }) status → Saves suspend machine call status
+saved_tells suspend machine last call mid faults events Done is_file wrote there saved =
+    let h : History = run_of suspend.limit machine events in
+    let G : Option (List ℕ) → Type 0 = λ out. Grows out call.out.written_after (saved_bytes last) in
+    let M : Machine → Type 0 = λ m. Grows call.out.written call.out.written_after (saved_bytes m) in
+    record {
+      events = events;
+      is_file = is_file;
+      ended = wrote.ended;
+      spelled = subst IsSpellable there saved.0;
+      written = subst M there (subst G (untouched call.out.written mid h Played wrote) saved.1);
+    }
+saved_tells suspend machine last call mid faults events WriteFault is_file wrote there saved =
+    let h : History = run_of suspend.limit machine events in
+    let G : Option (List ℕ) → Type 0 = λ out. GrowsByPrefix out call.out.written_after (saved_bytes last) in
+    let B : List ℕ → Type 0 = λ bytes. GrowsByPrefix call.out.written call.out.written_after bytes in
+    let whole : saved_bytes last ≡ saved_of h = ap saved_bytes there ∙ ap (λ (e : Ending). saved_at h.machine e) (sym wrote.ended) in
+    record {
+      events = events;
+      is_file = is_file;
+      written = subst B whole (subst G (untouched call.out.written mid h Played wrote) saved);
+    }
+saved_tells suspend machine last call mid faults events SwapFault is_file wrote there saved =
+    saved ∙ untouched call.out.written mid (run_of suspend.limit machine events) Played wrote
+saved_tells suspend machine last call mid faults events Usage is_file wrote there saved = absurd saved
+saved_tells suspend machine last call mid faults events ReadFault is_file wrote there saved = absurd saved
+saved_tells suspend machine last call mid faults events NoMemory is_file wrote there saved = absurd saved
+saved_tells suspend machine last call mid faults events (ImageFault fault) is_file wrote there saved = absurd saved
+saved_tells suspend machine last call mid faults events (EventFault line) is_file wrote there saved = absurd saved
+saved_tells suspend machine last call mid faults events (StepLimit limit) is_file wrote there saved = absurd saved
+
+-- where a write failed though nothing was told, nothing was written
+pub part_of_saved : (before after : Option (List ℕ)) (h : History) → GrowsByPrefix before after (told Nothing h.records)
+    → GrowsByPrefix before after (saved_of h)
+part_of_saved before after h part =
+    let none : part.0 ≡ [] = first_none part.0 part.1 (sym part.2 ∙ nothing_told h.records) in
+    let G : List ℕ → Type 0 = λ bytes. Grows before after bytes in
+    ([], saved_of h, refl, subst G none part.3)
+
+-- ---- a call that began earlier
+
+saves_earlier : (suspend : Suspend) (machine : Machine) (before : Before) (call : Call) (status : Status) → Saves suspend machine call status
+    → Saves suspend machine (begun_at call.host.files before call) status
+saves_earlier suspend machine before call Done saved =
+    record { events = saved.events; is_file = saved.is_file; ended = saved.ended; spelled = saved.spelled; written = saved.written }
+saves_earlier suspend machine before call (EventFault line) saved =
+    record { events = saved.events; is_file = saved.is_file; ended = saved.ended; unwritten = saved.unwritten }
+saves_earlier suspend machine before call (StepLimit limit) saved =
+    record { events = saved.events; is_file = saved.is_file; ended = saved.ended; unwritten = saved.unwritten }
+saves_earlier suspend machine before call SwapFault saved = saved
+saves_earlier suspend machine before call WriteFault saved = record { events = saved.events; is_file = saved.is_file; written = saved.written }
+saves_earlier suspend machine before call ReadFault saved =
+    (record { bytes = saved.0.bytes; read = saved.0.read; ended = saved.0.ended; written = saved.0.written }, saved.1)
+saves_earlier suspend machine before call Usage saved = absurd saved
+saves_earlier suspend machine before call NoMemory saved = absurd saved
+saves_earlier suspend machine before call (ImageFault fault) saved = absurd saved
+
+-- ---- whole calls
+
+saved_earlier : (suspend : Suspend) (booted : Booted) (before : Before) (call : Call) (side : StoreSide)
+    → Starts (silent suspend) call.host.files booted side
+    → side.asked ≡ before.prepared → side.asked_after ≡ call.store.asked → call.store.asked_after ≡ call.store.asked
+    → IsBefore before call → Asked before.files_asked call.host.asked First suspend.image true → IsTold call.host.image_left []
+    → EndsSilently suspend booted call → EndsSuspend suspend (begun_at call.host.files before call)
+saved_earlier suspend booted before call side starts first last stays later asked read (inl unpicked) =
+    inr (inr (inl (record {
+      asked = asks_both (silent suspend) before call false asked unpicked.asked;
+      ended = unpicked.ended;
+      cause = rose_after before.host_faults call.host.faults call.host.faults_after later.host unpicked.cause;
+      machine = booted.machine;
+      image = starts.image;
+      prepared = prepared_earlier (silent suspend) booted before call side starts first last stays;
+      unwritten = unpicked.unwritten;
+    })))
+saved_earlier suspend booted before call side starts first last stays later asked read (inr picked) =
+    let R : Room → Type 0 = λ room. HasCause (silent suspend) room booted.machine call call.status in
+    let T : ℕ → Type 0 = λ slots. IsTrusted call.store slots in
+    inr (inr (inr (record {
+      asked = asks_both (silent suspend) before call true asked picked.asked;
+      machine = booted.machine;
+      image = starts.image;
+      prepared = prepared_earlier (silent suspend) booted before call side starts first last stays;
+      cause = cause_earlier (silent suspend) (room_of (plan_in starts.image)) booted.machine before call call.status later
+          (subst R starts.room picked.cause);
+      content = λ trusted.
+          saves_earlier suspend booted.machine before call call.status (picked.content (subst T (sym starts.slots) trusted));
+      image_read = λ done. read;
+      events_read = picked.events_read;
+    })))
+
+pub ends_suspended : (suspend : Suspend) (booted : Booted) (files : Told) (before : Before) (call : Call) (side : StoreSide)
+    → call.host.files ≡ files → Starts (silent suspend) files booted side
+    → side.asked ≡ before.prepared → side.asked_after ≡ call.store.asked → call.store.asked_after ≡ call.store.asked
+    → IsBefore before call → Asked before.files_asked call.host.asked First suspend.image true → IsTold call.host.image_left []
+    → EndsSilently suspend booted call → EndsSuspend suspend (begun_at files before call)
+ends_suspended suspend booted files before call side same starts first last stays later asked read ended =
+    let S : Told → Type 0 = λ f. Starts (silent suspend) f booted side in
+    let P : Told → Type 0 = λ f. EndsSuspend suspend (begun_at f before call) in
+    subst P same (saved_earlier suspend booted before call side (subst S (sym same) starts) first last stays later asked read ended)

@@ -1,0 +1,201 @@
+use Rattle.std.proofs.Common.{◌≡◌, refl, subst, sym, ap, inr, ℕ, Bool, true, false, List, Option, Ok, Err, ◌∙◌}
+use Rattle.machine_model.specs.State.Machine.{Machine}
+use Rattle.vm_memory.specs.Memory.{store_of}
+use Rattle.xk_kernel.specs.State.{machine_of}
+use Rattle.xk_ports.specs.Host.{FileAsked}
+use Rattle.xk_ports.specs.declared.host.FileSlot.TheVariants.{First, Second}
+use Rattle.xousim.specs.declared.playing.ending.Ending.{Ending}
+use Rattle.xousim.specs.declared.playing.ending.Ending.TheVariants.{Played, LimitMet, BadLine}
+use Rattle.xousim.specs.declared.playing.event_file.RunFault.{RunFault}
+use Rattle.xousim.specs.declared.playing.event_file.RunFault.TheVariants as faults
+use Rattle.xousim.specs.declared.commands.command.Telling.TheVariants.{Nothing}
+use Rattle.xousim.specs.Gathering.{put}
+use Rattle.xousim.specs.Outcome.Plays.{run_of}
+use Rattle.xousim.specs.Outcome.Sides.{Call, store_side}
+use Rattle.xousim.specs.Outcome.Suspends.{silent}
+use Rattle.xousim.specs.Playing.{Runs, run_from}
+use Rattle.xousim.specs.Reading.{Asked}
+use Rattle.xousim.specs.Standing.{Stand, room_in, stand}
+use Rattle.xousim.specs.Words.{Play, Suspend, suspend_in}
+use Rattle.xousim.proofs.Outcome.KeptLemmas.{kept_after}
+use Rattle.xousim.proofs.Outcome.SuspendLemmas.{full_where_out, last_reserver, part_of_saved, room_kept, saved_cause, saved_tells, steps_untouched, unsaved, untouched}
+use Rattle.xousim.proofs.Outcome.TopLemmas.{full_on, rose_after}
+use Rattle.xousim.proofs.Reading.ReadingLemmas.{told_file, read_of_file}
+use Rattle.xousim.proofs.Telling.StandingLemmas.{room_stays, trust_stays, trusted_means, trusted_side}
+use Rattle.xousim.proofs.commands.suspend.suspend_events.Goals as goal
+
+pub save_state-requires-clause-room : goal.save_state-requires-clause-room
+save_state-requires-clause-room g c = room_kept c.args.sheet.now.room c.play_file.ensures.keeps c.requires.room
+
+pub returns-in-Ok-Played-clause-played : goal.returns-in-Ok-Played-clause-played
+returns-in-Ok-Played-clause-played g c = λ start begins.
+    let file = g.H.Host.file c.args.host.now in
+    let before = g.H.Host.left c.pick_file.new.self Second in
+    let left = g.H.Host.left c.play_file.new.host Second in
+    let faults = g.K.Sink.faults in
+    let suspend : Suspend = suspend_in c.args.suspend in
+    let play : Play = silent suspend in
+    let run = run_from Nothing c.args.suspend.limit start (put (g.K.Sink.written c.args.out.now)) in
+    let mid : Stand = stand g.W.SwapStore.is_honest g.W.SwapStore.held c.play_file.new.kernel (put (g.K.Sink.written c.play_file.new.out)) in
+    let P : Ending → Type 0 = λ e. Runs run before left mid (Ok e) in
+    let runs : P Played = subst P c.in-Ok-Played.field-0-is (c.in-Ok-Played.ensures.runs start begins) in
+    let A : Option (List FileAsked) → Type 0 = λ asked. Asked (g.H.Host.asked c.args.host.now) asked Second c.args.suspend.events.now true in
+    let played = c.play_file.ensures.keeps in
+    let last : Machine = machine_of g.W.SwapStore.held c.play_file.new.kernel in
+    let call : Call = record {
+      host = record {
+        files = file;
+        asked = g.H.Host.asked c.args.host.now;
+        asked_after = g.H.Host.asked c.play_file.new.host;
+        image_left = g.H.Host.left c.play_file.new.host First;
+        left = left;
+        faults = g.H.Host.faults c.args.host.now;
+        faults_after = g.H.Host.faults c.play_file.new.host;
+      };
+      out = record {
+        written = g.K.Sink.written c.args.out.now;
+        written_after = g.K.Sink.written c.save_state.new.out;
+        faults = faults c.args.out.now;
+        faults_after = faults c.save_state.new.out;
+      };
+      store = store_side g.W.SwapStore.is_honest g.W.SwapStore.held g.W.SwapStore.asked g.W.SwapStore.faults
+          (store_of c.args.kernel.now.mem) (store_of c.save_state.new.kernel.mem);
+      status = c.save_state.result;
+    } in
+    inr (record {
+      asked = subst A (sym c.play_file.ensures.asked) c.in-Ok.ensures.asked;
+      cause = saved_cause play (room_in c.args.kernel.now) start call mid.near (g.K.Sink.written c.play_file.new.out) (faults c.play_file.new.out)
+          (store_side g.W.SwapStore.is_honest g.W.SwapStore.held g.W.SwapStore.asked g.W.SwapStore.faults
+          (store_of c.play_file.new.kernel.mem) (store_of c.save_state.new.kernel.mem))
+          c.save_state.result c.play_file.ensures.out played.store.never_falls refl
+          (full_where_out play (room_in c.args.kernel.now) start call (put (g.K.Sink.written c.args.out.now)) before mid c.in-Ok.ensures.left
+          (room_stays played) (c.in-Ok-Played.ensures.near start begins (ap (λ (e : Ending). Ok e) c.in-Ok-Played.field-0-is)))
+          c.save_state.ensures.cause;
+      content = λ trusted.
+          let whole = kept_after played c.save_state.ensures.keeps in
+          let at_end = trusted_side whole trusted in
+          let at_mid = sym (trust_stays c.save_state.ensures.keeps) ∙ at_end in
+          let all = runs.2 at_mid in
+          let at_start = begins.trusted (sym (trust_stays played) ∙ at_mid) in
+          let old : Machine = machine_of g.W.SwapStore.held c.args.kernel.now in
+          saved_tells suspend start last call (g.K.Sink.written c.play_file.new.out) (faults c.play_file.new.out) runs.0 c.save_state.result
+          (told_file file suspend.events before runs.0 c.in-Ok.ensures.left runs.1) all.0 all.1
+          (c.save_state.ensures.saved (trusted_means g.W.SwapStore.is_honest g.W.SwapStore.held c.play_file.new.kernel at_mid)
+          (last_reserver suspend.limit runs.0 old start last at_start (c.requires.sound.matched c.requires.usable) c.requires.unreserved all.1));
+      events_read = λ done. c.in-Ok-Played.ensures.end (ap (λ (e : Ending). Ok e) c.in-Ok-Played.field-0-is);
+    })
+
+pub returns-in-Ok-LimitMet-clause-played : goal.returns-in-Ok-LimitMet-clause-played
+returns-in-Ok-LimitMet-clause-played g c = λ start begins.
+    let file = g.H.Host.file c.args.host.now in
+    let before = g.H.Host.left c.pick_file.new.self Second in
+    let left = g.H.Host.left c.play_file.new.host Second in
+    let suspend : Suspend = suspend_in c.args.suspend in
+    let run = run_from Nothing c.args.suspend.limit start (put (g.K.Sink.written c.args.out.now)) in
+    let now : Stand = stand g.W.SwapStore.is_honest g.W.SwapStore.held c.play_file.new.kernel (put (g.K.Sink.written c.play_file.new.out)) in
+    let P : Ending → Type 0 = λ e. Runs run before left now (Ok e) in
+    let runs : P LimitMet = subst P c.in-Ok-LimitMet.field-0-is (c.in-Ok-LimitMet.ensures.runs start begins) in
+    let A : Option (List FileAsked) → Type 0 = λ asked. Asked (g.H.Host.asked c.args.host.now) asked Second c.args.suspend.events.now true in
+    inr (record {
+      asked = subst A (sym c.play_file.ensures.asked) c.in-Ok.ensures.asked;
+      cause = refl;
+      content = λ trusted.
+          unsaved suspend start _ runs.0 LimitMet (told_file file suspend.events before runs.0 c.in-Ok.ensures.left runs.1)
+          (runs.2 (trusted_side c.play_file.ensures.keeps trusted)).0;
+      events_read = λ done. cc;
+    })
+
+pub returns-in-Ok-BadLine-clause-played : goal.returns-in-Ok-BadLine-clause-played
+returns-in-Ok-BadLine-clause-played g c = λ start begins.
+    let file = g.H.Host.file c.args.host.now in
+    let before = g.H.Host.left c.pick_file.new.self Second in
+    let left = g.H.Host.left c.play_file.new.host Second in
+    let suspend : Suspend = suspend_in c.args.suspend in
+    let line = c.in-Ok-BadLine.line in
+    let run = run_from Nothing c.args.suspend.limit start (put (g.K.Sink.written c.args.out.now)) in
+    let now : Stand = stand g.W.SwapStore.is_honest g.W.SwapStore.held c.play_file.new.kernel (put (g.K.Sink.written c.play_file.new.out)) in
+    let P : Ending → Type 0 = λ e. Runs run before left now (Ok e) in
+    let runs : P (BadLine line) = subst P c.in-Ok-BadLine.field-0-is (c.in-Ok-BadLine.ensures.runs start begins) in
+    let A : Option (List FileAsked) → Type 0 = λ asked. Asked (g.H.Host.asked c.args.host.now) asked Second c.args.suspend.events.now true in
+    inr (record {
+      asked = subst A (sym c.play_file.ensures.asked) c.in-Ok.ensures.asked;
+      cause = tt;
+      content = λ trusted.
+          unsaved suspend start _ runs.0 (BadLine line) (told_file file suspend.events before runs.0 c.in-Ok.ensures.left runs.1)
+          (runs.2 (trusted_side c.play_file.ensures.keeps trusted)).0;
+      events_read = λ done. cc;
+    })
+
+pub returns-in-Err-Read-clause-played : goal.returns-in-Err-Read-clause-played
+returns-in-Err-Read-clause-played g c = λ start begins.
+    let file = g.H.Host.file c.args.host.now in
+    let before = g.H.Host.left c.pick_file.new.self Second in
+    let left = g.H.Host.left c.play_file.new.host Second in
+    let run = run_from Nothing c.args.suspend.limit start (put (g.K.Sink.written c.args.out.now)) in
+    let now : Stand = stand g.W.SwapStore.is_honest g.W.SwapStore.held c.play_file.new.kernel (put (g.K.Sink.written c.play_file.new.out)) in
+    let P : RunFault → Type 0 = λ f. Runs run before left now (Err f) in
+    let runs : P faults.Read = subst P c.in-Err-Read.field-0-is (c.in-Err-Read.ensures.runs start begins) in
+    let A : Option (List FileAsked) → Type 0 = λ asked. Asked (g.H.Host.asked c.args.host.now) asked Second c.args.suspend.events.now true in
+    inr (record {
+      asked = subst A (sym c.play_file.ensures.asked) c.in-Ok.ensures.asked;
+      cause = (let faults = g.H.Host.faults in
+          rose_after (faults c.args.host.now) (faults c.pick_file.new.self) (faults c.play_file.new.host) c.pick_file.ensures.never_falls
+          (c.in-Err-Read.ensures.read (ap (λ (f : RunFault). Err f) c.in-Err-Read.field-0-is)));
+      content = λ trusted.
+          let wrote = runs.2 (trusted_side c.play_file.ensures.keeps trusted) in (
+            record {
+              bytes = runs.0;
+              read = read_of_file file c.args.suspend.events.now before left runs.0 c.in-Ok.ensures.left runs.1;
+              ended = wrote.ended;
+              written = wrote.written;
+            },
+            untouched (g.K.Sink.written c.args.out.now) (g.K.Sink.written c.play_file.new.out) _ Played wrote,
+          );
+      events_read = λ done. cc;
+    })
+
+pub returns-in-Err-Write-clause-played : goal.returns-in-Err-Write-clause-played
+returns-in-Err-Write-clause-played g c = λ start begins.
+    let file = g.H.Host.file c.args.host.now in
+    let before = g.H.Host.left c.pick_file.new.self Second in
+    let left = g.H.Host.left c.play_file.new.host Second in
+    let run = run_from Nothing c.args.suspend.limit start (put (g.K.Sink.written c.args.out.now)) in
+    let now : Stand = stand g.W.SwapStore.is_honest g.W.SwapStore.held c.play_file.new.kernel (put (g.K.Sink.written c.play_file.new.out)) in
+    let P : RunFault → Type 0 = λ f. Runs run before left now (Err f) in
+    let runs : P faults.Write = subst P c.in-Err-Write.field-0-is (c.in-Err-Write.ensures.runs start begins) in
+    let A : Option (List FileAsked) → Type 0 = λ asked. Asked (g.H.Host.asked c.args.host.now) asked Second c.args.suspend.events.now true in
+    inr (record {
+      asked = subst A (sym c.play_file.ensures.asked) c.in-Ok.ensures.asked;
+      cause = c.in-Err-Write.ensures.write (ap (λ (f : RunFault). Err f) c.in-Err-Write.field-0-is);
+      content = λ trusted. record {
+        events = runs.0;
+        is_file = told_file file c.args.suspend.events.now before runs.0 c.in-Ok.ensures.left runs.1;
+        written = part_of_saved (g.K.Sink.written c.args.out.now) (g.K.Sink.written c.play_file.new.out) (run_of c.args.suspend.limit start runs.0)
+            (runs.2 (trusted_side c.play_file.ensures.keeps trusted));
+      };
+      events_read = λ done. cc;
+    })
+
+pub returns-in-Err-Swap-clause-played : goal.returns-in-Err-Swap-clause-played
+returns-in-Err-Swap-clause-played g c = λ start begins.
+    let file = g.H.Host.file c.args.host.now in
+    let before = g.H.Host.left c.pick_file.new.self Second in
+    let left = g.H.Host.left c.play_file.new.host Second in
+    let run = run_from Nothing c.args.suspend.limit start (put (g.K.Sink.written c.args.out.now)) in
+    let now : Stand = stand g.W.SwapStore.is_honest g.W.SwapStore.held c.play_file.new.kernel (put (g.K.Sink.written c.play_file.new.out)) in
+    let P : RunFault → Type 0 = λ f. Runs run before left now (Err f) in
+    let runs : P faults.Swap = subst P c.in-Err-Swap.field-0-is (c.in-Err-Swap.ensures.runs start begins) in
+    let A : Option (List FileAsked) → Type 0 = λ asked. Asked (g.H.Host.asked c.args.host.now) asked Second c.args.suspend.events.now true in
+    inr (record {
+      asked = subst A (sym c.play_file.ensures.asked) c.in-Ok.ensures.asked;
+      cause = (
+        c.in-Err-Swap.ensures.swap (ap (λ (f : RunFault). Err f) c.in-Err-Swap.field-0-is),
+        record {
+          events = runs.0;
+          is_file = told_file file c.args.suspend.events.now before runs.0 c.in-Ok.ensures.left runs.1;
+          full = full_on (room_in c.args.kernel.now) (room_in c.play_file.new.kernel) start _ (room_stays c.play_file.ensures.keeps) runs.3;
+        },
+      );
+      content = λ trusted. steps_untouched _ _ c.args.suspend.limit _ (runs.2 (trusted_side c.play_file.ensures.keeps trusted));
+      events_read = λ done. cc;
+    })

@@ -1,0 +1,44 @@
+-- State files by their names, and how a call ends that reads one with a fault.
+use Rattle.std.specs.Prelude.{◌-◌, ℕ, List}
+use Rattle.machine_model.specs.State.Machine.{Machine}
+use Rattle.xousim.specs.declared.status.Status.{Status}
+use Rattle.xousim.specs.declared.status.Status.TheVariants.{Done, Usage, ReadFault, WriteFault, ImageFault, EventFault, StepLimit, SwapFault, NoMemory}
+use Rattle.xousim.specs.Outcome.Sides.{Told}
+use Rattle.xousim.specs.Outcome.Starts.{Room}
+use Rattle.xousim.specs.Reading.{IsFile}
+use Rattle.xousim.specs.StateFiles.{IsStateFault, Restores}
+
+-- the file of that name is a state file, and a run of so many slots goes on from this machine
+pub record StateFile (file : Told) (name : List ℕ) (slots : ℕ) (machine : Machine) : Type 0 where
+  pub bytes : List ℕ
+  pub read : IsFile file name bytes
+  pub restores : Restores bytes slots machine
+
+-- the room for pages in the RAM of a run that goes on from a machine: the slots take the others
+abbrev pub room_from : Machine → ℕ → Room
+room_from machine slots = record { frames = machine.capacity - slots; processes = machine.processes }
+
+-- What holds where there is no state to go on from, by the status: the file has this first fault; it couldn't be read, and the host's count
+-- of faults rose; there was no memory.
+abbrev pub RefusesState : Told → List ℕ → ℕ → Type 0 → Status → Type 0
+RefusesState file name slots host_rose (ImageFault fault) = (bytes : List ℕ) × IsFile file name bytes × IsStateFault bytes slots fault
+RefusesState file name slots host_rose ReadFault = host_rose
+RefusesState file name slots host_rose NoMemory = Unit {0}
+RefusesState file name slots host_rose Done = ⊥
+RefusesState file name slots host_rose Usage = ⊥
+RefusesState file name slots host_rose SwapFault = ⊥
+RefusesState file name slots host_rose (EventFault line) = ⊥
+RefusesState file name slots host_rose (StepLimit limit) = ⊥
+RefusesState file name slots host_rose WriteFault = ⊥
+
+-- the same of bytes that were read
+abbrev pub RefusesStateBytes : List ℕ → ℕ → Status → Type 0
+RefusesStateBytes bytes slots (ImageFault fault) = IsStateFault bytes slots fault
+RefusesStateBytes bytes slots NoMemory = Unit {0}
+RefusesStateBytes bytes slots ReadFault = ⊥
+RefusesStateBytes bytes slots Done = ⊥
+RefusesStateBytes bytes slots Usage = ⊥
+RefusesStateBytes bytes slots SwapFault = ⊥
+RefusesStateBytes bytes slots (EventFault line) = ⊥
+RefusesStateBytes bytes slots (StepLimit limit) = ⊥
+RefusesStateBytes bytes slots WriteFault = ⊥
