@@ -1,4 +1,5 @@
 -- What changes pages keeps every loan, so that the servers stay sound over the memory.
+use Rattle.xk_ports.specs.declared.store.SwapStore.{Ghosts as SwapStore}
 use Rattle.std.proofs.Common.{◌≡◌, ℕ, ◌+◌, ◌≤◌, ◌<◌, if◌then◌else◌, Bool, true, false, List, Option, Some, None, refl, sym, ap, subst, ◌∙◌, arith, nat_le}
 use Rattle.std.specs.Prelude.{Result, Ok, Err}
 use Rattle.std.proofs.lemmas.Bool.{and_parts, leb-true}
@@ -111,21 +112,21 @@ console_free : (mapped : Bool) (r : Result Vpn XousError) (first : Vpn) → Ok f
 console_free true r first e = cc
 console_free false r first e = (refl, sym e)
 
-pub make_console_keeps : {W : Type 0} (slot_count : W → ℕ) (held : W → Held) (mem : Memory W) → IsMemorySound slot_count mem → (pid : Pid) (at : Option Vpn) (w : Bool)
-    (r : Result Vpn XousError) (new : Ledger) → is_pid (processes mem) pid.0 ≡ true → r ≡ console_answer (processes mem) (ledger held mem) pid at
-    → new ≡ after_console pid w r (ledger held mem) → loans new ≡ loans (ledger held mem)
-make_console_keeps slot_count held mem sound pid at w r new process a e = ap loans e ∙ go r a
+pub make_console_keeps : {W : Type 0} (S : SwapStore W) (mem : Memory W) → IsMemorySound S.slot_count mem → (pid : Pid) (at : Option Vpn) (w : Bool)
+    (r : Result Vpn XousError) (new : Ledger) → is_pid (processes mem) pid.0 ≡ true → r ≡ console_answer (processes mem) (ledger S.held mem) pid at
+    → new ≡ after_console pid w r (ledger S.held mem) → loans new ≡ loans (ledger S.held mem)
+make_console_keeps S mem sound pid at w r new process a e = ap loans e ∙ go r a
   where
-    go : (r : Result Vpn XousError) → r ≡ console_answer (processes mem) (ledger held mem) pid at → loans (after_console pid w r (ledger held mem)) ≡ loans (ledger held mem)
+    go : (r : Result Vpn XousError) → r ≡ console_answer (processes mem) (ledger S.held mem) pid at → loans (after_console pid w r (ledger S.held mem)) ≡ loans (ledger S.held mem)
     go (Ok first) a =
-        let found = console_free (console_mapped (processes mem) (ledger held mem)) (run_place (processes mem) (ledger held mem) pid Map at 1) first a in
-        make_console_loans (processes mem) (page_place pid first) w (ledger held mem) (can_console slot_count held mem sound pid at first process found.0 found.1)
+        let found = console_free (console_mapped (processes mem) (ledger S.held mem)) (run_place (processes mem) (ledger S.held mem) pid Map at 1) first a in
+        make_console_loans (processes mem) (page_place pid first) w (ledger S.held mem) (can_console S mem sound pid at first process found.0 found.1)
     go (Err error) a = refl
 
 -- ---- holders and orphans lie in the Message window
 
-pub sound-lawful : {W : Type 0} (slot_count : W → ℕ) (held : W → Held) (mem : Memory W) → IsMemorySound slot_count mem → IsLawful (processes mem) (capacity_of mem) (ledger held mem)
-sound-lawful slot_count held mem sound = bare-lawful (processes mem) (capacity_of mem) (blank_ledger mem) (ledger held mem) (bare-ledger held mem) sound.lawful
+pub sound-lawful : {W : Type 0} (S : SwapStore W) (mem : Memory W) → IsMemorySound S.slot_count mem → IsLawful (processes mem) (capacity_of mem) (ledger S.held mem)
+sound-lawful S mem sound = bare-lawful (processes mem) (capacity_of mem) (blank_ledger mem) (ledger S.held mem) (bare-ledger S.held mem) sound.lawful
 
 message_page : (procs : ℕ) (p : Place) → is_place_in procs Message p ≡ true → 262144 ≤ p.vpn.0
 message_page procs p e =

@@ -7,12 +7,12 @@ use Rattle.std.proofs.lemmas.Bool.{eq-eqb, eqb-true, false_from_ne_true, ne_eqb,
 use Rattle.std.proofs.lemmas.List.{append-nil, take_more}
 use Rattle.std.proofs.lemmas.List.Concat.{flat_map-append}
 use Rattle.std.proofs.lemmas.Option.{get_or_from_slice_get, slice_get_within}
-use Rattle.suspend_image.proofs.Parts.Keys.OrderLemmas.{servers_ascend}
-use Rattle.suspend_image.proofs.Parts.Servers.ServersLemmas.{apart_of}
-use Rattle.suspend_image.specs.ServerParts.{AreMessagesApart}
-use Rattle.suspend_image.specs.declared.state.MessageRow.{MessageRow}
-use Rattle.suspend_image.specs.declared.state.ServerRow.{ServerRow}
-use Rattle.suspend_image.specs.declared.state.State.{State}
+use Rattle.suspend_image.proofs.OrderLemmas.{servers_ascend}
+use Rattle.state_matching.proofs.ServerRows.ServersLemmas.{apart_of}
+use Rattle.state_matching.specs.ServerParts.{AreMessagesApart}
+use Rattle.state_rows.specs.declared.state.MessageRow.{MessageRow}
+use Rattle.state_rows.specs.declared.state.ServerRow.{ServerRow}
+use Rattle.state_rows.specs.declared.state.State.{State}
 use Rattle.xk_kernel.proofs.Resuming.OnceLemmas.{any_append, any_in_rows, any_row_at, any_taken, any_taken_at, once_in_rows}
 use Rattle.xk_kernel.proofs.Resuming.RowLemmas.{more_any, take_past}
 use Rattle.xk_kernel.proofs.Resuming.ThreadRowLemmas.{same_number}

@@ -27,6 +27,7 @@ use Rattle.xk_base.specs.declared.pages.Access.{Access}
 use Rattle.xk_base.specs.declared.pages.Access.TheVariants.{Store}
 use Rattle.xk_base.specs.declared.pages.Right.{Right}
 use Rattle.xk_kernel.specs.Resuming.Coming.{HasCome, HasFailed, HasFrames, IsKnownUntil, KeepsSize}
+use Rattle.xk_ports.specs.declared.store.SwapStore.{Ghosts as SwapStore}
 use Rattle.xk_ports.specs.Keeping.{KeepsStore}
 
 -- ---- steps of ledgers that are alike but for bytes
@@ -76,63 +77,63 @@ near_over : (k a b : Bool) → a ≡ true → b ≡ true → (k || (a && b)) ≡
 near_over true a b e f = refl
 near_over false a b e f = λ i. e i && f i
 
-module _ {W P : Type 0} (slot_count : W → ℕ) (is_honest : W → Bool) (held : W → Held) (asked : W → P) (faults : W → ℕ) (old new : Memory W)
-    (keeps : KeepsSize is_honest held slot_count asked faults old new) where
+module _ {W : Type 0} (S : SwapStore W) (old new : Memory W)
+    (keeps : KeepsSize S old new) where
   pub frames_same : frames_for_pages new ≡ frames_for_pages old
   frames_same = ap (λ (s : Size). page_frames s.area.frames s.procs) keeps.size
 
   pub had_frames : (total : ℕ) → HasFrames new total → HasFrames old total
   had_frames total has = let same = frames_same in omega (arith, same, has)
 
-  known_same : is_known is_honest held new ≡ is_known is_honest held old
+  known_same : is_known S new ≡ is_known S old
   known_same = λ i. keeps.store.honest i && keeps.store.told i
 
-  pub was_known : (total : ℕ) → IsKnownUntil is_honest held new total → IsKnownUntil is_honest held old total
+  pub was_known : (total : ℕ) → IsKnownUntil S new total → IsKnownUntil S old total
   was_known total (inl known) = inl (sym known_same ∙ known)
   was_known total (inr has) = inr (had_frames total has)
 
-  pub first_means : MeansBytesOver is_honest held old new → MeansBytes is_honest held old
-  first_means over = over_first (is_known is_honest held old) (none_out old) (none_out new) over
+  pub first_means : MeansBytesOver S old new → MeansBytes S old
+  first_means over = over_first (is_known S old) (none_out old) (none_out new) over
 
-  module _ (total : ℕ) (l : Ledger) (come : HasCome slot_count is_honest held total old l) where
+  module _ (total : ℕ) (l : Ledger) (come : HasCome S total old l) where
     -- bytes are known over the call where they are known until there are so many pages
-    over : (HasFrames old total → none_out old ≡ true → none_out new ≡ true) → IsKnownUntil is_honest held new total → MeansBytesOver is_honest held old new
-    over none (inl known) = known_over (is_known is_honest held old) (none_out old) (none_out new) (sym known_same ∙ known)
+    over : (HasFrames old total → none_out old ≡ true → none_out new ≡ true) → IsKnownUntil S new total → MeansBytesOver S old new
+    over none (inl known) = known_over (is_known S old) (none_out old) (none_out new) (sym known_same ∙ known)
     over none (inr has) =
         let there = had_frames total has in
-        near_over (is_known is_honest held old) (none_out old) (none_out new) (come.near there) (none there (come.near there))
+        near_over (is_known S old) (none_out old) (none_out new) (come.near there) (none there (come.near there))
 
     -- so the memory comes to the ledger after the step
-    pub step_comes : (step : Ledger → Ledger) → IsSound slot_count new → IsUsable new
+    pub step_comes : (step : Ledger → Ledger) → IsSound S.slot_count new → IsUsable new
         → ((a b : Ledger) → bare a ≡ bare b → bare (step a) ≡ bare (step b))
-        → bare (ledger held new) ≡ bare (step (ledger held old))
-        → (MeansBytesOver is_honest held old new → ledger held new ≡ step (ledger held old))
+        → bare (ledger S.held new) ≡ bare (step (ledger S.held old))
+        → (MeansBytesOver S old new → ledger S.held new ≡ step (ledger S.held old))
         → (HasFrames old total → none_out old ≡ true → none_out new ≡ true)
-        → HasCome slot_count is_honest held total new (step l)
+        → HasCome S total new (step l)
     step_comes step sound usable alike rights whole none = record {
       sound = sound;
       usable = usable;
-      rights = rights ∙ alike (ledger held old) l come.rights;
+      rights = rights ∙ alike (ledger S.held old) l come.rights;
       whole = λ known. whole (over none known) ∙ ap step (come.whole (was_known total known));
       near = λ has. (let there = had_frames total has in none there (come.near there));
     }
 
     -- .. where the step is done whatever the store tells
-    pub exact_comes : (step : Ledger → Ledger) → IsSound slot_count new → IsUsable new
+    pub exact_comes : (step : Ledger → Ledger) → IsSound S.slot_count new → IsUsable new
         → ((a b : Ledger) → bare a ≡ bare b → bare (step a) ≡ bare (step b))
-        → ledger held new ≡ step (ledger held old) → (none_out old ≡ true → none_out new ≡ true)
-        → HasCome slot_count is_honest held total new (step l)
+        → ledger S.held new ≡ step (ledger S.held old) → (none_out old ≡ true → none_out new ≡ true)
+        → HasCome S total new (step l)
     exact_comes step sound usable alike is none = step_comes step sound usable alike (ap bare is) (λ known. is) (λ has. none)
 
     -- pages are made
-    pub make_comes : (first : Place) (n : ℕ) (right : Right) → IsSound slot_count new → IsUsable new
-        → bare (ledger held new) ≡ bare (make first n right (ledger held old))
-        → (MeansBytesOver is_honest held old new → ledger held new ≡ make first n right (ledger held old))
-        → (pages (processes old) (ledger held old) + n ≤ frames_for_pages old → none_out old ≡ true → none_out new ≡ true)
-        → pages (processes old) l + n ≤ total → HasCome slot_count is_honest held total new (make first n right l)
+    pub make_comes : (first : Place) (n : ℕ) (right : Right) → IsSound S.slot_count new → IsUsable new
+        → bare (ledger S.held new) ≡ bare (make first n right (ledger S.held old))
+        → (MeansBytesOver S old new → ledger S.held new ≡ make first n right (ledger S.held old))
+        → (pages (processes old) (ledger S.held old) + n ≤ frames_for_pages old → none_out old ≡ true → none_out new ≡ true)
+        → pages (processes old) l + n ≤ total → HasCome S total new (make first n right l)
     make_comes first n right sound usable rights whole near fits =
         step_comes (make first n right) sound usable (λ a b e. make_bare first n right b a e) rights whole
-        (λ has. near (let same = bare-pages (processes old) l (ledger held old) come.rights in omega (arith, same, fits, has)))
+        (λ has. near (let same = bare-pages (processes old) l (ledger S.held old) come.rights in omega (arith, same, fits, has)))
 
 -- ---- a page that is reached to be filled
 
@@ -163,20 +164,20 @@ served_make first n right r answer l is served = ap (λ x. after_make first.pid 
 -- ---- the calls as wholes
 
 -- a failure that is handed on
-pub on_failed : {W A E : Type 0} (held : W → Held) (slot_count : W → ℕ) (faults : W → ℕ) (r : Result A E) (old new : Memory W) → IsSound slot_count new
-    → loans (ledger held new) ≡ loans (ledger held old) → Rose (faults (store_of old)) (faults (store_of new)) → OnErr r (HasFailed held slot_count faults old new)
-on_failed held slot_count faults (Ok x) old new sound same rose = tt
-on_failed held slot_count faults (Err e) old new sound same rose = record { sound = sound; loans = same; rose = rose }
+pub on_failed : {W A E : Type 0} (S : SwapStore W) (r : Result A E) (old new : Memory W) → IsSound S.slot_count new
+    → loans (ledger S.held new) ≡ loans (ledger S.held old) → Rose (S.faults (store_of old)) (S.faults (store_of new)) → OnErr r (HasFailed S old new)
+on_failed S (Ok x) old new sound same rose = tt
+on_failed S (Err e) old new sound same rose = record { sound = sound; loans = same; rose = rose }
 
-module _ {W P : Type 0} (slot_count : W → ℕ) (is_honest : W → Bool) (held : W → Held) (asked : W → P) (faults : W → ℕ) where
+module _ {W : Type 0} (S : SwapStore W) where
   abbrev Keeps : Memory W → Memory W → Type 0
-  Keeps old new = KeepsSize is_honest held slot_count asked faults old new
+  Keeps old new = KeepsSize S old new
 
   -- what leaves the store alone keeps it
   pub keeps_equal : (old new : Memory W) → size new ≡ size old → store_of new ≡ store_of old → Keeps old new
   keeps_equal old new sizes stores = record {
     size = sizes;
-    store = subst (λ (w : W). KeepsStore is_honest held slot_count asked faults (store_of old) w) (sym stores) (record {
+    store = subst (λ (w : W). KeepsStore S (store_of old) w) (sym stores) (record {
       honest = refl;
       told = refl;
       slots = refl;
@@ -186,46 +187,46 @@ module _ {W P : Type 0} (slot_count : W → ℕ) (is_honest : W → Bool) (held 
   }
 
   -- a page that is brought in
-  near_comes : (old mid : Memory W) → Keeps old mid → IsSound slot_count mid → IsUsable mid → bare (ledger held mid) ≡ bare (ledger held old)
-      → (MeansBytes is_honest held old → ledger held mid ≡ ledger held old) → (none_out old ≡ true → mid ≡ old)
-      → (total : ℕ) (l : Ledger) → HasCome slot_count is_honest held total old l → HasCome slot_count is_honest held total mid l
+  near_comes : (old mid : Memory W) → Keeps old mid → IsSound S.slot_count mid → IsUsable mid → bare (ledger S.held mid) ≡ bare (ledger S.held old)
+      → (MeansBytes S old → ledger S.held mid ≡ ledger S.held old) → (none_out old ≡ true → mid ≡ old)
+      → (total : ℕ) (l : Ledger) → HasCome S total old l → HasCome S total mid l
   near_comes old mid keeps sound usable rights whole none total l come =
-      step_comes slot_count is_honest held asked faults old mid keeps total l come (λ k. k) sound usable (λ a b e. e) rights
-      (λ over. whole (first_means slot_count is_honest held asked faults old mid keeps over)) (λ has near. ap none_out (none near) ∙ near)
+      step_comes S old mid keeps total l come (λ k. k) sound usable (λ a b e. e) rights
+      (λ over. whole (first_means S old mid keeps over)) (λ has near. ap none_out (none near) ∙ near)
 
-  module _ (old mid new : Memory W) (at : Place) (bytes w : List ℕ) (first : Keeps old mid) (rights : bare (ledger held mid) ≡ bare (ledger held old))
-      (home : reach (processes old) (ledger held old) at Store ≡ Some (Homed at)) (is : w ≡ bytes)
-      (writes : ledger held new ≡ write_page (reach (processes mid) (ledger held mid) at Store) w (ledger held mid)) where
+  module _ (old mid new : Memory W) (at : Place) (bytes w : List ℕ) (first : Keeps old mid) (rights : bare (ledger S.held mid) ≡ bare (ledger S.held old))
+      (home : reach (processes old) (ledger S.held old) at Store ≡ Some (Homed at)) (is : w ≡ bytes)
+      (writes : ledger S.held new ≡ write_page (reach (processes mid) (ledger S.held mid) at Store) w (ledger S.held mid)) where
     -- the bytes are those of the page then
-    fill_writes : ledger held new ≡ write (Homed at) 0 bytes (ledger held mid)
+    fill_writes : ledger S.held new ≡ write (Homed at) 0 bytes (ledger S.held mid)
     fill_writes =
         let procs : processes mid ≡ processes old = ap (λ (s : Size). s.procs) first.size in
-        written_there (processes mid) (ledger held old) (ledger held mid) (ledger held new) at w rights (ap (λ n. reach n (ledger held old) at Store) procs ∙ home) writes
-        ∙ ap (λ xs. write (Homed at) 0 xs (ledger held mid)) is
+        written_there (processes mid) (ledger S.held old) (ledger S.held mid) (ledger S.held new) at w rights (ap (λ n. reach n (ledger S.held old) at Store) procs ∙ home) writes
+        ∙ ap (λ xs. write (Homed at) 0 xs (ledger S.held mid)) is
 
-    pub fill_rights : bare (ledger held new) ≡ bare (ledger held old)
-    fill_rights = ap bare fill_writes ∙ (write_bare (Homed at) 0 bytes (ledger held mid) ∙ rights)
+    pub fill_rights : bare (ledger S.held new) ≡ bare (ledger S.held old)
+    fill_rights = ap bare fill_writes ∙ (write_bare (Homed at) 0 bytes (ledger S.held mid) ∙ rights)
 
-    pub fill_comes : IsSound slot_count mid → IsUsable mid → (MeansBytes is_honest held old → ledger held mid ≡ ledger held old) → (none_out old ≡ true → mid ≡ old)
-        → size new ≡ size mid → store_of new ≡ store_of mid → IsSound slot_count new → IsUsable new → none_out new ≡ none_out mid
-        → (total : ℕ) (l : Ledger) → HasCome slot_count is_honest held total old l → HasCome slot_count is_honest held total new (write (Homed at) 0 bytes l)
+    pub fill_comes : IsSound S.slot_count mid → IsUsable mid → (MeansBytes S old → ledger S.held mid ≡ ledger S.held old) → (none_out old ≡ true → mid ≡ old)
+        → size new ≡ size mid → store_of new ≡ store_of mid → IsSound S.slot_count new → IsUsable new → none_out new ≡ none_out mid
+        → (total : ℕ) (l : Ledger) → HasCome S total old l → HasCome S total new (write (Homed at) 0 bytes l)
     fill_comes sound usable whole none sizes stores sounds uses same total l come =
-        exact_comes slot_count is_honest held asked faults mid new (keeps_equal mid new sizes stores) total l
+        exact_comes S mid new (keeps_equal mid new sizes stores) total l
         (near_comes old mid first sound usable rights whole none total l come) (write (Homed at) 0 bytes) sounds uses (writes_bare (Homed at) 0 bytes) fill_writes
         (λ near. same ∙ near)
 
   -- a page is reduced
-  pub reduce_comes : (old new : Memory W) (at : Place) (right : Right) → size new ≡ size old → store_of new ≡ store_of old → IsSound slot_count new → IsUsable new
-      → ledger held new ≡ reduce (in_run at 1) right (ledger held old) → (none_out old ≡ true → none_out new ≡ true)
-      → (total : ℕ) (l : Ledger) → HasCome slot_count is_honest held total old l → HasCome slot_count is_honest held total new (reduce (in_run at 1) right l)
+  pub reduce_comes : (old new : Memory W) (at : Place) (right : Right) → size new ≡ size old → store_of new ≡ store_of old → IsSound S.slot_count new → IsUsable new
+      → ledger S.held new ≡ reduce (in_run at 1) right (ledger S.held old) → (none_out old ≡ true → none_out new ≡ true)
+      → (total : ℕ) (l : Ledger) → HasCome S total old l → HasCome S total new (reduce (in_run at 1) right l)
   reduce_comes old new at right sizes stores sound usable is none total l come =
-      exact_comes slot_count is_honest held asked faults old new (keeps_equal old new sizes stores) total l come (reduce (in_run at 1) right) sound usable
+      exact_comes S old new (keeps_equal old new sizes stores) total l come (reduce (in_run at 1) right) sound usable
       (reduce_bare (in_run at 1) right) is none
 
   -- the console is mapped
-  pub console_comes : (old new : Memory W) (at : Place) (w : Bool) → size new ≡ size old → store_of new ≡ store_of old → IsSound slot_count new → IsUsable new
-      → ledger held new ≡ make_console at w (ledger held old) → (none_out old ≡ true → none_out new ≡ true)
-      → (total : ℕ) (l : Ledger) → HasCome slot_count is_honest held total old l → HasCome slot_count is_honest held total new (make_console at w l)
+  pub console_comes : (old new : Memory W) (at : Place) (w : Bool) → size new ≡ size old → store_of new ≡ store_of old → IsSound S.slot_count new → IsUsable new
+      → ledger S.held new ≡ make_console at w (ledger S.held old) → (none_out old ≡ true → none_out new ≡ true)
+      → (total : ℕ) (l : Ledger) → HasCome S total old l → HasCome S total new (make_console at w l)
   console_comes old new at w sizes stores sound usable is none total l come =
-      exact_comes slot_count is_honest held asked faults old new (keeps_equal old new sizes stores) total l come (make_console at w) sound usable
+      exact_comes S old new (keeps_equal old new sizes stores) total l come (make_console at w) sound usable
       (console_bare at w) is none

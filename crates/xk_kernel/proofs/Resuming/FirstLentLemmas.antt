@@ -10,14 +10,12 @@ use Rattle.ledger_model.proofs.Loans.OfNumberLemmas.{stands-home}
 use Rattle.ledger_model.specs.Ledger.{Ledger, PageLoan, loan_at, loan_of}
 use Rattle.ledger_model.specs.Loans.{LoanRun, Stands, lent_from, loan_of_run, loans, of_number, same_number}
 use Rattle.ledger_model.specs.Places.{in_run, moved}
-use Rattle.suspend_image.proofs.Parts.Keys.KeyLemmas.{Less, key_above, less_apart, less_behind, less_through, pair_is, pair_own, some, some_same}
-use Rattle.suspend_image.proofs.Parts.Keys.OrderLemmas.{pages_ascend}
-use Rattle.suspend_image.specs.Forms.{AreInOrder}
-use Rattle.suspend_image.specs.Machines.{ledger_page, loan_kind_of, place_at}
-use Rattle.suspend_image.specs.Reading.{least_first, least_second}
-use Rattle.suspend_image.specs.Rows.{page_key}
-use Rattle.suspend_image.specs.declared.state.PageRow.{PageRow}
-use Rattle.suspend_image.specs.declared.state.State.{State}
+use Rattle.state_rows.proofs.KeyLemmas.{Less, key_above, less_apart, less_behind, less_through, pair_is, pair_own, some, some_same}
+use Rattle.suspend_image.proofs.OrderLemmas.{pages_ascend}
+use Rattle.state_rows.specs.Order.{AreInOrder, least_first, least_second, page_key}
+use Rattle.state_rows.specs.Machines.{ledger_page, loan_kind_of, place_at}
+use Rattle.state_rows.specs.declared.state.PageRow.{PageRow}
+use Rattle.state_rows.specs.declared.state.State.{State}
 use Rattle.xk_base.specs.declared.ids.Place.{Place}
 use Rattle.xk_kernel.proofs.Resuming.StandingLemmas.{row_there}
 use Rattle.xk_kernel.specs.Resuming.Messages.{first_lent, is_lent_by}

@@ -1,4 +1,5 @@
 -- Where no page is out, there are frames for all pages: each stands in a frame of its own, and one frame more is free.
+use Rattle.xk_ports.specs.declared.store.SwapStore.{Ghosts as SwapStore}
 use Rattle.std.proofs.Common.{◌≡◌, ℕ, ◌+◌, ◌-◌, ◌≤◌, ◌<◌, Bool, true, false, refl, ap, ◌∙◌, arith}
 use Rattle.std.specs.Prelude.{◌==◌, is_some, if◌then◌else◌}
 use Rattle.std.proofs.lemmas.Bool.{cond-false, cond-true, eq-eqb, eqb-true, ne_eqb}
@@ -22,15 +23,15 @@ one_fails n k test low fails =
     let bound = count_below-bound n (λ j. if j == k then true else test j) in
     omega (arith, one, bound)
 
-pub near_pages_fit : {W : Type 0} (slot_count : W → ℕ) (held : W → Held) (m : Memory W) → IsSound slot_count m → IsUsable m → none_out m ≡ true
-    → pages (processes m) (ledger held m) ≤ frames_for_pages m
+pub near_pages_fit : {W : Type 0} (S : SwapStore W) (m : Memory W) → IsSound S.slot_count m → IsUsable m → none_out m ≡ true
+    → pages (processes m) (ledger S.held m) ≤ frames_for_pages m
 unfolding none_out
-near_pages_fit slot_count held m sound usable none =
+near_pages_fit S m sound usable none =
     let free = sound.room usable in
-    let table = table_of slot_count m sound in
+    let table = table_of S.slot_count m sound in
     let there : (extent m.owners).first + (free.frame - (extent m.owners).first) ≡ free.frame = omega (arith, free.within.0) in
     let few = one_fails (extent m.owners).frames (free.frame - (extent m.owners).first) (λ k. is_some (infos m.owners (frame_seat ((extent m.owners).first + k))))
     (omega (arith, free.within.0, free.within.1)) (ap (λ f. is_some (infos m.owners (frame_seat f))) there ∙ ap is_some free.free) in
     let no_slot : used_slots m.owners ≡ 0 = eqb-true (used_slots m.owners) 0 none in
-    let same = pages-ledger held m in
+    let same = pages-ledger S.held m in
     omega (arith, few, no_slot, same, sound.seats, sound.pages, table.room)

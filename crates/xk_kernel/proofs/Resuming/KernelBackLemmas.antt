@@ -1,5 +1,6 @@
 -- The kernel that is made again stands for the machine of its state, and is sound. Where the store failed on the way, its servers can be
 -- closed.
+use Rattle.xk_ports.specs.declared.store.SwapStore.{Ghosts as SwapStore}
 use Rattle.std.proofs.Common.{◌≡◌, ℕ, ◌+◌, ◌≤◌, Bool, true, false, ◌&&◌, List, map, refl, sym, ap, subst, ◌∙◌, arith, inl, inr}
 use Rattle.std.specs.Prelude.{IsTrue}
 use Rattle.std.specs.Option.{option_map}
@@ -16,10 +17,10 @@ use Rattle.send_path.specs.Parts.{process_of, thread_of}
 use Rattle.server_table.specs.Listed.{listed_servers}
 use Rattle.server_table.specs.ServersOf.{servers_of}
 use Rattle.server_table.specs.declared.table.Servers.{Servers}
-use Rattle.suspend_image.proofs.Parts.Keys.KeyLemmas.{either}
-use Rattle.suspend_image.specs.Machines.{claims_of as state_claims, compare_of, machine_of as state_machine, pending_of, processes_of as state_processes, reservation_of, thread_at_id, threads_of as state_threads}
-use Rattle.suspend_image.specs.declared.state.MessageRow.{MessageRow}
-use Rattle.suspend_image.specs.declared.state.State.{State}
+use Rattle.state_rows.proofs.KeyLemmas.{either}
+use Rattle.state_rows.specs.Machines.{claims_of as state_claims, compare_of, machine_of as state_machine, pending_of, processes_of as state_processes, reservation_of, thread_at_id, threads_of as state_threads}
+use Rattle.state_rows.specs.declared.state.MessageRow.{MessageRow}
+use Rattle.state_rows.specs.declared.state.State.{State}
 use Rattle.sv32_space.specs.Tie.{Held}
 use Rattle.thread_table.specs.ThreadsOf.{process_count as processes_threaded, threads_of}
 use Rattle.vm_memory.specs.Bytes.{MeansBytes, is_known, none_out}
@@ -65,15 +66,15 @@ module _ {W : Type 0} (s : State) (slots : ℕ) (split : CanSplit s slots) (m : 
 
 -- Where bytes mean something, they are known until all pages of the state are there: they are known, or no page is out, and so there are
 -- frames for all.
-pub means_known : {W : Type 0} (slot_count : W → ℕ) (is_honest : W → Bool) (held : W → Held) (file : List ℕ) (s : State) (m : Memory W) → processes m ≡ s.n
-    → HasCome slot_count is_honest held (state_pages file s) m (state_ledger file s) → MeansBytes is_honest held m
-    → IsKnownUntil is_honest held m (state_pages file s)
-means_known slot_count is_honest held file s m procs come means = elim (cases_Bool (is_known is_honest held m)) [
+pub means_known : {W : Type 0} (S : SwapStore W) (file : List ℕ) (s : State) (m : Memory W) → processes m ≡ s.n
+    → HasCome S (state_pages file s) m (state_ledger file s) → MeansBytes S m
+    → IsKnownUntil S m (state_pages file s)
+means_known S file s m procs come means = elim (cases_Bool (is_known S m)) [
   | inl known ↦ inl known
   | inr untold ↦
-      let fit = near_pages_fit slot_count held m come.sound come.usable (either (is_known is_honest held m) (none_out m) untold means) in
-      let here = ap (λ n. pages n (ledger held m)) procs in
-      let same = bare-pages s.n (state_ledger file s) (ledger held m) come.rights in
+      let fit = near_pages_fit S m come.sound come.usable (either (is_known S m) (none_out m) untold means) in
+      let here = ap (λ n. pages n (ledger S.held m)) procs in
+      let same = bare-pages s.n (state_ledger file s) (ledger S.held m) come.rights in
       inr (omega (arith, fit, here, same))
 ]
 
@@ -126,36 +127,37 @@ module _ {W : Type 0} (held : W → Held) (file : List ℕ) (s : State) (slots :
     whole = λ known. resumed_over (state_ledger file s) (whole known);
   }
 
-  pub resumed_sound : (slot_count : W → ℕ) → IsMemorySound slot_count k.mem → processes_threaded k.threads ≡ s.n → processes_made k.procs ≡ s.n
-      → RECORD_LIMIT ≤ k.log.room
-      → IsSound slot_count held k
-  resumed_sound slot_count mem threaded made room = record {
-    whole = record {
-      mem = mem;
-      threads = threaded ∙ sym count;
-      procs = made ∙ sym count;
-      cursor =
-          subst (λ (id : ThreadId). IsTrue (is_thread_id (processes k.mem) id)) (sym is.cursor)
-          (subst (λ (n : ℕ). IsTrue (is_thread_id n (thread_at_id s.cursor_pid s.cursor_tid))) (sym count) cursor_lies);
-      room = room;
-      servers =
-          subst (λ (n : ℕ). AreServersSound n (loans (ledger held k.mem)) k.servers k.queues) (sym count)
-          (subst (λ (x : Loans). AreServersSound s.n x k.servers k.queues) (sym (bare-loans (state_ledger file s) (ledger held k.mem) is.rights))
-          (servers_back file s h k.servers is.servers k.queues is.messages));
-    };
-    matched = λ usable. matched_alike (machine_of held k) (state_machine file s) (resumed_comes {known = ⊥} (λ never. absurd never)).alike h.matched;
-  }
-    where
-      count : processes k.mem ≡ s.n
-      count = resumed_processes s slots split k.mem is.size
+-- it is sound
+pub resumed_sound : {W : Type 0} (S : SwapStore W) (file : List ℕ) (s : State) (slots : ℕ) → (h : IsResumable file s)
+    → (split : CanSplit s slots) → (k : Kernel W) → (is : IsResumed S.held file s slots k) → IsMemorySound S.slot_count k.mem
+    → processes_threaded k.threads ≡ s.n → processes_made k.procs ≡ s.n → RECORD_LIMIT ≤ k.log.room → IsSound S k
+resumed_sound S file s slots h split k is mem threaded made room = record {
+  whole = record {
+    mem = mem;
+    threads = threaded ∙ sym count;
+    procs = made ∙ sym count;
+    cursor =
+        subst (λ (id : ThreadId). IsTrue (is_thread_id (processes k.mem) id)) (sym is.cursor)
+        (subst (λ (n : ℕ). IsTrue (is_thread_id n (thread_at_id s.cursor_pid s.cursor_tid))) (sym count) cursor_lies);
+    room = room;
+    servers =
+        subst (λ (n : ℕ). AreServersSound n (loans (ledger S.held k.mem)) k.servers k.queues) (sym count)
+        (subst (λ (x : Loans). AreServersSound s.n x k.servers k.queues) (sym (bare-loans (state_ledger file s) (ledger S.held k.mem) is.rights))
+        (servers_back file s h k.servers is.servers k.queues is.messages));
+  };
+  matched = λ usable. matched_alike (machine_of S.held k) (state_machine file s) (resumed_comes S.held file s slots h split k is {known = ⊥} (λ never. absurd never)).alike h.matched;
+}
+  where
+    count : processes k.mem ≡ s.n
+    count = resumed_processes s slots split k.mem is.size
 
-      cursor_lies : IsTrue (is_thread_id s.n (thread_at_id s.cursor_pid s.cursor_tid))
-      cursor_lies =
-          let pid = h.spelled.form.cursor_pid in
-          let tid = h.spelled.form.cursor_tid in
-          and_from (is_pid s.n s.cursor_pid) (is_tid s.cursor_tid)
-          (and_from _ _ (le-leb 2 s.cursor_pid pid.at_least) (lt-ltb s.cursor_pid (s.n + 2) (let most = pid.at_most in omega (arith, most))))
-          (and_from _ _ (le-leb 1 s.cursor_tid tid.at_least) (le-leb s.cursor_tid 31 tid.at_most))
+    cursor_lies : IsTrue (is_thread_id s.n (thread_at_id s.cursor_pid s.cursor_tid))
+    cursor_lies =
+        let pid = h.spelled.form.cursor_pid in
+        let tid = h.spelled.form.cursor_tid in
+        and_from (is_pid s.n s.cursor_pid) (is_tid s.cursor_tid)
+        (and_from _ _ (le-leb 2 s.cursor_pid pid.at_least) (lt-ltb s.cursor_pid (s.n + 2) (let most = pid.at_most in omega (arith, most))))
+        (and_from _ _ (le-leb 1 s.cursor_tid tid.at_least) (le-leb s.cursor_tid 31 tid.at_most))
 
 -- ---- after a failure
 
@@ -169,16 +171,16 @@ stopped_servers held file s h t listed m count numbers same q back =
     (subst (λ (x : Loans). AreServersSound s.n x t q) (sym same) (servers_part file s h numbers t listed q back))
 
 -- Where the store failed while the pages came back, all orphans are back with their messages.
-pub pages_stopped : {W P : Type 0} (slot_count : W → ℕ) (is_honest : W → Bool) (held : W → Held) (asked : W → P) (faults : W → ℕ) (file : List ℕ) (s : State)
-    (first old new : Memory W) (q : List Seat) → KeepsSize is_honest held slot_count asked faults first old
-    → HasCome slot_count is_honest held (state_pages file s) old (standing_of file s (pages_before s.pages 0)) → AreBack s is_orphaned q
-    → HasFailed held slot_count faults old new → IsStopped slot_count held faults file s first new q
-pages_stopped slot_count is_honest held asked faults file s first old new q keeps come back failed = record {
+pub pages_stopped : {W : Type 0} (S : SwapStore W) (file : List ℕ) (s : State)
+    (first old new : Memory W) (q : List Seat) → KeepsSize S first old
+    → HasCome S (state_pages file s) old (standing_of file s (pages_before s.pages 0)) → AreBack s is_orphaned q
+    → HasFailed S old new → IsStopped S file s first new q
+pages_stopped S file s first old new q keeps come back failed = record {
   numbers = λ number. true;
   sound = failed.sound;
-  loans = failed.loans ∙ bare-loans (standing_of file s (pages_before s.pages 0)) (ledger held old) come.rights;
+  loans = failed.loans ∙ bare-loans (standing_of file s (pages_before s.pages 0)) (ledger S.held old) come.rights;
   back = subst (λ (test : MessageRow → Bool). AreBack s test q) (λ i row. sym (and_true (is_orphaned row)) i) back;
-  rose = rose_over (faults (store_of first)) (faults (store_of old)) (faults (store_of new)) keeps.store.never_falls failed.rose;
+  rose = rose_over (S.faults (store_of first)) (S.faults (store_of old)) (S.faults (store_of new)) keeps.store.never_falls failed.rose;
 }
   where
     and_true : (b : Bool) → (b && true) ≡ b

@@ -1,4 +1,5 @@
 -- The messages whose lender didn't die come back one after the other, each with its loan: what holds before and after each.
+use Rattle.xk_ports.specs.declared.store.SwapStore.{Ghosts as SwapStore}
 use Rattle.std.proofs.Common.{◌≡◌, ℕ, ◌+◌, ◌-◌, ◌≤◌, ◌<◌, Bool, true, false, List, length, Option, Some, None, Ok, refl, sym, ap, subst, ◌∙◌, arith, inl, inr}
 use Rattle.std.specs.Prelude.{◌==◌, ◌&&◌, ◌||◌, ◌≢◌, All, is_some, slice_get, if◌then◌else◌}
 use Rattle.std.specs.List.{list_any}
@@ -14,15 +15,15 @@ use Rattle.ledger_model.specs.Steps.{lend}
 use Rattle.loan_flags.specs.Sending.{mem_kind}
 use Rattle.msg_queue.specs.Seats.{Seat, changed_at, seat_of, used_of, with_held_at, with_queued}
 use Rattle.msg_queue.specs.declared.held.Held.{Held as HeldMessage}
-use Rattle.suspend_image.proofs.Parts.Keys.KeyLemmas.{found_any}
+use Rattle.state_rows.proofs.KeyLemmas.{found_any}
 use Rattle.suspend_image.specs.Forms.{IsPageRow}
-use Rattle.suspend_image.specs.Machines.{ledger_page, message_of, place_at}
-use Rattle.suspend_image.specs.Rows.{page_key}
+use Rattle.state_rows.specs.Machines.{ledger_page, message_of, place_at}
+use Rattle.state_rows.specs.Order.{page_key}
 use Rattle.suspend_image.specs.Spelling.{orphan_bytes, page_bytes, rows_bytes}
-use Rattle.suspend_image.specs.declared.state.MessageRow.{MessageRow}
-use Rattle.suspend_image.specs.declared.state.PageRow.{PageRow}
-use Rattle.suspend_image.specs.declared.state.ServerRow.{ServerRow}
-use Rattle.suspend_image.specs.declared.state.State.{State}
+use Rattle.state_rows.specs.declared.state.MessageRow.{MessageRow}
+use Rattle.state_rows.specs.declared.state.PageRow.{PageRow}
+use Rattle.state_rows.specs.declared.state.ServerRow.{ServerRow}
+use Rattle.state_rows.specs.declared.state.State.{State}
 use Rattle.sv32_space.specs.Tie.{Held}
 use Rattle.vm_memory.specs.Loaning.Loans.{KeepsSeats}
 use Rattle.vm_memory.specs.Loaning.Sending.{IsFreeArrival, send_answer}
@@ -98,19 +99,19 @@ module _ (s : State) (i : ℕ) (server : ServerRow) (there : slice_get s.servers
       }) ∙ sym is)
 
 -- the messages before the k-th of the i-th server are back, and all whose lender died
-pub record AreLentTo {W P : Type 0} (slot_count : W → ℕ) (is_honest : W → Bool) (held : W → Held) (asked : W → P) (faults : W → ℕ) (file : List ℕ) (s : State)
+pub record AreLentTo {W : Type 0} (S : SwapStore W) (file : List ℕ) (s : State)
     (old now : Memory W) (queues : List Seat) (i k : ℕ) : Type 0 where
-  pub come : HasCome slot_count is_honest held (state_pages file s) now (standing_of file s (loans_before s.servers i k))
+  pub come : HasCome S (state_pages file s) now (standing_of file s (loans_before s.servers i k))
   pub back : AreBack s (is_back s.servers i k) queues
-  pub keeps : KeepsSize is_honest held slot_count asked faults old now
+  pub keeps : KeepsSize S old now
 
-module _ {W P : Type 0} (slot_count : W → ℕ) (is_honest : W → Bool) (held : W → Held) (asked : W → P) (faults : W → ℕ) (file : List ℕ) (s : State)
+module _ {W : Type 0} (S : SwapStore W) (file : List ℕ) (s : State)
     (h : IsResumable file s) where
   abbrev Keeps : Memory W → Memory W → Type 0
-  Keeps old new = KeepsSize is_honest held slot_count asked faults old new
+  Keeps old new = KeepsSize S old new
 
   abbrev Comes : Memory W → Ledger → Type 0
-  Comes m l = HasCome slot_count is_honest held (state_pages file s) m l
+  Comes m l = HasCome S (state_pages file s) m l
 
   abbrev whole : Ledger
   whole = state_ledger file s
@@ -160,36 +161,36 @@ module _ {W P : Type 0} (slot_count : W → ℕ) (is_honest : W → Bool) (held 
       not_yet : is_message_before s.servers i k row.number ≡ false
       not_yet = not_before file s h i server there k k row (omega arith) at
 
-      can : CanLend s.n (ledger held old) from row.count to (row_kind row) (number_of row)
-      can = bare-can_lend s.n (standing_of file s (loans_before s.servers i k)) (ledger held old) come.rights from row.count to (row_kind row) (number_of row)
+      can : CanLend s.n (ledger S.held old) from row.count to (row_kind row) (number_of row)
+      can = bare-can_lend s.n (standing_of file s (loans_before s.servers i k)) (ledger S.held old) come.rights from row.count to (row_kind row) (number_of row)
           (can_lend_again s.n s.cap whole h.matched.body.ledger.lawful (is_message_before s.servers i k) from row.count to (row_kind row) (number_of row) stands
           not_yet)
 
-      pub lent_sent : send_answer (processes old) (ledger held old) from row.count (mem_kind (row_kind row)) ≡ Ok tt
-      lent_sent = ap (λ n. send_answer n (ledger held old) from row.count (mem_kind (row_kind row))) procs
-          ∙ sent s.n (ledger held old) from row.count to (row_kind row) (number_of row) can
+      pub lent_sent : send_answer (processes old) (ledger S.held old) from row.count (mem_kind (row_kind row)) ≡ Ok tt
+      lent_sent = ap (λ n. send_answer n (ledger S.held old) from row.count (mem_kind (row_kind row))) procs
+          ∙ sent s.n (ledger S.held old) from row.count to (row_kind row) (number_of row) can
 
-      pub lent_arrive : IsFreeArrival (processes old) (ledger held old) to row.count
-      lent_arrive = subst (λ n. IsFreeArrival n (ledger held old) to row.count) (sym procs)
-          (arrives s.n (ledger held old) from row.count to (row_kind row) (number_of row) can)
+      pub lent_arrive : IsFreeArrival (processes old) (ledger S.held old) to row.count
+      lent_arrive = subst (λ n. IsFreeArrival n (ledger S.held old) to row.count) (sym procs)
+          (arrives s.n (ledger S.held old) from row.count to (row_kind row) (number_of row) can)
 
-      pub lent_fresh : IsFresh (loans (ledger held old)) (number_of row)
+      pub lent_fresh : IsFresh (loans (ledger S.held old)) (number_of row)
       lent_fresh = can.fresh
 
-      pub lent_comes : (new : Memory W) → KeepsSeats slot_count is_honest held old new
-          → ledger held new ≡ lend from row.count to (row_kind row) (number_of row) (ledger held old)
+      pub lent_comes : (new : Memory W) → KeepsSeats S old new
+          → ledger S.held new ≡ lend from row.count to (row_kind row) (number_of row) (ledger S.held old)
           → Comes new (standing_of file s (loans_before s.servers i (k + 1)))
       lent_comes new keeps is =
           subst (Comes new)
           (sym (next_lent whole (loans_of (is_message_before s.servers i k)) from row.count to (row_kind row) (number_of row) stands (λ p. refl))
           ∙ ap (λ f. standing (loans_of f) whole) (sym (next_before s i server there k row at)))
-          (lend_comes slot_count is_honest held asked faults old new keeps (state_pages file s) (standing_of file s (loans_before s.servers i k)) come
+          (lend_comes S old new keeps (state_pages file s) (standing_of file s (loans_before s.servers i k)) come
           from row.count to (row_kind row) (number_of row) is)
 
   -- ---- the loops
 
   abbrev To : Memory W → Memory W → List Seat → ℕ → ℕ → Type 0
-  To old now queues i k = AreLentTo slot_count is_honest held asked faults file s old now queues i k
+  To old now queues i k = AreLentTo S file s old now queues i k
 
   no_home : (o : Option Page) (b : Bool) → is_some o ≡ b → option_map (page_among (λ number. false)) o
       ≡ (if b then option_map (page_among (λ number. false)) o else None)
@@ -212,7 +213,7 @@ module _ {W P : Type 0} (slot_count : W → ℕ) (is_honest : W → Bool) (held 
     come = subst (Comes m) (sym (ap (λ f. standing (loans_of f) whole) (none_before s.servers) ∙ all_homes)) come;
     back = back_same s is_orphaned (is_back s.servers 0 0) queues back (λ j other there l y e.
         ap (λ b. is_orphaned y || b) (λ n. none_before s.servers n y.number) ∙ or_false (is_orphaned y));
-    keeps = keeps_same slot_count is_honest held asked faults m;
+    keeps = keeps_same S m;
   }
     where
       or_false : (b : Bool) → (b || false) ≡ b
@@ -297,7 +298,7 @@ module _ {W P : Type 0} (slot_count : W → ℕ) (is_honest : W → Bool) (held 
                 (back_changed s before after queues to.back i (server_low file s h i server there) server there (with_queued (row_held s.pages server.pid row))
                 (queued_again s before after queues to.back i (server_low file s h i server there) server there k row at not_back is_after same_here first
                 behind) same_there);
-            keeps = keeps_over slot_count is_honest held asked faults old now new to.keeps keeps;
+            keeps = keeps_over S old now new to.keeps keeps;
           }
             where
               behind : (l : ℕ) (y : MessageRow) → slice_get server.queued l ≡ Some y → k ≤ l → before y ≡ false
@@ -313,7 +314,7 @@ module _ {W P : Type 0} (slot_count : W → ℕ) (is_honest : W → Bool) (held 
                 (with_held_at (k - length server.queued) (row_held s.pages server.pid row))
                 (held_again_at s before after queues to.back i (server_low file s h i server there) server there k row at not_back is_after same_here second
                 held_before) same_there);
-            keeps = keeps_over slot_count is_honest held asked faults old now new to.keeps keeps;
+            keeps = keeps_over S old now new to.keeps keeps;
           }
 
   -- ---- all servers

@@ -1,4 +1,5 @@
 -- The messages whose lender died are held again one after the other: what holds before and after each.
+use Rattle.xk_ports.specs.declared.store.SwapStore.{Ghosts as SwapStore}
 use Rattle.std.proofs.Common.{◌≡◌, ℕ, ◌+◌, ◌-◌, ◌≤◌, ◌<◌, Bool, true, false, List, length, Option, Some, None, Result, refl, sym, ap, subst, ◌∙◌, arith, inl, inr}
 use Rattle.std.specs.Prelude.{◌==◌, ◌&&◌, OnErr, slice_get, replicate, if◌then◌else◌}
 use Rattle.std.proofs.lemmas.Bool.{and_from, and_parts, and_right, both_ways, cases_Bool, cases_lt}
@@ -9,10 +10,10 @@ use Rattle.ledger_model.specs.Ledger.{Ledger, Orphan, empty_ledger}
 use Rattle.ledger_model.specs.Loans.{LoanRun, loans}
 use Rattle.msg_queue.specs.Seats.{Seat, changed_at, empty_seat, seat_of, used_of, with_held}
 use Rattle.msg_queue.specs.declared.held.Held.{Held as HeldMessage}
-use Rattle.suspend_image.specs.Machines.{message_of}
-use Rattle.suspend_image.specs.declared.state.MessageRow.{MessageRow}
-use Rattle.suspend_image.specs.declared.state.ServerRow.{ServerRow}
-use Rattle.suspend_image.specs.declared.state.State.{State}
+use Rattle.state_rows.specs.Machines.{message_of}
+use Rattle.state_rows.specs.declared.state.MessageRow.{MessageRow}
+use Rattle.state_rows.specs.declared.state.ServerRow.{ServerRow}
+use Rattle.state_rows.specs.declared.state.State.{State}
 use Rattle.sv32_space.specs.Tie.{Held}
 use Rattle.vm_memory.specs.Memory.{frames_for_pages, ledger, store_of}
 use Rattle.vm_memory.specs.declared.memory.Memory.{Memory}
@@ -60,25 +61,25 @@ orphan_held s i server there k row at orphaned msg loan same run =
     λ j. record { msg = same j; loan = is j }
 
 -- the messages before the k-th of the i-th server whose lender died are held, and their orphans are there
-pub record AreOrphansTo {W P : Type 0} (slot_count : W → ℕ) (is_honest : W → Bool) (held : W → Held) (asked : W → P) (faults : W → ℕ) (file : List ℕ)
+pub record AreOrphansTo {W : Type 0} (S : SwapStore W) (file : List ℕ)
     (s : State) (old now : Memory W) (queues : List Seat) (i k : ℕ) : Type 0 where
-  pub come : HasCome slot_count is_honest held (state_pages file s) now (standing_of file s (orphans_before s.servers i k))
+  pub come : HasCome S (state_pages file s) now (standing_of file s (orphans_before s.servers i k))
   pub back : AreBack s (is_orphan_back s.servers i k) queues
-  pub keeps : KeepsSize is_honest held slot_count asked faults old now
+  pub keeps : KeepsSize S old now
 
-module _ {W P : Type 0} (slot_count : W → ℕ) (is_honest : W → Bool) (held : W → Held) (asked : W → P) (faults : W → ℕ) (file : List ℕ) (s : State)
+module _ {W : Type 0} (S : SwapStore W) (file : List ℕ) (s : State)
     (h : IsResumable file s) where
   abbrev Keeps : Memory W → Memory W → Type 0
-  Keeps old new = KeepsSize is_honest held slot_count asked faults old new
+  Keeps old new = KeepsSize S old new
 
   abbrev Comes : Memory W → Ledger → Type 0
-  Comes m l = HasCome slot_count is_honest held (state_pages file s) m l
+  Comes m l = HasCome S (state_pages file s) m l
 
   abbrev whole : Ledger
   whole = state_ledger file s
 
   abbrev To : Memory W → Memory W → List Seat → ℕ → ℕ → Type 0
-  To old now queues i k = AreOrphansTo slot_count is_honest held asked faults file s old now queues i k
+  To old now queues i k = AreOrphansTo S file s old now queues i k
 
   pub orphans_none : (m : Memory W) (queues : List Seat) → queues ≡ replicate SERVER_LIMIT empty_seat → Comes m empty_ledger → To m m queues 0 0
   orphans_none m queues empty come = record {
@@ -86,7 +87,7 @@ module _ {W P : Type 0} (slot_count : W → ℕ) (is_honest : W → Bool) (held 
     back = subst (AreBack s (is_orphan_back s.servers 0 0)) (sym empty)
         (none_back s (is_orphan_back s.servers 0 0) (λ y. and_right (is_orphaned y) (is_message_before s.servers 0 0 y.number)
         (λ j. none_before s.servers j y.number)));
-    keeps = keeps_same slot_count is_honest held asked faults m;
+    keeps = keeps_same S m;
   }
 
   -- ---- what a failure leaves
@@ -94,27 +95,27 @@ module _ {W P : Type 0} (slot_count : W → ℕ) (is_honest : W → Bool) (held 
   module _ (old now : Memory W) (keeps : Keeps old now) where
     pub full_over : {A E : Type 0} (r : Result A E) → frames_for_pages now < state_pages file s → OnErr r (frames_for_pages old < state_pages file s)
     full_over r full =
-        let same = frames_same slot_count is_honest held asked faults old now keeps in
+        let same = frames_same S old now keeps in
         on_err r (frames_for_pages old < state_pages file s) (omega (arith, same, full))
 
-    pub stopped_over : {A E : Type 0} (r : Result A E) (new : Memory W) (queues : List Seat) → IsStopped slot_count held faults file s now new queues
-        → OnErr r (IsStopped slot_count held faults file s old new queues)
-    stopped_over r new queues stopped = on_err r (IsStopped slot_count held faults file s old new queues) (record {
+    pub stopped_over : {A E : Type 0} (r : Result A E) (new : Memory W) (queues : List Seat) → IsStopped S file s now new queues
+        → OnErr r (IsStopped S file s old new queues)
+    stopped_over r new queues stopped = on_err r (IsStopped S file s old new queues) (record {
       numbers = stopped.numbers;
       sound = stopped.sound;
       loans = stopped.loans;
       back = stopped.back;
-      rose = rose_over (faults (store_of old)) (faults (store_of now)) (faults (store_of new)) keeps.store.never_falls stopped.rose;
+      rose = rose_over (S.faults (store_of old)) (S.faults (store_of now)) (S.faults (store_of new)) keeps.store.never_falls stopped.rose;
     })
 
   pub orphans_failed : {A E : Type 0} (r : Result A E) (old now new : Memory W) (queues : List Seat) (i k : ℕ) → To old now queues i k
-      → HasFailed held slot_count faults now new → OnErr r (IsStopped slot_count held faults file s old new queues)
-  orphans_failed r old now new queues i k to failed = on_err r (IsStopped slot_count held faults file s old new queues) (record {
+      → HasFailed S now new → OnErr r (IsStopped S file s old new queues)
+  orphans_failed r old now new queues i k to failed = on_err r (IsStopped S file s old new queues) (record {
     numbers = is_message_before s.servers i k;
     sound = failed.sound;
-    loans = failed.loans ∙ bare-loans (standing_of file s (orphans_before s.servers i k)) (ledger held now) to.come.rights;
+    loans = failed.loans ∙ bare-loans (standing_of file s (orphans_before s.servers i k)) (ledger S.held now) to.come.rights;
     back = to.back;
-    rose = rose_over (faults (store_of old)) (faults (store_of now)) (faults (store_of new)) to.keeps.store.never_falls failed.rose;
+    rose = rose_over (S.faults (store_of old)) (S.faults (store_of now)) (S.faults (store_of new)) to.keeps.store.never_falls failed.rose;
   })
 
   -- ---- a server
@@ -188,7 +189,7 @@ module _ {W P : Type 0} (slot_count : W → ℕ) (is_honest : W → Bool) (held 
               (held_again s before after queues to.back i (server_low file s h i server there) server there k row at not_yet passes
               (λ l y e differ. same_other i l server y there e (λ same_server same_place. differ same_place)) second behind)
               (λ j other differ there_too l y e. same_other j l other y there_too e (λ same_server same_place. differ same_server)));
-          keeps = keeps_over slot_count is_honest held asked faults old now new to.keeps keeps;
+          keeps = keeps_over S old now new to.keeps keeps;
         }
           where
             passes : after row ≡ true

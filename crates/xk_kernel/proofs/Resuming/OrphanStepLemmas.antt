@@ -1,4 +1,5 @@
 -- The memory as the orphans of a message come back: what each call asks of it, and what it leaves.
+use Rattle.xk_ports.specs.declared.store.SwapStore.{Ghosts as SwapStore}
 use Rattle.std.proofs.Common.{◌≡◌, ℕ, ◌+◌, ◌-◌, ◌≤◌, ◌<◌, Bool, true, false, cond, List, [], ◌∷◌, length, take, drop, Option, Some, None, Result, Ok, Err, refl, sym, ap, subst, ◌∙◌, arith, inl, inr}
 use Rattle.std.specs.Prelude.{◌==◌, ◌&&◌, OnErr, is_some, All, slice_range}
 use Rattle.std.specs.List.{find}
@@ -17,12 +18,10 @@ use Rattle.ledger_model.specs.Loans.{bare}
 use Rattle.ledger_model.specs.Places.{in_run, place_after}
 use Rattle.ledger_model.specs.Reach.{reach}
 use Rattle.ledger_model.specs.Steps.{lend, make, orphan_loan, write}
-use Rattle.suspend_image.proofs.Sheets.WriteAgainLemmas.{spelled_stands}
-use Rattle.suspend_image.specs.Forms.{OrphanStandsIn}
-use Rattle.suspend_image.specs.Machines.{ledger_orphan}
-use Rattle.suspend_image.specs.Spelling.{contents_at}
-use Rattle.suspend_image.specs.declared.state.OrphanRow.{OrphanRow}
-use Rattle.suspend_image.specs.declared.state.State.{State}
+use Rattle.suspend_image.proofs.StandingLemmas.{spelled_stands, OrphanStandsIn}
+use Rattle.state_rows.specs.Machines.{ledger_orphan, contents_at}
+use Rattle.state_rows.specs.declared.state.OrphanRow.{OrphanRow}
+use Rattle.state_rows.specs.declared.state.State.{State}
 use Rattle.sv32_space.specs.Tie.{Held}
 use Rattle.vm_memory.proofs.Changing.SoundMemoryLemmas.{bare-ledger}
 use Rattle.vm_memory.specs.Bytes.{none_out}
@@ -101,9 +100,9 @@ part_long file begin stands =
 
 -- ---- a memory that has come
 
-pub still_come : {W : Type 0} (slot_count : W → ℕ) (is_honest : W → Bool) (held : W → Held) (m : Memory W) → IsSound slot_count m → IsUsable m
-    → HasCome slot_count is_honest held (frames_for_pages m + 1) m (ledger held m)
-still_come slot_count is_honest held m sound usable = record {
+pub still_come : {W : Type 0} (S : SwapStore W) (m : Memory W) → IsSound S.slot_count m → IsUsable m
+    → HasCome S (frames_for_pages m + 1) m (ledger S.held m)
+still_come S m sound usable = record {
   sound = sound;
   usable = usable;
   rights = refl;
@@ -111,14 +110,14 @@ still_come slot_count is_honest held m sound usable = record {
   near = λ has. absurd (omega (arith, has));
 }
 
-pub come_lawful : {W : Type 0} (slot_count : W → ℕ) (is_honest : W → Bool) (held : W → Held) (total : ℕ) (m : Memory W) (l : Ledger)
-    → HasCome slot_count is_honest held total m l → IsLawful (processes m) (capacity_of m) l
-come_lawful slot_count is_honest held total m l come =
-    bare-lawful (processes m) (capacity_of m) (blank_ledger m) l (sym come.rights ∙ bare-ledger held m) come.sound.lawful
+pub come_lawful : {W : Type 0} (S : SwapStore W) (total : ℕ) (m : Memory W) (l : Ledger)
+    → HasCome S total m l → IsLawful (processes m) (capacity_of m) l
+come_lawful S total m l come =
+    bare-lawful (processes m) (capacity_of m) (blank_ledger m) l (sym come.rights ∙ bare-ledger S.held m) come.sound.lawful
 
-module _ {W P : Type 0} (slot_count : W → ℕ) (is_honest : W → Bool) (held : W → Held) (asked : W → P) (faults : W → ℕ) where
+module _ {W : Type 0} (S : SwapStore W) where
   abbrev Keeps : Memory W → Memory W → Type 0
-  Keeps old new = KeepsSize is_honest held slot_count asked faults old new
+  Keeps old new = KeepsSize S old new
 
   pub procs_kept : (old new : Memory W) (n : ℕ) → Keeps old new → processes old ≡ n → processes new ≡ n
   procs_kept old new n keeps is = ap (λ (x : Size). x.procs) keeps.size ∙ is
@@ -130,91 +129,91 @@ module _ {W P : Type 0} (slot_count : W → ℕ) (is_honest : W → Bool) (held 
 
   -- the first i pages of the run are filled
   pub record AreFilledTo (whole : Ledger) (from : Place) (n : ℕ) (to : Place) (old now : Memory W) (i : ℕ) : Type 0 where
-    pub sound : IsSound slot_count now
+    pub sound : IsSound S.slot_count now
     pub usable : IsUsable now
-    pub rights : bare (ledger held now) ≡ bare (ledger held old)
-    pub comes : (total : ℕ) (l : Ledger) → HasCome slot_count is_honest held total old (make from n filling_right l)
-        → HasCome slot_count is_honest held total now (filled whole from n to i l)
+    pub rights : bare (ledger S.held now) ≡ bare (ledger S.held old)
+    pub comes : (total : ℕ) (l : Ledger) → HasCome S total old (make from n filling_right l)
+        → HasCome S total now (filled whole from n to i l)
     pub keeps : Keeps old now
 
   module _ (whole : Ledger) (from : Place) (n : ℕ) (to : Place) (old : Memory W) where
-    pub filled_none : IsSound slot_count old → IsUsable old → AreFilledTo whole from n to old old 0
+    pub filled_none : IsSound S.slot_count old → IsUsable old → AreFilledTo whole from n to old old 0
     filled_none sound usable = record {
       sound = sound;
       usable = usable;
       rights = refl;
-      comes = λ total l come. subst (HasCome slot_count is_honest held total old) (sym (none_filled whole from n to l)) come;
-      keeps = keeps_same slot_count is_honest held asked faults old;
+      comes = λ total l come. subst (HasCome S total old) (sym (none_filled whole from n to l)) come;
+      keeps = keeps_same S old;
     }
 
     module _ (now : Memory W) (i : ℕ) (back : AreFilledTo whole from n to old now i) where
-      pub filled_all : n ≤ i → i ≤ n → (total : ℕ) (l : Ledger) → HasCome slot_count is_honest held total old (make from n filling_right l)
-          → HasCome slot_count is_honest held total now (with_orphan_pages whole from n to l)
+      pub filled_all : n ≤ i → i ≤ n → (total : ℕ) (l : Ledger) → HasCome S total old (make from n filling_right l)
+          → HasCome S total now (with_orphan_pages whole from n to l)
       filled_all high low total l come =
           let end : i ≡ n = omega (arith, high, low) in
-          subst (HasCome slot_count is_honest held total now) (ap (λ k. filled whole from n to k l) end ∙ all_filled whole from n to l)
+          subst (HasCome S total now) (ap (λ k. filled whole from n to k l) end ∙ all_filled whole from n to l)
           (back.comes total l come)
 
       -- the next can be written
-      next_home : i < n → ((p : Place) → in_run from n p ≡ true → IsHomeOf (ledger held old) p filling_right)
-          → IsHomeOf (ledger held now) (place_after from i) filling_right
+      next_home : i < n → ((p : Place) → in_run from n p ≡ true → IsHomeOf (ledger S.held old) p filling_right)
+          → IsHomeOf (ledger S.held now) (place_after from i) filling_right
       next_home low homes =
-          still_made (ledger held old) (ledger held now) (place_after from i) filling_right back.rights (homes (place_after from i) (in_run-after from n i low))
+          still_made (ledger S.held old) (ledger S.held now) (place_after from i) filling_right back.rights (homes (place_after from i) (in_run-after from n i low))
 
-      pub next_may : i < n → ((p : Place) → in_run from n p ≡ true → IsHomeOf (ledger held old) p filling_right)
-          → reaches_bytes (processes now) (ledger held now) (place_after from i) Store ≡ true
-      next_may low homes = made_bytes (processes now) (ledger held now) (place_after from i) filling_right (next_home low homes) refl
+      pub next_may : i < n → ((p : Place) → in_run from n p ≡ true → IsHomeOf (ledger S.held old) p filling_right)
+          → reaches_bytes (processes now) (ledger S.held now) (place_after from i) Store ≡ true
+      next_may low homes = made_bytes (processes now) (ledger S.held now) (place_after from i) filling_right (next_home low homes) refl
 
-      pub next_reached : i < n → ((p : Place) → in_run from n p ≡ true → IsHomeOf (ledger held old) p filling_right)
-          → reach (processes now) (ledger held now) (place_after from i) Store ≡ Some (Homed (place_after from i))
-      next_reached low homes = made_reached (processes now) (ledger held now) (place_after from i) filling_right (next_home low homes) refl
+      pub next_reached : i < n → ((p : Place) → in_run from n p ≡ true → IsHomeOf (ledger S.held old) p filling_right)
+          → reach (processes now) (ledger S.held now) (place_after from i) Store ≡ Some (Homed (place_after from i))
+      next_reached low homes = made_reached (processes now) (ledger S.held now) (place_after from i) filling_right (next_home low homes) refl
 
       -- with one more
       pub filled_next : (new : Memory W) (bytes : List ℕ) (orphan : Orphan) → i < n → whole.orphan (place_after to i) ≡ Some orphan → orphan.bytes ≡ bytes
           → length bytes ≡ 4096
-          → Keeps now new → bare (ledger held new) ≡ bare (ledger held now)
-          → ((total : ℕ) (l : Ledger) → HasCome slot_count is_honest held total now l
-          → HasCome slot_count is_honest held total new (write (Homed (place_after from i)) 0 bytes l))
+          → Keeps now new → bare (ledger S.held new) ≡ bare (ledger S.held now)
+          → ((total : ℕ) (l : Ledger) → HasCome S total now l
+          → HasCome S total new (write (Homed (place_after from i)) 0 bytes l))
           → AreFilledTo whole from n to old new (i + 1)
       filled_next new bytes orphan low there same long keeps rights comes =
-          let own = comes (frames_for_pages now + 1) (ledger held now) (still_come slot_count is_honest held now back.sound back.usable) in
+          let own = comes (frames_for_pages now + 1) (ledger S.held now) (still_come S now back.sound back.usable) in
           record {
             sound = own.sound;
             usable = own.usable;
             rights = rights ∙ back.rights;
-            comes = λ total l come. subst (HasCome slot_count is_honest held total new) (next_filled whole from n to i l orphan bytes low there same long)
+            comes = λ total l come. subst (HasCome S total new) (next_filled whole from n to i l orphan bytes low there same long)
                 (comes total (filled whole from n to i l) (back.comes total l come));
-            keeps = keeps_over slot_count is_honest held asked faults old now new back.keeps keeps;
+            keeps = keeps_over S old now new back.keeps keeps;
           }
 
-      pub filling_failed : {A E : Type 0} (r : Result A E) (new : Memory W) → HasFailed held slot_count faults now new
-          → OnErr r (HasFailed held slot_count faults old new)
-      filling_failed r new failed = on_err r (HasFailed held slot_count faults old new)
-          (failed_over slot_count is_honest held asked faults old now new back.keeps (bare-loans (ledger held old) (ledger held now) back.rights) failed)
+      pub filling_failed : {A E : Type 0} (r : Result A E) (new : Memory W) → HasFailed S now new
+          → OnErr r (HasFailed S old new)
+      filling_failed r new failed = on_err r (HasFailed S old new)
+          (failed_over S old now new back.keeps (bare-loans (ledger S.held old) (ledger S.held now) back.rights) failed)
 
       pub filling_full : {A E : Type 0} (r : Result A E) → none_out now ≡ false → (total : ℕ) (l : Ledger)
-          → HasCome slot_count is_honest held total old (make from n filling_right l) → OnErr r (frames_for_pages old < total)
+          → HasCome S total old (make from n filling_right l) → OnErr r (frames_for_pages old < total)
       filling_full r out total l come =
-          let full = out_full slot_count is_honest held total now (filled whole from n to i l) (back.comes total l come) out in
-          let same = frames_same slot_count is_honest held asked faults old now back.keeps in
+          let full = out_full S total now (filled whole from n to i l) (back.comes total l come) out in
+          let same = frames_same S old now back.keeps in
           on_err r (frames_for_pages old < total) (omega (arith, full, same))
 
   -- ---- lending
 
-  module _ (old new : Memory W) (keeps : KeepsSeats slot_count is_honest held old new) where
+  module _ (old new : Memory W) (keeps : KeepsSeats S old new) where
     pub seats_keep : Keeps old new
-    seats_keep = keeps_equal slot_count is_honest held asked faults old new keeps.size keeps.store
+    seats_keep = keeps_equal S old new keeps.size keeps.store
 
-    module _ (total : ℕ) (l : Ledger) (come : HasCome slot_count is_honest held total old l) where
-      pub lend_comes : (from : Place) (n : ℕ) (to : Place) (kind : LoanKind) (number : Number) → ledger held new ≡ lend from n to kind number (ledger held old)
-          → HasCome slot_count is_honest held total new (lend from n to kind number l)
+    module _ (total : ℕ) (l : Ledger) (come : HasCome S total old l) where
+      pub lend_comes : (from : Place) (n : ℕ) (to : Place) (kind : LoanKind) (number : Number) → ledger S.held new ≡ lend from n to kind number (ledger S.held old)
+          → HasCome S total new (lend from n to kind number l)
       lend_comes from n to kind number is =
-          exact_comes slot_count is_honest held asked faults old new seats_keep total l come (lend from n to kind number) keeps.sound
+          exact_comes S old new seats_keep total l come (lend from n to kind number) keeps.sound
           (keeps.failed ∙ come.usable)
           (lend_bare from n to kind number) is keeps.none
 
-      pub orphan_comes : (procs : ℕ) (number : Number) → ledger held new ≡ orphan_loan procs number (ledger held old)
-          → HasCome slot_count is_honest held total new (orphan_loan procs number l)
+      pub orphan_comes : (procs : ℕ) (number : Number) → ledger S.held new ≡ orphan_loan procs number (ledger S.held old)
+          → HasCome S total new (orphan_loan procs number l)
       orphan_comes procs number is =
-          exact_comes slot_count is_honest held asked faults old new seats_keep total l come (orphan_loan procs number) keeps.sound (keeps.failed ∙ come.usable)
+          exact_comes S old new seats_keep total l come (orphan_loan procs number) keeps.sound (keeps.failed ∙ come.usable)
           (orphan_bare procs number) is keeps.none

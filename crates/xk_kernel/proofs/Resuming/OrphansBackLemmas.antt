@@ -1,4 +1,5 @@
 -- The messages whose lender died come back one after the other, each with its orphans.
+use Rattle.xk_ports.specs.declared.store.SwapStore.{Ghosts as SwapStore}
 use Rattle.std.proofs.Common.{◌≡◌, ℕ, ◌+◌, ◌^◌, ◌≤◌, ◌<◌, Bool, true, false, List, length, get_or, Some, None, Ok, refl, sym, ap, subst, ◌∙◌, arith, inl, inr}
 use Rattle.std.specs.Prelude.{◌==◌, IfSome, is_some, slice_get, if◌then◌else◌}
 use Rattle.std.specs.Option.{option_and_then, option_map}
@@ -13,10 +14,10 @@ use Rattle.ledger_model.specs.Loans.{IsFresh, LoanRun, Stands, bare, loans}
 use Rattle.ledger_model.specs.Places.{in_run, place_after}
 use Rattle.ledger_model.specs.Steps.{lend, make, new_page, orphan_loan, zero_page}
 use Rattle.loan_flags.specs.Sending.{mem_kind}
-use Rattle.suspend_image.specs.Machines.{place_at}
-use Rattle.suspend_image.specs.declared.state.MessageRow.{MessageRow}
-use Rattle.suspend_image.specs.declared.state.ServerRow.{ServerRow}
-use Rattle.suspend_image.specs.declared.state.State.{State}
+use Rattle.state_rows.specs.Machines.{place_at}
+use Rattle.state_rows.specs.declared.state.MessageRow.{MessageRow}
+use Rattle.state_rows.specs.declared.state.ServerRow.{ServerRow}
+use Rattle.state_rows.specs.declared.state.State.{State}
 use Rattle.sv32_space.specs.Tie.{Held}
 use Rattle.vm_memory.proofs.Changing.CrowdedLemmas.{make_bare}
 use Rattle.vm_memory.specs.Loaning.Sending.{IsFreeArrival, send_answer}
@@ -99,11 +100,11 @@ none_before servers = λ j number. before_none servers number j
 
 -- ---- the orphans of one message
 
-module _ {W : Type 0} (slot_count : W → ℕ) (is_honest : W → Bool) (held : W → Held)
+module _ {W : Type 0} (S : SwapStore W)
     (file : List ℕ) (s : State) (h : IsResumable file s) (i : ℕ) (server : ServerRow) (there : slice_get s.servers i ≡ Some server)
     (k : ℕ) (row : MessageRow) (at : slice_get (row_messages server) k ≡ Some row) (orphaned : is_orphaned row ≡ true)
     (old : Memory W) (procs : processes old ≡ s.n) (cap : capacity_of old ≡ s.cap)
-    (come : HasCome slot_count is_honest held (state_pages file s) old (standing_of file s (orphans_before s.servers i k)))
+    (come : HasCome S (state_pages file s) old (standing_of file s (orphans_before s.servers i k)))
     (from : Place) (own : from.pid.0 ≡ server.pid) (first : from.vpn.0 ≡ 0x60000) where
   abbrev whole : Ledger
   whole = state_ledger file s
@@ -146,17 +147,17 @@ module _ {W : Type 0} (slot_count : W → ℕ) (is_honest : W → Bool) (held : 
   pub orphans_fit : pages (processes old) now + row.count ≤ state_pages file s
   orphans_fit = let fits = fits_whole in let same : pages (processes old) now ≡ pages s.n now = ap (λ n. pages n now) procs in omega (arith, fits, same)
 
-  pub orphans_fit_now : pages (processes old) (ledger held old) + row.count ≤ state_pages file s
-  orphans_fit_now = let fits = orphans_fit in let same = bare-pages (processes old) now (ledger held old) come.rights in omega (arith, fits, same)
+  pub orphans_fit_now : pages (processes old) (ledger S.held old) + row.count ≤ state_pages file s
+  orphans_fit_now = let fits = orphans_fit in let same = bare-pages (processes old) now (ledger S.held old) come.rights in omega (arith, fits, same)
 
-  pub orphans_served : make_answer (processes old) (capacity_of old) (ledger held old) from.pid Map (Some from.vpn) row.count ≡ Ok from.vpn
+  pub orphans_served : make_answer (processes old) (capacity_of old) (ledger S.held old) from.pid Map (Some from.vpn) row.count ≡ Ok from.vpn
   orphans_served =
-      let same = bare-pages s.n now (ledger held old) come.rights in
+      let same = bare-pages s.n now (ledger S.held old) come.rights in
       let fits = fits_cap in
-      (λ j. make_answer (procs j) (cap j) (ledger held old) from.pid Map (Some from.vpn) row.count)
+      (λ j. make_answer (procs j) (cap j) (ledger S.held old) from.pid Map (Some from.vpn) row.count)
       ∙ made s.n s.cap whole h.matched.body.ledger.lawful so_far from row.count to (row_kind row) (number_of row) stands some not_yet own first
-      (ledger held old)
-      (λ p inside. bare-free s.n now (ledger held old) p come.rights
+      (ledger S.held old)
+      (λ p inside. bare-free s.n now (ledger S.held old) p come.rights
       ∙ free_now s.n s.cap whole h.matched.body.ledger.lawful so_far from row.count to (row_kind row) (number_of row) stands some not_yet own first p inside)
       (omega (arith, same, fits))
 
@@ -170,15 +171,15 @@ module _ {W : Type 0} (slot_count : W → ℕ) (is_honest : W → Bool) (held : 
       orphan_there s.n s.cap whole h.matched.body.ledger.lawful so_far from row.count to (row_kind row) (number_of row) stands some not_yet own first j low
 
   -- once the pages are made
-  module _ (mid : Memory W) (rights : bare (ledger held mid) ≡ bare (make from row.count filling_right (ledger held old))) where
-    made_alike : bare (ledger held mid) ≡ bare made_now
-    made_alike = rights ∙ make_bare from row.count filling_right now (ledger held old) come.rights
+  module _ (mid : Memory W) (rights : bare (ledger S.held mid) ≡ bare (make from row.count filling_right (ledger S.held old))) where
+    made_alike : bare (ledger S.held mid) ≡ bare made_now
+    made_alike = rights ∙ make_bare from row.count filling_right now (ledger S.held old) come.rights
 
-    pub made_loans : loans (ledger held mid) ≡ loans (ledger held old)
+    pub made_loans : loans (ledger S.held mid) ≡ loans (ledger S.held old)
     made_loans =
-        bare-loans made_now (ledger held mid) made_alike
+        bare-loans made_now (ledger S.held mid) made_alike
         ∙ (made_keeps s.n s.cap whole h.matched.body.ledger.lawful so_far from row.count to (row_kind row) (number_of row) stands some not_yet own first
-        ∙ sym (bare-loans now (ledger held old) come.rights))
+        ∙ sym (bare-loans now (ledger S.held old) come.rights))
 
     new_home : (p : Place) → in_run from row.count p ≡ true → IsHomeOf made_now p filling_right
     unfolding make
@@ -190,33 +191,33 @@ module _ {W : Type 0} (slot_count : W → ℕ) (is_honest : W → Bool) (held : 
       bytes = refl;
     }
 
-    pub made_homes : (p : Place) → in_run from row.count p ≡ true → IsHomeOf (ledger held mid) p filling_right
-    made_homes p inside = still_made made_now (ledger held mid) p filling_right made_alike (new_home p inside)
+    pub made_homes : (p : Place) → in_run from row.count p ≡ true → IsHomeOf (ledger S.held mid) p filling_right
+    made_homes p inside = still_made made_now (ledger S.held mid) p filling_right made_alike (new_home p inside)
 
   -- once they are filled
-  module _ (full : Memory W) (full_procs : processes full ≡ s.n) (full_come : HasCome slot_count is_honest held (state_pages file s) full filled_now) where
-    can : CanLend s.n (ledger held full) from row.count to (row_kind row) (number_of row)
+  module _ (full : Memory W) (full_procs : processes full ≡ s.n) (full_come : HasCome S (state_pages file s) full filled_now) where
+    can : CanLend s.n (ledger S.held full) from row.count to (row_kind row) (number_of row)
     can = can_lend_filled s.n s.cap whole h.matched.body.ledger.lawful so_far from row.count to (row_kind row) (number_of row) stands some not_yet own first
-        (ledger held full) full_come.rights
+        (ledger S.held full) full_come.rights
 
-    pub orphans_sent : send_answer (processes full) (ledger held full) from row.count (mem_kind (row_kind row)) ≡ Ok tt
-    orphans_sent = ap (λ n. send_answer n (ledger held full) from row.count (mem_kind (row_kind row))) full_procs
-        ∙ sent s.n (ledger held full) from row.count to (row_kind row) (number_of row) can
+    pub orphans_sent : send_answer (processes full) (ledger S.held full) from row.count (mem_kind (row_kind row)) ≡ Ok tt
+    orphans_sent = ap (λ n. send_answer n (ledger S.held full) from row.count (mem_kind (row_kind row))) full_procs
+        ∙ sent s.n (ledger S.held full) from row.count to (row_kind row) (number_of row) can
 
-    pub orphans_arrive : IsFreeArrival (processes full) (ledger held full) to row.count
-    orphans_arrive = subst (λ n. IsFreeArrival n (ledger held full) to row.count) (sym full_procs)
-        (arrives s.n (ledger held full) from row.count to (row_kind row) (number_of row) can)
+    pub orphans_arrive : IsFreeArrival (processes full) (ledger S.held full) to row.count
+    orphans_arrive = subst (λ n. IsFreeArrival n (ledger S.held full) to row.count) (sym full_procs)
+        (arrives s.n (ledger S.held full) from row.count to (row_kind row) (number_of row) can)
 
-    pub orphans_fresh : IsFresh (loans (ledger held full)) (number_of row)
+    pub orphans_fresh : IsFresh (loans (ledger S.held full)) (number_of row)
     orphans_fresh = can.fresh
 
   -- .. lent, and without their lender
   pub orphans_come : (new : Memory W) (n : ℕ) → n ≡ s.n
-      → HasCome slot_count is_honest held (state_pages file s) new
+      → HasCome S (state_pages file s) new
       (orphan_loan n (number_of row) (lend from row.count to (row_kind row) (number_of row) filled_now))
-      → HasCome slot_count is_honest held (state_pages file s) new (standing_of file s (orphans_before s.servers i (k + 1)))
+      → HasCome S (state_pages file s) new (standing_of file s (orphans_before s.servers i (k + 1)))
   orphans_come new n is =
-      let lawful_now = subst (λ m. IsLawful m (capacity_of old) now) procs (come_lawful slot_count is_honest held (state_pages file s) old now come) in
+      let lawful_now = subst (λ m. IsLawful m (capacity_of old) now) procs (come_lawful S (state_pages file s) old now come) in
       let fits = fits_cap in
       let target : orphan_loan n (number_of row) (lend from row.count to (row_kind row) (number_of row) filled_now)
       ≡ standing_of file s (orphans_before s.servers i (k + 1)) =
@@ -224,7 +225,7 @@ module _ {W : Type 0} (slot_count : W → ℕ) (is_honest : W → Bool) (held : 
       ∙ (orphans_back s.n s.cap whole h.matched.body.ledger.lawful so_far from row.count to (row_kind row) (number_of row) stands some not_yet own first
       (capacity_of old) lawful_now (omega (arith, fits, cap))
       ∙ ap (λ f. standing (orphans_of f) whole) (sym (next_before s i server there k row at))) in
-      λ done. subst (HasCome slot_count is_honest held (state_pages file s) new) target done
+      λ done. subst (HasCome S (state_pages file s) new) target done
 
   -- the loan that its message has
   pub orphans_run : (loan : LoanRun) → loan ≡ record { lender = None; holder = to; count = row.count; kind = row_kind row; number = number_of row }

@@ -1,4 +1,5 @@
 -- The pages of a state come back one after the other: what holds of the memory before and after each.
+use Rattle.xk_ports.specs.declared.store.SwapStore.{Ghosts as SwapStore}
 use Rattle.std.proofs.Common.{◌≡◌, ℕ, ◌+◌, ◌≤◌, ◌<◌, Bool, true, false, List, length, get_or, Option, Some, None, Result, Ok, Err, refl, sym, ap, subst, ◌∙◌, arith}
 use Rattle.std.specs.Prelude.{OnErr, is_some, not}
 use Rattle.std.specs.Option.{option_map}
@@ -12,9 +13,9 @@ use Rattle.ledger_model.specs.Loans.{bare, bare_contents, bare_page, loans}
 use Rattle.ledger_model.specs.Places.{is_place_in, is_user_place}
 use Rattle.ledger_model.specs.Reach.{is_free}
 use Rattle.ledger_model.specs.RunTests.{console_mapped}
-use Rattle.suspend_image.specs.Machines.{ledger_page, place_at}
-use Rattle.suspend_image.specs.declared.state.PageRow.{PageRow}
-use Rattle.suspend_image.specs.declared.state.State.{State}
+use Rattle.state_rows.specs.Machines.{ledger_page, place_at}
+use Rattle.state_rows.specs.declared.state.PageRow.{PageRow}
+use Rattle.state_rows.specs.declared.state.State.{State}
 use Rattle.sv32_space.specs.PageSteps.{place_page, without_loan}
 use Rattle.sv32_space.specs.Tie.{Held}
 use Rattle.vm_memory.specs.Memory.{Size, capacity_of, frames_for_pages, ledger, processes, store_of}
@@ -32,14 +33,14 @@ pub rose_over : (before mid now : ℕ) → before ≤ mid → Rose mid now → R
 rose_over before mid now le rose = omega (arith, le, rose)
 
 -- the pages of the first k rows are back
-pub record ArePagesTo {W P : Type 0} (slot_count : W → ℕ) (is_honest : W → Bool) (held : W → Held) (asked : W → P) (faults : W → ℕ)
+pub record ArePagesTo {W : Type 0} (S : SwapStore W)
     (file : List ℕ) (s : State) (old now : Memory W) (k : ℕ) : Type 0 where
-  pub come : HasCome slot_count is_honest held (state_pages file s) now (standing_of file s (pages_before s.pages k))
-  pub keeps : KeepsSize is_honest held slot_count asked faults old now
+  pub come : HasCome S (state_pages file s) now (standing_of file s (pages_before s.pages k))
+  pub keeps : KeepsSize S old now
 
-module _ {W P : Type 0} (slot_count : W → ℕ) (is_honest : W → Bool) (held : W → Held) (asked : W → P) (faults : W → ℕ) where
+module _ {W : Type 0} (S : SwapStore W) where
   abbrev Keeps : Memory W → Memory W → Type 0
-  Keeps old new = KeepsSize is_honest held slot_count asked faults old new
+  Keeps old new = KeepsSize S old new
 
   pub keeps_same : (m : Memory W) → Keeps m m
   keeps_same m = record {
@@ -60,40 +61,40 @@ module _ {W P : Type 0} (slot_count : W → ℕ) (is_honest : W → Bool) (held 
   }
 
   -- a failure later on is one of the whole, where loans were the same until then
-  pub failed_over : (a b c : Memory W) → Keeps a b → loans (ledger held b) ≡ loans (ledger held a) → HasFailed held slot_count faults b c → HasFailed held slot_count faults a c
+  pub failed_over : (a b c : Memory W) → Keeps a b → loans (ledger S.held b) ≡ loans (ledger S.held a) → HasFailed S b c → HasFailed S a c
   failed_over a b c x same failed = record {
     sound = failed.sound;
     loans = failed.loans ∙ same;
-    rose = rose_over (faults (store_of a)) (faults (store_of b)) (faults (store_of c)) x.store.never_falls failed.rose;
+    rose = rose_over (S.faults (store_of a)) (S.faults (store_of b)) (S.faults (store_of c)) x.store.never_falls failed.rose;
   }
 
   -- ---- the loop
 
-  module _ (file : List ℕ) (s : State) (old now : Memory W) (k : ℕ) (back : ArePagesTo slot_count is_honest held asked faults file s old now k) where
+  module _ (file : List ℕ) (s : State) (old now : Memory W) (k : ℕ) (back : ArePagesTo S file s old now k) where
     -- no loan has changed
-    pub same_loans_back : HasCome slot_count is_honest held (state_pages file s) old (standing_of file s (pages_before s.pages 0))
-        → loans (ledger held now) ≡ loans (ledger held old)
+    pub same_loans_back : HasCome S (state_pages file s) old (standing_of file s (pages_before s.pages 0))
+        → loans (ledger S.held now) ≡ loans (ledger S.held old)
     same_loans_back start =
-        bare-loans (standing_of file s (pages_before s.pages k)) (ledger held now) back.come.rights
+        bare-loans (standing_of file s (pages_before s.pages k)) (ledger S.held now) back.come.rights
         ∙ (same_loans_yet s.pages k 0 (state_ledger file s)
-        ∙ sym (bare-loans (standing_of file s (pages_before s.pages 0)) (ledger held old) start.rights))
+        ∙ sym (bare-loans (standing_of file s (pages_before s.pages 0)) (ledger S.held old) start.rights))
 
     -- what stands is told by rights and loans alone
     pub free_back : (n : ℕ) (d : PageRow) → is_free n (standing_of file s (pages_before s.pages k)) (place_at (get_or s.pages k d).pid (get_or s.pages k d).page) ≡ true
-        → is_free n (ledger held now) (place_at (get_or s.pages k d).pid (get_or s.pages k d).page) ≡ true
+        → is_free n (ledger S.held now) (place_at (get_or s.pages k d).pid (get_or s.pages k d).page) ≡ true
     free_back n d free =
-        bare-free n (standing_of file s (pages_before s.pages k)) (ledger held now) (place_at (get_or s.pages k d).pid (get_or s.pages k d).page) back.come.rights ∙ free
+        bare-free n (standing_of file s (pages_before s.pages k)) (ledger S.held now) (place_at (get_or s.pages k d).pid (get_or s.pages k d).page) back.come.rights ∙ free
 
-    pub pages_back : (n : ℕ) → pages n (ledger held now) ≡ pages n (standing_of file s (pages_before s.pages k))
-    pages_back n = bare-pages n (standing_of file s (pages_before s.pages k)) (ledger held now) back.come.rights
+    pub pages_back : (n : ℕ) → pages n (ledger S.held now) ≡ pages n (standing_of file s (pages_before s.pages k))
+    pages_back n = bare-pages n (standing_of file s (pages_before s.pages k)) (ledger S.held now) back.come.rights
 
     -- one page more is back
     pub next_pages : (d : PageRow) (new : Memory W) (h : IsResumable file s) (low : k < length s.pages) → Keeps now new
-        → HasCome slot_count is_honest held (state_pages file s) new
+        → HasCome S (state_pages file s) new
         (place_page (place_at (get_or s.pages k d).pid (get_or s.pages k d).page) (without_loan (ledger_page file (get_or s.pages k d))) (standing_of file s (pages_before s.pages k)))
-        → ArePagesTo slot_count is_honest held asked faults file s old new (k + 1)
+        → ArePagesTo S file s old new (k + 1)
     next_pages d new h low keeps come = record {
-      come = subst (λ l. HasCome slot_count is_honest held (state_pages file s) new l) (sym (next_standing file s h k d low)) come;
+      come = subst (λ l. HasCome S (state_pages file s) new l) (sym (next_standing file s h k d low)) come;
       keeps = keeps_over old now new back.keeps keeps;
     }
 
@@ -130,9 +131,9 @@ pub record IsAsked {W : Type 0} (held : W → Held) (m : Memory W) (file : List 
 
 -- ---- what is asked before a row comes back, of the memory as it is then
 
-module _ {W P : Type 0} (slot_count : W → ℕ) (is_honest : W → Bool) (held : W → Held) (asked : W → P) (faults : W → ℕ) (file : List ℕ) (s : State)
+module _ {W : Type 0} (S : SwapStore W) (file : List ℕ) (s : State)
     (h : IsResumable file s) (old now : Memory W) (k : ℕ) (d : PageRow) (low : k < length s.pages) (procs : processes old ≡ s.n) (cap : capacity_of old ≡ s.cap)
-    (back : ArePagesTo slot_count is_honest held asked faults file s old now k) where
+    (back : ArePagesTo S file s old now k) where
   abbrev part : Ledger
   part = standing_of file s (pages_before s.pages k)
 
@@ -151,14 +152,14 @@ module _ {W P : Type 0} (slot_count : W → ℕ) (is_honest : W → Bool) (held 
   pub place_asked : is_user_place (processes now) at ≡ true
   place_asked = ap (λ n. is_user_place n at) procs_now ∙ next_home_lies file s h k d low
 
-  pub free_asked : is_free (processes now) (ledger held now) at ≡ true
+  pub free_asked : is_free (processes now) (ledger S.held now) at ≡ true
   free_asked =
-      ap (λ n. is_free n (ledger held now) at) procs_now ∙ (bare-free s.n part (ledger held now) at back.come.rights ∙ next_free_home file s h k d low)
+      ap (λ n. is_free n (ledger S.held now) at) procs_now ∙ (bare-free s.n part (ledger S.held now) at back.come.rights ∙ next_free_home file s h k d low)
 
-  pages_now : pages (processes now) (ledger held now) ≡ pages s.n part
-  pages_now = ap (λ n. pages n (ledger held now)) procs_now ∙ bare-pages s.n part (ledger held now) back.come.rights
+  pages_now : pages (processes now) (ledger S.held now) ≡ pages s.n part
+  pages_now = ap (λ n. pages n (ledger S.held now)) procs_now ∙ bare-pages s.n part (ledger S.held now) back.come.rights
 
-  pub room_asked : row.right < 4 → pages (processes now) (ledger held now) + 1 ≤ capacity_of now
+  pub room_asked : row.right < 4 → pages (processes now) (ledger S.held now) + 1 ≤ capacity_of now
   room_asked bytes =
       let same = pages_now in
       let room = next_room file s h k d low bytes in
@@ -174,13 +175,13 @@ module _ {W P : Type 0} (slot_count : W → ℕ) (is_honest : W → Bool) (held 
   pub window_asked : 4 ≤ row.right → is_place_in (processes now) Map at ≡ true
   window_asked console = ap (λ n. is_place_in n Map at) procs_now ∙ console_in_map file s h k d low console
 
-  pub first_asked : 4 ≤ row.right → console_mapped (processes now) (ledger held now) ≡ false
+  pub first_asked : 4 ≤ row.right → console_mapped (processes now) (ledger S.held now) ≡ false
   first_asked console =
-      ap (λ n. console_mapped n (ledger held now)) procs_now ∙ (console_alike s.n part (ledger held now) back.come.rights ∙ no_console_yet file s h k d low console)
+      ap (λ n. console_mapped n (ledger S.held now)) procs_now ∙ (console_alike s.n part (ledger S.held now) back.come.rights ∙ no_console_yet file s h k d low console)
 
   -- all of it at once, for the row as a loop reads it
-  pub row_asked : (rows : List PageRow) → rows ≡ s.pages → IsAsked held now file (get_or rows k d)
-  row_asked rows is = subst (λ (xs : List PageRow). IsAsked held now file (get_or xs k d)) (sym is) (record {
+  pub row_asked : (rows : List PageRow) → rows ≡ s.pages → IsAsked S.held now file (get_or rows k d)
+  row_asked rows is = subst (λ (xs : List PageRow). IsAsked S.held now file (get_or xs k d)) (sym is) (record {
     pid = next_pid file s h k d low;
     place = place_asked;
     free = free_asked;
@@ -195,23 +196,23 @@ module _ {W P : Type 0} (slot_count : W → ℕ) (is_honest : W → Bool) (held 
   row_fits rows is bytes = fits_asked (subst (λ (xs : List PageRow). (get_or xs k d).right < 4) is bytes)
 
   -- .. and what stands after it
-  pub row_back : (rows : List PageRow) → rows ≡ s.pages → (new : Memory W) → KeepsSize is_honest held slot_count asked faults now new
-      → HasCome slot_count is_honest held (state_pages file s) new
+  pub row_back : (rows : List PageRow) → rows ≡ s.pages → (new : Memory W) → KeepsSize S now new
+      → HasCome S (state_pages file s) new
       (place_page (place_at (get_or rows k d).pid (get_or rows k d).page) (without_loan (ledger_page file (get_or rows k d))) part)
-      → ArePagesTo slot_count is_honest held asked faults file s old new (k + 1)
+      → ArePagesTo S file s old new (k + 1)
   row_back rows is new keeps come =
-      next_pages slot_count is_honest held asked faults file s old now k back d new h low keeps
-      (subst (λ (xs : List PageRow). HasCome slot_count is_honest held (state_pages file s) new
+      next_pages S file s old now k back d new h low keeps
+      (subst (λ (xs : List PageRow). HasCome S (state_pages file s) new
       (place_page (place_at (get_or xs k d).pid (get_or xs k d).page) (without_loan (ledger_page file (get_or xs k d))) part)) is come)
 
   -- a failure on the way is one of the whole
-  pub row_failed : {A E : Type 0} (r : Result A E) (new : Memory W) → HasCome slot_count is_honest held (state_pages file s) old (standing_of file s (pages_before s.pages 0))
-      → HasFailed held slot_count faults now new → OnErr r (HasFailed held slot_count faults old new)
+  pub row_failed : {A E : Type 0} (r : Result A E) (new : Memory W) → HasCome S (state_pages file s) old (standing_of file s (pages_before s.pages 0))
+      → HasFailed S now new → OnErr r (HasFailed S old new)
   row_failed r new start failed =
-      on_err r (HasFailed held slot_count faults old new)
-      (failed_over slot_count is_honest held asked faults old now new back.keeps (same_loans_back slot_count is_honest held asked faults file s old now k back start) failed)
+      on_err r (HasFailed S old new)
+      (failed_over S old now new back.keeps (same_loans_back S file s old now k back start) failed)
 
   pub row_full : {A E : Type 0} (r : Result A E) → frames_for_pages now < state_pages file s → OnErr r (frames_for_pages old < state_pages file s)
   row_full r full =
-      let same = frames_same slot_count is_honest held asked faults old now back.keeps in
+      let same = frames_same S old now back.keeps in
       on_err r (frames_for_pages old < state_pages file s) (omega (arith, same, full))

@@ -1,4 +1,5 @@
 -- A page comes back in three steps: what each of them finds, and what a failure between them leaves.
+use Rattle.xk_ports.specs.declared.store.SwapStore.{Ghosts as SwapStore}
 use Rattle.std.proofs.Common.{◌≡◌, ℕ, ◌+◌, ◌-◌, ◌≤◌, ◌<◌, Bool, true, false, List, length, take, drop, Option, Some, None, Result, Ok, Err, refl, sym, ap, ◌∙◌, arith}
 use Rattle.std.specs.Prelude.{OnErr, is_some}
 use Rattle.std.proofs.lemmas.Bool.{and_parts}
@@ -9,7 +10,7 @@ use Rattle.ledger_model.specs.Loans.{bare, loans}
 use Rattle.ledger_model.specs.Places.{is_user_place}
 use Rattle.ledger_model.specs.Reach.{reach}
 use Rattle.ledger_model.specs.Steps.{make, write}
-use Rattle.suspend_image.specs.Spelling.{contents_at}
+use Rattle.state_rows.specs.Machines.{contents_at}
 use Rattle.sv32_space.specs.Tie.{Held}
 use Rattle.vm_memory.proofs.Changing.AnsweringLemmas.{can_answered}
 use Rattle.vm_memory.specs.Memory.{IsUsable, frames_for_pages, ledger, processes}
@@ -42,9 +43,9 @@ user_window procs at found lies is none =
     no_window e = absurd cc
 
 -- The memory has come to its own ledger. (What is said until there are so many pages isn't asked of it: there are fewer frames.)
-pub own_come : {W : Type 0} (slot_count : W → ℕ) (is_honest : W → Bool) (held : W → Held) (total : ℕ) (m : Memory W) → IsSound slot_count m → IsUsable m
-    → frames_for_pages m < total → HasCome slot_count is_honest held total m (ledger held m)
-own_come slot_count is_honest held total m sound usable few = record {
+pub own_come : {W : Type 0} (S : SwapStore W) (total : ℕ) (m : Memory W) → IsSound S.slot_count m → IsUsable m
+    → frames_for_pages m < total → HasCome S total m (ledger S.held m)
+own_come S total m sound usable few = record {
   sound = sound;
   usable = usable;
   rights = refl;
@@ -69,33 +70,33 @@ module _ (procs capacity : ℕ) (l k : Ledger) (at : Place) (right : Right) (win
 abbrev pub writable : Right → Right
 writable right = record { w = true; x = right.x }
 
-module _ {W : Type 0} (slot_count : W → ℕ) (is_honest : W → Bool) (held : W → Held) (m n : Memory W) (at : Place) (right : Right) (sound : IsSound slot_count m)
+module _ {W : Type 0} (S : SwapStore W) (m n : Memory W) (at : Place) (right : Right) (sound : IsSound S.slot_count m)
     (usable : IsUsable m)
-    (makes : (total : ℕ) (l : Ledger) → HasCome slot_count is_honest held total m l → pages (processes m) l + 1 ≤ total
-    → HasCome slot_count is_honest held total n (make at 1 (writable right) l))
-    (rights : bare (ledger held n) ≡ bare (make at 1 (writable right) (ledger held m))) where
-  pub made_come : HasCome slot_count is_honest held (beyond held m) n (make at 1 (writable right) (ledger held m))
+    (makes : (total : ℕ) (l : Ledger) → HasCome S total m l → pages (processes m) l + 1 ≤ total
+    → HasCome S total n (make at 1 (writable right) l))
+    (rights : bare (ledger S.held n) ≡ bare (make at 1 (writable right) (ledger S.held m))) where
+  pub made_come : HasCome S (beyond S.held m) n (make at 1 (writable right) (ledger S.held m))
   made_come =
-      makes (beyond held m) (ledger held m) (own_come slot_count is_honest held (beyond held m) m sound usable (omega arith)) (omega arith)
+      makes (beyond S.held m) (ledger S.held m) (own_come S (beyond S.held m) m sound usable (omega arith)) (omega arith)
 
-  its_home : IsHomeOf (ledger held n) at (writable right)
-  its_home = made_there (ledger held m) (ledger held n) at (writable right) rights
+  its_home : IsHomeOf (ledger S.held n) at (writable right)
+  its_home = made_there (ledger S.held m) (ledger S.held n) at (writable right) rights
 
-  pub may_fill : reaches_bytes (processes n) (ledger held n) at Store ≡ true
-  may_fill = made_bytes (processes n) (ledger held n) at (writable right) its_home refl
+  pub may_fill : reaches_bytes (processes n) (ledger S.held n) at Store ≡ true
+  may_fill = made_bytes (processes n) (ledger S.held n) at (writable right) its_home refl
 
-  pub fills_home : reach (processes n) (ledger held n) at Store ≡ Some (Homed at)
-  fills_home = made_reached (processes n) (ledger held n) at (writable right) its_home refl
+  pub fills_home : reach (processes n) (ledger S.held n) at Store ≡ Some (Homed at)
+  fills_home = made_reached (processes n) (ledger S.held n) at (writable right) its_home refl
 
   module _ (k : Memory W) (bytes : List ℕ)
-      (fills : (total : ℕ) (l : Ledger) → HasCome slot_count is_honest held total n l → HasCome slot_count is_honest held total k (write (Homed at) 0 bytes l))
-      (kept : bare (ledger held k) ≡ bare (ledger held n)) where
-    pub filled_come : HasCome slot_count is_honest held (beyond held m) k (write (Homed at) 0 bytes (make at 1 (writable right) (ledger held m)))
-    filled_come = fills (beyond held m) (make at 1 (writable right) (ledger held m)) made_come
+      (fills : (total : ℕ) (l : Ledger) → HasCome S total n l → HasCome S total k (write (Homed at) 0 bytes l))
+      (kept : bare (ledger S.held k) ≡ bare (ledger S.held n)) where
+    pub filled_come : HasCome S (beyond S.held m) k (write (Homed at) 0 bytes (make at 1 (writable right) (ledger S.held m)))
+    filled_come = fills (beyond S.held m) (make at 1 (writable right) (ledger S.held m)) made_come
 
-    pub may_reduce : reduce_answer (processes k) (ledger held k) at 1 right ≡ Ok tt
+    pub may_reduce : reduce_answer (processes k) (ledger S.held k) at 1 right ≡ Ok tt
     may_reduce =
-        made_reduced (processes k) (ledger held k) at (writable right) (still_made (ledger held n) (ledger held k) at (writable right) kept its_home) right
+        made_reduced (processes k) (ledger S.held k) at (writable right) (still_made (ledger S.held n) (ledger S.held k) at (writable right) kept its_home) right
         (within_writable right)
 
 -- the bytes with which it is filled are those of its row
@@ -112,16 +113,16 @@ on_err (Ok x) P p = tt
 on_err (Err e) P p = p
 
 -- .. comes only where the pages don't fit in frames
-pub make_full : {A E W : Type 0} (slot_count : W → ℕ) (is_honest : W → Bool) (held : W → Held) (r : Result A E) (m : Memory W) (total : ℕ) (l : Ledger)
-    → HasCome slot_count is_honest held total m l → pages (processes m) l + 1 ≤ total → frames_for_pages m < pages (processes m) (ledger held m) + 1
+pub make_full : {A E W : Type 0} (S : SwapStore W) (r : Result A E) (m : Memory W) (total : ℕ) (l : Ledger)
+    → HasCome S total m l → pages (processes m) l + 1 ≤ total → frames_for_pages m < pages (processes m) (ledger S.held m) + 1
     → OnErr r (frames_for_pages m < total)
-make_full slot_count is_honest held r m total l come fits full =
-    let same = bare-pages (processes m) l (ledger held m) come.rights in
+make_full S r m total l come fits full =
+    let same = bare-pages (processes m) l (ledger S.held m) come.rights in
     on_err r (frames_for_pages m < total) (omega (arith, same, fits, full))
 
-pub fill_full : {A E W P : Type 0} (slot_count : W → ℕ) (is_honest : W → Bool) (held : W → Held) (asked : W → P) (faults : W → ℕ)
+pub fill_full : {A E W : Type 0} (S : SwapStore W)
     (r : Result A E) (m n : Memory W) (total : ℕ)
-    → KeepsSize is_honest held slot_count asked faults m n → frames_for_pages n < total → OnErr r (frames_for_pages m < total)
-fill_full slot_count is_honest held asked faults r m n total keeps full =
-    let same = frames_same slot_count is_honest held asked faults m n keeps in
+    → KeepsSize S m n → frames_for_pages n < total → OnErr r (frames_for_pages m < total)
+fill_full S r m n total keeps full =
+    let same = frames_same S m n keeps in
     on_err r (frames_for_pages m < total) (omega (arith, same, full))

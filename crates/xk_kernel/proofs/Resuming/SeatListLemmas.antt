@@ -11,14 +11,12 @@ use Rattle.std.proofs.lemmas.List.Kept.{AllPairs-from_increasing}
 use Rattle.std.proofs.lemmas.Option.{slice_get-get_or}
 use Rattle.server_table.specs.Listed.{HaveTwoSids, serials_of}
 use Rattle.server_table.specs.declared.table.ServerSeat.{ServerSeat}
-use Rattle.suspend_image.proofs.Parts.Keys.OrderLemmas.{servers_ascend}
-use Rattle.suspend_image.proofs.Parts.Servers.ServerLemmas.{few_told}
-use Rattle.suspend_image.specs.Forms.{AreInOrder}
-use Rattle.suspend_image.specs.Machines.{server_of}
-use Rattle.suspend_image.specs.Reading.{after}
-use Rattle.suspend_image.specs.Rows.{server_key}
-use Rattle.suspend_image.specs.declared.state.ServerRow.{ServerRow}
-use Rattle.suspend_image.specs.declared.state.State.{State}
+use Rattle.suspend_image.proofs.OrderLemmas.{servers_ascend}
+use Rattle.state_matching.proofs.ServerRows.ServerLemmas.{few_told}
+use Rattle.state_rows.specs.Order.{AreInOrder, after, server_key}
+use Rattle.state_rows.specs.Machines.{server_of}
+use Rattle.state_rows.specs.declared.state.ServerRow.{ServerRow}
+use Rattle.state_rows.specs.declared.state.State.{State}
 use Rattle.xk_base.specs.Tables.Sids.{same_sid}
 use Rattle.xk_base.specs.declared.limits.TheConstants.{SERVER_LIMIT}
 use Rattle.xk_kernel.proofs.Resuming.RunBackLemmas.{row_found}

@@ -3,9 +3,9 @@ use Rattle.std.proofs.Common.{◌≡◌, ℕ, ◌+◌, ◌≤◌, ◌<◌, List,
 use Rattle.std.proofs.lemmas.List.{map-append, take_more}
 use Rattle.server_table.specs.declared.table.ServerSeat.{ServerSeat}
 use Rattle.suspend_image.specs.Forms.{IsServerRow}
-use Rattle.suspend_image.specs.Rows.{server_key}
-use Rattle.suspend_image.specs.declared.state.ServerRow.{ServerRow}
-use Rattle.suspend_image.specs.declared.state.State.{State}
+use Rattle.state_rows.specs.Order.{server_key}
+use Rattle.state_rows.specs.declared.state.ServerRow.{ServerRow}
+use Rattle.state_rows.specs.declared.state.State.{State}
 use Rattle.xk_kernel.proofs.Resuming.RowLemmas.{each_in_order, take_past}
 use Rattle.xk_kernel.specs.Resuming.Resumable.{IsResumable}
 use Rattle.xk_kernel.specs.Resuming.Tables.{row_seat}

@@ -1,4 +1,5 @@
 -- The plan without pages is lawful, and a memory booted from it has an empty ledger.
+use Rattle.xk_ports.specs.declared.store.SwapStore.{Ghosts as SwapStore}
 use Rattle.std.proofs.Common.{◌≡◌, ℕ, zero, suc, ◌-◌, ◌≤◌, Bool, true, false, List, [], length, None, Result, Ok, Err, refl, sym, ap, subst, ◌∙◌, arith, inl, inr}
 use Rattle.std.specs.Prelude.{◌||◌, IfOk, nat_le, replicate, slice_get, sum_by, if◌then◌else◌}
 use Rattle.std.specs.Option.{option_and_then, option_map}
@@ -13,7 +14,7 @@ use Rattle.boot_plan.specs.declared.plans.BootPlan.{BootPlan}
 use Rattle.boot_plan.specs.declared.plans.ProcPlan.{ProcPlan}
 use Rattle.ledger_model.specs.Ledger.{empty_ledger}
 use Rattle.ledger_model.specs.Loans.{bare}
-use Rattle.suspend_image.specs.declared.state.State.{State}
+use Rattle.state_rows.specs.declared.state.State.{State}
 use Rattle.sv32_space.specs.Tie.{Held}
 use Rattle.vm_memory.specs.Bytes.{MeansBytes, is_known, none_out}
 use Rattle.vm_memory.specs.FirstLedger.{first_ledger, first_page, planned_page, process_of}
@@ -89,27 +90,27 @@ or_true : (a b : Bool) → b ≡ true → (a || b) ≡ true
 or_true true b e = refl
 or_true false b e = e
 
-pub empty_comes : {W : Type 0} (slot_count : W → ℕ) (is_honest : W → Bool) (held : W → Held) (s : State) (slots : ℕ) (file : List ℕ) (m : Memory W)
-    → IsSound slot_count m → IsUsable m → bare (ledger held m) ≡ bare (first_ledger (plan_without_pages s slots) file)
-    → (MeansBytes is_honest held m → ledger held m ≡ first_ledger (plan_without_pages s slots) file) → none_out m ≡ true
-    → (total : ℕ) → HasCome slot_count is_honest held total m empty_ledger
-empty_comes slot_count is_honest held s slots file m sound usable rights whole none total = record {
+pub empty_comes : {W : Type 0} (S : SwapStore W) (s : State) (slots : ℕ) (file : List ℕ) (m : Memory W)
+    → IsSound S.slot_count m → IsUsable m → bare (ledger S.held m) ≡ bare (first_ledger (plan_without_pages s slots) file)
+    → (MeansBytes S m → ledger S.held m ≡ first_ledger (plan_without_pages s slots) file) → none_out m ≡ true
+    → (total : ℕ) → HasCome S total m empty_ledger
+empty_comes S s slots file m sound usable rights whole none total = record {
   sound = sound;
   usable = usable;
   rights = rights ∙ ap bare (first_is_empty s slots file);
-  whole = λ known. whole (or_true (is_known is_honest held m) (none_out m) none) ∙ first_is_empty s slots file;
+  whole = λ known. whole (or_true (is_known S m) (none_out m) none) ∙ first_is_empty s slots file;
   near = λ has. none;
 }
 
 -- so it is with the answer of boot
-pub booted_empty : {W : Type 0} (slot_count : W → ℕ) (is_honest : W → Bool) (held : W → Held) (s : State) (slots : ℕ) (plan : BootPlan) → plan ≡ plan_without_pages s slots
+pub booted_empty : {W : Type 0} (S : SwapStore W) (s : State) (slots : ℕ) (plan : BootPlan) → plan ≡ plan_without_pages s slots
     → (result : Result (Memory W) (BootFault W))
-    → IfOk result (λ m. IsSound slot_count m) → IfOk result (λ m. IsUsable m)
-    → IfOk result (λ m. bare (ledger held m) ≡ bare (first_ledger plan []))
-    → IfOk result (λ m. MeansBytes is_honest held m → ledger held m ≡ first_ledger plan [])
+    → IfOk result (λ m. IsSound S.slot_count m) → IfOk result (λ m. IsUsable m)
+    → IfOk result (λ m. bare (ledger S.held m) ≡ bare (first_ledger plan []))
+    → IfOk result (λ m. MeansBytes S m → ledger S.held m ≡ first_ledger plan [])
     → (planned_pages plan ≤ page_frames plan.frames (length plan.procs) → IfOk result (λ m. none_out m ≡ true))
-    → IfOk result (λ m. (total : ℕ) → HasCome slot_count is_honest held total m empty_ledger)
-booted_empty slot_count is_honest held s slots booted is (Ok m) sound usable rights whole near =
-    empty_comes slot_count is_honest held s slots [] m sound usable (rights ∙ ap (λ p. bare (first_ledger p [])) is)
+    → IfOk result (λ m. (total : ℕ) → HasCome S total m empty_ledger)
+booted_empty S s slots booted is (Ok m) sound usable rights whole near =
+    empty_comes S s slots [] m sound usable (rights ∙ ap (λ p. bare (first_ledger p [])) is)
     (λ means. whole means ∙ ap (λ p. first_ledger p []) is) (near (fits_in_frames s slots booted is))
-booted_empty slot_count is_honest held s slots booted is (Err fault) sound usable rights whole near = tt
+booted_empty S s slots booted is (Err fault) sound usable rights whole near = tt

@@ -8,12 +8,11 @@ use Rattle.std.proofs.lemmas.Grind.{get_or-set_at}
 use Rattle.std.proofs.lemmas.List.{ext_get_or, get_or-set_other, length-set}
 use Rattle.std.proofs.lemmas.Option.{none-some}
 use Rattle.send_path.specs.Parts.{thread_of}
-use Rattle.suspend_image.proofs.Parts.Keys.KeyLemmas.{Less, less_apart, less_behind, less_through, pair_is}
-use Rattle.suspend_image.specs.Forms.{AreInOrder, IsThreadRow}
-use Rattle.suspend_image.specs.Machines.{thread_at_id, thread_of as row_thread, threads_of as state_threads}
-use Rattle.suspend_image.specs.Reading.{least_first, least_second}
-use Rattle.suspend_image.specs.Rows.{thread_key}
-use Rattle.suspend_image.specs.declared.state.ThreadRow.{ThreadRow}
+use Rattle.state_rows.proofs.KeyLemmas.{Less, less_apart, less_behind, less_through, pair_is}
+use Rattle.state_rows.specs.Order.{AreInOrder, least_first, least_second, thread_key}
+use Rattle.suspend_image.specs.Forms.{IsThreadRow}
+use Rattle.state_rows.specs.Machines.{thread_at_id, thread_of as row_thread, threads_of as state_threads}
+use Rattle.state_rows.specs.declared.state.ThreadRow.{ThreadRow}
 use Rattle.thread_table.specs.ThreadMap.{no_threads}
 use Rattle.thread_table.specs.ThreadsOf.{process_count, threads_of}
 use Rattle.thread_table.specs.declared.table.Threads.{Threads}

@@ -12,14 +12,15 @@ use Rattle.xk_base.specs.declared.pages.Access.{Access}
 use Rattle.vm_memory.specs.Sound.{IsSound}
 use Rattle.vm_memory.specs.declared.memory.Memory.{Memory}
 use Rattle.xk_kernel.specs.Saving.Written.{BringsPages}
+use Rattle.xk_ports.specs.declared.store.SwapStore.{Ghosts as SwapStore}
 use Rattle.xk_ports.specs.Keeping.{KeepsStore}
 
-module _ {W P : Type 0} (is_honest : W → Bool) (held : W → Held) (slot_count : W → ℕ) (asked : W → P) (faults : W → ℕ) where
-  pub store_same : (a : W) → KeepsStore is_honest held slot_count asked faults a a
+module _ {W : Type 0} (S : SwapStore W) where
+  pub store_same : (a : W) → KeepsStore S a a
   store_same a = record { honest = refl; told = refl; slots = refl; preparations = refl; never_falls = omega arith }
 
-  pub store_both : (a b c : W) → KeepsStore is_honest held slot_count asked faults a b → KeepsStore is_honest held slot_count asked faults b c
-      → KeepsStore is_honest held slot_count asked faults a c
+  pub store_both : (a b c : W) → KeepsStore S a b → KeepsStore S b c
+      → KeepsStore S a c
   store_both a b c x y =
       let low = x.never_falls in
       let high = y.never_falls in
@@ -32,7 +33,7 @@ module _ {W P : Type 0} (is_honest : W → Bool) (held : W → Held) (slot_count
       }
 
   -- nothing was brought in
-  pub brings_none : (m : Memory W) → IsSound slot_count m → BringsPages is_honest held slot_count asked faults m m
+  pub brings_none : (m : Memory W) → IsSound S.slot_count m → BringsPages S m m
   brings_none m sound = record {
     sound = sound;
     rights = refl;
@@ -43,8 +44,8 @@ module _ {W P : Type 0} (is_honest : W → Bool) (held : W → Held) (slot_count
     store = store_same (store_of m);
   }
 
-  pub brings_both : (a b c : Memory W) → BringsPages is_honest held slot_count asked faults a b → BringsPages is_honest held slot_count asked faults b c
-      → BringsPages is_honest held slot_count asked faults a c
+  pub brings_both : (a b c : Memory W) → BringsPages S a b → BringsPages S b c
+      → BringsPages S a c
   brings_both a b c x y = record {
     sound = y.sound;
     rights = y.rights ∙ x.rights;
@@ -56,9 +57,9 @@ module _ {W P : Type 0} (is_honest : W → Bool) (held : W → Held) (slot_count
   }
 
   -- what a process reaches stays
-  pub brings_may : (a b : Memory W) → BringsPages is_honest held slot_count asked faults a b → (at : Place) (access : Access)
-      → reaches_bytes (processes b) (ledger held b) at access ≡ reaches_bytes (processes a) (ledger held a) at access
-  brings_may a b x at access = brings_reaches is_honest held slot_count asked faults a b (record {
+  pub brings_may : (a b : Memory W) → BringsPages S a b → (at : Place) (access : Access)
+      → reaches_bytes (processes b) (ledger S.held b) at access ≡ reaches_bytes (processes a) (ledger S.held a) at access
+  brings_may a b x at access = brings_reaches S a b (record {
     moves = record {
       sound = x.sound;
       rights = x.rights;
@@ -69,7 +70,7 @@ module _ {W P : Type 0} (is_honest : W → Bool) (held : W → Held) (slot_count
     none = x.none;
   }) at access
 
-  pub brings_procs : (a b : Memory W) → BringsPages is_honest held slot_count asked faults a b → processes b ≡ processes a
+  pub brings_procs : (a b : Memory W) → BringsPages S a b → processes b ≡ processes a
   brings_procs a b x = ap (λ (s : Size). s.procs) x.size
 
 pub rose_later : (a b c : ℕ) → a ≤ b → Rose b c → Rose a c

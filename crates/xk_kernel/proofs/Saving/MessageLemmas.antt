@@ -9,8 +9,8 @@ use Rattle.suspend_image.proofs.Sheets.SpellingLemmas.{length-word_bytes, server
 use Rattle.suspend_image.specs.Sheets.{HasRoom, SheetBytes, appended}
 use Rattle.suspend_image.specs.Spelling.{message_bytes, server_bytes}
 use Rattle.suspend_image.specs.Words.{word_bytes}
-use Rattle.suspend_image.specs.declared.state.MessageRow.{MessageRow}
-use Rattle.suspend_image.specs.declared.state.ServerRow.{ServerRow}
+use Rattle.state_rows.specs.declared.state.MessageRow.{MessageRow}
+use Rattle.state_rows.specs.declared.state.ServerRow.{ServerRow}
 use Rattle.xk_kernel.specs.Saving.Rows.{rows_below}
 use Rattle.suspend_image.specs.SavedRows.{message_row}
 use Rattle.xk_kernel.specs.Saving.Written.{Appends, Fits}

@@ -1,4 +1,5 @@
 -- The pages and then the orphans of a memory are written.
+use Rattle.xk_ports.specs.declared.store.SwapStore.{Ghosts as SwapStore}
 use Rattle.std.proofs.Common.{◌≡◌, ℕ, ◌+◌, ◌*◌, Bool, List, map, length, sym, ap, subst, ◌∙◌, arith}
 use Rattle.std.specs.Prelude.{Err, Ok, OnErr, OnOk, Result}
 use Rattle.std.proofs.lemmas.List.{length-append, length-map}
@@ -28,19 +29,19 @@ homes_room sheet n capacity l lawful fits =
     let few = texts_few n capacity l lawful in
     fits_less sheet (8 + 4124 * (capacity + 3)) (4 + 4124 * (length (home_texts n l) + 1)) fits (omega arith)
 
-module _ {W P : Type 0} (is_honest : W → Bool) (held : W → Held) (slot_count : W → ℕ) (asked : W → P) (faults : W → ℕ) (a b : Memory W)
-    (x : BringsPages is_honest held slot_count asked faults a b) (n : ℕ) where
-  homes_same : map text_words (home_texts n (ledger held b)) ≡ map text_words (home_texts n (ledger held a))
-  homes_same = texts_alike (home_at (ledger held b)) (home_at (ledger held a)) (20464 * n) (home_alike (ledger held b) (ledger held a) x.rights)
+module _ {W : Type 0} (S : SwapStore W) (a b : Memory W)
+    (x : BringsPages S a b) (n : ℕ) where
+  homes_same : map text_words (home_texts n (ledger S.held b)) ≡ map text_words (home_texts n (ledger S.held a))
+  homes_same = texts_alike (home_at (ledger S.held b)) (home_at (ledger S.held a)) (20464 * n) (home_alike (ledger S.held b) (ledger S.held a) x.rights)
 
-  orphans_same : map text_words (orphan_texts n (ledger held b)) ≡ map text_words (orphan_texts n (ledger held a))
-  orphans_same = texts_alike (orphan_at (ledger held b)) (orphan_at (ledger held a)) (20464 * n) (orphan_alike (ledger held b) (ledger held a) x.rights)
+  orphans_same : map text_words (orphan_texts n (ledger S.held b)) ≡ map text_words (orphan_texts n (ledger S.held a))
+  orphans_same = texts_alike (orphan_at (ledger S.held b)) (orphan_at (ledger S.held a)) (20464 * n) (orphan_alike (ledger S.held b) (ledger S.held a) x.rights)
 
-  pub orphans_room : {known : Type 0} (capacity : ℕ) (s t : SheetBytes) → IsLawful n capacity (ledger held a) → Fits s (8 + 4124 * (capacity + 3))
-      → AppendsTexts known s t (home_texts n (ledger held a)) → Fits t (4 + 4124 * (length (orphan_texts n (ledger held b)) + 1))
+  pub orphans_room : {known : Type 0} (capacity : ℕ) (s t : SheetBytes) → IsLawful n capacity (ledger S.held a) → Fits s (8 + 4124 * (capacity + 3))
+      → AppendsTexts known s t (home_texts n (ledger S.held a)) → Fits t (4 + 4124 * (length (orphan_texts n (ledger S.held b)) + 1))
   orphans_room capacity s t lawful fits texts =
-      let few = texts_few n capacity (ledger held a) lawful in
-      let many = alike_many (orphan_texts n (ledger held b)) (orphan_texts n (ledger held a)) orphans_same in
+      let few = texts_few n capacity (ledger S.held a) lawful in
+      let many = alike_many (orphan_texts n (ledger S.held b)) (orphan_texts n (ledger S.held a)) orphans_same in
       let size = texts.few in
       let same = ap (λ (q : SheetBytes). length q.bytes) texts.is in
       let wide = ap (λ (q : SheetBytes). q.room) texts.is in
@@ -50,15 +51,15 @@ module _ {W P : Type 0} (is_honest : W → Bool) (held : W → Held) (slot_count
       record { room = omega arith; few = omega arith }
 
   -- .. and the orphans, with those of the pages that were written before
-  pub both_written : (m : Memory W) (y : BringsPages is_honest held slot_count asked faults b m) (s t u : SheetBytes) (capacity : ℕ)
-      → IsLawful n capacity (ledger held a)
+  pub both_written : (m : Memory W) (y : BringsPages S b m) (s t u : SheetBytes) (capacity : ℕ)
+      → IsLawful n capacity (ledger S.held a)
       → Fits s (8 + 4124 * (capacity + 3)) → n ≡ processes m
-      → AppendsTexts (MeansBytes is_honest held a) s t (home_texts n (ledger held a))
-      → AppendsTexts (MeansBytes is_honest held b) t u (orphan_texts n (ledger held b))
-      → WritesPages (MeansBytes is_honest held a) (processes m) (ledger held m) s u
+      → AppendsTexts (MeansBytes S a) s t (home_texts n (ledger S.held a))
+      → AppendsTexts (MeansBytes S b) t u (orphan_texts n (ledger S.held b))
+      → WritesPages (MeansBytes S a) (processes m) (ledger S.held m) s u
   both_written m y s t u capacity lawful fits procs homes orphans =
-      let few = texts_few n capacity (ledger held a) lawful in
-      let many = alike_many (orphan_texts n (ledger held b)) (orphan_texts n (ledger held a)) orphans_same in
+      let few = texts_few n capacity (ledger S.held a) lawful in
+      let many = alike_many (orphan_texts n (ledger S.held b)) (orphan_texts n (ledger S.held a)) orphans_same in
       let size_homes = homes.few in
       let size_orphans = orphans.few in
       let first = ap (λ (q : SheetBytes). length q.bytes) homes.is in
@@ -66,15 +67,15 @@ module _ {W P : Type 0} (is_honest : W → Bool) (held : W → Held) (slot_count
       let both = length-append s.bytes (rows_bytes text_bytes homes.written) in
       let all = length-append t.bytes (rows_bytes text_bytes orphans.written) in
       let low = fits.few in
-      let rights : bare (ledger held m) ≡ bare (ledger held a) = y.rights ∙ x.rights in
-      let at : ℕ → Type 0 = λ k. WritesPages (MeansBytes is_honest held a) k (ledger held m) s u in
+      let rights : bare (ledger S.held m) ≡ bare (ledger S.held a) = y.rights ∙ x.rights in
+      let at : ℕ → Type 0 = λ k. WritesPages (MeansBytes S a) k (ledger S.held m) s u in
       subst at procs (record {
         homes = homes.written;
         orphans = orphans.written;
-        homes_alike = homes.alike ∙ sym (texts_alike (home_at (ledger held m)) (home_at (ledger held a)) (20464 * n)
-            (home_alike (ledger held m) (ledger held a) rights));
-        orphans_alike = orphans.alike ∙ sym (texts_alike (orphan_at (ledger held m)) (orphan_at (ledger held b)) (20464 * n)
-            (orphan_alike (ledger held m) (ledger held b) y.rights));
+        homes_alike = homes.alike ∙ sym (texts_alike (home_at (ledger S.held m)) (home_at (ledger S.held a)) (20464 * n)
+            (home_alike (ledger S.held m) (ledger S.held a) rights));
+        orphans_alike = orphans.alike ∙ sym (texts_alike (orphan_at (ledger S.held m)) (orphan_at (ledger S.held b)) (20464 * n)
+            (orphan_alike (ledger S.held m) (ledger S.held b) y.rights));
         homes_told = λ means. homes.told means ∙ ap (home_texts n) (sym (y.whole (x.means means) ∙ x.whole means));
         orphans_told = λ means. orphans.told (x.means means) ∙ ap (orphan_texts n) (sym (y.whole (x.means means)));
         is = orphans.is ∙ ap (λ (q : SheetBytes). appended (rows_bytes text_bytes orphans.written) q) homes.is

@@ -1,4 +1,5 @@
 -- The machine of a kernel that was saved is one that state bytes are read as again.
+use Rattle.xk_ports.specs.declared.store.SwapStore.{Ghosts as SwapStore}
 use Rattle.std.proofs.Common.{◌≡◌, ℕ, ◌≤◌, Bool, sym, ap, subst, ◌∙◌}
 use Rattle.kill_path.specs.Claims.{claims_shown}
 use Rattle.ledger_model.specs.Ledger.{Ledger}
@@ -11,7 +12,7 @@ use Rattle.sv32_space.specs.Tie.{Held}
 use Rattle.vm_memory.specs.Memory.{ledger, processes}
 use Rattle.xk_base.specs.Tables.Circle.{id_at, thread_ids}
 use Rattle.xk_base.specs.declared.limits.TheConstants.{INTERRUPT_LIMIT}
-use Rattle.xk_kernel.specs.Reserved.{IsReservedByThread}
+use Rattle.machine_history.specs.Reserved.{IsReservedByThread}
 use Rattle.xk_kernel.specs.Saving.Fitting.{AreNumbersFit, EachBelow, IsFit, IsServerFit, IsThreadFit}
 use Rattle.xk_kernel.specs.Saving.Kept.{with_memory}
 use Rattle.xk_kernel.specs.Saving.Written.{BringsPages}
@@ -45,19 +46,19 @@ fit_on_ledger l m fit = record {
   claims = fit.claims;
 }
 
-module _ {W P : Type 0} (is_honest : W → Bool) (held : W → Held) (slot_count : W → ℕ) (asked : W → P) (faults : W → ℕ)
-    (k new : Kernel W) (rest : new ≡ with_memory new.mem k) (sound : IsSound slot_count held k) (usable : IsUsable k)
-    (x : BringsPages is_honest held slot_count asked faults k.mem new.mem) where
-  pub fit_new : IsFit (machine_of held k) → IsFit (machine_of held new)
+module _ {W : Type 0} (S : SwapStore W)
+    (k new : Kernel W) (rest : new ≡ with_memory new.mem k) (sound : IsSound S k) (usable : IsUsable k)
+    (x : BringsPages S k.mem new.mem) where
+  pub fit_new : IsFit (machine_of S.held k) → IsFit (machine_of S.held new)
   fit_new fit =
-      let same : machine_of held new ≡ on_ledger (ledger held new.mem) (machine_of held k) =
-      ap (λ (j : Kernel W). machine_of held j) rest ∙ machine_brought is_honest held slot_count asked faults k new.mem sound usable x in
-      subst (λ (m : Machine). IsFit m) (sym same) (fit_on_ledger (ledger held new.mem) (machine_of held k) fit)
+      let same : machine_of S.held new ≡ on_ledger (ledger S.held new.mem) (machine_of S.held k) =
+      ap (λ (j : Kernel W). machine_of S.held j) rest ∙ machine_brought S k new.mem sound usable x in
+      subst (λ (m : Machine). IsFit m) (sym same) (fit_on_ledger (ledger S.held new.mem) (machine_of S.held k) fit)
 
 -- ---- the whole
 
-pub saveable_of : {W : Type 0} (slot_count : W → ℕ) (held : W → Held) (k : Kernel W) → IsSound slot_count held k → IsUsable k → IsFit (machine_of held k)
-    → HasWholePages (ledger held k.mem) → (machine_of held k).steps ≤ 4000000000 → IsReservedByThread (machine_of held k) → IsSaveable (machine_of held k)
+pub saveable_of : {W : Type 0} (S : SwapStore W) (k : Kernel W) → IsSound S k → IsUsable k → IsFit (machine_of S.held k)
+    → HasWholePages (ledger S.held k.mem) → (machine_of S.held k).steps ≤ 4000000000 → IsReservedByThread (machine_of S.held k) → IsSaveable (machine_of S.held k)
 unfolding machine_of
-saveable_of slot_count held k sound usable fit whole steps reserved =
-    saveable_from (machine_of held k) fit (sound.matched usable) whole (few_pages slot_count held k sound) sound.whole.cursor steps reserved
+saveable_of S k sound usable fit whole steps reserved =
+    saveable_from (machine_of S.held k) fit (sound.matched usable) whole (few_pages S k sound) sound.whole.cursor steps reserved

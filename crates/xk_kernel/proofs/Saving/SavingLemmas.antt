@@ -1,4 +1,5 @@
 -- A kernel whose pages were brought in, and its state in a sheet.
+use Rattle.xk_ports.specs.declared.store.SwapStore.{Ghosts as SwapStore}
 use Rattle.std.proofs.Common.{◌≡◌, ℕ, ◌+◌, ◌*◌, ◌≤◌, Bool, true, false, List, [], ◌++◌, drop, length, refl, sym, ap, subst, ◌∙◌, append_assoc, arith}
 use Rattle.std.proofs.lemmas.Bool.{false≢true}
 use Rattle.ledger_model.proofs.Stepping.WritingLemmas.{bare-loans}
@@ -26,37 +27,37 @@ use Rattle.xk_kernel.specs.declared.kernel.Kernel.{Kernel}
 
 -- ---- the kernel
 
-module _ {W P : Type 0} (is_honest : W → Bool) (held : W → Held) (slot_count : W → ℕ) (asked : W → P) (faults : W → ℕ)
-    (k : Kernel W) (mem : Memory W) (sound : IsSound slot_count held k) (usable : IsUsable k)
-    (x : BringsPages is_honest held slot_count asked faults k.mem mem) where
-  pub machine_brought : machine_of held (with_memory mem k) ≡ on_ledger (ledger held mem) (machine_of held k)
-  machine_brought = machine_with_mem held k mem (ledger held mem) x.size refl
+module _ {W : Type 0} (S : SwapStore W)
+    (k : Kernel W) (mem : Memory W) (sound : IsSound S k) (usable : IsUsable k)
+    (x : BringsPages S k.mem mem) where
+  pub machine_brought : machine_of S.held (with_memory mem k) ≡ on_ledger (ledger S.held mem) (machine_of S.held k)
+  machine_brought = machine_with_mem S.held k mem (ledger S.held mem) x.size refl
 
-  bare_brought : without_bytes (on_ledger (ledger held mem) (machine_of held k)) ≡ without_bytes (machine_of held k)
+  bare_brought : without_bytes (on_ledger (ledger S.held mem) (machine_of S.held k)) ≡ without_bytes (machine_of S.held k)
   unfolding machine_of
-  bare_brought = λ i. record (machine_of held k) { ledger = x.rights i }
+  bare_brought = λ i. record (machine_of S.held k) { ledger = x.rights i }
 
-  ledger_brought : MeansBytes is_honest held k.mem → on_ledger (ledger held mem) (machine_of held k) ≡ machine_of held k
+  ledger_brought : MeansBytes S k.mem → on_ledger (ledger S.held mem) (machine_of S.held k) ≡ machine_of S.held k
   unfolding machine_of
-  ledger_brought known = λ i. record (machine_of held k) { ledger = x.whole known i }
+  ledger_brought known = λ i. record (machine_of S.held k) { ledger = x.whole known i }
 
-  pub comes_brought : ComesTo (MeansBytes is_honest held k.mem) (machine_of held (with_memory mem k)) (machine_of held k)
+  pub comes_brought : ComesTo (MeansBytes S k.mem) (machine_of S.held (with_memory mem k)) (machine_of S.held k)
   comes_brought = record {
     alike = ap without_bytes machine_brought ∙ bare_brought;
     whole = λ known. machine_brought ∙ ledger_brought known;
   }
 
-  pub sound_brought : IsSound slot_count held (with_memory mem k)
+  pub sound_brought : IsSound S (with_memory mem k)
   sound_brought = record {
-    whole = whole_with_mem slot_count held k mem sound.whole x.size x.sound (bare-loans (ledger held k.mem) (ledger held mem) x.rights);
-    matched = λ now. matched_alike (machine_of held (with_memory mem k)) (machine_of held k) comes_brought.alike (sound.matched usable);
+    whole = whole_with_mem S k mem sound.whole x.size x.sound (bare-loans (ledger S.held k.mem) (ledger S.held mem) x.rights);
+    matched = λ now. matched_alike (machine_of S.held (with_memory mem k)) (machine_of S.held k) comes_brought.alike (sound.matched usable);
   }
 
-  pub keeps_brought : Keeps is_honest held slot_count asked faults k (with_memory mem k)
+  pub keeps_brought : Keeps S k (with_memory mem k)
   keeps_brought = record { size = x.size; store = x.store; room = refl }
 
-  pub tie_brought : IsTied held mem
-  tie_brought = sound-tied slot_count held mem x.sound
+  pub tie_brought : IsTied S.held mem
+  tie_brought = sound-tied S mem x.sound
 
   pub none_brought : none_out k.mem ≡ true → none_out mem ≡ true
   none_brought none = ap none_out (x.none none) ∙ none
@@ -69,45 +70,45 @@ module _ {W P : Type 0} (is_honest : W → Bool) (held : W → Held) (slot_count
       go false e = e
       go true e = absurd (false≢true (sym usable ∙ sym (ap (λ (m : Memory W). has_failed m) (x.none e)) ∙ failed))
 
-  front_on_ledger : front_parts (on_ledger (ledger held mem) (machine_of held k)) ≡ front_parts (machine_of held k)
+  front_on_ledger : front_parts (on_ledger (ledger S.held mem) (machine_of S.held k)) ≡ front_parts (machine_of S.held k)
   unfolding front_parts
   front_on_ledger = refl
 
-  pub front_brought : front_parts (machine_of held (with_memory mem k)) ≡ front_parts (machine_of held k)
+  pub front_brought : front_parts (machine_of S.held (with_memory mem k)) ≡ front_parts (machine_of S.held k)
   front_brought = ap front_parts machine_brought ∙ front_on_ledger
 
 -- .. told by the kernel that it became
-module _ {W P : Type 0} (is_honest : W → Bool) (held : W → Held) (slot_count : W → ℕ) (asked : W → P) (faults : W → ℕ)
-    (k new : Kernel W) (rest : new ≡ with_memory new.mem k) (sound : IsSound slot_count held k) (usable : IsUsable k)
-    (x : BringsPages is_honest held slot_count asked faults k.mem new.mem) where
-  pub sound_new : IsSound slot_count held new
-  sound_new = subst (λ (j : Kernel W). IsSound slot_count held j) (sym rest) (sound_brought is_honest held slot_count asked faults k new.mem sound usable x)
+module _ {W : Type 0} (S : SwapStore W)
+    (k new : Kernel W) (rest : new ≡ with_memory new.mem k) (sound : IsSound S k) (usable : IsUsable k)
+    (x : BringsPages S k.mem new.mem) where
+  pub sound_new : IsSound S new
+  sound_new = subst (λ (j : Kernel W). IsSound S j) (sym rest) (sound_brought S k new.mem sound usable x)
 
-  pub comes_new : ComesTo (MeansBytes is_honest held k.mem) (machine_of held new) (machine_of held k)
+  pub comes_new : ComesTo (MeansBytes S k.mem) (machine_of S.held new) (machine_of S.held k)
   comes_new =
-      subst (λ (j : Kernel W). ComesTo (MeansBytes is_honest held k.mem) (machine_of held j) (machine_of held k)) (sym rest)
-      (comes_brought is_honest held slot_count asked faults k new.mem sound usable x)
+      subst (λ (j : Kernel W). ComesTo (MeansBytes S k.mem) (machine_of S.held j) (machine_of S.held k)) (sym rest)
+      (comes_brought S k new.mem sound usable x)
 
-  pub keeps_new : Keeps is_honest held slot_count asked faults k new
-  keeps_new = subst (λ (j : Kernel W). Keeps is_honest held slot_count asked faults k j) (sym rest)
-      (keeps_brought is_honest held slot_count asked faults k new.mem sound usable x)
+  pub keeps_new : Keeps S k new
+  keeps_new = subst (λ (j : Kernel W). Keeps S k j) (sym rest)
+      (keeps_brought S k new.mem sound usable x)
 
-  pub tie_new : IsTied held new.mem
-  tie_new = tie_brought is_honest held slot_count asked faults k new.mem sound usable x
+  pub tie_new : IsTied S.held new.mem
+  tie_new = tie_brought S k new.mem sound usable x
 
   pub none_new : none_out k.mem ≡ true → none_out new.mem ≡ true
-  none_new = none_brought is_honest held slot_count asked faults k new.mem sound usable x
+  none_new = none_brought S k new.mem sound usable x
 
   pub out_new : has_failed new.mem ≡ true → none_out k.mem ≡ false
-  out_new = out_brought is_honest held slot_count asked faults k new.mem sound usable x
+  out_new = out_brought S k new.mem sound usable x
 
   pub last_new : last_of new ≡ last_of k
   last_new = ap (λ (j : Kernel W). j.log.records) rest
 
-  pub front_new : (a b : SheetBytes) (most : ℕ) → Appends a b (front_parts (machine_of held k)) most → Appends a b (front_parts (machine_of held new)) most
+  pub front_new : (a b : SheetBytes) (most : ℕ) → Appends a b (front_parts (machine_of S.held k)) most → Appends a b (front_parts (machine_of S.held new)) most
   front_new a b most appends =
       subst (λ (bytes : List ℕ). Appends a b bytes most)
-      (sym (ap (λ (j : Kernel W). front_parts (machine_of held j)) rest ∙ front_brought is_honest held slot_count asked faults k new.mem sound usable x))
+      (sym (ap (λ (j : Kernel W). front_parts (machine_of S.held j)) rest ∙ front_brought S k new.mem sound usable x))
       appends
 
 pub pages_new : {W : Type 0} {known : Type 0} (held : W → Held) (k : Kernel W) (s t : SheetBytes) → WritesPages known (processes k.mem) (ledger held k.mem) s t
@@ -118,13 +119,13 @@ pages_new held k s t pages = pages
 -- ---- room
 
 -- a memory is of few processes and pages
-pub few_processes : {W : Type 0} (slot_count : W → ℕ) (held : W → Held) (k : Kernel W) → IsSound slot_count held k → (machine_of held k).processes ≤ 64
+pub few_processes : {W : Type 0} (S : SwapStore W) (k : Kernel W) → IsSound S k → (machine_of S.held k).processes ≤ 64
 unfolding machine_of
-few_processes slot_count held k sound = sound.whole.mem.few
+few_processes S k sound = sound.whole.mem.few
 
-pub few_pages : {W : Type 0} (slot_count : W → ℕ) (held : W → Held) (k : Kernel W) → IsSound slot_count held k → (machine_of held k).capacity ≤ 32768
+pub few_pages : {W : Type 0} (S : SwapStore W) (k : Kernel W) → IsSound S k → (machine_of S.held k).capacity ≤ 32768
 unfolding machine_of
-few_pages slot_count held k sound =
+few_pages S k sound =
     let frames = sound.whole.mem.placed.few in
     let slots = sound.whole.mem.few_slots in
     let same = sound.whole.mem.slots in

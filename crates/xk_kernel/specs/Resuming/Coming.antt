@@ -8,6 +8,7 @@ use Rattle.vm_memory.specs.Memory.{IsUsable, frames_for_pages, ledger, size, sto
 use Rattle.vm_memory.specs.Sound.{IsSound}
 use Rattle.vm_memory.specs.declared.memory.Memory.{Memory}
 use Rattle.xk_base.specs.Outside.{Rose}
+use Rattle.xk_ports.specs.declared.store.SwapStore.{Ghosts as SwapStore}
 use Rattle.xk_ports.specs.Keeping.{KeepsStore}
 
 -- there are frames for so many pages
@@ -15,27 +16,27 @@ abbrev pub HasFrames : {W : Type 0} → Memory W → ℕ → Type 0
 HasFrames m total = total ≤ frames_for_pages m
 
 -- bytes are known until there are `total` pages: the store is honest and tells, or there are frames for all
-abbrev pub IsKnownUntil : {W : Type 0} → (W → Bool) → (W → Held) → Memory W → ℕ → Type 0
-IsKnownUntil is_honest held m total = IsTrue (is_known is_honest held m) ⊎ HasFrames m total
+abbrev pub IsKnownUntil : {W : Type 0} → SwapStore W → Memory W → ℕ → Type 0
+IsKnownUntil S m total = IsTrue (is_known S m) ⊎ HasFrames m total
 
 -- The ledger of the memory is this one: its rights and loans whatever the store does, and its bytes where they are known until there
 -- are `total` pages. Where there are frames for so many, no page is out.
-pub record HasCome {W : Type 0} (slot_count : W → ℕ) (is_honest : W → Bool) (held : W → Held) (total : ℕ) (m : Memory W) (target : Ledger)
+pub record HasCome {W : Type 0} (S : SwapStore W) (total : ℕ) (m : Memory W) (target : Ledger)
     : Type 0 where
-  pub sound : IsSound slot_count m
+  pub sound : IsSound S.slot_count m
   pub usable : IsUsable m
-  pub rights : bare (ledger held m) ≡ bare target
-  pub whole : IsKnownUntil is_honest held m total → ledger held m ≡ target
+  pub rights : bare (ledger S.held m) ≡ bare target
+  pub whole : IsKnownUntil S m total → ledger S.held m ≡ target
   pub near : HasFrames m total → none_out m ≡ true
 
 -- what every call on the way keeps of the memory
-pub record KeepsSize {W P : Type 0} (is_honest : W → Bool) (held : W → Held) (slot_count : W → ℕ) (asked : W → P) (faults : W → ℕ)
+pub record KeepsSize {W : Type 0} (S : SwapStore W)
     (old new : Memory W) : Type 0 where
   pub size : size new ≡ size old
-  pub store : KeepsStore is_honest held slot_count asked faults (store_of old) (store_of new)
+  pub store : KeepsStore S (store_of old) (store_of new)
 
 -- The store failed on the way: its count rose. Loans are as they were.
-pub record HasFailed {W : Type 0} (held : W → Held) (slot_count : W → ℕ) (faults : W → ℕ) (old new : Memory W) : Type 0 where
-  pub sound : IsSound slot_count new
-  pub loans : loans (ledger held new) ≡ loans (ledger held old)
-  pub rose : Rose (faults (store_of old)) (faults (store_of new))
+pub record HasFailed {W : Type 0} (S : SwapStore W) (old new : Memory W) : Type 0 where
+  pub sound : IsSound S.slot_count new
+  pub loans : loans (ledger S.held new) ≡ loans (ledger S.held old)
+  pub rose : Rose (S.faults (store_of old)) (S.faults (store_of new))

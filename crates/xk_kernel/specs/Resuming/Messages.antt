@@ -1,15 +1,16 @@
 -- The messages of a state in the queues of a kernel, each with its loan.
+use Rattle.xk_ports.specs.declared.store.SwapStore.{Ghosts as SwapStore}
 use Rattle.std.specs.Prelude.{◌≡◌, ℕ, Bool, not, ◌&&◌, ◌||◌, ◌==◌, List, map, length, slice_get, if◌then◌else◌, Option, Some, None}
 use Rattle.std.specs.List.{filter, find}
 use Rattle.std.specs.Option.{option_and_then, option_map, option_map_or}
 use Rattle.ledger_model.specs.Loans.{LoanRun, loans}
 use Rattle.msg_queue.specs.Seats.{Seat, empty_seat, seat_of}
 use Rattle.msg_queue.specs.declared.held.Held.{Held}
-use Rattle.suspend_image.specs.Machines.{message_of, place_at}
-use Rattle.suspend_image.specs.declared.state.MessageRow.{MessageRow}
-use Rattle.suspend_image.specs.declared.state.PageRow.{PageRow}
-use Rattle.suspend_image.specs.declared.state.ServerRow.{ServerRow}
-use Rattle.suspend_image.specs.declared.state.State.{State}
+use Rattle.state_rows.specs.Machines.{message_of, place_at}
+use Rattle.state_rows.specs.declared.state.MessageRow.{MessageRow}
+use Rattle.state_rows.specs.declared.state.PageRow.{PageRow}
+use Rattle.state_rows.specs.declared.state.ServerRow.{ServerRow}
+use Rattle.state_rows.specs.declared.state.State.{State}
 use Rattle.sv32_space.specs.Tie.{Held as HeldBytes}
 use Rattle.vm_memory.specs.Memory.{ledger, store_of}
 use Rattle.vm_memory.specs.Sound.{IsSound}
@@ -64,10 +65,12 @@ abbrev pub row_at : State → ℕ → ℕ → Option MessageRow
 row_at s i k = option_and_then (λ (server : ServerRow). slice_get (row_messages server) k) (slice_get s.servers i)
 
 abbrev pub run_at : State → ℕ → ℕ → Option LoanRun
-run_at s i k = option_and_then (λ (server : ServerRow). option_map (row_run s.pages server.pid) (slice_get (row_messages server) k)) (slice_get s.servers i)
+run_at s i k = option_and_then (λ (server : ServerRow). option_map (row_run s.pages server.pid) (slice_get (row_messages server) k))
+    (slice_get s.servers i)
 
 abbrev pub held_row_at : State → ℕ → ℕ → Option Held
-held_row_at s i k = option_and_then (λ (server : ServerRow). option_map (row_held s.pages server.pid) (slice_get (row_messages server) k)) (slice_get s.servers i)
+held_row_at s i k = option_and_then (λ (server : ServerRow). option_map (row_held s.pages server.pid) (slice_get (row_messages server) k))
+    (slice_get s.servers i)
 
 -- ---- the seats
 
@@ -96,10 +99,10 @@ is_back servers i j message = is_orphaned message || is_message_before servers i
 
 -- What a failure of the store leaves: the messages of these numbers whose lender died are back with their loans, and nothing else is on
 -- loan.
-pub record IsStopped {W : Type 0} (slot_count : W → ℕ) (held : W → HeldBytes) (faults : W → ℕ) (file : List ℕ) (s : State) (old new : Memory W)
+pub record IsStopped {W : Type 0} (S : SwapStore W) (file : List ℕ) (s : State) (old new : Memory W)
     (queues : List Seat) : Type 0 where
   pub numbers : ℕ → Bool
-  pub sound : IsSound slot_count new
-  pub loans : loans (ledger held new) ≡ loans (standing_of file s (orphans_of numbers))
+  pub sound : IsSound S.slot_count new
+  pub loans : loans (ledger S.held new) ≡ loans (standing_of file s (orphans_of numbers))
   pub back : AreBack s (is_orphan_among numbers) queues
-  pub rose : Rose (faults (store_of old)) (faults (store_of new))
+  pub rose : Rose (S.faults (store_of old)) (S.faults (store_of new))

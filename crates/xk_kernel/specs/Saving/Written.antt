@@ -14,6 +14,7 @@ use Rattle.vm_memory.specs.declared.memory.Memory.{Memory}
 use Rattle.xk_kernel.specs.Saving.Rows.{PageText, home_texts, orphan_texts, text_bytes, text_words}
 use Rattle.suspend_image.specs.SavedRows.{flag, machine_row, reserved_address, reserved_pid, reserved_tid}
 use Rattle.suspend_image.specs.StateBytes.{claim_entries, pids, saved_claim, saved_process, saved_server, saved_thread, server_entries, thread_entries}
+use Rattle.xk_ports.specs.declared.store.SwapStore.{Ghosts as SwapStore}
 use Rattle.xk_ports.specs.Keeping.{KeepsStore}
 
 -- so many bytes more fit behind those of a sheet, and a word counts them all
@@ -39,15 +40,15 @@ pub record AppendsTexts (known : Type 0) (old new : SheetBytes) (texts : List Pa
 
 -- Pages that were out may have come in, and others gone out in their places. All else of the memory is the same, and bytes too where
 -- they mean something.
-pub record BringsPages {W P : Type 0} (is_honest : W → Bool) (held : W → Held) (slot_count : W → ℕ) (asked : W → P) (faults : W → ℕ)
+pub record BringsPages {W : Type 0} (S : SwapStore W)
     (old new : Memory W) : Type 0 where
-  pub sound : IsSound slot_count new
-  pub rights : bare (ledger held new) ≡ bare (ledger held old)
-  pub whole : MeansBytes is_honest held old → ledger held new ≡ ledger held old
-  pub means : MeansBytes is_honest held old → MeansBytes is_honest held new
+  pub sound : IsSound S.slot_count new
+  pub rights : bare (ledger S.held new) ≡ bare (ledger S.held old)
+  pub whole : MeansBytes S old → ledger S.held new ≡ ledger S.held old
+  pub means : MeansBytes S old → MeansBytes S new
   pub none : none_out old ≡ true → new ≡ old
   pub size : size new ≡ size old
-  pub store : KeepsStore is_honest held slot_count asked faults (store_of old) (store_of new)
+  pub store : KeepsStore S (store_of old) (store_of new)
 
 -- ---- the whole
 

@@ -21,7 +21,7 @@ ghost use Rattle.process_table.specs.ProcessesOf.{process_count as processes_mad
 ghost use Rattle.send_path.specs.Parts.{process_of, thread_of};
 ghost use Rattle.server_table.specs.Listed.{listed_servers};
 ghost use Rattle.server_table.specs.ServersOf.{servers_of};
-ghost use Rattle.suspend_image.specs.Machines.{machine_of as state_machine, processes_of as state_processes, threads_of as state_threads};
+ghost use Rattle.state_rows.specs.Machines.{machine_of as state_machine, processes_of as state_processes, threads_of as state_threads};
 ghost use Rattle.thread_table.specs.ThreadsOf.{process_count as processes_threaded, threads_of};
 ghost use Rattle.vm_memory.specs.Bytes.{MeansBytes, none_out};
 ghost use Rattle.vm_memory.specs.Memory.{capacity_of, frames_for_pages, processes, size, store_of};
@@ -86,14 +86,14 @@ fn resume_all<W: SwapStore>(
     requires resumable { IsResumable file.now state.now }
     requires processes { processes mem.old ≡ state.now.n }
     requires capacity { capacity_of mem.old ≡ state.now.cap }
-    requires come { HasCome W.slot_count W.is_honest W.held (state_pages file.now state.now) mem.old empty_ledger }
+    requires come { HasCome W.SwapStore (state_pages file.now state.now) mem.old empty_ledger }
     requires empty { queues.old ≡ replicate SERVER_LIMIT empty_seat }
-    ensures come { OnOk result (HasCome W.slot_count W.is_honest W.held (state_pages file.now state.now) mem.new
+    ensures come { OnOk result (HasCome W.SwapStore (state_pages file.now state.now) mem.new
         (state_ledger file.now state.now)) }
     ensures back { OnOk result (AreBack state.now (λ row. true) queues.new) }
-    ensures failed { OnErr result (IsStopped W.slot_count W.held W.faults file.now state.now mem.old mem.new queues.new) }
+    ensures failed { OnErr result (IsStopped W.SwapStore file.now state.now mem.old mem.new queues.new) }
     ensures full { OnErr result (frames_for_pages mem.old < state_pages file.now state.now) }
-    ensures keeps { KeepsSize W.is_honest W.held W.slot_count W.asked W.faults mem.old mem.new }
+    ensures keeps { KeepsSize W.SwapStore mem.old mem.new }
 {
     orphans::resume_orphans(mem, queues, state, file)?;
     pages::resume_pages(mem, state, file)?;
@@ -115,20 +115,22 @@ impl<W: SwapStore> Kernel<W> {
         requires resumable { IsResumable file.now state.now }
         requires split { CanSplit state.now slots }
         requires slots { slots ≤ W.slot_count store }
-        ensures sound { IfOk result (λ k. IsSound W.slot_count W.held k) }
+        ensures sound { IfOk result (λ k. IsSound W.SwapStore k) }
         ensures usable { IfOk result (λ k. IsUsable k) }
         // Bytes stand as the file says where the store is honest and tells, or no page is out.
-        ensures machine { IfOk result (λ k. ComesTo (MeansBytes W.is_honest W.held k.mem) (machine_of W.held k) (state_machine file.now state.now)) }
+        ensures machine { IfOk result
+            (λ k. ComesTo (MeansBytes W.SwapStore k.mem) (machine_of W.held k) (state_machine file.now state.now)) }
         // A page is out only where the state has more pages than there are frames for pages.
         ensures near { state_pages file.now state.now ≤ resumed_page_frames state.now slots → IfOk result (λ k. none_out k.mem ≡ true) }
         ensures records { IfOk result (λ k. last_of k ≡ []) }
         ensures tie { IfOk result (λ k. IsTied W.held k.mem) }
         ensures size { IfOk result (λ k. size k.mem ≡ resumed_size state.now slots) }
-        ensures store { IfOk result (λ k. KeepsStore W.is_honest W.held W.slot_count W.asked W.faults store (store_of k.mem)) }
-        ensures back { IfErr result (λ fault. KeepsStore W.is_honest W.held W.slot_count W.asked W.faults store fault.store) }
+        ensures store { IfOk result (λ k. KeepsStore W.SwapStore store (store_of k.mem)) }
+        ensures back { IfErr result (λ fault. KeepsStore W.SwapStore store fault.store) }
         // A swap fault comes only where the store's count rose and the pages don't fit in frames.
         ensures cause { IfErr result (λ fault. fault.why ≡ BootError.SwapFault → Rose (W.faults store) (W.faults fault.store)) }
-        ensures out { IfErr result (λ fault. fault.why ≡ BootError.SwapFault → resumed_page_frames state.now slots < state_pages file.now state.now) }
+        ensures out { IfErr result (λ fault. fault.why ≡ BootError.SwapFault
+            → resumed_page_frames state.now slots < state_pages file.now state.now) }
     {
         let (threads, procs, mut servers, log, mut queues) = match tables(alloc, state) {
             Ok(tables) => tables,

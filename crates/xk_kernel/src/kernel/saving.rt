@@ -18,7 +18,7 @@ ghost use Rattle.vm_memory.specs.Memory.{has_failed, ledger, processes, size, st
 ghost use Rattle.vm_memory.specs.Tie.{IsTied};
 ghost use Rattle.xk_base.specs.Outside.{Rose};
 ghost use Rattle.xk_kernel.specs.Knowing.{ComesTo, PutsNoneOut};
-ghost use Rattle.xk_kernel.specs.Reserved.{IsReservedByThread};
+ghost use Rattle.machine_history.specs.Reserved.{IsReservedByThread};
 ghost use Rattle.xk_kernel.specs.Saving.Fitting.{AreNumbersFit, IsFit};
 ghost use Rattle.xk_kernel.specs.Saving.Kept.{with_memory};
 ghost use Rattle.suspend_image.specs.SavedRows.{machine_row};
@@ -61,7 +61,7 @@ fn reserved_words(reserved: Option<(ThreadId, u32)>) -> [u32; 4]
 impl<W: SwapStore> Kernel<W> {
     // How many processes the machine was made for.
     fn processes(&self) -> u32
-        requires whole { IsWhole W.slot_count W.held self.now }
+        requires whole { IsWhole W.SwapStore self.now }
         ensures { result ≡ processes self.now.mem }
     {
         self.procs.procs()
@@ -69,7 +69,7 @@ impl<W: SwapStore> Kernel<W> {
 
     // Appends the numbers of the whole machine.
     fn write_numbers(&self, sheet: &mut Sheet)
-        requires sound { IsSound W.slot_count W.held self.now }
+        requires sound { IsSound W.SwapStore self.now }
         requires room { Fits sheet.old 52 }
         ensures words { Appends sheet.old sheet.new (machine_bytes (machine_row (machine_of W.held self.now))) 52 }
         ensures fit { AreNumbersFit (machine_of W.held self.now) }
@@ -91,7 +91,7 @@ impl<W: SwapStore> Kernel<W> {
 
     // Appends the parts before the pages.
     fn write_front(&self, sheet: &mut Sheet)
-        requires sound { IsSound W.slot_count W.held self.now }
+        requires sound { IsSound W.SwapStore self.now }
         requires usable { IsUsable self.now }
         requires room { Fits sheet.old (363208 + 4604 * (machine_of W.held self.now).processes) }
         ensures parts { let m = machine_of W.held self.now in
@@ -108,15 +108,15 @@ impl<W: SwapStore> Kernel<W> {
 
     // Appends the pages and the orphans.
     fn write_pages(&mut self, sheet: &mut Sheet) -> Result<(), Failed>
-        requires sound { IsSound W.slot_count W.held self.old }
+        requires sound { IsSound W.SwapStore self.old }
         requires usable { IsUsable self.old }
         requires room { Fits sheet.old (8 + 4124 * ((machine_of W.held self.old).capacity + 3)) }
-        ensures brings { BringsPages W.is_honest W.held W.slot_count W.asked W.faults self.old.mem self.new.mem }
+        ensures brings { BringsPages W.SwapStore self.old.mem self.new.mem }
         ensures rest { self.new ≡ with_memory self.new.mem self.old }
         ensures usable { OnOk result (IsUsable self.new) }
         ensures failed { OnErr result (has_failed self.new.mem ≡ true) }
         ensures cause { OnErr result (Rose (W.faults (store_of self.old.mem)) (W.faults (store_of self.new.mem))) }
-        ensures pages { OnOk result (WritesPages (MeansBytes W.is_honest W.held self.old.mem) (processes self.new.mem) (ledger W.held self.new.mem)
+        ensures pages { OnOk result (WritesPages (MeansBytes W.SwapStore self.old.mem) (processes self.new.mem) (ledger W.held self.new.mem)
             sheet.old sheet.new) }
         ensures room { sheet.new.room ≡ sheet.old.room }
     {
@@ -131,19 +131,19 @@ impl<W: SwapStore> Kernel<W> {
     /// out in their place. Where the bytes of pages aren't known, each page has in the sheet the bytes
     /// that it had as it was read. Only `close` may follow a `SwapFault`.
     pub fn save(&mut self, sheet: &mut Sheet) -> Result<(), SwapFault>
-        requires sound { IsSound W.slot_count W.held self.old }
+        requires sound { IsSound W.SwapStore self.old }
         requires usable { IsUsable self.old }
         requires room { let m = machine_of W.held self.old in room_for m.processes m.capacity ≤ sheet.old.room }
-        ensures sound { IsSound W.slot_count W.held self.new }
+        ensures sound { IsSound W.SwapStore self.new }
         ensures usable { OnOk result (IsUsable self.new) }
         ensures failed { OnErr result (has_failed self.new.mem ≡ true) }
         // The machine is as before, whatever is answered.
-        ensures machine { ComesTo (MeansBytes W.is_honest W.held self.old.mem) (machine_of W.held self.new) (machine_of W.held self.old) }
-        ensures means { MeansBytes W.is_honest W.held self.old.mem → MeansBytes W.is_honest W.held self.new.mem }
+        ensures machine { ComesTo (MeansBytes W.SwapStore self.old.mem) (machine_of W.held self.new) (machine_of W.held self.old) }
+        ensures means { MeansBytes W.SwapStore self.old.mem → MeansBytes W.SwapStore self.new.mem }
         // The sheet has its state bytes where the bytes of pages are known, and else all of them but those.
-        ensures saved { MeansBytes W.is_honest W.held self.old.mem
+        ensures saved { MeansBytes W.SwapStore self.old.mem
             → OnOk result (sheet.new ≡ with_bytes (saved_bytes (machine_of W.held self.new)) sheet.old) }
-        ensures alike { OnOk result (IsSaved (MeansBytes W.is_honest W.held self.old.mem) (machine_of W.held self.new) sheet.new.bytes) }
+        ensures alike { OnOk result (IsSaved (MeansBytes W.SwapStore self.old.mem) (machine_of W.held self.new) sheet.new.bytes) }
         // These bytes are read as the machine again (suspend_image): its numbers fit into words.
         ensures saveable { let m = machine_of W.held self.new in
             OnOk result (m.steps ≤ 4000000000 → IsReservedByThread m → IsSaveable m) }
@@ -154,7 +154,7 @@ impl<W: SwapStore> Kernel<W> {
         ensures out { OnErr result (none_out self.old.mem ≡ false) }
         ensures none { PutsNoneOut self.old self.new }
         ensures tie { IsTied W.held self.new.mem }
-        ensures keeps { Keeps W.is_honest W.held W.slot_count W.asked W.faults self.old self.new }
+        ensures keeps { Keeps W.SwapStore self.old self.new }
     {
         begin_state(sheet);
         self.write_front(sheet);

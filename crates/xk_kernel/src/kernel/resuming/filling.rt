@@ -32,14 +32,15 @@ pub(super) fn make_run<W: SwapStore>(
     requires usable { IsUsable mem.old }
     requires process { is_pid (processes mem.old) first.pid.0 ≡ true }
     requires some { 1 ≤ n }
-    requires served { make_answer (processes mem.old) (capacity_of mem.old) (ledger W.held mem.old) first.pid window (Some first.vpn) n ≡ Ok first.vpn }
-    ensures comes { (total : ℕ) (l : Ledger) → HasCome W.slot_count W.is_honest W.held total mem.old l
+    requires served { make_answer (processes mem.old) (capacity_of mem.old) (ledger W.held mem.old) first.pid window (Some first.vpn) n
+        ≡ Ok first.vpn }
+    ensures comes { (total : ℕ) (l : Ledger) → HasCome W.SwapStore total mem.old l
         → pages (processes mem.old) l + n ≤ total
-        → OnOk result (HasCome W.slot_count W.is_honest W.held total mem.new (make first n right l)) }
+        → OnOk result (HasCome W.SwapStore total mem.new (make first n right l)) }
     ensures rights { OnOk result (bare (ledger W.held mem.new) ≡ bare (make first n right (ledger W.held mem.old))) }
-    ensures failed { OnErr result (HasFailed W.held W.slot_count W.faults mem.old mem.new) }
+    ensures failed { OnErr result (HasFailed W.SwapStore mem.old mem.new) }
     ensures full { OnErr result (frames_for_pages mem.old < pages (processes mem.old) (ledger W.held mem.old) + n) }
-    ensures keeps { KeepsSize W.is_honest W.held W.slot_count W.asked W.faults mem.old mem.new }
+    ensures keeps { KeepsSize W.SwapStore mem.old mem.new }
 {
     match mem.make(first.pid, window, Some(first.vpn), n, right)? {
         Ok(_) => Ok(()),
@@ -54,12 +55,12 @@ pub(super) fn fill<W: SwapStore>(mem: &mut Memory<W>, at: Place, bytes: &[u8]) -
     requires may { reaches_bytes (processes mem.old) (ledger W.held mem.old) at Store ≡ true }
     requires home { reach (processes mem.old) (ledger W.held mem.old) at Store ≡ Some (Homed at) }
     requires whole { length bytes.now ≡ 4096 }
-    ensures comes { (total : ℕ) (l : Ledger) → HasCome W.slot_count W.is_honest W.held total mem.old l
-        → OnOk result (HasCome W.slot_count W.is_honest W.held total mem.new (write (Homed at) 0 bytes.now l)) }
+    ensures comes { (total : ℕ) (l : Ledger) → HasCome W.SwapStore total mem.old l
+        → OnOk result (HasCome W.SwapStore total mem.new (write (Homed at) 0 bytes.now l)) }
     ensures rights { OnOk result (bare (ledger W.held mem.new) ≡ bare (ledger W.held mem.old)) }
-    ensures failed { OnErr result (HasFailed W.held W.slot_count W.faults mem.old mem.new) }
+    ensures failed { OnErr result (HasFailed W.SwapStore mem.old mem.new) }
     ensures out { OnErr result (none_out mem.old ≡ false) }
-    ensures keeps { KeepsSize W.is_honest W.held W.slot_count W.asked W.faults mem.old mem.new }
+    ensures keeps { KeepsSize W.SwapStore mem.old mem.new }
 {
     if !mem.reach(at, Access::Store)? {
         unreachable!();
@@ -74,9 +75,9 @@ pub(super) fn reduce<W: SwapStore>(mem: &mut Memory<W>, at: Place, right: Right)
     requires usable { IsUsable mem.old }
     requires process { is_pid (processes mem.old) at.pid.0 ≡ true }
     requires served { reduce_answer (processes mem.old) (ledger W.held mem.old) at 1 right ≡ Ok tt }
-    ensures comes { (total : ℕ) (l : Ledger) → HasCome W.slot_count W.is_honest W.held total mem.old l
-        → HasCome W.slot_count W.is_honest W.held total mem.new (reduce (in_run at 1) right l) }
-    ensures keeps { KeepsSize W.is_honest W.held W.slot_count W.asked W.faults mem.old mem.new }
+    ensures comes { (total : ℕ) (l : Ledger) → HasCome W.SwapStore total mem.old l
+        → HasCome W.SwapStore total mem.new (reduce (in_run at 1) right l) }
+    ensures keeps { KeepsSize W.SwapStore mem.old mem.new }
 {
     match mem.reduce_run(at, 1, right) {
         Ok(()) => {}

@@ -29,12 +29,12 @@ fn held_again<W: SwapStore>(
     requires processes { processes mem.old ≡ state.now.n }
     requires there { IsSome (row_at state.now i k) }
     requires lent { IfSome (row_at state.now i k) (λ row. is_orphaned row ≡ false) }
-    requires come { HasCome W.slot_count W.is_honest W.held (state_pages file.now state.now) mem.old
+    requires come { HasCome W.SwapStore (state_pages file.now state.now) mem.old
         (standing_of file.now state.now (loans_before state.now.servers i k)) }
-    ensures come { HasCome W.slot_count W.is_honest W.held (state_pages file.now state.now) mem.new
+    ensures come { HasCome W.SwapStore (state_pages file.now state.now) mem.new
         (standing_of file.now state.now (loans_before state.now.servers i (k + 1))) }
     ensures held { held_row_at state.now i k ≡ Some result }
-    ensures keeps { KeepsSize W.is_honest W.held W.slot_count W.asked W.faults mem.old mem.new }
+    ensures keeps { KeepsSize W.SwapStore mem.old mem.new }
 {
     let server = &state.servers.as_slice()[i];
     let row = message_at(server, k);
@@ -68,13 +68,13 @@ fn resume_server_messages<W: SwapStore>(
     requires resumable { IsResumable file.now state.now }
     requires processes { processes mem.old ≡ state.now.n }
     requires server { i < length state.now.servers }
-    requires come { HasCome W.slot_count W.is_honest W.held (state_pages file.now state.now) mem.old
+    requires come { HasCome W.SwapStore (state_pages file.now state.now) mem.old
         (standing_of file.now state.now (loans_before state.now.servers i 0)) }
     requires back { AreBack state.now (is_back state.now.servers i 0) queues.old }
-    ensures come { HasCome W.slot_count W.is_honest W.held (state_pages file.now state.now) mem.new
+    ensures come { HasCome W.SwapStore (state_pages file.now state.now) mem.new
         (standing_of file.now state.now (loans_before state.now.servers (i + 1) 0)) }
     ensures back { AreBack state.now (is_back state.now.servers (i + 1) 0) queues.new }
-    ensures keeps { KeepsSize W.is_honest W.held W.slot_count W.asked W.faults mem.old mem.new }
+    ensures keeps { KeepsSize W.SwapStore mem.old mem.new }
 {
     let server = &state.servers.as_slice()[i];
     let queued = server.queued.as_slice().len();
@@ -99,13 +99,13 @@ pub(super) fn resume_messages<W: SwapStore>(
 )
     requires resumable { IsResumable file.now state.now }
     requires processes { processes mem.old ≡ state.now.n }
-    requires come { HasCome W.slot_count W.is_honest W.held (state_pages file.now state.now) mem.old
+    requires come { HasCome W.SwapStore (state_pages file.now state.now) mem.old
         (standing_of file.now state.now (pages_before state.now.pages (length state.now.pages))) }
     requires back { AreBack state.now is_orphaned queues.old }
-    ensures come { HasCome W.slot_count W.is_honest W.held (state_pages file.now state.now) mem.new
+    ensures come { HasCome W.SwapStore (state_pages file.now state.now) mem.new
         (state_ledger file.now state.now) }
     ensures back { AreBack state.now (λ row. true) queues.new }
-    ensures keeps { KeepsSize W.is_honest W.held W.slot_count W.asked W.faults mem.old mem.new }
+    ensures keeps { KeepsSize W.SwapStore mem.old mem.new }
 {
     'servers: for i in 0..state.servers.as_slice().len() {
         resume_server_messages(mem, queues, state, file, i);

@@ -1,8 +1,8 @@
 //! One message of a state, and its loan from the pages of its sender.
 
 ghost use Rattle.std.specs.Prelude.{◌≡◌, ◌+◌, ◌<◌, ◌≤◌, All, IsSome, Some, length, slice_get};
-ghost use Rattle.suspend_image.specs.Machines.{message_of, sender_of};
-ghost use Rattle.suspend_image.specs.declared.state.PageRow.{PageRow as Page};
+ghost use Rattle.state_rows.specs.Machines.{message_of, sender_of};
+ghost use Rattle.state_rows.specs.declared.state.PageRow.{PageRow as Page};
 ghost use Rattle.xk_base.specs.Calls.Kinds.{kind_at};
 ghost use Rattle.xk_kernel.specs.Resuming.Messages.{first_lent, is_lend_row, is_orphaned, row_kind};
 ghost use Rattle.xk_kernel.specs.Resuming.Standing.{row_messages};

@@ -7,7 +7,7 @@ ghost use Rattle.std.specs.Prelude.{◌≡◌, ◌+◌, ◌<◌, ◌==◌, ◌&&
 ghost use Rattle.ledger_model.specs.Ledger.{Ledger, empty_ledger};
 ghost use Rattle.ledger_model.specs.Places.{in_run, place_after};
 ghost use Rattle.ledger_model.specs.Steps.{make};
-ghost use Rattle.suspend_image.specs.declared.state.OrphanRow.{OrphanRow as Orphan};
+ghost use Rattle.state_rows.specs.declared.state.OrphanRow.{OrphanRow as Orphan};
 ghost use Rattle.msg_queue.specs.Seats.{empty_seat};
 ghost use Rattle.vm_memory.specs.Memory.{IsUsable, capacity_of, frames_for_pages, ledger, processes};
 ghost use Rattle.vm_memory.specs.Sound.{IsSound};
@@ -36,7 +36,8 @@ const FILLING: Right = Right { w: true, x: false };
 // Where the bytes of the orphan at a place begin in the file.
 fn offset(orphans: &[OrphanRow], at: Place) -> u32
     requires { IsSome (find (λ (o : Orphan). o.pid == at.pid.0 && o.page == at.vpn.0) orphans.now) }
-    ensures { option_map (λ (o : Orphan). o.from) (find (λ (o : Orphan). o.pid == at.pid.0 && o.page == at.vpn.0) orphans.now) ≡ Some result }
+    ensures { option_map (λ (o : Orphan). o.from) (find (λ (o : Orphan). o.pid == at.pid.0 && o.page == at.vpn.0) orphans.now)
+        ≡ Some result }
 {
     let orphan = orphans.iter().find(|orphan| orphan.pid == u32::from(at.pid.0)
         && orphan.page == at.vpn.0);
@@ -61,12 +62,12 @@ fn fill_orphans<W: SwapStore>(
     requires low { from.vpn.0 + n < 2 ^ 32 }
     requires there { (i : ℕ) → i < n → IsSome ((state_ledger file.now state.now).orphan (place_after to i)) }
     requires homes { (p : PlaceOf) → in_run from n p ≡ true → IsHomeOf (ledger W.held mem.old) p filling_right }
-    ensures comes { (total : ℕ) (l : Ledger) → HasCome W.slot_count W.is_honest W.held total mem.old (make from n filling_right l)
-        → OnOk result (HasCome W.slot_count W.is_honest W.held total mem.new (with_orphan_pages (state_ledger file.now state.now) from n to l)) }
-    ensures failed { OnErr result (HasFailed W.held W.slot_count W.faults mem.old mem.new) }
-    ensures full { (total : ℕ) (l : Ledger) → HasCome W.slot_count W.is_honest W.held total mem.old (make from n filling_right l)
+    ensures comes { (total : ℕ) (l : Ledger) → HasCome W.SwapStore total mem.old (make from n filling_right l)
+        → OnOk result (HasCome W.SwapStore total mem.new (with_orphan_pages (state_ledger file.now state.now) from n to l)) }
+    ensures failed { OnErr result (HasFailed W.SwapStore mem.old mem.new) }
+    ensures full { (total : ℕ) (l : Ledger) → HasCome W.SwapStore total mem.old (make from n filling_right l)
         → OnErr result (frames_for_pages mem.old < total) }
-    ensures keeps { KeepsSize W.is_honest W.held W.slot_count W.asked W.faults mem.old mem.new }
+    ensures keeps { KeepsSize W.SwapStore mem.old mem.new }
 {
     'orphans: for i in 0..n {
         let at = Place {
@@ -96,14 +97,14 @@ fn lend_orphans<W: SwapStore>(
     requires capacity { capacity_of mem.old ≡ state.now.cap }
     requires there { IsSome (row_at state.now i k) }
     requires orphaned { IfSome (row_at state.now i k) (λ row. is_orphaned row ≡ true) }
-    requires come { HasCome W.slot_count W.is_honest W.held (state_pages file.now state.now) mem.old
+    requires come { HasCome W.SwapStore (state_pages file.now state.now) mem.old
         (standing_of file.now state.now (orphans_before state.now.servers i k)) }
-    ensures come { OnOk result (HasCome W.slot_count W.is_honest W.held (state_pages file.now state.now) mem.new
+    ensures come { OnOk result (HasCome W.SwapStore (state_pages file.now state.now) mem.new
         (standing_of file.now state.now (orphans_before state.now.servers i (k + 1)))) }
     ensures loan { IfOk result (λ loan. run_at state.now i k ≡ Some loan) }
-    ensures failed { OnErr result (HasFailed W.held W.slot_count W.faults mem.old mem.new) }
+    ensures failed { OnErr result (HasFailed W.SwapStore mem.old mem.new) }
     ensures full { OnErr result (frames_for_pages mem.old < state_pages file.now state.now) }
-    ensures keeps { KeepsSize W.is_honest W.held W.slot_count W.asked W.faults mem.old mem.new }
+    ensures keeps { KeepsSize W.SwapStore mem.old mem.new }
 {
     let server = &state.servers.as_slice()[i];
     let row = message_at(server, k);
@@ -134,15 +135,15 @@ fn resume_server_orphans<W: SwapStore>(
     requires processes { processes mem.old ≡ state.now.n }
     requires capacity { capacity_of mem.old ≡ state.now.cap }
     requires server { i < length state.now.servers }
-    requires come { HasCome W.slot_count W.is_honest W.held (state_pages file.now state.now) mem.old
+    requires come { HasCome W.SwapStore (state_pages file.now state.now) mem.old
         (standing_of file.now state.now (orphans_before state.now.servers i 0)) }
     requires back { AreBack state.now (is_orphan_back state.now.servers i 0) queues.old }
-    ensures come { OnOk result (HasCome W.slot_count W.is_honest W.held (state_pages file.now state.now) mem.new
+    ensures come { OnOk result (HasCome W.SwapStore (state_pages file.now state.now) mem.new
         (standing_of file.now state.now (orphans_before state.now.servers (i + 1) 0))) }
     ensures back { OnOk result (AreBack state.now (is_orphan_back state.now.servers (i + 1) 0) queues.new) }
-    ensures failed { OnErr result (IsStopped W.slot_count W.held W.faults file.now state.now mem.old mem.new queues.new) }
+    ensures failed { OnErr result (IsStopped W.SwapStore file.now state.now mem.old mem.new queues.new) }
     ensures full { OnErr result (frames_for_pages mem.old < state_pages file.now state.now) }
-    ensures keeps { KeepsSize W.is_honest W.held W.slot_count W.asked W.faults mem.old mem.new }
+    ensures keeps { KeepsSize W.SwapStore mem.old mem.new }
 {
     let server = &state.servers.as_slice()[i];
     'messages: for k in 0..message_count(server) {
@@ -170,14 +171,14 @@ pub(super) fn resume_orphans<W: SwapStore>(
     requires resumable { IsResumable file.now state.now }
     requires processes { processes mem.old ≡ state.now.n }
     requires capacity { capacity_of mem.old ≡ state.now.cap }
-    requires come { HasCome W.slot_count W.is_honest W.held (state_pages file.now state.now) mem.old empty_ledger }
+    requires come { HasCome W.SwapStore (state_pages file.now state.now) mem.old empty_ledger }
     requires empty { queues.old ≡ replicate SERVER_LIMIT empty_seat }
-    ensures come { OnOk result (HasCome W.slot_count W.is_honest W.held (state_pages file.now state.now) mem.new
+    ensures come { OnOk result (HasCome W.SwapStore (state_pages file.now state.now) mem.new
         (standing_of file.now state.now (pages_before state.now.pages 0))) }
     ensures back { OnOk result (AreBack state.now is_orphaned queues.new) }
-    ensures failed { OnErr result (IsStopped W.slot_count W.held W.faults file.now state.now mem.old mem.new queues.new) }
+    ensures failed { OnErr result (IsStopped W.SwapStore file.now state.now mem.old mem.new queues.new) }
     ensures full { OnErr result (frames_for_pages mem.old < state_pages file.now state.now) }
-    ensures keeps { KeepsSize W.is_honest W.held W.slot_count W.asked W.faults mem.old mem.new }
+    ensures keeps { KeepsSize W.SwapStore mem.old mem.new }
 {
     'servers: for i in 0..state.servers.as_slice().len() {
         resume_server_orphans(mem, queues, state, file, i)?;

@@ -5,7 +5,7 @@ ghost use Rattle.ledger_model.specs.Ledger.{Ledger, pages};
 ghost use Rattle.ledger_model.specs.Places.{is_place_in, is_user_place};
 ghost use Rattle.ledger_model.specs.Reach.{is_free};
 ghost use Rattle.ledger_model.specs.RunTests.{console_mapped};
-ghost use Rattle.suspend_image.specs.Machines.{ledger_page, place_at};
+ghost use Rattle.state_rows.specs.Machines.{ledger_page, place_at};
 ghost use Rattle.sv32_space.specs.PageSteps.{place_page, without_loan};
 ghost use Rattle.vm_memory.specs.Memory.{IsUsable, capacity_of, frames_for_pages, ledger, processes};
 ghost use Rattle.vm_memory.specs.Sound.{IsSound};
@@ -57,15 +57,15 @@ fn put_page<W: SwapStore>(mem: &mut Memory<W>, row: &PageRow, file: &[u8]) -> Re
     requires room { pages (processes mem.old) (ledger W.held mem.old) + 1 ≤ capacity_of mem.old }
     requires right { row.now.right < 4 }
     requires bytes { row.now.from + 4096 ≤ length file.now }
-    ensures comes { (total : ℕ) (l : Ledger) → HasCome W.slot_count W.is_honest W.held total mem.old l
+    ensures comes { (total : ℕ) (l : Ledger) → HasCome W.SwapStore total mem.old l
         → pages (processes mem.old) l + 1 ≤ total
-        → OnOk result (HasCome W.slot_count W.is_honest W.held total mem.new
+        → OnOk result (HasCome W.SwapStore total mem.new
         (place_page (place_at row.now.pid row.now.page) (without_loan (ledger_page file.now row.now)) l)) }
-    ensures full { (total : ℕ) (l : Ledger) → HasCome W.slot_count W.is_honest W.held total mem.old l
+    ensures full { (total : ℕ) (l : Ledger) → HasCome W.SwapStore total mem.old l
         → pages (processes mem.old) l + 1 ≤ total
         → OnErr result (frames_for_pages mem.old < total) }
-    ensures failed { OnErr result (HasFailed W.held W.slot_count W.faults mem.old mem.new) }
-    ensures keeps { KeepsSize W.is_honest W.held W.slot_count W.asked W.faults mem.old mem.new }
+    ensures failed { OnErr result (HasFailed W.SwapStore mem.old mem.new) }
+    ensures keeps { KeepsSize W.SwapStore mem.old mem.new }
 {
     let at = home(row);
     let right = right_of(row);
@@ -99,10 +99,10 @@ fn put_console<W: SwapStore>(mem: &mut Memory<W>, row: &PageRow)
     requires first { console_mapped (processes mem.old) (ledger W.held mem.old) ≡ false }
     requires right { 4 ≤ row.now.right }
     requires no_fetch { row.now.right < 6 }
-    ensures comes { (total : ℕ) (l : Ledger) (file : List ℕ) → HasCome W.slot_count W.is_honest W.held total mem.old l
-        → HasCome W.slot_count W.is_honest W.held total mem.new
+    ensures comes { (total : ℕ) (l : Ledger) (file : List ℕ) → HasCome W.SwapStore total mem.old l
+        → HasCome W.SwapStore total mem.new
         (place_page (place_at row.now.pid row.now.page) (without_loan (ledger_page file row.now)) l) }
-    ensures keeps { KeepsSize W.is_honest W.held W.slot_count W.asked W.faults mem.old mem.new }
+    ensures keeps { KeepsSize W.SwapStore mem.old mem.new }
 {
     let at = home(row);
     match mem.make_console(at.pid, Some(at.vpn), row.right % 2 == 1) {
@@ -123,15 +123,15 @@ fn put_row<W: SwapStore>(mem: &mut Memory<W>, row: &PageRow, file: &[u8]) -> Res
     requires window { 4 ≤ row.now.right → is_place_in (processes mem.old) Map (place_at row.now.pid row.now.page) ≡ true }
     requires first { 4 ≤ row.now.right → console_mapped (processes mem.old) (ledger W.held mem.old) ≡ false }
     requires no_fetch { 4 ≤ row.now.right → row.now.right < 6 }
-    ensures comes { (total : ℕ) (l : Ledger) → HasCome W.slot_count W.is_honest W.held total mem.old l
+    ensures comes { (total : ℕ) (l : Ledger) → HasCome W.SwapStore total mem.old l
         → (row.now.right < 4 → pages (processes mem.old) l + 1 ≤ total)
-        → OnOk result (HasCome W.slot_count W.is_honest W.held total mem.new
+        → OnOk result (HasCome W.SwapStore total mem.new
         (place_page (place_at row.now.pid row.now.page) (without_loan (ledger_page file.now row.now)) l)) }
-    ensures full { (total : ℕ) (l : Ledger) → HasCome W.slot_count W.is_honest W.held total mem.old l
+    ensures full { (total : ℕ) (l : Ledger) → HasCome W.SwapStore total mem.old l
         → (row.now.right < 4 → pages (processes mem.old) l + 1 ≤ total)
         → OnErr result (frames_for_pages mem.old < total) }
-    ensures failed { OnErr result (HasFailed W.held W.slot_count W.faults mem.old mem.new) }
-    ensures keeps { KeepsSize W.is_honest W.held W.slot_count W.asked W.faults mem.old mem.new }
+    ensures failed { OnErr result (HasFailed W.SwapStore mem.old mem.new) }
+    ensures keeps { KeepsSize W.SwapStore mem.old mem.new }
 {
     if row.right >= CONSOLE {
         put_console(mem, row);
@@ -149,13 +149,13 @@ pub(super) fn resume_pages<W: SwapStore>(
     requires resumable { IsResumable file.now state.now }
     requires processes { processes mem.old ≡ state.now.n }
     requires capacity { capacity_of mem.old ≡ state.now.cap }
-    requires come { HasCome W.slot_count W.is_honest W.held (state_pages file.now state.now) mem.old
+    requires come { HasCome W.SwapStore (state_pages file.now state.now) mem.old
         (standing_of file.now state.now (pages_before state.now.pages 0)) }
-    ensures come { OnOk result (HasCome W.slot_count W.is_honest W.held (state_pages file.now state.now) mem.new
+    ensures come { OnOk result (HasCome W.SwapStore (state_pages file.now state.now) mem.new
         (standing_of file.now state.now (pages_before state.now.pages (length state.now.pages)))) }
-    ensures failed { OnErr result (HasFailed W.held W.slot_count W.faults mem.old mem.new) }
+    ensures failed { OnErr result (HasFailed W.SwapStore mem.old mem.new) }
     ensures full { OnErr result (frames_for_pages mem.old < state_pages file.now state.now) }
-    ensures keeps { KeepsSize W.is_honest W.held W.slot_count W.asked W.faults mem.old mem.new }
+    ensures keeps { KeepsSize W.SwapStore mem.old mem.new }
 {
     'rows: for row in state.pages.as_slice() {
         put_row(mem, row, file)?;

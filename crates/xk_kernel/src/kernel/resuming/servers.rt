@@ -1,7 +1,7 @@
 //! The servers of a state, as they stand at their seats.
 
 ghost use Rattle.std.specs.Prelude.{◌≡◌, ◌<◌, OnOk, IfOk, All, map, ◌++◌, ◌∷◌, []};
-ghost use Rattle.suspend_image.specs.declared.state.ServerRow.{ServerRow as Row};
+ghost use Rattle.state_rows.specs.declared.state.ServerRow.{ServerRow as Row};
 ghost use Rattle.xk_kernel.specs.Resuming.Resumable.{CanResume};
 ghost use Rattle.xk_kernel.specs.Resuming.Tables.{row_seat};
 

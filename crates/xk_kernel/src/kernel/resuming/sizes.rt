@@ -67,10 +67,10 @@ pub(super) fn empty_memory<W: SwapStore>(
     requires resumable { CanResume state.now }
     requires split { CanSplit state.now slots }
     requires slots { slots ≤ W.slot_count store }
-    ensures come { IfOk result (λ m. (total : ℕ) → HasCome W.slot_count W.is_honest W.held total m empty_ledger) }
+    ensures come { IfOk result (λ m. (total : ℕ) → HasCome W.SwapStore total m empty_ledger) }
     ensures size { IfOk result (λ m. size m ≡ resumed_size state.now slots) }
-    ensures store { IfOk result (λ m. KeepsStore W.is_honest W.held W.slot_count W.asked W.faults store (store_of m)) }
-    ensures back { IfErr result (λ fault. KeepsStore W.is_honest W.held W.slot_count W.asked W.faults store fault.store) }
+    ensures store { IfOk result (λ m. KeepsStore W.SwapStore store (store_of m)) }
+    ensures back { IfErr result (λ fault. KeepsStore W.SwapStore store fault.store) }
     ensures why { IfErr result (λ fault. fault.why ≡ BootError.NoMemory) }
 {
     let plan = match empty_plan(alloc, state, slots) {

@@ -125,7 +125,7 @@ fn write_contents<W: SwapStore>(
     requires usable { IsUsable mem.old }
     requires may { IsTrue (reaches_bytes (processes mem.old) (ledger W.held mem.old) at Load) }
     requires room { Fits sheet.old 4096 }
-    ensures brings { BringsPages W.is_honest W.held W.slot_count W.asked W.faults mem.old mem.new }
+    ensures brings { BringsPages W.SwapStore mem.old mem.new }
     ensures usable { OnOk result (IsUsable mem.new) }
     ensures failed { OnErr result (has_failed mem.new ≡ true) }
     ensures cause { OnErr result (Rose (W.faults (store_of mem.old)) (W.faults (store_of mem.new))) }
@@ -149,11 +149,11 @@ fn write_home<W: SwapStore>(
     requires usable { IsUsable mem.old }
     requires number { number < 1309696 }
     requires room { Fits sheet.old 4124 }
-    ensures brings { BringsPages W.is_honest W.held W.slot_count W.asked W.faults mem.old mem.new }
+    ensures brings { BringsPages W.SwapStore mem.old mem.new }
     ensures usable { OnOk result (IsUsable mem.new) }
     ensures failed { OnErr result (has_failed mem.new ≡ true) }
     ensures cause { OnErr result (Rose (W.faults (store_of mem.old)) (W.faults (store_of mem.new))) }
-    ensures text { IfOk result (AppendsText (MeansBytes W.is_honest W.held mem.old) sheet.old sheet.new (home_at (ledger W.held mem.old) number)) }
+    ensures text { IfOk result (AppendsText (MeansBytes W.SwapStore mem.old) sheet.old sheet.new (home_at (ledger W.held mem.old) number)) }
     ensures room { sheet.new.room ≡ sheet.old.room }
 {
     let home = place_at(number);
@@ -182,11 +182,12 @@ fn write_orphan<W: SwapStore>(
     requires usable { IsUsable mem.old }
     requires number { number < 1309696 }
     requires room { Fits sheet.old 4124 }
-    ensures brings { BringsPages W.is_honest W.held W.slot_count W.asked W.faults mem.old mem.new }
+    ensures brings { BringsPages W.SwapStore mem.old mem.new }
     ensures usable { OnOk result (IsUsable mem.new) }
     ensures failed { OnErr result (has_failed mem.new ≡ true) }
     ensures cause { OnErr result (Rose (W.faults (store_of mem.old)) (W.faults (store_of mem.new))) }
-    ensures text { IfOk result (AppendsText (MeansBytes W.is_honest W.held mem.old) sheet.old sheet.new (orphan_at (ledger W.held mem.old) number)) }
+    ensures text { IfOk result
+        (AppendsText (MeansBytes W.SwapStore mem.old) sheet.old sheet.new (orphan_at (ledger W.held mem.old) number)) }
     ensures room { sheet.new.room ≡ sheet.old.room }
 {
     let place = place_at(number);
@@ -216,11 +217,12 @@ pub(super) fn write_homes<W: SwapStore>(
     requires usable { IsUsable mem.old }
     requires procs { procs ≤ PROCESS_LIMIT }
     requires room { Fits sheet.old (4 + 4124 * (length (home_texts procs (ledger W.held mem.old)) + 1)) }
-    ensures brings { BringsPages W.is_honest W.held W.slot_count W.asked W.faults mem.old mem.new }
+    ensures brings { BringsPages W.SwapStore mem.old mem.new }
     ensures usable { OnOk result (IsUsable mem.new) }
     ensures failed { OnErr result (has_failed mem.new ≡ true) }
     ensures cause { OnErr result (Rose (W.faults (store_of mem.old)) (W.faults (store_of mem.new))) }
-    ensures texts { OnOk result (AppendsTexts (MeansBytes W.is_honest W.held mem.old) sheet.old sheet.new (home_texts procs (ledger W.held mem.old))) }
+    ensures texts { OnOk result
+        (AppendsTexts (MeansBytes W.SwapStore mem.old) sheet.old sheet.new (home_texts procs (ledger W.held mem.old))) }
     ensures room { sheet.new.room ≡ sheet.old.room }
 {
     let at = sheet.as_slice().len() as u32;
@@ -243,11 +245,12 @@ pub(super) fn write_orphans<W: SwapStore>(
     requires usable { IsUsable mem.old }
     requires procs { procs ≤ PROCESS_LIMIT }
     requires room { Fits sheet.old (4 + 4124 * (length (orphan_texts procs (ledger W.held mem.old)) + 1)) }
-    ensures brings { BringsPages W.is_honest W.held W.slot_count W.asked W.faults mem.old mem.new }
+    ensures brings { BringsPages W.SwapStore mem.old mem.new }
     ensures usable { OnOk result (IsUsable mem.new) }
     ensures failed { OnErr result (has_failed mem.new ≡ true) }
     ensures cause { OnErr result (Rose (W.faults (store_of mem.old)) (W.faults (store_of mem.new))) }
-    ensures texts { OnOk result (AppendsTexts (MeansBytes W.is_honest W.held mem.old) sheet.old sheet.new (orphan_texts procs (ledger W.held mem.old))) }
+    ensures texts { OnOk result
+        (AppendsTexts (MeansBytes W.SwapStore mem.old) sheet.old sheet.new (orphan_texts procs (ledger W.held mem.old))) }
     ensures room { sheet.new.room ≡ sheet.old.room }
 {
     let at = sheet.as_slice().len() as u32;

@@ -110,7 +110,8 @@ fn write_queued(sheet: &mut Sheet, queues: &Queues, seat: u8, many: u32)
     requires seat { seat < SERVER_LIMIT }
     requires many { many ≡ length (seat_of queues.now seat).queued }
     requires room { Fits sheet.old (44 * many) }
-    ensures rows { Appends sheet.old sheet.new (flat_map message_bytes (map message_row (map message_of (seat_of queues.now seat).queued))) (44 * many) }
+    ensures rows { Appends sheet.old sheet.new (flat_map message_bytes (map message_row (map message_of (seat_of queues.now seat).queued)))
+        (44 * many) }
     ensures fit { All IsMessageFit (map message_of (seat_of queues.now seat).queued) }
 {
     for k in 0..many {
@@ -126,7 +127,8 @@ fn write_held(sheet: &mut Sheet, queues: &Queues, seat: u8, many: u32)
     requires seat { seat < SERVER_LIMIT }
     requires many { many ≡ length (seat_of queues.now seat).held }
     requires room { Fits sheet.old (44 * many) }
-    ensures rows { Appends sheet.old sheet.new (flat_map message_bytes (map message_row (map message_of (seat_of queues.now seat).held))) (44 * many) }
+    ensures rows { Appends sheet.old sheet.new (flat_map message_bytes (map message_row (map message_of (seat_of queues.now seat).held)))
+        (44 * many) }
     ensures fit { All IsMessageFit (map message_of (seat_of queues.now seat).held) }
 {
     for k in 0..many {

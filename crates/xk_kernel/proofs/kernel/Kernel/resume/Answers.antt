@@ -56,16 +56,16 @@ close_all-requires-clause-servers g c =
 pub returns-in-Ok-resume_all-clause-sound : goal.returns-in-Ok-resume_all-clause-sound
 returns-in-Ok-resume_all-clause-sound g c =
     let room : c.in-Ok.tables.3.room ≡ RECORD_LIMIT = ap (λ (l : LogState). l.room) c.in-Ok.ensures.log in
-    resumed_sound g.W.SwapStore.held c.args.file.now c.args.state.now c.args.slots c.requires.resumable c.requires.split (kernel g c) (resumed g c)
-    g.W.SwapStore.slot_count c.in-Ok-resume_all.ensures.come.sound c.in-Ok.ensures.threaded c.in-Ok.ensures.made (omega arith)
+    resumed_sound g.W.SwapStore c.args.file.now c.args.state.now c.args.slots c.requires.resumable c.requires.split (kernel g c) (resumed g c)
+    c.in-Ok-resume_all.ensures.come.sound c.in-Ok.ensures.threaded c.in-Ok.ensures.made (omega arith)
 
 pub returns-in-Ok-resume_all-clause-machine : goal.returns-in-Ok-resume_all-clause-machine
 returns-in-Ok-resume_all-clause-machine g c =
     resumed_comes g.W.SwapStore.held c.args.file.now c.args.state.now c.args.slots c.requires.resumable c.requires.split (kernel g c) (resumed g c)
     (λ means. c.in-Ok-resume_all.ensures.come.whole
-    (means_known g.W.SwapStore.slot_count g.W.SwapStore.is_honest g.W.SwapStore.held c.args.file.now c.args.state.now c.resume_all.new.mem
+    (means_known g.W.SwapStore c.args.file.now c.args.state.now c.resume_all.new.mem
     (resumed_processes c.args.state.now c.args.slots c.requires.split c.resume_all.new.mem (resumed g c).size) c.in-Ok-resume_all.ensures.come means))
 
 pub returns-in-Ok-resume_all-clause-tie : goal.returns-in-Ok-resume_all-clause-tie
 returns-in-Ok-resume_all-clause-tie g c =
-    sound-tied g.W.SwapStore.slot_count g.W.SwapStore.held c.resume_all.new.mem c.in-Ok-resume_all.ensures.come.sound
+    sound-tied g.W.SwapStore c.resume_all.new.mem c.in-Ok-resume_all.ensures.come.sound

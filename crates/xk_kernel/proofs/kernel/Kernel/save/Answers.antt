@@ -12,8 +12,8 @@ write_front-requires-clause-room g c =
     let m = machine_of g.W.SwapStore.held c.args.self.now in
     fits_less c.begin_state.new.sheet ((363208 + 4604 * m.processes) + (8 + 4124 * (m.capacity + 3))) (363208 + 4604 * m.processes)
     (front_fits (machine_of g.W.SwapStore.held c.args.self.now).processes (machine_of g.W.SwapStore.held c.args.self.now).capacity c.args.sheet.now
-    c.begin_state.new.sheet (few_processes g.W.SwapStore.slot_count g.W.SwapStore.held c.args.self.now c.requires.sound)
-    (few_pages g.W.SwapStore.slot_count g.W.SwapStore.held c.args.self.now c.requires.sound) c.requires.room c.begin_state.ensures) (omega arith)
+    c.begin_state.new.sheet (few_processes g.W.SwapStore c.args.self.now c.requires.sound)
+    (few_pages g.W.SwapStore c.args.self.now c.requires.sound) c.requires.room c.begin_state.ensures) (omega arith)
 
 pub write_pages-requires-clause-room : goal.write_pages-requires-clause-room
 write_pages-requires-clause-room g c =
@@ -21,13 +21,12 @@ write_pages-requires-clause-room g c =
     fits_behind c.begin_state.new.sheet c.write_front.new.sheet (front_parts m) (363208 + 4604 * m.processes) (8 + 4124 * (m.capacity + 3))
     c.write_front.ensures.parts (front_fits (machine_of g.W.SwapStore.held c.args.self.now).processes
     (machine_of g.W.SwapStore.held c.args.self.now).capacity c.args.sheet.now c.begin_state.new.sheet
-    (few_processes g.W.SwapStore.slot_count g.W.SwapStore.held c.args.self.now c.requires.sound)
-    (few_pages g.W.SwapStore.slot_count g.W.SwapStore.held c.args.self.now c.requires.sound) c.requires.room c.begin_state.ensures)
+    (few_processes g.W.SwapStore c.args.self.now c.requires.sound)
+    (few_pages g.W.SwapStore c.args.self.now c.requires.sound) c.requires.room c.begin_state.ensures)
 
 pub finish_state-requires-clause-begun : goal.finish_state-requires-clause-begun
 finish_state-requires-clause-begun g c = sheet_begun (machine_of g.W.SwapStore.held c.write_pages.new.self) c.args.sheet.now c.begin_state.new.sheet
-    c.write_front.new.sheet c.write_pages.new.sheet _ c.begin_state.ensures (front_new g.W.SwapStore.is_honest g.W.SwapStore.held g.W.SwapStore.slot_count
-    g.W.SwapStore.asked g.W.SwapStore.faults c.args.self.now c.write_pages.new.self c.write_pages.ensures.rest c.requires.sound c.requires.usable
+    c.write_front.new.sheet c.write_pages.new.sheet _ c.begin_state.ensures (front_new g.W.SwapStore c.args.self.now c.write_pages.new.self c.write_pages.ensures.rest c.requires.sound c.requires.usable
     c.write_pages.ensures.brings c.begin_state.new.sheet c.write_front.new.sheet _ c.write_front.ensures.parts)
     (pages_new g.W.SwapStore.held c.write_pages.new.self c.write_front.new.sheet c.write_pages.new.sheet c.in-Ok.ensures.pages)
 
@@ -35,54 +34,54 @@ pub finish_state-requires-clause-few : goal.finish_state-requires-clause-few
 finish_state-requires-clause-few g c = c.in-Ok.ensures.pages.few
 
 pub returns-in-Ok-clause-sound : goal.returns-in-Ok-clause-sound
-returns-in-Ok-clause-sound g c = sound_new g.W.SwapStore.is_honest g.W.SwapStore.held g.W.SwapStore.slot_count g.W.SwapStore.asked g.W.SwapStore.faults
+returns-in-Ok-clause-sound g c = sound_new g.W.SwapStore
     c.args.self.now c.write_pages.new.self c.write_pages.ensures.rest c.requires.sound c.requires.usable c.write_pages.ensures.brings
 
 pub returns-in-Ok-clause-machine : goal.returns-in-Ok-clause-machine
-returns-in-Ok-clause-machine g c = comes_new g.W.SwapStore.is_honest g.W.SwapStore.held g.W.SwapStore.slot_count g.W.SwapStore.asked g.W.SwapStore.faults
+returns-in-Ok-clause-machine g c = comes_new g.W.SwapStore
     c.args.self.now c.write_pages.new.self c.write_pages.ensures.rest c.requires.sound c.requires.usable c.write_pages.ensures.brings
 
 pub returns-in-Ok-clause-none : goal.returns-in-Ok-clause-none
-returns-in-Ok-clause-none g c = none_new g.W.SwapStore.is_honest g.W.SwapStore.held g.W.SwapStore.slot_count g.W.SwapStore.asked g.W.SwapStore.faults
+returns-in-Ok-clause-none g c = none_new g.W.SwapStore
     c.args.self.now c.write_pages.new.self c.write_pages.ensures.rest c.requires.sound c.requires.usable c.write_pages.ensures.brings
 
 pub returns-in-Ok-clause-tie : goal.returns-in-Ok-clause-tie
-returns-in-Ok-clause-tie g c = tie_new g.W.SwapStore.is_honest g.W.SwapStore.held g.W.SwapStore.slot_count g.W.SwapStore.asked g.W.SwapStore.faults
+returns-in-Ok-clause-tie g c = tie_new g.W.SwapStore
     c.args.self.now c.write_pages.new.self c.write_pages.ensures.rest c.requires.sound c.requires.usable c.write_pages.ensures.brings
 
 pub returns-in-Ok-clause-keeps : goal.returns-in-Ok-clause-keeps
-returns-in-Ok-clause-keeps g c = keeps_new g.W.SwapStore.is_honest g.W.SwapStore.held g.W.SwapStore.slot_count g.W.SwapStore.asked g.W.SwapStore.faults
+returns-in-Ok-clause-keeps g c = keeps_new g.W.SwapStore
     c.args.self.now c.write_pages.new.self c.write_pages.ensures.rest c.requires.sound c.requires.usable c.write_pages.ensures.brings
 
 pub returns-in-Ok-clause-last : goal.returns-in-Ok-clause-last
-returns-in-Ok-clause-last g c = last_new g.W.SwapStore.is_honest g.W.SwapStore.held g.W.SwapStore.slot_count g.W.SwapStore.asked g.W.SwapStore.faults
+returns-in-Ok-clause-last g c = last_new g.W.SwapStore
     c.args.self.now c.write_pages.new.self c.write_pages.ensures.rest c.requires.sound c.requires.usable c.write_pages.ensures.brings
 
 pub returns-in-Ok-clause-means : goal.returns-in-Ok-clause-means
 returns-in-Ok-clause-means g c = c.write_pages.ensures.brings.means
 
 pub returns-in-Err-clause-sound : goal.returns-in-Err-clause-sound
-returns-in-Err-clause-sound g c = sound_new g.W.SwapStore.is_honest g.W.SwapStore.held g.W.SwapStore.slot_count g.W.SwapStore.asked g.W.SwapStore.faults
+returns-in-Err-clause-sound g c = sound_new g.W.SwapStore
     c.args.self.now c.write_pages.new.self c.write_pages.ensures.rest c.requires.sound c.requires.usable c.write_pages.ensures.brings
 
 pub returns-in-Err-clause-machine : goal.returns-in-Err-clause-machine
-returns-in-Err-clause-machine g c = comes_new g.W.SwapStore.is_honest g.W.SwapStore.held g.W.SwapStore.slot_count g.W.SwapStore.asked g.W.SwapStore.faults
+returns-in-Err-clause-machine g c = comes_new g.W.SwapStore
     c.args.self.now c.write_pages.new.self c.write_pages.ensures.rest c.requires.sound c.requires.usable c.write_pages.ensures.brings
 
 pub returns-in-Err-clause-none : goal.returns-in-Err-clause-none
-returns-in-Err-clause-none g c = none_new g.W.SwapStore.is_honest g.W.SwapStore.held g.W.SwapStore.slot_count g.W.SwapStore.asked g.W.SwapStore.faults
+returns-in-Err-clause-none g c = none_new g.W.SwapStore
     c.args.self.now c.write_pages.new.self c.write_pages.ensures.rest c.requires.sound c.requires.usable c.write_pages.ensures.brings
 
 pub returns-in-Err-clause-tie : goal.returns-in-Err-clause-tie
-returns-in-Err-clause-tie g c = tie_new g.W.SwapStore.is_honest g.W.SwapStore.held g.W.SwapStore.slot_count g.W.SwapStore.asked g.W.SwapStore.faults
+returns-in-Err-clause-tie g c = tie_new g.W.SwapStore
     c.args.self.now c.write_pages.new.self c.write_pages.ensures.rest c.requires.sound c.requires.usable c.write_pages.ensures.brings
 
 pub returns-in-Err-clause-keeps : goal.returns-in-Err-clause-keeps
-returns-in-Err-clause-keeps g c = keeps_new g.W.SwapStore.is_honest g.W.SwapStore.held g.W.SwapStore.slot_count g.W.SwapStore.asked g.W.SwapStore.faults
+returns-in-Err-clause-keeps g c = keeps_new g.W.SwapStore
     c.args.self.now c.write_pages.new.self c.write_pages.ensures.rest c.requires.sound c.requires.usable c.write_pages.ensures.brings
 
 pub returns-in-Err-clause-last : goal.returns-in-Err-clause-last
-returns-in-Err-clause-last g c = last_new g.W.SwapStore.is_honest g.W.SwapStore.held g.W.SwapStore.slot_count g.W.SwapStore.asked g.W.SwapStore.faults
+returns-in-Err-clause-last g c = last_new g.W.SwapStore
     c.args.self.now c.write_pages.new.self c.write_pages.ensures.rest c.requires.sound c.requires.usable c.write_pages.ensures.brings
 
 pub returns-in-Err-clause-means : goal.returns-in-Err-clause-means
@@ -90,30 +89,27 @@ returns-in-Err-clause-means g c = c.write_pages.ensures.brings.means
 
 pub returns-in-Ok-clause-saved : goal.returns-in-Ok-clause-saved
 returns-in-Ok-clause-saved g c = sheet_is (machine_of g.W.SwapStore.held c.write_pages.new.self) c.args.sheet.now c.begin_state.new.sheet
-    c.write_front.new.sheet c.write_pages.new.sheet _ c.begin_state.ensures (front_new g.W.SwapStore.is_honest g.W.SwapStore.held g.W.SwapStore.slot_count
-    g.W.SwapStore.asked g.W.SwapStore.faults c.args.self.now c.write_pages.new.self c.write_pages.ensures.rest c.requires.sound c.requires.usable
+    c.write_front.new.sheet c.write_pages.new.sheet _ c.begin_state.ensures (front_new g.W.SwapStore c.args.self.now c.write_pages.new.self c.write_pages.ensures.rest c.requires.sound c.requires.usable
     c.write_pages.ensures.brings c.begin_state.new.sheet c.write_front.new.sheet _ c.write_front.ensures.parts)
     (pages_new g.W.SwapStore.held c.write_pages.new.self c.write_front.new.sheet c.write_pages.new.sheet c.in-Ok.ensures.pages) c.finish_state.new.sheet
     c.finish_state.ensures
 
 pub returns-in-Ok-clause-alike : goal.returns-in-Ok-clause-alike
 returns-in-Ok-clause-alike g c = sheet_saved (machine_of g.W.SwapStore.held c.write_pages.new.self) c.args.sheet.now c.begin_state.new.sheet
-    c.write_front.new.sheet c.write_pages.new.sheet _ c.begin_state.ensures (front_new g.W.SwapStore.is_honest g.W.SwapStore.held g.W.SwapStore.slot_count
-    g.W.SwapStore.asked g.W.SwapStore.faults c.args.self.now c.write_pages.new.self c.write_pages.ensures.rest c.requires.sound c.requires.usable
+    c.write_front.new.sheet c.write_pages.new.sheet _ c.begin_state.ensures (front_new g.W.SwapStore c.args.self.now c.write_pages.new.self c.write_pages.ensures.rest c.requires.sound c.requires.usable
     c.write_pages.ensures.brings c.begin_state.new.sheet c.write_front.new.sheet _ c.write_front.ensures.parts)
     (pages_new g.W.SwapStore.held c.write_pages.new.self c.write_front.new.sheet c.write_pages.new.sheet c.in-Ok.ensures.pages) c.finish_state.new.sheet
     c.finish_state.ensures
 
 pub returns-in-Ok-clause-room : goal.returns-in-Ok-clause-room
 returns-in-Ok-clause-room g c = room_finished (machine_of g.W.SwapStore.held c.write_pages.new.self) c.args.sheet.now c.begin_state.new.sheet
-    c.write_front.new.sheet c.write_pages.new.sheet _ c.begin_state.ensures (front_new g.W.SwapStore.is_honest g.W.SwapStore.held g.W.SwapStore.slot_count
-    g.W.SwapStore.asked g.W.SwapStore.faults c.args.self.now c.write_pages.new.self c.write_pages.ensures.rest c.requires.sound c.requires.usable
+    c.write_front.new.sheet c.write_pages.new.sheet _ c.begin_state.ensures (front_new g.W.SwapStore c.args.self.now c.write_pages.new.self c.write_pages.ensures.rest c.requires.sound c.requires.usable
     c.write_pages.ensures.brings c.begin_state.new.sheet c.write_front.new.sheet _ c.write_front.ensures.parts)
     (pages_new g.W.SwapStore.held c.write_pages.new.self c.write_front.new.sheet c.write_pages.new.sheet c.in-Ok.ensures.pages) c.finish_state.new.sheet
     c.finish_state.ensures
 
 pub returns-in-Err-clause-out : goal.returns-in-Err-clause-out
-returns-in-Err-clause-out g c = out_new g.W.SwapStore.is_honest g.W.SwapStore.held g.W.SwapStore.slot_count g.W.SwapStore.asked g.W.SwapStore.faults
+returns-in-Err-clause-out g c = out_new g.W.SwapStore
     c.args.self.now c.write_pages.new.self c.write_pages.ensures.rest c.requires.sound c.requires.usable c.write_pages.ensures.brings c.in-Err.ensures.failed
 
 pub returns-in-Err-clause-room : goal.returns-in-Err-clause-room
@@ -123,15 +119,10 @@ returns-in-Err-clause-room g c =
 
 pub returns-in-Ok-clause-saveable : goal.returns-in-Ok-clause-saveable
 returns-in-Ok-clause-saveable g c =
-    let is_honest = g.W.SwapStore.is_honest in
-    let held = g.W.SwapStore.held in
-    let slot_count = g.W.SwapStore.slot_count in
-    let asked = g.W.SwapStore.asked in
-    let faults = g.W.SwapStore.faults in
     let new = c.write_pages.new.self in
     let brings = c.write_pages.ensures.brings in
     let rest = c.write_pages.ensures.rest in
-    saveable_of slot_count held new (sound_new is_honest held slot_count asked faults c.args.self.now new rest c.requires.sound c.requires.usable brings)
+    saveable_of g.W.SwapStore new (sound_new g.W.SwapStore c.args.self.now new rest c.requires.sound c.requires.usable brings)
     c.in-Ok.ensures.usable
-    (fit_new is_honest held slot_count asked faults c.args.self.now new rest c.requires.sound c.requires.usable brings c.write_front.ensures.fit)
+    (fit_new g.W.SwapStore c.args.self.now new rest c.requires.sound c.requires.usable brings c.write_front.ensures.fit)
     c.pages_are_whole.ensures

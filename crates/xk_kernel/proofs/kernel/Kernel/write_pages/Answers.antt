@@ -13,22 +13,22 @@ write_homes-requires-clause-room g c =
     let mem = c.args.self.now.mem in
     homes_room c.args.sheet.now c.processes-procs.result (capacity_of mem) (ledger g.W.SwapStore.held mem)
     (subst (λ (n : ℕ). IsLawful n (capacity_of mem) (ledger g.W.SwapStore.held mem)) (sym c.processes-procs.ensures)
-    (sound-lawful g.W.SwapStore.slot_count g.W.SwapStore.held mem c.requires.sound.whole.mem))
+    (sound-lawful g.W.SwapStore mem c.requires.sound.whole.mem))
     c.requires.room
 
 pub write_orphans-requires-clause-room : goal.write_orphans-requires-clause-room
 unfolding machine_of
 write_orphans-requires-clause-room g c =
     let mem = c.args.self.now.mem in
-    orphans_room g.W.SwapStore.is_honest g.W.SwapStore.held g.W.SwapStore.slot_count g.W.SwapStore.asked g.W.SwapStore.faults mem c.write_homes.new.mem
+    orphans_room g.W.SwapStore mem c.write_homes.new.mem
     c.in_ok-write_homes.ensures.brings c.processes-procs.result (capacity_of mem) c.args.sheet.now c.write_homes.new.sheet
     (subst (λ (n : ℕ). IsLawful n (capacity_of mem) (ledger g.W.SwapStore.held mem)) (sym c.processes-procs.ensures)
-    (sound-lawful g.W.SwapStore.slot_count g.W.SwapStore.held mem c.requires.sound.whole.mem))
+    (sound-lawful g.W.SwapStore mem c.requires.sound.whole.mem))
     c.requires.room c.in_ok-write_homes.ensures.texts
 
 pub returns-clause-brings : goal.returns-clause-brings
 returns-clause-brings g c =
-    brings_both g.W.SwapStore.is_honest g.W.SwapStore.held g.W.SwapStore.slot_count g.W.SwapStore.asked g.W.SwapStore.faults c.args.self.now.mem
+    brings_both g.W.SwapStore c.args.self.now.mem
     c.write_homes.new.mem c.write_orphans.new.mem c.in_ok-write_homes.ensures.brings c.write_orphans.ensures.brings
 
 pub returns-clause-pages : goal.returns-clause-pages
@@ -36,15 +36,15 @@ unfolding machine_of
 returns-clause-pages g c =
     let mem = c.args.self.now.mem in
     on_ok_to c.write_orphans.result _ _
-    (λ texts. both_written g.W.SwapStore.is_honest g.W.SwapStore.held g.W.SwapStore.slot_count g.W.SwapStore.asked g.W.SwapStore.faults mem
+    (λ texts. both_written g.W.SwapStore mem
     c.write_homes.new.mem c.in_ok-write_homes.ensures.brings c.processes-procs.result c.write_orphans.new.mem c.write_orphans.ensures.brings
     c.args.sheet.now c.write_homes.new.sheet c.write_orphans.new.sheet (capacity_of mem)
     (subst (λ (n : ℕ). IsLawful n (capacity_of mem) (ledger g.W.SwapStore.held mem)) (sym c.processes-procs.ensures)
-    (sound-lawful g.W.SwapStore.slot_count g.W.SwapStore.held mem c.requires.sound.whole.mem))
+    (sound-lawful g.W.SwapStore mem c.requires.sound.whole.mem))
     c.requires.room
-    (c.processes-procs.ensures ∙ sym (brings_procs g.W.SwapStore.is_honest g.W.SwapStore.held g.W.SwapStore.slot_count g.W.SwapStore.asked g.W.SwapStore.faults
+    (c.processes-procs.ensures ∙ sym (brings_procs g.W.SwapStore
     mem c.write_orphans.new.mem
-    (brings_both g.W.SwapStore.is_honest g.W.SwapStore.held g.W.SwapStore.slot_count g.W.SwapStore.asked g.W.SwapStore.faults mem c.write_homes.new.mem
+    (brings_both g.W.SwapStore mem c.write_homes.new.mem
     c.write_orphans.new.mem c.in_ok-write_homes.ensures.brings c.write_orphans.ensures.brings)))
     c.in_ok-write_homes.ensures.texts texts)
     c.write_orphans.ensures.texts

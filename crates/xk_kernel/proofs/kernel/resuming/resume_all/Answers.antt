@@ -6,8 +6,8 @@ use Rattle.xk_kernel.proofs.kernel.resuming.resume_all.Goals as goal
 -- src/kernel/resuming.rt
 pub returns-in_err-resume_pages-clause-failed : goal.returns-in_err-resume_pages-clause-failed
 returns-in_err-resume_pages-clause-failed g c =
-    on_err _ (IsStopped g.W.SwapStore.slot_count g.W.SwapStore.held g.W.SwapStore.faults c.args.file.now c.args.state.now c.args.mem.now c.resume_pages.new.mem
+    on_err _ (IsStopped g.W.SwapStore c.args.file.now c.args.state.now c.args.mem.now c.resume_pages.new.mem
     c.resume_orphans.new.queues)
-    (pages_stopped g.W.SwapStore.slot_count g.W.SwapStore.is_honest g.W.SwapStore.held g.W.SwapStore.asked g.W.SwapStore.faults c.args.file.now c.args.state.now
+    (pages_stopped g.W.SwapStore c.args.file.now c.args.state.now
     c.args.mem.now c.resume_orphans.new.mem c.resume_pages.new.mem c.resume_orphans.new.queues c.in_ok-resume_orphans.ensures.keeps
     c.in_ok-resume_orphans.ensures.come c.in_ok-resume_orphans.ensures.back c.in_err-resume_pages.ensures.failed)

@@ -16,7 +16,7 @@ pub new-requires-clause-pages : goal.new-requires-clause-pages
 unfolding machine_of
 new-requires-clause-pages g c =
     let is = c.cap-cap.ensures in
-    let few : capacity_of c.args.kernel.now.mem ≤ 32768 = few_pages g.W.SwapStore.slot_count g.W.SwapStore.held c.args.kernel.now c.requires.sound in
+    let few : capacity_of c.args.kernel.now.mem ≤ 32768 = few_pages g.W.SwapStore c.args.kernel.now c.requires.sound in
     omega arith
 
 pub save-requires-clause-room : goal.save-requires-clause-room

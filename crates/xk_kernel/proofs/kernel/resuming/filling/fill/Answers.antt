@@ -10,7 +10,7 @@ use Rattle.xk_kernel.proofs.kernel.resuming.filling.fill.Goals as goal
 -- src/kernel/resuming/filling.rt
 pub returns-in_err-reach-clause-failed : goal.returns-in_err-reach-clause-failed
 returns-in_err-reach-clause-failed g c =
-    on_failed g.W.SwapStore.held g.W.SwapStore.slot_count g.W.SwapStore.faults c.from_residual.result c.args.mem.now c.reach.new.self c.in_err-reach.ensures.sound
+    on_failed g.W.SwapStore c.from_residual.result c.args.mem.now c.reach.new.self c.in_err-reach.ensures.sound
     (bare-loans (ledger g.W.SwapStore.held c.args.mem.now) (ledger g.W.SwapStore.held c.reach.new.self) c.in_err-reach.ensures.rights)
     c.in_err-reach.ensures.cause
 
@@ -22,7 +22,7 @@ bytes_mut-requires-clause-may g c =
 pub returns-clause-comes : goal.returns-clause-comes
 returns-clause-comes g c =
     let long = ap length c.copy_from_slice.ensures.after ∙ c.requires.whole in
-    fill_comes g.W.SwapStore.slot_count g.W.SwapStore.is_honest g.W.SwapStore.held g.W.SwapStore.asked g.W.SwapStore.faults c.args.mem.now c.reach.new.self
+    fill_comes g.W.SwapStore c.args.mem.now c.reach.new.self
     (with_bytes_at c.reach.new.self c.args.at c.copy_from_slice.new.self) c.args.at c.args.bytes.now c.copy_from_slice.new.self
     (record { size = c.in_ok-reach.ensures.size; store = c.in_ok-reach.ensures.store }) c.in_ok-reach.ensures.rights c.requires.home c.copy_from_slice.ensures.after
     (c.bytes_mut.ensures.writes c.copy_from_slice.new.self long) c.in_ok-reach.ensures.sound c.in_ok-reach.ensures.usable c.in_ok-reach.ensures.whole c.in_ok-reach.ensures.none
@@ -32,7 +32,7 @@ returns-clause-comes g c =
 pub returns-clause-rights : goal.returns-clause-rights
 returns-clause-rights g c =
     let long = ap length c.copy_from_slice.ensures.after ∙ c.requires.whole in
-    fill_rights g.W.SwapStore.slot_count g.W.SwapStore.is_honest g.W.SwapStore.held g.W.SwapStore.asked g.W.SwapStore.faults c.args.mem.now c.reach.new.self
+    fill_rights g.W.SwapStore c.args.mem.now c.reach.new.self
     (with_bytes_at c.reach.new.self c.args.at c.copy_from_slice.new.self) c.args.at c.args.bytes.now c.copy_from_slice.new.self
     (record { size = c.in_ok-reach.ensures.size; store = c.in_ok-reach.ensures.store }) c.in_ok-reach.ensures.rights c.requires.home c.copy_from_slice.ensures.after
     (c.bytes_mut.ensures.writes c.copy_from_slice.new.self long)

@@ -3,8 +3,8 @@ use Rattle.std.specs.Prelude.{is_some}
 use Rattle.std.proofs.lemmas.Bool.{false≢true}
 use Rattle.ledger_model.specs.Steps.{lend}
 use Rattle.loan_flags.specs.Sending.{mem_kind}
-use Rattle.suspend_image.specs.Machines.{place_at}
-use Rattle.suspend_image.specs.declared.state.PageRow.{PageRow}
+use Rattle.state_rows.specs.Machines.{place_at}
+use Rattle.state_rows.specs.declared.state.PageRow.{PageRow}
 use Rattle.vm_memory.specs.Loaning.Sending.{send_answer}
 use Rattle.vm_memory.specs.Memory.{ledger, processes}
 use Rattle.xk_base.specs.declared.messages.Message.{Message}
@@ -43,7 +43,7 @@ pub returns-then-not-is_lend-clause-come : goal.returns-then-not-is_lend-clause-
 returns-then-not-is_lend-clause-come g c =
     let there =
     server_there c.args.state.now c.args.i c.args.k c.as_slice.result.now c.index-as_slice-i.result c.requires.there c.as_slice.ensures c.index-as_slice-i.is in
-    alone_comes g.W.SwapStore.slot_count g.W.SwapStore.is_honest g.W.SwapStore.held g.W.SwapStore.asked g.W.SwapStore.faults c.args.file.now c.args.state.now
+    alone_comes g.W.SwapStore c.args.file.now c.args.state.now
     c.requires.resumable c.args.i c.index-as_slice-i.result there c.args.k c.message_at-row.result.now c.message_at-row.ensures
     (sym c.is_lend.ensures ∙ c.if-not-is_lend.true) c.args.mem.now c.requires.come
 
@@ -68,7 +68,7 @@ unreachable-requires g c =
     (λ row. is_orphaned row ≡ false) c.requires.lent in
     let lends : is_lend_row c.message_at-row.result.now ≡ true = sym c.is_lend.ensures ∙ c.if-not-is_lend.false in
     let some =
-    lender_found g.W.SwapStore.slot_count g.W.SwapStore.is_honest g.W.SwapStore.held g.W.SwapStore.asked g.W.SwapStore.faults c.args.file.now c.args.state.now
+    lender_found g.W.SwapStore c.args.file.now c.args.state.now
     c.requires.resumable c.args.i c.index-as_slice-i.result there c.args.k c.message_at-row.result.now c.message_at-row.ensures lends apart in
     let none : first_lent c.args.state.now.pages c.message_at-row.result.now.number ≡ None =
     ap (λ (pages : List PageRow). first_lent pages c.message_at-row.result.now.number) (sym c.as_slice-2.ensures) ∙ (sym c.first_lent.ensures ∙ c.in-None.is) in
@@ -104,7 +104,7 @@ lend-loan-requires-clause-may g c =
     ap (λ kind. send_answer (processes c.args.mem.now) (ledger g.W.SwapStore.held c.args.mem.now) c.in-Some.from c.message_at-row.result.now.count
     (mem_kind kind)) c.loan_kind.ensures
     ∙
-    lent_sent g.W.SwapStore.slot_count g.W.SwapStore.is_honest g.W.SwapStore.held g.W.SwapStore.asked g.W.SwapStore.faults c.args.file.now c.args.state.now
+    lent_sent g.W.SwapStore c.args.file.now c.args.state.now
     c.requires.resumable c.args.i c.index-as_slice-i.result there
     c.args.k c.message_at-row.result.now c.message_at-row.ensures lends apart c.in-Some.from found c.args.mem.now c.requires.processes c.requires.come
 
@@ -118,7 +118,7 @@ lend-loan-requires-clause-arrival g c =
     let lends : is_lend_row c.message_at-row.result.now ≡ true = sym c.is_lend.ensures ∙ c.if-not-is_lend.false in
     let found : first_lent c.args.state.now.pages c.message_at-row.result.now.number ≡ Some c.in-Some.from =
     ap (λ (pages : List PageRow). first_lent pages c.message_at-row.result.now.number) (sym c.as_slice-2.ensures) ∙ (sym c.first_lent.ensures ∙ c.in-Some.is) in
-    lent_arrive g.W.SwapStore.slot_count g.W.SwapStore.is_honest g.W.SwapStore.held g.W.SwapStore.asked g.W.SwapStore.faults c.args.file.now c.args.state.now
+    lent_arrive g.W.SwapStore c.args.file.now c.args.state.now
     c.requires.resumable c.args.i c.index-as_slice-i.result there
     c.args.k c.message_at-row.result.now c.message_at-row.ensures lends apart c.in-Some.from found c.args.mem.now c.requires.processes c.requires.come
 
@@ -132,7 +132,7 @@ lend-loan-requires-clause-fresh g c =
     let lends : is_lend_row c.message_at-row.result.now ≡ true = sym c.is_lend.ensures ∙ c.if-not-is_lend.false in
     let found : first_lent c.args.state.now.pages c.message_at-row.result.now.number ≡ Some c.in-Some.from =
     ap (λ (pages : List PageRow). first_lent pages c.message_at-row.result.now.number) (sym c.as_slice-2.ensures) ∙ (sym c.first_lent.ensures ∙ c.in-Some.is) in
-    lent_fresh g.W.SwapStore.slot_count g.W.SwapStore.is_honest g.W.SwapStore.held g.W.SwapStore.asked g.W.SwapStore.faults c.args.file.now c.args.state.now
+    lent_fresh g.W.SwapStore c.args.file.now c.args.state.now
     c.requires.resumable c.args.i c.index-as_slice-i.result there
     c.args.k c.message_at-row.result.now c.message_at-row.ensures lends apart c.in-Some.from found c.args.mem.now c.requires.processes c.requires.come
 
@@ -146,7 +146,7 @@ returns-clause-come g c =
     let lends : is_lend_row c.message_at-row.result.now ≡ true = sym c.is_lend.ensures ∙ c.if-not-is_lend.false in
     let found : first_lent c.args.state.now.pages c.message_at-row.result.now.number ≡ Some c.in-Some.from =
     ap (λ (pages : List PageRow). first_lent pages c.message_at-row.result.now.number) (sym c.as_slice-2.ensures) ∙ (sym c.first_lent.ensures ∙ c.in-Some.is) in
-    lent_comes g.W.SwapStore.slot_count g.W.SwapStore.is_honest g.W.SwapStore.held g.W.SwapStore.asked g.W.SwapStore.faults c.args.file.now c.args.state.now
+    lent_comes g.W.SwapStore c.args.file.now c.args.state.now
     c.requires.resumable c.args.i c.index-as_slice-i.result there
     c.args.k c.message_at-row.result.now c.message_at-row.ensures lends apart c.in-Some.from found c.args.mem.now c.requires.processes c.requires.come
     c.lend-loan.new.self c.lend-loan.ensures.keeps

@@ -5,17 +5,17 @@ use Rattle.xk_kernel.proofs.kernel.resuming.lends.resume_messages.Goals as goal
 -- src/kernel/resuming/lends.rt
 pub servers-init : goal.servers-init
 servers-init g c =
-    lent_none g.W.SwapStore.slot_count g.W.SwapStore.is_honest g.W.SwapStore.held g.W.SwapStore.asked g.W.SwapStore.faults c.args.file.now c.args.state.now
+    lent_none g.W.SwapStore c.args.file.now c.args.state.now
     c.requires.resumable c.args.mem.now c.args.queues.now c.requires.come c.requires.back
 
 pub returns-clause-come : goal.returns-clause-come
 returns-clause-come g c =
-    all_come g.W.SwapStore.slot_count g.W.SwapStore.is_honest g.W.SwapStore.held g.W.SwapStore.asked g.W.SwapStore.faults c.args.file.now c.args.state.now
+    all_come g.W.SwapStore c.args.file.now c.args.state.now
     c.requires.resumable c.args.mem.now c.servers.mem c.servers.queues c.servers.i
     (omega (arith, c.servers-test.false, c.servers.auto.i-end, ap length c.as_slice-i-end.ensures)) c.servers.invariant
 
 pub returns-clause-back : goal.returns-clause-back
 returns-clause-back g c =
-    all_back g.W.SwapStore.slot_count g.W.SwapStore.is_honest g.W.SwapStore.held g.W.SwapStore.asked g.W.SwapStore.faults c.args.file.now c.args.state.now
+    all_back g.W.SwapStore c.args.file.now c.args.state.now
     c.requires.resumable c.args.mem.now c.servers.mem c.servers.queues c.servers.i
     (omega (arith, c.servers-test.false, c.servers.auto.i-end, ap length c.as_slice-i-end.ensures)) c.servers.invariant

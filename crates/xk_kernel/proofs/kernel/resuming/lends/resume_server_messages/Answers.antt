@@ -2,7 +2,7 @@ use Rattle.std.proofs.Common.{◌≡◌, ℕ, ◌-◌, ◌<◌, ◌≤◌, false
 use Rattle.std.specs.Prelude.{is_some}
 use Rattle.std.proofs.lemmas.Option.{same_Some, slice_get_within}
 use Rattle.msg_queue.specs.Seats.{changed_at, seat_of, with_held_at}
-use Rattle.suspend_image.specs.declared.state.MessageRow.{MessageRow}
+use Rattle.state_rows.specs.declared.state.MessageRow.{MessageRow}
 use Rattle.xk_kernel.proofs.Resuming.LentLoopLemmas.{held_there, lent_held, lent_place, lent_queued, lent_room, lent_server, lent_skipped}
 use Rattle.xk_kernel.proofs.Resuming.MessageRowLemmas.{few_messages, server_low}
 use Rattle.xk_kernel.proofs.Resuming.OrphansBackLemmas.{row_said, row_there, server_read}
@@ -65,7 +65,7 @@ pub put-requires-clause-room : goal.put-requires-clause-room
 put-requires-clause-room g c =
     let there =
     server_read c.args.state.now c.args.i c.as_slice.result.now c.index-as_slice-i.result c.as_slice.ensures c.requires.server c.index-as_slice-i.is in
-    lent_room g.W.SwapStore.slot_count g.W.SwapStore.is_honest g.W.SwapStore.held g.W.SwapStore.asked g.W.SwapStore.faults c.args.file.now c.args.state.now
+    lent_room g.W.SwapStore c.args.file.now c.args.state.now
     c.requires.resumable c.args.i c.index-as_slice-i.result there c.args.mem.now
     c.messages.k c.message_at.result.now c.message_at.ensures (sym c.is_orphaned.ensures ∙ c.if-not-is_orphaned.true) c.messages.mem c.messages.queues
     c.messages.invariant
@@ -80,7 +80,7 @@ pub hold_at-requires-clause-room : goal.hold_at-requires-clause-room
 hold_at-requires-clause-room g c =
     let there =
     server_read c.args.state.now c.args.i c.as_slice.result.now c.index-as_slice-i.result c.as_slice.ensures c.requires.server c.index-as_slice-i.is in
-    lent_room g.W.SwapStore.slot_count g.W.SwapStore.is_honest g.W.SwapStore.held g.W.SwapStore.asked g.W.SwapStore.faults c.args.file.now c.args.state.now
+    lent_room g.W.SwapStore c.args.file.now c.args.state.now
     c.requires.resumable c.args.i c.index-as_slice-i.result there c.args.mem.now
     c.messages.k c.message_at.result.now c.message_at.ensures (sym c.is_orphaned.ensures ∙ c.if-not-is_orphaned.true) c.messages.mem c.messages.queues
     c.messages.invariant
@@ -92,7 +92,7 @@ hold_at-requires-clause-place g c =
     let many : length c.as_slice-queued.result.now ≡ length c.index-as_slice-i.result.queued =
     ap (λ (rows : List MessageRow). length rows) c.as_slice-queued.ensures in
     let place =
-    lent_place g.W.SwapStore.slot_count g.W.SwapStore.is_honest g.W.SwapStore.held g.W.SwapStore.asked g.W.SwapStore.faults c.args.file.now c.args.state.now
+    lent_place g.W.SwapStore c.args.file.now c.args.state.now
     c.requires.resumable c.args.i c.index-as_slice-i.result there c.args.mem.now
     c.messages.k c.message_at.result.now c.message_at.ensures (sym c.is_orphaned.ensures ∙ c.if-not-is_orphaned.true) c.messages.mem c.messages.queues
     c.messages.invariant (omega (arith, many, c.if-k-queued.false)) in
@@ -107,7 +107,7 @@ messages-preserved g c =
     elim c.if-not-is_orphaned.branch [
       | then-not-is_orphaned+then-k-queued w ↦
           let step =
-          lent_queued g.W.SwapStore.slot_count g.W.SwapStore.is_honest g.W.SwapStore.held g.W.SwapStore.asked g.W.SwapStore.faults c.args.file.now
+          lent_queued g.W.SwapStore c.args.file.now
           c.args.state.now c.requires.resumable c.args.i c.index-as_slice-i.result there c.args.mem.now
           c.messages.k c.message_at.result.now c.message_at.ensures (sym c.is_orphaned.ensures ∙ w.if-not-is_orphaned.true) c.messages.mem c.messages.queues
           c.messages.invariant
@@ -119,7 +119,7 @@ messages-preserved g c =
           rw (w.mem-is, w.queues-is) step
       | then-not-is_orphaned+else-k-queued w ↦
           let step =
-          lent_held g.W.SwapStore.slot_count g.W.SwapStore.is_honest g.W.SwapStore.held g.W.SwapStore.asked g.W.SwapStore.faults c.args.file.now
+          lent_held g.W.SwapStore c.args.file.now
           c.args.state.now c.requires.resumable c.args.i c.index-as_slice-i.result there c.args.mem.now
           c.messages.k c.message_at.result.now c.message_at.ensures (sym c.is_orphaned.ensures ∙ w.if-not-is_orphaned.true) c.messages.mem c.messages.queues
           c.messages.invariant
@@ -132,7 +132,7 @@ messages-preserved g c =
           rw (w.mem-is, w.queues-is) step
       | else-not-is_orphaned w ↦
           let step =
-          lent_skipped g.W.SwapStore.slot_count g.W.SwapStore.is_honest g.W.SwapStore.held g.W.SwapStore.asked g.W.SwapStore.faults c.args.file.now
+          lent_skipped g.W.SwapStore c.args.file.now
           c.args.state.now c.requires.resumable c.args.i c.index-as_slice-i.result there c.args.mem.now
           c.messages.k c.message_at.result.now c.message_at.ensures (sym c.is_orphaned.ensures ∙ w.if-not-is_orphaned.false) c.messages.mem c.messages.queues
           c.messages.invariant in
@@ -144,7 +144,7 @@ returns-clause-come g c =
     let there =
     server_read c.args.state.now c.args.i c.as_slice.result.now c.index-as_slice-i.result c.as_slice.ensures c.requires.server c.index-as_slice-i.is in
     let all =
-    lent_server g.W.SwapStore.slot_count g.W.SwapStore.is_honest g.W.SwapStore.held g.W.SwapStore.asked g.W.SwapStore.faults c.args.file.now c.args.state.now
+    lent_server g.W.SwapStore c.args.file.now c.args.state.now
     c.requires.resumable c.args.i c.index-as_slice-i.result there c.args.mem.now
     c.messages.mem c.messages.queues c.messages.k (omega (arith, c.messages-test.false, c.message_count-k-end.ensures)) c.messages.invariant in
     all.come
@@ -154,7 +154,7 @@ returns-clause-back g c =
     let there =
     server_read c.args.state.now c.args.i c.as_slice.result.now c.index-as_slice-i.result c.as_slice.ensures c.requires.server c.index-as_slice-i.is in
     let all =
-    lent_server g.W.SwapStore.slot_count g.W.SwapStore.is_honest g.W.SwapStore.held g.W.SwapStore.asked g.W.SwapStore.faults c.args.file.now c.args.state.now
+    lent_server g.W.SwapStore c.args.file.now c.args.state.now
     c.requires.resumable c.args.i c.index-as_slice-i.result there c.args.mem.now
     c.messages.mem c.messages.queues c.messages.k (omega (arith, c.messages-test.false, c.message_count-k-end.ensures)) c.messages.invariant in
     all.back

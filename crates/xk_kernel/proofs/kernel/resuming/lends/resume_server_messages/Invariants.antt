@@ -3,5 +3,5 @@ use Rattle.xk_kernel.proofs.kernel.resuming.lends.resume_server_messages.Given a
 
 abbrev pub invariant-messages : goal.invariant-messages
 invariant-messages g l =
-    AreLentTo g.W.SwapStore.slot_count g.W.SwapStore.is_honest g.W.SwapStore.held g.W.SwapStore.asked g.W.SwapStore.faults l.file l.state l.fn.mem l.mem
+    AreLentTo g.W.SwapStore l.file l.state l.fn.mem l.mem
     l.queues l.i l.k

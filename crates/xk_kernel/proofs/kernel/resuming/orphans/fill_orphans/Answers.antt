@@ -8,7 +8,7 @@ use Rattle.xk_kernel.proofs.kernel.resuming.orphans.fill_orphans.Goals as goal
 -- src/kernel/resuming/orphans.rt
 pub orphans-init : goal.orphans-init
 orphans-init g c =
-    filled_none g.W.SwapStore.slot_count g.W.SwapStore.is_honest g.W.SwapStore.held g.W.SwapStore.asked g.W.SwapStore.faults
+    filled_none g.W.SwapStore
     (state_ledger c.args.file.now c.args.state.now) c.args.from c.args.n c.args.to c.args.mem.now c.requires.sound c.requires.usable
 
 pub offset-begin-requires : goal.offset-begin-requires
@@ -25,25 +25,25 @@ slice_bounds-fill-end g c =
 
 pub fill-requires-clause-may : goal.fill-requires-clause-may
 fill-requires-clause-may g c =
-    next_may g.W.SwapStore.slot_count g.W.SwapStore.is_honest g.W.SwapStore.held g.W.SwapStore.asked g.W.SwapStore.faults
+    next_may g.W.SwapStore
     (state_ledger c.args.file.now c.args.state.now) c.args.from c.args.n c.args.to c.args.mem.now c.orphans.mem c.orphans.i c.orphans.invariant
     c.orphans-test.true c.requires.homes
 
 pub fill-requires-clause-home : goal.fill-requires-clause-home
 fill-requires-clause-home g c =
-    next_reached g.W.SwapStore.slot_count g.W.SwapStore.is_honest g.W.SwapStore.held g.W.SwapStore.asked g.W.SwapStore.faults
+    next_reached g.W.SwapStore
     (state_ledger c.args.file.now c.args.state.now) c.args.from c.args.n c.args.to c.args.mem.now c.orphans.mem c.orphans.i c.orphans.invariant
     c.orphans-test.true c.requires.homes
 
 pub returns-in_err-fill-clause-failed : goal.returns-in_err-fill-clause-failed
 returns-in_err-fill-clause-failed g c =
-    filling_failed g.W.SwapStore.slot_count g.W.SwapStore.is_honest g.W.SwapStore.held g.W.SwapStore.asked g.W.SwapStore.faults
+    filling_failed g.W.SwapStore
     (state_ledger c.args.file.now c.args.state.now) c.args.from c.args.n c.args.to c.args.mem.now c.orphans.mem c.orphans.i c.orphans.invariant
     c.from_residual.result c.fill.new.mem c.in_err-fill.ensures.failed
 
 pub returns-in_err-fill-clause-full : goal.returns-in_err-fill-clause-full
 returns-in_err-fill-clause-full g c = λ total l come.
-    filling_full g.W.SwapStore.slot_count g.W.SwapStore.is_honest g.W.SwapStore.held g.W.SwapStore.asked g.W.SwapStore.faults
+    filling_full g.W.SwapStore
     (state_ledger c.args.file.now c.args.state.now) c.args.from c.args.n c.args.to c.args.mem.now c.orphans.mem c.orphans.i c.orphans.invariant
     c.from_residual.result c.in_err-fill.ensures.out total l come
 
@@ -54,7 +54,7 @@ orphans-preserved g c =
     c.as_slice.result.now c.as_slice.ensures c.offset-begin.result c.offset-begin.ensures in
     let stands = orphan_stands c.args.file.now c.args.state.now c.requires.resumable (place_after c.args.to c.orphans.i) there
     c.as_slice.result.now c.as_slice.ensures c.offset-begin.result c.offset-begin.ensures in
-    filled_next g.W.SwapStore.slot_count g.W.SwapStore.is_honest g.W.SwapStore.held g.W.SwapStore.asked g.W.SwapStore.faults
+    filled_next g.W.SwapStore
     (state_ledger c.args.file.now c.args.state.now) c.args.from c.args.n c.args.to c.args.mem.now c.orphans.mem c.orphans.i c.orphans.invariant c.fill.new.mem
     (slice_range c.args.file.now c.offset-begin.result (c.offset-begin.result + 4096)) read.0 c.orphans-test.true read.1
     (read.2 ∙ page_part c.args.file.now c.offset-begin.result) (part_long c.args.file.now c.offset-begin.result stands)
@@ -62,6 +62,6 @@ orphans-preserved g c =
 
 pub returns-clause-comes : goal.returns-clause-comes
 returns-clause-comes g c = λ total l come.
-    filled_all g.W.SwapStore.slot_count g.W.SwapStore.is_honest g.W.SwapStore.held g.W.SwapStore.asked g.W.SwapStore.faults
+    filled_all g.W.SwapStore
     (state_ledger c.args.file.now c.args.state.now) c.args.from c.args.n c.args.to c.args.mem.now c.orphans.mem c.orphans.i c.orphans.invariant
     c.orphans-test.false c.orphans.auto.i-end total l come

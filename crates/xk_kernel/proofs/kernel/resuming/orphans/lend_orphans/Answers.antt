@@ -2,7 +2,7 @@ use Rattle.std.proofs.Common.{◌≡◌, ℕ, ◌<◌, true, None, Fits, ap, ari
 use Rattle.ledger_model.specs.Loans.{LoanRun, without_lender}
 use Rattle.ledger_model.specs.Steps.{lend, orphan_loan}
 use Rattle.loan_flags.specs.Sending.{mem_kind}
-use Rattle.suspend_image.specs.Machines.{place_at}
+use Rattle.state_rows.specs.Machines.{place_at}
 use Rattle.vm_memory.specs.Loaning.Sending.{send_answer}
 use Rattle.vm_memory.specs.Memory.{frames_for_pages, ledger, processes}
 use Rattle.xk_base.specs.declared.ids.Place.{Place}
@@ -38,7 +38,7 @@ make_run-requires-clause-process g c =
     server_there c.args.state.now c.args.i c.args.k c.as_slice.result.now c.index-as_slice-i.result c.requires.there c.as_slice.ensures c.index-as_slice-i.is in
     let orphaned = row_says c.args.state.now c.args.i c.index-as_slice-i.result there c.args.k c.message_at-row.result.now c.message_at-row.ensures
     (λ row. is_orphaned row ≡ true) c.requires.orphaned in
-    orphans_process g.W.SwapStore.slot_count g.W.SwapStore.is_honest g.W.SwapStore.held c.args.file.now c.args.state.now c.requires.resumable c.args.i
+    orphans_process g.W.SwapStore c.args.file.now c.args.state.now c.requires.resumable c.args.i
     c.index-as_slice-i.result there
     c.args.k c.message_at-row.result.now c.message_at-row.ensures orphaned c.args.mem.now c.requires.processes c.requires.capacity c.requires.come
     (from c.index-as_slice-i.result.pid c.first.result) refl c.first.ensures
@@ -49,7 +49,7 @@ make_run-requires-clause-some g c =
     server_there c.args.state.now c.args.i c.args.k c.as_slice.result.now c.index-as_slice-i.result c.requires.there c.as_slice.ensures c.index-as_slice-i.is in
     let orphaned = row_says c.args.state.now c.args.i c.index-as_slice-i.result there c.args.k c.message_at-row.result.now c.message_at-row.ensures
     (λ row. is_orphaned row ≡ true) c.requires.orphaned in
-    some g.W.SwapStore.slot_count g.W.SwapStore.is_honest g.W.SwapStore.held c.args.file.now c.args.state.now c.requires.resumable c.args.i
+    some g.W.SwapStore c.args.file.now c.args.state.now c.requires.resumable c.args.i
     c.index-as_slice-i.result there
     c.args.k c.message_at-row.result.now c.message_at-row.ensures orphaned c.args.mem.now c.requires.processes c.requires.capacity c.requires.come
     (from c.index-as_slice-i.result.pid c.first.result) refl c.first.ensures
@@ -60,7 +60,7 @@ make_run-requires-clause-served g c =
     server_there c.args.state.now c.args.i c.args.k c.as_slice.result.now c.index-as_slice-i.result c.requires.there c.as_slice.ensures c.index-as_slice-i.is in
     let orphaned = row_says c.args.state.now c.args.i c.index-as_slice-i.result there c.args.k c.message_at-row.result.now c.message_at-row.ensures
     (λ row. is_orphaned row ≡ true) c.requires.orphaned in
-    orphans_served g.W.SwapStore.slot_count g.W.SwapStore.is_honest g.W.SwapStore.held c.args.file.now c.args.state.now c.requires.resumable c.args.i
+    orphans_served g.W.SwapStore c.args.file.now c.args.state.now c.requires.resumable c.args.i
     c.index-as_slice-i.result there
     c.args.k c.message_at-row.result.now c.message_at-row.ensures orphaned c.args.mem.now c.requires.processes c.requires.capacity c.requires.come
     (from c.index-as_slice-i.result.pid c.first.result) refl c.first.ensures
@@ -72,7 +72,7 @@ returns-in_err-make_run-clause-full g c =
     let orphaned = row_says c.args.state.now c.args.i c.index-as_slice-i.result there c.args.k c.message_at-row.result.now c.message_at-row.ensures
     (λ row. is_orphaned row ≡ true) c.requires.orphaned in
     let fit =
-    orphans_fit_now g.W.SwapStore.slot_count g.W.SwapStore.is_honest g.W.SwapStore.held c.args.file.now c.args.state.now c.requires.resumable c.args.i
+    orphans_fit_now g.W.SwapStore c.args.file.now c.args.state.now c.requires.resumable c.args.i
     c.index-as_slice-i.result there
     c.args.k c.message_at-row.result.now c.message_at-row.ensures orphaned c.args.mem.now c.requires.processes c.requires.capacity c.requires.come
     (from c.index-as_slice-i.result.pid c.first.result) refl c.first.ensures in
@@ -88,7 +88,7 @@ fill_orphans-requires-clause-sound g c =
     let made_come = c.in_ok-make_run.ensures.comes (state_pages c.args.file.now c.args.state.now)
     (standing_of c.args.file.now c.args.state.now (orphans_before c.args.state.now.servers c.args.i c.args.k)) c.requires.come
     (
-    orphans_fit g.W.SwapStore.slot_count g.W.SwapStore.is_honest g.W.SwapStore.held c.args.file.now c.args.state.now c.requires.resumable c.args.i
+    orphans_fit g.W.SwapStore c.args.file.now c.args.state.now c.requires.resumable c.args.i
     c.index-as_slice-i.result there
     c.args.k c.message_at-row.result.now c.message_at-row.ensures orphaned c.args.mem.now c.requires.processes c.requires.capacity c.requires.come
     (from c.index-as_slice-i.result.pid c.first.result) refl c.first.ensures
@@ -101,7 +101,7 @@ fill_orphans-requires-clause-low g c =
     server_there c.args.state.now c.args.i c.args.k c.as_slice.result.now c.index-as_slice-i.result c.requires.there c.as_slice.ensures c.index-as_slice-i.is in
     let orphaned = row_says c.args.state.now c.args.i c.index-as_slice-i.result there c.args.k c.message_at-row.result.now c.message_at-row.ensures
     (λ row. is_orphaned row ≡ true) c.requires.orphaned in
-    orphans_low g.W.SwapStore.slot_count g.W.SwapStore.is_honest g.W.SwapStore.held c.args.file.now c.args.state.now c.requires.resumable c.args.i
+    orphans_low g.W.SwapStore c.args.file.now c.args.state.now c.requires.resumable c.args.i
     c.index-as_slice-i.result there
     c.args.k c.message_at-row.result.now c.message_at-row.ensures orphaned c.args.mem.now c.requires.processes c.requires.capacity c.requires.come
     (from c.index-as_slice-i.result.pid c.first.result) refl c.first.ensures
@@ -112,7 +112,7 @@ fill_orphans-requires-clause-there g c =
     server_there c.args.state.now c.args.i c.args.k c.as_slice.result.now c.index-as_slice-i.result c.requires.there c.as_slice.ensures c.index-as_slice-i.is in
     let orphaned = row_says c.args.state.now c.args.i c.index-as_slice-i.result there c.args.k c.message_at-row.result.now c.message_at-row.ensures
     (λ row. is_orphaned row ≡ true) c.requires.orphaned in
-    orphans_there g.W.SwapStore.slot_count g.W.SwapStore.is_honest g.W.SwapStore.held c.args.file.now c.args.state.now c.requires.resumable c.args.i
+    orphans_there g.W.SwapStore c.args.file.now c.args.state.now c.requires.resumable c.args.i
     c.index-as_slice-i.result there
     c.args.k c.message_at-row.result.now c.message_at-row.ensures orphaned c.args.mem.now c.requires.processes c.requires.capacity c.requires.come
     (from c.index-as_slice-i.result.pid c.first.result) refl c.first.ensures
@@ -123,7 +123,7 @@ fill_orphans-requires-clause-homes g c =
     server_there c.args.state.now c.args.i c.args.k c.as_slice.result.now c.index-as_slice-i.result c.requires.there c.as_slice.ensures c.index-as_slice-i.is in
     let orphaned = row_says c.args.state.now c.args.i c.index-as_slice-i.result there c.args.k c.message_at-row.result.now c.message_at-row.ensures
     (λ row. is_orphaned row ≡ true) c.requires.orphaned in
-    made_homes g.W.SwapStore.slot_count g.W.SwapStore.is_honest g.W.SwapStore.held c.args.file.now c.args.state.now c.requires.resumable c.args.i
+    made_homes g.W.SwapStore c.args.file.now c.args.state.now c.requires.resumable c.args.i
     c.index-as_slice-i.result there
     c.args.k c.message_at-row.result.now c.message_at-row.ensures orphaned c.args.mem.now c.requires.processes c.requires.capacity c.requires.come
     (from c.index-as_slice-i.result.pid c.first.result) refl c.first.ensures c.make_run.new.mem c.in_ok-make_run.ensures.rights
@@ -135,13 +135,13 @@ returns-in_err-fill_orphans-clause-failed g c =
     let orphaned = row_says c.args.state.now c.args.i c.index-as_slice-i.result there c.args.k c.message_at-row.result.now c.message_at-row.ensures
     (λ row. is_orphaned row ≡ true) c.requires.orphaned in
     let same =
-    made_loans g.W.SwapStore.slot_count g.W.SwapStore.is_honest g.W.SwapStore.held c.args.file.now c.args.state.now c.requires.resumable c.args.i
+    made_loans g.W.SwapStore c.args.file.now c.args.state.now c.requires.resumable c.args.i
     c.index-as_slice-i.result there
     c.args.k c.message_at-row.result.now c.message_at-row.ensures orphaned c.args.mem.now c.requires.processes c.requires.capacity c.requires.come
     (from c.index-as_slice-i.result.pid c.first.result) refl c.first.ensures c.make_run.new.mem c.in_ok-make_run.ensures.rights in
     on_err c.from_residual-in_err-fill_orphans.result
-    (HasFailed g.W.SwapStore.held g.W.SwapStore.slot_count g.W.SwapStore.faults c.args.mem.now c.fill_orphans.new.mem)
-    (failed_over g.W.SwapStore.slot_count g.W.SwapStore.is_honest g.W.SwapStore.held g.W.SwapStore.asked g.W.SwapStore.faults c.args.mem.now c.make_run.new.mem
+    (HasFailed g.W.SwapStore c.args.mem.now c.fill_orphans.new.mem)
+    (failed_over g.W.SwapStore c.args.mem.now c.make_run.new.mem
     c.fill_orphans.new.mem
     c.in_ok-make_run.ensures.keeps same c.in_err-fill_orphans.ensures.failed)
 
@@ -154,13 +154,13 @@ returns-in_err-fill_orphans-clause-full g c =
     let made_come = c.in_ok-make_run.ensures.comes (state_pages c.args.file.now c.args.state.now)
     (standing_of c.args.file.now c.args.state.now (orphans_before c.args.state.now.servers c.args.i c.args.k)) c.requires.come
     (
-    orphans_fit g.W.SwapStore.slot_count g.W.SwapStore.is_honest g.W.SwapStore.held c.args.file.now c.args.state.now c.requires.resumable c.args.i
+    orphans_fit g.W.SwapStore c.args.file.now c.args.state.now c.requires.resumable c.args.i
     c.index-as_slice-i.result there
     c.args.k c.message_at-row.result.now c.message_at-row.ensures orphaned c.args.mem.now c.requires.processes c.requires.capacity c.requires.come
     (from c.index-as_slice-i.result.pid c.first.result) refl c.first.ensures
     ) in
     let same =
-    frames_same g.W.SwapStore.slot_count g.W.SwapStore.is_honest g.W.SwapStore.held g.W.SwapStore.asked g.W.SwapStore.faults c.args.mem.now c.make_run.new.mem
+    frames_same g.W.SwapStore c.args.mem.now c.make_run.new.mem
     c.in_ok-make_run.ensures.keeps in
     let full =
     c.in_err-fill_orphans.ensures.full (state_pages c.args.file.now c.args.state.now)
@@ -177,7 +177,7 @@ lend-loan-requires-clause-sound g c =
     let made_come = c.in_ok-make_run.ensures.comes (state_pages c.args.file.now c.args.state.now)
     (standing_of c.args.file.now c.args.state.now (orphans_before c.args.state.now.servers c.args.i c.args.k)) c.requires.come
     (
-    orphans_fit g.W.SwapStore.slot_count g.W.SwapStore.is_honest g.W.SwapStore.held c.args.file.now c.args.state.now c.requires.resumable c.args.i
+    orphans_fit g.W.SwapStore c.args.file.now c.args.state.now c.requires.resumable c.args.i
     c.index-as_slice-i.result there
     c.args.k c.message_at-row.result.now c.message_at-row.ensures orphaned c.args.mem.now c.requires.processes c.requires.capacity c.requires.come
     (from c.index-as_slice-i.result.pid c.first.result) refl c.first.ensures
@@ -196,7 +196,7 @@ lend-loan-requires-clause-usable g c =
     let made_come = c.in_ok-make_run.ensures.comes (state_pages c.args.file.now c.args.state.now)
     (standing_of c.args.file.now c.args.state.now (orphans_before c.args.state.now.servers c.args.i c.args.k)) c.requires.come
     (
-    orphans_fit g.W.SwapStore.slot_count g.W.SwapStore.is_honest g.W.SwapStore.held c.args.file.now c.args.state.now c.requires.resumable c.args.i
+    orphans_fit g.W.SwapStore c.args.file.now c.args.state.now c.requires.resumable c.args.i
     c.index-as_slice-i.result there
     c.args.k c.message_at-row.result.now c.message_at-row.ensures orphaned c.args.mem.now c.requires.processes c.requires.capacity c.requires.come
     (from c.index-as_slice-i.result.pid c.first.result) refl c.first.ensures
@@ -212,7 +212,7 @@ lend-loan-requires-clause-some g c =
     server_there c.args.state.now c.args.i c.args.k c.as_slice.result.now c.index-as_slice-i.result c.requires.there c.as_slice.ensures c.index-as_slice-i.is in
     let orphaned = row_says c.args.state.now c.args.i c.index-as_slice-i.result there c.args.k c.message_at-row.result.now c.message_at-row.ensures
     (λ row. is_orphaned row ≡ true) c.requires.orphaned in
-    some g.W.SwapStore.slot_count g.W.SwapStore.is_honest g.W.SwapStore.held c.args.file.now c.args.state.now c.requires.resumable c.args.i
+    some g.W.SwapStore c.args.file.now c.args.state.now c.requires.resumable c.args.i
     c.index-as_slice-i.result there
     c.args.k c.message_at-row.result.now c.message_at-row.ensures orphaned c.args.mem.now c.requires.processes c.requires.capacity c.requires.come
     (from c.index-as_slice-i.result.pid c.first.result) refl c.first.ensures
@@ -226,7 +226,7 @@ lend-loan-requires-clause-may g c =
     let made_come = c.in_ok-make_run.ensures.comes (state_pages c.args.file.now c.args.state.now)
     (standing_of c.args.file.now c.args.state.now (orphans_before c.args.state.now.servers c.args.i c.args.k)) c.requires.come
     (
-    orphans_fit g.W.SwapStore.slot_count g.W.SwapStore.is_honest g.W.SwapStore.held c.args.file.now c.args.state.now c.requires.resumable c.args.i
+    orphans_fit g.W.SwapStore c.args.file.now c.args.state.now c.requires.resumable c.args.i
     c.index-as_slice-i.result there
     c.args.k c.message_at-row.result.now c.message_at-row.ensures orphaned c.args.mem.now c.requires.processes c.requires.capacity c.requires.come
     (from c.index-as_slice-i.result.pid c.first.result) refl c.first.ensures
@@ -235,15 +235,15 @@ lend-loan-requires-clause-may g c =
     c.in_ok-fill_orphans.ensures.comes (state_pages c.args.file.now c.args.state.now)
     (standing_of c.args.file.now c.args.state.now (orphans_before c.args.state.now.servers c.args.i c.args.k)) made_come in
     let procs =
-    procs_kept g.W.SwapStore.slot_count g.W.SwapStore.is_honest g.W.SwapStore.held g.W.SwapStore.asked g.W.SwapStore.faults c.make_run.new.mem
+    procs_kept g.W.SwapStore c.make_run.new.mem
     c.fill_orphans.new.mem c.args.state.now.n c.in_ok-fill_orphans.ensures.keeps
-    (procs_kept g.W.SwapStore.slot_count g.W.SwapStore.is_honest g.W.SwapStore.held g.W.SwapStore.asked g.W.SwapStore.faults c.args.mem.now c.make_run.new.mem
+    (procs_kept g.W.SwapStore c.args.mem.now c.make_run.new.mem
     c.args.state.now.n c.in_ok-make_run.ensures.keeps c.requires.processes) in
     ap (λ kind. send_answer (processes c.fill_orphans.new.mem) (ledger g.W.SwapStore.held c.fill_orphans.new.mem)
     (from c.index-as_slice-i.result.pid c.first.result)
     c.message_at-row.result.now.count (mem_kind kind)) c.loan_kind.ensures
     ∙
-    orphans_sent g.W.SwapStore.slot_count g.W.SwapStore.is_honest g.W.SwapStore.held c.args.file.now c.args.state.now c.requires.resumable c.args.i
+    orphans_sent g.W.SwapStore c.args.file.now c.args.state.now c.requires.resumable c.args.i
     c.index-as_slice-i.result there
     c.args.k c.message_at-row.result.now c.message_at-row.ensures orphaned c.args.mem.now c.requires.processes c.requires.capacity c.requires.come
     (from c.index-as_slice-i.result.pid c.first.result) refl c.first.ensures c.fill_orphans.new.mem procs full_come
@@ -257,7 +257,7 @@ lend-loan-requires-clause-arrival g c =
     let made_come = c.in_ok-make_run.ensures.comes (state_pages c.args.file.now c.args.state.now)
     (standing_of c.args.file.now c.args.state.now (orphans_before c.args.state.now.servers c.args.i c.args.k)) c.requires.come
     (
-    orphans_fit g.W.SwapStore.slot_count g.W.SwapStore.is_honest g.W.SwapStore.held c.args.file.now c.args.state.now c.requires.resumable c.args.i
+    orphans_fit g.W.SwapStore c.args.file.now c.args.state.now c.requires.resumable c.args.i
     c.index-as_slice-i.result there
     c.args.k c.message_at-row.result.now c.message_at-row.ensures orphaned c.args.mem.now c.requires.processes c.requires.capacity c.requires.come
     (from c.index-as_slice-i.result.pid c.first.result) refl c.first.ensures
@@ -266,11 +266,11 @@ lend-loan-requires-clause-arrival g c =
     c.in_ok-fill_orphans.ensures.comes (state_pages c.args.file.now c.args.state.now)
     (standing_of c.args.file.now c.args.state.now (orphans_before c.args.state.now.servers c.args.i c.args.k)) made_come in
     let procs =
-    procs_kept g.W.SwapStore.slot_count g.W.SwapStore.is_honest g.W.SwapStore.held g.W.SwapStore.asked g.W.SwapStore.faults c.make_run.new.mem
+    procs_kept g.W.SwapStore c.make_run.new.mem
     c.fill_orphans.new.mem c.args.state.now.n c.in_ok-fill_orphans.ensures.keeps
-    (procs_kept g.W.SwapStore.slot_count g.W.SwapStore.is_honest g.W.SwapStore.held g.W.SwapStore.asked g.W.SwapStore.faults c.args.mem.now c.make_run.new.mem
+    (procs_kept g.W.SwapStore c.args.mem.now c.make_run.new.mem
     c.args.state.now.n c.in_ok-make_run.ensures.keeps c.requires.processes) in
-    orphans_arrive g.W.SwapStore.slot_count g.W.SwapStore.is_honest g.W.SwapStore.held c.args.file.now c.args.state.now c.requires.resumable c.args.i
+    orphans_arrive g.W.SwapStore c.args.file.now c.args.state.now c.requires.resumable c.args.i
     c.index-as_slice-i.result there
     c.args.k c.message_at-row.result.now c.message_at-row.ensures orphaned c.args.mem.now c.requires.processes c.requires.capacity c.requires.come
     (from c.index-as_slice-i.result.pid c.first.result) refl c.first.ensures c.fill_orphans.new.mem procs full_come
@@ -284,7 +284,7 @@ lend-loan-requires-clause-fresh g c =
     let made_come = c.in_ok-make_run.ensures.comes (state_pages c.args.file.now c.args.state.now)
     (standing_of c.args.file.now c.args.state.now (orphans_before c.args.state.now.servers c.args.i c.args.k)) c.requires.come
     (
-    orphans_fit g.W.SwapStore.slot_count g.W.SwapStore.is_honest g.W.SwapStore.held c.args.file.now c.args.state.now c.requires.resumable c.args.i
+    orphans_fit g.W.SwapStore c.args.file.now c.args.state.now c.requires.resumable c.args.i
     c.index-as_slice-i.result there
     c.args.k c.message_at-row.result.now c.message_at-row.ensures orphaned c.args.mem.now c.requires.processes c.requires.capacity c.requires.come
     (from c.index-as_slice-i.result.pid c.first.result) refl c.first.ensures
@@ -293,11 +293,11 @@ lend-loan-requires-clause-fresh g c =
     c.in_ok-fill_orphans.ensures.comes (state_pages c.args.file.now c.args.state.now)
     (standing_of c.args.file.now c.args.state.now (orphans_before c.args.state.now.servers c.args.i c.args.k)) made_come in
     let procs =
-    procs_kept g.W.SwapStore.slot_count g.W.SwapStore.is_honest g.W.SwapStore.held g.W.SwapStore.asked g.W.SwapStore.faults c.make_run.new.mem
+    procs_kept g.W.SwapStore c.make_run.new.mem
     c.fill_orphans.new.mem c.args.state.now.n c.in_ok-fill_orphans.ensures.keeps
-    (procs_kept g.W.SwapStore.slot_count g.W.SwapStore.is_honest g.W.SwapStore.held g.W.SwapStore.asked g.W.SwapStore.faults c.args.mem.now c.make_run.new.mem
+    (procs_kept g.W.SwapStore c.args.mem.now c.make_run.new.mem
     c.args.state.now.n c.in_ok-make_run.ensures.keeps c.requires.processes) in
-    orphans_fresh g.W.SwapStore.slot_count g.W.SwapStore.is_honest g.W.SwapStore.held c.args.file.now c.args.state.now c.requires.resumable c.args.i
+    orphans_fresh g.W.SwapStore c.args.file.now c.args.state.now c.requires.resumable c.args.i
     c.index-as_slice-i.result there
     c.args.k c.message_at-row.result.now c.message_at-row.ensures orphaned c.args.mem.now c.requires.processes c.requires.capacity c.requires.come
     (from c.index-as_slice-i.result.pid c.first.result) refl c.first.ensures c.fill_orphans.new.mem procs full_come
@@ -311,7 +311,7 @@ orphan-requires-clause-usable g c =
     let made_come = c.in_ok-make_run.ensures.comes (state_pages c.args.file.now c.args.state.now)
     (standing_of c.args.file.now c.args.state.now (orphans_before c.args.state.now.servers c.args.i c.args.k)) c.requires.come
     (
-    orphans_fit g.W.SwapStore.slot_count g.W.SwapStore.is_honest g.W.SwapStore.held c.args.file.now c.args.state.now c.requires.resumable c.args.i
+    orphans_fit g.W.SwapStore c.args.file.now c.args.state.now c.requires.resumable c.args.i
     c.index-as_slice-i.result there
     c.args.k c.message_at-row.result.now c.message_at-row.ensures orphaned c.args.mem.now c.requires.processes c.requires.capacity c.requires.come
     (from c.index-as_slice-i.result.pid c.first.result) refl c.first.ensures
@@ -330,7 +330,7 @@ returns-clause-come g c =
     let made_come = c.in_ok-make_run.ensures.comes (state_pages c.args.file.now c.args.state.now)
     (standing_of c.args.file.now c.args.state.now (orphans_before c.args.state.now.servers c.args.i c.args.k)) c.requires.come
     (
-    orphans_fit g.W.SwapStore.slot_count g.W.SwapStore.is_honest g.W.SwapStore.held c.args.file.now c.args.state.now c.requires.resumable c.args.i
+    orphans_fit g.W.SwapStore c.args.file.now c.args.state.now c.requires.resumable c.args.i
     c.index-as_slice-i.result there
     c.args.k c.message_at-row.result.now c.message_at-row.ensures orphaned c.args.mem.now c.requires.processes c.requires.capacity c.requires.come
     (from c.index-as_slice-i.result.pid c.first.result) refl c.first.ensures
@@ -339,12 +339,12 @@ returns-clause-come g c =
     c.in_ok-fill_orphans.ensures.comes (state_pages c.args.file.now c.args.state.now)
     (standing_of c.args.file.now c.args.state.now (orphans_before c.args.state.now.servers c.args.i c.args.k)) made_come in
     let procs =
-    procs_kept g.W.SwapStore.slot_count g.W.SwapStore.is_honest g.W.SwapStore.held g.W.SwapStore.asked g.W.SwapStore.faults c.make_run.new.mem
+    procs_kept g.W.SwapStore c.make_run.new.mem
     c.fill_orphans.new.mem c.args.state.now.n c.in_ok-fill_orphans.ensures.keeps
-    (procs_kept g.W.SwapStore.slot_count g.W.SwapStore.is_honest g.W.SwapStore.held g.W.SwapStore.asked g.W.SwapStore.faults c.args.mem.now c.make_run.new.mem
+    (procs_kept g.W.SwapStore c.args.mem.now c.make_run.new.mem
     c.args.state.now.n c.in_ok-make_run.ensures.keeps c.requires.processes) in
     let lent =
-    lend_comes g.W.SwapStore.slot_count g.W.SwapStore.is_honest g.W.SwapStore.held g.W.SwapStore.asked g.W.SwapStore.faults c.fill_orphans.new.mem
+    lend_comes g.W.SwapStore c.fill_orphans.new.mem
     c.lend-loan.new.self c.lend-loan.ensures.keeps (state_pages c.args.file.now c.args.state.now)
     (with_orphan_pages (state_ledger c.args.file.now c.args.state.now) (from c.index-as_slice-i.result.pid c.first.result) c.message_at-row.result.now.count
     (place_at c.index-as_slice-i.result.pid c.message_at-row.result.now.first)
@@ -358,12 +358,12 @@ returns-clause-come g c =
     (ledger g.W.SwapStore.held c.fill_orphans.new.mem))
     c.loan_kind.ensures) in
     let lent_procs =
-    procs_kept g.W.SwapStore.slot_count g.W.SwapStore.is_honest g.W.SwapStore.held g.W.SwapStore.asked g.W.SwapStore.faults c.fill_orphans.new.mem
+    procs_kept g.W.SwapStore c.fill_orphans.new.mem
     c.lend-loan.new.self c.args.state.now.n
-    (seats_keep g.W.SwapStore.slot_count g.W.SwapStore.is_honest g.W.SwapStore.held g.W.SwapStore.asked g.W.SwapStore.faults c.fill_orphans.new.mem
+    (seats_keep g.W.SwapStore c.fill_orphans.new.mem
     c.lend-loan.new.self c.lend-loan.ensures.keeps) procs in
     let alone =
-    orphan_comes g.W.SwapStore.slot_count g.W.SwapStore.is_honest g.W.SwapStore.held g.W.SwapStore.asked g.W.SwapStore.faults c.lend-loan.new.self
+    orphan_comes g.W.SwapStore c.lend-loan.new.self
     c.orphan.new.self c.orphan.ensures.keeps (state_pages c.args.file.now c.args.state.now)
     (lend (from c.index-as_slice-i.result.pid c.first.result) c.message_at-row.result.now.count
     (place_at c.index-as_slice-i.result.pid c.message_at-row.result.now.first)
@@ -375,7 +375,7 @@ returns-clause-come g c =
     (c.orphan.ensures.ledger
     ∙ ap (λ (loan : LoanRun). orphan_loan (processes c.lend-loan.new.self) loan.number (ledger g.W.SwapStore.held c.lend-loan.new.self))
     c.lend-loan.ensures.loan) in
-    orphans_come g.W.SwapStore.slot_count g.W.SwapStore.is_honest g.W.SwapStore.held c.args.file.now c.args.state.now c.requires.resumable c.args.i
+    orphans_come g.W.SwapStore c.args.file.now c.args.state.now c.requires.resumable c.args.i
     c.index-as_slice-i.result there
     c.args.k c.message_at-row.result.now c.message_at-row.ensures orphaned c.args.mem.now c.requires.processes c.requires.capacity c.requires.come
     (from c.index-as_slice-i.result.pid c.first.result) refl c.first.ensures c.orphan.new.self (processes c.lend-loan.new.self) lent_procs alone
@@ -386,7 +386,7 @@ returns-clause-loan g c =
     server_there c.args.state.now c.args.i c.args.k c.as_slice.result.now c.index-as_slice-i.result c.requires.there c.as_slice.ensures c.index-as_slice-i.is in
     let orphaned = row_says c.args.state.now c.args.i c.index-as_slice-i.result there c.args.k c.message_at-row.result.now c.message_at-row.ensures
     (λ row. is_orphaned row ≡ true) c.requires.orphaned in
-    orphans_run g.W.SwapStore.slot_count g.W.SwapStore.is_honest g.W.SwapStore.held c.args.file.now c.args.state.now c.requires.resumable c.args.i
+    orphans_run g.W.SwapStore c.args.file.now c.args.state.now c.requires.resumable c.args.i
     c.index-as_slice-i.result there
     c.args.k c.message_at-row.result.now c.message_at-row.ensures orphaned c.args.mem.now c.requires.processes c.requires.capacity c.requires.come
     (from c.index-as_slice-i.result.pid c.first.result) refl c.first.ensures c.orphan.result

@@ -5,7 +5,7 @@ use Rattle.std.specs.Option.{option_map}
 use Rattle.std.proofs.lemmas.Bool.{false≢true}
 use Rattle.std.proofs.lemmas.Iterator.{YieldsList-from_slice}
 use Rattle.std.proofs.lemmas.Iterator.Search.{find_from_yields_List}
-use Rattle.suspend_image.specs.declared.state.OrphanRow.{OrphanRow as Orphan}
+use Rattle.state_rows.specs.declared.state.OrphanRow.{OrphanRow as Orphan}
 use Rattle.xk_kernel.proofs.Resuming.OrphanStepLemmas.{is_orphan_at}
 use Rattle.xk_kernel.proofs.kernel.resuming.orphans.offset.Goals as goal
 

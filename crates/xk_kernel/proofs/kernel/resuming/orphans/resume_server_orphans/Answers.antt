@@ -32,7 +32,7 @@ lend_orphans-requires-clause-orphaned g c =
 
 pub returns-in_err-loan-clause-failed : goal.returns-in_err-loan-clause-failed
 returns-in_err-loan-clause-failed g c =
-    orphans_failed g.W.SwapStore.slot_count g.W.SwapStore.is_honest g.W.SwapStore.held g.W.SwapStore.asked g.W.SwapStore.faults c.args.file.now c.args.state.now
+    orphans_failed g.W.SwapStore c.args.file.now c.args.state.now
     c.requires.resumable
     c.from_residual.result c.args.mem.now c.messages.mem c.lend_orphans.new.mem c.messages.queues c.args.i c.messages.k c.messages.invariant
     c.in_err-loan.ensures.failed
@@ -60,7 +60,7 @@ pub hold-requires-clause-room : goal.hold-requires-clause-room
 hold-requires-clause-room g c =
     let there =
     server_read c.args.state.now c.args.i c.as_slice.result.now c.index-as_slice-i.result c.as_slice.ensures c.requires.server c.index-as_slice-i.is in
-    orphan_room g.W.SwapStore.slot_count g.W.SwapStore.is_honest g.W.SwapStore.held g.W.SwapStore.asked g.W.SwapStore.faults c.args.file.now c.args.state.now
+    orphan_room g.W.SwapStore c.args.file.now c.args.state.now
     c.requires.resumable c.args.i c.index-as_slice-i.result there c.args.mem.now
     c.messages.k c.message_at-row.result.now c.message_at-row.ensures (sym c.is_orphaned.ensures ∙ c.if-is_orphaned.true) c.messages.mem c.messages.queues
     c.messages.invariant
@@ -73,7 +73,7 @@ messages-preserved g c =
       | then-is_orphaned+in_ok-loan w ↦
           let orphaned = sym c.is_orphaned.ensures ∙ w.if-is_orphaned.true in
           let step =
-          orphan_next g.W.SwapStore.slot_count g.W.SwapStore.is_honest g.W.SwapStore.held g.W.SwapStore.asked g.W.SwapStore.faults c.args.file.now
+          orphan_next g.W.SwapStore c.args.file.now
           c.args.state.now c.requires.resumable c.args.i c.index-as_slice-i.result there c.args.mem.now
           c.messages.k c.message_at-row.result.now c.message_at-row.ensures orphaned c.messages.mem c.messages.queues c.messages.invariant
           w.lend_orphans.new.mem w.hold.new.self
@@ -84,7 +84,7 @@ messages-preserved g c =
           rw (w.mem-is, w.queues-is) step
       | else-is_orphaned w ↦
           let step =
-          orphan_skipped g.W.SwapStore.slot_count g.W.SwapStore.is_honest g.W.SwapStore.held g.W.SwapStore.asked g.W.SwapStore.faults c.args.file.now
+          orphan_skipped g.W.SwapStore c.args.file.now
           c.args.state.now c.requires.resumable c.args.i c.index-as_slice-i.result there c.args.mem.now
           c.messages.k c.message_at-row.result.now c.message_at-row.ensures (sym c.is_orphaned.ensures ∙ w.if-is_orphaned.false) c.messages.mem
           c.messages.queues c.messages.invariant in
@@ -96,7 +96,7 @@ returns-clause-come g c =
     let there =
     server_read c.args.state.now c.args.i c.as_slice.result.now c.index-as_slice-i.result c.as_slice.ensures c.requires.server c.index-as_slice-i.is in
     let all =
-    orphans_server g.W.SwapStore.slot_count g.W.SwapStore.is_honest g.W.SwapStore.held g.W.SwapStore.asked g.W.SwapStore.faults c.args.file.now c.args.state.now
+    orphans_server g.W.SwapStore c.args.file.now c.args.state.now
     c.requires.resumable c.args.i c.index-as_slice-i.result there c.args.mem.now
     c.messages.mem c.messages.queues c.messages.k (omega (arith, c.messages-test.false, c.message_count-k-end.ensures)) c.messages.invariant in
     all.come
@@ -106,7 +106,7 @@ returns-clause-back g c =
     let there =
     server_read c.args.state.now c.args.i c.as_slice.result.now c.index-as_slice-i.result c.as_slice.ensures c.requires.server c.index-as_slice-i.is in
     let all =
-    orphans_server g.W.SwapStore.slot_count g.W.SwapStore.is_honest g.W.SwapStore.held g.W.SwapStore.asked g.W.SwapStore.faults c.args.file.now c.args.state.now
+    orphans_server g.W.SwapStore c.args.file.now c.args.state.now
     c.requires.resumable c.args.i c.index-as_slice-i.result there c.args.mem.now
     c.messages.mem c.messages.queues c.messages.k (omega (arith, c.messages-test.false, c.message_count-k-end.ensures)) c.messages.invariant in
     all.back

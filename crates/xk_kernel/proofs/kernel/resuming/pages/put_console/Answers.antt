@@ -25,9 +25,9 @@ returns-clause-comes g c = λ total l file come.
     subst (λ (p : Place). is_place_in (processes c.args.mem.now) Map p ≡ true) (sym c.home-at.ensures) c.requires.place in
     let free : is_free (processes c.args.mem.now) (ledger g.W.SwapStore.held c.args.mem.now) c.home-at.result ≡ true =
     subst (λ (p : Place). is_free (processes c.args.mem.now) (ledger g.W.SwapStore.held c.args.mem.now) p ≡ true) (sym c.home-at.ensures) c.requires.free in
-    put_console_comes g.W.SwapStore.slot_count g.W.SwapStore.is_honest g.W.SwapStore.held total c.make_console.new.self l file c.args.row.now c.home-at.result
+    put_console_comes g.W.SwapStore total c.make_console.new.self l file c.args.row.now c.home-at.result
     c.home-at.ensures c.requires.right c.requires.no_fetch
-    (console_comes g.W.SwapStore.slot_count g.W.SwapStore.is_honest g.W.SwapStore.held g.W.SwapStore.asked g.W.SwapStore.faults c.args.mem.now
+    (console_comes g.W.SwapStore c.args.mem.now
     c.make_console.new.self
     c.home-at.result (c.args.row.now.right % 2 == 1) c.in-Ok.ensures.size c.in-Ok.ensures.store c.in-Ok.ensures.sound c.in-Ok.ensures.usable
     (c.in-Ok.ensures.ledger

@@ -22,17 +22,17 @@ make_run-requires-clause-served g c =
 
 pub fill-requires-clause-sound : goal.fill-requires-clause-sound
 fill-requires-clause-sound g c =
-    (made_come g.W.SwapStore.slot_count g.W.SwapStore.is_honest g.W.SwapStore.held c.args.mem.now c.make_run.new.mem c.home-at.result c.right_of-right.result
+    (made_come g.W.SwapStore c.args.mem.now c.make_run.new.mem c.home-at.result c.right_of-right.result
     c.requires.sound c.requires.usable c.in_ok-make_run.ensures.comes c.in_ok-make_run.ensures.rights).sound
 
 pub fill-requires-clause-may : goal.fill-requires-clause-may
 fill-requires-clause-may g c =
-    may_fill g.W.SwapStore.slot_count g.W.SwapStore.is_honest g.W.SwapStore.held c.args.mem.now c.make_run.new.mem c.home-at.result c.right_of-right.result
+    may_fill g.W.SwapStore c.args.mem.now c.make_run.new.mem c.home-at.result c.right_of-right.result
     c.requires.sound c.requires.usable c.in_ok-make_run.ensures.comes c.in_ok-make_run.ensures.rights
 
 pub fill-requires-clause-home : goal.fill-requires-clause-home
 fill-requires-clause-home g c =
-    fills_home g.W.SwapStore.slot_count g.W.SwapStore.is_honest g.W.SwapStore.held c.args.mem.now c.make_run.new.mem c.home-at.result c.right_of-right.result
+    fills_home g.W.SwapStore c.args.mem.now c.make_run.new.mem c.home-at.result c.right_of-right.result
     c.requires.sound c.requires.usable c.in_ok-make_run.ensures.comes c.in_ok-make_run.ensures.rights
 
 pub returns-in_err-fill-clause-failed : goal.returns-in_err-fill-clause-failed
@@ -44,8 +44,8 @@ returns-in_err-fill-clause-failed g c =
     let served = make_served (processes c.args.mem.now) (capacity_of c.args.mem.now) (ledger g.W.SwapStore.held c.args.mem.now) c.home-at.result
     c.in-Some.window
     (sym c.in-Some.ensures) free c.requires.room in
-    on_err _ (HasFailed g.W.SwapStore.held g.W.SwapStore.slot_count g.W.SwapStore.faults c.args.mem.now c.fill.new.mem)
-    (failed_over g.W.SwapStore.slot_count g.W.SwapStore.is_honest g.W.SwapStore.held g.W.SwapStore.asked g.W.SwapStore.faults c.args.mem.now c.make_run.new.mem
+    on_err _ (HasFailed g.W.SwapStore c.args.mem.now c.fill.new.mem)
+    (failed_over g.W.SwapStore c.args.mem.now c.make_run.new.mem
     c.fill.new.mem c.in_ok-make_run.ensures.keeps
     (made_loans (processes c.args.mem.now) (capacity_of c.args.mem.now) (ledger g.W.SwapStore.held c.args.mem.now)
     (ledger g.W.SwapStore.held c.make_run.new.mem)
@@ -55,25 +55,25 @@ returns-in_err-fill-clause-failed g c =
 
 pub reduce-requires-clause-sound : goal.reduce-requires-clause-sound
 reduce-requires-clause-sound g c =
-    (filled_come g.W.SwapStore.slot_count g.W.SwapStore.is_honest g.W.SwapStore.held c.args.mem.now c.make_run.new.mem c.home-at.result c.right_of-right.result
+    (filled_come g.W.SwapStore c.args.mem.now c.make_run.new.mem c.home-at.result c.right_of-right.result
     c.requires.sound c.requires.usable c.in_ok-make_run.ensures.comes c.in_ok-make_run.ensures.rights c.fill.new.mem _ c.in_ok-fill.ensures.comes
     c.in_ok-fill.ensures.rights).sound
 
 pub reduce-requires-clause-usable : goal.reduce-requires-clause-usable
 reduce-requires-clause-usable g c =
-    (filled_come g.W.SwapStore.slot_count g.W.SwapStore.is_honest g.W.SwapStore.held c.args.mem.now c.make_run.new.mem c.home-at.result c.right_of-right.result
+    (filled_come g.W.SwapStore c.args.mem.now c.make_run.new.mem c.home-at.result c.right_of-right.result
     c.requires.sound c.requires.usable c.in_ok-make_run.ensures.comes c.in_ok-make_run.ensures.rights c.fill.new.mem _ c.in_ok-fill.ensures.comes
     c.in_ok-fill.ensures.rights).usable
 
 pub reduce-requires-clause-served : goal.reduce-requires-clause-served
 reduce-requires-clause-served g c =
-    may_reduce g.W.SwapStore.slot_count g.W.SwapStore.is_honest g.W.SwapStore.held c.args.mem.now c.make_run.new.mem c.home-at.result c.right_of-right.result
+    may_reduce g.W.SwapStore c.args.mem.now c.make_run.new.mem c.home-at.result c.right_of-right.result
     c.requires.sound c.requires.usable c.in_ok-make_run.ensures.comes c.in_ok-make_run.ensures.rights c.fill.new.mem _ c.in_ok-fill.ensures.comes
     c.in_ok-fill.ensures.rights
 
 pub returns-clause-comes : goal.returns-clause-comes
 returns-clause-comes g c = λ total l come fits.
-    put_comes g.W.SwapStore.slot_count g.W.SwapStore.is_honest g.W.SwapStore.held total c.reduce.new.mem l c.args.file.now c.args.row.now c.home-at.result
+    put_comes g.W.SwapStore total c.reduce.new.mem l c.args.file.now c.args.row.now c.home-at.result
     c.right_of-right.result c.right_of-right.result.x _ c.home-at.ensures (c.right_of-right.ensures c.args.file.now)
     (row_bytes c.args.file.now c.args.row.now.from) (row_bytes_long c.args.file.now c.args.row.now.from c.requires.bytes) c.requires.right
     (c.reduce.ensures.comes total (write (Homed c.home-at.result) 0 _ (make c.home-at.result 1 (writable c.right_of-right.result) l))

@@ -1,5 +1,5 @@
 use Rattle.std.proofs.Common.{◌<◌, List, length, get_or, sym, ap, subst, ◌∙◌, arith}
-use Rattle.suspend_image.specs.declared.state.ServerRow.{ServerRow}
+use Rattle.state_rows.specs.declared.state.ServerRow.{ServerRow}
 use Rattle.xk_kernel.specs.Resuming.Tables.{row_seat}
 use Rattle.xk_kernel.proofs.Resuming.ServerRowLemmas.{all_seated, next_seated, server_pid_small}
 use Rattle.xk_kernel.proofs.kernel.resuming.servers.server_seats.Goals as goal

@@ -5,7 +5,7 @@ use Rattle.xk_kernel.proofs.kernel.saving.pages.write_contents.Goals as goal
 
 pub bytes-requires-clause-may : goal.bytes-requires-clause-may
 bytes-requires-clause-may g c =
-    brings_may g.W.SwapStore.is_honest g.W.SwapStore.held g.W.SwapStore.slot_count g.W.SwapStore.asked g.W.SwapStore.faults c.args.mem.now c.reach.new.self
+    brings_may g.W.SwapStore c.args.mem.now c.reach.new.self
     (record {
       sound = c.in_ok-reach.ensures.sound;
       rights = c.in_ok-reach.ensures.rights;

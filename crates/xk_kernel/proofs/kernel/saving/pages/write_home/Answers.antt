@@ -3,7 +3,7 @@ use Rattle.kill_path.proofs.KeepLemmas.{sound_lawful}
 use Rattle.ledger_model.specs.Ledger.{Ledger}
 use Rattle.suspend_image.specs.Sheets.{appended}
 use Rattle.suspend_image.specs.Spelling.{page_words}
-use Rattle.suspend_image.specs.declared.state.PageRow.{PageRow}
+use Rattle.state_rows.specs.declared.state.PageRow.{PageRow}
 use Rattle.vm_memory.specs.Memory.{capacity_of, ledger, processes}
 use Rattle.vm_memory.specs.Using.Access.{reaches_bytes}
 use Rattle.xk_base.specs.declared.ids.Place.{Place}
@@ -22,7 +22,7 @@ returns-in_default-clause-text g c =
     (λ r console info is. c.in_default.not-Own r console info is)))
 
 pub returns-in_default-clause-brings : goal.returns-in_default-clause-brings
-returns-in_default-clause-brings g c = brings_none g.W.SwapStore.is_honest g.W.SwapStore.held g.W.SwapStore.slot_count g.W.SwapStore.asked g.W.SwapStore.faults
+returns-in_default-clause-brings g c = brings_none g.W.SwapStore
     c.args.mem.now c.requires.sound
 
 pub write_page_words-requires : goal.write_page_words-requires
@@ -35,7 +35,7 @@ write_contents-requires-clause-may g c =
     ∙ seen_may l c.place_at-home.result c.in-Own.right c.in-Own.console c.in-Own.loan
     (home_seen (processes c.args.mem.now) (ledger g.W.SwapStore.held c.args.mem.now) c.place_at-home.result c.in-Own.right c.in-Own.console c.in-Own.loan
     (sym c.at.ensures ∙ c.in-Own.is))
-    (processes c.args.mem.now) (capacity_of c.args.mem.now) (sound_lawful g.W.SwapStore.slot_count g.W.SwapStore.held c.args.mem.now c.requires.sound)
+    (processes c.args.mem.now) (capacity_of c.args.mem.now) (sound_lawful g.W.SwapStore c.args.mem.now c.requires.sound)
     c.if-not-console.true
 
 pub write_contents-requires-clause-room : goal.write_contents-requires-clause-room
@@ -53,9 +53,9 @@ returns-in_ok-write_contents-clause-text g c =
     wrote.bytes.is wrote.bytes.size
     (λ means. sym (seen_reached l c.place_at-home.result c.in-Own.right c.in-Own.console c.in-Own.loan seen (processes c.args.mem.now)
     (capacity_of c.args.mem.now)
-    (sound_lawful g.W.SwapStore.slot_count g.W.SwapStore.held c.args.mem.now c.requires.sound))
+    (sound_lawful g.W.SwapStore c.args.mem.now c.requires.sound))
     ∙ told_by (processes c.args.mem.now) (processes c.write_contents.new.mem) l (ledger g.W.SwapStore.held c.write_contents.new.mem) _ c.reading_place.result _
-    (brings_procs g.W.SwapStore.is_honest g.W.SwapStore.held g.W.SwapStore.slot_count g.W.SwapStore.asked g.W.SwapStore.faults c.args.mem.now
+    (brings_procs g.W.SwapStore c.args.mem.now
     c.write_contents.new.mem wrote.brings)
     (wrote.brings.whole means) c.reading_place.ensures wrote.bytes.page)
 
@@ -69,5 +69,4 @@ returns-else-not-console-clause-text g c =
     (c.write_page_words.ensures ∙ ap (λ (row : PageRow). appended (page_words row) c.args.sheet.now) c.page_row.ensures)
 
 pub returns-else-not-console-clause-brings : goal.returns-else-not-console-clause-brings
-returns-else-not-console-clause-brings g c = brings_none g.W.SwapStore.is_honest g.W.SwapStore.held g.W.SwapStore.slot_count g.W.SwapStore.asked
-    g.W.SwapStore.faults c.args.mem.now c.requires.sound
+returns-else-not-console-clause-brings g c = brings_none g.W.SwapStore c.args.mem.now c.requires.sound

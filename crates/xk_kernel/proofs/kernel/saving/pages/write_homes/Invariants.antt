@@ -10,8 +10,8 @@ use Rattle.xk_kernel.proofs.kernel.saving.pages.write_homes.Given as goal
 -- what stands at the places so far was appended
 abbrev pub invariant-loop-number : goal.invariant-loop-number
 invariant-loop-number g l = record {
-  brings : BringsPages g.W.SwapStore.is_honest g.W.SwapStore.held g.W.SwapStore.slot_count g.W.SwapStore.asked g.W.SwapStore.faults l.fn.mem l.mem;
+  brings : BringsPages g.W.SwapStore l.fn.mem l.mem;
   usable : IsUsable l.mem;
-  texts : HasTexts (MeansBytes g.W.SwapStore.is_honest g.W.SwapStore.held l.fn.mem) (home_at (ledger g.W.SwapStore.held l.fn.mem)) l.number
+  texts : HasTexts (MeansBytes g.W.SwapStore l.fn.mem) (home_at (ledger g.W.SwapStore.held l.fn.mem)) l.number
       (appended (word 0) l.fn.sheet) l.sheet l.many;
 }

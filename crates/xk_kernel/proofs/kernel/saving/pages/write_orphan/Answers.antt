@@ -3,7 +3,7 @@ use Rattle.kill_path.proofs.KeepLemmas.{sound_lawful}
 use Rattle.ledger_model.specs.Ledger.{Ledger}
 use Rattle.suspend_image.specs.Sheets.{appended}
 use Rattle.suspend_image.specs.Spelling.{orphan_words}
-use Rattle.suspend_image.specs.declared.state.OrphanRow.{OrphanRow}
+use Rattle.state_rows.specs.declared.state.OrphanRow.{OrphanRow}
 use Rattle.vm_memory.specs.Memory.{capacity_of, ledger, processes}
 use Rattle.xk_kernel.specs.Saving.Rows.{orphan_at}
 use Rattle.xk_kernel.proofs.Saving.BringsLemmas.{brings_none, brings_procs}
@@ -16,11 +16,11 @@ returns-in_default-clause-text g c =
     none_written (orphan_at l c.args.number) c.args.sheet.now
     (no_orphan l c.place_at-place.result c.args.number c.place_at-place.ensures
     (no_orphan_seen (processes c.args.mem.now) (capacity_of c.args.mem.now) l c.place_at-place.result c.at.result
-    (sound_lawful g.W.SwapStore.slot_count g.W.SwapStore.held c.args.mem.now c.requires.sound) (sym c.at.ensures)
+    (sound_lawful g.W.SwapStore c.args.mem.now c.requires.sound) (sym c.at.ensures)
     (λ kind number is. c.in_default.not-Lent kind None number is)))
 
 pub returns-in_default-clause-brings : goal.returns-in_default-clause-brings
-returns-in_default-clause-brings g c = brings_none g.W.SwapStore.is_honest g.W.SwapStore.held g.W.SwapStore.slot_count g.W.SwapStore.asked g.W.SwapStore.faults
+returns-in_default-clause-brings g c = brings_none g.W.SwapStore
     c.args.mem.now c.requires.sound
 
 pub returns-then-is_some-clause-text : goal.returns-then-is_some-clause-text
@@ -29,12 +29,11 @@ returns-then-is_some-clause-text g c =
     none_written (orphan_at l c.args.number) c.args.sheet.now
     (no_orphan l c.place_at-place.result c.args.number c.place_at-place.ensures
     (no_orphan_seen (processes c.args.mem.now) (capacity_of c.args.mem.now) l c.place_at-place.result c.at.result
-    (sound_lawful g.W.SwapStore.slot_count g.W.SwapStore.held c.args.mem.now c.requires.sound) (sym c.at.ensures)
+    (sound_lawful g.W.SwapStore c.args.mem.now c.requires.sound) (sym c.at.ensures)
     (lent_by c.at.result c.in-Lent.kind c.in-Lent.lender c.in-Lent.message c.in-Lent.is (sym c.is_some.ensures ∙ c.if-is_some.true))))
 
 pub returns-then-is_some-clause-brings : goal.returns-then-is_some-clause-brings
-returns-then-is_some-clause-brings g c = brings_none g.W.SwapStore.is_honest g.W.SwapStore.held g.W.SwapStore.slot_count g.W.SwapStore.asked
-    g.W.SwapStore.faults c.args.mem.now c.requires.sound
+returns-then-is_some-clause-brings g c = brings_none g.W.SwapStore c.args.mem.now c.requires.sound
 
 pub write_orphan_words-requires : goal.write_orphan_words-requires
 write_orphan_words-requires g c = orphan_row_room c.args.sheet.now c.orphan_row.result c.requires.room
@@ -44,7 +43,7 @@ write_contents-requires-clause-may g c =
     orphan_may (ledger g.W.SwapStore.held c.args.mem.now) c.place_at-place.result c.in-Lent.kind c.in-Lent.message
     (orphan_seen (processes c.args.mem.now) (ledger g.W.SwapStore.held c.args.mem.now) c.place_at-place.result c.in-Lent.kind c.in-Lent.message
     (sym c.at.ensures ∙ lent_alone c.at.result c.in-Lent.kind c.in-Lent.lender c.in-Lent.message c.in-Lent.is (sym c.is_some.ensures ∙ c.if-is_some.false)))
-    (processes c.args.mem.now) (capacity_of c.args.mem.now) (sound_lawful g.W.SwapStore.slot_count g.W.SwapStore.held c.args.mem.now c.requires.sound)
+    (processes c.args.mem.now) (capacity_of c.args.mem.now) (sound_lawful g.W.SwapStore c.args.mem.now c.requires.sound)
 
 pub write_contents-requires-clause-room : goal.write_contents-requires-clause-room
 write_contents-requires-clause-room g c = orphan_room c.args.sheet.now c.write_orphan_words.new.sheet c.orphan_row.result c.requires.room
@@ -62,8 +61,8 @@ returns-clause-text g c =
     (c.write_orphan_words.ensures ∙ ap (λ (row : OrphanRow). appended (orphan_words row) c.args.sheet.now) c.orphan_row.ensures)
     wrote.bytes.is wrote.bytes.size
     (λ means. sym (orphan_reached l c.place_at-place.result c.in-Lent.kind c.in-Lent.message seen (processes c.args.mem.now) (capacity_of c.args.mem.now)
-    (sound_lawful g.W.SwapStore.slot_count g.W.SwapStore.held c.args.mem.now c.requires.sound))
+    (sound_lawful g.W.SwapStore c.args.mem.now c.requires.sound))
     ∙ told_at (processes c.args.mem.now) (processes c.write_contents.new.mem) l (ledger g.W.SwapStore.held c.write_contents.new.mem) c.place_at-place.result _
-    (brings_procs g.W.SwapStore.is_honest g.W.SwapStore.held g.W.SwapStore.slot_count g.W.SwapStore.asked g.W.SwapStore.faults c.args.mem.now
+    (brings_procs g.W.SwapStore c.args.mem.now
     c.write_contents.new.mem wrote.brings)
     (wrote.brings.whole means) wrote.bytes.page)

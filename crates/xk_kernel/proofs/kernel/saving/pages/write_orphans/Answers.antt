@@ -13,16 +13,16 @@ use Rattle.xk_kernel.proofs.kernel.saving.pages.write_orphans.Goals as goal
 
 pub loop-number-init : goal.loop-number-init
 loop-number-init g c = record {
-  brings = brings_none g.W.SwapStore.is_honest g.W.SwapStore.held g.W.SwapStore.slot_count g.W.SwapStore.asked g.W.SwapStore.faults c.args.mem.now
+  brings = brings_none g.W.SwapStore c.args.mem.now
       c.requires.sound;
   usable = c.requires.usable;
-  texts = texts_first (MeansBytes g.W.SwapStore.is_honest g.W.SwapStore.held c.args.mem.now) (orphan_at (ledger g.W.SwapStore.held c.args.mem.now))
+  texts = texts_first (MeansBytes g.W.SwapStore c.args.mem.now) (orphan_at (ledger g.W.SwapStore.held c.args.mem.now))
       (appended (word 0) c.args.sheet.now) c.push_word.new.self c.push_word.ensures;
 }
 
 pub write_orphan-requires-clause-room : goal.write_orphan-requires-clause-room
 write_orphan-requires-clause-room g c =
-    texts_room (MeansBytes g.W.SwapStore.is_honest g.W.SwapStore.held c.args.mem.now) (orphan_at (ledger g.W.SwapStore.held c.args.mem.now))
+    texts_room (MeansBytes g.W.SwapStore c.args.mem.now) (orphan_at (ledger g.W.SwapStore.held c.args.mem.now))
     c.loop-number.number (20464 * c.args.procs)
     (appended (word 0) c.args.sheet.now) c.loop-number.sheet c.loop-number.many c.loop-number.invariant.texts (omega (arith, c.loop-number-test.true))
     (fits_rows c.args.sheet.now (4124 * (length (orphan_texts c.args.procs (ledger g.W.SwapStore.held c.args.mem.now)) + 1)) c.requires.room)
@@ -34,11 +34,11 @@ loop-number-preserved g c =
     let brought = c.loop-number.invariant.brings in
     let wrote = c.in_ok-write_orphan.ensures in
     record {
-      brings = brings_both g.W.SwapStore.is_honest g.W.SwapStore.held g.W.SwapStore.slot_count g.W.SwapStore.asked g.W.SwapStore.faults c.args.mem.now
+      brings = brings_both g.W.SwapStore c.args.mem.now
           c.loop-number.mem c.write_orphan.new.mem brought wrote.brings;
       usable = wrote.usable;
-      texts = texts_counted (MeansBytes g.W.SwapStore.is_honest g.W.SwapStore.held c.args.mem.now)
-          (MeansBytes g.W.SwapStore.is_honest g.W.SwapStore.held c.loop-number.mem)
+      texts = texts_counted (MeansBytes g.W.SwapStore c.args.mem.now)
+          (MeansBytes g.W.SwapStore c.loop-number.mem)
           (orphan_at old) (orphan_at now) c.loop-number.number (appended (word 0) c.args.sheet.now) c.loop-number.sheet c.write_orphan.new.sheet
           c.loop-number.many _ c.in_ok-write_orphan.field-0
           c.loop-number.invariant.texts wrote.text (orphan_alike now old brought.rights c.loop-number.number) brought.means
@@ -47,7 +47,7 @@ loop-number-preserved g c =
 
 pub returns-in_err-write_orphan-clause-brings : goal.returns-in_err-write_orphan-clause-brings
 returns-in_err-write_orphan-clause-brings g c =
-    brings_both g.W.SwapStore.is_honest g.W.SwapStore.held g.W.SwapStore.slot_count g.W.SwapStore.asked g.W.SwapStore.faults c.args.mem.now c.loop-number.mem
+    brings_both g.W.SwapStore c.args.mem.now c.loop-number.mem
     c.write_orphan.new.mem c.loop-number.invariant.brings c.write_orphan.ensures.brings
 
 pub returns-in_err-write_orphan-clause-cause : goal.returns-in_err-write_orphan-clause-cause
@@ -59,7 +59,7 @@ returns-in_err-write_orphan-clause-cause g c =
 
 pub returns-clause-texts : goal.returns-clause-texts
 returns-clause-texts g c =
-    texts_done (MeansBytes g.W.SwapStore.is_honest g.W.SwapStore.held c.args.mem.now) (orphan_at (ledger g.W.SwapStore.held c.args.mem.now))
+    texts_done (MeansBytes g.W.SwapStore c.args.mem.now) (orphan_at (ledger g.W.SwapStore.held c.args.mem.now))
     c.loop-number.number (20464 * c.args.procs)
     c.args.sheet.now c.loop-number.sheet c.set_word.new.self c.loop-number.many (length c.as_slice.result.now) c.loop-number.invariant.texts (omega arith)
     (ap length c.as_slice.ensures)
