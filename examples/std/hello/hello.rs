@@ -1,0 +1,5 @@
+//! Writes a line by std alone.
+
+fn main() {
+    println!("hello");
+}
