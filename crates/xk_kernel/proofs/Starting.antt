@@ -3,3 +3,4 @@ pub mod FirstLawfulLemmas
 pub mod FirstLedgerLemmas
 pub mod StartLemmas
 pub mod StartPageLemmas
+pub mod UnreservedLemmas

@@ -1,12 +1,8 @@
-pub mod History
-pub mod HistoryMoments
-pub mod Interleaving
 pub mod Knowing
 pub mod Acting
 pub mod Calling
 pub mod Quiet
 pub mod QuietOver
-pub mod Reserved
 pub mod Resuming
 pub mod Ringing
 pub mod Running

@@ -4,6 +4,7 @@ ghost use Rattle.std.specs.Prelude.{◌≡◌, ◌<◌, ◌≤◌, ℕ, Bool, Li
 ghost use Rattle.std.specs.Option.{option_copied, option_map};
 ghost use Rattle.xk_base.specs.Outside.{Rose};
 ghost use Rattle.xk_ports.specs.Store.{Contents, StoreAsked, AsksFor, HoldsZeros, SpoilsSlot, GivesPage, with_page};
+ghost use Rattle.xk_base.specs.declared.limits.TheConstants.{SLOT_LIMIT};
 
 use std::alloc::Global;
 use thiserror::Error;
@@ -44,7 +45,7 @@ pub trait SwapStore {
     /// Makes `slots` slots of zeros, in the file of that name where the store uses files. On Ok and
     /// on Failed the number, the name and the answer join the list of preparations asked for.
     fn prepare(&mut self, alloc: Global, slots: u32, name: Option<&str>) -> Result<(), StoreFault>
-        requires { slots ≤ 16384 }
+        requires { slots ≤ SLOT_LIMIT }
         ensures count { OnOk result (slot_count self.new ≡ slots) }
         ensures zeros { OnOk result (IsTrue (is_honest self.new) → HoldsZeros (held self.new) slots) }
         ensures kept { OnErr result (slot_count self.new ≡ slot_count self.old) }

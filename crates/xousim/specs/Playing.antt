@@ -4,11 +4,11 @@ use Rattle.event_text.specs.EventFile.{Input, input_of}
 use Rattle.event_text.specs.Held.{Reader}
 use Rattle.event_text.specs.Lines.{whole_lines}
 use Rattle.event_text.specs.Plays.{Call, play_of}
-use Rattle.event_text.specs.declared.event.Event.{Event}
-use Rattle.event_text.specs.declared.event.Event.TheVariants.{Tick}
+use Rattle.xk_base.specs.declared.events.Event.{Event}
+use Rattle.xk_base.specs.declared.events.Event.TheVariants.{Tick}
 use Rattle.machine_model.specs.State.Machine.{Machine}
-use Rattle.xk_kernel.specs.History.{history, play}
-use Rattle.xk_kernel.specs.HistoryMoments.{event_moments, moments_of}
+use Rattle.machine_history.specs.History.{history, play}
+use Rattle.machine_history.specs.HistoryMoments.{event_moments, moments_of}
 use Rattle.xk_ports.specs.Told.{GrowsByPrefix, Consumes}
 use Rattle.xousim.specs.declared.commands.command.Telling.{Telling}
 use Rattle.xousim.specs.declared.playing.ending.Ending.{Ending}

@@ -1,13 +1,13 @@
 //! Every state of every run is matched. The functions do nothing; their contracts are the laws.
 
 ghost use Rattle.std.specs.Prelude.{ℕ, ◌≤◌, List, Option, IfSome};
-ghost use Rattle.event_text.specs.declared.event.Event.{Event};
+ghost use Rattle.xk_base.specs.declared.events.Event.{Event};
 ghost use Rattle.event_text.specs.EventFile.{Input};
 ghost use Rattle.machine_model.specs.Runs.Matched.{Matched};
 ghost use Rattle.machine_model.specs.Runs.Moments.{state_at};
 ghost use Rattle.machine_model.specs.State.Machine.{Machine};
 ghost use Rattle.xk_base.specs.declared.limits.TheConstants.{SLOT_LIMIT};
-ghost use Rattle.xk_kernel.specs.HistoryMoments.{moments_of};
+ghost use Rattle.machine_history.specs.HistoryMoments.{moments_of};
 ghost use Rattle.xousim.specs.History.{history_of};
 ghost use Rattle.xousim.specs.Outcome.Images.{Boots};
 

@@ -1,14 +1,14 @@
 //! A run that was suspended goes on as if it had not been. The functions do nothing; their contracts are the laws.
 
 ghost use Rattle.std.specs.Prelude.{◌≡◌, ◌≤◌, ◌++◌, ℕ, List};
-ghost use Rattle.event_text.specs.declared.event.Event.{Event};
+ghost use Rattle.xk_base.specs.declared.events.Event.{Event};
 ghost use Rattle.machine_model.specs.Runs.Matched.{Matched};
 ghost use Rattle.machine_model.specs.State.Machine.{Machine};
 ghost use Rattle.suspend_image.specs.declared.state.State.{State};
 ghost use Rattle.suspend_image.specs.Machines.{machine_of};
 ghost use Rattle.suspend_image.specs.Saveable.{IsSaveable};
 ghost use Rattle.suspend_image.specs.StateBytes.{saved_bytes};
-ghost use Rattle.xk_kernel.specs.History.{history};
+ghost use Rattle.machine_history.specs.History.{history};
 ghost use Rattle.xk_kernel.specs.Resuming.Resumable.{IsResumable};
 ghost use Rattle.xousim.specs.Outcome.Resumes.{limit_from};
 ghost use Rattle.xousim.specs.Resumed.{IsCut, IsJoined};

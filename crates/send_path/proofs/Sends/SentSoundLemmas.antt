@@ -33,10 +33,10 @@ use Rattle.xk_base.specs.declared.messages.MsgKind.TheVariants.{LendMut, Lend, M
 use Rattle.xk_base.specs.declared.pages.LoanKind.{LoanKind}
 use Rattle.xk_base.specs.declared.pages.LoanKind.TheVariants.{Shared, Exclusive}
 use Rattle.send_path.specs.Arrivals.{with_arrived}
-use Rattle.send_path.specs.Parts.{server_of, server_with}
-use Rattle.send_path.specs.Seats.{HasLoanIfLend, IsSeatOf, messages_at}
-use Rattle.send_path.specs.Sending.{MayGo}
-use Rattle.send_path.specs.Sound.{AreLoansAt, AreLoansSound, AreSeatsSound, IsAboveMessages, IsLoanOf}
+use Rattle.xk_parts.specs.Shown.{server_of, server_with}
+use Rattle.xk_parts.specs.Seats.{HasLoanIfLend, IsSeatOf, messages_at}
+use Rattle.send_path.specs.Sending.{MayGo, IsAboveMessages}
+use Rattle.xk_parts.specs.Sound.{AreLoansAt, AreLoansSound, AreSeatsSound, IsLoanOf}
 use Rattle.send_path.proofs.Servers.HeldListLemmas.{of_shown}
 use Rattle.send_path.proofs.Servers.SeatLemmas.{seat_changed, seat_is_there, seat_other}
 use Rattle.send_path.proofs.Servers.SoundLemmas.{seats_changed}

@@ -29,6 +29,7 @@ ghost use Rattle.vm_memory.specs.Tie.{IsTied};
 ghost use Rattle.xk_base.specs.Tables.Counting.{put_at};
 ghost use Rattle.xk_base.specs.Outside.{Rose};
 ghost use Rattle.xk_base.specs.declared.ids.Place.{Place};
+ghost use Rattle.xk_base.specs.declared.limits.TheConstants.{FRAME_LIMIT, SLOT_LIMIT};
 
 use crate::memory::{BootError, BootFault, Memory};
 use boot_plan::{BootPlan, PagePlan, ProcPlan};
@@ -55,10 +56,10 @@ fn fill(page: &mut [u8], file: &[u8], plan: &PagePlan)
 // RAM and an owner table without a page, for the processes of a plan.
 fn empty_parts(alloc: Global, plan: &BootPlan, procs: u32) -> Result<(Ram, Owners), NoMemory>
     requires tables { table_frames procs + 2 ≤ plan.now.frames }
-    requires frames { plan.now.frames ≤ 16384 }
+    requires frames { plan.now.frames ≤ FRAME_LIMIT }
     requires start { plan.now.ram_start % 4096 ≡ 0 }
     requires below { plan.now.ram_start + 4096 * plan.now.frames ≤ 0xF000_0000 }
-    requires slots { plan.now.slots ≤ 16384 }
+    requires slots { plan.now.slots ≤ SLOT_LIMIT }
     ensures area { IfOk result (λ parts. area parts.0 ≡ record { start = plan.now.ram_start; frames = plan.now.frames }) }
     ensures extent { IfOk result (λ parts. extent parts.1 ≡ record { first = 21 * procs; frames = plan.now.frames - 21 * procs; slots = plan.now.slots }) }
     ensures infos { IfOk result (λ parts. infos parts.1 ≡ no_infos) }
@@ -88,10 +89,10 @@ impl<W: SwapStore> Memory<W> {
         requires some { 1 ≤ length plan.now.procs }
         requires few { length plan.now.procs ≤ 64 }
         requires tables { table_frames (length plan.now.procs) + 2 ≤ plan.now.frames }
-        requires frames { plan.now.frames ≤ 16384 }
+        requires frames { plan.now.frames ≤ FRAME_LIMIT }
         requires start { plan.now.ram_start % 4096 ≡ 0 }
         requires below { plan.now.ram_start + 4096 * plan.now.frames ≤ 0xF000_0000 }
-        requires few_slots { plan.now.slots ≤ 16384 }
+        requires few_slots { plan.now.slots ≤ SLOT_LIMIT }
         requires slots { plan.now.slots ≤ W.slot_count store }
         ensures sound { IfOk result (λ m. IsSound W.slot_count m) }
         ensures usable { IfOk result (λ m. IsUsable m) }

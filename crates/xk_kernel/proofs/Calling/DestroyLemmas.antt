@@ -7,8 +7,8 @@ use Rattle.machine_model.specs.Calling.ServerCalls.{destroy_served, own_server_r
 use Rattle.machine_model.specs.State.Changes.{Outcome, Refused, Served, unless_refused}
 use Rattle.machine_model.specs.State.Machine.{Machine}
 use Rattle.machine_model.specs.State.Servers.{is_own, with_sid}
-use Rattle.send_path.specs.Parts.{with_tables}
-use Rattle.send_path.specs.Seats.{own_serial}
+use Rattle.send_path.proofs.Taken.{with_tables}
+use Rattle.xk_parts.specs.Seats.{own_serial}
 use Rattle.send_path.proofs.Servers.MachineLemmas.{IsOwn, not_own, own_found}
 use Rattle.server_table.specs.ServersOf.{servers_of}
 use Rattle.sv32_space.specs.Tie.{Held}

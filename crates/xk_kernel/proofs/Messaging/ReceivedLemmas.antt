@@ -8,9 +8,9 @@ use Rattle.machine_model.specs.State.Changes.{Change, Outcome, Refused, Retried,
 use Rattle.machine_model.specs.State.Machine.{Machine}
 use Rattle.machine_model.specs.State.Threads.{answer_to}
 use Rattle.send_path.proofs.Receivers.ReceiveLemmas.{still_matched}
-use Rattle.send_path.specs.Parts.{Tables, with_parts, with_tables}
-use Rattle.send_path.specs.Rows.{IsServed, IsTableRow, receive_row}
-use Rattle.send_path.specs.Sound.{AreLoansSound, AreSeatsSound, IsSound as ArePartsSound}
+use Rattle.send_path.proofs.Taken.{CallTables, without_memory, with_parts, with_tables, IsSound as ArePartsSound}
+use Rattle.send_path.specs.Rows.{IsServed, IsRow, receive_row}
+use Rattle.xk_parts.specs.Sound.{AreLoansSound, AreSeatsSound}
 use Rattle.server_table.specs.ServersOf.{servers_of}
 use Rattle.sv32_space.specs.Tie.{Held}
 use Rattle.thread_table.specs.ThreadsOf.{process_count}
@@ -24,6 +24,7 @@ use Rattle.xk_kernel.specs.State.{machine_of}
 use Rattle.xk_kernel.specs.declared.kernel.Kernel.{Kernel}
 use Rattle.xk_kernel.proofs.Acting.OrderLemmas.{ready_is}
 use Rattle.xk_kernel.proofs.Messaging.PartsLemmas.{tables, tables_matched}
+use Rattle.xk_parts.specs.Parts.{machine_at, untold}
 
 -- ---- it is made for as many processes
 
@@ -62,21 +63,21 @@ module _ (m : Machine) (sid : Sid) where
 
 -- ---- it is sound
 
-module _ {W : Type 0} (slot_count : W → ℕ) (held : W → Held) (k : Kernel W) (calls : IsCaller slot_count held k) (sid : Sid) (waits : Bool) (new : Tables)
-    (row : IsTableRow (receive_row sid waits) k.cursor (tables k) new (Ok (tt {0}))) where
+module _ {W : Type 0} (slot_count : W → ℕ) (held : W → Held) (k : Kernel W) (calls : IsCaller slot_count held k) (sid : Sid) (waits : Bool) (new : CallTables)
+    (row : IsRow untold (receive_row sid waits) k.cursor (without_memory (tables k)) (without_memory new) (Ok (tt {0}))) where
   abbrev served : IsServed (receive_row sid waits (with_tables k.cursor (tables k) (machine_of held k))) (with_tables k.cursor (tables k) (machine_of held k))
       (with_tables k.cursor new (machine_of held k)) k.log new.log
   served = row (machine_of held k)
 
   pub received_count : process_count new.threads ≡ process_count k.threads
-  unfolding with_tables
+  unfolding machine_at
   received_count =
       received_processes (with_tables k.cursor (tables k) (machine_of held k)) sid waits (with_tables k.cursor new (machine_of held k)) served.change served.served
       served.machine
 
   pub received_sound : (waits && (k.cursor.tid.0 == 1)) ≡ false → new.servers ≡ k.servers → AreSeatsSound (servers_of new.servers) new.queues
       → AreLoansSound (loans (ledger held k.mem)) (servers_of new.servers) new.queues → ArePartsSound slot_count held k.cursor (record { mem = k.mem; tables = new })
-  unfolding machine_of with_parts with_tables
+  unfolding machine_of machine_at
   received_sound free same seats lent = record {
     machine = record (machine_of held k) { steps = k.steps + 1 };
     matched =
@@ -84,6 +85,7 @@ module _ {W : Type 0} (slot_count : W → ℕ) (held : W → Held) (k : Kernel W
         (ready_is held k k.cursor ∙ calls.ready) free served;
     mem = calls.whole.mem;
     processes = received_count ∙ calls.whole.threads;
+    procs = tt;
     seats = seats;
     loans = lent;
   }

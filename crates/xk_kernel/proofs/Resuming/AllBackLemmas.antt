@@ -7,13 +7,12 @@ use Rattle.std.proofs.lemmas.List.{map-append}
 use Rattle.std.proofs.lemmas.List.Elements.{All-map}
 use Rattle.std.proofs.lemmas.Option.{cond_some, slice_get-get_or}
 use Rattle.kill_path.proofs.FitLemmas.{servers_of_matched}
-use Rattle.kill_path.specs.Open.{AreServersSound}
+use Rattle.xk_parts.specs.Sound.{AreServersSound, AreLoansAt, AreLoansSound, IsLoanOf}
 use Rattle.ledger_model.specs.Loans.{LoanRun, Loans, loans}
 use Rattle.machine_model.specs.Runs.Matched.{AreLoansMatched}
 use Rattle.msg_queue.specs.Seats.{Seat, seat_of}
 use Rattle.msg_queue.specs.declared.held.Held.{Held}
-use Rattle.send_path.specs.Parts.{servers_shown}
-use Rattle.send_path.specs.Sound.{AreLoansAt, AreLoansSound, IsLoanOf}
+use Rattle.xk_parts.specs.Shown.{servers_shown}
 use Rattle.server_table.specs.Listed.{listed_servers}
 use Rattle.server_table.specs.ServerState.{Server as TableServer}
 use Rattle.server_table.specs.ServersOf.{servers_of as table_servers}

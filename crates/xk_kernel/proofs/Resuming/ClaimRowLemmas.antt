@@ -9,7 +9,7 @@ use Rattle.irq_claims.specs.ClaimMap.{ClaimMap, no_claims}
 use Rattle.irq_claims.specs.ClaimsOf.{claims_of}
 use Rattle.irq_claims.specs.declared.claims.Claim.{Claim as TableClaim}
 use Rattle.irq_claims.specs.declared.claims.Claims.{Claims}
-use Rattle.kill_path.specs.Claims.{claim_of, claims_shown, pending_shown}
+use Rattle.xk_parts.specs.Shown.{claim_of, claims_shown, pending_shown}
 use Rattle.suspend_image.proofs.Parts.Keys.KeyLemmas.{any_found, any_where_found, number_is, number_own, some_same}
 use Rattle.suspend_image.specs.Forms.{AreInOrder, IsClaimRow}
 use Rattle.suspend_image.specs.Machines.{claim_of as state_claim, claims_of as state_claims, pending_of}

@@ -5,14 +5,13 @@ use Rattle.std.specs.Prelude.{IsTrue}
 use Rattle.std.specs.Option.{option_map}
 use Rattle.std.proofs.lemmas.Bool.{and_from, cases_Bool, le-leb, lt-ltb}
 use Rattle.boot_plan.specs.Capacity.{capacity, page_frames}
-use Rattle.kill_path.specs.Claims.{claims_shown, pending_shown}
-use Rattle.kill_path.specs.Open.{AreServersSound}
+use Rattle.xk_parts.specs.Shown.{claims_shown, pending_shown, process_of, thread_of}
+use Rattle.xk_parts.specs.Sound.{AreServersSound}
 use Rattle.ledger_model.proofs.Stepping.WritingLemmas.{bare-loans, bare-pages}
 use Rattle.ledger_model.specs.Ledger.{Ledger, pages}
 use Rattle.ledger_model.specs.Loans.{Loans, bare, loans}
 use Rattle.msg_queue.specs.Seats.{Seat}
 use Rattle.process_table.specs.ProcessesOf.{process_count as processes_made, processes_of}
-use Rattle.send_path.specs.Parts.{process_of, thread_of}
 use Rattle.server_table.specs.Listed.{listed_servers}
 use Rattle.server_table.specs.ServersOf.{servers_of}
 use Rattle.server_table.specs.declared.table.Servers.{Servers}

@@ -8,8 +8,7 @@ use Rattle.std.proofs.lemmas.List.{get_or_append_left, length-append}
 use Rattle.std.proofs.lemmas.List.Elements.{All-append, All-filter, All-map, All-tail, filter_passes}
 use Rattle.std.proofs.lemmas.List.Folds.{find_at}
 use Rattle.std.proofs.lemmas.Option.{none-some, same_Some, slice_get-get_or}
-use Rattle.kill_path.specs.Ending.{HasKnownSender}
-use Rattle.kill_path.specs.Open.{AreServersSound, IsLoanFit, IsLoanFitOf}
+use Rattle.xk_parts.specs.Sound.{HasKnownSender, AreServersSound, IsLoanFit, IsLoanFitOf, IsLoanOf}
 use Rattle.ledger_model.specs.Ledger.{Orphan}
 use Rattle.ledger_model.specs.Loans.{LoanRun, Loans, OrphanLoan, Stands, lent_from, loan_of_orphan, loans, orphan_of_number, orphan_of_run, same_number}
 use Rattle.ledger_model.specs.Places.{in_run}
@@ -20,9 +19,8 @@ use Rattle.machine_model.specs.State.Machine.{Server}
 use Rattle.machine_model.specs.State.Servers.{messages_of}
 use Rattle.msg_queue.specs.Seats.{Seat, seat_of}
 use Rattle.msg_queue.specs.declared.held.Held.{Held}
-use Rattle.send_path.specs.Parts.{servers_shown}
-use Rattle.send_path.specs.Seats.{messages_at}
-use Rattle.send_path.specs.Sound.{IsLoanOf}
+use Rattle.xk_parts.specs.Shown.{servers_shown}
+use Rattle.xk_parts.specs.Seats.{messages_at}
 use Rattle.server_table.specs.Listed.{listed_servers}
 use Rattle.server_table.specs.ServerState.{Server as TableServer}
 use Rattle.server_table.specs.ServersOf.{servers_of as table_servers}

@@ -10,7 +10,7 @@ use Rattle.process_table.specs.ProcessMap.{ProcessMap, change, connections_of, n
 use Rattle.process_table.specs.ProcessesOf.{process_count, processes_of}
 use Rattle.process_table.specs.State.{ProcessState, dead_process, new_process, with_connection, with_heap, connection}
 use Rattle.process_table.specs.declared.table.Processes.{Processes}
-use Rattle.send_path.specs.Parts.{process_of}
+use Rattle.xk_parts.specs.Shown.{process_of}
 use Rattle.suspend_image.proofs.Parts.Processes.ConnectionLemmas.{processes_matched_told}
 use Rattle.suspend_image.specs.Forms.{IsProcRow}
 use Rattle.suspend_image.specs.Machines.{no_process, process_of as row_state, processes_of as state_processes}

@@ -9,7 +9,7 @@ use Rattle.std.proofs.lemmas.Option.{get_or_from_slice_get, slice_get_within}
 use Rattle.ledger_model.specs.Loans.{LoanRun, Loans, Stands, loans}
 use Rattle.machine_model.specs.Messaging.Messages.{loan_kind}
 use Rattle.machine_model.specs.Runs.Matched.{IsLendMatched, IsMessageLent, IsOnLoan, lend_run}
-use Rattle.send_path.specs.Sound.{IsLenderOf, IsLoanOf}
+use Rattle.xk_parts.specs.Sound.{IsLenderOf, IsLoanOf}
 use Rattle.suspend_image.proofs.Parts.Keys.KeyLemmas.{either, number_is, number_own}
 use Rattle.suspend_image.proofs.Parts.Keys.OrderLemmas.{servers_ascend}
 use Rattle.suspend_image.specs.Machines.{message_of, server_of, thread_at_id}

@@ -10,9 +10,9 @@ use Rattle.ledger_model.specs.Loans.{LoanRun}
 use Rattle.machine_model.specs.Messaging.Messages.{is_lend}
 use Rattle.machine_model.specs.State.Machine.{Server}
 use Rattle.msg_queue.specs.Seats.{Seat, empty_seat, message_of as held_message, seat_of}
-use Rattle.send_path.specs.Parts.{server_of as shown_server, server_with, servers_shown}
-use Rattle.send_path.specs.Seats.{HasLoanIfLend, HasNoServer, messages_at}
-use Rattle.send_path.specs.Sound.{AreSeatsSound}
+use Rattle.xk_parts.specs.Shown.{server_of as shown_server, server_with, servers_shown}
+use Rattle.xk_parts.specs.Seats.{HasLoanIfLend, HasNoServer, messages_at}
+use Rattle.xk_parts.specs.Sound.{AreSeatsSound}
 use Rattle.server_table.proofs.ListedLemmas.{by_list_found, by_list_is}
 use Rattle.server_table.specs.Listed.{by_list, listed_servers}
 use Rattle.server_table.specs.ServerState.{Server as TableServer, ServerState}

@@ -7,7 +7,7 @@ use Rattle.std.proofs.lemmas.Bool.{cases_Bool, cases_eq, cond-false, eqb-true, e
 use Rattle.std.proofs.lemmas.Grind.{get_or-set_at}
 use Rattle.std.proofs.lemmas.List.{ext_get_or, get_or-set_other, length-set}
 use Rattle.std.proofs.lemmas.Option.{none-some}
-use Rattle.send_path.specs.Parts.{thread_of}
+use Rattle.xk_parts.specs.Shown.{thread_of}
 use Rattle.suspend_image.proofs.Parts.Keys.KeyLemmas.{Less, less_apart, less_behind, less_through, pair_is}
 use Rattle.suspend_image.specs.Forms.{AreInOrder, IsThreadRow}
 use Rattle.suspend_image.specs.Machines.{thread_at_id, thread_of as row_thread, threads_of as state_threads}

@@ -25,7 +25,7 @@ use Rattle.xk_base.specs.declared.ids.Number.{Number}
 use Rattle.xk_base.specs.declared.ids.Place.{Place}
 use Rattle.xk_base.specs.declared.ids.ThreadId.{ThreadId}
 use Rattle.xk_base.specs.declared.messages.Message.{Message}
-use Rattle.xk_kernel.specs.Reserved.{IsReservedByThread}
+use Rattle.machine_history.specs.Reserved.{IsReservedByThread}
 use Rattle.xk_kernel.specs.Saving.Fitting.{AreRegisters, EachBelow, IsFit, IsMessageFit, IsServerFit, IsThreadFit}
 
 -- ---- key by key

@@ -2,10 +2,9 @@
 use Rattle.std.proofs.Common.{◌≡◌, ℕ, ◌+◌, ◌*◌, ◌≤◌, length, subst, arith}
 use Rattle.std.specs.Prelude.{is_some}
 use Rattle.std.specs.List.{flat_map}
-use Rattle.kill_path.specs.Claims.{claims_shown, pending_shown}
+use Rattle.xk_parts.specs.Shown.{claims_shown, pending_shown, processes_shown, servers_shown, threads_shown}
 use Rattle.machine_model.specs.Runs.Matched.{Matched}
 use Rattle.machine_model.specs.State.Machine.{Machine}
-use Rattle.send_path.specs.Parts.{processes_shown, servers_shown, threads_shown}
 use Rattle.server_table.specs.ServersOf.{servers_of}
 use Rattle.suspend_image.specs.Sheets.{SheetBytes}
 use Rattle.suspend_image.specs.Spelling.{claim_bytes, machine_bytes, proc_bytes, rows_bytes, server_bytes, thread_bytes}

@@ -5,7 +5,7 @@ use Rattle.std.specs.Option.{option_map}
 use Rattle.std.proofs.lemmas.List.{length-append, length-map}
 use Rattle.process_table.specs.ProcessMap.{heap_of, is_alive}
 use Rattle.process_table.specs.State.{ProcessState}
-use Rattle.send_path.specs.Parts.{process_of}
+use Rattle.xk_parts.specs.Shown.{process_of}
 use Rattle.suspend_image.proofs.Sheets.SpellingLemmas.{both_appended, length-word_bytes, proc_front, proc_in_two}
 use Rattle.suspend_image.specs.Sheets.{HasRoom, SheetBytes, appended}
 use Rattle.suspend_image.specs.Spelling.{proc_bytes}

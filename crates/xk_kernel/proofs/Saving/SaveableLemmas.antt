@@ -1,17 +1,16 @@
 -- The machine of a kernel that was saved is one that state bytes are read as again.
 use Rattle.std.proofs.Common.{◌≡◌, ℕ, ◌≤◌, Bool, sym, ap, subst, ◌∙◌}
-use Rattle.kill_path.specs.Claims.{claims_shown}
+use Rattle.xk_parts.specs.Shown.{claims_shown, servers_shown, threads_shown}
 use Rattle.ledger_model.specs.Ledger.{Ledger}
 use Rattle.ledger_model.specs.WholePages.{HasWholePages}
 use Rattle.machine_model.specs.State.Machine.{Machine}
-use Rattle.send_path.specs.Parts.{servers_shown, threads_shown}
 use Rattle.server_table.specs.ServersOf.{servers_of}
 use Rattle.suspend_image.specs.Saveable.{IsClaimSaveable, IsSaveable}
 use Rattle.sv32_space.specs.Tie.{Held}
 use Rattle.vm_memory.specs.Memory.{ledger, processes}
 use Rattle.xk_base.specs.Tables.Circle.{id_at, thread_ids}
 use Rattle.xk_base.specs.declared.limits.TheConstants.{INTERRUPT_LIMIT}
-use Rattle.xk_kernel.specs.Reserved.{IsReservedByThread}
+use Rattle.machine_history.specs.Reserved.{IsReservedByThread}
 use Rattle.xk_kernel.specs.Saving.Fitting.{AreNumbersFit, EachBelow, IsFit, IsServerFit, IsThreadFit}
 use Rattle.xk_kernel.specs.Saving.Kept.{with_memory}
 use Rattle.xk_kernel.specs.Saving.Written.{BringsPages}

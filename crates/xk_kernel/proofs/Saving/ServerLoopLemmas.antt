@@ -3,7 +3,7 @@ use Rattle.std.proofs.Common.{◌≡◌, ℕ, ◌+◌, ◌*◌, ◌≤◌, ◌<�
 use Rattle.std.specs.Prelude.{is_some}
 use Rattle.std.specs.Option.{option_map}
 use Rattle.msg_queue.specs.Seats.{Seat}
-use Rattle.send_path.specs.Parts.{server_of, servers_shown}
+use Rattle.xk_parts.specs.Shown.{server_of, servers_shown}
 use Rattle.server_table.proofs.Lemmas.{live_below}
 use Rattle.server_table.specs.ServersOf.{servers_of}
 use Rattle.server_table.specs.declared.table.Servers.{Servers}

@@ -4,7 +4,7 @@ use Rattle.std.specs.Prelude.{List, is_some, length, if◌then◌else◌}
 use Rattle.std.specs.List.{slice_get}
 use Rattle.std.proofs.lemmas.Bool.{false≢true, le-ltb}
 use Rattle.std.proofs.lemmas.Option.{slice_get_cases, slice_get_within}
-use Rattle.msg_queue.specs.Seats.{message_of}
+use Rattle.msg_queue.specs.Seats.{message_of, Seat}
 use Rattle.msg_queue.specs.declared.held.Held.{Held}
 use Rattle.process_table.specs.ProcessMap.{connections_of, heap_of, is_alive}
 use Rattle.process_table.specs.State.{ProcessState}
@@ -17,9 +17,7 @@ use Rattle.std.specs.Option.{option_copied, option_map, option_map_or}
 use Rattle.irq_claims.specs.ClaimsOf.{claims_of}
 use Rattle.irq_claims.specs.declared.claims.Claim.{Claim as TableClaim}
 use Rattle.irq_claims.specs.declared.claims.Claims.{Claims}
-use Rattle.kill_path.specs.Claims.{claim_of, claims_shown, pending_shown}
-use Rattle.send_path.specs.Parts.{process_of, server_of, servers_shown, thread_of, threads_shown}
-use Rattle.msg_queue.specs.Seats.{Seat}
+use Rattle.xk_parts.specs.Shown.{claim_of, claims_shown, pending_shown, process_of, server_of, servers_shown, thread_of, threads_shown}
 use Rattle.server_table.specs.ServerState.{Server as TableServer}
 use Rattle.server_table.specs.ServersOf.{servers_of}
 use Rattle.server_table.specs.declared.table.Servers.{Servers}

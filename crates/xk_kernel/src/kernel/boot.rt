@@ -24,7 +24,7 @@ ghost use Rattle.xk_base.specs.declared.limits.TheConstants.{RECORD_LIMIT, SERVE
 ghost use Rattle.xk_kernel.specs.Knowing.{ComesTo};
 ghost use Rattle.xk_kernel.specs.Sound.{IsSound, IsUsable};
 ghost use Rattle.xk_kernel.specs.Start.{first_threads, start, threads_at_start};
-ghost use Rattle.send_path.specs.Parts.{thread_of};
+ghost use Rattle.xk_parts.specs.Shown.{thread_of};
 ghost use Rattle.xk_kernel.specs.State.{machine_of};
 ghost use Rattle.xk_kernel.specs.Stepping.{last_of};
 
@@ -55,7 +55,8 @@ fn start_process(threads: &mut Threads, pid: Pid, entry: u32)
     requires none { (tid : TidNumber) → threads_of threads.old (record { pid = pid; tid = tid }) ≡ None }
     ensures after { let old = threads_of threads.old in
         let new = threads_of threads.new in
-        (id : Id) → option_map thread_of (new id) ≡ (if id.pid.0 == pid.0 then first_threads entry id.tid.0 else option_map thread_of (old id)) }
+        (id : Id) → option_map thread_of (new id)
+        ≡ (if id.pid.0 == pid.0 then first_threads entry id.tid.0 else option_map thread_of (old id)) }
     ensures count { process_count threads.new ≡ process_count threads.old }
 {
     let idle = Thread {
@@ -128,7 +129,8 @@ impl<W: SwapStore> Kernel<W> {
         ensures tie { IfOk result (λ k. IsTied W.held k.mem) }
         ensures size { let first = plan.now.ram_start in
             let frames = plan.now.frames in
-            IfOk result (λ k. size k.mem ≡ record { procs = length plan.now.procs; area = record { start = first; frames = frames }; slots = plan.now.slots }) }
+            let area = record { start = first; frames = frames } in
+            IfOk result (λ k. size k.mem ≡ record { procs = length plan.now.procs; area = area; slots = plan.now.slots }) }
         ensures store { IfOk result (λ k. KeepsStore W.is_honest W.held W.slot_count W.asked W.faults store (store_of k.mem)) }
         ensures back { IfErr result (λ fault. KeepsStore W.is_honest W.held W.slot_count W.asked W.faults store fault.store) }
         // A swap fault comes only where the store's count rose and the pages don't fit in frames.

@@ -9,8 +9,7 @@ ghost use Rattle.xk_kernel.specs.State.{machine_of};
 ghost use Rattle.xk_kernel.specs.Stepping.{Becomes, event_done};
 
 use crate::kernel::Kernel;
-use event_text::Event;
-use xk_base::ThreadId;
+use xk_base::{Event, ThreadId};
 use xk_ports::SwapStore;
 
 impl<W: SwapStore> Kernel<W> {

@@ -18,7 +18,7 @@ ghost use Rattle.std.specs.Prelude.{◌≡◌, ◌<◌, ◌≤◌, ℕ, true, []
 ghost use Rattle.ledger_model.specs.Ledger.{empty_ledger};
 ghost use Rattle.msg_queue.specs.Seats.{empty_seat};
 ghost use Rattle.process_table.specs.ProcessesOf.{process_count as processes_made, processes_of};
-ghost use Rattle.send_path.specs.Parts.{process_of, thread_of};
+ghost use Rattle.xk_parts.specs.Shown.{process_of, thread_of};
 ghost use Rattle.server_table.specs.Listed.{listed_servers};
 ghost use Rattle.server_table.specs.ServersOf.{servers_of};
 ghost use Rattle.suspend_image.specs.Machines.{machine_of as state_machine, processes_of as state_processes, threads_of as state_threads};

@@ -18,7 +18,7 @@ ghost use Rattle.vm_memory.specs.Memory.{has_failed, ledger, processes, size, st
 ghost use Rattle.vm_memory.specs.Tie.{IsTied};
 ghost use Rattle.xk_base.specs.Outside.{Rose};
 ghost use Rattle.xk_kernel.specs.Knowing.{ComesTo, PutsNoneOut};
-ghost use Rattle.xk_kernel.specs.Reserved.{IsReservedByThread};
+ghost use Rattle.machine_history.specs.Reserved.{IsReservedByThread};
 ghost use Rattle.xk_kernel.specs.Saving.Fitting.{AreNumbersFit, IsFit};
 ghost use Rattle.xk_kernel.specs.Saving.Kept.{with_memory};
 ghost use Rattle.suspend_image.specs.SavedRows.{machine_row};

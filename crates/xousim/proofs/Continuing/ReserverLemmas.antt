@@ -24,11 +24,11 @@ use Rattle.machine_model.specs.Stepping.Reservations.{reservation_of, reserved_b
 use Rattle.machine_model.specs.Stepping.Step.{acted, acted_if_there, counted, ends_handler, ends_thread, executed, performed}
 use Rattle.machine_model.specs.Stepping.Step.{reservation_left, reservation_left_if_there, step, step_by, step_by_if}
 use Rattle.machine_model.proofs.Runs.TimerLemmas.{pended_raised, timed_raised}
-use Rattle.event_text.specs.declared.event.Event.{Event}
-use Rattle.xk_kernel.specs.History.{history}
-use Rattle.xk_kernel.specs.HistoryMoments.{moments_of}
-use Rattle.xk_kernel.proofs.Running.MomentLemmas.{history_is_run, history_last, moments_matched}
-use Rattle.xk_kernel.specs.Reserved.{IsReservedByThread}
+use Rattle.xk_base.specs.declared.events.Event.{Event}
+use Rattle.machine_history.specs.History.{history}
+use Rattle.machine_history.specs.HistoryMoments.{moments_of}
+use Rattle.machine_history.proofs.Histories.MomentLemmas.{history_is_run, history_last, moments_matched}
+use Rattle.machine_history.specs.Reserved.{IsReservedByThread}
 
 -- ---- one instruction
 

@@ -1,7 +1,7 @@
 -- A suspended run goes on from the state that is read of its bytes.
 use Rattle.std.proofs.Common.{◌≡◌, ◌≤◌, ◌∙◌, refl, sym, ap, subst, ℕ, Bool, true, false, nat_le, if◌then◌else◌, List, ◌++◌, arith}
 use Rattle.std.proofs.lemmas.Bool.Decides.{nat_tests}
-use Rattle.event_text.specs.declared.event.Event.{Event}
+use Rattle.xk_base.specs.declared.events.Event.{Event}
 use Rattle.machine_model.specs.Runs.Matched.{Matched}
 use Rattle.machine_model.specs.State.Machine.{Machine}
 use Rattle.suspend_image.specs.declared.state.State.{State}
@@ -11,11 +11,11 @@ use Rattle.suspend_image.specs.Saveable.{IsSaveable, SpellsMachine}
 use Rattle.suspend_image.specs.StateBytes.{saved_bytes}
 use Rattle.suspend_image.proofs.Saved.StateAgainLemmas.{saved_spelled}
 use Rattle.suspend_image.proofs.SpellsLemmas.{spelled_once}
-use Rattle.xk_kernel.specs.History.{History, followed_by, go_on, history}
+use Rattle.machine_history.specs.History.{History, followed_by, go_on, history}
 use Rattle.xk_kernel.specs.Resuming.Resumable.{IsResumable}
-use Rattle.xk_kernel.proofs.Running.HistoryLemmas.{history_append}
-use Rattle.xk_kernel.proofs.Running.LimitLemmas.{history_within}
-use Rattle.xk_kernel.proofs.Running.MomentLemmas.{history_matched}
+use Rattle.machine_history.proofs.Histories.HistoryLemmas.{history_append}
+use Rattle.machine_history.proofs.Histories.LimitLemmas.{history_within}
+use Rattle.machine_history.proofs.Histories.MomentLemmas.{history_matched}
 use Rattle.xousim.specs.Outcome.Resumes.{limit_from}
 use Rattle.xousim.specs.Resumed.{IsCut, IsJoined}
 

@@ -4,8 +4,8 @@ use Rattle.std.specs.Prelude.{if◌then◌else◌}
 use Rattle.std.proofs.lemmas.Bool.Decides.{nat_tests}
 use Rattle.std.proofs.lemmas.List.{length-map}
 use Rattle.std.proofs.lemmas.List.FromFn.{map-range_with_len_more}
-use Rattle.event_text.specs.declared.event.Event.{Event}
-use Rattle.event_text.specs.declared.event.Event.TheVariants.{Tick}
+use Rattle.xk_base.specs.declared.events.Event.{Event}
+use Rattle.xk_base.specs.declared.events.Event.TheVariants.{Tick}
 use Rattle.machine_model.specs.State.Changes.{Delivery, Told}
 use Rattle.machine_model.specs.State.Machine.{Machine}
 use Rattle.machine_model.specs.State.Order.{actor, turn}
@@ -17,13 +17,13 @@ use Rattle.xk_base.specs.Tables.Circle.{thread_ids}
 use Rattle.xk_base.specs.declared.ids.ThreadId.{ThreadId}
 use Rattle.xk_base.specs.declared.records.What.{What}
 use Rattle.xk_base.specs.declared.records.What.TheVariants.{Irq}
-use Rattle.xk_kernel.specs.History.{History, behind, history, play, reached, stopped, ticks}
+use Rattle.machine_history.specs.History.{History, behind, history, play, reached, stopped, ticks}
 use Rattle.xk_kernel.proofs.Ringing.FewLemmas.{few_acted}
-use Rattle.xk_kernel.proofs.Running.HistoryLemmas.{history_none}
-use Rattle.xk_kernel.proofs.Running.LimitLemmas.{step_steps, turn_steps}
+use Rattle.machine_history.proofs.Histories.HistoryLemmas.{history_none}
+use Rattle.machine_history.proofs.Histories.LimitLemmas.{step_steps, turn_steps}
 use Rattle.xk_base.specs.declared.limits.TheConstants.{DEFAULT_STEPS}
 use Rattle.xk_kernel.specs.Start.{start}
-use Rattle.xk_kernel.specs.HistoryMoments.{event_moments, moments_of}
+use Rattle.machine_history.specs.HistoryMoments.{event_moments, moments_of}
 use Rattle.xousim.specs.Outcome.Starts.{ComesFull, Room}
 use Rattle.xousim.proofs.Telling.FullLemmas.{events_full_front, events_full_later, first_event_full}
 use Rattle.xousim.specs.Load.Events.{first_events, load_history, load_machine, tick_at}

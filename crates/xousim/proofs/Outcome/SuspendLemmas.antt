@@ -13,7 +13,7 @@ use Rattle.sv32_space.specs.Tie.{Held}
 use Rattle.vm_memory.specs.Memory.{Size, capacity_of, processes as processes_in, size}
 use Rattle.xk_base.specs.Outside.{Rose}
 use Rattle.xk_base.specs.declared.records.Rec.{Rec}
-use Rattle.xk_kernel.specs.HistoryMoments.{moments_of}
+use Rattle.machine_history.specs.HistoryMoments.{moments_of}
 use Rattle.xk_kernel.specs.Sound.{Keeps}
 use Rattle.xk_kernel.specs.State.{machine_of}
 use Rattle.xk_kernel.specs.declared.kernel.Kernel.{Kernel}
@@ -34,7 +34,7 @@ use Rattle.xousim.specs.Outcome.Sides.{Call, IsTrusted, StoreSide, Told}
 use Rattle.xousim.specs.Outcome.Starts.{ComesFull, Room, room_of}
 use Rattle.xousim.specs.Outcome.Suspends.{EndsSuspend, RanUnsaved, Saves, saved_at, saved_of, silent}
 use Rattle.xousim.specs.Playing.{LeavesNear, run_from}
-use Rattle.xk_kernel.specs.Reserved.{IsReservedByThread}
+use Rattle.machine_history.specs.Reserved.{IsReservedByThread}
 use Rattle.xousim.specs.Reading.{Asked, IsFile, IsTold}
 use Rattle.xousim.specs.Standing.{Stand, room_in}
 use Rattle.xousim.specs.Telling.{told}

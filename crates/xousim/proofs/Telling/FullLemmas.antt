@@ -2,15 +2,15 @@
 use Rattle.std.proofs.Common.{◌≡◌, ◌≢◌, ◌≤◌, ◌-◌, ◌==◌, ◌∙◌, ℕ, zero, suc, Bool, true, false, List, [], ◌∷◌, ◌++◌, length, is_some, sym, ap, subst, arith}
 use Rattle.std.specs.Prelude.{if◌then◌else◌}
 use Rattle.std.proofs.lemmas.Bool.Decides.{nat_tests}
-use Rattle.event_text.specs.declared.event.Event.{Event}
-use Rattle.event_text.specs.declared.event.Event.TheVariants.{Tick}
-use Rattle.machine_model.specs.Runs.Moments.{ByStep, ByTurn, Moment, state_at}
+use Rattle.xk_base.specs.declared.events.Event.{Event}
+use Rattle.xk_base.specs.declared.events.Event.TheVariants.{Tick}
+use Rattle.machine_model.specs.Runs.Moments.{ByStep, ByTurn, Moment, state_at, moment_of}
 use Rattle.machine_model.specs.State.Machine.{Machine}
 use Rattle.machine_model.specs.State.Order.{actor}
 use Rattle.machine_model.specs.Stepping.Step.{step}
-use Rattle.xk_kernel.specs.History.{history}
-use Rattle.xk_kernel.specs.HistoryMoments.{event_moments, moment_by, moments_of, tick_moments}
-use Rattle.xk_kernel.proofs.Running.MomentLemmas.{history_last, moments_append}
+use Rattle.machine_history.specs.History.{history}
+use Rattle.machine_history.specs.HistoryMoments.{event_moments, moments_of, tick_moments}
+use Rattle.machine_history.proofs.Histories.MomentLemmas.{history_last, moments_append}
 use Rattle.xousim.specs.Outcome.Starts.{ComesFull, IsFull, Room}
 
 -- the start is a state of the run
@@ -66,15 +66,15 @@ first_event_full room limit m event events full = full_front room m (event_momen
 -- ---- of a tick
 
 tick_is : (n limit : ℕ) (m : Machine) → 1 ≤ n → is_some (actor m) ≡ true → m.steps ≢ limit
-    → event_moments (Tick n) limit m ≡ moment_by ByStep m ∷ event_moments (Tick (n - 1)) limit (step m).machine
+    → event_moments (Tick n) limit m ≡ moment_of ByStep m ∷ event_moments (Tick (n - 1)) limit (step m).machine
 unfolding event_moments tick_moments
 tick_is zero limit m some ready more = absurd (omega (arith, some))
 tick_is (suc n) limit m some ready more =
     let test : (m.steps == limit) ≡ false = grind (arith, nat_tests) in
     let less : n ≡ suc n - 1 = omega arith in
-    ap (λ (a : Bool). if a then (if m.steps == limit then [] else moment_by ByStep m ∷ tick_moments n limit (step m).machine) else moment_by ByTurn m ∷ []) ready
-    ∙ (ap (λ (b : Bool). if b then [] else moment_by ByStep m ∷ tick_moments n limit (step m).machine) test
-    ∙ ap (λ (k : ℕ). moment_by ByStep m ∷ tick_moments k limit (step m).machine) less)
+    ap (λ (a : Bool). if a then (if m.steps == limit then [] else moment_of ByStep m ∷ tick_moments n limit (step m).machine) else moment_of ByTurn m ∷ []) ready
+    ∙ (ap (λ (b : Bool). if b then [] else moment_of ByStep m ∷ tick_moments n limit (step m).machine) test
+    ∙ ap (λ (k : ℕ). moment_of ByStep m ∷ tick_moments k limit (step m).machine) less)
 
 -- the states of its first step and of the rest
 pub tick_full : (room : Room) (n limit : ℕ) (m : Machine) → 1 ≤ n → is_some (actor m) ≡ true → m.steps ≢ limit

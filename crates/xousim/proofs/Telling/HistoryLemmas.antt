@@ -7,14 +7,14 @@ use Rattle.xk_base.specs.declared.ids.Pid.{Pid}
 use Rattle.xk_base.specs.declared.ids.Tid.{Tid}
 use Rattle.xousim.specs.declared.commands.command.Telling.{Telling}
 use Rattle.xousim.specs.Telling.{told, told_of}
-use Rattle.event_text.specs.declared.event.Event.{Event}
-use Rattle.event_text.specs.declared.event.Event.TheVariants.{Tick, Pick, Irq, Kill}
+use Rattle.xk_base.specs.declared.events.Event.{Event}
+use Rattle.xk_base.specs.declared.events.Event.TheVariants.{Tick, Pick, Irq, Kill}
 use Rattle.machine_model.specs.State.Machine.{Machine}
 use Rattle.machine_model.specs.Stepping.Events.{nothing}
-use Rattle.xk_kernel.specs.History as kernel
+use Rattle.machine_history.specs.History as kernel
 use Rattle.xk_kernel.specs.Stepping.{event_done}
-use Rattle.xk_kernel.proofs.Running.HistoryLemmas.{history_append, history_first, history_none, irq_plays, kill_plays, pick_plays}
-use Rattle.xk_kernel.proofs.Running.LimitLemmas.{history_met, irq_steps, kill_steps, pick_steps}
+use Rattle.machine_history.proofs.Histories.HistoryLemmas.{history_append, history_first, history_none, irq_plays, kill_plays, pick_plays}
+use Rattle.machine_history.proofs.Histories.LimitLemmas.{history_met, irq_steps, kill_steps, pick_steps}
 use Rattle.xousim.specs.declared.playing.ending.Ending.{Ending}
 use Rattle.xousim.specs.declared.playing.ending.Ending.TheVariants.{Played, LimitMet}
 use Rattle.xousim.specs.History.{History, with_ending}

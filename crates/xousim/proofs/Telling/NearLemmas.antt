@@ -1,10 +1,10 @@
 -- Where the events of a file were played, no page is out, unless some state has more pages than there are frames for.
 use Rattle.std.proofs.Common.{◌≡◌, ◌⊎◌, inl, inr, ℕ, Bool, true, List, [], ◌++◌, Option, refl, ap, subst}
-use Rattle.event_text.specs.declared.event.Event.{Event}
+use Rattle.xk_base.specs.declared.events.Event.{Event}
 use Rattle.event_text.specs.EventFile.{Input, input_of}
 use Rattle.event_text.specs.Held.{Reader}
 use Rattle.event_text.specs.Plays.{left_of, play_of}
-use Rattle.xk_kernel.specs.HistoryMoments.{moments_of}
+use Rattle.machine_history.specs.HistoryMoments.{moments_of}
 use Rattle.xousim.specs.Outcome.Starts.{ComesFull}
 use Rattle.xousim.specs.Playing.{Follows, HasPlayed, IsNearAtEnd, LeavesNear, Run}
 use Rattle.xousim.specs.Reading.{IsTold}

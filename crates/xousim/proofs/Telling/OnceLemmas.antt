@@ -1,10 +1,10 @@
 -- An event without steps.
 use Rattle.std.proofs.Common.{◌≡◌, ◌⊎◌, inl, ℕ, true, Ok, Err, refl, sym, ap, ◌∙◌}
-use Rattle.event_text.specs.declared.event.Event.{Event}
-use Rattle.event_text.specs.declared.event.Event.TheVariants.{Pick, Irq, Kill}
+use Rattle.xk_base.specs.declared.events.Event.{Event}
+use Rattle.xk_base.specs.declared.events.Event.TheVariants.{Pick, Irq, Kill}
 use Rattle.xk_base.specs.declared.ids.Pid.{Pid}
 use Rattle.xk_base.specs.declared.ids.Tid.{Tid}
-use Rattle.xk_kernel.specs.History as kernel
+use Rattle.machine_history.specs.History as kernel
 use Rattle.xk_kernel.specs.Stepping.{event_done}
 use Rattle.xousim.specs.declared.commands.command.Telling.{Telling}
 use Rattle.xousim.specs.declared.playing.ending.Ending.TheVariants.{Played}

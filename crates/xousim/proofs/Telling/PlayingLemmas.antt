@@ -7,7 +7,7 @@ use Rattle.xousim.specs.Telling.{told}
 use Rattle.machine_model.specs.Runs.Moments.{Moment}
 use Rattle.machine_model.specs.State.Machine.{Machine}
 use Rattle.machine_model.specs.Stepping.Events.{nothing}
-use Rattle.event_text.specs.declared.event.Event.{Event}
+use Rattle.xk_base.specs.declared.events.Event.{Event}
 use Rattle.event_text.specs.declared.event.NextEvent.{NextEvent}
 use Rattle.event_text.specs.declared.event.NextEvent.TheVariants as answer
 use Rattle.event_text.specs.EventFile.{Input, input_of}
@@ -21,16 +21,16 @@ use Rattle.xousim.specs.declared.playing.ending.Ending.TheVariants.{Played, BadL
 use Rattle.xousim.specs.declared.playing.events.Advance.{Advance}
 use Rattle.xousim.specs.declared.playing.events.PlayFault.{PlayFault}
 use Rattle.xousim.specs.declared.playing.events.PlayFault.TheVariants.{Write, Swap}
-use Rattle.xk_kernel.specs.History as kernel
-use Rattle.xk_kernel.specs.History.{history, play}
-use Rattle.xk_kernel.specs.HistoryMoments.{event_moments, moments_of}
+use Rattle.machine_history.specs.History as kernel
+use Rattle.machine_history.specs.History.{history, play}
+use Rattle.machine_history.specs.HistoryMoments.{event_moments, moments_of}
 use Rattle.xousim.specs.History.{History, with_ending, history_of, end_of}
 use Rattle.xousim.specs.Outcome.Starts.{ComesFull, IsFull, Room}
 use Rattle.xousim.specs.Playing.{Advances, Comes, EndsSo, FailsSo, Follows, ForEach, Goes, HasPlayed, Plays, Reaches, Run, run_from}
 use Rattle.xousim.specs.Standing.{Begins, Stand}
 use Rattle.xousim.specs.Gathering.{Gathered, GatheredPart, Gathers, GathersPart, GathersSome, Puts, Text, put, text}
 use Rattle.xousim.specs.Writing.{Wrote}
-use Rattle.xk_kernel.proofs.Running.HistoryLemmas.{history_first, history_none}
+use Rattle.machine_history.proofs.Histories.HistoryLemmas.{history_first, history_none}
 use Rattle.xousim.proofs.Telling.FullLemmas.{events_full_front, events_full_later, first_event_full, full_start}
 use Rattle.xousim.proofs.Telling.GatheringLemmas.{all_put, gathers_none, gathers_put, gathers_unput, part_longer}
 use Rattle.xousim.proofs.Telling.ToldLemmas.{front_longer}

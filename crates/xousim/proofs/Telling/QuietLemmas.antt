@@ -3,18 +3,18 @@ use Rattle.std.proofs.Common.{◌≡◌, ◌≢◌, ◌+◌, ◌-◌, ◌≤◌,
 use Rattle.std.specs.Prelude.{◌&&◌, if◌then◌else◌}
 use Rattle.std.specs.Option.{option_map_or}
 use Rattle.std.proofs.lemmas.Bool.{and_parts, false≢true}
-use Rattle.event_text.specs.declared.event.Event.TheVariants.{Tick}
+use Rattle.xk_base.specs.declared.events.Event.TheVariants.{Tick}
 use Rattle.machine_model.specs.State.Machine.{Machine, Thread}
 use Rattle.machine_model.specs.State.Order.{actor, next_ready, ready_at}
 use Rattle.machine_model.specs.Stepping.Step.{Recorded, step}
 use Rattle.xk_base.specs.declared.records.Rec.{Rec}
-use Rattle.xk_kernel.specs.History as kernel
-use Rattle.xk_kernel.specs.History.{play}
-use Rattle.xk_kernel.specs.HistoryMoments.{event_moments}
+use Rattle.machine_history.specs.History as kernel
+use Rattle.machine_history.specs.History.{play}
+use Rattle.machine_history.specs.HistoryMoments.{event_moments}
 use Rattle.xk_kernel.specs.Quiet.{GoesQuietly, is_quiet, thread_goes_on, timer_rests}
 use Rattle.xk_kernel.proofs.Quieting.QuietStepLemmas.{quiet_parts, quiet_step_is}
-use Rattle.xk_kernel.proofs.Running.HistoryLemmas.{tick_steps}
-use Rattle.xk_kernel.proofs.Running.LimitLemmas.{step_steps}
+use Rattle.machine_history.proofs.Histories.HistoryLemmas.{tick_steps}
+use Rattle.machine_history.proofs.Histories.LimitLemmas.{step_steps}
 use Rattle.xousim.specs.Outcome.Starts.{ComesFull, Room}
 use Rattle.xousim.proofs.Telling.FullLemmas.{tick_full}
 

@@ -1,20 +1,20 @@
 -- What is left of a tick: what comes of the rest comes of the whole.
 use Rattle.std.proofs.Common.{◌≡◌, ◌-◌, ◌≤◌, ◌⊎◌, ◌∙◌, inl, inr, ℕ, zero, suc, Bool, true, false, List, Result, Ok, Err, IsErrAnd, is_some, refl, sym, ap, subst, arith}
-use Rattle.event_text.specs.declared.event.Event.{Event}
-use Rattle.event_text.specs.declared.event.Event.TheVariants.{Tick}
+use Rattle.xk_base.specs.declared.events.Event.{Event}
+use Rattle.xk_base.specs.declared.events.Event.TheVariants.{Tick}
 use Rattle.machine_model.specs.Runs.Moments.{Moment}
 use Rattle.machine_model.specs.State.Machine.{Machine}
 use Rattle.machine_model.specs.State.Order.{actor}
 use Rattle.sv32_space.specs.Tie.{Held}
-use Rattle.xk_kernel.specs.History as kernel
-use Rattle.xk_kernel.specs.History.{play}
-use Rattle.xk_kernel.specs.HistoryMoments.{event_moments, tick_moments}
+use Rattle.machine_history.specs.History as kernel
+use Rattle.machine_history.specs.History.{play}
+use Rattle.machine_history.specs.HistoryMoments.{event_moments, tick_moments}
 use Rattle.xk_kernel.specs.Knowing.{KnowsBytes, PutsNoneOut}
 use Rattle.xk_kernel.specs.Quiet.{GoesQuietly}
 use Rattle.xk_kernel.specs.Sound.{Keeps}
 use Rattle.xk_kernel.specs.State.{machine_of}
 use Rattle.xk_kernel.specs.declared.kernel.Kernel.{Kernel}
-use Rattle.xk_kernel.proofs.Running.HistoryLemmas.{tick_idle, tick_zero}
+use Rattle.machine_history.proofs.Histories.HistoryLemmas.{tick_idle, tick_zero}
 use Rattle.xousim.specs.declared.commands.command.Telling.{Telling}
 use Rattle.xousim.specs.declared.playing.ending.Ending.{Ending}
 use Rattle.xousim.specs.declared.playing.ending.Ending.TheVariants.{LimitMet, Played}

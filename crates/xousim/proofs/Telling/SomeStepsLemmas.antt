@@ -4,8 +4,8 @@ use Rattle.std.specs.Prelude.{if◌then◌else◌}
 use Rattle.std.proofs.lemmas.Grind.{flat_map-append}
 use Rattle.event_text.specs.EventFile.{Input, input_of}
 use Rattle.machine_model.specs.State.Machine.{Machine}
-use Rattle.xk_kernel.specs.History as kernel
-use Rattle.xk_kernel.specs.History.{history}
+use Rattle.machine_history.specs.History as kernel
+use Rattle.machine_history.specs.History.{history}
 use Rattle.xousim.specs.declared.commands.command.Telling.{Telling}
 use Rattle.xousim.specs.declared.playing.ending.Ending.{Ending}
 use Rattle.xousim.specs.declared.playing.ending.Ending.TheVariants.{LimitMet}

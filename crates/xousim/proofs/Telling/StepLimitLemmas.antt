@@ -3,15 +3,15 @@ use Rattle.std.proofs.Common.{◌≡◌, ◌≢◌, ◌==◌, ◌≤◌, ◌∙�
 use Rattle.std.specs.Prelude.{if◌then◌else◌}
 use Rattle.std.proofs.lemmas.Bool.{false≢true}
 use Rattle.std.proofs.lemmas.Bool.Decides.{nat_tests}
-use Rattle.event_text.specs.declared.event.Event.{Event}
-use Rattle.event_text.specs.declared.event.Event.TheVariants.{Tick, Pick, Irq, Kill}
+use Rattle.xk_base.specs.declared.events.Event.{Event}
+use Rattle.xk_base.specs.declared.events.Event.TheVariants.{Tick, Pick, Irq, Kill}
 use Rattle.machine_model.specs.Stepping.Events.{nothing}
 use Rattle.machine_model.specs.State.Machine.{Machine}
 use Rattle.machine_model.specs.State.Order.{actor, turn}
 use Rattle.machine_model.specs.Stepping.Step.{step}
 use Rattle.xk_base.specs.declared.records.Rec.{Rec}
-use Rattle.xk_kernel.specs.History.{History, reached, stopped, behind, go_on, ticks, play, history}
-use Rattle.xk_kernel.proofs.Running.LimitLemmas.{history_met, irq_steps, kill_steps, pick_steps, step_steps, turn_steps}
+use Rattle.machine_history.specs.History.{History, reached, stopped, behind, go_on, ticks, play, history}
+use Rattle.machine_history.proofs.Histories.LimitLemmas.{history_met, irq_steps, kill_steps, pick_steps, step_steps, turn_steps}
 
 -- a tick by whether there is who does a step, and whether the limit is met
 by_tests : Bool → Bool → ℕ → ℕ → Machine → History

@@ -1,15 +1,15 @@
 -- A tick, one step further: what comes of the rest comes of the whole.
 use Rattle.std.proofs.Common.{◌≡◌, ◌≢◌, ◌+◌, ◌-◌, ◌≤◌, ◌⊎◌, ◌∙◌, inl, inr, ℕ, true, false, Result, Ok, Err, is_some, refl, sym, ap, subst, arith}
-use Rattle.event_text.specs.declared.event.Event.TheVariants.{Tick}
+use Rattle.xk_base.specs.declared.events.Event.TheVariants.{Tick}
 use Rattle.machine_model.specs.State.Machine.{Machine}
 use Rattle.machine_model.specs.State.Order.{actor, turn}
 use Rattle.machine_model.specs.Stepping.Events.{nothing}
 use Rattle.machine_model.specs.Stepping.Step.{step}
-use Rattle.xk_kernel.specs.History as kernel
-use Rattle.xk_kernel.specs.History.{play}
-use Rattle.xk_kernel.specs.HistoryMoments.{event_moments}
-use Rattle.xk_kernel.proofs.Running.HistoryLemmas.{tick_idle, tick_met, tick_steps, tick_zero}
-use Rattle.xk_kernel.proofs.Running.LimitLemmas.{step_steps}
+use Rattle.machine_history.specs.History as kernel
+use Rattle.machine_history.specs.History.{play}
+use Rattle.machine_history.specs.HistoryMoments.{event_moments}
+use Rattle.machine_history.proofs.Histories.HistoryLemmas.{tick_idle, tick_met, tick_steps, tick_zero}
+use Rattle.machine_history.proofs.Histories.LimitLemmas.{step_steps}
 use Rattle.xousim.specs.declared.commands.command.Telling.{Telling}
 use Rattle.xousim.specs.declared.playing.ending.Ending.{Ending}
 use Rattle.xousim.specs.declared.playing.ending.Ending.TheVariants.{Played, LimitMet}

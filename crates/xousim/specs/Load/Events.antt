@@ -3,11 +3,11 @@ use Rattle.std.specs.Prelude.{ℕ, ◌+◌, ◌*◌, ◌%◌, List, None, map}
 use Rattle.std.specs.List.{range_with_len}
 use Rattle.boot_plan.specs.FirstPages.{plan_of}
 use Rattle.boot_plan.specs.declared.plans.BootPlan.{BootPlan}
-use Rattle.event_text.specs.declared.event.Event.{Event}
-use Rattle.event_text.specs.declared.event.Event.TheVariants.{Tick}
+use Rattle.xk_base.specs.declared.events.Event.{Event}
+use Rattle.xk_base.specs.declared.events.Event.TheVariants.{Tick}
 use Rattle.machine_model.specs.State.Machine.{Machine}
 use Rattle.xk_base.specs.declared.limits.TheConstants.{DEFAULT_STEPS}
-use Rattle.xk_kernel.specs.History.{History, history}
+use Rattle.machine_history.specs.History.{History, history}
 use Rattle.xk_kernel.specs.Start.{start}
 use Rattle.xousim.specs.Load.Image.{load_args, load_image}
 

@@ -14,7 +14,7 @@ ghost use Rattle.xousim.specs.Outcome.Plays.{EndsRefused, EndsUnstarted};
 ghost use Rattle.xousim.specs.Outcome.Sides.{Call, SinkSide, store_side};
 ghost use Rattle.xousim.specs.Outcome.Suspends.{EndsSuspend, silent};
 ghost use Rattle.xousim.specs.Reading.{Asked, IsTold};
-ghost use Rattle.xk_kernel.specs.Reserved.{IsReservedByThread};
+ghost use Rattle.machine_history.specs.Reserved.{IsReservedByThread};
 ghost use Rattle.xousim.specs.Standing.{Begins, room_in, stand};
 ghost use Rattle.xousim.specs.Words.{suspend_in};
 

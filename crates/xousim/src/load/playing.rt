@@ -1,13 +1,13 @@
 //! The events of the load are played, and their records counted.
 
 ghost use Rattle.std.specs.Prelude.{◌≡◌, ◌<◌, ◌≤◌, ◌+◌, ◌*◌, ◌++◌, List, IfOk, OnErr, OnOk};
-ghost use Rattle.event_text.specs.declared.event.Event.TheVariants.{Tick};
+ghost use Rattle.xk_base.specs.declared.events.Event.TheVariants.{Tick};
 ghost use Rattle.vm_memory.specs.Memory.{size, store_of};
 ghost use Rattle.xk_base.specs.Outside.{Rose};
 ghost use Rattle.xk_base.specs.declared.limits.TheConstants.{DEFAULT_STEPS};
 ghost use Rattle.xk_base.specs.declared.records.Rec.{Rec as Record};
-ghost use Rattle.xk_kernel.specs.History.{history, play};
-ghost use Rattle.xk_kernel.specs.HistoryMoments.{event_moments, moments_of};
+ghost use Rattle.machine_history.specs.History.{history, play};
+ghost use Rattle.machine_history.specs.HistoryMoments.{event_moments, moments_of};
 ghost use Rattle.xk_kernel.specs.Sound.{IsSound, IsUsable, Keeps};
 ghost use Rattle.xk_kernel.specs.State.{machine_of};
 ghost use Rattle.xousim.specs.Load.Events.{load_events, most_steps, tick_at};

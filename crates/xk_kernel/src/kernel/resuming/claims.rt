@@ -1,7 +1,7 @@
 //! The claims, the timer, the reservation and the turn of a state are there again.
 
 ghost use Rattle.irq_claims.specs.ClaimsOf.{claims_of};
-ghost use Rattle.kill_path.specs.Claims.{claims_shown, pending_shown};
+ghost use Rattle.xk_parts.specs.Shown.{claims_shown, pending_shown};
 ghost use Rattle.std.specs.Option.{option_map};
 ghost use Rattle.std.specs.Prelude.{◌≡◌, ◌<◌, ◌==◌, ℕ, None, Some, nat_eq};
 ghost use Rattle.suspend_image.specs.Machines.{claims_of as state_claims, compare_of, pending_of, reservation_of, thread_at_id};

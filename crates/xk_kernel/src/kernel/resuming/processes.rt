@@ -4,7 +4,7 @@ ghost use Rattle.std.specs.Prelude.{◌≡◌, ◌≤◌, ℕ, true, [], IfOk, S
 ghost use Rattle.process_table.specs.ProcessMap.{change, connections_of, heap_of};
 ghost use Rattle.process_table.specs.ProcessesOf.{process_count, processes_of};
 ghost use Rattle.process_table.specs.State.{new_process};
-ghost use Rattle.send_path.specs.Parts.{process_of};
+ghost use Rattle.xk_parts.specs.Shown.{process_of};
 ghost use Rattle.suspend_image.specs.Forms.{IsProcRow};
 ghost use Rattle.suspend_image.specs.Machines.{processes_of as state_processes};
 ghost use Rattle.suspend_image.specs.Parts.{are_apart, is_within_limits};

@@ -2,7 +2,7 @@
 
 ghost use Rattle.std.specs.Option.{option_map};
 ghost use Rattle.std.specs.Prelude.{◌≡◌, ◌∷◌, ◌≤◌, IfOk, None, Some, length, if◌then◌else◌};
-ghost use Rattle.send_path.specs.Parts.{state_of, thread_of};
+ghost use Rattle.xk_parts.specs.Shown.{state_of, thread_of};
 ghost use Rattle.suspend_image.specs.Forms.{IsThreadRow};
 ghost use Rattle.suspend_image.specs.Machines.{thread_at_id, thread_of as row_thread, thread_state as row_state, threads_of as state_threads};
 ghost use Rattle.thread_table.specs.ThreadsOf.{process_count, threads_of};

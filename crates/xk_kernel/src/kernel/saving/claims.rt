@@ -2,7 +2,7 @@
 
 ghost use Rattle.std.specs.Prelude.{◌≡◌, ◌<◌, ◌+◌};
 ghost use Rattle.irq_claims.specs.ClaimsOf.{claims_of};
-ghost use Rattle.kill_path.specs.Claims.{claim_of, claims_shown, pending_shown};
+ghost use Rattle.xk_parts.specs.Shown.{claim_of, claims_shown, pending_shown};
 ghost use Rattle.suspend_image.specs.Spelling.{claim_bytes, rows_bytes};
 ghost use Rattle.xk_base.specs.declared.limits.TheConstants.{INTERRUPT_LIMIT};
 ghost use Rattle.xk_kernel.specs.Saving.Fitting.{EachBelow};

@@ -3,7 +3,7 @@
 ghost use Rattle.std.specs.Prelude.{◌≡◌, ◌<◌, ◌≤◌, ◌+◌, ◌*◌, ℕ, All, length, is_some, map};
 ghost use Rattle.std.specs.List.{flat_map};
 ghost use Rattle.msg_queue.specs.Seats.{message_of, seat_of};
-ghost use Rattle.send_path.specs.Parts.{server_with, servers_shown};
+ghost use Rattle.xk_parts.specs.Shown.{server_with, servers_shown};
 ghost use Rattle.server_table.specs.ServersOf.{servers_of};
 ghost use Rattle.suspend_image.specs.Spelling.{message_bytes, rows_bytes, server_bytes};
 ghost use Rattle.xk_base.specs.Tables.Counting.{count_below};

@@ -1,7 +1,7 @@
 //! The threads of a state are written.
 
 ghost use Rattle.std.specs.Prelude.{◌≡◌, ◌≤◌, ◌+◌, ◌*◌, drop, length};
-ghost use Rattle.send_path.specs.Parts.{state_of, thread_of, threads_shown};
+ghost use Rattle.xk_parts.specs.Shown.{state_of, thread_of, threads_shown};
 ghost use Rattle.suspend_image.specs.Spelling.{rows_bytes, thread_bytes};
 ghost use Rattle.thread_table.specs.ThreadsOf.{process_count};
 ghost use Rattle.xk_base.specs.Tables.Circle.{id_at, thread_ids};

@@ -1,7 +1,7 @@
 -- A message is given back, or the caller refused.
 use Rattle.std.proofs.Common.{◌∙◌}
 use Rattle.machine_model.specs.State.Changes.{Refused}
-use Rattle.send_path.specs.Parts.{parts_of, with_parts}
+use Rattle.send_path.proofs.Taken.{parts_of, with_parts}
 use Rattle.send_path.specs.Rows.{table_row}
 use Rattle.xk_kernel.specs.State.{machine_of}
 use Rattle.xk_kernel.proofs.Acting.OrderLemmas.{ready_is}

@@ -14,7 +14,7 @@ use Rattle.vm_memory.specs.Memory.{IsUsable, has_failed, store_of}
 use Rattle.xk_base.specs.Outside.{Rose}
 use Rattle.xk_kernel.specs.Running.{machine_after}
 use Rattle.xk_kernel.specs.Sound.{IsWhole, Keeps}
-use Rattle.send_path.specs.Parts.{thread_of}
+use Rattle.xk_parts.specs.Shown.{thread_of}
 use Rattle.xk_kernel.specs.State.{machine_of}
 use Rattle.xk_kernel.proofs.Acting.ThreadLemmas.{in_table, machine_put, put_same, thread_found}
 use Rattle.xk_kernel.proofs.Memory.MemoryPartLemmas.{keeps_with, with_memory}
@@ -66,7 +66,9 @@ returns-in-Ecall-clause-answer g c =
     λ known.
     unless_failed c.run_over-user.new.ran _ (λ done.
     let over : MeansBytesOver g.W.SwapStore.is_honest g.W.SwapStore.held c.args.self.now.mem c.run_over-user.result.mem.now = subst (λ mem. MeansBytesOver g.W.SwapStore.is_honest g.W.SwapStore.held c.args.self.now.mem mem) back known in
-    let run : HasRun g.W.SwapStore.held c.args.self.now c.run_over-user.result.mem.now c.run_over-user.new.timer c.args.who.pid (record { regs = c.thread_mut-thread.result.now.regs; reserved = reserved_by c.args.who (machine_of g.W.SwapStore.held c.args.self.now).reserved }) (record { regs = c.run_over-user.new.thread.regs; reserved = c.run_over-user.new.reserved }) c.thread_mut-thread.result.now.pc c.run_over-user.new.ran =
+    let run : HasRun g.W.SwapStore.held c.args.self.now c.run_over-user.result.mem.now c.run_over-user.new.timer c.args.who.pid (record { regs =
+    c.thread_mut-thread.result.now.regs; reserved = reserved_by c.args.who (machine_of g.W.SwapStore.held c.args.self.now).reserved }) (record { regs =
+    c.run_over-user.new.thread.regs; reserved = c.run_over-user.new.reserved }) c.thread_mut-thread.result.now.pc c.run_over-user.new.ran =
     has_run g.W.SwapStore.is_honest g.W.SwapStore.held g.W.SwapStore.slot_count g.W.SwapStore.asked g.W.SwapStore.faults
     c.args.self.now c.run_over-user.result.mem.now c.args.who.pid c.run_over-user.result.pid c.run_over-user.ensures.rest.1 c.requires.whole c.run_over-user.ensures.rest.2 over
     c.has_timer-on.result c.run_over-user.new.timer c.has_timer-on.ensures c.run_over-user.ensures.timer c.requires.matched
@@ -83,7 +85,9 @@ returns-in-Ecall-clause-machine g c =
     λ known.
     unless_failed c.run_over-user.new.ran _ (λ done.
     let over : MeansBytesOver g.W.SwapStore.is_honest g.W.SwapStore.held c.args.self.now.mem c.run_over-user.result.mem.now = subst (λ mem. MeansBytesOver g.W.SwapStore.is_honest g.W.SwapStore.held c.args.self.now.mem mem) back known in
-    let run : HasRun g.W.SwapStore.held c.args.self.now c.run_over-user.result.mem.now c.run_over-user.new.timer c.args.who.pid (record { regs = c.thread_mut-thread.result.now.regs; reserved = reserved_by c.args.who (machine_of g.W.SwapStore.held c.args.self.now).reserved }) (record { regs = c.run_over-user.new.thread.regs; reserved = c.run_over-user.new.reserved }) c.thread_mut-thread.result.now.pc c.run_over-user.new.ran =
+    let run : HasRun g.W.SwapStore.held c.args.self.now c.run_over-user.result.mem.now c.run_over-user.new.timer c.args.who.pid (record { regs =
+    c.thread_mut-thread.result.now.regs; reserved = reserved_by c.args.who (machine_of g.W.SwapStore.held c.args.self.now).reserved }) (record { regs =
+    c.run_over-user.new.thread.regs; reserved = c.run_over-user.new.reserved }) c.thread_mut-thread.result.now.pc c.run_over-user.new.ran =
     has_run g.W.SwapStore.is_honest g.W.SwapStore.held g.W.SwapStore.slot_count g.W.SwapStore.asked g.W.SwapStore.faults
     c.args.self.now c.run_over-user.result.mem.now c.args.who.pid c.run_over-user.result.pid c.run_over-user.ensures.rest.1 c.requires.whole c.run_over-user.ensures.rest.2 over
     c.has_timer-on.result c.run_over-user.new.timer c.has_timer-on.ensures c.run_over-user.ensures.timer c.requires.matched
@@ -97,7 +101,9 @@ returns-in-Ecall-clause-machine g c =
     ∙ ap (λ regs. put_thread c.args.who (Some (record (thread_of c.thread_mut-thread.result.now) { regs = regs })) (machine_of g.W.SwapStore.held (with_both c.run_over-user.result.mem.now c.run_over-user.new.timer c.args.self.now)))
     (registers_stay c.run_over-user.new.ran c.thread_mut-thread.result.now.regs c.run_over-user.new.thread.regs c.in-Ecall.is c.run_over-user.ensures.leaves)
     ∙ put_same (machine_of g.W.SwapStore.held (with_both c.run_over-user.result.mem.now c.run_over-user.new.timer c.args.self.now)) c.args.who (thread_of c.thread_mut-thread.result.now) (thread_found g.W.SwapStore.held (with_both c.run_over-user.result.mem.now c.run_over-user.new.timer c.args.self.now) c.args.who c.thread_mut-thread.result.now c.thread_mut-thread.ensures.value)
-    ∙ machine_stays g.W.SwapStore.held c.args.self.now c.run_over-user.result.mem.now c.run_over-user.new.timer c.args.who (record { regs = c.thread_mut-thread.result.now.regs; reserved = reserved_by c.args.who (machine_of g.W.SwapStore.held c.args.self.now).reserved }) (record { regs = c.run_over-user.new.thread.regs; reserved = c.run_over-user.new.reserved }) c.thread_mut-thread.result.now.pc c.run_over-user.new.ran run c.in-Ecall.is))
+    ∙ machine_stays g.W.SwapStore.held c.args.self.now c.run_over-user.result.mem.now c.run_over-user.new.timer c.args.who (record { regs =
+    c.thread_mut-thread.result.now.regs; reserved = reserved_by c.args.who (machine_of g.W.SwapStore.held c.args.self.now).reserved }) (record { regs =
+    c.run_over-user.new.thread.regs; reserved = c.run_over-user.new.reserved }) c.thread_mut-thread.result.now.pc c.run_over-user.new.ran run c.in-Ecall.is))
 
 pub returns-in-Ecall-clause-reserved : goal.returns-in-Ecall-clause-reserved
 returns-in-Ecall-clause-reserved g c =
@@ -105,7 +111,9 @@ returns-in-Ecall-clause-reserved g c =
     λ known.
     unless_failed c.run_over-user.new.ran _ (λ done.
     let over : MeansBytesOver g.W.SwapStore.is_honest g.W.SwapStore.held c.args.self.now.mem c.run_over-user.result.mem.now = subst (λ mem. MeansBytesOver g.W.SwapStore.is_honest g.W.SwapStore.held c.args.self.now.mem mem) back known in
-    let run : HasRun g.W.SwapStore.held c.args.self.now c.run_over-user.result.mem.now c.run_over-user.new.timer c.args.who.pid (record { regs = c.thread_mut-thread.result.now.regs; reserved = reserved_by c.args.who (machine_of g.W.SwapStore.held c.args.self.now).reserved }) (record { regs = c.run_over-user.new.thread.regs; reserved = c.run_over-user.new.reserved }) c.thread_mut-thread.result.now.pc c.run_over-user.new.ran =
+    let run : HasRun g.W.SwapStore.held c.args.self.now c.run_over-user.result.mem.now c.run_over-user.new.timer c.args.who.pid (record { regs =
+    c.thread_mut-thread.result.now.regs; reserved = reserved_by c.args.who (machine_of g.W.SwapStore.held c.args.self.now).reserved }) (record { regs =
+    c.run_over-user.new.thread.regs; reserved = c.run_over-user.new.reserved }) c.thread_mut-thread.result.now.pc c.run_over-user.new.ran =
     has_run g.W.SwapStore.is_honest g.W.SwapStore.held g.W.SwapStore.slot_count g.W.SwapStore.asked g.W.SwapStore.faults
     c.args.self.now c.run_over-user.result.mem.now c.args.who.pid c.run_over-user.result.pid c.run_over-user.ensures.rest.1 c.requires.whole c.run_over-user.ensures.rest.2 over
     c.has_timer-on.result c.run_over-user.new.timer c.has_timer-on.ensures c.run_over-user.ensures.timer c.requires.matched
@@ -140,7 +148,9 @@ pub returns-in-Ecall-clause-keeps : goal.returns-in-Ecall-clause-keeps
 returns-in-Ecall-clause-keeps g c =
     let back : c.self-1.given.0 ≡ c.run_over-user.result.mem.now = given_back _ _ _ c.self-1.given c.run_over-user.ensures.rest.0 in
     let kept : Keeps g.W.SwapStore.is_honest g.W.SwapStore.held g.W.SwapStore.slot_count g.W.SwapStore.asked g.W.SwapStore.faults c.args.self.now (with_memory c.self-1.given.0 c.args.self.now) =
-    subst (λ mem. Keeps g.W.SwapStore.is_honest g.W.SwapStore.held g.W.SwapStore.slot_count g.W.SwapStore.asked g.W.SwapStore.faults c.args.self.now (with_memory mem c.args.self.now)) (sym back) (keeps_with g.W.SwapStore.is_honest g.W.SwapStore.held g.W.SwapStore.slot_count g.W.SwapStore.asked g.W.SwapStore.faults c.args.self.now c.run_over-user.result.mem.now c.requires.whole c.args.who.pid c.run_over-user.ensures.rest.2) in
+    subst (λ mem. Keeps g.W.SwapStore.is_honest g.W.SwapStore.held g.W.SwapStore.slot_count g.W.SwapStore.asked g.W.SwapStore.faults c.args.self.now (with_memory mem
+    c.args.self.now)) (sym back) (keeps_with g.W.SwapStore.is_honest g.W.SwapStore.held g.W.SwapStore.slot_count g.W.SwapStore.asked g.W.SwapStore.faults c.args.self.now
+    c.run_over-user.result.mem.now c.requires.whole c.args.who.pid c.run_over-user.ensures.rest.2) in
     record { size = kept.size; store = kept.store; room = kept.room }
 
 pub returns-in-Next-clause-whole : goal.returns-in-Next-clause-whole
@@ -181,7 +191,9 @@ returns-in-Next-clause-answer g c =
     λ known.
     unless_failed c.in-Next.ran _ (λ done.
     let over : MeansBytesOver g.W.SwapStore.is_honest g.W.SwapStore.held c.args.self.now.mem c.run_over-user.result.mem.now = subst (λ mem. MeansBytesOver g.W.SwapStore.is_honest g.W.SwapStore.held c.args.self.now.mem mem) back known in
-    let run : HasRun g.W.SwapStore.held c.args.self.now c.run_over-user.result.mem.now c.run_over-user.new.timer c.args.who.pid (record { regs = c.thread_mut-thread.result.now.regs; reserved = reserved_by c.args.who (machine_of g.W.SwapStore.held c.args.self.now).reserved }) (record { regs = c.run_over-user.new.thread.regs; reserved = c.run_over-user.new.reserved }) c.thread_mut-thread.result.now.pc c.run_over-user.new.ran =
+    let run : HasRun g.W.SwapStore.held c.args.self.now c.run_over-user.result.mem.now c.run_over-user.new.timer c.args.who.pid (record { regs =
+    c.thread_mut-thread.result.now.regs; reserved = reserved_by c.args.who (machine_of g.W.SwapStore.held c.args.self.now).reserved }) (record { regs =
+    c.run_over-user.new.thread.regs; reserved = c.run_over-user.new.reserved }) c.thread_mut-thread.result.now.pc c.run_over-user.new.ran =
     has_run g.W.SwapStore.is_honest g.W.SwapStore.held g.W.SwapStore.slot_count g.W.SwapStore.asked g.W.SwapStore.faults
     c.args.self.now c.run_over-user.result.mem.now c.args.who.pid c.run_over-user.result.pid c.run_over-user.ensures.rest.1 c.requires.whole c.run_over-user.ensures.rest.2 over
     c.has_timer-on.result c.run_over-user.new.timer c.has_timer-on.ensures c.run_over-user.ensures.timer c.requires.matched
@@ -198,7 +210,9 @@ returns-in-Next-clause-machine g c =
     λ known.
     unless_failed c.in-Next.ran _ (λ done.
     let over : MeansBytesOver g.W.SwapStore.is_honest g.W.SwapStore.held c.args.self.now.mem c.run_over-user.result.mem.now = subst (λ mem. MeansBytesOver g.W.SwapStore.is_honest g.W.SwapStore.held c.args.self.now.mem mem) back known in
-    let run : HasRun g.W.SwapStore.held c.args.self.now c.run_over-user.result.mem.now c.run_over-user.new.timer c.args.who.pid (record { regs = c.thread_mut-thread.result.now.regs; reserved = reserved_by c.args.who (machine_of g.W.SwapStore.held c.args.self.now).reserved }) (record { regs = c.run_over-user.new.thread.regs; reserved = c.run_over-user.new.reserved }) c.thread_mut-thread.result.now.pc c.run_over-user.new.ran =
+    let run : HasRun g.W.SwapStore.held c.args.self.now c.run_over-user.result.mem.now c.run_over-user.new.timer c.args.who.pid (record { regs =
+    c.thread_mut-thread.result.now.regs; reserved = reserved_by c.args.who (machine_of g.W.SwapStore.held c.args.self.now).reserved }) (record { regs =
+    c.run_over-user.new.thread.regs; reserved = c.run_over-user.new.reserved }) c.thread_mut-thread.result.now.pc c.run_over-user.new.ran =
     has_run g.W.SwapStore.is_honest g.W.SwapStore.held g.W.SwapStore.slot_count g.W.SwapStore.asked g.W.SwapStore.faults
     c.args.self.now c.run_over-user.result.mem.now c.args.who.pid c.run_over-user.result.pid c.run_over-user.ensures.rest.1 c.requires.whole c.run_over-user.ensures.rest.2 over
     c.has_timer-on.result c.run_over-user.new.timer c.has_timer-on.ensures c.run_over-user.ensures.timer c.requires.matched
@@ -206,10 +220,16 @@ returns-in-Next-clause-machine g c =
     (record { regs = c.thread_mut-thread.result.now.regs; reserved = reserved_by c.args.who (machine_of g.W.SwapStore.held c.args.self.now).reserved }) c.thread_mut-thread.result.now.pc c.run_over-user.new.ran
     (ap (λ (reserved : Option ℕ). record { regs = c.thread_mut-thread.result.now.regs; reserved = reserved }) c.requires.reserved) c.run_over-user.ensures.performs (λ e. done (c.in-Next.ran-is ∙ e)) in
     of_thread ((machine_of g.W.SwapStore.held c.args.self.now).threads c.args.who) (thread_of c.thread_mut-thread.result.now) (thread_found g.W.SwapStore.held c.args.self.now c.args.who c.thread_mut-thread.result.now c.thread_mut-thread.ensures.value)
-    (λ t. machine_of g.W.SwapStore.held (record (with_both c.self-1.given.0 c.run_over-user.new.timer c.args.self.now) { threads = with_thread c.args.self.now.threads c.args.who (record { pc = c.in-Next.next; regs = c.run_over-user.new.thread.regs; state = c.run_over-user.new.thread.state }) }) ≡ machine_after c.args.who (machine_of g.W.SwapStore.held c.args.self.now) (performed (machine_of g.W.SwapStore.held c.args.self.now) c.args.who t).executed)
+    (λ t. machine_of g.W.SwapStore.held (record (with_both c.self-1.given.0 c.run_over-user.new.timer c.args.self.now) { threads = with_thread c.args.self.now.threads
+    c.args.who (record { pc = c.in-Next.next; regs = c.run_over-user.new.thread.regs; state = c.run_over-user.new.thread.state }) }) ≡ machine_after c.args.who
+    (machine_of g.W.SwapStore.held c.args.self.now) (performed (machine_of g.W.SwapStore.held c.args.self.now) c.args.who t).executed)
     ((λ i. machine_of g.W.SwapStore.held (record (with_both (back i) c.run_over-user.new.timer c.args.self.now) { threads = with_thread c.args.self.now.threads c.args.who (record { pc = c.in-Next.next; regs = c.run_over-user.new.thread.regs; state = (ap (λ (thread : Thread). thread.state) c.run_over-user.ensures.thread) i }) }))
     ∙ machine_put g.W.SwapStore.held (with_both c.run_over-user.result.mem.now c.run_over-user.new.timer c.args.self.now) _ c.args.who _ (c.thread_mut-thread.ensures.writes _)
-    ∙ machine_goes_on g.W.SwapStore.held c.args.self.now c.run_over-user.result.mem.now c.run_over-user.new.timer c.args.who (record { regs = c.thread_mut-thread.result.now.regs; reserved = reserved_by c.args.who (machine_of g.W.SwapStore.held c.args.self.now).reserved }) (record { regs = c.run_over-user.new.thread.regs; reserved = c.run_over-user.new.reserved }) c.thread_mut-thread.result.now.pc c.run_over-user.new.ran run (thread_of c.thread_mut-thread.result.now) c.in-Next.next refl (thread_found g.W.SwapStore.held c.args.self.now c.args.who c.thread_mut-thread.result.now c.thread_mut-thread.ensures.value) c.in-Next.is))
+    ∙ machine_goes_on g.W.SwapStore.held c.args.self.now c.run_over-user.result.mem.now c.run_over-user.new.timer c.args.who (record { regs =
+    c.thread_mut-thread.result.now.regs; reserved = reserved_by c.args.who (machine_of g.W.SwapStore.held c.args.self.now).reserved }) (record { regs =
+    c.run_over-user.new.thread.regs; reserved = c.run_over-user.new.reserved }) c.thread_mut-thread.result.now.pc c.run_over-user.new.ran run (thread_of
+    c.thread_mut-thread.result.now) c.in-Next.next refl (thread_found g.W.SwapStore.held c.args.self.now c.args.who c.thread_mut-thread.result.now
+    c.thread_mut-thread.ensures.value) c.in-Next.is))
 
 pub returns-in-Next-clause-reserved : goal.returns-in-Next-clause-reserved
 returns-in-Next-clause-reserved g c =
@@ -217,7 +237,9 @@ returns-in-Next-clause-reserved g c =
     λ known.
     unless_failed c.in-Next.ran _ (λ done.
     let over : MeansBytesOver g.W.SwapStore.is_honest g.W.SwapStore.held c.args.self.now.mem c.run_over-user.result.mem.now = subst (λ mem. MeansBytesOver g.W.SwapStore.is_honest g.W.SwapStore.held c.args.self.now.mem mem) back known in
-    let run : HasRun g.W.SwapStore.held c.args.self.now c.run_over-user.result.mem.now c.run_over-user.new.timer c.args.who.pid (record { regs = c.thread_mut-thread.result.now.regs; reserved = reserved_by c.args.who (machine_of g.W.SwapStore.held c.args.self.now).reserved }) (record { regs = c.run_over-user.new.thread.regs; reserved = c.run_over-user.new.reserved }) c.thread_mut-thread.result.now.pc c.run_over-user.new.ran =
+    let run : HasRun g.W.SwapStore.held c.args.self.now c.run_over-user.result.mem.now c.run_over-user.new.timer c.args.who.pid (record { regs =
+    c.thread_mut-thread.result.now.regs; reserved = reserved_by c.args.who (machine_of g.W.SwapStore.held c.args.self.now).reserved }) (record { regs =
+    c.run_over-user.new.thread.regs; reserved = c.run_over-user.new.reserved }) c.thread_mut-thread.result.now.pc c.run_over-user.new.ran =
     has_run g.W.SwapStore.is_honest g.W.SwapStore.held g.W.SwapStore.slot_count g.W.SwapStore.asked g.W.SwapStore.faults
     c.args.self.now c.run_over-user.result.mem.now c.args.who.pid c.run_over-user.result.pid c.run_over-user.ensures.rest.1 c.requires.whole c.run_over-user.ensures.rest.2 over
     c.has_timer-on.result c.run_over-user.new.timer c.has_timer-on.ensures c.run_over-user.ensures.timer c.requires.matched
@@ -252,5 +274,7 @@ pub returns-in-Next-clause-keeps : goal.returns-in-Next-clause-keeps
 returns-in-Next-clause-keeps g c =
     let back : c.self-1.given.0 ≡ c.run_over-user.result.mem.now = given_back _ _ _ c.self-1.given c.run_over-user.ensures.rest.0 in
     let kept : Keeps g.W.SwapStore.is_honest g.W.SwapStore.held g.W.SwapStore.slot_count g.W.SwapStore.asked g.W.SwapStore.faults c.args.self.now (with_memory c.self-1.given.0 c.args.self.now) =
-    subst (λ mem. Keeps g.W.SwapStore.is_honest g.W.SwapStore.held g.W.SwapStore.slot_count g.W.SwapStore.asked g.W.SwapStore.faults c.args.self.now (with_memory mem c.args.self.now)) (sym back) (keeps_with g.W.SwapStore.is_honest g.W.SwapStore.held g.W.SwapStore.slot_count g.W.SwapStore.asked g.W.SwapStore.faults c.args.self.now c.run_over-user.result.mem.now c.requires.whole c.args.who.pid c.run_over-user.ensures.rest.2) in
+    subst (λ mem. Keeps g.W.SwapStore.is_honest g.W.SwapStore.held g.W.SwapStore.slot_count g.W.SwapStore.asked g.W.SwapStore.faults c.args.self.now (with_memory mem
+    c.args.self.now)) (sym back) (keeps_with g.W.SwapStore.is_honest g.W.SwapStore.held g.W.SwapStore.slot_count g.W.SwapStore.asked g.W.SwapStore.faults c.args.self.now
+    c.run_over-user.result.mem.now c.requires.whole c.args.who.pid c.run_over-user.ensures.rest.2) in
     record { size = kept.size; store = kept.store; room = kept.room }

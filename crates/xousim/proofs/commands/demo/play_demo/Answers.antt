@@ -2,8 +2,8 @@ use Rattle.std.proofs.Common.{◌≡◌, ℕ, ap, ◌∙◌, subst, sym, refl, i
 use Rattle.machine_model.specs.State.Machine.{Machine}
 use Rattle.vm_memory.specs.Memory.{store_of}
 use Rattle.xk_base.specs.declared.limits.TheConstants.{DEFAULT_STEPS}
-use Rattle.xk_kernel.specs.History.{history}
-use Rattle.xk_kernel.specs.HistoryMoments.{moments_of}
+use Rattle.machine_history.specs.History.{history}
+use Rattle.machine_history.specs.HistoryMoments.{moments_of}
 use Rattle.xousim.specs.Load.Events.{load_events, load_history, load_machine}
 use Rattle.xousim.specs.Load.Totals.{demo_line, totals_of}
 use Rattle.xousim.specs.Outcome.Demo.{Demonstrates}

@@ -1,9 +1,9 @@
 use Rattle.std.proofs.Common.{◌≡◌, ◌+◌, ◌++◌, ℕ, sym, ap, ◌∙◌, subst, arith, ◌*◌}
-use Rattle.event_text.specs.declared.event.Event.TheVariants.{Tick}
+use Rattle.xk_base.specs.declared.events.Event.TheVariants.{Tick}
 use Rattle.machine_model.specs.State.Machine.{Machine}
 use Rattle.machine_model.specs.Stepping.Events.{nothing}
 use Rattle.xk_base.specs.declared.limits.TheConstants.{DEFAULT_STEPS}
-use Rattle.xk_kernel.specs.History.{History, behind, history, play, reached}
+use Rattle.machine_history.specs.History.{History, behind, history, play, reached}
 use Rattle.xk_kernel.specs.State.{machine_of}
 use Rattle.xousim.specs.Load.Events.{first_events, tick_at}
 use Rattle.xousim.specs.Load.Totals.{IsWithin, totals_of}

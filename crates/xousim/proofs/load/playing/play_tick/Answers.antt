@@ -1,19 +1,19 @@
 use Rattle.std.proofs.Common.{◌≡◌, ◌≢◌, ◌+◌, ◌-◌, ◌++◌, ℕ, sym, ap, ◌∙◌, subst, arith, List, length}
-use Rattle.event_text.specs.declared.event.Event.TheVariants.{Tick}
+use Rattle.xk_base.specs.declared.events.Event.TheVariants.{Tick}
 use Rattle.machine_model.specs.State.Machine.{Machine}
 use Rattle.machine_model.specs.State.Order.{turn}
 use Rattle.machine_model.specs.Stepping.Step.{step}
 use Rattle.xk_base.specs.declared.limits.TheConstants.{DEFAULT_STEPS}
 use Rattle.xk_base.specs.declared.records.Rec.{Rec}
-use Rattle.xk_kernel.specs.History.{History, behind, play}
+use Rattle.machine_history.specs.History.{History, behind, play}
 use Rattle.xk_kernel.specs.State.{machine_of}
 use Rattle.xk_kernel.specs.Stepping.{DoesStep}
 use Rattle.xk_kernel.specs.declared.kernel.Stepped.{Stepped}
 use Rattle.xk_kernel.specs.declared.kernel.Stepped.TheVariants.{Did, Idle}
-use Rattle.xk_kernel.proofs.Running.HistoryLemmas.{tick_zero, tick_idle, tick_steps}
-use Rattle.xk_kernel.proofs.Running.LimitLemmas.{step_steps, turn_steps}
+use Rattle.machine_history.proofs.Histories.HistoryLemmas.{tick_zero, tick_idle, tick_steps}
+use Rattle.machine_history.proofs.Histories.LimitLemmas.{step_steps, turn_steps}
 use Rattle.xousim.proofs.Outcome.KeptLemmas.{kept_after, kept_same}
-use Rattle.xk_kernel.specs.HistoryMoments.{event_moments}
+use Rattle.machine_history.specs.HistoryMoments.{event_moments}
 use Rattle.xousim.specs.Outcome.Starts.{ComesFull}
 use Rattle.xousim.specs.Standing.{room_in}
 use Rattle.xousim.proofs.Telling.FullLemmas.{step_full, step_on_full}

@@ -1,9 +1,9 @@
 use Rattle.std.proofs.Common.{◌≡◌, ◌≤◌, ◌+◌, ◌-◌, ◌++◌, List}
-use Rattle.event_text.specs.declared.event.Event.TheVariants.{Tick}
+use Rattle.xk_base.specs.declared.events.Event.TheVariants.{Tick}
 use Rattle.xk_base.specs.declared.limits.TheConstants.{DEFAULT_STEPS}
 use Rattle.xk_base.specs.declared.records.Rec.{Rec}
-use Rattle.xk_kernel.specs.History.{play}
-use Rattle.xk_kernel.specs.HistoryMoments.{event_moments}
+use Rattle.machine_history.specs.History.{play}
+use Rattle.machine_history.specs.HistoryMoments.{event_moments}
 use Rattle.xk_kernel.specs.Sound.{IsSound, IsUsable, Keeps}
 use Rattle.xk_kernel.specs.State.{machine_of}
 use Rattle.xousim.specs.Load.Totals.{IsWithin, totals_of}

@@ -1,6 +1,6 @@
 use Rattle.std.proofs.Common.{◌≢◌, ◌≤◌, ◌-◌, ◌∙◌, ℕ, refl, sym, arith}
 use Rattle.std.proofs.lemmas.Bool.{false≢true}
-use Rattle.event_text.specs.declared.event.Event.TheVariants.{Tick}
+use Rattle.xk_base.specs.declared.events.Event.TheVariants.{Tick}
 use Rattle.xousim.specs.Gathering.{text}
 use Rattle.xousim.specs.Standing.{Stand, stand}
 use Rattle.xousim.proofs.Telling.RestLemmas.{on_from_rest, plays_of_rest, stands_after_run}

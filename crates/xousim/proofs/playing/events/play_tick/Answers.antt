@@ -1,6 +1,6 @@
 use Rattle.std.proofs.Common.{◌≡◌, refl, arith, Ok, Err}
-use Rattle.event_text.specs.declared.event.Event.TheVariants.{Tick}
-use Rattle.xk_kernel.proofs.Running.LimitLemmas.{turn_steps}
+use Rattle.xk_base.specs.declared.events.Event.TheVariants.{Tick}
+use Rattle.machine_history.proofs.Histories.LimitLemmas.{turn_steps}
 use Rattle.xousim.specs.declared.playing.ending.Ending.TheVariants.{Played, LimitMet}
 use Rattle.xousim.specs.Gathering.{text}
 use Rattle.xousim.specs.Standing.{Stand, stand}

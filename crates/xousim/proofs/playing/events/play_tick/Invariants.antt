@@ -1,5 +1,5 @@
 use Rattle.std.proofs.Common.{◌≤◌, Result}
-use Rattle.event_text.specs.declared.event.Event.TheVariants.{Tick}
+use Rattle.xk_base.specs.declared.events.Event.TheVariants.{Tick}
 use Rattle.xk_kernel.specs.Sound.{IsSound, IsUsable, Keeps}
 use Rattle.xk_kernel.specs.State.{machine_of}
 use Rattle.xousim.specs.declared.playing.ending.Ending.{Ending}

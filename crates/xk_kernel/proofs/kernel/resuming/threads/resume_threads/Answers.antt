@@ -1,7 +1,7 @@
 use Rattle.std.proofs.Common.{◌≡◌, ℕ, List, [], length, get_or, Some, None, sym, ap, subst, ◌∙◌, arith}
 use Rattle.std.specs.Prelude.{if◌then◌else◌}
 use Rattle.std.specs.Option.{option_map}
-use Rattle.send_path.specs.Parts.{thread_of}
+use Rattle.xk_parts.specs.Shown.{thread_of}
 use Rattle.suspend_image.specs.Forms.{IsThreadRow}
 use Rattle.suspend_image.specs.Machines.{thread_at_id, thread_of as row_thread, threads_of as state_threads}
 use Rattle.suspend_image.specs.declared.state.ThreadRow.{ThreadRow}

@@ -1,7 +1,7 @@
 use Rattle.std.proofs.Common.{◌≡◌, ◌∙◌, length, Some, None, sym, ap, arith}
 use Rattle.std.specs.Option.{option_map}
 use Rattle.irq_claims.specs.ClaimsOf.{claims_of}
-use Rattle.kill_path.specs.Claims.{claim_of, claims_shown, pending_shown}
+use Rattle.xk_parts.specs.Shown.{claim_of, claims_shown, pending_shown}
 use Rattle.suspend_image.specs.Saveable.{IsClaimSaveable}
 use Rattle.suspend_image.specs.Sheets.{appended}
 use Rattle.suspend_image.specs.Spelling.{claim_bytes}

@@ -1,4 +1,4 @@
-use Rattle.kill_path.specs.Claims.{claims_shown, pending_shown}
+use Rattle.xk_parts.specs.Shown.{claims_shown, pending_shown}
 use Rattle.suspend_image.specs.Sheets.{appended}
 use Rattle.suspend_image.specs.Spelling.{claim_bytes}
 use Rattle.suspend_image.specs.Words.{word}

@@ -1,7 +1,7 @@
 use Rattle.std.proofs.Common.{◌∙◌, sym, ap}
 use Rattle.std.specs.Prelude.{is_some, not}
 use Rattle.process_table.specs.ProcessesOf.{processes_of}
-use Rattle.send_path.specs.Parts.{processes_shown}
+use Rattle.xk_parts.specs.Shown.{processes_shown}
 use Rattle.xk_kernel.proofs.Saving.TableLemmas.{connection_at, count_ends, count_more}
 use Rattle.xk_kernel.proofs.kernel.saving.processes.connection_count.Goals as goal
 

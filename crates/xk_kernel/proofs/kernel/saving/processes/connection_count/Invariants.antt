@@ -1,5 +1,5 @@
 use Rattle.std.proofs.Common.{◌≤◌, length}
-use Rattle.send_path.specs.Parts.{processes_shown}
+use Rattle.xk_parts.specs.Shown.{processes_shown}
 use Rattle.xk_kernel.proofs.kernel.saving.processes.connection_count.Given as goal
 
 -- there are at least so many

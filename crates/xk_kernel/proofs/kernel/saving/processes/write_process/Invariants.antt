@@ -1,6 +1,6 @@
 use Rattle.std.specs.List.{slice_get}
 use Rattle.std.specs.Option.{option_map}
-use Rattle.send_path.specs.Parts.{processes_shown}
+use Rattle.xk_parts.specs.Shown.{processes_shown}
 use Rattle.suspend_image.specs.Words.{word}
 use Rattle.xk_base.specs.declared.ids.Serial.{Serial}
 use Rattle.xk_kernel.proofs.Saving.SheetLemmas.{HasWritten}

@@ -1,5 +1,5 @@
 use Rattle.std.proofs.Common.{◌+◌, refl, arith}
-use Rattle.send_path.specs.Parts.{processes_shown}
+use Rattle.xk_parts.specs.Shown.{processes_shown}
 use Rattle.suspend_image.specs.Spelling.{proc_bytes}
 use Rattle.xk_kernel.specs.Saving.Rows.{proc_at}
 use Rattle.xk_kernel.proofs.Saving.SheetLemmas.{written_more, written_none, written_room, written_appends}

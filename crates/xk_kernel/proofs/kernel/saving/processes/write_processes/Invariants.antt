@@ -1,4 +1,4 @@
-use Rattle.send_path.specs.Parts.{processes_shown}
+use Rattle.xk_parts.specs.Shown.{processes_shown}
 use Rattle.suspend_image.specs.Spelling.{proc_bytes}
 use Rattle.xk_kernel.proofs.Saving.SheetLemmas.{HasWritten}
 use Rattle.xk_kernel.specs.Saving.Rows.{proc_at}

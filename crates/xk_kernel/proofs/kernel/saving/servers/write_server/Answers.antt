@@ -2,7 +2,7 @@ use Rattle.std.proofs.Common.{◌∙◌, length, sym, ap, refl, arith}
 use Rattle.std.proofs.lemmas.List.Elements.{All-append}
 use Rattle.std.specs.Prelude.{map}
 use Rattle.msg_queue.specs.Seats.{message_of, seat_of}
-use Rattle.send_path.specs.Parts.{server_with}
+use Rattle.xk_parts.specs.Shown.{server_with}
 use Rattle.suspend_image.specs.SavedRows.{server_row}
 use Rattle.xk_kernel.specs.Saving.Fitting.{IsMessageFit}
 use Rattle.xk_kernel.specs.Saving.Servers.{table_server}

@@ -1,6 +1,6 @@
 use Rattle.std.proofs.Common.{◌*◌, length, ap, refl, arith}
 use Rattle.server_table.specs.ServersOf.{servers_of}
-use Rattle.send_path.specs.Parts.{servers_shown}
+use Rattle.xk_parts.specs.Shown.{servers_shown}
 use Rattle.suspend_image.specs.Sheets.{appended}
 use Rattle.suspend_image.specs.Spelling.{server_bytes}
 use Rattle.suspend_image.specs.Words.{word}

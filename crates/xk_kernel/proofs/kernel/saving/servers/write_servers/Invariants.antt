@@ -1,5 +1,5 @@
 use Rattle.std.proofs.Common.{◌-◌, ◌≤◌}
-use Rattle.send_path.specs.Parts.{servers_shown}
+use Rattle.xk_parts.specs.Shown.{servers_shown}
 use Rattle.server_table.specs.ServersOf.{servers_of}
 use Rattle.suspend_image.specs.Sheets.{appended}
 use Rattle.suspend_image.specs.Spelling.{server_bytes}

@@ -1,5 +1,5 @@
 use Rattle.std.proofs.Common.{◌≡◌, ◌∙◌, ◌*◌, length, Some, sym, ap, arith}
-use Rattle.send_path.specs.Parts.{thread_of, threads_shown}
+use Rattle.xk_parts.specs.Shown.{thread_of, threads_shown}
 use Rattle.std.specs.Option.{option_map}
 use Rattle.suspend_image.specs.Sheets.{appended}
 use Rattle.suspend_image.specs.Spelling.{thread_bytes}

@@ -1,4 +1,4 @@
-use Rattle.send_path.specs.Parts.{threads_shown}
+use Rattle.xk_parts.specs.Shown.{threads_shown}
 use Rattle.suspend_image.specs.Sheets.{appended}
 use Rattle.suspend_image.specs.Spelling.{thread_bytes}
 use Rattle.suspend_image.specs.Words.{word}
