@@ -12,7 +12,7 @@ static void handle(word number, word server)
 int main(void)
 {
     struct identifier name = {{'d', 'r', 'i', 'v'}};
-    volatile char *console = open_console();
+    volatile char *console = (volatile char *)map_console().word[1];
     word server = create_server_with_address(name).word[5];
 
     claim_interrupt(LINE, (word)handle, server);

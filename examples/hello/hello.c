@@ -3,6 +3,6 @@
 
 int main(void)
 {
-    print(open_console(), "hello\n");
+    print((volatile char *)map_console().word[1], "hello\n");
     return 0;
 }

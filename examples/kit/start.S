@@ -4,6 +4,16 @@
     .section .start, "ax"
     .globl _start
 _start:
+#ifdef CONSTRUCTORS             // functions that run before main, in the order of the linker's list
+    la s0, __init_array_start
+    la s1, __init_array_end
+1:  beq s0, s1, 2f
+    lw t0, 0(s0)
+    jalr t0
+    addi s0, s0, 4
+    j 1b
+2:
+#endif
     call main
     mv a1, a0
     li a0, 22               # TerminateProcess; the words below have no meaning

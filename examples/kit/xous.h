@@ -1,8 +1,9 @@
 /* The system calls of the modelled machine, each as an inline function (docs/calls.md).
  *
  * A call is ECALL with eight words in a0 to a7, and its reply is eight words there. Each function
- * answers the reply as it came: its first word says what it is (enum reply), and where that is
- * ERROR the second word is one of enum error. */
+ * answers the reply as it came: its first word says what it is (enum reply_kind), and where that is
+ * ERROR the second word is one of enum error. A program that takes a word of a reply without a look at
+ * its first one may take an error for an address; checked.h has the calls with their errors apart. */
 #ifndef XOUS_H
 #define XOUS_H
 
@@ -60,6 +61,7 @@ enum reply_kind {
 };
 
 enum error {
+    NO_ERROR = 0, /* of checked.h: the call was served */
     BAD_ALIGNMENT = 1,
     BAD_ADDRESS = 2,
     OUT_OF_MEMORY = 3,
@@ -96,6 +98,15 @@ enum memory_flags {
 };
 
 #define PAGE_SIZE 4096u
+
+/* The stacks that a process has at its start: that of its first thread, whose lowest address is the first here, and
+ * that of its interrupt handlers. There is no page below them, so a store there ends the process:
+ * `fault 15 7fff7ffc` in a transcript, say, or `fault 15 7efffffc` of thread 1. */
+#define FIRST_STACK 0x7FFF8000u
+#define FIRST_STACK_SIZE 0x8000u
+#define HANDLER_STACK 0x7F000000u
+#define HANDLER_STACK_SIZE 0x1000u
+
 #define CONSOLE 0xF0000000u
 #define TIMER_INTERRUPT 20u
 #define TIMER 0xF0001000u
@@ -279,11 +290,12 @@ INLINE struct reply free_interrupt(word number)
     return xous_call(FREE_INTERRUPT, number, 0, 0, 0, 0, 0, 0);
 }
 
-/* The console: one page, whose first byte writes what is stored there. */
+/* The console: one page, whose first byte writes what is stored there. One process at a time can have it: in a
+ * second one the call is refused with MEMORY_IN_USE (checked.h has a form that must be looked at). */
 
-INLINE volatile char *open_console(void)
+INLINE struct reply map_console(void)
 {
-    return (volatile char *)map_memory(CONSOLE, 0, PAGE_SIZE, R | W).word[1];
+    return map_memory(CONSOLE, 0, PAGE_SIZE, R | W);
 }
 
 static inline void print(volatile char *console, const char *text)

@@ -4,7 +4,7 @@
 int main(void)
 {
     struct identifier name = {{'f', 'i', 'l', 'l'}};
-    volatile char *console = open_console();
+    volatile char *console = (volatile char *)map_console().word[1];
     word page = map_memory(0, 0, PAGE_SIZE, R | W).word[1];
     word server = connect(name).word[1];
 

@@ -4,7 +4,7 @@
 int main(void)
 {
     struct identifier name = {{'c', 'o', 'u', 'n'}};
-    volatile char *console = open_console();
+    volatile char *console = (volatile char *)map_console().word[1];
     word server = connect(name).word[1];
 
     send_message(server, SCALAR, 1, 30, 0, 0, 0);

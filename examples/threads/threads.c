@@ -27,7 +27,7 @@ static word join(word thread)
 
 int main(void)
 {
-    volatile char *console = open_console();
+    volatile char *console = (volatile char *)map_console().word[1];
     word heap = increase_heap(2 * STACK).word[1];
     word a = start(heap + STACK, console, 'a');
     word b = start(heap + 2 * STACK, console, 'b');

@@ -8,6 +8,7 @@ ghost use Rattle.kernel_args.specs.Loads.{file_sizes, is_load_outside};
 ghost use Rattle.boot_plan.specs.Sections.{shares_page, has_page, is_executable};
 ghost use Rattle.boot_plan.specs.Faults.{IsFaultAt, section_faults, sections_faults, is_bad_load, is_entry_outside, process_faults, processes_faults, is_ram_too_small, plan_fault};
 ghost use Rattle.boot_plan.specs.FirstPages.{process_pages, process_plan};
+ghost use Rattle.xk_base.specs.declared.limits.TheConstants.{SLOT_LIMIT};
 
 use crate::capacity::capacity_of;
 use crate::faults::{
@@ -175,7 +176,7 @@ fn all_first_pages(processes: &[ProcArgs]) -> u32
 /// room for the first pages.
 fn has_small_ram(args: &Args, asked: Option<u32>) -> bool
     requires sound { IsSoundArgs args.now }
-    requires few_slots { IfSome asked (λ n. n ≤ 16384) }
+    requires few_slots { IfSome asked (λ n. n ≤ SLOT_LIMIT) }
     ensures { result ≡ is_ram_too_small args.now asked }
 {
     let frames = args.ram_size / PAGE_SIZE;
@@ -190,7 +191,7 @@ fn has_small_ram(args: &Args, asked: Option<u32>) -> bool
 pub(crate) fn find_fault(args: &Args, file: &[u8], asked: Option<u32>) -> Option<ArgFault>
     requires sound { IsSoundArgs args.now }
     requires size { length file.now ≤ 67108864 }
-    requires few_slots { IfSome asked (λ n. n ≤ 16384) }
+    requires few_slots { IfSome asked (λ n. n ≤ SLOT_LIMIT) }
     ensures { result ≡ plan_fault args.now file.now asked }
 {
     let found = processes_fault(args.words, file, args.procs.as_slice());

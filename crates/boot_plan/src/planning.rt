@@ -6,6 +6,7 @@ ghost use Rattle.kernel_args.specs.Loads.{file_sizes};
 ghost use Rattle.boot_plan.specs.Faults.{plan_fault, IsPlanFault};
 ghost use Rattle.boot_plan.specs.FirstPages.{process_plan, plan_of};
 ghost use Rattle.boot_plan.specs.Lawful.{IsLawfulPlan, CanStart, EntersExecutable};
+ghost use Rattle.xk_base.specs.declared.limits.TheConstants.{SLOT_LIMIT};
 
 use crate::checks::find_fault;
 use crate::faults::PlanError;
@@ -46,7 +47,7 @@ pub fn plan(
 ) -> Result<BootPlan, PlanError>
     requires sound { IsSoundArgs args.now }
     requires size { length file.now ≤ 67108864 }
-    requires few_slots { IfSome asked (λ n. n ≤ 16384) }
+    requires few_slots { IfSome asked (λ n. n ≤ SLOT_LIMIT) }
     ensures planned { IfOk result (λ p. p ≡ plan_of args.now asked) }
     ensures no_fault { OnOk result (plan_fault args.now file.now asked ≡ None) }
     ensures fault { IfErr result (IsPlanFault args.now file.now asked) }

@@ -4,7 +4,7 @@ use Rattle.std.proofs.lemmas.Grind.{common_steps}
 use Rattle.std.proofs.lemmas.Bool.Decides.{nat_tests}
 use Rattle.std.specs.Prelude.{nat_lt}
 use Rattle.std.specs.List.{onto_first}
-use Rattle.event_text.specs.declared.event.Event.{Event}
+use Rattle.xk_base.specs.declared.events.Event.{Event}
 use Rattle.event_text.specs.declared.event.Line.{Line}
 use Rattle.event_text.specs.declared.event.Line.TheVariants as kind
 use Rattle.event_text.specs.declared.event.NextEvent.TheVariants as answer

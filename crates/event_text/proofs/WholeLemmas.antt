@@ -2,7 +2,7 @@
 use Rattle.std.proofs.Common.{◌≡◌, ℕ, ◌+◌, ◌==◌, List, [], ◌∷◌, ◌++◌, length, drop, refl, ap, sym, ◌∙◌, true, false, Bool, Option, Some, None, append-nil, append_assoc, arith}
 use Rattle.std.proofs.lemmas.Bool.Decides.{nat_tests}
 use Rattle.std.specs.List.{onto_first}
-use Rattle.event_text.specs.declared.event.Event.{Event}
+use Rattle.xk_base.specs.declared.events.Event.{Event}
 use Rattle.event_text.specs.declared.event.Line.{Line}
 use Rattle.event_text.specs.declared.event.Line.TheVariants as kind
 use Rattle.event_text.specs.Lines.{lines_of, whole_lines}

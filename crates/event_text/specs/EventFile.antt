@@ -3,8 +3,8 @@ use Rattle.std.specs.Prelude.{ℕ, ◌+◌, ◌==◌, ◌&&◌, ◌||◌, nat_eq
 use Rattle.std.specs.Cmp.Lexicographic.{pointwise}
 use Rattle.std.specs.Option.{option_map}
 use Rattle.xk_base.specs.declared.limits.TheConstants.{EVENT_LINE_LIMIT, EVENT_FILE_LIMIT}
-use Rattle.event_text.specs.declared.event.Event.{Event}
-use Rattle.event_text.specs.declared.event.Event.TheVariants.{Tick, Pick, Irq, Kill}
+use Rattle.xk_base.specs.declared.events.Event.{Event}
+use Rattle.xk_base.specs.declared.events.Event.TheVariants.{Tick, Pick, Irq, Kill}
 use Rattle.event_text.specs.declared.event.Line.{Line}
 use Rattle.event_text.specs.declared.event.Line.TheVariants.{Blank, Asks, Bad}
 use Rattle.event_text.specs.Lines.{lines_of, without_last, text_of, words_of, number_up_to}

@@ -1,6 +1,6 @@
 -- How a reader is used: bytes are fed in any pieces, the end of the file is said, and events are asked for, in any order.
 use Rattle.std.specs.Prelude.{◌≡◌, ℕ, ◌+◌, Bool, true, false, List, [], ◌∷◌, ◌++◌}
-use Rattle.event_text.specs.declared.event.Event.{Event}
+use Rattle.xk_base.specs.declared.events.Event.{Event}
 use Rattle.event_text.specs.declared.event.NextEvent.{NextEvent}
 use Rattle.event_text.specs.declared.event.NextEvent.TheVariants as answer
 use Rattle.event_text.specs.Lines.{lines_of}

@@ -1,19 +1,6 @@
-//! What an event file asks for, and what a reader answers.
+//! What a reader of an event file answers.
 
-use xk_base::{Pid, Tid};
-
-/// What a line of an event file asks for.
-#[derive(Clone, Copy, Debug, PartialEq, Eq)]
-pub enum Event {
-    /// At most this many steps, and then the turn ends.
-    Tick(u32),
-    /// The turn goes to this thread.
-    Pick(Pid, Tid),
-    /// The interrupt with this number, 0 to 31, comes.
-    Irq(u8),
-    /// The process ends.
-    Kill(Pid),
-}
+use xk_base::Event;
 
 /// What a reader answers when it is asked for the next event.
 #[derive(Clone, Copy, Debug, PartialEq, Eq)]

@@ -10,10 +10,11 @@ mod reader;
 mod tests;
 mod words;
 
-pub use event::{Event, NextEvent};
+pub use event::NextEvent;
 pub use laws::{
     bad_line_again, end_of_file, events_in_order, first_bad_line, no_blank_left,
     whole_lines_answered,
 };
 pub use numbers::read_digits;
 pub use reader::EventReader;
+pub use xk_base::Event;

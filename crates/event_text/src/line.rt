@@ -4,11 +4,11 @@ ghost use Rattle.std.specs.Prelude.{◌≡◌};
 ghost use Rattle.event_text.specs.Lines.{words_of};
 ghost use Rattle.event_text.specs.EventFile.{pick_of, event_of, line_of_text, line_at, is_over};
 
-use crate::event::{Event, Line};
+use crate::event::Line;
 use crate::numbers::{only_number, read_number};
 use crate::words::{next_word, without_last};
 use xk_base::limits::{EVENT_FILE_LIMIT, EVENT_LINE_LIMIT};
-use xk_base::{Pid, Tid};
+use xk_base::{Event, Pid, Tid};
 
 /// The two numbers of a `pick`.
 fn read_pick(text: &[u8]) -> Option<Event>

@@ -2,7 +2,7 @@
 
 ghost use Rattle.std.specs.Prelude.{◌≡◌, ◌+◌, ◌≤◌, ◌<◌, [], ◌∷◌, None, Some, ℕ, false, true, take, length};
 ghost use Rattle.xk_base.specs.declared.limits.TheConstants.{EVENT_FILE_LIMIT};
-ghost use Rattle.event_text.specs.declared.event.Event.{Event};
+ghost use Rattle.xk_base.specs.declared.events.Event.{Event};
 ghost use Rattle.event_text.specs.declared.event.NextEvent.TheVariants as answer;
 ghost use Rattle.event_text.specs.Held.{new_reader, with_bytes, known_line, first_line, can_grow, known_bad, IsWaiting, front_of, is_good, past_line, rest_answer, answer_of, after_next};
 

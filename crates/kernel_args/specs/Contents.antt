@@ -94,7 +94,15 @@ abbrev pub front_entry : List ℕ → Option (Entry × List ℕ)
 front_entry (a ∷ b ∷ c ∷ d ∷ k ∷ l ∷ m ∷ n ∷ bytes) =
     let len = little_number 4 (k ∷ l ∷ m ∷ n ∷ []) in
     if nat_le (padded len) (length bytes)
-    then Some (record { pid = little_number 4 (a ∷ b ∷ c ∷ d ∷ []); name = take len bytes; padding = take (padded len - len) (drop len bytes) }, drop (padded len) bytes)
+    then Some (
+      record {
+        pid = little_number 4 (a ∷ b ∷ c ∷ d ∷ []);
+        name = take len bytes;
+        padding = take (padded len - len)
+            (drop len bytes);
+      },
+      drop (padded len) bytes,
+    )
     else None
 front_entry bytes = None
 

@@ -59,7 +59,8 @@ converted_tags ps (t ∷ ts) =
 unfoldable pub converted : List ℕ → Args → List ℕ
 converted bytes args =
     let new = converted_args bytes args in
-    flat_map tag_bytes (header_tag new ∷ converted_tags new.procs (tags_in (row_behind_header args.words bytes))) ++ drop (4 * args.words) bytes
+    flat_map tag_bytes (header_tag new ∷ converted_tags new.procs (tags_in (row_behind_header args.words bytes)))
+    ++ drop (4 * args.words) bytes
 
 -- the image has the row of tags that the arguments say, and a first tag in it
 pub record IsRowOf (args : Args) (bytes : List ℕ) : Type 0 where

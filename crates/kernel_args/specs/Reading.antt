@@ -68,7 +68,8 @@ parts_in f = record { procs = f.procs; names = f.names; slots = option_to_list f
 
 -- what stands before a tag at this offset, behind tags in which these parts were found
 abbrev pub before_with : ℕ → ℕ → Found → Before
-before_with version offset f = record { version = version; offset = offset; processes = length f.procs; slots = length (option_to_list f.slots) }
+before_with version offset f =
+    record { version = version; offset = offset; processes = length f.procs; slots = length (option_to_list f.slots) }
 
 -- parts and then others
 abbrev pub joined : Parts → Parts → Parts

@@ -81,7 +81,8 @@ fn append_converted_tag<'a>(
     requires procs { AllByRecursion (CanMove file.now sizes.old sizes.new) procs.now }
     ensures bytes { IfOk result (λ left. (ts : List Tag)
         → out.new ++ flat_map tag_bytes (converted_tags (map (converted_process file.now sizes.old sizes.new) left.now) ts)
-        ≡ out.old ++ flat_map tag_bytes (converted_tags (map (converted_process file.now sizes.old sizes.new) procs.now) (tag_of tag.now ∷ ts))) }
+        ≡ out.old ++ flat_map tag_bytes
+        (converted_tags (map (converted_process file.now sizes.old sizes.new) procs.now) (tag_of tag.now ∷ ts))) }
     ensures left { IfOk result (λ left. AllByRecursion (CanMove file.now sizes.old sizes.new) left.now) }
 {
     if tag.name == b"IniE".as_slice() {
@@ -107,7 +108,8 @@ fn append_converted_tags(
     requires tags { AllByRecursion IsRightTag (tags_in row.now) }
     requires procs { AllByRecursion (CanMove file.now sizes.old sizes.new) procs.now }
     ensures { OnOk result (out.new
-        ≡ out.old ++ flat_map tag_bytes (converted_tags (map (converted_process file.now sizes.old sizes.new) procs.now) (tags_in row.now))) }
+        ≡ out.old ++ flat_map tag_bytes
+        (converted_tags (map (converted_process file.now sizes.old sizes.new) procs.now) (tags_in row.now))) }
 {
     let mut procs = procs;
     let mut rest = row;

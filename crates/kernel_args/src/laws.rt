@@ -19,7 +19,9 @@ pub fn spelled_once_or_faulty()
 /// An image of version 1 that can be converted becomes one that spells the converted arguments, and so has no fault of
 /// the row of tags; each process has the bytes that it had. The function does nothing; its contract is the law.
 pub fn converted_is_spelled()
-    ensures spelled { (bytes : List ℕ) (args : Args) → IsConvertible bytes args → Spells (converted bytes args) (converted_args bytes args) }
+    ensures spelled { (bytes : List ℕ) (args : Args) → IsConvertible bytes args
+        → Spells (converted bytes args) (converted_args bytes args) }
     ensures bytes_kept { (bytes : List ℕ) (args : Args) → IsConvertible bytes args
-        → All (λ p. loaded_bytes (converted bytes args) (converted_process bytes (4 * args.words) (converted_row bytes args) p) ≡ loaded_bytes bytes p) args.procs }
+        → All (λ p. loaded_bytes (converted bytes args) (converted_process bytes (4 * args.words) (converted_row bytes args) p)
+        ≡ loaded_bytes bytes p) args.procs }
 {}

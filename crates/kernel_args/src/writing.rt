@@ -5,6 +5,7 @@ ghost use Rattle.std.specs.List.{flat_map, AllByRecursion};
 ghost use Rattle.kernel_args.specs.Contents.{IsSection, IsProcess};
 ghost use Rattle.kernel_args.specs.Image.{process_limit as process_limit_of, Spells};
 ghost use Rattle.kernel_args.specs.Writing.{with_size, with_load, header_row, slots_row, process_row, row_size, names_row, names_contents as names_contents_of, HasPid, IsWritable, written};
+ghost use Rattle.xk_base.specs.declared.limits.TheConstants.{SLOT_LIMIT};
 
 use crate::appending::{
     append_tag, header_contents, names_contents, process_contents, slots_contents,
@@ -115,7 +116,8 @@ fn names_size(names: &[ProcName]) -> Option<usize>
 /// field doesn't hold it.
 fn names_tag_size(names: &[ProcName]) -> Option<usize>
     ensures { MatchOption result (4 * 65536 ≤ length (names_contents_of names.now))
-        (λ n. All HasPid names.now × (n ≡ length (names_row names.now)) × (length (names_contents_of names.now) < 4 * 65536) × (n < 8 + 4 * 65536)) }
+        (λ n. All HasPid names.now × (n ≡ length (names_row names.now)) × (length (names_contents_of names.now) < 4 * 65536)
+        × (n < 8 + 4 * 65536)) }
 {
     let size = names_size(names)?;
     if names.is_empty() {
@@ -141,7 +143,7 @@ fn slots_size(slots: Option<u32>) -> usize
 
 /// Whether the number of slots can be given in an image of this version.
 fn are_slots(version: u32, slots: Option<u32>) -> bool
-    ensures { IsTrue result ↔ IfSome slots (λ n. (version ≡ 2) × (n ≤ 16384)) }
+    ensures { IsTrue result ↔ IfSome slots (λ n. (version ≡ 2) × (n ≤ SLOT_LIMIT)) }
 {
     slots.is_none_or(|n| version == SECOND_VERSION && n <= SLOT_LIMIT)
 }

@@ -1,5 +1,6 @@
 -- In a matched machine each message's loan is its own, and by the number of a message without one nothing is on loan. So sound parts
 -- can lose messages, and all their servers can close.
+use Rattle.xk_ports.specs.declared.store.SwapStore.{Ghosts as SwapStore}
 use Rattle.std.proofs.Common.{◌≡◌, ℕ, ◌+◌, ◌<◌, ◌≤◌, Bool, true, false, List, get_or, length, inl, inr, Option, Some, None, refl, sym, ap, subst, ◌∙◌, arith}
 use Rattle.std.specs.Prelude.{All, IfSome, if◌then◌else◌, is_some, nat_le, nat_lt}
 use Rattle.std.specs.List.{list_any}
@@ -192,26 +193,26 @@ module _ (m : Machine) (matched : Matched m) (t : Servers) (q : List Seat) (same
 
 -- ---- sound parts
 
-module _ {W : Type 0} (slot_count : W → ℕ) (held : W → HeldBytes) (who : ThreadId) (old : Parts W) (sound : IsSound slot_count held who old) where
+module _ {W : Type 0} (S : SwapStore W) (who : ThreadId) (old : Parts W) (sound : IsSound S who old) where
   abbrev m0 : Machine
-  m0 = with_parts held who old sound.machine
+  m0 = with_parts S.held who old sound.machine
 
   pub few_processes : process_count old.tables.threads ≤ 64
   unfolding with_parts with_tables
   few_processes = sound.matched.body.processes.few
 
   -- sound parts can lose messages ..
-  pub sound_open : AreOpen (loans (ledger held old.mem)) old.tables.servers old.tables.queues
+  pub sound_open : AreOpen (loans (ledger S.held old.mem)) old.tables.servers old.tables.queues
   unfolding with_parts with_tables
   sound_open =
-      matched_open m0 sound.matched old.tables.servers old.tables.queues refl sound.seats (loans (ledger held old.mem)) sound.matched.body.loans sound.loans
+      matched_open m0 sound.matched old.tables.servers old.tables.queues refl sound.seats (loans (ledger S.held old.mem)) sound.matched.body.loans sound.loans
 
   -- .. and all their servers be closed
-  pub sound_servers : AreServersSound (processes old.mem) (loans (ledger held old.mem)) old.tables.servers old.tables.queues
+  pub sound_servers : AreServersSound (processes old.mem) (loans (ledger S.held old.mem)) old.tables.servers old.tables.queues
   unfolding with_parts with_tables
   sound_servers =
-      subst (λ n. AreServersSound n (loans (ledger held old.mem)) old.tables.servers old.tables.queues) sound.processes
-      (servers_of_matched m0 sound.matched old.tables.servers old.tables.queues refl sound.seats (loans (ledger held old.mem)) sound.matched.body.loans
+      subst (λ n. AreServersSound n (loans (ledger S.held old.mem)) old.tables.servers old.tables.queues) sound.processes
+      (servers_of_matched m0 sound.matched old.tables.servers old.tables.queues refl sound.seats (loans (ledger S.held old.mem)) sound.matched.body.loans
       sound.loans)
 
 -- Parts that are sound but for the memory, with loans that a call on them left alone.

@@ -1,4 +1,5 @@
 -- The death of a process over the parts: what it takes, when that is sound, and which change of the machine it is.
+use Rattle.xk_ports.specs.declared.store.SwapStore.{Ghosts as SwapStore}
 use Rattle.std.specs.Prelude.{◌≡◌, ℕ}
 use Rattle.irq_claims.specs.declared.claims.Claims.{Claims}
 use Rattle.ledger_model.specs.Loans.{loans}
@@ -37,16 +38,16 @@ with_all_parts held all m = record (with_parts held m.cursor all.parts m) {
   pending = pending_shown all.claims;
 }
 
-pub record AreAllSound {W : Type 0} (slot_count : W → ℕ) (held : W → Held) (all : AllParts W) : Type 0 where
+pub record AreAllSound {W : Type 0} (S : SwapStore W) (all : AllParts W) : Type 0 where
   -- they are those of a matched machine
   pub machine : Machine
-  pub matched : Matched (with_all_parts held all machine)
+  pub matched : Matched (with_all_parts S.held all machine)
   -- the memory is sound, and was made for as many processes as the tables were
-  pub mem : IsMemorySound slot_count all.parts.mem
+  pub mem : IsMemorySound S.slot_count all.parts.mem
   pub threads : process_count all.parts.tables.threads ≡ processes all.parts.mem
   pub procs : made_for all.procs ≡ processes all.parts.mem
   pub seats : AreSeatsSound (servers_of all.parts.tables.servers) all.parts.tables.queues
-  pub loans : AreLoansSound (loans (ledger held all.parts.mem)) (servers_of all.parts.tables.servers) all.parts.tables.queues
+  pub loans : AreLoansSound (loans (ledger S.held all.parts.mem)) (servers_of all.parts.tables.servers) all.parts.tables.queues
 
 -- ---- the death
 
@@ -64,4 +65,5 @@ disarmed_with pid claims m = record m { compare = disarmed_if (is_claim_of pid (
 abbrev pub Dies : {W : Type 0} → (W → Held) → Pid → AllParts W → AllParts W → Type 0
 Dies held pid old new =
     (m : Machine)
-    → IsDeath pid (with_all_parts held old m) (with_all_parts held new (disarmed_with pid old.claims m)) old.parts.tables.log new.parts.tables.log
+    → IsDeath pid (with_all_parts held old m)
+    (with_all_parts held new (disarmed_with pid old.claims m)) old.parts.tables.log new.parts.tables.log

@@ -78,5 +78,6 @@ AreOfOthers pid seat = All (λ h. is_sent_from pid h.msg ≡ false) (messages_at
 -- What the death of the process makes of the ledger and of the servers was made of them.
 pub record HasLeft (procs : ℕ) (pid : Pid) (old new : Closable) : Type 0 where
   pub ledger : (m : Machine)
-      → new.ledger ≡ orphan_loans procs (is_held_from pid (with_servers old m)) (end_loans (is_queued_from pid (with_servers old m)) old.ledger)
+      → new.ledger ≡ orphan_loans procs (is_held_from pid (with_servers old m))
+      (end_loans (is_queued_from pid (with_servers old m)) old.ledger)
   pub servers : (n : ℕ) → servers_shown new.servers new.seats n ≡ option_map (left_by pid) (servers_shown old.servers old.seats n)

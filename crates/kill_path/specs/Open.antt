@@ -29,7 +29,8 @@ IsLoanFit all pid h = IsLoanFitOf all pid h.msg h.loan
 -- of the messages of each live server, whatever its senders are about
 pub record AreOpen (all : Loans) (t : Servers) (q : List Seat) : Type 0 where
   pub seats : AreSeatsSound (servers_of t) q
-  pub fit : (n : ℕ) (server : Server) → (servers_of t).live n ≡ Some server → All (IsLoanFit all server.pid) (messages_at (seat_of q server.seat))
+  pub fit : (n : ℕ) (server : Server) → (servers_of t).live n ≡ Some server
+      → All (IsLoanFit all server.pid) (messages_at (seat_of q server.seat))
   pub senders : (n : ℕ) (server : Server) → (servers_of t).live n ≡ Some server → All HasKnownSender (messages_at (seat_of q server.seat))
   -- no two messages have one number
   pub numbers : (number : Number) → HasAtMostOne (servers_shown t q) (is_of_number number)

@@ -22,4 +22,5 @@ destroy_row serial m = Served (destroy_change serial m)
 -- A call of the thread that always succeeds is this row, whatever the rest of the machine is.
 abbrev pub DoesRow : {W : Type 0} → (W → Held) → (Machine → Outcome) → ThreadId → Parts W → Parts W → Type 0
 DoesRow held row who old new =
-    (m : Machine) → IsServed (row (with_parts held who old m)) (with_parts held who old m) (with_parts held who new m) old.tables.log new.tables.log
+    (m : Machine) → IsServed (row (with_parts held who old m)) (with_parts held who old m)
+    (with_parts held who new m) old.tables.log new.tables.log

@@ -32,7 +32,7 @@ pub(crate) fn spend<W: SwapStore>(mem: &mut Memory<W>, ended: Held) -> Option<Th
     requires loan { IsEndable (loans (ledger W.held mem.old)) ended }
     ensures sender { result ≡ ended.msg.sender }
     ensures ledger { ledger W.held mem.new ≡ end_loan ended.msg.number (ledger W.held mem.old) }
-    ensures stays { Stays W.slot_count W.is_honest W.held mem.old mem.new }
+    ensures stays { Stays W.SwapStore mem.old mem.new }
 {
     let Held { msg, loan } = ended;
     match loan {
@@ -62,7 +62,7 @@ pub(crate) fn end_message<W: SwapStore>(mem: &mut Memory<W>, answered: &mut Answ
     requires sender { IfSome ended.msg.sender (λ id. is_thread_id PROCESS_LIMIT id ≡ true) }
     ensures ledger { ledger W.held mem.new ≡ end_loan ended.msg.number (ledger W.held mem.old) }
     ensures noted { noted answered.new ≡ with_sender ended.msg.sender (noted answered.old) }
-    ensures stays { Stays W.slot_count W.is_honest W.held mem.old mem.new }
+    ensures stays { Stays W.SwapStore mem.old mem.new }
 {
     let sender = spend(mem, ended);
     note_sender(answered, sender);
@@ -105,7 +105,7 @@ fn end_seat<W: SwapStore>(
     ensures ledger { ledger W.held mem.new ≡ end_loans (is_number_in (messages_at (seat_in queues.old seat))) (ledger W.held mem.old) }
     ensures noted { noted answered.new ≡ with_senders (messages_at (seat_in queues.old seat)) (noted answered.old) }
     ensures queues { queues.new ≡ changed_at seat emptied queues.old }
-    ensures stays { Stays W.slot_count W.is_honest W.held mem.old mem.new }
+    ensures stays { Stays W.SwapStore mem.old mem.new }
 {
     while let Some(ended) = take_first(queues, seat) {
         end_message(mem, answered, ended);
@@ -128,7 +128,7 @@ pub(crate) fn close_server<W: SwapStore>(
         let new = closable (ledger W.held mem.new) servers.new queues.new (noted answered.new) in
         AreClosed (λ n. n == serial.0) old new }
     ensures messages { AreOpen (loans (ledger W.held mem.new)) servers.new queues.new }
-    ensures stays { Stays W.slot_count W.is_honest W.held mem.old mem.new }
+    ensures stays { Stays W.SwapStore mem.old mem.new }
 {
     end_seat(mem, queues, answered, seat);
     servers.remove(serial);
@@ -159,7 +159,7 @@ pub(crate) fn close_servers<W: SwapStore>(
         let new = closable (ledger W.held mem.new) servers.new queues.new (noted answered.new) in
         AreClosed (λ n. is_server_of pid (servers_shown servers.old queues.old n)) old new }
     ensures messages { AreOpen (loans (ledger W.held mem.new)) servers.new queues.new }
-    ensures stays { Stays W.slot_count W.is_honest W.held mem.old mem.new }
+    ensures stays { Stays W.SwapStore mem.old mem.new }
 {
     while let Some(serial) = servers.any_of(pid) {
         let seat = seat_of(servers, serial);

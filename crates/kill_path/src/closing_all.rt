@@ -25,7 +25,7 @@ pub fn close_all<W: SwapStore>(mem: &mut Memory<W>, servers: &mut Servers, queue
     requires servers { AreServersSound (processes mem.old) (loans (ledger W.held mem.old)) servers.old queues.old }
     ensures no_loan { (number : MessageNumber) → IsFresh (loans (ledger W.held mem.new)) number }
     ensures empty { All (λ seat. used_of seat ≡ 0) queues.new }
-    ensures stays { Stays W.slot_count W.is_honest W.held mem.old mem.new }
+    ensures stays { Stays W.SwapStore mem.old mem.new }
 {
     let mut untold = Answered::new();
     for k in 0..PROCESS_LIMIT {

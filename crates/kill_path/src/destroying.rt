@@ -47,12 +47,12 @@ pub fn destroy<W: SwapStore>(
     requires live { IsSome ((servers_of servers.old).live s.0) }
     requires ready { is_ready (threads_of threads.old who) ≡ true }
     requires room { length log.old.records + thread_ids (process_count threads.old) ≤ log.old.room }
-    requires sound { IsSound W.slot_count W.held who (parts_of mem.old threads.old servers.old queues.old log.old) }
+    requires sound { IsSound W.SwapStore who (parts_of mem.old threads.old servers.old queues.old log.old) }
     ensures row { let old = parts_of mem.old threads.old servers.old queues.old log.old in
         let new = parts_of mem.new threads.new servers.new queues.new log.new in
         DoesRow W.held (destroy_row s) who old new }
-    ensures sound { IsSound W.slot_count W.held who (parts_of mem.new threads.new servers.new queues.new log.new) }
-    ensures mem { KeepsMemory W.is_honest W.held mem.old mem.new }
+    ensures sound { IsSound W.SwapStore who (parts_of mem.new threads.new servers.new queues.new log.new) }
+    ensures mem { KeepsMemory W.SwapStore mem.old mem.new }
 {
     let mut noted_ids = Answered::new();
     noted_ids.note(who);

@@ -43,14 +43,14 @@ pub fn kill<W: SwapStore>(
     requires usable { IsUsable mem.old }
     requires room { length log.old.records + thread_ids (process_count threads.old) ≤ log.old.room }
     requires sound { let parts = parts_of mem.old threads.old servers.old queues.old log.old in
-        AreAllSound W.slot_count W.held (record { parts = parts; procs = procs.old; claims = claims.old }) }
+        AreAllSound W.SwapStore (record { parts = parts; procs = procs.old; claims = claims.old }) }
     ensures death { let old = parts_of mem.old threads.old servers.old queues.old log.old in
         let new = parts_of mem.new threads.new servers.new queues.new log.new in
         Dies W.held pid (record { parts = old; procs = procs.old; claims = claims.old })
         (record { parts = new; procs = procs.new; claims = claims.new }) }
     ensures sound { let parts = parts_of mem.new threads.new servers.new queues.new log.new in
-        AreAllSound W.slot_count W.held (record { parts = parts; procs = procs.new; claims = claims.new }) }
-    ensures mem { KeepsMemory W.is_honest W.held mem.old mem.new }
+        AreAllSound W.SwapStore (record { parts = parts; procs = procs.new; claims = claims.new }) }
+    ensures mem { KeepsMemory W.SwapStore mem.old mem.new }
 {
     let mut noted_ids = Answered::new();
     close_servers(mem, servers, queues, &mut noted_ids, pid);

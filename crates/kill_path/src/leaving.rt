@@ -37,7 +37,7 @@ fn leave_alone<W: SwapStore>(mem: &mut Memory<W>, held: Held) -> Held
     requires loan { IsOrphanable (loans (ledger W.held mem.old)) held }
     ensures left { result ≡ alone held }
     ensures ledger { ledger W.held mem.new ≡ orphan_loan (processes mem.old) held.msg.number (ledger W.held mem.old) }
-    ensures stays { Stays W.slot_count W.is_honest W.held mem.old mem.new }
+    ensures stays { Stays W.SwapStore mem.old mem.new }
 {
     let Held { msg, loan } = held;
     match loan {
@@ -59,10 +59,11 @@ fn leave_held<W: SwapStore>(mem: &mut Memory<W>, queues: &mut Queues, seat: u8, 
     requires seat { seat < SERVER_LIMIT }
     requires seats { length queues.old ≡ SERVER_LIMIT }
     requires there { IsSome (of_number number (seat_of queues.old seat).held) }
-    requires loan { (h : HeldMessage) → of_number number (seat_of queues.old seat).held ≡ Some h → IsOrphanable (loans (ledger W.held mem.old)) h }
+    requires loan { (h : HeldMessage) → of_number number (seat_of queues.old seat).held ≡ Some h
+        → IsOrphanable (loans (ledger W.held mem.old)) h }
     ensures queues { queues.new ≡ changed_at seat (with_alone number) queues.old }
     ensures ledger { ledger W.held mem.new ≡ orphan_loan (processes mem.old) number (ledger W.held mem.old) }
-    ensures stays { Stays W.slot_count W.is_honest W.held mem.old mem.new }
+    ensures stays { Stays W.SwapStore mem.old mem.new }
 {
     let Some(place) = queues.held_place(seat, number) else {
         unreachable!()
@@ -85,7 +86,7 @@ fn leave_message<W: SwapStore>(mem: &mut Memory<W>, queues: &mut Queues, seat: u
     ensures ledger { let queued = is_queued number (seat_of queues.old seat) in
         let old = ledger W.held mem.old in
         ledger W.held mem.new ≡ (if queued then end_loan number old else orphan_loan (processes mem.old) number old) }
-    ensures stays { Stays W.slot_count W.is_honest W.held mem.old mem.new }
+    ensures stays { Stays W.SwapStore mem.old mem.new }
 {
     match queues.take_queued(seat, number) {
         Some(ended) => {
@@ -113,7 +114,7 @@ fn leave_seat<W: SwapStore>(
     ensures messages { AreOpen (loans (ledger W.held mem.new)) servers.now queues.new }
     ensures left { AreOfOthers pid (seat_of queues.new seat) }
     ensures others { (other : ℕ) → other ≢ seat → seat_of queues.new other ≡ seat_of queues.old other }
-    ensures stays { Stays W.slot_count W.is_honest W.held mem.old mem.new }
+    ensures stays { Stays W.SwapStore mem.old mem.new }
 {
     if servers.at_seat(seat).is_none() {
         return;
@@ -137,7 +138,7 @@ pub(crate) fn leave_servers<W: SwapStore>(
         let new = standing (ledger W.held mem.new) servers.now queues.new in
         HasLeft (processes mem.old) pid old new }
     ensures messages { AreOpen (loans (ledger W.held mem.new)) servers.now queues.new }
-    ensures stays { Stays W.slot_count W.is_honest W.held mem.old mem.new }
+    ensures stays { Stays W.SwapStore mem.old mem.new }
 {
     for seat in 0..SERVER_LIMIT {
         leave_seat(mem, servers, queues, seat as u8, pid);

@@ -27,16 +27,19 @@ window_place pid window k = record { pid = pid; vpn = record { 0 = first_page wi
 -- the least first page number of a free run of n places that lies in the window, or None where there is none
 unfoldable pub least_run : ℕ → Ledger → Pid → Window → ℕ → Option Vpn
 least_run procs ledger pid window n = option_map (λ k. (window_place pid window k).vpn)
-    (least_below (window_pages window) (λ k. nat_le (k + n) (window_pages window) && is_free_run procs ledger (window_place pid window k) n))
+    (least_below (window_pages window)
+    (λ k. nat_le (k + n) (window_pages window) && is_free_run procs ledger (window_place pid window k) n))
 
 -- What the least run is: it is free, it lies in the window, and no run that begins before it in the window is free.
 pub record IsLeastRun (procs : ℕ) (ledger : Ledger) (pid : Pid) (window : Window) (n : ℕ) (first : Vpn) : Type 0 where
   pub free : IsTrue (is_free_run procs ledger (record { pid = pid; vpn = first }) n)
   pub low : first_page window ≤ first.0
   pub high : first.0 + n ≤ last_page window + 1
-  pub least : (earlier : Vpn) → first_page window ≤ earlier.0 → earlier.0 < first.0 → IsFalse (is_free_run procs ledger (record { pid = pid; vpn = earlier }) n)
+  pub least : (earlier : Vpn) → first_page window ≤ earlier.0 → earlier.0 < first.0
+      → IsFalse (is_free_run procs ledger (record { pid = pid; vpn = earlier }) n)
 
 -- no run of n places that lies in the window is free
 abbrev pub HasNoRun : ℕ → Ledger → Pid → Window → ℕ → Type 0
 HasNoRun procs ledger pid window n =
-    (first : Vpn) → first_page window ≤ first.0 → first.0 + n ≤ last_page window + 1 → IsFalse (is_free_run procs ledger (record { pid = pid; vpn = first }) n)
+    (first : Vpn) → first_page window ≤ first.0 → first.0 + n ≤ last_page window + 1
+    → IsFalse (is_free_run procs ledger (record { pid = pid; vpn = first }) n)

@@ -76,7 +76,8 @@ orphan_of_number number o = option_and_then (λ loan. if same_number loan.number
 
 -- the loan that a run with this lender makes at a home: of the i-th place of the lender's run to the i-th of the holder's
 abbrev pub lent_from : LoanRun → Place → Place → Option PageLoan
-lent_from r from p = if in_run from r.count p then Some (record { holder = moved from r.holder p; kind = r.kind; number = r.number }) else None
+lent_from r from p = if in_run from r.count p
+    then Some (record { holder = moved from r.holder p; kind = r.kind; number = r.number }) else None
 
 abbrev pub loan_of_run : LoanRun → Place → Option PageLoan
 loan_of_run r p = option_and_then (λ from. lent_from r from p) r.lender

@@ -52,7 +52,8 @@ pub fn sendable_pages_may_be_lent()
 pub fn loan_stands_once_lent()
     ensures { (procs : ℕ) (from : Place) (n : ℕ) (to : Place) (kind : LoanKind) (number : Number) (ledger : Ledger)
         → CanLend procs ledger from n to kind number
-        → Stands (loans (lend from n to kind number ledger)) (record { lender = Some from; holder = to; count = n; kind = kind; number = number }) }
+        → Stands (loans (lend from n to kind number ledger))
+        (record { lender = Some from; holder = to; count = n; kind = kind; number = number }) }
 {}
 
 /// A loan that is passed on stands at its new holder's places.
@@ -138,7 +139,8 @@ pub fn page_on_loan_keeps_its_right()
 /// home, without a loan, with the right from just before the lend, and under a Shared loan with the
 /// bytes from then.
 pub fn loan_gives_back()
-    ensures { (procs capacity : ℕ) (from : Place) (n : ℕ) (to : Place) (kind : LoanKind) (number : Number) (ledger : Ledger) (steps : List LedgerStep)
+    ensures { (procs capacity : ℕ) (from : Place) (n : ℕ) (to : Place) (kind : LoanKind) (number : Number) (ledger : Ledger)
+        (steps : List LedgerStep)
         → IsLawful procs capacity ledger → CanLend procs ledger from n to kind number
         → MayAll procs capacity steps (lend from n to kind number ledger) → NoneEnds number steps
         → (i : ℕ) (page : Page) → i < n → ledger.home (place_after from i) ≡ Some page

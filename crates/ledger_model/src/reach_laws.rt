@@ -72,7 +72,8 @@ pub fn page_is_reached_from_two_places()
     ensures { (procs : ℕ) (ledger : Ledger) (p : Place) (access : Access) (name : PageName)
         → reach procs ledger p access ≡ Some name
         → (name ≡ Homed p)
-        ⊎ ((name ≡ Orphaned p) ⊎ ((q : Place) × (loan : PageLoan) × (loan_at ledger q ≡ Some loan) × (loan.holder ≡ p) × (name ≡ Homed q))) }
+        ⊎ ((name ≡ Orphaned p)
+        ⊎ ((q : Place) × (loan : PageLoan) × (loan_at ledger q ≡ Some loan) × (loan.holder ≡ p) × (name ≡ Homed q))) }
 {}
 
 /// The console is loaded by its owner, stored to where its right has w, and never fetched.

@@ -252,7 +252,8 @@ pub(crate) fn forget_page(ram: &mut Ram, owners: &mut Owners, loan: LoanInfo)
     ensures step { IsLedgerStep (forget_orphans (in_run loan.holder 1)) (tables ram.old owners.old) (tables ram.new owners.new) }
     ensures others { (p : Place) → p ≢ loan.holder
         → entries_of (tables ram.new owners.new) p ≡ entries_of (tables ram.old owners.old) p }
-    ensures infos { (t : Seat) → t ≢ seat_in (entries_of (tables ram.old owners.old) loan.holder) → infos owners.new t ≡ infos owners.old t }
+    ensures infos { (t : Seat) → t ≢ seat_in (entries_of (tables ram.old owners.old) loan.holder)
+        → infos owners.new t ≡ infos owners.old t }
     ensures keeps { KeepsPages (tables ram.old owners.old) (tables ram.new owners.new) }
 {
     let seat = seat_at(ram, owners, loan);

@@ -133,7 +133,8 @@ pub fn orphan_run(ram: &mut Ram, owners: &mut Owners, loan: Loan) -> Loan
     requires lent { IsTrue (is_some loan.lender) }
     ensures loan { result ≡ without_lender loan }
     ensures agrees { agrees ram.new owners.new }
-    ensures step { IsLedgerStep (orphan_loan (processes (tables ram.old owners.old)) loan.number) (tables ram.old owners.old) (tables ram.new owners.new) }
+    ensures step { IsLedgerStep (orphan_loan (processes (tables ram.old owners.old)) loan.number) (tables ram.old owners.old)
+        (tables ram.new owners.new) }
     ensures stands { StandsIn (entries_of (tables ram.new owners.new)) (infos owners.new) result }
     ensures others { (from : Place) → loan.lender ≡ Some from → (p : Place) → IsFalse (in_run from loan.count p)
         → entries_of (tables ram.new owners.new) p ≡ entries_of (tables ram.old owners.old) p }

@@ -76,7 +76,8 @@ pub fn retry_ends_the_turn()
 /// The loans of a set of messages end one at a time.
 #[tactic(auto, using(crate::proofs::Messaging::LoanSetLemmas::one_more_ends))]
 pub fn loans_end_one_at_a_time()
-    ensures { (ends : Number → Bool) (number : Number) (l : Ledger) → end_loan number (end_loans ends l) ≡ end_loans (λ n. ends n || same_number n number) l }
+    ensures { (ends : Number → Bool) (number : Number) (l : Ledger)
+        → end_loan number (end_loans ends l) ≡ end_loans (λ n. ends n || same_number n number) l }
 {}
 
 /// Where no number is in the set, no loan ends.

@@ -22,7 +22,8 @@ pub fn next_ready_is_ready()
 /// Where there is no next ready thread, no thread is Ready.
 #[tactic(auto, using(crate::proofs::StepLemmas::none_is_ready))]
 pub fn none_ready_without_next()
-    ensures { (m : Machine) (c d : ThreadId) → is_pid m.processes c.pid.0 ≡ true → next_ready m c ≡ None → is_thread_id m.processes d ≡ true → ready_at m d ≡ false }
+    ensures { (m : Machine) (c d : ThreadId) → is_pid m.processes c.pid.0 ≡ true → next_ready m c ≡ None → is_thread_id m.processes d ≡ true
+        → ready_at m d ≡ false }
 {}
 
 /// A step counts one.
@@ -64,7 +65,8 @@ pub fn arguments_are_given()
 /// Eight words in a0 to a7 leave every other register as it was.
 #[tactic(auto, using(crate::proofs::Calling::ArgumentLemmas::others_stay))]
 pub fn other_registers_stay()
-    ensures { (words regs : List ℕ) (r : ℕ) → length words ≡ 8 → length regs ≡ 32 → (r < 10) ⊎ (18 ≤ r) → reg_at (with_arguments words regs) r ≡ reg_at regs r }
+    ensures { (words regs : List ℕ) (r : ℕ) → length words ≡ 8 → length regs ≡ 32 → (r < 10) ⊎ (18 ≤ r)
+        → reg_at (with_arguments words regs) r ≡ reg_at regs r }
 {}
 
 /// The timer raises only where its compare value is the number of steps done, and is disarmed as it

@@ -106,11 +106,17 @@ pub holder : Server
 holder = unwrap_or (server_at lending_rest (send_cid rest_words)) server
 
 rest_there : server_at lending_rest (send_cid rest_words) ≡ Some holder
-unfolding rest_words holder lending_rest refusal_left after_from words server receiver lend send_call any_console lending after_all small_machine call call_settled settled least_below listed_below listed_ids count_below with_sid live_servers create_server_call connect_call receive_call increase_call create_call free_tid pages count_places place_at any_free any_on_loan any_lacks make run is_free role_at lender_of first_place
+unfolding rest_words holder lending_rest refusal_left after_from words server receiver lend send_call any_console lending after_all
+    small_machine call call_settled settled least_below listed_below listed_ids count_below with_sid live_servers create_server_call
+    connect_call receive_call increase_call create_call free_tid pages count_places place_at any_free any_on_loan any_lacks make run is_free
+    role_at lender_of first_place
 rest_there = refl
 
 first_used : is_free_run lending_rest.processes lending_rest.ledger (window_place holder.pid Message 0) (sent_pages rest_words) ≡ false
-unfolding rest_words holder is_free_run lending_rest refusal_left after_from words server receiver lend send_call any_console lending after_all small_machine call call_settled settled least_below listed_below listed_ids count_below with_sid live_servers create_server_call connect_call receive_call increase_call create_call free_tid pages count_places place_at any_free any_on_loan any_lacks make run is_free role_at lender_of first_place
+unfolding rest_words holder is_free_run lending_rest refusal_left after_from words server receiver lend send_call any_console lending
+    after_all small_machine call call_settled settled least_below listed_below listed_ids count_below with_sid live_servers
+    create_server_call connect_call receive_call increase_call create_call free_tid pages count_places place_at any_free any_on_loan
+    any_lacks make run is_free role_at lender_of first_place
 first_used = refl
 
 none_before : (j : ℕ) → j < 1 → is_free_run lending_rest.processes lending_rest.ledger (window_place holder.pid Message j) (sent_pages rest_words) ≡ false
@@ -118,7 +124,10 @@ none_before zero l = first_used
 none_before (suc j) l = absurd (omega arith)
 
 rest_free : is_free_run lending_rest.processes lending_rest.ledger (window_place holder.pid Message 1) (sent_pages rest_words) ≡ true
-unfolding rest_words holder is_free_run lending_rest refusal_left after_from words server receiver lend send_call any_console lending after_all small_machine call call_settled settled least_below listed_below listed_ids count_below with_sid live_servers create_server_call connect_call receive_call increase_call create_call free_tid pages count_places place_at any_free any_on_loan any_lacks make run is_free role_at lender_of first_place
+unfolding rest_words holder is_free_run lending_rest refusal_left after_from words server receiver lend send_call any_console lending
+    after_all small_machine call call_settled settled least_below listed_below listed_ids count_below with_sid live_servers
+    create_server_call connect_call receive_call increase_call create_call free_tid pages count_places place_at any_free any_on_loan
+    any_lacks make run is_free role_at lender_of first_place
 rest_free = refl
 
 rest_small : nat_le (1 + sent_pages rest_words) 4096 ≡ true
@@ -129,7 +138,10 @@ rest_arrives : arrival lending_rest rest_words ≡ Some (window_place holder.pid
 rest_arrives = arrives_at lending_rest rest_words holder 1 rest_there (omega arith) rest_small rest_free none_before
 
 rest_passes : call lending_rest rest_words ≡ sent_to lending_rest rest_words (arrival lending_rest rest_words)
-unfolding rest_words lending_rest refusal_left after_from words server receiver lend send_call any_console lending after_all small_machine call call_settled settled least_below listed_below listed_ids count_below with_sid live_servers create_server_call connect_call receive_call increase_call create_call free_tid pages count_places place_at any_free any_on_loan any_lacks make run is_free role_at lender_of first_place
+unfolding rest_words lending_rest refusal_left after_from words server receiver lend send_call any_console lending after_all small_machine
+    call call_settled settled least_below listed_below listed_ids count_below with_sid live_servers create_server_call connect_call
+    receive_call increase_call create_call free_tid pages count_places place_at any_free any_on_loan any_lacks make run is_free role_at
+    lender_of first_place
 rest_passes = refl
 
 rest_comes : call lending_rest rest_words ≡ sent_to lending_rest rest_words (Some (window_place holder.pid Message 1).vpn)
@@ -140,7 +152,10 @@ unfolding told_all lending_rest rest_words told_from
 rest_since = refl
 
 rest_then : told_from lending_rest (drop 1 three_pages_row) (sent_to lending_rest rest_words (Some (window_place holder.pid Message 1).vpn)) ≡ three_pages_told
-unfolding told_from told_all rest_words holder lending_rest refusal_left after_from words server receiver lend send_call any_console lending after_all small_machine call call_settled settled least_below listed_below listed_ids count_below with_sid live_servers create_server_call connect_call receive_call increase_call create_call free_tid pages count_places place_at any_free any_on_loan any_lacks make run is_free role_at lender_of first_place
+unfolding told_from told_all rest_words holder lending_rest refusal_left after_from words server receiver lend send_call any_console lending
+    after_all small_machine call call_settled settled least_below listed_below listed_ids count_below with_sid live_servers
+    create_server_call connect_call receive_call increase_call create_call free_tid pages count_places place_at any_free any_on_loan
+    any_lacks make run is_free role_at lender_of first_place
 rest_then = refl
 
 pub three_sent : told_all three_pages_row after_refusal ≡ three_pages_told

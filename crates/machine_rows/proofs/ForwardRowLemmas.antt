@@ -69,7 +69,10 @@ unfolding homes lender_ledger listed_ledger lend write
 lender_free = free_place 3 homes lender_ledger (window_at_receiver 0) lender_covered refl refl refl
 
 lender_is : IsSending (id_of 3 2) lender_words (left_by two_servers_made (coded_machine 3)) lender_server 3 lender_ledger
-unfolding lender_words lender_server lender_ledger call_by any_free any_on_loan any_console any_lacks run is_free send_call receive_call left_by coded_machine small_machine listed_ledger code step step_by actor memory_of reach role_at execute_at execute execute_base atomic_at insn_at call call_settled settled least_below listed_below listed_ids count_below with_sid live_servers create_server_call connect_call
+unfolding lender_words lender_server lender_ledger call_by any_free any_on_loan any_console any_lacks run is_free send_call receive_call
+    left_by coded_machine small_machine listed_ledger code step step_by actor memory_of reach role_at execute_at execute execute_base
+    atomic_at insn_at call call_settled settled least_below listed_below listed_ids count_below with_sid live_servers create_server_call
+    connect_call
 lender_is =
     record { turn = refl; makes = refl; there = refl; own = refl; one = refl; processes = refl; ledger = refl; passes = refl }
 
@@ -114,7 +117,10 @@ unfolding homes passer_ledger lender_ledger listed_ledger lend pass
 passer_free = free_place 3 homes passer_ledger (window_of 4) passer_covered refl refl refl
 
 passer_is : IsPassing (id_of 2 2) passer_words lent passer_server 4 3 passer_ledger
-unfolding passer_words passer_server passer_ledger lender_ledger call_by forward_call holder_of lent sent_step call_step lender_words receiver lend zero_page left_by coded_machine small_machine listed_ledger code step step_by actor memory_of reach role_at execute_at execute execute_base atomic_at insn_at call call_settled settled least_below listed_below listed_ids count_below with_sid live_servers create_server_call connect_call receive_call
+unfolding passer_words passer_server passer_ledger lender_ledger call_by forward_call holder_of lent sent_step call_step lender_words
+    receiver lend zero_page left_by coded_machine small_machine listed_ledger code step step_by actor memory_of reach role_at execute_at
+    execute execute_base atomic_at insn_at call call_settled settled least_below listed_below listed_ids count_below with_sid live_servers
+    create_server_call connect_call receive_call
 passer_is =
     record { turn = refl; makes = refl; there = refl; own = refl; one = refl; processes = refl; ledger = refl; passes = refl }
 
@@ -125,7 +131,10 @@ pub passed : Machine
 passed = (passed_step (id_of 2 2) passer_words lent 4).machine
 
 passer_tells : map what_of (passed_step (id_of 2 2) passer_words lent 4).records ≡ expected forward
-unfolding passer_words expected passed_step call_step pass holder_of lent sent_step lender_words receiver lend zero_page left_by coded_machine small_machine listed_ledger code step step_by actor memory_of reach role_at execute_at execute execute_base atomic_at insn_at call call_settled settled least_below listed_below listed_ids count_below with_sid live_servers create_server_call connect_call receive_call
+unfolding passer_words expected passed_step call_step pass holder_of lent sent_step lender_words receiver lend zero_page left_by
+    coded_machine small_machine listed_ledger code step step_by actor memory_of reach role_at execute_at execute execute_base atomic_at
+    insn_at call call_settled settled least_below listed_below listed_ids count_below with_sid live_servers create_server_call connect_call
+    receive_call
 passer_tells = refl
 
 passer_told : IsToldAs forward lent
@@ -141,7 +150,10 @@ pub connected : Machine
 connected = left_by connected_back passed
 
 connected_told : IsToldAs connected_back passed
-unfolding told_by expected passed passed_step passer_words forward_call holder_of pass lent sent_step call_step lender_words receiver lend zero_page left_by coded_machine small_machine listed_ledger code step step_by actor memory_of reach role_at execute_at execute execute_base atomic_at insn_at call call_settled settled least_below listed_below listed_ids count_below with_sid live_servers create_server_call connect_call receive_call
+unfolding told_by expected passed passed_step passer_words forward_call holder_of pass lent sent_step call_step lender_words receiver lend
+    zero_page left_by coded_machine small_machine listed_ledger code step step_by actor memory_of reach role_at execute_at execute
+    execute_base atomic_at insn_at call call_settled settled least_below listed_below listed_ids count_below with_sid live_servers
+    create_server_call connect_call receive_call
 connected_told = refl
 
 connected_left : left_by connected_back passed ≡ connected
@@ -169,7 +181,10 @@ unfolding homes back_ledger passer_ledger lender_ledger listed_ledger lend pass
 back_free = free_place 3 homes back_ledger (window_of 2) back_covered refl refl refl
 
 back_is : IsPassing (id_of 4 2) back_words connected back_server 2 3 back_ledger
-unfolding back_words back_server back_ledger passer_ledger lender_ledger call_by forward_call holder_of connected passed passed_step passer_words pass lent sent_step call_step lender_words receiver lend zero_page left_by coded_machine small_machine listed_ledger code step step_by actor memory_of reach role_at execute_at execute execute_base atomic_at insn_at call call_settled settled least_below listed_below listed_ids count_below with_sid live_servers create_server_call connect_call receive_call
+unfolding back_words back_server back_ledger passer_ledger lender_ledger call_by forward_call holder_of connected passed passed_step
+    passer_words pass lent sent_step call_step lender_words receiver lend zero_page left_by coded_machine small_machine listed_ledger code
+    step step_by actor memory_of reach role_at execute_at execute execute_base atomic_at insn_at call call_settled settled least_below
+    listed_below listed_ids count_below with_sid live_servers create_server_call connect_call receive_call
 back_is =
     record { turn = refl; makes = refl; there = refl; own = refl; one = refl; processes = refl; ledger = refl; passes = refl }
 
@@ -180,7 +195,10 @@ pub passed_back : Machine
 passed_back = (passed_step (id_of 4 2) back_words connected 2).machine
 
 back_tells : map what_of (passed_step (id_of 4 2) back_words connected 2).records ≡ expected forward_back
-unfolding back_words expected passed_step call_step pass holder_of connected passed passer_words forward_call lent sent_step lender_words receiver lend zero_page left_by coded_machine small_machine listed_ledger code step step_by actor memory_of reach role_at execute_at execute execute_base atomic_at insn_at call call_settled settled least_below listed_below listed_ids count_below with_sid live_servers create_server_call connect_call receive_call
+unfolding back_words expected passed_step call_step pass holder_of connected passed passer_words forward_call lent sent_step lender_words
+    receiver lend zero_page left_by coded_machine small_machine listed_ledger code step step_by actor memory_of reach role_at execute_at
+    execute execute_base atomic_at insn_at call call_settled settled least_below listed_below listed_ids count_below with_sid live_servers
+    create_server_call connect_call receive_call
 back_tells = refl
 
 back_told : IsToldAs forward_back connected
@@ -194,7 +212,10 @@ back_left = forward_left (id_of 4 2) back_words [] connected 2 back_steps
 -- ---- the rows
 
 returned : IsToldAs (drop 8 forward_row) passed
-unfolding told_by expected return_memory_call end_loan passed passed_step passer_words forward_call holder_of pass lent sent_step call_step lender_words receiver lend zero_page left_by coded_machine small_machine listed_ledger code step step_by actor memory_of reach role_at execute_at execute execute_base atomic_at insn_at call call_settled settled least_below listed_below listed_ids count_below with_sid live_servers create_server_call connect_call receive_call
+unfolding told_by expected return_memory_call end_loan passed passed_step passer_words forward_call holder_of pass lent sent_step call_step
+    lender_words receiver lend zero_page left_by coded_machine small_machine listed_ledger code step step_by actor memory_of reach role_at
+    execute_at execute execute_base atomic_at insn_at call call_settled settled least_below listed_below listed_ids count_below with_sid
+    live_servers create_server_call connect_call receive_call
 returned = refl
 
 pub forwarded : IsToldAs forward_row (coded_machine 3)
@@ -204,7 +225,11 @@ forwarded =
     (told_on forward (drop 8 forward_row) lent passed passer_told passer_left returned))
 
 returned_later : IsToldAs (drop 8 forwarder_killed_row) passed
-unfolding told_by expected return_memory_call end_loan killed death servers_closed closed any_server senders_queued_gone senders_held_gone end_loans orphan_loans forgotten forget passed passed_step passer_words forward_call holder_of pass lent sent_step call_step lender_words receiver lend zero_page left_by coded_machine small_machine listed_ledger code step step_by actor memory_of reach role_at execute_at execute execute_base atomic_at insn_at call call_settled settled least_below listed_below listed_ids count_below with_sid live_servers create_server_call connect_call receive_call
+unfolding told_by expected return_memory_call end_loan killed death servers_closed closed any_server senders_queued_gone senders_held_gone
+    end_loans orphan_loans forgotten forget passed passed_step passer_words forward_call holder_of pass lent sent_step call_step
+    lender_words receiver lend zero_page left_by coded_machine small_machine listed_ledger code step step_by actor memory_of reach role_at
+    execute_at execute execute_base atomic_at insn_at call call_settled settled least_below listed_below listed_ids count_below with_sid
+    live_servers create_server_call connect_call receive_call
 returned_later = refl
 
 pub forwarder_killed : IsToldAs forwarder_killed_row (coded_machine 3)
@@ -214,7 +239,10 @@ forwarder_killed =
     (told_on forward (drop 8 forwarder_killed_row) lent passed passer_told passer_left returned_later))
 
 back_returned : IsToldAs returned_at_last passed_back
-unfolding told_by expected return_memory_call end_loan stored write passed_back back_words connected passed passed_step passer_words forward_call holder_of pass lent sent_step call_step lender_words receiver lend zero_page left_by coded_machine small_machine listed_ledger code step step_by actor memory_of reach role_at execute_at execute execute_base atomic_at insn_at call call_settled settled least_below listed_below listed_ids count_below with_sid live_servers create_server_call connect_call receive_call
+unfolding told_by expected return_memory_call end_loan stored write passed_back back_words connected passed passed_step passer_words
+    forward_call holder_of pass lent sent_step call_step lender_words receiver lend zero_page left_by coded_machine small_machine
+    listed_ledger code step step_by actor memory_of reach role_at execute_at execute execute_base atomic_at insn_at call call_settled
+    settled least_below listed_below listed_ids count_below with_sid live_servers create_server_call connect_call receive_call
 back_returned = refl
 
 pub forwarded_back : IsToldAs forward_back_row (coded_machine 3)

@@ -109,21 +109,30 @@ pub holder_loads : (regs : List ℕ) (pc rd : ℕ) → load_at 0x4000_0000 own_s
 holder_loads regs pc rd = ap (λ m. load_at 0x4000_0000 m regs pc rd) lent_is ∙ holder_then regs pc rd
 
 returned_then : told_all own_server_return there_now ≡ own_server_return_told
-unfolding told_all holder_of return_memory_call end_loan there_now after_from words server receiver lend lending stored write zero_page reach after_all small_machine call call_settled settled least_below listed_below listed_ids count_below with_sid live_servers create_server_call receive_call increase_call create_call free_tid pages count_places place_at any_free any_on_loan any_lacks make run is_free role_at lender_of first_place
+unfolding told_all holder_of return_memory_call end_loan there_now after_from words server receiver lend lending stored write zero_page
+    reach after_all small_machine call call_settled settled least_below listed_below listed_ids count_below with_sid live_servers
+    create_server_call receive_call increase_call create_call free_tid pages count_places place_at any_free any_on_loan any_lacks make run
+    is_free role_at lender_of first_place
 returned_then = refl
 
 pub returned : told_all own_server_return own_server_lent ≡ own_server_return_told
 returned = ap (told_all own_server_return) lent_is ∙ returned_then
 
 home_then : (regs : List ℕ) (pc rd : ℕ) → load_at 0x2000_0000 (after_all own_server_return there_now) regs pc rd ≡ writes regs pc rd 0x1122_3344
-unfolding holder_of return_memory_call end_loan there_now after_from memory_of words server receiver lend lending stored write zero_page reach after_all small_machine call call_settled settled least_below listed_below listed_ids count_below with_sid live_servers create_server_call receive_call increase_call create_call free_tid pages count_places place_at any_free any_on_loan any_lacks make run is_free role_at lender_of first_place
+unfolding holder_of return_memory_call end_loan there_now after_from memory_of words server receiver lend lending stored write zero_page
+    reach after_all small_machine call call_settled settled least_below listed_below listed_ids count_below with_sid live_servers
+    create_server_call receive_call increase_call create_call free_tid pages count_places place_at any_free any_on_loan any_lacks make run
+    is_free role_at lender_of first_place
 home_then regs pc rd = refl
 
 pub home_loads : (regs : List ℕ) (pc rd : ℕ) → load_at 0x2000_0000 own_server_returned regs pc rd ≡ writes regs pc rd 0x1122_3344
 home_loads regs pc rd = ap (λ m. load_at 0x2000_0000 (after_all own_server_return m) regs pc rd) lent_is ∙ home_then regs pc rd
 
 traps_then : (regs : List ℕ) (pc rd : ℕ) → load_at 0x4000_0000 (after_all own_server_return there_now) regs pc rd ≡ Traps load_page_fault 0x4000_0000
-unfolding holder_of return_memory_call end_loan there_now after_from memory_of words server receiver lend lending stored write zero_page reach after_all small_machine call call_settled settled least_below listed_below listed_ids count_below with_sid live_servers create_server_call receive_call increase_call create_call free_tid pages count_places place_at any_free any_on_loan any_lacks make run is_free role_at lender_of first_place
+unfolding holder_of return_memory_call end_loan there_now after_from memory_of words server receiver lend lending stored write zero_page
+    reach after_all small_machine call call_settled settled least_below listed_below listed_ids count_below with_sid live_servers
+    create_server_call receive_call increase_call create_call free_tid pages count_places place_at any_free any_on_loan any_lacks make run
+    is_free role_at lender_of first_place
 traps_then regs pc rd = refl
 
 pub returned_traps : (regs : List ℕ) (pc rd : ℕ) → load_at 0x4000_0000 own_server_returned regs pc rd ≡ Traps load_page_fault 0x4000_0000

@@ -31,5 +31,8 @@ unfolding told_by expected coded_machine small_machine listed_ledger code step s
 two_receivers = refl
 
 pub server_full : IsToldAs full_server_row (coded_machine 2)
-unfolding told_by expected coded_machine small_machine listed_ledger code step step_by actor memory_of reach role_at execute_at execute execute_base atomic_at insn_at call call_settled settled least_below listed_below listed_ids count_below with_sid live_servers create_server_call connect_call create_call free_tid send_call try_send_call receiver receive_call holder_of return_scalar1_call turn next_ready next_id
+unfolding told_by expected coded_machine small_machine listed_ledger code step step_by actor memory_of reach role_at execute_at execute
+    execute_base atomic_at insn_at call call_settled settled least_below listed_below listed_ids count_below with_sid live_servers
+    create_server_call connect_call create_call free_tid send_call try_send_call receiver receive_call holder_of return_scalar1_call turn
+    next_ready next_id
 server_full = refl

@@ -19,10 +19,14 @@ ghost use Rattle.machine_rows.specs.TwoPages.{two_pages_begin, two_pages_begin_t
 pub fn read_only_page_is_lent()
     ensures reduces { told_all read_only_reduce read_only_written ≡ read_only_reduce_told }
     ensures lends { told_all read_only_row read_only_reduced ≡ read_only_told }
-    ensures load_during { (regs : List ℕ) (pc rd : ℕ) → loads (memory_of read_only_lent (pid_of 2)) regs pc rd 0x4000_0000 Word (λ v. v) ≡ writes regs pc rd 0x1122_3344 }
-    ensures store_during { (regs : List ℕ) (pc value : ℕ) → stores (memory_of read_only_lent (pid_of 3)) regs pc 0x2000_0000 Word value ≡ Traps store_page_fault 0x2000_0000 }
-    ensures load_after { (regs : List ℕ) (pc rd : ℕ) → loads (memory_of read_only_returned (pid_of 3)) regs pc rd 0x2000_0000 Word (λ v. v) ≡ writes regs pc rd 0x1122_3344 }
-    ensures store_after { (regs : List ℕ) (pc value : ℕ) → stores (memory_of read_only_returned (pid_of 3)) regs pc 0x2000_0000 Word value ≡ Traps store_page_fault 0x2000_0000 }
+    ensures load_during { (regs : List ℕ) (pc rd : ℕ) → loads (memory_of read_only_lent (pid_of 2)) regs pc rd 0x4000_0000 Word (λ v. v)
+        ≡ writes regs pc rd 0x1122_3344 }
+    ensures store_during { (regs : List ℕ) (pc value : ℕ) → stores (memory_of read_only_lent (pid_of 3)) regs pc 0x2000_0000 Word value
+        ≡ Traps store_page_fault 0x2000_0000 }
+    ensures load_after { (regs : List ℕ) (pc rd : ℕ) → loads (memory_of read_only_returned (pid_of 3)) regs pc rd 0x2000_0000 Word (λ v. v)
+        ≡ writes regs pc rd 0x1122_3344 }
+    ensures store_after { (regs : List ℕ) (pc value : ℕ) → stores (memory_of read_only_returned (pid_of 3)) regs pc 0x2000_0000 Word value
+        ≡ Traps store_page_fault 0x2000_0000 }
 {}
 
 /// Mutable lend of two pages. `3.2` lends both pages of its heap. `2.2` may store to both at its own addresses, stores a word in
@@ -31,11 +35,15 @@ pub fn read_only_page_is_lent()
 pub fn two_pages_are_lent_mutably()
     ensures begins { told_all two_pages_begin (small_machine 2) ≡ two_pages_begin_told }
     ensures sends { told_all two_pages_send (after_all two_pages_begin (small_machine 2)) ≡ two_pages_send_told }
-    ensures first_store { (regs : List ℕ) (pc value : ℕ) → stores (memory_of two_pages_lent (pid_of 2)) regs pc 0x4000_0000 Word value ≡ Stores 0x4000_0000 Word value regs (following pc) }
-    ensures second_store { (regs : List ℕ) (pc value : ℕ) → stores (memory_of first_written (pid_of 2)) regs pc 0x4000_1000 Word value ≡ Stores 0x4000_1000 Word value regs (following pc) }
+    ensures first_store { (regs : List ℕ) (pc value : ℕ) → stores (memory_of two_pages_lent (pid_of 2)) regs pc 0x4000_0000 Word value
+        ≡ Stores 0x4000_0000 Word value regs (following pc) }
+    ensures second_store { (regs : List ℕ) (pc value : ℕ) → stores (memory_of first_written (pid_of 2)) regs pc 0x4000_1000 Word value
+        ≡ Stores 0x4000_1000 Word value regs (following pc) }
     ensures returns { told_all two_pages_return both_written ≡ two_pages_return_told }
-    ensures first_load { (regs : List ℕ) (pc rd : ℕ) → loads (memory_of two_pages_returned (pid_of 3)) regs pc rd 0x2000_0000 Word (λ v. v) ≡ writes regs pc rd 0x1122_3344 }
-    ensures second_load { (regs : List ℕ) (pc rd : ℕ) → loads (memory_of two_pages_returned (pid_of 3)) regs pc rd 0x2000_1000 Word (λ v. v) ≡ writes regs pc rd 0x5566_7788 }
+    ensures first_load { (regs : List ℕ) (pc rd : ℕ) → loads (memory_of two_pages_returned (pid_of 3)) regs pc rd 0x2000_0000 Word (λ v. v)
+        ≡ writes regs pc rd 0x1122_3344 }
+    ensures second_load { (regs : List ℕ) (pc rd : ℕ) → loads (memory_of two_pages_returned (pid_of 3)) regs pc rd 0x2000_1000 Word (λ v. v)
+        ≡ writes regs pc rd 0x5566_7788 }
 {}
 
 /// Own server. `2.3` waits at a server of its own process, and `2.2` lends it the page of its heap. During the loan a load at the
@@ -45,11 +53,15 @@ pub fn two_pages_are_lent_mutably()
 pub fn page_is_lent_to_an_own_server()
     ensures begins { told_all own_server_begin (small_machine 2) ≡ own_server_begin_told }
     ensures sends { told_all own_server_send own_server_written ≡ own_server_send_told }
-    ensures at_lender { (regs : List ℕ) (pc rd : ℕ) → loads (memory_of own_server_lent (pid_of 2)) regs pc rd 0x2000_0000 Word (λ v. v) ≡ writes regs pc rd 0x1122_3344 }
-    ensures at_holder { (regs : List ℕ) (pc rd : ℕ) → loads (memory_of own_server_lent (pid_of 2)) regs pc rd 0x4000_0000 Word (λ v. v) ≡ writes regs pc rd 0x1122_3344 }
+    ensures at_lender { (regs : List ℕ) (pc rd : ℕ) → loads (memory_of own_server_lent (pid_of 2)) regs pc rd 0x2000_0000 Word (λ v. v)
+        ≡ writes regs pc rd 0x1122_3344 }
+    ensures at_holder { (regs : List ℕ) (pc rd : ℕ) → loads (memory_of own_server_lent (pid_of 2)) regs pc rd 0x4000_0000 Word (λ v. v)
+        ≡ writes regs pc rd 0x1122_3344 }
     ensures returns { told_all own_server_return own_server_lent ≡ own_server_return_told }
-    ensures at_lender_after { (regs : List ℕ) (pc rd : ℕ) → loads (memory_of own_server_returned (pid_of 2)) regs pc rd 0x2000_0000 Word (λ v. v) ≡ writes regs pc rd 0x1122_3344 }
-    ensures at_holder_after { (regs : List ℕ) (pc rd : ℕ) → loads (memory_of own_server_returned (pid_of 2)) regs pc rd 0x4000_0000 Word (λ v. v) ≡ Traps load_page_fault 0x4000_0000 }
+    ensures at_lender_after { (regs : List ℕ) (pc rd : ℕ) → loads (memory_of own_server_returned (pid_of 2)) regs pc rd 0x2000_0000 Word
+        (λ v. v) ≡ writes regs pc rd 0x1122_3344 }
+    ensures at_holder_after { (regs : List ℕ) (pc rd : ℕ) → loads (memory_of own_server_returned (pid_of 2)) regs pc rd 0x4000_0000 Word
+        (λ v. v) ≡ Traps load_page_fault 0x4000_0000 }
 {}
 
 /// All or nothing. `3.3` lends the last of four pages, and `2.2` holds it. `3.2` sends all four and is refused with

@@ -11,7 +11,7 @@ ghost use Rattle.msg_queue.specs.declared.held.Held.{Held};
 
 use crate::held::Held;
 use crate::links::{NONE, SLOTS};
-use xk_base::{Message, MsgKind, Number, Pid};
+use xk_base::{Message, Number, Pid};
 
 /// A slot of a chain and the slot before it; `NONE` where there is none.
 #[derive(Clone, Copy)]
@@ -150,10 +150,7 @@ pub fn message_in(slots: &[Option<Held>], slot: u8) -> Option<&Message>
 fn is_awaited_in(pid: Pid, h: &Held) -> bool
     ensures { result ≡ is_awaited_in pid h.now }
 {
-    let answered = match h.msg.kind {
-        MsgKind::LendMut | MsgKind::Lend | MsgKind::BlockingScalar => true,
-        MsgKind::Move | MsgKind::Scalar => false,
-    };
+    let answered = h.msg.kind.is_answered();
     let Some(sender) = h.msg.sender else {
         return false;
     };

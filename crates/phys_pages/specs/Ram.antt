@@ -78,4 +78,8 @@ words ram = words_of (area ram) (pages ram)
 -- written past the end
 unfoldable pub with_page : RamBytes → ℕ → List ℕ → RamBytes
 with_page ram f page =
-    record { start = ram.start; bytes = refill (length ram.bytes) ram.bytes (take (f * 4096) ram.bytes ++ (page ++ drop (length page) (drop (f * 4096) ram.bytes))) }
+    record {
+      start = ram.start;
+      bytes = refill (length ram.bytes) ram.bytes
+          (take (f * 4096) ram.bytes ++ (page ++ drop (length page) (drop (f * 4096) ram.bytes)));
+    }

@@ -3,6 +3,7 @@
 ghost use Rattle.std.specs.Prelude.{◌≡◌, ◌+◌, ◌<◌, ◌≤◌, ℕ, None, true, length, replicate, is_some, IfOk, IfSome, IfNone};
 ghost use Rattle.std.specs.Option.{option_copied};
 ghost use Rattle.xk_base.specs.Tables.RowMap.{row_map};
+ghost use Rattle.xk_base.specs.declared.limits.TheConstants.{FRAME_LIMIT, SLOT_LIMIT};
 
 use crate::infos::{PageInfo, Seat};
 use std::alloc::Global;
@@ -21,12 +22,13 @@ pub struct Owners {
 impl Model for Owners {
     ghost use Rattle.std.specs.Prelude.{◌+◌, ◌≤◌, length};
     ghost use Rattle.phys_pages.specs.Owners.{OwnerTable};
+    ghost use Rattle.xk_base.specs.declared.limits.TheConstants.{FRAME_LIMIT, SLOT_LIMIT};
 
     ghost Value = { OwnerTable };
 
     ghost view = { λ o. record { first = o.first.0; frames = o.frames.items; slots = o.slots.items } };
 
-    ghost invariant = { λ o. (o.first.0 + length o.frames.items ≤ 16384) × (length o.slots.items ≤ 16384) };
+    ghost invariant = { λ o. (o.first.0 + length o.frames.items ≤ FRAME_LIMIT) × (length o.slots.items ≤ SLOT_LIMIT) };
 }
 
 /// So many free seats.
@@ -57,8 +59,8 @@ impl Owners {
     /// A table of `frames` frames from `first` on and of `slots` slots, all free. All memory is taken
     /// here.
     pub fn new(alloc: Global, first: Frame, frames: u32, slots: u32) -> Result<Owners, NoMemory>
-        requires few_frames { first.0 + frames ≤ 16384 }
-        requires few_slots { slots ≤ 16384 }
+        requires few_frames { first.0 + frames ≤ FRAME_LIMIT }
+        requires few_slots { slots ≤ SLOT_LIMIT }
         ensures extent { IfOk result (λ o. extent o ≡ record { first = first.0; frames = frames; slots = slots }) }
         ensures free { IfOk result (λ o. infos o ≡ no_infos) }
     {
@@ -120,8 +122,8 @@ impl Owners {
 
     /// Law: the table has at most 16,384 slots, and its frames end at or below frame 16,384.
     pub fn seats_are_few(&self)
-        ensures frames { (extent self.now).first + (extent self.now).frames ≤ 16384 }
-        ensures slots { (extent self.now).slots ≤ 16384 }
+        ensures frames { (extent self.now).first + (extent self.now).frames ≤ FRAME_LIMIT }
+        ensures slots { (extent self.now).slots ≤ SLOT_LIMIT }
     {
         let _ = &self.slots;
     }

@@ -1,6 +1,7 @@
 //! The bytes of RAM.
 
 ghost use Rattle.std.specs.Prelude.{◌≡◌, ◌+◌, ◌*◌, ◌/◌, ◌%◌, ◌<◌, ◌≤◌, ℕ, Some, length, slice_index, nat_eq, All, IfOk, IfSome, IfNone};
+ghost use Rattle.xk_base.specs.declared.limits.TheConstants.{FRAME_LIMIT};
 
 use crate::bytes::{are_bytes, zeros};
 use byteorder::{ByteOrder, LittleEndian};
@@ -37,7 +38,7 @@ impl Ram {
     /// RAM of `frames` zeroed frames from the physical address `start` on. All memory is taken here.
     pub fn new(alloc: Global, start: u32, frames: u32) -> Result<Ram, NoMemory>
         requires aligned { start % 4096 ≡ 0 }
-        requires few { frames ≤ 16384 }
+        requires few { frames ≤ FRAME_LIMIT }
         requires below_device { start + frames * 4096 ≤ 0xF000_0000 }
         ensures area { IfOk result (λ r. area r ≡ record { start = start; frames = frames }) }
         ensures zero { IfOk result (λ r. (f i : ℕ) → slice_index (pages r f) i ≡ 0) }
@@ -116,7 +117,8 @@ impl Ram {
         requires aligned { pa % 4 ≡ 0 }
         requires inside { IsInside (area self.old) pa }
         ensures words { words self.new ≡ put_at nat_eq (words self.old) pa (Some v) }
-        ensures pages { pages self.new ≡ put_at nat_eq (pages self.old) (frame_at (area self.old) pa) (with_word (pages self.old (frame_at (area self.old) pa)) (pa % 4096) v) }
+        ensures pages { pages self.new ≡ put_at nat_eq (pages self.old) (frame_at (area self.old) pa)
+            (with_word (pages self.old (frame_at (area self.old) pa)) (pa % 4096) v) }
         ensures area { area self.new ≡ area self.old }
     {
         let f = Frame(pa / PAGE_SIZE - self.start / PAGE_SIZE);

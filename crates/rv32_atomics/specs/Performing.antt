@@ -96,7 +96,8 @@ abbrev pub core_left : Core → Core → Ran → Core
 core_left old done answer = if goes_on answer then done else old
 
 -- An instruction of this effect over memory is executed, and leaves this reservation unless it traps; or it is left so.
-pub record ExecutesOrLeaves (effect : Memory → Executed) (left : Option ℕ) (before after : View) (old new : Core) (answer : Ran) : Type 0 where
+pub record ExecutesOrLeaves (effect : Memory → Executed) (left : Option ℕ) (before after : View) (old new : Core)
+    (answer : Ran) : Type 0 where
   pub done : Core
   pub executes : DoesExecute effect before after old.regs done.regs answer
   pub reserved : done.reserved ≡ reserved_after answer old.reserved left

@@ -7,7 +7,7 @@ ghost use Rattle.xk_base.specs.declared.pages.Width.TheVariants.{Word};
 ghost use Rattle.rv32_words.specs.Formats.{IsRegister};
 ghost use Rattle.machine_model.specs.Hart.Atomics.{is_reserved, operates, result_of, stores_conditionally};
 ghost use Rattle.machine_model.specs.Hart.Instructions.{following, loads};
-ghost use Rattle.rv32_hart.specs.Running.{DoesExecute, View, GoesOnAligned, UnlessFailed, IfFailed};
+ghost use Rattle.rv32_hart.specs.Running.{DoesExecute, GoesOnAligned, UnlessFailed, IfFailed, view_of};
 ghost use Rattle.rv32_atomics.specs.Meaning.{operation_of};
 ghost use Rattle.rv32_atomics.specs.Performing.{LeavesRegistersUnlessDone, puts_if_allowed};
 
@@ -28,8 +28,8 @@ pub fn load<U: UserMemory>(mem: &mut U, regs: &mut Regs, pc: u32, rd: u8, addres
     requires register { IsRegister rd }
     requires aligned { pc % 4 ≡ 0 }
     requires fit { U.fit mem.old }
-    ensures executes { let before : View = record { may = U.may mem.old; console = U.console mem.old; content = U.content mem.old; timer = U.timer mem.old } in
-        let after : View = record { may = U.may mem.new; console = U.console mem.new; content = U.content mem.new; timer = U.timer mem.new } in
+    ensures executes { let before = view_of U.UserMemory mem.old in
+        let after = view_of U.UserMemory mem.new in
         DoesExecute (λ mem. loads mem regs.old pc rd address Word (λ word. word)) before after regs.old regs.new result }
     ensures leaves { LeavesRegistersUnlessDone regs.old regs.new result }
     ensures aligned { GoesOnAligned result }
@@ -74,9 +74,10 @@ fn put<U: UserMemory>(
     requires aligned { pc % 4 ≡ 0 }
     requires word { address % 4 ≡ 0 }
     requires fit { U.fit mem.old }
-    ensures executes { let before : View = record { may = U.may mem.old; console = U.console mem.old; content = U.content mem.old; timer = U.timer mem.old } in
-        let after : View = record { may = U.may mem.new; console = U.console mem.new; content = U.content mem.new; timer = U.timer mem.new } in
-        DoesExecute (λ mem. puts_if_allowed mem address value (with_reg regs.old rd loaded) (following pc)) before after regs.old regs.new result }
+    ensures executes { let before = view_of U.UserMemory mem.old in
+        let after = view_of U.UserMemory mem.new in
+        DoesExecute (λ mem. puts_if_allowed mem address value (with_reg regs.old rd loaded) (following pc))
+        before after regs.old regs.new result }
     ensures leaves { LeavesRegistersUnlessDone regs.old regs.new result }
     ensures aligned { GoesOnAligned result }
     ensures may { U.may mem.new ≡ U.may mem.old }
@@ -121,8 +122,8 @@ pub fn store_conditionally<U: UserMemory>(
     requires register { IsRegister rd }
     requires aligned { pc % 4 ≡ 0 }
     requires fit { U.fit mem.old }
-    ensures executes { let before : View = record { may = U.may mem.old; console = U.console mem.old; content = U.content mem.old; timer = U.timer mem.old } in
-        let after : View = record { may = U.may mem.new; console = U.console mem.new; content = U.content mem.new; timer = U.timer mem.new } in
+    ensures executes { let before = view_of U.UserMemory mem.old in
+        let after = view_of U.UserMemory mem.new in
         DoesExecute (λ mem. stores_conditionally mem regs.old pc rd address reserved value) before after regs.old regs.new result }
     ensures leaves { LeavesRegistersUnlessDone regs.old regs.new result }
     ensures aligned { GoesOnAligned result }
@@ -176,9 +177,10 @@ pub fn operate<U: UserMemory>(
     requires register { IsRegister rd }
     requires aligned { pc % 4 ≡ 0 }
     requires fit { U.fit mem.old }
-    ensures executes { let before : View = record { may = U.may mem.old; console = U.console mem.old; content = U.content mem.old; timer = U.timer mem.old } in
-        let after : View = record { may = U.may mem.new; console = U.console mem.new; content = U.content mem.new; timer = U.timer mem.new } in
-        DoesExecute (λ mem. operates mem regs.old pc rd address (λ old. result_of (operation_of operation) old operand)) before after regs.old regs.new result }
+    ensures executes { let before = view_of U.UserMemory mem.old in
+        let after = view_of U.UserMemory mem.new in
+        DoesExecute (λ mem. operates mem regs.old pc rd address (λ old. result_of (operation_of operation) old operand))
+        before after regs.old regs.new result }
     ensures leaves { LeavesRegistersUnlessDone regs.old regs.new result }
     ensures aligned { GoesOnAligned result }
     ensures may { U.may mem.new ≡ U.may mem.old }

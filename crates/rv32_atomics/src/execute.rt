@@ -3,7 +3,7 @@
 ghost use Rattle.std.specs.Prelude.{◌≡◌, ◌≤◌, ◌%◌};
 ghost use Rattle.xk_base.specs.Outside.{Rose};
 ghost use Rattle.machine_model.specs.Hart.Atomics.{atomic_effect};
-ghost use Rattle.rv32_hart.specs.Running.{DoesExecute, View, GoesOnAligned, UnlessFailed, IfFailed};
+ghost use Rattle.rv32_hart.specs.Running.{DoesExecute, GoesOnAligned, UnlessFailed, IfFailed, view_of};
 ghost use Rattle.rv32_atomics.specs.Meaning.{meaning};
 ghost use Rattle.rv32_atomics.specs.Performing.{LeavesRegistersUnlessDone};
 ghost use Rattle.rv32_atomics.specs.Table.{IsInRange};
@@ -27,8 +27,8 @@ pub fn execute<U: UserMemory>(
     requires fields { IsInRange atomic }
     requires aligned { pc % 4 ≡ 0 }
     requires fit { U.fit mem.old }
-    ensures executes { let before : View = record { may = U.may mem.old; console = U.console mem.old; content = U.content mem.old; timer = U.timer mem.old } in
-        let after : View = record { may = U.may mem.new; console = U.console mem.new; content = U.content mem.new; timer = U.timer mem.new } in
+    ensures executes { let before = view_of U.UserMemory mem.old in
+        let after = view_of U.UserMemory mem.new in
         DoesExecute (λ mem. atomic_effect mem regs.old pc reserved (meaning atomic)) before after regs.old regs.new result }
     ensures leaves { LeavesRegistersUnlessDone regs.old regs.new result }
     ensures aligned { GoesOnAligned result }

@@ -3,7 +3,7 @@
 ghost use Rattle.std.specs.Prelude.{◌≡◌, ◌≤◌, ◌%◌};
 ghost use Rattle.xk_base.specs.Outside.{Rose};
 ghost use Rattle.machine_model.specs.Hart.Atomics.{atomic_effect, reserves};
-ghost use Rattle.rv32_hart.specs.Running.{DoesExecute, View, GoesOnAligned, UnlessFailed, IfFailed};
+ghost use Rattle.rv32_hart.specs.Running.{DoesExecute, GoesOnAligned, UnlessFailed, IfFailed, view_of};
 ghost use Rattle.rv32_atomics.specs.Meaning.{meaning};
 ghost use Rattle.rv32_atomics.specs.Performing.{Core, ExecutesOrLeaves, LeavesRegistersUnlessDone, LeavesReserved, Performs, PerformsOrLeaves, goes_on, reserved_after};
 ghost use Rattle.rv32_atomics.specs.Table.{IsInRange};
@@ -32,8 +32,8 @@ pub fn run_any<U: UserMemory>(
 ) -> Ran
     requires aligned { pc % 4 ≡ 0 }
     requires fit { U.fit mem.old }
-    ensures performs { let before : View = record { may = U.may mem.old; console = U.console mem.old; content = U.content mem.old; timer = U.timer mem.old } in
-        let after : View = record { may = U.may mem.new; console = U.console mem.new; content = U.content mem.new; timer = U.timer mem.new } in
+    ensures performs { let before = view_of U.UserMemory mem.old in
+        let after = view_of U.UserMemory mem.new in
         let old : Core = record { regs = regs.old; reserved = reserved.old } in
         let new : Core = record { regs = regs.new; reserved = reserved.new } in
         Performs before after old new pc result }
@@ -82,8 +82,8 @@ pub fn run_or_leave<U: UserMemory>(
 ) -> Ran
     requires aligned { pc % 4 ≡ 0 }
     requires fit { U.fit mem.old }
-    ensures performs { let before : View = record { may = U.may mem.old; console = U.console mem.old; content = U.content mem.old; timer = U.timer mem.old } in
-        let after : View = record { may = U.may mem.new; console = U.console mem.new; content = U.content mem.new; timer = U.timer mem.new } in
+    ensures performs { let before = view_of U.UserMemory mem.old in
+        let after = view_of U.UserMemory mem.new in
         let old : Core = record { regs = regs.old; reserved = reserved.old } in
         let new : Core = record { regs = regs.new; reserved = reserved.new } in
         PerformsOrLeaves before after old new pc result }
@@ -121,8 +121,8 @@ fn perform<U: UserMemory>(
     requires fields { IsInRange atomic }
     requires aligned { pc % 4 ≡ 0 }
     requires fit { U.fit mem.old }
-    ensures executes { let before : View = record { may = U.may mem.old; console = U.console mem.old; content = U.content mem.old; timer = U.timer mem.old } in
-        let after : View = record { may = U.may mem.new; console = U.console mem.new; content = U.content mem.new; timer = U.timer mem.new } in
+    ensures executes { let before = view_of U.UserMemory mem.old in
+        let after = view_of U.UserMemory mem.new in
         DoesExecute (λ mem. atomic_effect mem regs.old pc reserved.old (meaning atomic)) before after regs.old regs.new result }
     ensures reserved { reserved.new ≡ reserved_after result reserved.old (reserves regs.old reserved.old (meaning atomic)) }
     ensures leaves { LeavesRegistersUnlessDone regs.old regs.new result }
@@ -155,11 +155,12 @@ fn perform_or_leave<U: UserMemory>(
     requires fields { IsInRange atomic }
     requires aligned { pc % 4 ≡ 0 }
     requires fit { U.fit mem.old }
-    ensures executes { let before : View = record { may = U.may mem.old; console = U.console mem.old; content = U.content mem.old; timer = U.timer mem.old } in
-        let after : View = record { may = U.may mem.new; console = U.console mem.new; content = U.content mem.new; timer = U.timer mem.new } in
+    ensures executes { let before = view_of U.UserMemory mem.old in
+        let after = view_of U.UserMemory mem.new in
         let old : Core = record { regs = regs.old; reserved = reserved.old } in
         let new : Core = record { regs = regs.new; reserved = reserved.new } in
-        ExecutesOrLeaves (λ mem. atomic_effect mem regs.old pc reserved.old (meaning atomic)) (reserves regs.old reserved.old (meaning atomic)) before after old new result }
+        ExecutesOrLeaves (λ mem. atomic_effect mem regs.old pc reserved.old (meaning atomic))
+        (reserves regs.old reserved.old (meaning atomic)) before after old new result }
     ensures aligned { GoesOnAligned result }
     ensures may { U.may mem.new ≡ U.may mem.old }
     ensures console { U.console mem.new ≡ U.console mem.old }

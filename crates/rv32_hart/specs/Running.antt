@@ -4,6 +4,7 @@ use Rattle.std.specs.Prelude.{◌≡◌, ℕ, ◌%◌, List, Bool, if◌then◌e
 use Rattle.std.specs.Option.{option_map}
 use Rattle.xk_base.specs.declared.pages.Access.{Access}
 use Rattle.xk_base.specs.declared.pages.Access.TheVariants.{Fetch}
+use Rattle.xk_base.specs.declared.user_memory.UserMemory.{Ghosts as UserMemory}
 use Rattle.xk_base.specs.UserMemory.{Memory, Content, KeepsContent, Timer, timer_stored, with_number}
 use Rattle.machine_model.specs.Hart.Instructions.{Executed, Next, Stores, StoresToConsole, StoresToTimer, CallsKernel, Traps, execute_base, execute_base_at, fetch_page_fault}
 use Rattle.rv32_hart.specs.declared.ran.Ran.{Ran}
@@ -54,6 +55,10 @@ pub record View : Type 0 where
   pub console : ℕ → Bool
   pub content : Content
   pub timer : Option Timer
+
+-- what a memory of the trait tells
+abbrev pub view_of : {U : Type 0} → UserMemory U → U → View
+view_of U mem = record { may = U.may mem; console = U.console mem; content = U.content mem; timer = U.timer mem }
 
 -- what the process sees, where these bytes stand in memory
 abbrev pub seen : View → (ℕ → ℕ) → Memory

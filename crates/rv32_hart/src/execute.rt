@@ -5,7 +5,7 @@ ghost use Rattle.xk_base.specs.Outside.{Rose};
 ghost use Rattle.rv32_words.specs.Table.{IsInRange};
 ghost use Rattle.machine_model.specs.Hart.Instructions.{effect};
 ghost use Rattle.rv32_hart.specs.Operations.{effect_of, WritesRegister};
-ghost use Rattle.rv32_hart.specs.Running.{DoesExecute, View, LeavesRegisters, GoesOnAligned, UnlessFailed, IfFailed};
+ghost use Rattle.rv32_hart.specs.Running.{DoesExecute, LeavesRegisters, GoesOnAligned, UnlessFailed, IfFailed, view_of};
 
 use crate::causes::BREAKPOINT;
 use crate::jumps::{branch, following, jump};
@@ -22,8 +22,8 @@ pub fn execute<U: UserMemory>(insn: Insn, regs: &mut Regs, pc: u32, mem: &mut U)
     requires fields { IsInRange insn }
     requires aligned { pc % 4 ≡ 0 }
     requires fit { U.fit mem.old }
-    ensures executes { let before : View = record { may = U.may mem.old; console = U.console mem.old; content = U.content mem.old; timer = U.timer mem.old } in
-        let after : View = record { may = U.may mem.new; console = U.console mem.new; content = U.content mem.new; timer = U.timer mem.new } in
+    ensures executes { let before = view_of U.UserMemory mem.old in
+        let after = view_of U.UserMemory mem.new in
         DoesExecute (λ mem. effect mem regs.old pc insn) before after regs.old regs.new result }
     ensures leaves { LeavesRegisters regs.old regs.new result }
     ensures aligned { GoesOnAligned result }
@@ -45,8 +45,8 @@ fn perform<U: UserMemory>(operation: Operation, regs: &mut Regs, pc: u32, mem: &
     requires register { WritesRegister operation }
     requires aligned { pc % 4 ≡ 0 }
     requires fit { U.fit mem.old }
-    ensures executes { let before : View = record { may = U.may mem.old; console = U.console mem.old; content = U.content mem.old; timer = U.timer mem.old } in
-        let after : View = record { may = U.may mem.new; console = U.console mem.new; content = U.content mem.new; timer = U.timer mem.new } in
+    ensures executes { let before = view_of U.UserMemory mem.old in
+        let after = view_of U.UserMemory mem.new in
         DoesExecute (λ mem. effect_of mem regs.old pc operation) before after regs.old regs.new result }
     ensures leaves { LeavesRegisters regs.old regs.new result }
     ensures aligned { GoesOnAligned result }

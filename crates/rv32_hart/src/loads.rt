@@ -6,7 +6,7 @@ ghost use Rattle.xk_base.specs.UserMemory.{size_of};
 ghost use Rattle.rv32_words.specs.Formats.{IsRegister};
 ghost use Rattle.machine_model.specs.Hart.Instructions.{loads};
 ghost use Rattle.rv32_hart.specs.Operations.{extended};
-ghost use Rattle.rv32_hart.specs.Running.{DoesExecute, View, LeavesRegisters, GoesOnAligned, UnlessFailed, IfFailed};
+ghost use Rattle.rv32_hart.specs.Running.{DoesExecute, LeavesRegisters, GoesOnAligned, UnlessFailed, IfFailed, view_of};
 
 use crate::arithmetic::{sign_extend_byte, sign_extend_half};
 use crate::causes::{LOAD_MISALIGNED, LOAD_PAGE_FAULT};
@@ -52,8 +52,8 @@ pub fn load<U: UserMemory>(
     requires register { IsRegister rd }
     requires aligned { pc % 4 ≡ 0 }
     requires fit { U.fit mem.old }
-    ensures executes { let before : View = record { may = U.may mem.old; console = U.console mem.old; content = U.content mem.old; timer = U.timer mem.old } in
-        let after : View = record { may = U.may mem.new; console = U.console mem.new; content = U.content mem.new; timer = U.timer mem.new } in
+    ensures executes { let before = view_of U.UserMemory mem.old in
+        let after = view_of U.UserMemory mem.new in
         DoesExecute (λ mem. loads mem regs.old pc rd address width (extended width signed)) before after regs.old regs.new result }
     ensures leaves { LeavesRegisters regs.old regs.new result }
     ensures aligned { GoesOnAligned result }

@@ -3,7 +3,7 @@
 ghost use Rattle.std.specs.Prelude.{◌≡◌, ◌≤◌, ◌%◌};
 ghost use Rattle.xk_base.specs.Outside.{Rose};
 ghost use Rattle.machine_model.specs.Hart.Instructions.{execute_base};
-ghost use Rattle.rv32_hart.specs.Running.{DoesExecute, Executes, View, LeavesRegisters, GoesOnAligned, UnlessFailed, IfFailed};
+ghost use Rattle.rv32_hart.specs.Running.{DoesExecute, Executes, LeavesRegisters, GoesOnAligned, UnlessFailed, IfFailed, view_of};
 
 use crate::causes::{FETCH_PAGE_FAULT, ILLEGAL_INSTRUCTION};
 use crate::execute::execute;
@@ -20,8 +20,8 @@ use xk_base::{Failed, Regs, UserMemory};
 pub fn run_one<U: UserMemory>(regs: &mut Regs, pc: u32, mem: &mut U) -> Ran
     requires aligned { pc % 4 ≡ 0 }
     requires fit { U.fit mem.old }
-    ensures executes { let before : View = record { may = U.may mem.old; console = U.console mem.old; content = U.content mem.old; timer = U.timer mem.old } in
-        let after : View = record { may = U.may mem.new; console = U.console mem.new; content = U.content mem.new; timer = U.timer mem.new } in
+    ensures executes { let before = view_of U.UserMemory mem.old in
+        let after = view_of U.UserMemory mem.new in
         Executes before after regs.old regs.new pc result }
     ensures leaves { LeavesRegisters regs.old regs.new result }
     ensures aligned { GoesOnAligned result }
@@ -49,8 +49,8 @@ pub fn run_one<U: UserMemory>(regs: &mut Regs, pc: u32, mem: &mut U) -> Ran
 pub fn run_word<U: UserMemory>(word: u32, regs: &mut Regs, pc: u32, mem: &mut U) -> Ran
     requires aligned { pc % 4 ≡ 0 }
     requires fit { U.fit mem.old }
-    ensures executes { let before : View = record { may = U.may mem.old; console = U.console mem.old; content = U.content mem.old; timer = U.timer mem.old } in
-        let after : View = record { may = U.may mem.new; console = U.console mem.new; content = U.content mem.new; timer = U.timer mem.new } in
+    ensures executes { let before = view_of U.UserMemory mem.old in
+        let after = view_of U.UserMemory mem.new in
         DoesExecute (execute_base regs.old pc word) before after regs.old regs.new result }
     ensures leaves { LeavesRegisters regs.old regs.new result }
     ensures aligned { GoesOnAligned result }

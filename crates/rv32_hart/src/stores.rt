@@ -3,7 +3,7 @@
 ghost use Rattle.std.specs.Prelude.{◌≡◌, ◌≤◌, ◌%◌, ℕ, List};
 ghost use Rattle.xk_base.specs.Outside.{Rose};
 ghost use Rattle.machine_model.specs.Hart.Instructions.{stores};
-ghost use Rattle.rv32_hart.specs.Running.{DoesExecute, View, GoesOnAligned, UnlessFailed, IfFailed};
+ghost use Rattle.rv32_hart.specs.Running.{DoesExecute, GoesOnAligned, UnlessFailed, IfFailed, view_of};
 
 use crate::causes::{STORE_MISALIGNED, STORE_PAGE_FAULT};
 use crate::jumps::following;
@@ -15,8 +15,8 @@ use xk_base::{Failed, Stored, UserMemory, Width};
 pub fn store<U: UserMemory>(mem: &mut U, pc: u32, address: u32, width: Width, value: u32) -> Ran
     requires aligned { pc % 4 ≡ 0 }
     requires fit { U.fit mem.old }
-    ensures executes { let before : View = record { may = U.may mem.old; console = U.console mem.old; content = U.content mem.old; timer = U.timer mem.old } in
-        let after : View = record { may = U.may mem.new; console = U.console mem.new; content = U.content mem.new; timer = U.timer mem.new } in
+    ensures executes { let before = view_of U.UserMemory mem.old in
+        let after = view_of U.UserMemory mem.new in
         (regs : List ℕ) → DoesExecute (λ mem. stores mem regs pc address width value) before after regs regs result }
     ensures aligned { GoesOnAligned result }
     ensures may { U.may mem.new ≡ U.may mem.old }

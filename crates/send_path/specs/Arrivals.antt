@@ -49,4 +49,5 @@ waiting_if (Some number) who threads = changed_thread who (with_state (Waiting n
 
 -- the thread that receives the message gets it, and the caller is answered that the call was served unless it waits
 abbrev pub arrival_answers : Option ThreadId → Message → Option Number → ThreadId → Answers
-arrival_answers receiver message waits who = both_answers (thread_gets (message_words message) receiver) (sender_answered (is_some waits) who)
+arrival_answers receiver message waits who = both_answers (thread_gets (message_words message) receiver)
+    (sender_answered (is_some waits) who)

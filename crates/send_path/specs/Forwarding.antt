@@ -24,7 +24,8 @@ abbrev pub IsRowOver : {W A : Type 0}
     → (W → Held) → (Machine → Outcome) → ThreadId → Processes → Parts W → Parts W → Result A XousError → Type 0
 IsRowOver held row who procs old new (Ok done) =
     (m : Machine)
-    → IsServed (row (with_all held who procs old m)) (with_all held who procs old m) (with_all held who procs new m) old.tables.log new.tables.log
+    → IsServed (row (with_all held who procs old m)) (with_all held who procs old m)
+    (with_all held who procs new m) old.tables.log new.tables.log
 IsRowOver held row who procs old new (Err error) = (new ≡ old) × ((m : Machine) → row (with_all held who procs old m) ≡ Refused error)
 
 -- ForwardMessage of the message with that number to the server that the connection leads to

@@ -44,7 +44,8 @@ receive_row sid wait m =
 -- A call of the thread that takes the memory too is this row.
 abbrev pub IsRow : {W A : Type 0} → (W → Held) → (Machine → Outcome) → ThreadId → Parts W → Parts W → Result A XousError → Type 0
 IsRow held row who old new (Ok done) =
-    (m : Machine) → IsServed (row (with_parts held who old m)) (with_parts held who old m) (with_parts held who new m) old.tables.log new.tables.log
+    (m : Machine) → IsServed (row (with_parts held who old m)) (with_parts held who old m)
+    (with_parts held who new m) old.tables.log new.tables.log
 IsRow held row who old new (Err error) = (new ≡ old) × ((m : Machine) → row (with_parts held who old m) ≡ Refused error)
 
 -- the row of the call with these words

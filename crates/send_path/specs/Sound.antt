@@ -1,4 +1,5 @@
 -- The soundness of the parts, which each call needs of those that it takes, and keeps.
+use Rattle.xk_ports.specs.declared.store.SwapStore.{Ghosts as SwapStore}
 use Rattle.std.specs.Prelude.{◌≡◌, ℕ, ◌<◌, Bool, true, All, List, length, Option, Some, None}
 use Rattle.ledger_model.specs.Loans.{LoanRun, Loans, Stands, loans}
 use Rattle.machine_model.specs.Messaging.Messages.{loan_kind}
@@ -68,33 +69,34 @@ AreLoansSound all servers seats =
     (serial : ℕ) (server : Server) → servers.live serial ≡ Some server → AreLoansAt all server.pid (seat_of seats server.seat)
 
 -- the parts that a call which ends or makes a loan takes
-pub record IsSound {W : Type 0} (slot_count : W → ℕ) (held : W → Held) (who : ThreadId) (parts : Parts W) : Type 0 where
+pub record IsSound {W : Type 0} (S : SwapStore W) (who : ThreadId) (parts : Parts W) : Type 0 where
   -- they are those of a matched machine
   pub machine : Machine
-  pub matched : Matched (with_parts held who parts machine)
+  pub matched : Matched (with_parts S.held who parts machine)
   -- the memory is sound, and was made for as many processes as the threads were
-  pub mem : IsMemorySound slot_count parts.mem
+  pub mem : IsMemorySound S.slot_count parts.mem
   pub processes : process_count parts.tables.threads ≡ processes parts.mem
   pub seats : AreSeatsSound (servers_of parts.tables.servers) parts.tables.queues
-  pub loans : AreLoansSound (loans (ledger held parts.mem)) (servers_of parts.tables.servers) parts.tables.queues
+  pub loans : AreLoansSound (loans (ledger S.held parts.mem)) (servers_of parts.tables.servers) parts.tables.queues
 
 -- Of the parts of a call that looks at connections too: the processes are those of the machine, and were made for as many.
-pub record IsSoundOver {W : Type 0} (slot_count : W → ℕ) (held : W → Held) (who : ThreadId) (procs : Processes) (parts : Parts W)
+pub record IsSoundOver {W : Type 0} (S : SwapStore W) (who : ThreadId) (procs : Processes) (parts : Parts W)
     : Type 0 where
-  pub sound : IsSound slot_count held who parts
+  pub sound : IsSound S who parts
   pub same : sound.machine.process ≡ processes_shown procs
   pub count : made_for procs ≡ process_count parts.tables.threads
 
 -- the number is above those of all messages
 abbrev pub IsAboveMessages : Number → Servers → List Seat → Type 0
 IsAboveMessages number servers seats =
-    (n : ℕ) (server : MachineServer) → servers_shown servers seats n ≡ Some server → All (λ message. message.number.0 < number.0) (messages_of server)
+    (n : ℕ) (server : MachineServer) → servers_shown servers seats n ≡ Some server
+    → All (λ message. message.number.0 < number.0) (messages_of server)
 
 -- What a call keeps of the memory, however it ends: how large it is, its store, and whether a call has failed. No page goes out, and
 -- its bytes mean something where they did.
-pub record KeepsMemory {W : Type 0} (honest : W → Bool) (held : W → Held) (old new : Memory W) : Type 0 where
+pub record KeepsMemory {W : Type 0} (S : SwapStore W) (old new : Memory W) : Type 0 where
   pub size : size new ≡ size old
   pub store : store_of new ≡ store_of old
   pub failed : has_failed new ≡ has_failed old
   pub none : none_out old ≡ true → none_out new ≡ true
-  pub means : MeansBytes honest held old → MeansBytes honest held new
+  pub means : MeansBytes S old → MeansBytes S new

@@ -84,8 +84,10 @@ fn answer_arrival(
     requires room { length log.old.records + 2 ≤ log.old.room }
     requires who { is_thread_id (process_count threads.old) who ≡ true }
     requires receiver { IfSome receiver (λ id. (is_thread_id (process_count threads.old) id ≡ true) × (same_thread id who ≡ false)) }
-    ensures after { threads_shown threads.new ≡ answered (both_answers (thread_gets words receiver) (sender_answered waits who)) (threads_shown threads.old) }
-    ensures log { log.new ≡ log_with (replies (process_count threads.old) (both_answers (thread_gets words receiver) (sender_answered waits who))) log.old }
+    ensures after { threads_shown threads.new ≡ answered (both_answers (thread_gets words receiver) (sender_answered waits who))
+        (threads_shown threads.old) }
+    ensures log { log.new
+        ≡ log_with (replies (process_count threads.old) (both_answers (thread_gets words receiver) (sender_answered waits who))) log.old }
     ensures count { process_count threads.new ≡ process_count threads.old }
 {
     let plain = reply_words(&Reply::Plain);

@@ -48,13 +48,13 @@ pub fn forward<W: SwapStore>(
     requires served { call_number words ≡ forward_number }
     requires usable { IsUsable mem.old }
     requires sound { let old = parts_of mem.old threads.old servers.now queues.old log.old in
-        IsSoundOver W.slot_count W.held who procs.now old }
+        IsSoundOver W.SwapStore who procs.now old }
     ensures row { let old = parts_of mem.old threads.old servers.now queues.old log.old in
         let new = parts_of mem.new threads.new servers.now queues.new log.new in
         IsRowOver W.held (table_row words) who procs.now old new result }
     ensures sound { let new = parts_of mem.new threads.new servers.now queues.new log.new in
-        IsSoundOver W.slot_count W.held who procs.now new }
-    ensures mem { KeepsMemory W.is_honest W.held mem.old mem.new }
+        IsSoundOver W.SwapStore who procs.now new }
+    ensures mem { KeepsMemory W.SwapStore mem.old mem.new }
 {
     match read_call(words) {
         Ok(Call::ForwardMessage { token, cid }) => forward_message(
@@ -88,13 +88,13 @@ fn forward_message<W: SwapStore>(
     requires room { length log.old.records + 2 ≤ log.old.room }
     requires usable { IsUsable mem.old }
     requires sound { let old = parts_of mem.old threads.old servers.now queues.old log.old in
-        IsSoundOver W.slot_count W.held who procs.now old }
+        IsSoundOver W.SwapStore who procs.now old }
     ensures row { let old = parts_of mem.old threads.old servers.now queues.old log.old in
         let new = parts_of mem.new threads.new servers.now queues.new log.new in
         IsRowOver W.held (forward_row number cid.0) who procs.now old new result }
     ensures sound { let new = parts_of mem.new threads.new servers.now queues.new log.new in
-        IsSoundOver W.slot_count W.held who procs.now new }
-    ensures mem { KeepsMemory W.is_honest W.held mem.old mem.new }
+        IsSoundOver W.SwapStore who procs.now new }
+    ensures mem { KeepsMemory W.SwapStore mem.old mem.new }
 {
     let Some(from) = held_by(servers, queues, who.pid, number) else {
         return Err(XousError::DoubleFree);

@@ -107,11 +107,12 @@ pub(crate) fn carry<W: SwapStore>(
     requires sound { IsMemorySound W.slot_count mem.old }
     requires usable { IsUsable mem.old }
     requires may { has_pages kind ≡ true → MayGo (processes mem.old) (ledger W.held mem.old) kind from n to number }
-    ensures loan { result ≡ option_map (λ loaned. record { lender = Some from; holder = to; count = n; kind = loaned; number = number }) (loan_kind kind) }
+    ensures loan { result ≡ option_map (λ loaned. record { lender = Some from; holder = to; count = n; kind = loaned; number = number })
+        (loan_kind kind) }
     ensures ledger { ledger W.held mem.new ≡ sent_ledger kind from n to number (ledger W.held mem.old) }
     ensures stands { IfSome result (λ loan. Stands (loans (ledger W.held mem.new)) loan) }
     ensures sound { IsMemorySound W.slot_count mem.new }
-    ensures keeps { KeepsMemory W.is_honest W.held mem.old mem.new }
+    ensures keeps { KeepsMemory W.SwapStore mem.old mem.new }
 {
     match kind {
         MsgKind::LendMut => Some(mem.lend(from, n, to, LoanKind::Exclusive, number)),

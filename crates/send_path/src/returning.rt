@@ -54,13 +54,14 @@ pub fn give_back<W: SwapStore>(
 ) -> Result<(), XousError>
     requires ready { is_ready (threads_of threads.old who) ≡ true }
     requires room { length log.old.records + 2 ≤ log.old.room }
-    requires served { (call_number words == memory_number || call_number words == scalar1_number || call_number words == scalar2_number) ≡ true }
-    requires sound { IsSound W.slot_count W.held who (parts_of mem.old threads.old servers.now queues.old log.old) }
+    requires served { (call_number words == memory_number || call_number words == scalar1_number
+        || call_number words == scalar2_number) ≡ true }
+    requires sound { IsSound W.SwapStore who (parts_of mem.old threads.old servers.now queues.old log.old) }
     ensures row { let old = parts_of mem.old threads.old servers.now queues.old log.old in
         let new = parts_of mem.new threads.new servers.now queues.new log.new in
         IsRow W.held (table_row words) who old new result }
-    ensures sound { IsSound W.slot_count W.held who (parts_of mem.new threads.new servers.now queues.new log.new) }
-    ensures mem { KeepsMemory W.is_honest W.held mem.old mem.new }
+    ensures sound { IsSound W.SwapStore who (parts_of mem.new threads.new servers.now queues.new log.new) }
+    ensures mem { KeepsMemory W.SwapStore mem.old mem.new }
 {
     match given_back(words) {
         GivenBack::Pages(returned) => {
@@ -119,12 +120,12 @@ fn return_memory<W: SwapStore>(
 ) -> Result<(), XousError>
     requires ready { is_ready (threads_of threads.old who) ≡ true }
     requires room { length log.old.records + 2 ≤ log.old.room }
-    requires sound { IsSound W.slot_count W.held who (parts_of mem.old threads.old servers.now queues.old log.old) }
+    requires sound { IsSound W.SwapStore who (parts_of mem.old threads.old servers.now queues.old log.old) }
     ensures row { let old = parts_of mem.old threads.old servers.now queues.old log.old in
         let new = parts_of mem.new threads.new servers.now queues.new log.new in
         IsRow W.held (memory_row returned.number returned.address returned.size returned.offset returned.valid) who old new result }
-    ensures sound { IsSound W.slot_count W.held who (parts_of mem.new threads.new servers.now queues.new log.new) }
-    ensures mem { KeepsMemory W.is_honest W.held mem.old mem.new }
+    ensures sound { IsSound W.SwapStore who (parts_of mem.new threads.new servers.now queues.new log.new) }
+    ensures mem { KeepsMemory W.SwapStore mem.old mem.new }
 {
     let Some(HeldAt { seat, message, .. }) = held_by(servers, queues, who.pid, returned.number)
     else {
@@ -158,11 +159,11 @@ fn return_scalar<W: SwapStore>(
 ) -> Result<(), XousError>
     requires ready { is_ready (threads_of threads.old who) ≡ true }
     requires room { length log.old.records + 2 ≤ log.old.room }
-    requires sound { IsSound W.slot_count W.held who (parts_of mem.now threads.old servers.now queues.old log.old) }
+    requires sound { IsSound W.SwapStore who (parts_of mem.now threads.old servers.now queues.old log.old) }
     ensures row { let old = parts_of mem.now threads.old servers.now queues.old log.old in
         let new = parts_of mem.now threads.new servers.now queues.new log.new in
         IsRow W.held (scalar_row number (words_of reply)) who old new result }
-    ensures sound { IsSound W.slot_count W.held who (parts_of mem.now threads.new servers.now queues.new log.new) }
+    ensures sound { IsSound W.SwapStore who (parts_of mem.now threads.new servers.now queues.new log.new) }
 {
     let Some(HeldAt { seat, message, .. }) = held_by(servers, queues, who.pid, number) else {
         return Err(XousError::DoubleFree);

@@ -75,13 +75,13 @@ pub fn send<W: SwapStore>(
     requires usable { IsUsable mem.old }
     requires above { IsAboveMessages number servers.now queues.old }
     requires sound { let old = parts_of mem.old threads.old servers.now queues.old log.old in
-        IsSoundOver W.slot_count W.held who procs.now old }
+        IsSoundOver W.SwapStore who procs.now old }
     ensures row { let old = parts_of mem.old threads.old servers.now queues.old log.old in
         let new = parts_of mem.new threads.new servers.now queues.new log.new in
         IsSendRow W.held (send_row words) who procs.now number old new result }
     ensures sound { let new = parts_of mem.new threads.new servers.now queues.new log.new in
-        IsFalse (is_waiting_kind (send_kind words) && (who.tid.0 == 1)) → IsSoundOver W.slot_count W.held who procs.now new }
-    ensures mem { KeepsMemory W.is_honest W.held mem.old mem.new }
+        IsFalse (is_waiting_kind (send_kind words) && (who.tid.0 == 1)) → IsSoundOver W.SwapStore who procs.now new }
+    ensures mem { KeepsMemory W.SwapStore mem.old mem.new }
 {
     let asked = asked_in(words);
     send_asked(
@@ -135,13 +135,13 @@ fn send_asked<W: SwapStore>(
     requires usable { IsUsable mem.old }
     requires above { IsAboveMessages number servers.now queues.old }
     requires sound { let old = parts_of mem.old threads.old servers.now queues.old log.old in
-        IsSoundOver W.slot_count W.held who procs.now old }
+        IsSoundOver W.SwapStore who procs.now old }
     ensures row { let old = parts_of mem.old threads.old servers.now queues.old log.old in
         let new = parts_of mem.new threads.new servers.now queues.new log.new in
         IsSendRow W.held (asked_row asked) who procs.now number old new result }
     ensures sound { let new = parts_of mem.new threads.new servers.now queues.new log.new in
-        IsFalse (is_waiting_kind asked.kind && (who.tid.0 == 1)) → IsSoundOver W.slot_count W.held who procs.now new }
-    ensures mem { KeepsMemory W.is_honest W.held mem.old mem.new }
+        IsFalse (is_waiting_kind asked.kind && (who.tid.0 == 1)) → IsSoundOver W.SwapStore who procs.now new }
+    ensures mem { KeepsMemory W.SwapStore mem.old mem.new }
 {
     let Some(to) = connected_server(procs, servers, who.pid, asked.cid) else {
         return Sent::Refused(XousError::ServerNotFound);

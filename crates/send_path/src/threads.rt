@@ -86,8 +86,10 @@ pub(crate) fn answer_both(
     requires one { is_thread_id (process_count threads.old) one ≡ true }
     requires other { is_thread_id (process_count threads.old) other ≡ true }
     requires apart { same_thread one other ≡ false }
-    ensures after { threads_shown threads.new ≡ answered (both_answers (answer_to one one_words) (answer_to other other_words)) (threads_shown threads.old) }
-    ensures log { log.new ≡ log_with (replies (process_count threads.old) (both_answers (answer_to one one_words) (answer_to other other_words))) log.old }
+    ensures after { threads_shown threads.new ≡ answered (both_answers (answer_to one one_words) (answer_to other other_words))
+        (threads_shown threads.old) }
+    ensures log { log.new
+        ≡ log_with (replies (process_count threads.old) (both_answers (answer_to one one_words) (answer_to other other_words))) log.old }
     ensures count { process_count threads.new ≡ process_count threads.old }
 {
     answer(threads, one, one_words);
@@ -122,7 +124,8 @@ pub(crate) fn answer_with_sender(
     requires sender { IfSome sender (λ id. (is_thread_id (process_count threads.old) id ≡ true) × (same_thread who id ≡ false)) }
     ensures after { let past = changed_thread who passed (threads_shown threads.old) in
         threads_shown threads.new ≡ answered (both_answers (answer_to who plain_words) (sender_gets words sender)) past }
-    ensures log { log.new ≡ log_with (replies (process_count threads.old) (both_answers (answer_to who plain_words) (sender_gets words sender))) log.old }
+    ensures log { log.new
+        ≡ log_with (replies (process_count threads.old) (both_answers (answer_to who plain_words) (sender_gets words sender))) log.old }
     ensures count { process_count threads.new ≡ process_count threads.old }
 {
     let plain = reply_words(&Reply::Plain);

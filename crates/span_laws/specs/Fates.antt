@@ -8,7 +8,7 @@ use Rattle.ledger_model.specs.Loans.{LoanRun}
 use Rattle.ledger_model.specs.Places.{place_after}
 use Rattle.machine_model.specs.Runs.LoanSpan.{Closes, IsForwarded, IsIn, IsInstructionOf, IsOut, Opens, page_bytes, page_right, unlent}
 use Rattle.machine_model.specs.Runs.Matched.{Matched, is_living}
-use Rattle.machine_model.specs.Runs.Moments.{Cause, Moment, caused}
+use Rattle.machine_model.specs.Runs.Moments.{Cause, Moment, moment_of}
 use Rattle.machine_model.specs.State.Machine.{Machine}
 
 -- The loan goes on, `a` before and `b` after: its kind and how many pages it has stay, it gets no other lender, its pages at their
@@ -39,10 +39,6 @@ pub record Fate (number : Number) (before : Machine) (moment : Moment) : Type 0 
   pub gives_back : (loan : LoanRun) → IsOut number before loan → IsIn number moment.machine → IsGivenBack before moment loan
   -- the next number never falls
   pub climbs : before.next_number ≤ moment.machine.next_number
-
--- the moment to which a cause leads
-abbrev pub moment_of : Cause → Machine → Moment
-moment_of cause m = record { cause = cause; machine = caused cause m }
 
 -- every number has its fate by the cause, in a matched state
 abbrev pub HasFates : Cause → Type 0

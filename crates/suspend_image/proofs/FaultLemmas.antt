@@ -1,18 +1,17 @@
 -- The faults of state files: each file has one at most, and none where the machine can be in the state that it spells.
-use Rattle.std.proofs.Common.{◌≡◌, ℕ, List, Option, Some, None, refl, sym, ap, subst, ◌∙◌, inl, inr, ◌⊎◌}
+use Rattle.std.proofs.Common.{◌≡◌, ℕ, List, Some, sym, ap, subst, ◌∙◌, inl, inr}
 use Rattle.kernel_args.specs.declared.faults.ArgFault.{ArgFault}
 use Rattle.machine_model.specs.Runs.Matched.{Matched}
-use Rattle.suspend_image.specs.declared.faults.StateError.{StateError}
-use Rattle.suspend_image.specs.declared.faults.StateError.TheVariants as errors
-use Rattle.suspend_image.specs.declared.state.State.{State}
+use Rattle.state_rows.specs.declared.state.State.{State}
 use Rattle.suspend_image.specs.Forms.{Spells}
-use Rattle.suspend_image.specs.Machines.{machine_of}
-use Rattle.suspend_image.specs.StateFaults.{state_fault, IsFault}
-use Rattle.suspend_image.specs.UnmatchedParts.{IsFirstUnmatched, AreRowsInOrder, number_of}
-use Rattle.suspend_image.specs.FileFaults.{IsUnmatchedFault, IsFirstFault, IsRefused}
-use Rattle.suspend_image.proofs.Parts.FirstLemmas.{part_of, first_once}
-use Rattle.suspend_image.proofs.Parts.Keys.KeyLemmas.{some_same}
-use Rattle.suspend_image.proofs.Parts.Keys.OrderLemmas.{threads_ascend, servers_ascend, claims_ascend, pages_ascend, orphans_ascend, procs_counted}
+use Rattle.state_rows.specs.Machines.{machine_of}
+use Rattle.suspend_image.specs.StateFaults.{state_fault}
+use Rattle.state_matching.specs.UnmatchedParts.{IsFirstUnmatched}
+use Rattle.state_rows.specs.Order.{AreRowsInOrder}
+use Rattle.suspend_image.specs.FileFaults.{IsFirstFault}
+use Rattle.state_matching.proofs.FirstLemmas.{part_of, first_once}
+use Rattle.state_rows.proofs.KeyLemmas.{some_same}
+use Rattle.suspend_image.proofs.OrderLemmas.{threads_ascend, servers_ascend, claims_ascend, pages_ascend, orphans_ascend, procs_counted}
 use Rattle.suspend_image.proofs.SpellsLemmas.{spelled_once, spelled_has_no_fault}
 
 pub rows_in_order : (file : List ℕ) (s : State) → Spells file s → AreRowsInOrder s
@@ -25,11 +24,6 @@ rows_in_order file s spells = record {
   pages = pages_ascend file s spells;
   orphans = orphans_ascend file s spells;
 }
-
--- a fault of the form is the first
-pub refused_by_form : (file : List ℕ) (e : StateError) → IsFault (state_fault file) e → IsRefused file e
-refused_by_form file (errors.Fault f) is = inl is
-refused_by_form file errors.NoMemory is = tt
 
 no_form_fault : {A : Type 0} (file : List ℕ) (s : State) (f : ArgFault) → Spells file s → state_fault file ≡ Some f → A
 no_form_fault file s f spells fault = (let none = spelled_has_no_fault file s spells in absurd cc)

@@ -1,8 +1,9 @@
 pub mod FaultLemmas
 pub mod FoundSpelled
-pub mod Parts
+pub mod OrderLemmas
 pub mod RowLoopLemmas
 pub mod Saved
 pub mod Sheets
 pub mod SpelledAgain
 pub mod SpellsLemmas
+pub mod StandingLemmas

@@ -1,16 +1,17 @@
 -- The form of a state: what each number of it may be, and where the bytes of its pages stand in a file.
-use Rattle.std.specs.Prelude.{◌≡◌, ℕ, ◌+◌, ◌≤◌, ◌<◌, ◌==◌, Bool, true, false, not, ◌||◌, nat_lt, nat_le, if◌then◌else◌, ⊤, List, [], ◌∷◌, length, Option, Some, None, All}
+use Rattle.std.specs.Prelude.{◌≡◌, ℕ, ◌+◌, ◌≤◌, ◌<◌, ◌==◌, Bool, true, false, not, ◌||◌, nat_lt, nat_le, if◌then◌else◌, ⊤, List, [], ◌∷◌}
+use Rattle.std.specs.Prelude.{length, Option, Some, None}
 use Rattle.std.specs.List.{flat_map, AllByRecursion}
-use Rattle.suspend_image.specs.declared.state.State.{State}
-use Rattle.suspend_image.specs.declared.state.ProcRow.{ProcRow}
-use Rattle.suspend_image.specs.declared.state.ThreadRow.{ThreadRow}
-use Rattle.suspend_image.specs.declared.state.MessageRow.{MessageRow}
-use Rattle.suspend_image.specs.declared.state.ServerRow.{ServerRow}
-use Rattle.suspend_image.specs.declared.state.ClaimRow.{ClaimRow}
-use Rattle.suspend_image.specs.declared.state.PageRow.{PageRow}
-use Rattle.suspend_image.specs.declared.state.OrphanRow.{OrphanRow}
-use Rattle.suspend_image.specs.Reading.{greatest, after, least_first, least_second}
-use Rattle.suspend_image.specs.Rows.{thread_key, server_key, claim_key, page_key, orphan_key}
+use Rattle.state_rows.specs.declared.state.State.{State}
+use Rattle.state_rows.specs.declared.state.ProcRow.{ProcRow}
+use Rattle.state_rows.specs.declared.state.ThreadRow.{ThreadRow}
+use Rattle.state_rows.specs.declared.state.MessageRow.{MessageRow}
+use Rattle.state_rows.specs.declared.state.ServerRow.{ServerRow}
+use Rattle.state_rows.specs.declared.state.ClaimRow.{ClaimRow}
+use Rattle.state_rows.specs.declared.state.PageRow.{PageRow}
+use Rattle.state_rows.specs.declared.state.OrphanRow.{OrphanRow}
+use Rattle.suspend_image.specs.Reading.{greatest}
+use Rattle.state_rows.specs.Order.{AreInOrder, after, least_first, least_second, thread_key, server_key, claim_key, page_key, orphan_key}
 use Rattle.suspend_image.specs.Spelling.{page_bytes, orphan_bytes, rows_bytes, state_bytes}
 
 -- ---- numbers
@@ -44,7 +45,8 @@ pub record IsProcRow (p : ProcRow) : Type 0 where
   pub many : IsWord (length p.serials)
   pub serials : AllByRecursion IsWord p.serials
 
--- the least and the greatest that it may wait for: nothing where it is Ready or Idle, a tid where it is Joining, and else any serial or number
+-- The least and the greatest that it may wait for: nothing where it is Ready or Idle, a tid where it is Joining, and else any serial
+-- or number.
 abbrev pub waits_bounds : ℕ → ℕ × ℕ
 waits_bounds state = if state == 0 || state == 4 then (0, 0) else (if state == 3 then (1, 31) else (0, greatest))
 
@@ -93,13 +95,6 @@ abbrev pub StandsBefore : Bool → ℕ → ℕ → ℕ → Type 0
 StandsBefore true size left from = from + 4096 + left ≡ size
 StandsBefore false size left from = from ≡ 0
 
--- the bytes of a page and of an orphan stand in a file; the console has none
-abbrev pub StandsIn : List ℕ → PageRow → Type 0
-StandsIn file p = p.right < 4 → p.from + 4096 ≤ length file
-
-abbrev pub OrphanStandsIn : List ℕ → OrphanRow → Type 0
-OrphanStandsIn file o = o.from + 4096 ≤ length file
-
 -- a holder is there exactly where the kind of the loan isn't 0
 pub record IsPageRow (size n : ℕ) (before : Option (ℕ × ℕ)) (left : ℕ) (p : PageRow) : Type 0 where
   pub pid : IsWithin (least_first 2 before) (n + 1) p.pid
@@ -120,20 +115,11 @@ pub record IsOrphanRow (size n : ℕ) (before : Option (ℕ × ℕ)) (left : ℕ
 
 -- ---- the whole
 
--- Each row has the form that one has behind the key of the row before it.
-abbrev pub AreInOrder : {A K : Type 0} → (Option K → A → Type 0) → (A → K) → Option K → List A → Type 0
-AreInOrder form key before [] = ⊤
-AreInOrder form key before (x ∷ xs) = form before x × AreInOrder form key (Some (key x)) xs
-
 -- Each row has the form that one has behind the key of the row before it and before the bytes of the rows behind it and so many more.
 abbrev pub ArePlaced : {A K : Type 0} → (Option K → ℕ → A → Type 0) → (A → K) → (A → List ℕ) → ℕ → Option K → List A → Type 0
 ArePlaced form key spell left before [] = ⊤
-ArePlaced form key spell left before (x ∷ xs) = form before (length (flat_map spell xs) + left) x × ArePlaced form key spell left (Some (key x)) xs
-
--- the bytes of each page and orphan stand in a file
-pub record StandsInFile (file : List ℕ) (s : State) : Type 0 where
-  pub pages : All (StandsIn file) s.pages
-  pub orphans : All (OrphanStandsIn file) s.orphans
+ArePlaced form key spell left before (x ∷ xs) =
+    form before (length (flat_map spell xs) + left) x × ArePlaced form key spell left (Some (key x)) xs
 
 pub record HasForm (file : List ℕ) (s : State) : Type 0 where
   pub cap : IsWord s.cap
@@ -158,7 +144,8 @@ pub record HasForm (file : List ℕ) (s : State) : Type 0 where
   pub many_claims : IsWord (length s.claims)
   pub claims : AreInOrder (IsClaimRow s.n) claim_key None s.claims
   pub many_pages : IsWord (length s.pages)
-  pub pages : ArePlaced (IsPageRow (length file) s.n) page_key (page_bytes file) (length (rows_bytes (orphan_bytes file) s.orphans)) None s.pages
+  pub pages : ArePlaced (IsPageRow (length file) s.n) page_key (page_bytes file) (length (rows_bytes (orphan_bytes file) s.orphans))
+      None s.pages
   pub many_orphans : IsWord (length s.orphans)
   pub orphans : ArePlaced (IsOrphanRow (length file) s.n) orphan_key (orphan_bytes file) 0 None s.orphans
 

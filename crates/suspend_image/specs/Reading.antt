@@ -1,6 +1,7 @@
 -- Reading from left to right: the value at the front of bytes and the bytes after it, or the first word that breaks the form, said by
 -- how many bytes stand from it on. A part of a word at the end of the bytes is a word that is missing.
-use Rattle.std.specs.Prelude.{◌≡◌, ℕ, zero, suc, ◌+◌, ◌==◌, Bool, ◌||◌, nat_lt, if◌then◌else◌, List, [], ◌∷◌, length, take, drop, Option, Some, None, Result, Ok, Err}
+use Rattle.std.specs.Prelude.{◌≡◌, ℕ, zero, suc, Bool, ◌||◌, nat_lt, if◌then◌else◌, List, [], ◌∷◌, length, take, drop, Option}
+use Rattle.std.specs.Prelude.{Some, None, Result, Ok, Err}
 use Rattle.byteorder.specs.Endian.{little_number}
 use Rattle.suspend_image.specs.declared.reading.broken.Broken.{Broken}
 use Rattle.suspend_image.specs.declared.reading.broken.Broken.TheVariants as broken
@@ -65,18 +66,3 @@ rows_at row key (suc n) before bytes = do
 -- this many items, in any order
 abbrev pub items_at : {A : Type 0} → (List ℕ → Found A) → ℕ → List ℕ → Found (List A)
 items_at item n bytes = rows_at (λ (before : Option ℕ). item) (λ x. 0) n None bytes
-
--- the least number behind that of the row before
-abbrev pub after : Option ℕ → ℕ
-after None = 0
-after (Some before) = before + 1
-
--- the least first number of a key of two behind that of the row before
-abbrev pub least_first : ℕ → Option (ℕ × ℕ) → ℕ
-least_first least None = least
-least_first least (Some before) = before.0
-
--- the least second number beside that first one
-abbrev pub least_second : ℕ → Option (ℕ × ℕ) → ℕ → ℕ
-least_second least None first = least
-least_second least (Some before) first = if before.0 == first then before.1 + 1 else least

@@ -1,17 +1,19 @@
 -- The rows of the parts of a state, read from the front of bytes: which words each has, and what each word may be.
-use Rattle.std.specs.Prelude.{ℕ, ◌+◌, ◌-◌, ◌==◌, Bool, true, not, ◌&&◌, ◌||◌, nat_lt, nat_le, if◌then◌else◌, List, length, take, drop, Option, Some, None, Ok, Err}
+use Rattle.std.specs.Prelude.{ℕ, ◌+◌, ◌-◌, ◌==◌, Bool, true, not, ◌&&◌, ◌||◌, nat_lt, nat_le, if◌then◌else◌, List, length, take, drop}
+use Rattle.std.specs.Prelude.{Option, Some, None, Ok, Err}
 use Rattle.byteorder.specs.Endian.{little_number}
 use Rattle.suspend_image.specs.declared.reading.numbers.Numbers.{Numbers}
 use Rattle.suspend_image.specs.declared.reading.numbers.Timer.{Timer}
 use Rattle.suspend_image.specs.declared.reading.numbers.Reserved.{Reserved}
-use Rattle.suspend_image.specs.declared.state.ProcRow.{ProcRow}
-use Rattle.suspend_image.specs.declared.state.ThreadRow.{ThreadRow}
-use Rattle.suspend_image.specs.declared.state.MessageRow.{MessageRow}
-use Rattle.suspend_image.specs.declared.state.ServerRow.{ServerRow}
-use Rattle.suspend_image.specs.declared.state.ClaimRow.{ClaimRow}
-use Rattle.suspend_image.specs.declared.state.PageRow.{PageRow}
-use Rattle.suspend_image.specs.declared.state.OrphanRow.{OrphanRow}
-use Rattle.suspend_image.specs.Reading.{Found, ◌>>=◌, greatest, word_at, word_in, word_if, four_at, items_at, after, least_first, least_second}
+use Rattle.state_rows.specs.declared.state.ProcRow.{ProcRow}
+use Rattle.state_rows.specs.declared.state.ThreadRow.{ThreadRow}
+use Rattle.state_rows.specs.declared.state.MessageRow.{MessageRow}
+use Rattle.state_rows.specs.declared.state.ServerRow.{ServerRow}
+use Rattle.state_rows.specs.declared.state.ClaimRow.{ClaimRow}
+use Rattle.state_rows.specs.declared.state.PageRow.{PageRow}
+use Rattle.state_rows.specs.declared.state.OrphanRow.{OrphanRow}
+use Rattle.suspend_image.specs.Reading.{Found, ◌>>=◌, greatest, word_at, word_in, word_if, four_at, items_at}
+use Rattle.state_rows.specs.Order.{after, least_first, least_second}
 
 -- ---- 1. the machine
 
@@ -25,7 +27,18 @@ numbers_at bytes = do
   tid ← word_in 1 31 pid.1
   number ← word_at tid.1
   serial ← word_at number.1
-  Ok (record { cap = cap.0; n = n.0; steps = steps.0; cursor_pid = pid.0; cursor_tid = tid.0; next_number = number.0; next_serial = serial.0 }, serial.1)
+  Ok (
+    record {
+      cap = cap.0;
+      n = n.0;
+      steps = steps.0;
+      cursor_pid = pid.0;
+      cursor_tid = tid.0;
+      next_number = number.0;
+      next_serial = serial.0;
+    },
+    serial.1,
+  )
 
 unfoldable pub timer_at : List ℕ → Found Timer
 timer_at bytes = do
@@ -52,9 +65,6 @@ proc_at bytes = do
   Ok (record { alive = alive.0; heap = heap.0; serials = serials.0 }, serials.1)
 
 -- ---- 3. a thread
-
-abbrev pub thread_key : ThreadRow → ℕ × ℕ
-thread_key t = (t.pid, t.tid)
 
 -- what it waits for: 0 where it is Ready or Idle, a tid where it is Joining, and else any serial or number
 unfoldable pub waits_at : ℕ → List ℕ → Found ℕ
@@ -90,10 +100,19 @@ message_at n bytes = do
   words ← four_at id.1
   first ← word_if (nat_le kind.0 3) 0 greatest words.1
   count ← word_if (nat_le kind.0 3) 0 greatest first.1
-  Ok (record { number = number.0; sender_pid = pid.0; sender_tid = tid.0; kind = kind.0; id = id.0; words = words.0; first = first.0; count = count.0 }, count.1)
-
-abbrev pub server_key : ServerRow → ℕ
-server_key s = s.serial
+  Ok (
+    record {
+      number = number.0;
+      sender_pid = pid.0;
+      sender_tid = tid.0;
+      kind = kind.0;
+      id = id.0;
+      words = words.0;
+      first = first.0;
+      count = count.0;
+    },
+    count.1,
+  )
 
 unfoldable pub server_at : ℕ → Option ℕ → List ℕ → Found ServerRow
 server_at n before bytes = do
@@ -108,9 +127,6 @@ server_at n before bytes = do
 
 -- ---- 5. a claim
 
-abbrev pub claim_key : ClaimRow → ℕ
-claim_key c = c.number
-
 unfoldable pub claim_at : ℕ → Option ℕ → List ℕ → Found ClaimRow
 claim_at n before bytes = do
   number ← word_in (after before) greatest bytes
@@ -121,12 +137,6 @@ claim_at n before bytes = do
   Ok (record { number = number.0; pid = pid.0; handler = handler.0; arg = arg.0; pending = pending.0 }, pending.1)
 
 -- ---- 6. and 7. a page and an orphan
-
-abbrev pub page_key : PageRow → ℕ × ℕ
-page_key p = (p.pid, p.page)
-
-abbrev pub orphan_key : OrphanRow → ℕ × ℕ
-orphan_key o = (o.pid, o.page)
 
 -- where 4,096 bytes begin in a file of this size, which stand at the front, or 0 where there are to be none
 unfoldable pub page_bytes_at : Bool → ℕ → List ℕ → Found ℕ
@@ -159,7 +169,19 @@ page_at size n before bytes = do
   kind ← word_in 0 2 holder_page.1
   number ← word_if (not (kind.0 == 0)) 0 greatest kind.1
   place ← page_bytes_at (nat_lt right.0 4) size number.1
-  Ok (record { pid = pid.0; page = page.0; right = right.0; holder_pid = holder_pid.0; holder_page = holder_page.0; kind = kind.0; number = number.0; from = place.0 }, place.1)
+  Ok (
+    record {
+      pid = pid.0;
+      page = page.0;
+      right = right.0;
+      holder_pid = holder_pid.0;
+      holder_page = holder_page.0;
+      kind = kind.0;
+      number = number.0;
+      from = place.0;
+    },
+    place.1,
+  )
 
 unfoldable pub orphan_at : ℕ → ℕ → Option (ℕ × ℕ) → List ℕ → Found OrphanRow
 orphan_at size n before bytes = do

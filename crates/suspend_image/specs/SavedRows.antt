@@ -9,15 +9,16 @@ use Rattle.xk_base.specs.declared.pages.LoanKind.TheVariants.{Shared, Exclusive}
 use Rattle.xk_base.specs.declared.pages.Right.{Right}
 use Rattle.xk_base.specs.Calls.Kinds.{kind_number}
 use Rattle.ledger_model.specs.Ledger.{Contents, Console, Bytes, Page, PageLoan, Orphan}
-use Rattle.machine_model.specs.State.Machine.{Machine, Process, Thread, ThreadState, Server, Claim, Reservation, Ready, Receiving, Waiting, Joining, Idle}
-use Rattle.suspend_image.specs.declared.state.State.{State}
-use Rattle.suspend_image.specs.declared.state.ProcRow.{ProcRow}
-use Rattle.suspend_image.specs.declared.state.ThreadRow.{ThreadRow}
-use Rattle.suspend_image.specs.declared.state.MessageRow.{MessageRow}
-use Rattle.suspend_image.specs.declared.state.ServerRow.{ServerRow}
-use Rattle.suspend_image.specs.declared.state.ClaimRow.{ClaimRow}
-use Rattle.suspend_image.specs.declared.state.PageRow.{PageRow}
-use Rattle.suspend_image.specs.declared.state.OrphanRow.{OrphanRow}
+use Rattle.machine_model.specs.State.Machine.{Machine, Process, Thread, ThreadState, Server, Claim, Reservation, Ready, Receiving, Waiting}
+use Rattle.machine_model.specs.State.Machine.{Joining, Idle}
+use Rattle.state_rows.specs.declared.state.State.{State}
+use Rattle.state_rows.specs.declared.state.ProcRow.{ProcRow}
+use Rattle.state_rows.specs.declared.state.ThreadRow.{ThreadRow}
+use Rattle.state_rows.specs.declared.state.MessageRow.{MessageRow}
+use Rattle.state_rows.specs.declared.state.ServerRow.{ServerRow}
+use Rattle.state_rows.specs.declared.state.ClaimRow.{ClaimRow}
+use Rattle.state_rows.specs.declared.state.PageRow.{PageRow}
+use Rattle.state_rows.specs.declared.state.OrphanRow.{OrphanRow}
 
 -- a word that is 1 where something is so, else 0
 abbrev pub flag : Bool → ℕ
@@ -123,7 +124,13 @@ server_row serial s = record {
 
 -- `pending` are the interrupts that were raised and not delivered
 abbrev pub claim_row : (ℕ → Bool) → ℕ → Claim → ClaimRow
-claim_row pending number c = record { number = number; pid = c.pid.0; handler = c.handler; arg = c.argument; pending = flag (pending number) }
+claim_row pending number c = record {
+  number = number;
+  pid = c.pid.0;
+  handler = c.handler;
+  arg = c.argument;
+  pending = flag (pending number);
+}
 
 -- ---- 6. and 7. a page and an orphan, without their bytes
 

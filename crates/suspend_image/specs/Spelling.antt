@@ -1,16 +1,17 @@
 -- How a state is spelled: which words its numbers and rows have, and in which order. The 4,096 bytes of a page stand behind its words;
 -- they are copied from `file`, at the offset that the row gives.
-use Rattle.std.specs.Prelude.{ℕ, ◌+◌, nat_lt, if◌then◌else◌, List, [], ◌∷◌, ◌++◌, length, take, drop, codes}
+use Rattle.std.specs.Prelude.{ℕ, ◌+◌, nat_lt, if◌then◌else◌, List, [], ◌∷◌, ◌++◌, length, codes}
 use Rattle.std.specs.List.{flat_map}
 use Rattle.kernel_args.specs.CheckNumber.{check_number}
-use Rattle.suspend_image.specs.declared.state.State.{State}
-use Rattle.suspend_image.specs.declared.state.ProcRow.{ProcRow}
-use Rattle.suspend_image.specs.declared.state.ThreadRow.{ThreadRow}
-use Rattle.suspend_image.specs.declared.state.MessageRow.{MessageRow}
-use Rattle.suspend_image.specs.declared.state.ServerRow.{ServerRow}
-use Rattle.suspend_image.specs.declared.state.ClaimRow.{ClaimRow}
-use Rattle.suspend_image.specs.declared.state.PageRow.{PageRow}
-use Rattle.suspend_image.specs.declared.state.OrphanRow.{OrphanRow}
+use Rattle.state_rows.specs.declared.state.State.{State}
+use Rattle.state_rows.specs.declared.state.ProcRow.{ProcRow}
+use Rattle.state_rows.specs.declared.state.ThreadRow.{ThreadRow}
+use Rattle.state_rows.specs.declared.state.MessageRow.{MessageRow}
+use Rattle.state_rows.specs.declared.state.ServerRow.{ServerRow}
+use Rattle.state_rows.specs.declared.state.ClaimRow.{ClaimRow}
+use Rattle.state_rows.specs.declared.state.PageRow.{PageRow}
+use Rattle.state_rows.specs.declared.state.OrphanRow.{OrphanRow}
+use Rattle.state_rows.specs.Machines.{contents_at}
 use Rattle.suspend_image.specs.Words.{word, word_bytes}
 
 -- ---- 1. the machine
@@ -46,10 +47,6 @@ unfoldable pub claim_bytes : ClaimRow → List ℕ
 claim_bytes c = word_bytes (c.number ∷ c.pid ∷ c.handler ∷ c.arg ∷ c.pending ∷ [])
 
 -- ---- 6. and 7. a page and an orphan
-
--- the bytes of a page, which begin at this offset
-abbrev pub contents_at : List ℕ → ℕ → List ℕ
-contents_at file from = take 4096 (drop from file)
 
 -- the words of a page and of an orphan
 abbrev pub page_words : PageRow → List ℕ

@@ -11,7 +11,8 @@ use Rattle.ledger_model.specs.Ledger.{Contents, Console, Bytes, Page, Orphan}
 use Rattle.ledger_model.specs.Listings.{home_places, orphan_places}
 use Rattle.machine_model.specs.State.Machine.{Machine, Thread, Server, Claim}
 use Rattle.suspend_image.specs.SavedRows.{machine_row, proc_row, thread_row, server_row, claim_row, page_row, orphan_row}
-use Rattle.suspend_image.specs.Spelling.{machine_bytes, proc_bytes, thread_bytes, server_bytes, claim_bytes, page_words, orphan_words, rows_bytes, with_header}
+use Rattle.suspend_image.specs.Spelling.{machine_bytes, proc_bytes, thread_bytes, server_bytes, claim_bytes, page_words, orphan_words}
+use Rattle.suspend_image.specs.Spelling.{rows_bytes, with_header}
 
 -- ---- what a finite map has
 

@@ -13,17 +13,17 @@ ghost use Rattle.std.specs.Prelude.{◌≡◌, ◌<◌, ◌≤◌, ◌^◌, leng
 ghost use Rattle.kernel_args.specs.Faults.{first_fault};
 ghost use Rattle.suspend_image.specs.Reading.{Gives};
 ghost use Rattle.suspend_image.specs.Forms.{Spells};
-ghost use Rattle.suspend_image.specs.StateFaults.{state_at, is_not_state as is_not_state_of, is_bad_state_check, header_faults, state_fault, IsFault};
+ghost use Rattle.suspend_image.specs.StateFaults.{state_at, is_not_state as is_not_state_of, is_bad_state_check, header_faults};
+ghost use Rattle.suspend_image.specs.StateFaults.{state_fault, IsFault};
 ghost use Rattle.machine_model.specs.Runs.Matched.{Matched};
-ghost use Rattle.suspend_image.specs.Machines.{machine_of};
+ghost use Rattle.state_rows.specs.Machines.{machine_of};
 ghost use Rattle.suspend_image.specs.FileFaults.{IsRefused, state_unmatched};
-ghost use Rattle.suspend_image.specs.UnmatchedParts.{number_of};
+ghost use Rattle.state_matching.specs.UnmatchedParts.{number_of};
 ghost use Rattle.suspend_image.specs.declared.faults.StateError.TheVariants.{Fault};
 
 use crate::faults::{
     NOT_STATE, STATE_CHECK, STATE_FORM, STATE_LENGTH, STATE_UNMATCHED, StateError,
 };
-use crate::matching::parts::{Part, first_unmatched};
 use crate::reading::broken::Broken;
 use crate::reading::claims::front_claims;
 use crate::reading::numbers::{front_numbers, front_reserved, front_timer};
@@ -32,9 +32,10 @@ use crate::reading::procs::front_procs;
 use crate::reading::servers::front_servers;
 use crate::reading::threads::front_threads;
 use crate::reading::words::word;
-use crate::state::State;
 use byteorder::{ByteOrder, LittleEndian};
 use kernel_args::{ArgFault, crc_x25};
+use state_matching::{Part, first_unmatched};
+use state_rows::State;
 use std::alloc::Global;
 
 /// The bytes in front of the parts of a state: its name, its length and its check number.

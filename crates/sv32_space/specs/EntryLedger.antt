@@ -29,7 +29,8 @@ page_loan loan = record { holder = loan.holder; kind = loan.kind; number = loan.
 -- the page whose home has that side of it
 abbrev pub page_of_side : Side → Option PageInfo → List ℕ → Option Page
 page_of_side (Own right) info bytes = Some (record { right = right; contents = Bytes bytes; loan = None })
-page_of_side (LentOut right) info bytes = Some (record { right = right; contents = Bytes bytes; loan = option_map page_loan (loan_in info) })
+page_of_side (LentOut right) info bytes =
+    Some (record { right = right; contents = Bytes bytes; loan = option_map page_loan (loan_in info) })
 page_of_side LentIn info bytes = None
 page_of_side (MutOut x) info bytes =
     Some (record { right = right_of_side (MutOut x); contents = Bytes bytes; loan = option_map page_loan (loan_in info) })

@@ -29,7 +29,8 @@ contents_told B (Some seat) = Bytes (B seat)
 
 abbrev pub page_told : SeatBytes → LedgerPlace → Option Page
 page_told B place.Nothing = None
-page_told B (place.Home right seat loan) = Some (record { right = right; contents = contents_told B seat; loan = option_map page_loan loan })
+page_told B (place.Home right seat loan) =
+    Some (record { right = right; contents = contents_told B seat; loan = option_map page_loan loan })
 page_told B (place.Orphan kind seat number) = None
 
 abbrev pub orphan_told : SeatBytes → LedgerPlace → Option Orphan

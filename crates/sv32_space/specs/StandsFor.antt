@@ -83,14 +83,16 @@ pub record HasFreeFrame (procs frames : ℕ) (ledger : Ledger) (seat : Place →
 
 -- All parts but the last sentence of part 5, which isn't claimed between the two halves of an exchange. Part 1 is `tables`:
 -- the root and the tables of each process are as they were made.
-pub record StandsAt (tables_made : ℕ → Type 0) (procs frames : ℕ) (E : Entries) (told : Seat → Option (List ℕ)) (ledger : Ledger) (seat : Place → Seat) : Type 0 where
+pub record StandsAt (tables_made : ℕ → Type 0) (procs frames : ℕ) (E : Entries) (told : Seat → Option (List ℕ)) (ledger : Ledger)
+    (seat : Place → Seat) : Type 0 where
   pub tables : (pid : ℕ) → IsTrue (is_pid procs pid) → tables_made pid
   pub spelled : AreSpelled procs E ledger seat
   pub bytes : AreBytes told ledger seat
   pub apart : AreSeatsApart procs frames ledger seat
 
 -- The entries, the bytes of frames and the slots stand for the ledger.
-pub record StandsFor (tables_made : ℕ → Type 0) (procs frames : ℕ) (E : Entries) (told : Seat → Option (List ℕ)) (ledger : Ledger) : Type 0 where
+pub record StandsFor (tables_made : ℕ → Type 0) (procs frames : ℕ) (E : Entries) (told : Seat → Option (List ℕ))
+    (ledger : Ledger) : Type 0 where
   pub seat : Place → Seat
   pub stands : StandsAt tables_made procs frames E told ledger seat
   pub room : HasFreeFrame procs frames ledger seat

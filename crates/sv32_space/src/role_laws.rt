@@ -21,7 +21,8 @@ pub fn entry_tells_role()
         → E p ≡ Some Free → role_at procs (ledger_of E I B) p ≡ FreePlace }
     ensures home { (procs : ℕ) (E : Entries) (I : Infos) (B : SeatBytes) (p : Place) (e : Entry) (page : Page) → EntriesAgree procs E I
         → E p ≡ Some e → page_of_entry I B e ≡ Some page → role_at procs (ledger_of E I B) p ≡ HomePlace page }
-    ensures holder { (procs : ℕ) (E : Entries) (I : Infos) (B : SeatBytes) (s : Seat) (home : Place) (loan : LoanInfo) → EntriesAgree procs E I
+    ensures holder { (procs : ℕ) (E : Entries) (I : Infos) (B : SeatBytes) (s : Seat) (home : Place) (loan : LoanInfo)
+        → EntriesAgree procs E I
         → I s ≡ Some (on_loan (Some home) loan)
         → role_at procs (ledger_of E I B) loan.holder ≡ HolderPlace home (page_loan loan) }
     ensures orphan { (procs : ℕ) (E : Entries) (I : Infos) (B : SeatBytes) (s : Seat) (loan : LoanInfo) → EntriesAgree procs E I

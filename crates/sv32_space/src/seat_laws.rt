@@ -19,7 +19,8 @@ ghost use Rattle.xk_base.specs.declared.ids.Place.{Place};
 
 /// Bytes that are written at a seat are written to the page, or orphan, that is there.
 pub fn written_bytes_are_the_pages()
-    ensures homed { (procs : ℕ) (E : Entries) (I : Infos) (B : SeatBytes) (home : Place) (side : Side) (s : Seat) (offset : ℕ) (bytes : List ℕ)
+    ensures homed { (procs : ℕ) (E : Entries) (I : Infos) (B : SeatBytes) (home : Place) (side : Side) (s : Seat) (offset : ℕ)
+        (bytes : List ℕ)
         → EntriesAgree procs E I → E home ≡ Some (At side s) → home_in (I s) ≡ Some home
         → ledger_of E I (with_bytes B s (written (B s) offset bytes)) ≡ write (Homed home) offset bytes (ledger_of E I B) }
     ensures orphaned { (procs : ℕ) (E : Entries) (I : Infos) (B : SeatBytes) (s : Seat) (loan : LoanInfo) (offset : ℕ) (bytes : List ℕ)

@@ -43,7 +43,8 @@ pub fn entries_stand_in_windows()
 pub fn entries_are_spelled()
     ensures again { (a : Area) (entry : Entry) → IsPlaced a → IsEntry a entry → entry_of_kind a (Some (kind_for a entry)) ≡ Some entry }
     ensures only { (a : Area) (kind : EntryKind) (entry : Entry) → entry_of_kind a (Some kind) ≡ Some entry → kind ≡ kind_for a entry }
-    ensures fits { (a : Area) (kind : EntryKind) (entry : Entry) → IsKind kind → entry_of_kind a (Some kind) ≡ Some entry → IsEntry a entry }
+    ensures fits { (a : Area) (kind : EntryKind) (entry : Entry) → IsKind kind → entry_of_kind a (Some kind) ≡ Some entry
+        → IsEntry a entry }
 {}
 
 /// An address that a walk reaches in a frame is of that frame, and one in the console's page of none. `walk` reaches the

@@ -162,7 +162,8 @@ pub fn new_space(ram: &mut Ram, first: Frame)
     ensures space { IsSpace (area ram.new) (pages ram.new) first.0 }
     ensures empty { (w : Window) (vpn : ℕ) → window_at vpn ≡ Some w → leaf_word (pages ram.new) first.0 w vpn ≡ 0 }
     ensures made { (pid : ℕ) → 2 ≤ pid → root_at pid ≡ first.0 → IsMade ram.new pid }
-    ensures free { (procs : ℕ) (q : Place) → root_at q.pid.0 ≡ first.0 → is_user_place procs q ≡ true → entries procs ram.new q ≡ Some Free }
+    ensures free { (procs : ℕ) (q : Place) → root_at q.pid.0 ≡ first.0 → is_user_place procs q ≡ true
+        → entries procs ram.new q ≡ Some Free }
     ensures pages { (f : ℕ) → ¬ IsTableFrame first.0 f → pages ram.new f ≡ pages ram.old f }
     // the spaces of other processes stay, with their entries
     ensures others { (pid : ℕ) → (root_at pid + 21 ≤ first.0) ⊎ (first.0 + 21 ≤ root_at pid) → IsMade ram.old pid → IsMade ram.new pid }

@@ -19,7 +19,8 @@ pub fn agreeing_entries_stand()
         → ((s : Seat) (info : PageInfo) → I s ≡ Some info → HasSeat table s)
         → ((s : Seat) (known : List ℕ) → told s ≡ Some known → B s ≡ known)
         → StandsAt (λ pid. IsTrue (made pid)) (procs_of table) frames E told (ledger_of E I B) (λ p. seat_in (E p)) }
-    ensures whole { (made : ℕ → Bool) (frames : ℕ) (E : Entries) (table : Extent) (I : Infos) (B : SeatBytes) (told : Seat → Option (List ℕ))
+    ensures whole { (made : ℕ → Bool) (frames : ℕ) (E : Entries) (table : Extent) (I : Infos) (B : SeatBytes)
+        (told : Seat → Option (List ℕ))
         → Agrees (λ pid. IsTrue (made pid)) frames E table I
         → ((s : Seat) (info : PageInfo) → I s ≡ Some info → HasSeat table s)
         → ((s : Seat) (known : List ℕ) → told s ≡ Some known → B s ≡ known)

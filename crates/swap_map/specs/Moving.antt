@@ -42,5 +42,6 @@ pub record Reseats (old new : RamBytes) (at : Option Place) (to : Seat) : Type 0
       → entries procs old p ≡ Some (At side from) → entries procs new ≡ with_entry (entries procs old) p (At side to)
   pub none : at ≡ None → new ≡ old
   pub made : (pid : ℕ) → IsMade old pid → IsMade new pid
-  pub pages : (procs f : ℕ) → ((p : Place) → at ≡ Some p → IsTrue (is_pid procs p.pid.0)) → table_frames procs ≤ f → pages new f ≡ pages old f
+  pub pages : (procs f : ℕ) → ((p : Place) → at ≡ Some p → IsTrue (is_pid procs p.pid.0)) → table_frames procs ≤ f
+      → pages new f ≡ pages old f
   pub area : area new ≡ area old

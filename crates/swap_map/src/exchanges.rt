@@ -42,13 +42,14 @@ pub fn evict<W: SwapStore>(
     // whatever the store answers or does
     ensures rights { bare (ledger_in ram.new owners.new (W.held store.new)) ≡ bare (ledger_in ram.old owners.old (W.held store.old)) }
     // bytes too, where the store is honest and tells
-    ensures whole { IsTrue (tells_truly W.is_honest W.held store.old)
+    ensures whole { IsTrue (tells_truly W.SwapStore store.old)
         → ledger_in ram.new owners.new (W.held store.new) ≡ ledger_in ram.old owners.old (W.held store.old) }
-    ensures stands { stands_without_room ram.new (procs_of (extent owners.new)) (W.held store.new) (ledger_in ram.new owners.new (W.held store.new)) }
+    ensures stands { stands_without_room ram.new (procs_of (extent owners.new)) (W.held store.new)
+        (ledger_in ram.new owners.new (W.held store.new)) }
     ensures put { IsTrue (W.is_honest store.old) → MatchResult result
         (λ _. W.held store.new ≡ option_map (λ slots. with_page slots to.0 (pages ram.old f.0)) (W.held store.old))
         (λ _. SpoilsSlot (W.held store.old) (W.held store.new) to.0) }
-    ensures store { KeepsStore W.is_honest W.held W.slot_count W.asked W.faults store.old store.new }
+    ensures store { KeepsStore W.SwapStore store.old store.new }
     ensures cause { OnErr result (Rose (W.faults store.old) (W.faults store.new)) }
 {
     // For the prover: what a frame holds is a page.
@@ -81,11 +82,12 @@ pub fn bring<W: SwapStore>(
     // whatever the store answers or does
     ensures rights { bare (ledger_in ram.new owners.new (W.held store.new)) ≡ bare (ledger_in ram.old owners.old (W.held store.old)) }
     // bytes too, where the store is honest and tells
-    ensures whole { IsTrue (tells_truly W.is_honest W.held store.old)
+    ensures whole { IsTrue (tells_truly W.SwapStore store.old)
         → ledger_in ram.new owners.new (W.held store.new) ≡ ledger_in ram.old owners.old (W.held store.old) }
-    ensures stands { stands_without_room ram.new (procs_of (extent owners.new)) (W.held store.new) (ledger_in ram.new owners.new (W.held store.new)) }
+    ensures stands { stands_without_room ram.new (procs_of (extent owners.new)) (W.held store.new)
+        (ledger_in ram.new owners.new (W.held store.new)) }
     ensures same { IsTrue (W.is_honest store.old) → W.held store.new ≡ W.held store.old }
-    ensures store { KeepsStore W.is_honest W.held W.slot_count W.asked W.faults store.old store.new }
+    ensures store { KeepsStore W.SwapStore store.old store.new }
     ensures cause { OnErr result (Rose (W.faults store.old) (W.faults store.new)) }
 {
     store.get_page(from, ram.page_mut(into))?;

@@ -188,7 +188,8 @@ fn end(s: &mut Space, loan: Loan)
 
 /// Puts the page of frame 22 out to slot 5, where there is one and the slot is free.
 fn goes_out(s: &mut Space, store: &mut MemStore) -> bool
-    ensures loans { (loan : LoanRun) → StandsIn (entries_of s.old) (infos s.old.owners) loan → StandsIn (entries_of s.new) (infos s.new.owners) loan }
+    ensures loans { (loan : LoanRun) → StandsIn (entries_of s.old) (infos s.old.owners) loan
+        → StandsIn (entries_of s.new) (infos s.new.owners) loan }
 {
     if s.owners.info(Seat::Frame(Frame(22))).is_none()
         || s.owners.info(Seat::Slot(Slot(5))).is_some()
@@ -201,7 +202,8 @@ fn goes_out(s: &mut Space, store: &mut MemStore) -> bool
 
 /// Brings the page of slot 5 to frame 30, where there is one and the frame is free.
 fn comes_back(s: &mut Space, store: &mut MemStore) -> bool
-    ensures loans { (loan : LoanRun) → StandsIn (entries_of s.old) (infos s.old.owners) loan → StandsIn (entries_of s.new) (infos s.new.owners) loan }
+    ensures loans { (loan : LoanRun) → StandsIn (entries_of s.old) (infos s.old.owners) loan
+        → StandsIn (entries_of s.new) (infos s.new.owners) loan }
 {
     if s.owners.info(Seat::Slot(Slot(5))).is_none()
         || s.owners.info(Seat::Frame(Frame(30))).is_some()

@@ -8,10 +8,12 @@ use Rattle.syscall_codec.specs.declared.calls.Call.TheVariants.{MapMemory, Yield
 -- the words ask for the call: they have its number, and each of its fields at its place. Other words are ignored
 abbrev pub Asks : List ℕ → Call → Type 0
 Asks words (MapMemory phys virt size flags) =
-    (call_number words ≡ map_memory) × (map_phys words ≡ phys) × (map_virt words ≡ virt) × (map_size words ≡ size) × (map_flags words ≡ flags)
+    (call_number words ≡ map_memory) × (map_phys words ≡ phys) × (map_virt words ≡ virt) × (map_size words ≡ size)
+    × (map_flags words ≡ flags)
 Asks words Yield = call_number words ≡ yield_turn
 Asks words (ClaimInterrupt number handler arg) =
-    (call_number words ≡ claim_interrupt) × (interrupt_number words ≡ number) × (interrupt_handler words ≡ handler) × (interrupt_argument words ≡ arg)
+    (call_number words ≡ claim_interrupt) × (interrupt_number words ≡ number) × (interrupt_handler words ≡ handler)
+    × (interrupt_argument words ≡ arg)
 Asks words (FreeInterrupt number) = (call_number words ≡ free_interrupt) × (interrupt_number words ≡ number)
 Asks words (IncreaseHeap bytes) = (call_number words ≡ increase_heap) × (heap_bytes words ≡ bytes)
 Asks words (DecreaseHeap bytes) = (call_number words ≡ decrease_heap) × (heap_bytes words ≡ bytes)
@@ -20,17 +22,20 @@ Asks words (UpdateMemoryFlags address size flags) =
 Asks words (CreateServerWithAddress sid) = (call_number words ≡ create_server_with_address) × (sid_words words ≡ sid.0)
 Asks words (ReceiveMessage sid) = (call_number words ≡ receive_message) × (sid_words words ≡ sid.0)
 Asks words (SendMessage cid kind id sent) =
-    (call_number words ≡ send_message) × (send_cid words ≡ cid) × (send_kind words ≡ kind) × (send_id words ≡ id) × (send_words words ≡ sent)
+    (call_number words ≡ send_message) × (send_cid words ≡ cid) × (send_kind words ≡ kind) × (send_id words ≡ id)
+    × (send_words words ≡ sent)
 Asks words (Connect sid) = (call_number words ≡ connect) × (sid_words words ≡ sid.0)
 Asks words (CreateThread entry sp args) =
     (call_number words ≡ create_thread) × (thread_entry words ≡ entry) × (thread_sp words ≡ sp) × (thread_arguments words ≡ args)
 Asks words (UnmapMemory address size) =
     (call_number words ≡ unmap_memory) × (range_address words ≡ address) × (range_size words ≡ size)
 Asks words (ReturnMemory token address size offset valid) =
-    (call_number words ≡ return_memory) × (return_token words ≡ token) × (return_address words ≡ address) × (return_size words ≡ size) × (return_offset words ≡ offset) × (return_valid words ≡ valid)
+    (call_number words ≡ return_memory) × (return_token words ≡ token) × (return_address words ≡ address) × (return_size words ≡ size)
+    × (return_offset words ≡ offset) × (return_valid words ≡ valid)
 Asks words (TerminateProcess exit) = (call_number words ≡ terminate_process) × (exit_word words ≡ exit)
 Asks words (TrySendMessage cid kind id sent) =
-    (call_number words ≡ try_send_message) × (send_cid words ≡ cid) × (send_kind words ≡ kind) × (send_id words ≡ id) × (send_words words ≡ sent)
+    (call_number words ≡ try_send_message) × (send_cid words ≡ cid) × (send_kind words ≡ kind) × (send_id words ≡ id)
+    × (send_words words ≡ sent)
 Asks words (TryConnect sid) = (call_number words ≡ try_connect) × (sid_words words ≡ sid.0)
 Asks words (ReturnScalar1 token value) =
     (call_number words ≡ return_scalar1) × (return_token words ≡ token) × (return_value1 words ≡ value)

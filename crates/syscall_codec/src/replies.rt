@@ -1,11 +1,10 @@
 //! The replies to system calls.
 
 ghost use Rattle.std.specs.Prelude.{◌≡◌};
-ghost use Rattle.xk_base.specs.Calls.Kinds.{kind_number as number_of_kind};
 ghost use Rattle.xk_base.specs.Calls.Replies.{new_server_words as spelled_server, message_words as spelled_message};
 ghost use Rattle.syscall_codec.specs.Replies.{words_of};
 
-use xk_base::{Cid, Message, MsgKind, Sid, Tid, XousError};
+use xk_base::{Cid, Message, Sid, Tid, XousError};
 
 /// The answer to a system call.
 #[derive(Clone, Copy, Debug, PartialEq, Eq)]
@@ -63,19 +62,6 @@ fn message_words(message: &Message) -> [u32; 8]
     ensures { result ≡ spelled_message message.now }
 {
     let [w0, w1, w2, w3] = message.words;
-    let kind = kind_number(message.kind);
+    let kind = message.kind.number();
     [9, message.number.0, kind, message.id, w0, w1, w2, w3]
-}
-
-/// The number of a kind, in a send and in a delivered message.
-fn kind_number(kind: MsgKind) -> u32
-    ensures { result ≡ number_of_kind kind }
-{
-    match kind {
-        MsgKind::LendMut => 1,
-        MsgKind::Lend => 2,
-        MsgKind::Move => 3,
-        MsgKind::Scalar => 4,
-        MsgKind::BlockingScalar => 5,
-    }
 }

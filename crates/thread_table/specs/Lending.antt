@@ -23,7 +23,8 @@ was_there : (o : Option Thread) (thread : Thread) → is_some (in_place_of o thr
 was_there None thread h = h
 was_there (Some old) thread h = refl
 
-were_there : (xs : List (Option Thread)) (k q : ℕ) (thread : Thread) → is_some (row_map (set xs k (in_place_of (row_map xs k) thread)) q) ≡ true
+were_there : (xs : List (Option Thread)) (k q : ℕ) (thread : Thread)
+    → is_some (row_map (set xs k (in_place_of (row_map xs k) thread)) q) ≡ true
     → is_some (row_map xs q) ≡ true
 were_there [] k q thread h = h
 were_there (x ∷ xs) zero zero thread h = was_there x thread h
@@ -36,7 +37,8 @@ pub marks_stay : (n : ℕ) (sets : List Tids) (xs : List (Option Thread)) (k : �
     → AreMarked sets (thread_map n (set xs k (in_place_of (row_map xs k) thread)))
 marks_stay n sets xs k thread marked row tid h = marked row tid (before (is_thread_id n (id_in_row row tid)) h)
   where
-    before : (b : Bool) → is_some (if b then row_map (set xs k (in_place_of (row_map xs k) thread)) (place_of (id_in_row row tid)) else None) ≡ true
+    before : (b : Bool)
+        → is_some (if b then row_map (set xs k (in_place_of (row_map xs k) thread)) (place_of (id_in_row row tid)) else None) ≡ true
         → is_some (if b then row_map xs (place_of (id_in_row row tid)) else None) ≡ true
     before true h = were_there xs k (place_of (id_in_row row tid)) thread h
     before false h = h

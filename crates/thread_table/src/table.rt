@@ -143,7 +143,8 @@ impl Threads {
     pub fn get_mut(&mut self, id: ThreadId) -> Option<&mut Thread>
         ensures* lends { sem 𝓛 (LendsThreadIf self.entry id result) }
         ensures value { option_copied_mut result ≡ threads_of self.old id }
-        ensures writes { (thread : Thread) → IsSome (threads_of self.old id) → threads_of (with_thread self.old id thread) ≡ put_at same_thread (threads_of self.old) id (Some thread) }
+        ensures writes { (thread : Thread) → IsSome (threads_of self.old id) → threads_of (with_thread self.old id thread)
+            ≡ put_at same_thread (threads_of self.old) id (Some thread) }
         ensures count { (thread : Thread) → process_count (with_thread self.old id thread) ≡ process_count self.old }
     {
         if self.get(id).is_some() {
@@ -159,7 +160,8 @@ impl Threads {
         requires { IsSome (threads_of self.old id) }
         ensures* lends { sem 𝓛 (LendsThread self.entry id result) }
         ensures value { threads_of self.old id ≡ Some result.now }
-        ensures writes { (thread : Thread) → threads_of (with_thread self.old id thread) ≡ put_at same_thread (threads_of self.old) id (Some thread) }
+        ensures writes { (thread : Thread) → threads_of (with_thread self.old id thread) ≡ put_at same_thread (threads_of self.old) id
+            (Some thread) }
         ensures count { (thread : Thread) → process_count (with_thread self.old id thread) ≡ process_count self.old }
     {
         thread_in(&mut self.by_place[place_of(id)])

@@ -9,6 +9,7 @@ use Rattle.sv32_space.specs.declared.sides.Entry.{Entry}
 use Rattle.sv32_space.specs.declared.sides.Entry.TheVariants.{Free, At, OnConsole}
 use Rattle.sv32_space.specs.SpelledEntries.{entries}
 use Rattle.sv32_space.specs.Tie.{Held}
+use Rattle.xk_ports.specs.declared.store.SwapStore.{Ghosts as SwapStore}
 use Rattle.xk_ports.specs.Keeping.{tells_truly}
 use Rattle.vm_memory.specs.declared.memory.Memory.{Memory}
 use Rattle.vm_memory.specs.Memory.{processes}
@@ -59,16 +60,16 @@ none_out m = used_slots m.owners == 0
 -- ---- when bytes are known
 
 -- the store is honest and tells what its slots hold
-abbrev pub is_known : {W : Type 0} → (W → Bool) → (W → Held) → Memory W → Bool
-is_known honest held m = tells_truly honest held m.store
+abbrev pub is_known : {W : Type 0} → SwapStore W → Memory W → Bool
+is_known S m = tells_truly S m.store
 
 -- the ledger's bytes mean something: the store is honest and tells, or no page is out
-abbrev pub means_bytes : {W : Type 0} → (W → Bool) → (W → Held) → Memory W → Bool
-means_bytes honest held m = is_known honest held m || none_out m
+abbrev pub means_bytes : {W : Type 0} → SwapStore W → Memory W → Bool
+means_bytes S m = is_known S m || none_out m
 
-abbrev pub MeansBytes : {W : Type 0} → (W → Bool) → (W → Held) → Memory W → Type 0
-MeansBytes honest held m = IsTrue (means_bytes honest held m)
+abbrev pub MeansBytes : {W : Type 0} → SwapStore W → Memory W → Type 0
+MeansBytes S m = IsTrue (means_bytes S m)
 
 -- they mean something over a call that may put pages out: the store is honest and tells, or no page is out before and after
-abbrev pub MeansBytesOver : {W : Type 0} → (W → Bool) → (W → Held) → Memory W → Memory W → Type 0
-MeansBytesOver honest held old new = IsTrue (is_known honest held old || (none_out old && none_out new))
+abbrev pub MeansBytesOver : {W : Type 0} → SwapStore W → Memory W → Memory W → Type 0
+MeansBytesOver S old new = IsTrue (is_known S old || (none_out old && none_out new))

@@ -9,6 +9,7 @@ use Rattle.ledger_model.specs.Ledger.{Ledger, loan_at}
 use Rattle.ledger_model.specs.Loans.{bare}
 use Rattle.sv32_space.specs.PageSteps.{place_page}
 use Rattle.sv32_space.specs.Tie.{Held}
+use Rattle.xk_ports.specs.declared.store.SwapStore.{Ghosts as SwapStore}
 use Rattle.xk_ports.specs.Keeping.{KeepsStore}
 use Rattle.vm_memory.specs.declared.memory.Memory.{Memory}
 use Rattle.vm_memory.specs.Bytes.{MeansBytesOver, none_out}
@@ -49,30 +50,32 @@ HasNoPage pid ledger = (q : Place) → q.pid.0 ≡ pid → ledger.home q ≡ Non
 -- the ledger with the pages of a process, placed one after the other
 abbrev pub place_pages : List ℕ → Pid → List PagePlan → Ledger → Ledger
 place_pages file pid [] ledger = ledger
-place_pages file pid (page ∷ rest) ledger = place_pages file pid rest (place_page (record { pid = pid; vpn = page.vpn }) (first_page file page) ledger)
+place_pages file pid (page ∷ rest) ledger =
+    place_pages file pid rest (place_page (record { pid = pid; vpn = page.vpn }) (first_page file page) ledger)
 
 -- .. and with those of the processes with the pids from this one on
 abbrev pub place_processes : List ℕ → ℕ → List ProcPlan → Ledger → Ledger
 place_processes file pid [] ledger = ledger
-place_processes file pid (process ∷ rest) ledger = place_processes file (pid + 1) rest (place_pages file (record { 0 = pid }) process.pages ledger)
+place_processes file pid (process ∷ rest) ledger =
+    place_processes file (pid + 1) rest (place_pages file (record { 0 = pid }) process.pages ledger)
 
 -- So many pages are placed, as that step of the ledger places them, and others may have gone out; nothing else changes,
 -- whatever the store answers or does.
-pub record PlacesPages {W P : Type 0} (is_honest : W → Bool) (held : W → Held) (slot_count : W → ℕ) (asked : W → P) (faults : W → ℕ)
+pub record PlacesPages {W : Type 0} (S : SwapStore W)
     (old new : Memory W) (count : ℕ) (place : Ledger → Ledger) : Type 0 where
-  pub sound : IsSound slot_count new
+  pub sound : IsSound S.slot_count new
   pub pages : new.pages ≡ old.pages + count
-  pub rights : bare (ledger held new) ≡ bare (place (ledger held old))
+  pub rights : bare (ledger S.held new) ≡ bare (place (ledger S.held old))
   -- bytes too, where the store is honest and tells, or no page is out before and after
-  pub whole : MeansBytesOver is_honest held old new → ledger held new ≡ place (ledger held old)
+  pub whole : MeansBytesOver S old new → ledger S.held new ≡ place (ledger S.held old)
   -- no page comes in
   pub none : none_out new ≡ true → none_out old ≡ true
   pub size : size new ≡ size old
-  pub store : KeepsStore is_honest held slot_count asked faults (store_of old) (store_of new)
+  pub store : KeepsStore S (store_of old) (store_of new)
 
 -- What stays on any answer while pages are placed: no page is on loan, and the store is kept.
-pub record KeepsUnlent {W P : Type 0} (is_honest : W → Bool) (held : W → Held) (slot_count : W → ℕ) (asked : W → P) (faults : W → ℕ)
+pub record KeepsUnlent {W : Type 0} (S : SwapStore W)
     (old new : Memory W) : Type 0 where
-  pub sound : IsSound slot_count new
-  pub unlent : IsUnlent (ledger held new)
-  pub store : KeepsStore is_honest held slot_count asked faults (store_of old) (store_of new)
+  pub sound : IsSound S.slot_count new
+  pub unlent : IsUnlent (ledger S.held new)
+  pub store : KeepsStore S (store_of old) (store_of new)

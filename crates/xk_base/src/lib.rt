@@ -3,6 +3,7 @@
 #![tactic(auto)]
 
 mod errors;
+mod events;
 mod ids;
 pub mod limits;
 mod messages;
@@ -14,6 +15,7 @@ mod user_memory;
 mod windows;
 
 pub use errors::{Failed, NoMemory, XousError};
+pub use events::Event;
 pub use ids::{Cid, Frame, Number, Pid, Place, Serial, Sid, Slot, ThreadId, Tid, Vpn};
 pub use messages::{MemKind, Message, MsgKind};
 pub use pages::{Access, LoanKind, Right, Stored, Width};

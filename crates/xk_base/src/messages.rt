@@ -1,5 +1,8 @@
 //! Messages between processes.
 
+ghost use Rattle.std.specs.Prelude.{◌≡◌};
+ghost use Rattle.xk_base.specs.Calls.Kinds.{is_answered, kind_at, kind_number};
+
 use crate::ids::{Number, ThreadId, Vpn};
 
 /// A message that carries pages: lent mutably, lent, or moved.
@@ -18,6 +21,45 @@ pub enum MsgKind {
     Move,
     Scalar,
     BlockingScalar,
+}
+
+impl MsgKind {
+    /// The number of the kind, in a send and in a delivered message: 1 to 5.
+    pub fn number(self) -> u32
+        ensures { result ≡ kind_number self }
+    {
+        match self {
+            MsgKind::LendMut => 1,
+            MsgKind::Lend => 2,
+            MsgKind::Move => 3,
+            MsgKind::Scalar => 4,
+            MsgKind::BlockingScalar => 5,
+        }
+    }
+
+    /// The kind of a number; none where no kind has it.
+    pub fn from_number(number: u32) -> Option<MsgKind>
+        ensures { result ≡ kind_at number }
+    {
+        match number {
+            1 => Some(MsgKind::LendMut),
+            2 => Some(MsgKind::Lend),
+            3 => Some(MsgKind::Move),
+            4 => Some(MsgKind::Scalar),
+            5 => Some(MsgKind::BlockingScalar),
+            _ => None,
+        }
+    }
+
+    /// Whether a send of the kind holds its sender until it is answered.
+    pub fn is_answered(self) -> bool
+        ensures { result ≡ is_answered self }
+    {
+        match self {
+            MsgKind::LendMut | MsgKind::Lend | MsgKind::BlockingScalar => true,
+            MsgKind::Move | MsgKind::Scalar => false,
+        }
+    }
 }
 
 /// A message as its server gets it.

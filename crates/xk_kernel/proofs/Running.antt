@@ -1,7 +1,2 @@
-pub mod HistoryLemmas
-pub mod InterleavingLemmas
-pub mod LimitLemmas
-pub mod MomentLemmas
 pub mod RanLemmas
-pub mod ReservedLemmas
 pub mod RunLemmas

@@ -1,4 +1,5 @@
 -- Who makes a system call, and what came of it before its caller is past it: the one outcome of the call, by its row of the table.
+use Rattle.xk_ports.specs.declared.store.SwapStore.{Ghosts as SwapStore}
 use Rattle.std.specs.Prelude.{◌≡◌, ℕ, ◌<◌, ◌==◌, ◌&&◌, Bool, true, List, Result, Ok, Err, [], ◌∷◌, not}
 use Rattle.std.specs.Bool.{⊤}
 use Rattle.std.specs.List.{list_any}
@@ -26,12 +27,12 @@ use Rattle.xk_kernel.specs.declared.kernel.calls.CallerFate.{CallerFate}
 use Rattle.xk_kernel.specs.declared.kernel.calls.CallerFate.TheVariants.{Answered, Waits, Retries}
 
 -- the kernel is sound and usable, and the thread whose turn it is can make a call
-pub record IsCaller {W : Type 0} (slot_count : W → ℕ) (held : W → Held) (k : Kernel W) : Type 0 where
-  pub whole : IsWhole slot_count held k
+pub record IsCaller {W : Type 0} (S : SwapStore W) (k : Kernel W) : Type 0 where
+  pub whole : IsWhole S k
   pub usable : IsUsable k
-  pub matched : Matched (machine_of held k)
+  pub matched : Matched (machine_of S.held k)
   pub few : k.steps < 4000000000
-  pub ready : ready_at (machine_of held k) k.cursor ≡ true
+  pub ready : ready_at (machine_of S.held k) k.cursor ≡ true
 
 -- the caller is the interrupt thread, and the call can make it wait
 abbrev pub is_refused_caller : Machine → List ℕ → Bool
@@ -64,7 +65,8 @@ outcome_of who m (Ok fate) = outcome_by who m fate
 
 -- The outcome of a call over the state that it comes to: that of its row, with the machine as it is but for bytes, and wholly where
 -- these are known.
-pub record ServesAs (known : Type 0) (who : ThreadId) (new : Machine) (outcome : Outcome) (served : Result CallerFate XousError) : Type 0 where
+pub record ServesAs (known : Type 0) (who : ThreadId) (new : Machine) (outcome : Outcome)
+    (served : Result CallerFate XousError) : Type 0 where
   pub target : Machine
   pub is : outcome_of who target served ≡ outcome
   pub comes : ComesTo known new target

@@ -1,16 +1,10 @@
-pub mod History
-pub mod HistoryMoments
-pub mod Interleaving
 pub mod Knowing
 pub mod Acting
 pub mod Calling
 pub mod Quiet
 pub mod QuietOver
-pub mod Reserved
-pub mod Resuming
 pub mod Ringing
 pub mod Running
-pub mod Saving
 pub mod Sound
 pub mod Start
 pub mod State

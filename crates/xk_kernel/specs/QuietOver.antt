@@ -1,5 +1,6 @@
 -- Quiet steps over the memory of a kernel alone, while the kernel has lent it: what is said of them is said of every kernel that has
 -- this memory.
+use Rattle.xk_ports.specs.declared.store.SwapStore.{Ghosts as SwapStore}
 use Rattle.std.specs.Prelude.{◌≡◌, ℕ, ◌+◌, ◌<◌, Bool, false, Option}
 use Rattle.machine_model.specs.Runs.Matched.{Matched}
 use Rattle.machine_model.specs.State.Machine.{Machine, Thread}
@@ -20,10 +21,10 @@ abbrev pub around : {W : Type 0} → Memory W → ThreadId → Kernel W → Kern
 around mem who k = record k { mem = mem; cursor = who }
 
 -- A thread of the kernel may do quiet steps out of its table: the kernel is whole and matched, and its process hasn't the timer's page.
-pub record MayStep {W : Type 0} (slot_count : W → ℕ) (held : W → Held) (k : Kernel W) : Type 0 where
-  pub whole : IsWhole slot_count held k
-  pub matched : Matched (machine_of held k)
-  pub untimed : is_claim_of k.cursor.pid ((machine_of held k).claims TIMER_INTERRUPT) ≡ false
+pub record MayStep {W : Type 0} (S : SwapStore W) (k : Kernel W) : Type 0 where
+  pub whole : IsWhole S k
+  pub matched : Matched (machine_of S.held k)
+  pub untimed : is_claim_of k.cursor.pid ((machine_of S.held k).claims TIMER_INTERRUPT) ≡ false
 
 -- a thread out of its table, with the address that it has reserved
 pub record Taken : Type 0 where
@@ -36,14 +37,14 @@ machine_with held k who mem taken n = in_hand who taken.thread taken.reserved n 
 
 -- What came of a step that was to be done only if it is quiet, in every kernel around the memory whose timer isn't due at its end,
 -- with any number of steps done before it, where bytes mean something.
-abbrev pub StepsOver : {W : Type 0} → (W → Bool) → (W → Held) → (W → ℕ) → ThreadId → Memory W → Memory W → Taken → Taken → Bool → Type 0
-StepsOver {W} is_honest held slot_count who old new taken left quiet =
-    (k : Kernel W) → MayStep slot_count held (around old who k) → (n : ℕ) → is_due k.timer (n + 1) ≡ false → MeansBytes is_honest held old
-    → StepsIfQuiet quiet (machine_with held k who old taken n) (machine_with held k who new left (steps_after quiet n))
+abbrev pub StepsOver : {W : Type 0} → SwapStore W → ThreadId → Memory W → Memory W → Taken → Taken → Bool → Type 0
+StepsOver {W} S who old new taken left quiet =
+    (k : Kernel W) → MayStep S (around old who k) → (n : ℕ) → is_due k.timer (n + 1) ≡ false → MeansBytes S old
+    → StepsIfQuiet quiet (machine_with S.held k who old taken n) (machine_with S.held k who new left (steps_after quiet n))
 
 -- a quiet run of at most so many steps, in every kernel around the memory whose timer isn't due at the end of any of them
-abbrev pub RunsOver : {W : Type 0} → (W → Bool) → (W → Held) → (W → ℕ) → ThreadId → Memory W → Memory W → Taken → Taken → ℕ → ℕ → Type 0
-RunsOver {W} is_honest held slot_count who old new taken left most done =
-    (k : Kernel W) → MayStep slot_count held (around old who k) → ((j : ℕ) → j < most → is_due k.timer (k.steps + j + 1) ≡ false)
-    → MeansBytes is_honest held old
-    → RunsQuietly most done (machine_with held k who old taken k.steps) (machine_with held k who new left (k.steps + done))
+abbrev pub RunsOver : {W : Type 0} → SwapStore W → ThreadId → Memory W → Memory W → Taken → Taken → ℕ → ℕ → Type 0
+RunsOver {W} S who old new taken left most done =
+    (k : Kernel W) → MayStep S (around old who k) → ((j : ℕ) → j < most → is_due k.timer (k.steps + j + 1) ≡ false)
+    → MeansBytes S old
+    → RunsQuietly most done (machine_with S.held k who old taken k.steps) (machine_with S.held k who new left (k.steps + done))

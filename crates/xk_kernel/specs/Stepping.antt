@@ -1,7 +1,7 @@
 -- What the calls of a kernel do to the machine that it stands for.
 use Rattle.std.specs.Prelude.{◌≡◌, ◌+◌, ◌⊎◌, true, false, is_some, List}
-use Rattle.event_text.specs.declared.event.Event.{Event}
-use Rattle.event_text.specs.declared.event.Event.TheVariants.{Tick, Pick, Irq, Kill}
+use Rattle.xk_base.specs.declared.events.Event.{Event}
+use Rattle.xk_base.specs.declared.events.Event.TheVariants.{Tick, Pick, Irq, Kill}
 use Rattle.machine_model.specs.Stepping.Events.{picked, raised, killed, nothing}
 use Rattle.machine_model.specs.State.Machine.{Machine}
 use Rattle.machine_model.specs.State.Order.{actor}

@@ -10,14 +10,14 @@ use xk_ports::SwapStore;
 
 /// Law: where the store is honest and tells, or the memory has no slots, it is so after each call, and bytes are known over it.
 pub fn trusted_store_stays_trusted<W: SwapStore>()
-    ensures stays { (old new : Kernel W) → Keeps W.is_honest W.held W.slot_count W.asked W.faults old new
-        → is_trusted W.is_honest W.held new ≡ is_trusted W.is_honest W.held old }
-    ensures knows { (old new : Kernel W) → IsTrusted W.is_honest W.held old
-        → Keeps W.is_honest W.held W.slot_count W.asked W.faults old new → KnowsBytes W.is_honest W.held old new }
-    ensures means { (k : Kernel W) → IsTrusted W.is_honest W.held k → MeansBytes W.is_honest W.held k.mem }
+    ensures stays { (old new : Kernel W) → Keeps W.SwapStore old new
+        → is_trusted W.SwapStore new ≡ is_trusted W.SwapStore old }
+    ensures knows { (old new : Kernel W) → IsTrusted W.SwapStore old
+        → Keeps W.SwapStore old new → KnowsBytes W.SwapStore old new }
+    ensures means { (k : Kernel W) → IsTrusted W.SwapStore k → MeansBytes W.SwapStore k.mem }
 {}
 
 /// Law: bytes are known over a call where no page is out before and after it.
 pub fn near_pages_are_known<W: SwapStore>()
-    ensures { (old new : Kernel W) → none_out old.mem ≡ true → none_out new.mem ≡ true → KnowsBytes W.is_honest W.held old new }
+    ensures { (old new : Kernel W) → none_out old.mem ≡ true → none_out new.mem ≡ true → KnowsBytes W.SwapStore old new }
 {}

@@ -51,7 +51,10 @@ asked_after-room room taken files file same fits =
     grind (arith, nat_tests)
 
 -- the lists of names and entries after one more
-pub IsKept-add : (names name : List ℕ) (entries : List Entry) (entry : Entry) (names_room names_room' entries_room entries_room' room : ℕ) → IsKept names names_room entries entries_room room → entry.start ≡ length names → entry.end ≡ length names + length name → length name < room - length names - length entries → names_room ≤ names_room' → entries_room' ≡ entries_room → IsKept (names ++ name) names_room' (entries ++ entry ∷ []) entries_room' room
+pub IsKept-add : (names name : List ℕ) (entries : List Entry) (entry : Entry) (names_room names_room' entries_room entries_room' room : ℕ)
+    → IsKept names names_room entries entries_room room → entry.start ≡ length names → entry.end ≡ length names + length name
+    → length name < room - length names - length entries → names_room ≤ names_room' → entries_room' ≡ entries_room
+    → IsKept (names ++ name) names_room' (entries ++ entry ∷ []) entries_room' room
 IsKept-add names name entries entry names_room names_room' entries_room entries_room' room kept start end fits grown same =
     let wider : (e : Entry) → IsWithin names e → IsWithin (names ++ name) e = λ e w. (w.0, omega (arith, w.1, length-append names name)) in
     let file : FileAsked = record { slot = entry.slot; name = name; picked = entry.picked } in

@@ -71,7 +71,11 @@ impl AskedFiles {
 
     /// Adds a file, or loses the list where it has no room.
     pub(crate) fn add(&mut self, slot: FileSlot, name: &str, picked: bool)
-        ensures { self.new ≡ record self.old { files = asked_after self.old.room self.old.files (record { slot = slot; name = name.now; picked = picked }) } }
+        ensures { self.new
+            ≡ record self.old {
+              files = asked_after self.old.room self.old.files
+                  (record { slot = slot; name = name.now; picked = picked });
+            } }
     {
         let start = self.names.len();
         if self.is_lost || self.room - start - self.entries.len() <= name.len() {

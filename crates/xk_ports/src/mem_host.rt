@@ -40,7 +40,11 @@ impl Readings {
     }
 
     fn set(&mut self, which: FileSlot, reading: Reading)
-        ensures { self.new ≡ record { first = if is_first which then Some reading else self.old.first; second = if is_first which then self.old.second else Some reading } }
+        ensures { self.new ≡ record {
+          first = if is_first which then Some reading else self.old.first;
+          second = if is_first which
+              then self.old.second else Some reading;
+        } }
     {
         match which {
             FileSlot::First => self.first = Some(reading),
@@ -66,9 +70,18 @@ impl Model for MemHost {
 
     ghost Value = { MemHostState };
 
-    ghost view = { λ h. let files = plain_files h.files.items in record { files = files; first = left_in files h.readings.first; second = left_in files h.readings.second; piece = h.piece; asked = h.asked; calls = h.calls } };
+    ghost view = { λ h. let files = plain_files h.files.items in
+        record {
+          files = files;
+          first = left_in files h.readings.first;
+          second = left_in files h.readings.second;
+          piece = h.piece;
+          asked = h.asked;
+          calls = h.calls;
+        } };
 
-    ghost invariant = { λ h. let files = plain_files h.files.items in IsReadingOf files h.readings.first × IsReadingOf files h.readings.second × (1 ≤ h.piece) };
+    ghost invariant = { λ h. let files = plain_files h.files.items in IsReadingOf files h.readings.first × IsReadingOf files h.readings.second
+        × (1 ≤ h.piece) };
 }
 
 impl MemHost {
@@ -84,7 +97,16 @@ impl MemHost {
         room: usize,
     ) -> Result<MemHost, NoMemory>
         requires { 1 ≤ piece }
-        ensures { IfOk result (λ host. host ≡ record { files = plain_files files.items; first = None; second = None; piece = piece; asked = record { files = Some []; room = room }; calls = no_calls fails.items }) }
+        ensures { IfOk result
+            (λ host. host
+            ≡ record {
+              files = plain_files files.items;
+              first = None;
+              second = None;
+              piece = piece;
+              asked = record { files = Some []; room = room };
+              calls = no_calls fails.items;
+            }) }
     {
         let asked = AskedFiles::new(alloc, room)?;
         Ok(MemHost {
@@ -110,7 +132,9 @@ impl MemHost {
 
 // The place of the first file of that name.
 fn place_of(files: &[(String, Vec<u8>)], name: &str) -> Option<usize>
-    ensures { MatchOption result (file_named (plain_files files.now) name.now ≡ None) (λ place. (place < length files.now) × (file_named (plain_files files.now) name.now ≡ Some (bytes_at (plain_files files.now) place))) }
+    ensures { MatchOption result (file_named (plain_files files.now) name.now ≡ None)
+        (λ place. (place < length files.now)
+        × (file_named (plain_files files.now) name.now ≡ Some (bytes_at (plain_files files.now) place))) }
 {
     for (place, file) in files.iter().enumerate() {
         if file.0.as_str() == name {
@@ -160,7 +184,10 @@ impl Host for MemHost {
     /// Fails exactly where its number is listed or there is no file of that name.
     fn pick_file(&mut self, which: FileSlot, name: &str) -> Result<(), Failed>
         ensures fails { is_err result ≡ is_pick_to_fail self.old name.now }
-        ensures ok { OnOk result (self.new ≡ record (with_asked (with_left self.old which (file_named self.old.files name.now)) which name.now true) { calls = called self.old.calls }) }
+        ensures ok { OnOk result
+            (self.new ≡ record (with_asked (with_left self.old which (file_named self.old.files name.now)) which name.now true) {
+              calls = called self.old.calls;
+            }) }
         ensures err { OnErr result (self.new ≡ record (with_asked self.old which name.now false) { calls = failed self.old.calls }) }
     {
         let is_to_fail = self.calls.count();
@@ -188,7 +215,9 @@ impl Host for MemHost {
         ensures bytes { IfOk result (λ n. into.new ≡ take n (bytes_left self.old which) ++ drop n into.old) }
         ensures taken { IfOk result (λ n. Consumes (left_at self.old which) (left_at self.new which) (take n into.new)) }
         ensures end { IfOk result (λ n. (n ≡ 0) ↔ (bytes_left self.old which ≡ [])) }
-        ensures ok { IfOk result (λ n. self.new ≡ record (with_left self.old which (Some (drop n (bytes_left self.old which)))) { calls = called self.old.calls }) }
+        ensures ok { IfOk result
+            (λ n. self.new
+            ≡ record (with_left self.old which (Some (drop n (bytes_left self.old which)))) { calls = called self.old.calls }) }
         ensures err { OnErr result (self.new ≡ record self.old { calls = failed self.old.calls }) }
     {
         if self.calls.count() {

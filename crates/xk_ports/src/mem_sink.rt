@@ -71,7 +71,8 @@ impl Sink for MemSink {
         requires { 0 < length bytes.now }
         ensures fails { is_err result ≡ is_write_to_fail self.old }
         ensures takes { IfOk result (λ n. n ≡ min (length bytes.now) (room_left self.old)) }
-        ensures ok { IfOk result (λ n. self.new ≡ record self.old { bytes = self.old.bytes ++ take n bytes.now; calls = called self.old.calls }) }
+        ensures ok { IfOk result
+            (λ n. self.new ≡ record self.old { bytes = self.old.bytes ++ take n bytes.now; calls = called self.old.calls }) }
         ensures err { OnErr result (self.new ≡ record self.old { calls = failed self.old.calls }) }
     {
         let is_to_fail = self.calls.count();

@@ -6,6 +6,7 @@ ghost use Rattle.xk_ports.specs.Calls.{no_calls, is_next_to_fail, called, failed
 ghost use Rattle.xk_ports.specs.MemStore.{MemPrepares};
 ghost use Rattle.xk_ports.specs.Pages.{no_pages, contents_of, PutsPage};
 ghost use Rattle.xk_ports.specs.PagesView.{shown_preparation};
+ghost use Rattle.xk_base.specs.declared.limits.TheConstants.{SLOT_LIMIT};
 
 use crate::calls::Calls;
 use crate::pages::{Pages, Preparation};
@@ -69,7 +70,7 @@ impl SwapStore for MemStore {
 
     /// Fails exactly where its number is listed. The name is kept, and has no other use.
     fn prepare(&mut self, alloc: Global, slots: u32, name: Option<&str>) -> Result<(), StoreFault>
-        requires { slots ≤ 16384 }
+        requires { slots ≤ SLOT_LIMIT }
         ensures { MemPrepares self.old self.new slots (option_copied name.entry) result }
     {
         if self.calls.count() {

@@ -5,6 +5,7 @@ ghost use Rattle.std.specs.Option.{option_copied};
 ghost use Rattle.xk_ports.specs.Store.{with_page};
 ghost use Rattle.xk_ports.specs.Pages.{no_pages, contents_of, with_preparation, IsPrepared, PutsPage};
 ghost use Rattle.xk_ports.specs.PagesView.{shown_preparation};
+ghost use Rattle.xk_base.specs.declared.limits.TheConstants.{SLOT_LIMIT};
 
 use std::alloc::Global;
 use std::marker::Model;
@@ -37,12 +38,13 @@ impl Model for Pages {
     ghost use Rattle.std.specs.Option.{option_map};
     ghost use Rattle.xk_ports.specs.Pages.{PagesState};
     ghost use Rattle.xk_ports.specs.PagesView.{shown_preparation, bytes_in};
+    ghost use Rattle.xk_base.specs.declared.limits.TheConstants.{SLOT_LIMIT};
 
     ghost Value = { PagesState };
 
     ghost view = { λ p. record { bytes = bytes_in p.bytes; slots = p.slots; asked = map shown_preparation (unwrap_or p.asked []) } };
 
-    ghost invariant = { λ p. (length (bytes_in p.bytes) ≡ p.slots * 4096) × (p.slots ≤ 16384) };
+    ghost invariant = { λ p. (length (bytes_in p.bytes) ≡ p.slots * 4096) × (p.slots ≤ SLOT_LIMIT) };
 }
 
 impl Pages {
@@ -109,7 +111,7 @@ impl Pages {
         slots: u32,
         name: Option<&str>,
     ) -> Result<(), NoMemory>
-        requires { slots ≤ 16384 }
+        requires { slots ≤ SLOT_LIMIT }
         ensures ok { OnOk result (IsPrepared self.old self.new slots (option_copied name.entry)) }
         ensures err { OnErr result (self.new ≡ self.old) }
     {

@@ -4,6 +4,7 @@ ghost use Rattle.std.specs.Prelude.{◌≡◌, ◌<◌, ◌≤◌, ℕ, Bool, Li
 ghost use Rattle.std.specs.Option.{option_copied, option_map};
 ghost use Rattle.xk_base.specs.Outside.{Rose};
 ghost use Rattle.xk_ports.specs.Store.{Contents, StoreAsked, AsksFor, HoldsZeros, SpoilsSlot, GivesPage, with_page};
+ghost use Rattle.xk_base.specs.declared.limits.TheConstants.{SLOT_LIMIT};
 
 use std::alloc::Global;
 use thiserror::Error;
@@ -44,7 +45,7 @@ pub trait SwapStore {
     /// Makes `slots` slots of zeros, in the file of that name where the store uses files. On Ok and
     /// on Failed the number, the name and the answer join the list of preparations asked for.
     fn prepare(&mut self, alloc: Global, slots: u32, name: Option<&str>) -> Result<(), StoreFault>
-        requires { slots ≤ 16384 }
+        requires { slots ≤ SLOT_LIMIT }
         ensures count { OnOk result (slot_count self.new ≡ slots) }
         ensures zeros { OnOk result (IsTrue (is_honest self.new) → HoldsZeros (held self.new) slots) }
         ensures kept { OnErr result (slot_count self.new ≡ slot_count self.old) }
@@ -60,7 +61,8 @@ pub trait SwapStore {
     fn put_page(&mut self, s: Slot, page: &[u8]) -> Result<(), Failed>
         requires slot { s.0 < slot_count self.old }
         requires whole { length page.now ≡ 4096 }
-        ensures put { IsTrue (is_honest self.old) → OnOk result (held self.new ≡ option_map (λ pages. with_page pages s.0 page.now) (held self.old)) }
+        ensures put { IsTrue (is_honest self.old)
+            → OnOk result (held self.new ≡ option_map (λ pages. with_page pages s.0 page.now) (held self.old)) }
         ensures spoilt { IsTrue (is_honest self.old) → OnErr result (SpoilsSlot (held self.old) (held self.new) s.0) }
         ensures told { is_some (held self.new) ≡ is_some (held self.old) }
         ensures honest { is_honest self.new ≡ is_honest self.old }

@@ -4,6 +4,7 @@ ghost use Rattle.std.specs.Prelude.{◌≡◌, ◌<◌, ◌≤◌, map, length, 
 ghost use Rattle.std.specs.Option.{option_copied};
 ghost use Rattle.xk_ports.specs.Pages.{no_pages, contents_of, IsPrepared, PutsPage};
 ghost use Rattle.xk_ports.specs.PagesView.{shown_preparation};
+ghost use Rattle.xk_base.specs.declared.limits.TheConstants.{SLOT_LIMIT};
 
 use crate::pages::{Pages, Preparation};
 use crate::store::{StoreFault, SwapStore};
@@ -62,7 +63,7 @@ impl SwapStore for SureStore {
 
     /// Answers Ok, or NoMemory with all as it was.
     fn prepare(&mut self, alloc: Global, slots: u32, name: Option<&str>) -> Result<(), StoreFault>
-        requires { slots ≤ 16384 }
+        requires { slots ≤ SLOT_LIMIT }
         ensures ok { OnOk result (IsPrepared self.old self.new slots (option_copied name.entry)) }
         ensures memory { OnErr result (result ≡ Err StoreFault.NoMemory) }
         ensures err { OnErr result (self.new ≡ self.old) }

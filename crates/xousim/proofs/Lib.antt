@@ -1,8 +1,6 @@
-pub mod Continuing
 pub mod Images
-pub mod Loading
 pub mod Outcome
 pub mod Output
-pub mod Reading
+pub mod ReserverLemmas
+pub mod ResumedLemmas
 pub mod Splitting
-pub mod Telling

@@ -1,7 +1,7 @@
-pub mod KeptLemmas
 pub mod ResumeEndLemmas
 pub mod ResumeLemmas
 pub mod ResumeVerdictLemmas
 pub mod SuspendLemmas
 pub mod TopLemmas
+pub mod TrustLemmas
 pub mod VerdictLemmas

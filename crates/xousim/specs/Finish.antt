@@ -6,26 +6,31 @@ use Rattle.suspend_image.specs.StateBytes.{saved_bytes}
 use Rattle.xk_base.specs.Outside.{Rose}
 use Rattle.xk_ports.specs.declared.host.FileSlot.TheVariants.{Second}
 use Rattle.xk_ports.specs.Told.{Grows, GrowsByPrefix}
-use Rattle.xousim.specs.declared.playing.ending.Ending.{Ending}
-use Rattle.xousim.specs.declared.playing.ending.Ending.TheVariants.{Played, LimitMet, BadLine}
+use Rattle.event_player.specs.declared.ending.Ending.{Ending}
+use Rattle.event_player.specs.declared.ending.Ending.TheVariants.{Played, LimitMet, BadLine}
 use Rattle.xousim.specs.declared.status.Status.{Status}
-use Rattle.xousim.specs.declared.status.Status.TheVariants.{Done, Usage, ReadFault, WriteFault, ImageFault, EventFault, StepLimit, SwapFault, NoMemory}
+use Rattle.xousim.specs.declared.status.Status.TheVariants.{Done, Usage, ReadFault, WriteFault, ImageFault, EventFault, StepLimit}
+use Rattle.xousim.specs.declared.status.Status.TheVariants.{SwapFault, NoMemory}
 use Rattle.xousim.specs.Outcome.Images.{Image, plan_in}
 use Rattle.xousim.specs.Outcome.Plays.{HasCause, Tells}
 use Rattle.xousim.specs.Outcome.Sides.{Call, HostRose, IsTrusted, IsUnwritten, Prepares, SinkSide, StoreRose, StoreSide, Told}
-use Rattle.xousim.specs.Outcome.Starts.{Room, room_of}
+use Rattle.event_player.specs.Rooms.{Room}
+use Rattle.xousim.specs.Outcome.Starts.{room_of}
 use Rattle.xousim.specs.Outcome.States.{StateFile, room_from}
 use Rattle.xousim.specs.Outcome.Suspends.{Saves, silent}
-use Rattle.xousim.specs.Reading.{Asked, IsTold}
-use Rattle.xousim.specs.Telling.{closing}
+use Rattle.host_io.specs.Reading.{Asked, IsTold}
+use Rattle.event_player.specs.Telling.{closing}
 use Rattle.xousim.specs.Words.{Play, Resume, Suspend}
 
 -- what is told at the end of a history that came to this machine was written, or a part of it, and this is the status
 abbrev pub Finishes : Play → Machine → Ending → SinkSide → Status → Type 0
 Finishes play machine ending out Done = (ending ≡ Played) × Grows out.written out.written_after (closing play.tells machine ending)
-Finishes play machine ending out (EventFault line) = (ending ≡ BadLine line) × Grows out.written out.written_after (closing play.tells machine ending)
-Finishes play machine ending out (StepLimit limit) = (limit ≡ play.limit) × (ending ≡ LimitMet) × Grows out.written out.written_after (closing play.tells machine ending)
-Finishes play machine ending out WriteFault = Rose out.faults out.faults_after × GrowsByPrefix out.written out.written_after (closing play.tells machine ending)
+Finishes play machine ending out (EventFault line) =
+    (ending ≡ BadLine line) × Grows out.written out.written_after (closing play.tells machine ending)
+Finishes play machine ending out (StepLimit limit) =
+    (limit ≡ play.limit) × (ending ≡ LimitMet) × Grows out.written out.written_after (closing play.tells machine ending)
+Finishes play machine ending out WriteFault =
+    Rose out.faults out.faults_after × GrowsByPrefix out.written out.written_after (closing play.tells machine ending)
 Finishes play machine ending out Usage = ⊥
 Finishes play machine ending out SwapFault = ⊥
 Finishes play machine ending out ReadFault = ⊥

@@ -1,11 +1,11 @@
 -- A run that is suspended after some events, and goes on from the bytes of the state to which they lead.
 use Rattle.std.specs.Prelude.{◌≡◌, ℕ, false, List, ◌++◌}
-use Rattle.event_text.specs.declared.event.Event.{Event}
+use Rattle.xk_base.specs.declared.events.Event.{Event}
 use Rattle.machine_model.specs.State.Machine.{Machine}
-use Rattle.suspend_image.specs.declared.state.State.{State}
+use Rattle.state_rows.specs.declared.state.State.{State}
 use Rattle.suspend_image.specs.StateBytes.{saved_bytes}
-use Rattle.xk_kernel.specs.History.{History, history}
-use Rattle.xk_kernel.specs.Resuming.Resumable.{IsResumable}
+use Rattle.machine_history.specs.History.{History, history}
+use Rattle.resume_path.specs.Resumable.{IsResumable}
 
 -- The events don't meet the limit, the file has the state bytes of the state to which they lead, and this is the state that is read of it.
 pub record IsCut (before : List Event) (limit : ℕ) (start : Machine) (file : List ℕ) (state : State) : Type 0 where

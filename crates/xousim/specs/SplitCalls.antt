@@ -2,7 +2,8 @@
 use Rattle.std.specs.Prelude.{◌≡◌, ℕ, Bool, true, false, List, Option, Some}
 use Rattle.xk_ports.specs.Told.{Grows}
 use Rattle.xousim.specs.declared.status.Status.{Status}
-use Rattle.xousim.specs.declared.status.Status.TheVariants.{Done, Usage, ReadFault, WriteFault, ImageFault, EventFault, StepLimit, SwapFault, NoMemory}
+use Rattle.xousim.specs.declared.status.Status.TheVariants.{Done, Usage, ReadFault, WriteFault, ImageFault, EventFault, StepLimit}
+use Rattle.xousim.specs.declared.status.Status.TheVariants.{SwapFault, NoMemory}
 use Rattle.xousim.specs.Outcome.Plays.{EndsPlay}
 use Rattle.xousim.specs.Outcome.Sides.{Call}
 use Rattle.xousim.specs.Outcome.Verdicts.{IsTrustedPlay}
@@ -21,8 +22,8 @@ is_cut_short (ImageFault fault) = false
 is_cut_short (EventFault line) = false
 is_cut_short (StepLimit limit) = false
 
--- `trace`, `run` or `ledger` plays these events on the image of the setup, for its slots, and neither a fault outside nor want of memory ends
--- the call. The host tells its files, and the run is trusted: its store is honest and tells what it holds, or there are no slots.
+-- `trace`, `run` or `ledger` plays these events on the image of the setup, for its slots, and neither a fault outside nor want of memory
+-- ends the call. The host tells its files, and the run is trusted: its store is honest and tells what it holds, or there are no slots.
 pub record PlaysOn (setup : Setup) (events : List ℕ) (play : Play) (call : Call) : Type 0 where
   pub slots : play.slots ≡ setup.asked
   pub files : List ℕ → Option (List ℕ)

@@ -3,11 +3,11 @@ use Rattle.std.specs.Prelude.{◌≡◌, ◌<◌, ◌≤◌, ◌⊎◌, ℕ, nat
 use Rattle.kernel_args.specs.declared.faults.ArgFault.{ArgFault}
 use Rattle.boot_plan.specs.FaultNumbers.{too_long}
 use Rattle.machine_model.specs.State.Machine.{Machine}
-use Rattle.suspend_image.specs.declared.state.State.{State}
+use Rattle.state_rows.specs.declared.state.State.{State}
 use Rattle.suspend_image.specs.FileFaults.{IsFirstFault}
-use Rattle.suspend_image.specs.Machines.{machine_of}
+use Rattle.state_rows.specs.Machines.{machine_of}
 use Rattle.xk_base.specs.declared.limits.TheConstants.{FRAME_LIMIT}
-use Rattle.xk_kernel.specs.Resuming.Resumable.{CanSplit, IsResumable, resumed_frames}
+use Rattle.resume_path.specs.Resumable.{CanSplit, IsResumable, resumed_frames}
 use Rattle.xousim.specs.declared.commands.states.TheConstants.{STATE_LIMIT}
 
 -- ---- a sound file

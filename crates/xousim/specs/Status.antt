@@ -1,11 +1,14 @@
 -- The numbers of statuses and their texts on the notes.
 use Rattle.std.specs.Prelude.{ℕ, List, [], ◌++◌, codes, decimal, ◌==◌, if◌then◌else◌}
-use Rattle.kernel_args.specs.FaultNumbers.{too_short, not_xarg, bad_version, bad_total, bad_check, bad_ram, no_process, too_many_processes, bad_ini, bad_names, bad_slots}
-use Rattle.boot_plan.specs.FaultNumbers.{section_outside, section_misaligned, sections_overlap, load_outside, bad_load, entry_outside, ram_too_small}
+use Rattle.kernel_args.specs.FaultNumbers.{too_short, not_xarg, bad_version, bad_total, bad_check, bad_ram, no_process, too_many_processes}
+use Rattle.kernel_args.specs.FaultNumbers.{bad_ini, bad_names, bad_slots}
+use Rattle.boot_plan.specs.FaultNumbers.{section_outside, section_misaligned, sections_overlap, load_outside, bad_load, entry_outside}
+use Rattle.boot_plan.specs.FaultNumbers.{ram_too_small}
 use Rattle.suspend_image.specs.FileFaults.{state_unmatched}
 use Rattle.suspend_image.specs.StateFaults.{not_state, state_length, state_check, state_form}
 use Rattle.xousim.specs.declared.status.Status.{Status}
-use Rattle.xousim.specs.declared.status.Status.TheVariants.{Done, Usage, ReadFault, WriteFault, ImageFault, EventFault, StepLimit, SwapFault, NoMemory}
+use Rattle.xousim.specs.declared.status.Status.TheVariants.{Done, Usage, ReadFault, WriteFault, ImageFault, EventFault, StepLimit}
+use Rattle.xousim.specs.declared.status.Status.TheVariants.{SwapFault, NoMemory}
 use Rattle.xousim.specs.StateFiles.{bad_split}
 
 -- the number with which the program ends
@@ -51,7 +54,8 @@ fault_name what =
 -- the text of a status on the notes; a run to its end has none
 abbrev pub note_of : Status → List ℕ
 note_of Done = []
-note_of Usage = codes "usage: xousim trace|run|ledger IMAGE EVENTS [STEPS [SLOTS [STORE]]] | check IMAGE [SLOTS] | convert IMAGE | demo N | "
+note_of Usage =
+    codes "usage: xousim trace|run|ledger IMAGE EVENTS [STEPS [SLOTS [STORE]]] | check IMAGE [SLOTS] | convert IMAGE | demo N | "
     ++ codes "suspend IMAGE EVENTS [STEPS [SLOTS]] | resume STATE EVENTS [STEPS [SLOTS]]\n"
 note_of ReadFault = codes "read fault\n"
 note_of WriteFault = codes "write fault\n"

@@ -24,7 +24,8 @@ process_lines pid (p ∷ ps) = process_line pid p ++ process_lines (suc pid) ps
 -- how many first pages there are in all, and how many pages there is room for
 abbrev pub total_line : BootPlan → List ℕ
 total_line plan =
-    codes "pages " ++ decimal (planned_pages plan) ++ codes " cap " ++ decimal (capacity plan.frames (length plan.procs) plan.slots) ++ codes "\n"
+    codes "pages " ++ decimal (planned_pages plan) ++ codes " cap "
+    ++ decimal (capacity plan.frames (length plan.procs) plan.slots) ++ codes "\n"
 
 abbrev pub summary_of : BootPlan → List ℕ
 summary_of plan = ram_line plan ++ (process_lines 2 plan.procs ++ total_line plan)

@@ -12,8 +12,8 @@ use Rattle.xousim.specs.declared.commands.command.CommandWords.TheVariants as wo
 use Rattle.xousim.specs.declared.commands.command.PlayWords.{PlayWords}
 use Rattle.xousim.specs.declared.commands.command.ResumeWords.{ResumeWords}
 use Rattle.xousim.specs.declared.commands.command.SuspendWords.{SuspendWords}
-use Rattle.xousim.specs.declared.commands.command.Telling.{Telling}
-use Rattle.xousim.specs.declared.commands.command.Telling.TheVariants.{Ledger, Run, Trace}
+use Rattle.event_player.specs.declared.telling.Telling.{Telling}
+use Rattle.event_player.specs.declared.telling.Telling.TheVariants.{Ledger, Run, Trace}
 
 -- ---- commands
 

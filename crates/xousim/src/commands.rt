@@ -11,5 +11,4 @@ pub mod resume;
 pub mod states;
 mod summary;
 pub mod suspend;
-pub mod table;
 pub mod words;

@@ -4,11 +4,8 @@
 
 mod commands;
 mod converted;
-mod load;
 mod matched;
 mod notes;
-mod outside;
-mod playing;
 mod resumed;
 mod splits;
 mod status;
@@ -17,10 +14,9 @@ mod tests;
 mod top;
 mod verdict;
 
+pub use host_io::{ErrSink, FileHost, FileStore, StdSink};
+use host_io::{ProgramStore, RealDisk};
 use notes::write_note;
-use outside::adapters::{ErrSink, FileHost, StdSink};
-use outside::page_file::RealDisk;
-use outside::program_store::ProgramStore;
 use status::{Ended, Status};
 use std::io::ErrorKind;
 use std::process::ExitCode;

@@ -4,11 +4,11 @@ ghost use Rattle.std.specs.Prelude.{◌≡◌, ◌+◌, ◌≤◌, [], ◌++◌,
 ghost use Rattle.arrayvec.specs.ArrayVec.{array_vec_len};
 ghost use Rattle.xk_ports.specs.Told.{Grows, GrowsByPrefix};
 ghost use Rattle.xousim.specs.Status.{fault_name, note_of};
-ghost use Rattle.xousim.specs.Outcome.Sides.{Notes, SinkSide};
+ghost use Rattle.xousim.specs.Outcome.Sides.{Notes, sink_side};
 
 use crate::commands::states::BAD_SPLIT;
-use crate::outside::text::{Line, put, put_number};
 use crate::status::Status;
+use host_io::text::{Line, put, put_number};
 use kernel_args::ArgFault;
 use xk_ports::{Sink, put_all};
 
@@ -101,12 +101,7 @@ fn note(status: Status) -> Line
 
 /// Writes the note of a status. A fault there leaves the status as it was decided.
 pub fn write_note<N: Sink>(status: Status, notes: &mut N)
-    ensures noted { let side : SinkSide = record {
-      written = N.written notes.old;
-      written_after = N.written notes.new;
-      faults = N.faults notes.old;
-      faults_after = N.faults notes.new;
-    } in Notes side (note_of status) }
+    ensures noted { Notes (sink_side N.Sink notes.old notes.new) (note_of status) }
     ensures never_falls { N.faults notes.old ≤ N.faults notes.new }
 {
     let _ = put_all(notes, note(status).as_slice());

@@ -1,22 +1,22 @@
 //! A run that was suspended goes on as if it had not been. The functions do nothing; their contracts are the laws.
 
 ghost use Rattle.std.specs.Prelude.{◌≡◌, ◌≤◌, ◌++◌, ℕ, List};
-ghost use Rattle.event_text.specs.declared.event.Event.{Event};
+ghost use Rattle.xk_base.specs.declared.events.Event.{Event};
 ghost use Rattle.machine_model.specs.Runs.Matched.{Matched};
 ghost use Rattle.machine_model.specs.State.Machine.{Machine};
-ghost use Rattle.suspend_image.specs.declared.state.State.{State};
-ghost use Rattle.suspend_image.specs.Machines.{machine_of};
+ghost use Rattle.state_rows.specs.declared.state.State.{State};
+ghost use Rattle.state_rows.specs.Machines.{machine_of};
 ghost use Rattle.suspend_image.specs.Saveable.{IsSaveable};
 ghost use Rattle.suspend_image.specs.StateBytes.{saved_bytes};
-ghost use Rattle.xk_kernel.specs.History.{history};
-ghost use Rattle.xk_kernel.specs.Resuming.Resumable.{IsResumable};
+ghost use Rattle.machine_history.specs.History.{history};
+ghost use Rattle.resume_path.specs.Resumable.{IsResumable};
 ghost use Rattle.xousim.specs.Outcome.Resumes.{limit_from};
 ghost use Rattle.xousim.specs.Resumed.{IsCut, IsJoined};
 
 /// A state is read of the bytes of each state to which events lead, and it is that one. The numbers of
 /// the state fit into words, as they do in each state that a kernel holds: of every state that `suspend`
 /// writes the top call says so.
-#[tactic(auto, using(crate::proofs::Continuing::ResumedLemmas::suspended_is_read, crate::proofs::Continuing::ResumedLemmas::suspended_is_resumed))]
+#[tactic(auto, using(crate::proofs::ResumedLemmas::suspended_is_read, crate::proofs::ResumedLemmas::suspended_is_resumed))]
 pub fn suspended_state_is_read()
     ensures read { (before : List Event) (limit : ℕ) (start : Machine) → Matched start → let last = (history before limit start).machine in
         IsSaveable last → (state : State) × IsResumable (saved_bytes last) state }
@@ -28,11 +28,12 @@ pub fn suspended_state_is_read()
 /// Where the events before don't meet the limit, the history of all events is theirs, followed by that of
 /// the events after from the state that is read of the saved bytes. The limit stays, as no step goes
 /// beyond it.
-#[tactic(auto, using(crate::proofs::Continuing::ResumedLemmas::resumed_limit))]
+#[tactic(auto, using(crate::proofs::ResumedLemmas::resumed_limit))]
 pub fn resumed_run_goes_on()
     ensures goes_on { (before after : List Event) (limit : ℕ) (start : Machine) (file : List ℕ) (state : State) → Matched start
         → IsSaveable (history before limit start).machine → IsCut before limit start file state
         → IsJoined (history (before ++ after) limit start) (history before limit start) (history after limit (machine_of file state)) }
-    ensures limit { (before : List Event) (limit : ℕ) (start : Machine) (file : List ℕ) (state : State) → Matched start → start.steps ≤ limit
-        → IsSaveable (history before limit start).machine → IsCut before limit start file state → limit_from limit (machine_of file state) ≡ limit }
+    ensures limit { (before : List Event) (limit : ℕ) (start : Machine) (file : List ℕ) (state : State)
+        → Matched start → start.steps ≤ limit → IsSaveable (history before limit start).machine
+        → IsCut before limit start file state → limit_from limit (machine_of file state) ≡ limit }
 {}

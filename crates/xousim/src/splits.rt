@@ -3,13 +3,13 @@
 
 ghost use Rattle.std.specs.Prelude.{◌≡◌, ◌↔◌, ℕ, List};
 ghost use Rattle.machine_model.specs.State.Machine.{Machine};
-ghost use Rattle.xousim.specs.declared.commands.command.Telling.{Telling};
+ghost use Rattle.event_player.specs.declared.telling.Telling.{Telling};
 ghost use Rattle.xousim.specs.Outcome.Images.{Boots};
-ghost use Rattle.xousim.specs.Outcome.Plays.{run_of};
+ghost use Rattle.event_player.specs.History.{run_of};
 ghost use Rattle.xousim.specs.Outcome.Sides.{Call};
 ghost use Rattle.xousim.specs.SplitCalls.{EndAlike, PlaysOn};
 ghost use Rattle.xousim.specs.Splits.{Setup, SplitOneCapacity};
-ghost use Rattle.xousim.specs.Telling.{output};
+ghost use Rattle.event_player.specs.Telling.{output};
 ghost use Rattle.xousim.specs.Words.{Play};
 
 /// Two images that differ in nothing but RAM start, RAM size and the check number over them, each without
@@ -21,8 +21,8 @@ pub fn swapping_is_invisible()
         → (Boots one.image one.asked machine ↔ Boots other.image other.asked machine) }
     ensures history { (one other : Setup) (machine twin : Machine) (events : List ℕ) (limit : ℕ) → SplitOneCapacity one other
         → Boots one.image one.asked machine → Boots other.image other.asked twin → run_of limit machine events ≡ run_of limit twin events }
-    ensures output { (one other : Setup) (machine twin : Machine) (tells : Telling) (events : List ℕ) (limit : ℕ) → SplitOneCapacity one other
-        → Boots one.image one.asked machine → Boots other.image other.asked twin
+    ensures output { (one other : Setup) (machine twin : Machine) (tells : Telling) (events : List ℕ) (limit : ℕ)
+        → SplitOneCapacity one other → Boots one.image one.asked machine → Boots other.image other.asked twin
         → output tells (run_of limit machine events) ≡ output tells (run_of limit twin events) }
 {}
 

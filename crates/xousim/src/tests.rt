@@ -19,17 +19,16 @@ mod resuming;
 mod running;
 mod scalars;
 mod servers;
-mod state_damage;
 mod swapping;
 mod timer;
 mod versions;
 
-use crate::outside::adapters::{ErrSink, FileHost, StdSink};
 use crate::status::{Ended, Status};
 use crate::top::xous_main;
 use expecting::{
     expect_bytes, expect_number, expect_out, expect_outcome, expect_run_of, expect_status,
 };
+use host_io::{ErrSink, FileHost, StdSink};
 use kernel_args::ArgFault;
 use lines::transcript;
 use running::{

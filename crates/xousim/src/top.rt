@@ -1,9 +1,8 @@
 //! The top call: words in, a status and what the command tells out.
 
 ghost use Rattle.std.specs.Prelude.{◌≤◌};
-ghost use Rattle.xk_ports.specs.declared.host.FileSlot.TheVariants.{First, Second};
 ghost use Rattle.xousim.specs.Outcome.Ends.{Ends};
-ghost use Rattle.xousim.specs.Outcome.Sides.{Call, Notes, SinkSide, store_side};
+ghost use Rattle.xousim.specs.Outcome.Sides.{Call, Notes, host_side, sink_side, store_side};
 ghost use Rattle.xousim.specs.Outcome.Verdicts.{IsComplete};
 ghost use Rattle.xousim.specs.Status.{note_of};
 ghost use Rattle.xousim.specs.Words.{command_of};
@@ -30,22 +29,9 @@ fn run_words<H: Host, K: Sink, W: SwapStore>(
     store: W,
 ) -> Ended<W>
     ensures ends { let call : Call = record {
-      host = record {
-        files = H.file host.old;
-        asked = H.asked host.old;
-        asked_after = H.asked host.new;
-        image_left = H.left host.new First;
-        left = H.left host.new Second;
-        faults = H.faults host.old;
-        faults_after = H.faults host.new;
-      };
-      out = record {
-        written = K.written out.old;
-        written_after = K.written out.new;
-        faults = K.faults out.old;
-        faults_after = K.faults out.new;
-      };
-      store = store_side W.is_honest W.held W.asked W.faults store result.store;
+      host = host_side H.Host host.old host.new;
+      out = sink_side K.Sink out.old out.new;
+      store = store_side W.SwapStore store result.store;
       status = result.status;
     } in Ends (command_of words.now) call }
     ensures store { W.faults store ≤ W.faults result.store }
@@ -85,30 +71,12 @@ pub fn xous_main<H: Host, K: Sink, N: Sink, W: SwapStore>(
     store: W,
 ) -> Ended<W>
     ensures ends { let call : Call = record {
-      host = record {
-        files = H.file host.old;
-        asked = H.asked host.old;
-        asked_after = H.asked host.new;
-        image_left = H.left host.new First;
-        left = H.left host.new Second;
-        faults = H.faults host.old;
-        faults_after = H.faults host.new;
-      };
-      out = record {
-        written = K.written out.old;
-        written_after = K.written out.new;
-        faults = K.faults out.old;
-        faults_after = K.faults out.new;
-      };
-      store = store_side W.is_honest W.held W.asked W.faults store result.store;
+      host = host_side H.Host host.old host.new;
+      out = sink_side K.Sink out.old out.new;
+      store = store_side W.SwapStore store result.store;
       status = result.status;
     } in Ends (command_of words.now) call × IsComplete (command_of words.now) call }
-    ensures noted { let side : SinkSide = record {
-      written = N.written notes.old;
-      written_after = N.written notes.new;
-      faults = N.faults notes.old;
-      faults_after = N.faults notes.new;
-    } in Notes side (note_of result.status) }
+    ensures noted { Notes (sink_side N.Sink notes.old notes.new) (note_of result.status) }
     ensures store { W.faults store ≤ W.faults result.store }
     ensures host { H.faults host.old ≤ H.faults host.new }
     ensures out { K.faults out.old ≤ K.faults out.new }

@@ -17,7 +17,8 @@ use Rattle.xk_base.specs.Calls.Flags.{right_of, has_flag, flag_execute}
 use Rattle.ledger_model.specs.Ledger.{Ledger}
 use Rattle.ledger_model.specs.LeastRun.{least_run}
 use Rattle.ledger_model.specs.Places.{in_run}
-use Rattle.machine_model.specs.Calling.MemoryCalls.{are_too_many, caller_place, decrease_call, decrease_refusals, decrease_served, heap_of, heap_start, increase_call, increase_refusals, increase_served, map_address, map_call, map_refusals, map_served, mapped_ledger, unmap_call, unmap_refusals, unmap_served, update_call, update_refusals, update_served, is_bad_range, is_aligned, are_bad_flags, heap_limit}
+use Rattle.machine_model.specs.Calling.MemoryCalls.{are_too_many, caller_place, decrease_call, decrease_refusals, decrease_served, heap_of, heap_start, increase_call, increase_refusals, increase_served, map_address, map_call, map_refusals, map_served, mapped_ledger, unmap_call, unmap_refusals, unmap_served}
+use Rattle.machine_model.specs.Calling.MemoryCalls.{update_call, update_refusals, update_served, is_bad_range, is_aligned, are_bad_flags, heap_limit}
 use Rattle.machine_model.specs.State.Machine.{Machine}
 use Rattle.isolation_laws.proofs.Carrying.ChangeLemmas.{Carries, change_through, with_left, served_unless}
 use Rattle.isolation_laws.proofs.Ledgers.ThroughStepLemmas.{make_through, make_console_through, reduce_through, remove_through}

@@ -1,4 +1,5 @@
 -- The end of a server by its row, and what it leaves sound.
+use Rattle.xk_ports.specs.declared.store.SwapStore.{Ghosts as SwapStore}
 use Rattle.std.proofs.Common.{◌≡◌, ℕ, ◌+◌, ◌<◌, Bool, true, false, get_or, length, Option, Some, None, refl, sym, ap, subst, ◌∙◌}
 use Rattle.std.specs.Prelude.{◌==◌, ◌||◌, ◌&&◌, IsSome, if◌then◌else◌}
 use Rattle.std.specs.List.{list_any}
@@ -111,11 +112,11 @@ told_at false true false = refl
 told_at false false true = refl
 told_at false false false = refl
 
-module _ {W : Type 0} (slot_count : W → ℕ) (honest : W → Bool) (held : W → Held) (who : ThreadId) (old : Parts W) (sound : IsSound slot_count held who old)
+module _ {W : Type 0} (S : SwapStore W) (who : ThreadId) (old : Parts W) (sound : IsSound S who old)
     (ready : is_table_ready (threads_of old.tables.threads who) ≡ true) (s : Serial) (v : TableServer)
     (live : (servers_of old.tables.servers).live s.0 ≡ Some v) where
   abbrev m0 : Machine
-  m0 = with_parts held who old sound.machine
+  m0 = with_parts S.held who old sound.machine
 
   abbrev n : ℕ
   n = process_count old.tables.threads
@@ -125,7 +126,7 @@ module _ {W : Type 0} (slot_count : W → ℕ) (honest : W → Bool) (held : W �
   caller_ready = ready_there (threads_of old.tables.threads who) ready
 
   pub caller_known : is_thread_id 64 who ≡ true
-  caller_known = known_of_all n who (few_processes slot_count held who old sound) (ready_id old.tables.threads who ready)
+  caller_known = known_of_all n who (few_processes S who old sound) (ready_id old.tables.threads who ready)
 
   shown_live : m0.servers s.0 ≡ Some (server_with (seat_of old.tables.queues v.seat) v)
   unfolding with_parts with_tables
@@ -134,7 +135,7 @@ module _ {W : Type 0} (slot_count : W → ℕ) (honest : W → Bool) (held : W �
   pub owner_known : is_pid 64 v.pid.0 ≡ true
   unfolding with_parts with_tables
   owner_known =
-      known_pid_of_all n v.pid.0 (few_processes slot_count held who old sound)
+      known_pid_of_all n v.pid.0 (few_processes S who old sound)
       (sound.matched.body.processes.pids v.pid
       (sound.matched.body.servers.living s.0 (server_with (seat_of old.tables.queues v.seat) v) shown_live))
 
@@ -199,9 +200,9 @@ module _ {W : Type 0} (slot_count : W → ℕ) (honest : W → Bool) (held : W �
 
   module _ (new : Parts W) (noted : ThreadSet)
       (is_closed : AreClosed (λ k. k == s.0)
-      (closable (ledger held old.mem) old.tables.servers old.tables.queues second)
-      (closable (ledger held new.mem) new.tables.servers new.tables.queues noted)) where
-    noted_is : (m : Machine) (id : ThreadId) → noted id ≡ (second id || is_sender_at (λ k. k == s.0) (with_parts held who old m) id)
+      (closable (ledger S.held old.mem) old.tables.servers old.tables.queues second)
+      (closable (ledger S.held new.mem) new.tables.servers new.tables.queues noted)) where
+    noted_is : (m : Machine) (id : ThreadId) → noted id ≡ (second id || is_sender_at (λ k. k == s.0) (with_parts S.held who old m) id)
     unfolding any_server with_parts with_tables
     noted_is m id = is_closed.noted m id
 
@@ -235,35 +236,35 @@ module _ {W : Type 0} (slot_count : W → ℕ) (honest : W → Bool) (held : W �
         by_parts false p false q false r x = absurd (false≢true x)
 
     -- .. and each is answered as by the row
-    told_so : (m : Machine) → told_to (Some who) noted ≡ destroy_answers s (with_parts held who old m)
+    told_so : (m : Machine) → told_to (Some who) noted ≡ destroy_answers s (with_parts S.held who old m)
     unfolding with_parts with_tables
     told_so m = λ i id. (
         ap (λ b. if b then Some (if same_thread id who then plain_words else refused_words ServerNotFound) else None) (noted_is m id)
-        ∙ told_at (same_thread id who) (is_receiver_of v.pid s (threads_of old.tables.threads) id) (is_sender_at (λ k. k == s.0) (with_parts held who old m) id)
+        ∙ told_at (same_thread id who) (is_receiver_of v.pid s (threads_of old.tables.threads) id) (is_sender_at (λ k. k == s.0) (with_parts S.held who old m) id)
         ∙ ap (λ b. option_or (if same_thread id who then Some plain_words else None)
-        (option_or (if is_sender_at (λ k. k == s.0) (with_parts held who old m) id then Some (refused_words ServerNotFound) else None)
+        (option_or (if is_sender_at (λ k. k == s.0) (with_parts S.held who old m) id then Some (refused_words ServerNotFound) else None)
         (if b then Some (refused_words ServerNotFound) else None)))
         (receiver_is id ∙ sym (receiving_shown s (threads_of old.tables.threads id)))) i
 
     module _ (threads : threads_shown new.tables.threads ≡ answered (told_to (Some who) noted) (changed_thread who passed (threads_shown old.tables.threads)))
         (log : new.tables.log ≡ log_with (replies n (told_to (Some who) noted)) old.tables.log)
         (count : process_count new.tables.threads ≡ n)
-        (stays : Stays slot_count honest held old.mem new.mem)
-        (now_open : AreOpen (loans (ledger held new.mem)) new.tables.servers new.tables.queues) where
-      ledger_left : (m : Machine) → ledger held new.mem ≡ end_loans (is_message_at (λ k. k == s.0) (with_parts held who old m)) (ledger held old.mem)
+        (stays : Stays S old.mem new.mem)
+        (now_open : AreOpen (loans (ledger S.held new.mem)) new.tables.servers new.tables.queues) where
+      ledger_left : (m : Machine) → ledger S.held new.mem ≡ end_loans (is_message_at (λ k. k == s.0) (with_parts S.held who old m)) (ledger S.held old.mem)
       unfolding any_server with_parts with_tables
       ledger_left m = is_closed.ledger m
 
       same_capacity : capacity_of new.mem ≡ capacity_of old.mem
       same_capacity = ap (λ (z : Size). capacity z.area.frames z.procs z.slots) stays.keeps.size
 
-      pub destroyed_row : (m : Machine) → IsServed (destroy_row s (with_parts held who old m)) (with_parts held who old m) (with_parts held who new m)
+      pub destroyed_row : (m : Machine) → IsServed (destroy_row s (with_parts S.held who old m)) (with_parts S.held who old m) (with_parts S.held who new m)
           old.tables.log new.tables.log
       unfolding with_parts with_tables
       destroyed_row m =
-          served_so (with_parts held who old m) (without s (with_parts held who old m)) (with_parts held who new m)
-          (destroy_answers s (with_parts held who old m)) (destroy_row s (with_parts held who old m)) old.tables.log new.tables.log
-          (destroy_is s (with_parts held who old m))
+          served_so (with_parts S.held who old m) (without s (with_parts S.held who old m)) (with_parts S.held who new m)
+          (destroy_answers s (with_parts S.held who old m)) (destroy_row s (with_parts S.held who old m)) old.tables.log new.tables.log
+          (destroy_is s (with_parts S.held who old m))
           (λ i. record m {
             processes = count i;
             cursor = who;
@@ -275,7 +276,7 @@ module _ {W : Type 0} (slot_count : W → ℕ) (honest : W → Bool) (held : W �
           })
           (log ∙ ap (λ a. log_with (replies n a) old.tables.log) (told_so m))
 
-      pub destroyed_sound : IsSound slot_count held who new
+      pub destroyed_sound : IsSound S who new
       unfolding with_parts with_tables
       destroyed_sound = record {
         machine = record sound.machine { steps = sound.machine.steps + 1 };
@@ -283,11 +284,11 @@ module _ {W : Type 0} (slot_count : W → ℕ) (honest : W → Bool) (held : W �
         mem = stays.sound;
         processes = count ∙ sound.processes ∙ sym (ap (λ (z : Size). z.procs) stays.keeps.size);
         seats = now_open.seats;
-        loans = open_loans (loans (ledger held new.mem)) new.tables.servers new.tables.queues now_open;
+        loans = open_loans (loans (ledger S.held new.mem)) new.tables.servers new.tables.queues now_open;
       }
         where
-          still : IsServed (destroy_row s m0) m0 (with_parts held who new sound.machine) old.tables.log new.tables.log
-              → Matched (with_parts held who new (record sound.machine { steps = sound.machine.steps + 1 }))
+          still : IsServed (destroy_row s m0) m0 (with_parts S.held who new sound.machine) old.tables.log new.tables.log
+              → Matched (with_parts S.held who new (record sound.machine { steps = sound.machine.steps + 1 }))
           still served =
               subst (λ (x : Machine). Matched (record x { steps = sound.machine.steps + 1 })) (sym served.machine) (destroyed_keeps m0 sound.matched caller_ready s)
 

@@ -1,4 +1,5 @@
 -- A process dies: what its death makes of the parts is what the machine makes, and they stay sound.
+use Rattle.xk_ports.specs.declared.store.SwapStore.{Ghosts as SwapStore}
 use Rattle.std.proofs.Common.{◌≡◌, ℕ, ◌≤◌, ◌<◌, Bool, true, false, List, get_or, length, nat_eq, Option, Some, None, refl, sym, ap, subst, ◌∙◌}
 use Rattle.std.specs.Prelude.{◌==◌, ◌&&◌, IsTrue, if◌then◌else◌, is_some}
 use Rattle.std.specs.List.{list_any}
@@ -104,10 +105,10 @@ pub record HasForgotten {W : Type 0} (held : W → Held) (pid : Pid) (given : An
   pub process : processes_of new.procs ≡ change pid.0 (λ _. dead_state) (processes_of old.procs)
   pub claims : claims_of new.claims ≡ end_claims pid (claims_of old.claims)
 
-module _ {W : Type 0} (slot_count : W → ℕ) (held : W → Held) (pid : Pid) (old : AllParts W) (sound : AreAllSound slot_count held old)
+module _ {W : Type 0} (S : SwapStore W) (pid : Pid) (old : AllParts W) (sound : AreAllSound S old)
     (alive : is_alive (processes_of old.procs pid.0) ≡ true) where
   abbrev m0 : Machine
-  m0 = with_all_parts held old sound.machine
+  m0 = with_all_parts S.held old sound.machine
 
   abbrev n : ℕ
   n = process_count old.parts.tables.threads
@@ -120,10 +121,10 @@ module _ {W : Type 0} (slot_count : W → ℕ) (held : W → Held) (pid : Pid) (
   unfolding with_all_parts with_parts with_tables
   few = sound.matched.body.processes.few
 
-  pub all_open : AreOpen (loans (ledger held old.parts.mem)) old.parts.tables.servers old.parts.tables.queues
+  pub all_open : AreOpen (loans (ledger S.held old.parts.mem)) old.parts.tables.servers old.parts.tables.queues
   unfolding with_all_parts with_parts with_tables
   all_open =
-      matched_open m0 sound.matched old.parts.tables.servers old.parts.tables.queues refl sound.seats (loans (ledger held old.parts.mem))
+      matched_open m0 sound.matched old.parts.tables.servers old.parts.tables.queues refl sound.seats (loans (ledger S.held old.parts.mem))
       sound.matched.body.loans sound.loans
 
   -- ---- its servers closed
@@ -132,19 +133,19 @@ module _ {W : Type 0} (slot_count : W → ℕ) (held : W → Held) (pid : Pid) (
   own k = is_server_of pid (servers_shown old.parts.tables.servers old.parts.tables.queues k)
 
   abbrev pub at_first : Closable
-  at_first = closable (ledger held old.parts.mem) old.parts.tables.servers old.parts.tables.queues nobody
+  at_first = closable (ledger S.held old.parts.mem) old.parts.tables.servers old.parts.tables.queues nobody
 
   pub closed_first : (start : ThreadSet) (after : Closable) → start ≡ nobody
-      → AreClosed own (closable (ledger held old.parts.mem) old.parts.tables.servers old.parts.tables.queues start) after → AreClosed own at_first after
+      → AreClosed own (closable (ledger S.held old.parts.mem) old.parts.tables.servers old.parts.tables.queues start) after → AreClosed own at_first after
   closed_first start after none closed =
-      subst (λ (set : ThreadSet). AreClosed own (closable (ledger held old.parts.mem) old.parts.tables.servers old.parts.tables.queues set) after) none closed
+      subst (λ (set : ThreadSet). AreClosed own (closable (ledger S.held old.parts.mem) old.parts.tables.servers old.parts.tables.queues set) after) none closed
 
   module _ (after : Closable) (is_closed : AreClosed own at_first after) where
-    noted_is : (m : Machine) (id : ThreadId) → after.noted id ≡ is_sender_at own (with_all_parts held old m) id
+    noted_is : (m : Machine) (id : ThreadId) → after.noted id ≡ is_sender_at own (with_all_parts S.held old m) id
     unfolding any_server with_all_parts with_parts with_tables
     noted_is m id = is_closed.noted m id
 
-    closed_ledger : (m : Machine) → after.ledger ≡ end_loans (is_message_at own (with_all_parts held old m)) (ledger held old.parts.mem)
+    closed_ledger : (m : Machine) → after.ledger ≡ end_loans (is_message_at own (with_all_parts S.held old m)) (ledger S.held old.parts.mem)
     unfolding any_server with_all_parts with_parts with_tables
     closed_ledger m = is_closed.ledger m
 
@@ -166,7 +167,7 @@ module _ {W : Type 0} (slot_count : W → ℕ) (held : W → Held) (pid : Pid) (
             ap (is_thread_id n) (alike id w r) ∙ senders_known m0 sound.matched at.serial at.server at.live place.0 place.1 place.2 w q
 
     -- .. and gets the answer of the death
-    told_so : (m : Machine) → told_to None after.noted ≡ (death pid (with_all_parts held old m)).answers
+    told_so : (m : Machine) → told_to None after.noted ≡ (death pid (with_all_parts S.held old m)).answers
     unfolding death servers_closed closed with_all_parts with_parts with_tables
     told_so m = λ i. refused_server (λ id. noted_is m id i)
 
@@ -175,11 +176,11 @@ module _ {W : Type 0} (slot_count : W → ℕ) (held : W → Held) (pid : Pid) (
     module _ (procs : ℕ) (same_procs : procs ≡ n) (l : Ledger) (queues : List Seat)
         (left : HasLeft procs pid (standing after.ledger after.servers after.seats) (standing l after.servers queues)) where
       abbrev end : Machine → Machine
-      end m = senders_held_gone pid (senders_queued_gone pid (servers_closed pid (with_all_parts held old m)).machine)
+      end m = senders_held_gone pid (senders_queued_gone pid (servers_closed pid (with_all_parts S.held old m)).machine)
 
       -- what is held from it is so once what it had queued is gone
-      held_still : (m : Machine) (number : Number) → is_held_from pid (servers_closed pid (with_all_parts held old m)).machine number
-          ≡ is_held_from pid (senders_queued_gone pid (servers_closed pid (with_all_parts held old m)).machine) number
+      held_still : (m : Machine) (number : Number) → is_held_from pid (servers_closed pid (with_all_parts S.held old m)).machine number
+          ≡ is_held_from pid (senders_queued_gone pid (servers_closed pid (with_all_parts S.held old m)).machine) number
       unfolding senders_queued_gone servers_closed closed any_server with_all_parts with_parts with_tables
       held_still m number = λ i. is_some (least_below (servers_of old.parts.tables.servers).next
           (λ k. passes_so (λ server. list_any (λ x. is_of_number number x && is_sent_from pid x) server.held) (without_queued_from pid) (λ server. refl)
@@ -194,7 +195,7 @@ module _ {W : Type 0} (slot_count : W → ℕ) (held : W → Held) (pid : Pid) (
           (end_loans (λ number. is_queued_from pid (record m { servers = λ k. is_closed.servers k i; next_serial = is_closed.next i }) number) (closed_ledger m i)))
           ∙ (λ i. orphan_loans n
           (λ number. held_still m number i)
-          (end_loans (is_queued_from pid (servers_closed pid (with_all_parts held old m)).machine) (end_loans (is_message_at own (with_all_parts held old m)) (ledger held old.parts.mem))))
+          (end_loans (is_queued_from pid (servers_closed pid (with_all_parts S.held old m)).machine) (end_loans (is_message_at own (with_all_parts S.held old m)) (ledger S.held old.parts.mem))))
 
       pub left_servers : (m : Machine) (k : ℕ) → servers_shown after.servers queues k ≡ (end m).servers k
       unfolding senders_held_gone senders_queued_gone servers_closed closed with_all_parts with_parts with_tables
@@ -213,25 +214,25 @@ module _ {W : Type 0} (slot_count : W → ℕ) (held : W → Held) (pid : Pid) (
       -- ---- it is forgotten
 
       module _ (new : AllParts W) (servers_are : new.parts.tables.servers ≡ after.servers) (queues_are : new.parts.tables.queues ≡ queues)
-          (gone : HasForgotten held pid (told_to None after.noted) l old new) where
+          (gone : HasForgotten S.held pid (told_to None after.noted) l old new) where
         processes_are : (m : Machine) (q : ℕ) → processes_shown new.procs q ≡ put_at nat_eq (processes_shown old.procs) pid.0 dead_process q
         processes_are m q =
             ap (λ (f : ProcessMap). process_of (f q)) gone.process
             ∙ process_ended (nat_eq q pid.0) (processes_of old.procs pid.0) (processes_of old.procs q)
 
         threads_are : (m : Machine) (id : ThreadId) → threads_shown new.parts.tables.threads id
-            ≡ option_map (with_answer ((death pid (with_all_parts held old m)).answers id)) (if id.pid.0 == pid.0 then None else threads_shown old.parts.tables.threads id)
+            ≡ option_map (with_answer ((death pid (with_all_parts S.held old m)).answers id)) (if id.pid.0 == pid.0 then None else threads_shown old.parts.tables.threads id)
         threads_are m id =
             ap (λ (f : ThreadMap). option_map thread_of (f id)) gone.threads
             ∙ thread_gone (id.pid.0 == pid.0) (threads_of gone.told id)
             ∙ ap (λ (f : ThreadId → Option Thread). if id.pid.0 == pid.0 then None else f id) gone.answers
             ∙ (λ i. if id.pid.0 == pid.0 then None else answered (told_so m i) (threads_shown old.parts.tables.threads) id)
-            ∙ gone_answered (id.pid.0 == pid.0) (with_answer ((death pid (with_all_parts held old m)).answers id)) (threads_shown old.parts.tables.threads id)
+            ∙ gone_answered (id.pid.0 == pid.0) (with_answer ((death pid (with_all_parts S.held old m)).answers id)) (threads_shown old.parts.tables.threads id)
 
         servers_so : (m : Machine) (k : ℕ) → servers_shown new.parts.tables.servers new.parts.tables.queues k ≡ (end m).servers k
         servers_so m k = (λ i. servers_shown (servers_are i) (queues_are i) k) ∙ left_servers m k
 
-        machine_so : (m : Machine) → with_all_parts held new (disarmed_with pid old.claims m) ≡ (settled (death pid (with_all_parts held old m))).machine
+        machine_so : (m : Machine) → with_all_parts S.held new (disarmed_with pid old.claims m) ≡ (settled (death pid (with_all_parts S.held old m))).machine
         unfolding settled death forgotten senders_held_gone senders_queued_gone servers_closed closed with_all_parts with_parts with_tables
         machine_so m = λ i. record (disarmed_with pid old.claims m) {
           capacity = ap (λ (z : Size). capacity z.area.frames z.procs z.slots) gone.size i;
@@ -246,15 +247,15 @@ module _ {W : Type 0} (slot_count : W → ℕ) (held : W → Held) (pid : Pid) (
         }
 
         replies_so : (m : Machine) → new.parts.tables.log
-            ≡ log_with (replies (with_all_parts held old m).processes (death pid (with_all_parts held old m)).answers) old.parts.tables.log
+            ≡ log_with (replies (with_all_parts S.held old m).processes (death pid (with_all_parts S.held old m)).answers) old.parts.tables.log
         unfolding with_all_parts with_parts with_tables
         replies_so m = gone.log ∙ ap (λ answers. log_with (replies n answers) old.parts.tables.log) (told_so m)
 
-        pub died : Dies held pid old new
+        pub died : Dies S.held pid old new
         died m = record { machine = machine_so m; replies = replies_so m }
 
-        pub died_sound : IsMemorySound slot_count new.parts.mem → made_for new.procs ≡ made_for old.procs → AreOpen (loans l) after.servers queues
-            → AreAllSound slot_count held new
+        pub died_sound : IsMemorySound S.slot_count new.parts.mem → made_for new.procs ≡ made_for old.procs → AreOpen (loans l) after.servers queues
+            → AreAllSound S new
         died_sound memory procs_same now_open = record {
           machine = disarmed_with pid old.claims sound.machine;
           matched = subst Matched (sym (machine_so sound.machine)) (death_matched m0 sound.matched pid);
@@ -263,8 +264,8 @@ module _ {W : Type 0} (slot_count : W → ℕ) (held : W → Held) (pid : Pid) (
           procs = procs_same ∙ sound.procs ∙ sym same_size;
           seats = subst (λ (t : Servers). AreSeatsSound (servers_of t) new.parts.tables.queues) (sym servers_are)
               (subst (AreSeatsSound (servers_of after.servers)) (sym queues_are) now_open.seats);
-          loans = subst (λ (t : Servers). AreLoansSound (loans (ledger held new.parts.mem)) (servers_of t) new.parts.tables.queues) (sym servers_are)
-              (subst (AreLoansSound (loans (ledger held new.parts.mem)) (servers_of after.servers)) (sym queues_are)
+          loans = subst (λ (t : Servers). AreLoansSound (loans (ledger S.held new.parts.mem)) (servers_of t) new.parts.tables.queues) (sym servers_are)
+              (subst (AreLoansSound (loans (ledger S.held new.parts.mem)) (servers_of after.servers)) (sym queues_are)
               (subst (λ (all : Loans). AreLoansSound all (servers_of after.servers) queues) (sym same_loans)
               (open_loans (loans l) after.servers queues now_open)));
         }
@@ -272,5 +273,5 @@ module _ {W : Type 0} (slot_count : W → ℕ) (held : W → Held) (pid : Pid) (
             same_size : processes new.parts.mem ≡ processes old.parts.mem
             same_size = ap (λ (z : Size). z.procs) gone.size
 
-            same_loans : loans (ledger held new.parts.mem) ≡ loans l
+            same_loans : loans (ledger S.held new.parts.mem) ≡ loans l
             same_loans = ap loans gone.ledger ∙ forget_loans pid l (record { not_lent = no_loan.lender })

@@ -12,7 +12,8 @@ use Rattle.rv32_words.specs.declared.insn.Insn.{Insn}
 use Rattle.rv32_words.specs.declared.insn.Insn.TheVariants.{Lui, Auipc, Jal, Jalr, Beq, Bne, Blt, Bge, Bltu, Bgeu, Lb, Lh, Lw, Lbu, Lhu, Sb, Sh, Sw, Addi, Slti, Sltiu, Xori, Ori, Andi, Slli, Srli, Srai, Add, Sub, Sll, Slt, Sltu, Xor, Srl, Sra, Or, And, Mul, Mulh, Mulhsu, Mulhu, Div, Divu, Rem, Remu, Fence, FenceI, Ecall, Ebreak}
 use Rattle.rv32_words.specs.Reading.{insn_at}
 use Rattle.machine_model.specs.Hart.Atomics.{Atomic, LoadReserved, StoreConditional, Amo, atomic_at, execute, execute_at, is_reserved, leaving, operates, perform, result_of, stores_conditionally}
-use Rattle.machine_model.specs.Hart.Instructions.{Executed, Next, Stores, StoresToConsole, StoresToTimer, CallsKernel, Traps, x, as_word, sum_of, signed_below, following, address_of, jumps, branches, loads, puts, stores, effect, effect_if_any, execute_base, sign_extended_byte, sign_extended_half, target_misaligned, load_misaligned, load_page_fault, store_misaligned, store_page_fault, fetch_page_fault, writes}
+use Rattle.machine_model.specs.Hart.Instructions.{Executed, Next, Stores, StoresToConsole, StoresToTimer, CallsKernel, Traps, x, as_word, sum_of, signed_below, following, address_of, jumps, branches, loads, puts, stores, effect, effect_if_any, execute_base, sign_extended_byte, sign_extended_half, target_misaligned}
+use Rattle.machine_model.specs.Hart.Instructions.{load_misaligned, load_page_fault, store_misaligned, store_page_fault, fetch_page_fault, writes}
 
 -- the pc afterwards; 0 where the instruction doesn't tell it
 abbrev pub pc_after : Executed → ℕ

@@ -100,7 +100,11 @@ unfolding told_from told_all words make receiver holder_of return_memory_call le
 after_lend = refl
 
 after_lend_mut : told_from (drop 1 orphan_row) (sent_to lending (words 1) (Some (record { 0 = 0x4_0000 }))) ≡ orphan_told
-unfolding told_from told_all words try_send_call any_free any_on_loan any_console any_lacks receiver holder_of return_memory_call lend end_loan killed death servers_closed closed any_server senders_queued_gone senders_held_gone end_loans orphan_loans forgotten forget lending after_all small_machine call call_settled settled least_below listed_below listed_ids count_below with_sid live_servers create_server_call connect_call receive_call increase_call create_call free_tid pages count_places place_at run is_free role_at lender_of first_place make
+unfolding told_from told_all words try_send_call any_free any_on_loan any_console any_lacks receiver holder_of return_memory_call lend
+    end_loan killed death servers_closed closed any_server senders_queued_gone senders_held_gone end_loans orphan_loans forgotten forget
+    lending after_all small_machine call call_settled settled least_below listed_below listed_ids count_below with_sid live_servers
+    create_server_call connect_call receive_call increase_call create_call free_tid pages count_places place_at run is_free role_at
+    lender_of first_place make
 after_lend_mut = refl
 
 pub lent_and_returned : told_all lend_row (after_all lend_begin (small_machine 2)) ≡ lend_told
@@ -115,5 +119,8 @@ unfolding told_all lending after_all small_machine call call_settled settled lea
 begun = refl
 
 pub sends_refused : told_all refusal_row (after_all lend_begin (small_machine 2)) ≡ refusal_told
-unfolding told_all try_send_call update_call map_call any_free any_used any_on_loan any_console any_lacks console_mapped reduce make_console lending after_all small_machine call call_settled settled least_below listed_below listed_ids count_below with_sid live_servers create_server_call connect_call receive_call increase_call create_call free_tid pages count_places place_at run is_free role_at lender_of first_place make
+unfolding told_all try_send_call update_call map_call any_free any_used any_on_loan any_console any_lacks console_mapped reduce make_console
+    lending after_all small_machine call call_settled settled least_below listed_below listed_ids count_below with_sid live_servers
+    create_server_call connect_call receive_call increase_call create_call free_tid pages count_places place_at run is_free role_at
+    lender_of first_place make
 sends_refused = refl

@@ -203,4 +203,5 @@ pub record LoanSpan (start : Machine) (moments : List Moment) (number : Number) 
 
 -- every number of every run from a state that is matched has such a span
 abbrev pub SpansHold : Type 0
-SpansHold = (start : Machine) (moments : List Moment) (number : Number) → Matched start → IsRun start moments → LoanSpan start moments number
+SpansHold = (start : Machine) (moments : List Moment) (number : Number) → Matched start → IsRun start moments
+    → LoanSpan start moments number

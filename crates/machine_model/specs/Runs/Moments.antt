@@ -29,6 +29,10 @@ pub record Moment : Type 0 where
   pub cause : Cause
   pub machine : Machine
 
+-- the moment that this cause leads to
+abbrev pub moment_of : Cause → Machine → Moment
+moment_of cause m = record { cause = cause; machine = caused cause m }
+
 -- each moment comes of the one before by its cause, the first of the start
 unfoldable pub IsRun : Machine → List Moment → Type 0
 IsRun start [] = ⊤

@@ -114,7 +114,10 @@ unfolding second_ledger lender_ledger listed_ledger lend write
 second_used_0 = used_place 3 second_ledger (window_at_receiver 0) (record { pid = record { 0 = 3 }; vpn = record { 0 = 0x2_0000 } }) refl refl refl refl
 
 second_is : IsSending (id_of 4 2) second_words one_queued second_server 3 second_ledger
-unfolding second_words second_server second_ledger call_by any_free any_on_loan any_console any_lacks run is_free send_call one_queued sent_step call_step lender_words lender_ledger receiver lend left_by coded_machine small_machine listed_ledger code step step_by actor memory_of reach role_at execute_at execute execute_base atomic_at insn_at call call_settled settled least_below listed_below listed_ids count_below with_sid live_servers create_server_call connect_call
+unfolding second_words second_server second_ledger call_by any_free any_on_loan any_console any_lacks run is_free send_call one_queued
+    sent_step call_step lender_words lender_ledger receiver lend left_by coded_machine small_machine listed_ledger code step step_by actor
+    memory_of reach role_at execute_at execute execute_base atomic_at insn_at call call_settled settled least_below listed_below listed_ids
+    count_below with_sid live_servers create_server_call connect_call
 second_is =
     record { turn = refl; makes = refl; there = refl; own = refl; one = refl; processes = refl; ledger = refl; passes = refl }
 
@@ -139,7 +142,10 @@ unfolding second_words two_queued left_by
 second_left = send_left (id_of 4 2) second_words [] one_queued 1 second_steps
 
 destroyed_told : IsToldAs (drop 5 destroy_row) two_queued
-unfolding told_by expected receive_call destroy_call destroyed closed any_server end_loans stored write zero_page two_queued second_words second_ledger one_queued sent_step call_step lender_words lender_ledger receiver lend left_by coded_machine small_machine listed_ledger code step step_by actor memory_of reach role_at execute_at execute execute_base atomic_at insn_at call call_settled settled least_below listed_below listed_ids count_below with_sid live_servers create_server_call connect_call
+unfolding told_by expected receive_call destroy_call destroyed closed any_server end_loans stored write zero_page two_queued second_words
+    second_ledger one_queued sent_step call_step lender_words lender_ledger receiver lend left_by coded_machine small_machine listed_ledger
+    code step step_by actor memory_of reach role_at execute_at execute execute_base atomic_at insn_at call call_settled settled least_below
+    listed_below listed_ids count_below with_sid live_servers create_server_call connect_call
 destroyed_told = refl
 
 pub server_destroyed : IsToldAs destroy_row (coded_machine 3)

@@ -91,7 +91,10 @@ unfolding lender_words queued left_by
 lender_left = send_left (id_of 3 2) lender_words [] (left_by server_made (coded_machine 2)) 0 lender_steps
 
 killed_told : IsToldAs (drop 3 queued_sender_row) queued
-unfolding told_by expected try_receive_call killed death servers_closed closed any_server senders_queued_gone senders_held_gone end_loans orphan_loans forgotten forget queued sent_step call_step lender_words receiver lend left_by coded_machine small_machine listed_ledger code step step_by actor memory_of reach role_at execute_at execute execute_base atomic_at insn_at call call_settled settled least_below listed_below listed_ids count_below with_sid live_servers create_server_call connect_call
+unfolding told_by expected try_receive_call killed death servers_closed closed any_server senders_queued_gone senders_held_gone end_loans
+    orphan_loans forgotten forget queued sent_step call_step lender_words receiver lend left_by coded_machine small_machine listed_ledger
+    code step step_by actor memory_of reach role_at execute_at execute execute_base atomic_at insn_at call call_settled settled least_below
+    listed_below listed_ids count_below with_sid live_servers create_server_call connect_call
 killed_told = refl
 
 pub queued_sender_killed : IsToldAs queued_sender_row (coded_machine 2)

@@ -69,7 +69,10 @@ unfolding homes lender_ledger listed_ledger lend write
 lender_free = free_place 4 homes lender_ledger (window_at_receiver 0) lender_covered refl refl refl
 
 lender_is : IsSending (id_of 3 2) lender_words (left_by three_connected (coded_machine 4)) lender_server 4 lender_ledger
-unfolding lender_words lender_server lender_ledger call_by any_free any_on_loan any_console any_lacks run is_free send_call create_call free_tid left_by coded_machine small_machine listed_ledger code step step_by actor memory_of reach role_at execute_at execute execute_base atomic_at insn_at call call_settled settled least_below listed_below listed_ids count_below with_sid live_servers create_server_call connect_call
+unfolding lender_words lender_server lender_ledger call_by any_free any_on_loan any_console any_lacks run is_free send_call create_call
+    free_tid left_by coded_machine small_machine listed_ledger code step step_by actor memory_of reach role_at execute_at execute
+    execute_base atomic_at insn_at call call_settled settled least_below listed_below listed_ids count_below with_sid live_servers
+    create_server_call connect_call
 lender_is =
     record { turn = refl; makes = refl; there = refl; own = refl; one = refl; processes = refl; ledger = refl; passes = refl }
 
@@ -118,7 +121,10 @@ unfolding second_ledger lender_ledger listed_ledger lend write
 second_used_0 = used_place 4 second_ledger (window_at_receiver 0) (record { pid = record { 0 = 3 }; vpn = record { 0 = 0x2_0000 } }) refl refl refl refl
 
 second_is : IsSending (id_of 4 2) second_words one_queued second_server 4 second_ledger
-unfolding second_words second_server second_ledger call_by any_free any_on_loan any_console any_lacks run is_free send_call one_queued sent_step call_step lender_words lender_ledger receiver lend create_call free_tid left_by coded_machine small_machine listed_ledger code step step_by actor memory_of reach role_at execute_at execute execute_base atomic_at insn_at call call_settled settled least_below listed_below listed_ids count_below with_sid live_servers create_server_call connect_call
+unfolding second_words second_server second_ledger call_by any_free any_on_loan any_console any_lacks run is_free send_call one_queued
+    sent_step call_step lender_words lender_ledger receiver lend create_call free_tid left_by coded_machine small_machine listed_ledger code
+    step step_by actor memory_of reach role_at execute_at execute execute_base atomic_at insn_at call call_settled settled least_below
+    listed_below listed_ids count_below with_sid live_servers create_server_call connect_call
 second_is =
     record { turn = refl; makes = refl; there = refl; own = refl; one = refl; processes = refl; ledger = refl; passes = refl }
 
@@ -171,7 +177,10 @@ unfolding third_ledger second_ledger lender_ledger listed_ledger lend write
 third_used_1 = used_place 4 third_ledger (window_at_receiver 1) (record { pid = record { 0 = 4 }; vpn = record { 0 = 0x2_0000 } }) refl refl refl refl
 
 third_is : IsSending (id_of 3 3) third_words two_queued third_server 4 third_ledger
-unfolding third_words third_server third_ledger call_by any_free any_on_loan any_console any_lacks run is_free send_call two_queued second_words second_ledger one_queued sent_step call_step lender_words lender_ledger receiver lend create_call free_tid left_by coded_machine small_machine listed_ledger code step step_by actor memory_of reach role_at execute_at execute execute_base atomic_at insn_at call call_settled settled least_below listed_below listed_ids count_below with_sid live_servers create_server_call connect_call
+unfolding third_words third_server third_ledger call_by any_free any_on_loan any_console any_lacks run is_free send_call two_queued
+    second_words second_ledger one_queued sent_step call_step lender_words lender_ledger receiver lend create_call free_tid left_by
+    coded_machine small_machine listed_ledger code step step_by actor memory_of reach role_at execute_at execute execute_base atomic_at
+    insn_at call call_settled settled least_below listed_below listed_ids count_below with_sid live_servers create_server_call connect_call
 third_is =
     record { turn = refl; makes = refl; there = refl; own = refl; one = refl; processes = refl; ledger = refl; passes = refl }
 
@@ -184,7 +193,10 @@ pub three_queued : Machine
 three_queued = (sent_step (id_of 3 3) third_words two_queued 2).machine
 
 third_tells : map what_of (sent_step (id_of 3 3) third_words two_queued 2).records ≡ expected third_lend_queued
-unfolding third_words expected sent_step call_step receiver lend two_queued second_words second_ledger one_queued lender_words lender_ledger create_call free_tid left_by coded_machine small_machine listed_ledger code step step_by actor memory_of reach role_at execute_at execute execute_base atomic_at insn_at call call_settled settled least_below listed_below listed_ids count_below with_sid live_servers create_server_call connect_call
+unfolding third_words expected sent_step call_step receiver lend two_queued second_words second_ledger one_queued lender_words lender_ledger
+    create_call free_tid left_by coded_machine small_machine listed_ledger code step step_by actor memory_of reach role_at execute_at
+    execute execute_base atomic_at insn_at call call_settled settled least_below listed_below listed_ids count_below with_sid live_servers
+    create_server_call connect_call
 third_tells = refl
 
 third_told : IsToldAs third_lend_queued two_queued
@@ -228,7 +240,11 @@ unfolding mover_ledger third_ledger second_ledger lender_ledger listed_ledger le
 mover_used_2 = used_place 4 mover_ledger (window_at_receiver 2) (record { pid = record { 0 = 3 }; vpn = record { 0 = 0x2_0001 } }) refl refl refl refl
 
 mover_is : IsSending (id_of 5 2) mover_words three_queued mover_server 4 mover_ledger
-unfolding mover_words mover_server mover_ledger call_by any_free any_on_loan any_console any_lacks run is_free send_call three_queued third_words third_ledger two_queued second_words second_ledger one_queued sent_step call_step lender_words lender_ledger receiver lend create_call free_tid left_by coded_machine small_machine listed_ledger code step step_by actor memory_of reach role_at execute_at execute execute_base atomic_at insn_at call call_settled settled least_below listed_below listed_ids count_below with_sid live_servers create_server_call connect_call
+unfolding mover_words mover_server mover_ledger call_by any_free any_on_loan any_console any_lacks run is_free send_call three_queued
+    third_words third_ledger two_queued second_words second_ledger one_queued sent_step call_step lender_words lender_ledger receiver lend
+    create_call free_tid left_by coded_machine small_machine listed_ledger code step step_by actor memory_of reach role_at execute_at
+    execute execute_base atomic_at insn_at call call_settled settled least_below listed_below listed_ids count_below with_sid live_servers
+    create_server_call connect_call
 mover_is =
     record { turn = refl; makes = refl; there = refl; own = refl; one = refl; processes = refl; ledger = refl; passes = refl }
 
@@ -241,7 +257,10 @@ pub all_queued : Machine
 all_queued = (sent_step (id_of 5 2) mover_words three_queued 3).machine
 
 mover_tells : map what_of (sent_step (id_of 5 2) mover_words three_queued 3).records ≡ expected move_queued
-unfolding mover_words expected sent_step call_step receiver lend three_queued third_words third_ledger two_queued second_words second_ledger one_queued lender_words lender_ledger create_call free_tid left_by coded_machine small_machine listed_ledger code step step_by actor memory_of reach role_at execute_at execute execute_base atomic_at insn_at call call_settled settled least_below listed_below listed_ids count_below with_sid live_servers create_server_call connect_call
+unfolding mover_words expected sent_step call_step receiver lend three_queued third_words third_ledger two_queued second_words second_ledger
+    one_queued lender_words lender_ledger create_call free_tid left_by coded_machine small_machine listed_ledger code step step_by actor
+    memory_of reach role_at execute_at execute execute_base atomic_at insn_at call call_settled settled least_below listed_below listed_ids
+    count_below with_sid live_servers create_server_call connect_call
 mover_tells = refl
 
 mover_told : IsToldAs move_queued three_queued
@@ -253,7 +272,12 @@ unfolding mover_words all_queued left_by
 mover_left = send_left (id_of 5 2) mover_words [] three_queued 3 mover_steps
 
 killed_told : IsToldAs (drop 9 server_killed_row) all_queued
-unfolding told_by expected receive_call killed death servers_closed closed any_server senders_queued_gone senders_held_gone end_loans orphan_loans forgotten forget stored write zero_page create_call free_tid all_queued mover_words mover_ledger give three_queued third_words third_ledger two_queued second_words second_ledger one_queued sent_step call_step lender_words lender_ledger receiver lend left_by coded_machine small_machine listed_ledger code step step_by actor memory_of reach role_at execute_at execute execute_base atomic_at insn_at call call_settled settled least_below listed_below listed_ids count_below with_sid live_servers create_server_call connect_call
+unfolding told_by expected receive_call killed death servers_closed closed any_server senders_queued_gone senders_held_gone end_loans
+    orphan_loans forgotten forget stored write zero_page create_call free_tid all_queued mover_words mover_ledger give three_queued
+    third_words third_ledger two_queued second_words second_ledger one_queued sent_step call_step lender_words lender_ledger receiver lend
+    left_by coded_machine small_machine listed_ledger code step step_by actor memory_of reach role_at execute_at execute execute_base
+    atomic_at insn_at call call_settled settled least_below listed_below listed_ids count_below with_sid live_servers create_server_call
+    connect_call
 killed_told = refl
 
 pub server_killed_told : IsToldAs server_killed_row (coded_machine 4)
@@ -273,14 +297,22 @@ killed_is =
     ∙ left_on move_queued (drop 9 server_killed_row) three_queued all_queued mover_left)))
 
 none_there_then : (left_by (drop 9 server_killed_row) all_queued).ledger.home (page_of (pid_of 2) 0x4000_3000) ≡ None
-unfolding receive_call killed death servers_closed closed any_server senders_queued_gone senders_held_gone end_loans orphan_loans forgotten forget stored write zero_page create_call free_tid all_queued mover_words mover_ledger give three_queued third_words third_ledger two_queued second_words second_ledger one_queued sent_step call_step lender_words lender_ledger receiver lend left_by coded_machine small_machine listed_ledger code step step_by actor memory_of reach role_at execute_at execute execute_base atomic_at insn_at call call_settled settled least_below listed_below listed_ids count_below with_sid live_servers create_server_call connect_call
+unfolding receive_call killed death servers_closed closed any_server senders_queued_gone senders_held_gone end_loans orphan_loans forgotten
+    forget stored write zero_page create_call free_tid all_queued mover_words mover_ledger give three_queued third_words third_ledger
+    two_queued second_words second_ledger one_queued sent_step call_step lender_words lender_ledger receiver lend left_by coded_machine
+    small_machine listed_ledger code step step_by actor memory_of reach role_at execute_at execute execute_base atomic_at insn_at call
+    call_settled settled least_below listed_below listed_ids count_below with_sid live_servers create_server_call connect_call
 none_there_then = refl
 
 pub none_there : server_killed.ledger.home (page_of (pid_of 2) 0x4000_3000) ≡ None
 none_there = ap (λ m. m.ledger.home (page_of (pid_of 2) 0x4000_3000)) killed_is ∙ none_there_then
 
 none_left_then : (left_by (drop 9 server_killed_row) all_queued).ledger.home (page_of (pid_of 5) 0x2000_0000) ≡ None
-unfolding receive_call killed death servers_closed closed any_server senders_queued_gone senders_held_gone end_loans orphan_loans forgotten forget stored write zero_page create_call free_tid all_queued mover_words mover_ledger give three_queued third_words third_ledger two_queued second_words second_ledger one_queued sent_step call_step lender_words lender_ledger receiver lend left_by coded_machine small_machine listed_ledger code step step_by actor memory_of reach role_at execute_at execute execute_base atomic_at insn_at call call_settled settled least_below listed_below listed_ids count_below with_sid live_servers create_server_call connect_call
+unfolding receive_call killed death servers_closed closed any_server senders_queued_gone senders_held_gone end_loans orphan_loans forgotten
+    forget stored write zero_page create_call free_tid all_queued mover_words mover_ledger give three_queued third_words third_ledger
+    two_queued second_words second_ledger one_queued sent_step call_step lender_words lender_ledger receiver lend left_by coded_machine
+    small_machine listed_ledger code step step_by actor memory_of reach role_at execute_at execute execute_base atomic_at insn_at call
+    call_settled settled least_below listed_below listed_ids count_below with_sid live_servers create_server_call connect_call
 none_left_then = refl
 
 pub none_left : server_killed.ledger.home (page_of (pid_of 5) 0x2000_0000) ≡ None

@@ -69,7 +69,10 @@ unfolding homes lender_ledger listed_ledger lend write
 lender_free = free_place 2 homes lender_ledger (window_at_receiver 0) lender_covered refl refl refl
 
 lender_is : IsSending (id_of 3 2) lender_words (left_by word_stored (coded_machine 2)) lender_server 2 lender_ledger
-unfolding lender_words lender_server lender_ledger call_by any_free any_on_loan any_console any_lacks run is_free send_call receive_call create_call free_tid stored write zero_page left_by coded_machine small_machine listed_ledger code step step_by actor memory_of reach role_at execute_at execute execute_base atomic_at insn_at call call_settled settled least_below listed_below listed_ids count_below with_sid live_servers create_server_call connect_call
+unfolding lender_words lender_server lender_ledger call_by any_free any_on_loan any_console any_lacks run is_free send_call receive_call
+    create_call free_tid stored write zero_page left_by coded_machine small_machine listed_ledger code step step_by actor memory_of reach
+    role_at execute_at execute execute_base atomic_at insn_at call call_settled settled least_below listed_below listed_ids count_below
+    with_sid live_servers create_server_call connect_call
 lender_is =
     record { turn = refl; makes = refl; there = refl; own = refl; one = refl; processes = refl; ledger = refl; passes = refl }
 
@@ -96,7 +99,10 @@ lender_left = send_left (id_of 3 2) lender_words [] (left_by word_stored (coded_
 -- ---- the rows of the lend
 
 returned_told : IsToldAs (drop 6 return_row) lent
-unfolding told_by expected holder_of return_memory_call end_loan lent sent_step call_step lender_words receiver lend receive_call create_call free_tid stored write zero_page left_by coded_machine small_machine listed_ledger code step step_by actor memory_of reach role_at execute_at execute execute_base atomic_at insn_at call call_settled settled least_below listed_below listed_ids count_below with_sid live_servers create_server_call connect_call
+unfolding told_by expected holder_of return_memory_call end_loan lent sent_step call_step lender_words receiver lend receive_call
+    create_call free_tid stored write zero_page left_by coded_machine small_machine listed_ledger code step step_by actor memory_of reach
+    role_at execute_at execute execute_base atomic_at insn_at call call_settled settled least_below listed_below listed_ids count_below
+    with_sid live_servers create_server_call connect_call
 returned_told = refl
 
 pub returned_row : IsToldAs return_row (coded_machine 2)
@@ -110,14 +116,20 @@ returned_is =
     ∙ left_on shared_lend (drop 6 return_row) (left_by word_stored (coded_machine 2)) lent lender_left
 
 word_then : number_at (memory_of (left_by (drop 6 return_row) lent) (pid_of 3)).byte 0x2000_0000 Word ≡ 0x5566_7788
-unfolding holder_of return_memory_call end_loan lent sent_step call_step lender_words receiver lend receive_call create_call free_tid stored write zero_page left_by coded_machine small_machine listed_ledger code step step_by actor memory_of reach role_at execute_at execute execute_base atomic_at insn_at call call_settled settled least_below listed_below listed_ids count_below with_sid live_servers create_server_call connect_call
+unfolding holder_of return_memory_call end_loan lent sent_step call_step lender_words receiver lend receive_call create_call free_tid stored
+    write zero_page left_by coded_machine small_machine listed_ledger code step step_by actor memory_of reach role_at execute_at execute
+    execute_base atomic_at insn_at call call_settled settled least_below listed_below listed_ids count_below with_sid live_servers
+    create_server_call connect_call
 word_then = refl
 
 pub word_after : number_at (memory_of after_return (pid_of 3)).byte 0x2000_0000 Word ≡ 0x5566_7788
 word_after = ap (λ m. number_at (memory_of m (pid_of 3)).byte 0x2000_0000 Word) returned_is ∙ word_then
 
 faulted : IsToldAs (drop 6 fault_row) lent
-unfolding told_by expected death servers_closed closed any_server senders_queued_gone senders_held_gone end_loans orphan_loans forgotten forget lent sent_step call_step lender_words receiver lend receive_call create_call free_tid stored write zero_page left_by coded_machine small_machine listed_ledger code step step_by actor memory_of reach role_at execute_at execute execute_base atomic_at insn_at call call_settled settled least_below listed_below listed_ids count_below with_sid live_servers create_server_call connect_call
+unfolding told_by expected death servers_closed closed any_server senders_queued_gone senders_held_gone end_loans orphan_loans forgotten
+    forget lent sent_step call_step lender_words receiver lend receive_call create_call free_tid stored write zero_page left_by
+    coded_machine small_machine listed_ledger code step step_by actor memory_of reach role_at execute_at execute execute_base atomic_at
+    insn_at call call_settled settled least_below listed_below listed_ids count_below with_sid live_servers create_server_call connect_call
 faulted = refl
 
 pub store_faults : IsToldAs fault_row (coded_machine 2)
@@ -146,7 +158,10 @@ unfolding homes mover_ledger listed_ledger lend write
 mover_free = free_place 2 homes mover_ledger (window_at_receiver 0) mover_covered refl refl refl
 
 mover_is : IsSending (id_of 3 2) mover_words (left_by word_stored (coded_machine 2)) mover_server 2 mover_ledger
-unfolding mover_words mover_server mover_ledger call_by any_free any_on_loan any_console any_lacks run is_free send_call receive_call create_call free_tid stored write zero_page left_by coded_machine small_machine listed_ledger code step step_by actor memory_of reach role_at execute_at execute execute_base atomic_at insn_at call call_settled settled least_below listed_below listed_ids count_below with_sid live_servers create_server_call connect_call
+unfolding mover_words mover_server mover_ledger call_by any_free any_on_loan any_console any_lacks run is_free send_call receive_call
+    create_call free_tid stored write zero_page left_by coded_machine small_machine listed_ledger code step step_by actor memory_of reach
+    role_at execute_at execute execute_base atomic_at insn_at call call_settled settled least_below listed_below listed_ids count_below
+    with_sid live_servers create_server_call connect_call
 mover_is =
     record { turn = refl; makes = refl; there = refl; own = refl; one = refl; processes = refl; ledger = refl; passes = refl }
 
@@ -173,7 +188,10 @@ mover_left = send_left (id_of 3 2) mover_words [] (left_by word_stored (coded_ma
 -- ---- the row of the move
 
 moved_told : IsToldAs (drop 6 move_row) given
-unfolding told_by expected given sent_step call_step mover_words receiver give receive_call create_call free_tid stored write zero_page left_by coded_machine small_machine listed_ledger code step step_by actor memory_of reach role_at execute_at execute execute_base atomic_at insn_at call call_settled settled least_below listed_below listed_ids count_below with_sid live_servers create_server_call connect_call
+unfolding told_by expected given sent_step call_step mover_words receiver give receive_call create_call free_tid stored write zero_page
+    left_by coded_machine small_machine listed_ledger code step step_by actor memory_of reach role_at execute_at execute execute_base
+    atomic_at insn_at call call_settled settled least_below listed_below listed_ids count_below with_sid live_servers create_server_call
+    connect_call
 moved_told = refl
 
 pub moved_row : IsToldAs move_row (coded_machine 2)

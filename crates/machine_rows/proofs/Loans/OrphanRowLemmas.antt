@@ -68,7 +68,10 @@ unfolding homes lender_ledger listed_ledger lend write
 lender_free = free_place 2 homes lender_ledger (window_at_receiver 0) lender_covered refl refl refl
 
 lender_is : IsSending (id_of 3 2) lender_words (left_by server_waits (coded_machine 2)) lender_server 2 lender_ledger
-unfolding lender_words lender_server lender_ledger call_by any_free any_on_loan any_console any_lacks run is_free send_call receive_call left_by coded_machine small_machine listed_ledger code step step_by actor memory_of reach role_at execute_at execute execute_base atomic_at insn_at call call_settled settled least_below listed_below listed_ids count_below with_sid live_servers create_server_call connect_call
+unfolding lender_words lender_server lender_ledger call_by any_free any_on_loan any_console any_lacks run is_free send_call receive_call
+    left_by coded_machine small_machine listed_ledger code step step_by actor memory_of reach role_at execute_at execute execute_base
+    atomic_at insn_at call call_settled settled least_below listed_below listed_ids count_below with_sid live_servers create_server_call
+    connect_call
 lender_is =
     record { turn = refl; makes = refl; there = refl; own = refl; one = refl; processes = refl; ledger = refl; passes = refl }
 
@@ -110,7 +113,10 @@ unfolding closing senders_queued_gone servers_closed closed
 closing_covered = covered_end homes _ _ (covered_end homes _ _ lent_covered)
 
 lender_at : lender_of 2 closing.ledger (window_at_receiver 0) ≡ Some lender_home
-unfolding homes lender_home closing killed death servers_closed closed any_server senders_queued_gone senders_held_gone end_loans orphan_loans forgotten forget lent sent_step call_step lender_words receiver lend receive_call left_by coded_machine small_machine listed_ledger code step step_by actor memory_of reach role_at execute_at execute execute_base atomic_at insn_at call call_settled settled least_below listed_below listed_ids count_below with_sid live_servers create_server_call connect_call
+unfolding homes lender_home closing killed death servers_closed closed any_server senders_queued_gone senders_held_gone end_loans
+    orphan_loans forgotten forget lent sent_step call_step lender_words receiver lend receive_call left_by coded_machine small_machine
+    listed_ledger code step step_by actor memory_of reach role_at execute_at execute execute_base atomic_at insn_at call call_settled
+    settled least_below listed_below listed_ids count_below with_sid live_servers create_server_call connect_call
 lender_at = lender_found 2 homes closing.ledger (window_at_receiver 0) lender_home closing_covered refl refl refl
 
 pub orphan : Orphan
@@ -125,11 +131,17 @@ orphan_by o =
     option_or (option_and_then (orphan_of_page (is_held_from (pid_of 3) closing)) (option_and_then closing.ledger.home o)) (closing.ledger.orphan (window_at_receiver 0))
 
 by_lender : dead.ledger.orphan (window_at_receiver 0) ≡ orphan_by (lender_of 2 closing.ledger (window_at_receiver 0))
-unfolding dead closing killed death servers_closed closed any_server senders_queued_gone senders_held_gone end_loans orphan_loans forgotten forget lent sent_step call_step lender_words receiver lend receive_call left_by coded_machine small_machine listed_ledger code step step_by actor memory_of reach role_at execute_at execute execute_base atomic_at insn_at call call_settled settled least_below listed_below listed_ids count_below with_sid live_servers create_server_call connect_call
+unfolding dead closing killed death servers_closed closed any_server senders_queued_gone senders_held_gone end_loans orphan_loans forgotten
+    forget lent sent_step call_step lender_words receiver lend receive_call left_by coded_machine small_machine listed_ledger code step
+    step_by actor memory_of reach role_at execute_at execute execute_base atomic_at insn_at call call_settled settled least_below
+    listed_below listed_ids count_below with_sid live_servers create_server_call connect_call
 by_lender = refl
 
 by_home : orphan_by (Some lender_home) ≡ Some orphan
-unfolding lender_home orphan closing killed death servers_closed closed any_server senders_queued_gone senders_held_gone end_loans orphan_loans forgotten forget lent sent_step call_step lender_words receiver lend receive_call left_by coded_machine small_machine listed_ledger code step step_by actor memory_of reach role_at execute_at execute execute_base atomic_at insn_at call call_settled settled least_below listed_below listed_ids count_below with_sid live_servers create_server_call connect_call
+unfolding lender_home orphan closing killed death servers_closed closed any_server senders_queued_gone senders_held_gone end_loans
+    orphan_loans forgotten forget lent sent_step call_step lender_words receiver lend receive_call left_by coded_machine small_machine
+    listed_ledger code step step_by actor memory_of reach role_at execute_at execute execute_base atomic_at insn_at call call_settled
+    settled least_below listed_below listed_ids count_below with_sid live_servers create_server_call connect_call
 by_home = refl
 
 -- the machine with that orphan
@@ -143,11 +155,18 @@ dead_is =
     (known_orphan dead.ledger (window_at_receiver 0) (Some orphan) (by_lender ∙ (ap orphan_by lender_at ∙ by_home)))
 
 gone_told : IsToldAs lender_killed lent
-unfolding told_by expected killed death servers_closed closed any_server senders_queued_gone senders_held_gone end_loans orphan_loans forgotten forget lent sent_step call_step lender_words receiver lend receive_call left_by coded_machine small_machine listed_ledger code step step_by actor memory_of reach role_at execute_at execute execute_base atomic_at insn_at call call_settled settled least_below listed_below listed_ids count_below with_sid live_servers create_server_call connect_call
+unfolding told_by expected killed death servers_closed closed any_server senders_queued_gone senders_held_gone end_loans orphan_loans
+    forgotten forget lent sent_step call_step lender_words receiver lend receive_call left_by coded_machine small_machine listed_ledger code
+    step step_by actor memory_of reach role_at execute_at execute execute_base atomic_at insn_at call call_settled settled least_below
+    listed_below listed_ids count_below with_sid live_servers create_server_call connect_call
 gone_told = refl
 
 stored_told : IsToldAs (drop 5 orphan_row) known
-unfolding told_by expected stored write holder_of return_memory_call end_loan orphan known dead killed death servers_closed closed any_server senders_queued_gone senders_held_gone end_loans orphan_loans forgotten forget lent sent_step call_step lender_words receiver lend receive_call left_by coded_machine small_machine listed_ledger code step step_by actor memory_of reach role_at execute_at execute execute_base atomic_at insn_at call call_settled settled least_below listed_below listed_ids count_below with_sid live_servers create_server_call connect_call
+unfolding told_by expected stored write holder_of return_memory_call end_loan orphan known dead killed death servers_closed closed
+    any_server senders_queued_gone senders_held_gone end_loans orphan_loans forgotten forget lent sent_step call_step lender_words receiver
+    lend receive_call left_by coded_machine small_machine listed_ledger code step step_by actor memory_of reach role_at execute_at execute
+    execute_base atomic_at insn_at call call_settled settled least_below listed_below listed_ids count_below with_sid live_servers
+    create_server_call connect_call
 stored_told = refl
 
 pub orphan_stored : IsToldAs orphan_row (coded_machine 2)

@@ -68,7 +68,10 @@ unfolding told_all lending words told_from
 told_since = refl
 
 told_then : told_from lending read_only_return (sent_to lending words (Some (window_place server.pid Message 0).vpn)) ≡ read_only_told
-unfolding told_from told_all words server receiver holder_of return_memory_call lend end_loan lending stored write zero_page reach after_all small_machine call call_settled settled least_below listed_below listed_ids count_below with_sid live_servers create_server_call connect_call receive_call increase_call create_call free_tid pages count_places place_at update_call any_free any_on_loan any_lacks reduce make run is_free role_at lender_of first_place
+unfolding told_from told_all words server receiver holder_of return_memory_call lend end_loan lending stored write zero_page reach after_all
+    small_machine call call_settled settled least_below listed_below listed_ids count_below with_sid live_servers create_server_call
+    connect_call receive_call increase_call create_call free_tid pages count_places place_at update_call any_free any_on_loan any_lacks
+    reduce make run is_free role_at lender_of first_place
 told_then = refl
 
 pub told : told_all read_only_row read_only_reduced ≡ read_only_told
@@ -87,7 +90,10 @@ unfolding after_all lending words after_from
 lent_since = refl
 
 lent_then : (regs : List ℕ) (pc value : ℕ) → store_in (after_from lending [] (sent_to lending words (Some (window_place server.pid Message 0).vpn))) regs pc value ≡ Traps store_page_fault 0x2000_0000
-unfolding after_from memory_of words server receiver lend lending stored write zero_page reach after_all small_machine call call_settled settled least_below listed_below listed_ids count_below with_sid live_servers create_server_call connect_call receive_call increase_call create_call free_tid pages count_places place_at update_call any_free any_on_loan any_lacks reduce make run is_free role_at lender_of first_place
+unfolding after_from memory_of words server receiver lend lending stored write zero_page reach after_all small_machine call call_settled
+    settled least_below listed_below listed_ids count_below with_sid live_servers create_server_call connect_call receive_call increase_call
+    create_call free_tid pages count_places place_at update_call any_free any_on_loan any_lacks reduce make run is_free role_at lender_of
+    first_place
 lent_then regs pc value = refl
 
 pub lent_traps : (regs : List ℕ) (pc value : ℕ) → store_in read_only_lent regs pc value ≡ Traps store_page_fault 0x2000_0000
@@ -99,7 +105,10 @@ unfolding after_all lending words after_from
 returned_since = refl
 
 returned_then : (regs : List ℕ) (pc value : ℕ) → store_in (after_from lending read_only_return (sent_to lending words (Some (window_place server.pid Message 0).vpn))) regs pc value ≡ Traps store_page_fault 0x2000_0000
-unfolding after_from memory_of words server receiver holder_of return_memory_call lend end_loan lending stored write zero_page reach after_all small_machine call call_settled settled least_below listed_below listed_ids count_below with_sid live_servers create_server_call connect_call receive_call increase_call create_call free_tid pages count_places place_at update_call any_free any_on_loan any_lacks reduce make run is_free role_at lender_of first_place
+unfolding after_from memory_of words server receiver holder_of return_memory_call lend end_loan lending stored write zero_page reach
+    after_all small_machine call call_settled settled least_below listed_below listed_ids count_below with_sid live_servers
+    create_server_call connect_call receive_call increase_call create_call free_tid pages count_places place_at update_call any_free
+    any_on_loan any_lacks reduce make run is_free role_at lender_of first_place
 returned_then regs pc value = refl
 
 pub returned_traps : (regs : List ℕ) (pc value : ℕ) → store_in read_only_returned regs pc value ≡ Traps store_page_fault 0x2000_0000
@@ -111,7 +120,10 @@ abbrev pub load_in : ℕ → ℕ → Machine → List ℕ → ℕ → ℕ → Ex
 load_in pid address m regs pc rd = loads (memory_of m (pid_of pid)) regs pc rd address Word (λ v. v)
 
 lent_load_then : (regs : List ℕ) (pc rd : ℕ) → load_in 2 0x4000_0000 (after_from lending [] (sent_to lending words (Some (window_place server.pid Message 0).vpn))) regs pc rd ≡ writes regs pc rd 0x1122_3344
-unfolding after_from memory_of words server receiver lend lending stored write zero_page reach after_all small_machine call call_settled settled least_below listed_below listed_ids count_below with_sid live_servers create_server_call connect_call receive_call increase_call create_call free_tid pages count_places place_at update_call any_free any_on_loan any_lacks reduce make run is_free role_at lender_of first_place
+unfolding after_from memory_of words server receiver lend lending stored write zero_page reach after_all small_machine call call_settled
+    settled least_below listed_below listed_ids count_below with_sid live_servers create_server_call connect_call receive_call increase_call
+    create_call free_tid pages count_places place_at update_call any_free any_on_loan any_lacks reduce make run is_free role_at lender_of
+    first_place
 lent_load_then regs pc rd = refl
 
 pub lent_loads : (regs : List ℕ) (pc rd : ℕ) → load_in 2 0x4000_0000 read_only_lent regs pc rd ≡ writes regs pc rd 0x1122_3344
@@ -119,7 +131,10 @@ lent_loads regs pc rd =
     ap (λ m. load_in 2 0x4000_0000 m regs pc rd) (lent_since ∙ ap (after_from lending []) comes) ∙ lent_load_then regs pc rd
 
 returned_load_then : (regs : List ℕ) (pc rd : ℕ) → load_in 3 0x2000_0000 (after_from lending read_only_return (sent_to lending words (Some (window_place server.pid Message 0).vpn))) regs pc rd ≡ writes regs pc rd 0x1122_3344
-unfolding after_from memory_of words server receiver holder_of return_memory_call lend end_loan lending stored write zero_page reach after_all small_machine call call_settled settled least_below listed_below listed_ids count_below with_sid live_servers create_server_call connect_call receive_call increase_call create_call free_tid pages count_places place_at update_call any_free any_on_loan any_lacks reduce make run is_free role_at lender_of first_place
+unfolding after_from memory_of words server receiver holder_of return_memory_call lend end_loan lending stored write zero_page reach
+    after_all small_machine call call_settled settled least_below listed_below listed_ids count_below with_sid live_servers
+    create_server_call connect_call receive_call increase_call create_call free_tid pages count_places place_at update_call any_free
+    any_on_loan any_lacks reduce make run is_free role_at lender_of first_place
 returned_load_then regs pc rd = refl
 
 pub returned_loads : (regs : List ℕ) (pc rd : ℕ) → load_in 3 0x2000_0000 read_only_returned regs pc rd ≡ writes regs pc rd 0x1122_3344

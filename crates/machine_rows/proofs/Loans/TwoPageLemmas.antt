@@ -117,21 +117,30 @@ pub second_stores : (regs : List ℕ) (pc value : ℕ) → store_at 0x4000_1000 
 second_stores regs pc value = ap (λ m. store_at 0x4000_1000 (one m) regs pc value) lent_is ∙ second_then regs pc value
 
 returned_then : told_all two_pages_return (both there_now) ≡ two_pages_return_told
-unfolding told_all holder_of return_memory_call end_loan stored write zero_page there_now after_from memory_of reach words server receiver lend lending after_all small_machine call call_settled settled least_below listed_below listed_ids count_below with_sid live_servers create_server_call connect_call receive_call increase_call pages count_places place_at any_free any_on_loan any_lacks make run is_free role_at lender_of first_place
+unfolding told_all holder_of return_memory_call end_loan stored write zero_page there_now after_from memory_of reach words server receiver
+    lend lending after_all small_machine call call_settled settled least_below listed_below listed_ids count_below with_sid live_servers
+    create_server_call connect_call receive_call increase_call pages count_places place_at any_free any_on_loan any_lacks make run is_free
+    role_at lender_of first_place
 returned_then = refl
 
 pub returned : told_all two_pages_return both_written ≡ two_pages_return_told
 returned = ap (λ m. told_all two_pages_return (both m)) lent_is ∙ returned_then
 
 first_load_then : (regs : List ℕ) (pc rd : ℕ) → load_at 0x2000_0000 (after_all two_pages_return (both there_now)) regs pc rd ≡ writes regs pc rd 0x1122_3344
-unfolding holder_of return_memory_call end_loan stored write zero_page there_now after_from memory_of reach words server receiver lend lending after_all small_machine call call_settled settled least_below listed_below listed_ids count_below with_sid live_servers create_server_call connect_call receive_call increase_call pages count_places place_at any_free any_on_loan any_lacks make run is_free role_at lender_of first_place
+unfolding holder_of return_memory_call end_loan stored write zero_page there_now after_from memory_of reach words server receiver lend
+    lending after_all small_machine call call_settled settled least_below listed_below listed_ids count_below with_sid live_servers
+    create_server_call connect_call receive_call increase_call pages count_places place_at any_free any_on_loan any_lacks make run is_free
+    role_at lender_of first_place
 first_load_then regs pc rd = refl
 
 pub first_loads : (regs : List ℕ) (pc rd : ℕ) → load_at 0x2000_0000 two_pages_returned regs pc rd ≡ writes regs pc rd 0x1122_3344
 first_loads regs pc rd = ap (λ m. load_at 0x2000_0000 (after_all two_pages_return (both m)) regs pc rd) lent_is ∙ first_load_then regs pc rd
 
 second_load_then : (regs : List ℕ) (pc rd : ℕ) → load_at 0x2000_1000 (after_all two_pages_return (both there_now)) regs pc rd ≡ writes regs pc rd 0x5566_7788
-unfolding holder_of return_memory_call end_loan stored write zero_page there_now after_from memory_of reach words server receiver lend lending after_all small_machine call call_settled settled least_below listed_below listed_ids count_below with_sid live_servers create_server_call connect_call receive_call increase_call pages count_places place_at any_free any_on_loan any_lacks make run is_free role_at lender_of first_place
+unfolding holder_of return_memory_call end_loan stored write zero_page there_now after_from memory_of reach words server receiver lend
+    lending after_all small_machine call call_settled settled least_below listed_below listed_ids count_below with_sid live_servers
+    create_server_call connect_call receive_call increase_call pages count_places place_at any_free any_on_loan any_lacks make run is_free
+    role_at lender_of first_place
 second_load_then regs pc rd = refl
 
 pub second_loads : (regs : List ℕ) (pc rd : ℕ) → load_at 0x2000_1000 two_pages_returned regs pc rd ≡ writes regs pc rd 0x5566_7788

@@ -1,4 +1,5 @@
 -- ForwardMessage by its row: each of its refusals, and what it does.
+use Rattle.xk_ports.specs.declared.store.SwapStore.{Ghosts as SwapStore}
 use Rattle.std.proofs.Common.{◌≡◌, ℕ, ◌<◌, Bool, true, false, List, length, map, Option, Some, None, refl, sym, ap, ◌∙◌, arith}
 use Rattle.std.specs.Prelude.{◌==◌, ◌&&◌, is_none, is_some, nat_eq, unwrap_or, if◌then◌else◌}
 use Rattle.std.specs.Option.{option_and_then, option_map, option_map_or}
@@ -75,16 +76,16 @@ abbrev refused_by : Bool → Bool → Bool → Bool → Outcome → Outcome
 refused_by a b c d outcome =
     refused_or (if a then Some DoubleFree else (if b then Some ServerNotFound else (if c then Some InvalidSyscall else (if d then Some ServerQueueFull else None)))) outcome
 
-module _ {W : Type 0} (slot_count : W → ℕ) (held : W → HeldBytes) (procs : Processes) (who : ThreadId) (old : Parts W)
-    (sound : IsSound slot_count held who old) (ready : is_table_ready (threads_of old.tables.threads who) ≡ true) (number : Number) (cid : ℕ) where
+module _ {W : Type 0} (S : SwapStore W) (procs : Processes) (who : ThreadId) (old : Parts W)
+    (sound : IsSound S who old) (ready : is_table_ready (threads_of old.tables.threads who) ≡ true) (number : Number) (cid : ℕ) where
   abbrev seats : List Seat
   seats = old.tables.queues
 
   abbrev m0 : Machine
-  m0 = with_parts held who old sound.machine
+  m0 = with_parts S.held who old sound.machine
 
   abbrev all : Machine → Machine
-  all m = with_all held who procs old m
+  all m = with_all S.held who procs old m
 
   abbrev own : List Serial
   own = connections_of (processes_of procs who.pid.0)
@@ -97,10 +98,10 @@ module _ {W : Type 0} (slot_count : W → ℕ) (held : W → HeldBytes) (procs :
 
   -- what the words name is the same, whatever the rest of the machine is
   passable_is : (m : Machine) → passable (all m) number ≡ held_by_caller m0 test
-  passable_is m = ap (held_by_caller (all m)) same_test ∙ held_alike slot_count held who old sound ready number (with_processes procs m) test
+  passable_is m = ap (held_by_caller (all m)) same_test ∙ held_alike S who old sound ready number (with_processes procs m) test
 
   from_is : (m : Machine) → passed_from (all m) number ≡ holder_of m0 test
-  from_is m = ap (holder_of (all m)) same_test ∙ holder_alike slot_count held who old sound ready number (with_processes procs m) test
+  from_is m = ap (holder_of (all m)) same_test ∙ holder_alike S who old sound ready number (with_processes procs m) test
 
   to_is : (m : Machine) → passed_to (all m) cid ≡ connected_to own cid
   unfolding with_parts with_tables
@@ -141,10 +142,10 @@ module _ {W : Type 0} (slot_count : W → ℕ) (held : W → HeldBytes) (procs :
     b = server_with (seat_of seats to.seat) there.seat.server
 
     passable_there : (m : Machine) → passable (all m) number ≡ Some x
-    passable_there m = passable_is m ∙ its_kind slot_count held who old sound ready number at its goes_on can
+    passable_there m = passable_is m ∙ its_kind S who old sound ready number at its goes_on can
 
     from_there : (m : Machine) → passed_from (all m) number ≡ Some (serial_of at.serial.0)
-    from_there m = from_is m ∙ its_holder slot_count held who old sound ready number at its goes_on can
+    from_there m = from_is m ∙ its_holder S who old sound ready number at its goes_on can
 
     to_there : (m : Machine) → passed_to (all m) cid ≡ Some to.serial
     to_there m = to_is m ∙ there.connected
@@ -202,13 +203,13 @@ module _ {W : Type 0} (slot_count : W → ℕ) (held : W → HeldBytes) (procs :
             λ i. refused_by (is_none (passable_there m i)) (is_none (server_is m i)) (are_two m i) ((ap is_full (server_is m) ∙ not_full) i) (rest (all m))
 
         abbrev run_found : Option Vpn
-        run_found = least_run (processes old.mem) (ledger held old.mem) to.pid MessageWindow x.count
+        run_found = least_run (processes old.mem) (ledger S.held old.mem) to.pid MessageWindow x.count
 
         arrival_is : (m : Machine) → next_arrival (all m) number cid ≡ run_found
         unfolding next_arrival with_parts with_tables
         arrival_is m =
             (λ i. option_and_then (message_run (all m) (option_map_or (λ (message : Message). message.count) (passable_there m i) 0)) (server_is m i))
-            ∙ (λ i. least_run (sound.processes i) (ledger held old.mem) (there.own i) MessageWindow x.count)
+            ∙ (λ i. least_run (sound.processes i) (ledger S.held old.mem) (there.own i) MessageWindow x.count)
 
         pub no_run : run_found ≡ None → (m : Machine) → forward_row number cid (all m) ≡ Refused MemoryInUse
         no_run none m =
@@ -236,7 +237,7 @@ module _ {W : Type 0} (slot_count : W → ℕ) (held : W → HeldBytes) (procs :
 
           -- the pages go from their places at the holder to those at the other server
           abbrev pub l : Ledger
-          l = pass number (record { pid = who.pid; vpn = x.first }) (record { pid = to.pid; vpn = first }) (ledger held old.mem)
+          l = pass number (record { pid = who.pid; vpn = x.first }) (record { pid = to.pid; vpn = first }) (ledger S.held old.mem)
 
           abbrev told : ThreadId → Option (List ℕ)
           told = both_answers (sender_gets (message_words y) got) (answer_to who plain_words)
@@ -251,13 +252,13 @@ module _ {W : Type 0} (slot_count : W → ℕ) (held : W → HeldBytes) (procs :
           answered_too left = record left { answers = both_answers left.answers (answer_to who plain_words) }
 
           its_number : x.number ≡ number
-          its_number = message_number slot_count held who old sound ready number at its
+          its_number = message_number S who old sound ready number at its
 
           places_are : (m : Machine) → pass x.number (held_place (all m) x) (passed_place (all m) cid first) (all m).ledger ≡ l
           unfolding with_parts with_tables
           places_are m =
               λ i. pass (its_number i) (record { pid = who.pid; vpn = x.first })
-              (record { pid = (ap (λ o. option_map_or (λ (server : Server). server.pid) o who.pid) (server_is m) ∙ there.own) i; vpn = first }) (ledger held old.mem)
+              (record { pid = (ap (λ o. option_map_or (λ (server : Server). server.pid) o who.pid) (server_is m) ∙ there.own) i; vpn = first }) (ledger S.held old.mem)
 
           by_receiver : (o : Option ThreadId) (m : Machine)
               → answered_too (arrived o to.serial y m)
@@ -285,7 +286,7 @@ module _ {W : Type 0} (slot_count : W → ℕ) (held : W → HeldBytes) (procs :
             pub servers : new.tables.servers ≡ old.tables.servers
             pub queues : new.tables.queues ≡ changed_at to.seat (with_arrived got h) (changed_at at.seat (without_held_at number) seats)
             pub capacity : capacity_of new.mem ≡ capacity_of old.mem
-            pub ledger : ledger held new.mem ≡ l
+            pub ledger : ledger S.held new.mem ≡ l
 
           module _ (h : Held) (new : Parts W) (p : PassedOn h new) where
             abbrev between : List Seat
@@ -297,7 +298,7 @@ module _ {W : Type 0} (slot_count : W → ℕ) (held : W → HeldBytes) (procs :
             left_is : servers_shown old.tables.servers between ≡ left
             left_is =
                 server_changed old.tables.servers seats at.serial.0 at.seat its.seat sound.seats.all (without_held_at number) (without_held number)
-                (left_shown slot_count held who old sound ready number at its)
+                (left_shown S who old sound ready number at its)
 
             servers_are : servers_shown new.tables.servers new.tables.queues ≡ put_at nat_eq left to.serial.0 (option_map (arrived_shown got y) (left to.serial.0))
             servers_are =
@@ -307,10 +308,10 @@ module _ {W : Type 0} (slot_count : W → ℕ) (held : W → HeldBytes) (procs :
                 ∙ (λ i. put_at nat_eq (left_is i) to.serial.0 (option_map (arrived_shown got (p.message i)) (left_is i to.serial.0)))
 
             pub passed_on : (m : Machine)
-                → IsServed (forward_row number cid (all m)) (all m) (with_all held who procs new m) old.tables.log new.tables.log
+                → IsServed (forward_row number cid (all m)) (all m) (with_all S.held who procs new m) old.tables.log new.tables.log
             unfolding with_parts with_tables
             passed_on m =
-                served_so (all m) (next m) (with_all held who procs new m) told (forward_row number cid (all m)) old.tables.log new.tables.log
+                served_so (all m) (next m) (with_all S.held who procs new m) told (forward_row number cid (all m)) old.tables.log new.tables.log
                 (row_served m ∙ ap Served (change_is m))
                 (λ i. record (with_processes procs m) {
                   processes = p.counted i;

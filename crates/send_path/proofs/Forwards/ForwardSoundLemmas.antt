@@ -1,4 +1,5 @@
 -- What a forward asks of its parts, and what it leaves sound.
+use Rattle.xk_ports.specs.declared.store.SwapStore.{Ghosts as SwapStore}
 use Rattle.std.proofs.Common.{◌≡◌, ℕ, ◌+◌, ◌<◌, ◌≤◌, true, false, List, [], ◌∷◌, get_or, length, Option, Some, None, refl, sym, ap, subst, ◌∙◌}
 use Rattle.std.specs.Prelude.{◌≢◌, ◌==◌, is_some}
 use Rattle.std.proofs.lemmas.Bool.{and_parts, eq-eqb, false≢true}
@@ -62,37 +63,37 @@ stood_on {l} {m} {r} {q} e f h = subst (λ k. Stands (loans k) q) e (subst (Stan
 
 -- ---- matched still
 
-module _ {W : Type 0} (slot_count : W → ℕ) (held : W → HeldBytes) (who : ThreadId) (procs : Processes) (old : Parts W)
-    (sound : IsSoundOver slot_count held who procs old) (ready : is_table_ready (threads_of old.tables.threads who) ≡ true)
+module _ {W : Type 0} (S : SwapStore W) (who : ThreadId) (procs : Processes) (old : Parts W)
+    (sound : IsSoundOver S who procs old) (ready : is_table_ready (threads_of old.tables.threads who) ≡ true)
     (number : Number) (cid : ℕ) where
   abbrev m0 : Machine
   m0 = sound.sound.machine
 
-  matched_over : Matched (with_all held who procs old m0)
-  matched_over = subst Matched (λ i. with_parts held who old (record m0 { process = sound.same i })) sound.sound.matched
+  matched_over : Matched (with_all S.held who procs old m0)
+  matched_over = subst Matched (λ i. with_parts S.held who old (record m0 { process = sound.same i })) sound.sound.matched
 
-  forward_row_keeps : Keeps (with_all held who procs old m0) (forward_row number cid (with_all held who procs old m0))
+  forward_row_keeps : Keeps (with_all S.held who procs old m0) (forward_row number cid (with_all S.held who procs old m0))
   unfolding forward_call with_parts with_tables
   forward_row_keeps =
-      forward_keeps (with_all held who procs old m0) (0 ∷ number.0 ∷ cid ∷ []) matched_over (ready_there (threads_of old.tables.threads who) ready)
+      forward_keeps (with_all S.held who procs old m0) (0 ∷ number.0 ∷ cid ∷ []) matched_over (ready_there (threads_of old.tables.threads who) ready)
 
   pub still_matched : (new : Parts W)
-      → IsServed (forward_row number cid (with_all held who procs old m0)) (with_all held who procs old m0) (with_all held who procs new m0) old.tables.log new.tables.log
-      → Matched (with_parts held who new (record (with_processes procs m0) { steps = m0.steps + 1 }))
+      → IsServed (forward_row number cid (with_all S.held who procs old m0)) (with_all S.held who procs old m0) (with_all S.held who procs new m0) old.tables.log new.tables.log
+      → Matched (with_parts S.held who new (record (with_processes procs m0) { steps = m0.steps + 1 }))
   unfolding with_parts with_tables
   still_matched new served = subst (λ (x : Machine). Matched (record x { steps = m0.steps + 1 })) (sym served.machine) forward_row_keeps
 
 -- ---- the message and the two servers
 
-module _ {W : Type 0} (slot_count : W → ℕ) (held : W → HeldBytes) (procs : Processes) (who : ThreadId) (old : Parts W)
-    (sound : IsSound slot_count held who old) (ready : is_table_ready (threads_of old.tables.threads who) ≡ true) (number : Number)
+module _ {W : Type 0} (S : SwapStore W) (procs : Processes) (who : ThreadId) (old : Parts W)
+    (sound : IsSound S who old) (ready : is_table_ready (threads_of old.tables.threads who) ≡ true) (number : Number)
     (at : HeldAt) (its : IsHeldAt who.pid number (servers_of old.tables.servers) old.tables.queues at) (can : goes_on at.message ≡ true)
     (cid : ℕ) (to : Reached) (there : IsReached (connections_of (processes_of procs who.pid.0)) cid (servers_of old.tables.servers) to) where
   abbrev seats : List Seat
   seats = old.tables.queues
 
   abbrev all : Machine
-  all = with_parts held who old sound.machine
+  all = with_parts S.held who old sound.machine
 
   abbrev x : Message
   x = at.message
@@ -125,14 +126,14 @@ module _ {W : Type 0} (slot_count : W → ℕ) (held : W → HeldBytes) (procs :
 
   -- ---- the loan
 
-  module _ (run : LoanRun) (is : (shown slot_count held who old sound ready number at its).held.loan ≡ Some run) where
-    loan : IsLoanOf (loans (ledger held old.mem)) its.seat.server.pid x run
+  module _ (run : LoanRun) (is : (shown S who old sound ready number at its).held.loan ≡ Some run) where
+    loan : IsLoanOf (loans (ledger S.held old.mem)) its.seat.server.pid x run
     loan =
-        subst (λ message. IsLoanOf (loans (ledger held old.mem)) its.seat.server.pid message run)
-        (shown slot_count held who old sound ready number at its).message
-        (its_loan slot_count held who old sound ready number at its run is)
+        subst (λ message. IsLoanOf (loans (ledger S.held old.mem)) its.seat.server.pid message run)
+        (shown S who old sound ready number at its).message
+        (its_loan S who old sound ready number at its run is)
 
-    pub its_run_stands : Stands (loans (ledger held old.mem)) run
+    pub its_run_stands : Stands (loans (ledger S.held old.mem)) run
     its_run_stands = loan.stands
 
     pub its_count : run.count ≡ x.count
@@ -146,12 +147,12 @@ module _ {W : Type 0} (slot_count : W → ℕ) (held : W → HeldBytes) (procs :
         go (Some sender) q e = ap is_some e.1
 
     -- its step of the ledger is that of the row
-    pub pass_is : (first : Vpn) → pass run.number run.holder (record { pid = to.pid; vpn = first }) (ledger held old.mem)
-        ≡ pass number (record { pid = who.pid; vpn = x.first }) (record { pid = to.pid; vpn = first }) (ledger held old.mem)
+    pub pass_is : (first : Vpn) → pass run.number run.holder (record { pid = to.pid; vpn = first }) (ledger S.held old.mem)
+        ≡ pass number (record { pid = who.pid; vpn = x.first }) (record { pid = to.pid; vpn = first }) (ledger S.held old.mem)
     pass_is first =
         let own : its.seat.server.pid ≡ who.pid = λ i. record { 0 = its.own i } in
-        λ i. pass (loan_number slot_count held who old sound ready number at its run is i)
-        ((loan.first ∙ (λ j. record { pid = own j; vpn = x.first })) i) (record { pid = to.pid; vpn = first }) (ledger held old.mem)
+        λ i. pass (loan_number S who old sound ready number at its run is i)
+        ((loan.first ∙ (λ j. record { pid = own j; vpn = x.first })) i) (record { pid = to.pid; vpn = first }) (ledger S.held old.mem)
 
     -- ---- what is sound afterwards
 
@@ -179,14 +180,14 @@ module _ {W : Type 0} (slot_count : W → ℕ) (held : W → HeldBytes) (procs :
         place = record { pid = to.pid; vpn = first }
 
         abbrev after : Ledger
-        after = pass number (record { pid = who.pid; vpn = x.first }) place (ledger held old.mem)
+        after = pass number (record { pid = who.pid; vpn = x.first }) place (ledger S.held old.mem)
 
         pub has_loan_on : HasLoanIfLend h
         has_loan_on = ap is_some lent ∙ sym parts.0 ∙ ap (λ (z : Message). is_lend z.kind) (sym message)
 
         pub seats_on : AreSeatsSound (servers_of old.tables.servers) (changed_at to.seat (with_arrived got h) between)
         seats_on =
-            arrived_seats old.tables.servers between to.serial.0 to.seat (seats_left slot_count held who old sound ready number at its) there.seat got h has_loan_on
+            arrived_seats old.tables.servers between to.serial.0 to.seat (seats_left S who old sound ready number at its) there.seat got h has_loan_on
 
         its_loan_on : Stands (loans after) (with_holder place run) → IsLoanOf (loans after) there.seat.server.pid (with_first first x) (with_holder place run)
         its_loan_on stands = record {
@@ -202,8 +203,8 @@ module _ {W : Type 0} (slot_count : W → ℕ) (held : W → HeldBytes) (procs :
             → AreLoansSound (loans after) (servers_of old.tables.servers) (changed_at to.seat (with_arrived got h) between)
         loans_on stands =
             loans_arrived old.tables.servers between to.serial.0 to.seat there.seat counted (loans after)
-            (loans_left slot_count held who old sound ready number at its after
-            (passed_stand (ledger held old.mem) number (record { pid = who.pid; vpn = x.first }) place))
+            (loans_left S who old sound ready number at its after
+            (passed_stand (ledger S.held old.mem) number (record { pid = who.pid; vpn = x.first }) place))
             got h
             (λ other e. subst (IsLoanOf (loans after) there.seat.server.pid h.msg) (same_Some (with_holder place run) other (sym lent ∙ e))
             (subst (λ z. IsLoanOf (loans after) there.seat.server.pid z (with_holder place run)) (sym message) (its_loan_on stands)))

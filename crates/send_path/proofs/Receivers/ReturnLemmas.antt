@@ -1,4 +1,5 @@
 -- ReturnMemory, ReturnScalar1 and ReturnScalar2 by their rows, and what they leave sound.
+use Rattle.xk_ports.specs.declared.store.SwapStore.{Ghosts as SwapStore}
 use Rattle.std.proofs.Common.{◌≡◌, ℕ, zero, suc, ◌+◌, ◌<◌, ◌≤◌, Bool, true, false, List, [], ◌∷◌, ◌++◌, cond, drop, get_or, length, map, take, Option, Some, None, refl, sym, ap, subst, ◌∙◌, arith}
 use Rattle.std.specs.Prelude.{◌≢◌, ◌==◌, ◌&&◌, All, IfSome, find, is_none, is_some, nat_eq, not, unwrap_or, if◌then◌else◌}
 use Rattle.std.specs.List.{remove}
@@ -90,13 +91,13 @@ found_all : (P : Held → Type 0) (test : Held → Bool) (xs ys : List Held) (h 
 found_all P test [] ys h a e = found_one P test ys h a e
 found_all P test (x ∷ xs) ys h a e = found_all P test xs ys h (λ k d l. let low : k < length (xs ++ ys) = l in a (suc k) d (omega arith)) e
 
-module _ {W : Type 0} (slot_count : W → ℕ) (held : W → HeldBytes) (who : ThreadId) (old : Parts W) (sound : IsSound slot_count held who old)
+module _ {W : Type 0} (S : SwapStore W) (who : ThreadId) (old : Parts W) (sound : IsSound S who old)
     (ready : is_table_ready (threads_of old.tables.threads who) ≡ true) (number : Number) where
   abbrev seats : List Seat
   seats = old.tables.queues
 
   abbrev m0 : Machine
-  m0 = with_parts held who old sound.machine
+  m0 = with_parts S.held who old sound.machine
 
   abbrev of_it : Message → Bool
   of_it = is_of_number number
@@ -119,11 +120,11 @@ module _ {W : Type 0} (slot_count : W → ℕ) (held : W → HeldBytes) (who : T
   row_keeps words = scalar_keeps m0 (0 ∷ number.0 ∷ []) sound.matched caller_ready words
 
   -- the same server holds it, whatever the rest of the machine is
-  pub holder_alike : (m : Machine) (test : Message → Bool) → holder_of (with_parts held who old m) test ≡ holder_of m0 test
+  pub holder_alike : (m : Machine) (test : Message → Bool) → holder_of (with_parts S.held who old m) test ≡ holder_of m0 test
   unfolding with_parts with_tables holder_of
   holder_alike m test = refl
 
-  pub held_alike : (m : Machine) (test : Message → Bool) → held_by_caller (with_parts held who old m) test ≡ held_by_caller m0 test
+  pub held_alike : (m : Machine) (test : Message → Bool) → held_by_caller (with_parts S.held who old m) test ≡ held_by_caller m0 test
   unfolding with_parts with_tables holder_of
   held_alike m test = refl
 
@@ -248,10 +249,10 @@ module _ {W : Type 0} (slot_count : W → ℕ) (held : W → HeldBytes) (who : T
       pub servers : new.tables.servers ≡ old.tables.servers
       pub queues : new.tables.queues ≡ changed_at at.seat (without_held_at number) seats
       pub capacity : capacity_of new.mem ≡ capacity_of old.mem
-      pub ledger : ledger held new.mem ≡ l
+      pub ledger : ledger S.held new.mem ≡ l
 
     abbrev next : Machine → Ledger → Machine
-    next m l = record (change_server (serial_of k) (without_held number) (with_parts held who old m)) { ledger = l }
+    next m l = record (change_server (serial_of k) (without_held number) (with_parts S.held who old m)) { ledger = l }
 
     module _ (new : Parts W) (l : Ledger) (words : List ℕ) (g : GaveBack new l words) where
       left : servers_shown new.tables.servers new.tables.queues
@@ -261,10 +262,10 @@ module _ {W : Type 0} (slot_count : W → ℕ) (held : W → HeldBytes) (who : T
           ∙ server_changed old.tables.servers seats k at.seat its.seat sound.seats.all (without_held_at number) (without_held number) left_shown
 
       pub gave_back : (m : Machine) (row : Outcome) → row ≡ Served (answering (replied words) (next m l))
-          → IsServed row (with_parts held who old m) (with_parts held who new m) old.tables.log new.tables.log
+          → IsServed row (with_parts S.held who old m) (with_parts S.held who new m) old.tables.log new.tables.log
       unfolding with_parts with_tables
       gave_back m row is =
-          served_so (with_parts held who old m) (next m l) (with_parts held who new m) (replied words) row old.tables.log new.tables.log is
+          served_so (with_parts S.held who old m) (next m l) (with_parts S.held who new m) (replied words) row old.tables.log new.tables.log is
           (λ i. record m {
             processes = g.procs i;
             cursor = who;
@@ -301,12 +302,12 @@ module _ {W : Type 0} (slot_count : W → ℕ) (held : W → HeldBytes) (who : T
         (sym (ap (λ o. count_at of_it (option_map (λ (w : TableServer). server_with (seat_of seats w.seat) w) o)) e)
         ∙ none_elsewhere m0 sound.matched number (λ x. true) k server live own at.message found n ne)))
 
-    loans_kept : (l : Ledger) → ((run : LoanRun) → same_number run.number number ≡ false → Stands (loans (ledger held old.mem)) run → Stands (loans l) run)
+    loans_kept : (l : Ledger) → ((run : LoanRun) → same_number run.number number ≡ false → Stands (loans (ledger S.held old.mem)) run → Stands (loans l) run)
         → (pid : Pid) (hs : List Held) → All Others hs
-        → All (λ h. (run : LoanRun) → h.loan ≡ Some run → IsLoanOf (loans (ledger held old.mem)) pid h.msg run) hs
+        → All (λ h. (run : LoanRun) → h.loan ≡ Some run → IsLoanOf (loans (ledger S.held old.mem)) pid h.msg run) hs
         → All (λ h. (run : LoanRun) → h.loan ≡ Some run → IsLoanOf (loans l) pid h.msg run) hs
     loans_kept l keeps pid hs others all i d low run e =
-        let was : IsLoanOf (loans (ledger held old.mem)) pid (get_or hs i d).msg run = all i d low run e in
+        let was : IsLoanOf (loans (ledger S.held old.mem)) pid (get_or hs i d).msg run = all i d low run e in
         record {
           stands = keeps run (ap (λ (n : Number). same_number n number) was.number ∙ others i d low) was.stands;
           number = was.number;
@@ -316,7 +317,7 @@ module _ {W : Type 0} (slot_count : W → ℕ) (held : W → HeldBytes) (who : T
           lender = was.lender;
         }
 
-    pub loans_left : (l : Ledger) → ((run : LoanRun) → same_number run.number number ≡ false → Stands (loans (ledger held old.mem)) run → Stands (loans l) run)
+    pub loans_left : (l : Ledger) → ((run : LoanRun) → same_number run.number number ≡ false → Stands (loans (ledger S.held old.mem)) run → Stands (loans l) run)
         → AreLoansSound (loans l) (servers_of old.tables.servers) (changed_at at.seat (without_held_at number) seats)
     loans_left l keeps n v e = go (nat_eq n k) refl
       where
@@ -328,9 +329,9 @@ module _ {W : Type 0} (slot_count : W → ℕ) (held : W → HeldBytes) (who : T
             (sym (ap (seat_of (changed_at at.seat (without_held_at number) seats)) at_its
             ∙ seat_changed seats at.seat (without_held_at number) (seat_is_there old.tables.servers seats k at.seat its.seat sound.seats.all)))
             (loans_kept l keeps v.pid (messages_at (without_held_at number seat)) others_here
-            (removed_all (λ h. (run : LoanRun) → h.loan ≡ Some run → IsLoanOf (loans (ledger held old.mem)) v.pid h.msg run) seat.queued seat.held
+            (removed_all (λ h. (run : LoanRun) → h.loan ≡ Some run → IsLoanOf (loans (ledger S.held old.mem)) v.pid h.msg run) seat.queued seat.held
             (message_place number seat.held)
-            (subst (λ j. AreLoansAt (loans (ledger held old.mem)) v.pid (seat_of seats j)) at_its (sound.loans n v e))))
+            (subst (λ j. AreLoansAt (loans (ledger S.held old.mem)) v.pid (seat_of seats j)) at_its (sound.loans n v e))))
 
         there : n ≢ k → AreLoansAt (loans l) v.pid (seat_of (changed_at at.seat (without_held_at number) seats) v.seat)
         there ne =
@@ -344,11 +345,11 @@ module _ {W : Type 0} (slot_count : W → ℕ) (held : W → HeldBytes) (who : T
         go false q = there (λ same. false≢true (sym q ∙ eq-eqb n k same))
 
     -- the loan of the message
-    pub its_loan : (run : LoanRun) → shown.held.loan ≡ Some run → IsLoanOf (loans (ledger held old.mem)) its.seat.server.pid shown.held.msg run
+    pub its_loan : (run : LoanRun) → shown.held.loan ≡ Some run → IsLoanOf (loans (ledger S.held old.mem)) its.seat.server.pid shown.held.msg run
     its_loan =
-        found_all (λ h. (run : LoanRun) → h.loan ≡ Some run → IsLoanOf (loans (ledger held old.mem)) its.seat.server.pid h.msg run)
+        found_all (λ h. (run : LoanRun) → h.loan ≡ Some run → IsLoanOf (loans (ledger S.held old.mem)) its.seat.server.pid h.msg run)
         (λ h. of_it h.msg) seat.queued seat.held shown.held
-        (subst (λ j. AreLoansAt (loans (ledger held old.mem)) its.seat.server.pid (seat_of seats j)) its.seat.its (sound.loans k its.seat.server its.seat.live))
+        (subst (λ j. AreLoansAt (loans (ledger S.held old.mem)) its.seat.server.pid (seat_of seats j)) its.seat.its (sound.loans k its.seat.server its.seat.live))
         shown.is
 
     pub has_loan : is_some shown.held.loan ≡ is_lend at.message.kind
@@ -362,8 +363,8 @@ module _ {W : Type 0} (slot_count : W → ℕ) (held : W → HeldBytes) (who : T
     -- ---- matched still
 
     pub still_matched : (new : Parts W) (row : Outcome) → Keeps m0 row
-        → IsServed row m0 (with_parts held who new sound.machine) old.tables.log new.tables.log
-        → Matched (with_parts held who new (record sound.machine { steps = sound.machine.steps + 1 }))
+        → IsServed row m0 (with_parts S.held who new sound.machine) old.tables.log new.tables.log
+        → Matched (with_parts S.held who new (record sound.machine { steps = sound.machine.steps + 1 }))
     unfolding with_parts with_tables
     still_matched new row keeps served =
         subst (λ (x : Machine). Matched (record x { steps = sound.machine.steps + 1 })) (sym served.machine) keeps

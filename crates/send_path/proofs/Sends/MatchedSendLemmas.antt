@@ -1,4 +1,5 @@
 -- The machine in which a send takes place is matched, and so is what an accepted send leaves. What the calls of a send need of it.
+use Rattle.xk_ports.specs.declared.store.SwapStore.{Ghosts as SwapStore}
 use Rattle.std.proofs.Common.{◌≡◌, ℕ, ◌+◌, ◌≤◌, Bool, true, false, List, sym, ap, subst, ◌∙◌, arith}
 use Rattle.std.specs.Prelude.{◌==◌, ◌&&◌}
 use Rattle.std.specs.Option.{option_map_or}
@@ -24,14 +25,14 @@ use Rattle.send_path.specs.Sending.{with_next}
 use Rattle.send_path.specs.Sound.{IsAboveMessages, IsSoundOver}
 use Rattle.send_path.proofs.Rows.ThreadLemmas.{ready_there}
 
-module _ {W : Type 0} (slot_count : W → ℕ) (held : W → HeldBytes) (who : ThreadId) (procs : Processes) (number : Number) (old : Parts W)
-    (sound : IsSoundOver slot_count held who procs old) (above : IsAboveMessages number old.tables.servers old.tables.queues) where
+module _ {W : Type 0} (S : SwapStore W) (who : ThreadId) (procs : Processes) (number : Number) (old : Parts W)
+    (sound : IsSoundOver S who procs old) (above : IsAboveMessages number old.tables.servers old.tables.queues) where
   -- the rest of a machine of these parts, late enough for the number
   abbrev pub rest : Machine
   rest = record sound.sound.machine { steps = sound.sound.machine.steps + number.0 }
 
   abbrev pub m0 : Machine
-  m0 = with_parts held who old (with_next procs number.0 rest)
+  m0 = with_parts S.held who old (with_next procs number.0 rest)
 
   pub matched : Matched m0
   unfolding with_parts with_tables
@@ -55,7 +56,7 @@ module _ {W : Type 0} (slot_count : W → ℕ) (held : W → HeldBytes) (who : T
         };
       })
 
-  pub fresh : IsFresh (loans (ledger held old.mem)) number
+  pub fresh : IsFresh (loans (ledger S.held old.mem)) number
   unfolding with_parts with_tables
   fresh = number_is_fresh m0 matched number (let low : number.0 ≤ number.0 = omega arith in low)
 
@@ -76,8 +77,8 @@ module _ {W : Type 0} (slot_count : W → ℕ) (held : W → HeldBytes) (who : T
         go b e = e
 
     pub sent_matched : (new : Parts W)
-        → IsServed (send_call m0 w) m0 (with_parts held who new (with_next procs (number.0 + 1) rest)) old.tables.log new.tables.log
-        → Matched (with_parts held who new (record (with_next procs (number.0 + 1) rest) { steps = rest.steps + 1 }))
+        → IsServed (send_call m0 w) m0 (with_parts S.held who new (with_next procs (number.0 + 1) rest)) old.tables.log new.tables.log
+        → Matched (with_parts S.held who new (record (with_next procs (number.0 + 1) rest) { steps = rest.steps + 1 }))
     unfolding with_parts with_tables
     sent_matched new served =
         subst (λ (x : Machine). Matched (record x { steps = rest.steps + 1 })) (sym served.machine)

@@ -1,4 +1,5 @@
 -- What the tests of a send find in the parts, and which outcome in the machine that is.
+use Rattle.xk_ports.specs.declared.store.SwapStore.{Ghosts as SwapStore}
 use Rattle.std.proofs.Common.{◌≡◌, ℕ, ◌+◌, ◌/◌, ◌<◌, ◌≤◌, Bool, true, false, List, length, map, Option, Some, None, refl, sym, ap, subst, ◌∙◌, arith}
 use Rattle.std.specs.Prelude.{IfSome, ◌==◌, ◌&&◌, ◌||◌, ◌%◌, ◌≢◌, not, slice_index_or, Result, Ok, Err, if◌then◌else◌}
 use Rattle.std.proofs.lemmas.Bool.{eq-eqb, eqb-false, eqb-true, false≢true, or_parts}
@@ -93,13 +94,13 @@ other_error error f = λ e. false≢true (sym f ∙ ap (λ x. is_queue_full (Err
 shown_used : (seat : Seat) → length (map message_of seat.queued) + length (map message_of seat.held) ≡ used_of seat
 shown_used seat = λ i. length-map seat.queued message_of i + length-map seat.held message_of i
 
-module _ {W : Type 0} (slot_count : W → ℕ) (held : W → HeldBytes) (who : ThreadId) (procs : Processes) (number : Number) (old : Parts W)
-    (sound : IsSoundOver slot_count held who procs old) (above : IsAboveMessages number old.tables.servers old.tables.queues) (asked : Asked) where
+module _ {W : Type 0} (S : SwapStore W) (who : ThreadId) (procs : Processes) (number : Number) (old : Parts W)
+    (sound : IsSoundOver S who procs old) (above : IsAboveMessages number old.tables.servers old.tables.queues) (asked : Asked) where
   abbrev w : List ℕ
   w = asked_words asked
 
   abbrev M : Machine → Machine
-  M m = at_send held who procs number old m
+  M m = at_send S.held who procs number old m
 
   abbrev address : ℕ
   address = slice_index_or asked.words 0 0
@@ -109,7 +110,7 @@ module _ {W : Type 0} (slot_count : W → ℕ) (held : W → HeldBytes) (who : T
 
   pub no_server_row : IsUnreached (connections_of (processes_of procs who.pid.0)) asked.cid.0 (servers_of old.tables.servers) → (m : Machine)
       → send_call (M m) w ≡ Refused ServerNotFound
-  no_server_row none m = no_server (M m) w (unreached held who procs number old asked.cid.0 none m)
+  no_server_row none m = no_server (M m) w (unreached S.held who procs number old asked.cid.0 none m)
 
   module _ (to : Reached) (its : IsReached (connections_of (processes_of procs who.pid.0)) asked.cid.0 (servers_of old.tables.servers) to) where
     abbrev seat : Seat
@@ -117,12 +118,12 @@ module _ {W : Type 0} (slot_count : W → ℕ) (held : W → HeldBytes) (who : T
 
     pub no_kind_row : kind_at asked.kind ≡ None → (m : Machine) → send_call (M m) w ≡ Refused InvalidSyscall
     no_kind_row none m =
-        no_kind (M m) w (server held who procs number old asked.cid.0 to its sound.sound.seats.all)
-        (reached_there held who procs number old asked.cid.0 to its sound.sound.seats.all m) none
+        no_kind (M m) w (server S.held who procs number old asked.cid.0 to its sound.sound.seats.all)
+        (reached_there S.held who procs number old asked.cid.0 to its sound.sound.seats.all m) none
 
     module _ (kind : MsgKind) (named : kind_at asked.kind ≡ Some kind) where
       abbrev answer : ℕ → Result (Unit {0}) XousError
-      answer n = pages_answer n (ledger held old.mem) who.pid kind address size
+      answer n = pages_answer n (ledger S.held old.mem) who.pid kind address size
 
       answer_is : (r : Result (Unit {0}) XousError) → answer (processes old.mem) ≡ r → answer (process_count old.tables.threads) ≡ r
       answer_is r e = ap answer sound.sound.processes ∙ e
@@ -130,22 +131,22 @@ module _ {W : Type 0} (slot_count : W → ℕ) (held : W → HeldBytes) (who : T
       pub pages_row : (error : XousError) → answer (processes old.mem) ≡ Err error → (m : Machine) → send_call (M m) w ≡ Refused error
       unfolding with_parts with_tables
       pages_row error e m =
-          pages_refused (M m) w (server held who procs number old asked.cid.0 to its sound.sound.seats.all)
-          (reached_there held who procs number old asked.cid.0 to its sound.sound.seats.all m) kind named error (answer_is (Err error) e)
+          pages_refused (M m) w (server S.held who procs number old asked.cid.0 to its sound.sound.seats.all)
+          (reached_there S.held who procs number old asked.cid.0 to its sound.sound.seats.all m) kind named error (answer_is (Err error) e)
 
       pub pages_error : (error : XousError) → answer (processes old.mem) ≡ Err error → error ≢ ServerQueueFull
       pages_error error e = λ f.
           false≢true (sym (not_full (carries_pages kind && is_bad_range address size)
-          (carries_pages kind && any_free (processes old.mem) (ledger held old.mem) (page_of who.pid address) (size / 4096))
-          (carries_pages kind && any_not_sent (processes old.mem) (ledger held old.mem) (page_of who.pid address) (size / 4096) (is_lend_mut kind)))
+          (carries_pages kind && any_free (processes old.mem) (ledger S.held old.mem) (page_of who.pid address) (size / 4096))
+          (carries_pages kind && any_not_sent (processes old.mem) (ledger S.held old.mem) (page_of who.pid address) (size / 4096) (is_lend_mut kind)))
           ∙ ap is_queue_full (e ∙ ap Err f))
 
       module _ (passed : answer (processes old.mem) ≡ Ok tt) where
         pub full_row : used_of seat ≡ 128 → (m : Machine) → send_call (M m) w ≡ Retried
         unfolding with_parts with_tables
         full_row used m =
-            full (M m) w (server held who procs number old asked.cid.0 to its sound.sound.seats.all)
-            (reached_there held who procs number old asked.cid.0 to its sound.sound.seats.all m) kind named (answer_is (Ok tt) passed)
+            full (M m) w (server S.held who procs number old asked.cid.0 to its sound.sound.seats.all)
+            (reached_there S.held who procs number old asked.cid.0 to its sound.sound.seats.all m) kind named (answer_is (Ok tt) passed)
             (eq-eqb (length (map message_of seat.queued) + length (map message_of seat.held)) 128 (shown_used seat ∙ used))
 
         module _ (room : used_of seat < 128) where
@@ -160,61 +161,61 @@ module _ {W : Type 0} (slot_count : W → ℕ) (held : W → HeldBytes) (who : T
                   absurd (omega arith)
 
           abbrev place_at : ℕ → Option Vpn
-          place_at n = arrival_of n (ledger held old.mem) to.pid kind (size / 4096)
+          place_at n = arrival_of n (ledger S.held old.mem) to.pid kind (size / 4096)
 
           place_is : (m : Machine) (r : Option Vpn) → place_at (processes old.mem) ≡ r
-              → arrival_of (process_count old.tables.threads) (ledger held old.mem) its.seat.server.pid kind (size / 4096) ≡ r
+              → arrival_of (process_count old.tables.threads) (ledger S.held old.mem) its.seat.server.pid kind (size / 4096) ≡ r
           place_is m r e =
-              (λ i. arrival_of (sound.sound.processes i) (ledger held old.mem) (its.own i) kind (size / 4096)) ∙ e
+              (λ i. arrival_of (sound.sound.processes i) (ledger S.held old.mem) (its.own i) kind (size / 4096)) ∙ e
 
           pub no_run_row : place_at (processes old.mem) ≡ None → (m : Machine) → send_call (M m) w ≡ Refused MemoryInUse
           unfolding with_parts with_tables
           no_run_row none m =
-              no_run (M m) w (server held who procs number old asked.cid.0 to its sound.sound.seats.all)
-              (reached_there held who procs number old asked.cid.0 to its sound.sound.seats.all m) kind named (answer_is (Ok tt) passed) has_room
+              no_run (M m) w (server S.held who procs number old asked.cid.0 to its sound.sound.seats.all)
+              (reached_there S.held who procs number old asked.cid.0 to its sound.sound.seats.all m) kind named (answer_is (Ok tt) passed) has_room
               (place_is m None none)
 
           module _ (first : Vpn) (found : place_at (processes old.mem) ≡ Some first) where
             pub run_row : (m : Machine) → send_call (M m) w ≡ Served (sent (M m) kind w first)
             unfolding with_parts with_tables
             run_row m =
-                run_found (M m) w (server held who procs number old asked.cid.0 to its sound.sound.seats.all)
-                (reached_there held who procs number old asked.cid.0 to its sound.sound.seats.all m) kind named (answer_is (Ok tt) passed) has_room
+                run_found (M m) w (server S.held who procs number old asked.cid.0 to its sound.sound.seats.all)
+                (reached_there S.held who procs number old asked.cid.0 to its sound.sound.seats.all m) kind named (answer_is (Ok tt) passed) has_room
                 first (place_is m (Some first) found)
 
             module _ (carries : carries_pages kind ≡ true) where
-              least : least_run (processes old.mem) (ledger held old.mem) to.pid MessageWindow (size / 4096) ≡ Some first
+              least : least_run (processes old.mem) (ledger S.held old.mem) to.pid MessageWindow (size / 4096) ≡ Some first
               least =
-                  sym (ap (λ b. if b then least_run (processes old.mem) (ledger held old.mem) to.pid MessageWindow (size / 4096)
+                  sym (ap (λ b. if b then least_run (processes old.mem) (ledger S.held old.mem) to.pid MessageWindow (size / 4096)
                   else Some (record { 0 = 0 })) carries)
                   ∙ found
 
               parts : (carries_pages kind && is_bad_range address size ≡ false)
-                  × (carries_pages kind && any_free (processes old.mem) (ledger held old.mem) (page_of who.pid address) (size / 4096) ≡ false)
-                  × (carries_pages kind && any_not_sent (processes old.mem) (ledger held old.mem) (page_of who.pid address) (size / 4096) (is_lend_mut kind) ≡ false)
+                  × (carries_pages kind && any_free (processes old.mem) (ledger S.held old.mem) (page_of who.pid address) (size / 4096) ≡ false)
+                  × (carries_pages kind && any_not_sent (processes old.mem) (ledger S.held old.mem) (page_of who.pid address) (size / 4096) (is_lend_mut kind) ≡ false)
               parts =
                   all_passed (carries_pages kind && is_bad_range address size)
-                  (carries_pages kind && any_free (processes old.mem) (ledger held old.mem) (page_of who.pid address) (size / 4096))
-                  (carries_pages kind && any_not_sent (processes old.mem) (ledger held old.mem) (page_of who.pid address) (size / 4096) (is_lend_mut kind))
+                  (carries_pages kind && any_free (processes old.mem) (ledger S.held old.mem) (page_of who.pid address) (size / 4096))
+                  (carries_pages kind && any_not_sent (processes old.mem) (ledger S.held old.mem) (page_of who.pid address) (size / 4096) (is_lend_mut kind))
                   passed
 
               range : is_bad_range address size ≡ false
               range = second_false (carries_pages kind) (is_bad_range address size) parts.0 carries
 
               pub may_go : is_pid (processes old.mem) to.pid.0 ≡ true
-                  → MayGo (processes old.mem) (ledger held old.mem) kind (page_of who.pid address) (size / 4096) (record { pid = to.pid; vpn = first }) number
+                  → MayGo (processes old.mem) (ledger S.held old.mem) kind (page_of who.pid address) (size / 4096) (record { pid = to.pid; vpn = first }) number
               may_go pid = record {
                 some = some_pages address size range;
                 there = second_false (carries_pages kind)
-                    (any_free (processes old.mem) (ledger held old.mem) (page_of who.pid address) (size / 4096)) parts.1 carries;
+                    (any_free (processes old.mem) (ledger S.held old.mem) (page_of who.pid address) (size / 4096)) parts.1 carries;
                 sendable = second_false (carries_pages kind)
-                    (any_not_sent (processes old.mem) (ledger held old.mem) (page_of who.pid address) (size / 4096) (is_lend_mut kind)) parts.2 carries;
-                arrival = found_arrival (processes old.mem) (ledger held old.mem) to.pid (size / 4096) first pid least;
-                fresh = fresh slot_count held who procs number old sound above;
+                    (any_not_sent (processes old.mem) (ledger S.held old.mem) (page_of who.pid address) (size / 4096) (is_lend_mut kind)) parts.2 carries;
+                arrival = found_arrival (processes old.mem) (ledger S.held old.mem) to.pid (size / 4096) first pid least;
+                fresh = fresh S who procs number old sound above;
               }
 
               pub first_low : first.0 < 1048576
-              first_low = arrival_low (processes old.mem) (ledger held old.mem) to.pid (size / 4096) first least
+              first_low = arrival_low (processes old.mem) (ledger S.held old.mem) to.pid (size / 4096) first least
 
 -- ---- the loan of what is sent
 

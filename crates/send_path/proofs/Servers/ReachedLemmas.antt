@@ -1,4 +1,5 @@
 -- The caller's process, and the live server that a connection leads to: its process, its seat, and who is Receiving there.
+use Rattle.xk_ports.specs.declared.store.SwapStore.{Ghosts as SwapStore}
 use Rattle.std.proofs.Common.{◌≡◌, ℕ, ◌<◌, ◌≤◌, Bool, true, false, List, Option, Some, None, IsTrue, refl, sym, ap, ◌∙◌, arith}
 use Rattle.std.specs.Prelude.{◌==◌, ◌≢◌, ◌↔◌}
 use Rattle.std.specs.Option.{option_map, option_map_or}
@@ -65,8 +66,8 @@ arrival_low procs l pid n first found = let run = least_run-Some procs l pid Mes
 
 -- ---- the caller's process is there
 
-module _ {W : Type 0} (slot_count : W → ℕ) (held : W → HeldBytes) (who : ThreadId) (procs : Processes) (old : Parts W)
-    (sound : IsSoundOver slot_count held who procs old) (ready : is_table_ready (threads_of old.tables.threads who) ≡ true) where
+module _ {W : Type 0} (S : SwapStore W) (who : ThreadId) (procs : Processes) (old : Parts W)
+    (sound : IsSoundOver S who procs old) (ready : is_table_ready (threads_of old.tables.threads who) ≡ true) where
   caller_pid : is_pid (process_count old.tables.threads) who.pid.0 ≡ true
   caller_pid =
       (and_parts (is_pid (process_count old.tables.threads) who.pid.0) (is_tid who.tid.0) (ready_id old.tables.threads who ready)).0
@@ -87,10 +88,10 @@ receiving_then serial (table.Waiting number) e = absurd (false≢true e)
 receiving_then serial (table.Joining tid) e = absurd (false≢true e)
 receiving_then serial table.Idle e = absurd (false≢true e)
 
-module _ {W : Type 0} (slot_count : W → ℕ) (held : W → HeldBytes) (who : ThreadId) (old : Parts W) (sound : IsSound slot_count held who old)
+module _ {W : Type 0} (S : SwapStore W) (who : ThreadId) (old : Parts W) (sound : IsSound S who old)
     {connections : List Serial} {cid : ℕ} (to : Reached) (its : IsReached connections cid (servers_of old.tables.servers) to) where
   abbrev m0 : Machine
-  m0 = with_parts held who old sound.machine
+  m0 = with_parts S.held who old sound.machine
 
   abbrev server : MachineServer
   server = server_with (seat_of old.tables.queues to.seat) its.seat.server

@@ -14,7 +14,7 @@ use Rattle.machine_model.specs.Messaging.ReceiveCalls.{receive_call, try_receive
 use Rattle.machine_model.specs.Messaging.ReturnCalls.{return_scalar1_call, return_scalar2_call}
 use Rattle.machine_model.specs.Runs.LoanSpan.{is_send}
 use Rattle.machine_model.specs.Runs.Matched.{Matched}
-use Rattle.machine_model.specs.Runs.Moments.{ByStep}
+use Rattle.machine_model.specs.Runs.Moments.{ByStep, moment_of}
 use Rattle.machine_model.specs.State.Changes.{Outcome, Refused, Retried, Served, call_settled}
 use Rattle.machine_model.specs.State.Machine.{Machine}
 use Rattle.machine_model.specs.State.Order.{ready_at, turn}
@@ -22,7 +22,7 @@ use Rattle.machine_model.specs.Stepping.Acts.{is_call_served, is_served}
 use Rattle.machine_model.specs.Stepping.Step.{step}
 use Rattle.machine_model.proofs.Runs.KeptLemmas.{matched_at}
 use Rattle.machine_laws.proofs.Threading.ThreadStepLemmas.{actor_ready, turned_to}
-use Rattle.span_laws.specs.Fates.{Fate, moment_of}
+use Rattle.span_laws.specs.Fates.{Fate}
 use Rattle.span_laws.specs.Leaving.{Leaves}
 use Rattle.span_laws.proofs.Fates.CallTableLemmas.{LeavesAll, OfRows, OfServed, of_both, of_call}
 use Rattle.span_laws.proofs.Fates.DeathFateLemmas.{death_fate}

@@ -9,7 +9,7 @@ use Rattle.machine_model.specs.Ending.Closing.{any_server, closed, senders_held_
 use Rattle.machine_model.specs.Ending.Ends.{death, end_with_last_thread, forgotten, handler_ended, has_threads, thread_ended}
 use Rattle.machine_model.specs.Hart.Instructions.{CallsKernel, Executed, Next, Stores, StoresToConsole, StoresToTimer, Traps}
 use Rattle.machine_model.specs.Runs.Matched.{Matched}
-use Rattle.machine_model.specs.Runs.Moments.{ByIrq, ByKill, ByPick, ByStep, ByTurn, Cause, Moment, caused}
+use Rattle.machine_model.specs.Runs.Moments.{ByIrq, ByKill, ByPick, ByStep, ByTurn, Cause, Moment, caused, moment_of}
 use Rattle.machine_model.specs.State.Changes.{settled}
 use Rattle.machine_model.specs.State.Machine.{Claim, Idle, Machine, Thread}
 use Rattle.machine_model.specs.State.Order.{actor, turn}
@@ -25,7 +25,7 @@ use Rattle.machine_model.proofs.Runs.TimerLemmas.{pended_raised}
 use Rattle.machine_laws.proofs.Stepping.StepKindLemmas.{Executes, HandlerEnds, StepKind, ThreadEnds, acted_as_executed, is_call, kind_of}
 use Rattle.machine_laws.proofs.Threading.ThreadMoveLemmas.{matched_reserved}
 use Rattle.machine_laws.proofs.Threading.ThreadStepLemmas.{then_acted, turned_to}
-use Rattle.span_laws.specs.Fates.{AllHaveFates, Fate, HasFates, moment_of}
+use Rattle.span_laws.specs.Fates.{AllHaveFates, Fate, HasFates}
 use Rattle.span_laws.specs.Leaving.{Leaves}
 use Rattle.span_laws.proofs.Fates.CallFateLemmas.{call_fate, like_fate}
 use Rattle.span_laws.proofs.Fates.DeathFateLemmas.{death_fate}

@@ -13,7 +13,7 @@ use Rattle.machine_model.specs.Hart.Instructions.{Executed, Next, Stores, Stores
 use Rattle.machine_model.specs.Runs.Isolation.{IsOneStore}
 use Rattle.machine_model.specs.Runs.LoanSpan.{IsIn, IsInstructionOf, IsOut, page_bytes, page_name, right_of_name}
 use Rattle.machine_model.specs.Runs.Matched.{Matched}
-use Rattle.machine_model.specs.Runs.Moments.{ByStep, Moment}
+use Rattle.machine_model.specs.Runs.Moments.{ByStep, Moment, moment_of}
 use Rattle.machine_model.specs.State.Machine.{Machine, Thread}
 use Rattle.machine_model.specs.State.Order.{actor}
 use Rattle.machine_model.specs.State.Views.{stored, timer_set}
@@ -23,7 +23,7 @@ use Rattle.machine_model.proofs.Runs.SpanLemmas.{out_or_in}
 use Rattle.machine_laws.proofs.Executing.InstructionStepLemmas.{instruction_stores}
 use Rattle.machine_laws.proofs.Stepping.StepKindLemmas.{acted_as_executed, is_done}
 use Rattle.machine_laws.proofs.Threading.ThreadStepLemmas.{turned_to}
-use Rattle.span_laws.specs.Fates.{Fate, IsKept, moment_of}
+use Rattle.span_laws.specs.Fates.{Fate, IsKept}
 use Rattle.span_laws.specs.Leaving.{Leaves}
 use Rattle.span_laws.proofs.Fates.FateLemmas.{fate_in, fate_left, fate_out}
 use Rattle.span_laws.proofs.Fates.LikeLemmas.{step_like}

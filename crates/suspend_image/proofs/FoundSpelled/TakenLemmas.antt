@@ -9,7 +9,8 @@ use Rattle.byteorder.specs.Endian.{little_number}
 use Rattle.kernel_args.proofs.NumberLemmas.{IsBytes, IsBytes-take, IsBytes-right, word_split, number_lt}
 use Rattle.suspend_image.specs.Words.{word, word_bytes}
 use Rattle.suspend_image.specs.Reading.{Found, ◌>>=◌, word_at, word_in, word_if, four_at, rows_at, items_at}
-use Rattle.suspend_image.specs.Forms.{IsWithin, IsWord, IsField, AreInOrder, ArePlaced}
+use Rattle.suspend_image.specs.Forms.{IsWithin, IsWord, IsField, ArePlaced}
+use Rattle.state_rows.specs.Order.{AreInOrder}
 use Rattle.suspend_image.proofs.Sheets.SpellingLemmas.{word_bytes-nil, word_bytes-append}
 
 -- the value of a step that did not fail

@@ -3,9 +3,7 @@ use Rattle.std.proofs.Common.{◌≡◌, zero, suc, ◌≤◌, Bool, true, false
 use Rattle.std.specs.List.{find, AllByRecursion, Contains}
 use Rattle.std.specs.Option.{option_map, option_map_or}
 use Rattle.std.proofs.lemmas.Bool.{cases_Bool, both_ways}
-use Rattle.std.proofs.lemmas.List.{append-nil}
-use Rattle.std.proofs.lemmas.Grind.{flat_map-append}
-use Rattle.suspend_image.specs.StateBytes.{entry, entries}
+use Rattle.suspend_image.specs.StateBytes.{entries}
 
 abbrev pub some : {A : Type 0} → A → Option A
 some x = Some x
@@ -43,17 +41,6 @@ module _ {K V : Type 0} (f : K → Option V) where
       go : (o : Option V) → length (entries f keys) ≤ length keys → length (option_map_or (λ v. (k, v) ∷ []) o [] ++ entries f keys) ≤ length (k ∷ keys)
       go None few = omega (arith, few)
       go (Some v) few = omega (arith, few)
-
-  -- one more key, with what stands there and without
-  pub entries_more : (keys : List K) (k : K) (v : V) → f k ≡ Some v → entries f (keys ++ k ∷ []) ≡ entries f keys ++ (k, v) ∷ []
-  entries_more keys k v is =
-      flat_map-append (entry f) keys (k ∷ [])
-      ∙ ap (λ (o : Option V). entries f keys ++ (option_map_or (λ w. (k, w) ∷ []) o [] ++ [])) is
-
-  pub entries_none : (keys : List K) (k : K) → f k ≡ None → entries f (keys ++ k ∷ []) ≡ entries f keys
-  entries_none keys k none =
-      flat_map-append (entry f) keys (k ∷ []) ∙ ap (λ (o : Option V). entries f keys ++ (option_map_or (λ w. (k, w) ∷ []) o [] ++ [])) none
-      ∙ append-nil (entries f keys)
 
   -- ---- found again
 

@@ -12,9 +12,8 @@ use Rattle.xk_base.proofs.CountingLemmas.{listed_below-ascends}
 use Rattle.ledger_model.specs.Places.{listed_places, is_before}
 use Rattle.ledger_model.proofs.Loans.NumberingLemmas.{listed_places-ascends}
 use Rattle.suspend_image.specs.StateBytes.{entries}
-use Rattle.suspend_image.specs.Reading.{after, least_first, least_second}
-use Rattle.suspend_image.specs.Forms.{AreInOrder}
-use Rattle.suspend_image.proofs.Parts.Keys.KeyLemmas.{Less, either}
+use Rattle.state_rows.specs.Order.{after, least_first, least_second, AreInOrder}
+use Rattle.state_rows.proofs.KeyLemmas.{Less, either}
 use Rattle.suspend_image.proofs.Saved.RoomLemmas.{by_recursion}
 
 -- each is below all behind it

@@ -21,11 +21,11 @@ use Rattle.machine_model.specs.State.Machine.{Machine, Server, Thread}
 use Rattle.machine_model.specs.State.Servers.{messages_of}
 use Rattle.machine_model.specs.Runs.Matched.{Matched, IsSized, is_sent_as, waits_for, is_waiting_for}
 use Rattle.machine_model.proofs.Matching.CountLemmas.{none_pass}
-use Rattle.suspend_image.specs.declared.state.ServerRow.{ServerRow}
-use Rattle.suspend_image.specs.Rows.{server_key}
+use Rattle.state_rows.specs.declared.state.ServerRow.{ServerRow}
+use Rattle.state_rows.specs.Order.{server_key, AreInOrder}
 use Rattle.suspend_image.specs.Reading.{greatest}
-use Rattle.suspend_image.specs.Forms.{IsWord, IsWithin, IsField, IsMessageRow, IsServerRow, AreInOrder}
-use Rattle.suspend_image.specs.Machines.{message_of, server_of, servers_of, thread_at_id}
+use Rattle.suspend_image.specs.Forms.{IsWord, IsWithin, IsField, IsMessageRow, IsServerRow}
+use Rattle.state_rows.specs.Machines.{message_of, server_of, servers_of, thread_at_id}
 use Rattle.suspend_image.specs.SavedRows.{sender_pid, sender_tid, message_row, server_row}
 use Rattle.suspend_image.specs.StateBytes.{server_entries}
 use Rattle.suspend_image.specs.Saveable.{IsMessageSaveable, IsSaveable}
@@ -37,10 +37,6 @@ use Rattle.suspend_image.proofs.Saved.ThreadAgainLemmas.{word, IsId, id_bounds}
 pub field_there : (b : Bool) (least most number : ℕ) → b ≡ true → least ≤ number → number ≤ most → IsField b least most number
 field_there true least most number is low high = record { at_least = low; at_most = high }
 field_there false least most number is low high = absurd cc
-
-pub field_none : (b : Bool) (least most number : ℕ) → b ≡ false → number ≡ 0 → IsField b least most number
-field_none true least most number is zero = absurd cc
-field_none false least most number is zero = record { at_least = omega arith; at_most = omega (arith, zero) }
 
 pub isnt_zero : (k : ℕ) → 2 ≤ k → eqb k 0 ≡ false
 isnt_zero k low = ne_eqb k 0 (λ e. omega (arith, low, e))

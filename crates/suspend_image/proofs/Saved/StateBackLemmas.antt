@@ -1,8 +1,9 @@
 -- A file that spells a state in which the machine can be is the state bytes of that machine.
-use Rattle.std.proofs.Common.{◌≡◌, ℕ, zero, suc, ◌+◌, ◌-◌, ◌≤◌, ◌<◌, Bool, true, false, cond, eqb, ltb, List, [], ◌∷◌, ◌++◌, map, length, get_or, Some, None, refl, sym, ap, ◌∙◌, arith}
+use Rattle.std.proofs.Common.{◌≡◌, ℕ, zero, suc, ◌+◌, ◌-◌, ◌≤◌, ◌<◌, Bool, true, false, cond, eqb, ltb, List, [], ◌∷◌, ◌++◌, map, length, get_or, Some, None, refl, sym, ap, ◌∙◌, append_assoc, arith}
 use Rattle.std.specs.Prelude.{is_some, ◌&&◌}
 use Rattle.std.specs.List.{flat_map, AllByRecursion}
 use Rattle.std.proofs.lemmas.Bool.{eqb-true, eq-eqb, le-ltb}
+use Rattle.std.proofs.lemmas.List.{append-nil}
 use Rattle.xk_base.specs.declared.ids.Place.{Place}
 use Rattle.xk_base.specs.declared.windows.Window.TheVariants.{Message}
 use Rattle.xk_base.specs.Tables.Circle.{listed_ids, same_thread}
@@ -16,28 +17,56 @@ use Rattle.ledger_model.specs.Places.{same_place}
 use Rattle.ledger_model.proofs.Loans.NumberingLemmas.{listed_places-contains, is_place_in-user}
 use Rattle.machine_model.specs.State.Machine.{Machine}
 use Rattle.machine_model.specs.Runs.Matched.{Matched}
-use Rattle.suspend_image.specs.declared.state.State.{State}
-use Rattle.suspend_image.specs.declared.state.ProcRow.{ProcRow}
-use Rattle.suspend_image.specs.declared.state.ThreadRow.{ThreadRow}
-use Rattle.suspend_image.specs.declared.state.PageRow.{PageRow}
-use Rattle.suspend_image.specs.declared.state.OrphanRow.{OrphanRow}
+use Rattle.state_rows.specs.declared.state.State.{State}
+use Rattle.state_rows.specs.declared.state.ProcRow.{ProcRow}
+use Rattle.state_rows.specs.declared.state.ThreadRow.{ThreadRow}
+use Rattle.state_rows.specs.declared.state.PageRow.{PageRow}
+use Rattle.state_rows.specs.declared.state.OrphanRow.{OrphanRow}
 use Rattle.suspend_image.specs.Words.{word_bytes}
-use Rattle.suspend_image.specs.Rows.{thread_key, server_key, claim_key, page_key, orphan_key}
-use Rattle.suspend_image.specs.Reading.{least_first, least_second}
+use Rattle.state_rows.specs.Order.{thread_key, server_key, claim_key, page_key, orphan_key, least_first, least_second}
 use Rattle.suspend_image.specs.Spelling.{machine_bytes, proc_bytes, thread_bytes, server_bytes, claim_bytes, page_bytes, orphan_bytes, rows_bytes, parts_bytes, with_header, state_bytes}
 use Rattle.suspend_image.specs.Forms.{IsFlag, IsProcRow, IsThreadRow, IsServerRow, IsClaimRow, IsPageRow, IsOrphanRow, Spells}
-use Rattle.suspend_image.specs.Machines.{thread_at_id, place_at, process_of, no_process, processes_of, thread_of, server_of, claim_of, pending_of, ledger_page, ledger_orphan, machine_of}
+use Rattle.state_rows.specs.Machines.{thread_at_id, place_at, process_of, no_process, processes_of, thread_of, server_of, claim_of, pending_of, ledger_page, ledger_orphan, machine_of}
 use Rattle.suspend_image.specs.SavedRows.{machine_row, proc_row}
 use Rattle.suspend_image.specs.StateBytes.{pids, thread_entries, server_entries, claim_entries, page_entries, orphan_entries, saved_process, saved_thread, saved_server, saved_claim, saved_page, saved_orphan, saved_parts, saved_bytes}
-use Rattle.suspend_image.proofs.Parts.Keys.KeyLemmas.{Less, less_apart, less_through, less_behind}
-use Rattle.suspend_image.proofs.Parts.Keys.OrderLemmas.{pages_ascend, orphans_ascend}
+use Rattle.state_rows.proofs.KeyLemmas.{Less, less_apart, less_through, less_behind}
+use Rattle.suspend_image.proofs.OrderLemmas.{pages_ascend, orphans_ascend}
 use Rattle.suspend_image.proofs.Saved.AlikeLemmas.{rows_rise, rows_all, placed_all, table_same, rows_alike}
 use Rattle.suspend_image.proofs.Saved.EntryLemmas.{Has, has_of}
 use Rattle.suspend_image.proofs.Saved.PlacedAgainLemmas.{place_is, place_own}
 use Rattle.suspend_image.proofs.Saved.RiseLemmas.{Rises, id_key, place_key, numbers_rise, ids_rise, places_rise}
 use Rattle.suspend_image.proofs.Saved.RowBackLemmas.{timer_back, reserved_back, proc_back, thread_back, server_back, pending_each, claim_back, page_back, orphan_back}
-use Rattle.suspend_image.proofs.Saved.SavingLemmas.{listed_from, left_first}
 use Rattle.suspend_image.proofs.Saved.ThreadAgainLemmas.{id_is, id_own}
+
+-- ---- numbers in ascending order, from the first on
+
+-- the numbers from `k` on, so many of them, that pass the test
+abbrev listed_from : ℕ → ℕ → (ℕ → Bool) → List ℕ
+listed_from zero k test = []
+listed_from (suc count) k test = cond (test k) (k ∷ []) [] ++ listed_from count (k + 1) test
+
+listed_both : (count k : ℕ) (test : ℕ → Bool) → listed_below k test ++ listed_from count k test ≡ listed_below (k + count) test
+unfolding listed_below
+listed_both zero k test =
+    let same : k ≡ k + 0 = omega arith in
+    append-nil (listed_below k test) ∙ ap (λ (n : ℕ). listed_below n test) same
+listed_both (suc count) k test =
+    let next : suc k ≡ k + 1 = omega arith in
+    let same : suc k + count ≡ k + suc count = omega arith in
+    sym (append_assoc (listed_below k test) (cond (test k) (k ∷ []) []) (listed_from count (k + 1) test))
+    ∙ ap (λ (n : ℕ). listed_below (suc k) test ++ listed_from count n test) (sym next)
+    ∙ listed_both count (suc k) test ∙ ap (λ (n : ℕ). listed_below n test) same
+
+-- those below n that are still to come, from `k` on
+abbrev listed_left : ℕ → ℕ → (ℕ → Bool) → List ℕ
+listed_left n k test = listed_from (n - k) k test
+
+left_first : (n : ℕ) (test : ℕ → Bool) → listed_below n test ≡ listed_left n 0 test
+unfolding listed_below
+left_first n test =
+    let zero_off : n - 0 ≡ n = omega arith in
+    let none : 0 + n ≡ n = omega arith in
+    sym (ap (λ (c : ℕ). listed_from c 0 test) zero_off ∙ listed_both n 0 test ∙ ap (λ (c : ℕ). listed_below c test) none)
 
 -- ---- processes, from the first pid on
 

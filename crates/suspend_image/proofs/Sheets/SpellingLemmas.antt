@@ -1,19 +1,16 @@
 -- Bytes are appended to a sheet in pieces: what they are together, and that there is room for the next piece.
-use Rattle.std.proofs.Common.{◌≡◌, ℕ, ◌+◌, ◌*◌, ◌≤◌, ◌<◌, ◌^◌, cond, ltb, List, [], ◌∷◌, ◌++◌, length, take, get_or, refl, sym, ap, subst, ◌∙◌, append_assoc, arith, add-one}
+use Rattle.std.proofs.Common.{◌≡◌, ℕ, ◌+◌, ◌*◌, ◌≤◌, ◌<◌, List, [], ◌∷◌, ◌++◌, length, take, get_or, refl, sym, ap, subst, ◌∙◌, append_assoc, arith, add-one}
 use Rattle.std.specs.List.{flat_map}
 use Rattle.std.proofs.Math.Seq.{take-suc}
-use Rattle.std.proofs.lemmas.List.{length-append, append-nil, flat_map_more, take_all}
+use Rattle.std.proofs.lemmas.List.{length-append, append-nil, flat_map_more}
 use Rattle.std.proofs.lemmas.List.Concat.{flat_map-cons}
 use Rattle.std.proofs.lemmas.List.Folds.{length-flat_map-take}
 use Rattle.std.proofs.lemmas.Grind.{flat_map-append}
-use Rattle.suspend_image.specs.declared.state.ThreadRow.{ThreadRow}
-use Rattle.suspend_image.specs.declared.state.MessageRow.{MessageRow}
-use Rattle.suspend_image.specs.declared.state.ProcRow.{ProcRow}
-use Rattle.suspend_image.specs.declared.state.ServerRow.{ServerRow}
-use Rattle.suspend_image.specs.declared.state.ClaimRow.{ClaimRow}
-use Rattle.suspend_image.specs.declared.state.PageRow.{PageRow}
-use Rattle.suspend_image.specs.declared.state.OrphanRow.{OrphanRow}
-use Rattle.suspend_image.specs.Spelling.{proc_bytes, thread_bytes, message_bytes, server_bytes, claim_bytes, page_bytes, orphan_words, orphan_bytes, contents_at, rows_bytes}
+use Rattle.state_rows.specs.declared.state.ThreadRow.{ThreadRow}
+use Rattle.state_rows.specs.declared.state.MessageRow.{MessageRow}
+use Rattle.state_rows.specs.declared.state.ProcRow.{ProcRow}
+use Rattle.state_rows.specs.declared.state.ServerRow.{ServerRow}
+use Rattle.suspend_image.specs.Spelling.{proc_bytes, thread_bytes, message_bytes, server_bytes}
 use Rattle.suspend_image.specs.Words.{word, word_bytes}
 use Rattle.suspend_image.specs.Sheets.{SheetBytes, HasRoom, appended}
 
@@ -37,10 +34,6 @@ second_has_room sheet one other room =
     let fits = room.room in
     let few = room.few in
     record { room = omega arith; few = omega arith }
-
--- the next piece was appended, and there is room for the others
-pub others_have_room : (before after : SheetBytes) (one other : List ℕ) → after ≡ appended one before → HasRoom before (one ++ other) → HasRoom after other
-others_have_room before after one other is room = rw is (second_has_room before one other room)
 
 -- ---- rows
 
@@ -68,23 +61,6 @@ next_has_room {A = A} spell rows i x start sheet is within item room =
 
 -- ---- rows behind their number
 
-pub number_has_room : {A : Type 0} (spell : A → List ℕ) (rows : List A) (sheet : SheetBytes) → HasRoom sheet (rows_bytes spell rows) → HasRoom sheet (word_bytes (length rows ∷ []))
-unfolding rows_bytes
-number_has_room spell rows sheet room = first_has_room sheet (word_bytes (length rows ∷ [])) (flat_map spell rows) room
-
-pub rows_have_room : {A : Type 0} (spell : A → List ℕ) (rows : List A) (sheet : SheetBytes) → HasRoom sheet (rows_bytes spell rows)
-    → HasRoom (appended (word_bytes (length rows ∷ [])) sheet) (flat_map spell rows)
-unfolding rows_bytes
-rows_have_room spell rows sheet room = second_has_room sheet (word_bytes (length rows ∷ [])) (flat_map spell rows) room
-
--- all rows were appended
-pub rows_appended : {A : Type 0} (spell : A → List ℕ) (rows : List A) (i : ℕ) (start sheet : SheetBytes)
-    → sheet ≡ appended (flat_map spell (take i rows)) (appended (word_bytes (length rows ∷ [])) start) → length rows ≤ i → sheet ≡ appended (rows_bytes spell rows) start
-unfolding rows_bytes
-rows_appended {A = A} spell rows i start sheet is all =
-    is ∙ ap (λ (xs : List A). appended (flat_map spell xs) (appended (word_bytes (length rows ∷ [])) start)) (take_all i rows all)
-    ∙ both_appended start (word_bytes (length rows ∷ [])) (flat_map spell rows)
-
 -- where each row has bytes, a word counts the rows
 pub rows_many : {A : Type 0} (spell : A → List ℕ) → ((x : A) → 1 ≤ length (spell x)) → (rows : List A) → length rows ≤ length (flat_map spell rows)
 rows_many spell some [] = omega arith
@@ -94,9 +70,6 @@ rows_many spell some (x ∷ rows) =
     let all = ap (λ (bytes : List ℕ). length bytes) (flat_map-cons spell x rows) in
     let both = length-append (spell x) (flat_map spell rows) in
     omega arith
-
-pub rows_few : {A : Type 0} (spell : A → List ℕ) → ((x : A) → 1 ≤ length (spell x)) → (rows : List A) (sheet : SheetBytes) → HasRoom sheet (flat_map spell rows) → length rows < 2 ^ 32
-rows_few spell some rows sheet room = let many = rows_many spell some rows in let few = room.few in omega arith
 
 -- ---- words
 
@@ -124,41 +97,6 @@ length-word_bytes [] = refl
 length-word_bytes (n ∷ numbers) =
     let rest = length-word_bytes numbers in
     omega (arith, ap (λ (bytes : List ℕ). length bytes) (flat_map-cons word n numbers), length-append (word n) (flat_map word numbers))
-
--- ---- each kind of row has bytes
-
-pub thread_some : (t : ThreadRow) → 1 ≤ length (thread_bytes t)
-unfolding thread_bytes
-thread_some t = omega (arith, length-word_bytes (t.pid ∷ t.tid ∷ t.pc ∷ t.state ∷ t.waits ∷ t.regs))
-
-pub message_some : (m : MessageRow) → 1 ≤ length (message_bytes m)
-unfolding message_bytes
-message_some m = omega (arith, length-word_bytes (m.number ∷ m.sender_pid ∷ m.sender_tid ∷ m.kind ∷ m.id ∷ (m.words ++ m.first ∷ m.count ∷ [])))
-
-pub claim_some : (c : ClaimRow) → 1 ≤ length (claim_bytes c)
-unfolding claim_bytes
-claim_some c = omega (arith, length-word_bytes (c.number ∷ c.pid ∷ c.handler ∷ c.arg ∷ c.pending ∷ []))
-
-pub server_some : (s : ServerRow) → 1 ≤ length (server_bytes s)
-unfolding server_bytes
-server_some s =
-    let words = s.sid ++ s.serial ∷ s.pid ∷ length s.queued ∷ length s.held ∷ [] in
-    omega (
-      arith,
-      length-append (word_bytes words) (flat_map message_bytes s.queued ++ flat_map message_bytes s.held),
-      length-word_bytes words,
-      length-append s.sid (s.serial ∷ s.pid ∷ length s.queued ∷ length s.held ∷ []),
-    )
-
-pub page_some : (file : List ℕ) (p : PageRow) → 1 ≤ length (page_bytes file p)
-unfolding page_bytes
-page_some file p =
-    let words = p.pid ∷ p.page ∷ p.right ∷ p.holder_pid ∷ p.holder_page ∷ p.kind ∷ p.number ∷ [] in
-    omega (arith, length-append (word_bytes words) (cond (ltb p.right 4) (contents_at file p.from) []), length-word_bytes words)
-
-pub orphan_some : (file : List ℕ) (o : OrphanRow) → 1 ≤ length (orphan_bytes file o)
-unfolding orphan_bytes
-orphan_some file o = omega (arith, length-append (orphan_words o) (contents_at file o.from), length-word_bytes (o.pid ∷ o.page ∷ o.kind ∷ o.number ∷ []))
 
 -- ---- a process, a thread, a message and a server in pieces
 

@@ -4,8 +4,8 @@ ghost use Rattle.std.specs.Prelude.{◌≡◌, ◌^◌, ◌<◌, length};
 ghost use Rattle.suspend_image.specs.Sheets.{HasRoom, appended};
 ghost use Rattle.suspend_image.specs.Spelling.{thread_bytes, message_bytes, claim_bytes, page_words, orphan_words};
 
-use crate::state::{ClaimRow, MessageRow, OrphanRow, PageRow, ThreadRow};
 use crate::writing::sheet::Sheet;
+use state_rows::{ClaimRow, MessageRow, OrphanRow, PageRow, ThreadRow};
 
 /// Appends a thread.
 #[tactic(auto, unfolding(crate::specs::Spelling::thread_bytes))]

@@ -1,4 +1,5 @@
 -- The processes of a plan, as their pages are placed one after the other.
+use Rattle.xk_ports.specs.declared.store.SwapStore.{Ghosts as SwapStore}
 use Rattle.xk_base.specs.Tables.Circle.{is_pid}
 use Rattle.std.proofs.Common.{◌≡◌, ℕ, ◌+◌, ◌<◌, ◌≤◌, Bool, true, false, ◌&&◌, ◌||◌, List, [], ◌∷◌, ◌++◌, take, drop, length, get_or, sum_by, refl, sym, ap, subst, ◌∙◌, arith, length-take}
 use Rattle.std.specs.Prelude.{All, nat_le, nat_lt}
@@ -26,30 +27,30 @@ use Rattle.vm_memory.proofs.Changing.ShiftedLemmas.{known_kept}
 nothing_unlent : IsUnlent empty_ledger
 nothing_unlent = record { loans = λ q. refl; orphans = λ q. refl }
 
-module _ {W P : Type 0} (is_honest : W → Bool) (held : W → Held) (slot_count : W → ℕ) (asked : W → P) (faults : W → ℕ) (file : List ℕ) (plan : List ProcPlan) where
+module _ {W : Type 0} (S : SwapStore W) (file : List ℕ) (plan : List ProcPlan) where
   abbrev count : ProcPlan → ℕ
   count p = length p.pages
 
   -- the pages of the first k processes are placed
   pub record AreBooted (k : ℕ) (old now : Memory W) : Type 0 where
-    pub placed : PlacesPages is_honest held slot_count asked faults old now (page_count (take k plan)) (place_processes file 2 (take k plan))
+    pub placed : PlacesPages S old now (page_count (take k plan)) (place_processes file 2 (take k plan))
     pub order : FillsInOrder now
     pub usable : IsUsable now
 
-  module _ (old : Memory W) (sound : IsSound slot_count old) (same : processes old ≡ length plan) (empty : ledger held old ≡ empty_ledger) where
+  module _ (old : Memory W) (sound : IsSound S.slot_count old) (same : processes old ≡ length plan) (empty : ledger S.held old ≡ empty_ledger) where
     pub nothing_booted : FillsInOrder old → IsUsable old → AreBooted 0 old old
-    nothing_booted order usable = record { placed = placed_none is_honest held slot_count asked faults old sound; order = order; usable = usable }
+    nothing_booted order usable = record { placed = placed_none S old sound; order = order; usable = usable }
 
-    unlent : (k : ℕ) → IsUnlent (place_processes file 2 (take k plan) (ledger held old))
-    unlent k = processes_unlent file 2 (take k plan) (ledger held old) (subst (λ l. IsUnlent l) (sym empty) nothing_unlent)
+    unlent : (k : ℕ) → IsUnlent (place_processes file 2 (take k plan) (ledger S.held old))
+    unlent k = processes_unlent file 2 (take k plan) (ledger S.held old) (subst (λ l. IsUnlent l) (sym empty) nothing_unlent)
 
-    pub kept_booted : (now : Memory W) (k : ℕ) → AreBooted k old now → KeepsUnlent is_honest held slot_count asked faults old now
-    kept_booted now k h = kept_placed is_honest held slot_count asked faults old now (sum_by count (take k plan)) (place_processes file 2 (take k plan)) h.placed (unlent k)
+    pub kept_booted : (now : Memory W) (k : ℕ) → AreBooted k old now → KeepsUnlent S old now
+    kept_booted now k h = kept_placed S old now (sum_by count (take k plan)) (place_processes file 2 (take k plan)) h.placed (unlent k)
 
     -- all of them
     pub all_booted : (now : Memory W) (k : ℕ) → k ≡ length plan → AreBooted k old now
-        → PlacesPages is_honest held slot_count asked faults old now (page_count plan) (place_processes file 2 plan)
-    all_booted now k all h = subst (λ (ps : List ProcPlan). PlacesPages is_honest held slot_count asked faults old now (page_count ps) (place_processes file 2 ps))
+        → PlacesPages S old now (page_count plan) (place_processes file 2 plan)
+    all_booted now k all h = subst (λ (ps : List ProcPlan). PlacesPages S old now (page_count ps) (place_processes file 2 ps))
         (take_all k plan (omega (arith, all))) h.placed
 
     module _ (now : Memory W) (k : ℕ) (low : k < length plan) (d : ProcPlan) (h : AreBooted k old now) where
@@ -62,12 +63,12 @@ module _ {W P : Type 0} (is_honest : W → Bool) (held : W → Held) (slot_count
       pub next_process : is_pid (processes now) (k + 2) ≡ true
       next_process = and_from (nat_le 2 (k + 2)) (nat_lt (k + 2) (processes now + 2)) (le-leb 2 (k + 2) (omega arith)) (lt-ltb (k + 2) (processes now + 2) (omega (arith, procs_now)))
 
-      pub next_unlent : IsUnlent (ledger held now)
-      next_unlent = unlent_bare (place_processes file 2 (take k plan) (ledger held old)) (ledger held now) h.placed.rights (unlent k)
+      pub next_unlent : IsUnlent (ledger S.held now)
+      next_unlent = unlent_bare (place_processes file 2 (take k plan) (ledger S.held old)) (ledger S.held now) h.placed.rights (unlent k)
 
-      pub next_has_none : HasNoPage (k + 2) (ledger held now)
-      next_has_none = none_bare (k + 2) (place_processes file 2 (take k plan) (ledger held old)) (ledger held now) h.placed.rights
-          (λ q e. processes_home_other file 2 (take k plan) (ledger held old) q (omega (arith, taken_size, e)) ∙ ap (λ (l : Ledger). l.home q) empty)
+      pub next_has_none : HasNoPage (k + 2) (ledger S.held now)
+      next_has_none = none_bare (k + 2) (place_processes file 2 (take k plan) (ledger S.held old)) (ledger S.held now) h.placed.rights
+          (λ q e. processes_home_other file 2 (take k plan) (ledger S.held old) q (omega (arith, taken_size, e)) ∙ ap (λ (l : Ledger). l.home q) empty)
 
       more_counted : sum_by count (take k plan) + length (get_or plan k d).pages ≡ sum_by count (take (k + 1) plan)
       more_counted =
@@ -92,13 +93,13 @@ module _ {W P : Type 0} (is_honest : W → Bool) (held : W → Held) (slot_count
       -- .. past the frames, where the store was asked
       pub next_process_full : frames_for_pages now < now.pages + length (get_or plan k d).pages
           → frames_for_pages old < old.pages + page_count plan
-      next_process_full past = omega (arith, past, h.placed.pages, counted, same_frames slot_count old now sound h.placed.sound h.placed.size)
+      next_process_full past = omega (arith, past, h.placed.pages, counted, same_frames S.slot_count old now sound h.placed.sound h.placed.size)
 
       pub next_booted : (new : Memory W)
-          → PlacesPages is_honest held slot_count asked faults now new (length (get_or plan k d).pages) (place_pages file (record { 0 = k + 2 }) (get_or plan k d).pages)
+          → PlacesPages S now new (length (get_or plan k d).pages) (place_pages file (record { 0 = k + 2 }) (get_or plan k d).pages)
           → FillsInOrder new → IsUsable new → AreBooted (k + 1) old new
       next_booted new step order usable = record {
-        placed = placed_then is_honest held slot_count asked faults old now new (sum_by count (take k plan)) (length (get_or plan k d).pages) (sum_by count (take (k + 1) plan))
+        placed = placed_then S old now new (sum_by count (take k plan)) (length (get_or plan k d).pages) (sum_by count (take (k + 1) plan))
             (place_processes file 2 (take k plan)) (place_pages file (record { 0 = k + 2 }) (get_or plan k d).pages) (place_processes file 2 (take (k + 1) plan)) h.placed step
             (λ l x e. pages_bare file (record { 0 = k + 2 }) (get_or plan k d).pages l x e) more_counted
             (λ l. ap (λ n. place_pages file (record { 0 = n }) (get_or plan k d).pages (place_processes file 2 (take k plan) l)) number
@@ -113,24 +114,24 @@ module _ {W P : Type 0} (is_honest : W → Bool) (held : W → Held) (slot_count
 
 -- ---- what a boot leaves
 
-module _ {W P : Type 0} (is_honest : W → Bool) (held : W → Held) (slot_count : W → ℕ) (asked : W → P) (faults : W → ℕ) (file : List ℕ) (plan : BootPlan)
-    (old now : Memory W) (n : ℕ) (procs : List ProcPlan) (same : procs ≡ plan.procs) (empty : ledger held old ≡ empty_ledger)
-    (lawful : All (IsLawfulProcess (length file)) plan.procs) (h : PlacesPages is_honest held slot_count asked faults old now n (place_processes file 2 procs)) where
-  first_made : place_processes file 2 procs (ledger held old) ≡ first_ledger plan file
-  first_made = ap (λ ps. place_processes file 2 ps (ledger held old)) same ∙ (ap (place_processes file 2 plan.procs) empty ∙ first_is file (length file) plan lawful)
+module _ {W : Type 0} (S : SwapStore W) (file : List ℕ) (plan : BootPlan)
+    (old now : Memory W) (n : ℕ) (procs : List ProcPlan) (same : procs ≡ plan.procs) (empty : ledger S.held old ≡ empty_ledger)
+    (lawful : All (IsLawfulProcess (length file)) plan.procs) (h : PlacesPages S old now n (place_processes file 2 procs)) where
+  first_made : place_processes file 2 procs (ledger S.held old) ≡ first_ledger plan file
+  first_made = ap (λ ps. place_processes file 2 ps (ledger S.held old)) same ∙ (ap (place_processes file 2 plan.procs) empty ∙ first_is file (length file) plan lawful)
 
-  pub booted_rights : bare (ledger held now) ≡ bare (first_ledger plan file)
+  pub booted_rights : bare (ledger S.held now) ≡ bare (first_ledger plan file)
   booted_rights = h.rights ∙ ap bare first_made
 
   -- no page was out at first
-  pub booted_whole : none_out old ≡ true → MeansBytes is_honest held now → ledger held now ≡ first_ledger plan file
+  pub booted_whole : none_out old ≡ true → MeansBytes S now → ledger S.held now ≡ first_ledger plan file
   booted_whole none means = h.whole over ∙ first_made
     where
-      kept : is_known is_honest held now ≡ is_known is_honest held old
-      kept = known_kept is_honest held slot_count asked faults old.store now.store h.store
+      kept : is_known S now ≡ is_known S old
+      kept = known_kept S old.store now.store h.store
 
-      over : MeansBytesOver is_honest held old now
-      over = from (is_known is_honest held old) (is_known is_honest held now) (none_out old) (none_out now) kept none means
+      over : MeansBytesOver S old now
+      over = from (is_known S old) (is_known S now) (none_out old) (none_out now) kept none means
         where
           from : (known known_now a b : Bool) → known_now ≡ known → a ≡ true → (known_now || b) ≡ true → (known || (a && b)) ≡ true
           from true known_now a b same first h = refl

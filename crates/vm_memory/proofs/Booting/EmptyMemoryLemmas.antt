@@ -1,4 +1,5 @@
 -- A memory without a page is sound.
+use Rattle.xk_ports.specs.declared.store.SwapStore.{Ghosts as SwapStore}
 use Rattle.xk_base.specs.Tables.Circle.{is_pid}
 use Rattle.std.proofs.Common.{◌≡◌, ℕ, ◌+◌, ◌-◌, ◌*◌, ◌/◌, ◌≤◌, true, false, Some, None, refl, sym, ap, subst, ◌∙◌, inl, inr, arith}
 use Rattle.std.specs.Prelude.{is_some}
@@ -97,7 +98,7 @@ pub record IsEmpty {W : Type 0} (slot_count : W → ℕ) (m : Memory W) (procs f
   pub store : count ≤ slot_count m.store
   pub pages : m.pages ≡ 0
 
-module _ {W : Type 0} (slot_count : W → ℕ) (held : W → Held) (m : Memory W) (procs frames count : ℕ) (e : IsEmpty slot_count m procs frames count) where
+module _ {W : Type 0} (S : SwapStore W) (m : Memory W) (procs frames count : ℕ) (e : IsEmpty S.slot_count m procs frames count) where
   same_procs : processes m ≡ procs
   same_procs = ap procs_of e.extent ∙ back
     where
@@ -128,10 +129,10 @@ module _ {W : Type 0} (slot_count : W → ℕ) (held : W → Held) (m : Memory W
   blank_m = ap (λ I. ledger_of (entries (processes m) m.ram) I (λ s. zero_page)) e.infos
       ∙ empty_ledger_of (processes m) (entries (processes m) m.ram) free_m elsewhere_m (λ s. zero_page)
 
-  pub empty_has_none : ledger held m ≡ empty_ledger
+  pub empty_has_none : ledger S.held m ≡ empty_ledger
   unfolding ledger
-  empty_has_none = ap (λ I. ledger_of (entries (processes m) m.ram) I (bytes_at m.ram (held m.store))) e.infos
-      ∙ empty_ledger_of (processes m) (entries (processes m) m.ram) free_m elsewhere_m (bytes_at m.ram (held m.store))
+  empty_has_none = ap (λ I. ledger_of (entries (processes m) m.ram) I (bytes_at m.ram (S.held m.store))) e.infos
+      ∙ empty_ledger_of (processes m) (entries (processes m) m.ram) free_m elsewhere_m (bytes_at m.ram (S.held m.store))
 
   none_used : (s : Seat) → is_some (infos m.owners s) ≡ false
   none_used s = ap (λ I. is_some (I s)) e.infos
@@ -142,7 +143,7 @@ module _ {W : Type 0} (slot_count : W → ℕ) (held : W → Held) (m : Memory W
       let b : used_slots m.owners ≡ 0 = count_below-none _ _ (λ k low. none_used _) in
       omega arith
 
-  pub empty_sound : IsSound slot_count m
+  pub empty_sound : IsSound S.slot_count m
   empty_sound = record {
     agree = record {
       first = omega (arith, first_m, same_procs);

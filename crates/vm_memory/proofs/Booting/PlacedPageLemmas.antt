@@ -1,4 +1,5 @@
 -- A page of the plan is a page of zeros that is filled.
+use Rattle.xk_ports.specs.declared.store.SwapStore.{Ghosts as SwapStore}
 use Rattle.std.proofs.Common.{◌≡◌, ℕ, if◌then◌else◌, nat_eq, List, length, Some, refl, sym, ap, ◌∙◌, inl, inr}
 use Rattle.std.specs.Option.{option_map}
 use Rattle.std.proofs.lemmas.List.{length-replicate}
@@ -55,8 +56,8 @@ write_made at right bytes l whole = same_ledger (write (Homed at) 0 bytes (make 
       | inr k ↦ rw (k.0, in_one-apart at q k.1) refl
     ]
 
-module _ {W : Type 0} (slot_count : W → ℕ) (held : W → Held) (m n : Memory W) (sound : IsSound slot_count n) (at : Place) (right : Right) (f : FrameNumber)
-    (made : ledger held n ≡ make at 1 right (ledger held m))
+module _ {W : Type 0} (S : SwapStore W) (m n : Memory W) (sound : IsSound S.slot_count n) (at : Place) (right : Right) (f : FrameNumber)
+    (made : ledger S.held n ≡ make at 1 right (ledger S.held m))
     (owned : infos n.owners ≡ put_at seat_eq (infos m.owners) (Frame f) (Some (owned_by at))) where
   abbrev E : Entries
   E = entries (processes n) n.ram
@@ -65,7 +66,7 @@ module _ {W : Type 0} (slot_count : W → ℕ) (held : W → Held) (m n : Memory
   here = sound.agree.entries.home (Frame f) at (ap (λ I. I (Frame f)) owned ∙ seat_put (infos m.owners) (Frame f) (Some (owned_by at)))
 
   pub made_frame : IsPageFrame (processes n) (area n.ram).frames f.0
-  made_frame = page_frame slot_count n sound at (Own (right_in (E at))) f here
+  made_frame = page_frame S.slot_count n sound at (Own (right_in (E at))) f here
 
   module _ (bytes : List ℕ) (whole : length bytes ≡ 4096) where
     abbrev k : Memory W
@@ -74,14 +75,14 @@ module _ {W : Type 0} (slot_count : W → ℕ) (held : W → Held) (m n : Memory
     now : pages (with_page n.ram f.0 bytes) ≡ put_at nat_eq (pages n.ram) f.0 bytes
     now = pages-with_page n.ram f.0 bytes made_frame.inside whole
 
-    pub filled_sound : IsSound slot_count k
-    filled_sound = sound_after slot_count held n sound (with_page n.ram f.0 bytes) f bytes (area-with_page n.ram f.0 bytes) now made_frame.no_table
+    pub filled_sound : IsSound S.slot_count k
+    filled_sound = sound_after S n sound (with_page n.ram f.0 bytes) f bytes (area-with_page n.ram f.0 bytes) now made_frame.no_table
 
     pub filled_size : size k ≡ size n
-    filled_size = size_after slot_count held n sound (with_page n.ram f.0 bytes) f bytes (area-with_page n.ram f.0 bytes) now made_frame.no_table
+    filled_size = size_after S n sound (with_page n.ram f.0 bytes) f bytes (area-with_page n.ram f.0 bytes) now made_frame.no_table
 
-    pub filled_ledger : ledger held k ≡ place_page at (new_page right (Bytes bytes)) (ledger held m)
+    pub filled_ledger : ledger S.held k ≡ place_page at (new_page right (Bytes bytes)) (ledger S.held m)
     filled_ledger =
-        written_after slot_count held n sound (with_page n.ram f.0 bytes) f bytes (area-with_page n.ram f.0 bytes) now made_frame.no_table
+        written_after S n sound (with_page n.ram f.0 bytes) f bytes (area-with_page n.ram f.0 bytes) now made_frame.no_table
         at (Own (right_in (E at))) here 0 bytes (whole_page (pages n.ram f.0) bytes (length-pages n.ram f.0 made_frame.inside) whole)
-        ∙ ap (write (Homed at) 0 bytes) made ∙ write_made at right bytes (ledger held m) whole
+        ∙ ap (write (Homed at) 0 bytes) made ∙ write_made at right bytes (ledger S.held m) whole

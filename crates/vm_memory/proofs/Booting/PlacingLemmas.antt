@@ -18,6 +18,7 @@ use Rattle.ledger_model.proofs.LedgerLemmas.{same_ledger}
 use Rattle.ledger_model.proofs.Stepping.WritingLemmas.{bare-pages}
 use Rattle.sv32_space.specs.PageSteps.{place_page}
 use Rattle.sv32_space.specs.Tie.{Held}
+use Rattle.xk_ports.specs.declared.store.SwapStore.{Ghosts as SwapStore}
 use Rattle.xk_ports.specs.Keeping.{tells_truly}
 use Rattle.vm_memory.specs.declared.memory.Memory.{Memory}
 use Rattle.vm_memory.specs.Bytes.{MeansBytesOver, is_known, none_out}
@@ -88,15 +89,15 @@ unlent_fresh l u number = record {
   orphans = λ p. ap (λ o. orphan_of_number number (option_map loan_of_orphan o)) (u.orphans p);
 }
 
-module _ {W P : Type 0} (is_honest : W → Bool) (held : W → Held) (slot_count : W → ℕ) (asked : W → P) (faults : W → ℕ) where
+module _ {W : Type 0} (S : SwapStore W) where
   abbrev Places : Memory W → Memory W → ℕ → (Ledger → Ledger) → Type 0
-  Places old new count place = PlacesPages is_honest held slot_count asked faults old new count place
+  Places old new count place = PlacesPages S old new count place
 
   -- ---- one page
 
   -- in a frame that leaves another one free
-  pub placed_near : (m n : Memory W) (place : Ledger → Ledger) (f : FrameNumber) (info : PageInfo) → IsSound slot_count n
-      → ledger held n ≡ place (ledger held m) → infos n.owners ≡ put_at seat_eq (infos m.owners) (Frame f) (Some info)
+  pub placed_near : (m n : Memory W) (place : Ledger → Ledger) (f : FrameNumber) (info : PageInfo) → IsSound S.slot_count n
+      → ledger S.held n ≡ place (ledger S.held m) → infos n.owners ≡ put_at seat_eq (infos m.owners) (Frame f) (Some info)
       → n.pages ≡ m.pages + 1 → ChangesPagesAlone m n → Places m n 1 place
   placed_near m n place f info sound placed owned counted rest = record {
     sound = sound;
@@ -105,26 +106,26 @@ module _ {W P : Type 0} (is_honest : W → Bool) (held : W → Held) (slot_count
     whole = λ means. placed;
     none = none_out-kept n m (λ s free. ap (λ I. I (Slot s)) (sym owned) ∙ free);
     size = rest.size;
-    store = same_store is_honest held slot_count asked faults m.store n.store rest.store;
+    store = same_store S m.store n.store rest.store;
   }
 
   -- pages that move are as many
-  pages_kept : (m n : Memory W) → IsSound slot_count m → MovesPages is_honest held slot_count asked faults m n → n.pages ≡ m.pages
+  pages_kept : (m n : Memory W) → IsSound S.slot_count m → MovesPages S m n → n.pages ≡ m.pages
   pages_kept m n sound moves =
-      let now : n.pages ≡ pages (processes n) (ledger held n) = moves.sound.pages ∙ sym (pages-ledger held n) in
-      let before : m.pages ≡ pages (processes m) (ledger held m) = sound.pages ∙ sym (pages-ledger held m) in
-      let same : pages (processes n) (ledger held n) ≡ pages (processes m) (ledger held m) =
-      ap (λ (s : Size). pages s.procs (ledger held n)) moves.size ∙ bare-pages (processes m) (ledger held m) (ledger held n) moves.rights in
+      let now : n.pages ≡ pages (processes n) (ledger S.held n) = moves.sound.pages ∙ sym (pages-ledger S.held n) in
+      let before : m.pages ≡ pages (processes m) (ledger S.held m) = sound.pages ∙ sym (pages-ledger S.held m) in
+      let same : pages (processes n) (ledger S.held n) ≡ pages (processes m) (ledger S.held m) =
+      ap (λ (s : Size). pages s.procs (ledger S.held n)) moves.size ∙ bare-pages (processes m) (ledger S.held m) (ledger S.held n) moves.rights in
       now ∙ (same ∙ sym before)
 
   -- in the last free frame: then another page goes out
-  module _ (m : Memory W) (place : Ledger → Ledger) (f : FrameNumber) (info : PageInfo) (m2 m3 : Memory W) (sound : IsSound slot_count m2)
-      (placed : ledger held m2 ≡ place (ledger held (record m { failed = true })))
+  module _ (m : Memory W) (place : Ledger → Ledger) (f : FrameNumber) (info : PageInfo) (m2 m3 : Memory W) (sound : IsSound S.slot_count m2)
+      (placed : ledger S.held m2 ≡ place (ledger S.held (record m { failed = true })))
       (owned : infos m2.owners ≡ put_at seat_eq (infos m.owners) (Frame f) (Some info)) (counted : m2.pages ≡ m.pages + 1)
-      (rest : ChangesPagesAlone (record m { failed = true }) m2) (moves : MovesPages is_honest held slot_count asked faults m2 m3)
-      (over : MeansBytesOver is_honest held m2 m3 → ledger held m3 ≡ ledger held m2) (none : none_out m3 ≡ true → none_out m2 ≡ true) where
-    placed_there : ledger held m2 ≡ place (ledger held m)
-    placed_there = placed ∙ ap place (marked_ledger held m true)
+      (rest : ChangesPagesAlone (record m { failed = true }) m2) (moves : MovesPages S m2 m3)
+      (over : MeansBytesOver S m2 m3 → ledger S.held m3 ≡ ledger S.held m2) (none : none_out m3 ≡ true → none_out m2 ≡ true) where
+    placed_there : ledger S.held m2 ≡ place (ledger S.held m)
+    placed_there = placed ∙ ap place (marked_ledger S.held m true)
 
     none_before : none_out m2 ≡ true → none_out m ≡ true
     none_before = none_out-kept m2 m (λ s free. ap (λ I. I (Slot s)) (sym owned) ∙ free)
@@ -137,19 +138,19 @@ module _ {W P : Type 0} (is_honest : W → Bool) (held : W → Held) (slot_count
       sound = moves.sound;
       pages = pages_kept m2 m3 sound moves ∙ counted;
       rights = moves.rights ∙ ap bare placed_there;
-      whole = λ means. over (over_from (is_known is_honest held m) (is_known is_honest held m2) (none_out m2) (none_out m3)
-          (ap (tells_truly is_honest held) rest.store)
-          (λ unknown. none_after (ends_of (is_known is_honest held m) (none_out m) (none_out m3) means unknown).0)
-          (λ unknown. (ends_of (is_known is_honest held m) (none_out m) (none_out m3) means unknown).1)) ∙ placed_there;
+      whole = λ means. over (over_from (is_known S m) (is_known S m2) (none_out m2) (none_out m3)
+          (ap (tells_truly S) rest.store)
+          (λ unknown. none_after (ends_of (is_known S m) (none_out m) (none_out m3) means unknown).0)
+          (λ unknown. (ends_of (is_known S m) (none_out m) (none_out m3) means unknown).1)) ∙ placed_there;
       none = λ h. none_before (none h);
       size = moves.size ∙ rest.size;
-      store = store_then is_honest held slot_count asked faults m.store m2.store m3.store
-          (same_store is_honest held slot_count asked faults m.store m2.store rest.store) moves.store;
+      store = store_then S m.store m2.store m3.store
+          (same_store S m.store m2.store rest.store) moves.store;
     }
 
   -- ---- one step after the other
 
-  pub placed_none : (m : Memory W) → IsSound slot_count m → Places m m 0 (λ l. l)
+  pub placed_none : (m : Memory W) → IsSound S.slot_count m → Places m m 0 (λ l. l)
   placed_none m sound = record {
     sound = sound;
     pages = omega arith;
@@ -157,7 +158,7 @@ module _ {W P : Type 0} (is_honest : W → Bool) (held : W → Held) (slot_count
     whole = λ means. refl;
     none = λ h. h;
     size = refl;
-    store = keeps_all is_honest held slot_count asked faults m.store;
+    store = keeps_all S m.store;
   }
 
   pub placed_then : (m k n : Memory W) (i j both : ℕ) (first second all : Ledger → Ledger) → Places m k i first → Places k n j second
@@ -165,34 +166,34 @@ module _ {W P : Type 0} (is_honest : W → Bool) (held : W → Held) (slot_count
   placed_then m k n i j both first second all x y like sum same = record {
     sound = y.sound;
     pages = omega (arith, x.pages, y.pages, sum);
-    rights = y.rights ∙ (like (first (ledger held m)) (ledger held k) x.rights ∙ ap bare (same (ledger held m)));
+    rights = y.rights ∙ (like (first (ledger S.held m)) (ledger S.held k) x.rights ∙ ap bare (same (ledger S.held m)));
     whole = λ means.
-        let ends = ends_of (is_known is_honest held m) (none_out m) (none_out n) means in
-        let kept = known_kept is_honest held slot_count asked faults m.store k.store x.store in
-        y.whole (over_from (is_known is_honest held m) (is_known is_honest held k) (none_out k) (none_out n) kept
+        let ends = ends_of (is_known S m) (none_out m) (none_out n) means in
+        let kept = known_kept S m.store k.store x.store in
+        y.whole (over_from (is_known S m) (is_known S k) (none_out k) (none_out n) kept
         (λ unknown. y.none (ends unknown).1) (λ unknown. (ends unknown).1))
         ∙ (ap second
-        (x.whole (over_from (is_known is_honest held m) (is_known is_honest held m) (none_out m) (none_out k) refl
+        (x.whole (over_from (is_known S m) (is_known S m) (none_out m) (none_out k) refl
         (λ unknown. (ends unknown).0) (λ unknown. y.none (ends unknown).1)))
-        ∙ same (ledger held m));
+        ∙ same (ledger S.held m));
     none = λ h. x.none (y.none h);
     size = y.size ∙ x.size;
-    store = store_then is_honest held slot_count asked faults m.store k.store n.store x.store y.store;
+    store = store_then S m.store k.store n.store x.store y.store;
   }
 
   -- what stays on any answer
-  pub kept_placed : (m n : Memory W) (count : ℕ) (place : Ledger → Ledger) → Places m n count place → IsUnlent (place (ledger held m))
-      → KeepsUnlent is_honest held slot_count asked faults m n
+  pub kept_placed : (m n : Memory W) (count : ℕ) (place : Ledger → Ledger) → Places m n count place → IsUnlent (place (ledger S.held m))
+      → KeepsUnlent S m n
   kept_placed m n count place x unlent = record {
     sound = x.sound;
-    unlent = unlent_bare (place (ledger held m)) (ledger held n) x.rights unlent;
+    unlent = unlent_bare (place (ledger S.held m)) (ledger S.held n) x.rights unlent;
     store = x.store;
   }
 
-  pub kept_then : (m k n : Memory W) (count : ℕ) (place : Ledger → Ledger) → Places m k count place → KeepsUnlent is_honest held slot_count asked faults k n
-      → KeepsUnlent is_honest held slot_count asked faults m n
+  pub kept_then : (m k n : Memory W) (count : ℕ) (place : Ledger → Ledger) → Places m k count place → KeepsUnlent S k n
+      → KeepsUnlent S m n
   kept_then m k n count place x y = record {
     sound = y.sound;
     unlent = y.unlent;
-    store = store_then is_honest held slot_count asked faults m.store k.store n.store x.store y.store;
+    store = store_then S m.store k.store n.store x.store y.store;
   }

@@ -1,4 +1,5 @@
 -- The pages of a process, as they are placed one after the other, and the frames that they come to.
+use Rattle.xk_ports.specs.declared.store.SwapStore.{Ghosts as SwapStore}
 use Rattle.xk_base.specs.Tables.Circle.{is_pid}
 use Rattle.std.proofs.Common.{◌≡◌, ◌≢◌, ℕ, ◌+◌, ◌*◌, ◌<◌, ◌≤◌, Bool, true, List, take, length, get_or, Some, None, refl, sym, ap, subst, ◌∙◌, arith, length-take}
 use Rattle.std.specs.Prelude.{All, AllPairs, is_some}
@@ -115,18 +116,18 @@ filled_past slot_count m n sound new_sound same past counted few =
 
 -- ---- the pages of a process
 
-module _ {W P : Type 0} (is_honest : W → Bool) (held : W → Held) (slot_count : W → ℕ) (asked : W → P) (faults : W → ℕ) (file : List ℕ) (pid : Pid) (plan : List PagePlan) where
+module _ {W : Type 0} (S : SwapStore W) (file : List ℕ) (pid : Pid) (plan : List PagePlan) where
   -- the first k pages are placed
   pub record ArePlaced (k : ℕ) (old now : Memory W) : Type 0 where
-    pub placed : PlacesPages is_honest held slot_count asked faults old now k (place_pages file pid (take k plan))
+    pub placed : PlacesPages S old now k (place_pages file pid (take k plan))
     pub order : FillsInOrder now
     pub usable : IsUsable now
 
-  module _ (old : Memory W) (sound : IsSound slot_count old) (process : is_pid (processes old) pid.0 ≡ true) (unlent : IsUnlent (ledger held old))
-      (none : HasNoPage pid.0 (ledger held old)) (room : old.pages + length plan ≤ capacity_of old) (lawful : All (IsLawfulPage (length file)) plan)
+  module _ (old : Memory W) (sound : IsSound S.slot_count old) (process : is_pid (processes old) pid.0 ≡ true) (unlent : IsUnlent (ledger S.held old))
+      (none : HasNoPage pid.0 (ledger S.held old)) (room : old.pages + length plan ≤ capacity_of old) (lawful : All (IsLawfulPage (length file)) plan)
       (different : AllPairs (λ (a b : PagePlan). a.vpn.0 ≢ b.vpn.0) plan) where
     pub nothing_placed : FillsInOrder old → IsUsable old → ArePlaced 0 old old
-    nothing_placed order usable = record { placed = placed_none is_honest held slot_count asked faults old sound; order = order; usable = usable }
+    nothing_placed order usable = record { placed = placed_none S old sound; order = order; usable = usable }
 
     module _ (now : Memory W) (k : ℕ) (low : k < length plan) (d : PagePlan) (h : ArePlaced k old now) where
       abbrev page : PagePlan
@@ -136,7 +137,7 @@ module _ {W P : Type 0} (is_honest : W → Bool) (held : W → Held) (slot_count
       at = record { pid = pid; vpn = page.vpn }
 
       abbrev so_far : Ledger
-      so_far = place_pages file pid (take k plan) (ledger held old)
+      so_far = place_pages file pid (take k plan) (ledger S.held old)
 
       page_lawful : IsLawfulPage (length file) page
       page_lawful = lawful k d low
@@ -152,7 +153,7 @@ module _ {W P : Type 0} (is_honest : W → Bool) (held : W → Held) (slot_count
       taken_size = simp length-take (omega arith)
 
       no_home : so_far.home at ≡ None
-      no_home = pages_home_else file pid (take k plan) (ledger held old) at
+      no_home = pages_home_else file pid (take k plan) (ledger S.held old) at
           (λ i e high. let before : i < k = omega (arith, taken_size) in
           subst (λ (p : PagePlan). p.vpn.0 ≢ page.vpn.0) (sym (get_or-take k plan i e before)) (λ same. different i k d before low (ap_default i e same before)))
           ∙ none at refl
@@ -160,9 +161,9 @@ module _ {W P : Type 0} (is_honest : W → Bool) (held : W → Held) (slot_count
           ap_default : (i : ℕ) (e : PagePlan) → (get_or plan i e).vpn.0 ≡ page.vpn.0 → i < k → (get_or plan i d).vpn.0 ≡ page.vpn.0
           ap_default i e same before = ap (λ (p : PagePlan). p.vpn.0) (get_or_default plan i d e (omega arith)) ∙ same
 
-      pub next_free : is_free (processes now) (ledger held now) at ≡ true
-      next_free = bare-free (processes now) so_far (ledger held now) at h.placed.rights
-          ∙ free_there (processes now) so_far at (pages_unlent file pid (take k plan) (ledger held old) unlent) no_home
+      pub next_free : is_free (processes now) (ledger S.held now) at ≡ true
+      next_free = bare-free (processes now) so_far (ledger S.held now) at h.placed.rights
+          ∙ free_there (processes now) so_far at (pages_unlent file pid (take k plan) (ledger S.held old) unlent) no_home
 
       pub next_room : now.pages + 1 ≤ capacity_of now
       next_room =
@@ -173,34 +174,34 @@ module _ {W P : Type 0} (is_honest : W → Bool) (held : W → Held) (slot_count
       next_page = page_lawful
 
       -- .. and the next
-      pub next_placed : (new : Memory W) → PlacesPages is_honest held slot_count asked faults now new 1 (place_page at (first_page file page))
-          → PlacesPages is_honest held slot_count asked faults old new (k + 1) (place_pages file pid (take (k + 1) plan))
-      next_placed new step = placed_then is_honest held slot_count asked faults old now new k 1 (k + 1)
+      pub next_placed : (new : Memory W) → PlacesPages S now new 1 (place_page at (first_page file page))
+          → PlacesPages S old new (k + 1) (place_pages file pid (take (k + 1) plan))
+      next_placed new step = placed_then S old now new k 1 (k + 1)
           (place_pages file pid (take k plan)) (place_page at (first_page file page)) (place_pages file pid (take (k + 1) plan)) h.placed step
           (λ l x e. place_bare at (first_page file page) l x e) refl
           (λ l. sym (pages_more file pid (take k plan) page l) ∙ sym (ap (λ xs. place_pages file pid xs l) (take_more plan k d low)))
 
-      pub kept_next : (new : Memory W) → PlacesPages is_honest held slot_count asked faults now new 1 (place_page at (first_page file page))
-          → KeepsUnlent is_honest held slot_count asked faults old new
-      kept_next new step = kept_placed is_honest held slot_count asked faults old new (k + 1) (place_pages file pid (take (k + 1) plan)) (next_placed new step)
-          (pages_unlent file pid (take (k + 1) plan) (ledger held old) unlent)
+      pub kept_next : (new : Memory W) → PlacesPages S now new 1 (place_page at (first_page file page))
+          → KeepsUnlent S old new
+      kept_next new step = kept_placed S old new (k + 1) (place_pages file pid (take (k + 1) plan)) (next_placed new step)
+          (pages_unlent file pid (take (k + 1) plan) (ledger S.held old) unlent)
 
       -- .. past the frames, where the store was asked
       pub next_full : frames_for_pages now ≤ now.pages → frames_for_pages old < old.pages + length plan
-      next_full past = omega (arith, past, h.placed.pages, same_frames slot_count old now sound h.placed.sound h.placed.size)
+      next_full past = omega (arith, past, h.placed.pages, same_frames S.slot_count old now sound h.placed.sound h.placed.size)
 
     -- all of them
     pub all_placed : (now : Memory W) (k : ℕ) → k ≡ length plan → ArePlaced k old now
-        → PlacesPages is_honest held slot_count asked faults old now (length plan) (place_pages file pid plan)
+        → PlacesPages S old now (length plan) (place_pages file pid plan)
     all_placed now k all h = placed_as
       where
         xs : take k plan ≡ plan
         xs = take_all k plan (omega (arith, all))
 
-        placed_as : PlacesPages is_honest held slot_count asked faults old now (length plan) (place_pages file pid plan)
-        placed_as = subst (λ (i : ℕ). PlacesPages is_honest held slot_count asked faults old now i (place_pages file pid plan)) all
-            (subst (λ (ys : List PagePlan). PlacesPages is_honest held slot_count asked faults old now k (place_pages file pid ys)) xs h.placed)
+        placed_as : PlacesPages S old now (length plan) (place_pages file pid plan)
+        placed_as = subst (λ (i : ℕ). PlacesPages S old now i (place_pages file pid plan)) all
+            (subst (λ (ys : List PagePlan). PlacesPages S old now k (place_pages file pid ys)) xs h.placed)
 
-    pub kept_all : (now : Memory W) (k : ℕ) → ArePlaced k old now → KeepsUnlent is_honest held slot_count asked faults old now
-    kept_all now k h = kept_placed is_honest held slot_count asked faults old now k (place_pages file pid (take k plan)) h.placed
-        (pages_unlent file pid (take k plan) (ledger held old) unlent)
+    pub kept_all : (now : Memory W) (k : ℕ) → ArePlaced k old now → KeepsUnlent S old now
+    kept_all now k h = kept_placed S old now k (place_pages file pid (take k plan)) h.placed
+        (pages_unlent file pid (take k plan) (ledger S.held old) unlent)

@@ -1,4 +1,5 @@
 -- A page of a memory is written. Nothing else of the memory changes.
+use Rattle.xk_ports.specs.declared.store.SwapStore.{Ghosts as SwapStore}
 use Rattle.std.proofs.Common.{◌≡◌, ℕ, ◌+◌, ◌*◌, ◌≤◌, if◌then◌else◌, true, List, [], ◌++◌, length, drop, nat_eq, Option, Some, None, refl, sym, ap, subst, ◌∙◌, arith}
 use Rattle.std.proofs.lemmas.Bool.{false≢true}
 use Rattle.std.proofs.lemmas.List.{drop_all, append-nil}
@@ -41,7 +42,7 @@ use Rattle.vm_memory.proofs.Using.WalkTargetLemmas.{IsPageFrame, page_frame}
 
 -- ---- any change of RAM that is one of a page
 
-module _ {W : Type 0} (slot_count : W → ℕ) (held : W → Held) (m : Memory W) (sound : IsSound slot_count m)
+module _ {W : Type 0} (S : SwapStore W) (m : Memory W) (sound : IsSound S.slot_count m)
     (ram : RamBytes) (f : FrameNumber) (page : List ℕ) (same_area : area ram ≡ area m.ram)
     (now : page_of_frame ram ≡ put_at nat_eq (page_of_frame m.ram) f.0 page) (behind : 21 * processes m ≤ f.0) where
   abbrev n : Memory W
@@ -54,7 +55,7 @@ module _ {W : Type 0} (slot_count : W → ℕ) (held : W → Held) (m : Memory W
   I = infos m.owners
 
   abbrev B : SeatBytes
-  B = bytes_at m.ram (held m.store)
+  B = bytes_at m.ram (S.held m.store)
 
   pub same_entries : entries (processes m) ram ≡ E
   same_entries = entries_after_page (processes m) m.ram ram f.0 page same_area now behind
@@ -71,7 +72,7 @@ module _ {W : Type 0} (slot_count : W → ℕ) (held : W → Held) (m : Memory W
   unfolding blank_ledger
   blank_after = ap (λ F. ledger_of F I (λ s. zero_page)) same_entries
 
-  pub sound_after : IsSound slot_count n
+  pub sound_after : IsSound S.slot_count n
   sound_after = record {
     agree = agrees_after;
     procs = sound.procs;
@@ -91,17 +92,17 @@ module _ {W : Type 0} (slot_count : W → ℕ) (held : W → Held) (m : Memory W
   pub size_after : size n ≡ size m
   size_after = ap (λ a. record { procs = processes m; area = a; slots = (extent m.owners).slots }) same_area
 
-  bytes_after : (s : Seat) → bytes_at ram (held m.store) s ≡ with_bytes B (Frame f) page s
+  bytes_after : (s : Seat) → bytes_at ram (S.held m.store) s ≡ with_bytes B (Frame f) page s
   bytes_after (Frame g) = ap (λ P. P g.0) now
   bytes_after (Slot s) = refl
 
-  ledger_after : ledger held n ≡ ledger_of E I (with_bytes B (Frame f) page)
+  ledger_after : ledger S.held n ≡ ledger_of E I (with_bytes B (Frame f) page)
   unfolding ledger
-  ledger_after = ap (λ F. ledger_of F I (bytes_at ram (held m.store))) same_entries ∙ (λ i. ledger_of E I (λ s. bytes_after s i))
+  ledger_after = ap (λ F. ledger_of F I (bytes_at ram (S.held m.store))) same_entries ∙ (λ i. ledger_of E I (λ s. bytes_after s i))
 
   -- bytes written from an offset on
   pub written_after : (p : Place) (side : Side) → E p ≡ Some (At side (Frame f)) → (offset : ℕ) (bytes : List ℕ)
-      → page ≡ written (page_of_frame m.ram f.0) offset bytes → ledger held n ≡ write (side_name I p side (Frame f)) offset bytes (ledger held m)
+      → page ≡ written (page_of_frame m.ram f.0) offset bytes → ledger S.held n ≡ write (side_name I p side (Frame f)) offset bytes (ledger S.held m)
   unfolding ledger
   written_after p side e offset bytes is =
       ledger_after ∙ ap (λ w. ledger_of E I (with_bytes B (Frame f) w)) is
@@ -128,34 +129,34 @@ whole_page old page a b =
     let rest : drop (0 + length page) old ≡ [] = drop_all (0 + length page) old (omega arith) in
     sym (ap (λ r. page ++ r) rest ∙ append-nil page)
 
-module _ {W : Type 0} (slot_count : W → ℕ) (held : W → Held) (m : Memory W) (sound : IsSound slot_count m)
+module _ {W : Type 0} (S : SwapStore W) (m : Memory W) (sound : IsSound S.slot_count m)
     (p : Place) (side : Side) (f : FrameNumber) (e : entries (processes m) m.ram p ≡ Some (At side (Frame f))) (page : List ℕ) where
   pub lent_is : with_bytes_at m p page ≡ record m { ram = with_page m.ram f.0 page }
   unfolding with_bytes_at
   lent_is = ap (λ o. record m { ram = with_page m.ram (frame_named o) page }) e
 
   there : IsPageFrame (processes m) (area m.ram).frames f.0
-  there = page_frame slot_count m sound p side f e
+  there = page_frame S.slot_count m sound p side f e
 
   now_there : length page ≡ 4096 → page_of_frame (with_page m.ram f.0 page) ≡ put_at nat_eq (page_of_frame m.ram) f.0 page
   now_there whole = pages-with_page m.ram f.0 page there.inside whole
 
-  pub lent_sound : length page ≡ 4096 → IsSound slot_count (with_bytes_at m p page)
-  lent_sound whole = subst (λ n. IsSound slot_count n) (sym lent_is)
-      (sound_after slot_count held m sound (with_page m.ram f.0 page) f page (area-with_page m.ram f.0 page) (now_there whole) there.no_table)
+  pub lent_sound : length page ≡ 4096 → IsSound S.slot_count (with_bytes_at m p page)
+  lent_sound whole = subst (λ n. IsSound S.slot_count n) (sym lent_is)
+      (sound_after S m sound (with_page m.ram f.0 page) f page (area-with_page m.ram f.0 page) (now_there whole) there.no_table)
 
-  lent_write : length page ≡ 4096 → ledger held (with_bytes_at m p page) ≡ write (side_name (infos m.owners) p side (Frame f)) 0 page (ledger held m)
-  lent_write whole = ap (ledger held) lent_is
-      ∙ written_after slot_count held m sound (with_page m.ram f.0 page) f page (area-with_page m.ram f.0 page) (now_there whole) there.no_table
+  lent_write : length page ≡ 4096 → ledger S.held (with_bytes_at m p page) ≡ write (side_name (infos m.owners) p side (Frame f)) 0 page (ledger S.held m)
+  lent_write whole = ap (ledger S.held) lent_is
+      ∙ written_after S m sound (with_page m.ram f.0 page) f page (area-with_page m.ram f.0 page) (now_there whole) there.no_table
       p side e 0 page (whole_page (page_of_frame m.ram f.0) page (length-pages m.ram f.0 there.inside) whole)
 
-  pub lent_ledger : (access : Access) → reaches_bytes (processes m) (ledger held m) p access ≡ true → length page ≡ 4096
-      → ledger held (with_bytes_at m p page) ≡ write_page (reach (processes m) (ledger held m) p access) page (ledger held m)
-  lent_ledger access may whole = lent_write whole ∙ sym (ap (λ r. write_page r page (ledger held m)) reached)
+  pub lent_ledger : (access : Access) → reaches_bytes (processes m) (ledger S.held m) p access ≡ true → length page ≡ 4096
+      → ledger S.held (with_bytes_at m p page) ≡ write_page (reach (processes m) (ledger S.held m) p access) page (ledger S.held m)
+  lent_ledger access may whole = lent_write whole ∙ sym (ap (λ r. write_page r page (ledger S.held m)) reached)
     where
-      reached : reach (processes m) (ledger held m) p access ≡ Some (side_name (infos m.owners) p side (Frame f))
-      reached = reach_by slot_count held m sound p (At side (Frame f)) access e
-          ∙ ap (λ b. if b then Some (side_name (infos m.owners) p side (Frame f)) else None) (seat_given slot_count held m sound p side (Frame f) access e may)
+      reached : reach (processes m) (ledger S.held m) p access ≡ Some (side_name (infos m.owners) p side (Frame f))
+      reached = reach_by S m sound p (At side (Frame f)) access e
+          ∙ ap (λ b. if b then Some (side_name (infos m.owners) p side (Frame f)) else None) (seat_given S m sound p side (Frame f) access e may)
 
 pub lent_size : {W : Type 0} (m : Memory W) (p : Place) (page : List ℕ) → size (with_bytes_at m p page) ≡ size m
 unfolding with_bytes_at

@@ -1,4 +1,5 @@
 -- What an answer of `make` or `make_console` tells of its run.
+use Rattle.xk_ports.specs.declared.store.SwapStore.{Ghosts as SwapStore}
 use Rattle.xk_base.specs.Tables.Circle.{is_pid}
 use Rattle.std.proofs.Common.{◌≡◌, ℕ, ◌+◌, ◌-◌, ◌<◌, ◌≤◌, if◌then◌else◌, Bool, true, false, not, Option, Some, None, refl, sym, ap, subst, ◌∙◌, inl, inr, arith}
 use Rattle.std.specs.Prelude.{is_some, nat_le, nat_lt, Result, Ok, Err}
@@ -103,22 +104,22 @@ can_answered procs capacity l pid window at n first process e =
     }
 
 -- .. and so may MAKE_CONSOLE
-pub can_console : {W : Type 0} (slot_count : W → ℕ) (held : W → Held) (m : Memory W) → IsSound slot_count m → (pid : Pid) (at : Option Vpn) (first : Vpn)
-    → is_pid (processes m) pid.0 ≡ true → console_mapped (processes m) (ledger held m) ≡ false → run_place (processes m) (ledger held m) pid Map at 1 ≡ Ok first
-    → CanMakeConsole (processes m) (ledger held m) (page_place pid first)
+pub can_console : {W : Type 0} (S : SwapStore W) (m : Memory W) → IsSound S.slot_count m → (pid : Pid) (at : Option Vpn) (first : Vpn)
+    → is_pid (processes m) pid.0 ≡ true → console_mapped (processes m) (ledger S.held m) ≡ false → run_place (processes m) (ledger S.held m) pid Map at 1 ≡ Ok first
+    → CanMakeConsole (processes m) (ledger S.held m) (page_place pid first)
 unfolding console_mapped
-can_console slot_count held m sound pid at first process none e =
-    let run : IsRunPlace (processes m) (ledger held m) pid Map 1 first = run_answered (processes m) (ledger held m) pid Map at 1 first e in
+can_console S m sound pid at first process none e =
+    let run : IsRunPlace (processes m) (ledger S.held m) pid Map 1 first = run_answered (processes m) (ledger S.held m) pid Map at 1 first e in
     let here : place_after (page_place pid first) 0 ≡ page_place pid first = place_from (place_after (page_place pid first) 0) (page_place pid first) refl (omega arith) in
     record {
       lies = place_in (processes m) pid Map first.0 process run.low (omega (arith, run.high));
-      free = subst (λ q. is_free (processes m) (ledger held m) q ≡ true) here (run.free 0 (omega arith));
-      first = λ p. false_from_ne_true (is_console ((ledger held m).home p)) (λ t. both_ways (is_console ((ledger held m).home p))
-          (nowhere p (is_place_in-user (processes m) Map p (console_in_map slot_count held m sound p t))) t);
+      free = subst (λ q. is_free (processes m) (ledger S.held m) q ≡ true) here (run.free 0 (omega arith));
+      first = λ p. false_from_ne_true (is_console ((ledger S.held m).home p)) (λ t. both_ways (is_console ((ledger S.held m).home p))
+          (nowhere p (is_place_in-user (processes m) Map p (console_in_map S m sound p t))) t);
     }
   where
-    nowhere : (p : Place) → is_user_place (processes m) p ≡ true → is_console ((ledger held m).home p) ≡ false
-    nowhere p user = elim (cases_Option (first_place (processes m) (λ p. is_console ((ledger held m).home p)))) [
-      | inl nothing ↦ first_place-none (processes m) (λ p. is_console ((ledger held m).home p)) nothing p user
-      | inr some ↦ absurd (both_ways (is_some (first_place (processes m) (λ p. is_console ((ledger held m).home p)))) none (ap is_some some.1))
+    nowhere : (p : Place) → is_user_place (processes m) p ≡ true → is_console ((ledger S.held m).home p) ≡ false
+    nowhere p user = elim (cases_Option (first_place (processes m) (λ p. is_console ((ledger S.held m).home p)))) [
+      | inl nothing ↦ first_place-none (processes m) (λ p. is_console ((ledger S.held m).home p)) nothing p user
+      | inr some ↦ absurd (both_ways (is_some (first_place (processes m) (λ p. is_console ((ledger S.held m).home p)))) none (ap is_some some.1))
     ]

@@ -12,6 +12,7 @@ use Rattle.ledger_model.proofs.LedgerLemmas.{cases_Option}
 use Rattle.sv32_space.specs.Tie.{Held}
 use Rattle.vm_memory.specs.declared.memory.Memory.{Memory}
 use Rattle.vm_memory.specs.Bytes.{MeansBytes, is_known, none_out, used_slots}
+use Rattle.xk_ports.specs.declared.store.SwapStore.{Ghosts as SwapStore}
 use Rattle.xk_ports.specs.Keeping.{KeepsStore, tells_truly}
 use Rattle.vm_memory.specs.Memory.{size}
 use Rattle.vm_memory.specs.Pages.Changing.{ChangesPagesAlone}
@@ -26,8 +27,8 @@ pub no_slots-none_out : {W : Type 0} (m : Memory W) → (size m).slots ≡ 0 →
 unfolding none_out
 no_slots-none_out m none = ap (λ k. k == 0) (count_none (extent m.owners).slots (λ k. is_some (infos m.owners (slot_seat k))) none)
 
-pub no_slots-means : {W : Type 0} (honest : W → Bool) (held : W → Held) (m : Memory W) → (size m).slots ≡ 0 → MeansBytes honest held m
-no_slots-means honest held m none = or_right (is_known honest held m) (none_out m) (no_slots-none_out m none)
+pub no_slots-means : {W : Type 0} (S : SwapStore W) (m : Memory W) → (size m).slots ≡ 0 → MeansBytes S m
+no_slots-means S m none = or_right (is_known S m) (none_out m) (no_slots-none_out m none)
 
 -- where no page is out no slot is used, and the other way round
 pub none_out-slots : {W : Type 0} (m : Memory W) → none_out m ≡ true → (s : SlotNumber) → infos m.owners (Slot s) ≡ None
@@ -55,28 +56,28 @@ pub either_kept : (a b c d : Bool) → c ≡ a → (b ≡ true → d ≡ true) �
 either_kept true b c d same kept h = ap (λ x. x || d) same
 either_kept false b c d same kept h = ap (λ x. x || d) same ∙ kept h
 
-pub means-kept : {W : Type 0} (honest : W → Bool) (held : W → Held) (old new : Memory W) → new.store ≡ old.store
-    → (none_out old ≡ true → none_out new ≡ true) → MeansBytes honest held old → MeansBytes honest held new
-means-kept honest held old new same kept means =
-    either_kept (is_known honest held old) (none_out old) (is_known honest held new) (none_out new) (ap (tells_truly honest held) same) kept means
+pub means-kept : {W : Type 0} (S : SwapStore W) (old new : Memory W) → new.store ≡ old.store
+    → (none_out old ≡ true → none_out new ≡ true) → MeansBytes S old → MeansBytes S new
+means-kept S old new same kept means =
+    either_kept (is_known S old) (none_out old) (is_known S new) (none_out new) (ap (tells_truly S) same) kept means
 
 -- .. as a change of pages alone does
 pub alone-none_out : {W : Type 0} (old new : Memory W) → ChangesPagesAlone old new → none_out old ≡ true → none_out new ≡ true
 alone-none_out old new rest = none_out-kept old new rest.slots
 
-pub alone-means : {W : Type 0} (honest : W → Bool) (held : W → Held) (old new : Memory W) → ChangesPagesAlone old new
-    → MeansBytes honest held old → MeansBytes honest held new
-alone-means honest held old new rest = means-kept honest held old new rest.store (alone-none_out old new rest)
+pub alone-means : {W : Type 0} (S : SwapStore W) (old new : Memory W) → ChangesPagesAlone old new
+    → MeansBytes S old → MeansBytes S new
+alone-means S old new rest = means-kept S old new rest.store (alone-none_out old new rest)
 
 -- a store that stays is kept
-pub same_store : {W P : Type 0} (is_honest : W → Bool) (held : W → Held) (slot_count : W → ℕ) (asked : W → P) (faults : W → ℕ) (old new : W)
-    → new ≡ old → KeepsStore is_honest held slot_count asked faults old new
-same_store is_honest held slot_count asked faults old new e =
-    let count : faults new ≡ faults old = ap faults e in
+pub same_store : {W : Type 0} (S : SwapStore W) (old new : W)
+    → new ≡ old → KeepsStore S old new
+same_store S old new e =
+    let count : S.faults new ≡ S.faults old = ap S.faults e in
     record {
-      honest = ap is_honest e;
-      told = ap (λ w. is_some (held w)) e;
-      slots = ap slot_count e;
-      preparations = ap asked e;
+      honest = ap S.is_honest e;
+      told = ap (λ w. is_some (S.held w)) e;
+      slots = ap S.slot_count e;
+      preparations = ap S.asked e;
       never_falls = omega (arith, count);
     }

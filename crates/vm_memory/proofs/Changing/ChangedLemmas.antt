@@ -1,4 +1,5 @@
 -- A memory after a change of entries and owners: it is sound, and its ledger has made the step.
+use Rattle.xk_ports.specs.declared.store.SwapStore.{Ghosts as SwapStore}
 use Rattle.xk_base.specs.Tables.Circle.{is_pid}
 use Rattle.std.proofs.Common.{◌≡◌, ℕ, ◌+◌, ◌*◌, ◌≤◌, true, false, Some, None, refl, sym, ap, subst, ◌∙◌, arith}
 use Rattle.boot_plan.specs.Capacity.{capacity}
@@ -53,12 +54,12 @@ pub record IsChanged {W : Type 0} (m n : Memory W) (E : Entries) (I : Infos) : T
   pub slots : n.slots ≡ m.slots
 
 -- .. and after a step of the ledger
-pub record IsStep {W : Type 0} (slot_count : W → ℕ) (held : W → Held) (m n : Memory W) (step : Ledger → Ledger) : Type 0 where
-  pub sound : IsSound slot_count n
-  pub tie : IsTied held n
-  pub ledger : ledger held n ≡ step (ledger held m)
+pub record IsStep {W : Type 0} (S : SwapStore W) (m n : Memory W) (step : Ledger → Ledger) : Type 0 where
+  pub sound : IsSound S.slot_count n
+  pub tie : IsTied S.held n
+  pub ledger : ledger S.held n ≡ step (ledger S.held m)
 
-module _ {W : Type 0} (slot_count : W → ℕ) (held : W → Held) (m n : Memory W) (E : Entries) (I : Infos) (sound : IsSound slot_count m)
+module _ {W : Type 0} (S : SwapStore W) (m n : Memory W) (E : Entries) (I : Infos) (sound : IsSound S.slot_count m)
     (c : IsChanged m n E I) where
   abbrev blank : Ledger
   blank = ledger_of E I no_bytes
@@ -112,7 +113,7 @@ module _ {W : Type 0} (slot_count : W → ℕ) (held : W → Held) (m n : Memory
 
   -- SOUND: it stays sound where entries and owners agree, the ledger is lawful, and its pages are counted
   sound_there : EntriesAgree (processes m) E I → IsLawful (processes m) (capacity_of m) blank
-      → n.pages ≡ pages (processes m) blank → (n.failed ≡ false → HasUnusedFrame (extent n.owners) (infos n.owners)) → IsSound slot_count n
+      → n.pages ≡ pages (processes m) blank → (n.failed ≡ false → HasUnusedFrame (extent n.owners) (infos n.owners)) → IsSound S.slot_count n
   sound_there agree lawful counted room = record {
     agree = agrees_there agree;
     procs = c.procs ∙ (sound.procs ∙ sym (ap procs_of c.extent));
@@ -122,7 +123,7 @@ module _ {W : Type 0} (slot_count : W → ℕ) (held : W → Held) (m n : Memory
     tables = subst (λ t. table_frames (procs_of t) + 2 ≤ (area n.ram).frames) (sym c.extent)
         (subst (λ (a : Area). table_frames (processes m) + 2 ≤ a.frames) (sym c.area) sound.tables);
     placed = subst IsPlaced (sym c.area) sound.placed;
-    store = subst (λ w. n.slots ≤ slot_count w) (sym c.store) (subst (λ k. k ≤ slot_count m.store) (sym c.slots) sound.store);
+    store = subst (λ w. n.slots ≤ S.slot_count w) (sym c.store) (subst (λ k. k ≤ S.slot_count m.store) (sym c.slots) sound.store);
     lawful = lawful_there lawful;
     pages = counted ∙ sym pages_there;
     seats = count_there agree ∙ sym (counted ∙ sym pages_there);
@@ -131,20 +132,20 @@ module _ {W : Type 0} (slot_count : W → ℕ) (held : W → Held) (m n : Memory
 
   -- the bytes of the seats that were used stay, where those of their frames do
   bytes_stay : ((f : ℕ) (info : PageInfo) → infos m.owners (frame_seat f) ≡ Some info → page_of_frame n.ram f ≡ page_of_frame m.ram f)
-      → (s : Seat) (info : PageInfo) → infos m.owners s ≡ Some info → bytes_at n.ram (held m.store) s ≡ bytes_at m.ram (held m.store) s
+      → (s : Seat) (info : PageInfo) → infos m.owners s ≡ Some info → bytes_at n.ram (S.held m.store) s ≡ bytes_at m.ram (S.held m.store) s
   bytes_stay same (Frame f) info i = same f.0 info i
   bytes_stay same (Slot s) info i = refl
 
   -- THE LEDGER is that of the entries and owners, by the bytes that are there now
-  ledger_there : ledger held n ≡ ledger_of E I (bytes_at n.ram (held m.store))
+  ledger_there : ledger S.held n ≡ ledger_of E I (bytes_at n.ram (S.held m.store))
   unfolding ledger
-  ledger_there = λ i. ledger_of (entries_there i) (c.infos i) (bytes_at n.ram (held (c.store i)))
+  ledger_there = λ i. ledger_of (entries_there i) (c.infos i) (bytes_at n.ram (S.held (c.store i)))
 
   -- .. by which the former entries and owners make the former ledger
   ledger_before : ((f : ℕ) (info : PageInfo) → infos m.owners (frame_seat f) ≡ Some info → page_of_frame n.ram f ≡ page_of_frame m.ram f)
-      → ledger_of (entries (processes m) m.ram) (infos m.owners) (bytes_at n.ram (held m.store)) ≡ ledger held m
+      → ledger_of (entries (processes m) m.ram) (infos m.owners) (bytes_at n.ram (S.held m.store)) ≡ ledger S.held m
   unfolding ledger
-  ledger_before same = used_bytes (processes m) (entries (processes m) m.ram) (infos m.owners) (bytes_at m.ram (held m.store)) (bytes_at n.ram (held m.store))
+  ledger_before same = used_bytes (processes m) (entries (processes m) m.ram) (infos m.owners) (bytes_at m.ram (S.held m.store)) (bytes_at n.ram (S.held m.store))
       sound.agree.entries (bytes_stay same)
 
   -- the bytes of the frames that are used stay, where those of all frames after the tables do
@@ -166,15 +167,15 @@ module _ {W : Type 0} (slot_count : W → ℕ) (held : W → Held) (m n : Memory
       (stay : (f : ℕ) (info : PageInfo) → infos m.owners (frame_seat f) ≡ Some info → page_of_frame n.ram f ≡ page_of_frame m.ram f) where
     -- .. from zeros, and from the bytes that are there now
     pub step_from : blank ≡ step (blank_ledger m)
-        → ledger_of E I (bytes_at n.ram (held m.store)) ≡ step (ledger_of (entries (processes m) m.ram) (infos m.owners) (bytes_at n.ram (held m.store)))
-        → IsStep slot_count held m n step
+        → ledger_of E I (bytes_at n.ram (S.held m.store)) ≡ step (ledger_of (entries (processes m) m.ram) (infos m.owners) (bytes_at n.ram (S.held m.store)))
+        → IsStep S m n step
     step_from zeros now =
-        let stays : IsSound slot_count n = sound_there agree
+        let stays : IsSound S.slot_count n = sound_there agree
         (subst (λ l. IsLawful (processes m) (capacity_of m) l) (sym zeros) lawful) (counted ∙ ap (pages (processes m)) (sym zeros)) room in
-        record { sound = stays; tie = sound-tied slot_count held n stays; ledger = ledger_there ∙ (now ∙ ap step (ledger_before stay)) }
+        record { sound = stays; tie = sound-tied S n stays; ledger = ledger_there ∙ (now ∙ ap step (ledger_before stay)) }
 
     -- THE STEP: .. from any bytes. So it is with each call that moves no byte: removals, rights and loans.
     pub step_there : ((B : SeatBytes) → ledger_of E I B ≡ step (ledger_of (entries (processes m) m.ram) (infos m.owners) B))
-        → IsStep slot_count held m n step
+        → IsStep S m n step
     unfolding blank_ledger
-    step_there each = step_from (each no_bytes) (each (bytes_at n.ram (held m.store)))
+    step_there each = step_from (each no_bytes) (each (bytes_at n.ram (S.held m.store)))

@@ -1,4 +1,5 @@
 -- Where the console is looked for: in the Map windows of the processes.
+use Rattle.xk_ports.specs.declared.store.SwapStore.{Ghosts as SwapStore}
 use Rattle.xk_base.specs.Tables.Circle.{is_pid}
 use Rattle.std.proofs.Common.{◌≡◌, ℕ, ◌+◌, ◌-◌, ◌<◌, ◌≤◌, true, false, not, Option, Some, None, refl, ap, subst, ◌∙◌, inl, inr, arith}
 use Rattle.std.specs.Prelude.{is_some, nat_le, nat_lt}
@@ -82,13 +83,13 @@ console_contents : (c : Contents) → not (has_bytes c) ≡ true → c ≡ Conso
 console_contents Console e = refl
 console_contents (Bytes bytes) e = absurd (both_ways false refl e)
 
-module _ {W : Type 0} (slot_count : W → ℕ) (held : W → Held) (m : Memory W) (sound : IsSound slot_count m) where
+module _ {W : Type 0} (S : SwapStore W) (m : Memory W) (sound : IsSound S.slot_count m) where
   -- the console lies in a Map window
-  pub console_in_map : (p : Place) → is_console ((ledger held m).home p) ≡ true → is_place_in (processes m) Map p ≡ true
+  pub console_in_map : (p : Place) → is_console ((ledger S.held m).home p) ≡ true → is_place_in (processes m) Map p ≡ true
   unfolding ledger blank_ledger ledger_of
   console_in_map p t =
       let told : is_console ((blank_ledger m).home p) ≡ true =
-      console_told (infos m.owners) no_bytes (bytes_at m.ram (held m.store)) (entries (processes m) m.ram p) ∙ t in
+      console_told (infos m.owners) no_bytes (bytes_at m.ram (S.held m.store)) (entries (processes m) m.ram p) ∙ t in
       by_home ((blank_ledger m).home p) refl told
     where
       by_home : (o : Option Page) → (blank_ledger m).home p ≡ o → is_console o ≡ true → is_place_in (processes m) Map p ≡ true
@@ -96,12 +97,12 @@ module _ {W : Type 0} (slot_count : W → ℕ) (held : W → Held) (m : Memory W
       by_home (Some page) e c = sound.lawful.console_lies p page e (console_contents page.contents c)
 
   -- where no process has it, it isn't mapped
-  pub mapped_missed : ((j : ℕ) → j < processes m → has_console (ledger held m) (record { 0 = 2 + j }) ≡ false) → console_mapped (processes m) (ledger held m) ≡ false
+  pub mapped_missed : ((j : ℕ) → j < processes m → has_console (ledger S.held m) (record { 0 = 2 + j }) ≡ false) → console_mapped (processes m) (ledger S.held m) ≡ false
   unfolding console_mapped
-  mapped_missed none = ap is_some (first_place-None (processes m) (λ p. is_console ((ledger held m).home p))
-      (λ p user. false_from_ne_true (is_console ((ledger held m).home p)) (λ t. elsewhere p t)))
+  mapped_missed none = ap is_some (first_place-None (processes m) (λ p. is_console ((ledger S.held m).home p))
+      (λ p user. false_from_ne_true (is_console ((ledger S.held m).home p)) (λ t. elsewhere p t)))
     where
-      elsewhere : (p : Place) → is_console ((ledger held m).home p) ≡ true → ⊥
+      elsewhere : (p : Place) → is_console ((ledger S.held m).home p) ≡ true → ⊥
       elsewhere p t =
           let lies : is_place_in (processes m) Map p ≡ true = console_in_map p t in
           let parts : (is_pid (processes m) p.pid.0 ≡ true) × (in_window Map p.vpn.0 ≡ true) = and_parts (is_pid (processes m) p.pid.0) (in_window Map p.vpn.0) lies in
@@ -114,8 +115,8 @@ module _ {W : Type 0} (slot_count : W → ℕ) (held : W → Held) (m : Memory W
           let high : p.vpn.0 ≤ last_page Map = leb-true p.vpn.0 (last_page Map) pages.1 in
           let there : place_after (window_place (record { 0 = 2 + (p.pid.0 - 2) }) Map 0) (p.vpn.0 - first_page Map) ≡ p =
           place_from (place_after (window_place (record { 0 = 2 + (p.pid.0 - 2) }) Map 0) (p.vpn.0 - first_page Map)) p (omega arith) (omega arith) in
-          both_ways (is_console ((ledger held m).home p))
-          (subst (λ q. is_console ((ledger held m).home q) ≡ false) there
-          (each_fails (λ q. is_console ((ledger held m).home q)) (window_place (record { 0 = 2 + (p.pid.0 - 2) }) Map 0) (window_pages Map)
+          both_ways (is_console ((ledger S.held m).home p))
+          (subst (λ q. is_console ((ledger S.held m).home q) ≡ false) there
+          (each_fails (λ q. is_console ((ledger S.held m).home q)) (window_place (record { 0 = 2 + (p.pid.0 - 2) }) Map 0) (window_pages Map)
           (none (p.pid.0 - 2) (omega arith)) (p.vpn.0 - first_page Map) (omega arith)))
           t

@@ -1,4 +1,5 @@
 -- What the calls on the console write, as steps of the memory.
+use Rattle.xk_ports.specs.declared.store.SwapStore.{Ghosts as SwapStore}
 use Rattle.std.proofs.Common.{◌≡◌, ℕ, Bool, true, false, not, ◌||◌, Option, Some, None, refl, sym, ap, ◌∙◌}
 use Rattle.std.specs.Option.{option_and_then}
 use Rattle.std.proofs.lemmas.Bool.{and_parts, both_ways}
@@ -56,7 +57,7 @@ console_told I C D (Some (OnConsole w)) = refl
 abbrev console_right : Bool → Right
 console_right w = record { w = w; x = false }
 
-module _ {W : Type 0} (slot_count : W → ℕ) (held : W → Held) (m : Memory W) (sound : IsSound slot_count m) (at : Place) where
+module _ {W : Type 0} (S : SwapStore W) (m : Memory W) (sound : IsSound S.slot_count m) (at : Place) where
   abbrev E : Entries
   E = entries (processes m) m.ram
 
@@ -64,16 +65,16 @@ module _ {W : Type 0} (slot_count : W → ℕ) (held : W → Held) (m : Memory W
   I = infos m.owners
 
   abbrev B : SeatBytes
-  B = bytes_at m.ram (held m.store)
+  B = bytes_at m.ram (S.held m.store)
 
   console_page : (w : Bool) → E at ≡ Some (OnConsole w) → (blank_ledger m).home at ≡ Some (lone_page (console_right w) Console)
   unfolding blank_ledger
   console_page w here = home_at E I no_bytes at (OnConsole w) here
 
   pub console_gone_step : (new : RamBytes) (w : Bool) → E at ≡ Some (OnConsole w) → IsWritten m.ram new at Free
-      → IsStep slot_count held m (record m { ram = new }) (remove (in_run at 1))
+      → IsStep S m (record m { ram = new }) (remove (in_run at 1))
   console_gone_step new w here k =
-      written_step slot_count held m sound at new m.owners m.pages Free I (entry_process slot_count held m sound at (OnConsole w) here) k refl refl
+      written_step S m sound at new m.owners m.pages Free I (entry_process S m sound at (OnConsole w) here) k refl refl
       (remove (in_run at 1)) (unmap_console_agrees (processes m) E I at w sound.agree.entries here)
       (remove_lawful (processes m) (capacity_of m) (in_run at 1) (blank_ledger m) sound.lawful
       (can_remove (processes m) (blank_ledger m) at (console_right w) Console (console_page w here)))
@@ -81,18 +82,18 @@ module _ {W : Type 0} (slot_count : W → ℕ) (held : W → Held) (m : Memory W
       (λ f free. free)
       (λ C. unmap_console_ledger E I C at w here)
 
-  console_within : (w : Bool) (new : Right) → E at ≡ Some (OnConsole w) → asks_more new ((ledger held m).home at) ≡ false
+  console_within : (w : Bool) (new : Right) → E at ≡ Some (OnConsole w) → asks_more new ((ledger S.held m).home at) ≡ false
       → is_within new (console_right w) ≡ true
   unfolding ledger
   console_within w new here asked = within_of new (console_right w) (sym (ap (asks_more new) (home_at E I B at (OnConsole w) here)) ∙ asked)
 
   pub console_reduced_step : (new_ram : RamBytes) (w : Bool) (new : Right) → E at ≡ Some (OnConsole w)
-      → asks_more new ((ledger held m).home at) ≡ false
+      → asks_more new ((ledger S.held m).home at) ≡ false
       → IsWritten m.ram new_ram at (OnConsole new.w)
-      → IsStep slot_count held m (record m { ram = new_ram }) (reduce (in_run at 1) new)
+      → IsStep S m (record m { ram = new_ram }) (reduce (in_run at 1) new)
   console_reduced_step new_ram w new here asked k =
       let within : is_within new (console_right w) ≡ true = console_within w new here asked in
-      written_step slot_count held m sound at new_ram m.owners m.pages (OnConsole new.w) I (entry_process slot_count held m sound at (OnConsole w) here) k refl refl
+      written_step S m sound at new_ram m.owners m.pages (OnConsole new.w) I (entry_process S m sound at (OnConsole w) here) k refl refl
       (reduce (in_run at 1) new) (reduce_console_agrees (processes m) E I at w new.w sound.agree.entries here)
       (reduce_lawful (processes m) (capacity_of m) (in_run at 1) new (blank_ledger m) sound.lawful
       (can_reduce (processes m) (blank_ledger m) at (console_right w) Console (console_page w here) new within))
@@ -100,7 +101,7 @@ module _ {W : Type 0} (slot_count : W → ℕ) (held : W → Held) (m : Memory W
       (λ f free. free)
       (λ C. reduce_console_ledger E I C at w new here (no_fetch new w within))
 
-  blank_can : CanMakeConsole (processes m) (ledger held m) at → CanMakeConsole (processes m) (blank_ledger m) at
+  blank_can : CanMakeConsole (processes m) (ledger S.held m) at → CanMakeConsole (processes m) (blank_ledger m) at
   unfolding blank_ledger ledger ledger_of
   blank_can can = record {
     lies = can.lies;
@@ -108,13 +109,13 @@ module _ {W : Type 0} (slot_count : W → ℕ) (held : W → Held) (m : Memory W
     first = λ p. console_told I no_bytes B (E p) ∙ can.first p;
   }
 
-  pub console_made_step : (new_ram : RamBytes) (w : Bool) → CanMakeConsole (processes m) (ledger held m) at
+  pub console_made_step : (new_ram : RamBytes) (w : Bool) → CanMakeConsole (processes m) (ledger S.held m) at
       → IsWritten m.ram new_ram at (OnConsole w)
-      → IsStep slot_count held m (record m { ram = new_ram }) (make_console at w)
+      → IsStep S m (record m { ram = new_ram }) (make_console at w)
   console_made_step new_ram w can k =
       let user = is_place_in-user (processes m) Map at can.lies in
-      let free : E at ≡ Some Free = free_entry slot_count held m sound at user can.free in
-      written_step slot_count held m sound at new_ram m.owners m.pages (OnConsole w) I (user_process (processes m) at user) k refl refl
+      let free : E at ≡ Some Free = free_entry S m sound at user can.free in
+      written_step S m sound at new_ram m.owners m.pages (OnConsole w) I (user_process (processes m) at user) k refl refl
       (make_console at w) (map_console_agrees (processes m) E I at w sound.agree.entries free)
       (make_console_lawful (processes m) (capacity_of m) at w (blank_ledger m) sound.lawful (blank_can can))
       (sound.pages ∙ sym (make_console_pages (processes m) at w (blank_ledger m) (blank_can can)))

@@ -27,6 +27,7 @@ use Rattle.ledger_model.proofs.Stepping.MakingLemmas.{make_pages}
 use Rattle.ledger_model.proofs.Stepping.WritingLemmas.{bare-pages}
 use Rattle.sv32_space.specs.Tie.{Held}
 use Rattle.sv32_space.proofs.RunLemmas.{make_next, make_none}
+use Rattle.xk_ports.specs.declared.store.SwapStore.{Ghosts as SwapStore}
 use Rattle.xk_ports.specs.Keeping.{tells_truly}
 use Rattle.vm_memory.specs.declared.memory.Memory.{Memory}
 use Rattle.vm_memory.specs.Bytes.{MeansBytesOver, is_known, none_out}
@@ -72,16 +73,16 @@ pub ends_of : (known a b : Bool) → (known || (a && b)) ≡ true → known ≡ 
 ends_of true a b h none = absurd cc
 ends_of false a b h none = and_parts a b h
 
-module _ {W P : Type 0} (is_honest : W → Bool) (held : W → Held) (slot_count : W → ℕ) (asked : W → P) (faults : W → ℕ) where
+module _ {W : Type 0} (S : SwapStore W) where
   -- ---- one page
 
   module _ (m : Memory W) (at : Place) (right : Right) (f : FrameNumber) (info : PageInfo) (m2 m3 : Memory W)
-      (placed : ledger held m2 ≡ make at 1 right (ledger held (record m { failed = true })))
+      (placed : ledger S.held m2 ≡ make at 1 right (ledger S.held (record m { failed = true })))
       (owned : infos m2.owners ≡ put_at seat_eq (infos m.owners) (Frame f) (Some info))
-      (rest : ChangesPagesAlone (record m { failed = true }) m2) (moves : MovesPages is_honest held slot_count asked faults m2 m3)
-      (over : MeansBytesOver is_honest held m2 m3 → ledger held m3 ≡ ledger held m2) (none : none_out m3 ≡ true → none_out m2 ≡ true) where
-    placed_there : ledger held m2 ≡ make at 1 right (ledger held m)
-    placed_there = placed ∙ ap (make at 1 right) (marked_ledger held m true)
+      (rest : ChangesPagesAlone (record m { failed = true }) m2) (moves : MovesPages S m2 m3)
+      (over : MeansBytesOver S m2 m3 → ledger S.held m3 ≡ ledger S.held m2) (none : none_out m3 ≡ true → none_out m2 ≡ true) where
+    placed_there : ledger S.held m2 ≡ make at 1 right (ledger S.held m)
+    placed_there = placed ∙ ap (make at 1 right) (marked_ledger S.held m true)
 
     none_before : none_out m2 ≡ true → none_out m ≡ true
     none_before = none_out-kept m2 m (λ s free. ap (λ I. I (Slot s)) (sym owned) ∙ free)
@@ -89,95 +90,95 @@ module _ {W P : Type 0} (is_honest : W → Bool) (held : W → Held) (slot_count
     none_after : none_out m ≡ true → none_out m2 ≡ true
     none_after h = alone-none_out (record m { failed = true }) m2 rest (marked_none m true ∙ h)
 
-    pub page_made : MakesPages is_honest held slot_count asked faults m m3 at 1 right
+    pub page_made : MakesPages S m m3 at 1 right
     page_made = record {
       sound = moves.sound;
       rights = moves.rights ∙ ap bare placed_there;
-      whole = λ means. over (over_from (is_known is_honest held m) (is_known is_honest held m2) (none_out m2) (none_out m3)
-          (ap (tells_truly is_honest held) rest.store)
-          (λ unknown. none_after (ends_of (is_known is_honest held m) (none_out m) (none_out m3) means unknown).0)
-          (λ unknown. (ends_of (is_known is_honest held m) (none_out m) (none_out m3) means unknown).1)) ∙ placed_there;
+      whole = λ means. over (over_from (is_known S m) (is_known S m2) (none_out m2) (none_out m3)
+          (ap (tells_truly S) rest.store)
+          (λ unknown. none_after (ends_of (is_known S m) (none_out m) (none_out m3) means unknown).0)
+          (λ unknown. (ends_of (is_known S m) (none_out m) (none_out m3) means unknown).1)) ∙ placed_there;
       none = λ h. none_before (none h);
       size = moves.size ∙ rest.size;
-      store = store_then is_honest held slot_count asked faults m.store m2.store m3.store
-          (same_store is_honest held slot_count asked faults m.store m2.store rest.store) moves.store;
+      store = store_then S m.store m2.store m3.store
+          (same_store S m.store m2.store rest.store) moves.store;
     }
 
   -- ---- a run
 
-  pub none_made : (m : Memory W) → IsSound slot_count m → (first : Place) (right : Right) → MakesPages is_honest held slot_count asked faults m m first 0 right
+  pub none_made : (m : Memory W) → IsSound S.slot_count m → (first : Place) (right : Right) → MakesPages S m m first 0 right
   none_made m sound first right = record {
     sound = sound;
-    rights = ap bare (sym (make_none first right (ledger held m)));
-    whole = λ means. sym (make_none first right (ledger held m));
+    rights = ap bare (sym (make_none first right (ledger S.held m)));
+    whole = λ means. sym (make_none first right (ledger S.held m));
     none = λ h. h;
     size = refl;
-    store = keeps_all is_honest held slot_count asked faults m.store;
+    store = keeps_all S m.store;
   }
 
-  pub more_made : (m k n : Memory W) (first : Place) (i : ℕ) (right : Right) → MakesPages is_honest held slot_count asked faults m k first i right
-      → MakesPages is_honest held slot_count asked faults k n (place_after first i) 1 right → MakesPages is_honest held slot_count asked faults m n first (i + 1) right
+  pub more_made : (m k n : Memory W) (first : Place) (i : ℕ) (right : Right) → MakesPages S m k first i right
+      → MakesPages S k n (place_after first i) 1 right → MakesPages S m n first (i + 1) right
   more_made m k n first i right x y = record {
     sound = y.sound;
-    rights = y.rights ∙ (make_bare (place_after first i) 1 right (make first i right (ledger held m)) (ledger held k) x.rights
-        ∙ ap bare (sym (make_next first i right (ledger held m))));
+    rights = y.rights ∙ (make_bare (place_after first i) 1 right (make first i right (ledger S.held m)) (ledger S.held k) x.rights
+        ∙ ap bare (sym (make_next first i right (ledger S.held m))));
     whole = λ means.
-        let ends = ends_of (is_known is_honest held m) (none_out m) (none_out n) means in
-        let same = known_kept is_honest held slot_count asked faults m.store k.store x.store in
-        y.whole (over_from (is_known is_honest held m) (is_known is_honest held k) (none_out k) (none_out n) same
+        let ends = ends_of (is_known S m) (none_out m) (none_out n) means in
+        let same = known_kept S m.store k.store x.store in
+        y.whole (over_from (is_known S m) (is_known S k) (none_out k) (none_out n) same
         (λ unknown. y.none (ends unknown).1) (λ unknown. (ends unknown).1))
         ∙ (ap (make (place_after first i) 1 right)
-        (x.whole (over_from (is_known is_honest held m) (is_known is_honest held m) (none_out m) (none_out k) refl
+        (x.whole (over_from (is_known S m) (is_known S m) (none_out m) (none_out k) refl
         (λ unknown. (ends unknown).0) (λ unknown. y.none (ends unknown).1)))
-        ∙ sym (make_next first i right (ledger held m)));
+        ∙ sym (make_next first i right (ledger S.held m)));
     none = λ h. x.none (y.none h);
     size = y.size ∙ x.size;
-    store = store_then is_honest held slot_count asked faults m.store k.store n.store x.store y.store;
+    store = store_then S m.store k.store n.store x.store y.store;
   }
 
   -- the next page of the run may be made
-  module _ (m k : Memory W) (first : Place) (n i : ℕ) (low : i < n) (right : Right) (can : CanMake (processes m) (capacity_of m) (ledger held m) first n)
-      (x : MakesPages is_honest held slot_count asked faults m k first i right) where
+  module _ (m k : Memory W) (first : Place) (n i : ℕ) (low : i < n) (right : Right) (can : CanMake (processes m) (capacity_of m) (ledger S.held m) first n)
+      (x : MakesPages S m k first i right) where
     procs_same : processes k ≡ processes m
     procs_same = ap (λ (s : Size). s.procs) x.size
 
-    can_so_far : CanMake (processes m) (capacity_of m) (ledger held m) first i
-    can_so_far = fewer (processes m) (capacity_of m) (ledger held m) first n i (omega arith) can
+    can_so_far : CanMake (processes m) (capacity_of m) (ledger S.held m) first i
+    can_so_far = fewer (processes m) (capacity_of m) (ledger S.held m) first n i (omega arith) can
 
     pub crowded_lies : is_user_place (processes k) (place_after first i) ≡ true
     crowded_lies = ap (λ p. is_user_place p (place_after first i)) procs_same ∙ can.lies (place_after first i) (in_run-after first n i low)
 
-    pub crowded_free : is_free (processes k) (ledger held k) (place_after first i) ≡ true
-    crowded_free = ap (λ p. is_free p (ledger held k) (place_after first i)) procs_same
-        ∙ (bare-free (processes m) (make first i right (ledger held m)) (ledger held k) (place_after first i) x.rights
-        ∙ free_ahead (processes m) (capacity_of m) (ledger held m) first i right can_so_far (can.free (place_after first i) (in_run-after first n i low)))
+    pub crowded_free : is_free (processes k) (ledger S.held k) (place_after first i) ≡ true
+    crowded_free = ap (λ p. is_free p (ledger S.held k) (place_after first i)) procs_same
+        ∙ (bare-free (processes m) (make first i right (ledger S.held m)) (ledger S.held k) (place_after first i) x.rights
+        ∙ free_ahead (processes m) (capacity_of m) (ledger S.held m) first i right can_so_far (can.free (place_after first i) (in_run-after first n i low)))
 
     pub crowded_room : k.pages + 1 ≤ capacity_of k
     crowded_room =
-        let counted : k.pages ≡ pages (processes k) (ledger held k) = x.sound.pages ∙ sym (pages-ledger held k) in
-        let same : pages (processes k) (ledger held k) ≡ pages (processes m) (make first i right (ledger held m)) =
-        ap (λ p. pages p (ledger held k)) procs_same ∙ bare-pages (processes m) (make first i right (ledger held m)) (ledger held k) x.rights in
-        let more : pages (processes m) (make first i right (ledger held m)) ≡ pages (processes m) (ledger held m) + i =
-        make_pages (processes m) (capacity_of m) first i right (ledger held m) can_so_far in
+        let counted : k.pages ≡ pages (processes k) (ledger S.held k) = x.sound.pages ∙ sym (pages-ledger S.held k) in
+        let same : pages (processes k) (ledger S.held k) ≡ pages (processes m) (make first i right (ledger S.held m)) =
+        ap (λ p. pages p (ledger S.held k)) procs_same ∙ bare-pages (processes m) (make first i right (ledger S.held m)) (ledger S.held k) x.rights in
+        let more : pages (processes m) (make first i right (ledger S.held m)) ≡ pages (processes m) (ledger S.held m) + i =
+        make_pages (processes m) (capacity_of m) first i right (ledger S.held m) can_so_far in
         let room : capacity_of k ≡ capacity_of m = ap (λ (s : Size). capacity s.area.frames s.procs s.slots) x.size in
         omega (arith, counted, same, more, can.room, room)
 
   -- a run for which frames were free
-  pub near_made : (m n : Memory W) (first : Place) (count : ℕ) (right : Right) → IsSound slot_count n → ledger held n ≡ make first count right (ledger held m)
-      → ChangesPagesAlone m n → (none_out n ≡ true → none_out m ≡ true) → MakesPages is_honest held slot_count asked faults m n first count right
+  pub near_made : (m n : Memory W) (first : Place) (count : ℕ) (right : Right) → IsSound S.slot_count n → ledger S.held n ≡ make first count right (ledger S.held m)
+      → ChangesPagesAlone m n → (none_out n ≡ true → none_out m ≡ true) → MakesPages S m n first count right
   near_made m n first count right sound placed rest none = record {
     sound = sound;
     rights = ap bare placed;
     whole = λ means. placed;
     none = none;
     size = rest.size;
-    store = same_store is_honest held slot_count asked faults m.store n.store rest.store;
+    store = same_store S m.store n.store rest.store;
   }
 
   -- what `make` leaves of it where it answers Failed
   pub first_made : (m n : Memory W) (answer : Result Vpn XousError) (pid : Pid) (first : Vpn) (count : ℕ) (right : Right) → answer ≡ Ok first
-      → MakesFirst is_honest held slot_count asked faults m n (page_place pid first) count right
-      → HasMadeFirst (MeansBytesOver is_honest held m n) answer pid count right (ledger held m) (ledger held n)
+      → MakesFirst S m n (page_place pid first) count right
+      → HasMadeFirst (MeansBytesOver S m n) answer pid count right (ledger S.held m) (ledger S.held n)
   first_made m n answer pid first count right served x = record {
     first = first;
     count = x.count;

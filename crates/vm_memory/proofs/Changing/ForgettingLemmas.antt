@@ -1,4 +1,5 @@
 -- The pages of a process go window by window.
+use Rattle.xk_ports.specs.declared.store.SwapStore.{Ghosts as SwapStore}
 use Rattle.xk_base.specs.Tables.Circle.{is_pid}
 use Rattle.std.proofs.Common.{◌≡◌, ℕ, ◌+◌, if◌then◌else◌, Bool, true, false, ◌&&◌, ◌==◌, Option, Some, None, refl, sym, ap, subst, ◌∙◌, inl, inr, arith}
 use Rattle.std.specs.Prelude.{is_some, nat_le, nat_lt}
@@ -165,11 +166,11 @@ module _ (procs : ℕ) (l : Ledger) (pid : Pid) (lies : (p : Place) (page : Page
   all_windows = same_ledger l5 (forget pid l) homes orphans
 
 -- each page of a memory has its home at a user place
-pub homes_lie : {W : Type 0} (slot_count : W → ℕ) (held : W → Held) (m : Memory W) → IsSound slot_count m → (p : Place) (page : Page)
-    → (ledger held m).home p ≡ Some page → is_user_place (processes m) p ≡ true
+pub homes_lie : {W : Type 0} (S : SwapStore W) (m : Memory W) → IsSound S.slot_count m → (p : Place) (page : Page)
+    → (ledger S.held m).home p ≡ Some page → is_user_place (processes m) p ≡ true
 unfolding ledger ledger_of
-homes_lie slot_count held m sound p page e = by_entry (entries (processes m) m.ram p) refl
+homes_lie S m sound p page e = by_entry (entries (processes m) m.ram p) refl
   where
     by_entry : (o : Option Entry) → entries (processes m) m.ram p ≡ o → is_user_place (processes m) p ≡ true
-    by_entry None h = absurd (none-some page (sym (ap (option_and_then (page_of_entry (infos m.owners) (bytes_at m.ram (held m.store)))) h) ∙ e))
+    by_entry None h = absurd (none-some page (sym (ap (option_and_then (page_of_entry (infos m.owners) (bytes_at m.ram (S.held m.store)))) h) ∙ e))
     by_entry (Some entry) h = sym (sound.agree.entries.spelled p) ∙ ap is_some h

@@ -1,4 +1,5 @@
 -- What `at` tells is what the ledger has at the place.
+use Rattle.xk_ports.specs.declared.store.SwapStore.{Ghosts as SwapStore}
 use Rattle.std.proofs.Common.{◌≡◌, ℕ, Bool, true, false, List, Option, Some, None, refl, sym, ap, ◌∙◌, inl, inr}
 use Rattle.std.specs.Prelude.{is_some}
 use Rattle.std.proofs.lemmas.Bool.{true≢false}
@@ -34,7 +35,7 @@ held_here : (p : Place) (kind : LoanKind) (bytes : List ℕ) (info : Option Page
 held_here p kind bytes info None = refl
 held_here p kind bytes info (Some home) = refl
 
-module _ {W : Type 0} (slot_count : W → ℕ) (held : W → Held) (m : Memory W) (sound : IsSound slot_count m) (p : Place) where
+module _ {W : Type 0} (S : SwapStore W) (m : Memory W) (sound : IsSound S.slot_count m) (p : Place) where
   abbrev E : Entries
   E = entries (processes m) m.ram
 
@@ -42,19 +43,19 @@ module _ {W : Type 0} (slot_count : W → ℕ) (held : W → Held) (m : Memory W
   I = infos m.owners
 
   abbrev B : SeatBytes
-  B = bytes_at m.ram (held m.store)
+  B = bytes_at m.ram (S.held m.store)
 
-  here_by : (o : Option Entry) → E p ≡ o → here_at (processes m) (ledger held m) p ≡ here_of (entry_role I B p o)
+  here_by : (o : Option Entry) → E p ≡ o → here_at (processes m) (ledger S.held m) p ≡ here_of (entry_role I B p o)
   unfolding ledger blank_ledger
   here_by o e = ap here_of (role-entry (processes m) E I B sound.agree.entries p o e)
 
-  pub here-free : E p ≡ Some Free → here.Nothing ≡ here_at (processes m) (ledger held m) p
+  pub here-free : E p ≡ Some Free → here.Nothing ≡ here_at (processes m) (ledger S.held m) p
   here-free e = sym (here_by (Some Free) e)
 
-  pub here-nowhere : is_user_place (processes m) p ≡ false → here.Nothing ≡ here_at (processes m) (ledger held m) p
+  pub here-nowhere : is_user_place (processes m) p ≡ false → here.Nothing ≡ here_at (processes m) (ledger S.held m) p
   here-nowhere outside = by_entry (E p) refl
     where
-      by_entry : (o : Option Entry) → E p ≡ o → here.Nothing ≡ here_at (processes m) (ledger held m) p
+      by_entry : (o : Option Entry) → E p ≡ o → here.Nothing ≡ here_at (processes m) (ledger S.held m) p
       by_entry None e = sym (here_by None e)
       by_entry (Some entry) e = absurd (true≢false (sym (ap is_some e) ∙ (sound.agree.entries.spelled p ∙ outside)))
 
@@ -66,7 +67,7 @@ module _ {W : Type 0} (slot_count : W → ℕ) (held : W → Held) (m : Memory W
   side_tells (MutOut x) s e = ap (here.Own (record { w = true; x = x }) false) (sym (ap loan_in (sound.agree.entries.mut_out p x s e)))
   side_tells MutIn s e = held_here p Exclusive (B s) (I s) (home_in (I s))
 
-  pub here-side : (side : Side) (s : Seat) → E p ≡ Some (At side s) → side_here side (I s) ≡ here_at (processes m) (ledger held m) p
+  pub here-side : (side : Side) (s : Seat) → E p ≡ Some (At side s) → side_here side (I s) ≡ here_at (processes m) (ledger S.held m) p
   here-side side s e = sym (here_by (Some (At side s)) e ∙ side_tells side s e)
 
   pub seat_there : (side : Side) (s : Seat) → E p ≡ Some (At side s) → HasSeat (extent m.owners) s
@@ -75,5 +76,5 @@ module _ {W : Type 0} (slot_count : W → ℕ) (held : W → Held) (m : Memory W
     | inr some ↦ infos-within m.owners s some.0 some.1
   ]
 
-  pub here-console : (w : Bool) → E p ≡ Some (OnConsole w) → here.Own (record { w = w; x = false }) true None ≡ here_at (processes m) (ledger held m) p
+  pub here-console : (w : Bool) → E p ≡ Some (OnConsole w) → here.Own (record { w = w; x = false }) true None ≡ here_at (processes m) (ledger S.held m) p
   here-console w e = sym (here_by (Some (OnConsole w)) e)

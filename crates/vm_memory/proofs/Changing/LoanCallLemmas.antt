@@ -1,4 +1,5 @@
 -- A call on loans does to a memory what it does to entries and owners.
+use Rattle.xk_ports.specs.declared.store.SwapStore.{Ghosts as SwapStore}
 use Rattle.xk_base.specs.Tables.Circle.{is_pid}
 use Rattle.std.proofs.Common.{◌≡◌, ℕ, ◌+◌, ◌-◌, ◌≤◌, Bool, true, false, Option, Some, None, Result, Ok, Err, refl, sym, ap, subst, ◌∙◌, arith}
 use Rattle.std.specs.Prelude.{nat_le, if◌then◌else◌}
@@ -65,43 +66,43 @@ use Rattle.vm_memory.proofs.Changing.SoundMemoryLemmas.{bare-ledger}
 
 -- ---- what a memory's ledger says, its entries and owners say
 
-module _ {W : Type 0} (slot_count : W → ℕ) (held : W → Held) (m : Memory W) (sound : IsSound slot_count m) where
-  pub stands_there : (loan : LoanRun) → Stands (loans (ledger held m)) loan → StandsIn (entries (processes m) m.ram) (infos m.owners) loan
+module _ {W : Type 0} (S : SwapStore W) (m : Memory W) (sound : IsSound S.slot_count m) where
+  pub stands_there : (loan : LoanRun) → Stands (loans (ledger S.held m)) loan → StandsIn (entries (processes m) m.ram) (infos m.owners) loan
   unfolding ledger
-  stands_there loan s = stands_in (processes m) (entries (processes m) m.ram) (infos m.owners) (bytes_at m.ram (held m.store)) sound.agree.entries loan s
+  stands_there loan s = stands_in (processes m) (entries (processes m) m.ram) (infos m.owners) (bytes_at m.ram (S.held m.store)) sound.agree.entries loan s
 
-  pub stands_here : (loan : LoanRun) → StandsIn (entries (processes m) m.ram) (infos m.owners) loan → Stands (loans (ledger held m)) loan
+  pub stands_here : (loan : LoanRun) → StandsIn (entries (processes m) m.ram) (infos m.owners) loan → Stands (loans (ledger S.held m)) loan
   unfolding ledger
-  stands_here loan s = in_stands (processes m) (entries (processes m) m.ram) (infos m.owners) (bytes_at m.ram (held m.store)) sound.agree.entries loan s
+  stands_here loan s = in_stands (processes m) (entries (processes m) m.ram) (infos m.owners) (bytes_at m.ram (S.held m.store)) sound.agree.entries loan s
 
-  pub unlent_there : (number : Number) → IsFresh (loans (ledger held m)) number → IsUnlent (infos m.owners) number
+  pub unlent_there : (number : Number) → IsFresh (loans (ledger S.held m)) number → IsUnlent (infos m.owners) number
   unfolding ledger
-  unlent_there number f = fresh_in (processes m) (entries (processes m) m.ram) (infos m.owners) (bytes_at m.ram (held m.store)) sound.agree.entries number f
+  unlent_there number f = fresh_in (processes m) (entries (processes m) m.ram) (infos m.owners) (bytes_at m.ram (S.held m.store)) sound.agree.entries number f
 
-  pub fresh_here : (number : Number) → IsUnlent (infos m.owners) number → IsFresh (loans (ledger held m)) number
+  pub fresh_here : (number : Number) → IsUnlent (infos m.owners) number → IsFresh (loans (ledger S.held m)) number
   unfolding ledger
-  fresh_here number f = in_fresh (processes m) (entries (processes m) m.ram) (infos m.owners) (bytes_at m.ram (held m.store)) sound.agree.entries number f
+  fresh_here number f = in_fresh (processes m) (entries (processes m) m.ram) (infos m.owners) (bytes_at m.ram (S.held m.store)) sound.agree.entries number f
 
   -- the answer of a send
   pub same_answer : (from : Place) (n : ℕ) (kind : MemKind)
-      → entry.send_answer (entries (processes m) m.ram) from n kind ≡ send_answer (processes m) (ledger held m) from n kind
+      → entry.send_answer (entries (processes m) m.ram) from n kind ≡ send_answer (processes m) (ledger S.held m) from n kind
   unfolding ledger
   same_answer from n kind = λ i.
-      if missing_is_free (processes m) (entries (processes m) m.ram) (infos m.owners) (bytes_at m.ram (held m.store)) sound.agree.entries from n i then Err BadAddress else (
-      if unsendable_is_not_sent (processes m) (entries (processes m) m.ram) (infos m.owners) (bytes_at m.ram (held m.store)) sound.agree.entries (is_mutable kind) from n i
+      if missing_is_free (processes m) (entries (processes m) m.ram) (infos m.owners) (bytes_at m.ram (S.held m.store)) sound.agree.entries from n i then Err BadAddress else (
+      if unsendable_is_not_sent (processes m) (entries (processes m) m.ram) (infos m.owners) (bytes_at m.ram (S.held m.store)) sound.agree.entries (is_mutable kind) from n i
       then Err ShareViolation else Ok tt)
 
   -- the least free run
   pub same_run : (pid : Pid) (window : Window) (n : ℕ)
-      → least_free (entries (processes m) m.ram) pid window n ≡ least_run (processes m) (ledger held m) pid window n
+      → least_free (entries (processes m) m.ram) pid window n ≡ least_run (processes m) (ledger S.held m) pid window n
   unfolding ledger
-  same_run pid window n = least_by_entries (processes m) (entries (processes m) m.ram) (infos m.owners) (bytes_at m.ram (held m.store)) pid window n sound.agree.entries
+  same_run pid window n = least_by_entries (processes m) (entries (processes m) m.ram) (infos m.owners) (bytes_at m.ram (S.held m.store)) pid window n sound.agree.entries
 
   -- the places where pages arrive are free
-  pub free_there : (to : Place) (n : ℕ) → IsFreeArrival (processes m) (ledger held m) to n
+  pub free_there : (to : Place) (n : ℕ) → IsFreeArrival (processes m) (ledger S.held m) to n
       → (p : Place) → in_run to n p ≡ true → entries (processes m) m.ram p ≡ Some Free
   free_there to n arrival p here =
-      free_entry slot_count held m sound p (is_place_in-user (processes m) Message p (arrival.lies p here)) (arrival.free p here)
+      free_entry S m sound p (is_place_in-user (processes m) Message p (arrival.lies p here)) (arrival.free p here)
 
 -- ---- what is asked of a step
 
@@ -161,10 +162,10 @@ found_arrival procs l pid n first process e =
 
 -- ---- the end of a loan takes its orphans away
 
-module _ {W : Type 0} (slot_count : W → ℕ) (held : W → Held) (m : Memory W) (sound : IsSound slot_count m) (loan : LoanRun)
-    (stands : Stands (loans (ledger held m)) loan) where
+module _ {W : Type 0} (S : SwapStore W) (m : Memory W) (sound : IsSound S.slot_count m) (loan : LoanRun)
+    (stands : Stands (loans (ledger S.held m)) loan) where
   blank_stands : Stands (loans (blank_ledger m)) loan
-  blank_stands = subst (λ x. Stands x loan) (bare-loans (blank_ledger m) (ledger held m) (bare-ledger held m)) stands
+  blank_stands = subst (λ x. Stands x loan) (bare-loans (blank_ledger m) (ledger S.held m) (bare-ledger S.held m)) stands
 
   left_over : (o : Option Place) → loan.lender ≡ o
       → pages (processes m) (end_loan loan.number (blank_ledger m)) + option_map_or (λ from. 0) o loan.count ≡ m.pages
@@ -184,11 +185,11 @@ module _ {W : Type 0} (slot_count : W → ℕ) (held : W → Held) (m : Memory W
 -- ---- THE CALLS
 
 -- the memory has made the step of the ledger, and keeps its seats
-pub record DoesStep {W : Type 0} (slot_count : W → ℕ) (honest : W → Bool) (held : W → Held) (m n : Memory W) (step : Ledger → Ledger) : Type 0 where
-  pub ledger : ledger held n ≡ step (ledger held m)
-  pub keeps : KeepsSeats slot_count honest held m n
+pub record DoesStep {W : Type 0} (S : SwapStore W) (m n : Memory W) (step : Ledger → Ledger) : Type 0 where
+  pub ledger : ledger S.held n ≡ step (ledger S.held m)
+  pub keeps : KeepsSeats S m n
 
-module _ {W : Type 0} (slot_count : W → ℕ) (honest : W → Bool) (held : W → Held) (m : Memory W) (sound : IsSound slot_count m)
+module _ {W : Type 0} (S : SwapStore W) (m : Memory W) (sound : IsSound S.slot_count m)
     (ram : RamBytes) (owners : OwnerTable) (count : ℕ)
     (agree : agrees ram owners) (keeps : KeepsPages (tables m.ram m.owners) (tables ram owners)) where
   -- the memory after the call
@@ -217,11 +218,11 @@ module _ {W : Type 0} (slot_count : W → ℕ) (honest : W → Bool) (held : W �
   -- Where the step is made from any bytes, and lawful and counted pages follow, the memory makes it.
   pub does_step : (step : Ledger → Ledger) → IsLedgerStep step (tables m.ram m.owners) (tables ram owners)
       → IsLawful (processes m) (capacity_of m) (step (blank_ledger m)) → count ≡ pages (processes m) (step (blank_ledger m))
-      → DoesStep slot_count honest held m n step
+      → DoesStep S m n step
   does_step step steps lawful counted =
-      let there = step_there slot_count held m n (entries (processes m) ram) (infos owners) sound changed step agree_there lawful counted
+      let there = step_there S m n (entries (processes m) ram) (infos owners) sound changed step agree_there lawful counted
       (λ usable. room_kept m n keeps.extent (λ f free. keeps.free (frame_seat f) free) (sound.room usable))
-      (frames_stay slot_count held m n (entries (processes m) ram) (infos owners) sound changed keeps.pages)
+      (frames_stay S m n (entries (processes m) ram) (infos owners) sound changed keeps.pages)
       (λ B. ap (λ k. ledger_of (entries k ram) (infos owners) B) (sym same_procs) ∙ steps B) in
       record {
         ledger = there.ledger;
@@ -233,52 +234,52 @@ module _ {W : Type 0} (slot_count : W → ℕ) (honest : W → Bool) (held : W �
           failed = refl;
           seats = keeps.free;
           none = none_out-kept m n (λ s free. keeps.free (Slot s) free);
-          means = means-kept honest held m n refl (none_out-kept m n (λ s free. keeps.free (Slot s) free));
+          means = means-kept S m n refl (none_out-kept m n (λ s free. keeps.free (Slot s) free));
         };
       }
 
   -- .. as a call that keeps the number of pages
   kept : (step : Ledger → Ledger) → IsLedgerStep step (tables m.ram m.owners) (tables ram owners)
       → IsLawful (processes m) (capacity_of m) (step (blank_ledger m)) → pages (processes m) (step (blank_ledger m)) ≡ pages (processes m) (blank_ledger m)
-      → count ≡ m.pages → DoesStep slot_count honest held m n step
+      → count ≡ m.pages → DoesStep S m n step
   kept step steps lawful same whole = does_step step steps lawful (whole ∙ (sound.pages ∙ sym same))
 
   pub lent : (from : Place) (k : ℕ) (to : Place) (kind : LoanKind) (number : Number)
       → IsLedgerStep (lend from k to kind number) (tables m.ram m.owners) (tables ram owners)
-      → CanLend (processes m) (ledger held m) from k to kind number → count ≡ m.pages
-      → DoesStep slot_count honest held m n (lend from k to kind number)
+      → CanLend (processes m) (ledger S.held m) from k to kind number → count ≡ m.pages
+      → DoesStep S m n (lend from k to kind number)
   lent from k to kind number steps can whole =
       let blank : CanLend (processes m) (blank_ledger m) from k to kind number =
-      bare-can_lend (processes m) (ledger held m) (blank_ledger m) (sym (bare-ledger held m)) from k to kind number can in
+      bare-can_lend (processes m) (ledger S.held m) (blank_ledger m) (sym (bare-ledger S.held m)) from k to kind number can in
       kept (lend from k to kind number) steps
       (lend_lawful (processes m) from k to kind number (blank_ledger m) blank (capacity_of m) sound.lawful)
       (lend_pages (processes m) from k to kind number (blank_ledger m)) whole
 
   pub given : (from : Place) (k : ℕ) (to : Place)
       → IsLedgerStep (give from k to) (tables m.ram m.owners) (tables ram owners)
-      → CanGive (processes m) (ledger held m) from k to → count ≡ m.pages
-      → DoesStep slot_count honest held m n (give from k to)
+      → CanGive (processes m) (ledger S.held m) from k to → count ≡ m.pages
+      → DoesStep S m n (give from k to)
   given from k to steps can whole =
       let blank : CanGive (processes m) (blank_ledger m) from k to =
-      bare-can_give (processes m) (ledger held m) (blank_ledger m) (sym (bare-ledger held m)) from k to can in
+      bare-can_give (processes m) (ledger S.held m) (blank_ledger m) (sym (bare-ledger S.held m)) from k to can in
       kept (give from k to) steps
       (give_lawful (processes m) from k to (blank_ledger m) blank (capacity_of m) sound.lawful)
       (give_pages (processes m) from k to (blank_ledger m) blank (capacity_of m) sound.lawful) whole
 
   pub passed : (loan : LoanRun) (to : Place)
       → IsLedgerStep (pass loan.number loan.holder to) (tables m.ram m.owners) (tables ram owners)
-      → CanPass (processes m) (ledger held m) loan to → count ≡ m.pages
-      → DoesStep slot_count honest held m n (pass loan.number loan.holder to)
+      → CanPass (processes m) (ledger S.held m) loan to → count ≡ m.pages
+      → DoesStep S m n (pass loan.number loan.holder to)
   passed loan to steps can whole =
       let blank : CanPass (processes m) (blank_ledger m) loan to =
-      bare-can_pass (processes m) (ledger held m) (blank_ledger m) (sym (bare-ledger held m)) loan to can in
+      bare-can_pass (processes m) (ledger S.held m) (blank_ledger m) (sym (bare-ledger S.held m)) loan to can in
       kept (pass loan.number loan.holder to) steps
       (pass_lawful (processes m) (blank_ledger m) loan to blank (capacity_of m) sound.lawful)
       (pass_pages (processes m) loan.number loan.holder to (blank_ledger m)) whole
 
   pub orphaned : (number : Number)
       → IsLedgerStep (orphan_loan (processes m) number) (tables m.ram m.owners) (tables ram owners) → count ≡ m.pages
-      → DoesStep slot_count honest held m n (orphan_loan (processes m) number)
+      → DoesStep S m n (orphan_loan (processes m) number)
   orphaned number steps whole =
       kept (orphan_loan (processes m) number) steps
       (orphan_loan_lawful (processes m) (capacity_of m) number (blank_ledger m) sound.lawful)
@@ -286,8 +287,8 @@ module _ {W : Type 0} (slot_count : W → ℕ) (honest : W → Bool) (held : W �
 
   -- the orphans of a loan without a lender go
   pub ended : (loan : LoanRun) → IsLedgerStep (end_loan loan.number) (tables m.ram m.owners) (tables ram owners)
-      → Stands (loans (ledger held m)) loan → count ≡ m.pages - orphans_of loan
-      → DoesStep slot_count honest held m n (end_loan loan.number)
+      → Stands (loans (ledger S.held m)) loan → count ≡ m.pages - orphans_of loan
+      → DoesStep S m n (end_loan loan.number)
   ended loan steps stands left = does_step (end_loan loan.number) steps
       (end_loan_lawful (processes m) (capacity_of m) loan.number (blank_ledger m) sound.lawful)
-      (left ∙ sym (orphans_gone slot_count held m sound loan stands))
+      (left ∙ sym (orphans_gone S m sound loan stands))

@@ -1,4 +1,5 @@
 -- Runs that are made, removed and reduced page by page: what holds after the first i pages.
+use Rattle.xk_ports.specs.declared.store.SwapStore.{Ghosts as SwapStore}
 use Rattle.std.proofs.Common.{◌≡◌, ℕ, ◌+◌, ◌*◌, ◌<◌, ◌≤◌, ◌^◌, true, false, Some, refl, sym, ap, subst, ◌∙◌, inl, inr, arith}
 use Rattle.std.specs.Prelude.{is_some}
 use Rattle.std.proofs.lemmas.Bool.{both_ways, cases_lt, cond-true, cond-false}
@@ -53,9 +54,9 @@ rest_then a b c first second = record {
   slots = λ s free. second.slots s (first.slots s free);
 }
 
-module _ {W : Type 0} (slot_count : W → ℕ) (held : W → Held) (m0 m : Memory W) (sound : IsSound slot_count m) (rest : ChangesPagesAlone m0 m) (first : Place) (n i : ℕ) (low : i < n) where
+module _ {W : Type 0} (S : SwapStore W) (m0 m : Memory W) (sound : IsSound S.slot_count m) (rest : ChangesPagesAlone m0 m) (first : Place) (n i : ℕ) (low : i < n) where
   abbrev L0 : Ledger
-  L0 = ledger held m0
+  L0 = ledger S.held m0
 
   procs_same : processes m ≡ processes m0
   procs_same = ap (λ (s : Size). s.procs) rest.size
@@ -63,60 +64,60 @@ module _ {W : Type 0} (slot_count : W → ℕ) (held : W → Held) (m0 m : Memor
   capacity_same : capacity_of m ≡ capacity_of m0
   capacity_same = ap (λ (s : Size). capacity s.area.frames s.procs s.slots) rest.size
 
-  module _ (right : Right) (can : CanMake (processes m0) (capacity_of m0) (ledger held m0) first n) (so_far : ledger held m ≡ make first i right (ledger held m0)) where
+  module _ (right : Right) (can : CanMake (processes m0) (capacity_of m0) (ledger S.held m0) first n) (so_far : ledger S.held m ≡ make first i right (ledger S.held m0)) where
     can_first : CanMake (processes m0) (capacity_of m0) L0 first i
     can_first = fewer (processes m0) (capacity_of m0) L0 first n i (omega arith) can
 
     pub next_lies : is_user_place (processes m) (place_after first i) ≡ true
     next_lies = ap (λ k. is_user_place k (place_after first i)) procs_same ∙ can.lies (place_after first i) (in_run-after first n i low)
 
-    pub next_free : is_free (processes m) (ledger held m) (place_after first i) ≡ true
-    next_free = ap (λ k. is_free k (ledger held m) (place_after first i)) procs_same
+    pub next_free : is_free (processes m) (ledger S.held m) (place_after first i) ≡ true
+    next_free = ap (λ k. is_free k (ledger S.held m) (place_after first i)) procs_same
         ∙ (ap (λ l. is_free (processes m0) l (place_after first i)) so_far
         ∙ free_ahead (processes m0) (capacity_of m0) L0 first i right can_first (can.free (place_after first i) (in_run-after first n i low)))
 
     pub next_room : m.pages + 1 ≤ capacity_of m
     next_room =
-        let counted : m.pages ≡ pages (processes m) (ledger held m) = sound.pages ∙ sym (pages-ledger held m) in
-        let same : pages (processes m) (ledger held m) ≡ pages (processes m0) (make first i right L0) =
-        ap (λ k. pages k (ledger held m)) procs_same ∙ ap (pages (processes m0)) so_far in
+        let counted : m.pages ≡ pages (processes m) (ledger S.held m) = sound.pages ∙ sym (pages-ledger S.held m) in
+        let same : pages (processes m) (ledger S.held m) ≡ pages (processes m0) (make first i right L0) =
+        ap (λ k. pages k (ledger S.held m)) procs_same ∙ ap (pages (processes m0)) so_far in
         let more : pages (processes m0) (make first i right L0) ≡ pages (processes m0) L0 + i = make_pages (processes m0) (capacity_of m0) first i right L0 can_first in
         omega (arith, counted, same, more, can.room, capacity_same)
 
-    pub next_left : IsSound slot_count m0 → m0.pages + n ≤ frames_for_pages m0 → m.pages + 1 ≤ frames_for_pages m
+    pub next_left : IsSound S.slot_count m0 → m0.pages + n ≤ frames_for_pages m0 → m.pages + 1 ≤ frames_for_pages m
     next_left before fits =
-        let counted : m.pages ≡ pages (processes m) (ledger held m) = sound.pages ∙ sym (pages-ledger held m) in
-        let same : pages (processes m) (ledger held m) ≡ pages (processes m0) (make first i right L0) =
-        ap (λ k. pages k (ledger held m)) procs_same ∙ ap (pages (processes m0)) so_far in
+        let counted : m.pages ≡ pages (processes m) (ledger S.held m) = sound.pages ∙ sym (pages-ledger S.held m) in
+        let same : pages (processes m) (ledger S.held m) ≡ pages (processes m0) (make first i right L0) =
+        ap (λ k. pages k (ledger S.held m)) procs_same ∙ ap (pages (processes m0)) so_far in
         let more : pages (processes m0) (make first i right L0) ≡ pages (processes m0) L0 + i = make_pages (processes m0) (capacity_of m0) first i right L0 can_first in
-        let counted_before : m0.pages ≡ pages (processes m0) L0 = before.pages ∙ sym (pages-ledger held m0) in
+        let counted_before : m0.pages ≡ pages (processes m0) L0 = before.pages ∙ sym (pages-ledger S.held m0) in
         let frames : frames_for_pages m ≡ frames_for_pages m0 = ap (λ (s : Size). page_frames s.area.frames s.procs) rest.size in
         omega (arith, counted, same, more, counted_before, fits, frames)
 
-    pub next_made : (m2 : Memory W) → ledger held m2 ≡ make (place_after first i) 1 right (ledger held m) → ledger held m2 ≡ make first (i + 1) right (ledger held m0)
+    pub next_made : (m2 : Memory W) → ledger S.held m2 ≡ make (place_after first i) 1 right (ledger S.held m) → ledger S.held m2 ≡ make first (i + 1) right (ledger S.held m0)
     next_made m2 e = e ∙ (ap (make (place_after first i) 1 right) so_far ∙ sym (make_next first i right L0))
 
-  module _ (free : any_on_loan (processes m0) (ledger held m0) first n ≡ false) (so_far : ledger held m ≡ remove (in_run first i) (ledger held m0)) where
-    pub next_not_lent : is_on_loan (role_at (processes m) (ledger held m) (place_after first i)) ≡ false
-    next_not_lent = ap (λ k. is_on_loan (role_at k (ledger held m) (place_after first i))) procs_same
+  module _ (free : any_on_loan (processes m0) (ledger S.held m0) first n ≡ false) (so_far : ledger S.held m ≡ remove (in_run first i) (ledger S.held m0)) where
+    pub next_not_lent : is_on_loan (role_at (processes m) (ledger S.held m) (place_after first i)) ≡ false
+    next_not_lent = ap (λ k. is_on_loan (role_at k (ledger S.held m) (place_after first i))) procs_same
         ∙ (ap (λ l. is_on_loan (role_at (processes m0) l (place_after first i))) so_far
         ∙ lent_ahead (processes m0) L0 first n i free low)
 
-    pub next_removed : (m2 : Memory W) → ledger held m2 ≡ remove (in_run (place_after first i) 1) (ledger held m) → ledger held m2 ≡ remove (in_run first (i + 1)) (ledger held m0)
+    pub next_removed : (m2 : Memory W) → ledger S.held m2 ≡ remove (in_run (place_after first i) 1) (ledger S.held m) → ledger S.held m2 ≡ remove (in_run first (i + 1)) (ledger S.held m0)
     next_removed m2 e = e ∙ (ap (remove (in_run (place_after first i) 1)) so_far ∙ sym (remove_next first i L0))
 
-  module _ (right : Right) (free : any_on_loan (processes m0) (ledger held m0) first n ≡ false) (within : any_lacks right (ledger held m0) first n ≡ false)
-      (so_far : ledger held m ≡ reduce (in_run first i) right (ledger held m0)) where
-    pub next_not_lent_reduced : is_on_loan (role_at (processes m) (ledger held m) (place_after first i)) ≡ false
-    next_not_lent_reduced = ap (λ k. is_on_loan (role_at k (ledger held m) (place_after first i))) procs_same
+  module _ (right : Right) (free : any_on_loan (processes m0) (ledger S.held m0) first n ≡ false) (within : any_lacks right (ledger S.held m0) first n ≡ false)
+      (so_far : ledger S.held m ≡ reduce (in_run first i) right (ledger S.held m0)) where
+    pub next_not_lent_reduced : is_on_loan (role_at (processes m) (ledger S.held m) (place_after first i)) ≡ false
+    next_not_lent_reduced = ap (λ k. is_on_loan (role_at k (ledger S.held m) (place_after first i))) procs_same
         ∙ (ap (λ l. is_on_loan (role_at (processes m0) l (place_after first i))) so_far
         ∙ lent_ahead_reduced (processes m0) L0 first n i right free low)
 
-    pub next_within : asks_more right ((ledger held m).home (place_after first i)) ≡ false
+    pub next_within : asks_more right ((ledger S.held m).home (place_after first i)) ≡ false
     next_within = ap (λ l. asks_more right (l.home (place_after first i))) so_far ∙ within_ahead L0 first n i right within low
 
-    pub next_reduced : (m2 : Memory W) → ledger held m2 ≡ reduce (in_run (place_after first i) 1) right (ledger held m)
-        → ledger held m2 ≡ reduce (in_run first (i + 1)) right (ledger held m0)
+    pub next_reduced : (m2 : Memory W) → ledger S.held m2 ≡ reduce (in_run (place_after first i) 1) right (ledger S.held m)
+        → ledger S.held m2 ≡ reduce (in_run first (i + 1)) right (ledger S.held m0)
     next_reduced m2 e = e ∙ (ap (reduce (in_run (place_after first i) 1) right) so_far ∙ sym (reduce_next first i right L0))
 
 -- a user place has a page number of 32 bits

@@ -1,4 +1,5 @@
 -- What the calls on one page write, as steps of the memory.
+use Rattle.xk_ports.specs.declared.store.SwapStore.{Ghosts as SwapStore}
 use Rattle.xk_base.specs.Tables.Circle.{is_pid}
 use Rattle.std.proofs.Common.{◌≡◌, ℕ, ◌+◌, ◌-◌, ◌*◌, ◌<◌, ◌≤◌, Bool, true, false, not, List, replicate, length, Option, Some, None, refl, sym, ap, subst, ◌∙◌, inl, inr, arith}
 use Rattle.std.specs.Prelude.{is_some, nat_eq}
@@ -123,7 +124,7 @@ zeros_put s B zero = λ i t. by_seat t i
       | inr apart ↦ cond-false (seat_eq t s) zero_page (B t) apart.1
     ]
 
-module _ {W : Type 0} (slot_count : W → ℕ) (held : W → Held) (m : Memory W) (sound : IsSound slot_count m) (at : Place) where
+module _ {W : Type 0} (S : SwapStore W) (m : Memory W) (sound : IsSound S.slot_count m) (at : Place) where
   abbrev E : Entries
   E = entries (processes m) m.ram
 
@@ -131,7 +132,7 @@ module _ {W : Type 0} (slot_count : W → ℕ) (held : W → Held) (m : Memory W
   I = infos m.owners
 
   abbrev B : SeatBytes
-  B = bytes_at m.ram (held m.store)
+  B = bytes_at m.ram (S.held m.store)
 
   -- ---- what stands at the place
 
@@ -146,7 +147,7 @@ module _ {W : Type 0} (slot_count : W → ℕ) (held : W → Held) (m : Memory W
   entry_made e here = sound.agree.made at.pid.0 (entry_process e here)
 
   -- a free place has a free entry
-  pub free_entry : is_user_place (processes m) at ≡ true → is_free (processes m) (ledger held m) at ≡ true → E at ≡ Some Free
+  pub free_entry : is_user_place (processes m) at ≡ true → is_free (processes m) (ledger S.held m) at ≡ true → E at ≡ Some Free
   unfolding ledger
   free_entry user free = by_entry (E at) refl (sym (free_by_entry (processes m) E I B sound.agree.entries at) ∙ free)
       (sound.agree.entries.spelled at ∙ user)
@@ -200,11 +201,11 @@ module _ {W : Type 0} (slot_count : W → ℕ) (held : W → Held) (m : Memory W
     pub written_step : (step : Ledger → Ledger) → EntriesAgree (processes m) (with_entry E at entry) J
         → IsLawful (processes m) (capacity_of m) (step (blank_ledger m)) → count ≡ pages (processes m) (step (blank_ledger m))
         → ((f : ℕ) → infos m.owners (frame_seat f) ≡ None → infos owners (frame_seat f) ≡ None)
-        → ((C : SeatBytes) → ledger_of (with_entry E at entry) J C ≡ step (ledger_of E I C)) → IsStep slot_count held m n step
+        → ((C : SeatBytes) → ledger_of (with_entry E at entry) J C ≡ step (ledger_of E I C)) → IsStep S m n step
     written_step step agree lawful counted free each =
-        step_there slot_count held m n (with_entry E at entry) J sound changed step agree lawful counted
+        step_there S m n (with_entry E at entry) J sound changed step agree lawful counted
         (λ usable. room_kept m n table free (sound.room usable))
-        (frames_stay slot_count held m n (with_entry E at entry) J sound changed (λ g low. w.pages (processes m) g process low)) each
+        (frames_stay S m n (with_entry E at entry) J sound changed (λ g low. w.pages (processes m) g process low)) each
 
   -- ---- a page goes
 
@@ -220,7 +221,7 @@ module _ {W : Type 0} (slot_count : W → ℕ) (held : W → Held) (m : Memory W
   pub gone_step : (new : RamBytes) (owners : OwnerTable) (right : Right) (s : Seat) → E at ≡ Some (At (Own right) s)
       → IsWritten m.ram new at Free
       → infos owners ≡ put_at seat_eq (infos m.owners) s None → extent owners ≡ extent m.owners
-      → IsStep slot_count held m (record m { ram = new; owners = owners; pages = m.pages - 1 }) (remove (in_run at 1))
+      → IsStep S m (record m { ram = new; owners = owners; pages = m.pages - 1 }) (remove (in_run at 1))
   gone_step new owners right s here w told table =
       written_step new owners (m.pages - 1) Free (with_info I s None) (entry_process (At (Own right) s) here) w told table
       (remove (in_run at 1)) (remove_agrees (processes m) E I at right s sound.agree.entries here)
@@ -231,7 +232,7 @@ module _ {W : Type 0} (slot_count : W → ℕ) (held : W → Held) (m : Memory W
       (λ C. remove_ledger (processes m) E I C at right s sound.agree.entries here)
 
   -- where a place has no page of its own, and nothing on loan, there is no home
-  pub nothing_there : is_on_loan (role_at (processes m) (ledger held m) at) ≡ false → owned_in (E at) ≡ owned.Nothing → (ledger held m).home at ≡ None
+  pub nothing_there : is_on_loan (role_at (processes m) (ledger S.held m) at) ≡ false → owned_in (E at) ≡ owned.Nothing → (ledger S.held m).home at ≡ None
   unfolding ledger ledger_of blank_ledger
   nothing_there free e = by_entry (E at) refl e
     where
@@ -250,22 +251,22 @@ module _ {W : Type 0} (slot_count : W → ℕ) (held : W → Held) (m : Memory W
       by_entry (Some (At MutIn s)) h n = ap (option_and_then (page_of_entry I B)) h
       by_entry (Some (OnConsole w)) h n = absurd cc
 
-  pub nothing_gone : is_on_loan (role_at (processes m) (ledger held m) at) ≡ false → owned_in (E at) ≡ owned.Nothing
-      → ledger held m ≡ remove (in_run at 1) (ledger held m)
-  nothing_gone free e = sym (remove_nothing (in_run at 1) (ledger held m)
-      (λ p there. ap (λ q. (ledger held m).home q) (in_one at p there) ∙ nothing_there free e))
+  pub nothing_gone : is_on_loan (role_at (processes m) (ledger S.held m) at) ≡ false → owned_in (E at) ≡ owned.Nothing
+      → ledger S.held m ≡ remove (in_run at 1) (ledger S.held m)
+  nothing_gone free e = sym (remove_nothing (in_run at 1) (ledger S.held m)
+      (λ p there. ap (λ q. (ledger S.held m).home q) (in_one at p there) ∙ nothing_there free e))
 
   -- ---- a page gets another right
 
   -- the right that the entry tells has what is asked
-  page_within : (right new : Right) (s : Seat) → E at ≡ Some (At (Own right) s) → asks_more new ((ledger held m).home at) ≡ false → is_within new right ≡ true
+  page_within : (right new : Right) (s : Seat) → E at ≡ Some (At (Own right) s) → asks_more new ((ledger S.held m).home at) ≡ false → is_within new right ≡ true
   unfolding ledger
   page_within right new s here asked = within_of new right (sym (ap (asks_more new) (home_at E I B at (At (Own right) s) here)) ∙ asked)
 
   pub reduced_step : (new_ram : RamBytes) (right new : Right) (s : Seat) → E at ≡ Some (At (Own right) s)
-      → asks_more new ((ledger held m).home at) ≡ false
+      → asks_more new ((ledger S.held m).home at) ≡ false
       → IsWritten m.ram new_ram at (At (Own new) s)
-      → IsStep slot_count held m (record m { ram = new_ram }) (reduce (in_run at 1) new)
+      → IsStep S m (record m { ram = new_ram }) (reduce (in_run at 1) new)
   reduced_step new_ram right new s here asked w =
       written_step new_ram m.owners m.pages (At (Own new) s) I (entry_process (At (Own right) s) here) w refl refl
       (reduce (in_run at 1) new) (reduce_agrees (processes m) E I at right new s sound.agree.entries here)
@@ -275,9 +276,9 @@ module _ {W : Type 0} (slot_count : W → ℕ) (held : W → Held) (m : Memory W
       (λ f free. free)
       (λ C. reduce_ledger (processes m) E I C at right new s sound.agree.entries here)
 
-  pub nothing_reduced : (right : Right) → is_on_loan (role_at (processes m) (ledger held m) at) ≡ false → owned_in (E at) ≡ owned.Nothing
-      → ledger held m ≡ reduce (in_run at 1) right (ledger held m)
-  nothing_reduced right free e = reduce_nothing at right (ledger held m) (nothing_there free e)
+  pub nothing_reduced : (right : Right) → is_on_loan (role_at (processes m) (ledger S.held m) at) ≡ false → owned_in (E at) ≡ owned.Nothing
+      → ledger S.held m ≡ reduce (in_run at 1) right (ledger S.held m)
+  nothing_reduced right free e = reduce_nothing at right (ledger S.held m) (nothing_there free e)
 
   -- ---- a page comes
 
@@ -357,11 +358,11 @@ module _ {W : Type 0} (slot_count : W → ℕ) (held : W → Held) (m : Memory W
       unfolding blank_ledger
       counted_then = ap (pages (processes m)) (from_zeros no_bytes refl) ∙ make_pages (processes m) (capacity_of m) at 1 right (blank_ledger m) can
 
-      pub placed_step : IsStep slot_count held m p (make at 1 right)
+      pub placed_step : IsStep S m p (make at 1 right)
       unfolding blank_ledger
-      placed_step = step_from slot_count held m p E2 I2 sound placed (make at 1 right)
+      placed_step = step_from S m p E2 I2 sound placed (make at 1 right)
           agree_then
           (make_lawful (processes m) (capacity_of m) at 1 right (blank_ledger m) sound.lawful can)
           (ap (λ k. k + 1) sound.pages ∙ sym (make_pages (processes m) (capacity_of m) at 1 right (blank_ledger m) can))
-          (λ usable. room_there slot_count held m p E2 I2 sound placed agree_then (omega (arith, left usable, counted_then, sound.pages)))
-          stay (from_zeros no_bytes refl) (from_zeros (bytes_at new (held m.store)) zeros)
+          (λ usable. room_there S m p E2 I2 sound placed agree_then (omega (arith, left usable, counted_then, sound.pages)))
+          stay (from_zeros no_bytes refl) (from_zeros (bytes_at new (S.held m.store)) zeros)

@@ -30,6 +30,7 @@ use Rattle.sv32_space.specs.declared.sides.Side.{Side}
 use Rattle.loan_flags.specs.Keeping.{tables}
 use Rattle.swap_map.specs.Moving.{KeepsSizes, Moves, StaysPut}
 use Rattle.swap_map.proofs.ExchangeLemmas.{stayed_whole, used_behind}
+use Rattle.xk_ports.specs.declared.store.SwapStore.{Ghosts as SwapStore}
 use Rattle.xk_ports.specs.Keeping.{KeepsStore, tells_truly}
 use Rattle.vm_memory.specs.declared.memory.Memory.{Memory}
 use Rattle.vm_memory.specs.Bytes.{is_known, none_out, used_frames, used_slots}
@@ -41,15 +42,15 @@ use Rattle.vm_memory.proofs.Changing.CountLemmas.{each_counts, seats_count}
 use Rattle.vm_memory.proofs.Changing.SoundMemoryLemmas.{bare-ledger}
 
 -- THE WORKHORSE: entries and owners agree, the ledger is the same but for its bytes, and the sizes stay.
-module _ {W : Type 0} (slot_count : W → ℕ) (held : W → Held) (m : Memory W) (sound : IsSound slot_count m)
+module _ {W : Type 0} (S : SwapStore W) (m : Memory W) (sound : IsSound S.slot_count m)
     (ram : RamBytes) (owners : OwnerTable) (store : W) (failed : Bool) (hand : ℕ) where
   abbrev n : Memory W
   n = record m { ram = ram; owners = owners; store = store; failed = failed; hand = hand }
 
   module _ (agree : agrees ram owners) (sizes : KeepsSizes (tables m.ram m.owners) (tables ram owners))
-      (rights : bare (ledger held n) ≡ bare (ledger held m)) (slots : slot_count store ≡ slot_count m.store) where
+      (rights : bare (ledger S.held n) ≡ bare (ledger S.held m)) (slots : S.slot_count store ≡ S.slot_count m.store) where
     bare_blank : bare (blank_ledger n) ≡ bare (blank_ledger m)
-    bare_blank = sym (bare-ledger held n) ∙ (rights ∙ bare-ledger held m)
+    bare_blank = sym (bare-ledger S.held n) ∙ (rights ∙ bare-ledger S.held m)
 
     lawful_now : IsLawful (processes n) (capacity_of n) (blank_ledger n)
     lawful_now =
@@ -67,7 +68,7 @@ module _ {W : Type 0} (slot_count : W → ℕ) (held : W → Held) (m : Memory W
     unfolding blank_ledger
     seats_now = seats_count (processes n) (entries (processes n) ram) owners agree.entries ∙ sym counted_now
 
-    pub shifted : (failed ≡ false → HasUnusedFrame (extent owners) (infos owners)) → IsSound slot_count n
+    pub shifted : (failed ≡ false → HasUnusedFrame (extent owners) (infos owners)) → IsSound S.slot_count n
     shifted room = record {
       agree = agree;
       procs = sound.procs ∙ sym (ap procs_of sizes.extent);
@@ -85,10 +86,9 @@ module _ {W : Type 0} (slot_count : W → ℕ) (held : W → Held) (m : Memory W
     }
 
     -- .. so that pages have moved
-    pub moved : {P : Type 0} (is_honest : W → Bool) (asked : W → P) (faults : W → ℕ)
-        → (IsTrue (is_known is_honest held m) → ledger held n ≡ ledger held m) → KeepsStore is_honest held slot_count asked faults m.store store
-        → (failed ≡ false → HasUnusedFrame (extent owners) (infos owners)) → MovesPages is_honest held slot_count asked faults m n
-    moved is_honest asked faults whole keeps room = record {
+    pub moved : (IsTrue (is_known S m) → ledger S.held n ≡ ledger S.held m) → KeepsStore S m.store store
+        → (failed ≡ false → HasUnusedFrame (extent owners) (infos owners)) → MovesPages S m n
+    moved whole keeps room = record {
       sound = shifted room;
       rights = rights;
       whole = whole;
@@ -97,45 +97,45 @@ module _ {W : Type 0} (slot_count : W → ℕ) (held : W → Held) (m : Memory W
     }
 
 -- a store that stays as it is keeps all of itself
-pub keeps_all : {W P : Type 0} (is_honest : W → Bool) (held : W → Held) (slot_count : W → ℕ) (asked : W → P) (faults : W → ℕ) (store : W)
-    → KeepsStore is_honest held slot_count asked faults store store
-keeps_all is_honest held slot_count asked faults store = record { honest = refl; told = refl; slots = refl; preparations = refl; never_falls = omega arith }
+pub keeps_all : {W : Type 0} (S : SwapStore W) (store : W)
+    → KeepsStore S store store
+keeps_all S store = record { honest = refl; told = refl; slots = refl; preparations = refl; never_falls = omega arith }
 
 -- .. by what `evict` and `bring` say of it
-pub moved_in : {W P : Type 0} (is_honest : W → Bool) (held : W → Held) (slot_count : W → ℕ) (asked : W → P) (faults : W → ℕ)
-    (m : Memory W) → IsSound slot_count m → (ram : RamBytes) (owners : OwnerTable) (store : W) (failed : Bool) (hand : ℕ)
+pub moved_in : {W : Type 0} (S : SwapStore W)
+    (m : Memory W) → IsSound S.slot_count m → (ram : RamBytes) (owners : OwnerTable) (store : W) (failed : Bool) (hand : ℕ)
     → agrees ram owners → KeepsSizes (tables m.ram m.owners) (tables ram owners)
-    → bare (ledger_in ram owners (held store)) ≡ bare (ledger_in m.ram m.owners (held m.store))
-    → (IsTrue (tells_truly is_honest held m.store) → ledger_in ram owners (held store) ≡ ledger_in m.ram m.owners (held m.store))
-    → KeepsStore is_honest held slot_count asked faults m.store store → (failed ≡ false → HasUnusedFrame (extent owners) (infos owners))
-    → MovesPages is_honest held slot_count asked faults m (record m { ram = ram; owners = owners; store = store; failed = failed; hand = hand })
+    → bare (ledger_in ram owners (S.held store)) ≡ bare (ledger_in m.ram m.owners (S.held m.store))
+    → (IsTrue (tells_truly S m.store) → ledger_in ram owners (S.held store) ≡ ledger_in m.ram m.owners (S.held m.store))
+    → KeepsStore S m.store store → (failed ≡ false → HasUnusedFrame (extent owners) (infos owners))
+    → MovesPages S m (record m { ram = ram; owners = owners; store = store; failed = failed; hand = hand })
 unfolding ledger
-moved_in is_honest held slot_count asked faults m sound ram owners store failed hand agree sizes rights whole keeps room =
-    moved slot_count held m sound ram owners store failed hand agree sizes rights keeps.slots is_honest asked faults whole keeps room
+moved_in S m sound ram owners store failed hand agree sizes rights whole keeps room =
+    moved S m sound ram owners store failed hand agree sizes rights keeps.slots whole keeps room
 
 -- nothing moves where only the mark of failure and the hand change
-pub unmoved : {W P : Type 0} (is_honest : W → Bool) (held : W → Held) (slot_count : W → ℕ) (asked : W → P) (faults : W → ℕ)
-    (m : Memory W) → IsSound slot_count m → (failed : Bool) (hand : ℕ) → (failed ≡ false → HasUnusedFrame (extent m.owners) (infos m.owners))
-    → MovesPages is_honest held slot_count asked faults m (record m { failed = failed; hand = hand })
+pub unmoved : {W : Type 0} (S : SwapStore W)
+    (m : Memory W) → IsSound S.slot_count m → (failed : Bool) (hand : ℕ) → (failed ≡ false → HasUnusedFrame (extent m.owners) (infos m.owners))
+    → MovesPages S m (record m { failed = failed; hand = hand })
 unfolding ledger
-unmoved is_honest held slot_count asked faults m sound failed hand room =
-    moved slot_count held m sound m.ram m.owners m.store failed hand sound.agree (record { area = refl; extent = refl }) refl refl
-    is_honest asked faults (λ known. refl) (keeps_all is_honest held slot_count asked faults m.store) room
+unmoved S m sound failed hand room =
+    moved S m sound m.ram m.owners m.store failed hand sound.agree (record { area = refl; extent = refl }) refl refl
+    (λ known. refl) (keeps_all S m.store) room
 
-pub same_moves : {W P : Type 0} (is_honest : W → Bool) (held : W → Held) (slot_count : W → ℕ) (asked : W → P) (faults : W → ℕ)
-    (m : Memory W) → IsSound slot_count m → MovesPages is_honest held slot_count asked faults m m
-same_moves is_honest held slot_count asked faults m sound =
-    record { sound = sound; rights = refl; whole = λ known. refl; size = refl; store = keeps_all is_honest held slot_count asked faults m.store }
+pub same_moves : {W : Type 0} (S : SwapStore W)
+    (m : Memory W) → IsSound S.slot_count m → MovesPages S m m
+same_moves S m sound =
+    record { sound = sound; rights = refl; whole = λ known. refl; size = refl; store = keeps_all S m.store }
 
 -- what is known stays known
-pub known_kept : {W P : Type 0} (is_honest : W → Bool) (held : W → Held) (slot_count : W → ℕ) (asked : W → P) (faults : W → ℕ) (a b : W)
-    → KeepsStore is_honest held slot_count asked faults a b → (is_honest b && is_some (held b)) ≡ (is_honest a && is_some (held a))
-known_kept is_honest held slot_count asked faults a b keeps = λ i. keeps.honest i && keeps.told i
+pub known_kept : {W : Type 0} (S : SwapStore W) (a b : W)
+    → KeepsStore S a b → (S.is_honest b && is_some (S.held b)) ≡ (S.is_honest a && is_some (S.held a))
+known_kept S a b keeps = λ i. keeps.honest i && keeps.told i
 
-pub store_then : {W P : Type 0} (is_honest : W → Bool) (held : W → Held) (slot_count : W → ℕ) (asked : W → P) (faults : W → ℕ) (a b c : W)
-    → KeepsStore is_honest held slot_count asked faults a b → KeepsStore is_honest held slot_count asked faults b c
-    → KeepsStore is_honest held slot_count asked faults a c
-store_then is_honest held slot_count asked faults a b c x y = record {
+pub store_then : {W : Type 0} (S : SwapStore W) (a b c : W)
+    → KeepsStore S a b → KeepsStore S b c
+    → KeepsStore S a c
+store_then S a b c x y = record {
   honest = y.honest ∙ x.honest;
   told = y.told ∙ x.told;
   slots = y.slots ∙ x.slots;
@@ -143,15 +143,15 @@ store_then is_honest held slot_count asked faults a b c x y = record {
   never_falls = omega (arith, x.never_falls, y.never_falls);
 }
 
-pub moves_then : {W P : Type 0} (is_honest : W → Bool) (held : W → Held) (slot_count : W → ℕ) (asked : W → P) (faults : W → ℕ) (a b c : Memory W)
-    → MovesPages is_honest held slot_count asked faults a b → MovesPages is_honest held slot_count asked faults b c
-    → MovesPages is_honest held slot_count asked faults a c
-moves_then is_honest held slot_count asked faults a b c x y = record {
+pub moves_then : {W : Type 0} (S : SwapStore W) (a b c : Memory W)
+    → MovesPages S a b → MovesPages S b c
+    → MovesPages S a c
+moves_then S a b c x y = record {
   sound = y.sound;
   rights = y.rights ∙ x.rights;
-  whole = λ known. y.whole (known_kept is_honest held slot_count asked faults a.store b.store x.store ∙ known) ∙ x.whole known;
+  whole = λ known. y.whole (known_kept S a.store b.store x.store ∙ known) ∙ x.whole known;
   size = y.size ∙ x.size;
-  store = store_then is_honest held slot_count asked faults a.store b.store c.store x.store y.store;
+  store = store_then S a.store b.store c.store x.store y.store;
 }
 
 -- ---- free seats
@@ -254,7 +254,7 @@ brought_near m ram owners n from into moves (Err e) keep = tt
 
 -- ---- a page doesn't go out, as the store failed
 
-module _ {W : Type 0} (slot_count : W → ℕ) (held : W → Held) (m : Memory W) (sound : IsSound slot_count m)
+module _ {W : Type 0} (S : SwapStore W) (m : Memory W) (sound : IsSound S.slot_count m)
     (ram : RamBytes) (owners : OwnerTable) (store : W) (failed : Bool) (hand : ℕ) (stays : StaysPut (tables m.ram m.owners) (tables ram owners))
     (pages_stay : (g : ℕ) → table_frames (procs_of (extent m.owners)) ≤ g → page_of_frame ram g ≡ page_of_frame m.ram g) where
   abbrev k : Memory W
@@ -264,11 +264,11 @@ module _ {W : Type 0} (slot_count : W → ℕ) (held : W → Held) (m : Memory W
   still_none = none_out-kept k m (λ s free. ap (λ I. I (Slot s)) (sym stays.infos) ∙ free)
 
   -- where no page is out, all bytes are in frames
-  pub still_whole : none_out m ≡ true → ledger held k ≡ ledger held m
+  pub still_whole : none_out m ≡ true → ledger S.held k ≡ ledger S.held m
   unfolding ledger
-  still_whole none = stayed_whole (tables m.ram m.owners) (tables ram owners) sound.agree stays (bytes_at m.ram (held m.store)) (bytes_at ram (held store)) same
+  still_whole none = stayed_whole (tables m.ram m.owners) (tables ram owners) sound.agree stays (bytes_at m.ram (S.held m.store)) (bytes_at ram (S.held store)) same
     where
-      same : (s : Seat) (x : PageInfo) → infos m.owners s ≡ Some x → bytes_at ram (held store) s ≡ bytes_at m.ram (held m.store) s
+      same : (s : Seat) (x : PageInfo) → infos m.owners s ≡ Some x → bytes_at ram (S.held store) s ≡ bytes_at m.ram (S.held m.store) s
       same (Frame g) x used = pages_stay g.0 (used_behind m.ram m.owners sound.agree g x used)
       same (Slot s) x used = absurd (both_ways (is_some (infos m.owners (Slot s))) (ap is_some (none_out-slots m none s)) (ap is_some used))
 

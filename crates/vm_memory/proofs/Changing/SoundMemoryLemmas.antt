@@ -1,4 +1,5 @@
 -- What follows from the soundness of a memory.
+use Rattle.xk_ports.specs.declared.store.SwapStore.{Ghosts as SwapStore}
 use Rattle.std.proofs.Common.{◌≡◌, ℕ, Bool, true, false, refl}
 use Rattle.std.specs.Prelude.{MatchBool}
 use Rattle.phys_pages.specs.Owners.{extent, infos}
@@ -26,13 +27,13 @@ pub pages-ledger : {W : Type 0} (held : W → Held) (m : Memory W) → pages (pr
 pages-ledger held m = bare-pages (processes m) (blank_ledger m) (ledger held m) (bare-ledger held m)
 
 -- THE TIE holds of a sound memory
-pub sound-tied : {W : Type 0} (slot_count : W → ℕ) (held : W → Held) (m : Memory W) → IsSound slot_count m → IsTied held m
+pub sound-tied : {W : Type 0} (S : SwapStore W) (m : Memory W) → IsSound S.slot_count m → IsTied S.held m
 unfolding ledger
-sound-tied slot_count held m sound = by_failed m.failed sound.room
+sound-tied S m sound = by_failed m.failed sound.room
   where
     by_failed : (failed : Bool) → (failed ≡ false → HasUnusedFrame (extent m.owners) (infos m.owners))
         → MatchBool failed
-        (stands_without_room m.ram (processes m) (held m.store) (ledger held m))
-        (stands_for m.ram (processes m) (held m.store) (ledger held m))
-    by_failed true room = stands_agreeing m.ram m.owners (held m.store) sound.agree
-    by_failed false room = stands_with_room m.ram m.owners (held m.store) sound.agree (room refl)
+        (stands_without_room m.ram (processes m) (S.held m.store) (ledger S.held m))
+        (stands_for m.ram (processes m) (S.held m.store) (ledger S.held m))
+    by_failed true room = stands_agreeing m.ram m.owners (S.held m.store) sound.agree
+    by_failed false room = stands_with_room m.ram m.owners (S.held m.store) sound.agree (room refl)

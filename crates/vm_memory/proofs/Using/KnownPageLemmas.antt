@@ -1,4 +1,5 @@
 -- What is known of a process's pages, over the accesses of a process.
+use Rattle.xk_ports.specs.declared.store.SwapStore.{Ghosts as SwapStore}
 use Rattle.std.proofs.Common.{◌≡◌, ℕ, ◌/◌, ◌%◌, if◌then◌else◌, Bool, true, false, Option, Some, None, refl, sym, ap, subst, ◌∙◌}
 use Rattle.std.specs.Prelude.{◌==◌, Result, Ok, Err, OnOk, OnErr}
 use Rattle.std.proofs.lemmas.Bool.{eqb-true, false≢true}
@@ -26,16 +27,16 @@ use Rattle.vm_memory.specs.Using.UserStores.{DoesStore}
 use Rattle.vm_memory.proofs.Using.UserStoringLemmas.{entries_stay}
 
 -- a store changes no entry
-pub remembers_stored : {W : Type 0} (held : W → Held) (slot_count : W → ℕ) (m : Memory W) (sound : IsSound slot_count m) (pid : Pid)
+pub remembers_stored : {W : Type 0} (S : SwapStore W) (m : Memory W) (sound : IsSound S.slot_count m) (pid : Pid)
     (va : ℕ) (width : Width) (value : ℕ) (aligned : va % size_of width ≡ 0) (known : KnownPages) (k : Memory W) (stored : Stored)
     → DoesStore m k pid va width value stored → Remembers m pid known → Remembers k pid known
-remembers_stored held slot_count m sound pid va width value aligned known k Done h remembers =
+remembers_stored S m sound pid va width value aligned known k Done h remembers =
     subst (λ x. Remembers x pid known) (sym h.stored) (λ access page e.
-    ap (λ E. entry_target (E (record { pid = pid; vpn = page.vpn })) access) (entries_stay slot_count held m sound pid va width value aligned h.frame h.target)
+    ap (λ E. entry_target (E (record { pid = pid; vpn = page.vpn })) access) (entries_stay S m sound pid va width value aligned h.frame h.target)
     ∙ remembers access page e)
-remembers_stored held slot_count m sound pid va width value aligned known k (Device offset) h remembers =
+remembers_stored S m sound pid va width value aligned known k (Device offset) h remembers =
     subst (λ x. Remembers x pid known) (sym h.2) remembers
-remembers_stored held slot_count m sound pid va width value aligned known k Fault h remembers =
+remembers_stored S m sound pid va width value aligned known k Fault h remembers =
     subst (λ x. Remembers x pid known) (sym h.1) remembers
 
 -- an access leads to the frame that is known

@@ -1,4 +1,5 @@
 -- What stays where a page comes in, and what an access gives after it.
+use Rattle.xk_ports.specs.declared.store.SwapStore.{Ghosts as SwapStore}
 use Rattle.std.proofs.Common.{◌≡◌, ℕ, ◌*◌, ◌/◌, if◌then◌else◌, Bool, true, false, ◌||◌, not, Option, Some, None, refl, sym, ap, subst, ◌∙◌, inl, inr, arith}
 use Rattle.std.specs.Prelude.{is_some, Result, Ok, Err, IfOk, OnErr, OnOk}
 use Rattle.xk_base.specs.declared.errors.Failed.{Failed}
@@ -88,48 +89,48 @@ keeps_if true c x y h = cond-true c (Some y) None (h refl).0 ∙ ap (λ f. Some 
 
 -- ---- a page comes in
 
-module _ {W P : Type 0} (is_honest : W → Bool) (held : W → Held) (slot_count : W → ℕ) (asked : W → P) (faults : W → ℕ) (m n : Memory W)
-    (b : BringsIn is_honest held slot_count asked faults m n) where
+module _ {W : Type 0} (S : SwapStore W) (m n : Memory W)
+    (b : BringsIn S m n) where
   pub brings_none : none_out m ≡ true → none_out n ≡ true
   brings_none none = ap (λ k. none_out k) (b.none none) ∙ none
 
-  pub brings_means : MeansBytes is_honest held m → MeansBytes is_honest held n
-  brings_means means = either_kept (is_known is_honest held m) (none_out m) (is_known is_honest held n) (none_out n)
-      (known_kept is_honest held slot_count asked faults m.store n.store b.moves.store) brings_none means
+  pub brings_means : MeansBytes S m → MeansBytes S n
+  brings_means means = either_kept (is_known S m) (none_out m) (is_known S n) (none_out n)
+      (known_kept S m.store n.store b.moves.store) brings_none means
 
-  pub brings_whole : MeansBytes is_honest held m → ledger held n ≡ ledger held m
-  brings_whole means = either_way (is_known is_honest held m) (none_out m) means (λ known. b.moves.whole known) (λ none. ap (ledger held) (b.none none))
+  pub brings_whole : MeansBytes S m → ledger S.held n ≡ ledger S.held m
+  brings_whole means = either_way (is_known S m) (none_out m) means (λ known. b.moves.whole known) (λ none. ap (ledger S.held) (b.none none))
 
   procs_same : processes n ≡ processes m
   procs_same = ap (λ (s : Size). s.procs) b.moves.size
 
-  pub brings_reaches : (p : Place) (access : Access) → reaches_bytes (processes n) (ledger held n) p access ≡ reaches_bytes (processes m) (ledger held m) p access
-  brings_reaches p access = ap (λ k. reaches_bytes k (ledger held n) p access) procs_same
-      ∙ same_reaches (processes m) (ledger held m) (ledger held n) b.moves.rights p access
+  pub brings_reaches : (p : Place) (access : Access) → reaches_bytes (processes n) (ledger S.held n) p access ≡ reaches_bytes (processes m) (ledger S.held m) p access
+  brings_reaches p access = ap (λ k. reaches_bytes k (ledger S.held n) p access) procs_same
+      ∙ same_reaches (processes m) (ledger S.held m) (ledger S.held n) b.moves.rights p access
 
   module _ (pid : Pid) where
-    pub brings_may : (user_view held n pid).may ≡ (user_view held m pid).may
-    brings_may = ap (λ k. (seen_memory k (ledger held n) pid).may) procs_same ∙ same_may (processes m) (ledger held m) (ledger held n) pid b.moves.rights
+    pub brings_may : (user_view S.held n pid).may ≡ (user_view S.held m pid).may
+    brings_may = ap (λ k. (seen_memory k (ledger S.held n) pid).may) procs_same ∙ same_may (processes m) (ledger S.held m) (ledger S.held n) pid b.moves.rights
 
-    pub brings_console : (user_view held n pid).console ≡ (user_view held m pid).console
-    brings_console = ap (λ k. (seen_memory k (ledger held n) pid).console) procs_same
-        ∙ same_console (processes m) (ledger held m) (ledger held n) pid b.moves.rights
+    pub brings_console : (user_view S.held n pid).console ≡ (user_view S.held m pid).console
+    brings_console = ap (λ k. (seen_memory k (ledger S.held n) pid).console) procs_same
+        ∙ same_console (processes m) (ledger S.held m) (ledger S.held n) pid b.moves.rights
 
-    pub brings_bytes : MeansBytes is_honest held m → (user_view held n pid).byte ≡ (user_view held m pid).byte
-    brings_bytes means = ap (λ k. (seen_memory k (ledger held n) pid).byte) procs_same ∙ ap (λ l. (seen_memory (processes m) l pid).byte) (brings_whole means)
+    pub brings_bytes : MeansBytes S m → (user_view S.held n pid).byte ≡ (user_view S.held m pid).byte
+    brings_bytes means = ap (λ k. (seen_memory k (ledger S.held n) pid).byte) procs_same ∙ ap (λ l. (seen_memory (processes m) l pid).byte) (brings_whole means)
 
-    pub brings_content : KeepsContent (user_content is_honest held m pid) (user_content is_honest held n pid)
-    brings_content = keeps_if (means_bytes is_honest held m) (means_bytes is_honest held n) (user_view held m pid).byte (user_view held n pid).byte
+    pub brings_content : KeepsContent (user_content S m pid) (user_content S n pid)
+    brings_content = keeps_if (means_bytes S m) (means_bytes S n) (user_view S.held m pid).byte (user_view S.held n pid).byte
         (λ means. (brings_means means, brings_bytes means))
 
-    pub brings_rest : KeepsRest is_honest held slot_count asked faults pid m n
+    pub brings_rest : KeepsRest S pid m n
     brings_rest = record {
       rights = b.moves.rights;
       sizes = b.moves.size;
       means = brings_means;
       unseen = λ means name unseen. ap (λ l. contents_of l name) (brings_whole means);
       sound = λ s. b.moves.sound;
-      tie = λ s. sound-tied slot_count held n b.moves.sound;
+      tie = λ s. sound-tied S n b.moves.sound;
       out = λ none usable. subst IsUsable (sym (b.none none)) usable;
       none = brings_none;
       store = b.moves.store;
@@ -266,10 +267,10 @@ same_page at =
     ap (λ v. record at { vpn = record { 0 = v } }) page
 
 -- a place without an entry is reached by none
-pub nowhere_reached : {W : Type 0} (slot_count : W → ℕ) (held : W → Held) (m : Memory W) → IsSound slot_count m → (p : Place) (access : Access)
-    → is_user_place (processes m) p ≡ false → reaches_bytes (processes m) (ledger held m) p access ≡ false
-nowhere_reached slot_count held m sound p access nowhere = by_entry (entries (processes m) m.ram p) refl
+pub nowhere_reached : {W : Type 0} (S : SwapStore W) (m : Memory W) → IsSound S.slot_count m → (p : Place) (access : Access)
+    → is_user_place (processes m) p ≡ false → reaches_bytes (processes m) (ledger S.held m) p access ≡ false
+nowhere_reached S m sound p access nowhere = by_entry (entries (processes m) m.ram p) refl
   where
-    by_entry : (o : Option Entry) → entries (processes m) m.ram p ≡ o → reaches_bytes (processes m) (ledger held m) p access ≡ false
-    by_entry None e = ap (λ r. option_map_or has_bytes (option_and_then (contents_of (ledger held m)) r) false) (reach_nowhere slot_count held m sound p access e)
+    by_entry : (o : Option Entry) → entries (processes m) m.ram p ≡ o → reaches_bytes (processes m) (ledger S.held m) p access ≡ false
+    by_entry None e = ap (λ r. option_map_or has_bytes (option_and_then (contents_of (ledger S.held m)) r) false) (reach_nowhere S m sound p access e)
     by_entry (Some entry) e = absurd (both_ways (is_user_place (processes m) p) nowhere (sym (sound.agree.entries.spelled p) ∙ ap is_some e))

@@ -1,4 +1,5 @@
 -- Places past the address space.
+use Rattle.xk_ports.specs.declared.store.SwapStore.{Ghosts as SwapStore}
 use Rattle.xk_base.specs.Tables.Circle.{is_pid}
 use Rattle.std.proofs.Common.{◌≡◌, ℕ, ◌≤◌, ◌^◌, Bool, true, false, ◌&&◌, None, refl, sym, ap, ◌∙◌, arith}
 use Rattle.std.specs.Prelude.{is_some}
@@ -33,22 +34,22 @@ no_user procs p past = ap (λ o. is_pid procs p.pid.0 && is_some o) (no_window p
     never true = refl
     never false = refl
 
-module _ {W : Type 0} (slot_count : W → ℕ) (held : W → Held) (m : Memory W) (sound : IsSound slot_count m) (p : Place) (past : 2 ^ 32 ≤ p.vpn.0) where
+module _ {W : Type 0} (S : SwapStore W) (m : Memory W) (sound : IsSound S.slot_count m) (p : Place) (past : 2 ^ 32 ≤ p.vpn.0) where
   no_entry : entries (processes m) m.ram p ≡ None
   no_entry = no_entry_elsewhere (processes m) m.ram p (no_user (processes m) p past)
 
   -- nothing is there
-  pub nowhere_here : Nothing ≡ here_at (processes m) (ledger held m) p
+  pub nowhere_here : Nothing ≡ here_at (processes m) (ledger S.held m) p
   unfolding ledger blank_ledger
   nowhere_here = sym (ap here_of (role-entry (processes m) (entries (processes m) m.ram) (infos m.owners)
-      (bytes_at m.ram (held m.store)) sound.agree.entries p None no_entry))
+      (bytes_at m.ram (S.held m.store)) sound.agree.entries p None no_entry))
 
-  nowhere_home : (ledger held m).home p ≡ None
+  nowhere_home : (ledger S.held m).home p ≡ None
   unfolding ledger ledger_of
-  nowhere_home = ap (option_and_then (page_of_entry (infos m.owners) (bytes_at m.ram (held m.store)))) no_entry
+  nowhere_home = ap (option_and_then (page_of_entry (infos m.owners) (bytes_at m.ram (S.held m.store)))) no_entry
 
-  pub nowhere_removed : ledger held m ≡ remove (in_run p 1) (ledger held m)
-  nowhere_removed = sym (remove_nothing (in_run p 1) (ledger held m) (λ q there. ap (λ r. (ledger held m).home r) (in_one p q there) ∙ nowhere_home))
+  pub nowhere_removed : ledger S.held m ≡ remove (in_run p 1) (ledger S.held m)
+  nowhere_removed = sym (remove_nothing (in_run p 1) (ledger S.held m) (λ q there. ap (λ r. (ledger S.held m).home r) (in_one p q there) ∙ nowhere_home))
 
-  pub nowhere_reduced : (right : Right) → ledger held m ≡ reduce (in_run p 1) right (ledger held m)
-  nowhere_reduced right = reduce_nothing p right (ledger held m) nowhere_home
+  pub nowhere_reduced : (right : Right) → ledger S.held m ≡ reduce (in_run p 1) right (ledger S.held m)
+  nowhere_reduced right = reduce_nothing p right (ledger S.held m) nowhere_home

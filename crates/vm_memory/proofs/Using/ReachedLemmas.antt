@@ -1,4 +1,5 @@
 -- What is reached in a sound memory, by the entry of the place.
+use Rattle.xk_ports.specs.declared.store.SwapStore.{Ghosts as SwapStore}
 use Rattle.std.proofs.Common.{◌≡◌, ℕ, if◌then◌else◌, Bool, true, false, List, Option, Some, None, refl, sym, ap, ◌∙◌}
 use Rattle.std.specs.Prelude.{is_some}
 use Rattle.std.specs.Option.{option_and_then, option_map_or}
@@ -47,7 +48,7 @@ near-place slot_count m p sound near = by_entry (entries (processes m) m.ram p) 
     by_entry None e = absurd (false≢true (sym (ap names_frame e) ∙ near))
     by_entry (Some entry) e = sym (sound.agree.entries.spelled p) ∙ ap is_some e
 
-module _ {W : Type 0} (slot_count : W → ℕ) (held : W → Held) (m : Memory W) (sound : IsSound slot_count m) where
+module _ {W : Type 0} (S : SwapStore W) (m : Memory W) (sound : IsSound S.slot_count m) where
   abbrev E : Entries
   E = entries (processes m) m.ram
 
@@ -55,42 +56,42 @@ module _ {W : Type 0} (slot_count : W → ℕ) (held : W → Held) (m : Memory W
   I = infos m.owners
 
   abbrev B : SeatBytes
-  B = bytes_at m.ram (held m.store)
+  B = bytes_at m.ram (S.held m.store)
 
   -- what is reached, by the entry
   pub reach_by : (p : Place) (e : Entry) (access : Access) → E p ≡ Some e
-      → reach (processes m) (ledger held m) p access ≡ (if entry_may (Some e) access then Some (entry_name I p e) else None)
+      → reach (processes m) (ledger S.held m) p access ≡ (if entry_may (Some e) access then Some (entry_name I p e) else None)
   unfolding ledger blank_ledger
   reach_by p e access h = reach-entry (processes m) E I B sound.agree.entries p e access h
 
-  pub reach_nowhere : (p : Place) (access : Access) → E p ≡ None → reach (processes m) (ledger held m) p access ≡ None
+  pub reach_nowhere : (p : Place) (access : Access) → E p ≡ None → reach (processes m) (ledger S.held m) p access ≡ None
   unfolding ledger blank_ledger
   reach_nowhere p access h = reach-none (processes m) E I B sound.agree.entries p access h
 
-  pub contents_by : (p : Place) (side : Side) (s : Seat) → E p ≡ Some (At side s) → contents_of (ledger held m) (side_name I p side s) ≡ Some (Bytes (B s))
+  pub contents_by : (p : Place) (side : Side) (s : Seat) → E p ≡ Some (At side s) → contents_of (ledger S.held m) (side_name I p side s) ≡ Some (Bytes (B s))
   unfolding ledger blank_ledger
   contents_by p side s h = contents-entry (processes m) E I B sound.agree.entries p side s h
 
-  pub console_by : (p : Place) (w : Bool) → E p ≡ Some (OnConsole w) → contents_of (ledger held m) (Homed p) ≡ Some Console
+  pub console_by : (p : Place) (w : Bool) → E p ≡ Some (OnConsole w) → contents_of (ledger S.held m) (Homed p) ≡ Some Console
   unfolding ledger blank_ledger
   console_by p w h = contents-console (processes m) E I B sound.agree.entries p w h
 
   -- what the reached page holds, where the entry gives the access
-  given_contents : (given : Bool) (name : PageName) (c : Contents) → contents_of (ledger held m) name ≡ Some c
-      → option_and_then (contents_of (ledger held m)) (if given then Some name else None) ≡ (if given then Some c else None)
+  given_contents : (given : Bool) (name : PageName) (c : Contents) → contents_of (ledger S.held m) name ≡ Some c
+      → option_and_then (contents_of (ledger S.held m)) (if given then Some name else None) ≡ (if given then Some c else None)
   given_contents true name c h = h
   given_contents false name c h = refl
 
   pub seat_contents : (p : Place) (side : Side) (s : Seat) (access : Access) → E p ≡ Some (At side s)
-      → contents_reached (processes m) (ledger held m) p access ≡ (if side_may side access then Some (Bytes (B s)) else None)
+      → contents_reached (processes m) (ledger S.held m) p access ≡ (if side_may side access then Some (Bytes (B s)) else None)
   seat_contents p side s access h =
-      ap (option_and_then (contents_of (ledger held m))) (reach_by p (At side s) access h)
+      ap (option_and_then (contents_of (ledger S.held m))) (reach_by p (At side s) access h)
       ∙ given_contents (side_may side access) (side_name I p side s) (Bytes (B s)) (contents_by p side s h)
 
   pub console_contents : (p : Place) (w : Bool) (access : Access) → E p ≡ Some (OnConsole w)
-      → contents_reached (processes m) (ledger held m) p access ≡ (if owner_may (record { w = w; x = false }) access then Some Console else None)
+      → contents_reached (processes m) (ledger S.held m) p access ≡ (if owner_may (record { w = w; x = false }) access then Some Console else None)
   console_contents p w access h =
-      ap (option_and_then (contents_of (ledger held m))) (reach_by p (OnConsole w) access h)
+      ap (option_and_then (contents_of (ledger S.held m))) (reach_by p (OnConsole w) access h)
       ∙ given_contents (owner_may (record { w = w; x = false }) access) (Homed p) Console (console_by p w h)
 
   bytes_if : (given : Bool) (bytes : List ℕ) → option_map_or has_bytes (if given then Some (Bytes bytes) else None) false ≡ given
@@ -110,9 +111,9 @@ module _ {W : Type 0} (slot_count : W → ℕ) (held : W → Held) (m : Memory W
   on_console_if false = refl
 
   page_by : (p : Place) (access : Access) (o : Option Entry) → E p ≡ o → is_given_target (entry_target o access) ≡ entry_may o access
-      → reaches_bytes (processes m) (ledger held m) p access ≡ is_page_target (entry_target o access)
-  page_by p access None e ready = ap (λ r. option_map_or has_bytes (option_and_then (contents_of (ledger held m)) r) false) (reach_nowhere p access e)
-  page_by p access (Some Free) e ready = ap (λ r. option_map_or has_bytes (option_and_then (contents_of (ledger held m)) r) false) (reach_by p Free access e)
+      → reaches_bytes (processes m) (ledger S.held m) p access ≡ is_page_target (entry_target o access)
+  page_by p access None e ready = ap (λ r. option_map_or has_bytes (option_and_then (contents_of (ledger S.held m)) r) false) (reach_nowhere p access e)
+  page_by p access (Some Free) e ready = ap (λ r. option_map_or has_bytes (option_and_then (contents_of (ledger S.held m)) r) false) (reach_by p Free access e)
   page_by p access (Some (At side (Frame f))) e ready =
       ap (λ c. option_map_or has_bytes c false) (seat_contents p side (Frame f) access e)
       ∙ (bytes_if (side_may side access) (B (Frame f)) ∙ sym (frame_if (side_may side access) f))
@@ -125,7 +126,7 @@ module _ {W : Type 0} (slot_count : W → ℕ) (held : W → Held) (m : Memory W
 
   -- THE PAGE: where no page that the access reaches is out, the process has the access to a page exactly where the entry leads to one
   pub page_reached : (p : Place) (access : Access) → is_given_target (entry_target (E p) access) ≡ entry_may (E p) access
-      → is_page_target (entry_target (E p) access) ≡ reaches_bytes (processes m) (ledger held m) p access
+      → is_page_target (entry_target (E p) access) ≡ reaches_bytes (processes m) (ledger S.held m) p access
   page_reached p access ready = sym (page_by p access (E p) refl ready)
 
   -- .. and then the place is near
@@ -142,18 +143,18 @@ module _ {W : Type 0} (slot_count : W → ℕ) (held : W → Held) (m : Memory W
 
   -- a page is reached where its entry's side gives the access
   pub seat_given : (p : Place) (side : Side) (s : Seat) (access : Access) → E p ≡ Some (At side s)
-      → reaches_bytes (processes m) (ledger held m) p access ≡ true → side_may side access ≡ true
+      → reaches_bytes (processes m) (ledger S.held m) p access ≡ true → side_may side access ≡ true
   seat_given p side s access e may =
       sym (bytes_if (side_may side access) (B s)) ∙ (sym (ap (λ x. option_map_or has_bytes x false) (seat_contents p side s access e)) ∙ may)
 
   -- the bytes of a near place are those of the frame that its entry names
-  pub near_contents : (p : Place) (access : Access) → is_near m p ≡ true → reaches_bytes (processes m) (ledger held m) p access ≡ true
-      → contents_reached (processes m) (ledger held m) p access ≡ Some (Bytes (pages m.ram (frame_named (E p))))
+  pub near_contents : (p : Place) (access : Access) → is_near m p ≡ true → reaches_bytes (processes m) (ledger S.held m) p access ≡ true
+      → contents_reached (processes m) (ledger S.held m) p access ≡ Some (Bytes (pages m.ram (frame_named (E p))))
   unfolding is_near
   near_contents p access = by_entry (E p) refl
     where
-      by_entry : (o : Option Entry) → E p ≡ o → names_frame o ≡ true → reaches_bytes (processes m) (ledger held m) p access ≡ true
-          → contents_reached (processes m) (ledger held m) p access ≡ Some (Bytes (pages m.ram (frame_named o)))
+      by_entry : (o : Option Entry) → E p ≡ o → names_frame o ≡ true → reaches_bytes (processes m) (ledger S.held m) p access ≡ true
+          → contents_reached (processes m) (ledger S.held m) p access ≡ Some (Bytes (pages m.ram (frame_named o)))
       by_entry None e near may = absurd (false≢true near)
       by_entry (Some Free) e near may = absurd (false≢true near)
       by_entry (Some (At side (Slot s))) e near may = absurd (false≢true near)

@@ -1,4 +1,5 @@
 -- What a process sees of a sound memory tells its pages.
+use Rattle.xk_ports.specs.declared.store.SwapStore.{Ghosts as SwapStore}
 use Rattle.std.proofs.Common.{◌≡◌, ℕ, ◌*◌, ◌/◌, ◌⊎◌, Bool, true, false, Option, Some, None, refl, sym, ap, subst, ◌∙◌, inl, inr, arith}
 use Rattle.std.specs.Prelude.{◌==◌, ◌&&◌, is_some, if◌then◌else◌}
 use Rattle.std.specs.Option.{option_and_then}
@@ -55,9 +56,9 @@ is_named-true : (name : PageName) (o : Option PageName) → is_named name o ≡ 
 is_named-true name None e = absurd (false≢true e)
 is_named-true name (Some other) e = ap Some (same_name-true other name e)
 
-module _ {W : Type 0} (slot_count : W → ℕ) (held : W → Held) (m : Memory W) (sound : IsSound slot_count m) (pid : Pid) where
+module _ {W : Type 0} (S : SwapStore W) (m : Memory W) (sound : IsSound S.slot_count m) (pid : Pid) where
   abbrev L : Ledger
-  L = ledger held m
+  L = ledger S.held m
 
   abbrev n : ℕ
   n = processes m
@@ -73,7 +74,7 @@ module _ {W : Type 0} (slot_count : W → ℕ) (held : W → Held) (m : Memory W
   reached_user p name e = by_entry (entries n m.ram p) refl
     where
       by_entry : (o : Option Entry) → entries n m.ram p ≡ o → is_user_place n p ≡ true
-      by_entry None f = absurd (none-some name (sym (reach_nowhere slot_count held m sound p Load f) ∙ e))
+      by_entry None f = absurd (none-some name (sym (reach_nowhere S m sound p Load f) ∙ e))
       by_entry (Some entry) f = sym (sound.agree.entries.spelled p) ∙ ap is_some f
 
   here : (name : PageName) (p : Place) → loads_at name p ≡ true → (a : ℕ) × (reach n L (page_of pid a) Load ≡ Some name)
@@ -108,14 +109,14 @@ module _ {W : Type 0} (slot_count : W → ℕ) (held : W → Held) (m : Memory W
   seen_whole a c e = by_entry (entries n m.ram (page_of pid a)) refl
     where
       by_entry : (o : Option Entry) → entries n m.ram (page_of pid a) ≡ o → IsWholeContents c
-      by_entry None f = absurd (none-some c (sym (ap (option_and_then (contents_of L)) (reach_nowhere slot_count held m sound (page_of pid a) Load f)) ∙ e))
-      by_entry (Some Free) f = absurd (none-some c (sym (ap (option_and_then (contents_of L)) (reach_by slot_count held m sound (page_of pid a) Free Load f)) ∙ e))
+      by_entry None f = absurd (none-some c (sym (ap (option_and_then (contents_of L)) (reach_nowhere S m sound (page_of pid a) Load f)) ∙ e))
+      by_entry (Some Free) f = absurd (none-some c (sym (ap (option_and_then (contents_of L)) (reach_by S m sound (page_of pid a) Free Load f)) ∙ e))
       by_entry (Some (At side s)) f =
-          whole_if (side_may side Load) (Bytes (bytes_at m.ram (held m.store) s)) c (entry_size slot_count held m sound (page_of pid a) side s f)
-          (sym (seat_contents slot_count held m sound (page_of pid a) side s Load f) ∙ e)
+          whole_if (side_may side Load) (Bytes (bytes_at m.ram (S.held m.store) s)) c (entry_size S m sound (page_of pid a) side s f)
+          (sym (seat_contents S m sound (page_of pid a) side s Load f) ∙ e)
       by_entry (Some (OnConsole w)) f =
           whole_if (owner_may (record { w = w; x = false }) Load) Console c tt
-          (sym (console_contents slot_count held m sound (page_of pid a) w Load f) ∙ e)
+          (sym (console_contents S m sound (page_of pid a) w Load f) ∙ e)
 
   pub told : IsTold n L pid
   told = record { whole = seen_whole; seen = seen_or_not }

@@ -1,4 +1,5 @@
 -- What accesses keep, and what a store leaves, as a process's memory promises it.
+use Rattle.xk_ports.specs.declared.store.SwapStore.{Ghosts as SwapStore}
 use Rattle.std.proofs.Common.{◌≡◌, ℕ, ◌%◌, if◌then◌else◌, Bool, true, false, Some, None, refl, sym, ap, subst, ◌∙◌, arith}
 use Rattle.xk_base.specs.UserMemory.{Content, Seen, StoresAsTold, StoresNumber, KeepsContent, size_of, with_number}
 use Rattle.xk_base.specs.declared.ids.Pid.{Pid}
@@ -21,15 +22,15 @@ use Rattle.vm_memory.proofs.Changing.SoundMemoryLemmas.{sound-tied}
 use Rattle.vm_memory.proofs.Using.UserLemmas.{IsDeviceTarget, device_target, is_device, may_by, console_by, nothing_given}
 use Rattle.vm_memory.proofs.Using.UserStoringLemmas.{stored_sound, stored_size, stored_may, stored_console, stored_bytes, stored_rights, stored_unseen, store_given, store_no_console}
 
-pub rest_same : {W P : Type 0} (is_honest : W → Bool) (held : W → Held) (slot_count : W → ℕ) (asked : W → P) (faults : W → ℕ) (pid : Pid) (m : Memory W)
-    → KeepsRest is_honest held slot_count asked faults pid m m
-rest_same is_honest held slot_count asked faults pid m = record {
+pub rest_same : {W : Type 0} (S : SwapStore W) (pid : Pid) (m : Memory W)
+    → KeepsRest S pid m m
+rest_same S pid m = record {
   rights = refl;
   sizes = refl;
   means = λ h. h;
   unseen = λ h name unseen. refl;
   sound = λ s. s;
-  tie = λ s. sound-tied slot_count held m s;
+  tie = λ s. sound-tied S m s;
   out = λ none usable. usable;
   none = λ none. none;
   store = record { honest = refl; told = refl; slots = refl; preparations = refl; never_falls = omega arith };
@@ -39,43 +40,43 @@ keeps_same : (c : Content) → KeepsContent c c
 keeps_same None = tt
 keeps_same (Some byte) = refl
 
-module _ {W P : Type 0} (is_honest : W → Bool) (held : W → Held) (slot_count : W → ℕ) (asked : W → P) (faults : W → ℕ)
-    (m : Memory W) (sound : IsSound slot_count m) (pid : Pid) (va : ℕ) (width : Width) (value : ℕ) (aligned : va % size_of width ≡ 0) where
-  rest_written : (k : Memory W) → StoresBytes m k pid va width value → KeepsRest is_honest held slot_count asked faults pid m k
+module _ {W : Type 0} (S : SwapStore W)
+    (m : Memory W) (sound : IsSound S.slot_count m) (pid : Pid) (va : ℕ) (width : Width) (value : ℕ) (aligned : va % size_of width ≡ 0) where
+  rest_written : (k : Memory W) → StoresBytes m k pid va width value → KeepsRest S pid m k
   unfolding none_out
-  rest_written k h = subst (λ x. KeepsRest is_honest held slot_count asked faults pid m x) (sym h.stored) (record {
-    rights = stored_rights slot_count held m sound pid va width value aligned h.frame h.target;
-    sizes = stored_size slot_count held m sound pid va width value aligned h.frame h.target;
+  rest_written k h = subst (λ x. KeepsRest S pid m x) (sym h.stored) (record {
+    rights = stored_rights S m sound pid va width value aligned h.frame h.target;
+    sizes = stored_size S m sound pid va width value aligned h.frame h.target;
     means = λ means. means;
-    unseen = λ means name unseen. stored_unseen slot_count held m sound pid va width value aligned h.frame h.target name unseen;
-    sound = λ s. stored_sound slot_count held m sound pid va width value aligned h.frame h.target;
-    tie = λ s. sound-tied slot_count held _ (stored_sound slot_count held m sound pid va width value aligned h.frame h.target);
+    unseen = λ means name unseen. stored_unseen S m sound pid va width value aligned h.frame h.target name unseen;
+    sound = λ s. stored_sound S m sound pid va width value aligned h.frame h.target;
+    tie = λ s. sound-tied S _ (stored_sound S m sound pid va width value aligned h.frame h.target);
     out = λ none usable. usable;
     none = λ none. none;
     store = record { honest = refl; told = refl; slots = refl; preparations = refl; never_falls = omega arith };
   })
 
-  pub rest_stored : (k : Memory W) (stored : Stored) → DoesStore m k pid va width value stored → KeepsRest is_honest held slot_count asked faults pid m k
+  pub rest_stored : (k : Memory W) (stored : Stored) → DoesStore m k pid va width value stored → KeepsRest S pid m k
   rest_stored k Done h = rest_written k h
-  rest_stored k (Device offset) h = subst (λ x. KeepsRest is_honest held slot_count asked faults pid m x) (sym h.2) (rest_same is_honest held slot_count asked faults pid m)
-  rest_stored k Fault h = subst (λ x. KeepsRest is_honest held slot_count asked faults pid m x) (sym h.1) (rest_same is_honest held slot_count asked faults pid m)
+  rest_stored k (Device offset) h = subst (λ x. KeepsRest S pid m x) (sym h.2) (rest_same S pid m)
+  rest_stored k Fault h = subst (λ x. KeepsRest S pid m x) (sym h.1) (rest_same S pid m)
 
   -- it stays fit
-  pub fit_stored : (k : Memory W) (stored : Stored) → IsUsable m → DoesStore m k pid va width value stored → IsSound slot_count k × IsUsable k
-  fit_stored k Done usable h = subst (λ x. IsSound slot_count x × IsUsable x) (sym h.stored)
-      (stored_sound slot_count held m sound pid va width value aligned h.frame h.target, usable)
-  fit_stored k (Device offset) usable h = subst (λ x. IsSound slot_count x × IsUsable x) (sym h.2) (sound, usable)
-  fit_stored k Fault usable h = subst (λ x. IsSound slot_count x × IsUsable x) (sym h.1) (sound, usable)
+  pub fit_stored : (k : Memory W) (stored : Stored) → IsUsable m → DoesStore m k pid va width value stored → IsSound S.slot_count k × IsUsable k
+  fit_stored k Done usable h = subst (λ x. IsSound S.slot_count x × IsUsable x) (sym h.stored)
+      (stored_sound S m sound pid va width value aligned h.frame h.target, usable)
+  fit_stored k (Device offset) usable h = subst (λ x. IsSound S.slot_count x × IsUsable x) (sym h.2) (sound, usable)
+  fit_stored k Fault usable h = subst (λ x. IsSound S.slot_count x × IsUsable x) (sym h.1) (sound, usable)
 
-  pub may_stored : (k : Memory W) (stored : Stored) → DoesStore m k pid va width value stored → (user_view held k pid).may ≡ (user_view held m pid).may
-  may_stored k Done h = ap (λ x. (user_view held x pid).may) h.stored ∙ stored_may slot_count held m sound pid va width value aligned h.frame h.target
-  may_stored k (Device offset) h = ap (λ x. (user_view held x pid).may) h.2
-  may_stored k Fault h = ap (λ x. (user_view held x pid).may) h.1
+  pub may_stored : (k : Memory W) (stored : Stored) → DoesStore m k pid va width value stored → (user_view S.held k pid).may ≡ (user_view S.held m pid).may
+  may_stored k Done h = ap (λ x. (user_view S.held x pid).may) h.stored ∙ stored_may S m sound pid va width value aligned h.frame h.target
+  may_stored k (Device offset) h = ap (λ x. (user_view S.held x pid).may) h.2
+  may_stored k Fault h = ap (λ x. (user_view S.held x pid).may) h.1
 
-  pub console_stored : (k : Memory W) (stored : Stored) → DoesStore m k pid va width value stored → (user_view held k pid).console ≡ (user_view held m pid).console
-  console_stored k Done h = ap (λ x. (user_view held x pid).console) h.stored ∙ stored_console slot_count held m sound pid va width value aligned h.frame h.target
-  console_stored k (Device offset) h = ap (λ x. (user_view held x pid).console) h.2
-  console_stored k Fault h = ap (λ x. (user_view held x pid).console) h.1
+  pub console_stored : (k : Memory W) (stored : Stored) → DoesStore m k pid va width value stored → (user_view S.held k pid).console ≡ (user_view S.held m pid).console
+  console_stored k Done h = ap (λ x. (user_view S.held x pid).console) h.stored ∙ stored_console S m sound pid va width value aligned h.frame h.target
+  console_stored k (Device offset) h = ap (λ x. (user_view S.held x pid).console) h.2
+  console_stored k Fault h = ap (λ x. (user_view S.held x pid).console) h.1
 
   -- ---- what stands in memory
 
@@ -85,31 +86,31 @@ module _ {W P : Type 0} (is_honest : W → Bool) (held : W → Held) (slot_count
   number_told false new byte after e is = tt
 
   content_written : (k : Memory W) → StoresBytes m k pid va width value
-      → StoresNumber (user_content is_honest held m pid) (user_content is_honest held k pid) va width value
+      → StoresNumber (user_content S m pid) (user_content S k pid) va width value
   unfolding none_out
-  content_written k h = subst (λ x. StoresNumber (user_content is_honest held m pid) (user_content is_honest held x pid) va width value) (sym h.stored)
-      (number_told (means_bytes is_honest held m) (means_bytes is_honest held m) _ _ refl (stored_bytes slot_count held m sound pid va width value aligned h.frame h.target))
+  content_written k h = subst (λ x. StoresNumber (user_content S m pid) (user_content S x pid) va width value) (sym h.stored)
+      (number_told (means_bytes S m) (means_bytes S m) _ _ refl (stored_bytes S m sound pid va width value aligned h.frame h.target))
 
-  content_kept : (k : Memory W) → k ≡ m → KeepsContent (user_content is_honest held m pid) (user_content is_honest held k pid)
-  content_kept k e = subst (λ x. KeepsContent (user_content is_honest held m pid) (user_content is_honest held x pid)) (sym e) (keeps_same (user_content is_honest held m pid))
+  content_kept : (k : Memory W) → k ≡ m → KeepsContent (user_content S m pid) (user_content S k pid)
+  content_kept k e = subst (λ x. KeepsContent (user_content S m pid) (user_content S x pid)) (sym e) (keeps_same (user_content S m pid))
 
   -- what a process is told, without a timer
   abbrev told : Memory W → Seen
-  told x = record { content = user_content is_honest held x pid; timer = None }
+  told x = record { content = user_content S x pid; timer = None }
 
   pub stores_told : (k : Memory W) (stored : Stored) → is_given_target (store_target m pid va) ≡ entry_may (entries (processes m) m.ram (page_of pid va)) Store
       → DoesStore m k pid va width value stored
-      → StoresAsTold ((user_view held m pid).may Store va) ((user_view held m pid).console va) (told m) (told k) va width value stored
+      → StoresAsTold ((user_view S.held m pid).may Store va) ((user_view S.held m pid).console va) (told m) (told k) va width value stored
   stores_told k Done ready h = (
-    store_given slot_count held m sound pid va width value aligned h.frame h.target,
-    store_no_console slot_count held m sound pid va width value aligned h.frame h.target,
+    store_given S m sound pid va width value aligned h.frame h.target,
+    store_no_console S m sound pid va width value aligned h.frame h.target,
     (content_written k h, refl),
   )
   stores_told k (Device offset) ready h =
       let t : IsDeviceTarget (entries (processes m) m.ram (page_of pid va)) Store = device_target (entries (processes m) m.ram (page_of pid va)) Store h.0 in (
-        may_by slot_count held m sound pid va Store ∙ ap (λ o. entry_may o Store) t.entry ∙ t.given,
-        console_by slot_count held m sound pid va ∙ ap is_device t.entry,
+        may_by S m sound pid va Store ∙ ap (λ o. entry_may o Store) t.entry ∙ t.given,
+        console_by S m sound pid va ∙ ap is_device t.entry,
         h.1,
         (content_kept k h.2, refl),
       )
-  stores_told k Fault ready h = (nothing_given slot_count held m sound pid va Store ready h.0, (content_kept k h.1, refl))
+  stores_told k Fault ready h = (nothing_given S m sound pid va Store ready h.0, (content_kept k h.1, refl))

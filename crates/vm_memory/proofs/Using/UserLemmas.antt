@@ -1,4 +1,5 @@
 -- What a process sees of a sound memory, by the entries of its places.
+use Rattle.xk_ports.specs.declared.store.SwapStore.{Ghosts as SwapStore}
 use Rattle.std.proofs.Common.{◌≡◌, ℕ, ◌+◌, ◌*◌, ◌/◌, ◌%◌, ◌<◌, if◌then◌else◌, Bool, true, false, not, Option, Some, None, refl, sym, ap, ◌∙◌, arith}
 use Rattle.std.specs.Prelude.{slice_index}
 use Rattle.std.specs.Option.{option_and_then, option_map_or}
@@ -107,26 +108,26 @@ is_device (Some Free) = false
 is_device (Some (At side s)) = false
 is_device (Some (OnConsole w)) = true
 
-module _ {W : Type 0} (slot_count : W → ℕ) (held : W → Held) (m : Memory W) (sound : IsSound slot_count m) (pid : Pid) where
+module _ {W : Type 0} (S : SwapStore W) (m : Memory W) (sound : IsSound S.slot_count m) (pid : Pid) where
   abbrev E : Entries
   E = entries (processes m) m.ram
 
   abbrev B : SeatBytes
-  B = bytes_at m.ram (held m.store)
+  B = bytes_at m.ram (S.held m.store)
 
   abbrev V : SeenMemory
-  V = seen_memory (processes m) (ledger held m) pid
+  V = seen_memory (processes m) (ledger S.held m) pid
 
   pub may_by : (a : ℕ) (access : Access) → V.may access a ≡ entry_may (E (page_of pid a)) access
   unfolding seen_memory
-  may_by a access = reach_some slot_count held m sound (page_of pid a) access
+  may_by a access = reach_some S m sound (page_of pid a) access
 
   seat_seen : (a : ℕ) (side : Side) (s : Seat) → E (page_of pid a) ≡ Some (At side s) → side_may side Load ≡ true
-      → contents_seen (processes m) (ledger held m) pid a ≡ Some (Bytes (B s))
-  seat_seen a side s e given = seat_contents slot_count held m sound (page_of pid a) side s Load e ∙ ap (λ b. if b then Some (Bytes (B s)) else None) given
+      → contents_seen (processes m) (ledger S.held m) pid a ≡ Some (Bytes (B s))
+  seat_seen a side s e given = seat_contents S m sound (page_of pid a) side s Load e ∙ ap (λ b. if b then Some (Bytes (B s)) else None) given
 
-  console_seen : (a : ℕ) (w : Bool) → E (page_of pid a) ≡ Some (OnConsole w) → contents_seen (processes m) (ledger held m) pid a ≡ Some Console
-  console_seen a w e = console_contents slot_count held m sound (page_of pid a) w Load e
+  console_seen : (a : ℕ) (w : Bool) → E (page_of pid a) ≡ Some (OnConsole w) → contents_seen (processes m) (ledger S.held m) pid a ≡ Some Console
+  console_seen a w e = console_contents S m sound (page_of pid a) w Load e
 
   pub byte_seat : (a : ℕ) (side : Side) (s : Seat) → E (page_of pid a) ≡ Some (At side s) → side_may side Load ≡ true → V.byte a ≡ slice_index (B s) (a % 4096)
   unfolding seen_memory
@@ -146,9 +147,9 @@ module _ {W : Type 0} (slot_count : W → ℕ) (held : W → Held) (m : Memory W
 
   byte_entry : (a : ℕ) (o : Option Entry) → E (page_of pid a) ≡ o → V.byte a ≡ entry_byte B o (a % 4096)
   unfolding seen_memory
-  byte_entry a None e = ap (λ r. option_map_or (byte_of (a % 4096)) (option_and_then (contents_of (ledger held m)) r) 0) (reach_nowhere slot_count held m sound (page_of pid a) Load e)
-  byte_entry a (Some Free) e = ap (λ r. option_map_or (byte_of (a % 4096)) (option_and_then (contents_of (ledger held m)) r) 0) (reach_by slot_count held m sound (page_of pid a) Free Load e)
-  byte_entry a (Some (At side s)) e = ap (λ c. option_map_or (byte_of (a % 4096)) c 0) (seat_contents slot_count held m sound (page_of pid a) side s Load e) ∙ by_given (side_may side Load)
+  byte_entry a None e = ap (λ r. option_map_or (byte_of (a % 4096)) (option_and_then (contents_of (ledger S.held m)) r) 0) (reach_nowhere S m sound (page_of pid a) Load e)
+  byte_entry a (Some Free) e = ap (λ r. option_map_or (byte_of (a % 4096)) (option_and_then (contents_of (ledger S.held m)) r) 0) (reach_by S m sound (page_of pid a) Free Load e)
+  byte_entry a (Some (At side s)) e = ap (λ c. option_map_or (byte_of (a % 4096)) c 0) (seat_contents S m sound (page_of pid a) side s Load e) ∙ by_given (side_may side Load)
     where
       by_given : (b : Bool) → option_map_or (byte_of (a % 4096)) (if b then Some (Bytes (B s)) else None) 0 ≡ (if b then slice_index (B s) (a % 4096) else 0)
       by_given true = refl
@@ -160,9 +161,9 @@ module _ {W : Type 0} (slot_count : W → ℕ) (held : W → Held) (m : Memory W
 
   console_entry : (a : ℕ) (o : Option Entry) → E (page_of pid a) ≡ o → V.console a ≡ is_device o
   unfolding seen_memory
-  console_entry a None e = ap (λ r. option_map_or (λ (x : Contents). not (has_bytes x)) (option_and_then (contents_of (ledger held m)) r) false) (reach_nowhere slot_count held m sound (page_of pid a) Load e)
-  console_entry a (Some Free) e = ap (λ r. option_map_or (λ (x : Contents). not (has_bytes x)) (option_and_then (contents_of (ledger held m)) r) false) (reach_by slot_count held m sound (page_of pid a) Free Load e)
-  console_entry a (Some (At side s)) e = ap (λ c. option_map_or (λ (x : Contents). not (has_bytes x)) c false) (seat_contents slot_count held m sound (page_of pid a) side s Load e) ∙ by_given (side_may side Load)
+  console_entry a None e = ap (λ r. option_map_or (λ (x : Contents). not (has_bytes x)) (option_and_then (contents_of (ledger S.held m)) r) false) (reach_nowhere S m sound (page_of pid a) Load e)
+  console_entry a (Some Free) e = ap (λ r. option_map_or (λ (x : Contents). not (has_bytes x)) (option_and_then (contents_of (ledger S.held m)) r) false) (reach_by S m sound (page_of pid a) Free Load e)
+  console_entry a (Some (At side s)) e = ap (λ c. option_map_or (λ (x : Contents). not (has_bytes x)) c false) (seat_contents S m sound (page_of pid a) side s Load e) ∙ by_given (side_may side Load)
     where
       by_given : (b : Bool) → option_map_or (λ (x : Contents). not (has_bytes x)) (if b then Some (Bytes (B s)) else None) false ≡ false
       by_given true = refl

@@ -1,4 +1,5 @@
 -- What a store leaves of a sound memory.
+use Rattle.xk_ports.specs.declared.store.SwapStore.{Ghosts as SwapStore}
 use Rattle.std.proofs.Common.{◌≡◌, ◌≢◌, ℕ, ◌+◌, ◌/◌, ◌%◌, ◌≤◌, if◌then◌else◌, Bool, true, false, List, length, nat_eq, Option, Some, None, refl, sym, ap, ◌∙◌, inl, inr, arith}
 use Rattle.std.specs.Prelude.{slice_index}
 use Rattle.std.proofs.lemmas.Bool.{cases_eq, cond-true, cond-false, eq-eqb, ne_eqb, false≢true}
@@ -61,17 +62,17 @@ one_place procs E I agree p q MutIn MutIn s e may f load = let a = agree.mut_in 
 
 -- ---- the store
 
-module _ {W : Type 0} (slot_count : W → ℕ) (held : W → Held) (m : Memory W) (sound : IsSound slot_count m) (pid : Pid)
+module _ {W : Type 0} (S : SwapStore W) (m : Memory W) (sound : IsSound S.slot_count m) (pid : Pid)
     (va : ℕ) (width : Width) (value : ℕ) (aligned : va % size_of width ≡ 0) (f : FrameNumber)
     (target : entry_target (entries (processes m) m.ram (page_of pid va)) Store ≡ ToPage f) where
   abbrev E : Entries
   E = entries (processes m) m.ram
 
   abbrev B : SeatBytes
-  B = bytes_at m.ram (held m.store)
+  B = bytes_at m.ram (S.held m.store)
 
   abbrev V : SeenMemory
-  V = seen_memory (processes m) (ledger held m) pid
+  V = seen_memory (processes m) (ledger S.held m) pid
 
   abbrev page : List ℕ
   page = written (pages m.ram f.0) (va % 4096) (low_bytes width value)
@@ -80,10 +81,10 @@ module _ {W : Type 0} (slot_count : W → ℕ) (held : W → Held) (m : Memory W
   n = record m { ram = with_page m.ram f.0 page }
 
   abbrev C : SeatBytes
-  C = bytes_at n.ram (held m.store)
+  C = bytes_at n.ram (S.held m.store)
 
   abbrev U : SeenMemory
-  U = seen_memory (processes m) (ledger held n) pid
+  U = seen_memory (processes m) (ledger S.held n) pid
 
   pub t : IsPageTarget (E (page_of pid va)) Store f
   t = page_target (E (page_of pid va)) Store f target
@@ -92,7 +93,7 @@ module _ {W : Type 0} (slot_count : W → ℕ) (held : W → Held) (m : Memory W
   load = load_too t.side Store t.given
 
   frame : IsPageFrame (processes m) (area m.ram).frames f.0
-  frame = page_frame slot_count m sound (page_of pid va) t.side f t.entry
+  frame = page_frame S.slot_count m sound (page_of pid va) t.side f t.entry
 
   was_whole : length (pages m.ram f.0) ≡ 4096
   was_whole = length-pages m.ram f.0 frame.inside
@@ -106,18 +107,18 @@ module _ {W : Type 0} (slot_count : W → ℕ) (held : W → Held) (m : Memory W
   now : pages n.ram ≡ put_at nat_eq (pages m.ram) f.0 page
   now = pages-with_page m.ram f.0 page frame.inside whole
 
-  pub stored_sound : IsSound slot_count n
-  stored_sound = sound_after slot_count held m sound n.ram f page (area-with_page m.ram f.0 page) now frame.no_table
+  pub stored_sound : IsSound S.slot_count n
+  stored_sound = sound_after S m sound n.ram f page (area-with_page m.ram f.0 page) now frame.no_table
 
   pub entries_stay : entries (processes m) n.ram ≡ E
-  entries_stay = same_entries slot_count held m sound n.ram f page (area-with_page m.ram f.0 page) now frame.no_table
+  entries_stay = same_entries S m sound n.ram f page (area-with_page m.ram f.0 page) now frame.no_table
 
   pub stored_size : size n ≡ size m
-  stored_size = size_after slot_count held m sound n.ram f page (area-with_page m.ram f.0 page) now frame.no_table
+  stored_size = size_after S m sound n.ram f page (area-with_page m.ram f.0 page) now frame.no_table
 
   -- the ledger is written
-  pub stored_ledger : ledger held n ≡ write (side_name (infos m.owners) (page_of pid va) t.side (Frame f)) (va % 4096) (low_bytes width value) (ledger held m)
-  stored_ledger = written_after slot_count held m sound n.ram f page (area-with_page m.ram f.0 page) now frame.no_table
+  pub stored_ledger : ledger S.held n ≡ write (side_name (infos m.owners) (page_of pid va) t.side (Frame f)) (va % 4096) (low_bytes width value) (ledger S.held m)
+  stored_ledger = written_after S m sound n.ram f page (area-with_page m.ram f.0 page) now frame.no_table
       (page_of pid va) t.side t.entry (va % 4096) (low_bytes width value) refl
 
   -- ---- what is seen
@@ -126,13 +127,13 @@ module _ {W : Type 0} (slot_count : W → ℕ) (held : W → Held) (m : Memory W
   stored_may = λ i access a. at access a i
     where
       at : (access : Access) (a : ℕ) → U.may access a ≡ V.may access a
-      at access a = may_by slot_count held n stored_sound pid a access ∙ ap (λ F. entry_may (F (page_of pid a)) access) entries_stay ∙ sym (may_by slot_count held m sound pid a access)
+      at access a = may_by S n stored_sound pid a access ∙ ap (λ F. entry_may (F (page_of pid a)) access) entries_stay ∙ sym (may_by S m sound pid a access)
 
   pub stored_console : U.console ≡ V.console
   stored_console = λ i a. at a i
     where
       at : (a : ℕ) → U.console a ≡ V.console a
-      at a = console_by slot_count held n stored_sound pid a ∙ ap (λ F. is_device (F (page_of pid a))) entries_stay ∙ sym (console_by slot_count held m sound pid a)
+      at a = console_by S n stored_sound pid a ∙ ap (λ F. is_device (F (page_of pid a))) entries_stay ∙ sym (console_by S m sound pid a)
 
   page_there : C (Frame f) ≡ page
   page_there = ap (λ P. P f.0) now ∙ cond-true (nat_eq f.0 f.0) page (pages m.ram f.0) (eq-eqb f.0 f.0 refl)
@@ -145,11 +146,11 @@ module _ {W : Type 0} (slot_count : W → ℕ) (held : W → Held) (m : Memory W
   same_page a e = ap (λ v. E (record { pid = pid; vpn = record { 0 = v } })) e ∙ t.entry
 
   old_byte : (a : ℕ) → a / 4096 ≡ va / 4096 → V.byte a ≡ slice_index (pages m.ram f.0) (a % 4096)
-  old_byte a e = byte_seat slot_count held m sound pid a t.side (Frame f) (same_page a e) load
+  old_byte a e = byte_seat S m sound pid a t.side (Frame f) (same_page a e) load
 
   new_byte : (a : ℕ) → a / 4096 ≡ va / 4096 → U.byte a ≡ slice_index page (a % 4096)
   new_byte a e =
-      byte_seat slot_count held n stored_sound pid a t.side (Frame f) (ap (λ F. F (page_of pid a)) entries_stay ∙ same_page a e) load
+      byte_seat S n stored_sound pid a t.side (Frame f) (ap (λ F. F (page_of pid a)) entries_stay ∙ same_page a e) load
       ∙ ap (λ p. slice_index p (a % 4096)) page_there
 
   -- in another page no byte changes
@@ -169,8 +170,8 @@ module _ {W : Type 0} (slot_count : W → ℕ) (held : W → Held) (m : Memory W
   stored_byte a = elim (cases_eq (a / 4096) (va / 4096)) [
     | inl same ↦ new_byte a same ∙ there V.byte va width value aligned (pages m.ram f.0) was_whole old_byte a same
     | inr apart ↦
-        byte_by slot_count held n stored_sound pid a ∙ ap (λ F. entry_byte C (F (page_of pid a)) (a % 4096)) entries_stay
-        ∙ kept a apart (E (page_of pid a)) refl ∙ sym (byte_by slot_count held m sound pid a)
+        byte_by S n stored_sound pid a ∙ ap (λ F. entry_byte C (F (page_of pid a)) (a % 4096)) entries_stay
+        ∙ kept a apart (E (page_of pid a)) refl ∙ sym (byte_by S m sound pid a)
         ∙ sym (elsewhere V.byte va width value aligned (pages m.ram f.0) was_whole old_byte a apart)
   ]
 
@@ -179,20 +180,20 @@ module _ {W : Type 0} (slot_count : W → ℕ) (held : W → Held) (m : Memory W
 
   -- the process has the access there, and it isn't the console
   pub store_given : V.may Store va ≡ true
-  store_given = may_by slot_count held m sound pid va Store ∙ ap (λ o. entry_may o Store) t.entry ∙ t.given
+  store_given = may_by S m sound pid va Store ∙ ap (λ o. entry_may o Store) t.entry ∙ t.given
 
   pub store_no_console : V.console va ≡ false
-  store_no_console = console_by slot_count held m sound pid va ∙ ap is_device t.entry
+  store_no_console = console_by S m sound pid va ∙ ap is_device t.entry
 
   -- ---- what is kept besides
 
-  pub stored_rights : bare (ledger held n) ≡ bare (ledger held m)
-  stored_rights = ap bare stored_ledger ∙ write_bare (side_name (infos m.owners) (page_of pid va) t.side (Frame f)) (va % 4096) (low_bytes width value) (ledger held m)
+  pub stored_rights : bare (ledger S.held n) ≡ bare (ledger S.held m)
+  stored_rights = ap bare stored_ledger ∙ write_bare (side_name (infos m.owners) (page_of pid va) t.side (Frame f)) (va % 4096) (low_bytes width value) (ledger S.held m)
 
-  pub stored_unseen : (name : PageName) → IsUnseen (processes m) (bare (ledger held m)) pid name → contents_of (ledger held n) name ≡ contents_of (ledger held m) name
+  pub stored_unseen : (name : PageName) → IsUnseen (processes m) (bare (ledger S.held m)) pid name → contents_of (ledger S.held n) name ≡ contents_of (ledger S.held m) name
   stored_unseen name unseen = ap (λ l. contents_of l name) stored_ledger
-      ∙ write_others (side_name (infos m.owners) (page_of pid va) t.side (Frame f)) name (va % 4096) (low_bytes width value) (ledger held m)
-      (λ same. unseen va (reach-bare (processes m) (ledger held m) (page_of pid va) Load
-      ∙ (reach_by slot_count held m sound (page_of pid va) (At t.side (Frame f)) Load t.entry
+      ∙ write_others (side_name (infos m.owners) (page_of pid va) t.side (Frame f)) name (va % 4096) (low_bytes width value) (ledger S.held m)
+      (λ same. unseen va (reach-bare (processes m) (ledger S.held m) (page_of pid va) Load
+      ∙ (reach_by S m sound (page_of pid va) (At t.side (Frame f)) Load t.entry
       ∙ ap (λ b. if b then Some (side_name (infos m.owners) (page_of pid va) t.side (Frame f)) else None) load)
       ∙ ap Some (sym same)))

@@ -1,4 +1,5 @@
 -- The walk in the page tables of a process comes to a page exactly where Reach gives the access and the page isn't out.
+use Rattle.xk_ports.specs.declared.store.SwapStore.{Ghosts as SwapStore}
 use Rattle.std.proofs.Common.{◌≡◌, ℕ, ◌/◌, ◌^◌, ◌<◌, if◌then◌else◌, Bool, true, false, ◌&&◌, Option, Some, None, refl, sym, ap, ◌∙◌}
 use Rattle.std.specs.Prelude.{not, is_some}
 use Rattle.xk_base.specs.Tables.Circle.{is_pid}
@@ -81,23 +82,23 @@ some_if : {A : Type 0} (b : Bool) (x : A) → is_some (if b then Some x else Non
 some_if true x = refl
 some_if false x = refl
 
-module _ {W : Type 0} (slot_count : W → ℕ) (held : W → Held) (m : Memory W) (sound : IsSound slot_count m) where
+module _ {W : Type 0} (S : SwapStore W) (m : Memory W) (sound : IsSound S.slot_count m) where
   -- what is reached at a place is what its entry gives
-  pub reach_some : (p : Place) (access : Access) → is_some (reach (processes m) (ledger held m) p access) ≡ entry_may (entries (processes m) m.ram p) access
+  pub reach_some : (p : Place) (access : Access) → is_some (reach (processes m) (ledger S.held m) p access) ≡ entry_may (entries (processes m) m.ram p) access
   reach_some p access = by_entry (entries (processes m) m.ram p) refl
     where
       by_entry : (o : Option Entry) → entries (processes m) m.ram p ≡ o
-          → is_some (reach (processes m) (ledger held m) p access) ≡ entry_may (entries (processes m) m.ram p) access
-      by_entry None e = ap is_some (reach_nowhere slot_count held m sound p access e) ∙ sym (ap (λ o. entry_may o access) e)
-      by_entry (Some entry) e = ap is_some (reach_by slot_count held m sound p entry access e)
+          → is_some (reach (processes m) (ledger S.held m) p access) ≡ entry_may (entries (processes m) m.ram p) access
+      by_entry None e = ap is_some (reach_nowhere S m sound p access e) ∙ sym (ap (λ o. entry_may o access) e)
+      by_entry (Some entry) e = ap is_some (reach_by S m sound p entry access e)
           ∙ (some_if (entry_may (Some entry) access) (entry_name (infos m.owners) p entry) ∙ sym (ap (λ o. entry_may o access) e))
 
   -- THE WALK
   pub walk_is_reach : (pid : Pid) (address : ℕ) (access : Access) → is_pid (processes m) pid.0 ≡ true → address < 2 ^ 32
-      → walk_reaches m pid address access ≡ is_reachable held m pid address access
+      → walk_reaches m pid address access ≡ is_reachable S.held m pid address access
   unfolding is_out
   walk_is_reach pid address access process fits =
       reached_target (area m.ram) (walk_of m.ram (root_at pid.0) address access)
-      ∙ (ap is_given_target (walk_leads slot_count m sound pid address access fits process)
+      ∙ (ap is_given_target (walk_leads S.slot_count m sound pid address access fits process)
       ∙ (given_entry (entries (processes m) m.ram (page_of pid address)) access
       ∙ ap (λ b. b && not (names_slot (entries (processes m) m.ram (page_of pid address)))) (sym (reach_some (page_of pid address) access))))

@@ -1,4 +1,5 @@
 -- What each call that begins, changes or ends a loan, and each that moves pages, keeps of a memory.
+use Rattle.xk_ports.specs.declared.store.SwapStore.{Ghosts as SwapStore}
 use Rattle.std.specs.Prelude.{◌≡◌, ℕ, Bool, true, None}
 use Rattle.std.specs.Option.{option_map_or}
 use Rattle.phys_pages.specs.declared.infos.Seat.{Seat}
@@ -12,16 +13,16 @@ use Rattle.vm_memory.specs.Sound.{IsSound}
 use Rattle.vm_memory.specs.Tie.{IsTied}
 
 -- It is sound and tied to its ledger. How large it is, its store, and whether a call has failed stay.
-pub record KeepsSeats {W : Type 0} (slot_count : W → ℕ) (honest : W → Bool) (held : W → Held) (old new : Memory W) : Type 0 where
-  pub sound : IsSound slot_count new
-  pub tie : IsTied held new
+pub record KeepsSeats {W : Type 0} (S : SwapStore W) (old new : Memory W) : Type 0 where
+  pub sound : IsSound S.slot_count new
+  pub tie : IsTied S.held new
   pub size : size new ≡ size old
   pub store : store_of new ≡ store_of old
   pub failed : has_failed new ≡ has_failed old
   -- A seat without a page has none afterwards: no page goes out, and none comes in.
   pub seats : (s : Seat) → infos old.owners s ≡ None → infos new.owners s ≡ None
   pub none : none_out old ≡ true → none_out new ≡ true
-  pub means : MeansBytes honest held old → MeansBytes honest held new
+  pub means : MeansBytes S old → MeansBytes S new
 
 -- how many orphans end with a loan: its pages, where it has no lender
 abbrev pub orphans_of : LoanRun → ℕ

@@ -11,6 +11,7 @@ use Rattle.sv32_space.specs.Tie.{Held}
 use Rattle.sv32_space.specs.declared.sides.Entry.{Entry}
 use Rattle.sv32_space.specs.declared.sides.Entry.TheVariants.{Free, At, OnConsole}
 use Rattle.sv32_space.specs.declared.sides.Side.{Side}
+use Rattle.xk_ports.specs.declared.store.SwapStore.{Ghosts as SwapStore}
 use Rattle.xk_ports.specs.Keeping.{KeepsStore}
 use Rattle.vm_memory.specs.declared.memory.Memory.{Memory}
 use Rattle.vm_memory.specs.Bytes.{is_known, none_out}
@@ -18,19 +19,19 @@ use Rattle.vm_memory.specs.Memory.{ledger, size, store_of}
 use Rattle.vm_memory.specs.Sound.{IsSound}
 
 -- Pages move between frames and slots, and nothing else changes, whatever the store answers or does.
-pub record MovesPages {W P : Type 0} (is_honest : W → Bool) (held : W → Held) (slot_count : W → ℕ) (asked : W → P) (faults : W → ℕ)
+pub record MovesPages {W : Type 0} (S : SwapStore W)
     (old new : Memory W) : Type 0 where
-  pub sound : IsSound slot_count new
+  pub sound : IsSound S.slot_count new
   -- rights and loans stay; bytes too, where the store is honest and tells
-  pub rights : bare (ledger held new) ≡ bare (ledger held old)
-  pub whole : IsTrue (is_known is_honest held old) → ledger held new ≡ ledger held old
+  pub rights : bare (ledger S.held new) ≡ bare (ledger S.held old)
+  pub whole : IsTrue (is_known S old) → ledger S.held new ≡ ledger S.held old
   pub size : size new ≡ size old
-  pub store : KeepsStore is_honest held slot_count asked faults (store_of old) (store_of new)
+  pub store : KeepsStore S (store_of old) (store_of new)
 
 -- A page that is out may have come in, and another gone out in its place.
-pub record BringsIn {W P : Type 0} (is_honest : W → Bool) (held : W → Held) (slot_count : W → ℕ) (asked : W → P) (faults : W → ℕ)
+pub record BringsIn {W : Type 0} (S : SwapStore W)
     (old new : Memory W) : Type 0 where
-  pub moves : MovesPages is_honest held slot_count asked faults old new
+  pub moves : MovesPages S old new
   -- where no page was out, nothing changes
   pub none : none_out old ≡ true → new ≡ old
 

@@ -15,6 +15,7 @@ use Rattle.ledger_model.specs.Loans.{bare}
 use Rattle.ledger_model.specs.RunTests.{fits_window, any_used, console_mapped}
 use Rattle.ledger_model.specs.Steps.{make, make_console}
 use Rattle.sv32_space.specs.Tie.{Held}
+use Rattle.xk_ports.specs.declared.store.SwapStore.{Ghosts as SwapStore}
 use Rattle.xk_ports.specs.Keeping.{KeepsStore}
 use Rattle.vm_memory.specs.declared.memory.Memory.{Memory}
 use Rattle.vm_memory.specs.Bytes.{MeansBytesOver, none_out}
@@ -56,7 +57,8 @@ after_make pid n right (Err error) ledger = ledger
 
 -- What `make` leaves where it answers Failed: the call would have been served, and the first pages of its run may be made.
 -- All else is as before; bytes too, where they are known.
-pub record HasMadeFirst (known : Type 0) (answer : Result Vpn XousError) (pid : Pid) (n : ℕ) (right : Right) (old new : Ledger) : Type 0 where
+pub record HasMadeFirst (known : Type 0) (answer : Result Vpn XousError) (pid : Pid) (n : ℕ) (right : Right)
+    (old new : Ledger) : Type 0 where
   pub first : Vpn
   pub count : ℕ
   pub served : answer ≡ Ok first
@@ -65,23 +67,23 @@ pub record HasMadeFirst (known : Type 0) (answer : Result Vpn XousError) (pid : 
   pub whole : known → new ≡ make (page_place pid first) count right old
 
 -- The pages of a run are made, and others may have gone out; nothing else changes, whatever the store answers or does.
-pub record MakesPages {W P : Type 0} (is_honest : W → Bool) (held : W → Held) (slot_count : W → ℕ) (asked : W → P) (faults : W → ℕ)
+pub record MakesPages {W : Type 0} (S : SwapStore W)
     (old new : Memory W) (first : Place) (n : ℕ) (right : Right) : Type 0 where
-  pub sound : IsSound slot_count new
-  pub rights : bare (ledger held new) ≡ bare (make first n right (ledger held old))
+  pub sound : IsSound S.slot_count new
+  pub rights : bare (ledger S.held new) ≡ bare (make first n right (ledger S.held old))
   -- bytes too, where the store is honest and tells, or no page is out before and after
-  pub whole : MeansBytesOver is_honest held old new → ledger held new ≡ make first n right (ledger held old)
+  pub whole : MeansBytesOver S old new → ledger S.held new ≡ make first n right (ledger S.held old)
   -- no page comes in
   pub none : none_out new ≡ true → none_out old ≡ true
   pub size : size new ≡ size old
-  pub store : KeepsStore is_honest held slot_count asked faults (store_of old) (store_of new)
+  pub store : KeepsStore S (store_of old) (store_of new)
 
 -- The first pages of a run are made.
-pub record MakesFirst {W P : Type 0} (is_honest : W → Bool) (held : W → Held) (slot_count : W → ℕ) (asked : W → P) (faults : W → ℕ)
+pub record MakesFirst {W : Type 0} (S : SwapStore W)
     (old new : Memory W) (first : Place) (n : ℕ) (right : Right) : Type 0 where
   pub count : ℕ
   pub few : count ≤ n
-  pub made : MakesPages is_honest held slot_count asked faults old new first count right
+  pub made : MakesPages S old new first count right
 
 -- ---- the console
 

@@ -6,14 +6,15 @@ use Rattle.ledger_model.specs.Ledger.{PageName}
 use Rattle.ledger_model.specs.Loans.{bare}
 use Rattle.sv32_space.specs.Tie.{Held}
 use Rattle.vm_memory.specs.declared.memory.Memory.{Memory}
+use Rattle.xk_ports.specs.declared.store.SwapStore.{Ghosts as SwapStore}
 use Rattle.xk_ports.specs.Keeping.{KeepsStore}
 use Rattle.vm_memory.specs.Memory.{Size, processes, ledger, store_of}
 use Rattle.vm_memory.specs.Using.UserView.{KeepsRest, IsUnseen}
 
-store_over : {W P : Type 0} (is_honest : W → Bool) (held : W → Held) (slot_count : W → ℕ) (asked : W → P) (faults : W → ℕ) (a b c : W)
-    → KeepsStore is_honest held slot_count asked faults a b → KeepsStore is_honest held slot_count asked faults b c
-    → KeepsStore is_honest held slot_count asked faults a c
-store_over is_honest held slot_count asked faults a b c x y = record {
+store_over : {W : Type 0} (S : SwapStore W) (a b c : W)
+    → KeepsStore S a b → KeepsStore S b c
+    → KeepsStore S a c
+store_over S a b c x y = record {
   honest = y.honest ∙ x.honest;
   told = y.told ∙ x.told;
   slots = y.slots ∙ x.slots;
@@ -21,10 +22,10 @@ store_over is_honest held slot_count asked faults a b c x y = record {
   never_falls = omega (arith, x.never_falls, y.never_falls);
 }
 
-pub rest_over : {W P : Type 0} (is_honest : W → Bool) (held : W → Held) (slot_count : W → ℕ) (asked : W → P) (faults : W → ℕ) (pid : Pid) (a b c : Memory W)
-    → KeepsRest is_honest held slot_count asked faults pid a b → KeepsRest is_honest held slot_count asked faults pid b c
-    → KeepsRest is_honest held slot_count asked faults pid a c
-rest_over is_honest held slot_count asked faults pid a b c x y = record {
+pub rest_over : {W : Type 0} (S : SwapStore W) (pid : Pid) (a b c : Memory W)
+    → KeepsRest S pid a b → KeepsRest S pid b c
+    → KeepsRest S pid a c
+rest_over S pid a b c x y = record {
   rights = y.rights ∙ x.rights;
   sizes = y.sizes ∙ x.sizes;
   means = λ m. y.means (x.means m);
@@ -33,17 +34,18 @@ rest_over is_honest held slot_count asked faults pid a b c x y = record {
   tie = λ s. y.tie (x.sound s);
   out = λ none usable. y.out (x.none none) (x.out none usable);
   none = λ none. y.none (x.none none);
-  store = store_over is_honest held slot_count asked faults (store_of a) (store_of b) (store_of c) x.store y.store;
+  store = store_over S (store_of a) (store_of b) (store_of c) x.store y.store;
 }
   where
-    still : (name : PageName) → IsUnseen (processes a) (bare (ledger held a)) pid name → IsUnseen (processes b) (bare (ledger held b)) pid name
+    still : (name : PageName) → IsUnseen (processes a) (bare (ledger S.held a)) pid name
+        → IsUnseen (processes b) (bare (ledger S.held b)) pid name
     still name unseen =
         subst (λ l. IsUnseen (processes b) l pid name) (sym x.rights)
-        (subst (λ n. IsUnseen n (bare (ledger held a)) pid name) (sym (ap (λ (s : Size). s.procs) x.sizes)) unseen)
+        (subst (λ n. IsUnseen n (bare (ledger S.held a)) pid name) (sym (ap (λ (s : Size). s.procs) x.sizes)) unseen)
 
 -- .. also where the process is told by two numbers that are the same
-pub pid_rest_over : {W P : Type 0} (is_honest : W → Bool) (held : W → Held) (slot_count : W → ℕ) (asked : W → P) (faults : W → ℕ) (pid other : Pid) (a b c : Memory W)
-    → other ≡ pid → KeepsRest is_honest held slot_count asked faults pid a b → KeepsRest is_honest held slot_count asked faults other b c
-    → KeepsRest is_honest held slot_count asked faults pid a c
-pid_rest_over is_honest held slot_count asked faults pid other a b c same x y =
-    rest_over is_honest held slot_count asked faults pid a b c x (subst (λ p. KeepsRest is_honest held slot_count asked faults p b c) same y)
+pub pid_rest_over : {W : Type 0} (S : SwapStore W) (pid other : Pid) (a b c : Memory W)
+    → other ≡ pid → KeepsRest S pid a b → KeepsRest S other b c
+    → KeepsRest S pid a c
+pid_rest_over S pid other a b c same x y =
+    rest_over S pid a b c x (subst (λ p. KeepsRest S p b c) same y)

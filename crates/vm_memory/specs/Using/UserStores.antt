@@ -25,9 +25,11 @@ store_target m pid address = entry_target (entries (processes m) m.ram (page_of 
 pub record StoresBytes {W : Type 0} (old new : Memory W) (pid : Pid) (address : ℕ) (width : Width) (value : ℕ) : Type 0 where
   pub frame : Frame
   pub target : store_target old pid address ≡ Page frame
-  pub stored : new ≡ record old { ram = with_page old.ram frame.0 (written (pages old.ram frame.0) (address % 4096) (low_bytes width value)) }
+  pub stored : new
+      ≡ record old { ram = with_page old.ram frame.0 (written (pages old.ram frame.0) (address % 4096) (low_bytes width value)) }
 
 abbrev pub DoesStore : {W : Type 0} → Memory W → Memory W → Pid → ℕ → Width → ℕ → Stored → Type 0
 DoesStore old new pid address width value Done = StoresBytes old new pid address width value
-DoesStore old new pid address width value (Device offset) = (store_target old pid address ≡ Console) × (offset ≡ address % 4096) × (new ≡ old)
+DoesStore old new pid address width value (Device offset) = (store_target old pid address ≡ Console) × (offset ≡ address % 4096)
+    × (new ≡ old)
 DoesStore old new pid address width value Fault = (store_target old pid address ≡ Nothing) × (new ≡ old)

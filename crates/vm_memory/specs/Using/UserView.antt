@@ -11,6 +11,7 @@ use Rattle.sv32_space.specs.Tie.{Held}
 use Rattle.vm_memory.specs.declared.memory.Memory.{Memory}
 use Rattle.vm_memory.specs.Using.Access.{contents_reached}
 use Rattle.vm_memory.specs.Bytes.{means_bytes, none_out, MeansBytes}
+use Rattle.xk_ports.specs.declared.store.SwapStore.{Ghosts as SwapStore}
 use Rattle.xk_ports.specs.Keeping.{KeepsStore}
 use Rattle.xk_base.specs.Numbers.Windows.{page_of}
 use Rattle.vm_memory.specs.Memory.{IsUsable, size, processes, ledger, store_of}
@@ -35,12 +36,12 @@ abbrev pub user_view : {W : Type 0} → (W → Held) → Memory W → Pid → Se
 user_view held m pid = seen_memory (processes m) (ledger held m) pid
 
 -- what stands at each address is told where bytes mean something
-abbrev pub user_content : {W : Type 0} → (W → Bool) → (W → Held) → Memory W → Pid → Content
-user_content is_honest held m pid = if means_bytes is_honest held m then Some (user_view held m pid).byte else None
+abbrev pub user_content : {W : Type 0} → SwapStore W → Memory W → Pid → Content
+user_content S m pid = if means_bytes S m then Some (user_view S.held m pid).byte else None
 
 -- what a process is told; its memory has no timer
-abbrev pub user_seen : {W : Type 0} → (W → Bool) → (W → Held) → Memory W → Pid → Seen
-user_seen is_honest held m pid = record { content = user_content is_honest held m pid; timer = None }
+abbrev pub user_seen : {W : Type 0} → SwapStore W → Memory W → Pid → Seen
+user_seen S m pid = record { content = user_content S m pid; timer = None }
 
 -- ---- what is kept besides
 
@@ -49,18 +50,18 @@ abbrev pub IsUnseen : ℕ → Ledger → Pid → PageName → Type 0
 IsUnseen procs ledger pid name = (address : ℕ) → reach procs ledger (page_of pid address) Load ≢ Some name
 
 -- Whatever the process does by its accesses, this stays of the memory
-pub record KeepsRest {W P : Type 0} (is_honest : W → Bool) (held : W → Held) (slot_count : W → ℕ) (asked : W → P) (faults : W → ℕ)
+pub record KeepsRest {W : Type 0} (S : SwapStore W)
     (pid : Pid) (old new : Memory W) : Type 0 where
   -- all rights and loans, and how large it is
-  pub rights : bare (ledger held new) ≡ bare (ledger held old)
+  pub rights : bare (ledger S.held new) ≡ bare (ledger S.held old)
   pub sizes : size new ≡ size old
   -- where bytes mean something, they still do, and a page that the process can't load has the same
-  pub means : MeansBytes is_honest held old → MeansBytes is_honest held new
-  pub unseen : MeansBytes is_honest held old → (name : PageName) → IsUnseen (processes old) (bare (ledger held old)) pid name
-      → contents_of (ledger held new) name ≡ contents_of (ledger held old) name
+  pub means : MeansBytes S old → MeansBytes S new
+  pub unseen : MeansBytes S old → (name : PageName) → IsUnseen (processes old) (bare (ledger S.held old)) pid name
+      → contents_of (ledger S.held new) name ≡ contents_of (ledger S.held old) name
   -- soundness and the tie; and it fails only where a page is out
-  pub sound : IsSound slot_count old → IsSound slot_count new
-  pub tie : IsSound slot_count old → IsTied held new
+  pub sound : IsSound S.slot_count old → IsSound S.slot_count new
+  pub tie : IsSound S.slot_count old → IsTied S.held new
   pub out : none_out old ≡ true → IsUsable old → IsUsable new
   pub none : none_out old ≡ true → none_out new ≡ true
-  pub store : KeepsStore is_honest held slot_count asked faults (store_of old) (store_of new)
+  pub store : KeepsStore S (store_of old) (store_of new)

@@ -29,6 +29,7 @@ ghost use Rattle.vm_memory.specs.Tie.{IsTied};
 ghost use Rattle.xk_base.specs.Tables.Counting.{put_at};
 ghost use Rattle.xk_base.specs.Outside.{Rose};
 ghost use Rattle.xk_base.specs.declared.ids.Place.{Place};
+ghost use Rattle.xk_base.specs.declared.limits.TheConstants.{FRAME_LIMIT, SLOT_LIMIT};
 
 use crate::memory::{BootError, BootFault, Memory};
 use boot_plan::{BootPlan, PagePlan, ProcPlan};
@@ -55,12 +56,13 @@ fn fill(page: &mut [u8], file: &[u8], plan: &PagePlan)
 // RAM and an owner table without a page, for the processes of a plan.
 fn empty_parts(alloc: Global, plan: &BootPlan, procs: u32) -> Result<(Ram, Owners), NoMemory>
     requires tables { table_frames procs + 2 ≤ plan.now.frames }
-    requires frames { plan.now.frames ≤ 16384 }
+    requires frames { plan.now.frames ≤ FRAME_LIMIT }
     requires start { plan.now.ram_start % 4096 ≡ 0 }
     requires below { plan.now.ram_start + 4096 * plan.now.frames ≤ 0xF000_0000 }
-    requires slots { plan.now.slots ≤ 16384 }
+    requires slots { plan.now.slots ≤ SLOT_LIMIT }
     ensures area { IfOk result (λ parts. area parts.0 ≡ record { start = plan.now.ram_start; frames = plan.now.frames }) }
-    ensures extent { IfOk result (λ parts. extent parts.1 ≡ record { first = 21 * procs; frames = plan.now.frames - 21 * procs; slots = plan.now.slots }) }
+    ensures extent { IfOk result
+        (λ parts. extent parts.1 ≡ record { first = 21 * procs; frames = plan.now.frames - 21 * procs; slots = plan.now.slots }) }
     ensures infos { IfOk result (λ parts. infos parts.1 ≡ no_infos) }
 {
     let ram = Ram::new(alloc, plan.ram_start, plan.frames)?;
@@ -88,16 +90,21 @@ impl<W: SwapStore> Memory<W> {
         requires some { 1 ≤ length plan.now.procs }
         requires few { length plan.now.procs ≤ 64 }
         requires tables { table_frames (length plan.now.procs) + 2 ≤ plan.now.frames }
-        requires frames { plan.now.frames ≤ 16384 }
+        requires frames { plan.now.frames ≤ FRAME_LIMIT }
         requires start { plan.now.ram_start % 4096 ≡ 0 }
         requires below { plan.now.ram_start + 4096 * plan.now.frames ≤ 0xF000_0000 }
-        requires few_slots { plan.now.slots ≤ 16384 }
+        requires few_slots { plan.now.slots ≤ SLOT_LIMIT }
         requires slots { plan.now.slots ≤ W.slot_count store }
         ensures sound { IfOk result (λ m. IsSound W.slot_count m) }
         ensures usable { IfOk result (λ m. IsUsable m) }
         ensures free { IfOk result (λ m. FillsFirstFrames m) }
         ensures ledger { IfOk result (λ m. ledger W.held m ≡ empty_ledger) }
-        ensures size { IfOk result (λ m. size m ≡ record { procs = length plan.now.procs; area = record { start = plan.now.ram_start; frames = plan.now.frames }; slots = plan.now.slots }) }
+        ensures size { IfOk result
+            (λ m. size m ≡ record {
+              procs = length plan.now.procs;
+              area = record { start = plan.now.ram_start; frames = plan.now.frames };
+              slots = plan.now.slots;
+            }) }
         ensures none { IfOk result (λ m. m.pages ≡ 0) }
         ensures store { IfOk result (λ m. store_of m ≡ store) }
         ensures fault { IfErr result (λ fault. (fault.why ≡ BootError.NoMemory) × (fault.store ≡ store)) }
@@ -153,7 +160,7 @@ impl<W: SwapStore> Memory<W> {
         requires free { is_free (processes self.old) (ledger W.held self.old) at ≡ true }
         requires room { self.old.pages + 1 ≤ capacity_of self.old }
         requires page { IsLawfulPage (length file.now) page.now }
-        ensures placed { PlacesPages W.is_honest W.held W.slot_count W.asked W.faults self.old self.new 1 (place_page at (first_page file.now page.now)) }
+        ensures placed { PlacesPages W.SwapStore self.old self.new 1 (place_page at (first_page file.now page.now)) }
         ensures usable { OnOk result (IsUsable self.new) }
         ensures cause { OnErr result (Rose (W.faults (store_of self.old)) (W.faults (store_of self.new))) }
     {
@@ -173,7 +180,7 @@ impl<W: SwapStore> Memory<W> {
         requires room { self.old.pages + 1 ≤ capacity_of self.old }
         requires order { FillsInOrder self.old }
         requires page { IsLawfulPage (length file.now) page.now }
-        ensures placed { PlacesPages W.is_honest W.held W.slot_count W.asked W.faults self.old self.new 1 (place_page at (first_page file.now page.now)) }
+        ensures placed { PlacesPages W.SwapStore self.old self.new 1 (place_page at (first_page file.now page.now)) }
         ensures order { FillsInOrder self.new }
         ensures usable { OnOk result (IsUsable self.new) }
         ensures cause { OnErr result (Rose (W.faults (store_of self.old)) (W.faults (store_of self.new))) }
@@ -198,8 +205,8 @@ impl<W: SwapStore> Memory<W> {
         requires room { self.old.pages + length plan.now ≤ capacity_of self.old }
         requires lawful { All (IsLawfulPage (length file.now)) plan.now }
         requires different { AllPairs (λ (a b : PagePlan). a.vpn.0 ≢ b.vpn.0) plan.now }
-        ensures keeps { KeepsUnlent W.is_honest W.held W.slot_count W.asked W.faults self.old self.new }
-        ensures placed { OnOk result (PlacesPages W.is_honest W.held W.slot_count W.asked W.faults self.old self.new (length plan.now) (place_pages file.now pid plan.now)) }
+        ensures keeps { KeepsUnlent W.SwapStore self.old self.new }
+        ensures placed { OnOk result (PlacesPages W.SwapStore self.old self.new (length plan.now) (place_pages file.now pid plan.now)) }
         ensures order { OnOk result (FillsInOrder self.new) }
         ensures usable { OnOk result (IsUsable self.new) }
         ensures cause { OnErr result (Rose (W.faults (store_of self.old)) (W.faults (store_of self.new))) }
@@ -222,8 +229,9 @@ impl<W: SwapStore> Memory<W> {
         requires order { FillsInOrder self.old }
         requires room { self.old.pages + page_count plan.now ≤ capacity_of self.old }
         requires lawful { All (IsLawfulProcess (length file.now)) plan.now }
-        ensures keeps { KeepsUnlent W.is_honest W.held W.slot_count W.asked W.faults self.old self.new }
-        ensures placed { OnOk result (PlacesPages W.is_honest W.held W.slot_count W.asked W.faults self.old self.new (page_count plan.now) (place_processes file.now 2 plan.now)) }
+        ensures keeps { KeepsUnlent W.SwapStore self.old self.new }
+        ensures placed { OnOk result
+            (PlacesPages W.SwapStore self.old self.new (page_count plan.now) (place_processes file.now 2 plan.now)) }
         ensures order { OnOk result (FillsInOrder self.new) }
         ensures usable { OnOk result (IsUsable self.new) }
         ensures cause { OnErr result (Rose (W.faults (store_of self.old)) (W.faults (store_of self.new))) }
@@ -252,14 +260,20 @@ impl<W: SwapStore> Memory<W> {
         ensures sound { IfOk result (λ m. IsSound W.slot_count m) }
         ensures usable { IfOk result (λ m. IsUsable m) }
         ensures rights { IfOk result (λ m. bare (ledger W.held m) ≡ bare (first_ledger plan.now file.now)) }
-        ensures whole { IfOk result (λ m. MeansBytes W.is_honest W.held m → ledger W.held m ≡ first_ledger plan.now file.now) }
+        ensures whole { IfOk result (λ m. MeansBytes W.SwapStore m → ledger W.held m ≡ first_ledger plan.now file.now) }
         ensures tie { IfOk result (λ m. IsTied W.held m) }
-        ensures size { IfOk result (λ m. size m ≡ record { procs = length plan.now.procs; area = record { start = plan.now.ram_start; frames = plan.now.frames }; slots = plan.now.slots }) }
-        ensures store { IfOk result (λ m. KeepsStore W.is_honest W.held W.slot_count W.asked W.faults store (store_of m)) }
-        ensures back { IfErr result (λ fault. KeepsStore W.is_honest W.held W.slot_count W.asked W.faults store fault.store) }
+        ensures size { IfOk result
+            (λ m. size m ≡ record {
+              procs = length plan.now.procs;
+              area = record { start = plan.now.ram_start; frames = plan.now.frames };
+              slots = plan.now.slots;
+            }) }
+        ensures store { IfOk result (λ m. KeepsStore W.SwapStore store (store_of m)) }
+        ensures back { IfErr result (λ fault. KeepsStore W.SwapStore store fault.store) }
         // A swap fault comes only where the store's count rose and the pages don't fit in frames.
         ensures cause { IfErr result (λ fault. fault.why ≡ BootError.SwapFault → Rose (W.faults store) (W.faults fault.store)) }
-        ensures out { IfErr result (λ fault. fault.why ≡ BootError.SwapFault → page_frames plan.now.frames (length plan.now.procs) < planned_pages plan.now) }
+        ensures out { IfErr result (λ fault. fault.why ≡ BootError.SwapFault
+            → page_frames plan.now.frames (length plan.now.procs) < planned_pages plan.now) }
         // A page goes out only where there aren't frames for all pages.
         ensures near { planned_pages plan.now ≤ page_frames plan.now.frames (length plan.now.procs) → IfOk result (λ m. none_out m ≡ true) }
     {

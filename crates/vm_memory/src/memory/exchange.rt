@@ -100,9 +100,9 @@ impl<W: SwapStore> Memory<W> {
     pub(crate) fn make_room(&mut self, keep: Frame) -> Result<(), Failed>
         requires sound { IsSound W.slot_count self.old }
         requires under_way { has_failed self.old ≡ true }
-        ensures moves { MovesPages W.is_honest W.held W.slot_count W.asked W.faults self.old self.new }
+        ensures moves { MovesPages W.SwapStore self.old self.new }
         // bytes also where no page is out before and after
-        ensures over { MeansBytesOver W.is_honest W.held self.old self.new → ledger W.held self.new ≡ ledger W.held self.old }
+        ensures over { MeansBytesOver W.SwapStore self.old self.new → ledger W.held self.new ≡ ledger W.held self.old }
         ensures none { none_out self.new ≡ true → none_out self.old ≡ true }
         ensures keep { (at : Place) (side : Side) → entries (processes self.old) (ram_of self.old) at ≡ Some (At side (Seat.Frame keep))
             → entries (processes self.new) (ram_of self.new) at ≡ Some (At side (Seat.Frame keep)) }
@@ -129,8 +129,9 @@ impl<W: SwapStore> Memory<W> {
         requires sound { IsSound W.slot_count self.old }
         requires usable { IsUsable self.old }
         requires used { IsUsed self.old.owners (Seat.Slot from) }
-        ensures moves { MovesPages W.is_honest W.held W.slot_count W.asked W.faults self.old self.new }
-        ensures near { OnOk result ((at : Place) (side : Side) → entries (processes self.old) (ram_of self.old) at ≡ Some (At side (Seat.Slot from))
+        ensures moves { MovesPages W.SwapStore self.old self.new }
+        ensures near { OnOk result ((at : Place) (side : Side) → entries (processes self.old) (ram_of self.old) at
+            ≡ Some (At side (Seat.Slot from))
             → IsInFrame (entries (processes self.new) (ram_of self.new) at) side) }
         ensures usable { OnOk result (IsUsable self.new) }
         ensures failed { OnErr result (has_failed self.new ≡ true) }
@@ -180,9 +181,11 @@ impl<W: SwapStore> Memory<W> {
     pub(crate) fn find_near(&mut self, pid: Pid, va: u32, access: Access) -> Result<Target, Failed>
         requires sound { IsSound W.slot_count self.old }
         requires usable { IsUsable self.old }
-        ensures brings { BringsIn W.is_honest W.held W.slot_count W.asked W.faults self.old self.new }
-        ensures target { IfOk result (λ target. target ≡ entry_target (entries (processes self.new) (ram_of self.new) (page_of pid va)) access) }
-        ensures given { IfOk result (λ target. is_given_target target ≡ entry_may (entries (processes self.new) (ram_of self.new) (page_of pid va)) access) }
+        ensures brings { BringsIn W.SwapStore self.old self.new }
+        ensures target { IfOk result
+            (λ target. target ≡ entry_target (entries (processes self.new) (ram_of self.new) (page_of pid va)) access) }
+        ensures given { IfOk result
+            (λ target. is_given_target target ≡ entry_may (entries (processes self.new) (ram_of self.new) (page_of pid va)) access) }
         ensures usable { OnOk result (IsUsable self.new) }
         ensures failed { OnErr result (has_failed self.new ≡ true) }
         ensures out { OnErr result (is_out self.old (page_of pid va) ≡ true) }

@@ -96,9 +96,11 @@ impl<W: SwapStore> Memory<W> {
         requires usable { IsUsable self.old }
         requires known { Remembers self.old pid known.old }
         ensures known { Remembers self.new pid known.new }
-        ensures brings { BringsIn W.is_honest W.held W.slot_count W.asked W.faults self.old self.new }
-        ensures target { IfOk result (λ target. target ≡ entry_target (entries (processes self.new) (ram_of self.new) (page_of pid va)) access) }
-        ensures given { IfOk result (λ target. is_given_target target ≡ entry_may (entries (processes self.new) (ram_of self.new) (page_of pid va)) access) }
+        ensures brings { BringsIn W.SwapStore self.old self.new }
+        ensures target { IfOk result
+            (λ target. target ≡ entry_target (entries (processes self.new) (ram_of self.new) (page_of pid va)) access) }
+        ensures given { IfOk result
+            (λ target. is_given_target target ≡ entry_may (entries (processes self.new) (ram_of self.new) (page_of pid va)) access) }
         ensures usable { OnOk result (IsUsable self.new) }
         ensures failed { OnErr result (has_failed self.new ≡ true) }
         ensures out { OnErr result (is_out self.old (page_of pid va) ≡ true) }
@@ -137,8 +139,8 @@ impl<W: SwapStore> Memory<W> {
         requires aligned { va % size_of width ≡ 0 }
         ensures known { Remembers self.new pid known.new }
         ensures gives { IfOk result (λ number. LoadsNumber ((user_view W.held self.old pid).may access va) None
-            (user_content W.is_honest W.held self.old pid) va width number) }
-        ensures brings { BringsIn W.is_honest W.held W.slot_count W.asked W.faults self.old self.new }
+            (user_content W.SwapStore self.old pid) va width number) }
+        ensures brings { BringsIn W.SwapStore self.old self.new }
         ensures usable { OnOk result (IsUsable self.new) }
         ensures failed { OnErr result (has_failed self.new ≡ true) }
         ensures out { OnErr result (is_out self.old (page_of pid va) ≡ true) }
@@ -162,12 +164,13 @@ impl<W: SwapStore> Memory<W> {
         requires known { Remembers self.old pid known.old }
         requires aligned { va % size_of width ≡ 0 }
         ensures known { Remembers self.new pid known.new }
-        ensures stores { IfOk result (λ stored. StoresAsTold ((user_view W.held self.old pid).may Store va) ((user_view W.held self.old pid).console va)
-            (user_seen W.is_honest W.held self.old pid) (user_seen W.is_honest W.held self.new pid) va width value stored) }
-        ensures kept { OnErr result (KeepsContent (user_content W.is_honest W.held self.old pid) (user_content W.is_honest W.held self.new pid)) }
+        ensures stores { IfOk result
+            (λ stored. StoresAsTold ((user_view W.held self.old pid).may Store va) ((user_view W.held self.old pid).console va)
+            (user_seen W.SwapStore self.old pid) (user_seen W.SwapStore self.new pid) va width value stored) }
+        ensures kept { OnErr result (KeepsContent (user_content W.SwapStore self.old pid) (user_content W.SwapStore self.new pid)) }
         ensures may { (user_view W.held self.new pid).may ≡ (user_view W.held self.old pid).may }
         ensures console { (user_view W.held self.new pid).console ≡ (user_view W.held self.old pid).console }
-        ensures rest { KeepsRest W.is_honest W.held W.slot_count W.asked W.faults pid self.old self.new }
+        ensures rest { KeepsRest W.SwapStore pid self.old self.new }
         ensures usable { OnOk result (IsUsable self.new) }
         ensures failed { OnErr result (has_failed self.new ≡ true) }
         ensures out { OnErr result (is_out self.old (page_of pid va) ≡ true) }
@@ -192,7 +195,7 @@ impl<W: SwapStore> UserMemory for KnownUser<'_, W> {
 
     ghost console = { λ u. (user_view W.held u.mem.now u.pid).console };
 
-    ghost content = { λ u. user_content W.is_honest W.held u.mem.now u.pid };
+    ghost content = { λ u. user_content W.SwapStore u.mem.now u.pid };
 
     ghost out = { λ u va. is_out u.mem.now (page_of u.pid va) };
 
@@ -204,7 +207,7 @@ impl<W: SwapStore> UserMemory for KnownUser<'_, W> {
 
     // What is known stays what the walk gives.
     ghost same_rest = { λ a b. (b.mem.ghost_name ≡ a.mem.ghost_name) × (b.pid ≡ a.pid)
-        × KeepsRest W.is_honest W.held W.slot_count W.asked W.faults a.pid a.mem.now b.mem.now
+        × KeepsRest W.SwapStore a.pid a.mem.now b.mem.now
         × (Remembers a.mem.now a.pid a.known → Remembers b.mem.now b.pid b.known) };
 
     ghost bounded = { λ u. W.bounded u.mem.now.store };
@@ -212,7 +215,7 @@ impl<W: SwapStore> UserMemory for KnownUser<'_, W> {
     ghost rest_over = { λ a b c x y. (
       y.0 ∙ x.0,
       y.1 ∙ x.1,
-      pid_rest_over W.is_honest W.held W.slot_count W.asked W.faults a.pid b.pid a.mem.now b.mem.now c.mem.now x.1 x.2 y.2,
+      pid_rest_over W.SwapStore.own a.pid b.pid a.mem.now b.mem.now c.mem.now x.1 x.2 y.2,
       λ known. y.3 (x.3 known),
     ) };
 

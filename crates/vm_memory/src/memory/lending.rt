@@ -65,7 +65,7 @@ impl<W: SwapStore> Memory<W> {
         ensures loan { result ≡ record { lender = Some from; holder = to; count = n; kind = kind; number = number } }
         ensures ledger { ledger W.held self.new ≡ lend from n to kind number (ledger W.held self.old) }
         ensures stands { Stands (loans (ledger W.held self.new)) result }
-        ensures keeps { KeepsSeats W.slot_count W.is_honest W.held self.old self.new }
+        ensures keeps { KeepsSeats W.SwapStore self.old self.new }
     {
         lend_run(&mut self.ram, &mut self.owners, from, n, to, kind, number)
     }
@@ -79,7 +79,7 @@ impl<W: SwapStore> Memory<W> {
         requires may { send_answer (processes self.old) (ledger W.held self.old) from n Move ≡ Ok tt }
         requires arrival { IsFreeArrival (processes self.old) (ledger W.held self.old) to n }
         ensures ledger { ledger W.held self.new ≡ give from n to (ledger W.held self.old) }
-        ensures keeps { KeepsSeats W.slot_count W.is_honest W.held self.old self.new }
+        ensures keeps { KeepsSeats W.SwapStore self.old self.new }
     {
         give_run(&mut self.ram, &mut self.owners, from, n, to);
     }
@@ -91,7 +91,7 @@ impl<W: SwapStore> Memory<W> {
         requires stands { Stands (loans (ledger W.held self.old)) loan }
         ensures ledger { ledger W.held self.new ≡ end_loan loan.number (ledger W.held self.old) }
         ensures fresh { IsFresh (loans (ledger W.held self.new)) loan.number }
-        ensures keeps { KeepsSeats W.slot_count W.is_honest W.held self.old self.new }
+        ensures keeps { KeepsSeats W.SwapStore self.old self.new }
     {
         let gone = orphans(&loan);
         end_run(&mut self.ram, &mut self.owners, loan);
@@ -108,7 +108,7 @@ impl<W: SwapStore> Memory<W> {
         ensures loan { result ≡ without_lender loan }
         ensures ledger { ledger W.held self.new ≡ orphan_loan (processes self.old) loan.number (ledger W.held self.old) }
         ensures stands { Stands (loans (ledger W.held self.new)) result }
-        ensures keeps { KeepsSeats W.slot_count W.is_honest W.held self.old self.new }
+        ensures keeps { KeepsSeats W.SwapStore self.old self.new }
     {
         orphan_run(&mut self.ram, &mut self.owners, loan)
     }
@@ -123,7 +123,7 @@ impl<W: SwapStore> Memory<W> {
         ensures loan { result ≡ with_holder to loan }
         ensures ledger { ledger W.held self.new ≡ pass loan.number loan.holder to (ledger W.held self.old) }
         ensures stands { Stands (loans (ledger W.held self.new)) result }
-        ensures keeps { KeepsSeats W.slot_count W.is_honest W.held self.old self.new }
+        ensures keeps { KeepsSeats W.SwapStore self.old self.new }
     {
         pass_run(&mut self.ram, &mut self.owners, loan, to)
     }

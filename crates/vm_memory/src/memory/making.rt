@@ -93,7 +93,7 @@ impl<W: SwapStore> Memory<W> {
         requires place { is_user_place (processes self.old) at ≡ true }
         requires free { is_free (processes self.old) (ledger W.held self.old) at ≡ true }
         requires room { self.old.pages + 1 ≤ capacity_of self.old }
-        ensures made { MakesPages W.is_honest W.held W.slot_count W.asked W.faults self.old self.new at 1 right }
+        ensures made { MakesPages W.SwapStore self.old self.new at 1 right }
         ensures usable { OnOk result (IsUsable self.new) }
         ensures failed { OnErr result (has_failed self.new ≡ true) }
         ensures cause { OnErr result (Rose (W.faults (store_of self.old)) (W.faults (store_of self.new))) }
@@ -110,8 +110,8 @@ impl<W: SwapStore> Memory<W> {
         requires sound { IsSound W.slot_count self.old }
         requires usable { IsUsable self.old }
         requires can { CanMake (processes self.old) (capacity_of self.old) (ledger W.held self.old) first n }
-        ensures made { OnOk result (MakesPages W.is_honest W.held W.slot_count W.asked W.faults self.old self.new first n right) }
-        ensures first { MakesFirst W.is_honest W.held W.slot_count W.asked W.faults self.old self.new first n right }
+        ensures made { OnOk result (MakesPages W.SwapStore self.old self.new first n right) }
+        ensures first { MakesFirst W.SwapStore self.old self.new first n right }
         ensures usable { OnOk result (IsUsable self.new) }
         ensures failed { OnErr result (has_failed self.new ≡ true) }
         ensures cause { OnErr result (Rose (W.faults (store_of self.old)) (W.faults (store_of self.new))) }
@@ -131,8 +131,8 @@ impl<W: SwapStore> Memory<W> {
         requires sound { IsSound W.slot_count self.old }
         requires usable { IsUsable self.old }
         requires can { CanMake (processes self.old) (capacity_of self.old) (ledger W.held self.old) first n }
-        ensures made { OnOk result (MakesPages W.is_honest W.held W.slot_count W.asked W.faults self.old self.new first n right) }
-        ensures first { MakesFirst W.is_honest W.held W.slot_count W.asked W.faults self.old self.new first n right }
+        ensures made { OnOk result (MakesPages W.SwapStore self.old self.new first n right) }
+        ensures first { MakesFirst W.SwapStore self.old self.new first n right }
         ensures usable { OnOk result (IsUsable self.new) }
         ensures failed { OnErr result (has_failed self.new ≡ true) }
         ensures cause { OnErr result (Rose (W.faults (store_of self.old)) (W.faults (store_of self.new))) }
@@ -169,22 +169,24 @@ impl<W: SwapStore> Memory<W> {
         ensures sound { IsSound W.slot_count self.new }
         ensures answer { IfOk result (λ answer. answer
             ≡ make_answer (processes self.old) (capacity_of self.old) (ledger W.held self.old) pid window at n) }
-        ensures rights { IfOk result (λ answer. bare (ledger W.held self.new) ≡ bare (after_make pid n right answer (ledger W.held self.old))) }
-        ensures whole { MeansBytesOver W.is_honest W.held self.old self.new
+        ensures rights { IfOk result
+            (λ answer. bare (ledger W.held self.new) ≡ bare (after_make pid n right answer (ledger W.held self.old))) }
+        ensures whole { MeansBytesOver W.SwapStore self.old self.new
             → IfOk result (λ answer. ledger W.held self.new ≡ after_make pid n right answer (ledger W.held self.old)) }
         ensures refused { IfOk result (λ answer. OnErr answer (self.new ≡ self.old)) }
         ensures usable { OnOk result (IsUsable self.new) }
         ensures failed { OnErr result (has_failed self.new ≡ true) }
-        ensures partial { OnErr result (HasMadeFirst (MeansBytesOver W.is_honest W.held self.old self.new)
+        ensures partial { OnErr result (HasMadeFirst (MeansBytesOver W.SwapStore self.old self.new)
             (make_answer (processes self.old) (capacity_of self.old) (ledger W.held self.old) pid window at n)
             pid n right (ledger W.held self.old) (ledger W.held self.new)) }
         ensures cause { OnErr result (Rose (W.faults (store_of self.old)) (W.faults (store_of self.new))) }
         ensures full { OnErr result (frames_for_pages self.old < pages (processes self.old) (ledger W.held self.old) + n) }
         // A page goes out only where there aren't frames for all pages.
-        ensures near { pages (processes self.old) (ledger W.held self.old) + n ≤ frames_for_pages self.old → none_out self.old ≡ true → none_out self.new ≡ true }
+        ensures near { pages (processes self.old) (ledger W.held self.old) + n ≤ frames_for_pages self.old → none_out self.old ≡ true
+            → none_out self.new ≡ true }
         ensures tie { IsTied W.held self.new }
         ensures size { size self.new ≡ size self.old }
-        ensures store { KeepsStore W.is_honest W.held W.slot_count W.asked W.faults (store_of self.old) (store_of self.new) }
+        ensures store { KeepsStore W.SwapStore (store_of self.old) (store_of self.new) }
     {
         match self.find_room(pid, window, at, n) {
             Err(error) => Ok(Err(error)),
@@ -212,7 +214,7 @@ impl<W: SwapStore> Memory<W> {
         ensures size { size self.new ≡ size self.old }
         ensures store { store_of self.new ≡ store_of self.old }
         ensures none { none_out self.old ≡ true → none_out self.new ≡ true }
-        ensures means { MeansBytes W.is_honest W.held self.old → MeansBytes W.is_honest W.held self.new }
+        ensures means { MeansBytes W.SwapStore self.old → MeansBytes W.SwapStore self.new }
     {
         if self.console_mapped() {
             return Err(XousError::MemoryInUse);

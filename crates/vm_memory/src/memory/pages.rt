@@ -35,13 +35,13 @@ impl<W: SwapStore> Memory<W> {
         ensures cause { OnErr result (Rose (W.faults (store_of self.old)) (W.faults (store_of self.new))) }
         ensures out { OnErr result (is_out self.old at ≡ true) }
         ensures rights { bare (ledger W.held self.new) ≡ bare (ledger W.held self.old) }
-        ensures whole { MeansBytes W.is_honest W.held self.old → ledger W.held self.new ≡ ledger W.held self.old }
-        ensures means { MeansBytes W.is_honest W.held self.old → MeansBytes W.is_honest W.held self.new }
+        ensures whole { MeansBytes W.SwapStore self.old → ledger W.held self.new ≡ ledger W.held self.old }
+        ensures means { MeansBytes W.SwapStore self.old → MeansBytes W.SwapStore self.new }
         // A page goes out only in place of one that was out.
         ensures none { none_out self.old ≡ true → self.new ≡ self.old }
         ensures tie { IsTied W.held self.new }
         ensures size { size self.new ≡ size self.old }
-        ensures store { KeepsStore W.is_honest W.held W.slot_count W.asked W.faults (store_of self.old) (store_of self.new) }
+        ensures store { KeepsStore W.SwapStore (store_of self.old) (store_of self.new) }
     {
         if !self.has_place(at) {
             return Ok(false);
@@ -73,14 +73,15 @@ impl<W: SwapStore> Memory<W> {
         ensures value { contents_reached (processes self.old) (ledger W.held self.old) at Store ≡ Some (Bytes result.now) }
         ensures len { length result.now ≡ 4096 }
         ensures writes { (bytes : List ℕ) → length bytes ≡ 4096
-            → ledger W.held (with_bytes_at self.old at bytes) ≡ write_page (reach (processes self.old) (ledger W.held self.old) at Store) bytes (ledger W.held self.old) }
+            → ledger W.held (with_bytes_at self.old at bytes)
+            ≡ write_page (reach (processes self.old) (ledger W.held self.old) at Store) bytes (ledger W.held self.old) }
         ensures sound { (bytes : List ℕ) → length bytes ≡ 4096 → IsSound W.slot_count (with_bytes_at self.old at bytes) }
         ensures tie { (bytes : List ℕ) → length bytes ≡ 4096 → IsTied W.held (with_bytes_at self.old at bytes) }
         ensures size { (bytes : List ℕ) → size (with_bytes_at self.old at bytes) ≡ size self.old }
         ensures store { (bytes : List ℕ) → store_of (with_bytes_at self.old at bytes) ≡ store_of self.old }
         ensures usable { (bytes : List ℕ) → IsUsable (with_bytes_at self.old at bytes) }
         ensures none { (bytes : List ℕ) → none_out (with_bytes_at self.old at bytes) ≡ none_out self.old }
-        ensures means { (bytes : List ℕ) → MeansBytes W.is_honest W.held self.old → MeansBytes W.is_honest W.held (with_bytes_at self.old at bytes) }
+        ensures means { (bytes : List ℕ) → MeansBytes W.SwapStore self.old → MeansBytes W.SwapStore (with_bytes_at self.old at bytes) }
     {
         let f = self.frame(at);
         self.ram.page_mut(f)

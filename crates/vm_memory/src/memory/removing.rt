@@ -101,7 +101,7 @@ impl<W: SwapStore> Memory<W> {
         ensures size { size self.new ≡ size self.old }
         ensures store { store_of self.new ≡ store_of self.old }
         ensures none { none_out self.old ≡ true → none_out self.new ≡ true }
-        ensures means { MeansBytes W.is_honest W.held self.old → MeansBytes W.is_honest W.held self.new }
+        ensures means { MeansBytes W.SwapStore self.old → MeansBytes W.SwapStore self.new }
     {
         if self.any(first, n, RunTest::Free) {
             return Err(XousError::BadAddress);
@@ -128,7 +128,7 @@ impl<W: SwapStore> Memory<W> {
         ensures size { size self.new ≡ size self.old }
         ensures store { store_of self.new ≡ store_of self.old }
         ensures none { none_out self.old ≡ true → none_out self.new ≡ true }
-        ensures means { MeansBytes W.is_honest W.held self.old → MeansBytes W.is_honest W.held self.new }
+        ensures means { MeansBytes W.SwapStore self.old → MeansBytes W.SwapStore self.new }
     {
         if self.any(first, n, RunTest::OnLoan) {
             return Err(XousError::ShareViolation);
@@ -154,7 +154,7 @@ impl<W: SwapStore> Memory<W> {
         ensures size { size self.new ≡ size self.old }
         ensures store { store_of self.new ≡ store_of self.old }
         ensures none { none_out self.old ≡ true → none_out self.new ≡ true }
-        ensures means { MeansBytes W.is_honest W.held self.old → MeansBytes W.is_honest W.held self.new }
+        ensures means { MeansBytes W.SwapStore self.old → MeansBytes W.SwapStore self.new }
     {
         if self.any(first, n, RunTest::Free) {
             return Err(XousError::BadAddress);
@@ -174,7 +174,8 @@ impl<W: SwapStore> Memory<W> {
         requires sound { IsSound W.slot_count self.old }
         requires no_loan { HasNoLoan (ledger W.held self.old) pid }
         ensures sound { IsSound W.slot_count self.new }
-        ensures ledger { ledger W.held self.new ≡ remove (in_run (window_place pid window 0) (window_pages window)) (ledger W.held self.old) }
+        ensures ledger { ledger W.held self.new ≡ remove (in_run (window_place pid window 0) (window_pages window))
+            (ledger W.held self.old) }
         ensures no_loan { HasNoLoan (ledger W.held self.new) pid }
         ensures rest { ChangesPagesAlone self.old self.new }
     {
@@ -199,7 +200,7 @@ impl<W: SwapStore> Memory<W> {
         ensures size { size self.new ≡ size self.old }
         ensures store { store_of self.new ≡ store_of self.old }
         ensures none { none_out self.old ≡ true → none_out self.new ≡ true }
-        ensures means { MeansBytes W.is_honest W.held self.old → MeansBytes W.is_honest W.held self.new }
+        ensures means { MeansBytes W.SwapStore self.old → MeansBytes W.SwapStore self.new }
     {
         self.drop_window(pid, Window::Image);
         self.drop_window(pid, Window::Heap);

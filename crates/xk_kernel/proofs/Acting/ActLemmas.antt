@@ -21,6 +21,7 @@ use Rattle.rv32_hart.specs.declared.ran.Ran.{Ran}
 use Rattle.rv32_hart.specs.declared.ran.Ran.TheVariants.{Device, Ecall, Failed, Trap}
 use Rattle.rv32_hart.specs.declared.ran.Ran.TheVariants as ran
 use Rattle.sv32_space.specs.Tie.{Held}
+use Rattle.xk_ports.specs.declared.store.SwapStore.{Ghosts as SwapStore}
 use Rattle.xk_base.specs.Tables.Circle.{is_thread_id}
 use Rattle.xk_base.specs.Calls.Registers.{arguments_of, reg_at}
 use Rattle.xk_base.specs.declared.ids.ThreadId.{ThreadId}
@@ -212,31 +213,6 @@ module _ {W : Type 0} (held : W → Held) (old mid new : Kernel W) (who : Thread
   pub begun_ready : actor (machine_of held old) ≡ Some who → machine_of held mid ≡ at who (machine_of held old) → ready_at (machine_of held mid) mid.cursor ≡ true
   begun_ready acts e = (λ i. ready_at (e i) (begun_cursor e i)) ∙ actor_ready (machine_of held old) who acts
 
-  -- .. and can make a call
-  pub begun_caller : (slot_count : W → ℕ) → IsWhole slot_count held mid → IsUsable mid → Matched (machine_of held old) → old.steps < 4000000000
-      → actor (machine_of held old) ≡ Some who → machine_of held mid ≡ at who (machine_of held old) → IsCaller slot_count held mid
-  unfolding machine_of
-  begun_caller slot_count whole usable h few acts begun = record {
-    whole = whole;
-    usable = usable;
-    matched = subst Matched (sym begun) (matched_at who (machine_of held old) h);
-    few = subst (λ s. s < 4000000000) (sym (ap (λ (m : Machine). m.steps) begun)) few;
-    ready = begun_ready acts begun;
-  }
-
-  -- .. and so it can where its instruction left the machine matched and the thread as ready
-  pub begun_calls : (slot_count : W → ℕ) → IsWhole slot_count held new → IsUsable new → Matched (machine_of held mid)
-      → ready_at (machine_of held mid) who ≡ true → mid.steps ≡ old.steps → old.steps < 4000000000
-      → machine_of held new ≡ at who (machine_of held mid) → IsCaller slot_count held new
-  unfolding machine_of
-  begun_calls slot_count whole usable h ready steps few begun = record {
-    whole = whole;
-    usable = usable;
-    matched = subst Matched (sym begun) (matched_at who (machine_of held mid) h);
-    few = subst (λ s. s < 4000000000) (sym (ap (λ (m : Machine). m.steps) begun ∙ steps)) few;
-    ready = (λ i. ready_at (begun i) ((begun i).cursor)) ∙ ready;
-  }
-
   -- the log of a step that begins after the instruction
   pub begun_log : mid.log ≡ old.log → mid.steps ≡ old.steps → new.log ≡ record mid.log { step = mid.steps + 1; records = [] }
       → new.log ≡ record old.log { step = old.steps + 1; records = [] }
@@ -282,3 +258,29 @@ at_one tid pc e = grind (arith, nat_tests)
 -- the thread that acts is one of the processes'
 pub actor_known : (m : Machine) (who : ThreadId) (t : Thread) → Matched m → m.threads who ≡ Some t → is_thread_id m.processes who ≡ true
 actor_known m who t h there = h.body.ids.known who t there
+
+-- .. and can make a call
+pub begun_caller : {W : Type 0} (S : SwapStore W) (old mid new : Kernel W) (who : ThreadId) → IsWhole S mid → IsUsable mid
+    → Matched (machine_of S.held old) → old.steps < 4000000000 → actor (machine_of S.held old) ≡ Some who
+    → machine_of S.held mid ≡ at who (machine_of S.held old) → IsCaller S mid
+unfolding machine_of
+begun_caller S old mid new who whole usable h few acts begun = record {
+  whole = whole;
+  usable = usable;
+  matched = subst Matched (sym begun) (matched_at who (machine_of S.held old) h);
+  few = subst (λ s. s < 4000000000) (sym (ap (λ (m : Machine). m.steps) begun)) few;
+  ready = begun_ready S.held old mid new who acts begun;
+}
+
+-- .. and so it can where its instruction left the machine matched and the thread as ready
+pub begun_calls : {W : Type 0} (S : SwapStore W) (old mid new : Kernel W) (who : ThreadId) → IsWhole S new → IsUsable new
+    → Matched (machine_of S.held mid) → ready_at (machine_of S.held mid) who ≡ true → mid.steps ≡ old.steps → old.steps < 4000000000
+    → machine_of S.held new ≡ at who (machine_of S.held mid) → IsCaller S new
+unfolding machine_of
+begun_calls S old mid new who whole usable h ready steps few begun = record {
+  whole = whole;
+  usable = usable;
+  matched = subst Matched (sym begun) (matched_at who (machine_of S.held mid) h);
+  few = subst (λ s. s < 4000000000) (sym (ap (λ (m : Machine). m.steps) begun ∙ steps)) few;
+  ready = (λ i. ready_at (begun i) ((begun i).cursor)) ∙ ready;
+}

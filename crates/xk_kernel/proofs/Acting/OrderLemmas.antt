@@ -1,4 +1,5 @@
 -- The order of the threads in the table is that of the machine.
+use Rattle.xk_ports.specs.declared.store.SwapStore.{Ghosts as SwapStore}
 use Rattle.std.proofs.Common.{◌≡◌, ℕ, true, false, Option, Some, None, IsSome, refl, sym, ap, subst, ◌∙◌}
 use Rattle.std.specs.Prelude.{if◌then◌else◌, unwrap_or, IsTrue}
 use Rattle.std.specs.Option.{option_map, option_map_or}
@@ -113,9 +114,9 @@ pub ready_found : (m : Machine) (id : ThreadId) (t : TableThread) → m.threads 
 ready_found m id t e = ap (λ o. option_map_or (λ t. is_ready t.state) o false) e ∙ sym (ready_state t.state)
 
 -- wherever the cursor goes among the ids of threads, the kernel stays whole
-pub cursor_whole : {W : Type 0} (slot_count : W → ℕ) (held : W → Held) (k : Kernel W) (d : ThreadId) → IsWhole slot_count held k
-    → IsTrue (is_thread_id (processes k.mem) d) → IsWhole slot_count held (record k { cursor = d })
-cursor_whole slot_count held k d h valid = record {
+pub cursor_whole : {W : Type 0} (S : SwapStore W) (k : Kernel W) (d : ThreadId) → IsWhole S k
+    → IsTrue (is_thread_id (processes k.mem) d) → IsWhole S (record k { cursor = d })
+cursor_whole S k d h valid = record {
   mem = h.mem;
   threads = h.threads;
   procs = h.procs;

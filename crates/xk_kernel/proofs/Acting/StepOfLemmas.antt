@@ -1,4 +1,5 @@
 -- A step that was done is counted, and is that of the machine.
+use Rattle.xk_ports.specs.declared.store.SwapStore.{Ghosts as SwapStore}
 use Rattle.std.proofs.Common.{◌≡◌, ℕ, ◌+◌, ◌<◌, ◌≤◌, ◌⊎◌, true, false, List, length, map, All, Option, Some, sym, ap, subst, ◌∙◌, arith, inl, inr}
 use Rattle.std.specs.Prelude.{is_some}
 use Rattle.std.specs.Option.{option_map}
@@ -58,13 +59,13 @@ pub may_exchange : {W : Type 0} (held : W → Held) (old : Kernel W) (who : Thre
 may_exchange held old who acts (inl out) = inl out
 may_exchange held old who acts (inr crowded) = inr (subst (IsCrowded old) (sym (step_leaves (machine_of held old) who acts)) crowded)
 
-module _ {W : Type 0} (slot_count : W → ℕ) (held : W → Held) (old new : Kernel W) (who : ThreadId) (acts : actor (machine_of held old) ≡ Some who) where
+module _ {W : Type 0} (S : SwapStore W) (old new : Kernel W) (who : ThreadId) (acts : actor (machine_of S.held old) ≡ Some who) where
   module _ (address : Option ℕ) (kept : Option (ThreadId × ℕ)) (same : option_map as_reservation kept ≡ reservation_of who address) where
     -- the kernel once the step is counted, with the reservation that it leaves
     abbrev counting : Kernel W
     counting = record new { steps = old.steps + 1; reserved = kept }
 
-    pub counting_whole : IsWhole slot_count held new → IsWhole slot_count held counting
+    pub counting_whole : IsWhole S new → IsWhole S counting
     counting_whole h = record {
       mem = h.mem;
       threads = h.threads;
@@ -86,7 +87,7 @@ module _ {W : Type 0} (slot_count : W → ℕ) (held : W → Held) (old new : Ke
       of_its_step =
           subst (λ xs. All (λ (rec : Rec). rec.step ≡ new.log.step) xs) (sym tells) (all_of_step new.log.step few.told)
 
-      pub few_records : IsWhole slot_count held old → length new.log.records < RECORD_LIMIT
+      pub few_records : IsWhole S old → length new.log.records < RECORD_LIMIT
       few_records whole =
           let long : length new.log.records ≡ length few.told = ap length tells ∙ length-map few.told (record_of new.log.step) in
           let told : length few.told ≤ thread_ids (processes old.mem) + 3 = few.few in
@@ -94,44 +95,44 @@ module _ {W : Type 0} (slot_count : W → ℕ) (held : W → Held) (old new : Ke
           omega (arith, long, told, procs)
 
       -- what the timer makes of it
-      raised : (timed (so_far (machine_of held counting) few.told)).machine ≡ record (machine_of held counting) {
-        cursor = (timed_raised (so_far (machine_of held counting) few.told)).cursor;
-        threads = (timed_raised (so_far (machine_of held counting) few.told)).threads;
-        pending = (timed_raised (so_far (machine_of held counting) few.told)).pending;
-        compare = (timed_raised (so_far (machine_of held counting) few.told)).compare;
+      raised : (timed (so_far (machine_of S.held counting) few.told)).machine ≡ record (machine_of S.held counting) {
+        cursor = (timed_raised (so_far (machine_of S.held counting) few.told)).cursor;
+        threads = (timed_raised (so_far (machine_of S.held counting) few.told)).threads;
+        pending = (timed_raised (so_far (machine_of S.held counting) few.told)).pending;
+        compare = (timed_raised (so_far (machine_of S.held counting) few.told)).compare;
       }
-      raised = (timed_raised (so_far (machine_of held counting) few.told)).is
+      raised = (timed_raised (so_far (machine_of S.held counting) few.told)).is
 
       -- it counts one
-      pub counts_one : (rung : Kernel W) → ((told : List What) → LogTells new.log told → Rings held counting rung told) → rung.steps ≡ old.steps + 1
+      pub counts_one : (rung : Kernel W) → ((told : List What) → LogTells new.log told → Rings S.held counting rung told) → rung.steps ≡ old.steps + 1
       unfolding machine_of
       counts_one rung rings = ap (λ (m : Machine). m.steps) ((rings few.told tells).machine ∙ raised)
 
       -- .. and stays sound, whatever bytes the pages have
-      module _ (settles : Settles (machine_of held old) (machine_of held new)) where
-        counted_matched : Matched (machine_of held counting)
+      module _ (settles : Settles (machine_of S.held old) (machine_of S.held new)) where
+        counted_matched : Matched (machine_of S.held counting)
         unfolding machine_of
-        counted_matched = matched_reserved (record (machine_of held new) { steps = old.steps + 1 }) settles (option_map as_reservation kept)
+        counted_matched = matched_reserved (record (machine_of S.held new) { steps = old.steps + 1 }) settles (option_map as_reservation kept)
 
         -- who has claimed the timer's interrupt is there
-        pub claim_there : IsTimersClaimThere (machine_of held counting)
+        pub claim_there : IsTimersClaimThere (machine_of S.held counting)
         claim_there claim e = counted_matched.body.processes.pids claim.pid (counted_matched.rest.claims.living TIMER_INTERRUPT claim e)
 
-        pub did_sound : (rung : Kernel W) → IsWhole slot_count held rung → ((told : List What) → LogTells new.log told → Rings held counting rung told)
-            → IsSound slot_count held rung
+        pub did_sound : (rung : Kernel W) → IsWhole S rung → ((told : List What) → LogTells new.log told → Rings S.held counting rung told)
+            → IsSound S rung
         did_sound rung whole rings = record {
           whole = whole;
-          matched = λ _. subst Matched (sym (rings few.told tells).machine) (timed_matched (so_far (machine_of held counting) few.told) counted_matched);
+          matched = λ _. subst Matched (sym (rings few.told tells).machine) (timed_matched (so_far (machine_of S.held counting) few.told) counted_matched);
         }
 
     -- where what the thread did is known, the step is
-    module _ (h : Acts held old new who address) where
+    module _ (h : Acts S.held old new who address) where
       -- what the thread did
       abbrev did_tell : List What
-      did_tell = (told_by who (machine_of held old)).told
+      did_tell = (told_by who (machine_of S.held old)).told
 
       -- before the timer it is what the thread did, counted
-      counted_is : so_far (machine_of held counting) did_tell ≡ counted_by who (machine_of held old)
+      counted_is : so_far (machine_of S.held counting) did_tell ≡ counted_by who (machine_of S.held old)
       unfolding machine_of
       counted_is = λ i. record {
         machine = record (h.done.machine i) { steps = old.steps + 1; reserved = (same ∙ h.leaves) i };
@@ -144,21 +145,21 @@ module _ {W : Type 0} (slot_count : W → ℕ) (held : W → Held) (old new : Ke
       done_tells : LogTells new.log did_tell
       done_tells = ap (λ (l : LogState). l.records) h.done.log ∙ (λ i. map (record_of (sym done_step i)) did_tell)
 
-      step_done : (rung : Kernel W) → Rings held counting rung did_tell → Becomes held rung (step (machine_of held old))
+      step_done : (rung : Kernel W) → Rings S.held counting rung did_tell → Becomes S.held rung (step (machine_of S.held old))
       unfolding machine_of
       step_done rung rings = record {
         machine =
             rings.machine ∙ ap (λ (t : Told). (timed t).machine) counted_is
-            ∙ sym (ap (λ (s : Recorded). s.machine) (step_is (machine_of held old) who acts));
+            ∙ sym (ap (λ (s : Recorded). s.machine) (step_is (machine_of S.held old) who acts));
         records =
             ap (λ (l : LogState). l.records) rings.log
             ∙ (λ i. map (record_of (done_step i)) (timed (counted_is i)).told)
-            ∙ sym (ap (λ (s : Recorded). s.records) (step_is (machine_of held old) who acts));
+            ∙ sym (ap (λ (s : Recorded). s.records) (step_is (machine_of S.held old) who acts));
       }
 
-      pub did : (rung : Kernel W) → ((told : List What) → LogTells new.log told → Rings held counting rung told) → DoesStep held old rung Did
+      pub did : (rung : Kernel W) → ((told : List What) → LogTells new.log told → Rings S.held counting rung told) → DoesStep S.held old rung Did
       did rung rings = (ap is_some acts, step_done rung (rings did_tell done_tells))
 
 -- a kernel that failed is sound where it is whole
-pub failed_sound : {W : Type 0} (slot_count : W → ℕ) (held : W → Held) (k : Kernel W) → IsWhole slot_count held k → has_failed k.mem ≡ true → IsSound slot_count held k
-failed_sound slot_count held k whole failed = record { whole = whole; matched = λ usable. absurd (false≢true (sym usable ∙ failed)) }
+pub failed_sound : {W : Type 0} (S : SwapStore W) (k : Kernel W) → IsWhole S k → has_failed k.mem ≡ true → IsSound S k
+failed_sound S k whole failed = record { whole = whole; matched = λ usable. absurd (false≢true (sym usable ∙ failed)) }

@@ -1,4 +1,5 @@
 -- The kernel answers those who joined a thread.
+use Rattle.xk_ports.specs.declared.store.SwapStore.{Ghosts as SwapStore}
 use Rattle.std.proofs.Common.{◌≡◌, ℕ, ◌+◌, ◌-◌, ◌*◌, ◌<◌, ◌≤◌, Bool, true, false, List, [], ◌∷◌, length, Option, Some, None, refl, sym, ap, ◌∙◌, arith, append-nil, IsTrue, subst}
 use Rattle.std.specs.Prelude.{◌&&◌, IsSome, is_some}
 use Rattle.std.specs.Option.{option_map, option_map_or}
@@ -26,17 +27,17 @@ use Rattle.xk_kernel.proofs.Calling.ReplyLemmas.{replies_until, unanswered}
 
 -- ---- the ids of the table
 
-pub thread_ids_known : {W : Type 0} (slot_count : W → ℕ) (held : W → Held) (k : Kernel W) → IsWhole slot_count held k → HasThreadIds (machine_of held k)
+pub thread_ids_known : {W : Type 0} (S : SwapStore W) (k : Kernel W) → IsWhole S k → HasThreadIds (machine_of S.held k)
 unfolding machine_of
-thread_ids_known slot_count held k whole = record { known = λ id t e. is_id held k (processes k.mem) id whole.threads (ap is_some e) }
+thread_ids_known S k whole = record { known = λ id t e. is_id S.held k (processes k.mem) id whole.threads (ap is_some e) }
 
 -- ---- the loop over the tids
 
 -- The kernel has answered those with the first k tids.
-pub record HasAnswered {W : Type 0} (slot_count : W → ℕ) (held : W → Held) (old new : Kernel W) (who : ThreadId) (a0 k : ℕ) : Type 0 where
-  pub whole : IsWhole slot_count held new
-  pub machine : machine_of held new ≡ give_answers (joiners_until (machine_of held old) who a0 k) (machine_of held old)
-  pub log : new.log ≡ log_with (replies_until (first_place who + k) (joiners_answered (machine_of held old) who a0)) old.log
+pub record HasAnswered {W : Type 0} (S : SwapStore W) (old new : Kernel W) (who : ThreadId) (a0 k : ℕ) : Type 0 where
+  pub whole : IsWhole S new
+  pub machine : machine_of S.held new ≡ give_answers (joiners_until (machine_of S.held old) who a0 k) (machine_of S.held old)
+  pub log : new.log ≡ log_with (replies_until (first_place who + k) (joiners_answered (machine_of S.held old) who a0)) old.log
   pub mem : new.mem ≡ old.mem
   pub few : length new.log.records ≤ length old.log.records + k
 
@@ -48,21 +49,21 @@ pub joining_is_there : (who : ThreadId) (o : Option Thread) → option_map_or (�
 joining_is_there who None e = absurd (false≢true e)
 joining_is_there who (Some t) e = refl
 
-module _ {W : Type 0} (slot_count : W → ℕ) (held : W → Held) (old : Kernel W) (who : ThreadId) (a0 : ℕ) where
+module _ {W : Type 0} (S : SwapStore W) (old : Kernel W) (who : ThreadId) (a0 : ℕ) where
   abbrev m : Machine
-  m = machine_of held old
+  m = machine_of S.held old
 
-  pub answered_none : IsWhole slot_count held old → 2 ≤ who.pid.0 → HasAnswered slot_count held old old who a0 0
+  pub answered_none : IsWhole S old → 2 ≤ who.pid.0 → HasAnswered S old old who a0 0
   answered_none whole high = record {
     whole = whole;
-    machine = none_at_first m who a0 (thread_ids_known slot_count held old whole);
+    machine = none_at_first m who a0 (thread_ids_known S old whole);
     log =
         sym (ap (λ told. log_with told old.log) (none_told_first m who a0 high) ∙ told_nothing old.log);
     mem = refl;
     few = omega arith;
   }
 
-  module _ (k : ℕ) (new : Kernel W) (h : HasAnswered slot_count held old new who a0 k) (high : 2 ≤ who.pid.0) (low : k < 31) where
+  module _ (k : ℕ) (new : Kernel W) (h : HasAnswered S old new who a0 k) (high : 2 ≤ who.pid.0) (low : k < 31) where
     abbrev its_id : ThreadId
     its_id = thread_id who.pid (k + 1)
 
@@ -70,9 +71,9 @@ module _ {W : Type 0} (slot_count : W → ℕ) (held : W → Held) (old : Kernel
     is_joined = waits_for_end who its_id (m.threads its_id)
 
     abbrev joins_now : Bool
-    joins_now = option_map_or (λ t. is_joining who.tid t.state) ((machine_of held new).threads its_id) false
+    joins_now = option_map_or (λ t. is_joining who.tid t.state) ((machine_of S.held new).threads its_id) false
 
-    as_before : (machine_of held new).threads its_id ≡ m.threads its_id
+    as_before : (machine_of S.held new).threads its_id ≡ m.threads its_id
     as_before =
         ap (λ (x : Machine). x.threads its_id) h.machine
         ∙ ap (λ x. option_map (with_answer x) (m.threads its_id)) (not_yet m who a0 k)
@@ -81,7 +82,7 @@ module _ {W : Type 0} (slot_count : W → ℕ) (held : W → Held) (old : Kernel
     now_is : joins_now ≡ is_joined
     now_is = ap (λ o. option_map_or (λ t. is_joining who.tid t.state) o false) as_before ∙ as_joined who (k + 1) (m.threads its_id)
 
-    pub answered_not : joins_now ≡ false → HasAnswered slot_count held old new who a0 (k + 1)
+    pub answered_not : joins_now ≡ false → HasAnswered S old new who a0 (k + 1)
     answered_not e = record {
       whole = h.whole;
       machine = h.machine ∙ none_more m who a0 k (sym now_is ∙ e);
@@ -93,10 +94,10 @@ module _ {W : Type 0} (slot_count : W → ℕ) (held : W → Held) (old : Kernel
     -- what an answer with these words tells
     abbrev answered_so : Kernel W → List ℕ → Type 0
     answered_so next words =
-        Tells held new next (record { machine = give_answers (answer_to its_id words) (machine_of held new); told = Reply its_id words ∷ [] })
+        Tells S.held new next (record { machine = give_answers (answer_to its_id words) (machine_of S.held new); told = Reply its_id words ∷ [] })
 
-    pub answered_one : (next : Kernel W) (words : List ℕ) → joins_now ≡ true → words ≡ scalar1_words a0 → IsWhole slot_count held next
-        → answered_so next words → next.mem ≡ new.mem → HasAnswered slot_count held old next who a0 (k + 1)
+    pub answered_one : (next : Kernel W) (words : List ℕ) → joins_now ≡ true → words ≡ scalar1_words a0 → IsWhole S next
+        → answered_so next words → next.mem ≡ new.mem → HasAnswered S old next who a0 (k + 1)
     answered_one next words e are whole told mem =
         let tells : answered_so next (scalar1_words a0) = subst (answered_so next) are told in
         record {
@@ -119,13 +120,13 @@ module _ {W : Type 0} (slot_count : W → ℕ) (held : W → Held) (old : Kernel
   unfolding machine_of
   within h = last_place (processes old.mem) who.pid.0 h
 
-  pub answered_all : (new : Kernel W) → IsWhole slot_count held old → IsTrue (is_pid (processes old.mem) who.pid.0) → HasAnswered slot_count held old new who a0 31
-      → Tells held old new (settled (answering (joiners_answered m who a0) m))
+  pub answered_all : (new : Kernel W) → IsWhole S old → IsTrue (is_pid (processes old.mem) who.pid.0) → HasAnswered S old new who a0 31
+      → Tells S.held old new (settled (answering (joiners_answered m who a0) m))
   unfolding settled
   answered_all new whole pid h =
       let b : (2 ≤ who.pid.0) × (who.pid.0 < processes old.mem + 2) = is_pid-bounds (processes old.mem) who.pid.0 pid in
       record {
-        machine = h.machine ∙ all_at_last m who a0 (thread_ids_known slot_count held old whole);
+        machine = h.machine ∙ all_at_last m who a0 (thread_ids_known S old whole);
         log =
             h.log
             ∙ ap (λ told. log_with told old.log)

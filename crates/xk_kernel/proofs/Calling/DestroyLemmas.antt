@@ -1,4 +1,5 @@
 -- DestroyServer: the server of the identifier is one of the caller's process, or the call is refused.
+use Rattle.xk_ports.specs.declared.store.SwapStore.{Ghosts as SwapStore}
 use Rattle.std.proofs.Common.{◌≡◌, ℕ, Bool, true, false, ◌∷◌, [], Some, None, refl, sym, ap, ◌∙◌}
 use Rattle.std.specs.Prelude.{not, unwrap_or}
 use Rattle.std.proofs.lemmas.Bool.{false≢true}
@@ -28,15 +29,15 @@ served_last : (b : Bool) (o : Outcome) → b ≡ true → unless_refused ((not b
 served_last true o e = refl
 served_last false o e = absurd (false≢true e)
 
-module _ {W : Type 0} (slot_count : W → ℕ) (held : W → Held) (k : Kernel W) (whole : IsWhole slot_count held k) (sid : Sid) where
+module _ {W : Type 0} (S : SwapStore W) (k : Kernel W) (whole : IsWhole S k) (sid : Sid) where
   abbrev m : Machine
-  m = machine_of held k
+  m = machine_of S.held k
 
   abbrev row : Outcome
   row = unless_refused (own_server_refusals m sid) (Served (destroy_served m sid))
 
   shown : with_tables k.cursor (tables k) m ≡ m
-  shown = machine_tables held k (tables k) whole.threads
+  shown = machine_tables S.held k (tables k) whole.threads
 
   pub refuses : None ≡ own_serial k.cursor.pid sid (servers_of k.servers) → row ≡ Refused ServerNotFound
   refuses e =

@@ -1,4 +1,5 @@
 -- The calls that make a server and connect to one: what their parts hold is what the machine has.
+use Rattle.xk_ports.specs.declared.store.SwapStore.{Ghosts as SwapStore}
 use Rattle.std.proofs.Common.{◌≡◌, ℕ, ◌+◌, Bool, true, false, not, List, [], ◌∷◌, length, map, Option, Some, None, refl, sym, ap, ◌∙◌, arith, nat_eq, subst}
 use Rattle.std.specs.Prelude.{◌<◌, ◌==◌, if◌then◌else◌, is_none, is_some, unwrap_or, Result, Ok, Err}
 use Rattle.std.specs.Option.{option_map}
@@ -89,19 +90,19 @@ module _ {W : Type 0} (held : W → Held) (k : Kernel W) where
 
 -- ---- in a whole kernel
 
-module _ {W : Type 0} (slot_count : W → ℕ) (held : W → Held) (k : Kernel W) (whole : IsWhole slot_count held k) where
+module _ {W : Type 0} (S : SwapStore W) (k : Kernel W) (whole : IsWhole S k) where
   -- the caller's process is connected
   pub machine_connected : (procs : Processes) (serial : Serial) → processes_of procs ≡ change k.cursor.pid.0 (with_connection serial) (processes_of k.procs)
-      → machine_of held (record k { procs = procs }) ≡ connect_caller serial (machine_of held k)
+      → machine_of S.held (record k { procs = procs }) ≡ connect_caller serial (machine_of S.held k)
   unfolding machine_of
   machine_connected procs serial e =
-      let there = process_there k.procs k.cursor.pid.0 (caller slot_count held k whole) in
-      λ i. record (machine_of held k) {
+      let there = process_there k.procs k.cursor.pid.0 (caller S k whole) in
+      λ i. record (machine_of S.held k) {
         process = λ q. (ap (λ f. process_of (f q)) e
             ∙ process_connected (nat_eq q k.cursor.pid.0) (processes_of k.procs k.cursor.pid.0) (processes_of k.procs q) there.0 serial there.1) i;
       }
 
-  pub connected_whole : (procs : Processes) → process_count procs ≡ process_count k.procs → IsWhole slot_count held (record k { procs = procs })
+  pub connected_whole : (procs : Processes) → process_count procs ≡ process_count k.procs → IsWhole S (record k { procs = procs })
   connected_whole procs n = record {
     mem = whole.mem;
     threads = whole.threads;
@@ -135,12 +136,12 @@ module _ {W : Type 0} (slot_count : W → ℕ) (held : W → Held) (k : Kernel W
   -- a server was made
   pub machine_served : (servers : Servers) (sid : Sid) (seat : ℕ) → free_seat (servers_of k.servers) ≡ Some seat
       → servers_of servers ≡ with_server sid k.cursor.pid (free_seat (servers_of k.servers)) (servers_of k.servers)
-      → machine_of held (record k { servers = servers }) ≡ machine_with_server (new_server (machine_of held k) sid) (machine_of held k)
+      → machine_of S.held (record k { servers = servers }) ≡ machine_with_server (new_server (machine_of S.held k) sid) (machine_of S.held k)
   unfolding machine_of
   machine_served servers sid seat f e =
       let made : servers_of servers ≡ with_server sid k.cursor.pid (Some seat) (servers_of k.servers) =
       e ∙ ap (λ o. with_server sid k.cursor.pid o (servers_of k.servers)) f in
-      λ i. record (machine_of held k) {
+      λ i. record (machine_of S.held k) {
         servers = λ n. (ap (λ (s : ServerState). option_map (server_of k.queues) (s.live n)) made
             ∙ shown_at (nat_eq n (servers_of k.servers).next) (record { sid = sid; pid = k.cursor.pid; seat = seat }) ((servers_of k.servers).live n)
             ∙ ap (λ s. if nat_eq n (servers_of k.servers).next then Some s else option_map (server_of k.queues) ((servers_of k.servers).live n)) (shown_new sid seat f)) i;
@@ -174,24 +175,24 @@ module _ {W : Type 0} (slot_count : W → ℕ) (held : W → Held) (k : Kernel W
           loans = old.loans;
         }
 
-    loans_made : AreLoansSound (loans (ledger held k.mem)) (servers_of servers) k.queues
+    loans_made : AreLoansSound (loans (ledger S.held k.mem)) (servers_of servers) k.queues
     loans_made n server live = go (nat_eq n (servers_of k.servers).next) refl
       where
-        go : (b : Bool) → nat_eq n (servers_of k.servers).next ≡ b → AreLoansAt (loans (ledger held k.mem)) server.pid (seat_of k.queues server.seat)
+        go : (b : Bool) → nat_eq n (servers_of k.servers).next ≡ b → AreLoansAt (loans (ledger S.held k.mem)) server.pid (seat_of k.queues server.seat)
         go true e =
-            subst (λ (s : TableServer). AreLoansAt (loans (ledger held k.mem)) s.pid (seat_of k.queues s.seat))
+            subst (λ (s : TableServer). AreLoansAt (loans (ledger S.held k.mem)) s.pid (seat_of k.queues s.seat))
             (same_Some the_new server (sym (live_now n true e) ∙ live))
-            (subst (AreLoansAt (loans (ledger held k.mem)) k.cursor.pid) (sym (empty_there seat free)) (λ j d low. absurd (omega arith)))
-        go false e = open_loans (loans (ledger held k.mem)) k.servers k.queues whole.servers.messages n server (sym (live_now n false e) ∙ live)
+            (subst (AreLoansAt (loans (ledger S.held k.mem)) k.cursor.pid) (sym (empty_there seat free)) (λ j d low. absurd (omega arith)))
+        go false e = open_loans (loans (ledger S.held k.mem)) k.servers k.queues whole.servers.messages n server (sym (live_now n false e) ∙ live)
 
     -- .. and the kernel is whole with it, as the machine with it is matched
-    pub served_whole : Matched (machine_of held k) → ready_at (machine_of held k) k.cursor ≡ true → is_some (machine_with_sid (machine_of held k) sid) ≡ false
-        → (live_servers (machine_of held k) == SERVER_LIMIT) ≡ false → IsWhole slot_count held (record k { servers = servers })
+    pub served_whole : Matched (machine_of S.held k) → ready_at (machine_of S.held k) k.cursor ≡ true → is_some (machine_with_sid (machine_of S.held k) sid) ≡ false
+        → (live_servers (machine_of S.held k) == SERVER_LIMIT) ≡ false → IsWhole S (record k { servers = servers })
     unfolding machine_of
     served_whole matched ready fresh few =
-        let m : Machine = machine_of held k in
+        let m : Machine = machine_of S.held k in
         let settles = server_settles m matched sid (record { live = ready_lives m matched k.cursor ready; fresh = fresh; room = few }) in
-        let shown : machine_with_server (new_server m sid) m ≡ machine_of held (record k { servers = servers }) = sym (machine_served servers sid seat free made) in
+        let shown : machine_with_server (new_server m sid) m ≡ machine_of S.held (record k { servers = servers }) = sym (machine_served servers sid seat free made) in
         record {
           mem = whole.mem;
           threads = whole.threads;
@@ -200,8 +201,8 @@ module _ {W : Type 0} (slot_count : W → ℕ) (held : W → Held) (k : Kernel W
           room = whole.room;
           servers =
               servers_of_matched (record (machine_with_server (new_server m sid) m) { steps = m.steps + 1 }) settles servers k.queues
-              (ap (λ (x : Machine). x.servers) shown) seats_made (loans (ledger held k.mem))
-              (subst (λ (x : Machine). AreLoansMatched (loans (ledger held k.mem)) x.servers) shown settles.body.loans) loans_made;
+              (ap (λ (x : Machine). x.servers) shown) seats_made (loans (ledger S.held k.mem))
+              (subst (λ (x : Machine). AreLoansMatched (loans (ledger S.held k.mem)) x.servers) shown settles.body.loans) loans_made;
         }
 
 -- ---- lists of refusals

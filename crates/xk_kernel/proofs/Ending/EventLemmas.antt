@@ -1,4 +1,5 @@
 -- What a pick and a kill do, and that a kernel stays sound.
+use Rattle.xk_ports.specs.declared.store.SwapStore.{Ghosts as SwapStore}
 use Rattle.std.proofs.Common.{◌≡◌, ℕ, ◌≤◌, Bool, true, false, [], Option, Some, None, refl, sym, ap, subst, ◌∙◌}
 use Rattle.std.specs.Prelude.{IsTrue}
 use Rattle.machine_laws.proofs.Dying.DeathLemmas.{kill_keeps}
@@ -30,9 +31,9 @@ use Rattle.xk_kernel.specs.Telling.{Tells, log_with}
 use Rattle.xk_kernel.specs.declared.kernel.Kernel.{Kernel}
 
 -- a whole kernel is whole with another log of as much room
-pub pushed_whole : {W : Type 0} (slot_count : W → ℕ) (held : W → Held) (k : Kernel W) (log : LogState) → IsWhole slot_count held k → log.room ≡ k.log.room
-    → IsWhole slot_count held (record k { log = log })
-pushed_whole slot_count held k log whole e = record {
+pub pushed_whole : {W : Type 0} (S : SwapStore W) (k : Kernel W) (log : LogState) → IsWhole S k → log.room ≡ k.log.room
+    → IsWhole S (record k { log = log })
+pushed_whole S k log whole e = record {
   mem = whole.mem;
   threads = whole.threads;
   procs = whole.procs;
@@ -42,8 +43,8 @@ pushed_whole slot_count held k log whole e = record {
 }
 
 -- .. and with no reservation
-pub unreserved_whole : {W : Type 0} (slot_count : W → ℕ) (held : W → Held) (k : Kernel W) → IsWhole slot_count held k → IsWhole slot_count held (record k { reserved = None })
-unreserved_whole slot_count held k whole = record {
+pub unreserved_whole : {W : Type 0} (S : SwapStore W) (k : Kernel W) → IsWhole S k → IsWhole S (record k { reserved = None })
+unreserved_whole S k whole = record {
   mem = whole.mem;
   threads = whole.threads;
   procs = whole.procs;
@@ -68,43 +69,43 @@ spared : (m : Machine) (pid : Pid) → (m.process pid.0).alive ≡ false → kil
 unfolding killed
 spared m pid dead = ap (λ b. killed_if b pid (unreserved m)) dead
 
-module _ {W : Type 0} (slot_count : W → ℕ) (held : W → Held) (old new : Kernel W) (sound : IsSound slot_count held old) (usable : IsUsable old) where
+module _ {W : Type 0} (S : SwapStore W) (old new : Kernel W) (sound : IsSound S old) (usable : IsUsable old) where
   -- what leaves the machine matched leaves the kernel sound
-  pub became_sound : (next : Recorded) → IsWhole slot_count held new → Becomes held new next → Matched next.machine → IsSound slot_count held new
+  pub became_sound : (next : Recorded) → IsWhole S new → Becomes S.held new next → Matched next.machine → IsSound S new
   became_sound next whole becomes matched = record { whole = whole; matched = λ _. subst Matched (sym becomes.machine) matched }
 
-  pub left_matched : Matched (machine_of held old)
+  pub left_matched : Matched (machine_of S.held old)
   left_matched = sound.matched usable
 
-  pub pick_matched : (who : ThreadId) → Matched (picked who (machine_of held old)).machine
-  pick_matched who = pick_keeps who (machine_of held old) left_matched
+  pub pick_matched : (who : ThreadId) → Matched (picked who (machine_of S.held old)).machine
+  pick_matched who = pick_keeps who (machine_of S.held old) left_matched
 
-  pub irq_matched : (k : ℕ) → Matched (raised k (machine_of held old)).machine
-  irq_matched k = irq_keeps k (machine_of held old) left_matched
+  pub irq_matched : (k : ℕ) → Matched (raised k (machine_of S.held old)).machine
+  irq_matched k = irq_keeps k (machine_of S.held old) left_matched
 
-  pub kill_matched : (pid : Pid) → Matched (killed pid (machine_of held old)).machine
-  kill_matched pid = kill_keeps pid (machine_of held old) left_matched
+  pub kill_matched : (pid : Pid) → Matched (killed pid (machine_of S.held old)).machine
+  kill_matched pid = kill_keeps pid (machine_of S.held old) left_matched
 
   -- the log that is begun anew
   abbrev begun : LogState
   begun = record old.log { step = old.steps; records = [] }
 
-  pub logged_whole : (log : LogState) → log ≡ begun → IsWhole slot_count held (record old { log = log })
-  logged_whole log e = pushed_whole slot_count held old log sound.whole (ap (λ (l : LogState). l.room) e)
+  pub logged_whole : (log : LogState) → log ≡ begun → IsWhole S (record old { log = log })
+  logged_whole log e = pushed_whole S old log sound.whole (ap (λ (l : LogState). l.room) e)
 
-  pub nothing_done : (log : LogState) → log ≡ begun → Becomes held (record old { log = log }) (nothing (machine_of held old))
+  pub nothing_done : (log : LogState) → log ≡ begun → Becomes S.held (record old { log = log }) (nothing (machine_of S.held old))
   unfolding machine_of
   nothing_done log e = record { machine = refl; records = ap (λ (l : LogState). l.records) e }
 
-  pub picked_done : (who : ThreadId) → machine_of held new ≡ (picked who (machine_of held old)).machine → new.log ≡ begun → Becomes held new (picked who (machine_of held old))
+  pub picked_done : (who : ThreadId) → machine_of S.held new ≡ (picked who (machine_of S.held old)).machine → new.log ≡ begun → Becomes S.held new (picked who (machine_of S.held old))
   unfolding picked
   picked_done who machine log = record { machine = machine; records = ap (λ (l : LogState). l.records) log }
 
-  pub lives : (pid : Pid) (b : Bool) → b ≡ is_alive (processes_of old.procs pid.0) → ((machine_of held old).process pid.0).alive ≡ b
+  pub lives : (pid : Pid) (b : Bool) → b ≡ is_alive (processes_of old.procs pid.0) → ((machine_of S.held old).process pid.0).alive ≡ b
   unfolding machine_of
   lives pid b e = alive_of (processes_of old.procs pid.0) ∙ sym e
 
-  pub known : (pid : Pid) → ((machine_of held old).process pid.0).alive ≡ true → IsTrue (is_pid (processes old.mem) pid.0)
+  pub known : (pid : Pid) → ((machine_of S.held old).process pid.0).alive ≡ true → IsTrue (is_pid (processes old.mem) pid.0)
   unfolding machine_of
   known pid alive = left_matched.body.processes.pids pid alive
 
@@ -112,23 +113,23 @@ module _ {W : Type 0} (slot_count : W → ℕ) (held : W → Held) (old new : Ke
   abbrev dying : LogState → Kernel W
   dying log = record old { log = log; reserved = None }
 
-  pub dying_matched : (log : LogState) → Matched (machine_of held (dying log))
+  pub dying_matched : (log : LogState) → Matched (machine_of S.held (dying log))
   unfolding machine_of
-  dying_matched log = matched_reserved (machine_of held old) left_matched None
+  dying_matched log = matched_reserved (machine_of S.held old) left_matched None
 
-  pub killed_done : (pid : Pid) (log : LogState) → ((machine_of held old).process pid.0).alive ≡ true → log ≡ begun
-      → Tells held (dying log) new (settled (death pid (machine_of held (dying log)))) → Becomes held new (killed pid (machine_of held old))
+  pub killed_done : (pid : Pid) (log : LogState) → ((machine_of S.held old).process pid.0).alive ≡ true → log ≡ begun
+      → Tells S.held (dying log) new (settled (death pid (machine_of S.held (dying log)))) → Becomes S.held new (killed pid (machine_of S.held old))
   unfolding machine_of
   killed_done pid log alive e tells =
-      let told : Told = settled (death pid (unreserved (machine_of held old))) in
-      let is : killed pid (machine_of held old) ≡ at_event old.steps told = killed_is (machine_of held old) pid alive in
+      let told : Told = settled (death pid (unreserved (machine_of S.held old))) in
+      let is : killed pid (machine_of S.held old) ≡ at_event old.steps told = killed_is (machine_of S.held old) pid alive in
       record {
         machine = tells.machine ∙ sym (ap (λ (s : Recorded). s.machine) is);
         records = ap (λ (l : LogState). l.records) (tells.log ∙ ap (log_with told.told) e) ∙ sym (ap (λ (s : Recorded). s.records) is);
       }
 
-  pub spared_done : (pid : Pid) (log : LogState) → ((machine_of held old).process pid.0).alive ≡ false → log ≡ begun
-      → Becomes held (record old { log = log; reserved = None }) (killed pid (machine_of held old))
+  pub spared_done : (pid : Pid) (log : LogState) → ((machine_of S.held old).process pid.0).alive ≡ false → log ≡ begun
+      → Becomes S.held (record old { log = log; reserved = None }) (killed pid (machine_of S.held old))
   unfolding machine_of
   spared_done pid log dead e =
-      subst (Becomes held (record old { log = log; reserved = None })) (sym (spared (machine_of held old) pid dead)) (record { machine = refl; records = ap (λ (l : LogState). l.records) e })
+      subst (Becomes S.held (record old { log = log; reserved = None })) (sym (spared (machine_of S.held old) pid dead)) (record { machine = refl; records = ap (λ (l : LogState). l.records) e })

@@ -1,4 +1,5 @@
 -- A process dies: its death over the parts of the kernel is that of the machine that the kernel stands for.
+use Rattle.xk_ports.specs.declared.store.SwapStore.{Ghosts as SwapStore}
 use Rattle.std.proofs.Common.{◌≡◌, ℕ, ◌≤◌, ◌+◌, ◌<◌, Bool, [], ◌∷◌, ◌++◌, length, Option, is_some, refl, sym, ap, subst, ◌∙◌, arith}
 use Rattle.std.specs.Prelude.{unwrap_or}
 use Rattle.std.proofs.lemmas.List.{length-map}
@@ -83,29 +84,29 @@ alive_told held k pid = alive_of (processes_of k.procs pid.0)
 
 -- ---- before
 
-module _ {W : Type 0} (slot_count : W → ℕ) (held : W → Held) (k : Kernel W) (whole : IsWhole slot_count held k) where
-  own_machine : with_all_parts held (all_parts k) (machine_of held k) ≡ machine_of held k
+module _ {W : Type 0} (S : SwapStore W) (k : Kernel W) (whole : IsWhole S k) where
+  own_machine : with_all_parts S.held (all_parts k) (machine_of S.held k) ≡ machine_of S.held k
   unfolding machine_of
-  own_machine = all_machine held k k.timer (all_parts k) whole.threads
+  own_machine = all_machine S.held k k.timer (all_parts k) whole.threads
 
-  pub all_sound : Matched (machine_of held k) → AreAllSound slot_count held (all_parts k)
+  pub all_sound : Matched (machine_of S.held k) → AreAllSound S (all_parts k)
   all_sound matched = record {
-    machine = machine_of held k;
+    machine = machine_of S.held k;
     matched = subst Matched (sym own_machine) matched;
     mem = whole.mem;
     threads = whole.threads;
     procs = whole.procs;
     seats = whole.servers.messages.seats;
-    loans = open_loans (loans (ledger held k.mem)) k.servers k.queues whole.servers.messages;
+    loans = open_loans (loans (ledger S.held k.mem)) k.servers k.queues whole.servers.messages;
   }
 
   -- ---- after
 
-  module _ (honest : W → Bool) (pid : Pid) (new : AllParts W) (dies : Dies held pid (all_parts k) new) (sound : AreAllSound slot_count held new)
-      (keeps : KeepsMemory honest held k.mem new.parts.mem) (timer : Option ℕ)
-      (disarmed : timer ≡ disarmed_if (is_claim_of pid ((machine_of held k).claims TIMER_INTERRUPT)) k.timer) where
+  module _ (pid : Pid) (new : AllParts W) (dies : Dies S.held pid (all_parts k) new) (sound : AreAllSound S new)
+      (keeps : KeepsMemory S k.mem new.parts.mem) (timer : Option ℕ)
+      (disarmed : timer ≡ disarmed_if (is_claim_of pid ((machine_of S.held k).claims TIMER_INTERRUPT)) k.timer) where
     abbrev m : Machine
-    m = machine_of held k
+    m = machine_of S.held k
 
     abbrev dead : Kernel W
     dead = with_all k timer new
@@ -114,10 +115,10 @@ module _ {W : Type 0} (slot_count : W → ℕ) (held : W → Held) (k : Kernel W
     unfolding machine_of
     unarmed = λ i. record m { compare = sym disarmed i }
 
-    did : IsDeath pid m (machine_of held dead) k.log new.parts.tables.log
+    did : IsDeath pid m (machine_of S.held dead) k.log new.parts.tables.log
     did =
-        subst (λ (a : Machine). IsDeath pid m a k.log new.parts.tables.log) (ap (with_all_parts held new) unarmed ∙ all_machine held k timer new sound.threads)
-        (subst (λ (b : Machine). IsDeath pid b (with_all_parts held new (disarmed_with pid k.claims m)) k.log new.parts.tables.log) own_machine (dies m))
+        subst (λ (a : Machine). IsDeath pid m a k.log new.parts.tables.log) (ap (with_all_parts S.held new) unarmed ∙ all_machine S.held k timer new sound.threads)
+        (subst (λ (b : Machine). IsDeath pid b (with_all_parts S.held new (disarmed_with pid k.claims m)) k.log new.parts.tables.log) own_machine (dies m))
 
     procs_stay : processes new.parts.mem ≡ processes k.mem
     procs_stay = ap (λ (s : Size). s.procs) keeps.size
@@ -125,14 +126,14 @@ module _ {W : Type 0} (slot_count : W → ℕ) (held : W → Held) (k : Kernel W
     room_stays : new.parts.tables.log.room ≡ k.log.room
     room_stays = ap (λ (log : LogState). log.room) did.replies
 
-    servers_stay : AreServersSound (processes new.parts.mem) (loans (ledger held new.parts.mem)) new.parts.tables.servers new.parts.tables.queues
+    servers_stay : AreServersSound (processes new.parts.mem) (loans (ledger S.held new.parts.mem)) new.parts.tables.servers new.parts.tables.queues
     unfolding with_all_parts with_parts with_tables
     servers_stay =
-        subst (λ n. AreServersSound n (loans (ledger held new.parts.mem)) new.parts.tables.servers new.parts.tables.queues) sound.threads
-        (servers_of_matched (with_all_parts held new sound.machine) sound.matched new.parts.tables.servers new.parts.tables.queues refl sound.seats
-        (loans (ledger held new.parts.mem)) sound.matched.body.loans sound.loans)
+        subst (λ n. AreServersSound n (loans (ledger S.held new.parts.mem)) new.parts.tables.servers new.parts.tables.queues) sound.threads
+        (servers_of_matched (with_all_parts S.held new sound.machine) sound.matched new.parts.tables.servers new.parts.tables.queues refl sound.seats
+        (loans (ledger S.held new.parts.mem)) sound.matched.body.loans sound.loans)
 
-    pub dead_whole : IsWhole slot_count held dead
+    pub dead_whole : IsWhole S dead
     dead_whole = record {
       mem = sound.mem;
       threads = sound.threads;
@@ -142,20 +143,20 @@ module _ {W : Type 0} (slot_count : W → ℕ) (held : W → Held) (k : Kernel W
       servers = servers_stay;
     }
 
-    pub dead_keeps : {P : Type 0} (asked : W → P) (faults : W → ℕ) → Keeps honest held slot_count asked faults k dead
-    dead_keeps asked faults = new_keeps honest held slot_count asked faults k dead keeps room_stays
+    pub dead_keeps : Keeps S k dead
+    dead_keeps = new_keeps S k dead keeps room_stays
 
     pub dead_usable : IsUsable k → IsUsable dead
-    dead_usable usable = new_usable honest held k dead keeps usable
+    dead_usable usable = new_usable S k dead keeps usable
 
     -- the replies, and then that the process is gone
     death_told : (settled (death pid m)).told ≡ replies m.processes (death pid m).answers ++ Gone pid ∷ []
     unfolding settled death servers_closed closed senders_queued_gone senders_held_gone forgotten
     death_told = refl
 
-    pub death_tells : (last : LogState) → last ≡ log_with (Gone pid ∷ []) new.parts.tables.log → Tells held k (record dead { log = last }) (settled (death pid m))
+    pub death_tells : (last : LogState) → last ≡ log_with (Gone pid ∷ []) new.parts.tables.log → Tells S.held k (record dead { log = last }) (settled (death pid m))
     death_tells last gone = record {
-      machine = machine_of_log held dead last ∙ did.machine;
+      machine = machine_of_log S.held dead last ∙ did.machine;
       log =
           log_with-next (replies m.processes (death pid m).answers) (Gone pid ∷ []) k.log new.parts.tables.log last did.replies gone
           ∙ ap (λ told. log_with told k.log) (sym death_told);

@@ -1,4 +1,5 @@
 -- An interrupt comes, and a handler ends.
+use Rattle.xk_ports.specs.declared.store.SwapStore.{Ghosts as SwapStore}
 use Rattle.std.proofs.Common.{◌≡◌, ℕ, ◌≤◌, Bool, true, false, [], ◌∷◌, ◌++◌, map, Option, Some, None, refl, sym, ap, subst, ◌∙◌, arith, nat_eq}
 use Rattle.std.specs.Prelude.{◌<◌, IsTrue, is_some, if◌then◌else◌}
 use Rattle.std.specs.Option.{option_map}
@@ -175,12 +176,12 @@ nothing_pends old new n none e = e ∙ (λ i q. at q (nat_eq q n) refl i)
     at q false s = refl
 
 -- the cursor stays the id of a thread
-pub raised_cursor : {W : Type 0} (slot_count : W → ℕ) (held : W → Held) (old new : Kernel W) (n : ℕ) → IsWhole slot_count held old → Matched (machine_of held old)
-    → Becomes held new (raised n (machine_of held old)) → IsTrue (is_thread_id (processes new.mem) new.cursor)
+pub raised_cursor : {W : Type 0} (S : SwapStore W) (old new : Kernel W) (n : ℕ) → IsWhole S old → Matched (machine_of S.held old)
+    → Becomes S.held new (raised n (machine_of S.held old)) → IsTrue (is_thread_id (processes new.mem) new.cursor)
 unfolding machine_of
-raised_cursor slot_count held old new n whole matched becomes =
+raised_cursor S old new n whole matched becomes =
     subst (λ (x : Machine). IsTrue (is_thread_id x.processes x.cursor)) (sym becomes.machine)
-    (every_cause_keeps_cursor (ByIrq n) (machine_of held old) matched whole.cursor)
+    (every_cause_keeps_cursor (ByIrq n) (machine_of S.held old) matched whole.cursor)
 
 -- ---- a handler ends
 

@@ -1,4 +1,5 @@
 -- IncreaseHeap: the pages above the heap are free, so that the capacity alone refuses it.
+use Rattle.xk_ports.specs.declared.store.SwapStore.{Ghosts as SwapStore}
 use Rattle.std.proofs.Common.{◌≡◌, ℕ, ◌+◌, ◌/◌, ◌<◌, ◌≤◌, if◌then◌else◌, Bool, true, false, not, Option, Some, None, refl, sym, ap, subst, ◌∙◌, arith, length, nat_eq, nat_le, nat_lt}
 use Rattle.std.specs.Prelude.{◌%◌, Result, Ok, Err}
 use Rattle.std.proofs.lemmas.Bool.{false≢true, and_from, eqb-true, le-leb, lt-ltb}
@@ -38,7 +39,8 @@ use Rattle.xk_kernel.specs.Sound.{IsWhole}
 use Rattle.xk_kernel.specs.State.{machine_of}
 use Rattle.xk_kernel.specs.declared.kernel.Kernel.{Kernel}
 use Rattle.xk_kernel.specs.declared.kernel.calls.CallerFate.TheVariants.{Answered}
-use Rattle.xk_kernel.proofs.Memory.KeptLoanLemmas.{free_below_messages, sound-lawful}
+use Rattle.xk_parts.proofs.LawfulLemmas.{sound_lawful}
+use Rattle.xk_kernel.proofs.Memory.KeptLoanLemmas.{free_below_messages}
 use Rattle.xk_kernel.proofs.Memory.MadeLemmas.{crowds_by, grown_comes, made_crowded}
 use Rattle.xk_kernel.proofs.Memory.HeapLemmas.{aligned, none_of_three, not_above, on_heap, second_of_three, third_of_three, with_parts}
 
@@ -75,10 +77,10 @@ none_used procs l first n free =
     let inside : i < n = omega (arith, low, size) in
     ap (λ p. not (is_free procs l p)) (run-at first n i d inside) ∙ ap not (free i inside))
 
-module _ {W : Type 0} (slot_count : W → ℕ) (held : W → Held) (k : Kernel W) (whole : IsWhole slot_count held k) (heaps : AreHeapsMatched (machine_of held k).process (machine_of held k).ledger)
-    (bytes : ℕ) (al : bytes % 4096 ≡ 0) (heap : ℕ) (told : heap ≡ heap_of (machine_of held k)) where
+module _ {W : Type 0} (S : SwapStore W) (k : Kernel W) (whole : IsWhole S k) (heaps : AreHeapsMatched (machine_of S.held k).process (machine_of S.held k).ledger)
+    (bytes : ℕ) (al : bytes % 4096 ≡ 0) (heap : ℕ) (told : heap ≡ heap_of (machine_of S.held k)) where
   abbrev m : Machine
-  m = machine_of held k
+  m = machine_of S.held k
 
   abbrev row : Outcome
   row = unless_refused (increase_refusals m bytes) (Served (increase_served m bytes))
@@ -107,7 +109,7 @@ module _ {W : Type 0} (slot_count : W → ℕ) (held : W → Held) (k : Kernel W
         let most : (heap + bytes) / 4096 ≤ 4096 = most_pages (heap + bytes) le in
         record { from = omega (arith, at); to = omega (arith, low, at, sum, most) }
 
-    no_home : (v : ℕ) → IsAbove v → (o : Option Page) → (ledger held k.mem).home (record { pid = k.cursor.pid; vpn = record { 0 = v } }) ≡ o → o ≡ None
+    no_home : (v : ℕ) → IsAbove v → (o : Option Page) → (ledger S.held k.mem).home (record { pid = k.cursor.pid; vpn = record { 0 = v } }) ≡ o → o ≡ None
     unfolding machine_of
     no_home v h None e = refl
     no_home v h (Some page) e =
@@ -115,12 +117,12 @@ module _ {W : Type 0} (slot_count : W → ℕ) (held : W → Held) (k : Kernel W
         let same : heap / 4096 ≡ heap_of m / 4096 = ap (λ x. x / 4096) told in
         absurd (omega (arith, low, same, h.from))
 
-    free_above : (i : ℕ) → i < bytes / 4096 → is_free (processes k.mem) (ledger held k.mem) (place_after (page_place k.cursor.pid first) i) ≡ true
+    free_above : (i : ℕ) → i < bytes / 4096 → is_free (processes k.mem) (ledger S.held k.mem) (place_after (page_place k.cursor.pid first) i) ≡ true
     free_above i low =
         let p = place_after (page_place k.cursor.pid first) i in
         let below : first.0 + i < 262144 = omega (arith, (above i low).to) in
-        free_below_messages (processes k.mem) (capacity_of k.mem) (ledger held k.mem) p (sound-lawful slot_count held k.mem whole.mem) below
-        (no_home (first.0 + i) (above i low) ((ledger held k.mem).home p) refl)
+        free_below_messages (processes k.mem) (capacity_of k.mem) (ledger S.held k.mem) p (sound_lawful S.slot_count S.held k.mem whole.mem) below
+        (no_home (first.0 + i) (above i low) ((ledger S.held k.mem).home p) refl)
 
     fits : fits_window Heap first.0 (bytes / 4096) ≡ true
     fits =
@@ -130,16 +132,16 @@ module _ {W : Type 0} (slot_count : W → ℕ) (held : W → Held) (k : Kernel W
         and_from (nat_le 131072 first.0) (nat_le (first.0 + bytes / 4096) 135168) (le-leb 131072 first.0 (omega (arith, at)))
         (le-leb (first.0 + bytes / 4096) 135168 (omega (arith, at, sum, most)))
 
-    run_above : run_place (processes k.mem) (ledger held k.mem) k.cursor.pid Heap (Some first) (bytes / 4096) ≡ Ok first
+    run_above : run_place (processes k.mem) (ledger S.held k.mem) k.cursor.pid Heap (Some first) (bytes / 4096) ≡ Ok first
     run_above =
-        placed (fits_window Heap first.0 (bytes / 4096)) (any_used (processes k.mem) (ledger held k.mem) (page_place k.cursor.pid first) (bytes / 4096)) first fits
-        (none_used (processes k.mem) (ledger held k.mem) (page_place k.cursor.pid first) (bytes / 4096) free_above)
+        placed (fits_window Heap first.0 (bytes / 4096)) (any_used (processes k.mem) (ledger S.held k.mem) (page_place k.cursor.pid first) (bytes / 4096)) first fits
+        (none_used (processes k.mem) (ledger S.held k.mem) (page_place k.cursor.pid first) (bytes / 4096) free_above)
 
     abbrev over : Bool
-    over = nat_lt (capacity_of k.mem) (pages (processes k.mem) (ledger held k.mem) + bytes / 4096)
+    over = nat_lt (capacity_of k.mem) (pages (processes k.mem) (ledger S.held k.mem) + bytes / 4096)
 
     abbrev answer : Result Vpn XousError
-    answer = make_answer (processes k.mem) (capacity_of k.mem) (ledger held k.mem) k.cursor.pid Heap (Some first) (bytes / 4096)
+    answer = make_answer (processes k.mem) (capacity_of k.mem) (ledger S.held k.mem) k.cursor.pid Heap (Some first) (bytes / 4096)
 
     answered : answer ≡ (if over then Err OutOfMemory else Ok first)
     answered = ap (if_room over) run_above
@@ -163,16 +165,16 @@ module _ {W : Type 0} (slot_count : W → ℕ) (held : W → Held) (k : Kernel W
         (Served (increase_served m bytes)) (aligned bytes al) (not_above heap_limit (heap_of m + bytes) (omega (arith, le, told))) why.0
 
     served : over ≡ false → outcome_of k.cursor
-        (on_heap (heap + bytes) (make (page_of k.cursor.pid (536870912 + heap)) (bytes / 4096) heap_right (ledger held k.mem)) m) (Ok (Answered (Range (536870912 + heap) bytes))) ≡ row
+        (on_heap (heap + bytes) (make (page_of k.cursor.pid (536870912 + heap)) (bytes / 4096) heap_right (ledger S.held k.mem)) m) (Ok (Answered (Range (536870912 + heap) bytes))) ≡ row
     unfolding machine_of
     served room =
-        ap (λ h. outcome_of k.cursor (on_heap (h + bytes) (make (page_of k.cursor.pid (536870912 + h)) (bytes / 4096) heap_right (ledger held k.mem)) m) (Ok (Answered (Range (536870912 + h) bytes)))) told
+        ap (λ h. outcome_of k.cursor (on_heap (h + bytes) (make (page_of k.cursor.pid (536870912 + h)) (bytes / 4096) heap_right (ledger S.held k.mem)) m) (Ok (Answered (Range (536870912 + h) bytes)))) told
         ∙ none_of_three (not (is_aligned bytes)) (nat_lt heap_limit (heap_of m + bytes)) (are_too_many m (bytes / PAGE_SIZE)) BadAlignment InvalidLimit OutOfMemory
         (Served (increase_served m bytes)) (aligned bytes al) (not_above heap_limit (heap_of m + bytes) (omega (arith, le, told))) room
 
     -- with the pages that are made
     abbrev made : Vpn → Ledger
-    made v = make (page_place k.cursor.pid v) (bytes / 4096) heap_right (ledger held k.mem)
+    made v = make (page_place k.cursor.pid v) (bytes / 4096) heap_right (ledger S.held k.mem)
 
     served_by : (v : Vpn) → Ok v ≡ answer
         → outcome_of k.cursor (on_heap (heap + bytes) (made v) m) (Ok (Answered (Range (536870912 + heap) bytes))) ≡ row
@@ -182,20 +184,20 @@ module _ {W : Type 0} (slot_count : W → ℕ) (held : W → Held) (k : Kernel W
         ∙ served done.0
 
     pub increase_done : {known : Type 0} (mem : Memory W) (procs : Processes) (v : Vpn) → size mem ≡ size k.mem → Ok v ≡ answer
-        → bare (ledger held mem) ≡ bare (made v) → (known → ledger held mem ≡ made v)
+        → bare (ledger S.held mem) ≡ bare (made v) → (known → ledger S.held mem ≡ made v)
         → processes_of procs ≡ change k.cursor.pid.0 (heap_set (heap + bytes)) (processes_of k.procs)
-        → ServesAs known k.cursor (machine_of held (with_parts mem procs k)) row (Ok (Answered (Range (536870912 + heap) bytes)))
+        → ServesAs known k.cursor (machine_of S.held (with_parts mem procs k)) row (Ok (Answered (Range (536870912 + heap) bytes)))
     increase_done mem procs v s a rights known p = record {
       target = on_heap (heap + bytes) (made v) m;
       is = served_by v a;
-      comes = grown_comes held k mem (made v) s rights slot_count whole procs (heap + bytes) p known;
+      comes = grown_comes S k mem (made v) s rights whole procs (heap + bytes) p known;
     }
 
     pub increase_crowds : (v : Vpn) → is_pid (processes k.mem) k.cursor.pid.0 ≡ true → Ok v ≡ answer
-        → frames_for_pages k.mem < pages (processes k.mem) (ledger held k.mem) + bytes / 4096 → CrowdsBy held k row
+        → frames_for_pages k.mem < pages (processes k.mem) (ledger S.held k.mem) + bytes / 4096 → CrowdsBy S.held k row
     increase_crowds v process a more =
-        crowds_by held k (on_heap (heap + bytes) (made v) m) (Range (536870912 + heap) bytes) row (served_by v a)
-        (made_crowded held k Heap (Some first) (bytes / 4096) heap_right process v (sym a) more)
+        crowds_by S.held k (on_heap (heap + bytes) (made v) m) (Range (536870912 + heap) bytes) row (served_by v a)
+        (made_crowded S.held k Heap (Some first) (bytes / 4096) heap_right process v (sym a) more)
 
     -- ---- nothing
 
@@ -207,10 +209,10 @@ module _ {W : Type 0} (slot_count : W → ℕ) (held : W → Held) (k : Kernel W
         let to : p.vpn.0 < first.0 + 0 = r.to in
         absurd (omega (arith, from, to))
 
-    ledger_stays : make (page_of k.cursor.pid (536870912 + heap)) 0 heap_right (ledger held k.mem) ≡ ledger held k.mem
+    ledger_stays : make (page_of k.cursor.pid (536870912 + heap)) 0 heap_right (ledger S.held k.mem) ≡ ledger S.held k.mem
     unfolding make
-    ledger_stays = λ i. record (ledger held k.mem) {
-      home = λ p. none_made p (in_run (page_of k.cursor.pid (536870912 + heap)) 0 p) ((ledger held k.mem).home p) refl i;
+    ledger_stays = λ i. record (ledger S.held k.mem) {
+      home = λ p. none_made p (in_run (page_of k.cursor.pid (536870912 + heap)) 0 p) ((ledger S.held k.mem).home p) refl i;
     }
 
     same_process : (q : ℕ) (b : Bool) (h : ℕ) → nat_eq q k.cursor.pid.0 ≡ b → h ≡ heap_of m → (if b then record (m.process k.cursor.pid.0) { heap = h } else m.process q) ≡ m.process q
@@ -218,15 +220,15 @@ module _ {W : Type 0} (slot_count : W → ℕ) (held : W → Held) (k : Kernel W
     same_process q false h e f = refl
     same_process q true h e f = ap (λ x. record (m.process k.cursor.pid.0) { heap = x }) f ∙ ap m.process (sym (eqb-true q k.cursor.pid.0 e))
 
-    stays : (h : ℕ) → h ≡ heap_of m → on_heap h (ledger held k.mem) m ≡ m
+    stays : (h : ℕ) → h ≡ heap_of m → on_heap h (ledger S.held k.mem) m ≡ m
     unfolding machine_of
     stays h e = λ i. record m { process = λ q. same_process q (nat_eq q k.cursor.pid.0) h refl e i }
 
     has_room : bytes ≡ 0 → over ≡ false
     has_room none =
-        let within : pages (processes k.mem) (ledger held k.mem) ≤ capacity_of k.mem = subst (λ n. n ≤ capacity_of k.mem) (sym (pages-ledger held k.mem)) whole.mem.lawful.within in
+        let within : pages (processes k.mem) (ledger S.held k.mem) ≤ capacity_of k.mem = subst (λ n. n ≤ capacity_of k.mem) (sym (pages-ledger S.held k.mem)) whole.mem.lawful.within in
         let zero : bytes / 4096 ≡ 0 = omega (arith, none) in
-        not_above (capacity_of k.mem) (pages (processes k.mem) (ledger held k.mem) + bytes / 4096) (omega (arith, within, zero))
+        not_above (capacity_of k.mem) (pages (processes k.mem) (ledger S.held k.mem) + bytes / 4096) (omega (arith, within, zero))
 
     pub increase_by_none : bytes ≡ 0 → outcome_of k.cursor m (Ok (Answered (Range (536870912 + heap) bytes))) ≡ row
     increase_by_none none =
@@ -234,5 +236,5 @@ module _ {W : Type 0} (slot_count : W → ℕ) (held : W → Held) (k : Kernel W
         let sum : heap + bytes ≡ heap_of m = omega (arith, none, told) in
         ap (λ n. outcome_of k.cursor n (Ok (Answered (Range (536870912 + heap) bytes))))
         (sym (stays (heap + bytes) sum)
-        ∙ ap (λ l. on_heap (heap + bytes) l m) (sym ledger_stays ∙ ap (λ n. make (page_of k.cursor.pid (536870912 + heap)) n heap_right (ledger held k.mem)) zero))
+        ∙ ap (λ l. on_heap (heap + bytes) l m) (sym ledger_stays ∙ ap (λ n. make (page_of k.cursor.pid (536870912 + heap)) n heap_right (ledger S.held k.mem)) zero))
         ∙ served (has_room none)

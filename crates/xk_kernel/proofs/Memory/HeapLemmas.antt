@@ -1,4 +1,5 @@
 -- The calls on the heap: the memory and the length of the caller's heap change.
+use Rattle.xk_ports.specs.declared.store.SwapStore.{Ghosts as SwapStore}
 use Rattle.std.proofs.Common.{◌≡◌, ◌≢◌, ℕ, ◌+◌, ◌-◌, ◌/◌, ◌<◌, ◌≤◌, if◌then◌else◌, Bool, true, false, not, [], ◌∷◌, Option, Some, None, refl, sym, ap, ◌∙◌, arith, get_or, length, nat_eq, nat_le, nat_lt}
 use Rattle.std.specs.Prelude.{◌%◌, Result, Ok, Err, slice_get}
 use Rattle.std.specs.Option.{option_map}
@@ -33,7 +34,7 @@ use Rattle.vm_memory.specs.Memory.{ledger, processes, size}
 use Rattle.vm_memory.specs.Pages.Removing.{clear_answer}
 use Rattle.vm_memory.specs.Sound.{IsSound as IsMemorySound}
 use Rattle.xk_kernel.specs.Calling.{outcome_of}
-use Rattle.xk_kernel.specs.Knowing.{without_bytes}
+use Rattle.machine_model.specs.Runs.Isolation.{without_bytes}
 use Rattle.xk_kernel.specs.Sound.{IsWhole}
 use Rattle.send_path.specs.Parts.{process_of}
 use Rattle.xk_kernel.specs.State.{machine_of}
@@ -73,7 +74,7 @@ with_parts mem procs k = record k { mem = mem; procs = procs }
 abbrev pub on_heap : ℕ → Ledger → Machine → Machine
 on_heap heap l m = record m { ledger = l; process = put_at nat_eq m.process m.cursor.pid.0 (record (m.process m.cursor.pid.0) { heap = heap }) }
 
-module _ {W : Type 0} (slot_count : W → ℕ) (held : W → Held) (k : Kernel W) (whole : IsWhole slot_count held k) where
+module _ {W : Type 0} (S : SwapStore W) (k : Kernel W) (whole : IsWhole S k) where
   pub caller : is_pid (process_count k.procs) k.cursor.pid.0 ≡ true
   caller = (and_parts (is_pid (process_count k.procs) k.cursor.pid.0) (is_tid k.cursor.tid.0) (ap (λ n. is_thread_id n k.cursor) whole.procs ∙ whole.cursor)).0
 
@@ -82,22 +83,22 @@ module _ {W : Type 0} (slot_count : W → ℕ) (held : W → Held) (k : Kernel W
       let parts = and_parts (nat_le 2 k.cursor.pid.0) (nat_lt k.cursor.pid.0 (process_count k.procs + 2)) caller in
       (leb-true 2 k.cursor.pid.0 parts.0, ltb-true k.cursor.pid.0 (process_count k.procs + 2) parts.1)
 
-  pub heap_told : (heap : ℕ) → heap ≡ heap_in (processes_of k.procs k.cursor.pid.0) → heap ≡ heap_of (machine_of held k)
+  pub heap_told : (heap : ℕ) → heap ≡ heap_in (processes_of k.procs k.cursor.pid.0) → heap ≡ heap_of (machine_of S.held k)
   unfolding machine_of
   heap_told heap e = e ∙ heap_same (processes_of k.procs k.cursor.pid.0)
 
-  pub heap_within : (heap : ℕ) → heap ≡ heap_of (machine_of held k) → AreHeapsMatched (machine_of held k).process (machine_of held k).ledger → heap ≤ 16777216
+  pub heap_within : (heap : ℕ) → heap ≡ heap_of (machine_of S.held k) → AreHeapsMatched (machine_of S.held k).process (machine_of S.held k).ledger → heap ≤ 16777216
   unfolding machine_of
-  heap_within heap e h = let within : heap_of (machine_of held k) ≤ 16777216 = h.within k.cursor.pid in omega arith
+  heap_within heap e h = let within : heap_of (machine_of S.held k) ≤ 16777216 = h.within k.cursor.pid in omega arith
 
   -- THE MACHINE has the memory's ledger and the new length
-  pub machine_with_parts : (mem : Memory W) (procs : Processes) (l : Ledger) (heap : ℕ) → size mem ≡ size k.mem → ledger held mem ≡ l
+  pub machine_with_parts : (mem : Memory W) (procs : Processes) (l : Ledger) (heap : ℕ) → size mem ≡ size k.mem → ledger S.held mem ≡ l
       → processes_of procs ≡ change k.cursor.pid.0 (heap_set heap) (processes_of k.procs)
-      → machine_of held (with_parts mem procs k) ≡ on_heap heap l (machine_of held k)
+      → machine_of S.held (with_parts mem procs k) ≡ on_heap heap l (machine_of S.held k)
   unfolding machine_of
   machine_with_parts mem procs l heap s e p =
       let there = process_there k.procs k.cursor.pid.0 caller in
-      λ i. record (machine_of held k) {
+      λ i. record (machine_of S.held k) {
         capacity = capacity (s i).area.frames (s i).procs (s i).slots;
         processes = (s i).procs;
         ledger = e i;
@@ -106,17 +107,17 @@ module _ {W : Type 0} (slot_count : W → ℕ) (held : W → Held) (k : Kernel W
       }
 
   -- .. and without bytes, where the ledgers are the same without theirs
-  pub parts_alike : (mem : Memory W) (procs : Processes) (l : Ledger) (heap : ℕ) → size mem ≡ size k.mem → bare (ledger held mem) ≡ bare l
+  pub parts_alike : (mem : Memory W) (procs : Processes) (l : Ledger) (heap : ℕ) → size mem ≡ size k.mem → bare (ledger S.held mem) ≡ bare l
       → processes_of procs ≡ change k.cursor.pid.0 (heap_set heap) (processes_of k.procs)
-      → without_bytes (machine_of held (with_parts mem procs k)) ≡ without_bytes (on_heap heap l (machine_of held k))
+      → without_bytes (machine_of S.held (with_parts mem procs k)) ≡ without_bytes (on_heap heap l (machine_of S.held k))
   unfolding machine_of
   parts_alike mem procs l heap s e p =
-      ap (λ (b : Ledger). record (machine_of held (with_parts mem procs k)) { ledger = b }) e
-      ∙ ap (λ (m : Machine). record m { ledger = bare l }) (machine_with_parts mem procs (ledger held mem) heap s refl p)
+      ap (λ (b : Ledger). record (machine_of S.held (with_parts mem procs k)) { ledger = b }) e
+      ∙ ap (λ (m : Machine). record m { ledger = bare l }) (machine_with_parts mem procs (ledger S.held mem) heap s refl p)
 
-  pub whole_with_parts : (mem : Memory W) (procs : Processes) → size mem ≡ size k.mem → IsMemorySound slot_count mem
-      → loans (ledger held mem) ≡ loans (ledger held k.mem)
-      → process_count procs ≡ process_count k.procs → IsWhole slot_count held (with_parts mem procs k)
+  pub whole_with_parts : (mem : Memory W) (procs : Processes) → size mem ≡ size k.mem → IsMemorySound S.slot_count mem
+      → loans (ledger S.held mem) ≡ loans (ledger S.held k.mem)
+      → process_count procs ≡ process_count k.procs → IsWhole S (with_parts mem procs k)
   whole_with_parts mem procs s sound kept n =
       let same : processes mem ≡ processes k.mem = ap (λ z. z.procs) s in
       record {
@@ -125,7 +126,7 @@ module _ {W : Type 0} (slot_count : W → ℕ) (held : W → Held) (k : Kernel W
         procs = n ∙ whole.procs ∙ sym same;
         cursor = ap (λ n. is_thread_id n k.cursor) same ∙ whole.cursor;
         room = whole.room;
-        servers = servers_over k.servers k.queues (processes k.mem) (processes mem) (loans (ledger held k.mem)) (loans (ledger held mem)) same kept whole.servers;
+        servers = servers_over k.servers k.queues (processes k.mem) (processes mem) (loans (ledger S.held k.mem)) (loans (ledger S.held mem)) same kept whole.servers;
       }
 
 -- ---- lists of three refusals
@@ -170,9 +171,9 @@ none_told : (loan : Bool) → ◌≡◌ {A = Result (Unit {0}) XousError} (Ok tt
 none_told true e = cc
 none_told false e = refl
 
-module _ {W : Type 0} (slot_count : W → ℕ) (held : W → Held) (k : Kernel W) (whole : IsWhole slot_count held k) (bytes : ℕ) where
+module _ {W : Type 0} (S : SwapStore W) (k : Kernel W) (whole : IsWhole S k) (bytes : ℕ) where
   abbrev m : Machine
-  m = machine_of held k
+  m = machine_of S.held k
 
   abbrev row : Outcome
   row = unless_refused (decrease_refusals m bytes) (Served (decrease_served m bytes))
@@ -191,27 +192,27 @@ module _ {W : Type 0} (slot_count : W → ℕ) (held : W → Held) (k : Kernel W
     abbrev first : Place
     first = page_of k.cursor.pid (536870912 + (heap - bytes))
 
-    lent_same : any_on_loan (processes k.mem) (ledger held k.mem) first (bytes / 4096) ≡ lent
+    lent_same : any_on_loan (processes k.mem) (ledger S.held k.mem) first (bytes / 4096) ≡ lent
     unfolding machine_of
-    lent_same = ap (λ h. any_on_loan (processes k.mem) (ledger held k.mem) (page_of k.cursor.pid (536870912 + (h - bytes))) (bytes / 4096)) told
+    lent_same = ap (λ h. any_on_loan (processes k.mem) (ledger S.held k.mem) (page_of k.cursor.pid (536870912 + (h - bytes))) (bytes / 4096)) told
 
-    pub decrease_lent : (error : XousError) → bytes ≤ heap → Err error ≡ clear_answer (processes k.mem) (ledger held k.mem) first (bytes / 4096) → Refused error ≡ row
+    pub decrease_lent : (error : XousError) → bytes ≤ heap → Err error ≡ clear_answer (processes k.mem) (ledger S.held k.mem) first (bytes / 4096) → Refused error ≡ row
     decrease_lent error le a =
-        let why = loan_told (any_on_loan (processes k.mem) (ledger held k.mem) first (bytes / 4096)) error a in
+        let why = loan_told (any_on_loan (processes k.mem) (ledger S.held k.mem) first (bytes / 4096)) error a in
         ap Refused why.1
         ∙ third_of_three (not (is_aligned bytes)) (nat_lt (heap_of m) bytes) lent BadAlignment InvalidLimit ShareViolation (Served (decrease_served m bytes))
         (aligned bytes al) (not_above (heap_of m) bytes (omega (arith, le, told))) (sym lent_same ∙ why.0)
 
     pub decrease_done : (mem : Memory W) (procs : Processes) → bytes ≤ heap → size mem ≡ size k.mem
-        → Ok tt ≡ clear_answer (processes k.mem) (ledger held k.mem) first (bytes / 4096)
-        → ledger held mem ≡ remove (in_run first (bytes / 4096)) (ledger held k.mem)
+        → Ok tt ≡ clear_answer (processes k.mem) (ledger S.held k.mem) first (bytes / 4096)
+        → ledger S.held mem ≡ remove (in_run first (bytes / 4096)) (ledger S.held k.mem)
         → processes_of procs ≡ change k.cursor.pid.0 (heap_set (heap - bytes)) (processes_of k.procs)
-        → outcome_of k.cursor (machine_of held (with_parts mem procs k)) (Ok (Answered Plain)) ≡ row
+        → outcome_of k.cursor (machine_of S.held (with_parts mem procs k)) (Ok (Answered Plain)) ≡ row
     unfolding machine_of
     decrease_done mem procs le s a e p =
         ap (λ n. outcome_of k.cursor n (Ok (Answered Plain)))
-        (machine_with_parts slot_count held k whole mem procs (remove (in_run first (bytes / 4096)) (ledger held k.mem)) (heap - bytes) s e p)
-        ∙ ap (λ h. outcome_of k.cursor (on_heap (h - bytes) (remove (in_run (page_of k.cursor.pid (536870912 + (h - bytes))) (bytes / 4096)) (ledger held k.mem)) m) (Ok (Answered Plain))) told
+        (machine_with_parts S k whole mem procs (remove (in_run first (bytes / 4096)) (ledger S.held k.mem)) (heap - bytes) s e p)
+        ∙ ap (λ h. outcome_of k.cursor (on_heap (h - bytes) (remove (in_run (page_of k.cursor.pid (536870912 + (h - bytes))) (bytes / 4096)) (ledger S.held k.mem)) m) (Ok (Answered Plain))) told
         ∙ none_of_three (not (is_aligned bytes)) (nat_lt (heap_of m) bytes) lent BadAlignment InvalidLimit ShareViolation (Served (decrease_served m bytes))
         (aligned bytes al) (not_above (heap_of m) bytes (omega (arith, le, told)))
-        (sym lent_same ∙ none_told (any_on_loan (processes k.mem) (ledger held k.mem) first (bytes / 4096)) a)
+        (sym lent_same ∙ none_told (any_on_loan (processes k.mem) (ledger S.held k.mem) first (bytes / 4096)) a)

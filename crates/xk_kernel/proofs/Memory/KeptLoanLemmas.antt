@@ -1,4 +1,5 @@
 -- What changes pages keeps every loan, so that the servers stay sound over the memory.
+use Rattle.xk_ports.specs.declared.store.SwapStore.{Ghosts as SwapStore}
 use Rattle.std.proofs.Common.{◌≡◌, ℕ, ◌+◌, ◌≤◌, ◌<◌, if◌then◌else◌, Bool, true, false, List, Option, Some, None, refl, sym, ap, subst, ◌∙◌, arith, nat_le}
 use Rattle.std.specs.Prelude.{Result, Ok, Err}
 use Rattle.std.proofs.lemmas.Bool.{and_parts, leb-true}
@@ -88,44 +89,22 @@ make_keeps procs capacity pid window at n right r old new process a e = ap loans
     go (Ok first) a = make_loans procs capacity (page_place pid first) n right old (can_answered procs capacity old pid window at n first process (sym a))
     go (Err error) a = refl
 
-in_wider : (first : Place) (i n : ℕ) (p : Place) → i ≤ n → in_run first i p ≡ true → in_run first n p ≡ true
-in_wider first i n p few e =
-    let r : IsInRun first i p = in_run-true first i p e in
-    let high : p.vpn.0 < first.vpn.0 + i = r.to in
-    in_run-from first n p (record { pid = r.pid; from = r.from; to = omega (arith, high, few) })
-
--- .. also where only the first of them are
-pub made_first_keeps : {Known : Type 0} (procs capacity : ℕ) (pid : Pid) (window : Window) (at : Option Vpn) (n : ℕ) (right : Right) (old new : Ledger)
-    → is_pid procs pid.0 ≡ true → HasMadeFirst Known (make_answer procs capacity old pid window at n) pid n right old new → loans new ≡ loans old
-made_first_keeps procs capacity pid window at n right old new process h =
-    let at_first = page_place pid h.first in
-    let can : CanMake procs capacity old at_first n = can_answered procs capacity old pid window at n h.first process h.served in
-    bare-loans (make at_first h.count right old) new h.rights
-    ∙ make_loans procs capacity at_first h.count right old (record {
-      lies = λ p e. can.lies p (in_wider at_first h.count n p h.few e);
-      free = λ p e. can.free p (in_wider at_first h.count n p h.few e);
-      room = let fits : pages procs old + n ≤ capacity = can.room in let few : h.count ≤ n = h.few in omega (arith, fits, few);
-    })
-
 console_free : (mapped : Bool) (r : Result Vpn XousError) (first : Vpn) → Ok first ≡ (if mapped then Err MemoryInUse else r) → (mapped ≡ false) × (r ≡ Ok first)
 console_free true r first e = cc
 console_free false r first e = (refl, sym e)
 
-pub make_console_keeps : {W : Type 0} (slot_count : W → ℕ) (held : W → Held) (mem : Memory W) → IsMemorySound slot_count mem → (pid : Pid) (at : Option Vpn) (w : Bool)
-    (r : Result Vpn XousError) (new : Ledger) → is_pid (processes mem) pid.0 ≡ true → r ≡ console_answer (processes mem) (ledger held mem) pid at
-    → new ≡ after_console pid w r (ledger held mem) → loans new ≡ loans (ledger held mem)
-make_console_keeps slot_count held mem sound pid at w r new process a e = ap loans e ∙ go r a
+pub make_console_keeps : {W : Type 0} (S : SwapStore W) (mem : Memory W) → IsMemorySound S.slot_count mem → (pid : Pid) (at : Option Vpn) (w : Bool)
+    (r : Result Vpn XousError) (new : Ledger) → is_pid (processes mem) pid.0 ≡ true → r ≡ console_answer (processes mem) (ledger S.held mem) pid at
+    → new ≡ after_console pid w r (ledger S.held mem) → loans new ≡ loans (ledger S.held mem)
+make_console_keeps S mem sound pid at w r new process a e = ap loans e ∙ go r a
   where
-    go : (r : Result Vpn XousError) → r ≡ console_answer (processes mem) (ledger held mem) pid at → loans (after_console pid w r (ledger held mem)) ≡ loans (ledger held mem)
+    go : (r : Result Vpn XousError) → r ≡ console_answer (processes mem) (ledger S.held mem) pid at → loans (after_console pid w r (ledger S.held mem)) ≡ loans (ledger S.held mem)
     go (Ok first) a =
-        let found = console_free (console_mapped (processes mem) (ledger held mem)) (run_place (processes mem) (ledger held mem) pid Map at 1) first a in
-        make_console_loans (processes mem) (page_place pid first) w (ledger held mem) (can_console slot_count held mem sound pid at first process found.0 found.1)
+        let found = console_free (console_mapped (processes mem) (ledger S.held mem)) (run_place (processes mem) (ledger S.held mem) pid Map at 1) first a in
+        make_console_loans (processes mem) (page_place pid first) w (ledger S.held mem) (can_console S mem sound pid at first process found.0 found.1)
     go (Err error) a = refl
 
 -- ---- holders and orphans lie in the Message window
-
-pub sound-lawful : {W : Type 0} (slot_count : W → ℕ) (held : W → Held) (mem : Memory W) → IsMemorySound slot_count mem → IsLawful (processes mem) (capacity_of mem) (ledger held mem)
-sound-lawful slot_count held mem sound = bare-lawful (processes mem) (capacity_of mem) (blank_ledger mem) (ledger held mem) (bare-ledger held mem) sound.lawful
 
 message_page : (procs : ℕ) (p : Place) → is_place_in procs Message p ≡ true → 262144 ≤ p.vpn.0
 message_page procs p e =

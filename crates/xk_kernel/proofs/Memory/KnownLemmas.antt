@@ -8,7 +8,7 @@ use Rattle.ledger_model.proofs.Pages.BareLemmas.{bare-lawful}
 use Rattle.ledger_model.proofs.Stepping.WritingLemmas.{bare-loans}
 use Rattle.ledger_model.specs.Ledger.{Ledger, Page}
 use Rattle.ledger_model.specs.Loans.{bare, bare_page}
-use Rattle.machine_laws.proofs.Calling.PageChangeLemmas.{IsLikeLedger, matched_on, stands_now}
+use Rattle.save_path.proofs.AlikeLemmas.{matched_bare}
 use Rattle.machine_model.specs.Runs.Matched.{Matched}
 use Rattle.machine_model.specs.State.Machine.{Machine}
 use Rattle.sv32_space.specs.Tie.{Held}
@@ -16,34 +16,20 @@ use Rattle.vm_memory.proofs.Changing.CallLemmas.{no_slots-none_out}
 use Rattle.vm_memory.specs.Bytes.{MeansBytes, MeansBytesOver, is_known, none_out}
 use Rattle.vm_memory.specs.Memory.{Size, size, store_of}
 use Rattle.vm_memory.specs.declared.memory.Memory.{Memory}
-use Rattle.xk_kernel.specs.Knowing.{ComesTo, IsTrusted, KnowsBytes, is_trusted, without_bytes}
+use Rattle.xk_kernel.specs.Knowing.{ComesTo, IsTrusted, KnowsBytes, is_trusted}
+use Rattle.machine_model.specs.Runs.Isolation.{without_bytes}
 use Rattle.xk_kernel.specs.Sound.{Keeps}
 use Rattle.xk_kernel.specs.declared.kernel.Kernel.{Kernel}
+use Rattle.xk_ports.specs.declared.store.SwapStore.{Ghosts as SwapStore}
 use Rattle.xk_ports.specs.Keeping.{KeepsStore}
 
 -- ---- alike but for bytes
-
-bare_stood : (a b : Option Page) → option_map bare_page a ≡ option_map bare_page b → (page : Page) → a ≡ Some page
-    → (q : Page) × (b ≡ Some q)
-bare_stood None b e page q = absurd (none-some page q)
-bare_stood (Some v) None e page q = absurd (none-some (bare_page v) (sym e))
-bare_stood (Some v) (Some u) e page q = (u, refl)
-
-like_bare : (m : Machine) (l : Ledger) → bare l ≡ bare m.ledger → Matched m → IsLikeLedger m l
-unfolding bare
-like_bare m l e h = record {
-  lawful = bare-lawful m.processes m.capacity m.ledger l e h.body.ledger.lawful;
-  same = bare-loans m.ledger l e;
-  stand = λ p page is.
-      let old = bare_stood (l.home p) (m.ledger.home p) (ap (λ (b : Ledger). b.home p) e) page is in
-      stands_now m h p old.0 old.1;
-}
 
 -- THE INVARIANT holds of it too: it speaks of no bytes
 pub matched_alike : (new target : Machine) → without_bytes new ≡ without_bytes target → Matched target → Matched new
 matched_alike new target e h =
     let there : Matched (record target { ledger = new.ledger }) =
-    matched_on new.ledger target (like_bare target new.ledger (ap (λ (m : Machine). m.ledger) e) h) h in
+    matched_bare target new.ledger (ap (λ (m : Machine). m.ledger) e) h in
     subst (λ (m : Machine). Matched (record m { ledger = new.ledger })) (sym e) there
 
 pub comes_same : {known : Type 0} (new target : Machine) → new ≡ target → ComesTo known new target
@@ -82,41 +68,41 @@ means_of : (k s n : Bool) → (k || s) ≡ true → (s ≡ true → n ≡ true) 
 means_of true s n h f = refl
 means_of false s n h f = f h
 
-module _ {W P : Type 0} (is_honest : W → Bool) (held : W → Held) (slot_count : W → ℕ) (asked : W → P) (faults : W → ℕ) where
+module _ {W : Type 0} (S : SwapStore W) where
   abbrev Stays : Memory W → Memory W → Type 0
-  Stays a b = KeepsStore is_honest held slot_count asked faults (store_of a) (store_of b)
+  Stays a b = KeepsStore S (store_of a) (store_of b)
 
-  pub known_same : (a b : Memory W) → Stays a b → is_known is_honest held b ≡ is_known is_honest held a
+  pub known_same : (a b : Memory W) → Stays a b → is_known S b ≡ is_known S a
   known_same a b h = λ i. h.honest i && h.told i
 
   -- a call in two parts, of which the first puts no page out
-  pub over_parts : (a b c : Memory W) → Stays a b → (none_out a ≡ true → none_out b ≡ true) → MeansBytesOver is_honest held a c
-      → MeansBytesOver is_honest held a b × MeansBytesOver is_honest held b c
+  pub over_parts : (a b c : Memory W) → Stays a b → (none_out a ≡ true → none_out b ≡ true) → MeansBytesOver S a c
+      → MeansBytesOver S a b × MeansBytesOver S b c
   over_parts a b c h none over =
-      parts_known (is_known is_honest held a) (is_known is_honest held b) (none_out a) (none_out b) (none_out c) (known_same a b h) none over
+      parts_known (is_known S a) (is_known S b) (none_out a) (none_out b) (none_out c) (known_same a b h) none over
 
-  pub means_ends : (a b : Memory W) → Stays a b → MeansBytesOver is_honest held a b → MeansBytes is_honest held a × MeansBytes is_honest held b
+  pub means_ends : (a b : Memory W) → Stays a b → MeansBytesOver S a b → MeansBytes S a × MeansBytes S b
   means_ends a b h over =
-      ends_known (is_known is_honest held a) (is_known is_honest held b) (none_out a) (none_out b) (known_same a b h) over
+      ends_known (is_known S a) (is_known S b) (none_out a) (none_out b) (known_same a b h) over
 
   -- ---- a store that is trusted
 
   trusted_none : (m : Memory W) → ((size m).slots == 0) ≡ true → none_out m ≡ true
   trusted_none m e = no_slots-none_out m (eqb-true (size m).slots 0 e)
 
-  pub stays_trusted : (old new : Kernel W) → Keeps is_honest held slot_count asked faults old new → is_trusted is_honest held new ≡ is_trusted is_honest held old
+  pub stays_trusted : (old new : Kernel W) → Keeps S old new → is_trusted S new ≡ is_trusted S old
   stays_trusted old new h = λ i. known_same old.mem new.mem h.store i || ((h.size i).slots == 0)
 
-  pub trusted_knows : (old new : Kernel W) → IsTrusted is_honest held old → Keeps is_honest held slot_count asked faults old new → KnowsBytes is_honest held old new
+  pub trusted_knows : (old new : Kernel W) → IsTrusted S old → Keeps S old new → KnowsBytes S old new
   trusted_knows old new trusted h =
-      either_known (is_known is_honest held old.mem) ((size old.mem).slots == 0) (none_out old.mem) (none_out new.mem) trusted
+      either_known (is_known S old.mem) ((size old.mem).slots == 0) (none_out old.mem) (none_out new.mem) trusted
       (trusted_none old.mem) (λ e. trusted_none new.mem (ap (λ (s : Size). s.slots == 0) h.size ∙ e))
 
-pub trusted_means : {W : Type 0} (is_honest : W → Bool) (held : W → Held) (k : Kernel W) → IsTrusted is_honest held k → MeansBytes is_honest held k.mem
-trusted_means is_honest held k trusted =
-    means_of (is_known is_honest held k.mem) ((size k.mem).slots == 0) (none_out k.mem) trusted
+pub trusted_means : {W : Type 0} (S : SwapStore W) (k : Kernel W) → IsTrusted S k → MeansBytes S k.mem
+trusted_means S k trusted =
+    means_of (is_known S k.mem) ((size k.mem).slots == 0) (none_out k.mem) trusted
     (λ e. no_slots-none_out k.mem (eqb-true (size k.mem).slots 0 e))
 
-pub near_knows : {W : Type 0} (is_honest : W → Bool) (held : W → Held) (old new : Kernel W) → none_out old.mem ≡ true → none_out new.mem ≡ true
-    → KnowsBytes is_honest held old new
-near_knows is_honest held old new e f = known_none (is_known is_honest held old.mem) (none_out old.mem) (none_out new.mem) e f
+pub near_knows : {W : Type 0} (S : SwapStore W) (old new : Kernel W) → none_out old.mem ≡ true → none_out new.mem ≡ true
+    → KnowsBytes S old new
+near_knows S old new e f = known_none (is_known S old.mem) (none_out old.mem) (none_out new.mem) e f

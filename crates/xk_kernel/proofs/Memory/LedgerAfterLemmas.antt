@@ -1,4 +1,5 @@
 -- The ledger after an instruction of a process, from what the process sees.
+use Rattle.xk_ports.specs.declared.store.SwapStore.{Ghosts as SwapStore}
 use Rattle.std.proofs.Common.{◌≡◌, ℕ, ◌%◌, Bool, true, false, not, List, Option, Some, None, refl, sym, ap, subst, ◌∙◌}
 use Rattle.std.specs.Prelude.{is_some}
 use Rattle.std.specs.Option.{option_and_then, option_map_or}
@@ -67,35 +68,35 @@ ledger_after procs pid l (StoresToTimer offset width value regs pc) = l
 ledger_after procs pid l CallsKernel = l
 ledger_after procs pid l (Traps cause value) = l
 
-module _ {W P : Type 0} (is_honest : W → Bool) (held : W → Held) (slot_count : W → ℕ) (asked : W → P) (faults : W → ℕ)
-    (pid : Pid) (old new : Memory W) (sound : IsSound slot_count old) (means : MeansBytes is_honest held old) (rest : KeepsRest is_honest held slot_count asked faults pid old new) where
+module _ {W : Type 0} (S : SwapStore W)
+    (pid : Pid) (old new : Memory W) (sound : IsSound S.slot_count old) (means : MeansBytes S old) (rest : KeepsRest S pid old new) where
   abbrev n : ℕ
   n = processes old
 
   abbrev L : Ledger
-  L = ledger held old
+  L = ledger S.held old
 
   abbrev M : Ledger
-  M = ledger held new
+  M = ledger S.held new
 
   pub same_processes : processes new ≡ processes old
   same_processes = ap (λ (s : Size). s.procs) rest.sizes
 
   told_new : IsTold n M pid
-  told_new = subst (λ k. IsTold k M pid) same_processes (told slot_count held new (rest.sound sound) pid)
+  told_new = subst (λ k. IsTold k M pid) same_processes (told S new (rest.sound sound) pid)
 
   told_old : IsTold n L pid
-  told_old = told slot_count held old sound pid
+  told_old = told S old sound pid
 
-  module _ (byte : ℕ → ℕ) (seen : (user_view held new pid).byte ≡ byte) where
+  module _ (byte : ℕ → ℕ) (seen : (user_view S.held new pid).byte ≡ byte) where
     seen_new : (seen_memory n M pid).byte ≡ byte
     seen_new = ap (λ k. (seen_memory k M pid).byte) (sym same_processes) ∙ seen
 
-    same_ledger : byte ≡ (user_view held old pid).byte → M ≡ L
+    same_ledger : byte ≡ (user_view S.held old pid).byte → M ≡ L
     same_ledger e = same_by_bytes n L M pid rest.rights told_old told_new (rest.unseen means) (seen_new ∙ e)
 
-    stored_ledger : (address : ℕ) (width : Width) (value : ℕ) → (user_view held old pid).may Store address ≡ true → (user_view held old pid).console address ≡ false
-        → address % size_of width ≡ 0 → byte ≡ with_number (user_view held old pid).byte address width value
+    stored_ledger : (address : ℕ) (width : Width) (value : ℕ) → (user_view S.held old pid).may Store address ≡ true → (user_view S.held old pid).console address ≡ false
+        → address % size_of width ≡ 0 → byte ≡ with_number (user_view S.held old pid).byte address width value
         → M ≡ write_to (reach n L (page_of pid address) Store) (address % 4096) (low_bytes width value) L
     stored_ledger address width value may console aligned e =
         let at : IsStoredAt n L pid address = stored_at n L pid address may console in
@@ -103,7 +104,7 @@ module _ {W P : Type 0} (is_honest : W → Bool) (held : W → Held) (slot_count
         address width value aligned at.name at.bytes at.seen (seen_new ∙ e)
         ∙ ap (λ o. write_to o (address % 4096) (low_bytes width value) L) (sym at.reached)
 
-    pub ledger_by_bytes : (x : Executed) → StoresAllowed (user_view held old pid).may (user_view held old pid).console x → byte ≡ bytes_after (user_view held old pid).byte x
+    pub ledger_by_bytes : (x : Executed) → StoresAllowed (user_view S.held old pid).may (user_view S.held old pid).console x → byte ≡ bytes_after (user_view S.held old pid).byte x
         → M ≡ ledger_after n pid L x
     ledger_by_bytes (Next regs pc) so e = same_ledger e
     ledger_by_bytes (Stores address width value regs pc) so e = stored_ledger address width value so.0 so.1 so.2 e

@@ -21,6 +21,7 @@ use Rattle.vm_memory.proofs.Changing.AnsweringLemmas.{can_answered}
 use Rattle.vm_memory.specs.Memory.{capacity_of, frames_for_pages, ledger, processes, size}
 use Rattle.vm_memory.specs.Pages.Making.{after_make, make_answer, page_place}
 use Rattle.vm_memory.specs.declared.memory.Memory.{Memory}
+use Rattle.xk_ports.specs.declared.store.SwapStore.{Ghosts as SwapStore}
 use Rattle.xk_base.specs.Tables.Circle.{is_pid}
 use Rattle.xk_base.specs.declared.errors.XousError.{XousError}
 use Rattle.xk_base.specs.declared.ids.ThreadId.{ThreadId}
@@ -28,7 +29,8 @@ use Rattle.xk_base.specs.declared.ids.Vpn.{Vpn}
 use Rattle.xk_base.specs.declared.pages.Right.{Right}
 use Rattle.xk_base.specs.declared.windows.Window.{Window}
 use Rattle.xk_kernel.specs.Calling.{CrowdsBy, ServesAs, outcome_of}
-use Rattle.xk_kernel.specs.Knowing.{ComesTo, IsCrowded, without_bytes}
+use Rattle.xk_kernel.specs.Knowing.{ComesTo, IsCrowded}
+use Rattle.machine_model.specs.Runs.Isolation.{without_bytes}
 use Rattle.xk_kernel.specs.Sound.{IsWhole}
 use Rattle.xk_kernel.specs.State.{machine_of}
 use Rattle.xk_kernel.specs.declared.kernel.Kernel.{Kernel}
@@ -54,14 +56,15 @@ module _ {W : Type 0} (held : W → Held) (k : Kernel W) (mem : Memory W) (l : L
   pub made_comes : {known : Type 0} → (known → ledger held mem ≡ l) → ComesTo known (machine_of held (with_mem mem k)) (on_ledger l (machine_of held k))
   made_comes whole = record { alike = made_alike; whole = λ h. machine_with_mem held k mem l same (whole h) }
 
-  -- .. and with a new length of the caller's heap
-  pub grown_comes : {known : Type 0} (slot_count : W → ℕ) → IsWhole slot_count held k → (procs : Processes) (heap : ℕ)
-      → processes_of procs ≡ change k.cursor.pid.0 (heap_set heap) (processes_of k.procs) → (known → ledger held mem ≡ l)
-      → ComesTo known (machine_of held (with_parts mem procs k)) (on_heap heap l (machine_of held k))
-  grown_comes slot_count sound procs heap set whole = record {
-    alike = parts_alike slot_count held k sound mem procs l heap same rights set;
-    whole = λ h. machine_with_parts slot_count held k sound mem procs l heap same (whole h) set;
-  }
+-- .. and with a new length of the caller's heap
+pub grown_comes : {W known : Type 0} (S : SwapStore W) (k : Kernel W) (mem : Memory W) (l : Ledger) → size mem ≡ size k.mem
+    → bare (ledger S.held mem) ≡ bare l → IsWhole S k → (procs : Processes) (heap : ℕ)
+    → processes_of procs ≡ change k.cursor.pid.0 (heap_set heap) (processes_of k.procs) → (known → ledger S.held mem ≡ l)
+    → ComesTo known (machine_of S.held (with_parts mem procs k)) (on_heap heap l (machine_of S.held k))
+grown_comes S k mem l same rights sound procs heap set whole = record {
+  alike = parts_alike S k sound mem procs l heap same rights set;
+  whole = λ h. machine_with_parts S k sound mem procs l heap same (whole h) set;
+}
 
 -- a call whose state is known serves as its row
 pub serves_by : {known : Type 0} (who : ThreadId) (new : Machine) (outcome : Outcome) (served : Result CallerFate XousError)

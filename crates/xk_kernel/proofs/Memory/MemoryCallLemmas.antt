@@ -1,5 +1,6 @@
 -- A kernel whose memory alone changed: the machine that it stands for, and that it is whole; and the calls that remove and reduce
 -- pages.
+use Rattle.xk_ports.specs.declared.store.SwapStore.{Ghosts as SwapStore}
 use Rattle.std.proofs.Common.{◌≡◌, ℕ, ◌/◌, if◌then◌else◌, Bool, true, false, [], ◌∷◌, Some, None, refl, sym, ap, ◌∙◌}
 use Rattle.std.specs.Prelude.{Result, Ok, Err}
 use Rattle.std.proofs.lemmas.Bool.{false≢true, and_parts}
@@ -49,9 +50,9 @@ machine_with_mem held k mem l s e = λ i. record (machine_of held k) {
 }
 
 -- THE PARTS stay sound
-pub whole_with_mem : {W : Type 0} (slot_count : W → ℕ) (held : W → Held) (k : Kernel W) (mem : Memory W) → IsWhole slot_count held k
-    → size mem ≡ size k.mem → IsMemorySound slot_count mem → loans (ledger held mem) ≡ loans (ledger held k.mem) → IsWhole slot_count held (with_mem mem k)
-whole_with_mem slot_count held k mem whole s sound kept =
+pub whole_with_mem : {W : Type 0} (S : SwapStore W) (k : Kernel W) (mem : Memory W) → IsWhole S k
+    → size mem ≡ size k.mem → IsMemorySound S.slot_count mem → loans (ledger S.held mem) ≡ loans (ledger S.held k.mem) → IsWhole S (with_mem mem k)
+whole_with_mem S k mem whole s sound kept =
     let same : processes mem ≡ processes k.mem = ap (λ z. z.procs) s in
     record {
       mem = sound;
@@ -59,13 +60,13 @@ whole_with_mem slot_count held k mem whole s sound kept =
       procs = whole.procs ∙ sym same;
       cursor = ap (λ n. is_thread_id n k.cursor) same ∙ whole.cursor;
       room = whole.room;
-      servers = servers_over k.servers k.queues (processes k.mem) (processes mem) (loans (ledger held k.mem)) (loans (ledger held mem)) same kept whole.servers;
+      servers = servers_over k.servers k.queues (processes k.mem) (processes mem) (loans (ledger S.held k.mem)) (loans (ledger S.held mem)) same kept whole.servers;
     }
 
 -- ---- the caller
 
-pub caller_process : {W : Type 0} (slot_count : W → ℕ) (held : W → Held) (k : Kernel W) → IsWhole slot_count held k → is_pid (processes k.mem) k.cursor.pid.0 ≡ true
-caller_process slot_count held k whole = (and_parts (is_pid (processes k.mem) k.cursor.pid.0) (is_tid k.cursor.tid.0) whole.cursor).0
+pub caller_process : {W : Type 0} (S : SwapStore W) (k : Kernel W) → IsWhole S k → is_pid (processes k.mem) k.cursor.pid.0 ≡ true
+caller_process S k whole = (and_parts (is_pid (processes k.mem) k.cursor.pid.0) (is_tid k.cursor.tid.0) whole.cursor).0
 
 -- a call that is done is answered plainly
 abbrev pub plain_or : Result (Unit {0}) XousError → Result CallerFate XousError

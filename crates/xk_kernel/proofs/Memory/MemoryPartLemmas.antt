@@ -1,4 +1,5 @@
 -- The kernel with a memory that has the same rights and loans.
+use Rattle.xk_ports.specs.declared.store.SwapStore.{Ghosts as SwapStore}
 use Rattle.std.proofs.Common.{◌≡◌, ℕ, Bool, IsSome, refl, sym, ap, ◌∙◌}
 use Rattle.boot_plan.specs.Capacity.{capacity}
 use Rattle.xk_base.specs.declared.ids.Pid.{Pid}
@@ -37,21 +38,21 @@ there_with held k mem who h = h
 
 -- ---- soundness
 
-module _ {W P : Type 0} (is_honest : W → Bool) (held : W → Held) (slot_count : W → ℕ) (asked : W → P) (faults : W → ℕ)
-    (k : Kernel W) (mem : Memory W) (whole : IsWhole slot_count held k) (pid : Pid) (rest : KeepsRest is_honest held slot_count asked faults pid k.mem mem) where
+module _ {W : Type 0} (S : SwapStore W)
+    (k : Kernel W) (mem : Memory W) (whole : IsWhole S k) (pid : Pid) (rest : KeepsRest S pid k.mem mem) where
   procs : processes mem ≡ processes k.mem
   procs = ap (λ (s : Size). s.procs) rest.sizes
 
-  pub whole_with : IsWhole slot_count held (with_memory mem k)
+  pub whole_with : IsWhole S (with_memory mem k)
   whole_with = record {
     mem = rest.sound whole.mem;
     threads = whole.threads ∙ sym procs;
     procs = whole.procs ∙ sym procs;
     cursor = ap (λ n. is_thread_id n k.cursor) procs ∙ whole.cursor;
     room = whole.room;
-    servers = servers_over k.servers k.queues (processes k.mem) (processes mem) (loans (ledger held k.mem)) (loans (ledger held mem)) procs
-        (bare-loans (ledger held k.mem) (ledger held mem) rest.rights) whole.servers;
+    servers = servers_over k.servers k.queues (processes k.mem) (processes mem) (loans (ledger S.held k.mem)) (loans (ledger S.held mem)) procs
+        (bare-loans (ledger S.held k.mem) (ledger S.held mem) rest.rights) whole.servers;
   }
 
-  pub keeps_with : Keeps is_honest held slot_count asked faults k (with_memory mem k)
+  pub keeps_with : Keeps S k (with_memory mem k)
   keeps_with = record { size = rest.sizes; store = rest.store; room = refl }

@@ -14,6 +14,7 @@ use Rattle.thread_table.specs.ThreadsOf.{process_count}
 use Rattle.vm_memory.specs.Memory.{ledger, processes, size, store_of}
 use Rattle.xk_base.specs.Tables.Circle.{is_thread_id}
 use Rattle.xk_base.specs.declared.limits.TheConstants.{RECORD_LIMIT}
+use Rattle.xk_ports.specs.declared.store.SwapStore.{Ghosts as SwapStore}
 use Rattle.xk_ports.specs.Keeping.{KeepsStore}
 use Rattle.xk_kernel.specs.Sound.{IsUsable, IsWhole, Keeps}
 use Rattle.xk_kernel.specs.State.{machine_of}
@@ -63,35 +64,35 @@ left_alone k new e = λ i. with_new k (e i) k.next
 
 -- ---- sound
 
-module _ {W : Type 0} (slot_count : W → ℕ) (held : W → Held) (k : Kernel W) (whole : IsWhole slot_count held k) (matched : Matched (machine_of held k)) where
-  pub parts_sound : ArePartsSound slot_count held k.cursor (parts k)
+module _ {W : Type 0} (S : SwapStore W) (k : Kernel W) (whole : IsWhole S k) (matched : Matched (machine_of S.held k)) where
+  pub parts_sound : ArePartsSound S k.cursor (parts k)
   parts_sound = record {
-    machine = machine_of held k;
-    matched = subst Matched (sym (machine_given held k (parts k) whole.threads)) matched;
+    machine = machine_of S.held k;
+    matched = subst Matched (sym (machine_given S.held k (parts k) whole.threads)) matched;
     mem = whole.mem;
     processes = whole.threads;
     seats = whole.servers.messages.seats;
-    loans = open_loans (loans (ledger held k.mem)) k.servers k.queues whole.servers.messages;
+    loans = open_loans (loans (ledger S.held k.mem)) k.servers k.queues whole.servers.messages;
   }
 
-  pub parts_sound_over : IsSoundOver slot_count held k.cursor k.procs (parts k)
+  pub parts_sound_over : IsSoundOver S k.cursor k.procs (parts k)
   unfolding machine_of parts_sound
   parts_sound_over = record { sound = parts_sound; same = refl; count = whole.procs ∙ sym whole.threads }
 
-  pub tables_matched : Matched (with_tables k.cursor (tables k) (machine_of held k))
-  tables_matched = subst Matched (sym (machine_tables held k (tables k) whole.threads)) matched
+  pub tables_matched : Matched (with_tables k.cursor (tables k) (machine_of S.held k))
+  tables_matched = subst Matched (sym (machine_tables S.held k (tables k) whole.threads)) matched
 
   pub tables_sound : AreTablesSound k.cursor (tables k)
   tables_sound = record {
-    machine = machine_of held k;
+    machine = machine_of S.held k;
     matched = tables_matched;
     seats = whole.servers.messages.seats;
   }
 
 -- a kernel with sound parts is whole
-pub new_whole : {W : Type 0} (slot_count : W → ℕ) (held : W → Held) (k : Kernel W) (new : Parts W) (next : ℕ) → IsWhole slot_count held k
-    → ArePartsSound slot_count held k.cursor new → size new.mem ≡ size k.mem → new.tables.log.room ≡ k.log.room → IsWhole slot_count held (with_new k new next)
-new_whole slot_count held k new next whole sound s room =
+pub new_whole : {W : Type 0} (S : SwapStore W) (k : Kernel W) (new : Parts W) (next : ℕ) → IsWhole S k
+    → ArePartsSound S k.cursor new → size new.mem ≡ size k.mem → new.tables.log.room ≡ k.log.room → IsWhole S (with_new k new next)
+new_whole S k new next whole sound s room =
     let same : processes new.mem ≡ processes k.mem = ap (λ z. z.procs) s in
     record {
       mem = sound.mem;
@@ -99,15 +100,15 @@ new_whole slot_count held k new next whole sound s room =
       procs = whole.procs ∙ sym same;
       cursor = ap (λ n. is_thread_id n k.cursor) same ∙ whole.cursor;
       room = subst (λ n. RECORD_LIMIT ≤ n) (sym room) whole.room;
-      servers = sound_servers slot_count held k.cursor new sound;
+      servers = sound_servers S k.cursor new sound;
     }
 
 -- what a call keeps of the memory, it keeps of the kernel
-pub new_keeps : {W P : Type 0} (honest : W → Bool) (held : W → Held) (slot_count : W → ℕ) (asked : W → P) (faults : W → ℕ) (old new : Kernel W)
-    → KeepsMemory honest held old.mem new.mem → new.log.room ≡ old.log.room → Keeps honest held slot_count asked faults old new
-new_keeps honest held slot_count asked faults old new keeps room = record {
+pub new_keeps : {W : Type 0} (S : SwapStore W) (old new : Kernel W)
+    → KeepsMemory S old.mem new.mem → new.log.room ≡ old.log.room → Keeps S old new
+new_keeps S old new keeps room = record {
   size = keeps.size;
-  store = subst (λ s. KeepsStore honest held slot_count asked faults (store_of old.mem) s) (sym keeps.store) (record {
+  store = subst (λ s. KeepsStore S (store_of old.mem) s) (sym keeps.store) (record {
     honest = refl;
     told = refl;
     slots = refl;
@@ -117,8 +118,8 @@ new_keeps honest held slot_count asked faults old new keeps room = record {
   room = room;
 }
 
-pub new_usable : {W : Type 0} (honest : W → Bool) (held : W → Held) (old new : Kernel W) → KeepsMemory honest held old.mem new.mem → IsUsable old → IsUsable new
-new_usable honest held old new keeps usable = keeps.failed ∙ usable
+pub new_usable : {W : Type 0} (S : SwapStore W) (old new : Kernel W) → KeepsMemory S old.mem new.mem → IsUsable old → IsUsable new
+new_usable S old new keeps usable = keeps.failed ∙ usable
 
 -- .. and its caller is Ready as before
 pub left_ready : {W : Type 0} (held : W → Held) (k new : Kernel W) → new ≡ k → ready_at (machine_of held k) k.cursor ≡ true

@@ -1,4 +1,5 @@
 -- The parts that a receive leaves are sound.
+use Rattle.xk_ports.specs.declared.store.SwapStore.{Ghosts as SwapStore}
 use Rattle.std.proofs.Common.{◌≡◌, ℕ, ◌+◌, Bool, true, false, Option, Some, None, Ok, sym, ap, ◌∙◌, refl}
 use Rattle.std.specs.Prelude.{◌==◌, ◌&&◌, if◌then◌else◌}
 use Rattle.ledger_model.specs.Loans.{loans}
@@ -62,26 +63,26 @@ module _ (m : Machine) (sid : Sid) where
 
 -- ---- it is sound
 
-module _ {W : Type 0} (slot_count : W → ℕ) (held : W → Held) (k : Kernel W) (calls : IsCaller slot_count held k) (sid : Sid) (waits : Bool) (new : Tables)
+module _ {W : Type 0} (S : SwapStore W) (k : Kernel W) (calls : IsCaller S k) (sid : Sid) (waits : Bool) (new : Tables)
     (row : IsTableRow (receive_row sid waits) k.cursor (tables k) new (Ok (tt {0}))) where
-  abbrev served : IsServed (receive_row sid waits (with_tables k.cursor (tables k) (machine_of held k))) (with_tables k.cursor (tables k) (machine_of held k))
-      (with_tables k.cursor new (machine_of held k)) k.log new.log
-  served = row (machine_of held k)
+  abbrev served : IsServed (receive_row sid waits (with_tables k.cursor (tables k) (machine_of S.held k))) (with_tables k.cursor (tables k) (machine_of S.held k))
+      (with_tables k.cursor new (machine_of S.held k)) k.log new.log
+  served = row (machine_of S.held k)
 
   pub received_count : process_count new.threads ≡ process_count k.threads
   unfolding with_tables
   received_count =
-      received_processes (with_tables k.cursor (tables k) (machine_of held k)) sid waits (with_tables k.cursor new (machine_of held k)) served.change served.served
+      received_processes (with_tables k.cursor (tables k) (machine_of S.held k)) sid waits (with_tables k.cursor new (machine_of S.held k)) served.change served.served
       served.machine
 
   pub received_sound : (waits && (k.cursor.tid.0 == 1)) ≡ false → new.servers ≡ k.servers → AreSeatsSound (servers_of new.servers) new.queues
-      → AreLoansSound (loans (ledger held k.mem)) (servers_of new.servers) new.queues → ArePartsSound slot_count held k.cursor (record { mem = k.mem; tables = new })
+      → AreLoansSound (loans (ledger S.held k.mem)) (servers_of new.servers) new.queues → ArePartsSound S k.cursor (record { mem = k.mem; tables = new })
   unfolding machine_of with_parts with_tables
   received_sound free same seats lent = record {
-    machine = record (machine_of held k) { steps = k.steps + 1 };
+    machine = record (machine_of S.held k) { steps = k.steps + 1 };
     matched =
-        still_matched k.cursor (tables k) new sid waits (machine_of held k) (tables_matched slot_count held k calls.whole calls.matched)
-        (ready_is held k k.cursor ∙ calls.ready) free served;
+        still_matched k.cursor (tables k) new sid waits (machine_of S.held k) (tables_matched S k calls.whole calls.matched)
+        (ready_is S.held k k.cursor ∙ calls.ready) free served;
     mem = calls.whole.mem;
     processes = received_count ∙ calls.whole.threads;
     seats = seats;

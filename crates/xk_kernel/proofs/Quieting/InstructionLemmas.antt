@@ -1,4 +1,5 @@
 -- An instruction of a thread that is in hand, over the memory of its process, is the quiet step of the machine, or isn't done.
+use Rattle.xk_ports.specs.declared.store.SwapStore.{Ghosts as SwapStore}
 use Rattle.std.proofs.Common.{◌≡◌, ℕ, ◌+◌, if◌then◌else◌, Bool, true, false, ◌&&◌, ◌||◌, Option, Some, None, refl, sym, ap, subst, ◌∙◌, ◌⊎◌, inl, inr}
 use Rattle.std.specs.Prelude.{is_some}
 use Rattle.std.proofs.lemmas.Bool.{false≢true}
@@ -108,36 +109,36 @@ unfolding memory_of
 no_timer m pid untimed = ap (λ b. if b then Some (record { steps = m.steps; compare = m.compare }) else None) untimed
 
 -- what is told of the memory of a process
-abbrev pub view_of : {W : Type 0} → (W → Bool) → (W → Held) → Memory W → Pid → View
-view_of is_honest held mem pid = record {
-  may = (user_view held mem pid).may;
-  console = (user_view held mem pid).console;
-  content = user_content is_honest held mem pid;
+abbrev pub view_of : {W : Type 0} → SwapStore W → Memory W → Pid → View
+view_of S mem pid = record {
+  may = (user_view S.held mem pid).may;
+  console = (user_view S.held mem pid).console;
+  content = user_content S mem pid;
   timer = None;
 }
 
-module _ {W P : Type 0} (is_honest : W → Bool) (held : W → Held) (slot_count : W → ℕ) (asked : W → P) (faults : W → ℕ)
-    (k : Kernel W) (mem : Memory W) (other : Pid) (same : other ≡ k.cursor.pid) (whole : IsWhole slot_count held k) (matched : Matched (machine_of held k))
-    (untimed : is_claim_of k.cursor.pid ((machine_of held k).claims TIMER_INTERRUPT) ≡ false)
-    (rest : KeepsRest is_honest held slot_count asked faults k.cursor.pid k.mem mem) where
+module _ {W : Type 0} (S : SwapStore W)
+    (k : Kernel W) (mem : Memory W) (other : Pid) (same : other ≡ k.cursor.pid) (whole : IsWhole S k) (matched : Matched (machine_of S.held k))
+    (untimed : is_claim_of k.cursor.pid ((machine_of S.held k).claims TIMER_INTERRUPT) ≡ false)
+    (rest : KeepsRest S k.cursor.pid k.mem mem) where
   abbrev m : Machine
-  m = machine_of held k
+  m = machine_of S.held k
 
   -- the machine with the memory as it is then
   abbrev left : Machine
-  left = machine_of held (with_memory mem k)
+  left = machine_of S.held (with_memory mem k)
 
-  pub means_now : MeansBytes is_honest held k.mem → MeansBytesOver is_honest held k.mem mem
-  means_now = means_over (is_known is_honest held k.mem) (none_out k.mem) (none_out mem) rest.none
+  pub means_now : MeansBytes S k.mem → MeansBytesOver S k.mem mem
+  means_now = means_over (is_known S k.mem) (none_out k.mem) (none_out mem) rest.none
 
   -- what running it comes to
   abbrev pub HasDone : Core → Core → ℕ → Ran → Type 0
-  HasDone old new pc answer = HasRun held k mem k.timer k.cursor.pid old new pc answer
+  HasDone old new pc answer = HasRun S.held k mem k.timer k.cursor.pid old new pc answer
 
-  pub has_done : (old new : Core) (pc : ℕ) (answer : Ran) → Performs (view_of is_honest held k.mem k.cursor.pid) (view_of is_honest held mem other) old new pc answer
-      → (answer ≡ Failed → ⊥) → MeansBytes is_honest held k.mem → HasDone old new pc answer
+  pub has_done : (old new : Core) (pc : ℕ) (answer : Ran) → Performs (view_of S k.mem k.cursor.pid) (view_of S mem other) old new pc answer
+      → (answer ≡ Failed → ⊥) → MeansBytes S k.mem → HasDone old new pc answer
   has_done old new pc answer performs done means =
-      has_run is_honest held slot_count asked faults k mem k.cursor.pid other same whole rest (means_now means)
+      has_run S k mem k.cursor.pid other same whole rest (means_now means)
       false k.timer (sym untimed) (λ _. refl) matched old new old pc answer refl performs done
 
   module _ (t : TableThread) (ready : is_ready_state t.state ≡ true) (reserved : Option ℕ) (n : ℕ) where

@@ -1,4 +1,5 @@
 -- An instruction of a thread in hand over its memory, while that is lent, is the quiet step of every kernel around it, or isn't done.
+use Rattle.xk_ports.specs.declared.store.SwapStore.{Ghosts as SwapStore}
 use Rattle.std.proofs.Common.{◌≡◌, ℕ, ◌+◌, Bool, true, false, Option, refl, sym, ap, subst, ◌∙◌, inl, inr}
 use Rattle.machine_model.specs.Stepping.Step.{ends_handler, ends_thread}
 use Rattle.rv32_atomics.specs.Performing.{Core, Performs, PerformsOrLeaves, core_left}
@@ -35,51 +36,51 @@ left_by_other old done new answer (inl is) e = e ∙ ap (core_left old done) is
 left_by_other old done new answer (inr (inl is)) e = e ∙ ap (core_left old done) is.2
 left_by_other old done new answer (inr (inr is)) e = e ∙ ap (core_left old done) is.3
 
-module _ {W P : Type 0} (is_honest : W → Bool) (held : W → Held) (slot_count : W → ℕ) (asked : W → P) (faults : W → ℕ)
+module _ {W : Type 0} (S : SwapStore W)
     (who : ThreadId) (old : Memory W) (t : TableThread) (ready : is_ready_state t.state ≡ true) (reserved : Option ℕ) where
   -- where the thread or its handler ends, there is no quiet step
-  pub end_over : ends_thread who t.pc ≡ true → StepsOver is_honest held slot_count who old old (taken t reserved) (taken t reserved) false
+  pub end_over : ends_thread who t.pc ≡ true → StepsOver S who old old (taken t reserved) (taken t reserved) false
   end_over e k may n undue means =
-      end_is_loud is_honest held slot_count asked faults (around old who k) old who.pid refl may.whole may.matched may.untimed
-      (rest_same is_honest held slot_count asked faults who.pid old) t ready reserved n e
+      end_is_loud S (around old who k) old who.pid refl may.whole may.matched may.untimed
+      (rest_same S who.pid old) t ready reserved n e
 
-  pub handler_end_over : ends_handler who t.pc ≡ true → StepsOver is_honest held slot_count who old old (taken t reserved) (taken t reserved) false
+  pub handler_end_over : ends_handler who t.pc ≡ true → StepsOver S who old old (taken t reserved) (taken t reserved) false
   handler_end_over e k may n undue means =
-      handler_end_is_loud is_honest held slot_count asked faults (around old who k) old who.pid refl may.whole may.matched may.untimed
-      (rest_same is_honest held slot_count asked faults who.pid old) t ready reserved n e
+      handler_end_is_loud S (around old who k) old who.pid refl may.whole may.matched may.untimed
+      (rest_same S who.pid old) t ready reserved n e
 
   -- the process of the memory is the thread's, then and now
   module _ (pid other : Pid) (own : pid ≡ who.pid) (same : other ≡ pid) (new : Memory W)
-      (kept : KeepsRest is_honest held slot_count asked faults pid old new) (core : Core) (answer : Ran)
-      (run : PerformsOrLeaves (view_of is_honest held old pid) (view_of is_honest held new other) (core_of t reserved) core t.pc answer) where
-    rest : KeepsRest is_honest held slot_count asked faults who.pid old new
-    rest = subst (λ p. KeepsRest is_honest held slot_count asked faults p old new) own kept
+      (kept : KeepsRest S pid old new) (core : Core) (answer : Ran)
+      (run : PerformsOrLeaves (view_of S old pid) (view_of S new other) (core_of t reserved) core t.pc answer) where
+    rest : KeepsRest S who.pid old new
+    rest = subst (λ p. KeepsRest S p old new) own kept
 
-    performs : Performs (view_of is_honest held old who.pid) (view_of is_honest held new other) (core_of t reserved) run.done t.pc answer
-    performs = subst (λ p. Performs (view_of is_honest held old p) (view_of is_honest held new other) (core_of t reserved) run.done t.pc answer) own run.performs
+    performs : Performs (view_of S old who.pid) (view_of S new other) (core_of t reserved) run.done t.pc answer
+    performs = subst (λ p. Performs (view_of S old p) (view_of S new other) (core_of t reserved) run.done t.pc answer) own run.performs
 
     -- an instruction by which the thread doesn't go on isn't done
     pub other_over : IsOther answer
-        → StepsOver is_honest held slot_count who old new (taken t reserved) (taken (record t { regs = core.regs }) core.reserved) false
+        → StepsOver S who old new (taken t reserved) (taken (record t { regs = core.regs }) core.reserved) false
     other_over is k may n undue means =
         let a : Kernel W = around old who k in
-        let done = has_done is_honest held slot_count asked faults a new other (same ∙ own) may.whole may.matched may.untimed rest
+        let done = has_done S a new other (same ∙ own) may.whole may.matched may.untimed rest
         (core_of t reserved) run.done t.pc answer performs (other_done answer is) means in
-        subst (λ (c : Core). StepsIfQuiet false (in_hand who (thread_of t) reserved n (machine_of held (around old who k)))
-        (in_hand who (thread_of (record t { regs = c.regs })) c.reserved n (machine_of held (around new who k))))
+        subst (λ (c : Core). StepsIfQuiet false (in_hand who (thread_of t) reserved n (machine_of S.held (around old who k)))
+        (in_hand who (thread_of (record t { regs = c.regs })) c.reserved n (machine_of S.held (around new who k))))
         (sym (left_by_other (core_of t reserved) run.done core answer is run.core))
-        (other_is_loud is_honest held slot_count asked faults a new other (same ∙ own) may.whole may.matched may.untimed rest t ready reserved n
+        (other_is_loud S a new other (same ∙ own) may.whole may.matched may.untimed rest t ready reserved n
         run.done answer done is)
 
     -- any other is the quiet step
     pub next_over : (next : ℕ) → answer ≡ ran.Next next → ends_thread who t.pc ≡ false → ends_handler who t.pc ≡ false
-        → StepsOver is_honest held slot_count who old new (taken t reserved) (taken (record t { regs = core.regs; pc = next }) core.reserved) true
+        → StepsOver S who old new (taken t reserved) (taken (record t { regs = core.regs; pc = next }) core.reserved) true
     next_over next is past stays k may n undue means =
         let a : Kernel W = around old who k in
-        let done = has_done is_honest held slot_count asked faults a new other (same ∙ own) may.whole may.matched may.untimed rest
+        let done = has_done S a new other (same ∙ own) may.whole may.matched may.untimed rest
         (core_of t reserved) run.done t.pc answer performs (next_done answer next is) means in
-        subst (λ (c : Core). StepsIfQuiet true (in_hand who (thread_of t) reserved n (machine_of held (around old who k)))
-        (in_hand who (thread_of (record t { regs = c.regs; pc = next })) c.reserved (n + 1) (machine_of held (around new who k))))
+        subst (λ (c : Core). StepsIfQuiet true (in_hand who (thread_of t) reserved n (machine_of S.held (around old who k)))
+        (in_hand who (thread_of (record t { regs = c.regs; pc = next })) c.reserved (n + 1) (machine_of S.held (around new who k))))
         (sym (left_by_next (core_of t reserved) run.done core answer next is run.core))
-        (next_is_quiet is_honest held slot_count asked faults a new other (same ∙ own) may.whole may.matched may.untimed rest t ready reserved n
+        (next_is_quiet S a new other (same ∙ own) may.whole may.matched may.untimed rest t ready reserved n
         run.done answer done next is undue past stays)

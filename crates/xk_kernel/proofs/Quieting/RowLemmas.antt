@@ -1,4 +1,5 @@
 -- A thread in hand, and what its quiet steps keep of the kernel.
+use Rattle.xk_ports.specs.declared.store.SwapStore.{Ghosts as SwapStore}
 use Rattle.std.proofs.Common.{◌≡◌, ℕ, ◌%◌, Bool, Option, sym, subst}
 use Rattle.machine_model.specs.Runs.Matched.{Matched}
 use Rattle.machine_model.specs.State.Machine.{Machine}
@@ -23,20 +24,20 @@ pub record Hand : Type 0 where
 abbrev pub hand_in : {W : Type 0} → (W → Held) → ThreadId → Kernel W → Hand → ℕ → Machine
 hand_in held who k h n = in_hand who (thread_of h.thread) h.reserved n (machine_of held k)
 
-module _ {W P : Type 0} (is_honest : W → Bool) (held : W → Held) (slot_count : W → ℕ) (asked : W → P) (faults : W → ℕ) where
+module _ {W : Type 0} (S : SwapStore W) where
   -- What is kept by steps of a thread in hand: all but the memory, and of that what its instructions keep; and the thread is as
   -- ready as before.
   pub record KeepsHand (old new : Kernel W) (hand after : Hand) : Type 0 where
     pub same : new ≡ record old { mem = new.mem }
-    pub rest : KeepsRest is_honest held slot_count asked faults old.cursor.pid old.mem new.mem
+    pub rest : KeepsRest S old.cursor.pid old.mem new.mem
     pub state : after.thread.state ≡ hand.thread.state
     pub aligned : after.thread.pc % 4 ≡ 0
 
   module _ (old mid : Kernel W) (a b : Hand) (h : KeepsHand old mid a b) where
-    pub whole_still : IsWhole slot_count held old → IsWhole slot_count held mid
-    whole_still whole = subst (λ (x : Kernel W). IsWhole slot_count held x) (sym h.same)
-        (whole_with is_honest held slot_count asked faults old mid.mem whole old.cursor.pid h.rest)
+    pub whole_still : IsWhole S old → IsWhole S mid
+    whole_still whole = subst (λ (x : Kernel W). IsWhole S x) (sym h.same)
+        (whole_with S old mid.mem whole old.cursor.pid h.rest)
 
-    pub matched_still : Matched (machine_of held old) → Matched (machine_of held mid)
-    matched_still matched = subst (λ (x : Kernel W). Matched (machine_of held x)) (sym h.same)
-        (matched_memory is_honest held slot_count asked faults old mid.mem old.cursor matched h.rest)
+    pub matched_still : Matched (machine_of S.held old) → Matched (machine_of S.held mid)
+    matched_still matched = subst (λ (x : Kernel W). Matched (machine_of S.held x)) (sym h.same)
+        (matched_memory S old mid.mem old.cursor matched h.rest)

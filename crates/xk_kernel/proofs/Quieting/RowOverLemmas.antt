@@ -1,4 +1,5 @@
 -- Quiet steps of a thread in hand over its memory, one after the other, in every kernel around that memory.
+use Rattle.xk_ports.specs.declared.store.SwapStore.{Ghosts as SwapStore}
 use Rattle.std.proofs.Common.{◌≡◌, ℕ, suc, ◌+◌, ◌<◌, ◌≤◌, ◌%◌, Bool, true, false, Option, refl, sym, ap, subst, ◌∙◌, arith}
 use Rattle.std.proofs.lemmas.Bool.{false≢true}
 use Rattle.machine_model.specs.Stepping.Step.{step}
@@ -32,16 +33,16 @@ was_false false after stays out = refl
 rose_since : (before between now : ℕ) → before ≤ between → Rose between now → Rose before now
 rose_since before between now low rose = omega (arith, low, rose)
 
-module _ {W P : Type 0} (is_honest : W → Bool) (held : W → Held) (slot_count : W → ℕ) (asked : W → P) (faults : W → ℕ) (who : ThreadId) where
+module _ {W : Type 0} (S : SwapStore W) (who : ThreadId) where
   -- so many steps were done, each of them quiet, in every kernel around the memory
   abbrev pub GoesOver : ℕ → Memory W → Memory W → Taken → Taken → Type 0
   GoesOver done old new a b =
-      (k : Kernel W) → MayStep slot_count held (around old who k) → ((j : ℕ) → j < done → is_due k.timer (k.steps + j + 1) ≡ false)
-      → MeansBytes is_honest held old → GoesQuietly done (machine_with held k who old a k.steps) (machine_with held k who new b (k.steps + done))
+      (k : Kernel W) → MayStep S (around old who k) → ((j : ℕ) → j < done → is_due k.timer (k.steps + j + 1) ≡ false)
+      → MeansBytes S old → GoesQuietly done (machine_with S.held k who old a k.steps) (machine_with S.held k who new b (k.steps + done))
 
   -- .. of the thread of that process, and what its steps keep
   pub record HasGone (pid : Pid) (old new : Memory W) (before after : TableThread) (reserved left : Option ℕ) (done : ℕ) : Type 0 where
-    pub rest : KeepsRest is_honest held slot_count asked faults pid old new
+    pub rest : KeepsRest S pid old new
     pub state : after.state ≡ before.state
     pub aligned : after.pc % 4 ≡ 0
     pub usable : IsUsable new
@@ -50,51 +51,51 @@ module _ {W P : Type 0} (is_honest : W → Bool) (held : W → Held) (slot_count
   pub gone_none : (pid : Pid) (old : Memory W) (t : TableThread) (reserved : Option ℕ) → IsUsable old → t.pc % 4 ≡ 0
       → HasGone pid old old t t reserved reserved 0
   gone_none pid old t reserved usable aligned = record {
-    rest = rest_same is_honest held slot_count asked faults pid old;
+    rest = rest_same S pid old;
     state = refl;
     aligned = aligned;
     usable = usable;
-    goes = λ k may undue means. let e : k.steps + 0 ≡ k.steps = omega arith in ap (machine_with held k who old (taken t reserved)) e;
+    goes = λ k may undue means. let e : k.steps + 0 ≡ k.steps = omega arith in ap (machine_with S.held k who old (taken t reserved)) e;
   }
 
   -- the kernels around a memory are as they were around the one before
-  module _ (old mid : Memory W) (kept : KeepsRest is_honest held slot_count asked faults who.pid old mid) where
-    still : (k : Kernel W) → MayStep slot_count held (around old who k) → MayStep slot_count held (around mid who k)
+  module _ (old mid : Memory W) (kept : KeepsRest S who.pid old mid) where
+    still : (k : Kernel W) → MayStep S (around old who k) → MayStep S (around mid who k)
     unfolding machine_of
     still k may = record {
-      whole = whole_with is_honest held slot_count asked faults (around old who k) mid may.whole who.pid kept;
-      matched = matched_memory is_honest held slot_count asked faults (around old who k) mid who may.matched kept;
+      whole = whole_with S (around old who k) mid may.whole who.pid kept;
+      matched = matched_memory S (around old who k) mid who may.matched kept;
       untimed = may.untimed;
     }
 
     module _ (new : Memory W) (a b c : Taken) (done : ℕ) (goes : GoesOver done old mid a b) where
       -- one more
-      pub goes_on : StepsOver is_honest held slot_count who mid new b c true → GoesOver (done + 1) old new a c
+      pub goes_on : StepsOver S who mid new b c true → GoesOver (done + 1) old new a c
       goes_on s k may undue means =
-          let d : (is_quiet (machine_with held k who mid b (k.steps + done)) ≡ true)
-          × (machine_with held k who new c (k.steps + done + 1) ≡ (step (machine_with held k who mid b (k.steps + done))).machine) =
+          let d : (is_quiet (machine_with S.held k who mid b (k.steps + done)) ≡ true)
+          × (machine_with S.held k who new c (k.steps + done + 1) ≡ (step (machine_with S.held k who mid b (k.steps + done))).machine) =
           s k (still k may) (k.steps + done) (undue done (omega arith)) (kept.means means) in
           let count : k.steps + (done + 1) ≡ k.steps + done + 1 = omega arith in
           let more : suc done ≡ done + 1 = omega arith in
-          subst (λ n. GoesQuietly n (machine_with held k who old a k.steps) (machine_with held k who new c (k.steps + (done + 1)))) more
-          (goes_once_more done (machine_with held k who old a k.steps) (machine_with held k who mid b (k.steps + done)) (machine_with held k who new c (k.steps + (done + 1)))
-          (goes k may (λ j less. undue j (omega (arith, less))) means) d.0 (ap (machine_with held k who new c) count ∙ d.1))
+          subst (λ n. GoesQuietly n (machine_with S.held k who old a k.steps) (machine_with S.held k who new c (k.steps + (done + 1)))) more
+          (goes_once_more done (machine_with S.held k who old a k.steps) (machine_with S.held k who mid b (k.steps + done)) (machine_with S.held k who new c (k.steps + (done + 1)))
+          (goes k may (λ j less. undue j (omega (arith, less))) means) d.0 (ap (machine_with S.held k who new c) count ∙ d.1))
 
       -- the next one isn't quiet
-      pub goes_out : (most : ℕ) → done < most → StepsOver is_honest held slot_count who mid new b c false
-          → RunsOver is_honest held slot_count who old new a c most done
+      pub goes_out : (most : ℕ) → done < most → StepsOver S who mid new b c false
+          → RunsOver S who old new a c most done
       goes_out most within s k may undue means =
-          let d : (is_quiet (machine_with held k who mid b (k.steps + done)) ≡ false)
-          × (machine_with held k who new c (k.steps + done) ≡ machine_with held k who mid b (k.steps + done)) =
+          let d : (is_quiet (machine_with S.held k who mid b (k.steps + done)) ≡ false)
+          × (machine_with S.held k who new c (k.steps + done) ≡ machine_with S.held k who mid b (k.steps + done)) =
           s k (still k may) (k.steps + done) (undue done within) (kept.means means) in
           record {
-            steps = subst (GoesQuietly done (machine_with held k who old a k.steps)) (sym d.1) (goes k may (λ j less. undue j (omega (arith, less, within))) means);
+            steps = subst (GoesQuietly done (machine_with S.held k who old a k.steps)) (sym d.1) (goes k may (λ j less. undue j (omega (arith, less, within))) means);
             next = λ _. ap is_quiet d.1 ∙ d.0;
           }
 
   -- all were done that were to be
   pub goes_all : (old new : Memory W) (a b : Taken) (most done : ℕ) → done ≡ most → GoesOver done old new a b
-      → RunsOver is_honest held slot_count who old new a b most most
+      → RunsOver S who old new a b most most
   goes_all old new a b most done all goes k may undue means = record {
     steps = (subst (λ n. GoesOver n old new a b) all goes) k may undue means;
     next = λ less. absurd (omega (arith, less));
@@ -104,15 +105,15 @@ module _ {W P : Type 0} (is_honest : W → Bool) (held : W → Held) (slot_count
 
   module _ (pid other : Pid) (own : pid ≡ who.pid) (same : other ≡ pid) (old mid new : Memory W) (t u : TableThread) (r s : Option ℕ) (done : ℕ)
       (h : HasGone pid old mid t u r s done) where
-    kept : KeepsRest is_honest held slot_count asked faults who.pid old mid
-    kept = subst (λ p. KeepsRest is_honest held slot_count asked faults p old mid) own h.rest
+    kept : KeepsRest S who.pid old mid
+    kept = subst (λ p. KeepsRest S p old mid) own h.rest
 
-    pub rest_on : KeepsRest is_honest held slot_count asked faults other mid new → KeepsRest is_honest held slot_count asked faults pid old new
-    rest_on rest = pid_rest_over is_honest held slot_count asked faults pid other old mid new same h.rest rest
+    pub rest_on : KeepsRest S other mid new → KeepsRest S pid old new
+    rest_on rest = pid_rest_over S pid other old mid new same h.rest rest
 
     module _ (v : TableThread) (q : Option ℕ) where
-      pub gone_on : KeepsRest is_honest held slot_count asked faults other mid new → v.state ≡ u.state → v.pc % 4 ≡ 0 → IsUsable new
-          → StepsOver is_honest held slot_count who mid new (taken u s) (taken v q) true → HasGone pid old new t v r q (done + 1)
+      pub gone_on : KeepsRest S other mid new → v.state ≡ u.state → v.pc % 4 ≡ 0 → IsUsable new
+          → StepsOver S who mid new (taken u s) (taken v q) true → HasGone pid old new t v r q (done + 1)
       gone_on rest state aligned usable step = record {
         rest = rest_on rest;
         state = state ∙ h.state;
@@ -121,13 +122,13 @@ module _ {W P : Type 0} (is_honest : W → Bool) (held : W → Held) (slot_count
         goes = goes_on old mid kept new (taken t r) (taken u s) (taken v q) done h.goes step;
       }
 
-      pub gone_out : (most : ℕ) → done < most → StepsOver is_honest held slot_count who mid new (taken u s) (taken v q) false
-          → RunsOver is_honest held slot_count who old new (taken t r) (taken v q) most done
+      pub gone_out : (most : ℕ) → done < most → StepsOver S who mid new (taken u s) (taken v q) false
+          → RunsOver S who old new (taken t r) (taken v q) most done
       gone_out most within step = goes_out old mid kept new (taken t r) (taken u s) (taken v q) done h.goes most within step
 
     -- where the store failed
     pub out_on : none_out mid ≡ false → none_out old ≡ false
     out_on out = was_false (none_out old) (none_out mid) h.rest.none out
 
-    pub rose_on : Rose (faults (store_of mid)) (faults (store_of new)) → Rose (faults (store_of old)) (faults (store_of new))
-    rose_on rose = rose_since (faults (store_of old)) (faults (store_of mid)) (faults (store_of new)) h.rest.store.never_falls rose
+    pub rose_on : Rose (S.faults (store_of mid)) (S.faults (store_of new)) → Rose (S.faults (store_of old)) (S.faults (store_of new))
+    rose_on rose = rose_since (S.faults (store_of old)) (S.faults (store_of mid)) (S.faults (store_of new)) h.rest.store.never_falls rose

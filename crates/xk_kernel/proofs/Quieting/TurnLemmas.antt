@@ -1,4 +1,5 @@
 -- A thread is taken from its table for its quiet steps, and put back after them.
+use Rattle.xk_ports.specs.declared.store.SwapStore.{Ghosts as SwapStore}
 use Rattle.std.proofs.Common.{◌≡◌, ℕ, zero, suc, ◌+◌, ◌<◌, ◌≤◌, ◌%◌, if◌then◌else◌, Bool, true, false, not, ◌&&◌, is_some, Option, Some, refl, sym, ap, subst, ◌∙◌, arith}
 use Rattle.std.specs.Prelude.{nat_lt}
 use Rattle.std.specs.Option.{option_map, option_map_or}
@@ -80,10 +81,10 @@ unfolding machine_of
 put_back held k threads who t is kept reserved same steps log =
     λ i. record (machine_put held k threads who (Some t) is i) { steps = steps; reserved = same i }
 
-pub whole_back : {W : Type 0} (slot_count : W → ℕ) (held : W → Held) (k : Kernel W) (threads : Threads) → process_count threads ≡ process_count k.threads
+pub whole_back : {W : Type 0} (S : SwapStore W) (k : Kernel W) (threads : Threads) → process_count threads ≡ process_count k.threads
     → (kept : Option (ThreadId × ℕ)) (steps : ℕ) (log : LogState) → log.room ≡ k.log.room
-    → IsWhole slot_count held k → IsWhole slot_count held (record k { threads = threads; steps = steps; reserved = kept; log = log })
-whole_back slot_count held k threads count kept steps log room whole = record {
+    → IsWhole S k → IsWhole S (record k { threads = threads; steps = steps; reserved = kept; log = log })
+whole_back S k threads count kept steps log room whole = record {
   mem = whole.mem;
   threads = count ∙ whole.threads;
   procs = whole.procs;
@@ -101,21 +102,21 @@ ready_before (table.Waiting number) e = absurd (false≢true e)
 ready_before (table.Joining tid) e = absurd (false≢true e)
 ready_before table.Idle e = absurd (false≢true e)
 
-module _ {W : Type 0} (held : W → Held) (k : Kernel W) (hand : Hand) (at : (machine_of held k).threads k.cursor ≡ Some (thread_of hand.thread)) where
-  pub ready_in_hand : ready_at (machine_of held k) k.cursor ≡ true → is_ready_state hand.thread.state ≡ true
+module _ {W : Type 0} (S : SwapStore W) (k : Kernel W) (hand : Hand) (at : (machine_of S.held k).threads k.cursor ≡ Some (thread_of hand.thread)) where
+  pub ready_in_hand : ready_at (machine_of S.held k) k.cursor ≡ true → is_ready_state hand.thread.state ≡ true
   ready_in_hand ready =
       ready_before hand.thread.state (sym (ap (λ (o : Option Thread). option_map_or (λ (t : Thread). is_ready t.state) o false) at) ∙ ready)
 
-  pub aligned_in_hand : Matched (machine_of held k) → hand.thread.pc % 4 ≡ 0
+  pub aligned_in_hand : Matched (machine_of S.held k) → hand.thread.pc % 4 ≡ 0
   aligned_in_hand matched = matched.body.threads.pcs k.cursor (thread_of hand.thread) at
 
   -- taken out with its own reservation it is as in its table, but for the reservation of another
-  module _ (own : hand.reserved ≡ reserved_by k.cursor (machine_of held k).reserved) where
+  module _ (own : hand.reserved ≡ reserved_by k.cursor (machine_of S.held k).reserved) where
     abbrev m : Machine
-    m = machine_of held k
+    m = machine_of S.held k
 
     abbrev taken : Machine
-    taken = hand_in held k.cursor k hand k.steps
+    taken = hand_in S.held k.cursor k hand k.steps
 
     is_owned : taken ≡ owned k.cursor m
     unfolding machine_of
@@ -133,37 +134,37 @@ module _ {W : Type 0} (held : W → Held) (k : Kernel W) (hand : Hand) (at : (ma
         (subst (λ (x : Machine). GoesQuietly (suc n) x new) is_owned goes)
 
     -- .. and after its steps
-    module _ {P : Type 0} (is_honest : W → Bool) (slot_count : W → ℕ) (asked : W → P) (faults : W → ℕ) (mid : Kernel W) (left : Hand)
-        (kept : KeepsHand is_honest held slot_count asked faults k mid hand left) where
+    module _ (mid : Kernel W) (left : Hand)
+        (kept : KeepsHand S k mid hand left) where
       abbrev after_steps : ℕ → Machine
-      after_steps n = hand_in held k.cursor mid left (k.steps + n)
+      after_steps n = hand_in S.held k.cursor mid left (k.steps + n)
 
-      pub still_there : (machine_of held mid).threads k.cursor ≡ Some (thread_of hand.thread)
+      pub still_there : (machine_of S.held mid).threads k.cursor ≡ Some (thread_of hand.thread)
       unfolding machine_of
-      still_there = ap (λ (x : Kernel W). (machine_of held x).threads k.cursor) kept.same ∙ at
+      still_there = ap (λ (x : Kernel W). (machine_of S.held x).threads k.cursor) kept.same ∙ at
 
       pub still_steps : mid.steps ≡ k.steps
       still_steps = ap (λ (x : Kernel W). x.steps) kept.same
 
       -- the machine with the thread put back
-      pub came_back : (new : Kernel W) (n : ℕ) → machine_of held new ≡ in_hand k.cursor (thread_of left.thread) left.reserved (mid.steps + n) (machine_of held mid)
-          → machine_of held new ≡ after_steps n
-      came_back new n is = is ∙ ap (λ s. in_hand k.cursor (thread_of left.thread) left.reserved (s + n) (machine_of held mid)) still_steps
+      pub came_back : (new : Kernel W) (n : ℕ) → machine_of S.held new ≡ in_hand k.cursor (thread_of left.thread) left.reserved (mid.steps + n) (machine_of S.held mid)
+          → machine_of S.held new ≡ after_steps n
+      came_back new n is = is ∙ ap (λ s. in_hand k.cursor (thread_of left.thread) left.reserved (s + n) (machine_of S.held mid)) still_steps
 
-      still_compare : (machine_of held mid).compare ≡ k.timer
+      still_compare : (machine_of S.held mid).compare ≡ k.timer
       unfolding machine_of
       still_compare = ap (λ (x : Kernel W). x.timer) kept.same
 
-      comes_later : (n : ℕ) → (machine_of held mid).steps ≤ k.steps + n
+      comes_later : (n : ℕ) → (machine_of S.held mid).steps ≤ k.steps + n
       unfolding machine_of
       comes_later n = let same : mid.steps ≡ k.steps = still_steps in omega (arith, same)
 
       -- whatever the bytes are, it is matched
       pub matched_back : Matched m → (n : ℕ) → Matched (after_steps n)
       matched_back matched n =
-          let old : Machine = machine_of held mid in
+          let old : Machine = machine_of S.held mid in
           let f : Thread → Thread = with_registers left.thread.regs left.thread.pc in
-          let there : Matched old = matched_still is_honest held slot_count asked faults k mid hand left kept matched in
+          let there : Matched old = matched_still S k mid hand left kept matched in
           let changed : put_thread k.cursor (Some (thread_of left.thread)) old ≡ change_thread k.cursor f old =
           (λ i. put_thread k.cursor (Some (thread_of (record left.thread { state = kept.state i }))) old)
           ∙ change_there old k.cursor f (thread_of hand.thread) still_there in
@@ -189,15 +190,15 @@ module _ {W : Type 0} (held : W → Held) (k : Kernel W) (hand : Hand) (at : (ma
             go false e = let same : n ≡ until = omega (arith, ltb-false n until e) in due_now n same less
 
         -- no step was quiet: the machine is as before
-        pub none_quiet : RunsQuietly until 0 taken (after_steps 0) → RunsQuietly most 0 m (machine_of held mid)
+        pub none_quiet : RunsQuietly until 0 taken (after_steps 0) → RunsQuietly most 0 m (machine_of S.held mid)
         unfolding machine_of
         none_quiet runs = record { steps = same; next = λ less. ap is_quiet same ∙ sym quiet_taken ∙ ap is_quiet (sym runs.steps) ∙ loud less }
           where
-            ledgers : (machine_of held mid).ledger ≡ m.ledger
+            ledgers : (machine_of S.held mid).ledger ≡ m.ledger
             ledgers = ap (λ (x : Machine). x.ledger) runs.steps
 
-            same : machine_of held mid ≡ m
-            same = ap (machine_of held) kept.same ∙ memory_machine held k mid.mem kept.rest.sizes ∙ (λ i. record m { ledger = ledgers i })
+            same : machine_of S.held mid ≡ m
+            same = ap (machine_of S.held) kept.same ∙ memory_machine S.held k mid.mem kept.rest.sizes ∙ (λ i. record m { ledger = ledgers i })
 
             loud : 0 < most → is_quiet (after_steps 0) ≡ false
             loud less = next_is_loud 0 (omega arith) runs.next less

@@ -1,4 +1,5 @@
 -- What running an instruction leaves over any bytes: the machine stays matched, and its thread is as ready as before.
+use Rattle.xk_ports.specs.declared.store.SwapStore.{Ghosts as SwapStore}
 use Rattle.std.proofs.Common.{◌≡◌, ℕ, ◌%◌, Bool, true, false, Option, Some, None, refl, sym, ap, subst, ◌∙◌, arith, inl, inr}
 use Rattle.std.specs.Prelude.{IsTrue, is_some}
 use Rattle.std.specs.Option.{option_map, option_map_or}
@@ -30,7 +31,7 @@ use Rattle.xk_base.specs.Tables.Counting.{put_at}
 use Rattle.xk_base.specs.declared.ids.Pid.{Pid}
 use Rattle.xk_base.specs.declared.ids.ThreadId.{ThreadId}
 use Rattle.xk_base.specs.declared.limits.TheConstants.{TIMER_INTERRUPT}
-use Rattle.xk_kernel.specs.Knowing.{without_bytes}
+use Rattle.machine_model.specs.Runs.Isolation.{without_bytes}
 use Rattle.xk_kernel.specs.Sound.{IsWhole}
 use Rattle.xk_kernel.specs.State.{machine_of}
 use Rattle.xk_kernel.specs.declared.kernel.Kernel.{Kernel}
@@ -48,30 +49,30 @@ claim_is_there pid (Some claim) e = refl
 abbrev ready_if : Option Thread → Bool
 ready_if o = option_map_or (λ (t : Thread). is_ready t.state) o false
 
-module _ {W P : Type 0} (is_honest : W → Bool) (held : W → Held) (slot_count : W → ℕ) (asked : W → P) (faults : W → ℕ)
-    (k : Kernel W) (mem : Memory W) (who : ThreadId) (matched : Matched (machine_of held k))
-    (rest : KeepsRest is_honest held slot_count asked faults who.pid k.mem mem) where
-  alike_memory : without_bytes (machine_of held (with_memory mem k)) ≡ without_bytes (machine_of held k)
+module _ {W : Type 0} (S : SwapStore W)
+    (k : Kernel W) (mem : Memory W) (who : ThreadId) (matched : Matched (machine_of S.held k))
+    (rest : KeepsRest S who.pid k.mem mem) where
+  alike_memory : without_bytes (machine_of S.held (with_memory mem k)) ≡ without_bytes (machine_of S.held k)
   unfolding machine_of
-  alike_memory = ap without_bytes (memory_machine held k mem rest.sizes) ∙ (λ i. record (machine_of held k) { ledger = rest.rights i })
+  alike_memory = ap without_bytes (memory_machine S.held k mem rest.sizes) ∙ (λ i. record (machine_of S.held k) { ledger = rest.rights i })
 
-  pub matched_memory : Matched (machine_of held (with_memory mem k))
-  matched_memory = matched_alike (machine_of held (with_memory mem k)) (machine_of held k) alike_memory matched
+  pub matched_memory : Matched (machine_of S.held (with_memory mem k))
+  matched_memory = matched_alike (machine_of S.held (with_memory mem k)) (machine_of S.held k) alike_memory matched
 
   -- with the timer that the instruction leaves
-  module _ (on : Bool) (timer : Option ℕ) (claimed : on ≡ has_timer (machine_of held k) who.pid) (unseen : on ≡ false → timer ≡ k.timer) where
-    timer_claimed : IsTimerMatched timer (machine_of held k).claims
+  module _ (on : Bool) (timer : Option ℕ) (claimed : on ≡ has_timer (machine_of S.held k) who.pid) (unseen : on ≡ false → timer ≡ k.timer) where
+    timer_claimed : IsTimerMatched timer (machine_of S.held k).claims
     unfolding machine_of
     timer_claimed armed = go on refl
       where
-        go : (b : Bool) → on ≡ b → IsTrue (is_some ((machine_of held k).claims TIMER_INTERRUPT))
-        go true e = claim_is_there who.pid ((machine_of held k).claims TIMER_INTERRUPT) (sym claimed ∙ e)
+        go : (b : Bool) → on ≡ b → IsTrue (is_some ((machine_of S.held k).claims TIMER_INTERRUPT))
+        go true e = claim_is_there who.pid ((machine_of S.held k).claims TIMER_INTERRUPT) (sym claimed ∙ e)
         go false e = matched.rest.timer (sym (ap is_some (unseen e)) ∙ armed)
 
-    matched_left : Matched (machine_of held (with_both mem timer k))
+    matched_left : Matched (machine_of S.held (with_both mem timer k))
     unfolding machine_of
     matched_left =
-        matched_claimed (machine_of held (with_memory mem k)) matched_memory (machine_of held k).claims (machine_of held k).pending timer
+        matched_claimed (machine_of S.held (with_memory mem k)) matched_memory (machine_of S.held k).claims (machine_of S.held k).pending timer
         (record { handlers = matched.rest.handlers; claims = matched_memory.rest.claims; timer = timer_claimed })
 
     -- .. and the thread, whose state stays
@@ -80,28 +81,28 @@ module _ {W P : Type 0} (is_honest : W → Bool) (held : W → Held) (slot_count
       abbrev after_run : Kernel W
       after_run = record (with_both mem timer k) { threads = table }
 
-      there : (machine_of held (with_both mem timer k)).threads who ≡ Some (thread_of t)
-      there = thread_found held (with_both mem timer k) who t found
+      there : (machine_of S.held (with_both mem timer k)).threads who ≡ Some (thread_of t)
+      there = thread_found S.held (with_both mem timer k) who t found
 
-      pub ran_machine : machine_of held after_run ≡ put_thread who (Some (thread_of new)) (machine_of held (with_both mem timer k))
-      ran_machine = machine_put held (with_both mem timer k) table who (Some new) is
+      pub ran_machine : machine_of S.held after_run ≡ put_thread who (Some (thread_of new)) (machine_of S.held (with_both mem timer k))
+      ran_machine = machine_put S.held (with_both mem timer k) table who (Some new) is
 
-      pub ran_matched : new.pc % 4 ≡ 0 → Matched (machine_of held after_run)
+      pub ran_matched : new.pc % 4 ≡ 0 → Matched (machine_of S.held after_run)
       ran_matched aligned =
-          let m = machine_of held (with_both mem timer k) in
+          let m = machine_of S.held (with_both mem timer k) in
           let f = with_registers new.regs new.pc in
-          let changed : machine_of held after_run ≡ put_thread who (Some (f (thread_of t))) m =
+          let changed : machine_of S.held after_run ≡ put_thread who (Some (f (thread_of t))) m =
           ran_machine ∙ (λ i. put_thread who (Some (thread_of (record new { state = state i }))) m) in
           subst Matched (sym (changed ∙ change_there m who f (thread_of t) there))
           (matched_with (put_at same_thread m.threads who (option_map f (m.threads who))) m
           (like_changed m who f matched_left (λ u e. record { state = refl; pc = aligned })) matched_left m.cursor m.steps (omega arith))
 
-      pub ran_ready : ready_at (machine_of held after_run) who ≡ ready_at (machine_of held k) who
+      pub ran_ready : ready_at (machine_of S.held after_run) who ≡ ready_at (machine_of S.held k) who
       ran_ready =
           ap (λ (m : Machine). ready_at m who) ran_machine
-          ∙ ap ready_if (put_there (machine_of held (with_both mem timer k)) who (Some (thread_of new)))
+          ∙ ap ready_if (put_there (machine_of S.held (with_both mem timer k)) who (Some (thread_of new)))
           ∙ (λ i. ready_if (Some (thread_of (record new { state = state i }))))
-          ∙ sym (ap ready_if (thread_found held k who t found))
+          ∙ sym (ap ready_if (thread_found S.held k who t found))
 
 -- ---- a memory that failed
 
@@ -113,17 +114,17 @@ not_true : (b : Bool) → (b ≡ true → ⊥) → b ≡ false
 not_true true h = absurd (h refl)
 not_true false h = refl
 
-module _ {W P : Type 0} (is_honest : W → Bool) (held : W → Held) (slot_count : W → ℕ) (asked : W → P) (faults : W → ℕ)
-    (k : Kernel W) (mem : Memory W) (pid : Pid) (whole : IsWhole slot_count held k) (usable : IsUsable k.mem)
-    (rest : KeepsRest is_honest held slot_count asked faults pid k.mem mem) where
-  pub has_failed_now : (answer : Ran) → IfFailed answer (¬ (IsSound slot_count mem × IsUsable mem)) → IfFailed answer (has_failed mem ≡ true)
+module _ {W : Type 0} (S : SwapStore W)
+    (k : Kernel W) (mem : Memory W) (pid : Pid) (whole : IsWhole S k) (usable : IsUsable k.mem)
+    (rest : KeepsRest S pid k.mem mem) where
+  pub has_failed_now : (answer : Ran) → IfFailed answer (¬ (IsSound S.slot_count mem × IsUsable mem)) → IfFailed answer (has_failed mem ≡ true)
   has_failed_now (ran.Next next) unfit = tt
   has_failed_now (Device offset value next) unfit = tt
   has_failed_now Ecall unfit = tt
   has_failed_now (Trap cause value) unfit = tt
   has_failed_now Failed unfit = failed_of mem.failed (λ e. unfit (rest.sound whole.mem, e))
 
-  pub was_out : (answer : Ran) → IfFailed answer (¬ (IsSound slot_count mem × IsUsable mem)) → IfFailed answer (none_out k.mem ≡ false)
+  pub was_out : (answer : Ran) → IfFailed answer (¬ (IsSound S.slot_count mem × IsUsable mem)) → IfFailed answer (none_out k.mem ≡ false)
   was_out (ran.Next next) unfit = tt
   was_out (Device offset value next) unfit = tt
   was_out Ecall unfit = tt

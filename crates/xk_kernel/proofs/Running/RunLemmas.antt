@@ -1,4 +1,5 @@
 -- What running an instruction makes of the machine.
+use Rattle.xk_ports.specs.declared.store.SwapStore.{Ghosts as SwapStore}
 use Rattle.std.proofs.Common.{◌≡◌, ℕ, ◌⊎◌, Bool, true, false, List, Option, Some, None, refl, sym, ap, subst, ◌∙◌, inl, inr}
 use Rattle.std.proofs.lemmas.Bool.{cond-true}
 use Rattle.std.proofs.lemmas.Option.{same_Some}
@@ -124,31 +125,31 @@ pub record HasRun {W : Type 0} (held : W → Held) (k : Kernel W) (mem : Memory 
   pub reserved : new.reserved ≡ (execute_at old.regs pc old.reserved (memory_of (machine_of held k) pid)).reserved
   pub machine : machine_of held (with_both mem timer k) ≡ memory_left pid (machine_of held k) (execute_at old.regs pc old.reserved (memory_of (machine_of held k) pid)).executed
 
-module _ {W P : Type 0} (is_honest : W → Bool) (held : W → Held) (slot_count : W → ℕ) (asked : W → P) (faults : W → ℕ)
-    (k : Kernel W) (mem : Memory W) (pid other : Pid) (same : other ≡ pid) (whole : IsWhole slot_count held k)
-    (rest : KeepsRest is_honest held slot_count asked faults pid k.mem mem) (over : MeansBytesOver is_honest held k.mem mem) where
-  means : MeansBytes is_honest held k.mem × MeansBytes is_honest held mem
-  means = means_ends is_honest held slot_count asked faults k.mem mem rest.store over
+module _ {W : Type 0} (S : SwapStore W)
+    (k : Kernel W) (mem : Memory W) (pid other : Pid) (same : other ≡ pid) (whole : IsWhole S k)
+    (rest : KeepsRest S pid k.mem mem) (over : MeansBytesOver S k.mem mem) where
+  means : MeansBytes S k.mem × MeansBytes S mem
+  means = means_ends S k.mem mem rest.store over
 
   abbrev byte : ℕ → ℕ
-  byte = (user_view held k.mem pid).byte
+  byte = (user_view S.held k.mem pid).byte
 
-  known_before : user_content is_honest held k.mem pid ≡ Some byte
-  known_before = told_all (means_bytes is_honest held k.mem) byte means.0
+  known_before : user_content S k.mem pid ≡ Some byte
+  known_before = told_all (means_bytes S k.mem) byte means.0
 
-  known_after : user_content is_honest held mem other ≡ Some (user_view held mem pid).byte
-  known_after = told_all (means_bytes is_honest held mem) (user_view held mem other).byte means.1
-      ∙ ap (λ p. Some (user_view held mem p).byte) same
+  known_after : user_content S mem other ≡ Some (user_view S.held mem pid).byte
+  known_after = told_all (means_bytes S mem) (user_view S.held mem other).byte means.1
+      ∙ ap (λ p. Some (user_view S.held mem p).byte) same
 
   -- where the timer's page is, and the timer afterwards
-  module _ (on : Bool) (timer : Option ℕ) (claimed : on ≡ has_timer (machine_of held k) pid) (unseen : on ≡ false → timer ≡ k.timer)
-      (matched : Matched (machine_of held k)) where
+  module _ (on : Bool) (timer : Option ℕ) (claimed : on ≡ has_timer (machine_of S.held k) pid) (unseen : on ≡ false → timer ≡ k.timer)
+      (matched : Matched (machine_of S.held k)) where
     -- what is told of the memory before and after
     abbrev pages_before : View
-    pages_before = record { may = (user_view held k.mem pid).may; console = (user_view held k.mem pid).console; content = user_content is_honest held k.mem pid; timer = None }
+    pages_before = record { may = (user_view S.held k.mem pid).may; console = (user_view S.held k.mem pid).console; content = user_content S k.mem pid; timer = None }
 
     abbrev pages_after : View
-    pages_after = record { may = (user_view held mem other).may; console = (user_view held mem other).console; content = user_content is_honest held mem other; timer = None }
+    pages_after = record { may = (user_view S.held mem other).may; console = (user_view S.held mem other).console; content = user_content S mem other; timer = None }
 
     -- .. with the timer's page over it
     abbrev view_before : View
@@ -158,10 +159,10 @@ module _ {W P : Type 0} (is_honest : W → Bool) (held : W → Held) (slot_count
     view_after = timed_view on k.steps timer pages_after
 
     pub has_run : (old new before : Core) (pc : ℕ) (answer : Ran) → old ≡ before → Performs view_before view_after old new pc answer
-        → (answer ≡ Failed → ⊥) → HasRun held k mem timer pid before new pc answer
+        → (answer ≡ Failed → ⊥) → HasRun S.held k mem timer pid before new pc answer
     unfolding machine_of seen_memory
     has_run old new before pc answer same_core h done =
-        let view : SeenMemory = timed_memory on (timer_now k) (user_view held k.mem pid) in
+        let view : SeenMemory = timed_memory on (timer_now k) (user_view S.held k.mem pid) in
         let x : Performed = execute_at before.regs pc before.reserved view in
         let told : View = telling view_before byte in
         let known : Performs told view_after before new pc answer =
@@ -169,23 +170,23 @@ module _ {W P : Type 0} (is_honest : W → Bool) (held : W → Held) (slot_count
         (subst (λ o. Performs (record view_before { content = o }) view_after old new pc answer) known_before h) in
         let e : IsPerformed x told view_after before new answer =
         is_performed (execute_at before.regs pc before.reserved) byte view_before view_after before new answer done known in
-        let same_x : execute_at before.regs pc before.reserved (memory_of (machine_of held k) pid) ≡ x =
+        let same_x : execute_at before.regs pc before.reserved (memory_of (machine_of S.held k) pid) ≡ x =
         ap (execute_at before.regs pc before.reserved)
-        (memory_seen held k pid matched ∙ ap (λ b. timed_memory b (timer_now k) (user_view held k.mem pid)) (sym claimed)) in
+        (memory_seen S.held k pid matched ∙ ap (λ b. timed_memory b (timer_now k) (user_view S.held k.mem pid)) (sym claimed)) in
         let lawful : StoresLawfully view x.executed = stores_lawfully view before.regs pc before.reserved in
         let left : timer ≡ compare_after k.timer x.executed =
-        compare_left on k.steps (user_view held k.mem pid) k.timer timer x.executed refl lawful e.executed.timer unseen in
+        compare_left on k.steps (user_view S.held k.mem pid) k.timer timer x.executed refl lawful e.executed.timer unseen in
         record {
           answered = e.executed.answer ∙ ap (λ (p : Performed). ran_of p.executed) (sym same_x);
           registers = e.executed.registers ∙ ap (λ (p : Performed). registers_after before.regs p.executed) (sym same_x);
           reserved = e.reserved ∙ ap (λ (p : Performed). p.reserved) (sym same_x);
           machine =
-              (λ i. record (memory_machine held k mem rest.sizes i) { compare = left i })
-              ∙ ap (λ l. record (machine_of held k) { ledger = l; compare = compare_after k.timer x.executed })
-              (ledger_by_bytes is_honest held slot_count asked faults pid k.mem mem whole.mem means.0 rest (user_view held mem pid).byte refl x.executed
-              (allowed_inside on (timer_now k) (user_view held k.mem pid) x.executed refl lawful)
+              (λ i. record (memory_machine S.held k mem rest.sizes i) { compare = left i })
+              ∙ ap (λ l. record (machine_of S.held k) { ledger = l; compare = compare_after k.timer x.executed })
+              (ledger_by_bytes S pid k.mem mem whole.mem means.0 rest (user_view S.held mem pid).byte refl x.executed
+              (allowed_inside on (timer_now k) (user_view S.held k.mem pid) x.executed refl lawful)
               (ap (λ (o : Content). unwrap_or o byte) (sym known_after ∙ e.executed.content)))
-              ∙ ap (λ (p : Performed). memory_left pid (machine_of held k) p.executed) (sym same_x);
+              ∙ ap (λ (p : Performed). memory_left pid (machine_of S.held k) p.executed) (sym same_x);
         }
 
 -- ---- as the kernel says it
@@ -205,9 +206,9 @@ module _ {W : Type 0} (held : W → Held) (k : Kernel W) (mem : Memory W) (timer
       ∙ goes_on (machine_of held k) who t x next e (subst (λ a. GoesOn a next) h.answered is)
 
 -- the table of threads with one of them changed keeps the kernel whole
-pub whole_lent : {W : Type 0} (slot_count : W → ℕ) (held : W → Held) (k : Kernel W) (threads : Threads) → process_count threads ≡ process_count k.threads
-    → IsWhole slot_count held k → IsWhole slot_count held (record k { threads = threads })
-whole_lent slot_count held k threads count whole = record {
+pub whole_lent : {W : Type 0} (S : SwapStore W) (k : Kernel W) (threads : Threads) → process_count threads ≡ process_count k.threads
+    → IsWhole S k → IsWhole S (record k { threads = threads })
+whole_lent S k threads count whole = record {
   mem = whole.mem;
   threads = count ∙ whole.threads;
   procs = whole.procs;
@@ -221,11 +222,11 @@ pub given_back : {W : Type 0} (name now_named : ℕ) (now : Memory W) (given : (
 given_back name now_named now given same = given.1 (sym same)
 
 -- the memory and the timer after an instruction keep the kernel whole
-pub whole_ran : {W P : Type 0} (is_honest : W → Bool) (held : W → Held) (slot_count : W → ℕ) (asked : W → P) (faults : W → ℕ)
-    (k : Kernel W) (mem : Memory W) (timer : Option ℕ) → IsWhole slot_count held k → (pid : Pid)
-    → KeepsRest is_honest held slot_count asked faults pid k.mem mem → IsWhole slot_count held (with_both mem timer k)
-whole_ran is_honest held slot_count asked faults k mem timer whole pid rest =
-    let with : IsWhole slot_count held (with_memory mem k) = whole_with is_honest held slot_count asked faults k mem whole pid rest in
+pub whole_ran : {W : Type 0} (S : SwapStore W)
+    (k : Kernel W) (mem : Memory W) (timer : Option ℕ) → IsWhole S k → (pid : Pid)
+    → KeepsRest S pid k.mem mem → IsWhole S (with_both mem timer k)
+whole_ran S k mem timer whole pid rest =
+    let with : IsWhole S (with_memory mem k) = whole_with S k mem whole pid rest in
     record {
       mem = with.mem;
       threads = with.threads;

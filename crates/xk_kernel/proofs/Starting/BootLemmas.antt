@@ -1,4 +1,5 @@
 -- The kernel that is booted is sound, and stands for the machine at the start.
+use Rattle.xk_ports.specs.declared.store.SwapStore.{Ghosts as SwapStore}
 use Rattle.std.proofs.Common.{◌≡◌, ◌⊎◌, ℕ, ◌≤◌, Bool, true, false, List, [], length, Option, Some, None, refl, sym, ap, subst, ◌∙◌, arith, inl, inr}
 use Rattle.std.specs.Prelude.{◌==◌, ◌<◌, if◌then◌else◌, IsTrue, replicate, slice_index_or}
 use Rattle.std.specs.List.{All}
@@ -42,7 +43,8 @@ use Rattle.xk_base.specs.declared.ids.ThreadId.{ThreadId}
 use Rattle.xk_base.specs.declared.limits.TheConstants.{RECORD_LIMIT, SERVER_LIMIT}
 use Rattle.xk_kernel.proofs.Starting.FirstLedgerLemmas.{IsPlanned, first_no_heap, first_unlent, pid_of_planned, planned_of_pid}
 use Rattle.xk_kernel.proofs.Memory.KnownLemmas.{matched_alike}
-use Rattle.xk_kernel.specs.Knowing.{ComesTo, without_bytes}
+use Rattle.xk_kernel.specs.Knowing.{ComesTo}
+use Rattle.machine_model.specs.Runs.Isolation.{without_bytes}
 use Rattle.xk_kernel.specs.Sound.{IsSound}
 use Rattle.xk_kernel.specs.Start.{first_threads, start, threads_at_start}
 use Rattle.send_path.specs.Parts.{process_of, server_of, thread_of}
@@ -196,17 +198,17 @@ booted_comes held plan file k h whole = record {
   whole = λ known. booted_over held plan file k h (first_ledger plan file) (whole known);
 }
 
-module _ {W : Type 0} (slot_count : W → ℕ) (held : W → Held) (plan : BootPlan) (file : List ℕ) (k : Kernel W) (h : IsBooted held plan file k)
-    (can : All CanStart plan.procs) (few : length plan.procs ≤ 64) (mem : IsMemorySound slot_count k.mem) where
+module _ {W : Type 0} (S : SwapStore W) (plan : BootPlan) (file : List ℕ) (k : Kernel W) (h : IsBooted S.held plan file k)
+    (can : All CanStart plan.procs) (few : length plan.procs ≤ 64) (mem : IsMemorySound S.slot_count k.mem) where
   ledger_lawful : IsLawful (length plan.procs) (capacity plan.frames (length plan.procs) plan.slots) (first_ledger plan file)
   ledger_lawful =
-      let same : bare (first_ledger plan file) ≡ bare (blank_ledger k.mem) = sym h.rights ∙ bare-ledger held k.mem in
+      let same : bare (first_ledger plan file) ≡ bare (blank_ledger k.mem) = sym h.rights ∙ bare-ledger S.held k.mem in
       subst (λ (s : Size). IsLawful s.procs (capacity s.area.frames s.procs s.slots) (first_ledger plan file)) h.size
       (bare-lawful (processes k.mem) (capacity_of k.mem) (blank_ledger k.mem) (first_ledger plan file) same mem.lawful)
 
-  pub booted_matched : Matched (machine_of held k)
+  pub booted_matched : Matched (machine_of S.held k)
   booted_matched =
-      matched_alike (machine_of held k) (start plan file) (booted_comes {known = ⊥} held plan file k h (λ never. absurd never)).alike
+      matched_alike (machine_of S.held k) (start plan file) (booted_comes {known = ⊥} S.held plan file k h (λ never. absurd never)).alike
       (start_matched (start plan file) (start_is_start plan file can few ledger_lawful))
 
   no_server : (n : ℕ) (server : Server) → (servers_of k.servers).live n ≡ Some server → ⊥
@@ -216,7 +218,7 @@ module _ {W : Type 0} (slot_count : W → ℕ) (held : W → Held) (plan : BootP
   empty_at_start seat = ap (λ seats. seat_of seats seat) h.messages ∙ none_there SERVER_LIMIT seat
 
   -- there is no server, no message and no loan
-  servers_at_start : AreServersSound (processes k.mem) (loans (ledger held k.mem)) k.servers k.queues
+  servers_at_start : AreServersSound (processes k.mem) (loans (ledger S.held k.mem)) k.servers k.queues
   unfolding machine_of
   servers_at_start = record {
     messages = record {
@@ -234,7 +236,7 @@ module _ {W : Type 0} (slot_count : W → ℕ) (held : W → Held) (plan : BootP
   }
 
   pub booted_sound : 1 ≤ length plan.procs → processes_threaded k.threads ≡ length plan.procs → processes_made k.procs ≡ length plan.procs → RECORD_LIMIT ≤ k.log.room
-      → IsSound slot_count held k
+      → IsSound S k
   booted_sound some threaded made room = record {
     whole = record {
       mem = mem;

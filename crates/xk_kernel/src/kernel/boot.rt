@@ -55,7 +55,8 @@ fn start_process(threads: &mut Threads, pid: Pid, entry: u32)
     requires none { (tid : TidNumber) → threads_of threads.old (record { pid = pid; tid = tid }) ≡ None }
     ensures after { let old = threads_of threads.old in
         let new = threads_of threads.new in
-        (id : Id) → option_map thread_of (new id) ≡ (if id.pid.0 == pid.0 then first_threads entry id.tid.0 else option_map thread_of (old id)) }
+        (id : Id) → option_map thread_of (new id)
+        ≡ (if id.pid.0 == pid.0 then first_threads entry id.tid.0 else option_map thread_of (old id)) }
     ensures count { process_count threads.new ≡ process_count threads.old }
 {
     let idle = Thread {
@@ -117,10 +118,10 @@ impl<W: SwapStore> Kernel<W> {
         requires lawful { IsLawfulPlan (length file.now) plan.now }
         requires can_start { All CanStart plan.now.procs }
         requires slots { plan.now.slots ≤ W.slot_count store }
-        ensures sound { IfOk result (λ k. IsSound W.slot_count W.held k) }
+        ensures sound { IfOk result (λ k. IsSound W.SwapStore k) }
         ensures usable { IfOk result (λ k. IsUsable k) }
         // Bytes stand as the plan says where the store is honest and tells, or no page is out.
-        ensures start { IfOk result (λ k. ComesTo (MeansBytes W.is_honest W.held k.mem) (machine_of W.held k) (start plan.now file.now)) }
+        ensures start { IfOk result (λ k. ComesTo (MeansBytes W.SwapStore k.mem) (machine_of W.held k) (start plan.now file.now)) }
         // A page is out only where the plan has more pages than there are frames for pages.
         ensures near { planned_pages plan.now ≤ page_frames plan.now.frames (length plan.now.procs)
             → IfOk result (λ k. none_out k.mem ≡ true) }
@@ -128,9 +129,10 @@ impl<W: SwapStore> Kernel<W> {
         ensures tie { IfOk result (λ k. IsTied W.held k.mem) }
         ensures size { let first = plan.now.ram_start in
             let frames = plan.now.frames in
-            IfOk result (λ k. size k.mem ≡ record { procs = length plan.now.procs; area = record { start = first; frames = frames }; slots = plan.now.slots }) }
-        ensures store { IfOk result (λ k. KeepsStore W.is_honest W.held W.slot_count W.asked W.faults store (store_of k.mem)) }
-        ensures back { IfErr result (λ fault. KeepsStore W.is_honest W.held W.slot_count W.asked W.faults store fault.store) }
+            IfOk result (λ k. size k.mem
+            ≡ record { procs = length plan.now.procs; area = record { start = first; frames = frames }; slots = plan.now.slots }) }
+        ensures store { IfOk result (λ k. KeepsStore W.SwapStore store (store_of k.mem)) }
+        ensures back { IfErr result (λ fault. KeepsStore W.SwapStore store fault.store) }
         // A swap fault comes only where the store's count rose and the pages don't fit in frames.
         ensures cause { IfErr result (λ fault. fault.why ≡ BootError.SwapFault → Rose (W.faults store) (W.faults fault.store)) }
         ensures out { IfErr result (λ fault. fault.why ≡ BootError.SwapFault

@@ -37,14 +37,14 @@ pub enum CallerFate {
 impl<W: SwapStore> Kernel<W> {
     // The thread whose turn it is makes the call with these words.
     pub(super) fn call(&mut self, words: [u32; 8]) -> Result<(), SwapFault>
-        requires calls { IsCaller W.slot_count W.held self.old }
+        requires calls { IsCaller W.SwapStore self.old }
         requires room { length self.old.log.records + thread_ids PROCESS_LIMIT + 2 ≤ self.old.log.room }
-        ensures whole { IsWhole W.slot_count W.held self.new }
+        ensures whole { IsWhole W.SwapStore self.new }
         ensures usable { OnOk result (IsUsable self.new) }
         ensures tells { let m = machine_of W.held self.old in
-            OnOk result (TellsOver (KnowsBytes W.is_honest W.held self.old self.new) W.held self.old self.new
+            OnOk result (TellsOver (KnowsBytes W.SwapStore self.old self.new) W.held self.old self.new
             (after (Called self.old.cursor words) (call_settled m (call m words)))) }
-        ensures keeps { Keeps W.is_honest W.held W.slot_count W.asked W.faults self.old self.new }
+        ensures keeps { Keeps W.SwapStore self.old self.new }
         ensures failed { OnErr result (has_failed self.new.mem ≡ true) }
         ensures cause { OnErr result (Rose (W.faults (store_of self.old.mem)) (W.faults (store_of self.new.mem))) }
         ensures crowded { OnErr result (CrowdsBy W.held self.old (call (machine_of W.held self.old) words)) }
@@ -71,15 +71,15 @@ impl<W: SwapStore> Kernel<W> {
     // The call that these words ask for takes place. A call on messages, and one that ends a process or
     // a server, answers who is to be answered itself.
     fn call_asked(&mut self, words: [u32; 8], asked: Call) -> Result<(), SwapFault>
-        requires calls { IsCaller W.slot_count W.held self.old }
+        requires calls { IsCaller W.SwapStore self.old }
         requires asks { Asks words asked }
         requires room { length self.old.log.records + thread_ids PROCESS_LIMIT + 1 ≤ self.old.log.room }
-        ensures whole { IsWhole W.slot_count W.held self.new }
+        ensures whole { IsWhole W.SwapStore self.new }
         ensures usable { OnOk result (IsUsable self.new) }
         ensures tells { let m = machine_of W.held self.old in
-            OnOk result (TellsOver (KnowsBytes W.is_honest W.held self.old self.new) W.held self.old self.new
+            OnOk result (TellsOver (KnowsBytes W.SwapStore self.old self.new) W.held self.old self.new
             (call_settled m (call m words))) }
-        ensures keeps { Keeps W.is_honest W.held W.slot_count W.asked W.faults self.old self.new }
+        ensures keeps { Keeps W.SwapStore self.old self.new }
         ensures failed { OnErr result (has_failed self.new.mem ≡ true) }
         ensures cause { OnErr result (Rose (W.faults (store_of self.old.mem)) (W.faults (store_of self.new.mem))) }
         ensures crowded { OnErr result (CrowdsBy W.held self.old (call (machine_of W.held self.old) words)) }
@@ -109,17 +109,17 @@ impl<W: SwapStore> Kernel<W> {
     // The call that these words ask for, which is none of those, is served, and its caller is past it and
     // has its answer.
     fn call_plain(&mut self, words: [u32; 8], asked: Call) -> Result<(), SwapFault>
-        requires calls { IsCaller W.slot_count W.held self.old }
+        requires calls { IsCaller W.SwapStore self.old }
         requires asks { Asks words asked }
         requires free { is_refused_caller (machine_of W.held self.old) words ≡ false }
         requires plain { is_plain_call words ≡ true }
         requires room { length self.old.log.records + 2 ≤ self.old.log.room }
-        ensures whole { IsWhole W.slot_count W.held self.new }
+        ensures whole { IsWhole W.SwapStore self.new }
         ensures usable { OnOk result (IsUsable self.new) }
         ensures tells { let m = machine_of W.held self.old in
-            OnOk result (TellsOver (KnowsBytes W.is_honest W.held self.old self.new) W.held self.old self.new
+            OnOk result (TellsOver (KnowsBytes W.SwapStore self.old self.new) W.held self.old self.new
             (call_settled m (call m words))) }
-        ensures keeps { Keeps W.is_honest W.held W.slot_count W.asked W.faults self.old self.new }
+        ensures keeps { Keeps W.SwapStore self.old self.new }
         ensures failed { OnErr result (has_failed self.new.mem ≡ true) }
         ensures cause { OnErr result (Rose (W.faults (store_of self.old.mem)) (W.faults (store_of self.new.mem))) }
         ensures crowded { OnErr result (CrowdsBy W.held self.old (call (machine_of W.held self.old) words)) }
@@ -143,10 +143,10 @@ impl<W: SwapStore> Kernel<W> {
     // The call of the thread whose turn it is is refused: the thread is past it, and is answered the
     // error.
     pub(super) fn refuse(&mut self, error: XousError)
-        requires whole { IsWhole W.slot_count W.held self.old }
+        requires whole { IsWhole W.SwapStore self.old }
         requires ready { ready_at (machine_of W.held self.old) self.old.cursor ≡ true }
         requires room { length self.old.log.records < self.old.log.room }
-        ensures whole { IsWhole W.slot_count W.held self.new }
+        ensures whole { IsWhole W.SwapStore self.new }
         ensures tells { Tells W.held self.old self.new (call_settled (machine_of W.held self.old) (Refused error)) }
         ensures mem { self.new.mem ≡ self.old.mem }
     {
@@ -157,9 +157,9 @@ impl<W: SwapStore> Kernel<W> {
 
     // The thread whose turn it is will make its call again: its turn ends.
     pub(super) fn retry(&mut self)
-        requires whole { IsWhole W.slot_count W.held self.old }
+        requires whole { IsWhole W.SwapStore self.old }
         requires room { length self.old.log.records < self.old.log.room }
-        ensures whole { IsWhole W.slot_count W.held self.new }
+        ensures whole { IsWhole W.SwapStore self.new }
         ensures tells { Tells W.held self.old self.new (call_settled (machine_of W.held self.old) Retried) }
         ensures mem { self.new.mem ≡ self.old.mem }
     {
@@ -169,21 +169,22 @@ impl<W: SwapStore> Kernel<W> {
 
     // What comes of the call that is asked for.
     fn serve(&mut self, asked: Call) -> Result<Result<CallerFate, XousError>, SwapFault>
-        requires calls { IsCaller W.slot_count W.held self.old }
+        requires calls { IsCaller W.SwapStore self.old }
         requires free { (words : List ℕ) → Asks words asked → is_refused_caller (machine_of W.held self.old) words ≡ false }
         requires plain { (words : List ℕ) × Asks words asked × (is_plain_call words ≡ true) }
-        ensures whole { IsWhole W.slot_count W.held self.new }
+        ensures whole { IsWhole W.SwapStore self.new }
         ensures usable { OnOk result (IsUsable self.new) }
         ensures outcome { let old = machine_of W.held self.old in
             let new = machine_of W.held self.new in
             IfOk result (λ served. (words : List ℕ) → Asks words asked
-            → ServesAs (KnowsBytes W.is_honest W.held self.old self.new) self.old.cursor new (call old words) served) }
+            → ServesAs (KnowsBytes W.SwapStore self.old self.new) self.old.cursor new (call old words) served) }
         ensures undone { IfOk result (λ served. IfUndone served (self.new ≡ self.old)) }
         ensures log { self.new.log ≡ self.old.log }
-        ensures keeps { Keeps W.is_honest W.held W.slot_count W.asked W.faults self.old self.new }
+        ensures keeps { Keeps W.SwapStore self.old self.new }
         ensures failed { OnErr result (has_failed self.new.mem ≡ true) }
         ensures cause { OnErr result (Rose (W.faults (store_of self.old.mem)) (W.faults (store_of self.new.mem))) }
-        ensures crowded { OnErr result ((words : List ℕ) → Asks words asked → CrowdsBy W.held self.old (call (machine_of W.held self.old) words)) }
+        ensures crowded { OnErr result ((words : List ℕ) → Asks words asked
+            → CrowdsBy W.held self.old (call (machine_of W.held self.old) words)) }
         ensures near { none_out self.old.mem ≡ true → none_out self.new.mem ≡ false → (words : List ℕ) → Asks words asked
             → CrowdsBy W.held self.old (call (machine_of W.held self.old) words) }
     {

@@ -29,16 +29,16 @@ impl<W: SwapStore> Kernel<W> {
     // The living process dies, which is told last. Who waits at its servers is answered before. The timer
     // is disarmed where the process had claimed its interrupt.
     pub(super) fn kill(&mut self, pid: Pid)
-        requires whole { IsWhole W.slot_count W.held self.old }
+        requires whole { IsWhole W.SwapStore self.old }
         requires usable { IsUsable self.old }
         requires matched { Matched (machine_of W.held self.old) }
         requires alive { is_living (machine_of W.held self.old) pid ≡ true }
         requires room { length self.old.log.records + thread_ids PROCESS_LIMIT + 1 ≤ self.old.log.room }
-        ensures whole { IsWhole W.slot_count W.held self.new }
+        ensures whole { IsWhole W.SwapStore self.new }
         ensures usable { IsUsable self.new }
         ensures tells { Tells W.held self.old self.new (settled (death pid (machine_of W.held self.old))) }
         ensures none { PutsNoneOut self.old self.new }
-        ensures keeps { Keeps W.is_honest W.held W.slot_count W.asked W.faults self.old self.new }
+        ensures keeps { Keeps W.SwapStore self.old self.new }
     {
         let timed = self.has_timer(pid);
         end_claim(&mut self.timer, timed);
@@ -57,13 +57,13 @@ impl<W: SwapStore> Kernel<W> {
 
     // The process of the thread whose turn it is dies of this, which is told first.
     pub(super) fn die(&mut self, cause: What)
-        requires calls { IsCaller W.slot_count W.held self.old }
+        requires calls { IsCaller W.SwapStore self.old }
         requires room { length self.old.log.records + thread_ids PROCESS_LIMIT + 2 ≤ self.old.log.room }
-        ensures whole { IsWhole W.slot_count W.held self.new }
+        ensures whole { IsWhole W.SwapStore self.new }
         ensures usable { IsUsable self.new }
         ensures tells { Tells W.held self.old self.new (after cause (settled (death self.old.cursor.pid (machine_of W.held self.old)))) }
         ensures none { PutsNoneOut self.old self.new }
-        ensures keeps { Keeps W.is_honest W.held W.slot_count W.asked W.faults self.old self.new }
+        ensures keeps { Keeps W.SwapStore self.old self.new }
     {
         self.log.push(cause);
         self.kill(self.cursor.pid);
@@ -71,23 +71,24 @@ impl<W: SwapStore> Kernel<W> {
 
     // TerminateProcess: the process of the thread whose turn it is dies.
     pub(super) fn terminate(&mut self)
-        requires calls { IsCaller W.slot_count W.held self.old }
+        requires calls { IsCaller W.SwapStore self.old }
         requires room { length self.old.log.records + thread_ids PROCESS_LIMIT + 1 ≤ self.old.log.room }
-        ensures whole { IsWhole W.slot_count W.held self.new }
+        ensures whole { IsWhole W.SwapStore self.new }
         ensures usable { IsUsable self.new }
-        ensures tells { let m = machine_of W.held self.old in Tells W.held self.old self.new (call_settled m (Served (death self.old.cursor.pid m))) }
+        ensures tells { let m = machine_of W.held self.old in
+            Tells W.held self.old self.new (call_settled m (Served (death self.old.cursor.pid m))) }
         ensures none { PutsNoneOut self.old self.new }
-        ensures keeps { Keeps W.is_honest W.held W.slot_count W.asked W.faults self.old self.new }
+        ensures keeps { Keeps W.SwapStore self.old self.new }
     {
         self.kill(self.cursor.pid);
     }
 
     // Each thread that joined the one of that id, which has ended, is answered the a0 of its end.
     fn answer_joiners(&mut self, who: ThreadId, a0: u32)
-        requires whole { IsWhole W.slot_count W.held self.old }
+        requires whole { IsWhole W.SwapStore self.old }
         requires pid { IsTrue (is_pid (processes self.old.mem) who.pid.0) }
         requires room { length self.old.log.records + 31 ≤ self.old.log.room }
-        ensures whole { IsWhole W.slot_count W.held self.new }
+        ensures whole { IsWhole W.SwapStore self.new }
         ensures tells { let m = machine_of W.held self.old in
             Tells W.held self.old self.new (settled (answering (joiners_answered m who a0) m)) }
         ensures mem { self.new.mem ≡ self.old.mem }
@@ -120,14 +121,15 @@ impl<W: SwapStore> Kernel<W> {
     // The thread whose turn it is ends, with this in a0: who joined it is answered, and the process
     // dies with its last thread above tid 1.
     pub(super) fn end_thread(&mut self, a0: u32)
-        requires calls { IsCaller W.slot_count W.held self.old }
+        requires calls { IsCaller W.SwapStore self.old }
         requires above { 1 < self.old.cursor.tid.0 }
         requires room { length self.old.log.records + thread_ids PROCESS_LIMIT + 2 ≤ self.old.log.room }
-        ensures whole { IsWhole W.slot_count W.held self.new }
+        ensures whole { IsWhole W.SwapStore self.new }
         ensures usable { IsUsable self.new }
-        ensures tells { Tells W.held self.old self.new (after (End self.old.cursor) (settled (thread_ended self.old.cursor a0 (machine_of W.held self.old)))) }
+        ensures tells { Tells W.held self.old self.new
+            (after (End self.old.cursor) (settled (thread_ended self.old.cursor a0 (machine_of W.held self.old)))) }
         ensures none { PutsNoneOut self.old self.new }
-        ensures keeps { Keeps W.is_honest W.held W.slot_count W.asked W.faults self.old self.new }
+        ensures keeps { Keeps W.SwapStore self.old self.new }
     {
         let who = self.cursor;
         self.log.push(What::End(who));

@@ -9,15 +9,14 @@ ghost use Rattle.xk_kernel.specs.State.{machine_of};
 ghost use Rattle.xk_kernel.specs.Stepping.{Becomes, event_done};
 
 use crate::kernel::Kernel;
-use event_text::Event;
-use xk_base::ThreadId;
+use xk_base::{Event, ThreadId};
 use xk_ports::SwapStore;
 
 impl<W: SwapStore> Kernel<W> {
     // The cursor goes to that thread, where it is Ready.
     fn pick(&mut self, who: ThreadId)
-        requires whole { IsWhole W.slot_count W.held self.old }
-        ensures whole { IsWhole W.slot_count W.held self.new }
+        requires whole { IsWhole W.SwapStore self.old }
+        ensures whole { IsWhole W.SwapStore self.new }
         ensures machine { machine_of W.held self.new ≡ (picked who (machine_of W.held self.old)).machine }
         ensures mem { self.new.mem ≡ self.old.mem }
         ensures log { self.new.log ≡ self.old.log }
@@ -30,14 +29,14 @@ impl<W: SwapStore> Kernel<W> {
     /// Does the whole of `pick`, `irq` and `kill`, and nothing for `tick`, whose steps are done one by
     /// one. Its records are the last ones then. An `irq` and a `kill` end a reservation.
     pub fn event_start(&mut self, e: Event)
-        requires sound { IsSound W.slot_count W.held self.old }
+        requires sound { IsSound W.SwapStore self.old }
         requires usable { IsUsable self.old }
-        ensures sound { IsSound W.slot_count W.held self.new }
+        ensures sound { IsSound W.SwapStore self.new }
         ensures usable { IsUsable self.new }
         ensures does { Becomes W.held self.new (event_done e (machine_of W.held self.old)) }
         ensures none { PutsNoneOut self.old self.new }
         ensures tie { IsTied W.held self.new.mem }
-        ensures keeps { Keeps W.is_honest W.held W.slot_count W.asked W.faults self.old self.new }
+        ensures keeps { Keeps W.SwapStore self.old self.new }
     {
         self.log.clear(self.steps);
         match e {

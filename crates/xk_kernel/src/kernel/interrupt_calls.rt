@@ -24,9 +24,11 @@ impl<W: SwapStore> Kernel<W> {
         handler: u32,
         arg: u32,
     ) -> Result<CallerFate, XousError>
-        requires whole { IsWhole W.slot_count W.held self.old }
-        ensures whole { IsWhole W.slot_count W.held self.new }
-        ensures outcome { outcome_of self.old.cursor (machine_of W.held self.new) result ≡ unless_refused (claim_refusals (machine_of W.held self.old) number handler) (Served (claim_served (machine_of W.held self.old) number handler arg)) }
+        requires whole { IsWhole W.SwapStore self.old }
+        ensures whole { IsWhole W.SwapStore self.new }
+        ensures outcome { outcome_of self.old.cursor (machine_of W.held self.new) result
+            ≡ unless_refused (claim_refusals (machine_of W.held self.old) number handler)
+            (Served (claim_served (machine_of W.held self.old) number handler arg)) }
         ensures refused { OnErr result (self.new ≡ self.old) }
         ensures mem { self.new.mem ≡ self.old.mem }
         ensures log { self.new.log ≡ self.old.log }
@@ -45,10 +47,12 @@ impl<W: SwapStore> Kernel<W> {
     // FreeInterrupt: nobody has claimed the interrupt any more, and it isn't pending. The timer is
     // disarmed where it is its own.
     pub(super) fn free_interrupt(&mut self, number: u32) -> Result<CallerFate, XousError>
-        requires whole { IsWhole W.slot_count W.held self.old }
+        requires whole { IsWhole W.SwapStore self.old }
         requires matched { Matched (machine_of W.held self.old) }
-        ensures whole { IsWhole W.slot_count W.held self.new }
-        ensures outcome { outcome_of self.old.cursor (machine_of W.held self.new) result ≡ unless_refused (free_refusals (machine_of W.held self.old) number) (Served (free_served (machine_of W.held self.old) number)) }
+        ensures whole { IsWhole W.SwapStore self.new }
+        ensures outcome { outcome_of self.old.cursor (machine_of W.held self.new) result
+            ≡ unless_refused (free_refusals (machine_of W.held self.old) number)
+            (Served (free_served (machine_of W.held self.old) number)) }
         ensures refused { OnErr result (self.new ≡ self.old) }
         ensures mem { self.new.mem ≡ self.old.mem }
         ensures log { self.new.log ≡ self.old.log }

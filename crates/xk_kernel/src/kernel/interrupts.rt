@@ -40,7 +40,11 @@ pub(super) fn handler_id(pid: Pid) -> ThreadId
 
 // The interrupt thread as the handler of what is due begins.
 fn handler_thread(due: Due) -> Thread
-    ensures { thread_of result ≡ record { pc = due.handler; regs = fresh_registers handler_return handler_stack (due.k ∷ due.arg ∷ []); state = Ready } }
+    ensures { thread_of result ≡ record {
+      pc = due.handler;
+      regs = fresh_registers handler_return handler_stack (due.k ∷ due.arg ∷ []);
+      state = Ready;
+    } }
 {
     Thread {
         pc: due.handler,
@@ -63,9 +67,9 @@ impl<W: SwapStore> Kernel<W> {
     // Delivery is tried: where the interrupt thread of the process runs no handler and the process has
     // a pending number, the handler of the lowest starts. Whether one does is the answer.
     pub(super) fn deliver(&mut self, pid: Pid) -> bool
-        requires whole { IsWhole W.slot_count W.held self.old }
+        requires whole { IsWhole W.SwapStore self.old }
         requires room { length self.old.log.records < self.old.log.room }
-        ensures whole { IsWhole W.slot_count W.held self.new }
+        ensures whole { IsWhole W.SwapStore self.new }
         ensures tells { Tells W.held self.old self.new (settled (delivered pid (machine_of W.held self.old))) }
         ensures starts { result ≡ is_some (delivered pid (machine_of W.held self.old)).delivery }
         ensures mem { self.new.mem ≡ self.old.mem }
@@ -84,11 +88,11 @@ impl<W: SwapStore> Kernel<W> {
     // Interrupt `k` comes. It is pending where it is claimed, and delivery is tried for the process
     // that claimed it; where its handler starts, the cursor goes there. A reservation ends either way.
     pub(super) fn raise(&mut self, k: u8)
-        requires whole { IsWhole W.slot_count W.held self.old }
+        requires whole { IsWhole W.SwapStore self.old }
         requires matched { Matched (machine_of W.held self.old) }
         requires step { self.old.log.step ≡ self.old.steps }
         requires empty { self.old.log.records ≡ [] }
-        ensures whole { IsWhole W.slot_count W.held self.new }
+        ensures whole { IsWhole W.SwapStore self.new }
         ensures becomes { Becomes W.held self.new (raised k (machine_of W.held self.old)) }
         ensures mem { self.new.mem ≡ self.old.mem }
         ensures room { self.new.log.room ≡ self.old.log.room }
@@ -107,12 +111,13 @@ impl<W: SwapStore> Kernel<W> {
 
     // The handler that the thread runs whose turn it is ends, and the next delivery is tried.
     pub(super) fn end_handler(&mut self)
-        requires whole { IsWhole W.slot_count W.held self.old }
+        requires whole { IsWhole W.SwapStore self.old }
         requires ready { ready_at (machine_of W.held self.old) self.old.cursor ≡ true }
         requires handler { self.old.cursor.tid.0 ≡ 1 }
         requires room { length self.old.log.records + 2 ≤ self.old.log.room }
-        ensures whole { IsWhole W.slot_count W.held self.new }
-        ensures tells { Tells W.held self.old self.new (after (End self.old.cursor) (settled (handler_ended self.old.cursor.pid (machine_of W.held self.old)))) }
+        ensures whole { IsWhole W.SwapStore self.new }
+        ensures tells { Tells W.held self.old self.new
+            (after (End self.old.cursor) (settled (handler_ended self.old.cursor.pid (machine_of W.held self.old)))) }
         ensures mem { self.new.mem ≡ self.old.mem }
     {
         let who = self.cursor;

@@ -78,14 +78,14 @@ impl<W: SwapStore> Kernel<W> {
         size: u32,
         flags: u32,
     ) -> Result<Result<CallerFate, XousError>, SwapFault>
-        requires whole { IsWhole W.slot_count W.held self.old }
+        requires whole { IsWhole W.SwapStore self.old }
         requires usable { IsUsable self.old }
-        ensures whole { IsWhole W.slot_count W.held self.new }
+        ensures whole { IsWhole W.SwapStore self.new }
         ensures usable { OnOk result (IsUsable self.new) }
         ensures outcome { let m = machine_of W.held self.old in
             let outcome = unless_refused (map_refusals m phys virt size flags) (Served (map_served m phys virt size flags)) in
             let new = machine_of W.held self.new in
-            IfOk result (ServesAs (KnowsBytes W.is_honest W.held self.old self.new) self.old.cursor new outcome) }
+            IfOk result (ServesAs (KnowsBytes W.SwapStore self.old self.new) self.old.cursor new outcome) }
         ensures crowded { let m = machine_of W.held self.old in
             let outcome = unless_refused (map_refusals m phys virt size flags) (Served (map_served m phys virt size flags)) in
             OnErr result (CrowdsBy W.held self.old outcome) }
@@ -94,7 +94,7 @@ impl<W: SwapStore> Kernel<W> {
             none_out self.old.mem ≡ true → none_out self.new.mem ≡ false → CrowdsBy W.held self.old outcome }
         ensures undone { IfOk result (λ served. IfUndone served (self.new ≡ self.old)) }
         ensures log { self.new.log ≡ self.old.log }
-        ensures keeps { Keeps W.is_honest W.held W.slot_count W.asked W.faults self.old self.new }
+        ensures keeps { Keeps W.SwapStore self.old self.new }
         ensures failed { OnErr result (has_failed self.new.mem ≡ true) }
         ensures cause { OnErr result (Rose (W.faults (store_of self.old.mem)) (W.faults (store_of self.new.mem))) }
     {
@@ -129,15 +129,17 @@ impl<W: SwapStore> Kernel<W> {
 
     // UnmapMemory: the pages go, the console too.
     pub(super) fn unmap_memory(&mut self, address: u32, size: u32) -> Result<CallerFate, XousError>
-        requires whole { IsWhole W.slot_count W.held self.old }
+        requires whole { IsWhole W.SwapStore self.old }
         requires usable { IsUsable self.old }
-        ensures whole { IsWhole W.slot_count W.held self.new }
+        ensures whole { IsWhole W.SwapStore self.new }
         ensures usable { IsUsable self.new }
-        ensures outcome { outcome_of self.old.cursor (machine_of W.held self.new) result ≡ unless_refused (unmap_refusals (machine_of W.held self.old) address size) (Served (unmap_served (machine_of W.held self.old) address size)) }
+        ensures outcome { outcome_of self.old.cursor (machine_of W.held self.new) result
+            ≡ unless_refused (unmap_refusals (machine_of W.held self.old) address size)
+            (Served (unmap_served (machine_of W.held self.old) address size)) }
         ensures undone { IfUndone result (self.new ≡ self.old) }
         ensures log { self.new.log ≡ self.old.log }
         ensures none { PutsNoneOut self.old self.new }
-        ensures keeps { Keeps W.is_honest W.held W.slot_count W.asked W.faults self.old self.new }
+        ensures keeps { Keeps W.SwapStore self.old self.new }
     {
         if is_bad_range(address, size) {
             return Err(XousError::BadAlignment);
@@ -156,15 +158,17 @@ impl<W: SwapStore> Kernel<W> {
         size: u32,
         flags: u32,
     ) -> Result<CallerFate, XousError>
-        requires whole { IsWhole W.slot_count W.held self.old }
+        requires whole { IsWhole W.SwapStore self.old }
         requires usable { IsUsable self.old }
-        ensures whole { IsWhole W.slot_count W.held self.new }
+        ensures whole { IsWhole W.SwapStore self.new }
         ensures usable { IsUsable self.new }
-        ensures outcome { outcome_of self.old.cursor (machine_of W.held self.new) result ≡ unless_refused (update_refusals (machine_of W.held self.old) address size flags) (Served (update_served (machine_of W.held self.old) address size flags)) }
+        ensures outcome { outcome_of self.old.cursor (machine_of W.held self.new) result
+            ≡ unless_refused (update_refusals (machine_of W.held self.old) address size flags)
+            (Served (update_served (machine_of W.held self.old) address size flags)) }
         ensures undone { IfUndone result (self.new ≡ self.old) }
         ensures log { self.new.log ≡ self.old.log }
         ensures none { PutsNoneOut self.old self.new }
-        ensures keeps { Keeps W.is_honest W.held W.slot_count W.asked W.faults self.old self.new }
+        ensures keeps { Keeps W.SwapStore self.old self.new }
     {
         if is_bad_range(address, size) {
             return Err(XousError::BadAlignment);
@@ -185,15 +189,15 @@ impl<W: SwapStore> Kernel<W> {
         &mut self,
         bytes: u32,
     ) -> Result<Result<CallerFate, XousError>, SwapFault>
-        requires whole { IsWhole W.slot_count W.held self.old }
+        requires whole { IsWhole W.SwapStore self.old }
         requires usable { IsUsable self.old }
         requires matched { AreHeapsMatched (machine_of W.held self.old).process (machine_of W.held self.old).ledger }
-        ensures whole { IsWhole W.slot_count W.held self.new }
+        ensures whole { IsWhole W.SwapStore self.new }
         ensures usable { OnOk result (IsUsable self.new) }
         ensures outcome { let m = machine_of W.held self.old in
             let outcome = unless_refused (increase_refusals m bytes) (Served (increase_served m bytes)) in
             let new = machine_of W.held self.new in
-            IfOk result (ServesAs (KnowsBytes W.is_honest W.held self.old self.new) self.old.cursor new outcome) }
+            IfOk result (ServesAs (KnowsBytes W.SwapStore self.old self.new) self.old.cursor new outcome) }
         ensures crowded { let m = machine_of W.held self.old in
             let outcome = unless_refused (increase_refusals m bytes) (Served (increase_served m bytes)) in
             OnErr result (CrowdsBy W.held self.old outcome) }
@@ -202,7 +206,7 @@ impl<W: SwapStore> Kernel<W> {
             none_out self.old.mem ≡ true → none_out self.new.mem ≡ false → CrowdsBy W.held self.old outcome }
         ensures undone { IfOk result (λ served. IfUndone served (self.new ≡ self.old)) }
         ensures log { self.new.log ≡ self.old.log }
-        ensures keeps { Keeps W.is_honest W.held W.slot_count W.asked W.faults self.old self.new }
+        ensures keeps { Keeps W.SwapStore self.old self.new }
         ensures failed { OnErr result (has_failed self.new.mem ≡ true) }
         ensures cause { OnErr result (Rose (W.faults (store_of self.old.mem)) (W.faults (store_of self.new.mem))) }
     {
@@ -232,16 +236,18 @@ impl<W: SwapStore> Kernel<W> {
 
     // DecreaseHeap: the pages at the end of the heap go; places without a page are passed over.
     pub(super) fn decrease_heap(&mut self, bytes: u32) -> Result<CallerFate, XousError>
-        requires whole { IsWhole W.slot_count W.held self.old }
+        requires whole { IsWhole W.SwapStore self.old }
         requires usable { IsUsable self.old }
         requires matched { AreHeapsMatched (machine_of W.held self.old).process (machine_of W.held self.old).ledger }
-        ensures whole { IsWhole W.slot_count W.held self.new }
+        ensures whole { IsWhole W.SwapStore self.new }
         ensures usable { IsUsable self.new }
-        ensures outcome { outcome_of self.old.cursor (machine_of W.held self.new) result ≡ unless_refused (decrease_refusals (machine_of W.held self.old) bytes) (Served (decrease_served (machine_of W.held self.old) bytes)) }
+        ensures outcome { outcome_of self.old.cursor (machine_of W.held self.new) result
+            ≡ unless_refused (decrease_refusals (machine_of W.held self.old) bytes)
+            (Served (decrease_served (machine_of W.held self.old) bytes)) }
         ensures undone { IfUndone result (self.new ≡ self.old) }
         ensures log { self.new.log ≡ self.old.log }
         ensures none { PutsNoneOut self.old self.new }
-        ensures keeps { Keeps W.is_honest W.held W.slot_count W.asked W.faults self.old self.new }
+        ensures keeps { Keeps W.SwapStore self.old self.new }
     {
         if bytes % PAGE_SIZE != 0 {
             return Err(XousError::BadAlignment);

@@ -22,16 +22,16 @@ impl<W: SwapStore> Kernel<W> {
     // SendMessage, and TrySendMessage where the caller only tries: an accepted message takes the next
     // number. At a full server the one will be made again, and the other is refused.
     pub(super) fn send_message(&mut self, words: [u32; 8], tries: bool)
-        requires calls { IsCaller W.slot_count W.held self.old }
+        requires calls { IsCaller W.SwapStore self.old }
         requires number { call_number words ≡ (if tries then try_number else send_number) }
         requires free { is_refused_caller (machine_of W.held self.old) words ≡ false }
         requires room { length self.old.log.records + 2 ≤ self.old.log.room }
-        ensures whole { IsWhole W.slot_count W.held self.new }
+        ensures whole { IsWhole W.SwapStore self.new }
         ensures usable { IsUsable self.new }
         ensures tells { let m = machine_of W.held self.old in
             Tells W.held self.old self.new (call_settled m (table_row words m)) }
         ensures none { PutsNoneOut self.old self.new }
-        ensures keeps { Keeps W.is_honest W.held W.slot_count W.asked W.faults self.old self.new }
+        ensures keeps { Keeps W.SwapStore self.old self.new }
     {
         let sent = send(
             &mut self.mem,
@@ -54,15 +54,15 @@ impl<W: SwapStore> Kernel<W> {
 
     // ReceiveMessage, and TryReceiveMessage where the caller doesn't wait for a message.
     pub(super) fn receive_message(&mut self, sid: Sid, waits: bool)
-        requires calls { IsCaller W.slot_count W.held self.old }
+        requires calls { IsCaller W.SwapStore self.old }
         requires free { (waits && (self.old.cursor.tid.0 == 1)) ≡ false }
         requires room { length self.old.log.records + 2 ≤ self.old.log.room }
-        ensures whole { IsWhole W.slot_count W.held self.new }
+        ensures whole { IsWhole W.SwapStore self.new }
         ensures usable { IsUsable self.new }
         ensures tells { let m = machine_of W.held self.old in
             Tells W.held self.old self.new (call_settled m (receive_row sid waits m)) }
         ensures none { PutsNoneOut self.old self.new }
-        ensures keeps { Keeps W.is_honest W.held W.slot_count W.asked W.faults self.old self.new }
+        ensures keeps { Keeps W.SwapStore self.old self.new }
     {
         let received = receive(
             &mut self.threads,
@@ -81,15 +81,16 @@ impl<W: SwapStore> Kernel<W> {
 
     // ReturnMemory, ReturnScalar1 and ReturnScalar2.
     pub(super) fn give_back_message(&mut self, words: [u32; 8])
-        requires calls { IsCaller W.slot_count W.held self.old }
-        requires number { (call_number words == return_memory || call_number words == return_scalar1 || call_number words == return_scalar2) ≡ true }
+        requires calls { IsCaller W.SwapStore self.old }
+        requires number { (call_number words == return_memory || call_number words == return_scalar1
+            || call_number words == return_scalar2) ≡ true }
         requires room { length self.old.log.records + 2 ≤ self.old.log.room }
-        ensures whole { IsWhole W.slot_count W.held self.new }
+        ensures whole { IsWhole W.SwapStore self.new }
         ensures usable { IsUsable self.new }
         ensures tells { let m = machine_of W.held self.old in
             Tells W.held self.old self.new (call_settled m (table_row words m)) }
         ensures none { PutsNoneOut self.old self.new }
-        ensures keeps { Keeps W.is_honest W.held W.slot_count W.asked W.faults self.old self.new }
+        ensures keeps { Keeps W.SwapStore self.old self.new }
     {
         let returned = give_back(
             &mut self.mem,
@@ -108,15 +109,15 @@ impl<W: SwapStore> Kernel<W> {
 
     // ForwardMessage.
     pub(super) fn forward_message(&mut self, words: [u32; 8])
-        requires calls { IsCaller W.slot_count W.held self.old }
+        requires calls { IsCaller W.SwapStore self.old }
         requires number { call_number words ≡ forward_number }
         requires room { length self.old.log.records + 2 ≤ self.old.log.room }
-        ensures whole { IsWhole W.slot_count W.held self.new }
+        ensures whole { IsWhole W.SwapStore self.new }
         ensures usable { IsUsable self.new }
         ensures tells { let m = machine_of W.held self.old in
             Tells W.held self.old self.new (call_settled m (table_row words m)) }
         ensures none { PutsNoneOut self.old self.new }
-        ensures keeps { Keeps W.is_honest W.held W.slot_count W.asked W.faults self.old self.new }
+        ensures keeps { Keeps W.SwapStore self.old self.new }
     {
         let forwarded = forward(
             &mut self.mem,

@@ -38,10 +38,10 @@ impl<W: SwapStore> Kernel<W> {
     /// leaves no record and ends no turn. Where a process has claimed the timer's interrupt, none of its
     /// steps is quiet. No step searches anything or takes memory. Only `close` may follow a `SwapFault`.
     pub fn run_quiet(&mut self, most: u32) -> Result<u32, SwapFault>
-        requires sound { IsSound W.slot_count W.held self.old }
+        requires sound { IsSound W.SwapStore self.old }
         requires usable { IsUsable self.old }
         requires few { (machine_of W.held self.old).steps + most ≤ 4000000000 }
-        ensures sound { IsSound W.slot_count W.held self.new }
+        ensures sound { IsSound W.SwapStore self.new }
         ensures usable { OnOk result (IsUsable self.new) }
         ensures failed { OnErr result (has_failed self.new.mem ≡ true) }
         // Whatever the store does, so many steps are counted, and there are none where no thread is Ready.
@@ -51,14 +51,14 @@ impl<W: SwapStore> Kernel<W> {
         ensures idle { OnErr result (is_some (actor (machine_of W.held self.old)) ≡ true) }
         ensures last { IfOk result (λ done. 0 < done → last_of self.new ≡ []) }
         // The steps, where bytes are known.
-        ensures runs { KnowsBytes W.is_honest W.held self.old self.new
+        ensures runs { KnowsBytes W.SwapStore self.old self.new
             → IfOk result (λ done. RunsQuietly most done (machine_of W.held self.old) (machine_of W.held self.new)) }
         // A swap fault comes only where the store's count rose and a page is out. Only there is one out afterwards.
         ensures cause { OnErr result (Rose (W.faults (store_of self.old.mem)) (W.faults (store_of self.new.mem))) }
         ensures out { OnErr result (none_out self.old.mem ≡ false) }
         ensures none { PutsNoneOut self.old self.new }
         ensures tie { IsTied W.held self.new.mem }
-        ensures keeps { Keeps W.is_honest W.held W.slot_count W.asked W.faults self.old self.new }
+        ensures keeps { Keeps W.SwapStore self.old self.new }
     {
         let who = self.cursor;
         if self.has_timer(who.pid) || !self.is_ready_at(who) {
@@ -99,7 +99,7 @@ impl<W: SwapStore> Kernel<W> {
         reserved: &mut Option<u32>,
         most: u32,
     ) -> Result<u32, SwapFault>
-        requires whole { IsWhole W.slot_count W.held self.old }
+        requires whole { IsWhole W.SwapStore self.old }
         requires usable { IsUsable self.old }
         requires matched { Matched (machine_of W.held self.old) }
         requires untimed { is_claim_of self.old.cursor.pid ((machine_of W.held self.old).claims TIMER_INTERRUPT) ≡ false }
@@ -107,7 +107,7 @@ impl<W: SwapStore> Kernel<W> {
         requires ready { is_ready_state thread.old.state ≡ true }
         requires aligned { thread.old.pc % 4 ≡ 0 }
         ensures same { self.new ≡ record self.old { mem = self.new.mem } }
-        ensures rest { KeepsRest W.is_honest W.held W.slot_count W.asked W.faults self.old.cursor.pid self.old.mem self.new.mem }
+        ensures rest { KeepsRest W.SwapStore self.old.cursor.pid self.old.mem self.new.mem }
         ensures state { thread.new.state ≡ thread.old.state }
         ensures aligned { thread.new.pc % 4 ≡ 0 }
         ensures usable { OnOk result (IsUsable self.new) }
@@ -117,7 +117,7 @@ impl<W: SwapStore> Kernel<W> {
         ensures most { IfOk result (λ done. done ≤ most) }
         ensures runs { let who = self.old.cursor in
             let old = in_hand who (thread_of thread.old) reserved.old self.old.steps (machine_of W.held self.old) in
-            MeansBytes W.is_honest W.held self.old.mem → IfOk result (λ done. RunsQuietly most done old
+            MeansBytes W.SwapStore self.old.mem → IfOk result (λ done. RunsQuietly most done old
             (in_hand who (thread_of thread.new) reserved.new (self.old.steps + done) (machine_of W.held self.new))) }
     {
         let who = self.cursor;
@@ -141,7 +141,7 @@ impl<W: SwapStore> Kernel<W> {
         requires few { self.old.steps + done ≤ 4000000000 }
         ensures machine { machine_of W.held self.new
             ≡ in_hand who (thread_of thread) reserved (self.old.steps + done) (machine_of W.held self.old) }
-        ensures whole { IsWhole W.slot_count W.held self.old → IsWhole W.slot_count W.held self.new }
+        ensures whole { IsWhole W.SwapStore self.old → IsWhole W.SwapStore self.new }
         ensures mem { self.new.mem ≡ self.old.mem }
         ensures log { self.new.log ≡ record self.old.log { step = self.old.steps + done; records = [] } }
     {
@@ -168,7 +168,7 @@ fn quiet_row<W: SwapStore>(
     requires ready { is_ready_state thread.old.state ≡ true }
     requires aligned { thread.old.pc % 4 ≡ 0 }
     ensures lent { user.new.mem.ghost_name ≡ user.old.mem.ghost_name }
-    ensures rest { KeepsRest W.is_honest W.held W.slot_count W.asked W.faults user.old.pid user.old.mem.now user.new.mem.now }
+    ensures rest { KeepsRest W.SwapStore user.old.pid user.old.mem.now user.new.mem.now }
     ensures state { thread.new.state ≡ thread.old.state }
     ensures aligned { thread.new.pc % 4 ≡ 0 }
     ensures usable { OnOk result (IsMemoryUsable user.new.mem.now) }
@@ -178,7 +178,7 @@ fn quiet_row<W: SwapStore>(
     ensures most { IfOk result (λ done. done ≤ most) }
     ensures runs { let old : Taken = record { thread = thread_of thread.old; reserved = reserved.old } in
         let new : Taken = record { thread = thread_of thread.new; reserved = reserved.new } in
-        IfOk result (λ done. RunsOver W.is_honest W.held W.slot_count who user.old.mem.now user.new.mem.now old new most done) }
+        IfOk result (λ done. RunsOver W.SwapStore who user.old.mem.now user.new.mem.now old new most done) }
 {
     'steps: for done in 0..most {
         if !quiet_step(who, thread, reserved, user)? {
@@ -205,7 +205,7 @@ fn quiet_step<W: SwapStore>(
     requires aligned { thread.old.pc % 4 ≡ 0 }
     ensures lent { user.new.mem.ghost_name ≡ user.old.mem.ghost_name }
     ensures pid { user.new.pid ≡ user.old.pid }
-    ensures rest { KeepsRest W.is_honest W.held W.slot_count W.asked W.faults user.old.pid user.old.mem.now user.new.mem.now }
+    ensures rest { KeepsRest W.SwapStore user.old.pid user.old.mem.now user.new.mem.now }
     ensures known { Remembers user.new.mem.now user.new.pid user.new.known }
     ensures state { thread.new.state ≡ thread.old.state }
     ensures aligned { thread.new.pc % 4 ≡ 0 }
@@ -215,7 +215,7 @@ fn quiet_step<W: SwapStore>(
     ensures out { OnErr result (none_out user.old.mem.now ≡ false) }
     ensures does { let old : Taken = record { thread = thread_of thread.old; reserved = reserved.old } in
         let new : Taken = record { thread = thread_of thread.new; reserved = reserved.new } in
-        IfOk result (λ quiet. StepsOver W.is_honest W.held W.slot_count who user.old.mem.now user.new.mem.now old new quiet) }
+        IfOk result (λ quiet. StepsOver W.SwapStore who user.old.mem.now user.new.mem.now old new quiet) }
 {
     if ends_thread(who, thread.pc) || ends_handler(who, thread.pc) {
         return Ok(false);

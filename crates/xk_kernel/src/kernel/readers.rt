@@ -32,7 +32,7 @@ impl<W: SwapStore> Kernel<W> {
     // Who does the next step: the thread whose turn it is where it is Ready, else the next ready
     // one. The first test alone is made where a thread goes on.
     pub(super) fn actor(&self) -> Option<ThreadId>
-        requires whole { IsWhole W.slot_count W.held self.now }
+        requires whole { IsWhole W.SwapStore self.now }
         ensures { result ≡ actor (machine_of W.held self.now) }
     {
         if self.is_ready_at(self.cursor) {
@@ -43,7 +43,7 @@ impl<W: SwapStore> Kernel<W> {
 
     /// Whether a thread is Ready, so that there is a next step.
     pub fn ready(&self) -> bool
-        requires sound { IsSound W.slot_count W.held self.now }
+        requires sound { IsSound W.SwapStore self.now }
         requires usable { IsUsable self.now }
         ensures { result ≡ is_some (actor (machine_of W.held self.now)) }
     {
@@ -66,7 +66,7 @@ impl<W: SwapStore> Kernel<W> {
 
     /// What the ledger has at a place.
     pub fn at(&self, place: Place) -> Here
-        requires sound { IsSound W.slot_count W.held self.now }
+        requires sound { IsSound W.SwapStore self.now }
         ensures { result ≡ here_at (machine_of W.held self.now).processes (machine_of W.held self.now).ledger place }
     {
         self.mem.at(place)
@@ -74,7 +74,7 @@ impl<W: SwapStore> Kernel<W> {
 
     /// The RAM. Its bytes, with what the store's slots hold, stand for the ledger.
     pub fn ram(&self) -> &Ram
-        requires sound { IsSound W.slot_count W.held self.now }
+        requires sound { IsSound W.SwapStore self.now }
         ensures bytes { result.now ≡ ram_of self.now.mem }
         ensures tie { IsTied W.held self.now.mem }
     {
@@ -83,8 +83,8 @@ impl<W: SwapStore> Kernel<W> {
 
     // The cursor goes to the next ready thread, where there is one.
     pub(super) fn turn(&mut self)
-        requires whole { IsWhole W.slot_count W.held self.old }
-        ensures whole { IsWhole W.slot_count W.held self.new }
+        requires whole { IsWhole W.SwapStore self.old }
+        ensures whole { IsWhole W.SwapStore self.new }
         ensures machine { machine_of W.held self.new ≡ turn (machine_of W.held self.old) }
         ensures mem { self.new.mem ≡ self.old.mem }
         ensures log { self.new.log ≡ self.old.log }
@@ -96,22 +96,22 @@ impl<W: SwapStore> Kernel<W> {
 
     /// Ends the turn: it becomes that of the next ready thread, where there is one.
     pub fn end_turn(&mut self)
-        requires sound { IsSound W.slot_count W.held self.old }
+        requires sound { IsSound W.SwapStore self.old }
         requires usable { IsUsable self.old }
-        ensures sound { IsSound W.slot_count W.held self.new }
+        ensures sound { IsSound W.SwapStore self.new }
         ensures usable { IsUsable self.new }
         ensures machine { machine_of W.held self.new ≡ turn (machine_of W.held self.old) }
         ensures last { last_of self.new ≡ last_of self.old }
         ensures none { PutsNoneOut self.old self.new }
         ensures tie { IsTied W.held self.new.mem }
-        ensures keeps { Keeps W.is_honest W.held W.slot_count W.asked W.faults self.old self.new }
+        ensures keeps { Keeps W.SwapStore self.old self.new }
     {
         self.turn();
     }
 
     /// Ends the kernel and hands the store back. Every loan that stands is spent.
     pub fn close(self) -> W
-        requires sound { IsSound W.slot_count W.held self }
+        requires sound { IsSound W.SwapStore self }
         ensures { result ≡ store_of self.mem }
     {
         let Kernel {

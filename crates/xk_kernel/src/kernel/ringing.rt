@@ -72,7 +72,8 @@ fn move_last(log: &mut Log, place: usize)
     requires few { length log.old.records ≤ RECORD_LIMIT }
     requires room { length log.old.records ≤ log.old.room }
     requires step { All (λ rec. rec.step ≡ log.old.step) log.old.records }
-    ensures place { (xs : List Record) (x : Record) → log.old.records ≡ xs ++ x ∷ [] → log.new ≡ record log.old { records = moved_to place x xs } }
+    ensures place { (xs : List Record) (x : Record) → log.old.records ≡ xs ++ x ∷ []
+        → log.new ≡ record log.old { records = moved_to place x xs } }
     ensures room { log.new.room ≡ log.old.room }
 {
     let records = log.as_slice();
@@ -116,11 +117,11 @@ impl<W: SwapStore> Kernel<W> {
     // interrupt comes, as by an event. The record of a handler that starts then goes to its place among
     // those of the step.
     pub(super) fn ring(&mut self)
-        requires whole { IsWhole W.slot_count W.held self.old }
+        requires whole { IsWhole W.SwapStore self.old }
         requires claim { IsTimersClaimThere (machine_of W.held self.old) }
         requires few { length self.old.log.records < RECORD_LIMIT }
         requires step { All (λ rec. rec.step ≡ self.old.log.step) self.old.log.records }
-        ensures whole { IsWhole W.slot_count W.held self.new }
+        ensures whole { IsWhole W.SwapStore self.new }
         ensures rings { (told : List Happened) → LogTells self.old.log told → Rings W.held self.old self.new told }
         ensures mem { self.new.mem ≡ self.old.mem }
         ensures room { self.new.log.room ≡ self.old.log.room }

@@ -8,7 +8,7 @@ ghost use Rattle.machine_model.specs.State.Order.{ready_at};
 ghost use Rattle.machine_model.specs.Stepping.Reservations.{reserved_by};
 ghost use Rattle.machine_model.specs.Stepping.Step.{performed};
 ghost use Rattle.rv32_atomics.specs.Performing.{Core, LeavesRegistersUnlessDone, Performs};
-ghost use Rattle.rv32_hart.specs.Running.{GoesOnAligned, IfFailed, UnlessFailed, View, ran_of};
+ghost use Rattle.rv32_hart.specs.Running.{GoesOnAligned, IfFailed, UnlessFailed, ran_of, view_of};
 ghost use Rattle.vm_memory.specs.Bytes.{none_out};
 ghost use Rattle.vm_memory.specs.Memory.{has_failed, store_of};
 ghost use Rattle.xk_base.specs.Outside.{Rose};
@@ -41,8 +41,8 @@ fn run_over<U: UserMemory>(
     requires aligned { thread.old.pc % 4 ≡ 0 }
     requires fit { U.fit inner }
     requires same { U.same_rest inner inner }
-    ensures performs { let told : View = record { may = U.may inner; console = U.console inner; content = U.content inner; timer = U.timer inner } in
-        let left : View = record { may = U.may result; console = U.console result; content = U.content result; timer = U.timer result } in
+    ensures performs { let told = view_of U.UserMemory inner in
+        let left = view_of U.UserMemory result in
         let old : Core = record { regs = thread.old.regs; reserved = reserved.old } in
         let new : Core = record { regs = thread.new.regs; reserved = reserved.new } in
         Performs (timed_view on steps timer.old told) (timed_view on steps timer.new left) old new thread.old.pc ran.new }
@@ -88,26 +88,26 @@ impl<W: SwapStore> Kernel<W> {
     // Executes the instruction at the pc of a thread that has reserved this address. It goes on with
     // its registers and its pc; a call of the kernel and a trap leave them.
     pub(super) fn run(&mut self, who: ThreadId, reserved: &mut Option<u32>) -> Ran
-        requires whole { IsWhole W.slot_count W.held self.old }
+        requires whole { IsWhole W.SwapStore self.old }
         requires usable { IsUsable self.old }
         requires matched { Matched (machine_of W.held self.old) }
         requires there { IsSome ((machine_of W.held self.old).threads who) }
         requires aligned { (t : ModelThread) → (machine_of W.held self.old).threads who ≡ Some t → t.pc % 4 ≡ 0 }
         requires reserved { reserved.old ≡ reserved_by who (machine_of W.held self.old).reserved }
-        ensures whole { IsWhole W.slot_count W.held self.new }
+        ensures whole { IsWhole W.SwapStore self.new }
         ensures usable { UnlessFailed result (IsUsable self.new) }
         ensures failed { IfFailed result (has_failed self.new.mem ≡ true) }
         ensures cause { IfFailed result (Rose (W.faults (store_of self.old.mem)) (W.faults (store_of self.new.mem))) }
         ensures out { IfFailed result (none_out self.old.mem ≡ false) }
         // Over known bytes it is the instruction that the machine performs.
         ensures answer { let m = machine_of W.held self.old in
-            KnowsBytes W.is_honest W.held self.old self.new → UnlessFailed result
+            KnowsBytes W.SwapStore self.old self.new → UnlessFailed result
             ((t : ModelThread) → m.threads who ≡ Some t → result ≡ ran_of (performed m who t).executed) }
         ensures machine { let m = machine_of W.held self.old in
-            KnowsBytes W.is_honest W.held self.old self.new → UnlessFailed result
+            KnowsBytes W.SwapStore self.old self.new → UnlessFailed result
             ((t : ModelThread) → m.threads who ≡ Some t → machine_of W.held self.new ≡ machine_after who m (performed m who t).executed) }
         ensures reserved { let m = machine_of W.held self.old in
-            KnowsBytes W.is_honest W.held self.old self.new → UnlessFailed result
+            KnowsBytes W.SwapStore self.old self.new → UnlessFailed result
             ((t : ModelThread) → m.threads who ≡ Some t → reserved.new ≡ (performed m who t).reserved) }
         // Over any bytes the machine stays matched, its thread is as ready as before, and no step is counted.
         ensures matched { Matched (machine_of W.held self.new) }
@@ -115,7 +115,7 @@ impl<W: SwapStore> Kernel<W> {
         ensures steps { self.new.steps ≡ self.old.steps }
         ensures none { PutsNoneOut self.old self.new }
         ensures log { self.new.log ≡ self.old.log }
-        ensures keeps { Keeps W.is_honest W.held W.slot_count W.asked W.faults self.old self.new }
+        ensures keeps { Keeps W.SwapStore self.old self.new }
     {
         let on = self.has_timer(who.pid);
         let thread = self.threads.thread_mut(who);

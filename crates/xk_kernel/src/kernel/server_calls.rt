@@ -28,7 +28,7 @@ use xk_ports::SwapStore;
 impl<W: SwapStore> Kernel<W> {
     // Whether the caller's process is connected to the server, or may be.
     fn has_room(&self, serial: Serial) -> bool
-        requires whole { IsWhole W.slot_count W.held self.now }
+        requires whole { IsWhole W.SwapStore self.now }
         ensures { result ≡ has_room serial (own_connections (machine_of W.held self.now)) }
     {
         self.procs.room(self.cursor.pid, serial)
@@ -36,9 +36,9 @@ impl<W: SwapStore> Kernel<W> {
 
     // The caller's process is connected to the server, for which it has room.
     fn connect_caller(&mut self, serial: Serial) -> Cid
-        requires whole { IsWhole W.slot_count W.held self.old }
+        requires whole { IsWhole W.SwapStore self.old }
         requires room { has_room serial (own_connections (machine_of W.held self.old)) ≡ true }
-        ensures whole { IsWhole W.slot_count W.held self.new }
+        ensures whole { IsWhole W.SwapStore self.new }
         ensures answer { result.0 ≡ cid_for serial (own_connections (machine_of W.held self.old)) }
         ensures machine { machine_of W.held self.new ≡ connect_caller serial (machine_of W.held self.old) }
         ensures mem { self.new.mem ≡ self.old.mem }
@@ -52,14 +52,15 @@ impl<W: SwapStore> Kernel<W> {
 
     // CreateServerWithAddress: a server of the caller's process, to which the caller is connected.
     pub(super) fn create_server(&mut self, sid: Sid) -> Result<CallerFate, XousError>
-        requires whole { IsWhole W.slot_count W.held self.old }
+        requires whole { IsWhole W.SwapStore self.old }
         requires matched { Matched (machine_of W.held self.old) }
         requires ready { ready_at (machine_of W.held self.old) self.old.cursor ≡ true }
         requires serials { (servers_of self.old.servers).next < 4294967295 }
-        ensures whole { IsWhole W.slot_count W.held self.new }
+        ensures whole { IsWhole W.SwapStore self.new }
         ensures outcome { let old = machine_of W.held self.old in
             let new = machine_of W.held self.new in
-            outcome_of self.old.cursor new result ≡ unless_refused (create_server_refusals old sid) (Served (create_server_served old sid)) }
+            outcome_of self.old.cursor new result
+            ≡ unless_refused (create_server_refusals old sid) (Served (create_server_served old sid)) }
         ensures undone { IfUndone result (self.new ≡ self.old) }
         ensures mem { self.new.mem ≡ self.old.mem }
         ensures log { self.new.log ≡ self.old.log }
@@ -81,9 +82,10 @@ impl<W: SwapStore> Kernel<W> {
 
     // The caller is connected to a server that is alive, and answered the connection.
     fn connect_to(&mut self, serial: Serial) -> Result<CallerFate, XousError>
-        requires whole { IsWhole W.slot_count W.held self.old }
-        ensures whole { IsWhole W.slot_count W.held self.new }
-        ensures outcome { outcome_of self.old.cursor (machine_of W.held self.new) result ≡ connected_outcome (machine_of W.held self.old) serial }
+        requires whole { IsWhole W.SwapStore self.old }
+        ensures whole { IsWhole W.SwapStore self.new }
+        ensures outcome { outcome_of self.old.cursor (machine_of W.held self.new) result
+            ≡ connected_outcome (machine_of W.held self.old) serial }
         ensures undone { IfUndone result (self.new ≡ self.old) }
         ensures mem { self.new.mem ≡ self.old.mem }
         ensures log { self.new.log ≡ self.old.log }
@@ -96,11 +98,12 @@ impl<W: SwapStore> Kernel<W> {
 
     // Connect: while no live server has the identifier, the call will be made again.
     pub(super) fn connect(&mut self, sid: Sid) -> Result<CallerFate, XousError>
-        requires whole { IsWhole W.slot_count W.held self.old }
-        ensures whole { IsWhole W.slot_count W.held self.new }
+        requires whole { IsWhole W.SwapStore self.old }
+        ensures whole { IsWhole W.SwapStore self.new }
         ensures outcome { let old = machine_of W.held self.old in
             let new = machine_of W.held self.new in
-            outcome_of self.old.cursor new result ≡ unless_retried (is_missing old sid) (unless_refused (connect_refusals old sid) (Served (connect_served old sid))) }
+            outcome_of self.old.cursor new result
+            ≡ unless_retried (is_missing old sid) (unless_refused (connect_refusals old sid) (Served (connect_served old sid))) }
         ensures undone { IfUndone result (self.new ≡ self.old) }
         ensures mem { self.new.mem ≡ self.old.mem }
         ensures log { self.new.log ≡ self.old.log }
@@ -113,11 +116,12 @@ impl<W: SwapStore> Kernel<W> {
 
     // TryConnect: .. and here it is refused.
     pub(super) fn try_connect(&mut self, sid: Sid) -> Result<CallerFate, XousError>
-        requires whole { IsWhole W.slot_count W.held self.old }
-        ensures whole { IsWhole W.slot_count W.held self.new }
+        requires whole { IsWhole W.SwapStore self.old }
+        ensures whole { IsWhole W.SwapStore self.new }
         ensures outcome { let old = machine_of W.held self.old in
             let new = machine_of W.held self.new in
-            outcome_of self.old.cursor new result ≡ unless_refused ((is_missing old sid, NotFound) ∷ connect_refusals old sid) (Served (connect_served old sid)) }
+            outcome_of self.old.cursor new result
+            ≡ unless_refused ((is_missing old sid, NotFound) ∷ connect_refusals old sid) (Served (connect_served old sid)) }
         ensures undone { IfUndone result (self.new ≡ self.old) }
         ensures mem { self.new.mem ≡ self.old.mem }
         ensures log { self.new.log ≡ self.old.log }
@@ -142,14 +146,14 @@ impl<W: SwapStore> Kernel<W> {
     // DestroyServer: a server of the caller's process ends. The loans of its messages end, and whoever
     // waits for one of them or is Receiving there is answered, in ascending order of thread.
     pub(super) fn destroy_server(&mut self, sid: Sid)
-        requires calls { IsCaller W.slot_count W.held self.old }
+        requires calls { IsCaller W.SwapStore self.old }
         requires room { length self.old.log.records + thread_ids PROCESS_LIMIT + 1 ≤ self.old.log.room }
-        ensures whole { IsWhole W.slot_count W.held self.new }
+        ensures whole { IsWhole W.SwapStore self.new }
         ensures usable { IsUsable self.new }
         ensures tells { let m = machine_of W.held self.old in
             Tells W.held self.old self.new (call_settled m (unless_refused (own_server_refusals m sid) (Served (destroy_served m sid)))) }
         ensures none { PutsNoneOut self.old self.new }
-        ensures keeps { Keeps W.is_honest W.held W.slot_count W.asked W.faults self.old self.new }
+        ensures keeps { Keeps W.SwapStore self.old self.new }
     {
         match self.own_server(sid) {
             Some(serial) => destroy(

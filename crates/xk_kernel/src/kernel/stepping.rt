@@ -59,22 +59,22 @@ impl<W: SwapStore> Kernel<W> {
     /// thread that goes on searches nothing, and no step takes memory. Only `close` may follow
     /// a `SwapFault`.
     pub fn step(&mut self) -> Result<Stepped, SwapFault>
-        requires sound { IsSound W.slot_count W.held self.old }
+        requires sound { IsSound W.SwapStore self.old }
         requires usable { IsUsable self.old }
         requires few { (machine_of W.held self.old).steps < 4000000000 }
-        ensures sound { IsSound W.slot_count W.held self.new }
+        ensures sound { IsSound W.SwapStore self.new }
         ensures usable { OnOk result (IsUsable self.new) }
         ensures failed { OnErr result (has_failed self.new.mem ≡ true) }
         ensures counts { IfOk result (CountsStep W.held self.old self.new) }
         ensures there { OnErr result (is_some (actor (machine_of W.held self.old)) ≡ true) }
         // The next state and the records, where bytes are known.
-        ensures does { KnowsBytes W.is_honest W.held self.old self.new → IfOk result (DoesStep W.held self.old self.new) }
+        ensures does { KnowsBytes W.SwapStore self.old self.new → IfOk result (DoesStep W.held self.old self.new) }
         // A swap fault comes only where the store's count rose and pages may move. Only there is a page out afterwards.
         ensures cause { OnErr result (Rose (W.faults (store_of self.old.mem)) (W.faults (store_of self.new.mem))) }
         ensures full { OnErr result (MayExchange W.held self.old) }
         ensures out { none_out self.new.mem ≡ false → MayExchange W.held self.old }
         ensures tie { IsTied W.held self.new.mem }
-        ensures keeps { Keeps W.is_honest W.held W.slot_count W.asked W.faults self.old self.new }
+        ensures keeps { Keeps W.SwapStore self.old self.new }
     {
         let Some(who) = self.actor() else {
             return Ok(Stepped::Idle);
@@ -84,20 +84,20 @@ impl<W: SwapStore> Kernel<W> {
 
     // The step of the thread, whose it is.
     fn step_of(&mut self, who: ThreadId) -> Result<Stepped, SwapFault>
-        requires sound { IsSound W.slot_count W.held self.old }
+        requires sound { IsSound W.SwapStore self.old }
         requires usable { IsUsable self.old }
         requires few { (machine_of W.held self.old).steps < 4000000000 }
         requires who { actor (machine_of W.held self.old) ≡ Some who }
-        ensures sound { IsSound W.slot_count W.held self.new }
+        ensures sound { IsSound W.SwapStore self.new }
         ensures usable { OnOk result (IsUsable self.new) }
         ensures failed { OnErr result (has_failed self.new.mem ≡ true) }
         ensures counts { IfOk result (CountsStep W.held self.old self.new) }
         ensures there { OnErr result (is_some (actor (machine_of W.held self.old)) ≡ true) }
-        ensures does { KnowsBytes W.is_honest W.held self.old self.new → IfOk result (DoesStep W.held self.old self.new) }
+        ensures does { KnowsBytes W.SwapStore self.old self.new → IfOk result (DoesStep W.held self.old self.new) }
         ensures cause { OnErr result (Rose (W.faults (store_of self.old.mem)) (W.faults (store_of self.new.mem))) }
         ensures full { OnErr result (MayExchange W.held self.old) }
         ensures out { none_out self.new.mem ≡ false → MayExchange W.held self.old }
-        ensures keeps { Keeps W.is_honest W.held W.slot_count W.asked W.faults self.old self.new }
+        ensures keeps { Keeps W.SwapStore self.old self.new }
     {
         let number = self.steps + 1;
         let reserved = self.act(who)?;
@@ -110,14 +110,14 @@ impl<W: SwapStore> Kernel<W> {
     // The thread, whose step it is, ends or does its instruction, and answers the address that it has
     // reserved then. The step isn't counted yet.
     fn act(&mut self, who: ThreadId) -> Result<Option<u32>, SwapFault>
-        requires sound { IsSound W.slot_count W.held self.old }
+        requires sound { IsSound W.SwapStore self.old }
         requires usable { IsUsable self.old }
         requires few { self.old.steps < 4000000000 }
         requires who { actor (machine_of W.held self.old) ≡ Some who }
-        ensures whole { IsWhole W.slot_count W.held self.new }
+        ensures whole { IsWhole W.SwapStore self.new }
         ensures usable { OnOk result (IsUsable self.new) }
         ensures failed { OnErr result (has_failed self.new.mem ≡ true) }
-        ensures acts { KnowsBytes W.is_honest W.held self.old self.new → IfOk result (Acts W.held self.old self.new who) }
+        ensures acts { KnowsBytes W.SwapStore self.old self.new → IfOk result (Acts W.held self.old self.new who) }
         // Over any bytes the machine is matched once the step is counted, and the log tells of it.
         ensures settles { OnOk result (Settles (machine_of W.held self.old) (machine_of W.held self.new)) }
         ensures tells { OnOk result (TellsFew self.old self.new) }
@@ -126,7 +126,7 @@ impl<W: SwapStore> Kernel<W> {
             OnErr result ((none_out self.old.mem ≡ false) ⊎ IsCrowded self.old left) }
         ensures out { let left = (told_by who (machine_of W.held self.old)).machine.ledger in
             none_out self.new.mem ≡ false → (none_out self.old.mem ≡ false) ⊎ IsCrowded self.old left }
-        ensures keeps { Keeps W.is_honest W.held W.slot_count W.asked W.faults self.old self.new }
+        ensures keeps { Keeps W.SwapStore self.old self.new }
     {
         let thread = self.thread(who);
         if ends_thread(who, thread.pc) {
@@ -165,16 +165,17 @@ impl<W: SwapStore> Kernel<W> {
 
     // The thread, whose step it is and which stands where threads end, ends with this in a0.
     fn act_end(&mut self, who: ThreadId, a0: u32)
-        requires sound { IsSound W.slot_count W.held self.old }
+        requires sound { IsSound W.SwapStore self.old }
         requires usable { IsUsable self.old }
         requires few { self.old.steps < 4000000000 }
         requires who { actor (machine_of W.held self.old) ≡ Some who }
-        requires ends { (t : ModelThread) → (machine_of W.held self.old).threads who ≡ Some t → (ends_thread who t.pc ≡ true) × (reg_at t.regs 10 ≡ a0) }
-        ensures whole { IsWhole W.slot_count W.held self.new }
+        requires ends { (t : ModelThread) → (machine_of W.held self.old).threads who ≡ Some t → (ends_thread who t.pc ≡ true)
+            × (reg_at t.regs 10 ≡ a0) }
+        ensures whole { IsWhole W.SwapStore self.new }
         ensures usable { IsUsable self.new }
         ensures acts { Acts W.held self.old self.new who None }
         ensures none { PutsNoneOut self.old self.new }
-        ensures keeps { Keeps W.is_honest W.held W.slot_count W.asked W.faults self.old self.new }
+        ensures keeps { Keeps W.SwapStore self.old self.new }
     {
         self.begin(who);
         self.end_thread(a0);
@@ -182,16 +183,17 @@ impl<W: SwapStore> Kernel<W> {
 
     // The thread, whose step it is and which stands where handlers end, ends its handler.
     fn act_handler(&mut self, who: ThreadId)
-        requires sound { IsSound W.slot_count W.held self.old }
+        requires sound { IsSound W.SwapStore self.old }
         requires usable { IsUsable self.old }
         requires few { self.old.steps < 4000000000 }
         requires who { actor (machine_of W.held self.old) ≡ Some who }
-        requires ends { (t : ModelThread) → (machine_of W.held self.old).threads who ≡ Some t → (ends_thread who t.pc ≡ false) × (ends_handler who t.pc ≡ true) }
-        ensures whole { IsWhole W.slot_count W.held self.new }
+        requires ends { (t : ModelThread) → (machine_of W.held self.old).threads who ≡ Some t → (ends_thread who t.pc ≡ false)
+            × (ends_handler who t.pc ≡ true) }
+        ensures whole { IsWhole W.SwapStore self.new }
         ensures usable { IsUsable self.new }
         ensures acts { Acts W.held self.old self.new who None }
         ensures none { PutsNoneOut self.old self.new }
-        ensures keeps { Keeps W.is_honest W.held W.slot_count W.asked W.faults self.old self.new }
+        ensures keeps { Keeps W.SwapStore self.old self.new }
     {
         self.begin(who);
         self.end_handler();
@@ -200,13 +202,18 @@ impl<W: SwapStore> Kernel<W> {
     // A step of the thread begins, which stored the low byte of a value at an offset of the console's
     // page.
     fn tell_console(&mut self, who: ThreadId, offset: u32, value: u32)
-        requires whole { IsWhole W.slot_count W.held self.old }
+        requires whole { IsWhole W.SwapStore self.old }
         requires id { IsTrue (is_thread_id (processes self.old.mem) who) }
         requires few { self.old.steps < 4000000000 }
-        ensures whole { IsWhole W.slot_count W.held self.new }
+        ensures whole { IsWhole W.SwapStore self.new }
         ensures machine { machine_of W.held self.new ≡ record (machine_of W.held self.old) { cursor = who } }
         ensures mem { self.new.mem ≡ self.old.mem }
-        ensures log { self.new.log ≡ record self.old.log { step = self.old.steps + 1; records = map (record_of (self.old.steps + 1)) (console_told who offset value) } }
+        ensures log { self.new.log
+            ≡ record self.old.log {
+              step = self.old.steps + 1;
+              records = map (record_of (self.old.steps + 1))
+                  (console_told who offset value);
+            } }
     {
         self.begin(who);
         if offset == 0 {

@@ -25,7 +25,7 @@ const FIRST_IMAGE: [u8; 88] = [
 // The kernel of an image.
 fn image_kernel<W: SwapStore>(alloc: Global, image: &[u8], store: W) -> Result<Kernel<W>, W>
     requires few { length image.now ≤ 67108864 }
-    ensures sound { IfOk result (λ k. IsSound W.slot_count W.held k) }
+    ensures sound { IfOk result (λ k. IsSound W.SwapStore k) }
     ensures usable { IfOk result (λ k. IsUsable k) }
 {
     let Ok(args) = read_args(alloc, image) else {
@@ -79,9 +79,9 @@ fn memory_parts(rt: HostRuntime) {
 
 // How many of the next 7 steps are quiet, and then one step.
 fn run_and_step<W: SwapStore>(kernel: &mut Kernel<W>) -> Option<u32>
-    requires sound { IsSound W.slot_count W.held kernel.old }
+    requires sound { IsSound W.SwapStore kernel.old }
     requires usable { IsUsable kernel.old }
-    ensures sound { IsSound W.slot_count W.held kernel.new }
+    ensures sound { IsSound W.SwapStore kernel.new }
     ensures usable { IfSome result (λ _. IsUsable kernel.new) }
 {
     if kernel.steps() > 100 {
@@ -101,9 +101,9 @@ fn run_and_step<W: SwapStore>(kernel: &mut Kernel<W>) -> Option<u32>
 
 // The same three times.
 fn three_runs<W: SwapStore>(kernel: &mut Kernel<W>) -> Option<[u32; 3]>
-    requires sound { IsSound W.slot_count W.held kernel.old }
+    requires sound { IsSound W.SwapStore kernel.old }
     requires usable { IsUsable kernel.old }
-    ensures sound { IsSound W.slot_count W.held kernel.new }
+    ensures sound { IsSound W.SwapStore kernel.new }
 {
     let first = run_and_step(kernel)?;
     let second = run_and_step(kernel)?;
@@ -127,9 +127,9 @@ fn quiet_runs(rt: HostRuntime) {
 
 // The bytes of the kernel's state, in a sheet that is made for it.
 fn saved<W: SwapStore>(alloc: Global, kernel: &mut Kernel<W>) -> Option<Sheet>
-    requires sound { IsSound W.slot_count W.held kernel.old }
+    requires sound { IsSound W.SwapStore kernel.old }
     requires usable { IsUsable kernel.old }
-    ensures sound { IsSound W.slot_count W.held kernel.new }
+    ensures sound { IsSound W.SwapStore kernel.new }
     ensures usable { IfSome result (λ _. IsUsable kernel.new) }
 {
     let procs = kernel.procs.procs();
@@ -145,9 +145,9 @@ fn saved<W: SwapStore>(alloc: Global, kernel: &mut Kernel<W>) -> Option<Sheet>
 
 // Whether the state has so many bytes, and the same ones where it is saved again.
 fn is_saved_alike<W: SwapStore>(alloc: Global, kernel: &mut Kernel<W>, size: usize) -> bool
-    requires sound { IsSound W.slot_count W.held kernel.old }
+    requires sound { IsSound W.SwapStore kernel.old }
     requires usable { IsUsable kernel.old }
-    ensures sound { IsSound W.slot_count W.held kernel.new }
+    ensures sound { IsSound W.SwapStore kernel.new }
 {
     let Some(first) = saved(alloc, kernel) else {
         return false;
@@ -177,7 +177,7 @@ fn resumed_kernel<W: SwapStore>(
     one_frame: bool,
     store: W,
 ) -> Result<Kernel<W>, W>
-    ensures sound { IfOk result (λ k. IsSound W.slot_count W.held k) }
+    ensures sound { IfOk result (λ k. IsSound W.SwapStore k) }
     ensures usable { IfOk result (λ k. IsUsable k) }
 {
     let mut store = store;
@@ -214,9 +214,9 @@ fn comes_back<W: SwapStore>(alloc: Global, file: &[u8], one_frame: bool, store: 
 
 // The bytes of the state after five instructions and a call that maps the console.
 fn stepped_bytes<W: SwapStore>(alloc: Global, kernel: &mut Kernel<W>) -> Option<Sheet>
-    requires sound { IsSound W.slot_count W.held kernel.old }
+    requires sound { IsSound W.SwapStore kernel.old }
     requires usable { IsUsable kernel.old }
-    ensures sound { IsSound W.slot_count W.held kernel.new }
+    ensures sound { IsSound W.SwapStore kernel.new }
 {
     run_and_step(kernel)?;
     saved(alloc, kernel)

@@ -25,8 +25,8 @@ impl<W: SwapStore> Kernel<W> {
         sp: u32,
         args: [u32; 4],
     ) -> Result<CallerFate, XousError>
-        requires whole { IsWhole W.slot_count W.held self.old }
-        ensures whole { IsWhole W.slot_count W.held self.new }
+        requires whole { IsWhole W.SwapStore self.old }
+        ensures whole { IsWhole W.SwapStore self.new }
         ensures outcome { let old = machine_of W.held self.old in
             let new = machine_of W.held self.new in
             outcome_of self.old.cursor new result ≡ unless_refused (create_refusals old entry) (Served (create_served old entry sp args)) }
@@ -48,9 +48,9 @@ impl<W: SwapStore> Kernel<W> {
 
     // JoinThread: the caller waits for the end of that thread.
     pub(super) fn join_thread(&mut self, tid: u32) -> Result<CallerFate, XousError>
-        requires whole { IsWhole W.slot_count W.held self.old }
+        requires whole { IsWhole W.SwapStore self.old }
         requires ready { ready_at (machine_of W.held self.old) self.old.cursor ≡ true }
-        ensures whole { IsWhole W.slot_count W.held self.new }
+        ensures whole { IsWhole W.SwapStore self.new }
         ensures outcome { let old = machine_of W.held self.old in
             let new = machine_of W.held self.new in
             outcome_of self.old.cursor new result ≡ unless_refused (join_refusals old tid) (Served (join_served old tid)) }

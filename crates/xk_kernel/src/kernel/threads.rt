@@ -55,10 +55,10 @@ impl<W: SwapStore> Kernel<W> {
 
     // The thread is answered: it has the words in a0 to a7, and is Ready. Its pc stays.
     pub(super) fn answer(&mut self, id: ThreadId, words: [u32; 8])
-        requires whole { IsWhole W.slot_count W.held self.old }
+        requires whole { IsWhole W.SwapStore self.old }
         requires there { IsSome ((machine_of W.held self.old).threads id) }
         requires room { length self.old.log.records < self.old.log.room }
-        ensures whole { IsWhole W.slot_count W.held self.new }
+        ensures whole { IsWhole W.SwapStore self.new }
         ensures tells { let machine = give_answers (answer_to id words) (machine_of W.held self.old) in
             Tells W.held self.old self.new (record { machine = machine; told = Reply id words ∷ [] }) }
         ensures told { length self.new.log.records ≡ length self.old.log.records + 1 }
@@ -72,8 +72,8 @@ impl<W: SwapStore> Kernel<W> {
 
     // The thread goes past the instruction at its pc, where it is still there.
     pub(super) fn pass(&mut self, id: ThreadId)
-        requires whole { IsWhole W.slot_count W.held self.old }
-        ensures whole { IsWhole W.slot_count W.held self.new }
+        requires whole { IsWhole W.SwapStore self.old }
+        ensures whole { IsWhole W.SwapStore self.new }
         ensures machine { machine_of W.held self.new ≡ change_thread id passed (machine_of W.held self.old) }
         ensures mem { self.new.mem ≡ self.old.mem }
         ensures log { self.new.log ≡ self.old.log }
@@ -85,10 +85,10 @@ impl<W: SwapStore> Kernel<W> {
 
     // A step of the thread begins: it is its turn, and there is no record of the step so far.
     pub(super) fn begin(&mut self, who: ThreadId)
-        requires whole { IsWhole W.slot_count W.held self.old }
+        requires whole { IsWhole W.SwapStore self.old }
         requires id { IsTrue (is_thread_id (processes self.old.mem) who) }
         requires few { self.old.steps < 4000000000 }
-        ensures whole { IsWhole W.slot_count W.held self.new }
+        ensures whole { IsWhole W.SwapStore self.new }
         ensures machine { machine_of W.held self.new ≡ record (machine_of W.held self.old) { cursor = who } }
         ensures mem { self.new.mem ≡ self.old.mem }
         ensures log { self.new.log ≡ record self.old.log { step = self.old.steps + 1; records = [] } }

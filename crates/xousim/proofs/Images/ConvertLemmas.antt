@@ -13,7 +13,7 @@ use Rattle.xousim.specs.declared.status.Status.TheVariants.{WriteFault}
 use Rattle.xousim.specs.Outcome.Convert.{EndsConvert, Writes, conversion}
 use Rattle.xousim.specs.Outcome.Images.{IsSoundImage}
 use Rattle.xousim.specs.Outcome.Sides.{Call, OutRose}
-use Rattle.xousim.specs.Reading.{Asked, IsFile, IsTold}
+use Rattle.host_io.specs.Reading.{Asked, IsFile, IsTold}
 use Rattle.xousim.proofs.Images.MatchedLemmas.{no_plan_fault}
 
 -- an image of another version stays as it is

@@ -6,7 +6,7 @@ use Rattle.boot_plan.specs.Faults.{plan_fault}
 use Rattle.boot_plan.specs.FirstPages.{plan_of}
 use Rattle.boot_plan.specs.ImageFault.{IsImageFault}
 use Rattle.boot_plan.proofs.LawfulPlanLemmas.{lawful_plan, plan_can_start}
-use Rattle.event_text.specs.declared.event.Event.{Event}
+use Rattle.xk_base.specs.declared.events.Event.{Event}
 use Rattle.event_text.specs.EventFile.{Input}
 use Rattle.kernel_args.specs.declared.args.Args.{Args}
 use Rattle.kernel_args.specs.declared.faults.ArgFault.{ArgFault}
@@ -17,10 +17,10 @@ use Rattle.machine_model.specs.Runs.Matched.{Matched}
 use Rattle.machine_model.specs.Runs.Moments.{state_at}
 use Rattle.machine_model.specs.State.Machine.{Machine}
 use Rattle.xk_base.specs.declared.limits.TheConstants.{SLOT_LIMIT}
-use Rattle.xk_kernel.specs.HistoryMoments.{moments_of}
-use Rattle.xk_kernel.proofs.Running.MomentLemmas.{history_matched, moments_matched}
+use Rattle.machine_history.specs.HistoryMoments.{moments_of}
+use Rattle.machine_history.proofs.Histories.MomentLemmas.{history_matched, moments_matched}
 use Rattle.xk_kernel.proofs.Starting.FirstLawfulLemmas.{start_of_plan_matched}
-use Rattle.xousim.specs.History.{history_of}
+use Rattle.event_player.specs.History.{history_of}
 use Rattle.xousim.specs.Outcome.Images.{Boots}
 
 -- the cases of an image's fault

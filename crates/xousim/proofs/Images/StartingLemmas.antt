@@ -8,12 +8,12 @@ use Rattle.kernel_args.specs.declared.args.Args.{Args}
 use Rattle.xousim.specs.Outcome.Images.{Image, IsSoundImage}
 use Rattle.xousim.specs.Outcome.Demo.{TellsDemo}
 use Rattle.xousim.specs.Outcome.Sides.{SinkSide, StoreSide, Told}
-use Rattle.xousim.specs.Load.Events.{load_history, load_machine, load_plan}
-use Rattle.xousim.specs.Load.Image.{load_image}
-use Rattle.xousim.specs.Load.Totals.{demo_line, totals_of}
+use Rattle.demo_load.specs.Events.{load_history, load_machine, load_plan}
+use Rattle.demo_load.specs.Image.{load_image}
+use Rattle.demo_load.specs.Totals.{demo_line, totals_of}
 use Rattle.xousim.specs.declared.status.Status.{Status}
 use Rattle.xousim.specs.declared.status.Status.TheVariants.{Done, WriteFault}
-use Rattle.xousim.specs.Reading.{IsFile}
+use Rattle.host_io.specs.Reading.{IsFile}
 use Rattle.boot_plan.specs.declared.plans.BootPlan.{BootPlan}
 use Rattle.machine_model.specs.State.Machine.{Machine}
 use Rattle.sv32_space.specs.Tie.{Held}
@@ -25,12 +25,14 @@ use Rattle.xk_kernel.specs.Start.{start}
 use Rattle.xk_kernel.specs.State.{machine_of}
 use Rattle.xk_kernel.specs.declared.kernel.Kernel.{Kernel}
 use Rattle.xk_kernel.proofs.Starting.StartPageLemmas.{start_pages}
+use Rattle.xk_ports.specs.declared.store.SwapStore.{Ghosts as SwapStore}
 use Rattle.xk_ports.specs.Store.{StoreAsked}
 use Rattle.xk_ports.specs.Told.{Grows, GrowsByPrefix}
-use Rattle.xousim.specs.Gathering.{Text}
-use Rattle.xousim.specs.Outcome.Starts.{IsFull, Room, Stops, room_of}
-use Rattle.xousim.specs.Standing.{Begins, room_in, stand}
-use Rattle.xousim.proofs.Telling.StandingLemmas.{near_means, trusted_means}
+use Rattle.event_player.specs.Gathering.{Text}
+use Rattle.event_player.specs.Rooms.{IsFull, Room}
+use Rattle.xousim.specs.Outcome.Starts.{Stops, room_of}
+use Rattle.event_player.specs.Standing.{Begins, room_in, stand}
+use Rattle.event_player.proofs.Playing.StandingLemmas.{near_means, trusted_means}
 
 -- the start has more pages than there are frames for where its plan has
 pub start_full : (plan : BootPlan) (file : List ℕ) → IsLawfulPlan (length file) plan → page_frames plan.frames (length plan.procs) < planned_pages plan
@@ -58,24 +60,24 @@ room_is k plan s is frames procs =
     ∙ (ap (λ (f : ℕ). record { frames = page_frames f s.procs; processes = s.procs }) frames
     ∙ ap (λ (n : ℕ). record { frames = page_frames plan.frames n; processes = n }) procs)
 
-pub begins : {W : Type 0} (honest : W → Bool) (held : W → Held) (k : Kernel W) (plan : BootPlan) (file : List ℕ) (text : Text) → IsLawfulPlan (length file) plan
-    → ComesTo (MeansBytes honest held k.mem) (machine_of held k) (start plan file)
+pub begins : {W : Type 0} (S : SwapStore W) (k : Kernel W) (plan : BootPlan) (file : List ℕ) (text : Text) → IsLawfulPlan (length file) plan
+    → ComesTo (MeansBytes S k.mem) (machine_of S.held k) (start plan file)
     → (planned_pages plan ≤ page_frames plan.frames (length plan.procs) → none_out k.mem ≡ true) → room_in k ≡ room_of plan
-    → Begins (start plan file) (stand honest held k text)
-begins honest held k plan file text lawful comes near room = record {
-  trusted = λ trusted. comes.whole (trusted_means honest held k trusted);
+    → Begins (start plan file) (stand S k text)
+begins S k plan file text lawful comes near room = record {
+  trusted = λ trusted. comes.whole (trusted_means S k trusted);
   near = go (nat_lt (page_frames plan.frames (length plan.procs)) (planned_pages plan)) refl;
 }
   where
     go : (b : Bool) → nat_lt (page_frames plan.frames (length plan.procs)) (planned_pages plan) ≡ b
-        → ((none_out k.mem ≡ true) × (machine_of held k ≡ start plan file)) ⊎ IsFull (room_in k) (start plan file)
+        → ((none_out k.mem ≡ true) × (machine_of S.held k ≡ start plan file)) ⊎ IsFull (room_in k) (start plan file)
     go true more =
         let R : Room → Type 0 = λ room. IsFull room (start plan file) in
         let full : page_frames plan.frames (length plan.procs) < planned_pages plan = grind (arith, nat_tests) in
         inr (subst R (sym room) (start_full plan file lawful full))
     go false fits =
         let within : planned_pages plan ≤ page_frames plan.frames (length plan.procs) = grind (arith, nat_tests) in
-        inl (near within, comes.whole (near_means honest held k (near within)))
+        inl (near within, comes.whole (near_means S k (near within)))
 
 -- what was asked of the store before a boot stays asked
 pub asked_on : (before mid after : Option (List StoreAsked)) (entry : StoreAsked) → after ≡ mid → Grows before mid (entry ∷ []) → Grows before after (entry ∷ [])

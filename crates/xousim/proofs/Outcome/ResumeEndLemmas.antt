@@ -1,14 +1,15 @@
 -- A call of `resume` without a fault outside ends as its files say.
 use Rattle.std.proofs.Common.{◌≡◌, ◌⊎◌, inl, inr, None, refl}
 use Rattle.machine_model.specs.State.Machine.{Machine}
-use Rattle.xousim.specs.declared.playing.ending.Ending.{Ending}
-use Rattle.xousim.specs.declared.playing.ending.Ending.TheVariants.{Played, LimitMet, BadLine}
+use Rattle.event_player.specs.declared.ending.Ending.{Ending}
+use Rattle.event_player.specs.declared.ending.Ending.TheVariants.{Played, LimitMet, BadLine}
 use Rattle.xousim.specs.declared.status.Status.{Status}
 use Rattle.xousim.specs.declared.status.Status.TheVariants.{Done, Usage, ReadFault, WriteFault, ImageFault, EventFault, StepLimit, SwapFault, NoMemory}
 use Rattle.xousim.specs.Outcome.Plays.{HasCause, Ran, Tells}
 use Rattle.xousim.specs.Outcome.Resumes.{EndsResume, traced}
 use Rattle.xousim.specs.Outcome.Sides.{Call, HostRose, IsUnwritten, OutRose, StoreRose}
-use Rattle.xousim.specs.Outcome.Starts.{Room, StopsIn}
+use Rattle.event_player.specs.Rooms.{Room}
+use Rattle.xousim.specs.Outcome.Starts.{StopsIn}
 use Rattle.xousim.specs.Outcome.States.{RefusesState, StateFile}
 use Rattle.xousim.specs.Outcome.Verdicts.{GoesOnTo, IsResumeComplete, IsResumeVerdict}
 use Rattle.xousim.specs.Words.{Resume}

@@ -5,32 +5,33 @@ use Rattle.std.proofs.Math.Nat.{le-max_left, le-max_right, max-le}
 use Rattle.std.proofs.lemmas.Bool.Decides.{nat_tests}
 use Rattle.boot_plan.specs.Capacity.{page_frames}
 use Rattle.machine_model.specs.State.Machine.{Machine}
-use Rattle.suspend_image.specs.declared.state.State.{State}
-use Rattle.suspend_image.specs.Machines.{machine_of as machine_in}
+use Rattle.state_rows.specs.declared.state.State.{State}
+use Rattle.state_rows.specs.Machines.{machine_of as machine_in}
 use Rattle.sv32_space.specs.Tie.{Held}
 use Rattle.vm_memory.specs.Bytes.{MeansBytes, none_out}
 use Rattle.vm_memory.specs.Memory.{Size, size}
 use Rattle.xk_base.specs.Numbers.Limits.{table_frames}
 use Rattle.xk_kernel.specs.Knowing.{ComesTo}
-use Rattle.xk_kernel.specs.Resuming.Resumable.{CanSplit, resumed_page_frames, resumed_size, state_pages}
+use Rattle.resume_path.specs.Resumable.{CanSplit, resumed_page_frames, resumed_size, state_pages}
 use Rattle.xk_kernel.specs.State.{machine_of}
 use Rattle.xk_kernel.specs.declared.kernel.Kernel.{Kernel}
+use Rattle.xk_ports.specs.declared.store.SwapStore.{Ghosts as SwapStore}
 use Rattle.xk_ports.specs.Store.{StoreAsked}
 use Rattle.xk_ports.specs.Told.{Grows}
 use Rattle.xk_ports.specs.declared.host.FileSlot.TheVariants.{First}
 use Rattle.xousim.specs.Finish.{Booted, Continues, EndsBooted}
-use Rattle.xousim.specs.Gathering.{Text}
+use Rattle.event_player.specs.Gathering.{Text}
 use Rattle.xousim.specs.Outcome.Plays.{HasCause}
 use Rattle.xousim.specs.Outcome.Resumes.{EndsResume, limit_from, traced}
 use Rattle.xousim.specs.Outcome.Sides.{Call, IsTrusted, Prepares, StoreSide, Told}
-use Rattle.xousim.specs.Outcome.Starts.{IsFull, Room}
+use Rattle.event_player.specs.Rooms.{IsFull, Room}
 use Rattle.xousim.specs.Outcome.States.{StateFile, room_from}
-use Rattle.xousim.specs.Reading.{Asked, IsFile, IsTold}
-use Rattle.xousim.specs.Standing.{Begins, room_in, stand}
+use Rattle.host_io.specs.Reading.{Asked, IsFile, IsTold}
+use Rattle.event_player.specs.Standing.{Begins, room_in, stand}
 use Rattle.xousim.specs.StateFiles.{IsSoundState, Restores}
 use Rattle.xousim.specs.Words.{Resume}
 use Rattle.xousim.proofs.Outcome.TopLemmas.{Before, IsBefore, asks_both, begun_at, cause_earlier, rose_after, tells_earlier}
-use Rattle.xousim.proofs.Telling.StandingLemmas.{near_means, trusted_means}
+use Rattle.event_player.proofs.Playing.StandingLemmas.{near_means, trusted_means}
 
 -- ---- the start
 
@@ -50,24 +51,24 @@ pub resumed_steps : {W : Type 0} (held : W → Held) (known : Type 0) (k : Kerne
     → ComesTo known (machine_of held k) (machine_in file state) → (machine_of held k).steps ≡ state.steps
 resumed_steps held known k file state comes = ap (λ (m : Machine). m.steps) comes.alike
 
-pub resumed_begins : {W : Type 0} (honest : W → Bool) (held : W → Held) (k : Kernel W) (file : List ℕ) (state : State) (slots : ℕ) (text : Text)
-    → ComesTo (MeansBytes honest held k.mem) (machine_of held k) (machine_in file state)
+pub resumed_begins : {W : Type 0} (S : SwapStore W) (k : Kernel W) (file : List ℕ) (state : State) (slots : ℕ) (text : Text)
+    → ComesTo (MeansBytes S k.mem) (machine_of S.held k) (machine_in file state)
     → (state_pages file state ≤ resumed_page_frames state slots → none_out k.mem ≡ true) → size k.mem ≡ resumed_size state slots
-    → Begins (machine_in file state) (stand honest held k text)
-resumed_begins honest held k file state slots text comes near is = record {
-  trusted = λ trusted. comes.whole (trusted_means honest held k trusted);
+    → Begins (machine_in file state) (stand S k text)
+resumed_begins S k file state slots text comes near is = record {
+  trusted = λ trusted. comes.whole (trusted_means S k trusted);
   near = go (nat_lt (resumed_page_frames state slots) (state_pages file state)) refl;
 }
   where
     go : (b : Bool) → nat_lt (resumed_page_frames state slots) (state_pages file state) ≡ b
-        → ((none_out k.mem ≡ true) × (machine_of held k ≡ machine_in file state)) ⊎ IsFull (room_in k) (machine_in file state)
+        → ((none_out k.mem ≡ true) × (machine_of S.held k ≡ machine_in file state)) ⊎ IsFull (room_in k) (machine_in file state)
     go true more =
         let R : Room → Type 0 = λ room. IsFull room (machine_in file state) in
         let full : resumed_page_frames state slots < state_pages file state = grind (arith, nat_tests) in
         inr (subst R (sym (resumed_room k file state slots is)) full)
     go false fits =
         let within : state_pages file state ≤ resumed_page_frames state slots = grind (arith, nat_tests) in
-        inl (near within, comes.whole (near_means honest held k (near within)))
+        inl (near within, comes.whole (near_means S k (near within)))
 
 -- what the file of a command spells is what was resumed
 abbrev pub state_file_of : (file : Told) (name bytes read : List ℕ) (slots : ℕ) (state : State) → IsFile file name bytes

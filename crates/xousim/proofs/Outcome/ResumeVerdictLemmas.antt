@@ -4,22 +4,22 @@ use Rattle.std.proofs.lemmas.Bool.Decides.{nat_tests}
 use Rattle.kernel_args.specs.declared.faults.ArgFault.{ArgFault}
 use Rattle.boot_plan.specs.FaultNumbers.{too_long}
 use Rattle.machine_model.specs.State.Machine.{Machine}
-use Rattle.suspend_image.specs.declared.state.State.{State}
+use Rattle.state_rows.specs.declared.state.State.{State}
 use Rattle.suspend_image.specs.FileFaults.{IsFirstFault}
-use Rattle.suspend_image.specs.Machines.{machine_of}
+use Rattle.state_rows.specs.Machines.{machine_of}
 use Rattle.suspend_image.proofs.FaultLemmas.{fault_once, matched_has_no_fault}
 use Rattle.suspend_image.proofs.SpellsLemmas.{spelled_once}
-use Rattle.xk_kernel.specs.Resuming.Resumable.{CanSplit, IsResumable}
+use Rattle.resume_path.specs.Resumable.{CanSplit, IsResumable}
 use Rattle.xousim.specs.declared.commands.states.TheConstants.{STATE_LIMIT}
-use Rattle.xousim.specs.declared.playing.ending.Ending.{Ending}
-use Rattle.xousim.specs.declared.playing.ending.Ending.TheVariants.{Played, LimitMet, BadLine}
+use Rattle.event_player.specs.declared.ending.Ending.{Ending}
+use Rattle.event_player.specs.declared.ending.Ending.TheVariants.{Played, LimitMet, BadLine}
 use Rattle.xousim.specs.declared.status.Status.{Status}
 use Rattle.xousim.specs.declared.status.Status.TheVariants.{Done, Usage, ReadFault, WriteFault, ImageFault, EventFault, StepLimit, SwapFault, NoMemory}
-use Rattle.xousim.specs.Outcome.Plays.{run_of}
+use Rattle.event_player.specs.History.{run_of}
 use Rattle.xousim.specs.Outcome.Resumes.{limit_from}
 use Rattle.xousim.specs.Outcome.States.{StateFile}
 use Rattle.xousim.specs.Outcome.Verdicts.{GoesOnTo, IsResumeVerdict}
-use Rattle.xousim.specs.Reading.{IsFile}
+use Rattle.host_io.specs.Reading.{IsFile}
 use Rattle.xousim.specs.StateFiles.{IsBadSplit, IsSplitFault, IsStateFault, Restores}
 use Rattle.xousim.specs.Words.{Resume}
 use Rattle.xousim.proofs.Outcome.VerdictLemmas.{same_bytes, status_of}

@@ -13,37 +13,39 @@ use Rattle.sv32_space.specs.Tie.{Held}
 use Rattle.vm_memory.specs.Memory.{Size, capacity_of, processes as processes_in, size}
 use Rattle.xk_base.specs.Outside.{Rose}
 use Rattle.xk_base.specs.declared.records.Rec.{Rec}
-use Rattle.xk_kernel.specs.HistoryMoments.{moments_of}
+use Rattle.machine_history.specs.HistoryMoments.{moments_of}
 use Rattle.xk_kernel.specs.Sound.{Keeps}
 use Rattle.xk_kernel.specs.State.{machine_of}
 use Rattle.xk_kernel.specs.declared.kernel.Kernel.{Kernel}
+use Rattle.xk_ports.specs.declared.store.SwapStore.{Ghosts as SwapStore}
 use Rattle.xk_ports.specs.Host.{IsLeftOf}
 use Rattle.xk_ports.specs.Told.{Grows, GrowsByPrefix}
 use Rattle.xk_ports.specs.declared.host.FileSlot.TheVariants.{First}
-use Rattle.xousim.specs.declared.commands.command.Telling.TheVariants.{Nothing}
-use Rattle.xousim.specs.declared.playing.ending.Ending.{Ending}
-use Rattle.xousim.specs.declared.playing.ending.Ending.TheVariants.{Played}
+use Rattle.event_player.specs.declared.telling.Telling.TheVariants.{Nothing}
+use Rattle.event_player.specs.declared.ending.Ending.{Ending}
+use Rattle.event_player.specs.declared.ending.Ending.TheVariants.{Played}
 use Rattle.xousim.specs.declared.status.Status.{Status}
 use Rattle.xousim.specs.declared.status.Status.TheVariants.{Done, Usage, ReadFault, WriteFault, ImageFault, EventFault, StepLimit, SwapFault, NoMemory}
 use Rattle.xousim.specs.Finish.{Booted, EndsSilently, HasSaveCause, SavesState, Starts}
-use Rattle.xousim.specs.Gathering.{Text}
-use Rattle.xousim.specs.History.{History}
+use Rattle.event_player.specs.Gathering.{Text}
+use Rattle.event_player.specs.History.{History, run_of}
 use Rattle.xousim.specs.Outcome.Images.{plan_in}
-use Rattle.xousim.specs.Outcome.Plays.{HasCause, RanFull, run_of}
+use Rattle.xousim.specs.Outcome.Plays.{HasCause, RanFull}
 use Rattle.xousim.specs.Outcome.Sides.{Call, IsTrusted, StoreSide, Told}
-use Rattle.xousim.specs.Outcome.Starts.{ComesFull, Room, room_of}
+use Rattle.event_player.specs.Rooms.{ComesFull, Room}
+use Rattle.xousim.specs.Outcome.Starts.{room_of}
 use Rattle.xousim.specs.Outcome.Suspends.{EndsSuspend, RanUnsaved, Saves, saved_at, saved_of, silent}
-use Rattle.xousim.specs.Playing.{LeavesNear, run_from}
-use Rattle.xk_kernel.specs.Reserved.{IsReservedByThread}
-use Rattle.xousim.specs.Reading.{Asked, IsFile, IsTold}
-use Rattle.xousim.specs.Standing.{Stand, room_in}
-use Rattle.xousim.specs.Telling.{told}
+use Rattle.event_player.specs.Playing.{LeavesNear, run_from}
+use Rattle.machine_history.specs.Reserved.{IsReservedByThread}
+use Rattle.host_io.specs.Reading.{Asked, IsFile, IsTold}
+use Rattle.event_player.specs.Standing.{Stand, room_in}
+use Rattle.event_player.specs.Telling.{told}
 use Rattle.xousim.specs.Words.{Play, Suspend}
-use Rattle.xousim.specs.Writing.{Wrote, WroteSome}
-use Rattle.xousim.proofs.Continuing.ReserverLemmas.{history_reserver, unreserved_known}
+use Rattle.event_player.specs.Writing.{Wrote, WroteSome}
+use Rattle.xousim.proofs.ReserverLemmas.{history_reserver, unreserved_known}
 use Rattle.xousim.proofs.Outcome.TopLemmas.{Before, IsBefore, asks_both, begun_at, cause_earlier, full_on, prepared_earlier, rose_after}
-use Rattle.xousim.proofs.Reading.ReadingLemmas.{told_file}
-use Rattle.xousim.proofs.Telling.GatheringLemmas.{first_none}
+use Rattle.host_io.proofs.ReadingLemmas.{told_file}
+use Rattle.event_player.proofs.Playing.GatheringLemmas.{first_none}
 
 -- ---- the start
 
@@ -71,9 +73,9 @@ sheet_room held k plan n cap room same slots processes pages is =
     subst L (needed ∙ sym made) (at_most_itself own)
 
 -- .. which stays so
-pub room_kept : {W P : Type 0} {honest : W → Bool} {held : W → Held} {slots : W → ℕ} {asked : W → P} {faults : W → ℕ} {old new : Kernel W} (room : ℕ)
-    → Keeps honest held slots asked faults old new → room_for (machine_of held old).processes (machine_of held old).capacity ≤ room
-    → room_for (machine_of held new).processes (machine_of held new).capacity ≤ room
+pub room_kept : {W : Type 0} {S : SwapStore W} {old new : Kernel W} (room : ℕ)
+    → Keeps S old new → room_for (machine_of S.held old).processes (machine_of S.held old).capacity ≤ room
+    → room_for (machine_of S.held new).processes (machine_of S.held new).capacity ≤ room
 unfolding machine_of
 room_kept room keeps within =
     let F : Size → Type 0 = λ s. room_for s.procs (capacity s.area.frames s.procs s.slots) ≤ room in subst F (sym keeps.size) within

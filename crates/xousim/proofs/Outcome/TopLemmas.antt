@@ -10,21 +10,22 @@ use Rattle.xk_ports.proofs.ToldLemmas.{Grows-append}
 use Rattle.machine_model.specs.Runs.Moments.{Moment}
 use Rattle.machine_model.specs.State.Machine.{Machine}
 use Rattle.xousim.specs.declared.commands.command.CommandWords.{CommandWords}
-use Rattle.xousim.specs.declared.commands.command.Telling.{Telling}
-use Rattle.xousim.specs.declared.playing.ending.Ending.{Ending}
+use Rattle.event_player.specs.declared.telling.Telling.{Telling}
+use Rattle.event_player.specs.declared.ending.Ending.{Ending}
 use Rattle.xousim.specs.declared.status.Status.{Status}
 use Rattle.xousim.specs.declared.status.Status.TheVariants.{Done, Usage, ReadFault, WriteFault, ImageFault, EventFault, StepLimit, SwapFault, NoMemory}
 use Rattle.xousim.specs.Finish.{Booted, EndsBooted, Finishes, Starts}
-use Rattle.xousim.specs.History.{History}
+use Rattle.event_player.specs.History.{History, run_of}
 use Rattle.xousim.specs.Outcome.Ends.{Ends}
-use Rattle.xousim.specs.Outcome.Plays.{AsksBoth, EndsPlay, HasCause, Tells, run_of}
+use Rattle.xousim.specs.Outcome.Plays.{AsksBoth, EndsPlay, HasCause, Tells}
 use Rattle.xousim.specs.Outcome.Sides.{Call, IsTrusted, Prepares, StoreSide, Told}
-use Rattle.xousim.specs.Outcome.Starts.{ComesFull, Room, room_of}
+use Rattle.event_player.specs.Rooms.{ComesFull, Room}
+use Rattle.xousim.specs.Outcome.Starts.{room_of}
 use Rattle.xousim.specs.Outcome.Images.{plan_in}
-use Rattle.xousim.specs.Reading.{Asked, IsFile, IsTold}
-use Rattle.xousim.specs.Telling.{closing, output, told}
+use Rattle.host_io.specs.Reading.{Asked, IsFile, IsTold}
+use Rattle.event_player.specs.Telling.{closing, output, told}
 use Rattle.xousim.specs.Words.{Command, Play, command_in}
-use Rattle.xousim.specs.Writing.{Wrote}
+use Rattle.event_player.specs.Writing.{Wrote}
 
 -- a count that rose later rose
 pub rose_after : (old mid new : ℕ) → old ≤ mid → Rose mid new → Rose old new

@@ -11,8 +11,8 @@ use Rattle.boot_plan.proofs.ImageFaultLemmas.{image_fault_once}
 use Rattle.machine_model.specs.State.Machine.{Machine}
 use Rattle.xk_base.specs.declared.limits.TheConstants.{IMAGE_LIMIT, SLOT_LIMIT}
 use Rattle.xk_kernel.specs.Start.{start}
-use Rattle.xousim.specs.declared.playing.ending.Ending.{Ending}
-use Rattle.xousim.specs.declared.playing.ending.Ending.TheVariants.{Played, LimitMet, BadLine}
+use Rattle.event_player.specs.declared.ending.Ending.{Ending}
+use Rattle.event_player.specs.declared.ending.Ending.TheVariants.{Played, LimitMet, BadLine}
 use Rattle.xousim.specs.declared.status.Status.{Status}
 use Rattle.xousim.specs.declared.status.Status.TheVariants.{Done, Usage, ReadFault, WriteFault, ImageFault, EventFault, StepLimit, SwapFault, NoMemory}
 use Rattle.xousim.specs.Outcome.Check.{EndsCheck, Summarizes}
@@ -20,14 +20,16 @@ use Rattle.xousim.specs.Outcome.Convert.{EndsConvert, IsConversion, Writes, conv
 use Rattle.xousim.specs.Outcome.Demo.{Demonstrates, TellsDemo}
 use Rattle.xousim.specs.Outcome.Ends.{Ends, EndsCommand}
 use Rattle.xousim.specs.Outcome.Images.{Boots, Image, IsPlanned, Refuses, plan_in}
-use Rattle.xousim.specs.Outcome.Plays.{EndsPlay, HasCause, Ran, Tells, run_of}
+use Rattle.xousim.specs.Outcome.Plays.{EndsPlay, HasCause, Ran, Tells}
+use Rattle.event_player.specs.History.{run_of}
 use Rattle.xousim.specs.Outcome.Sides.{Call, HostRose, IsUnwritten, OutRose, StoreRose}
-use Rattle.xousim.specs.Outcome.Starts.{Room, Stops}
+use Rattle.event_player.specs.Rooms.{Room}
+use Rattle.xousim.specs.Outcome.Starts.{Stops}
 use Rattle.xousim.specs.Outcome.Suspends.{EndsSuspend, Saves, silent}
 use Rattle.xousim.specs.Outcome.Verdicts.{IsCheckComplete, IsCheckVerdict, IsCommandComplete, IsComplete, IsConvertComplete, IsConvertVerdict, IsPlayComplete, IsSuspendComplete, IsVerdict, RunsTo}
 use Rattle.boot_plan.specs.declared.plans.BootPlan.{BootPlan}
-use Rattle.xousim.specs.Load.Events.{load_machine, load_plan}
-use Rattle.xousim.specs.Reading.{IsFile}
+use Rattle.demo_load.specs.Events.{load_machine, load_plan}
+use Rattle.host_io.specs.Reading.{IsFile}
 use Rattle.xousim.specs.Words.{Check, Command, Plays, Checks, Converts, Demo, Suspends, Resumes, Play, Suspend}
 use Rattle.xousim.proofs.Outcome.ResumeEndLemmas.{resume_complete}
 

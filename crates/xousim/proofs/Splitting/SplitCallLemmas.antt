@@ -9,19 +9,20 @@ use Rattle.boot_plan.specs.declared.plans.BootPlan.{BootPlan}
 use Rattle.boot_plan.proofs.ImageFaultLemmas.{image_fault_once}
 use Rattle.machine_model.specs.State.Machine.{Machine}
 use Rattle.xk_ports.specs.Told.{Grows}
-use Rattle.xousim.specs.declared.playing.ending.Ending.{Ending}
-use Rattle.xousim.specs.declared.playing.ending.Ending.TheVariants.{Played, LimitMet, BadLine}
+use Rattle.event_player.specs.declared.ending.Ending.{Ending}
+use Rattle.event_player.specs.declared.ending.Ending.TheVariants.{Played, LimitMet, BadLine}
 use Rattle.xousim.specs.declared.status.Status.{Status}
 use Rattle.xousim.specs.declared.status.Status.TheVariants.{Done, Usage, ReadFault, WriteFault, ImageFault, EventFault, StepLimit, SwapFault, NoMemory}
-use Rattle.xousim.specs.History.{History}
+use Rattle.event_player.specs.History.{History, run_of}
 use Rattle.xousim.specs.Outcome.Images.{Boots, IsSoundImage, Refuses, plan_in}
-use Rattle.xousim.specs.Outcome.Plays.{EndsPlay, EndsPlayed, HasCause, Ran, Tells, run_of}
+use Rattle.xousim.specs.Outcome.Plays.{EndsPlay, EndsPlayed, HasCause, Ran, Tells}
 use Rattle.xousim.specs.Outcome.Sides.{Call, HostRose, IsTrusted, StoreSide}
-use Rattle.xousim.specs.Outcome.Starts.{Room, Stops, room_of}
-use Rattle.xousim.specs.Reading.{IsFile}
+use Rattle.event_player.specs.Rooms.{Room}
+use Rattle.xousim.specs.Outcome.Starts.{Stops, room_of}
+use Rattle.host_io.specs.Reading.{IsFile}
 use Rattle.xousim.specs.SplitCalls.{EndAlike, PlaysOn, is_cut_short}
 use Rattle.xousim.specs.Splits.{Setup, SplitOneCapacity}
-use Rattle.xousim.specs.Telling.{output}
+use Rattle.event_player.specs.Telling.{output}
 use Rattle.xousim.specs.Words.{Play}
 use Rattle.xousim.proofs.Splitting.SplitLemmas.{splits_play_alike}
 

@@ -25,11 +25,11 @@ use Rattle.boot_plan.proofs.MovedLemmas.{HasMoved}
 use Rattle.boot_plan.proofs.NoFaultLemmas.{IsFaultless, all_faultless}
 use Rattle.machine_model.specs.State.Machine.{Machine}
 use Rattle.xk_kernel.specs.Start.{start}
-use Rattle.xousim.specs.declared.commands.command.Telling.{Telling}
+use Rattle.event_player.specs.declared.telling.Telling.{Telling}
 use Rattle.xousim.specs.Outcome.Images.{Boots, IsSoundImage}
-use Rattle.xousim.specs.Outcome.Plays.{run_of}
+use Rattle.event_player.specs.History.{run_of}
 use Rattle.xousim.specs.Splits.{Setup, DifferInRam, SplitOneCapacity, says_ram}
-use Rattle.xousim.specs.Telling.{output}
+use Rattle.event_player.specs.Telling.{output}
 use Rattle.xousim.proofs.Images.MatchedLemmas.{no_plan_fault}
 use Rattle.xousim.proofs.Images.MovedStartLemmas.{StandsMoved, processes_moved, room_of, shown, start_shown, started}
 

@@ -4,10 +4,11 @@ use Rattle.boot_plan.specs.declared.plans.BootPlan.{BootPlan}
 use Rattle.xk_ports.specs.declared.host.FileSlot.TheVariants.{First}
 use Rattle.xk_ports.specs.Told.{Grows, GrowsByPrefix}
 use Rattle.xousim.specs.declared.status.Status.{Status}
-use Rattle.xousim.specs.declared.status.Status.TheVariants.{Done, Usage, ReadFault, WriteFault, ImageFault, EventFault, StepLimit, SwapFault, NoMemory}
+use Rattle.xousim.specs.declared.status.Status.TheVariants.{Done, Usage, ReadFault, WriteFault, ImageFault, EventFault, StepLimit}
+use Rattle.xousim.specs.declared.status.Status.TheVariants.{SwapFault, NoMemory}
 use Rattle.xousim.specs.Outcome.Images.{EndsUnplanned, IsPlanned}
 use Rattle.xousim.specs.Outcome.Sides.{Call, OutRose, SinkSide}
-use Rattle.xousim.specs.Reading.{Asked, IsTold}
+use Rattle.host_io.specs.Reading.{Asked, IsTold}
 use Rattle.xousim.specs.Summary.{summary_of}
 use Rattle.xousim.specs.Words.{Check}
 

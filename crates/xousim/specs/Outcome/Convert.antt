@@ -8,10 +8,11 @@ use Rattle.xk_base.specs.declared.limits.TheConstants.{IMAGE_LIMIT, SLOT_LIMIT}
 use Rattle.xk_ports.specs.declared.host.FileSlot.TheVariants.{First}
 use Rattle.xk_ports.specs.Told.{Grows, GrowsByPrefix}
 use Rattle.xousim.specs.declared.status.Status.{Status}
-use Rattle.xousim.specs.declared.status.Status.TheVariants.{Done, Usage, ReadFault, WriteFault, ImageFault, EventFault, StepLimit, SwapFault, NoMemory}
+use Rattle.xousim.specs.declared.status.Status.TheVariants.{Done, Usage, ReadFault, WriteFault, ImageFault, EventFault, StepLimit}
+use Rattle.xousim.specs.declared.status.Status.TheVariants.{SwapFault, NoMemory}
 use Rattle.xousim.specs.Outcome.Images.{EndsUnplanned, IsSoundImage}
 use Rattle.xousim.specs.Outcome.Sides.{Call, OutRose, SinkSide, Told}
-use Rattle.xousim.specs.Reading.{Asked, IsFile, IsTold}
+use Rattle.host_io.specs.Reading.{Asked, IsFile, IsTold}
 
 -- what is written of an image with these arguments: one of version 1 is converted, one of version 2 stays as it is
 abbrev pub conversion : List ℕ → Args → List ℕ

@@ -1,20 +1,23 @@
 -- How a call of `demo` ends.
 use Rattle.std.specs.Prelude.{◌≡◌, ◌⊎◌, ℕ, true, None}
 use Rattle.xk_base.specs.declared.limits.TheConstants.{DEFAULT_STEPS}
-use Rattle.xk_kernel.specs.HistoryMoments.{moments_of}
+use Rattle.machine_history.specs.HistoryMoments.{moments_of}
 use Rattle.xk_ports.specs.Told.{Grows, GrowsByPrefix}
 use Rattle.xousim.specs.declared.status.Status.{Status}
-use Rattle.xousim.specs.declared.status.Status.TheVariants.{Done, Usage, ReadFault, WriteFault, ImageFault, EventFault, StepLimit, SwapFault, NoMemory}
-use Rattle.xousim.specs.Load.Events.{load_events, load_history, load_machine, load_plan}
-use Rattle.xousim.specs.Load.Totals.{demo_line, totals_of}
+use Rattle.xousim.specs.declared.status.Status.TheVariants.{Done, Usage, ReadFault, WriteFault, ImageFault, EventFault, StepLimit}
+use Rattle.xousim.specs.declared.status.Status.TheVariants.{SwapFault, NoMemory}
+use Rattle.demo_load.specs.Events.{load_events, load_history, load_machine, load_plan}
+use Rattle.demo_load.specs.Totals.{demo_line, totals_of}
 use Rattle.xousim.specs.Outcome.Sides.{Call, OutRose, Prepares, SinkSide, StoreRose, StoreSide}
-use Rattle.xousim.specs.Outcome.Starts.{ComesFull, Stops, room_of}
+use Rattle.event_player.specs.Rooms.{ComesFull}
+use Rattle.xousim.specs.Outcome.Starts.{Stops, room_of}
 
 -- The load of so many clients was played, in a run without slots, and what was written, by the status: the line that sums up its history, a
 -- part of it, or nothing, where the store failed: its count rose, and some state of the run has more pages than there are frames for.
 abbrev pub TellsDemo : ℕ → SinkSide → StoreSide → Status → Type 0
 TellsDemo clients out store Done = Grows out.written out.written_after (demo_line clients (totals_of (load_history clients).records))
-TellsDemo clients out store WriteFault = GrowsByPrefix out.written out.written_after (demo_line clients (totals_of (load_history clients).records))
+TellsDemo clients out store WriteFault =
+    GrowsByPrefix out.written out.written_after (demo_line clients (totals_of (load_history clients).records))
 TellsDemo clients out store NoMemory = ⊥
 TellsDemo clients out store SwapFault =
     StoreRose store

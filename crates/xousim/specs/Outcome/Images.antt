@@ -9,9 +9,10 @@ use Rattle.machine_model.specs.State.Machine.{Machine}
 use Rattle.xk_kernel.specs.Start.{start}
 use Rattle.xk_ports.specs.declared.host.FileSlot.TheVariants.{First}
 use Rattle.xousim.specs.declared.status.Status.{Status}
-use Rattle.xousim.specs.declared.status.Status.TheVariants.{Done, Usage, ReadFault, WriteFault, ImageFault, EventFault, StepLimit, SwapFault, NoMemory}
+use Rattle.xousim.specs.declared.status.Status.TheVariants.{Done, Usage, ReadFault, WriteFault, ImageFault, EventFault, StepLimit}
+use Rattle.xousim.specs.declared.status.Status.TheVariants.{SwapFault, NoMemory}
 use Rattle.xousim.specs.Outcome.Sides.{Call, HostRose, IsUnwritten, Told}
-use Rattle.xousim.specs.Reading.{AsksFor, IsFile}
+use Rattle.host_io.specs.Reading.{AsksFor, IsFile}
 
 -- The image has no fault in a run that asks for these slots, and these are its arguments.
 pub record IsSoundImage (image : List ℕ) (asked : Option ℕ) (args : Args) : Type 0 where

@@ -3,24 +3,22 @@ use Rattle.std.specs.Prelude.{◌≡◌, ◌≤◌, ◌⊎◌, ℕ, Bool, true, 
 use Rattle.event_text.specs.EventFile.{input_of}
 use Rattle.event_text.specs.Lines.{whole_lines}
 use Rattle.machine_model.specs.State.Machine.{Machine}
-use Rattle.xk_kernel.specs.HistoryMoments.{moments_of}
+use Rattle.machine_history.specs.HistoryMoments.{moments_of}
 use Rattle.xk_ports.specs.declared.host.FileSlot.TheVariants.{First, Second}
 use Rattle.xk_ports.specs.Told.{Grows, GrowsByPrefix}
-use Rattle.xousim.specs.declared.playing.ending.Ending.{Ending}
-use Rattle.xousim.specs.declared.playing.ending.Ending.TheVariants.{Played, LimitMet, BadLine}
+use Rattle.event_player.specs.declared.ending.Ending.{Ending}
+use Rattle.event_player.specs.declared.ending.Ending.TheVariants.{Played, LimitMet, BadLine}
 use Rattle.xousim.specs.declared.status.Status.{Status}
-use Rattle.xousim.specs.declared.status.Status.TheVariants.{Done, Usage, ReadFault, WriteFault, ImageFault, EventFault, StepLimit, SwapFault, NoMemory}
-use Rattle.xousim.specs.History.{History, history_of}
+use Rattle.xousim.specs.declared.status.Status.TheVariants.{Done, Usage, ReadFault, WriteFault, ImageFault, EventFault, StepLimit}
+use Rattle.xousim.specs.declared.status.Status.TheVariants.{SwapFault, NoMemory}
+use Rattle.event_player.specs.History.{History, history_of}
 use Rattle.xousim.specs.Outcome.Images.{EndsUnplanned, Image, plan_in}
 use Rattle.xousim.specs.Outcome.Sides.{Call, HostRose, IsTrusted, IsUnprepared, IsUnwritten, OutRose, Prepares, StoreRose}
-use Rattle.xousim.specs.Outcome.Starts.{ComesFull, Room, Stops, room_of}
-use Rattle.xousim.specs.Reading.{Asked, IsFile, IsReadOf, IsTold}
-use Rattle.xousim.specs.Telling.{output, told}
+use Rattle.event_player.specs.Rooms.{ComesFull, Room}
+use Rattle.xousim.specs.Outcome.Starts.{Stops, room_of}
+use Rattle.host_io.specs.Reading.{Asked, IsFile, IsReadOf, IsTold}
+use Rattle.event_player.specs.Telling.{output, told}
 use Rattle.xousim.specs.Words.{Play}
-
--- the history of a machine over the events of a file, up to a step limit
-abbrev pub run_of : ℕ → Machine → List ℕ → History
-run_of limit machine events = history_of (input_of events) limit machine
 
 -- ---- what was written
 

@@ -2,13 +2,13 @@
 use Rattle.std.specs.Prelude.{◌≡◌, ◌⊎◌, ℕ, nat_le, if◌then◌else◌, true, false, [], Some, None}
 use Rattle.machine_model.specs.State.Machine.{Machine}
 use Rattle.xk_ports.specs.declared.host.FileSlot.TheVariants.{First}
-use Rattle.xousim.specs.declared.commands.command.Telling.TheVariants.{Trace}
+use Rattle.event_player.specs.declared.telling.Telling.TheVariants.{Trace}
 use Rattle.xousim.specs.declared.status.Status.TheVariants.{Done, ReadFault}
 use Rattle.xousim.specs.Outcome.Plays.{AsksBoth, HasCause, Tells}
 use Rattle.xousim.specs.Outcome.Sides.{Call, HostRose, IsTrusted, IsUnprepared, IsUnwritten, Prepares}
 use Rattle.xousim.specs.Outcome.Starts.{StopsIn}
 use Rattle.xousim.specs.Outcome.States.{RefusesState, StateFile, room_from}
-use Rattle.xousim.specs.Reading.{Asked, AsksFor, IsTold}
+use Rattle.host_io.specs.Reading.{Asked, AsksFor, IsTold}
 use Rattle.xousim.specs.Words.{Play, Resume}
 
 -- the step limit of a run that goes on from a machine: the one given, or the steps that were done where they are more

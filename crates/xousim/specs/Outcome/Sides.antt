@@ -3,6 +3,10 @@
 use Rattle.std.specs.Prelude.{◌≡◌, ◌==◌, ◌||◌, ◌⊎◌, ℕ, Bool, IsTrue, List, [], ◌∷◌, Option}
 use Rattle.sv32_space.specs.Tie.{Held}
 use Rattle.xk_base.specs.Outside.{Rose}
+use Rattle.xk_ports.specs.declared.host.Host.{Ghosts as Host}
+use Rattle.xk_ports.specs.declared.sink.Sink.{Ghosts as Sink}
+use Rattle.xk_ports.specs.declared.store.SwapStore.{Ghosts as SwapStore}
+use Rattle.xk_ports.specs.declared.host.FileSlot.TheVariants.{First, Second}
 use Rattle.xk_ports.specs.Host.{FileAsked}
 use Rattle.xk_ports.specs.Keeping.{tells_truly}
 use Rattle.xk_ports.specs.Store.{StoreAsked}
@@ -24,12 +28,33 @@ pub record HostSide : Type 0 where
   pub faults : ℕ
   pub faults_after : ℕ
 
+-- the side of a host before the call and after it
+abbrev pub host_side : {H : Type 0} → Host H → H → H → HostSide
+host_side S old new = record {
+  files = S.file old;
+  asked = S.asked old;
+  asked_after = S.asked new;
+  image_left = S.left new First;
+  left = S.left new Second;
+  faults = S.faults old;
+  faults_after = S.faults new;
+}
+
 -- what stands on a sink, and its count of faults, before the call and after it
 pub record SinkSide : Type 0 where
   pub written : Option (List ℕ)
   pub written_after : Option (List ℕ)
   pub faults : ℕ
   pub faults_after : ℕ
+
+-- the side of a sink before the call and after it
+abbrev pub sink_side : {K : Type 0} → Sink K → K → K → SinkSide
+sink_side S old new = record {
+  written = S.written old;
+  written_after = S.written new;
+  faults = S.faults old;
+  faults_after = S.faults new;
+}
 
 -- What a call meets at the store: the preparations asked for, before the call and after it; whether the store that is handed back is honest
 -- and tells what its slots hold; and the count of faults, before and after.
@@ -41,13 +66,13 @@ pub record StoreSide : Type 0 where
   pub faults_after : ℕ
 
 -- the side of a store that was handed in, and of the one that is handed back
-abbrev pub store_side : {W : Type 0} → (W → Bool) → (W → Held) → (W → Option (List StoreAsked)) → (W → ℕ) → W → W → StoreSide
-store_side honest held asked faults old new = record {
-  asked = asked old;
-  asked_after = asked new;
-  tells_truly = tells_truly honest held new;
-  faults = faults old;
-  faults_after = faults new;
+abbrev pub store_side : {W : Type 0} → SwapStore W → W → W → StoreSide
+store_side S old new = record {
+  asked = S.asked old;
+  asked_after = S.asked new;
+  tells_truly = tells_truly S new;
+  faults = S.faults old;
+  faults_after = S.faults new;
 }
 
 -- a call as it ended
@@ -82,8 +107,8 @@ pub record IsUnprepared (store : StoreSide) : Type 0 where
   pub asked : store.asked_after ≡ store.asked
   pub faults : store.faults_after ≡ store.faults
 
--- What the pages of a run of so many slots hold is known, whether they are out or not: the store that is handed back is honest and tells, or
--- the run has no slots. On this rests what is said of the machine of a run, of its output and of its ending, and nothing else.
+-- What the pages of a run of so many slots hold is known, whether they are out or not: the store that is handed back is honest and tells,
+-- or the run has no slots. On this rests what is said of the machine of a run, of its output and of its ending, and nothing else.
 abbrev pub IsTrusted : StoreSide → ℕ → Type 0
 IsTrusted store slots = IsTrue (store.tells_truly || slots == 0)
 

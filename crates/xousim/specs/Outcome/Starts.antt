@@ -2,29 +2,16 @@
 use Rattle.std.specs.Prelude.{◌≡◌, ◌<◌, ◌⊎◌, ℕ, true, false, List, Option, length}
 use Rattle.boot_plan.specs.Capacity.{page_frames}
 use Rattle.boot_plan.specs.declared.plans.BootPlan.{BootPlan}
-use Rattle.ledger_model.specs.Ledger.{pages}
 use Rattle.machine_model.specs.State.Machine.{Machine}
-use Rattle.machine_model.specs.Runs.Moments.{Moment, state_at}
+use Rattle.event_player.specs.Rooms.{IsFull, Room}
 use Rattle.xousim.specs.declared.status.Status.{Status}
-use Rattle.xousim.specs.declared.status.Status.TheVariants.{Done, Usage, ReadFault, WriteFault, ImageFault, EventFault, StepLimit, SwapFault, NoMemory}
+use Rattle.xousim.specs.declared.status.Status.TheVariants.{Done, Usage, ReadFault, WriteFault, ImageFault, EventFault, StepLimit}
+use Rattle.xousim.specs.declared.status.Status.TheVariants.{SwapFault, NoMemory}
 use Rattle.xousim.specs.Outcome.Sides.{Prepares, StoreRose, StoreSide}
 
--- the room for pages in RAM: how many frames there are for them, of a memory for so many processes
-pub record Room : Type 0 where
-  pub frames : ℕ
-  pub processes : ℕ
-
--- that of a plan: the frames that no table takes, but for one that stays free for exchanges
+-- the room of a plan: the frames that no table takes, but for one that stays free for exchanges
 abbrev pub room_of : BootPlan → Room
 room_of plan = record { frames = page_frames plan.frames (length plan.procs); processes = length plan.procs }
-
--- the state has more pages than there are frames for
-abbrev pub IsFull : Room → Machine → Type 0
-IsFull room machine = room.frames < pages room.processes machine.ledger
-
--- some state of a run has: its start, or the state after one of its moments
-abbrev pub ComesFull : Room → Machine → List Moment → Type 0
-ComesFull room start moments = (i : ℕ) × IsFull room (state_at start moments i)
 
 -- A run of so many slots, with this room for pages in RAM, which is to start on this machine, doesn't start, by the status: there was no
 -- memory, before or after the store was prepared under this name; or the store failed and its count rose, as it was prepared, or after that

@@ -2,10 +2,11 @@
 use Rattle.std.specs.Prelude.{◌-◌, ℕ, List}
 use Rattle.machine_model.specs.State.Machine.{Machine}
 use Rattle.xousim.specs.declared.status.Status.{Status}
-use Rattle.xousim.specs.declared.status.Status.TheVariants.{Done, Usage, ReadFault, WriteFault, ImageFault, EventFault, StepLimit, SwapFault, NoMemory}
+use Rattle.xousim.specs.declared.status.Status.TheVariants.{Done, Usage, ReadFault, WriteFault, ImageFault, EventFault, StepLimit}
+use Rattle.xousim.specs.declared.status.Status.TheVariants.{SwapFault, NoMemory}
 use Rattle.xousim.specs.Outcome.Sides.{Told}
-use Rattle.xousim.specs.Outcome.Starts.{Room}
-use Rattle.xousim.specs.Reading.{IsFile}
+use Rattle.event_player.specs.Rooms.{Room}
+use Rattle.host_io.specs.Reading.{IsFile}
 use Rattle.xousim.specs.StateFiles.{IsStateFault, Restores}
 
 -- the file of that name is a state file, and a run of so many slots goes on from this machine

@@ -4,17 +4,18 @@ use Rattle.machine_model.specs.State.Machine.{Machine}
 use Rattle.suspend_image.specs.Saveable.{IsSpellable}
 use Rattle.suspend_image.specs.StateBytes.{saved_bytes}
 use Rattle.xk_ports.specs.Told.{Grows, GrowsByPrefix}
-use Rattle.xousim.specs.declared.commands.command.Telling.TheVariants.{Nothing}
-use Rattle.xousim.specs.declared.playing.ending.Ending.{Ending}
-use Rattle.xousim.specs.declared.playing.ending.Ending.TheVariants.{Played, LimitMet, BadLine}
+use Rattle.event_player.specs.declared.telling.Telling.TheVariants.{Nothing}
+use Rattle.event_player.specs.declared.ending.Ending.{Ending}
+use Rattle.event_player.specs.declared.ending.Ending.TheVariants.{Played, LimitMet, BadLine}
 use Rattle.xousim.specs.declared.status.Status.{Status}
-use Rattle.xousim.specs.declared.status.Status.TheVariants.{Done, Usage, ReadFault, WriteFault, ImageFault, EventFault, StepLimit, SwapFault, NoMemory}
-use Rattle.xousim.specs.History.{History}
+use Rattle.xousim.specs.declared.status.Status.TheVariants.{Done, Usage, ReadFault, WriteFault, ImageFault, EventFault, StepLimit}
+use Rattle.xousim.specs.declared.status.Status.TheVariants.{SwapFault, NoMemory}
+use Rattle.event_player.specs.History.{History, run_of}
 use Rattle.xousim.specs.Outcome.Images.{Image, plan_in}
-use Rattle.xousim.specs.Outcome.Plays.{AsksBoth, EndsRefused, EndsUnpicked, EndsUnstarted, HasCause, RanWholeLines, run_of}
+use Rattle.xousim.specs.Outcome.Plays.{AsksBoth, EndsRefused, EndsUnpicked, EndsUnstarted, HasCause, RanWholeLines}
 use Rattle.xousim.specs.Outcome.Sides.{Call, IsTrusted, IsUnwritten, Prepares}
 use Rattle.xousim.specs.Outcome.Starts.{room_of}
-use Rattle.xousim.specs.Reading.{IsFile, IsTold}
+use Rattle.host_io.specs.Reading.{IsFile, IsTold}
 use Rattle.xousim.specs.Words.{Play, Suspend}
 
 -- its image is booted and its events are played as those of a command that tells nothing of them

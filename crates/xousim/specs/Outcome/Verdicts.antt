@@ -6,18 +6,19 @@ use Rattle.boot_plan.specs.Slots.{slots_used}
 use Rattle.boot_plan.specs.declared.plans.BootPlan.{BootPlan}
 use Rattle.machine_model.specs.State.Machine.{Machine}
 use Rattle.xk_base.specs.declared.limits.TheConstants.{IMAGE_LIMIT, SLOT_LIMIT}
-use Rattle.xousim.specs.declared.playing.ending.Ending.{Ending}
-use Rattle.xousim.specs.declared.playing.ending.Ending.TheVariants.{Played, LimitMet, BadLine}
+use Rattle.event_player.specs.declared.ending.Ending.{Ending}
+use Rattle.event_player.specs.declared.ending.Ending.TheVariants.{Played, LimitMet, BadLine}
 use Rattle.xousim.specs.declared.status.Status.{Status}
-use Rattle.xousim.specs.declared.status.Status.TheVariants.{Done, Usage, ReadFault, WriteFault, ImageFault, EventFault, StepLimit, SwapFault, NoMemory}
+use Rattle.xousim.specs.declared.status.Status.TheVariants.{Done, Usage, ReadFault, WriteFault, ImageFault, EventFault, StepLimit}
+use Rattle.xousim.specs.declared.status.Status.TheVariants.{SwapFault, NoMemory}
 use Rattle.xousim.specs.Outcome.Convert.{IsConversion, long_file}
 use Rattle.xousim.specs.Outcome.Images.{Image, IsPlanned, IsSoundImage}
-use Rattle.xousim.specs.Outcome.Plays.{run_of}
+use Rattle.event_player.specs.History.{run_of}
 use Rattle.xousim.specs.Outcome.Resumes.{limit_from}
 use Rattle.xousim.specs.Outcome.Sides.{Call, HostRose, IsTrusted, IsUnwritten, OutRose, StoreRose, Told}
 use Rattle.xousim.specs.Outcome.States.{StateFile}
 use Rattle.xousim.specs.Outcome.Suspends.{silent}
-use Rattle.xousim.specs.Reading.{IsFile}
+use Rattle.host_io.specs.Reading.{IsFile}
 use Rattle.xousim.specs.StateFiles.{IsStateFault}
 use Rattle.xousim.specs.Words.{Check, Command, Plays, Checks, Converts, Demo, Suspends, Resumes, Play, Resume, Suspend}
 
@@ -62,7 +63,8 @@ IsPlayComplete play call = IsTrustedPlay play call → IsVerdictOr (IsVerdict ca
 -- what the image alone says of the status of `check`
 abbrev pub IsCheckVerdict : Told → Check → Status → Type 0
 IsCheckVerdict file check Done = (plan : BootPlan) × IsPlanned file check.image check.slots plan
-IsCheckVerdict file check (ImageFault fault) = (image : List ℕ) × IsFile file check.image image × IsImageFault image check.slots (Some fault)
+IsCheckVerdict file check (ImageFault fault) =
+    (image : List ℕ) × IsFile file check.image image × IsImageFault image check.slots (Some fault)
 IsCheckVerdict file check (EventFault line) = ⊥
 IsCheckVerdict file check (StepLimit limit) = ⊥
 IsCheckVerdict file check SwapFault = ⊥

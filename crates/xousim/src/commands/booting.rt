@@ -2,6 +2,7 @@
 
 ghost use Rattle.std.specs.Option.{option_copied};
 ghost use Rattle.std.specs.Prelude.{◌≡◌, ◌≤◌, ◌⊎◌, [], true, All, None, length, IfOk, IfErr, IfSome, OnOk};
+ghost use Rattle.xk_base.specs.declared.limits.TheConstants.{IMAGE_LIMIT, SLOT_LIMIT};
 ghost use Rattle.boot_plan.specs.FirstPages.{plan_of};
 ghost use Rattle.boot_plan.specs.Lawful.{CanStart, IsLawfulPlan};
 ghost use Rattle.machine_model.specs.State.Machine.{Machine};
@@ -11,21 +12,21 @@ ghost use Rattle.xk_kernel.specs.Sound.{IsSound, IsUsable};
 ghost use Rattle.xk_kernel.specs.Start.{start};
 ghost use Rattle.xk_kernel.specs.State.{machine_of};
 ghost use Rattle.xk_ports.specs.Host.{other_slot};
-ghost use Rattle.xk_ports.specs.declared.host.FileSlot.TheVariants.{First, Second};
+ghost use Rattle.xk_ports.specs.declared.host.FileSlot.TheVariants.{First};
 ghost use Rattle.xousim.specs.Finish.{Starts};
-ghost use Rattle.xousim.specs.Gathering.{Text};
+ghost use Rattle.event_player.specs.Gathering.{Text};
 ghost use Rattle.xousim.specs.Outcome.Images.{IsSoundImage, Refuses, RefusesBytes};
 ghost use Rattle.xousim.specs.Outcome.Plays.{EndsRefused, EndsUnstarted};
-ghost use Rattle.xousim.specs.Outcome.Sides.{Call, Prepares, SinkSide, store_side};
+ghost use Rattle.xousim.specs.Outcome.Sides.{Call, Prepares, SinkSide, host_side, store_side};
 ghost use Rattle.xousim.specs.Outcome.Starts.{Stops, room_of};
-ghost use Rattle.xousim.specs.Reading.{Asked, AsksFor, IsFile, IsTold};
-ghost use Rattle.xousim.specs.Standing.{Begins, room_in, stand};
+ghost use Rattle.host_io.specs.Reading.{Asked, AsksFor, IsFile, IsTold};
+ghost use Rattle.event_player.specs.Standing.{Begins, room_in, stand};
 ghost use Rattle.xousim.specs.Words.{play_in};
 
 use crate::commands::command::PlayWords;
-use crate::outside::reading::{Content, ReadError, read_file};
 use crate::status::{Ended, Status};
 use boot_plan::{BootPlan, PlanError, TOO_LONG, plan};
+use host_io::{Content, ReadError, read_file};
 use kernel_args::{ArgFault, Args, ArgsError, read_args};
 use std::alloc::Global;
 use vm_memory::{BootError, BootFault};
@@ -36,8 +37,8 @@ use xk_ports::{FileSlot, Host, StoreFault, SwapStore};
 /// Plans the first pages of the image of these bytes, for a run that asks for these slots, or says why
 /// not: `ImageFault` or `NoMemory`.
 fn plan_bytes(alloc: Global, bytes: &[u8], asked: Option<u32>) -> Result<(Args, BootPlan), Status>
-    requires size { length bytes.now ≤ 67108864 }
-    requires few { IfSome asked (λ n. n ≤ 16384) }
+    requires size { length bytes.now ≤ IMAGE_LIMIT }
+    requires few { IfSome asked (λ n. n ≤ SLOT_LIMIT) }
     ensures image { IfOk result (λ planned. IsSoundImage bytes.now asked planned.0) }
     ensures planned { IfOk result (λ planned. planned.1 ≡ plan_of planned.0 asked) }
     ensures lawful { IfOk result (λ planned. IsLawfulPlan (length bytes.now) planned.1) }
@@ -71,13 +72,13 @@ pub fn plan_image<H: Host>(
     name: &str,
     asked: Option<u32>,
 ) -> Result<Planned, Status>
-    requires { IfSome asked (λ n. n ≤ 16384) }
+    requires { IfSome asked (λ n. n ≤ SLOT_LIMIT) }
     ensures read { IfOk result (λ planned. IsFile (H.file host.old) name.now planned.bytes.items) }
     ensures image { IfOk result (λ planned. IsSoundImage planned.bytes.items asked planned.args) }
     ensures planned { IfOk result (λ planned. planned.plan ≡ plan_of planned.args asked) }
     ensures lawful { IfOk result (λ planned. IsLawfulPlan (length planned.bytes.items) planned.plan) }
     ensures can_start { IfOk result (λ planned. All CanStart planned.plan.procs) }
-    ensures size { IfOk result (λ planned. length planned.bytes.items ≤ 67108864) }
+    ensures size { IfOk result (λ planned. length planned.bytes.items ≤ IMAGE_LIMIT) }
     ensures end { OnOk result (IsTold (H.left host.new First) []) }
     ensures refused { IfErr result (Refuses (H.file host.old) name.now asked (Rose (H.faults host.old) (H.faults host.new))) }
     ensures asks { AsksFor (H.asked host.old) (H.asked host.new) First name.now }
@@ -110,17 +111,17 @@ pub fn start_run<W: SwapStore>(
 ) -> Result<Kernel<W>, Ended<W>>
     requires lawful { IsLawfulPlan (length file.now) plan.now }
     requires can_start { All CanStart plan.now.procs }
-    ensures begins { IfOk result (λ kernel. (text : Text) → Begins (start plan.now file.now) (stand W.is_honest W.held kernel text)) }
-    ensures sound { IfOk result (λ kernel. IsSound W.slot_count W.held kernel) }
+    ensures begins { IfOk result (λ kernel. (text : Text) → Begins (start plan.now file.now) (stand W.SwapStore kernel text)) }
+    ensures sound { IfOk result (λ kernel. IsSound W.SwapStore kernel) }
     ensures usable { IfOk result (λ kernel. IsUsable kernel) }
     ensures steps { IfOk result (λ kernel. (machine_of W.held kernel).steps ≡ 0) }
     ensures unreserved { IfOk result (λ kernel. (machine_of W.held kernel).reserved ≡ None) }
     ensures room { IfOk result (λ kernel. room_in kernel ≡ room_of plan.now) }
     ensures slots { IfOk result (λ kernel. (size kernel.mem).slots ≡ plan.now.slots) }
-    ensures prepared { IfOk result (λ kernel. let side = store_side W.is_honest W.held W.asked W.faults store (store_of kernel.mem) in
+    ensures prepared { IfOk result (λ kernel. let side = store_side W.SwapStore store (store_of kernel.mem) in
         Prepares side plan.now.slots (option_copied name.entry) true) }
     ensures count { IfOk result (λ kernel. W.faults store ≤ W.faults (store_of kernel.mem)) }
-    ensures stopped { IfErr result (λ ended. let side = store_side W.is_honest W.held W.asked W.faults store ended.store in
+    ensures stopped { IfErr result (λ ended. let side = store_side W.SwapStore store ended.store in
         Stops plan.now (option_copied name.entry) (start plan.now file.now) side ended.status) }
     ensures back { IfErr result (λ ended. W.faults store ≤ W.faults ended.store) }
 {
@@ -167,28 +168,20 @@ pub fn boot_image<H: Host, W: SwapStore>(
     store: W,
 ) -> Result<Kernel<W>, Ended<W>>
     ensures booted { IfOk result (λ kernel. (start : Machine)
-        × ((text : Text) → Begins start (stand W.is_honest W.held kernel text))
+        × ((text : Text) → Begins start (stand W.SwapStore kernel text))
         × Starts (play_in play.entry) (H.file host.old)
         (record { machine = start; room = room_in kernel; slots = (size kernel.mem).slots })
-        (store_side W.is_honest W.held W.asked W.faults store (store_of kernel.mem))) }
-    ensures sound { IfOk result (λ kernel. IsSound W.slot_count W.held kernel) }
+        (store_side W.SwapStore store (store_of kernel.mem))) }
+    ensures sound { IfOk result (λ kernel. IsSound W.SwapStore kernel) }
     ensures usable { IfOk result (λ kernel. IsUsable kernel) }
     ensures steps { IfOk result (λ kernel. (machine_of W.held kernel).steps ≡ 0) }
     ensures count { IfOk result (λ kernel. W.faults store ≤ W.faults (store_of kernel.mem)) }
     ensures end { OnOk result (IsTold (H.left host.new First) []) }
     ensures picked { OnOk result (Asked (H.asked host.old) (H.asked host.new) First play.entry.image.now true) }
     ensures ends { (out : SinkSide) → out.written_after ≡ out.written → IfErr result (λ ended. let call : Call = record {
-      host = record {
-        files = H.file host.old;
-        asked = H.asked host.old;
-        asked_after = H.asked host.new;
-        image_left = H.left host.new First;
-        left = H.left host.new Second;
-        faults = H.faults host.old;
-        faults_after = H.faults host.new;
-      };
+      host = host_side H.Host host.old host.new;
       out = out;
-      store = store_side W.is_honest W.held W.asked W.faults store ended.store;
+      store = store_side W.SwapStore store ended.store;
       status = ended.status;
     } in EndsRefused (play_in play.entry) call ⊎ EndsUnstarted (play_in play.entry) call) }
     ensures back { IfErr result (λ ended. W.faults store ≤ W.faults ended.store) }

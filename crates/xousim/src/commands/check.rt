@@ -1,9 +1,8 @@
 //! `check`: an image is planned.
 
 ghost use Rattle.std.specs.Prelude.{◌≤◌};
-ghost use Rattle.xk_ports.specs.declared.host.FileSlot.TheVariants.{First, Second};
 ghost use Rattle.xousim.specs.Outcome.Check.{EndsCheck};
-ghost use Rattle.xousim.specs.Outcome.Sides.{Call, StoreSide};
+ghost use Rattle.xousim.specs.Outcome.Sides.{Call, StoreSide, host_side, sink_side};
 ghost use Rattle.xousim.specs.Words.{check_in};
 
 use crate::commands::booting::plan_image;
@@ -21,21 +20,8 @@ pub fn check_image<H: Host, K: Sink>(
     out: &mut K,
 ) -> Status
     ensures ends { (store : StoreSide) → let call : Call = record {
-      host = record {
-        files = H.file host.old;
-        asked = H.asked host.old;
-        asked_after = H.asked host.new;
-        image_left = H.left host.new First;
-        left = H.left host.new Second;
-        faults = H.faults host.old;
-        faults_after = H.faults host.new;
-      };
-      out = record {
-        written = K.written out.old;
-        written_after = K.written out.new;
-        faults = K.faults out.old;
-        faults_after = K.faults out.new;
-      };
+      host = host_side H.Host host.old host.new;
+      out = sink_side K.Sink out.old out.new;
       store = store;
       status = result;
     } in EndsCheck (check_in check.entry) call }

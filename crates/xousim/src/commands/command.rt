@@ -1,19 +1,9 @@
 //! Commands, as the words of the command line say them.
 
 ghost use Rattle.std.specs.Prelude.{◌≤◌, unwrap_or};
+ghost use Rattle.xk_base.specs.declared.limits.TheConstants.{SLOT_LIMIT, STEP_LIMIT};
 
-/// What is told of events that are played.
-#[derive(Clone, Copy, Debug, PartialEq, Eq)]
-pub enum Telling {
-    /// The line of each record as it comes, and a last line.
-    Trace,
-    /// The bytes for the console alone.
-    Run,
-    /// The table of the pages of the last state, and a last line.
-    Ledger,
-    /// Nothing: what becomes of the last state is left to the command.
-    Nothing,
-}
+use event_player::Telling;
 
 /// `trace`, `run` or `ledger`: the events of a file are played on an image.
 #[derive(Clone, Copy, Debug)]
@@ -28,8 +18,8 @@ pub struct PlayWords<'a> {
     pub slots: Option<u32>,
     /// The file of the swap store, where it isn't kept in memory.
     pub store: Option<&'a str>,
-    ghost limited: { limit ≤ 4000000000 },
-    ghost few: { unwrap_or slots 0 ≤ 16384 },
+    ghost limited: { limit ≤ STEP_LIMIT },
+    ghost few: { unwrap_or slots 0 ≤ SLOT_LIMIT },
 }
 
 /// `suspend`: the events of a file are played on an image, and the last state is written.
@@ -42,8 +32,8 @@ pub struct SuspendWords<'a> {
     pub limit: u32,
     /// The slots of the swap store, where the image's own aren't taken.
     pub slots: Option<u32>,
-    ghost limited: { limit ≤ 4000000000 },
-    ghost few: { unwrap_or slots 0 ≤ 16384 },
+    ghost limited: { limit ≤ STEP_LIMIT },
+    ghost few: { unwrap_or slots 0 ≤ SLOT_LIMIT },
 }
 
 /// `resume`: the events of a file are played on from a state that was written.
@@ -56,8 +46,8 @@ pub struct ResumeWords<'a> {
     pub limit: u32,
     /// The slots of the swap store.
     pub slots: u32,
-    ghost limited: { limit ≤ 4000000000 },
-    ghost few: { slots ≤ 16384 },
+    ghost limited: { limit ≤ STEP_LIMIT },
+    ghost few: { slots ≤ SLOT_LIMIT },
 }
 
 /// `check`: an image is planned.
@@ -66,7 +56,7 @@ pub struct CheckWords<'a> {
     pub image: &'a str,
     /// The slots of the swap store, where the image's own aren't taken.
     pub slots: Option<u32>,
-    ghost few: { unwrap_or slots 0 ≤ 16384 },
+    ghost few: { unwrap_or slots 0 ≤ SLOT_LIMIT },
 }
 
 /// `demo`: the load of so many clients is played.

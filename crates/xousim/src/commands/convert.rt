@@ -1,10 +1,10 @@
 //! `convert`: an image of version 1 is written as one of version 2.
 
 ghost use Rattle.std.specs.Prelude.{◌≡◌, ◌≤◌, length};
+ghost use Rattle.xk_base.specs.declared.limits.TheConstants.{IMAGE_LIMIT};
 ghost use Rattle.xk_base.specs.Outside.{Rose};
-ghost use Rattle.xk_ports.specs.declared.host.FileSlot.TheVariants.{First, Second};
 ghost use Rattle.xousim.specs.Outcome.Convert.{EndsConvert, Writes};
-ghost use Rattle.xousim.specs.Outcome.Sides.{Call, SinkSide, StoreSide};
+ghost use Rattle.xousim.specs.Outcome.Sides.{Call, StoreSide, host_side, sink_side};
 
 use crate::commands::booting::plan_image;
 use crate::status::Status;
@@ -17,13 +17,8 @@ use xk_ports::{Host, Sink, put_all};
 
 /// Writes the bytes of an image.
 fn write_image<K: Sink>(bytes: &[u8], out: &mut K) -> Status
-    requires { length bytes.now ≤ 67108864 }
-    ensures written { let side : SinkSide = record {
-      written = K.written out.old;
-      written_after = K.written out.new;
-      faults = K.faults out.old;
-      faults_after = K.faults out.new;
-    } in Writes bytes.now side result }
+    requires { length bytes.now ≤ IMAGE_LIMIT }
+    ensures written { Writes bytes.now (sink_side K.Sink out.old out.new) result }
     ensures cause { result ≡ Status.WriteFault → Rose (K.faults out.old) (K.faults out.new) }
     ensures never_falls { K.faults out.old ≤ K.faults out.new }
 {
@@ -41,21 +36,8 @@ pub fn convert_image<H: Host, K: Sink>(
     out: &mut K,
 ) -> Status
     ensures ends { (store : StoreSide) → let call : Call = record {
-      host = record {
-        files = H.file host.old;
-        asked = H.asked host.old;
-        asked_after = H.asked host.new;
-        image_left = H.left host.new First;
-        left = H.left host.new Second;
-        faults = H.faults host.old;
-        faults_after = H.faults host.new;
-      };
-      out = record {
-        written = K.written out.old;
-        written_after = K.written out.new;
-        faults = K.faults out.old;
-        faults_after = K.faults out.new;
-      };
+      host = host_side H.Host host.old host.new;
+      out = sink_side K.Sink out.old out.new;
       store = store;
       status = result;
     } in EndsConvert image.now call }

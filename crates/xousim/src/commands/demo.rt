@@ -7,22 +7,20 @@ ghost use Rattle.xk_base.specs.Outside.{Rose};
 ghost use Rattle.xk_kernel.specs.Sound.{IsSound, IsUsable};
 ghost use Rattle.xk_kernel.specs.State.{machine_of};
 ghost use Rattle.xk_ports.specs.Told.{Grows, GrowsByPrefix};
-ghost use Rattle.xousim.specs.Load.Events.{load_machine, load_plan};
-ghost use Rattle.xousim.specs.Load.Image.{load_image};
-ghost use Rattle.xousim.specs.Load.Totals.{demo_line};
+ghost use Rattle.demo_load.specs.Events.{load_machine, load_plan};
+ghost use Rattle.demo_load.specs.Image.{load_image};
+ghost use Rattle.demo_load.specs.Totals.{demo_line};
 ghost use Rattle.xousim.specs.Outcome.Demo.{Demonstrates};
-ghost use Rattle.xousim.specs.Outcome.Sides.{Prepares, SinkSide, store_side};
+ghost use Rattle.xousim.specs.Outcome.Sides.{Prepares, sink_side, store_side};
 ghost use Rattle.xousim.specs.Outcome.Starts.{Stops, room_of};
-ghost use Rattle.xousim.specs.Standing.{room_in};
+ghost use Rattle.event_player.specs.Standing.{room_in};
 ghost use Rattle.xousim.specs.declared.status.Status.TheVariants.{Done, WriteFault};
 
 use crate::commands::booting::start_run;
 use crate::commands::command::DemoWords;
-use crate::load::image::load_image;
-use crate::load::playing::play_load;
-use crate::load::totals::{Totals, demo_line};
 use crate::status::{Ended, Status};
 use boot_plan::{BootPlan, PlanError, plan};
+use demo_load::{Totals, demo_line, load_image, play_load};
 use std::alloc::Global;
 use xk_base::{NoMemory, Row};
 use xk_kernel::{Kernel, SwapFault};
@@ -56,15 +54,15 @@ fn plan_load(alloc: Global, clients: u32) -> Result<PlannedLoad, NoMemory>
 fn boot_load<W: SwapStore>(alloc: Global, clients: u32, store: W) -> Result<Kernel<W>, Ended<W>>
     requires { clients ≤ 31 }
     ensures booted { IfOk result (λ kernel. machine_of W.held kernel ≡ load_machine clients) }
-    ensures sound { IfOk result (λ kernel. IsSound W.slot_count W.held kernel) }
+    ensures sound { IfOk result (λ kernel. IsSound W.SwapStore kernel) }
     ensures usable { IfOk result (λ kernel. IsUsable kernel) }
     ensures steps { IfOk result (λ kernel. (machine_of W.held kernel).steps ≡ 0) }
     ensures slots { IfOk result (λ kernel. (size kernel.mem).slots ≡ 0) }
     ensures room { IfOk result (λ kernel. room_in kernel ≡ room_of (load_plan clients)) }
-    ensures prepared { IfOk result (λ kernel. let side = store_side W.is_honest W.held W.asked W.faults store (store_of kernel.mem) in
+    ensures prepared { IfOk result (λ kernel. let side = store_side W.SwapStore store (store_of kernel.mem) in
         Prepares side 0 None true) }
     ensures count { IfOk result (λ kernel. W.faults store ≤ W.faults (store_of kernel.mem)) }
-    ensures stopped { IfErr result (λ ended. let side = store_side W.is_honest W.held W.asked W.faults store ended.store in
+    ensures stopped { IfErr result (λ ended. let side = store_side W.SwapStore store ended.store in
         Stops (load_plan clients) None (load_machine clients) side ended.status) }
     ensures back { IfErr result (λ ended. W.faults store ≤ W.faults ended.store) }
 {
@@ -98,12 +96,8 @@ pub fn play_demo<K: Sink, W: SwapStore>(
     out: &mut K,
     store: W,
 ) -> Ended<W>
-    ensures told { let out_side : SinkSide = record {
-      written = K.written out.old;
-      written_after = K.written out.new;
-      faults = K.faults out.old;
-      faults_after = K.faults out.new;
-    } in Demonstrates demo.clients out_side (store_side W.is_honest W.held W.asked W.faults store result.store) result.status }
+    ensures told { Demonstrates demo.clients (sink_side K.Sink out.old out.new)
+        (store_side W.SwapStore store result.store) result.status }
     ensures cause { result.status ≡ WriteFault → Rose (K.faults out.old) (K.faults out.new) }
     ensures store { W.faults store ≤ W.faults result.store }
     ensures never_falls { K.faults out.old ≤ K.faults out.new }

@@ -5,20 +5,18 @@ ghost use Rattle.machine_model.specs.State.Machine.{Machine};
 ghost use Rattle.vm_memory.specs.Memory.{size, store_of};
 ghost use Rattle.xk_kernel.specs.Sound.{IsSound, IsUsable, Keeps};
 ghost use Rattle.xk_kernel.specs.State.{machine_of};
-ghost use Rattle.xk_ports.specs.declared.host.FileSlot.TheVariants.{First, Second};
+ghost use Rattle.xk_ports.specs.declared.host.FileSlot.TheVariants.{First};
 ghost use Rattle.xousim.specs.Finish.{Booted, EndsBooted, Finishes};
-ghost use Rattle.xousim.specs.Gathering.{put};
+ghost use Rattle.event_player.specs.Gathering.{put};
 ghost use Rattle.xousim.specs.Outcome.Plays.{EndsPlay};
-ghost use Rattle.xousim.specs.Outcome.Sides.{Call, SinkSide, store_side};
-ghost use Rattle.xousim.specs.Standing.{Begins, room_in, stand};
+ghost use Rattle.xousim.specs.Outcome.Sides.{Call, host_side, sink_side, store_side};
+ghost use Rattle.event_player.specs.Standing.{Begins, room_in, stand};
 ghost use Rattle.xousim.specs.Words.{play_in};
 
 use crate::commands::booting::boot_image;
 use crate::commands::command::PlayWords;
-use crate::playing::ending::Ending;
-use crate::playing::event_file::{RunFault, play_file};
-use crate::playing::transcript::write_closing;
 use crate::status::{Ended, Status};
+use event_player::{Ending, RunFault, play_file, write_closing};
 use std::alloc::Global;
 use xk_kernel::Kernel;
 use xk_ports::{FileSlot, Host, Sink, SwapStore};
@@ -30,14 +28,10 @@ fn finish<K: Sink, W: SwapStore>(
     ending: Ending,
     out: &mut K,
 ) -> Status
-    requires sound { IsSound W.slot_count W.held kernel.now }
+    requires sound { IsSound W.SwapStore kernel.now }
     requires usable { IsUsable kernel.now }
-    ensures finished { let side : SinkSide = record {
-      written = K.written out.old;
-      written_after = K.written out.new;
-      faults = K.faults out.old;
-      faults_after = K.faults out.new;
-    } in Finishes (play_in play.entry) (machine_of W.held kernel.now) ending side result }
+    ensures finished { Finishes (play_in play.entry) (machine_of W.held kernel.now) ending
+        (sink_side K.Sink out.old out.new) result }
     ensures never_falls { K.faults out.old ≤ K.faults out.new }
 {
     let Ok(()) = write_closing(kernel, play.tells, ending, out) else {
@@ -57,35 +51,22 @@ pub fn play_events<H: Host, K: Sink, W: SwapStore>(
     play: PlayWords,
     out: &mut K,
 ) -> Status
-    requires sound { IsSound W.slot_count W.held kernel.old }
+    requires sound { IsSound W.SwapStore kernel.old }
     requires usable { IsUsable kernel.old }
     requires within { (machine_of W.held kernel.old).steps ≤ play.limit }
-    ensures played { (start : Machine) → Begins start (stand W.is_honest W.held kernel.old (put (K.written out.old))) →
+    ensures played { (start : Machine) → Begins start (stand W.SwapStore kernel.old (put (K.written out.old))) →
         let booted : Booted = record {
           machine = start;
           room = room_in kernel.old;
           slots = (size kernel.old.mem).slots;
         } in let call : Call = record {
-          host = record {
-            files = H.file host.old;
-            asked = H.asked host.old;
-            asked_after = H.asked host.new;
-            image_left = H.left host.new First;
-            left = H.left host.new Second;
-            faults = H.faults host.old;
-            faults_after = H.faults host.new;
-          };
-          out = record {
-            written = K.written out.old;
-            written_after = K.written out.new;
-            faults = K.faults out.old;
-            faults_after = K.faults out.new;
-          };
-          store = store_side W.is_honest W.held W.asked W.faults (store_of kernel.old.mem) (store_of kernel.new.mem);
+          host = host_side H.Host host.old host.new;
+          out = sink_side K.Sink out.old out.new;
+          store = store_side W.SwapStore (store_of kernel.old.mem) (store_of kernel.new.mem);
           status = result;
         } in EndsBooted (play_in play.entry) booted call }
-    ensures sound { IsSound W.slot_count W.held kernel.new }
-    ensures keeps { Keeps W.is_honest W.held W.slot_count W.asked W.faults kernel.old kernel.new }
+    ensures sound { IsSound W.SwapStore kernel.new }
+    ensures keeps { Keeps W.SwapStore kernel.old kernel.new }
     ensures first { H.left host.new First ≡ H.left host.old First }
     ensures host { H.faults host.old ≤ H.faults host.new }
     ensures out { K.faults out.old ≤ K.faults out.new }
@@ -110,22 +91,9 @@ pub fn play_image<H: Host, K: Sink, W: SwapStore>(
     store: W,
 ) -> Ended<W>
     ensures ends { let call : Call = record {
-      host = record {
-        files = H.file host.old;
-        asked = H.asked host.old;
-        asked_after = H.asked host.new;
-        image_left = H.left host.new First;
-        left = H.left host.new Second;
-        faults = H.faults host.old;
-        faults_after = H.faults host.new;
-      };
-      out = record {
-        written = K.written out.old;
-        written_after = K.written out.new;
-        faults = K.faults out.old;
-        faults_after = K.faults out.new;
-      };
-      store = store_side W.is_honest W.held W.asked W.faults store result.store;
+      host = host_side H.Host host.old host.new;
+      out = sink_side K.Sink out.old out.new;
+      store = store_side W.SwapStore store result.store;
       status = result.status;
     } in EndsPlay (play_in play.entry) call }
     ensures store { W.faults store ≤ W.faults result.store }

@@ -1,15 +1,15 @@
 //! `resume`: the events of a file are played on from a state that was written.
 
 ghost use Rattle.std.specs.Prelude.{◌≤◌};
-ghost use Rattle.xk_ports.specs.declared.host.FileSlot.TheVariants.{First, Second};
 ghost use Rattle.xousim.specs.Outcome.Resumes.{EndsResume};
-ghost use Rattle.xousim.specs.Outcome.Sides.{Call, store_side};
+ghost use Rattle.xousim.specs.Outcome.Sides.{Call, host_side, sink_side, store_side};
 ghost use Rattle.xousim.specs.Words.{resume_in};
 
-use crate::commands::command::{PlayWords, ResumeWords, Telling};
+use crate::commands::command::{PlayWords, ResumeWords};
 use crate::commands::play::play_events;
 use crate::commands::states::continue_run;
 use crate::status::Ended;
+use event_player::Telling;
 use std::alloc::Global;
 use xk_ports::{Host, Sink, SwapStore};
 
@@ -23,22 +23,9 @@ pub fn resume_run<H: Host, K: Sink, W: SwapStore>(
     store: W,
 ) -> Ended<W>
     ensures ends { let call : Call = record {
-      host = record {
-        files = H.file host.old;
-        asked = H.asked host.old;
-        asked_after = H.asked host.new;
-        image_left = H.left host.new First;
-        left = H.left host.new Second;
-        faults = H.faults host.old;
-        faults_after = H.faults host.new;
-      };
-      out = record {
-        written = K.written out.old;
-        written_after = K.written out.new;
-        faults = K.faults out.old;
-        faults_after = K.faults out.new;
-      };
-      store = store_side W.is_honest W.held W.asked W.faults store result.store;
+      host = host_side H.Host host.old host.new;
+      out = sink_side K.Sink out.old out.new;
+      store = store_side W.SwapStore store result.store;
       status = result.status;
     } in EndsResume (resume_in resume.entry) call }
     ensures store { W.faults store ≤ W.faults result.store }

@@ -1,29 +1,31 @@
 //! A state file is read, and its run goes on: the store is prepared, and the state is resumed.
 
 ghost use Rattle.std.specs.Prelude.{◌≡◌, ◌≤◌, ◌⊎◌, [], ℕ, true, false, length, IfOk, IfErr, OnOk, None};
+ghost use Rattle.xousim.specs.declared.commands.states.TheConstants.{STATE_LIMIT};
+ghost use Rattle.xk_base.specs.declared.limits.TheConstants.{SLOT_LIMIT, STEP_LIMIT};
 ghost use Rattle.machine_model.specs.State.Machine.{Machine};
-ghost use Rattle.suspend_image.specs.Machines.{machine_of as machine_in};
+ghost use Rattle.state_rows.specs.Machines.{machine_of as machine_in};
 ghost use Rattle.vm_memory.specs.Memory.{size, store_of};
 ghost use Rattle.xk_base.specs.Outside.{Rose};
-ghost use Rattle.xk_kernel.specs.Resuming.Resumable.{CanSplit, IsResumable};
+ghost use Rattle.resume_path.specs.Resumable.{CanSplit, IsResumable};
 ghost use Rattle.xk_kernel.specs.Sound.{IsSound, IsUsable};
 ghost use Rattle.xk_kernel.specs.State.{machine_of};
-ghost use Rattle.xk_ports.specs.declared.host.FileSlot.TheVariants.{First, Second};
+ghost use Rattle.xk_ports.specs.declared.host.FileSlot.TheVariants.{First};
 ghost use Rattle.xousim.specs.Finish.{Continues};
-ghost use Rattle.xousim.specs.Gathering.{Text};
+ghost use Rattle.event_player.specs.Gathering.{Text};
 ghost use Rattle.xousim.specs.Outcome.Resumes.{EndsUnread, EndsUnresumed};
-ghost use Rattle.xousim.specs.Outcome.Sides.{Call, Prepares, SinkSide, store_side};
+ghost use Rattle.xousim.specs.Outcome.Sides.{Call, Prepares, SinkSide, host_side, store_side};
 ghost use Rattle.xousim.specs.Outcome.Starts.{StopsIn};
 ghost use Rattle.xousim.specs.Outcome.States.{RefusesState, RefusesStateBytes, room_from};
-ghost use Rattle.xousim.specs.Reading.{Asked, AsksFor, IsFile, IsTold};
-ghost use Rattle.xousim.specs.Standing.{Begins, room_in, stand};
+ghost use Rattle.host_io.specs.Reading.{Asked, AsksFor, IsFile, IsTold};
+ghost use Rattle.event_player.specs.Standing.{Begins, room_in, stand};
 ghost use Rattle.xousim.specs.StateFiles.{IsBadSplit, IsSoundState};
 ghost use Rattle.xousim.specs.Words.{resume_in};
 
 use crate::commands::command::ResumeWords;
-use crate::outside::reading::{Content, ReadError, read_file};
 use crate::status::{Ended, Status};
 use boot_plan::TOO_LONG;
+use host_io::{Content, ReadError, read_file};
 use kernel_args::ArgFault;
 use std::alloc::Global;
 use suspend_image::{State, StateError, read_state};
@@ -41,7 +43,7 @@ pub const BAD_SPLIT: u8 = 25;
 /// Whether the pages that there may be can be split into these slots and the frames of a RAM.
 fn can_split(state: &State, slots: u32) -> bool
     requires processes { state.now.n ≤ 64 }
-    requires few { slots ≤ 16384 }
+    requires few { slots ≤ SLOT_LIMIT }
     ensures split { result ≡ true → CanSplit state.now slots }
     ensures bad { result ≡ false → IsBadSplit state.now slots }
 {
@@ -51,8 +53,8 @@ fn can_split(state: &State, slots: u32) -> bool
 /// Reads the state that these bytes spell, for a run of so many slots, or says why not: `ImageFault` or
 /// `NoMemory`.
 fn state_of_bytes(alloc: Global, bytes: &[u8], slots: u32) -> Result<State, Status>
-    requires size { length bytes.now ≤ 167772160 }
-    requires few { slots ≤ 16384 }
+    requires size { length bytes.now ≤ STATE_LIMIT }
+    requires few { slots ≤ SLOT_LIMIT }
     ensures sound { IfOk result (IsSoundState bytes.now slots) }
     ensures refused { IfErr result (RefusesStateBytes bytes.now slots) }
 {
@@ -85,7 +87,7 @@ pub fn read_state_file<H: Host>(
     name: &str,
     slots: u32,
 ) -> Result<Saved, Status>
-    requires { slots ≤ 16384 }
+    requires { slots ≤ SLOT_LIMIT }
     ensures read { IfOk result (λ saved. IsFile (H.file host.old) name.now saved.bytes.items) }
     ensures sound { IfOk result (λ saved. IsSoundState saved.bytes.items slots saved.state) }
     ensures end { OnOk result (IsTold (H.left host.new First) []) }
@@ -119,16 +121,16 @@ pub fn resume_state<W: SwapStore>(
     store: W,
 ) -> Result<Kernel<W>, Ended<W>>
     requires sound { IsSoundState file.now slots state.now }
-    ensures begins { IfOk result (λ kernel. (text : Text) → Begins (machine_in file.now state.now) (stand W.is_honest W.held kernel text)) }
-    ensures sound { IfOk result (λ kernel. IsSound W.slot_count W.held kernel) }
+    ensures begins { IfOk result (λ kernel. (text : Text) → Begins (machine_in file.now state.now) (stand W.SwapStore kernel text)) }
+    ensures sound { IfOk result (λ kernel. IsSound W.SwapStore kernel) }
     ensures usable { IfOk result (λ kernel. IsUsable kernel) }
     ensures steps { IfOk result (λ kernel. (machine_of W.held kernel).steps ≡ state.now.steps) }
     ensures room { IfOk result (λ kernel. room_in kernel ≡ room_from (machine_in file.now state.now) slots) }
     ensures slots { IfOk result (λ kernel. (size kernel.mem).slots ≡ slots) }
-    ensures prepared { IfOk result (λ kernel. let side = store_side W.is_honest W.held W.asked W.faults store (store_of kernel.mem) in
+    ensures prepared { IfOk result (λ kernel. let side = store_side W.SwapStore store (store_of kernel.mem) in
         Prepares side slots None true) }
     ensures count { IfOk result (λ kernel. W.faults store ≤ W.faults (store_of kernel.mem)) }
-    ensures stopped { IfErr result (λ ended. let side = store_side W.is_honest W.held W.asked W.faults store ended.store in
+    ensures stopped { IfErr result (λ ended. let side = store_side W.SwapStore store ended.store in
         let machine = machine_in file.now state.now in StopsIn (room_from machine slots) slots None machine side ended.status) }
     ensures back { IfErr result (λ ended. W.faults store ≤ W.faults ended.store) }
 {
@@ -176,29 +178,21 @@ pub fn continue_run<H: Host, W: SwapStore>(
     store: W,
 ) -> Result<Kernel<W>, Ended<W>>
     ensures resumed { IfOk result (λ kernel. (machine : Machine)
-        × ((text : Text) → Begins machine (stand W.is_honest W.held kernel text))
+        × ((text : Text) → Begins machine (stand W.SwapStore kernel text))
         × ((machine_of W.held kernel).steps ≡ machine.steps)
         × Continues (resume_in resume.entry) (H.file host.old)
         (record { machine = machine; room = room_in kernel; slots = (size kernel.mem).slots })
-        (store_side W.is_honest W.held W.asked W.faults store (store_of kernel.mem))) }
-    ensures sound { IfOk result (λ kernel. IsSound W.slot_count W.held kernel) }
+        (store_side W.SwapStore store (store_of kernel.mem))) }
+    ensures sound { IfOk result (λ kernel. IsSound W.SwapStore kernel) }
     ensures usable { IfOk result (λ kernel. IsUsable kernel) }
-    ensures few { IfOk result (λ kernel. (machine_of W.held kernel).steps ≤ 4000000000) }
+    ensures few { IfOk result (λ kernel. (machine_of W.held kernel).steps ≤ STEP_LIMIT) }
     ensures count { IfOk result (λ kernel. W.faults store ≤ W.faults (store_of kernel.mem)) }
     ensures end { OnOk result (IsTold (H.left host.new First) []) }
     ensures picked { OnOk result (Asked (H.asked host.old) (H.asked host.new) First resume.entry.state.now true) }
     ensures ends { (out : SinkSide) → out.written_after ≡ out.written → IfErr result (λ ended. let call : Call = record {
-      host = record {
-        files = H.file host.old;
-        asked = H.asked host.old;
-        asked_after = H.asked host.new;
-        image_left = H.left host.new First;
-        left = H.left host.new Second;
-        faults = H.faults host.old;
-        faults_after = H.faults host.new;
-      };
+      host = host_side H.Host host.old host.new;
       out = out;
-      store = store_side W.is_honest W.held W.asked W.faults store ended.store;
+      store = store_side W.SwapStore store ended.store;
       status = ended.status;
     } in EndsUnread (resume_in resume.entry) call ⊎ EndsUnresumed (resume_in resume.entry) call) }
     ensures back { IfErr result (λ ended. W.faults store ≤ W.faults ended.store) }

@@ -1,18 +1,19 @@
 //! What `check` writes of a plan.
 
 ghost use Rattle.std.specs.Prelude.{◌≡◌, ◌+◌, ◌≤◌, ◌<◌, ◌^◌, length, sum_by, OnOk, OnErr};
+ghost use Rattle.xk_base.specs.declared.limits.TheConstants.{FRAME_LIMIT};
 ghost use Rattle.boot_plan.specs.Lawful.{IsLawfulPlan};
 ghost use Rattle.xk_base.specs.Outside.{Rose};
 ghost use Rattle.xk_ports.specs.Told.{Grows, GrowsByPrefix};
 ghost use Rattle.xousim.specs.Summary.{process_line, process_lines, ram_line, summary_of, total_line};
 
-use crate::outside::text::{Line, put, put_number, put_word};
 use boot_plan::{BootPlan, ProcPlan, cap};
+use host_io::text::{Line, put, put_number, put_word};
 use xk_base::Failed;
 use xk_ports::{Sink, put_all};
 
 fn ram_line(plan: &BootPlan) -> Line
-    requires { plan.now.frames ≤ 16384 }
+    requires { plan.now.frames ≤ FRAME_LIMIT }
     ensures { result.items ≡ ram_line plan.now }
 {
     let mut line = Line::new();

@@ -1,29 +1,29 @@
 //! `suspend`: the events of a file are played on an image, and the last state is written.
 
 ghost use Rattle.std.specs.Prelude.{◌≡◌, ◌≤◌, ◌⊎◌, [], true, None, IfOk, IfErr, OnOk};
+ghost use Rattle.xk_base.specs.declared.limits.TheConstants.{STEP_LIMIT};
 ghost use Rattle.machine_model.specs.State.Machine.{Machine};
 ghost use Rattle.suspend_image.specs.Sheets.{room_for};
 ghost use Rattle.vm_memory.specs.Bytes.{MeansBytes, none_out};
 ghost use Rattle.vm_memory.specs.Memory.{size, store_of};
 ghost use Rattle.xk_kernel.specs.Sound.{IsSound, IsUsable, Keeps};
 ghost use Rattle.xk_kernel.specs.State.{machine_of};
-ghost use Rattle.xk_ports.specs.declared.host.FileSlot.TheVariants.{First, Second};
+ghost use Rattle.xk_ports.specs.declared.host.FileSlot.TheVariants.{First};
 ghost use Rattle.xousim.specs.Finish.{Booted, EndsSilently, HasSaveCause, SavesState, Starts};
-ghost use Rattle.xousim.specs.Gathering.{Text, put};
+ghost use Rattle.event_player.specs.Gathering.{Text, put};
 ghost use Rattle.xousim.specs.Outcome.Plays.{EndsRefused, EndsUnstarted};
-ghost use Rattle.xousim.specs.Outcome.Sides.{Call, SinkSide, store_side};
+ghost use Rattle.xousim.specs.Outcome.Sides.{Call, SinkSide, host_side, sink_side, store_side};
 ghost use Rattle.xousim.specs.Outcome.Suspends.{EndsSuspend, silent};
-ghost use Rattle.xousim.specs.Reading.{Asked, IsTold};
-ghost use Rattle.xk_kernel.specs.Reserved.{IsReservedByThread};
-ghost use Rattle.xousim.specs.Standing.{Begins, room_in, stand};
+ghost use Rattle.host_io.specs.Reading.{Asked, IsTold};
+ghost use Rattle.machine_history.specs.Reserved.{IsReservedByThread};
+ghost use Rattle.event_player.specs.Standing.{Begins, room_in, stand};
 ghost use Rattle.xousim.specs.Words.{suspend_in};
 
 use crate::commands::booting::{plan_image, start_run};
-use crate::commands::command::{SuspendWords, Telling};
-use crate::playing::ending::Ending;
-use crate::playing::event_file::{RunFault, play_file};
+use crate::commands::command::SuspendWords;
 use crate::status::{Ended, Status};
 use boot_plan::cap;
+use event_player::{Ending, RunFault, Telling, play_file};
 use std::alloc::Global;
 use suspend_image::Sheet;
 use xk_base::NoMemory;
@@ -39,11 +39,11 @@ fn boot_with_sheet<H: Host, W: SwapStore>(
     store: W,
 ) -> Result<(Kernel<W>, Sheet), Ended<W>>
     ensures booted { IfOk result (λ run. (start : Machine)
-        × ((text : Text) → Begins start (stand W.is_honest W.held run.0 text))
+        × ((text : Text) → Begins start (stand W.SwapStore run.0 text))
         × Starts (silent (suspend_in suspend.entry)) (H.file host.old)
         (record { machine = start; room = room_in run.0; slots = (size run.0.mem).slots })
-        (store_side W.is_honest W.held W.asked W.faults store (store_of run.0.mem))) }
-    ensures sound { IfOk result (λ run. IsSound W.slot_count W.held run.0) }
+        (store_side W.SwapStore store (store_of run.0.mem))) }
+    ensures sound { IfOk result (λ run. IsSound W.SwapStore run.0) }
     ensures usable { IfOk result (λ run. IsUsable run.0) }
     ensures steps { IfOk result (λ run. (machine_of W.held run.0).steps ≡ 0) }
     ensures unreserved { IfOk result (λ run. (machine_of W.held run.0).reserved ≡ None) }
@@ -52,17 +52,9 @@ fn boot_with_sheet<H: Host, W: SwapStore>(
     ensures end { OnOk result (IsTold (H.left host.new First) []) }
     ensures picked { OnOk result (Asked (H.asked host.old) (H.asked host.new) First suspend.entry.image.now true) }
     ensures ends { (out : SinkSide) → out.written_after ≡ out.written → IfErr result (λ ended. let call : Call = record {
-      host = record {
-        files = H.file host.old;
-        asked = H.asked host.old;
-        asked_after = H.asked host.new;
-        image_left = H.left host.new First;
-        left = H.left host.new Second;
-        faults = H.faults host.old;
-        faults_after = H.faults host.new;
-      };
+      host = host_side H.Host host.old host.new;
       out = out;
-      store = store_side W.is_honest W.held W.asked W.faults store ended.store;
+      store = store_side W.SwapStore store ended.store;
       status = ended.status;
     } in let play = silent (suspend_in suspend.entry) in EndsRefused play call ⊎ EndsUnstarted play call) }
     ensures back { IfErr result (λ ended. W.faults store ≤ W.faults ended.store) }
@@ -90,26 +82,16 @@ fn save_state<K: Sink, W: SwapStore>(
     sheet: &mut Sheet,
     out: &mut K,
 ) -> Status
-    requires sound { IsSound W.slot_count W.held kernel.old }
+    requires sound { IsSound W.SwapStore kernel.old }
     requires usable { IsUsable kernel.old }
-    requires within { (machine_of W.held kernel.old).steps ≤ 4000000000 }
+    requires within { (machine_of W.held kernel.old).steps ≤ STEP_LIMIT }
     requires room { let m = machine_of W.held kernel.old in room_for m.processes m.capacity ≤ sheet.old.room }
-    ensures saved { let side : SinkSide = record {
-      written = K.written out.old;
-      written_after = K.written out.new;
-      faults = K.faults out.old;
-      faults_after = K.faults out.new;
-    } in MeansBytes W.is_honest W.held kernel.old.mem → IsReservedByThread (machine_of W.held kernel.old)
-        → SavesState (machine_of W.held kernel.old) side result }
-    ensures cause { let side : SinkSide = record {
-      written = K.written out.old;
-      written_after = K.written out.new;
-      faults = K.faults out.old;
-      faults_after = K.faults out.new;
-    } in HasSaveCause (none_out kernel.old.mem) side
-        (store_side W.is_honest W.held W.asked W.faults (store_of kernel.old.mem) (store_of kernel.new.mem)) result }
-    ensures sound { IsSound W.slot_count W.held kernel.new }
-    ensures keeps { Keeps W.is_honest W.held W.slot_count W.asked W.faults kernel.old kernel.new }
+    ensures saved { MeansBytes W.SwapStore kernel.old.mem → IsReservedByThread (machine_of W.held kernel.old)
+        → SavesState (machine_of W.held kernel.old) (sink_side K.Sink out.old out.new) result }
+    ensures cause { HasSaveCause (none_out kernel.old.mem) (sink_side K.Sink out.old out.new)
+        (store_side W.SwapStore (store_of kernel.old.mem) (store_of kernel.new.mem)) result }
+    ensures sound { IsSound W.SwapStore kernel.new }
+    ensures keeps { Keeps W.SwapStore kernel.old kernel.new }
     ensures never_falls { K.faults out.old ≤ K.faults out.new }
 {
     let Ok(()) = kernel.save(sheet) else {
@@ -129,37 +111,24 @@ fn suspend_events<H: Host, K: Sink, W: SwapStore>(
     suspend: SuspendWords,
     out: &mut K,
 ) -> Status
-    requires sound { IsSound W.slot_count W.held kernel.old }
+    requires sound { IsSound W.SwapStore kernel.old }
     requires usable { IsUsable kernel.old }
     requires within { (machine_of W.held kernel.old).steps ≤ suspend.limit }
     requires unreserved { (machine_of W.held kernel.old).reserved ≡ None }
     requires room { let m = machine_of W.held kernel.old in room_for m.processes m.capacity ≤ sheet.old.room }
-    ensures played { (start : Machine) → Begins start (stand W.is_honest W.held kernel.old (put (K.written out.old))) →
+    ensures played { (start : Machine) → Begins start (stand W.SwapStore kernel.old (put (K.written out.old))) →
         let booted : Booted = record {
           machine = start;
           room = room_in kernel.old;
           slots = (size kernel.old.mem).slots;
         } in let call : Call = record {
-          host = record {
-            files = H.file host.old;
-            asked = H.asked host.old;
-            asked_after = H.asked host.new;
-            image_left = H.left host.new First;
-            left = H.left host.new Second;
-            faults = H.faults host.old;
-            faults_after = H.faults host.new;
-          };
-          out = record {
-            written = K.written out.old;
-            written_after = K.written out.new;
-            faults = K.faults out.old;
-            faults_after = K.faults out.new;
-          };
-          store = store_side W.is_honest W.held W.asked W.faults (store_of kernel.old.mem) (store_of kernel.new.mem);
+          host = host_side H.Host host.old host.new;
+          out = sink_side K.Sink out.old out.new;
+          store = store_side W.SwapStore (store_of kernel.old.mem) (store_of kernel.new.mem);
           status = result;
         } in EndsSilently (suspend_in suspend.entry) booted call }
-    ensures sound { IsSound W.slot_count W.held kernel.new }
-    ensures keeps { Keeps W.is_honest W.held W.slot_count W.asked W.faults kernel.old kernel.new }
+    ensures sound { IsSound W.SwapStore kernel.new }
+    ensures keeps { Keeps W.SwapStore kernel.old kernel.new }
     ensures first { H.left host.new First ≡ H.left host.old First }
     ensures host { H.faults host.old ≤ H.faults host.new }
     ensures out { K.faults out.old ≤ K.faults out.new }
@@ -186,22 +155,9 @@ pub fn suspend_run<H: Host, K: Sink, W: SwapStore>(
     store: W,
 ) -> Ended<W>
     ensures ends { let call : Call = record {
-      host = record {
-        files = H.file host.old;
-        asked = H.asked host.old;
-        asked_after = H.asked host.new;
-        image_left = H.left host.new First;
-        left = H.left host.new Second;
-        faults = H.faults host.old;
-        faults_after = H.faults host.new;
-      };
-      out = record {
-        written = K.written out.old;
-        written_after = K.written out.new;
-        faults = K.faults out.old;
-        faults_after = K.faults out.new;
-      };
-      store = store_side W.is_honest W.held W.asked W.faults store result.store;
+      host = host_side H.Host host.old host.new;
+      out = sink_side K.Sink out.old out.new;
+      store = store_side W.SwapStore store result.store;
       status = result.status;
     } in EndsSuspend (suspend_in suspend.entry) call }
     ensures store { W.faults store ≤ W.faults result.store }

@@ -2,13 +2,16 @@
 
 ghost use Rattle.std.specs.Prelude.{◌≡◌, ◌≤◌, IfSome};
 ghost use Rattle.std.specs.Option.{option_map};
-ghost use Rattle.xousim.specs.Words.{check_in, check_of, convert_of, command_in, command_of, demo_of, limit_of, play_in, play_of, play_with, resume_in, resume_of, resume_with};
+ghost use Rattle.xk_base.specs.declared.limits.TheConstants.{SLOT_LIMIT, STEP_LIMIT};
+ghost use Rattle.xousim.specs.Words.{check_in, check_of, convert_of, command_in, command_of, demo_of, limit_of, play_in, play_of};
+ghost use Rattle.xousim.specs.Words.{play_with, resume_in, resume_of, resume_with};
 ghost use Rattle.xousim.specs.Words.{slots_of, suspend_in, suspend_of, suspend_with};
 
 use crate::commands::command::{
-    CheckWords, CommandWords, DemoWords, PlayWords, ResumeWords, SuspendWords, Telling,
+    CheckWords, CommandWords, DemoWords, PlayWords, ResumeWords, SuspendWords,
 };
 use crate::commands::numbers::read_number;
+use event_player::Telling;
 use xk_base::limits::{DEFAULT_STEPS, SLOT_LIMIT, STEP_LIMIT};
 
 /// The most clients of a load.
@@ -16,14 +19,14 @@ const CLIENT_LIMIT: u32 = 31;
 
 fn read_limit(word: &String) -> Option<u32>
     ensures value { result ≡ limit_of word.now }
-    ensures within { IfSome result (λ n. n ≤ 4000000000) }
+    ensures within { IfSome result (λ n. n ≤ STEP_LIMIT) }
 {
     read_number(word.as_bytes(), 1, STEP_LIMIT)
 }
 
 fn read_slots(word: &String) -> Option<u32>
     ensures value { result ≡ slots_of word.now }
-    ensures within { IfSome result (λ n. n ≤ 16384) }
+    ensures within { IfSome result (λ n. n ≤ SLOT_LIMIT) }
 {
     read_number(word.as_bytes(), 0, SLOT_LIMIT)
 }
@@ -37,9 +40,10 @@ fn play_with<'a>(
     slots: Option<u32>,
     store: Option<&'a String>,
 ) -> PlayWords<'a>
-    requires limited { limit ≤ 4000000000 }
-    requires few { IfSome slots (λ n. n ≤ 16384) }
-    ensures { Some (play_in result) ≡ play_with tells image.now events.now (Some limit) (Some slots) (option_map (λ name. name.now) store.entry) }
+    requires limited { limit ≤ STEP_LIMIT }
+    requires few { IfSome slots (λ n. n ≤ SLOT_LIMIT) }
+    ensures { Some (play_in result) ≡
+        play_with tells image.now events.now (Some limit) (Some slots) (option_map (λ name. name.now) store.entry) }
 {
     PlayWords {
         tells,
@@ -125,8 +129,8 @@ fn suspend_with<'a>(
     limit: u32,
     slots: Option<u32>,
 ) -> SuspendWords<'a>
-    requires limited { limit ≤ 4000000000 }
-    requires few { IfSome slots (λ n. n ≤ 16384) }
+    requires limited { limit ≤ STEP_LIMIT }
+    requires few { IfSome slots (λ n. n ≤ SLOT_LIMIT) }
     ensures { Some (suspend_in result) ≡ suspend_with image.now events.now (Some limit) (Some slots) }
 {
     SuspendWords {
@@ -158,8 +162,8 @@ fn read_suspend<'a>(words: &'a [String]) -> Option<SuspendWords<'a>>
 
 /// A run that is to be resumed, with these numbers.
 fn resume_with<'a>(state: &'a String, events: &'a String, limit: u32, slots: u32) -> ResumeWords<'a>
-    requires limited { limit ≤ 4000000000 }
-    requires few { slots ≤ 16384 }
+    requires limited { limit ≤ STEP_LIMIT }
+    requires few { slots ≤ SLOT_LIMIT }
     ensures { Some (resume_in result) ≡ resume_with state.now events.now (Some limit) (Some slots) }
 {
     ResumeWords {

@@ -65,7 +65,8 @@ const OF_NO_FORM: [&str; 32] = [
 ];
 
 const USAGE: &[u8] =
-    b"usage: xousim trace|run|ledger IMAGE EVENTS [STEPS [SLOTS [STORE]]] | check IMAGE [SLOTS] | convert IMAGE | demo N | suspend IMAGE EVENTS [STEPS [SLOTS]] | resume STATE EVENTS [STEPS [SLOTS]]\n";
+    b"usage: xousim trace|run|ledger IMAGE EVENTS [STEPS [SLOTS [STORE]]] | check IMAGE [SLOTS] | convert IMAGE | demo N | \
+    suspend IMAGE EVENTS [STEPS [SLOTS]] | resume STATE EVENTS [STEPS [SLOTS]]\n";
 
 /// The words that stand between the bars of a line.
 fn words_of(alloc: Global, line: &str) -> Result<Vec<String>, Fail> {

@@ -8,4 +8,5 @@ mod exhausting;
 mod failing;
 mod lines;
 mod loans;
+mod states;
 mod sweeps;

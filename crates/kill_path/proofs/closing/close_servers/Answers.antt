@@ -12,7 +12,7 @@ pub loop-serial-init : goal.loop-serial-init
 loop-serial-init g c =
     let old : Closable = closable (ledger g.W.SwapStore.held c.args.mem.now) c.args.servers.now c.args.queues.now (noted c.args.answered.now) in
     record {
-      stays = same_memory g.W.SwapStore.slot_count g.W.SwapStore.is_honest g.W.SwapStore.held c.args.mem.now c.requires.sound;
+      stays = same_memory g.W.SwapStore c.args.mem.now c.requires.sound;
       messages = c.requires.messages;
       closed = none_so_far c.args.pid old;
     }
@@ -36,7 +36,7 @@ loop-serial-preserved g c =
     let now : Closable = closable (ledger g.W.SwapStore.held c.loop-serial.mem) c.loop-serial.servers c.loop-serial.queues (noted c.loop-serial.answered) in
     let new : Closable = closable (ledger g.W.SwapStore.held c.close_server.new.mem) c.close_server.new.servers c.close_server.new.queues (noted c.close_server.new.answered) in
     record {
-      stays = after_both g.W.SwapStore.slot_count g.W.SwapStore.is_honest g.W.SwapStore.held c.args.mem.now c.loop-serial.mem c.close_server.new.mem
+      stays = after_both g.W.SwapStore c.args.mem.now c.loop-serial.mem c.close_server.new.mem
           c.loop-serial.invariant.stays c.close_server.ensures.stays;
       messages = c.close_server.ensures.messages;
       closed = one_more_gone c.args.pid c.in-Some.serial old now new c.loop-serial.invariant.closed c.close_server.ensures.closed

@@ -15,7 +15,7 @@ invariant-loop-serial g l =
     let old : Closable = closable (ledger g.W.SwapStore.held l.initial.mem) l.initial.servers l.initial.queues (noted l.initial.answered) in
     let now : Closable = closable (ledger g.W.SwapStore.held l.mem) l.servers l.queues (noted l.answered) in
     record {
-      stays : Stays g.W.SwapStore.slot_count g.W.SwapStore.is_honest g.W.SwapStore.held l.initial.mem l.mem;
+      stays : Stays g.W.SwapStore l.initial.mem l.mem;
       messages : AreOpen (loans (ledger g.W.SwapStore.held l.mem)) l.servers l.queues;
       closed : AreClosed (gone_so_far l.pid old now) old now;
     }

@@ -19,7 +19,7 @@ loop-ended-preserved g c =
     let before = ledger g.W.SwapStore.held c.loop-ended.mem in
     let after = ledger g.W.SwapStore.held c.end_message.new.mem in
     record {
-      stays = after_both g.W.SwapStore.slot_count g.W.SwapStore.is_honest g.W.SwapStore.held c.args.mem.now c.loop-ended.mem c.end_message.new.mem
+      stays = after_both g.W.SwapStore c.args.mem.now c.loop-ended.mem c.end_message.new.mem
           inv.stays c.end_message.ensures.stays;
       seats = same_count old new k there c.take_first.ensures.rest ∙ inv.seats;
       messages = rest_can_end old new k there c.take_first.ensures.rest h first before after c.end_message.ensures.ledger inv.messages;

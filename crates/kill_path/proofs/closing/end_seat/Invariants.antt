@@ -13,7 +13,7 @@ use Rattle.kill_path.proofs.closing.end_seat.Given as goal
 -- once the messages that are left have ended, all have
 abbrev pub invariant-loop-ended : goal.invariant-loop-ended
 invariant-loop-ended g l = record {
-  stays : Stays g.W.SwapStore.slot_count g.W.SwapStore.is_honest g.W.SwapStore.held l.initial.mem l.mem;
+  stays : Stays g.W.SwapStore l.initial.mem l.mem;
   seats : length l.queues ≡ SERVER_LIMIT;
   messages : AreEndable (loans (ledger g.W.SwapStore.held l.mem)) (messages_at (seat_of l.queues l.seat));
   ledger : end_loans (is_number_in (messages_at (seat_of l.queues l.seat))) (ledger g.W.SwapStore.held l.mem)

@@ -11,7 +11,7 @@ pub loop-k-init : goal.loop-k-init
 loop-k-init g c =
     let old : Closable = closable (ledger g.W.SwapStore.held c.args.mem.now) c.args.servers.now c.args.queues.now (noted c.new-untold.result) in
     record {
-      stays = same_memory g.W.SwapStore.slot_count g.W.SwapStore.is_honest g.W.SwapStore.held c.args.mem.now c.requires.sound;
+      stays = same_memory g.W.SwapStore c.args.mem.now c.requires.sound;
       messages = c.requires.servers.messages;
       closed = none_gone old;
       from = all_from (processes c.args.mem.now) old c.requires.servers;
@@ -24,7 +24,7 @@ loop-k-preserved g c =
     let new : Closable = closable (ledger g.W.SwapStore.held c.close_servers.new.mem) c.close_servers.new.servers c.close_servers.new.queues (noted c.close_servers.new.answered) in
     let pid : Pid = record { 0 = c.loop-k.k + 2 } in
     record {
-      stays = after_both g.W.SwapStore.slot_count g.W.SwapStore.is_honest g.W.SwapStore.held c.args.mem.now c.loop-k.mem c.close_servers.new.mem
+      stays = after_both g.W.SwapStore c.args.mem.now c.loop-k.mem c.close_servers.new.mem
           c.loop-k.invariant.stays c.close_servers.ensures.stays;
       messages = c.close_servers.ensures.messages;
       closed = more_gone pid old now new c.loop-k.invariant.closed c.close_servers.ensures.closed;

@@ -14,7 +14,7 @@ invariant-loop-k g l =
     let old : Closable = closable (ledger g.W.SwapStore.held l.initial.mem) l.initial.servers l.initial.queues (noted l.initial.untold) in
     let now : Closable = closable (ledger g.W.SwapStore.held l.mem) l.servers l.queues (noted l.untold) in
     record {
-      stays : Stays g.W.SwapStore.slot_count g.W.SwapStore.is_honest g.W.SwapStore.held l.initial.mem l.mem;
+      stays : Stays g.W.SwapStore l.initial.mem l.mem;
       messages : AreOpen (loans (ledger g.W.SwapStore.held l.mem)) l.servers l.queues;
       closed : AreClosed (gone old now) old now;
       from : AreFrom (l.k + 2) now;

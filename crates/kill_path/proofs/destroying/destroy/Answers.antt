@@ -19,7 +19,7 @@ use Rattle.kill_path.proofs.destroying.destroy.Goals as goal
 pub note-requires : goal.note-requires
 note-requires g c =
     known_of_all (process_count c.args.threads.now) c.args.who
-    (few_processes g.W.SwapStore.slot_count g.W.SwapStore.held c.args.who
+    (few_processes g.W.SwapStore c.args.who
     (parts_of c.args.mem.now c.args.threads.now c.args.servers.now c.args.queues.now c.args.log.now)
     c.requires.sound)
     (ready_id c.args.threads.now c.args.who c.requires.ready)
@@ -27,20 +27,20 @@ note-requires g c =
 pub note_receiving-requires : goal.note_receiving-requires
 note_receiving-requires g c =
     let v = live_there ((servers_of c.args.servers.now).live c.args.s.0) c.requires.live in
-    its_owner g.W.SwapStore.slot_count g.W.SwapStore.is_honest g.W.SwapStore.held c.args.who
+    its_owner g.W.SwapStore c.args.who
     (parts_of c.args.mem.now c.args.threads.now c.args.servers.now c.args.queues.now c.args.log.now)
     c.requires.sound c.requires.ready c.args.s v.server v.live c.owner_of-pid.result c.owner_of-pid.ensures
 
 pub close_server-requires-clause-messages : goal.close_server-requires-clause-messages
 close_server-requires-clause-messages g c =
-    sound_open g.W.SwapStore.slot_count g.W.SwapStore.held c.args.who
+    sound_open g.W.SwapStore c.args.who
     (parts_of c.args.mem.now c.args.threads.now c.args.servers.now c.args.queues.now c.args.log.now)
     c.requires.sound
 
 pub tell-requires-clause-known : goal.tell-requires-clause-known
 tell-requires-clause-known g c = λ id e.
     ap (λ n. is_thread_id n id) c.pass.ensures.count
-    ∙ noted_known g.W.SwapStore.slot_count g.W.SwapStore.is_honest g.W.SwapStore.held c.args.who
+    ∙ noted_known g.W.SwapStore c.args.who
     (parts_of c.args.mem.now c.args.threads.now c.args.servers.now c.args.queues.now c.args.log.now)
     c.requires.sound c.requires.ready c.args.s c.seat_of-seat.ensures.server c.seat_of-seat.ensures.live
     (parts_of c.close_server.new.mem c.pass.new.threads c.close_server.new.servers c.close_server.new.queues c.args.log.now)
@@ -48,7 +48,7 @@ tell-requires-clause-known g c = λ id e.
     (subst (λ (set : ThreadSet). AreClosed (λ k. k == c.args.s.0)
     (closable (ledger g.W.SwapStore.held c.args.mem.now) c.args.servers.now c.args.queues.now set)
     (closable (ledger g.W.SwapStore.held c.close_server.new.mem) c.close_server.new.servers c.close_server.new.queues (noted c.close_server.new.answered)))
-    (first_noted g.W.SwapStore.slot_count g.W.SwapStore.is_honest g.W.SwapStore.held c.args.who
+    (first_noted g.W.SwapStore c.args.who
     (parts_of c.args.mem.now c.args.threads.now c.args.servers.now c.args.queues.now c.args.log.now)
     c.requires.sound c.requires.ready c.args.s c.seat_of-seat.ensures.server c.seat_of-seat.ensures.live c.owner_of-pid.result
     (noted c.new-noted_ids.result) (noted c.note.new.self) (noted c.note_receiving.new.noted_ids) c.owner_of-pid.ensures
@@ -57,7 +57,7 @@ tell-requires-clause-known g c = λ id e.
 
 pub returns-clause-row : goal.returns-clause-row
 returns-clause-row g c = λ m.
-    destroyed_row g.W.SwapStore.slot_count g.W.SwapStore.is_honest g.W.SwapStore.held c.args.who
+    destroyed_row g.W.SwapStore c.args.who
     (parts_of c.args.mem.now c.args.threads.now c.args.servers.now c.args.queues.now c.args.log.now)
     c.requires.sound c.requires.ready c.args.s c.seat_of-seat.ensures.server c.seat_of-seat.ensures.live
     (parts_of c.close_server.new.mem c.tell.new.threads c.close_server.new.servers c.close_server.new.queues c.tell.new.log)
@@ -65,7 +65,7 @@ returns-clause-row g c = λ m.
     (subst (λ (set : ThreadSet). AreClosed (λ k. k == c.args.s.0)
     (closable (ledger g.W.SwapStore.held c.args.mem.now) c.args.servers.now c.args.queues.now set)
     (closable (ledger g.W.SwapStore.held c.close_server.new.mem) c.close_server.new.servers c.close_server.new.queues (noted c.close_server.new.answered)))
-    (first_noted g.W.SwapStore.slot_count g.W.SwapStore.is_honest g.W.SwapStore.held c.args.who
+    (first_noted g.W.SwapStore c.args.who
     (parts_of c.args.mem.now c.args.threads.now c.args.servers.now c.args.queues.now c.args.log.now)
     c.requires.sound c.requires.ready c.args.s c.seat_of-seat.ensures.server c.seat_of-seat.ensures.live c.owner_of-pid.result
     (noted c.new-noted_ids.result) (noted c.note.new.self) (noted c.note_receiving.new.noted_ids) c.owner_of-pid.ensures
@@ -77,7 +77,7 @@ returns-clause-row g c = λ m.
 
 pub returns-clause-sound : goal.returns-clause-sound
 returns-clause-sound g c =
-    destroyed_sound g.W.SwapStore.slot_count g.W.SwapStore.is_honest g.W.SwapStore.held c.args.who
+    destroyed_sound g.W.SwapStore c.args.who
     (parts_of c.args.mem.now c.args.threads.now c.args.servers.now c.args.queues.now c.args.log.now)
     c.requires.sound c.requires.ready c.args.s c.seat_of-seat.ensures.server c.seat_of-seat.ensures.live
     (parts_of c.close_server.new.mem c.tell.new.threads c.close_server.new.servers c.close_server.new.queues c.tell.new.log)
@@ -85,7 +85,7 @@ returns-clause-sound g c =
     (subst (λ (set : ThreadSet). AreClosed (λ k. k == c.args.s.0)
     (closable (ledger g.W.SwapStore.held c.args.mem.now) c.args.servers.now c.args.queues.now set)
     (closable (ledger g.W.SwapStore.held c.close_server.new.mem) c.close_server.new.servers c.close_server.new.queues (noted c.close_server.new.answered)))
-    (first_noted g.W.SwapStore.slot_count g.W.SwapStore.is_honest g.W.SwapStore.held c.args.who
+    (first_noted g.W.SwapStore c.args.who
     (parts_of c.args.mem.now c.args.threads.now c.args.servers.now c.args.queues.now c.args.log.now)
     c.requires.sound c.requires.ready c.args.s c.seat_of-seat.ensures.server c.seat_of-seat.ensures.live c.owner_of-pid.result
     (noted c.new-noted_ids.result) (noted c.note.new.self) (noted c.note_receiving.new.noted_ids) c.owner_of-pid.ensures

@@ -27,7 +27,7 @@ loop-number-smaller g c =
     let old = ledger g.W.SwapStore.held c.loop-number.mem in
     (has_left c.args.servers.now c.loop-number.queues at.0 c.args.seat at.1 c.args.pid c.in-Some.number old c.loop-number.invariant.messages c.in-Some.ensures
     (processes c.loop-number.mem) (capacity_of c.loop-number.mem)
-    (sound_lawful g.W.SwapStore.slot_count g.W.SwapStore.held c.loop-number.mem c.loop-number.invariant.stays.sound)
+    (sound_lawful g.W.SwapStore c.loop-number.mem c.loop-number.invariant.stays.sound)
     (ledger g.W.SwapStore.held c.leave_message.new.mem) c.leave_message.new.queues c.leave_message.ensures.queues c.leave_message.ensures.ledger).fewer
 
 pub loop-number-preserved : goal.loop-number-preserved
@@ -39,10 +39,10 @@ loop-number-preserved g c =
     let procs : processes c.loop-number.mem ≡ processes c.args.mem.now = ap (λ (s : Size). s.procs) c.loop-number.invariant.stays.keeps.size in
     let left = has_left c.args.servers.now c.loop-number.queues at.0 c.args.seat at.1 c.args.pid c.in-Some.number old c.loop-number.invariant.messages
     c.in-Some.ensures (processes c.loop-number.mem) (capacity_of c.loop-number.mem)
-    (sound_lawful g.W.SwapStore.slot_count g.W.SwapStore.held c.loop-number.mem c.loop-number.invariant.stays.sound)
+    (sound_lawful g.W.SwapStore c.loop-number.mem c.loop-number.invariant.stays.sound)
     new c.leave_message.new.queues c.leave_message.ensures.queues c.leave_message.ensures.ledger in
     record {
-      stays = after_both g.W.SwapStore.slot_count g.W.SwapStore.is_honest g.W.SwapStore.held c.args.mem.now c.loop-number.mem c.leave_message.new.mem
+      stays = after_both g.W.SwapStore c.args.mem.now c.loop-number.mem c.leave_message.new.mem
           c.loop-number.invariant.stays c.leave_message.ensures.stays;
       messages = left.now_open;
       alike = alike_both (processes c.args.mem.now) c.args.pid (standing first c.args.servers.now c.args.queues.now)
@@ -53,7 +53,7 @@ loop-number-preserved g c =
       others = λ other ne.
           others_same c.args.servers.now c.loop-number.queues at.0 c.args.seat at.1 c.args.pid c.in-Some.number old c.loop-number.invariant.messages
           c.in-Some.ensures (processes c.loop-number.mem) (capacity_of c.loop-number.mem)
-          (sound_lawful g.W.SwapStore.slot_count g.W.SwapStore.held c.loop-number.mem c.loop-number.invariant.stays.sound)
+          (sound_lawful g.W.SwapStore c.loop-number.mem c.loop-number.invariant.stays.sound)
           new c.leave_message.new.queues c.leave_message.ensures.queues c.leave_message.ensures.ledger other ne
           ∙ c.loop-number.invariant.others other ne;
     }

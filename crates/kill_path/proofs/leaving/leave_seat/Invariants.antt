@@ -13,7 +13,7 @@ use Rattle.kill_path.proofs.leaving.leave_seat.Given as goal
 -- what the death makes of what is left is what it made at first, and the other seats are as they were
 abbrev pub invariant-loop-number : goal.invariant-loop-number
 invariant-loop-number g l = record {
-  stays : Stays g.W.SwapStore.slot_count g.W.SwapStore.is_honest g.W.SwapStore.held l.initial.mem l.mem;
+  stays : Stays g.W.SwapStore l.initial.mem l.mem;
   messages : AreOpen (loans (ledger g.W.SwapStore.held l.mem)) l.servers l.queues;
   alike : LeavesAlike (processes l.initial.mem) l.pid (standing (ledger g.W.SwapStore.held l.initial.mem) l.servers l.initial.queues)
       (standing (ledger g.W.SwapStore.held l.mem) l.servers l.queues);

@@ -9,7 +9,7 @@ use Rattle.kill_path.proofs.leaving.leave_servers.Goals as goal
 
 pub loop-seat-init : goal.loop-seat-init
 loop-seat-init g c = record {
-  stays = same_memory g.W.SwapStore.slot_count g.W.SwapStore.is_honest g.W.SwapStore.held c.args.mem.now c.requires.sound;
+  stays = same_memory g.W.SwapStore c.args.mem.now c.requires.sound;
   messages = c.requires.messages;
   alike = alike_itself (processes c.args.mem.now) c.args.pid (standing (ledger g.W.SwapStore.held c.args.mem.now) c.args.servers.now c.args.queues.now);
   left = λ k low. absurd (omega arith);
@@ -31,7 +31,7 @@ loop-seat-preserved g c =
     let new = standing (ledger g.W.SwapStore.held c.leave_seat.new.mem) c.args.servers.now c.leave_seat.new.queues in
     let procs : processes c.loop-seat.mem ≡ processes c.args.mem.now = ap (λ (s : Size). s.procs) c.loop-seat.invariant.stays.keeps.size in
     record {
-      stays = after_both g.W.SwapStore.slot_count g.W.SwapStore.is_honest g.W.SwapStore.held c.args.mem.now c.loop-seat.mem c.leave_seat.new.mem
+      stays = after_both g.W.SwapStore c.args.mem.now c.loop-seat.mem c.leave_seat.new.mem
           c.loop-seat.invariant.stays c.leave_seat.ensures.stays;
       messages = c.leave_seat.ensures.messages;
       alike = alike_both (processes c.args.mem.now) c.args.pid first old new c.loop-seat.invariant.alike

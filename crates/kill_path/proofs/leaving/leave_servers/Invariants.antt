@@ -10,7 +10,7 @@ use Rattle.kill_path.proofs.leaving.leave_servers.Given as goal
 -- what the death makes of what is left is what it made at first, and at the seats so far no message of the process is left
 abbrev pub invariant-loop-seat : goal.invariant-loop-seat
 invariant-loop-seat g l = record {
-  stays : Stays g.W.SwapStore.slot_count g.W.SwapStore.is_honest g.W.SwapStore.held l.initial.mem l.mem;
+  stays : Stays g.W.SwapStore l.initial.mem l.mem;
   messages : AreOpen (loans (ledger g.W.SwapStore.held l.mem)) l.servers l.queues;
   alike : LeavesAlike (processes l.initial.mem) l.pid (standing (ledger g.W.SwapStore.held l.initial.mem) l.servers l.initial.queues)
       (standing (ledger g.W.SwapStore.held l.mem) l.servers l.queues);

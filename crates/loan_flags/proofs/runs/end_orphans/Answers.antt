@@ -50,4 +50,7 @@ pub returns : goal.returns
 returns c =
     let n : c.count-i-end.result ≡ c.args.loan.now.count = c.count-i-end.ensures in
     let done : c.loop-i.i ≡ c.args.loan.now.count = omega arith in
-    orphans_ended (tables c.args.ram.now c.args.owners.now) c.requires.agrees c.args.loan.now c.requires.stands c.requires.alone (tables c.loop-i.ram c.loop-i.owners) (subst (λ k. RunsSo (tables c.args.ram.now c.args.owners.now) (tables c.loop-i.ram c.loop-i.owners) c.args.loan.now (forget_orphans (in_run c.args.loan.now.holder k)) c.args.loan.now.holder c.args.loan.now.holder k) done c.loop-i.invariant)
+    orphans_ended (tables c.args.ram.now c.args.owners.now) c.requires.agrees c.args.loan.now c.requires.stands c.requires.alone
+    (tables c.loop-i.ram c.loop-i.owners)
+    (subst (λ k. RunsSo (tables c.args.ram.now c.args.owners.now) (tables c.loop-i.ram c.loop-i.owners) c.args.loan.now
+    (forget_orphans (in_run c.args.loan.now.holder k)) c.args.loan.now.holder c.args.loan.now.holder k) done c.loop-i.invariant)

@@ -45,7 +45,10 @@ loop-i-preserved c =
     let n : c.count-i-end.result ≡ c.args.loan.count = c.count-i-end.ensures in
     let b : c.loop-i.i < c.args.loan.count = omega arith in
     let holder : place_after c.args.loan.holder c.loop-i.i ≡ c.above.result = sym (c.above.ensures ∙ ap (λ (h : Place). place_after h c.loop-i.i) c.holder-holder.ensures) in
-    runs_next (tables c.args.ram.now c.args.owners.now) (tables c.loop-i.ram c.loop-i.owners) (tables c.orphan_page.new.ram c.orphan_page.new.owners) c.args.loan (orphan_run c.lender_of-from.result c.loop-i.i c.args.loan.holder) (orphan_run (place_after c.lender_of-from.result c.loop-i.i) 1 (place_after c.args.loan.holder c.loop-i.i)) (orphan_run c.lender_of-from.result (c.loop-i.i + 1) c.args.loan.holder)
+    runs_next (tables c.args.ram.now c.args.owners.now) (tables c.loop-i.ram c.loop-i.owners)
+    (tables c.orphan_page.new.ram c.orphan_page.new.owners) c.args.loan (orphan_run c.lender_of-from.result c.loop-i.i c.args.loan.holder)
+    (orphan_run (place_after c.lender_of-from.result c.loop-i.i) 1 (place_after c.args.loan.holder c.loop-i.i))
+    (orphan_run c.lender_of-from.result (c.loop-i.i + 1) c.args.loan.holder)
     c.lender_of-from.result c.lender_of-from.result c.loop-i.i (seat_in (entries_of (tables c.loop-i.ram c.loop-i.owners) c.above-in-loop-i.result)) c.loop-i.invariant
     (orphan_next c.lender_of-from.result c.args.loan.holder c.loop-i.i)
     (ap (λ p. seat_in (entries_of (tables c.loop-i.ram c.loop-i.owners) p)) c.above-in-loop-i.ensures ∙ orphaning_seat (tables c.args.ram.now c.args.owners.now) c.requires.agrees c.args.loan c.requires.stands c.lender_of-from.result c.lender_of-from.ensures (tables c.loop-i.ram c.loop-i.owners) (orphan_run c.lender_of-from.result c.loop-i.i c.args.loan.holder) c.loop-i.i b c.loop-i.invariant)
@@ -67,7 +70,11 @@ returns-clause-stands c =
     let n : c.count-i-end.result ≡ c.args.loan.count = c.count-i-end.ensures in
     let done : c.loop-i.i ≡ c.args.loan.count = omega arith in
     subst (StandsIn (entries_of (tables c.loop-i.ram c.loop-i.owners)) (infos c.loop-i.owners)) (sym c.orphaned.ensures)
-    (orphaned_stands_in (tables c.args.ram.now c.args.owners.now) c.requires.agrees c.args.loan c.requires.stands c.lender_of-from.result c.lender_of-from.ensures (tables c.loop-i.ram c.loop-i.owners) c.loop-i.invariant.agree (subst (λ k. IsLedgerStep (orphan_run c.lender_of-from.result k c.args.loan.holder) (tables c.args.ram.now c.args.owners.now) (tables c.loop-i.ram c.loop-i.owners)) done c.loop-i.invariant.steps))
+    (orphaned_stands_in
+    (tables c.args.ram.now c.args.owners.now) c.requires.agrees c.args.loan c.requires.stands c.lender_of-from.result c.lender_of-from.ensures
+    (tables c.loop-i.ram c.loop-i.owners) c.loop-i.invariant.agree
+    (subst (λ k. IsLedgerStep (orphan_run c.lender_of-from.result k c.args.loan.holder) (tables c.args.ram.now c.args.owners.now)
+    (tables c.loop-i.ram c.loop-i.owners)) done c.loop-i.invariant.steps))
 
 pub returns-clause-others : goal.returns-clause-others
 returns-clause-others c = λ from lent p outside.

@@ -59,7 +59,9 @@ loop-i-preserved c =
     runs_next (tables c.args.ram.now c.args.owners.now) (tables c.loop-i.ram c.loop-i.owners) (tables c.pass_page.new.ram c.pass_page.new.owners) c.args.loan (pass_run c.lender_of-from.result c.loop-i.i c.args.to) (pass_run (place_after c.lender_of-from.result c.loop-i.i) 1 (place_after c.args.to c.loop-i.i)) (pass_run c.lender_of-from.result (c.loop-i.i + 1) c.args.to)
     c.args.loan.holder c.args.to c.loop-i.i (seat_in (entries_of (tables c.loop-i.ram c.loop-i.owners) c.above-in-loop-i.result)) c.loop-i.invariant
     (pass_next c.lender_of-from.result c.args.to c.loop-i.i)
-    (ap (λ p. seat_in (entries_of (tables c.loop-i.ram c.loop-i.owners) p)) c.above-in-loop-i.ensures ∙ passing_seat (tables c.args.ram.now c.args.owners.now) c.requires.agrees c.args.loan c.requires.stands c.lender_of-from.result c.lender_of-from.ensures c.args.to c.requires.free (tables c.loop-i.ram c.loop-i.owners) (pass_run c.lender_of-from.result c.loop-i.i c.args.to) c.loop-i.i b c.loop-i.invariant)
+    (ap (λ p. seat_in (entries_of (tables c.loop-i.ram c.loop-i.owners) p)) c.above-in-loop-i.ensures
+    ∙ passing_seat
+    (tables c.args.ram.now c.args.owners.now) c.requires.agrees c.args.loan c.requires.stands c.lender_of-from.result c.lender_of-from.ensures c.args.to c.requires.free (tables c.loop-i.ram c.loop-i.owners) (pass_run c.lender_of-from.result c.loop-i.i c.args.to) c.loop-i.i b c.loop-i.invariant)
     c.pass_page.ensures.agrees
     (subst (λ p. IsLedgerStep (pass_run p 1 (place_after c.args.to c.loop-i.i)) (tables c.loop-i.ram c.loop-i.owners) (tables c.pass_page.new.ram c.pass_page.new.owners)) c.above-in-loop-i.ensures
     (subst (λ q. IsLedgerStep (pass_run c.above-in-loop-i.result 1 q) (tables c.loop-i.ram c.loop-i.owners) (tables c.pass_page.new.ram c.pass_page.new.owners)) c.above-in-loop-i-2.ensures c.pass_page.ensures.step))
@@ -71,14 +73,17 @@ pub returns-clause-step : goal.returns-clause-step
 returns-clause-step c =
     let n : c.count-i-end.result ≡ c.args.loan.count = c.count-i-end.ensures in
     let done : c.loop-i.i ≡ c.args.loan.count = omega arith in
-    passed_steps (tables c.args.ram.now c.args.owners.now) c.requires.agrees c.args.loan c.requires.stands c.lender_of-from.result c.lender_of-from.ensures c.args.to c.requires.free (tables c.loop-i.ram c.loop-i.owners) (subst (λ k. IsLedgerStep (pass_run c.lender_of-from.result k c.args.to) (tables c.args.ram.now c.args.owners.now) (tables c.loop-i.ram c.loop-i.owners)) done c.loop-i.invariant.steps)
+    passed_steps (tables c.args.ram.now c.args.owners.now) c.requires.agrees c.args.loan c.requires.stands c.lender_of-from.result
+    c.lender_of-from.ensures c.args.to c.requires.free (tables c.loop-i.ram c.loop-i.owners) (subst (λ k. IsLedgerStep (pass_run c.lender_of-from.result k c.args.to) (tables c.args.ram.now c.args.owners.now) (tables c.loop-i.ram c.loop-i.owners)) done c.loop-i.invariant.steps)
 
 pub returns-clause-stands : goal.returns-clause-stands
 returns-clause-stands c =
     let n : c.count-i-end.result ≡ c.args.loan.count = c.count-i-end.ensures in
     let done : c.loop-i.i ≡ c.args.loan.count = omega arith in
     subst (StandsIn (entries_of (tables c.loop-i.ram c.loop-i.owners)) (infos c.loop-i.owners)) (sym c.moved_to.ensures)
-    (passed_stands (tables c.args.ram.now c.args.owners.now) c.requires.agrees c.args.loan c.requires.stands c.lender_of-from.result c.lender_of-from.ensures c.args.to c.requires.free (tables c.loop-i.ram c.loop-i.owners) c.loop-i.invariant.agree (subst (λ k. IsLedgerStep (pass_run c.lender_of-from.result k c.args.to) (tables c.args.ram.now c.args.owners.now) (tables c.loop-i.ram c.loop-i.owners)) done c.loop-i.invariant.steps) c.requires.lies)
+    (passed_stands
+    (tables c.args.ram.now c.args.owners.now) c.requires.agrees c.args.loan c.requires.stands c.lender_of-from.result
+    c.lender_of-from.ensures c.args.to c.requires.free (tables c.loop-i.ram c.loop-i.owners) c.loop-i.invariant.agree (subst (λ k. IsLedgerStep (pass_run c.lender_of-from.result k c.args.to) (tables c.args.ram.now c.args.owners.now) (tables c.loop-i.ram c.loop-i.owners)) done c.loop-i.invariant.steps) c.requires.lies)
 
 pub returns-clause-others : goal.returns-clause-others
 returns-clause-others c =

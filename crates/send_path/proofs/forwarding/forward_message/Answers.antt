@@ -72,32 +72,56 @@ returns-in_default-free_run-clause-mem g c =
     record { size = refl; store = refl; failed = refl; none = λ e. e; means = λ e. e }
 
 pub returns-in_default-clause-row : goal.returns-in_default-clause-row
-returns-in_default-clause-row g c =
-    (refl, not_passable g.W.SwapStore.slot_count g.W.SwapStore.held c.args.procs.now c.args.who (parts_of c.args.mem.now c.args.threads.now c.args.servers.now c.args.queues.now c.args.log.now) c.requires.sound.sound c.requires.ready c.args.number c.args.cid.0 (none_held g.W.SwapStore.slot_count g.W.SwapStore.held c.args.who (parts_of c.args.mem.now c.args.threads.now c.args.servers.now c.args.queues.now c.args.log.now) c.requires.sound.sound c.requires.ready c.args.number c.in_default.ensures goes_on))
+returns-in_default-clause-row g c = (
+  refl,
+  not_passable g.W.SwapStore c.args.procs.now c.args.who
+      (parts_of c.args.mem.now c.args.threads.now c.args.servers.now c.args.queues.now c.args.log.now) c.requires.sound.sound c.requires.ready c.args.number c.args.cid.0 (none_held g.W.SwapStore c.args.who (parts_of c.args.mem.now c.args.threads.now c.args.servers.now c.args.queues.now c.args.log.now) c.requires.sound.sound c.requires.ready c.args.number c.in_default.ensures goes_on),
+)
 
 pub returns-then-not-is_passable-clause-row : goal.returns-then-not-is_passable-clause-row
-returns-then-not-is_passable-clause-row g c =
-    (refl, not_passable g.W.SwapStore.slot_count g.W.SwapStore.held c.args.procs.now c.args.who (parts_of c.args.mem.now c.args.threads.now c.args.servers.now c.args.queues.now c.args.log.now) c.requires.sound.sound c.requires.ready c.args.number c.args.cid.0 (other_kind g.W.SwapStore.slot_count g.W.SwapStore.held c.args.who (parts_of c.args.mem.now c.args.threads.now c.args.servers.now c.args.queues.now c.args.log.now) c.requires.sound.sound c.requires.ready c.args.number c.in-Some.from c.in-Some.ensures goes_on (sym c.is_passable.ensures ∙ c.if-not-is_passable.true)))
+returns-then-not-is_passable-clause-row g c = (
+  refl,
+  not_passable g.W.SwapStore c.args.procs.now c.args.who
+      (parts_of c.args.mem.now c.args.threads.now c.args.servers.now c.args.queues.now c.args.log.now) c.requires.sound.sound c.requires.ready
+      c.args.number c.args.cid.0 (other_kind g.W.SwapStore c.args.who (parts_of c.args.mem.now c.args.threads.now c.args.servers.now
+      c.args.queues.now c.args.log.now) c.requires.sound.sound c.requires.ready c.args.number c.in-Some.from c.in-Some.ensures goes_on
+      (sym c.is_passable.ensures ∙ c.if-not-is_passable.true)),
+)
 
 pub connected_server-requires : goal.connected_server-requires
 connected_server-requires g c =
-    caller_bounds g.W.SwapStore.slot_count g.W.SwapStore.held c.args.who c.args.procs.now (parts_of c.args.mem.now c.args.threads.now c.args.servers.now c.args.queues.now c.args.log.now) c.requires.sound c.requires.ready
+    caller_bounds g.W.SwapStore c.args.who c.args.procs.now (parts_of c.args.mem.now c.args.threads.now c.args.servers.now c.args.queues.now c.args.log.now) c.requires.sound c.requires.ready
 
 pub returns-in_default-connected_server-clause-row : goal.returns-in_default-connected_server-clause-row
-returns-in_default-connected_server-clause-row g c =
-    (refl, not_reached g.W.SwapStore.slot_count g.W.SwapStore.held c.args.procs.now c.args.who (parts_of c.args.mem.now c.args.threads.now c.args.servers.now c.args.queues.now c.args.log.now) c.requires.sound.sound c.requires.ready c.args.number c.args.cid.0 c.in-Some.from.message (its_kind g.W.SwapStore.slot_count g.W.SwapStore.held c.args.who (parts_of c.args.mem.now c.args.threads.now c.args.servers.now c.args.queues.now c.args.log.now) c.requires.sound.sound c.requires.ready c.args.number c.in-Some.from c.in-Some.ensures goes_on (sym c.is_passable.ensures ∙ c.if-not-is_passable.false)) c.in_default-connected_server.ensures)
+returns-in_default-connected_server-clause-row g c = (
+  refl,
+  not_reached g.W.SwapStore c.args.procs.now c.args.who
+      (parts_of c.args.mem.now c.args.threads.now c.args.servers.now c.args.queues.now c.args.log.now) c.requires.sound.sound c.requires.ready
+      c.args.number c.args.cid.0 c.in-Some.from.message (its_kind g.W.SwapStore c.args.who (parts_of c.args.mem.now c.args.threads.now
+      c.args.servers.now c.args.queues.now c.args.log.now) c.requires.sound.sound c.requires.ready c.args.number c.in-Some.from c.in-Some.ensures
+      goes_on (sym c.is_passable.ensures ∙ c.if-not-is_passable.false)) c.in_default-connected_server.ensures,
+)
 
 pub returns-then-eq-clause-row : goal.returns-then-eq-clause-row
-returns-then-eq-clause-row g c =
-    (refl, to_holder g.W.SwapStore.slot_count g.W.SwapStore.held c.args.procs.now c.args.who (parts_of c.args.mem.now c.args.threads.now c.args.servers.now c.args.queues.now c.args.log.now) c.requires.sound.sound c.requires.ready c.args.number c.args.cid.0 c.in-Some.from c.in-Some.ensures (sym c.is_passable.ensures ∙ c.if-not-is_passable.false) c.in-Some-connected_server.to c.in-Some-connected_server.ensures (sym c.eq.ensures ∙ c.if-eq.true))
+returns-then-eq-clause-row g c = (
+  refl,
+  to_holder g.W.SwapStore c.args.procs.now c.args.who
+      (parts_of c.args.mem.now c.args.threads.now c.args.servers.now c.args.queues.now c.args.log.now) c.requires.sound.sound c.requires.ready c.args.number c.args.cid.0 c.in-Some.from c.in-Some.ensures (sym c.is_passable.ensures ∙ c.if-not-is_passable.false) c.in-Some-connected_server.to c.in-Some-connected_server.ensures (sym c.eq.ensures ∙ c.if-eq.true),
+)
 
 pub is_full-requires : goal.is_full-requires
 is_full-requires g c =
-    to_seat g.W.SwapStore.slot_count g.W.SwapStore.held c.args.who (parts_of c.args.mem.now c.args.threads.now c.args.servers.now c.args.queues.now c.args.log.now) c.requires.sound.sound c.in-Some-connected_server.to c.in-Some-connected_server.ensures
+    to_seat g.W.SwapStore c.args.who (parts_of c.args.mem.now c.args.threads.now c.args.servers.now c.args.queues.now c.args.log.now) c.requires.sound.sound c.in-Some-connected_server.to c.in-Some-connected_server.ensures
 
 pub returns-then-is_full-clause-row : goal.returns-then-is_full-clause-row
-returns-then-is_full-clause-row g c =
-    (refl, to_full g.W.SwapStore.slot_count g.W.SwapStore.held c.args.procs.now c.args.who (parts_of c.args.mem.now c.args.threads.now c.args.servers.now c.args.queues.now c.args.log.now) c.requires.sound.sound c.requires.ready c.args.number c.args.cid.0 c.in-Some.from c.in-Some.ensures (sym c.is_passable.ensures ∙ c.if-not-is_passable.false) c.in-Some-connected_server.to c.in-Some-connected_server.ensures (sym c.eq.ensures ∙ c.if-eq.false) (c.is_full.ensures.full.0 c.if-is_full.true))
+returns-then-is_full-clause-row g c = (
+  refl,
+  to_full g.W.SwapStore c.args.procs.now c.args.who
+      (parts_of c.args.mem.now c.args.threads.now c.args.servers.now c.args.queues.now c.args.log.now) c.requires.sound.sound c.requires.ready
+      c.args.number c.args.cid.0 c.in-Some.from c.in-Some.ensures (sym c.is_passable.ensures ∙ c.if-not-is_passable.false)
+      c.in-Some-connected_server.to c.in-Some-connected_server.ensures (sym c.eq.ensures ∙ c.if-eq.false)
+      (c.is_full.ensures.full.0 c.if-is_full.true),
+)
 
 pub free_run-requires-clause-sound : goal.free_run-requires-clause-sound
 free_run-requires-clause-sound g c =
@@ -109,15 +133,22 @@ free_run-requires-clause-usable g c =
 
 pub free_run-requires-clause-process : goal.free_run-requires-clause-process
 free_run-requires-clause-process g c =
-    to_in_mem g.W.SwapStore.slot_count g.W.SwapStore.held c.args.who (parts_of c.args.mem.now c.args.threads.now c.args.servers.now c.args.queues.now c.args.log.now) c.requires.sound.sound c.in-Some-connected_server.to c.in-Some-connected_server.ensures
+    to_in_mem g.W.SwapStore c.args.who (parts_of c.args.mem.now c.args.threads.now c.args.servers.now c.args.queues.now c.args.log.now) c.requires.sound.sound c.in-Some-connected_server.to c.in-Some-connected_server.ensures
 
 pub free_run-requires-clause-some : goal.free_run-requires-clause-some
 free_run-requires-clause-some g c =
-    has_pages g.W.SwapStore.slot_count g.W.SwapStore.held c.args.procs.now c.args.who (parts_of c.args.mem.now c.args.threads.now c.args.servers.now c.args.queues.now c.args.log.now) c.requires.sound.sound c.requires.ready c.args.number c.in-Some.from c.in-Some.ensures (sym c.is_passable.ensures ∙ c.if-not-is_passable.false) c.args.cid.0 c.in-Some-connected_server.to c.in-Some-connected_server.ensures
+    has_pages g.W.SwapStore c.args.procs.now c.args.who (parts_of c.args.mem.now c.args.threads.now c.args.servers.now c.args.queues.now c.args.log.now) c.requires.sound.sound c.requires.ready c.args.number c.in-Some.from c.in-Some.ensures (sym c.is_passable.ensures ∙ c.if-not-is_passable.false) c.args.cid.0 c.in-Some-connected_server.to c.in-Some-connected_server.ensures
 
 pub returns-in_default-free_run-clause-row : goal.returns-in_default-free_run-clause-row
-returns-in_default-free_run-clause-row g c =
-    (refl, no_run g.W.SwapStore.slot_count g.W.SwapStore.held c.args.procs.now c.args.who (parts_of c.args.mem.now c.args.threads.now c.args.servers.now c.args.queues.now c.args.log.now) c.requires.sound.sound c.requires.ready c.args.number c.args.cid.0 c.in-Some.from c.in-Some.ensures (sym c.is_passable.ensures ∙ c.if-not-is_passable.false) c.in-Some-connected_server.to c.in-Some-connected_server.ensures (sym c.eq.ensures ∙ c.if-eq.false) (room_left c.is_full.result (used_of (seat_of c.args.queues.now c.in-Some-connected_server.to.seat)) c.is_full.ensures.full c.is_full.ensures.few c.if-is_full.false) (sym c.in_default-free_run.ensures))
+returns-in_default-free_run-clause-row g c = (
+  refl,
+  no_run g.W.SwapStore c.args.procs.now c.args.who
+      (parts_of c.args.mem.now c.args.threads.now c.args.servers.now c.args.queues.now c.args.log.now) c.requires.sound.sound c.requires.ready
+      c.args.number c.args.cid.0 c.in-Some.from c.in-Some.ensures (sym c.is_passable.ensures ∙ c.if-not-is_passable.false)
+      c.in-Some-connected_server.to c.in-Some-connected_server.ensures (sym c.eq.ensures ∙ c.if-eq.false)
+      (room_left c.is_full.result (used_of (seat_of c.args.queues.now c.in-Some-connected_server.to.seat)) c.is_full.ensures.full
+      c.is_full.ensures.few c.if-is_full.false) (sym c.in_default-free_run.ensures),
+)
 
 pub take-requires-clause-seat : goal.take-requires-clause-seat
 take-requires-clause-seat g c =
@@ -125,7 +156,7 @@ take-requires-clause-seat g c =
 
 pub take-requires-clause-there : goal.take-requires-clause-there
 take-requires-clause-there g c =
-    ap is_some (shown g.W.SwapStore.slot_count g.W.SwapStore.held c.args.who (parts_of c.args.mem.now c.args.threads.now c.args.servers.now c.args.queues.now c.args.log.now) c.requires.sound.sound c.requires.ready c.args.number c.in-Some.from c.in-Some.ensures).is
+    ap is_some (shown g.W.SwapStore c.args.who (parts_of c.args.mem.now c.args.threads.now c.args.servers.now c.args.queues.now c.args.log.now) c.requires.sound.sound c.requires.ready c.args.number c.in-Some.from c.in-Some.ensures).is
 
 pub pass-loan-requires-clause-sound : goal.pass-loan-requires-clause-sound
 pass-loan-requires-clause-sound g c =
@@ -137,19 +168,55 @@ pass-loan-requires-clause-usable g c =
 
 pub pass-loan-requires-clause-stands : goal.pass-loan-requires-clause-stands
 pass-loan-requires-clause-stands g c =
-    its_run_stands g.W.SwapStore.slot_count g.W.SwapStore.held c.args.procs.now c.args.who (parts_of c.args.mem.now c.args.threads.now c.args.servers.now c.args.queues.now c.args.log.now) c.requires.sound.sound c.requires.ready c.args.number c.in-Some.from c.in-Some.ensures (sym c.is_passable.ensures ∙ c.if-not-is_passable.false) c.args.cid.0 c.in-Some-connected_server.to c.in-Some-connected_server.ensures c.in-Some-take.loan (sym (c.take.ensures.loan (shown g.W.SwapStore.slot_count g.W.SwapStore.held c.args.who (parts_of c.args.mem.now c.args.threads.now c.args.servers.now c.args.queues.now c.args.log.now) c.requires.sound.sound c.requires.ready c.args.number c.in-Some.from c.in-Some.ensures).held (shown g.W.SwapStore.slot_count g.W.SwapStore.held c.args.who (parts_of c.args.mem.now c.args.threads.now c.args.servers.now c.args.queues.now c.args.log.now) c.requires.sound.sound c.requires.ready c.args.number c.in-Some.from c.in-Some.ensures).is) ∙ c.in-Some-take.is)
+    its_run_stands g.W.SwapStore c.args.procs.now c.args.who
+    (parts_of c.args.mem.now c.args.threads.now c.args.servers.now c.args.queues.now c.args.log.now) c.requires.sound.sound c.requires.ready
+    c.args.number c.in-Some.from c.in-Some.ensures (sym c.is_passable.ensures ∙ c.if-not-is_passable.false) c.args.cid.0
+    c.in-Some-connected_server.to c.in-Some-connected_server.ensures c.in-Some-take.loan
+    (sym (c.take.ensures.loan (shown g.W.SwapStore c.args.who (parts_of c.args.mem.now c.args.threads.now c.args.servers.now c.args.queues.now
+    c.args.log.now) c.requires.sound.sound c.requires.ready c.args.number c.in-Some.from c.in-Some.ensures).held (shown g.W.SwapStore c.args.who
+    (parts_of c.args.mem.now c.args.threads.now c.args.servers.now c.args.queues.now c.args.log.now) c.requires.sound.sound c.requires.ready
+    c.args.number c.in-Some.from c.in-Some.ensures).is) ∙ c.in-Some-take.is)
 
 pub pass-loan-requires-clause-lent : goal.pass-loan-requires-clause-lent
 pass-loan-requires-clause-lent g c =
-    has_lender g.W.SwapStore.slot_count g.W.SwapStore.held c.args.procs.now c.args.who (parts_of c.args.mem.now c.args.threads.now c.args.servers.now c.args.queues.now c.args.log.now) c.requires.sound.sound c.requires.ready c.args.number c.in-Some.from c.in-Some.ensures (sym c.is_passable.ensures ∙ c.if-not-is_passable.false) c.args.cid.0 c.in-Some-connected_server.to c.in-Some-connected_server.ensures c.in-Some-take.loan (sym (c.take.ensures.loan (shown g.W.SwapStore.slot_count g.W.SwapStore.held c.args.who (parts_of c.args.mem.now c.args.threads.now c.args.servers.now c.args.queues.now c.args.log.now) c.requires.sound.sound c.requires.ready c.args.number c.in-Some.from c.in-Some.ensures).held (shown g.W.SwapStore.slot_count g.W.SwapStore.held c.args.who (parts_of c.args.mem.now c.args.threads.now c.args.servers.now c.args.queues.now c.args.log.now) c.requires.sound.sound c.requires.ready c.args.number c.in-Some.from c.in-Some.ensures).is) ∙ c.in-Some-take.is)
+    has_lender g.W.SwapStore c.args.procs.now c.args.who
+    (parts_of c.args.mem.now c.args.threads.now c.args.servers.now c.args.queues.now c.args.log.now) c.requires.sound.sound c.requires.ready
+    c.args.number c.in-Some.from c.in-Some.ensures (sym c.is_passable.ensures ∙ c.if-not-is_passable.false) c.args.cid.0
+    c.in-Some-connected_server.to c.in-Some-connected_server.ensures c.in-Some-take.loan
+    (sym (c.take.ensures.loan (shown g.W.SwapStore c.args.who (parts_of c.args.mem.now c.args.threads.now c.args.servers.now c.args.queues.now
+    c.args.log.now) c.requires.sound.sound c.requires.ready c.args.number c.in-Some.from c.in-Some.ensures).held (shown g.W.SwapStore c.args.who
+    (parts_of c.args.mem.now c.args.threads.now c.args.servers.now c.args.queues.now c.args.log.now) c.requires.sound.sound c.requires.ready
+    c.args.number c.in-Some.from c.in-Some.ensures).is) ∙ c.in-Some-take.is)
 
 pub pass-loan-requires-clause-arrival : goal.pass-loan-requires-clause-arrival
 pass-loan-requires-clause-arrival g c =
-    subst (IsFreeArrival (processes c.args.mem.now) (ledger g.W.SwapStore.held c.args.mem.now) (record { pid = c.in-Some-connected_server.to.pid; vpn = c.in-Some-free_run.first })) (sym (its_count g.W.SwapStore.slot_count g.W.SwapStore.held c.args.procs.now c.args.who (parts_of c.args.mem.now c.args.threads.now c.args.servers.now c.args.queues.now c.args.log.now) c.requires.sound.sound c.requires.ready c.args.number c.in-Some.from c.in-Some.ensures (sym c.is_passable.ensures ∙ c.if-not-is_passable.false) c.args.cid.0 c.in-Some-connected_server.to c.in-Some-connected_server.ensures c.in-Some-take.loan (sym (c.take.ensures.loan (shown g.W.SwapStore.slot_count g.W.SwapStore.held c.args.who (parts_of c.args.mem.now c.args.threads.now c.args.servers.now c.args.queues.now c.args.log.now) c.requires.sound.sound c.requires.ready c.args.number c.in-Some.from c.in-Some.ensures).held (shown g.W.SwapStore.slot_count g.W.SwapStore.held c.args.who (parts_of c.args.mem.now c.args.threads.now c.args.servers.now c.args.queues.now c.args.log.now) c.requires.sound.sound c.requires.ready c.args.number c.in-Some.from c.in-Some.ensures).is) ∙ c.in-Some-take.is))) (found_arrival (processes c.args.mem.now) (ledger g.W.SwapStore.held c.args.mem.now) c.in-Some-connected_server.to.pid c.in-Some.from.message.count c.in-Some-free_run.first (to_in_mem g.W.SwapStore.slot_count g.W.SwapStore.held c.args.who (parts_of c.args.mem.now c.args.threads.now c.args.servers.now c.args.queues.now c.args.log.now) c.requires.sound.sound c.in-Some-connected_server.to c.in-Some-connected_server.ensures) (sym c.in-Some-free_run.ensures))
+    subst (IsFreeArrival (processes c.args.mem.now) (ledger g.W.SwapStore.held c.args.mem.now)
+    (record { pid = c.in-Some-connected_server.to.pid; vpn = c.in-Some-free_run.first }))
+    (sym (its_count g.W.SwapStore c.args.procs.now c.args.who
+    (parts_of c.args.mem.now c.args.threads.now c.args.servers.now c.args.queues.now c.args.log.now) c.requires.sound.sound c.requires.ready
+    c.args.number c.in-Some.from c.in-Some.ensures (sym c.is_passable.ensures ∙ c.if-not-is_passable.false) c.args.cid.0
+    c.in-Some-connected_server.to c.in-Some-connected_server.ensures c.in-Some-take.loan
+    (sym (c.take.ensures.loan (shown g.W.SwapStore c.args.who (parts_of c.args.mem.now c.args.threads.now c.args.servers.now c.args.queues.now
+    c.args.log.now) c.requires.sound.sound c.requires.ready c.args.number c.in-Some.from c.in-Some.ensures).held (shown g.W.SwapStore c.args.who
+    (parts_of c.args.mem.now c.args.threads.now c.args.servers.now c.args.queues.now c.args.log.now) c.requires.sound.sound c.requires.ready
+    c.args.number c.in-Some.from c.in-Some.ensures).is) ∙ c.in-Some-take.is))) (found_arrival (processes c.args.mem.now)
+    (ledger g.W.SwapStore.held c.args.mem.now) c.in-Some-connected_server.to.pid c.in-Some.from.message.count c.in-Some-free_run.first
+    (to_in_mem g.W.SwapStore c.args.who (parts_of c.args.mem.now c.args.threads.now c.args.servers.now c.args.queues.now c.args.log.now)
+    c.requires.sound.sound c.in-Some-connected_server.to c.in-Some-connected_server.ensures) (sym c.in-Some-free_run.ensures))
 
 pub unreachable-requires : goal.unreachable-requires
 unreachable-requires g c =
-    false≢true (sym (ap is_some (sym (c.take.ensures.loan (shown g.W.SwapStore.slot_count g.W.SwapStore.held c.args.who (parts_of c.args.mem.now c.args.threads.now c.args.servers.now c.args.queues.now c.args.log.now) c.requires.sound.sound c.requires.ready c.args.number c.in-Some.from c.in-Some.ensures).held (shown g.W.SwapStore.slot_count g.W.SwapStore.held c.args.who (parts_of c.args.mem.now c.args.threads.now c.args.servers.now c.args.queues.now c.args.log.now) c.requires.sound.sound c.requires.ready c.args.number c.in-Some.from c.in-Some.ensures).is) ∙ c.in-None.is)) ∙ has_loan g.W.SwapStore.slot_count g.W.SwapStore.held c.args.who (parts_of c.args.mem.now c.args.threads.now c.args.servers.now c.args.queues.now c.args.log.now) c.requires.sound.sound c.requires.ready c.args.number c.in-Some.from c.in-Some.ensures ∙ (and_parts (is_lend c.in-Some.from.message.kind) (is_some c.in-Some.from.message.sender) (sym c.is_passable.ensures ∙ c.if-not-is_passable.false)).0)
+    false≢true (sym
+    (ap is_some (sym
+    (c.take.ensures.loan
+    (shown g.W.SwapStore c.args.who
+    (parts_of c.args.mem.now c.args.threads.now c.args.servers.now c.args.queues.now c.args.log.now) c.requires.sound.sound c.requires.ready
+    c.args.number c.in-Some.from c.in-Some.ensures).held (shown g.W.SwapStore c.args.who (parts_of c.args.mem.now c.args.threads.now
+    c.args.servers.now c.args.queues.now c.args.log.now) c.requires.sound.sound c.requires.ready c.args.number c.in-Some.from
+    c.in-Some.ensures).is) ∙ c.in-None.is)) ∙ has_loan g.W.SwapStore c.args.who (parts_of c.args.mem.now c.args.threads.now c.args.servers.now
+    c.args.queues.now c.args.log.now) c.requires.sound.sound c.requires.ready c.args.number c.in-Some.from c.in-Some.ensures ∙
+    (and_parts (is_lend c.in-Some.from.message.kind) (is_some c.in-Some.from.message.sender)
+    (sym c.is_passable.ensures ∙ c.if-not-is_passable.false)).0)
 
 pub moved_to-requires : goal.moved_to-requires
 moved_to-requires g c =
@@ -165,27 +232,53 @@ arrive_and_answer-requires-clause-log_room g c =
 
 pub arrive_and_answer-requires-clause-pid : goal.arrive_and_answer-requires-clause-pid
 arrive_and_answer-requires-clause-pid g c =
-    to_bounds g.W.SwapStore.slot_count g.W.SwapStore.held c.args.who (parts_of c.args.mem.now c.args.threads.now c.args.servers.now c.args.queues.now c.args.log.now) c.requires.sound.sound c.in-Some-connected_server.to c.in-Some-connected_server.ensures
+    to_bounds g.W.SwapStore c.args.who (parts_of c.args.mem.now c.args.threads.now c.args.servers.now c.args.queues.now c.args.log.now) c.requires.sound.sound c.in-Some-connected_server.to c.in-Some-connected_server.ensures
 
 pub arrive_and_answer-requires-clause-its : goal.arrive_and_answer-requires-clause-its
 arrive_and_answer-requires-clause-its g c =
-    to_receivers g.W.SwapStore.slot_count g.W.SwapStore.held c.args.who (parts_of c.args.mem.now c.args.threads.now c.args.servers.now c.args.queues.now c.args.log.now) c.requires.sound.sound c.in-Some-connected_server.to c.in-Some-connected_server.ensures
+    to_receivers g.W.SwapStore c.args.who (parts_of c.args.mem.now c.args.threads.now c.args.servers.now c.args.queues.now c.args.log.now) c.requires.sound.sound c.in-Some-connected_server.to c.in-Some-connected_server.ensures
 
 pub arrive_and_answer-requires-clause-seat : goal.arrive_and_answer-requires-clause-seat
 arrive_and_answer-requires-clause-seat g c =
-    to_seat g.W.SwapStore.slot_count g.W.SwapStore.held c.args.who (parts_of c.args.mem.now c.args.threads.now c.args.servers.now c.args.queues.now c.args.log.now) c.requires.sound.sound c.in-Some-connected_server.to c.in-Some-connected_server.ensures
+    to_seat g.W.SwapStore c.args.who (parts_of c.args.mem.now c.args.threads.now c.args.servers.now c.args.queues.now c.args.log.now) c.requires.sound.sound c.in-Some-connected_server.to c.in-Some-connected_server.ensures
 
 pub arrive_and_answer-requires-clause-room : goal.arrive_and_answer-requires-clause-room
 arrive_and_answer-requires-clause-room g c =
-    subst (λ q. used_of (seat_of q c.in-Some-connected_server.to.seat) < MESSAGE_LIMIT) (sym c.take.ensures.rest) (has_room g.W.SwapStore.slot_count g.W.SwapStore.held c.args.procs.now c.args.who (parts_of c.args.mem.now c.args.threads.now c.args.servers.now c.args.queues.now c.args.log.now) c.requires.sound.sound c.requires.ready c.args.number c.in-Some.from c.in-Some.ensures (sym c.is_passable.ensures ∙ c.if-not-is_passable.false) c.args.cid.0 c.in-Some-connected_server.to c.in-Some-connected_server.ensures c.in-Some-take.loan (sym (c.take.ensures.loan (shown g.W.SwapStore.slot_count g.W.SwapStore.held c.args.who (parts_of c.args.mem.now c.args.threads.now c.args.servers.now c.args.queues.now c.args.log.now) c.requires.sound.sound c.requires.ready c.args.number c.in-Some.from c.in-Some.ensures).held (shown g.W.SwapStore.slot_count g.W.SwapStore.held c.args.who (parts_of c.args.mem.now c.args.threads.now c.args.servers.now c.args.queues.now c.args.log.now) c.requires.sound.sound c.requires.ready c.args.number c.in-Some.from c.in-Some.ensures).is) ∙ c.in-Some-take.is) (sym c.eq.ensures ∙ c.if-eq.false) (room_left c.is_full.result (used_of (seat_of c.args.queues.now c.in-Some-connected_server.to.seat)) c.is_full.ensures.full c.is_full.ensures.few c.if-is_full.false))
+    subst (λ q. used_of (seat_of q c.in-Some-connected_server.to.seat) < MESSAGE_LIMIT) (sym c.take.ensures.rest)
+    (has_room g.W.SwapStore c.args.procs.now c.args.who
+    (parts_of c.args.mem.now c.args.threads.now c.args.servers.now c.args.queues.now c.args.log.now) c.requires.sound.sound c.requires.ready
+    c.args.number c.in-Some.from c.in-Some.ensures (sym c.is_passable.ensures ∙ c.if-not-is_passable.false) c.args.cid.0
+    c.in-Some-connected_server.to c.in-Some-connected_server.ensures c.in-Some-take.loan
+    (sym (c.take.ensures.loan (shown g.W.SwapStore c.args.who (parts_of c.args.mem.now c.args.threads.now c.args.servers.now c.args.queues.now
+    c.args.log.now) c.requires.sound.sound c.requires.ready c.args.number c.in-Some.from c.in-Some.ensures).held (shown g.W.SwapStore c.args.who
+    (parts_of c.args.mem.now c.args.threads.now c.args.servers.now c.args.queues.now c.args.log.now) c.requires.sound.sound c.requires.ready
+    c.args.number c.in-Some.from c.in-Some.ensures).is) ∙ c.in-Some-take.is) (sym c.eq.ensures ∙ c.if-eq.false)
+    (room_left c.is_full.result (used_of (seat_of c.args.queues.now c.in-Some-connected_server.to.seat)) c.is_full.ensures.full
+    c.is_full.ensures.few c.if-is_full.false))
 
 pub arrive_and_answer-requires-clause-loan : goal.arrive_and_answer-requires-clause-loan
 arrive_and_answer-requires-clause-loan g c =
-    has_loan_on g.W.SwapStore.slot_count g.W.SwapStore.held c.args.procs.now c.args.who (parts_of c.args.mem.now c.args.threads.now c.args.servers.now c.args.queues.now c.args.log.now) c.requires.sound.sound c.requires.ready c.args.number c.in-Some.from c.in-Some.ensures (sym c.is_passable.ensures ∙ c.if-not-is_passable.false) c.args.cid.0 c.in-Some-connected_server.to c.in-Some-connected_server.ensures c.in-Some-take.loan (sym (c.take.ensures.loan (shown g.W.SwapStore.slot_count g.W.SwapStore.held c.args.who (parts_of c.args.mem.now c.args.threads.now c.args.servers.now c.args.queues.now c.args.log.now) c.requires.sound.sound c.requires.ready c.args.number c.in-Some.from c.in-Some.ensures).held (shown g.W.SwapStore.slot_count g.W.SwapStore.held c.args.who (parts_of c.args.mem.now c.args.threads.now c.args.servers.now c.args.queues.now c.args.log.now) c.requires.sound.sound c.requires.ready c.args.number c.in-Some.from c.in-Some.ensures).is) ∙ c.in-Some-take.is) (sym c.eq.ensures ∙ c.if-eq.false) c.in-Some-free_run.first (record { msg = c.moved_to.result; loan = Some c.pass-loan.result }) c.moved_to.ensures (ap Some c.pass-loan.ensures.loan) (receiver (process_count c.args.threads.now) c.in-Some-connected_server.to.serial (threads_of c.args.threads.now))
+    has_loan_on g.W.SwapStore c.args.procs.now c.args.who
+    (parts_of c.args.mem.now c.args.threads.now c.args.servers.now c.args.queues.now c.args.log.now) c.requires.sound.sound c.requires.ready
+    c.args.number c.in-Some.from c.in-Some.ensures (sym c.is_passable.ensures ∙ c.if-not-is_passable.false) c.args.cid.0
+    c.in-Some-connected_server.to c.in-Some-connected_server.ensures c.in-Some-take.loan
+    (sym (c.take.ensures.loan (shown g.W.SwapStore c.args.who (parts_of c.args.mem.now c.args.threads.now c.args.servers.now c.args.queues.now
+    c.args.log.now) c.requires.sound.sound c.requires.ready c.args.number c.in-Some.from c.in-Some.ensures).held (shown g.W.SwapStore c.args.who
+    (parts_of c.args.mem.now c.args.threads.now c.args.servers.now c.args.queues.now c.args.log.now) c.requires.sound.sound c.requires.ready
+    c.args.number c.in-Some.from c.in-Some.ensures).is) ∙ c.in-Some-take.is) (sym c.eq.ensures ∙ c.if-eq.false) c.in-Some-free_run.first
+    (record { msg = c.moved_to.result; loan = Some c.pass-loan.result }) c.moved_to.ensures (ap Some c.pass-loan.ensures.loan)
+    (receiver (process_count c.args.threads.now) c.in-Some-connected_server.to.serial (threads_of c.args.threads.now))
 
 pub returns-clause-row : goal.returns-clause-row
 returns-clause-row g c =
-    passed_on g.W.SwapStore.slot_count g.W.SwapStore.held c.args.procs.now c.args.who (parts_of c.args.mem.now c.args.threads.now c.args.servers.now c.args.queues.now c.args.log.now) c.requires.sound.sound c.requires.ready c.args.number c.args.cid.0 c.in-Some.from c.in-Some.ensures (sym c.is_passable.ensures ∙ c.if-not-is_passable.false) c.in-Some-connected_server.to c.in-Some-connected_server.ensures (sym c.eq.ensures ∙ c.if-eq.false) (room_left c.is_full.result (used_of (seat_of c.args.queues.now c.in-Some-connected_server.to.seat)) c.is_full.ensures.full c.is_full.ensures.few c.if-is_full.false) c.in-Some-free_run.first (sym c.in-Some-free_run.ensures) (record { msg = c.moved_to.result; loan = Some c.pass-loan.result }) (parts_of c.pass-loan.new.self c.arrive_and_answer.new.threads c.args.servers.now c.arrive_and_answer.new.queues c.arrive_and_answer.new.log)
+    passed_on g.W.SwapStore c.args.procs.now c.args.who
+    (parts_of c.args.mem.now c.args.threads.now c.args.servers.now c.args.queues.now c.args.log.now) c.requires.sound.sound c.requires.ready
+    c.args.number c.args.cid.0 c.in-Some.from c.in-Some.ensures (sym c.is_passable.ensures ∙ c.if-not-is_passable.false)
+    c.in-Some-connected_server.to c.in-Some-connected_server.ensures (sym c.eq.ensures ∙ c.if-eq.false)
+    (room_left c.is_full.result (used_of (seat_of c.args.queues.now c.in-Some-connected_server.to.seat)) c.is_full.ensures.full
+    c.is_full.ensures.few c.if-is_full.false) c.in-Some-free_run.first (sym c.in-Some-free_run.ensures)
+    (record { msg = c.moved_to.result; loan = Some c.pass-loan.result }) (parts_of c.pass-loan.new.self c.arrive_and_answer.new.threads
+    c.args.servers.now c.arrive_and_answer.new.queues c.arrive_and_answer.new.log)
     (record {
       message = c.moved_to.ensures;
       threads = c.arrive_and_answer.ensures.threads;
@@ -194,24 +287,65 @@ returns-clause-row g c =
       servers = refl;
       queues = c.arrive_and_answer.ensures.queues ∙ ap (changed_at c.in-Some-connected_server.to.seat (with_arrived (receiver (process_count c.args.threads.now) c.in-Some-connected_server.to.serial (threads_of c.args.threads.now)) (record { msg = c.moved_to.result; loan = Some c.pass-loan.result }))) c.take.ensures.rest;
       capacity = ap (λ (s : Size). capacity s.area.frames s.procs s.slots) c.pass-loan.ensures.keeps.size;
-      ledger = c.pass-loan.ensures.ledger ∙ pass_is g.W.SwapStore.slot_count g.W.SwapStore.held c.args.procs.now c.args.who (parts_of c.args.mem.now c.args.threads.now c.args.servers.now c.args.queues.now c.args.log.now) c.requires.sound.sound c.requires.ready c.args.number c.in-Some.from c.in-Some.ensures (sym c.is_passable.ensures ∙ c.if-not-is_passable.false) c.args.cid.0 c.in-Some-connected_server.to c.in-Some-connected_server.ensures c.in-Some-take.loan (sym (c.take.ensures.loan (shown g.W.SwapStore.slot_count g.W.SwapStore.held c.args.who (parts_of c.args.mem.now c.args.threads.now c.args.servers.now c.args.queues.now c.args.log.now) c.requires.sound.sound c.requires.ready c.args.number c.in-Some.from c.in-Some.ensures).held (shown g.W.SwapStore.slot_count g.W.SwapStore.held c.args.who (parts_of c.args.mem.now c.args.threads.now c.args.servers.now c.args.queues.now c.args.log.now) c.requires.sound.sound c.requires.ready c.args.number c.in-Some.from c.in-Some.ensures).is) ∙ c.in-Some-take.is) c.in-Some-free_run.first;
+      ledger = c.pass-loan.ensures.ledger ∙ pass_is g.W.SwapStore c.args.procs.now c.args.who
+          (parts_of c.args.mem.now c.args.threads.now c.args.servers.now c.args.queues.now c.args.log.now) c.requires.sound.sound c.requires.ready
+          c.args.number c.in-Some.from c.in-Some.ensures (sym c.is_passable.ensures ∙ c.if-not-is_passable.false) c.args.cid.0
+          c.in-Some-connected_server.to c.in-Some-connected_server.ensures c.in-Some-take.loan
+          (sym (c.take.ensures.loan (shown g.W.SwapStore c.args.who (parts_of c.args.mem.now c.args.threads.now c.args.servers.now
+          c.args.queues.now c.args.log.now) c.requires.sound.sound c.requires.ready c.args.number c.in-Some.from c.in-Some.ensures).held
+          (shown g.W.SwapStore c.args.who (parts_of c.args.mem.now c.args.threads.now c.args.servers.now c.args.queues.now c.args.log.now)
+          c.requires.sound.sound c.requires.ready c.args.number c.in-Some.from c.in-Some.ensures).is) ∙ c.in-Some-take.is)
+          c.in-Some-free_run.first;
     })
 
 pub returns-clause-sound : goal.returns-clause-sound
 returns-clause-sound g c =
-    let left : ledger g.W.SwapStore.held c.pass-loan.new.self ≡ (pass c.args.number (record { pid = c.args.who.pid; vpn = c.in-Some.from.message.first }) (record { pid = c.in-Some-connected_server.to.pid; vpn = c.in-Some-free_run.first }) (ledger g.W.SwapStore.held c.args.mem.now)) = c.pass-loan.ensures.ledger ∙ pass_is g.W.SwapStore.slot_count g.W.SwapStore.held c.args.procs.now c.args.who (parts_of c.args.mem.now c.args.threads.now c.args.servers.now c.args.queues.now c.args.log.now) c.requires.sound.sound c.requires.ready c.args.number c.in-Some.from c.in-Some.ensures (sym c.is_passable.ensures ∙ c.if-not-is_passable.false) c.args.cid.0 c.in-Some-connected_server.to c.in-Some-connected_server.ensures c.in-Some-take.loan (sym (c.take.ensures.loan (shown g.W.SwapStore.slot_count g.W.SwapStore.held c.args.who (parts_of c.args.mem.now c.args.threads.now c.args.servers.now c.args.queues.now c.args.log.now) c.requires.sound.sound c.requires.ready c.args.number c.in-Some.from c.in-Some.ensures).held (shown g.W.SwapStore.slot_count g.W.SwapStore.held c.args.who (parts_of c.args.mem.now c.args.threads.now c.args.servers.now c.args.queues.now c.args.log.now) c.requires.sound.sound c.requires.ready c.args.number c.in-Some.from c.in-Some.ensures).is) ∙ c.in-Some-take.is) c.in-Some-free_run.first in
+    let left : ledger g.W.SwapStore.held c.pass-loan.new.self
+    ≡ (pass c.args.number (record { pid = c.args.who.pid; vpn = c.in-Some.from.message.first })
+    (record { pid = c.in-Some-connected_server.to.pid; vpn = c.in-Some-free_run.first })
+    (ledger g.W.SwapStore.held c.args.mem.now)) = c.pass-loan.ensures.ledger ∙ pass_is g.W.SwapStore c.args.procs.now c.args.who
+    (parts_of c.args.mem.now c.args.threads.now c.args.servers.now c.args.queues.now c.args.log.now) c.requires.sound.sound c.requires.ready
+    c.args.number c.in-Some.from c.in-Some.ensures (sym c.is_passable.ensures ∙ c.if-not-is_passable.false) c.args.cid.0
+    c.in-Some-connected_server.to c.in-Some-connected_server.ensures c.in-Some-take.loan
+    (sym (c.take.ensures.loan (shown g.W.SwapStore c.args.who (parts_of c.args.mem.now c.args.threads.now c.args.servers.now c.args.queues.now
+    c.args.log.now) c.requires.sound.sound c.requires.ready c.args.number c.in-Some.from c.in-Some.ensures).held (shown g.W.SwapStore c.args.who
+    (parts_of c.args.mem.now c.args.threads.now c.args.servers.now c.args.queues.now c.args.log.now) c.requires.sound.sound c.requires.ready
+    c.args.number c.in-Some.from c.in-Some.ensures).is) ∙ c.in-Some-take.is) c.in-Some-free_run.first in
     let queues : c.arrive_and_answer.new.queues ≡ changed_at c.in-Some-connected_server.to.seat (with_arrived (receiver (process_count c.args.threads.now) c.in-Some-connected_server.to.serial (threads_of c.args.threads.now)) (record { msg = c.moved_to.result; loan = Some c.pass-loan.result })) (changed_at c.in-Some.from.seat (without_held c.args.number) c.args.queues.now) =
     c.arrive_and_answer.ensures.queues ∙ ap (changed_at c.in-Some-connected_server.to.seat (with_arrived (receiver (process_count c.args.threads.now) c.in-Some-connected_server.to.serial (threads_of c.args.threads.now)) (record { msg = c.moved_to.result; loan = Some c.pass-loan.result }))) c.take.ensures.rest in
     record {
       sound = record {
         machine = record (with_processes c.args.procs.now c.requires.sound.sound.machine) { steps = c.requires.sound.sound.machine.steps + 1 };
-        matched = still_matched g.W.SwapStore.slot_count g.W.SwapStore.held c.args.who c.args.procs.now (parts_of c.args.mem.now c.args.threads.now c.args.servers.now c.args.queues.now c.args.log.now) c.requires.sound c.requires.ready c.args.number c.args.cid.0 (parts_of c.pass-loan.new.self c.arrive_and_answer.new.threads c.args.servers.now c.arrive_and_answer.new.queues c.arrive_and_answer.new.log) (returns-clause-row g c c.requires.sound.sound.machine);
+        matched = still_matched g.W.SwapStore c.args.who c.args.procs.now
+            (parts_of c.args.mem.now c.args.threads.now c.args.servers.now c.args.queues.now c.args.log.now) c.requires.sound c.requires.ready c.args.number c.args.cid.0 (parts_of c.pass-loan.new.self c.arrive_and_answer.new.threads c.args.servers.now c.arrive_and_answer.new.queues c.arrive_and_answer.new.log) (returns-clause-row g c c.requires.sound.sound.machine);
         mem = c.pass-loan.ensures.keeps.sound;
         processes = c.arrive_and_answer.ensures.count ∙ c.requires.sound.sound.processes ∙ sym (ap (λ (s : Size). s.procs) c.pass-loan.ensures.keeps.size);
-        seats = subst (AreSeatsSound (servers_of c.args.servers.now)) (sym queues) (seats_on g.W.SwapStore.slot_count g.W.SwapStore.held c.args.procs.now c.args.who (parts_of c.args.mem.now c.args.threads.now c.args.servers.now c.args.queues.now c.args.log.now) c.requires.sound.sound c.requires.ready c.args.number c.in-Some.from c.in-Some.ensures (sym c.is_passable.ensures ∙ c.if-not-is_passable.false) c.args.cid.0 c.in-Some-connected_server.to c.in-Some-connected_server.ensures c.in-Some-take.loan (sym (c.take.ensures.loan (shown g.W.SwapStore.slot_count g.W.SwapStore.held c.args.who (parts_of c.args.mem.now c.args.threads.now c.args.servers.now c.args.queues.now c.args.log.now) c.requires.sound.sound c.requires.ready c.args.number c.in-Some.from c.in-Some.ensures).held (shown g.W.SwapStore.slot_count g.W.SwapStore.held c.args.who (parts_of c.args.mem.now c.args.threads.now c.args.servers.now c.args.queues.now c.args.log.now) c.requires.sound.sound c.requires.ready c.args.number c.in-Some.from c.in-Some.ensures).is) ∙ c.in-Some-take.is) (sym c.eq.ensures ∙ c.if-eq.false) c.in-Some-free_run.first (record { msg = c.moved_to.result; loan = Some c.pass-loan.result }) c.moved_to.ensures (ap Some c.pass-loan.ensures.loan) (receiver (process_count c.args.threads.now) c.in-Some-connected_server.to.serial (threads_of c.args.threads.now)));
+        seats = subst (AreSeatsSound (servers_of c.args.servers.now)) (sym queues)
+            (seats_on g.W.SwapStore c.args.procs.now c.args.who
+            (parts_of c.args.mem.now c.args.threads.now c.args.servers.now c.args.queues.now c.args.log.now) c.requires.sound.sound c.requires.ready
+            c.args.number c.in-Some.from c.in-Some.ensures (sym c.is_passable.ensures ∙ c.if-not-is_passable.false) c.args.cid.0
+            c.in-Some-connected_server.to c.in-Some-connected_server.ensures c.in-Some-take.loan
+            (sym (c.take.ensures.loan (shown g.W.SwapStore c.args.who (parts_of c.args.mem.now c.args.threads.now c.args.servers.now
+            c.args.queues.now c.args.log.now) c.requires.sound.sound c.requires.ready c.args.number c.in-Some.from c.in-Some.ensures).held
+            (shown g.W.SwapStore c.args.who (parts_of c.args.mem.now c.args.threads.now c.args.servers.now c.args.queues.now c.args.log.now)
+            c.requires.sound.sound c.requires.ready c.args.number c.in-Some.from c.in-Some.ensures).is) ∙ c.in-Some-take.is)
+            (sym c.eq.ensures ∙ c.if-eq.false) c.in-Some-free_run.first (record { msg = c.moved_to.result; loan = Some c.pass-loan.result })
+            c.moved_to.ensures (ap Some c.pass-loan.ensures.loan) (receiver (process_count c.args.threads.now)
+            c.in-Some-connected_server.to.serial (threads_of c.args.threads.now)));
         loans = subst (λ l. AreLoansSound (loans l) (servers_of c.args.servers.now) c.arrive_and_answer.new.queues) (sym left)
             (subst (AreLoansSound (loans (pass c.args.number (record { pid = c.args.who.pid; vpn = c.in-Some.from.message.first }) (record { pid = c.in-Some-connected_server.to.pid; vpn = c.in-Some-free_run.first }) (ledger g.W.SwapStore.held c.args.mem.now))) (servers_of c.args.servers.now)) (sym queues)
-            (loans_on g.W.SwapStore.slot_count g.W.SwapStore.held c.args.procs.now c.args.who (parts_of c.args.mem.now c.args.threads.now c.args.servers.now c.args.queues.now c.args.log.now) c.requires.sound.sound c.requires.ready c.args.number c.in-Some.from c.in-Some.ensures (sym c.is_passable.ensures ∙ c.if-not-is_passable.false) c.args.cid.0 c.in-Some-connected_server.to c.in-Some-connected_server.ensures c.in-Some-take.loan (sym (c.take.ensures.loan (shown g.W.SwapStore.slot_count g.W.SwapStore.held c.args.who (parts_of c.args.mem.now c.args.threads.now c.args.servers.now c.args.queues.now c.args.log.now) c.requires.sound.sound c.requires.ready c.args.number c.in-Some.from c.in-Some.ensures).held (shown g.W.SwapStore.slot_count g.W.SwapStore.held c.args.who (parts_of c.args.mem.now c.args.threads.now c.args.servers.now c.args.queues.now c.args.log.now) c.requires.sound.sound c.requires.ready c.args.number c.in-Some.from c.in-Some.ensures).is) ∙ c.in-Some-take.is) (sym c.eq.ensures ∙ c.if-eq.false) c.in-Some-free_run.first (record { msg = c.moved_to.result; loan = Some c.pass-loan.result }) c.moved_to.ensures (ap Some c.pass-loan.ensures.loan) (receiver (process_count c.args.threads.now) c.in-Some-connected_server.to.serial (threads_of c.args.threads.now)) (stood_on left c.pass-loan.ensures.loan c.pass-loan.ensures.stands)));
+            (loans_on g.W.SwapStore c.args.procs.now c.args.who
+            (parts_of c.args.mem.now c.args.threads.now c.args.servers.now c.args.queues.now c.args.log.now) c.requires.sound.sound c.requires.ready
+            c.args.number c.in-Some.from c.in-Some.ensures (sym c.is_passable.ensures ∙ c.if-not-is_passable.false) c.args.cid.0
+            c.in-Some-connected_server.to c.in-Some-connected_server.ensures c.in-Some-take.loan
+            (sym (c.take.ensures.loan (shown g.W.SwapStore c.args.who (parts_of c.args.mem.now c.args.threads.now c.args.servers.now
+            c.args.queues.now c.args.log.now) c.requires.sound.sound c.requires.ready c.args.number c.in-Some.from c.in-Some.ensures).held
+            (shown g.W.SwapStore c.args.who (parts_of c.args.mem.now c.args.threads.now c.args.servers.now c.args.queues.now c.args.log.now)
+            c.requires.sound.sound c.requires.ready c.args.number c.in-Some.from c.in-Some.ensures).is) ∙ c.in-Some-take.is)
+            (sym c.eq.ensures ∙ c.if-eq.false) c.in-Some-free_run.first (record { msg = c.moved_to.result; loan = Some c.pass-loan.result })
+            c.moved_to.ensures (ap Some c.pass-loan.ensures.loan) (receiver (process_count c.args.threads.now)
+            c.in-Some-connected_server.to.serial (threads_of c.args.threads.now)) (stood_on left c.pass-loan.ensures.loan
+            c.pass-loan.ensures.stands)));
       };
       same = refl;
       count = c.requires.sound.count ∙ sym c.arrive_and_answer.ensures.count;

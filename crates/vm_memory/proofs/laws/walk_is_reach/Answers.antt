@@ -2,4 +2,4 @@ use Rattle.vm_memory.proofs.Using.WalkReachLemmas.{walk_is_reach}
 use Rattle.vm_memory.proofs.laws.walk_is_reach.Goals as goal
 
 pub returns : goal.returns
-returns g c = λ m pid address access sound process fits. walk_is_reach g.W.SwapStore.slot_count g.W.SwapStore.held m sound pid address access process fits
+returns g c = λ m pid address access sound process fits. walk_is_reach g.W.SwapStore m sound pid address access process fits

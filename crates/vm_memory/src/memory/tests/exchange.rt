@@ -49,7 +49,9 @@ fn page(vpn: u32, from: u32) -> PagePlan
 // A process whose pages begin with three bytes of the file, from this one on.
 fn process(alloc: Global, from: u32) -> Result<ProcPlan, NoMemory>
     requires { from ≤ 3 }
-    ensures { IfOk result (λ process. process.pages ≡ record { vpn = record { 0 = 16 }; right = WRITE; from = from; len = 1 } ∷ record { vpn = record { 0 = 131072 }; right = WRITE; from = from + 1; len = 1 } ∷ record { vpn = record { 0 = 524287 }; right = WRITE; from = from + 2; len = 1 } ∷ []) }
+    ensures { IfOk result (λ process. process.pages ≡ record { vpn = record { 0 = 16 }; right = WRITE; from = from; len = 1 }
+        ∷ record { vpn = record { 0 = 131072 }; right = WRITE; from = from + 1; len = 1 }
+        ∷ record { vpn = record { 0 = 524287 }; right = WRITE; from = from + 2; len = 1 } ∷ []) }
 {
     let mut pages = Row::new(alloc);
     pages.push(page(0x10, from))?;
@@ -113,7 +115,7 @@ fn load<W: SwapStore>(memory: &mut Memory<W>, at: Place) -> Result<Option<u32>, 
     requires sound { IsSound W.slot_count memory.old }
     requires usable { IsUsable memory.old }
     requires page { at.vpn.0 < 1048576 }
-    ensures rest { KeepsRest W.is_honest W.held W.slot_count W.asked W.faults at.pid memory.old memory.new }
+    ensures rest { KeepsRest W.SwapStore at.pid memory.old memory.new }
     ensures usable { OnOk result (IsUsable memory.new) }
 {
     let mut user = User {
@@ -130,7 +132,7 @@ fn store<W: SwapStore>(memory: &mut Memory<W>, at: Place, word: u32) -> Result<S
     requires sound { IsSound W.slot_count memory.old }
     requires usable { IsUsable memory.old }
     requires page { at.vpn.0 < 1048576 }
-    ensures rest { KeepsRest W.is_honest W.held W.slot_count W.asked W.faults at.pid memory.old memory.new }
+    ensures rest { KeepsRest W.SwapStore at.pid memory.old memory.new }
     ensures usable { OnOk result (IsUsable memory.new) }
 {
     let mut user = User {

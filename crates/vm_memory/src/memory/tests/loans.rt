@@ -44,7 +44,8 @@ fn place(pid: Pid, va: u32) -> Place
 
 // A process with these pages, from the start of a file of 88 bytes.
 fn process(alloc: Global, first: u32, second: u32) -> Result<ProcPlan, NoMemory>
-    ensures { IfOk result (λ process. process.pages ≡ record { vpn = record { 0 = first }; right = WRITE; from = 0; len = 88 } ∷ record { vpn = record { 0 = second }; right = WRITE; from = 0; len = 0 } ∷ []) }
+    ensures { IfOk result (λ process. process.pages ≡ record { vpn = record { 0 = first }; right = WRITE; from = 0; len = 88 }
+        ∷ record { vpn = record { 0 = second }; right = WRITE; from = 0; len = 0 } ∷ []) }
 {
     let mut pages = Row::new(alloc);
     pages.push(PagePlan {
@@ -104,7 +105,7 @@ fn user_load<W: SwapStore>(memory: &mut Memory<W>, pid: Pid, va: u32) -> Option<
     requires sound { IsSound W.slot_count memory.old }
     requires usable { IsUsable memory.old }
     requires aligned { va % 4 ≡ 0 }
-    ensures { KeepsRest W.is_honest W.held W.slot_count W.asked W.faults pid memory.old memory.new }
+    ensures { KeepsRest W.SwapStore pid memory.old memory.new }
 {
     let mut user = User { mem: memory, pid };
     let loaded = user.load(va, Width::Word);
@@ -116,7 +117,7 @@ fn user_store<W: SwapStore>(memory: &mut Memory<W>, pid: Pid, va: u32, word: u32
     requires sound { IsSound W.slot_count memory.old }
     requires usable { IsUsable memory.old }
     requires aligned { va % 4 ≡ 0 }
-    ensures { KeepsRest W.is_honest W.held W.slot_count W.asked W.faults pid memory.old memory.new }
+    ensures { KeepsRest W.SwapStore pid memory.old memory.new }
 {
     let mut user = User { mem: memory, pid };
     let stored = user.store(va, Width::Word, word);
@@ -172,7 +173,8 @@ fn lent<W: SwapStore>(rt: &impl Abort, memory: &mut Memory<W>, kind: LoanKind) -
     ensures usable { IsUsable memory.new }
     ensures two { processes memory.new ≡ 2 }
     ensures slots { (size memory.new).slots ≡ 0 }
-    ensures loan { MatchOption result Unit (λ loan. (loan.lender ≡ Some (record { pid = LENDER; vpn = record { 0 = 131072 } })) × Stands (loans (ledger W.held memory.new)) loan) }
+    ensures loan { MatchOption result Unit (λ loan. (loan.lender ≡ Some (record { pid = LENDER; vpn = record { 0 = 131072 } }))
+        × Stands (loans (ledger W.held memory.new)) loan) }
 {
     assert!(rt; store(memory, LENDER, FROM, 0x1234_5678));
     assert!(rt; store(memory, LENDER, FROM + 0x1FFC, 0x9ABC_DEF0));

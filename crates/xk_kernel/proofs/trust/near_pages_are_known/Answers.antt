@@ -3,4 +3,4 @@ use Rattle.xk_kernel.proofs.trust.near_pages_are_known.Goals as goal
 
 -- src/trust.rt
 pub returns : goal.returns
-returns g c = near_knows g.W.SwapStore.is_honest g.W.SwapStore.held
+returns g c = near_knows g.W.SwapStore

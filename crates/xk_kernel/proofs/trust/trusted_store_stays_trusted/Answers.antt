@@ -3,10 +3,10 @@ use Rattle.xk_kernel.proofs.trust.trusted_store_stays_trusted.Goals as goal
 
 -- src/trust.rt
 pub returns-clause-stays : goal.returns-clause-stays
-returns-clause-stays g c = stays_trusted g.W.SwapStore.is_honest g.W.SwapStore.held g.W.SwapStore.slot_count g.W.SwapStore.asked g.W.SwapStore.faults
+returns-clause-stays g c = stays_trusted g.W.SwapStore
 
 pub returns-clause-knows : goal.returns-clause-knows
-returns-clause-knows g c = trusted_knows g.W.SwapStore.is_honest g.W.SwapStore.held g.W.SwapStore.slot_count g.W.SwapStore.asked g.W.SwapStore.faults
+returns-clause-knows g c = trusted_knows g.W.SwapStore
 
 pub returns-clause-means : goal.returns-clause-means
-returns-clause-means g c = trusted_means g.W.SwapStore.is_honest g.W.SwapStore.held
+returns-clause-means g c = trusted_means g.W.SwapStore

@@ -25,15 +25,15 @@ pub close-requires-clause-no_loan : goal.close-requires-clause-no_loan
 close-requires-clause-no_loan g c = unlent_fresh (ledger g.W.SwapStore.held c.place_processes.new.self) c.place_processes.ensures.keeps.unlent
 
 pub returns-in-Ok-clause-rights : goal.returns-in-Ok-clause-rights
-returns-in-Ok-clause-rights g c = booted_rights g.W.SwapStore.is_honest g.W.SwapStore.held g.W.SwapStore.slot_count g.W.SwapStore.asked g.W.SwapStore.faults c.args.file.now c.args.plan.now
+returns-in-Ok-clause-rights g c = booted_rights g.W.SwapStore c.args.file.now c.args.plan.now
     c.in_ok-memory.memory c.place_processes.new.self (page_count c.as_slice.result.now) c.as_slice.result.now c.as_slice.ensures
     c.in_ok-memory.ensures.ledger c.requires.lawful.procs c.in-Ok.ensures.placed
 
 pub returns-in-Ok-clause-whole : goal.returns-in-Ok-clause-whole
-returns-in-Ok-clause-whole g c = booted_whole g.W.SwapStore.is_honest g.W.SwapStore.held g.W.SwapStore.slot_count g.W.SwapStore.asked g.W.SwapStore.faults c.args.file.now c.args.plan.now
+returns-in-Ok-clause-whole g c = booted_whole g.W.SwapStore c.args.file.now c.args.plan.now
     c.in_ok-memory.memory c.place_processes.new.self (page_count c.as_slice.result.now) c.as_slice.result.now c.as_slice.ensures
     c.in_ok-memory.ensures.ledger c.requires.lawful.procs c.in-Ok.ensures.placed
     c.in_ok-memory.ensures.free.none
 
 pub returns-in-Ok-clause-tie : goal.returns-in-Ok-clause-tie
-returns-in-Ok-clause-tie g c = sound-tied g.W.SwapStore.slot_count g.W.SwapStore.held c.place_processes.new.self c.place_processes.ensures.keeps.sound
+returns-in-Ok-clause-tie g c = sound-tied g.W.SwapStore c.place_processes.new.self c.place_processes.ensures.keeps.sound

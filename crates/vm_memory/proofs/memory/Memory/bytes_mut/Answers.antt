@@ -19,17 +19,17 @@ unfolding with_bytes_at none_out
 returns g c =
     let m = c.args.self.now in
     let there = near_entry c.args.self.now c.args.at c.requires.near in
-    let sound : (w : List ℕ) → length w ≡ 4096 → _ = λ w whole. lent_sound g.W.SwapStore.slot_count g.W.SwapStore.held c.args.self.now c.requires.sound c.args.at there.0 there.1 there.2 w whole in (
+    let sound : (w : List ℕ) → length w ≡ 4096 → _ = λ w whole. lent_sound g.W.SwapStore c.args.self.now c.requires.sound c.args.at there.0 there.1 there.2 w whole in (
       (refl, λ w. lends g c w),
       record {
         lends = tt;
-        value = near_contents g.W.SwapStore.slot_count g.W.SwapStore.held c.args.self.now c.requires.sound c.args.at Store c.requires.near c.requires.may
+        value = near_contents g.W.SwapStore c.args.self.now c.requires.sound c.args.at Store c.requires.near c.requires.may
             ∙ sym (ap (λ f. Some (Bytes (pages c.args.self.now.ram f))) c.frame-f.ensures.named)
             ∙ ap (λ b. Some (Bytes b)) (sym c.page_mut.ensures.value);
         len = c.page_mut.ensures.len;
-        writes = λ w whole. lent_ledger g.W.SwapStore.slot_count g.W.SwapStore.held c.args.self.now c.requires.sound c.args.at there.0 there.1 there.2 w Store c.requires.may whole;
+        writes = λ w whole. lent_ledger g.W.SwapStore c.args.self.now c.requires.sound c.args.at there.0 there.1 there.2 w Store c.requires.may whole;
         sound = sound;
-        tie = λ w whole. sound-tied g.W.SwapStore.slot_count g.W.SwapStore.held (with_bytes_at c.args.self.now c.args.at w) (sound w whole);
+        tie = λ w whole. sound-tied g.W.SwapStore (with_bytes_at c.args.self.now c.args.at w) (sound w whole);
         size = λ w. lent_size c.args.self.now c.args.at w;
         store = λ w. refl;
         usable = λ w. c.requires.usable;

@@ -25,5 +25,5 @@ loop-k-preserved g c = below_more _ _ c.loop-k.invariant
     (pid_there (processes c.args.self.now) c.loop-k.k (omega (arith, c.loop-k-test.true, c.requires.sound.procs)))) ∙ c.if-maps_console.false))
 
 pub returns : goal.returns
-returns g c = sym (mapped_missed g.W.SwapStore.slot_count g.W.SwapStore.held c.args.self.now c.requires.sound
+returns g c = sym (mapped_missed g.W.SwapStore c.args.self.now c.requires.sound
     (λ j low. c.loop-k.invariant j (omega (arith, low, c.loop-k-test.false, c.requires.sound.procs))))

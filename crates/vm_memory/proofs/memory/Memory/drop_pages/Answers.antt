@@ -13,13 +13,13 @@ loop-i-init g c = record {
 
 pub drop_above-requires-clause-not_lent : goal.drop_above-requires-clause-not_lent
 drop_above-requires-clause-not_lent g c =
-    next_not_lent g.W.SwapStore.slot_count g.W.SwapStore.held c.args.self.now c.loop-i.self c.loop-i.invariant.sound c.loop-i.invariant.rest c.args.first c.args.n c.loop-i.i
+    next_not_lent g.W.SwapStore c.args.self.now c.loop-i.self c.loop-i.invariant.sound c.loop-i.invariant.rest c.args.first c.args.n c.loop-i.i
     c.loop-i-test.true c.requires.not_lent c.loop-i.invariant.ledger
 
 pub loop-i-preserved : goal.loop-i-preserved
 loop-i-preserved g c = record {
   sound = c.drop_above.ensures.sound;
-  ledger = next_removed g.W.SwapStore.slot_count g.W.SwapStore.held c.args.self.now c.loop-i.self c.loop-i.invariant.sound c.loop-i.invariant.rest c.args.first c.args.n c.loop-i.i
+  ledger = next_removed g.W.SwapStore c.args.self.now c.loop-i.self c.loop-i.invariant.sound c.loop-i.invariant.rest c.args.first c.args.n c.loop-i.i
       c.loop-i-test.true c.requires.not_lent c.loop-i.invariant.ledger c.drop_above.new.self c.drop_above.ensures.ledger;
   rest = rest_then c.args.self.now c.loop-i.self c.drop_above.new.self c.loop-i.invariant.rest c.drop_above.ensures.rest;
 }

@@ -10,17 +10,17 @@ pub bring-requires-clause-slots : goal.bring-requires-clause-slots
 bring-requires-clause-slots g c = omega (arith, c.requires.sound.slots, c.requires.sound.store)
 
 pub returns-in_err-bring-clause-moves : goal.returns-in_err-bring-clause-moves
-returns-in_err-bring-clause-moves g c = moved_in g.W.SwapStore.is_honest g.W.SwapStore.held g.W.SwapStore.slot_count g.W.SwapStore.asked g.W.SwapStore.faults c.args.self.now c.requires.sound c.bring.new.ram c.bring.new.owners c.bring.new.store true c.args.self.now.hand
+returns-in_err-bring-clause-moves g c = moved_in g.W.SwapStore c.args.self.now c.requires.sound c.bring.new.ram c.bring.new.owners c.bring.new.store true c.args.self.now.hand
     c.bring.ensures.agrees c.bring.ensures.sizes c.bring.ensures.rights c.bring.ensures.whole c.bring.ensures.store (λ usable. absurd cc)
 
 pub make_room-requires-clause-sound : goal.make_room-requires-clause-sound
-make_room-requires-clause-sound g c = let moves = moved_in g.W.SwapStore.is_honest g.W.SwapStore.held g.W.SwapStore.slot_count g.W.SwapStore.asked g.W.SwapStore.faults c.args.self.now c.requires.sound c.bring.new.ram c.bring.new.owners c.bring.new.store true c.args.self.now.hand
+make_room-requires-clause-sound g c = let moves = moved_in g.W.SwapStore c.args.self.now c.requires.sound c.bring.new.ram c.bring.new.owners c.bring.new.store true c.args.self.now.hand
     c.bring.ensures.agrees c.bring.ensures.sizes c.bring.ensures.rights c.bring.ensures.whole c.bring.ensures.store (λ usable. absurd cc) in moves.sound
 
 pub returns-clause-moves : goal.returns-clause-moves
-returns-clause-moves g c = moves_then g.W.SwapStore.is_honest g.W.SwapStore.held g.W.SwapStore.slot_count g.W.SwapStore.asked g.W.SwapStore.faults c.args.self.now
+returns-clause-moves g c = moves_then g.W.SwapStore c.args.self.now
     (record c.args.self.now { ram = c.bring.new.ram; owners = c.bring.new.owners; store = c.bring.new.store; failed = true }) c.make_room.new.self
-    (moved_in g.W.SwapStore.is_honest g.W.SwapStore.held g.W.SwapStore.slot_count g.W.SwapStore.asked g.W.SwapStore.faults c.args.self.now c.requires.sound c.bring.new.ram c.bring.new.owners c.bring.new.store true c.args.self.now.hand
+    (moved_in g.W.SwapStore c.args.self.now c.requires.sound c.bring.new.ram c.bring.new.owners c.bring.new.store true c.args.self.now.hand
     c.bring.ensures.agrees c.bring.ensures.sizes c.bring.ensures.rights c.bring.ensures.whole c.bring.ensures.store (λ usable. absurd cc)) c.make_room.ensures.moves
 
 pub returns-clause-near : goal.returns-clause-near

@@ -10,7 +10,7 @@ use Rattle.vm_memory.proofs.Using.NearLemmas.{IsOutAt, given_may, leads_near, le
 use Rattle.vm_memory.proofs.memory.Memory.find_near.Goals as goal
 
 pub returns-then-is_given-clause-brings : goal.returns-then-is_given-clause-brings
-returns-then-is_given-clause-brings g c = record { moves = same_moves g.W.SwapStore.is_honest g.W.SwapStore.held g.W.SwapStore.slot_count g.W.SwapStore.asked g.W.SwapStore.faults c.args.self.now c.requires.sound; none = λ none. refl }
+returns-then-is_given-clause-brings g c = record { moves = same_moves g.W.SwapStore c.args.self.now c.requires.sound; none = λ none. refl }
 
 pub returns-then-is_given-clause-given : goal.returns-then-is_given-clause-given
 returns-then-is_given-clause-given g c =
@@ -18,7 +18,7 @@ returns-then-is_given-clause-given g c =
     given ∙ sym (given_may (entries (processes c.args.self.now) c.args.self.now.ram (page_of c.args.pid c.args.va)) c.args.access (ap is_given_target (sym c.find-found.ensures) ∙ given))
 
 pub returns-in-None-clause-brings : goal.returns-in-None-clause-brings
-returns-in-None-clause-brings g c = record { moves = same_moves g.W.SwapStore.is_honest g.W.SwapStore.held g.W.SwapStore.slot_count g.W.SwapStore.asked g.W.SwapStore.faults c.args.self.now c.requires.sound; none = λ none. refl }
+returns-in-None-clause-brings g c = record { moves = same_moves g.W.SwapStore c.args.self.now c.requires.sound; none = λ none. refl }
 
 pub returns-in-None-clause-target : goal.returns-in-None-clause-target
 returns-in-None-clause-target g c = nowhere_target c.find-found.result (sym c.is_given.ensures ∙ c.if-is_given.false) ∙ c.find-found.ensures

@@ -12,7 +12,7 @@ use Rattle.vm_memory.proofs.memory.Memory.forget_process.Goals as goal
 use Rattle.vm_memory.proofs.memory.Memory.forget_process.Goals.{After-drop_window-5}
 
 pub returns-clause-tie : goal.returns-clause-tie
-returns-clause-tie g c = sound-tied g.W.SwapStore.slot_count g.W.SwapStore.held c.drop_window-5.new.self c.drop_window-5.ensures.sound
+returns-clause-tie g c = sound-tied g.W.SwapStore c.drop_window-5.new.self c.drop_window-5.ensures.sound
 
 all_dropped : (g : given.Over) (c : After-drop_window-5 g) → ChangesPagesAlone c.args.self.now c.drop_window-5.new.self
 all_dropped g c =
@@ -23,7 +23,7 @@ all_dropped g c =
     c.drop_window-3.ensures.rest) c.drop_window-4.ensures.rest) c.drop_window-5.ensures.rest
 
 pub returns-clause-means : goal.returns-clause-means
-returns-clause-means g c = alone-means g.W.SwapStore.is_honest g.W.SwapStore.held c.args.self.now c.drop_window-5.new.self (all_dropped g c)
+returns-clause-means g c = alone-means g.W.SwapStore c.args.self.now c.drop_window-5.new.self (all_dropped g c)
 
 pub returns-clause-none : goal.returns-clause-none
 returns-clause-none g c = alone-none_out c.args.self.now c.drop_window-5.new.self (all_dropped g c)
@@ -35,4 +35,4 @@ returns-clause-ledger g c =
     c.drop_window-3.ensures.ledger ∙ ap (remove (in_place c.args.pid Message)) (
     c.drop_window-2.ensures.ledger ∙ ap (remove (in_place c.args.pid Heap)) c.drop_window.ensures.ledger)))
     ∙ all_windows (processes c.args.self.now) (ledger g.W.SwapStore.held c.args.self.now) c.args.pid
-    (homes_lie g.W.SwapStore.slot_count g.W.SwapStore.held c.args.self.now c.requires.sound))
+    (homes_lie g.W.SwapStore c.args.self.now c.requires.sound))

@@ -5,4 +5,4 @@ use Rattle.vm_memory.proofs.memory.Memory.free_run.Goals as goal
 
 pub returns : goal.returns
 returns g c = c.free_run.ensures (processes c.args.self.now) c.requires.process
-    ∙ same_run g.W.SwapStore.slot_count g.W.SwapStore.held c.args.self.now c.requires.sound c.args.pid c.args.window c.args.n
+    ∙ same_run g.W.SwapStore c.args.self.now c.requires.sound c.args.pid c.args.window c.args.n

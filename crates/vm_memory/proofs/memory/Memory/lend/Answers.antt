@@ -5,17 +5,17 @@ use Rattle.vm_memory.proofs.Changing.LoanCallLemmas.{can_lend, free_there, lent,
 use Rattle.vm_memory.proofs.memory.Memory.lend.Goals as goal
 
 pub lend_run-requires-clause-may : goal.lend_run-requires-clause-may
-lend_run-requires-clause-may g c = same_answer g.W.SwapStore.slot_count g.W.SwapStore.held c.args.self.now c.requires.sound c.args.from c.args.n (mem_kind c.args.kind) ∙ c.requires.may
+lend_run-requires-clause-may g c = same_answer g.W.SwapStore c.args.self.now c.requires.sound c.args.from c.args.n (mem_kind c.args.kind) ∙ c.requires.may
 
 pub lend_run-requires-clause-free : goal.lend_run-requires-clause-free
-lend_run-requires-clause-free g c = free_there g.W.SwapStore.slot_count g.W.SwapStore.held c.args.self.now c.requires.sound c.args.to c.args.n c.requires.arrival
+lend_run-requires-clause-free g c = free_there g.W.SwapStore c.args.self.now c.requires.sound c.args.to c.args.n c.requires.arrival
 
 pub lend_run-requires-clause-unlent : goal.lend_run-requires-clause-unlent
-lend_run-requires-clause-unlent g c = unlent_there g.W.SwapStore.slot_count g.W.SwapStore.held c.args.self.now c.requires.sound c.args.number c.requires.fresh
+lend_run-requires-clause-unlent g c = unlent_there g.W.SwapStore c.args.self.now c.requires.sound c.args.number c.requires.fresh
 
 pub returns : goal.returns
 returns g c =
-    let step = lent g.W.SwapStore.slot_count g.W.SwapStore.is_honest g.W.SwapStore.held c.args.self.now c.requires.sound
+    let step = lent g.W.SwapStore c.args.self.now c.requires.sound
     c.lend_run.new.ram c.lend_run.new.owners c.args.self.now.pages c.lend_run.ensures.agrees c.lend_run.ensures.keeps
     c.args.from c.args.n c.args.to c.args.kind c.args.number c.lend_run.ensures.step
     (can_lend (processes c.args.self.now) (ledger g.W.SwapStore.held c.args.self.now) c.args.from c.args.n c.args.to c.requires.arrival
@@ -23,6 +23,6 @@ returns g c =
     record {
       loan = c.lend_run.ensures.loan;
       ledger = step.ledger;
-      stands = stands_here g.W.SwapStore.slot_count g.W.SwapStore.held _ step.keeps.sound _ c.lend_run.ensures.stands;
+      stands = stands_here g.W.SwapStore _ step.keeps.sound _ c.lend_run.ensures.stands;
       keeps = step.keeps;
     }

@@ -8,9 +8,9 @@ pub returns-clause-gives : goal.returns-clause-gives
 returns-clause-gives g c =
     let old = c.args.self.now in
     let new = c.find_known.new.self in
-    loads_back (means_bytes g.W.SwapStore.is_honest g.W.SwapStore.held old) ((user_view g.W.SwapStore.held old c.args.pid).may c.args.access c.args.va)
+    loads_back (means_bytes g.W.SwapStore old) ((user_view g.W.SwapStore.held old c.args.pid).may c.args.access c.args.va)
     ((user_view g.W.SwapStore.held new c.args.pid).may c.args.access c.args.va)
     (user_view g.W.SwapStore.held old c.args.pid).byte (user_view g.W.SwapStore.held new c.args.pid).byte c.args.va c.args.width c.read_at.result
-    (ap (λ may. may c.args.access c.args.va) (brings_may g.W.SwapStore.is_honest g.W.SwapStore.held g.W.SwapStore.slot_count g.W.SwapStore.asked g.W.SwapStore.faults old new c.find_known.ensures.brings c.args.pid))
-    (brings_bytes g.W.SwapStore.is_honest g.W.SwapStore.held g.W.SwapStore.slot_count g.W.SwapStore.asked g.W.SwapStore.faults old new c.find_known.ensures.brings c.args.pid)
+    (ap (λ may. may c.args.access c.args.va) (brings_may g.W.SwapStore old new c.find_known.ensures.brings c.args.pid))
+    (brings_bytes g.W.SwapStore old new c.find_known.ensures.brings c.args.pid)
     c.read_at.ensures

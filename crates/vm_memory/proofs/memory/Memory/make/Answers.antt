@@ -11,10 +11,10 @@ use Rattle.vm_memory.proofs.Changing.SoundMemoryLemmas.{pages-ledger, sound-tied
 use Rattle.vm_memory.proofs.memory.Memory.make.Goals as goal
 
 pub returns-in-Err-clause-tie : goal.returns-in-Err-clause-tie
-returns-in-Err-clause-tie g c = sound-tied g.W.SwapStore.slot_count g.W.SwapStore.held c.args.self.now c.requires.sound
+returns-in-Err-clause-tie g c = sound-tied g.W.SwapStore c.args.self.now c.requires.sound
 
 pub returns-in-Err-clause-store : goal.returns-in-Err-clause-store
-returns-in-Err-clause-store g c = keeps_all g.W.SwapStore.is_honest g.W.SwapStore.held g.W.SwapStore.slot_count g.W.SwapStore.asked g.W.SwapStore.faults c.args.self.now.store
+returns-in-Err-clause-store g c = keeps_all g.W.SwapStore c.args.self.now.store
 
 pub make_run-requires-clause-can : goal.make_run-requires-clause-can
 make_run-requires-clause-can g c = can_answered (processes c.args.self.now) (capacity_of c.args.self.now) (ledger g.W.SwapStore.held c.args.self.now)
@@ -22,9 +22,9 @@ make_run-requires-clause-can g c = can_answered (processes c.args.self.now) (cap
 
 pub returns-in_err-make_run-in-Ok-clause-partial : goal.returns-in_err-make_run-in-Ok-clause-partial
 returns-in_err-make_run-in-Ok-clause-partial g c = on_err c.from_residual.result
-    (HasMadeFirst (MeansBytesOver g.W.SwapStore.is_honest g.W.SwapStore.held c.args.self.now c.make_run.new.self) (make_answer (processes c.args.self.now) (capacity_of c.args.self.now) (ledger g.W.SwapStore.held c.args.self.now) c.args.pid c.args.window c.args.at c.args.n)
+    (HasMadeFirst (MeansBytesOver g.W.SwapStore c.args.self.now c.make_run.new.self) (make_answer (processes c.args.self.now) (capacity_of c.args.self.now) (ledger g.W.SwapStore.held c.args.self.now) c.args.pid c.args.window c.args.at c.args.n)
     c.args.pid c.args.n c.args.right (ledger g.W.SwapStore.held c.args.self.now) (ledger g.W.SwapStore.held c.make_run.new.self))
-    (first_made g.W.SwapStore.is_honest g.W.SwapStore.held g.W.SwapStore.slot_count g.W.SwapStore.asked g.W.SwapStore.faults c.args.self.now c.make_run.new.self (make_answer (processes c.args.self.now) (capacity_of c.args.self.now) (ledger g.W.SwapStore.held c.args.self.now) c.args.pid c.args.window c.args.at c.args.n) c.args.pid c.in-Ok.first c.args.n c.args.right (sym c.find_room.ensures ∙ c.in-Ok.is) c.make_run.ensures.first)
+    (first_made g.W.SwapStore c.args.self.now c.make_run.new.self (make_answer (processes c.args.self.now) (capacity_of c.args.self.now) (ledger g.W.SwapStore.held c.args.self.now) c.args.pid c.args.window c.args.at c.args.n) c.args.pid c.in-Ok.first c.args.n c.args.right (sym c.find_room.ensures ∙ c.in-Ok.is) c.make_run.ensures.first)
 
 pub returns-in_err-make_run-in-Ok-clause-full : goal.returns-in_err-make_run-in-Ok-clause-full
 returns-in_err-make_run-in-Ok-clause-full g c =
@@ -33,7 +33,7 @@ returns-in_err-make_run-in-Ok-clause-full g c =
     (subst (λ k. frames_for_pages c.args.self.now < k + c.args.n) counted c.in_err-make_run-in-Ok.ensures.full)
 
 pub returns-in_err-make_run-in-Ok-clause-tie : goal.returns-in_err-make_run-in-Ok-clause-tie
-returns-in_err-make_run-in-Ok-clause-tie g c = sound-tied g.W.SwapStore.slot_count g.W.SwapStore.held c.make_run.new.self c.make_run.ensures.first.made.sound
+returns-in_err-make_run-in-Ok-clause-tie g c = sound-tied g.W.SwapStore c.make_run.new.self c.make_run.ensures.first.made.sound
 
 pub returns-in_err-make_run-in-Ok-clause-near : goal.returns-in_err-make_run-in-Ok-clause-near
 returns-in_err-make_run-in-Ok-clause-near g c =
@@ -41,7 +41,7 @@ returns-in_err-make_run-in-Ok-clause-near g c =
     λ few none. c.make_run.ensures.near (omega (arith, few, counted)) none
 
 pub returns-in_ok-make_run-in-Ok-clause-tie : goal.returns-in_ok-make_run-in-Ok-clause-tie
-returns-in_ok-make_run-in-Ok-clause-tie g c = sound-tied g.W.SwapStore.slot_count g.W.SwapStore.held c.make_run.new.self c.make_run.ensures.first.made.sound
+returns-in_ok-make_run-in-Ok-clause-tie g c = sound-tied g.W.SwapStore c.make_run.new.self c.make_run.ensures.first.made.sound
 
 pub returns-in_ok-make_run-in-Ok-clause-near : goal.returns-in_ok-make_run-in-Ok-clause-near
 returns-in_ok-make_run-in-Ok-clause-near g c =

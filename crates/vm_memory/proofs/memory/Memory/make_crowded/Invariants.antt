@@ -5,6 +5,6 @@ use Rattle.vm_memory.proofs.memory.Memory.make_crowded.Given as goal
 -- the first i pages are made
 abbrev pub invariant-loop-i : goal.invariant-loop-i
 invariant-loop-i g l = record {
-  made : MakesPages g.W.SwapStore.is_honest g.W.SwapStore.held g.W.SwapStore.slot_count g.W.SwapStore.asked g.W.SwapStore.faults l.fn.self l.self l.fn.first l.i l.fn.right;
+  made : MakesPages g.W.SwapStore l.fn.self l.self l.fn.first l.i l.fn.right;
   usable : IsUsable l.self;
 }

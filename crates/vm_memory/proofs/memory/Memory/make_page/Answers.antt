@@ -8,7 +8,7 @@ use Rattle.vm_memory.proofs.memory.Memory.make_page.Goals as goal
 
 pub place_page-requires-clause-sound : goal.place_page-requires-clause-sound
 place_page-requires-clause-sound g c =
-    let marked = unmoved g.W.SwapStore.is_honest g.W.SwapStore.held g.W.SwapStore.slot_count g.W.SwapStore.asked g.W.SwapStore.faults c.args.self.now c.requires.sound true c.args.self.now.hand (λ usable. absurd cc) in
+    let marked = unmoved g.W.SwapStore c.args.self.now c.requires.sound true c.args.self.now.hand (λ usable. absurd cc) in
     marked.sound
 
 pub place_page-requires-clause-free : goal.place_page-requires-clause-free
@@ -21,6 +21,6 @@ pub make_room-requires-clause-under_way : goal.make_room-requires-clause-under_w
 make_room-requires-clause-under_way g c = c.place_page.ensures.rest.failed
 
 pub returns-clause-made : goal.returns-clause-made
-returns-clause-made g c = page_made g.W.SwapStore.is_honest g.W.SwapStore.held g.W.SwapStore.slot_count g.W.SwapStore.asked g.W.SwapStore.faults c.args.self.now c.args.at c.args.right c.free_frame-f.result (owned_by c.args.at)
+returns-clause-made g c = page_made g.W.SwapStore c.args.self.now c.args.at c.args.right c.free_frame-f.result (owned_by c.args.at)
     c.place_page.new.self c.make_room.new.self c.place_page.ensures.ledger c.place_page.ensures.owners c.place_page.ensures.rest
     c.make_room.ensures.moves c.make_room.ensures.over c.make_room.ensures.none

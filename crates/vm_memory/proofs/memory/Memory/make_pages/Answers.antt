@@ -24,28 +24,28 @@ pub overflow_add-at : goal.overflow_add-at
 overflow_add-at g c = omega (
   arith,
   user_bound (processes c.loop-i.self) (place_after c.args.first c.loop-i.i)
-      (next_lies g.W.SwapStore.slot_count g.W.SwapStore.held c.args.self.now c.loop-i.self c.loop-i.invariant.sound c.loop-i.invariant.rest c.args.first c.args.n c.loop-i.i
+      (next_lies g.W.SwapStore c.args.self.now c.loop-i.self c.loop-i.invariant.sound c.loop-i.invariant.rest c.args.first c.args.n c.loop-i.i
       c.loop-i-test.true c.args.right c.requires.can c.loop-i.invariant.ledger),
 )
 
 pub place_page-requires-clause-place : goal.place_page-requires-clause-place
 place_page-requires-clause-place g c =
-    next_lies g.W.SwapStore.slot_count g.W.SwapStore.held c.args.self.now c.loop-i.self c.loop-i.invariant.sound c.loop-i.invariant.rest c.args.first c.args.n c.loop-i.i
+    next_lies g.W.SwapStore c.args.self.now c.loop-i.self c.loop-i.invariant.sound c.loop-i.invariant.rest c.args.first c.args.n c.loop-i.i
     c.loop-i-test.true c.args.right c.requires.can c.loop-i.invariant.ledger
 
 pub place_page-requires-clause-free : goal.place_page-requires-clause-free
 place_page-requires-clause-free g c =
-    next_free g.W.SwapStore.slot_count g.W.SwapStore.held c.args.self.now c.loop-i.self c.loop-i.invariant.sound c.loop-i.invariant.rest c.args.first c.args.n c.loop-i.i
+    next_free g.W.SwapStore c.args.self.now c.loop-i.self c.loop-i.invariant.sound c.loop-i.invariant.rest c.args.first c.args.n c.loop-i.i
     c.loop-i-test.true c.args.right c.requires.can c.loop-i.invariant.ledger
 
 pub place_page-requires-clause-room : goal.place_page-requires-clause-room
 place_page-requires-clause-room g c =
-    next_room g.W.SwapStore.slot_count g.W.SwapStore.held c.args.self.now c.loop-i.self c.loop-i.invariant.sound c.loop-i.invariant.rest c.args.first c.args.n c.loop-i.i
+    next_room g.W.SwapStore c.args.self.now c.loop-i.self c.loop-i.invariant.sound c.loop-i.invariant.rest c.args.first c.args.n c.loop-i.i
     c.loop-i-test.true c.args.right c.requires.can c.loop-i.invariant.ledger
 
 pub place_page-requires-clause-left : goal.place_page-requires-clause-left
 place_page-requires-clause-left g c = λ usable.
-    next_left g.W.SwapStore.slot_count g.W.SwapStore.held c.args.self.now c.loop-i.self c.loop-i.invariant.sound c.loop-i.invariant.rest c.args.first c.args.n c.loop-i.i
+    next_left g.W.SwapStore c.args.self.now c.loop-i.self c.loop-i.invariant.sound c.loop-i.invariant.rest c.args.first c.args.n c.loop-i.i
     c.loop-i-test.true c.args.right c.requires.can c.loop-i.invariant.ledger c.requires.sound c.requires.frames
 
 pub loop-i-preserved : goal.loop-i-preserved
@@ -53,7 +53,7 @@ loop-i-preserved g c =
     let same : processes c.place_page.new.self ≡ processes c.loop-i.self = ap (λ (s : Size). s.procs) c.place_page.ensures.rest.size in
     record {
       sound = c.place_page.ensures.sound;
-      ledger = next_made g.W.SwapStore.slot_count g.W.SwapStore.held c.args.self.now c.loop-i.self c.loop-i.invariant.sound c.loop-i.invariant.rest c.args.first c.args.n c.loop-i.i
+      ledger = next_made g.W.SwapStore c.args.self.now c.loop-i.self c.loop-i.invariant.sound c.loop-i.invariant.rest c.args.first c.args.n c.loop-i.i
           c.loop-i-test.true c.args.right c.requires.can c.loop-i.invariant.ledger c.place_page.new.self c.place_page.ensures.ledger;
       rest = rest_then c.args.self.now c.loop-i.self c.place_page.new.self c.loop-i.invariant.rest c.place_page.ensures.rest;
       slots = λ s. ap (λ I. I (Slot s)) c.place_page.ensures.owners ∙ c.loop-i.invariant.slots s;

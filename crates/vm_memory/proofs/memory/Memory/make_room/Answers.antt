@@ -13,23 +13,23 @@ unreachable-requires g c = slot_left g.W.SwapStore.slot_count c.args.self.now c.
     (all_slots c.args.self.now.owners c.free_slot.result c.free_slot.ensures.none c.in_default.is)
 
 pub returns-in_err-evict-clause-moves : goal.returns-in_err-evict-clause-moves
-returns-in_err-evict-clause-moves g c = moved_in g.W.SwapStore.is_honest g.W.SwapStore.held g.W.SwapStore.slot_count g.W.SwapStore.asked g.W.SwapStore.faults c.args.self.now c.requires.sound c.evict.new.ram c.evict.new.owners c.evict.new.store c.args.self.now.failed c.args.self.now.hand
+returns-in_err-evict-clause-moves g c = moved_in g.W.SwapStore c.args.self.now c.requires.sound c.evict.new.ram c.evict.new.owners c.evict.new.store c.args.self.now.failed c.args.self.now.hand
     c.evict.ensures.agrees c.evict.ensures.sizes c.evict.ensures.rights c.evict.ensures.whole c.evict.ensures.store (λ usable. absurd (false≢true (sym usable ∙ c.requires.under_way)))
 
 pub returns-in_err-evict-clause-none : goal.returns-in_err-evict-clause-none
-returns-in_err-evict-clause-none g c = still_none g.W.SwapStore.slot_count g.W.SwapStore.held c.args.self.now c.requires.sound c.evict.new.ram c.evict.new.owners c.evict.new.store c.args.self.now.failed c.args.self.now.hand
+returns-in_err-evict-clause-none g c = still_none g.W.SwapStore c.args.self.now c.requires.sound c.evict.new.ram c.evict.new.owners c.evict.new.store c.args.self.now.failed c.args.self.now.hand
     c.in_err-evict.ensures.err c.evict.ensures.pages
 
 pub returns-in_err-evict-clause-over : goal.returns-in_err-evict-clause-over
 unfolding ledger
-returns-in_err-evict-clause-over g c = λ over. over_splits (is_known g.W.SwapStore.is_honest g.W.SwapStore.held c.args.self.now) (none_out c.args.self.now) (none_out _) over
+returns-in_err-evict-clause-over g c = λ over. over_splits (is_known g.W.SwapStore c.args.self.now) (none_out c.args.self.now) (none_out _) over
     (λ known. c.evict.ensures.whole known)
-    (λ none none_new. still_whole g.W.SwapStore.slot_count g.W.SwapStore.held c.args.self.now c.requires.sound c.evict.new.ram c.evict.new.owners c.evict.new.store c.args.self.now.failed c.args.self.now.hand
+    (λ none none_new. still_whole g.W.SwapStore c.args.self.now c.requires.sound c.evict.new.ram c.evict.new.owners c.evict.new.store c.args.self.now.failed c.args.self.now.hand
     c.in_err-evict.ensures.err c.evict.ensures.pages none)
 
 -- a frame is free
 pub returns-then-is_some-clause-moves : goal.returns-then-is_some-clause-moves
-returns-then-is_some-clause-moves g c = unmoved g.W.SwapStore.is_honest g.W.SwapStore.held g.W.SwapStore.slot_count g.W.SwapStore.asked g.W.SwapStore.faults c.args.self.now c.requires.sound false c.args.self.now.hand
+returns-then-is_some-clause-moves g c = unmoved g.W.SwapStore c.args.self.now c.requires.sound false c.args.self.now.hand
     (λ usable. some_room (extent c.args.self.now.owners) (infos c.args.self.now.owners) c.free_frame.result c.free_frame.ensures.within c.free_frame.ensures.found
     (sym c.is_some.ensures ∙ c.if-is_some.true))
 
@@ -46,19 +46,37 @@ pub evict-requires-clause-slots : goal.evict-requires-clause-slots
 evict-requires-clause-slots g c = omega (arith, c.requires.sound.slots, c.requires.sound.store)
 
 pub returns-clause-moves : goal.returns-clause-moves
-returns-clause-moves g c = moved_in g.W.SwapStore.is_honest g.W.SwapStore.held g.W.SwapStore.slot_count g.W.SwapStore.asked g.W.SwapStore.faults c.args.self.now c.requires.sound c.evict.new.ram c.evict.new.owners c.evict.new.store false (c.victim-f.result.0 + 1)
+returns-clause-moves g c = moved_in g.W.SwapStore c.args.self.now c.requires.sound c.evict.new.ram c.evict.new.owners c.evict.new.store false (c.victim-f.result.0 + 1)
     c.evict.ensures.agrees c.evict.ensures.sizes c.evict.ensures.rights c.evict.ensures.whole c.evict.ensures.store
     (λ usable. found_room (extent c.evict.new.owners) (infos c.evict.new.owners) c.victim-f.result (kept_seat (extent c.args.self.now.owners) (extent c.evict.new.owners) c.evict.ensures.sizes.extent c.victim-f.result c.victim-f.ensures.within)
     (left_free c.args.self.now c.evict.new.ram c.evict.new.owners c.victim-f.result c.in-Some.to c.in_ok-evict.ensures.ok))
 
 pub returns-clause-none : goal.returns-clause-none
-returns-clause-none g c = λ none. goes_out c.args.self.now c.evict.new.ram c.evict.new.owners c.victim-f.result c.in-Some.to c.in_ok-evict.ensures.ok (frame_used c.args.self.now.owners c.free_frame.result c.free_frame.ensures.none (sym c.is_some.ensures ∙ c.if-is_some.false) c.victim-f.result c.victim-f.ensures.within) (record c.args.self.now { ram = c.evict.new.ram; owners = c.evict.new.owners; store = c.evict.new.store; hand = c.victim-f.result.0 + 1; failed = false }) refl none
+returns-clause-none g c = λ none. goes_out c.args.self.now c.evict.new.ram c.evict.new.owners c.victim-f.result c.in-Some.to c.in_ok-evict.ensures.ok
+    (frame_used c.args.self.now.owners c.free_frame.result c.free_frame.ensures.none
+    (sym c.is_some.ensures ∙ c.if-is_some.false) c.victim-f.result c.victim-f.ensures.within)
+    (record c.args.self.now {
+      ram = c.evict.new.ram;
+      owners = c.evict.new.owners;
+      store = c.evict.new.store;
+      hand = c.victim-f.result.0 + 1;
+      failed = false;
+    }) refl none
 
 pub returns-clause-over : goal.returns-clause-over
 unfolding ledger
-returns-clause-over g c = λ over. over_splits (is_known g.W.SwapStore.is_honest g.W.SwapStore.held c.args.self.now) (none_out c.args.self.now) (none_out (record c.args.self.now { ram = c.evict.new.ram; owners = c.evict.new.owners; store = c.evict.new.store; hand = c.victim-f.result.0 + 1; failed = false })) over
+returns-clause-over g c = λ over. over_splits (is_known g.W.SwapStore c.args.self.now) (none_out c.args.self.now) (none_out (record c.args.self.now { ram = c.evict.new.ram; owners = c.evict.new.owners; store = c.evict.new.store; hand = c.victim-f.result.0 + 1; failed = false })) over
     (λ known. c.evict.ensures.whole known)
-    (λ none none_new. goes_out c.args.self.now c.evict.new.ram c.evict.new.owners c.victim-f.result c.in-Some.to c.in_ok-evict.ensures.ok (frame_used c.args.self.now.owners c.free_frame.result c.free_frame.ensures.none (sym c.is_some.ensures ∙ c.if-is_some.false) c.victim-f.result c.victim-f.ensures.within) (record c.args.self.now { ram = c.evict.new.ram; owners = c.evict.new.owners; store = c.evict.new.store; hand = c.victim-f.result.0 + 1; failed = false }) refl none_new)
+    (λ none none_new. goes_out c.args.self.now c.evict.new.ram c.evict.new.owners c.victim-f.result c.in-Some.to c.in_ok-evict.ensures.ok
+    (frame_used c.args.self.now.owners c.free_frame.result c.free_frame.ensures.none
+    (sym c.is_some.ensures ∙ c.if-is_some.false) c.victim-f.result c.victim-f.ensures.within)
+    (record c.args.self.now {
+      ram = c.evict.new.ram;
+      owners = c.evict.new.owners;
+      store = c.evict.new.store;
+      hand = c.victim-f.result.0 + 1;
+      failed = false;
+    }) refl none_new)
 
 pub returns-in_err-evict-clause-keep : goal.returns-in_err-evict-clause-keep
 returns-in_err-evict-clause-keep g c = λ at side e. ap (λ E. E at) c.in_err-evict.ensures.err.entries ∙ e

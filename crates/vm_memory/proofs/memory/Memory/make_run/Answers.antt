@@ -6,7 +6,7 @@ use Rattle.vm_memory.proofs.Changing.CrowdedLemmas.{near_made}
 use Rattle.vm_memory.proofs.memory.Memory.make_run.Goals as goal
 
 pub returns-then-near-clause-made : goal.returns-then-near-clause-made
-returns-then-near-clause-made g c = near_made g.W.SwapStore.is_honest g.W.SwapStore.held g.W.SwapStore.slot_count g.W.SwapStore.asked g.W.SwapStore.faults c.args.self.now c.make_pages.new.self c.args.first c.args.n c.args.right
+returns-then-near-clause-made g c = near_made g.W.SwapStore c.args.self.now c.make_pages.new.self c.args.first c.args.n c.args.right
     c.make_pages.ensures.sound c.make_pages.ensures.ledger c.make_pages.ensures.rest
     (none_out-kept c.make_pages.new.self c.args.self.now (λ s free. sym (c.make_pages.ensures.slots s) ∙ free))
 
@@ -17,7 +17,7 @@ pub returns-then-near-clause-first : goal.returns-then-near-clause-first
 returns-then-near-clause-first g c = record {
   count = c.args.n;
   few = omega arith;
-  made = near_made g.W.SwapStore.is_honest g.W.SwapStore.held g.W.SwapStore.slot_count g.W.SwapStore.asked g.W.SwapStore.faults c.args.self.now c.make_pages.new.self c.args.first c.args.n c.args.right
+  made = near_made g.W.SwapStore c.args.self.now c.make_pages.new.self c.args.first c.args.n c.args.right
       c.make_pages.ensures.sound c.make_pages.ensures.ledger c.make_pages.ensures.rest
       (none_out-kept c.make_pages.new.self c.args.self.now (λ s free. sym (c.make_pages.ensures.slots s) ∙ free));
 }

@@ -5,4 +5,4 @@ use Rattle.vm_memory.proofs.memory.Memory.may_send.Goals as goal
 
 pub returns : goal.returns
 returns g c = c.may_send.ensures (processes c.args.self.now) c.requires.process
-    ∙ same_answer g.W.SwapStore.slot_count g.W.SwapStore.held c.args.self.now c.requires.sound c.args.from c.args.n c.args.kind
+    ∙ same_answer g.W.SwapStore c.args.self.now c.requires.sound c.args.from c.args.n c.args.kind

@@ -11,7 +11,7 @@ use Rattle.vm_memory.proofs.memory.Memory.place_crowded.Goals as goal
 
 pub place_in-requires-clause-sound : goal.place_in-requires-clause-sound
 place_in-requires-clause-sound g c =
-    let marked = unmoved g.W.SwapStore.is_honest g.W.SwapStore.held g.W.SwapStore.slot_count g.W.SwapStore.asked g.W.SwapStore.faults c.args.self.now c.requires.sound true c.args.self.now.hand (λ usable. absurd cc) in
+    let marked = unmoved g.W.SwapStore c.args.self.now c.requires.sound true c.args.self.now.hand (λ usable. absurd cc) in
     marked.sound
 
 pub place_in-requires-clause-free : goal.place_in-requires-clause-free
@@ -24,7 +24,7 @@ pub make_room-requires-clause-under_way : goal.make_room-requires-clause-under_w
 make_room-requires-clause-under_way g c = c.place_in.ensures.rest.failed
 
 pub returns-clause-placed : goal.returns-clause-placed
-returns-clause-placed g c = placed_crowded g.W.SwapStore.is_honest g.W.SwapStore.held g.W.SwapStore.slot_count g.W.SwapStore.asked g.W.SwapStore.faults c.args.self.now
+returns-clause-placed g c = placed_crowded g.W.SwapStore c.args.self.now
     (place_page c.args.at (first_page c.args.file.now c.args.page.now)) c.free_frame-f.result (owned_by c.args.at)
     c.place_in.new.self c.make_room.new.self c.place_in.ensures.sound c.place_in.ensures.ledger c.place_in.ensures.owners c.place_in.ensures.pages c.place_in.ensures.rest
     c.make_room.ensures.moves c.make_room.ensures.over c.make_room.ensures.none

@@ -12,7 +12,7 @@ place_in-requires-clause-frame g c = next_frame g.W.SwapStore.slot_count c.args.
 
 pub returns-then-self-page_frames-clause-placed : goal.returns-then-self-page_frames-clause-placed
 returns-then-self-page_frames-clause-placed g c =
-    placed_near g.W.SwapStore.is_honest g.W.SwapStore.held g.W.SwapStore.slot_count g.W.SwapStore.asked g.W.SwapStore.faults c.args.self.now c.place_in.new.self
+    placed_near g.W.SwapStore c.args.self.now c.place_in.new.self
     (place_page c.args.at (first_page c.args.file.now c.args.page.now)) (record { 0 = 21 * c.args.self.now.procs + c.args.self.now.pages }) (owned_by c.args.at)
     c.place_in.ensures.sound c.place_in.ensures.ledger c.place_in.ensures.owners c.place_in.ensures.pages c.place_in.ensures.rest
 

@@ -8,19 +8,19 @@ use Rattle.vm_memory.proofs.memory.Memory.place_page.Goals as goal
 pub set_entry-requires-clause-made : goal.set_entry-requires-clause-made
 set_entry-requires-clause-made g c =
     let process = user_process (processes c.args.self.now) c.args.at c.requires.place in
-    cleared_made g.W.SwapStore.slot_count g.W.SwapStore.held c.args.self.now c.requires.sound c.args.at c.clear.new.ram c.args.f c.requires.frame
+    cleared_made g.W.SwapStore c.args.self.now c.requires.sound c.args.at c.clear.new.ram c.args.f c.requires.frame
     c.clear.ensures.pages c.clear.ensures.area c.args.at.pid.0 process (c.requires.sound.agree.made c.args.at.pid.0 process)
 
 pub set_entry-requires-clause-entry : goal.set_entry-requires-clause-entry
 set_entry-requires-clause-entry g c =
     subst (λ (a : Area). c.args.f.0 < a.frames) (sym c.clear.ensures.area)
-    (frame_behind g.W.SwapStore.slot_count g.W.SwapStore.held c.args.self.now c.requires.sound c.args.at c.args.f.0 c.requires.frame).1
+    (frame_behind g.W.SwapStore c.args.self.now c.requires.sound c.args.at c.args.f.0 c.requires.frame).1
 
 pub returns : goal.returns
 returns g c =
-    let step = placed_step g.W.SwapStore.slot_count g.W.SwapStore.held c.args.self.now c.requires.sound c.args.at c.clear.new.ram c.args.f c.requires.frame
+    let step = placed_step g.W.SwapStore c.args.self.now c.requires.sound c.args.at c.clear.new.ram c.args.f c.requires.frame
     c.clear.ensures.pages c.clear.ensures.area c.set_entry.new.ram c.set.new.self c.args.right c.requires.place
-    (free_entry g.W.SwapStore.slot_count g.W.SwapStore.held c.args.self.now c.requires.sound c.args.at c.requires.place c.requires.free)
+    (free_entry g.W.SwapStore c.args.self.now c.requires.sound c.args.at c.requires.place c.requires.free)
     c.requires.room c.requires.left
     (record { entries = c.set_entry.ensures.entries; pages = c.set_entry.ensures.pages; made = c.set_entry.ensures.made; area = c.set_entry.ensures.area })
     c.set.ensures.infos c.set.ensures.extent in

@@ -10,28 +10,28 @@ abbrev other : PagePlan
 other = record { vpn = record { 0 = 0 }; right = record { w = false; x = false }; from = 0; len = 0 }
 
 pub pages-init : goal.pages-init
-pages-init g c = nothing_placed g.W.SwapStore.is_honest g.W.SwapStore.held g.W.SwapStore.slot_count g.W.SwapStore.asked g.W.SwapStore.faults c.args.file.now c.args.pid c.args.plan.now c.args.self.now
+pages-init g c = nothing_placed g.W.SwapStore c.args.file.now c.args.pid c.args.plan.now c.args.self.now
     c.requires.sound c.requires.process c.requires.unlent c.requires.free c.requires.room c.requires.lawful c.requires.different
     c.requires.order c.requires.usable
 
 pub place_first-requires-clause-place : goal.place_first-requires-clause-place
-place_first-requires-clause-place g c = next_lies g.W.SwapStore.is_honest g.W.SwapStore.held g.W.SwapStore.slot_count g.W.SwapStore.asked g.W.SwapStore.faults c.args.file.now c.args.pid c.args.plan.now c.args.self.now
+place_first-requires-clause-place g c = next_lies g.W.SwapStore c.args.file.now c.args.pid c.args.plan.now c.args.self.now
     c.requires.sound c.requires.process c.requires.unlent c.requires.free c.requires.room c.requires.lawful c.requires.different
     c.pages.self c.pages.k c.pages-test.true other c.pages.invariant
 
 pub place_first-requires-clause-free : goal.place_first-requires-clause-free
-place_first-requires-clause-free g c = next_free g.W.SwapStore.is_honest g.W.SwapStore.held g.W.SwapStore.slot_count g.W.SwapStore.asked g.W.SwapStore.faults c.args.file.now c.args.pid c.args.plan.now c.args.self.now
+place_first-requires-clause-free g c = next_free g.W.SwapStore c.args.file.now c.args.pid c.args.plan.now c.args.self.now
     c.requires.sound c.requires.process c.requires.unlent c.requires.free c.requires.room c.requires.lawful c.requires.different
     c.pages.self c.pages.k c.pages-test.true other c.pages.invariant
 
 pub place_first-requires-clause-room : goal.place_first-requires-clause-room
-place_first-requires-clause-room g c = next_room g.W.SwapStore.is_honest g.W.SwapStore.held g.W.SwapStore.slot_count g.W.SwapStore.asked g.W.SwapStore.faults c.args.file.now c.args.pid c.args.plan.now c.args.self.now
+place_first-requires-clause-room g c = next_room g.W.SwapStore c.args.file.now c.args.pid c.args.plan.now c.args.self.now
     c.requires.sound c.requires.process c.requires.unlent c.requires.free c.requires.room c.requires.lawful c.requires.different
     c.pages.self c.pages.k c.pages-test.true other c.pages.invariant
 
 pub pages-preserved : goal.pages-preserved
 pages-preserved g c = record {
-  placed = next_placed g.W.SwapStore.is_honest g.W.SwapStore.held g.W.SwapStore.slot_count g.W.SwapStore.asked g.W.SwapStore.faults c.args.file.now c.args.pid c.args.plan.now c.args.self.now
+  placed = next_placed g.W.SwapStore c.args.file.now c.args.pid c.args.plan.now c.args.self.now
       c.requires.sound c.requires.process c.requires.unlent c.requires.free c.requires.room c.requires.lawful c.requires.different
       c.pages.self c.pages.k c.pages-test.true other c.pages.invariant
       c.place_first.new.self c.place_first.ensures.placed;
@@ -40,24 +40,24 @@ pages-preserved g c = record {
 }
 
 pub returns-in_err-place_first-clause-keeps : goal.returns-in_err-place_first-clause-keeps
-returns-in_err-place_first-clause-keeps g c = kept_next g.W.SwapStore.is_honest g.W.SwapStore.held g.W.SwapStore.slot_count g.W.SwapStore.asked g.W.SwapStore.faults c.args.file.now c.args.pid c.args.plan.now c.args.self.now
+returns-in_err-place_first-clause-keeps g c = kept_next g.W.SwapStore c.args.file.now c.args.pid c.args.plan.now c.args.self.now
     c.requires.sound c.requires.process c.requires.unlent c.requires.free c.requires.room c.requires.lawful c.requires.different
     c.pages.self c.pages.k c.pages-test.true other c.pages.invariant
     c.place_first.new.self c.place_first.ensures.placed
 
 pub returns-in_err-place_first-clause-full : goal.returns-in_err-place_first-clause-full
 returns-in_err-place_first-clause-full g c = on_err c.from_residual.result (frames_for_pages c.args.self.now < c.args.self.now.pages + length c.args.plan.now)
-    (next_full g.W.SwapStore.is_honest g.W.SwapStore.held g.W.SwapStore.slot_count g.W.SwapStore.asked g.W.SwapStore.faults c.args.file.now c.args.pid c.args.plan.now c.args.self.now
+    (next_full g.W.SwapStore c.args.file.now c.args.pid c.args.plan.now c.args.self.now
     c.requires.sound c.requires.process c.requires.unlent c.requires.free c.requires.room c.requires.lawful c.requires.different
     c.pages.self c.pages.k c.pages-test.true other c.pages.invariant
     c.in_err-place_first.ensures.full)
 
 pub returns-clause-keeps : goal.returns-clause-keeps
-returns-clause-keeps g c = kept_all g.W.SwapStore.is_honest g.W.SwapStore.held g.W.SwapStore.slot_count g.W.SwapStore.asked g.W.SwapStore.faults c.args.file.now c.args.pid c.args.plan.now c.args.self.now
+returns-clause-keeps g c = kept_all g.W.SwapStore c.args.file.now c.args.pid c.args.plan.now c.args.self.now
     c.requires.sound c.requires.process c.requires.unlent c.requires.free c.requires.room c.requires.lawful c.requires.different
     c.pages.self c.pages.k c.pages.invariant
 
 pub returns-clause-placed : goal.returns-clause-placed
-returns-clause-placed g c = all_placed g.W.SwapStore.is_honest g.W.SwapStore.held g.W.SwapStore.slot_count g.W.SwapStore.asked g.W.SwapStore.faults c.args.file.now c.args.pid c.args.plan.now c.args.self.now
+returns-clause-placed g c = all_placed g.W.SwapStore c.args.file.now c.args.pid c.args.plan.now c.args.self.now
     c.requires.sound c.requires.process c.requires.unlent c.requires.free c.requires.room c.requires.lawful c.requires.different
     c.pages.self c.pages.k (omega arith) c.pages.invariant

@@ -2,4 +2,4 @@ use Rattle.vm_memory.proofs.Booting.ProcessPlacedLemmas.{ArePlaced}
 use Rattle.vm_memory.proofs.memory.Memory.place_process.Given as goal
 
 abbrev pub invariant-pages : goal.invariant-pages
-invariant-pages g l = ArePlaced g.W.SwapStore.is_honest g.W.SwapStore.held g.W.SwapStore.slot_count g.W.SwapStore.asked g.W.SwapStore.faults l.file l.pid l.plan l.k l.fn.self l.self
+invariant-pages g l = ArePlaced g.W.SwapStore l.file l.pid l.plan l.k l.fn.self l.self

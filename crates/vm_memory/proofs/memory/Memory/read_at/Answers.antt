@@ -17,12 +17,12 @@ page-requires g c =
 
 pub returns-in-Page : goal.returns-in-Page
 returns-in-Page g c =
-    let gives = page_gives g.W.SwapStore.slot_count g.W.SwapStore.held c.args.self.now c.requires.sound c.args.pid c.args.va c.args.access c.in-Page.f c.args.width c.requires.aligned (sym c.requires.target ∙ c.in-Page.is) in
+    let gives = page_gives g.W.SwapStore c.args.self.now c.requires.sound c.args.pid c.args.va c.args.access c.in-Page.f c.args.width c.requires.aligned (sym c.requires.target ∙ c.in-Page.is) in
     (gives.0, c.read_number.ensures ∙ ap (λ page. number_at (λ i. slice_index page i) (c.args.va % 4096) c.args.width) c.page.ensures.value ∙ gives.1)
 
 pub returns-in-Console : goal.returns-in-Console
-returns-in-Console g c = console_gives g.W.SwapStore.slot_count g.W.SwapStore.held c.args.self.now c.requires.sound c.args.pid c.args.va c.args.access c.args.width c.requires.aligned (sym c.requires.target ∙ c.in-Console.is)
+returns-in-Console g c = console_gives g.W.SwapStore c.args.self.now c.requires.sound c.args.pid c.args.va c.args.access c.args.width c.requires.aligned (sym c.requires.target ∙ c.in-Console.is)
 
 pub returns-in-Nothing : goal.returns-in-Nothing
-returns-in-Nothing g c = nothing_given g.W.SwapStore.slot_count g.W.SwapStore.held c.args.self.now c.requires.sound c.args.pid c.args.va c.args.access
+returns-in-Nothing g c = nothing_given g.W.SwapStore c.args.self.now c.requires.sound c.args.pid c.args.va c.args.access
     (ap is_given_target (sym c.requires.target) ∙ c.requires.given) (sym c.requires.target ∙ c.in-Nothing.is)

@@ -24,5 +24,5 @@ returns-in-Some-clause-ledger g c = c.set_right.ensures.ledger
     (place_from (record { pid = c.args.first.pid; vpn = record { 0 = c.in-Some.vpn } }) (place_after c.args.first c.args.i) refl c.in-Some.ensures.1)
 
 pub returns-in-None-clause-ledger : goal.returns-in-None-clause-ledger
-returns-in-None-clause-ledger g c = nowhere_reduced g.W.SwapStore.slot_count g.W.SwapStore.held c.args.self.now c.requires.sound (place_after c.args.first c.args.i)
+returns-in-None-clause-ledger g c = nowhere_reduced g.W.SwapStore c.args.self.now c.requires.sound (place_after c.args.first c.args.i)
     (omega (arith, c.in-None.ensures)) c.args.right

@@ -13,18 +13,18 @@ loop-i-init g c = record {
 
 pub set_right_above-requires-clause-not_lent : goal.set_right_above-requires-clause-not_lent
 set_right_above-requires-clause-not_lent g c =
-    next_not_lent_reduced g.W.SwapStore.slot_count g.W.SwapStore.held c.args.self.now c.loop-i.self c.loop-i.invariant.sound c.loop-i.invariant.rest c.args.first c.args.n c.loop-i.i
+    next_not_lent_reduced g.W.SwapStore c.args.self.now c.loop-i.self c.loop-i.invariant.sound c.loop-i.invariant.rest c.args.first c.args.n c.loop-i.i
     c.loop-i-test.true c.args.right c.requires.not_lent c.requires.within c.loop-i.invariant.ledger
 
 pub set_right_above-requires-clause-within : goal.set_right_above-requires-clause-within
 set_right_above-requires-clause-within g c =
-    next_within g.W.SwapStore.slot_count g.W.SwapStore.held c.args.self.now c.loop-i.self c.loop-i.invariant.sound c.loop-i.invariant.rest c.args.first c.args.n c.loop-i.i
+    next_within g.W.SwapStore c.args.self.now c.loop-i.self c.loop-i.invariant.sound c.loop-i.invariant.rest c.args.first c.args.n c.loop-i.i
     c.loop-i-test.true c.args.right c.requires.not_lent c.requires.within c.loop-i.invariant.ledger
 
 pub loop-i-preserved : goal.loop-i-preserved
 loop-i-preserved g c = record {
   sound = c.set_right_above.ensures.sound;
-  ledger = next_reduced g.W.SwapStore.slot_count g.W.SwapStore.held c.args.self.now c.loop-i.self c.loop-i.invariant.sound c.loop-i.invariant.rest c.args.first c.args.n c.loop-i.i
+  ledger = next_reduced g.W.SwapStore c.args.self.now c.loop-i.self c.loop-i.invariant.sound c.loop-i.invariant.rest c.args.first c.args.n c.loop-i.i
       c.loop-i-test.true c.args.right c.requires.not_lent c.requires.within c.loop-i.invariant.ledger c.set_right_above.new.self c.set_right_above.ensures.ledger;
   rest = rest_then c.args.self.now c.loop-i.self c.set_right_above.new.self c.loop-i.invariant.rest c.set_right_above.ensures.rest;
 }

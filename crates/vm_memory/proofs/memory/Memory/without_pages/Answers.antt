@@ -39,10 +39,10 @@ empty g c =
     }
 
 pub returns-in-Ok-clause-sound : goal.returns-in-Ok-clause-sound
-returns-in-Ok-clause-sound g c = empty_sound g.W.SwapStore.slot_count g.W.SwapStore.held (made g c) (length c.as_slice.result.now) c.args.plan.now.frames c.args.plan.now.slots (empty g c)
+returns-in-Ok-clause-sound g c = empty_sound g.W.SwapStore (made g c) (length c.as_slice.result.now) c.args.plan.now.frames c.args.plan.now.slots (empty g c)
 
 pub returns-in-Ok-clause-ledger : goal.returns-in-Ok-clause-ledger
-returns-in-Ok-clause-ledger g c = empty_has_none g.W.SwapStore.slot_count g.W.SwapStore.held (made g c) (length c.as_slice.result.now) c.args.plan.now.frames c.args.plan.now.slots (empty g c)
+returns-in-Ok-clause-ledger g c = empty_has_none g.W.SwapStore (made g c) (length c.as_slice.result.now) c.args.plan.now.frames c.args.plan.now.slots (empty g c)
 
 pub returns-in-Ok-clause-free : goal.returns-in-Ok-clause-free
-returns-in-Ok-clause-free g c = empty_fills g.W.SwapStore.slot_count g.W.SwapStore.held (made g c) (length c.as_slice.result.now) c.args.plan.now.frames c.args.plan.now.slots (empty g c)
+returns-in-Ok-clause-free g c = empty_fills g.W.SwapStore (made g c) (length c.as_slice.result.now) c.args.plan.now.frames c.args.plan.now.slots (empty g c)

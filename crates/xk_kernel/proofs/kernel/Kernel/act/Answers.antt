@@ -108,7 +108,7 @@ returns-in-Next-clause-acts g c known =
     let x : Executed = fetched m who t there in
     let goes_on : ends_thread who t.pc ≡ false = sym c.ends_thread.ensures ∙ c.if-ends_thread.false in
     let is_none : ends_handler who t.pc ≡ false = sym c.ends_handler.ensures ∙ c.if-ends_handler.false in
-    let over : MeansBytesOver g.W.SwapStore.is_honest held old.mem c.run.new.self.mem = subst (λ mem. MeansBytesOver g.W.SwapStore.is_honest held old.mem mem) c.begin.ensures.mem known in
+    let over : MeansBytesOver g.W.SwapStore old.mem c.run.new.self.mem = subst (λ mem. MeansBytesOver g.W.SwapStore old.mem mem) c.begin.ensures.mem known in
     let answered : c.run.result ≡ ran_of x = unless_at _ c.run.result (ran.Next c.in-Next.field-0) c.in-Next.is (c.run.ensures.answer over) t there in
     let machine : machine_of held c.run.new.self ≡ machine_after who m x = unless_at _ c.run.result (ran.Next c.in-Next.field-0) c.in-Next.is (c.run.ensures.machine over) t there in
     let reserved : c.run.new.reserved ≡ (performed m who t).reserved = unless_at _ c.run.result (ran.Next c.in-Next.field-0) c.in-Next.is (c.run.ensures.reserved over) t there in
@@ -155,7 +155,7 @@ returns-in-Device-clause-acts g c known =
     let x : Executed = fetched m who t there in
     let goes_on : ends_thread who t.pc ≡ false = sym c.ends_thread.ensures ∙ c.if-ends_thread.false in
     let is_none : ends_handler who t.pc ≡ false = sym c.ends_handler.ensures ∙ c.if-ends_handler.false in
-    let over : MeansBytesOver g.W.SwapStore.is_honest held old.mem c.run.new.self.mem = subst (λ mem. MeansBytesOver g.W.SwapStore.is_honest held old.mem mem) c.tell_console.ensures.mem known in
+    let over : MeansBytesOver g.W.SwapStore old.mem c.run.new.self.mem = subst (λ mem. MeansBytesOver g.W.SwapStore old.mem mem) c.tell_console.ensures.mem known in
     let answered : c.run.result ≡ ran_of x = unless_at _ c.run.result (Device c.in-Device.offset c.in-Device.value c.in-Device.next) c.in-Device.is (c.run.ensures.answer over) t there in
     let machine : machine_of held c.run.new.self ≡ machine_after who m x = unless_at _ c.run.result (Device c.in-Device.offset c.in-Device.value c.in-Device.next) c.in-Device.is (c.run.ensures.machine over) t there in
     let reserved : c.run.new.reserved ≡ (performed m who t).reserved = unless_at _ c.run.result (Device c.in-Device.offset c.in-Device.value c.in-Device.next) c.in-Device.is (c.run.ensures.reserved over) t there in
@@ -201,7 +201,7 @@ begin-requires-in-Trap-clause-few g c = subst (λ s. s < 4000000000) (sym c.run.
 
 pub die-requires-clause-calls : goal.die-requires-clause-calls
 die-requires-clause-calls g c =
-    begun_calls g.W.SwapStore.held c.args.self.now c.run.new.self c.begin-in-Trap.new.self c.args.who g.W.SwapStore.slot_count c.begin-in-Trap.ensures.whole
+    begun_calls g.W.SwapStore c.args.self.now c.run.new.self c.begin-in-Trap.new.self c.args.who c.begin-in-Trap.ensures.whole
     (subst IsMemoryUsable (sym c.begin-in-Trap.ensures.mem) (unless_at _ c.run.result (Trap c.in-Trap.cause c.in-Trap.value) c.in-Trap.is c.run.ensures.usable))
     c.run.ensures.matched (c.run.ensures.ready ∙ actor_ready (machine_of g.W.SwapStore.held c.args.self.now) c.args.who c.requires.who) c.run.ensures.steps c.requires.few c.begin-in-Trap.ensures.machine
 
@@ -216,7 +216,7 @@ returns-in-Trap-clause-acts g c known =
     let x : Executed = fetched m who t there in
     let goes_on : ends_thread who t.pc ≡ false = sym c.ends_thread.ensures ∙ c.if-ends_thread.false in
     let is_none : ends_handler who t.pc ≡ false = sym c.ends_handler.ensures ∙ c.if-ends_handler.false in
-    let over : MeansBytesOver g.W.SwapStore.is_honest held old.mem c.run.new.self.mem = (over_parts g.W.SwapStore.is_honest g.W.SwapStore.held g.W.SwapStore.slot_count g.W.SwapStore.asked g.W.SwapStore.faults c.args.self.now.mem c.run.new.self.mem c.die.new.self.mem c.run.ensures.keeps.store c.run.ensures.none known).0 in
+    let over : MeansBytesOver g.W.SwapStore old.mem c.run.new.self.mem = (over_parts g.W.SwapStore c.args.self.now.mem c.run.new.self.mem c.die.new.self.mem c.run.ensures.keeps.store c.run.ensures.none known).0 in
     let answered : c.run.result ≡ ran_of x = unless_at _ c.run.result (Trap c.in-Trap.cause c.in-Trap.value) c.in-Trap.is (c.run.ensures.answer over) t there in
     let machine : machine_of held c.run.new.self ≡ machine_after who m x = unless_at _ c.run.result (Trap c.in-Trap.cause c.in-Trap.value) c.in-Trap.is (c.run.ensures.machine over) t there in
     let reserved : c.run.new.reserved ≡ (performed m who t).reserved = unless_at _ c.run.result (Trap c.in-Trap.cause c.in-Trap.value) c.in-Trap.is (c.run.ensures.reserved over) t there in
@@ -273,7 +273,7 @@ thread-requires g c = record { there = ready_there (machine_of g.W.SwapStore.hel
 
 pub call-requires-clause-calls : goal.call-requires-clause-calls
 call-requires-clause-calls g c =
-    begun_calls g.W.SwapStore.held c.args.self.now c.run.new.self c.begin-in-Ecall.new.self c.args.who g.W.SwapStore.slot_count c.begin-in-Ecall.ensures.whole
+    begun_calls g.W.SwapStore c.args.self.now c.run.new.self c.begin-in-Ecall.new.self c.args.who c.begin-in-Ecall.ensures.whole
     (subst IsMemoryUsable (sym c.begin-in-Ecall.ensures.mem) (unless_at _ c.run.result Ecall c.in-Ecall.is c.run.ensures.usable))
     c.run.ensures.matched (c.run.ensures.ready ∙ actor_ready (machine_of g.W.SwapStore.held c.args.self.now) c.args.who c.requires.who) c.run.ensures.steps c.requires.few c.begin-in-Ecall.ensures.machine
 
@@ -288,10 +288,10 @@ returns-in_ok-call-in-Ecall-clause-acts g c known =
     let x : Executed = fetched m who t there in
     let goes_on : ends_thread who t.pc ≡ false = sym c.ends_thread.ensures ∙ c.if-ends_thread.false in
     let is_none : ends_handler who t.pc ≡ false = sym c.ends_handler.ensures ∙ c.if-ends_handler.false in
-    let parts = over_parts g.W.SwapStore.is_honest g.W.SwapStore.held g.W.SwapStore.slot_count g.W.SwapStore.asked g.W.SwapStore.faults old.mem c.run.new.self.mem c.call.new.self.mem c.run.ensures.keeps.store c.run.ensures.none known in
-    let over : MeansBytesOver g.W.SwapStore.is_honest held old.mem c.run.new.self.mem = parts.0 in
-    let rest : MeansBytesOver g.W.SwapStore.is_honest held c.begin-in-Ecall.new.self.mem c.call.new.self.mem =
-    subst (λ mem. MeansBytesOver g.W.SwapStore.is_honest held mem c.call.new.self.mem) (sym c.begin-in-Ecall.ensures.mem) parts.1 in
+    let parts = over_parts g.W.SwapStore old.mem c.run.new.self.mem c.call.new.self.mem c.run.ensures.keeps.store c.run.ensures.none known in
+    let over : MeansBytesOver g.W.SwapStore old.mem c.run.new.self.mem = parts.0 in
+    let rest : MeansBytesOver g.W.SwapStore c.begin-in-Ecall.new.self.mem c.call.new.self.mem =
+    subst (λ mem. MeansBytesOver g.W.SwapStore mem c.call.new.self.mem) (sym c.begin-in-Ecall.ensures.mem) parts.1 in
     let answered : c.run.result ≡ ran_of x = unless_at _ c.run.result (Ecall) c.in-Ecall.is (c.run.ensures.answer over) t there in
     let machine : machine_of held c.run.new.self ≡ machine_after who m x = unless_at _ c.run.result (Ecall) c.in-Ecall.is (c.run.ensures.machine over) t there in
     let reserved : c.run.new.reserved ≡ (performed m who t).reserved = unless_at _ c.run.result (Ecall) c.in-Ecall.is (c.run.ensures.reserved over) t there in
@@ -310,7 +310,7 @@ unfolding machine_of
 returns-in_ok-call-in-Ecall-clause-settles g c =
     let held = g.W.SwapStore.held in
     let begun : Machine = machine_of held c.begin-in-Ecall.new.self in
-    let calls = begun_calls held c.args.self.now c.run.new.self c.begin-in-Ecall.new.self c.args.who g.W.SwapStore.slot_count c.begin-in-Ecall.ensures.whole
+    let calls = begun_calls g.W.SwapStore c.args.self.now c.run.new.self c.begin-in-Ecall.new.self c.args.who c.begin-in-Ecall.ensures.whole
     (subst IsMemoryUsable (sym c.begin-in-Ecall.ensures.mem) (unless_at _ c.run.result Ecall c.in-Ecall.is c.run.ensures.usable))
     c.run.ensures.matched (c.run.ensures.ready ∙ actor_ready (machine_of g.W.SwapStore.held c.args.self.now) c.args.who c.requires.who) c.run.ensures.steps c.requires.few c.begin-in-Ecall.ensures.machine in
     settles_alike (machine_of held c.args.self.now) (machine_of held c.call.new.self) (call_settled begun (call begun c.arguments-words.result)).machine
@@ -342,8 +342,8 @@ returns-in_ok-call-in-Ecall-clause-out g c out = out_since (none_out c.args.self
     let x : Executed = fetched m who t there in
     let goes_on : ends_thread who t.pc ≡ false = sym c.ends_thread.ensures ∙ c.if-ends_thread.false in
     let is_none : ends_handler who t.pc ≡ false = sym c.ends_handler.ensures ∙ c.if-ends_handler.false in
-    let over : MeansBytesOver g.W.SwapStore.is_honest held old.mem c.run.new.self.mem =
-    known_none (is_known g.W.SwapStore.is_honest held old.mem) (none_out old.mem) (none_out c.run.new.self.mem) none (c.run.ensures.none none) in
+    let over : MeansBytesOver g.W.SwapStore old.mem c.run.new.self.mem =
+    known_none (is_known g.W.SwapStore old.mem) (none_out old.mem) (none_out c.run.new.self.mem) none (c.run.ensures.none none) in
     let answered : c.run.result ≡ ran_of x = unless_at _ c.run.result (Ecall) c.in-Ecall.is (c.run.ensures.answer over) t there in
     let machine : machine_of held c.run.new.self ≡ machine_after who m x = unless_at _ c.run.result (Ecall) c.in-Ecall.is (c.run.ensures.machine over) t there in
     let reserved : c.run.new.reserved ≡ (performed m who t).reserved = unless_at _ c.run.result (Ecall) c.in-Ecall.is (c.run.ensures.reserved over) t there in
@@ -363,8 +363,8 @@ returns-in_err-call-in-Ecall-clause-full g c = on_failure c.from_residual.result
     let x : Executed = fetched m who t there in
     let goes_on : ends_thread who t.pc ≡ false = sym c.ends_thread.ensures ∙ c.if-ends_thread.false in
     let is_none : ends_handler who t.pc ≡ false = sym c.ends_handler.ensures ∙ c.if-ends_handler.false in
-    let over : MeansBytesOver g.W.SwapStore.is_honest held old.mem c.run.new.self.mem =
-    known_none (is_known g.W.SwapStore.is_honest held old.mem) (none_out old.mem) (none_out c.run.new.self.mem) none (c.run.ensures.none none) in
+    let over : MeansBytesOver g.W.SwapStore old.mem c.run.new.self.mem =
+    known_none (is_known g.W.SwapStore old.mem) (none_out old.mem) (none_out c.run.new.self.mem) none (c.run.ensures.none none) in
     let answered : c.run.result ≡ ran_of x = unless_at _ c.run.result (Ecall) c.in-Ecall.is (c.run.ensures.answer over) t there in
     let machine : machine_of held c.run.new.self ≡ machine_after who m x = unless_at _ c.run.result (Ecall) c.in-Ecall.is (c.run.ensures.machine over) t there in
     let reserved : c.run.new.reserved ≡ (performed m who t).reserved = unless_at _ c.run.result (Ecall) c.in-Ecall.is (c.run.ensures.reserved over) t there in
@@ -384,8 +384,8 @@ returns-in_err-call-in-Ecall-clause-out g c out = out_since (none_out c.args.sel
     let x : Executed = fetched m who t there in
     let goes_on : ends_thread who t.pc ≡ false = sym c.ends_thread.ensures ∙ c.if-ends_thread.false in
     let is_none : ends_handler who t.pc ≡ false = sym c.ends_handler.ensures ∙ c.if-ends_handler.false in
-    let over : MeansBytesOver g.W.SwapStore.is_honest held old.mem c.run.new.self.mem =
-    known_none (is_known g.W.SwapStore.is_honest held old.mem) (none_out old.mem) (none_out c.run.new.self.mem) none (c.run.ensures.none none) in
+    let over : MeansBytesOver g.W.SwapStore old.mem c.run.new.self.mem =
+    known_none (is_known g.W.SwapStore old.mem) (none_out old.mem) (none_out c.run.new.self.mem) none (c.run.ensures.none none) in
     let answered : c.run.result ≡ ran_of x = unless_at _ c.run.result (Ecall) c.in-Ecall.is (c.run.ensures.answer over) t there in
     let machine : machine_of held c.run.new.self ≡ machine_after who m x = unless_at _ c.run.result (Ecall) c.in-Ecall.is (c.run.ensures.machine over) t there in
     let reserved : c.run.new.reserved ≡ (performed m who t).reserved = unless_at _ c.run.result (Ecall) c.in-Ecall.is (c.run.ensures.reserved over) t there in

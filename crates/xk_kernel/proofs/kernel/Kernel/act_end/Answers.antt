@@ -23,7 +23,7 @@ begin-requires-clause-id g c =
 
 pub end_thread-requires-clause-calls : goal.end_thread-requires-clause-calls
 end_thread-requires-clause-calls g c =
-    begun_caller g.W.SwapStore.held c.args.self.now c.begin.new.self c.begin.new.self c.args.who g.W.SwapStore.slot_count c.begin.ensures.whole
+    begun_caller g.W.SwapStore c.args.self.now c.begin.new.self c.begin.new.self c.args.who c.begin.ensures.whole
     (subst IsMemoryUsable (sym c.begin.ensures.mem) c.requires.usable) (c.requires.sound.matched c.requires.usable) c.requires.few c.requires.who c.begin.ensures.machine
 
 pub end_thread-requires-clause-above : goal.end_thread-requires-clause-above

@@ -45,7 +45,7 @@ close-requires g c = all_empty c.in-Ok.tables.4 c.in-Ok.ensures.queues
 pub returns-clause-sound : goal.returns-clause-sound
 returns-clause-sound g c =
     let room : c.in-Ok.tables.3.room ≡ RECORD_LIMIT = ap (λ (l : LogState). l.room) c.in-Ok.ensures.log in
-    booted_sound g.W.SwapStore.slot_count g.W.SwapStore.held c.args.plan.now c.args.file.now (kernel g c) (booted g c)
+    booted_sound g.W.SwapStore c.args.plan.now c.args.file.now (kernel g c) (booted g c)
     c.requires.can_start c.requires.lawful.few c.in-Ok-boot.ensures.sound c.requires.lawful.some
     c.in-Ok.ensures.threaded c.in-Ok.ensures.made (omega arith)
 

@@ -17,7 +17,7 @@ use Rattle.xk_kernel.proofs.kernel.Kernel.call.Goals as goal
 pub call_asked-requires-clause-calls : goal.call_asked-requires-clause-calls
 unfolding machine_of
 call_asked-requires-clause-calls g c = record {
-  whole = pushed_whole g.W.SwapStore.slot_count g.W.SwapStore.held c.args.self.now c.push.new.self c.requires.calls.whole
+  whole = pushed_whole g.W.SwapStore c.args.self.now c.push.new.self c.requires.calls.whole
       (ap (λ (log : LogState). log.room) c.push.ensures);
   usable = c.requires.calls.usable;
   matched = c.requires.calls.matched;

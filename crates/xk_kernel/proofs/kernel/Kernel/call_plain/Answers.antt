@@ -24,8 +24,8 @@ answer-requires-clause-there g c =
     let m = machine_of g.W.SwapStore.held c.args.self.now in
     let next = machine_of g.W.SwapStore.held c.serve.new.self in
     let who = c.args.self.now.cursor in
-    let serves : ServesAs (MeansBytesOver g.W.SwapStore.is_honest g.W.SwapStore.held c.args.self.now.mem c.serve.new.self.mem) who next (call m c.args.words) (Ok (Answered c.in-Ok-Answered.reply)) =
-    subst (λ r. ServesAs (MeansBytesOver g.W.SwapStore.is_honest g.W.SwapStore.held c.args.self.now.mem c.serve.new.self.mem) who next (call m c.args.words) r) (c.in-Ok-Answered.is ∙ ap Ok (rw c.in-Ok-Answered.is at c.in-Ok-Answered.field-0-is))
+    let serves : ServesAs (MeansBytesOver g.W.SwapStore c.args.self.now.mem c.serve.new.self.mem) who next (call m c.args.words) (Ok (Answered c.in-Ok-Answered.reply)) =
+    subst (λ r. ServesAs (MeansBytesOver g.W.SwapStore c.args.self.now.mem c.serve.new.self.mem) who next (call m c.args.words) r) (c.in-Ok-Answered.is ∙ ap Ok (rw c.in-Ok-Answered.is at c.in-Ok-Answered.field-0-is))
     (c.in_ok-outcome.ensures.outcome c.args.words c.requires.asks) in
     there_past next (machine_of g.W.SwapStore.held c.pass.new.self) who c.pass.ensures.machine
     (ap (λ (x : Machine). is_some (x.threads who)) serves.comes.alike
@@ -38,10 +38,10 @@ returns-in-Ok-Answered-clause-tells g c =
     let next = machine_of g.W.SwapStore.held c.serve.new.self in
     let who = c.args.self.now.cursor in
     let words = words_of c.in-Ok-Answered.reply in
-    let serves : ServesAs (MeansBytesOver g.W.SwapStore.is_honest g.W.SwapStore.held c.args.self.now.mem c.serve.new.self.mem) who next (call m c.args.words) (Ok (Answered c.in-Ok-Answered.reply)) =
-    subst (λ r. ServesAs (MeansBytesOver g.W.SwapStore.is_honest g.W.SwapStore.held c.args.self.now.mem c.serve.new.self.mem) who next (call m c.args.words) r) (c.in-Ok-Answered.is ∙ ap Ok (rw c.in-Ok-Answered.is at c.in-Ok-Answered.field-0-is))
+    let serves : ServesAs (MeansBytesOver g.W.SwapStore c.args.self.now.mem c.serve.new.self.mem) who next (call m c.args.words) (Ok (Answered c.in-Ok-Answered.reply)) =
+    subst (λ r. ServesAs (MeansBytesOver g.W.SwapStore c.args.self.now.mem c.serve.new.self.mem) who next (call m c.args.words) r) (c.in-Ok-Answered.is ∙ ap Ok (rw c.in-Ok-Answered.is at c.in-Ok-Answered.field-0-is))
     (c.in_ok-outcome.ensures.outcome c.args.words c.requires.asks) in
-    tells_over g.W.SwapStore.held c.args.self.now c.answer.new.self (λ known. subst (λ mem. MeansBytesOver g.W.SwapStore.is_honest g.W.SwapStore.held c.args.self.now.mem mem) (c.answer.ensures.mem ∙ c.pass.ensures.mem) known)
+    tells_over g.W.SwapStore.held c.args.self.now c.answer.new.self (λ known. subst (λ mem. MeansBytesOver g.W.SwapStore c.args.self.now.mem mem) (c.answer.ensures.mem ∙ c.pass.ensures.mem) known)
     next serves.target serves.comes (λ x. give_answers (answer_to who words) (change_thread who passed x)) (λ x. refl)
     (call_settled m (call m c.args.words)) (Reply who words ∷ [])
     (answered_is m serves.target words (call m c.args.words)
@@ -56,10 +56,10 @@ returns-in-Ok-Waits-clause-tells g c =
     let m = machine_of g.W.SwapStore.held c.args.self.now in
     let next = machine_of g.W.SwapStore.held c.serve.new.self in
     let who = c.args.self.now.cursor in
-    let serves : ServesAs (MeansBytesOver g.W.SwapStore.is_honest g.W.SwapStore.held c.args.self.now.mem c.serve.new.self.mem) who next (call m c.args.words) (Ok Waits) =
-    subst (λ r. ServesAs (MeansBytesOver g.W.SwapStore.is_honest g.W.SwapStore.held c.args.self.now.mem c.serve.new.self.mem) who next (call m c.args.words) r) (c.in-Ok-Waits.is ∙ ap Ok (rw c.in-Ok-Waits.is at c.in-Ok-Waits.field-0-is))
+    let serves : ServesAs (MeansBytesOver g.W.SwapStore c.args.self.now.mem c.serve.new.self.mem) who next (call m c.args.words) (Ok Waits) =
+    subst (λ r. ServesAs (MeansBytesOver g.W.SwapStore c.args.self.now.mem c.serve.new.self.mem) who next (call m c.args.words) r) (c.in-Ok-Waits.is ∙ ap Ok (rw c.in-Ok-Waits.is at c.in-Ok-Waits.field-0-is))
     (c.in_ok-outcome.ensures.outcome c.args.words c.requires.asks) in
-    tells_over g.W.SwapStore.held c.args.self.now c.pass-in-Ok-Waits.new.self (λ known. subst (λ mem. MeansBytesOver g.W.SwapStore.is_honest g.W.SwapStore.held c.args.self.now.mem mem) (c.pass-in-Ok-Waits.ensures.mem) known)
+    tells_over g.W.SwapStore.held c.args.self.now c.pass-in-Ok-Waits.new.self (λ known. subst (λ mem. MeansBytesOver g.W.SwapStore c.args.self.now.mem mem) (c.pass-in-Ok-Waits.ensures.mem) known)
     next serves.target serves.comes (change_thread who passed) (λ x. refl)
     (call_settled m (call m c.args.words)) []
     (waits_is m serves.target (call m c.args.words) serves.is) c.pass-in-Ok-Waits.ensures.machine

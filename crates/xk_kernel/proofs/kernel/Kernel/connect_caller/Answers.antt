@@ -9,7 +9,7 @@ use Rattle.xk_kernel.proofs.kernel.Kernel.connect_caller.Goals as goal
 
 -- src/kernel/server_calls.rt
 pub connect-requires : goal.connect-requires
-connect-requires g c = caller_pid g.W.SwapStore.slot_count g.W.SwapStore.held c.args.self.now c.requires.whole
+connect-requires g c = caller_pid g.W.SwapStore c.args.self.now c.requires.whole
 
 pub unreachable-requires : goal.unreachable-requires
 unreachable-requires g c =
@@ -19,7 +19,7 @@ unreachable-requires g c =
 
 pub returns-clause-whole : goal.returns-clause-whole
 returns-clause-whole g c =
-    connected_whole g.W.SwapStore.slot_count g.W.SwapStore.held c.args.self.now c.requires.whole c.connect.new.self c.connect.ensures.count
+    connected_whole g.W.SwapStore c.args.self.now c.requires.whole c.connect.new.self c.connect.ensures.count
 
 pub returns-clause-answer : goal.returns-clause-answer
 returns-clause-answer g c =
@@ -30,4 +30,4 @@ returns-clause-answer g c =
 
 pub returns-clause-machine : goal.returns-clause-machine
 returns-clause-machine g c =
-    machine_connected g.W.SwapStore.slot_count g.W.SwapStore.held c.args.self.now c.requires.whole c.connect.new.self c.args.serial c.in-Ok.ensures.ok
+    machine_connected g.W.SwapStore c.args.self.now c.requires.whole c.connect.new.self c.args.serial c.in-Ok.ensures.ok

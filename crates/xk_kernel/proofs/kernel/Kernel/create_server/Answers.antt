@@ -47,7 +47,7 @@ connect_caller-cid-requires-clause-whole g c =
     let made : ((live_count (servers_of old.servers) == SERVER_LIMIT) ≡ false) × (c.in-Ok.serial ≡ serial_of (servers_of old.servers).next) =
     made_ok c.args.sid (servers_of old.servers) there c.in-Ok.serial (sym c.in-Ok.is ∙ c.make.ensures.answer) in
     let seat = seat_left old.servers made.0 in
-    served_whole g.W.SwapStore.slot_count g.W.SwapStore.held old c.requires.whole c.make.new.self c.args.sid seat.0 seat.1 c.in-Ok.ensures.ok
+    served_whole g.W.SwapStore old c.requires.whole c.make.new.self c.args.sid seat.0 seat.1 c.in-Ok.ensures.ok
     c.requires.matched c.requires.ready
     (ap is_some (sym (named_told g.W.SwapStore.held old c.args.sid)) ∙ there)
     (ap (λ n. n == SERVER_LIMIT) (sym (count_told g.W.SwapStore.held old)) ∙ made.0)
@@ -66,7 +66,7 @@ returns-in-Ok-clause-outcome g c =
     let room : has_room (new_serial m) (own_connections m) ≡ true = ap (λ s. has_room s (own_connections m)) (sym next) ∙ sym c.has_room.ensures ∙ c.if-not-has_room.false in
     let seat = seat_left c.args.self.now.servers made.0 in
     created_is m mid (machine_of g.W.SwapStore.held c.connect_caller-cid.new.self) c.args.sid c.in-Ok.serial c.connect_caller-cid.result.0
-    (machine_served g.W.SwapStore.slot_count g.W.SwapStore.held c.args.self.now c.requires.whole c.make.new.self c.args.sid seat.0 seat.1 c.in-Ok.ensures.ok)
+    (machine_served g.W.SwapStore c.args.self.now c.requires.whole c.make.new.self c.args.sid seat.0 seat.1 c.in-Ok.ensures.ok)
     made.1 c.connect_caller-cid.ensures.answer c.connect_caller-cid.ensures.machine
     ∙ created m c.args.sid new few room
 

@@ -16,13 +16,13 @@ destroy-requires-clause-ready g c = ready_is g.W.SwapStore.held c.args.self.now 
 
 pub destroy-requires-clause-sound : goal.destroy-requires-clause-sound
 destroy-requires-clause-sound g c =
-    parts_sound g.W.SwapStore.slot_count g.W.SwapStore.held c.args.self.now c.requires.calls.whole c.requires.calls.matched
+    parts_sound g.W.SwapStore c.args.self.now c.requires.calls.whole c.requires.calls.matched
 
 pub returns-in-Some-clause-whole : goal.returns-in-Some-clause-whole
 returns-in-Some-clause-whole g c =
     let k = c.args.self.now in
     let new = parts_of c.destroy.new.mem c.destroy.new.threads c.destroy.new.servers c.destroy.new.queues c.destroy.new.log in
-    new_whole g.W.SwapStore.slot_count g.W.SwapStore.held k new k.next c.requires.calls.whole c.destroy.ensures.sound c.destroy.ensures.mem.size
+    new_whole g.W.SwapStore k new k.next c.requires.calls.whole c.destroy.ensures.sound c.destroy.ensures.mem.size
     (served_room (c.destroy.ensures.row (machine_of g.W.SwapStore.held k)))
 
 pub returns-in-Some-clause-tells : goal.returns-in-Some-clause-tells
@@ -31,7 +31,7 @@ returns-in-Some-clause-tells g c =
     let held = g.W.SwapStore.held in
     let new = parts_of c.destroy.new.mem c.destroy.new.threads c.destroy.new.servers c.destroy.new.queues c.destroy.new.log in
     subst (λ (o : Outcome). Tells held k (with_new k new k.next) (call_settled (machine_of held k) o))
-    (sym (destroys g.W.SwapStore.slot_count held k c.requires.calls.whole c.args.sid c.in-Some.serial (sym c.in-Some.is ∙ c.own_server.ensures)))
+    (sym (destroys g.W.SwapStore k c.requires.calls.whole c.args.sid c.in-Some.serial (sym c.in-Some.is ∙ c.own_server.ensures)))
     (served_settles held k (destroy_row c.in-Some.serial) (with_new k new k.next) (with_parts held k.cursor (parts k) (machine_of held k))
     (with_parts held k.cursor new (machine_of held k)) (machine_given held k (parts k) c.requires.calls.whole.threads)
     (machine_given held k new c.destroy.ensures.sound.processes) (c.destroy.ensures.row (machine_of held k)))
@@ -39,5 +39,5 @@ returns-in-Some-clause-tells g c =
 pub returns-in-None-clause-tells : goal.returns-in-None-clause-tells
 returns-in-None-clause-tells g c =
     subst (λ (o : Outcome). Tells g.W.SwapStore.held c.args.self.now c.refuse.new.self (call_settled (machine_of g.W.SwapStore.held c.args.self.now) o))
-    (sym (refuses g.W.SwapStore.slot_count g.W.SwapStore.held c.args.self.now c.requires.calls.whole c.args.sid (sym c.in-None.is ∙ c.own_server.ensures)))
+    (sym (refuses g.W.SwapStore c.args.self.now c.requires.calls.whole c.args.sid (sym c.in-None.is ∙ c.own_server.ensures)))
     c.refuse.ensures.tells

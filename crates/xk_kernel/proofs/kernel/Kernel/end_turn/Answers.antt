@@ -14,4 +14,4 @@ returns-clause-sound g c = record {
 }
 
 pub returns-clause-tie : goal.returns-clause-tie
-returns-clause-tie g c = sound-tied g.W.SwapStore.slot_count g.W.SwapStore.held c.turn.new.self.mem c.turn.ensures.whole.mem
+returns-clause-tie g c = sound-tied g.W.SwapStore c.turn.new.self.mem c.turn.ensures.whole.mem

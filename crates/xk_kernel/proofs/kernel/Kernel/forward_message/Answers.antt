@@ -15,13 +15,13 @@ forward-forwarded-requires-clause-ready g c = ready_is g.W.SwapStore.held c.args
 
 pub forward-forwarded-requires-clause-sound : goal.forward-forwarded-requires-clause-sound
 forward-forwarded-requires-clause-sound g c =
-    parts_sound_over g.W.SwapStore.slot_count g.W.SwapStore.held c.args.self.now c.requires.calls.whole c.requires.calls.matched
+    parts_sound_over g.W.SwapStore c.args.self.now c.requires.calls.whole c.requires.calls.matched
 
 pub returns-in-Ok-clause-whole : goal.returns-in-Ok-clause-whole
 returns-in-Ok-clause-whole g c =
     let k = c.args.self.now in
     let new = parts_of c.forward-forwarded.new.mem c.forward-forwarded.new.threads k.servers c.forward-forwarded.new.queues c.forward-forwarded.new.log in
-    new_whole g.W.SwapStore.slot_count g.W.SwapStore.held k new k.next c.requires.calls.whole c.in-Ok.ensures.sound.sound c.in-Ok.ensures.mem.size
+    new_whole g.W.SwapStore k new k.next c.requires.calls.whole c.in-Ok.ensures.sound.sound c.in-Ok.ensures.mem.size
     (served_room (c.in-Ok.ensures.row (machine_of g.W.SwapStore.held k)))
 
 pub returns-in-Ok-clause-tells : goal.returns-in-Ok-clause-tells

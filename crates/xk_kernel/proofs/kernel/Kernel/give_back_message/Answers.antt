@@ -14,13 +14,13 @@ give_back-returned-requires-clause-ready g c = ready_is g.W.SwapStore.held c.arg
 
 pub give_back-returned-requires-clause-sound : goal.give_back-returned-requires-clause-sound
 give_back-returned-requires-clause-sound g c =
-    parts_sound g.W.SwapStore.slot_count g.W.SwapStore.held c.args.self.now c.requires.calls.whole c.requires.calls.matched
+    parts_sound g.W.SwapStore c.args.self.now c.requires.calls.whole c.requires.calls.matched
 
 pub returns-in-Ok-clause-whole : goal.returns-in-Ok-clause-whole
 returns-in-Ok-clause-whole g c =
     let k = c.args.self.now in
     let new = parts_of c.give_back-returned.new.mem c.give_back-returned.new.threads k.servers c.give_back-returned.new.queues c.give_back-returned.new.log in
-    new_whole g.W.SwapStore.slot_count g.W.SwapStore.held k new k.next c.requires.calls.whole c.in-Ok.ensures.sound c.in-Ok.ensures.mem.size
+    new_whole g.W.SwapStore k new k.next c.requires.calls.whole c.in-Ok.ensures.sound c.in-Ok.ensures.mem.size
     (served_room (c.in-Ok.ensures.row (machine_of g.W.SwapStore.held k)))
 
 pub returns-in-Ok-clause-tells : goal.returns-in-Ok-clause-tells

@@ -6,7 +6,7 @@ use Rattle.xk_kernel.proofs.kernel.Kernel.has_room.Goals as goal
 
 -- src/kernel/server_calls.rt
 pub room-requires : goal.room-requires
-room-requires g c = caller_pid g.W.SwapStore.slot_count g.W.SwapStore.held c.args.self.now c.requires.whole
+room-requires g c = caller_pid g.W.SwapStore c.args.self.now c.requires.whole
 
 pub returns : goal.returns
 returns g c = c.room.ensures ∙ ap (has_room c.args.serial) (connections_told g.W.SwapStore.held c.args.self.now)

@@ -10,7 +10,8 @@ use Rattle.vm_memory.specs.Bytes.{none_out}
 use Rattle.vm_memory.specs.Memory.{capacity_of, frames_for_pages, ledger, processes}
 use Rattle.xk_kernel.proofs.Memory.MadeLemmas.{made_loans, serves_by, too_many}
 use Rattle.xk_kernel.proofs.Memory.MapLemmas.{console_done, console_low, console_refused, elsewhere_refused, made_low, map_crowds, map_done, map_refused, narrow, wide_by_right, wide_by_size, wide_refused}
-use Rattle.xk_kernel.proofs.Memory.KeptLoanLemmas.{made_first_keeps, make_console_keeps}
+use Rattle.resume_path.proofs.Homes.MadeFirstLemmas.{made_first_keeps}
+use Rattle.xk_kernel.proofs.Memory.KeptLoanLemmas.{make_console_keeps}
 use Rattle.xk_kernel.proofs.Memory.MemoryCallLemmas.{caller_process, right_told, whole_with_mem}
 use Rattle.xk_kernel.proofs.kernel.Kernel.map_memory.Goals.{then-size-ne-PAGE_SIZE-via-then-size-ne-PAGE_SIZE, then-size-ne-PAGE_SIZE-via-else-size-ne-PAGE_SIZE+then-right}
 use Rattle.xk_kernel.proofs.kernel.Kernel.map_memory.Goals as goal
@@ -23,9 +24,9 @@ overflow_mul-result g c =
 
 pub returns-in-Ok-clause-whole : goal.returns-in-Ok-clause-whole
 returns-in-Ok-clause-whole g c =
-    whole_with_mem g.W.SwapStore.slot_count g.W.SwapStore.held c.args.self.now c.make_console.new.self c.requires.whole c.make_console.ensures.size c.make_console.ensures.sound
-    (make_console_keeps g.W.SwapStore.slot_count g.W.SwapStore.held c.args.self.now.mem c.requires.whole.mem c.args.self.now.cursor.pid c.page_asked-at.result c.in-Some.right.w
-    c.make_console.result (ledger g.W.SwapStore.held c.make_console.new.self) (caller_process g.W.SwapStore.slot_count g.W.SwapStore.held c.args.self.now c.requires.whole)
+    whole_with_mem g.W.SwapStore c.args.self.now c.make_console.new.self c.requires.whole c.make_console.ensures.size c.make_console.ensures.sound
+    (make_console_keeps g.W.SwapStore c.args.self.now.mem c.requires.whole.mem c.args.self.now.cursor.pid c.page_asked-at.result c.in-Some.right.w
+    c.make_console.result (ledger g.W.SwapStore.held c.make_console.new.self) (caller_process g.W.SwapStore c.args.self.now c.requires.whole)
     c.make_console.ensures.answer c.make_console.ensures.ledger)
 
 pub returns-in-Ok-clause-outcome : goal.returns-in-Ok-clause-outcome
@@ -54,8 +55,8 @@ overflow_mul-result-in-Ok-Ok g c =
 
 pub returns-in-Ok-Ok-clause-whole : goal.returns-in-Ok-Ok-clause-whole
 returns-in-Ok-Ok-clause-whole g c =
-    whole_with_mem g.W.SwapStore.slot_count g.W.SwapStore.held c.args.self.now c.make.new.self c.requires.whole c.make.ensures.size c.make.ensures.sound
-    (made_loans g.W.SwapStore.held c.args.self.now Map c.page_asked-at.result (c.args.size / 4096) c.in-Some.right (caller_process g.W.SwapStore.slot_count g.W.SwapStore.held c.args.self.now c.requires.whole) c.in-Ok-Ok.field-0
+    whole_with_mem g.W.SwapStore c.args.self.now c.make.new.self c.requires.whole c.make.ensures.size c.make.ensures.sound
+    (made_loans g.W.SwapStore.held c.args.self.now Map c.page_asked-at.result (c.args.size / 4096) c.in-Some.right (caller_process g.W.SwapStore c.args.self.now c.requires.whole) c.in-Ok-Ok.field-0
     (ledger g.W.SwapStore.held c.make.new.self) c.in-Ok-Ok.ensures.answer c.in-Ok-Ok.ensures.rights)
 
 pub returns-in-Ok-Ok-clause-outcome : goal.returns-in-Ok-Ok-clause-outcome
@@ -71,7 +72,7 @@ pub returns-in-Ok-Ok-clause-near : goal.returns-in-Ok-Ok-clause-near
 returns-in-Ok-Ok-clause-near g c none out =
     map_crowds g.W.SwapStore.held c.args.self.now c.args.phys c.args.virt c.args.size c.args.flags c.in-Some.right (sym c.is_bad_range.ensures ∙ c.if-is_bad_range.false) (right_told (are_bad_flags c.args.flags) (right_of c.args.flags) c.in-Some.right (sym c.in-Some.is ∙ c.right_asked.ensures))
     (eq-eqb c.args.phys 0 c.if-phys-ne0.false) (ne_eqb c.args.phys 4026531840 c.if-phys-eq-CONSOLE_ADDRESS.false)
-    c.in-Ok-Ok.first (caller_process g.W.SwapStore.slot_count g.W.SwapStore.held c.args.self.now c.requires.whole) (rw (c.page_asked-at.ensures, c.in-Ok-Ok.field-0-is) at c.in-Ok-Ok.ensures.answer)
+    c.in-Ok-Ok.first (caller_process g.W.SwapStore c.args.self.now c.requires.whole) (rw (c.page_asked-at.ensures, c.in-Ok-Ok.field-0-is) at c.in-Ok-Ok.ensures.answer)
     (too_many (frames_for_pages c.args.self.now.mem) (pages (processes c.args.self.now.mem) (ledger g.W.SwapStore.held c.args.self.now.mem) + c.args.size / 4096) (none_out c.make.new.self)
     (λ few. c.make.ensures.near few none) out)
 
@@ -84,23 +85,23 @@ returns-in-Ok-Err-clause-outcome g c =
 
 pub returns-in-Err-make-clause-whole : goal.returns-in-Err-make-clause-whole
 returns-in-Err-make-clause-whole g c =
-    whole_with_mem g.W.SwapStore.slot_count g.W.SwapStore.held c.args.self.now c.make.new.self c.requires.whole c.make.ensures.size c.make.ensures.sound
+    whole_with_mem g.W.SwapStore c.args.self.now c.make.new.self c.requires.whole c.make.ensures.size c.make.ensures.sound
     (made_first_keeps (processes c.args.self.now.mem) (capacity_of c.args.self.now.mem) c.args.self.now.cursor.pid Map c.page_asked-at.result (c.args.size / 4096)
     c.in-Some.right (ledger g.W.SwapStore.held c.args.self.now.mem) (ledger g.W.SwapStore.held c.make.new.self)
-    (caller_process g.W.SwapStore.slot_count g.W.SwapStore.held c.args.self.now c.requires.whole) c.in-Err-make.ensures.partial)
+    (caller_process g.W.SwapStore c.args.self.now c.requires.whole) c.in-Err-make.ensures.partial)
 
 pub returns-in-Err-make-clause-crowded : goal.returns-in-Err-make-clause-crowded
 returns-in-Err-make-clause-crowded g c =
     map_crowds g.W.SwapStore.held c.args.self.now c.args.phys c.args.virt c.args.size c.args.flags c.in-Some.right (sym c.is_bad_range.ensures ∙ c.if-is_bad_range.false) (right_told (are_bad_flags c.args.flags) (right_of c.args.flags) c.in-Some.right (sym c.in-Some.is ∙ c.right_asked.ensures))
     (eq-eqb c.args.phys 0 c.if-phys-ne0.false) (ne_eqb c.args.phys 4026531840 c.if-phys-eq-CONSOLE_ADDRESS.false)
-    c.in-Err-make.ensures.partial.first (caller_process g.W.SwapStore.slot_count g.W.SwapStore.held c.args.self.now c.requires.whole) (sym (rw c.page_asked-at.ensures at c.in-Err-make.ensures.partial.served))
+    c.in-Err-make.ensures.partial.first (caller_process g.W.SwapStore c.args.self.now c.requires.whole) (sym (rw c.page_asked-at.ensures at c.in-Err-make.ensures.partial.served))
     c.in-Err-make.ensures.full
 
 pub returns-in-Err-make-clause-near : goal.returns-in-Err-make-clause-near
 returns-in-Err-make-clause-near g c none out =
     map_crowds g.W.SwapStore.held c.args.self.now c.args.phys c.args.virt c.args.size c.args.flags c.in-Some.right (sym c.is_bad_range.ensures ∙ c.if-is_bad_range.false) (right_told (are_bad_flags c.args.flags) (right_of c.args.flags) c.in-Some.right (sym c.in-Some.is ∙ c.right_asked.ensures))
     (eq-eqb c.args.phys 0 c.if-phys-ne0.false) (ne_eqb c.args.phys 4026531840 c.if-phys-eq-CONSOLE_ADDRESS.false)
-    c.in-Err-make.ensures.partial.first (caller_process g.W.SwapStore.slot_count g.W.SwapStore.held c.args.self.now c.requires.whole) (sym (rw c.page_asked-at.ensures at c.in-Err-make.ensures.partial.served))
+    c.in-Err-make.ensures.partial.first (caller_process g.W.SwapStore c.args.self.now c.requires.whole) (sym (rw c.page_asked-at.ensures at c.in-Err-make.ensures.partial.served))
     c.in-Err-make.ensures.full
 
 pub returns-then-size-ne-PAGE_SIZE-clause-outcome : goal.returns-then-size-ne-PAGE_SIZE-clause-outcome
@@ -115,4 +116,7 @@ returns-then-size-ne-PAGE_SIZE-clause-outcome g c =
 pub returns-then-phys-ne0-clause-outcome : goal.returns-then-phys-ne0-clause-outcome
 returns-then-phys-ne0-clause-outcome g c =
     serves_by _ _ _ (Err BadAddress)
-    (elsewhere_refused g.W.SwapStore.held c.args.self.now c.args.phys c.args.virt c.args.size c.args.flags c.in-Some.right (sym c.is_bad_range.ensures ∙ c.if-is_bad_range.false) (right_told (are_bad_flags c.args.flags) (right_of c.args.flags) c.in-Some.right (sym c.in-Some.is ∙ c.right_asked.ensures)) (ne_eqb c.args.phys 0 c.if-phys-ne0.true) (ne_eqb c.args.phys 4026531840 c.if-phys-eq-CONSOLE_ADDRESS.false))
+    (elsewhere_refused g.W.SwapStore.held c.args.self.now c.args.phys c.args.virt c.args.size c.args.flags c.in-Some.right
+    (sym c.is_bad_range.ensures ∙ c.if-is_bad_range.false)
+    (right_told (are_bad_flags c.args.flags) (right_of c.args.flags) c.in-Some.right (sym c.in-Some.is ∙ c.right_asked.ensures))
+    (ne_eqb c.args.phys 0 c.if-phys-ne0.true) (ne_eqb c.args.phys 4026531840 c.if-phys-eq-CONSOLE_ADDRESS.false))

@@ -7,7 +7,7 @@ use Rattle.xk_kernel.proofs.kernel.Kernel.pick.Goals as goal
 pub returns-then-is_ready_at-clause-whole : goal.returns-then-is_ready_at-clause-whole
 returns-then-is_ready_at-clause-whole g c =
     let k = c.args.self.now in
-    cursor_whole g.W.SwapStore.slot_count g.W.SwapStore.held k c.args.who c.requires.whole
+    cursor_whole g.W.SwapStore k c.args.who c.requires.whole
     (ready_valid g.W.SwapStore.held k (processes k.mem) c.args.who c.requires.whole.threads (sym c.is_ready_at.ensures ∙ c.if-is_ready_at.true))
 
 pub returns-then-is_ready_at-clause-machine : goal.returns-then-is_ready_at-clause-machine

@@ -37,8 +37,8 @@ returns-then-deliver-clause-whole g c =
     raise_starts g.W.SwapStore.held c.args.self.now c.args.k c.requires.step c.requires.empty c.in-Some.pid (sym c.in-Some.is ∙ c.pend.ensures.answer)
     c.pend.new.self c.pend.ensures.after c.deliver.new.self c.deliver.result (record { tells = c.deliver.ensures.tells; starts = c.deliver.ensures.starts })
     c.if-deliver.true c.handler_id-self.result c.handler_id-self.ensures in
-    cursor_whole g.W.SwapStore.slot_count g.W.SwapStore.held c.deliver.new.self c.handler_id-self.result c.deliver.ensures.whole
-    (raised_cursor g.W.SwapStore.slot_count g.W.SwapStore.held c.args.self.now (record c.deliver.new.self { cursor = c.handler_id-self.result }) c.args.k
+    cursor_whole g.W.SwapStore c.deliver.new.self c.handler_id-self.result c.deliver.ensures.whole
+    (raised_cursor g.W.SwapStore c.args.self.now (record c.deliver.new.self { cursor = c.handler_id-self.result }) c.args.k
     c.requires.whole c.requires.matched becomes)
 
 pub returns-else-deliver-clause-becomes : goal.returns-else-deliver-clause-becomes

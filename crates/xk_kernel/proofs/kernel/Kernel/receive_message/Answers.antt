@@ -22,10 +22,10 @@ left g c = record {
   tables = tables_of c.receive-received.new.threads c.args.self.now.servers c.receive-received.new.queues c.receive-received.new.log;
 }
 
-left_sound : (g : Over) (c : goal.In-Ok g) → ArePartsSound g.W.SwapStore.slot_count g.W.SwapStore.held c.args.self.now.cursor (left g c)
+left_sound : (g : Over) (c : goal.In-Ok g) → ArePartsSound g.W.SwapStore c.args.self.now.cursor (left g c)
 left_sound g c =
     let k = c.args.self.now in
-    received_sound g.W.SwapStore.slot_count g.W.SwapStore.held k c.requires.calls c.args.sid c.args.waits (left g c).tables c.in-Ok.ensures.row c.requires.free
+    received_sound g.W.SwapStore k c.requires.calls c.args.sid c.args.waits (left g c).tables c.in-Ok.ensures.row c.requires.free
     refl (c.in-Ok.ensures.sound c.requires.free).seats
     (c.in-Ok.ensures.loans (loans (ledger g.W.SwapStore.held k.mem))
     (open_loans (loans (ledger g.W.SwapStore.held k.mem)) k.servers k.queues c.requires.calls.whole.servers.messages))
@@ -35,7 +35,7 @@ receive-received-requires-clause-ready g c = ready_is g.W.SwapStore.held c.args.
 
 pub receive-received-requires-clause-sound : goal.receive-received-requires-clause-sound
 receive-received-requires-clause-sound g c =
-    tables_sound g.W.SwapStore.slot_count g.W.SwapStore.held c.args.self.now c.requires.calls.whole c.requires.calls.matched
+    tables_sound g.W.SwapStore c.args.self.now c.requires.calls.whole c.requires.calls.matched
 
 pub refuse-requires-clause-ready : goal.refuse-requires-clause-ready
 refuse-requires-clause-ready g c =
@@ -50,7 +50,7 @@ refuse-requires-clause-ready g c =
 pub returns-in-Ok-clause-whole : goal.returns-in-Ok-clause-whole
 returns-in-Ok-clause-whole g c =
     let k = c.args.self.now in
-    new_whole g.W.SwapStore.slot_count g.W.SwapStore.held k (left g c) k.next c.requires.calls.whole (left_sound g c) refl
+    new_whole g.W.SwapStore k (left g c) k.next c.requires.calls.whole (left_sound g c) refl
     (served_room (c.in-Ok.ensures.row (machine_of g.W.SwapStore.held k)))
 
 pub returns-in-Ok-clause-tells : goal.returns-in-Ok-clause-tells

@@ -46,8 +46,8 @@ place_irq-requires-clause-step g c =
 
 pub returns-then-deliver-clause-whole : goal.returns-then-deliver-clause-whole
 returns-then-deliver-clause-whole g c =
-    pushed_whole g.W.SwapStore.slot_count g.W.SwapStore.held (record c.deliver.new.self { cursor = c.handler_id-self.result }) c.place_irq.new.log
-    (cursor_whole g.W.SwapStore.slot_count g.W.SwapStore.held c.deliver.new.self c.handler_id-self.result c.deliver.ensures.whole
+    pushed_whole g.W.SwapStore (record c.deliver.new.self { cursor = c.handler_id-self.result }) c.place_irq.new.log
+    (cursor_whole g.W.SwapStore c.deliver.new.self c.handler_id-self.result c.deliver.ensures.whole
     (subst (λ mem. IsTrue (is_thread_id (processes mem) c.handler_id-self.result)) (sym c.deliver.ensures.mem)
     (ap (λ id. is_thread_id (processes c.args.self.now.mem) id) c.handler_id-self.ensures
     ∙ handler_valid g.W.SwapStore.held c.args.self.now c.in-Some.pid (sym c.in-Some.is ∙ c.pend.ensures.answer) c.requires.claim)))
@@ -55,9 +55,17 @@ returns-then-deliver-clause-whole g c =
 
 pub returns-then-deliver-clause-rings : goal.returns-then-deliver-clause-rings
 returns-then-deliver-clause-rings g c told tells =
-    ring_starts g.W.SwapStore.held c.args.self.now told tells (sym c.due.ensures.due ∙ c.if-not-due.false) c.in-Some.pid (sym c.in-Some.is ∙ c.pend.ensures.answer) c.pend.new.self c.pend.ensures.after c.due.new.self (c.due.ensures.after ∙ ap (λ (b : Bool). if b then None else c.args.self.now.timer) (sym c.due.ensures.due ∙ c.if-not-due.false)) c.deliver.new.self c.deliver.result (record { tells = c.deliver.ensures.tells; starts = c.deliver.ensures.starts })
+    ring_starts g.W.SwapStore.held c.args.self.now told tells (sym c.due.ensures.due ∙ c.if-not-due.false) c.in-Some.pid
+    (sym c.in-Some.is ∙ c.pend.ensures.answer) c.pend.new.self c.pend.ensures.after c.due.new.self
+    (c.due.ensures.after ∙ ap (λ (b : Bool). if b then None else c.args.self.now.timer)
+    (sym c.due.ensures.due ∙ c.if-not-due.false)) c.deliver.new.self c.deliver.result
+    (record { tells = c.deliver.ensures.tells; starts = c.deliver.ensures.starts })
     c.if-deliver.true c.handler_id-self.result c.handler_id-self.ensures c.place_irq.new.log c.place_irq.ensures.place
 
 pub returns-else-deliver-clause-rings : goal.returns-else-deliver-clause-rings
 returns-else-deliver-clause-rings g c told tells =
-    ring_pends g.W.SwapStore.held c.args.self.now told tells (sym c.due.ensures.due ∙ c.if-not-due.false) c.in-Some.pid (sym c.in-Some.is ∙ c.pend.ensures.answer) c.pend.new.self c.pend.ensures.after c.due.new.self (c.due.ensures.after ∙ ap (λ (b : Bool). if b then None else c.args.self.now.timer) (sym c.due.ensures.due ∙ c.if-not-due.false)) c.deliver.new.self c.deliver.result (record { tells = c.deliver.ensures.tells; starts = c.deliver.ensures.starts }) c.if-deliver.false
+    ring_pends g.W.SwapStore.held c.args.self.now told tells (sym c.due.ensures.due ∙ c.if-not-due.false) c.in-Some.pid
+    (sym c.in-Some.is ∙ c.pend.ensures.answer) c.pend.new.self c.pend.ensures.after c.due.new.self
+    (c.due.ensures.after ∙ ap (λ (b : Bool). if b then None else c.args.self.now.timer)
+    (sym c.due.ensures.due ∙ c.if-not-due.false)) c.deliver.new.self c.deliver.result
+    (record { tells = c.deliver.ensures.tells; starts = c.deliver.ensures.starts }) c.if-deliver.false

@@ -30,13 +30,13 @@ pub run_over-user-requires-clause-aligned : goal.run_over-user-requires-clause-a
 run_over-user-requires-clause-aligned g c = c.requires.aligned (thread_of c.thread_mut-thread.result.now) (thread_found g.W.SwapStore.held c.args.self.now c.args.who c.thread_mut-thread.result.now c.thread_mut-thread.ensures.value)
 
 pub run_over-user-requires-clause-same : goal.run_over-user-requires-clause-same
-run_over-user-requires-clause-same g c = (refl, refl, rest_same g.W.SwapStore.is_honest g.W.SwapStore.held g.W.SwapStore.slot_count g.W.SwapStore.asked g.W.SwapStore.faults c.args.who.pid c.args.self.now.mem)
+run_over-user-requires-clause-same g c = (refl, refl, rest_same g.W.SwapStore c.args.who.pid c.args.self.now.mem)
 
 pub returns-in-Ecall-clause-whole : goal.returns-in-Ecall-clause-whole
 returns-in-Ecall-clause-whole g c =
     let back : c.self-1.given.0 ≡ c.run_over-user.result.mem.now = given_back _ _ _ c.self-1.given c.run_over-user.ensures.rest.0 in
-    subst (λ mem. IsWhole g.W.SwapStore.slot_count g.W.SwapStore.held (record (with_both mem c.run_over-user.new.timer c.args.self.now) { threads = with_thread c.args.self.now.threads c.args.who c.run_over-user.new.thread })) (sym back)
-    (whole_lent g.W.SwapStore.slot_count g.W.SwapStore.held _ _ (c.thread_mut-thread.ensures.count _) (whole_ran g.W.SwapStore.is_honest g.W.SwapStore.held g.W.SwapStore.slot_count g.W.SwapStore.asked g.W.SwapStore.faults c.args.self.now c.run_over-user.result.mem.now c.run_over-user.new.timer c.requires.whole c.args.who.pid c.run_over-user.ensures.rest.2))
+    subst (λ mem. IsWhole g.W.SwapStore (record (with_both mem c.run_over-user.new.timer c.args.self.now) { threads = with_thread c.args.self.now.threads c.args.who c.run_over-user.new.thread })) (sym back)
+    (whole_lent g.W.SwapStore _ _ (c.thread_mut-thread.ensures.count _) (whole_ran g.W.SwapStore c.args.self.now c.run_over-user.result.mem.now c.run_over-user.new.timer c.requires.whole c.args.who.pid c.run_over-user.ensures.rest.2))
 
 pub returns-in-Ecall-clause-usable : goal.returns-in-Ecall-clause-usable
 returns-in-Ecall-clause-usable g c =
@@ -48,7 +48,7 @@ pub returns-in-Ecall-clause-failed : goal.returns-in-Ecall-clause-failed
 returns-in-Ecall-clause-failed g c =
     let back : c.self-1.given.0 ≡ c.run_over-user.result.mem.now = given_back _ _ _ c.self-1.given c.run_over-user.ensures.rest.0 in
     subst (λ mem. IfFailed c.run_over-user.new.ran (has_failed mem ≡ true)) (sym back)
-    (has_failed_now g.W.SwapStore.is_honest g.W.SwapStore.held g.W.SwapStore.slot_count g.W.SwapStore.asked g.W.SwapStore.faults c.args.self.now c.run_over-user.result.mem.now c.args.who.pid c.requires.whole c.requires.usable c.run_over-user.ensures.rest.2 c.run_over-user.new.ran c.run_over-user.ensures.unfit)
+    (has_failed_now g.W.SwapStore c.args.self.now c.run_over-user.result.mem.now c.args.who.pid c.requires.whole c.requires.usable c.run_over-user.ensures.rest.2 c.run_over-user.new.ran c.run_over-user.ensures.unfit)
 
 pub returns-in-Ecall-clause-cause : goal.returns-in-Ecall-clause-cause
 returns-in-Ecall-clause-cause g c =
@@ -58,16 +58,25 @@ returns-in-Ecall-clause-cause g c =
 
 pub returns-in-Ecall-clause-out : goal.returns-in-Ecall-clause-out
 returns-in-Ecall-clause-out g c =
-    was_out g.W.SwapStore.is_honest g.W.SwapStore.held g.W.SwapStore.slot_count g.W.SwapStore.asked g.W.SwapStore.faults c.args.self.now c.run_over-user.result.mem.now c.args.who.pid c.requires.whole c.requires.usable c.run_over-user.ensures.rest.2 c.run_over-user.new.ran c.run_over-user.ensures.unfit
+    was_out g.W.SwapStore c.args.self.now c.run_over-user.result.mem.now c.args.who.pid c.requires.whole c.requires.usable c.run_over-user.ensures.rest.2 c.run_over-user.new.ran c.run_over-user.ensures.unfit
 
 pub returns-in-Ecall-clause-answer : goal.returns-in-Ecall-clause-answer
 returns-in-Ecall-clause-answer g c =
     let back : c.self-1.given.0 ≡ c.run_over-user.result.mem.now = given_back _ _ _ c.self-1.given c.run_over-user.ensures.rest.0 in
     λ known.
     unless_failed c.run_over-user.new.ran _ (λ done.
-    let over : MeansBytesOver g.W.SwapStore.is_honest g.W.SwapStore.held c.args.self.now.mem c.run_over-user.result.mem.now = subst (λ mem. MeansBytesOver g.W.SwapStore.is_honest g.W.SwapStore.held c.args.self.now.mem mem) back known in
-    let run : HasRun g.W.SwapStore.held c.args.self.now c.run_over-user.result.mem.now c.run_over-user.new.timer c.args.who.pid (record { regs = c.thread_mut-thread.result.now.regs; reserved = reserved_by c.args.who (machine_of g.W.SwapStore.held c.args.self.now).reserved }) (record { regs = c.run_over-user.new.thread.regs; reserved = c.run_over-user.new.reserved }) c.thread_mut-thread.result.now.pc c.run_over-user.new.ran =
-    has_run g.W.SwapStore.is_honest g.W.SwapStore.held g.W.SwapStore.slot_count g.W.SwapStore.asked g.W.SwapStore.faults
+    let over : MeansBytesOver g.W.SwapStore c.args.self.now.mem c.run_over-user.result.mem.now = subst (λ mem. MeansBytesOver g.W.SwapStore c.args.self.now.mem mem) back known in
+    let run : HasRun g.W.SwapStore.held c.args.self.now c.run_over-user.result.mem.now c.run_over-user.new.timer c.args.who.pid
+    (record {
+      regs = c.thread_mut-thread.result.now.regs;
+      reserved = reserved_by c.args.who
+          (machine_of g.W.SwapStore.held c.args.self.now).reserved;
+    })
+    (record {
+      regs = c.run_over-user.new.thread.regs;
+      reserved = c.run_over-user.new.reserved;
+    }) c.thread_mut-thread.result.now.pc c.run_over-user.new.ran =
+    has_run g.W.SwapStore
     c.args.self.now c.run_over-user.result.mem.now c.args.who.pid c.run_over-user.result.pid c.run_over-user.ensures.rest.1 c.requires.whole c.run_over-user.ensures.rest.2 over
     c.has_timer-on.result c.run_over-user.new.timer c.has_timer-on.ensures c.run_over-user.ensures.timer c.requires.matched
     (record { regs = c.thread_mut-thread.result.now.regs; reserved = c.args.reserved.now }) (record { regs = c.run_over-user.new.thread.regs; reserved = c.run_over-user.new.reserved })
@@ -82,9 +91,18 @@ returns-in-Ecall-clause-machine g c =
     let back : c.self-1.given.0 ≡ c.run_over-user.result.mem.now = given_back _ _ _ c.self-1.given c.run_over-user.ensures.rest.0 in
     λ known.
     unless_failed c.run_over-user.new.ran _ (λ done.
-    let over : MeansBytesOver g.W.SwapStore.is_honest g.W.SwapStore.held c.args.self.now.mem c.run_over-user.result.mem.now = subst (λ mem. MeansBytesOver g.W.SwapStore.is_honest g.W.SwapStore.held c.args.self.now.mem mem) back known in
-    let run : HasRun g.W.SwapStore.held c.args.self.now c.run_over-user.result.mem.now c.run_over-user.new.timer c.args.who.pid (record { regs = c.thread_mut-thread.result.now.regs; reserved = reserved_by c.args.who (machine_of g.W.SwapStore.held c.args.self.now).reserved }) (record { regs = c.run_over-user.new.thread.regs; reserved = c.run_over-user.new.reserved }) c.thread_mut-thread.result.now.pc c.run_over-user.new.ran =
-    has_run g.W.SwapStore.is_honest g.W.SwapStore.held g.W.SwapStore.slot_count g.W.SwapStore.asked g.W.SwapStore.faults
+    let over : MeansBytesOver g.W.SwapStore c.args.self.now.mem c.run_over-user.result.mem.now = subst (λ mem. MeansBytesOver g.W.SwapStore c.args.self.now.mem mem) back known in
+    let run : HasRun g.W.SwapStore.held c.args.self.now c.run_over-user.result.mem.now c.run_over-user.new.timer c.args.who.pid
+    (record {
+      regs = c.thread_mut-thread.result.now.regs;
+      reserved = reserved_by c.args.who
+          (machine_of g.W.SwapStore.held c.args.self.now).reserved;
+    })
+    (record {
+      regs = c.run_over-user.new.thread.regs;
+      reserved = c.run_over-user.new.reserved;
+    }) c.thread_mut-thread.result.now.pc c.run_over-user.new.ran =
+    has_run g.W.SwapStore
     c.args.self.now c.run_over-user.result.mem.now c.args.who.pid c.run_over-user.result.pid c.run_over-user.ensures.rest.1 c.requires.whole c.run_over-user.ensures.rest.2 over
     c.has_timer-on.result c.run_over-user.new.timer c.has_timer-on.ensures c.run_over-user.ensures.timer c.requires.matched
     (record { regs = c.thread_mut-thread.result.now.regs; reserved = c.args.reserved.now }) (record { regs = c.run_over-user.new.thread.regs; reserved = c.run_over-user.new.reserved })
@@ -97,16 +115,34 @@ returns-in-Ecall-clause-machine g c =
     ∙ ap (λ regs. put_thread c.args.who (Some (record (thread_of c.thread_mut-thread.result.now) { regs = regs })) (machine_of g.W.SwapStore.held (with_both c.run_over-user.result.mem.now c.run_over-user.new.timer c.args.self.now)))
     (registers_stay c.run_over-user.new.ran c.thread_mut-thread.result.now.regs c.run_over-user.new.thread.regs c.in-Ecall.is c.run_over-user.ensures.leaves)
     ∙ put_same (machine_of g.W.SwapStore.held (with_both c.run_over-user.result.mem.now c.run_over-user.new.timer c.args.self.now)) c.args.who (thread_of c.thread_mut-thread.result.now) (thread_found g.W.SwapStore.held (with_both c.run_over-user.result.mem.now c.run_over-user.new.timer c.args.self.now) c.args.who c.thread_mut-thread.result.now c.thread_mut-thread.ensures.value)
-    ∙ machine_stays g.W.SwapStore.held c.args.self.now c.run_over-user.result.mem.now c.run_over-user.new.timer c.args.who (record { regs = c.thread_mut-thread.result.now.regs; reserved = reserved_by c.args.who (machine_of g.W.SwapStore.held c.args.self.now).reserved }) (record { regs = c.run_over-user.new.thread.regs; reserved = c.run_over-user.new.reserved }) c.thread_mut-thread.result.now.pc c.run_over-user.new.ran run c.in-Ecall.is))
+    ∙ machine_stays g.W.SwapStore.held c.args.self.now c.run_over-user.result.mem.now c.run_over-user.new.timer c.args.who
+    (record {
+      regs = c.thread_mut-thread.result.now.regs;
+      reserved = reserved_by c.args.who
+          (machine_of g.W.SwapStore.held c.args.self.now).reserved;
+    })
+    (record {
+      regs = c.run_over-user.new.thread.regs;
+      reserved = c.run_over-user.new.reserved;
+    }) c.thread_mut-thread.result.now.pc c.run_over-user.new.ran run c.in-Ecall.is))
 
 pub returns-in-Ecall-clause-reserved : goal.returns-in-Ecall-clause-reserved
 returns-in-Ecall-clause-reserved g c =
     let back : c.self-1.given.0 ≡ c.run_over-user.result.mem.now = given_back _ _ _ c.self-1.given c.run_over-user.ensures.rest.0 in
     λ known.
     unless_failed c.run_over-user.new.ran _ (λ done.
-    let over : MeansBytesOver g.W.SwapStore.is_honest g.W.SwapStore.held c.args.self.now.mem c.run_over-user.result.mem.now = subst (λ mem. MeansBytesOver g.W.SwapStore.is_honest g.W.SwapStore.held c.args.self.now.mem mem) back known in
-    let run : HasRun g.W.SwapStore.held c.args.self.now c.run_over-user.result.mem.now c.run_over-user.new.timer c.args.who.pid (record { regs = c.thread_mut-thread.result.now.regs; reserved = reserved_by c.args.who (machine_of g.W.SwapStore.held c.args.self.now).reserved }) (record { regs = c.run_over-user.new.thread.regs; reserved = c.run_over-user.new.reserved }) c.thread_mut-thread.result.now.pc c.run_over-user.new.ran =
-    has_run g.W.SwapStore.is_honest g.W.SwapStore.held g.W.SwapStore.slot_count g.W.SwapStore.asked g.W.SwapStore.faults
+    let over : MeansBytesOver g.W.SwapStore c.args.self.now.mem c.run_over-user.result.mem.now = subst (λ mem. MeansBytesOver g.W.SwapStore c.args.self.now.mem mem) back known in
+    let run : HasRun g.W.SwapStore.held c.args.self.now c.run_over-user.result.mem.now c.run_over-user.new.timer c.args.who.pid
+    (record {
+      regs = c.thread_mut-thread.result.now.regs;
+      reserved = reserved_by c.args.who
+          (machine_of g.W.SwapStore.held c.args.self.now).reserved;
+    })
+    (record {
+      regs = c.run_over-user.new.thread.regs;
+      reserved = c.run_over-user.new.reserved;
+    }) c.thread_mut-thread.result.now.pc c.run_over-user.new.ran =
+    has_run g.W.SwapStore
     c.args.self.now c.run_over-user.result.mem.now c.args.who.pid c.run_over-user.result.pid c.run_over-user.ensures.rest.1 c.requires.whole c.run_over-user.ensures.rest.2 over
     c.has_timer-on.result c.run_over-user.new.timer c.has_timer-on.ensures c.run_over-user.ensures.timer c.requires.matched
     (record { regs = c.thread_mut-thread.result.now.regs; reserved = c.args.reserved.now }) (record { regs = c.run_over-user.new.thread.regs; reserved = c.run_over-user.new.reserved })
@@ -120,7 +156,7 @@ pub returns-in-Ecall-clause-matched : goal.returns-in-Ecall-clause-matched
 returns-in-Ecall-clause-matched g c =
     let back : c.self-1.given.0 ≡ c.run_over-user.result.mem.now = given_back _ _ _ c.self-1.given c.run_over-user.ensures.rest.0 in
     subst (λ mem. Matched (machine_of g.W.SwapStore.held (record (with_both mem c.run_over-user.new.timer c.args.self.now) { threads = with_thread c.args.self.now.threads c.args.who c.run_over-user.new.thread }))) (sym back)
-    (ran_matched g.W.SwapStore.is_honest g.W.SwapStore.held g.W.SwapStore.slot_count g.W.SwapStore.asked g.W.SwapStore.faults c.args.self.now c.run_over-user.result.mem.now c.args.who c.requires.matched c.run_over-user.ensures.rest.2 c.has_timer-on.result c.run_over-user.new.timer c.has_timer-on.ensures c.run_over-user.ensures.timer c.thread_mut-thread.result.now
+    (ran_matched g.W.SwapStore c.args.self.now c.run_over-user.result.mem.now c.args.who c.requires.matched c.run_over-user.ensures.rest.2 c.has_timer-on.result c.run_over-user.new.timer c.has_timer-on.ensures c.run_over-user.ensures.timer c.thread_mut-thread.result.now
     c.run_over-user.new.thread c.thread_mut-thread.ensures.value _ (c.thread_mut-thread.ensures.writes _) (ap (λ (thread : Thread). thread.state) c.run_over-user.ensures.thread)
     (subst (λ (thread : Thread). thread.pc % 4 ≡ 0) (sym c.run_over-user.ensures.thread) (c.requires.aligned (thread_of c.thread_mut-thread.result.now) (thread_found g.W.SwapStore.held c.args.self.now c.args.who c.thread_mut-thread.result.now c.thread_mut-thread.ensures.value))))
 
@@ -128,7 +164,7 @@ pub returns-in-Ecall-clause-ready : goal.returns-in-Ecall-clause-ready
 returns-in-Ecall-clause-ready g c =
     let back : c.self-1.given.0 ≡ c.run_over-user.result.mem.now = given_back _ _ _ c.self-1.given c.run_over-user.ensures.rest.0 in
     subst (λ mem. ready_at (machine_of g.W.SwapStore.held (record (with_both mem c.run_over-user.new.timer c.args.self.now) { threads = with_thread c.args.self.now.threads c.args.who c.run_over-user.new.thread })) c.args.who ≡ ready_at (machine_of g.W.SwapStore.held c.args.self.now) c.args.who) (sym back)
-    (ran_ready g.W.SwapStore.is_honest g.W.SwapStore.held g.W.SwapStore.slot_count g.W.SwapStore.asked g.W.SwapStore.faults c.args.self.now c.run_over-user.result.mem.now c.args.who c.requires.matched c.run_over-user.ensures.rest.2 c.has_timer-on.result c.run_over-user.new.timer c.has_timer-on.ensures c.run_over-user.ensures.timer c.thread_mut-thread.result.now
+    (ran_ready g.W.SwapStore c.args.self.now c.run_over-user.result.mem.now c.args.who c.requires.matched c.run_over-user.ensures.rest.2 c.has_timer-on.result c.run_over-user.new.timer c.has_timer-on.ensures c.run_over-user.ensures.timer c.thread_mut-thread.result.now
     c.run_over-user.new.thread c.thread_mut-thread.ensures.value _ (c.thread_mut-thread.ensures.writes _) (ap (λ (thread : Thread). thread.state) c.run_over-user.ensures.thread))
 
 pub returns-in-Ecall-clause-none : goal.returns-in-Ecall-clause-none
@@ -139,15 +175,15 @@ returns-in-Ecall-clause-none g c =
 pub returns-in-Ecall-clause-keeps : goal.returns-in-Ecall-clause-keeps
 returns-in-Ecall-clause-keeps g c =
     let back : c.self-1.given.0 ≡ c.run_over-user.result.mem.now = given_back _ _ _ c.self-1.given c.run_over-user.ensures.rest.0 in
-    let kept : Keeps g.W.SwapStore.is_honest g.W.SwapStore.held g.W.SwapStore.slot_count g.W.SwapStore.asked g.W.SwapStore.faults c.args.self.now (with_memory c.self-1.given.0 c.args.self.now) =
-    subst (λ mem. Keeps g.W.SwapStore.is_honest g.W.SwapStore.held g.W.SwapStore.slot_count g.W.SwapStore.asked g.W.SwapStore.faults c.args.self.now (with_memory mem c.args.self.now)) (sym back) (keeps_with g.W.SwapStore.is_honest g.W.SwapStore.held g.W.SwapStore.slot_count g.W.SwapStore.asked g.W.SwapStore.faults c.args.self.now c.run_over-user.result.mem.now c.requires.whole c.args.who.pid c.run_over-user.ensures.rest.2) in
+    let kept : Keeps g.W.SwapStore c.args.self.now (with_memory c.self-1.given.0 c.args.self.now) =
+    subst (λ mem. Keeps g.W.SwapStore c.args.self.now (with_memory mem c.args.self.now)) (sym back) (keeps_with g.W.SwapStore c.args.self.now c.run_over-user.result.mem.now c.requires.whole c.args.who.pid c.run_over-user.ensures.rest.2) in
     record { size = kept.size; store = kept.store; room = kept.room }
 
 pub returns-in-Next-clause-whole : goal.returns-in-Next-clause-whole
 returns-in-Next-clause-whole g c =
     let back : c.self-1.given.0 ≡ c.run_over-user.result.mem.now = given_back _ _ _ c.self-1.given c.run_over-user.ensures.rest.0 in
-    subst (λ mem. IsWhole g.W.SwapStore.slot_count g.W.SwapStore.held (record (with_both mem c.run_over-user.new.timer c.args.self.now) { threads = with_thread c.args.self.now.threads c.args.who (record { pc = c.in-Next.next; regs = c.run_over-user.new.thread.regs; state = c.run_over-user.new.thread.state }) })) (sym back)
-    (whole_lent g.W.SwapStore.slot_count g.W.SwapStore.held _ _ (c.thread_mut-thread.ensures.count _) (whole_ran g.W.SwapStore.is_honest g.W.SwapStore.held g.W.SwapStore.slot_count g.W.SwapStore.asked g.W.SwapStore.faults c.args.self.now c.run_over-user.result.mem.now c.run_over-user.new.timer c.requires.whole c.args.who.pid c.run_over-user.ensures.rest.2))
+    subst (λ mem. IsWhole g.W.SwapStore (record (with_both mem c.run_over-user.new.timer c.args.self.now) { threads = with_thread c.args.self.now.threads c.args.who (record { pc = c.in-Next.next; regs = c.run_over-user.new.thread.regs; state = c.run_over-user.new.thread.state }) })) (sym back)
+    (whole_lent g.W.SwapStore _ _ (c.thread_mut-thread.ensures.count _) (whole_ran g.W.SwapStore c.args.self.now c.run_over-user.result.mem.now c.run_over-user.new.timer c.requires.whole c.args.who.pid c.run_over-user.ensures.rest.2))
 
 pub returns-in-Next-clause-usable : goal.returns-in-Next-clause-usable
 returns-in-Next-clause-usable g c =
@@ -161,7 +197,7 @@ returns-in-Next-clause-failed g c =
     let back : c.self-1.given.0 ≡ c.run_over-user.result.mem.now = given_back _ _ _ c.self-1.given c.run_over-user.ensures.rest.0 in
     subst (λ mem. IfFailed c.in-Next.ran (has_failed mem ≡ true)) (sym back)
     (subst (λ a. IfFailed a (has_failed c.run_over-user.result.mem.now ≡ true)) (sym c.in-Next.ran-is)
-    (has_failed_now g.W.SwapStore.is_honest g.W.SwapStore.held g.W.SwapStore.slot_count g.W.SwapStore.asked g.W.SwapStore.faults c.args.self.now c.run_over-user.result.mem.now c.args.who.pid c.requires.whole c.requires.usable c.run_over-user.ensures.rest.2 c.run_over-user.new.ran c.run_over-user.ensures.unfit))
+    (has_failed_now g.W.SwapStore c.args.self.now c.run_over-user.result.mem.now c.args.who.pid c.requires.whole c.requires.usable c.run_over-user.ensures.rest.2 c.run_over-user.new.ran c.run_over-user.ensures.unfit))
 
 pub returns-in-Next-clause-cause : goal.returns-in-Next-clause-cause
 returns-in-Next-clause-cause g c =
@@ -173,16 +209,25 @@ returns-in-Next-clause-cause g c =
 pub returns-in-Next-clause-out : goal.returns-in-Next-clause-out
 returns-in-Next-clause-out g c =
     subst (λ a. IfFailed a (none_out c.args.self.now.mem ≡ false)) (sym c.in-Next.ran-is)
-    (was_out g.W.SwapStore.is_honest g.W.SwapStore.held g.W.SwapStore.slot_count g.W.SwapStore.asked g.W.SwapStore.faults c.args.self.now c.run_over-user.result.mem.now c.args.who.pid c.requires.whole c.requires.usable c.run_over-user.ensures.rest.2 c.run_over-user.new.ran c.run_over-user.ensures.unfit)
+    (was_out g.W.SwapStore c.args.self.now c.run_over-user.result.mem.now c.args.who.pid c.requires.whole c.requires.usable c.run_over-user.ensures.rest.2 c.run_over-user.new.ran c.run_over-user.ensures.unfit)
 
 pub returns-in-Next-clause-answer : goal.returns-in-Next-clause-answer
 returns-in-Next-clause-answer g c =
     let back : c.self-1.given.0 ≡ c.run_over-user.result.mem.now = given_back _ _ _ c.self-1.given c.run_over-user.ensures.rest.0 in
     λ known.
     unless_failed c.in-Next.ran _ (λ done.
-    let over : MeansBytesOver g.W.SwapStore.is_honest g.W.SwapStore.held c.args.self.now.mem c.run_over-user.result.mem.now = subst (λ mem. MeansBytesOver g.W.SwapStore.is_honest g.W.SwapStore.held c.args.self.now.mem mem) back known in
-    let run : HasRun g.W.SwapStore.held c.args.self.now c.run_over-user.result.mem.now c.run_over-user.new.timer c.args.who.pid (record { regs = c.thread_mut-thread.result.now.regs; reserved = reserved_by c.args.who (machine_of g.W.SwapStore.held c.args.self.now).reserved }) (record { regs = c.run_over-user.new.thread.regs; reserved = c.run_over-user.new.reserved }) c.thread_mut-thread.result.now.pc c.run_over-user.new.ran =
-    has_run g.W.SwapStore.is_honest g.W.SwapStore.held g.W.SwapStore.slot_count g.W.SwapStore.asked g.W.SwapStore.faults
+    let over : MeansBytesOver g.W.SwapStore c.args.self.now.mem c.run_over-user.result.mem.now = subst (λ mem. MeansBytesOver g.W.SwapStore c.args.self.now.mem mem) back known in
+    let run : HasRun g.W.SwapStore.held c.args.self.now c.run_over-user.result.mem.now c.run_over-user.new.timer c.args.who.pid
+    (record {
+      regs = c.thread_mut-thread.result.now.regs;
+      reserved = reserved_by c.args.who
+          (machine_of g.W.SwapStore.held c.args.self.now).reserved;
+    })
+    (record {
+      regs = c.run_over-user.new.thread.regs;
+      reserved = c.run_over-user.new.reserved;
+    }) c.thread_mut-thread.result.now.pc c.run_over-user.new.ran =
+    has_run g.W.SwapStore
     c.args.self.now c.run_over-user.result.mem.now c.args.who.pid c.run_over-user.result.pid c.run_over-user.ensures.rest.1 c.requires.whole c.run_over-user.ensures.rest.2 over
     c.has_timer-on.result c.run_over-user.new.timer c.has_timer-on.ensures c.run_over-user.ensures.timer c.requires.matched
     (record { regs = c.thread_mut-thread.result.now.regs; reserved = c.args.reserved.now }) (record { regs = c.run_over-user.new.thread.regs; reserved = c.run_over-user.new.reserved })
@@ -197,28 +242,63 @@ returns-in-Next-clause-machine g c =
     let back : c.self-1.given.0 ≡ c.run_over-user.result.mem.now = given_back _ _ _ c.self-1.given c.run_over-user.ensures.rest.0 in
     λ known.
     unless_failed c.in-Next.ran _ (λ done.
-    let over : MeansBytesOver g.W.SwapStore.is_honest g.W.SwapStore.held c.args.self.now.mem c.run_over-user.result.mem.now = subst (λ mem. MeansBytesOver g.W.SwapStore.is_honest g.W.SwapStore.held c.args.self.now.mem mem) back known in
-    let run : HasRun g.W.SwapStore.held c.args.self.now c.run_over-user.result.mem.now c.run_over-user.new.timer c.args.who.pid (record { regs = c.thread_mut-thread.result.now.regs; reserved = reserved_by c.args.who (machine_of g.W.SwapStore.held c.args.self.now).reserved }) (record { regs = c.run_over-user.new.thread.regs; reserved = c.run_over-user.new.reserved }) c.thread_mut-thread.result.now.pc c.run_over-user.new.ran =
-    has_run g.W.SwapStore.is_honest g.W.SwapStore.held g.W.SwapStore.slot_count g.W.SwapStore.asked g.W.SwapStore.faults
+    let over : MeansBytesOver g.W.SwapStore c.args.self.now.mem c.run_over-user.result.mem.now = subst (λ mem. MeansBytesOver g.W.SwapStore c.args.self.now.mem mem) back known in
+    let run : HasRun g.W.SwapStore.held c.args.self.now c.run_over-user.result.mem.now c.run_over-user.new.timer c.args.who.pid
+    (record {
+      regs = c.thread_mut-thread.result.now.regs;
+      reserved = reserved_by c.args.who
+          (machine_of g.W.SwapStore.held c.args.self.now).reserved;
+    })
+    (record {
+      regs = c.run_over-user.new.thread.regs;
+      reserved = c.run_over-user.new.reserved;
+    }) c.thread_mut-thread.result.now.pc c.run_over-user.new.ran =
+    has_run g.W.SwapStore
     c.args.self.now c.run_over-user.result.mem.now c.args.who.pid c.run_over-user.result.pid c.run_over-user.ensures.rest.1 c.requires.whole c.run_over-user.ensures.rest.2 over
     c.has_timer-on.result c.run_over-user.new.timer c.has_timer-on.ensures c.run_over-user.ensures.timer c.requires.matched
     (record { regs = c.thread_mut-thread.result.now.regs; reserved = c.args.reserved.now }) (record { regs = c.run_over-user.new.thread.regs; reserved = c.run_over-user.new.reserved })
     (record { regs = c.thread_mut-thread.result.now.regs; reserved = reserved_by c.args.who (machine_of g.W.SwapStore.held c.args.self.now).reserved }) c.thread_mut-thread.result.now.pc c.run_over-user.new.ran
     (ap (λ (reserved : Option ℕ). record { regs = c.thread_mut-thread.result.now.regs; reserved = reserved }) c.requires.reserved) c.run_over-user.ensures.performs (λ e. done (c.in-Next.ran-is ∙ e)) in
     of_thread ((machine_of g.W.SwapStore.held c.args.self.now).threads c.args.who) (thread_of c.thread_mut-thread.result.now) (thread_found g.W.SwapStore.held c.args.self.now c.args.who c.thread_mut-thread.result.now c.thread_mut-thread.ensures.value)
-    (λ t. machine_of g.W.SwapStore.held (record (with_both c.self-1.given.0 c.run_over-user.new.timer c.args.self.now) { threads = with_thread c.args.self.now.threads c.args.who (record { pc = c.in-Next.next; regs = c.run_over-user.new.thread.regs; state = c.run_over-user.new.thread.state }) }) ≡ machine_after c.args.who (machine_of g.W.SwapStore.held c.args.self.now) (performed (machine_of g.W.SwapStore.held c.args.self.now) c.args.who t).executed)
+    (λ t. machine_of g.W.SwapStore.held
+    (record (with_both c.self-1.given.0 c.run_over-user.new.timer c.args.self.now) {
+      threads = with_thread c.args.self.now.threads c.args.who
+          (record { pc = c.in-Next.next; regs = c.run_over-user.new.thread.regs; state = c.run_over-user.new.thread.state });
+    })
+    ≡ machine_after c.args.who (machine_of g.W.SwapStore.held c.args.self.now)
+    (performed (machine_of g.W.SwapStore.held c.args.self.now) c.args.who t).executed)
     ((λ i. machine_of g.W.SwapStore.held (record (with_both (back i) c.run_over-user.new.timer c.args.self.now) { threads = with_thread c.args.self.now.threads c.args.who (record { pc = c.in-Next.next; regs = c.run_over-user.new.thread.regs; state = (ap (λ (thread : Thread). thread.state) c.run_over-user.ensures.thread) i }) }))
     ∙ machine_put g.W.SwapStore.held (with_both c.run_over-user.result.mem.now c.run_over-user.new.timer c.args.self.now) _ c.args.who _ (c.thread_mut-thread.ensures.writes _)
-    ∙ machine_goes_on g.W.SwapStore.held c.args.self.now c.run_over-user.result.mem.now c.run_over-user.new.timer c.args.who (record { regs = c.thread_mut-thread.result.now.regs; reserved = reserved_by c.args.who (machine_of g.W.SwapStore.held c.args.self.now).reserved }) (record { regs = c.run_over-user.new.thread.regs; reserved = c.run_over-user.new.reserved }) c.thread_mut-thread.result.now.pc c.run_over-user.new.ran run (thread_of c.thread_mut-thread.result.now) c.in-Next.next refl (thread_found g.W.SwapStore.held c.args.self.now c.args.who c.thread_mut-thread.result.now c.thread_mut-thread.ensures.value) c.in-Next.is))
+    ∙ machine_goes_on g.W.SwapStore.held c.args.self.now c.run_over-user.result.mem.now c.run_over-user.new.timer c.args.who
+    (record {
+      regs = c.thread_mut-thread.result.now.regs;
+      reserved = reserved_by c.args.who
+          (machine_of g.W.SwapStore.held c.args.self.now).reserved;
+    })
+    (record {
+      regs = c.run_over-user.new.thread.regs;
+      reserved = c.run_over-user.new.reserved;
+    }) c.thread_mut-thread.result.now.pc c.run_over-user.new.ran run
+    (thread_of c.thread_mut-thread.result.now) c.in-Next.next refl
+    (thread_found g.W.SwapStore.held c.args.self.now c.args.who c.thread_mut-thread.result.now c.thread_mut-thread.ensures.value) c.in-Next.is))
 
 pub returns-in-Next-clause-reserved : goal.returns-in-Next-clause-reserved
 returns-in-Next-clause-reserved g c =
     let back : c.self-1.given.0 ≡ c.run_over-user.result.mem.now = given_back _ _ _ c.self-1.given c.run_over-user.ensures.rest.0 in
     λ known.
     unless_failed c.in-Next.ran _ (λ done.
-    let over : MeansBytesOver g.W.SwapStore.is_honest g.W.SwapStore.held c.args.self.now.mem c.run_over-user.result.mem.now = subst (λ mem. MeansBytesOver g.W.SwapStore.is_honest g.W.SwapStore.held c.args.self.now.mem mem) back known in
-    let run : HasRun g.W.SwapStore.held c.args.self.now c.run_over-user.result.mem.now c.run_over-user.new.timer c.args.who.pid (record { regs = c.thread_mut-thread.result.now.regs; reserved = reserved_by c.args.who (machine_of g.W.SwapStore.held c.args.self.now).reserved }) (record { regs = c.run_over-user.new.thread.regs; reserved = c.run_over-user.new.reserved }) c.thread_mut-thread.result.now.pc c.run_over-user.new.ran =
-    has_run g.W.SwapStore.is_honest g.W.SwapStore.held g.W.SwapStore.slot_count g.W.SwapStore.asked g.W.SwapStore.faults
+    let over : MeansBytesOver g.W.SwapStore c.args.self.now.mem c.run_over-user.result.mem.now = subst (λ mem. MeansBytesOver g.W.SwapStore c.args.self.now.mem mem) back known in
+    let run : HasRun g.W.SwapStore.held c.args.self.now c.run_over-user.result.mem.now c.run_over-user.new.timer c.args.who.pid
+    (record {
+      regs = c.thread_mut-thread.result.now.regs;
+      reserved = reserved_by c.args.who
+          (machine_of g.W.SwapStore.held c.args.self.now).reserved;
+    })
+    (record {
+      regs = c.run_over-user.new.thread.regs;
+      reserved = c.run_over-user.new.reserved;
+    }) c.thread_mut-thread.result.now.pc c.run_over-user.new.ran =
+    has_run g.W.SwapStore
     c.args.self.now c.run_over-user.result.mem.now c.args.who.pid c.run_over-user.result.pid c.run_over-user.ensures.rest.1 c.requires.whole c.run_over-user.ensures.rest.2 over
     c.has_timer-on.result c.run_over-user.new.timer c.has_timer-on.ensures c.run_over-user.ensures.timer c.requires.matched
     (record { regs = c.thread_mut-thread.result.now.regs; reserved = c.args.reserved.now }) (record { regs = c.run_over-user.new.thread.regs; reserved = c.run_over-user.new.reserved })
@@ -232,7 +312,7 @@ pub returns-in-Next-clause-matched : goal.returns-in-Next-clause-matched
 returns-in-Next-clause-matched g c =
     let back : c.self-1.given.0 ≡ c.run_over-user.result.mem.now = given_back _ _ _ c.self-1.given c.run_over-user.ensures.rest.0 in
     subst (λ mem. Matched (machine_of g.W.SwapStore.held (record (with_both mem c.run_over-user.new.timer c.args.self.now) { threads = with_thread c.args.self.now.threads c.args.who (record { pc = c.in-Next.next; regs = c.run_over-user.new.thread.regs; state = c.run_over-user.new.thread.state }) }))) (sym back)
-    (ran_matched g.W.SwapStore.is_honest g.W.SwapStore.held g.W.SwapStore.slot_count g.W.SwapStore.asked g.W.SwapStore.faults c.args.self.now c.run_over-user.result.mem.now c.args.who c.requires.matched c.run_over-user.ensures.rest.2 c.has_timer-on.result c.run_over-user.new.timer c.has_timer-on.ensures c.run_over-user.ensures.timer c.thread_mut-thread.result.now
+    (ran_matched g.W.SwapStore c.args.self.now c.run_over-user.result.mem.now c.args.who c.requires.matched c.run_over-user.ensures.rest.2 c.has_timer-on.result c.run_over-user.new.timer c.has_timer-on.ensures c.run_over-user.ensures.timer c.thread_mut-thread.result.now
     (record { pc = c.in-Next.next; regs = c.run_over-user.new.thread.regs; state = c.run_over-user.new.thread.state }) c.thread_mut-thread.ensures.value _ (c.thread_mut-thread.ensures.writes _) (ap (λ (thread : Thread). thread.state) c.run_over-user.ensures.thread)
     (goes_aligned c.run_over-user.new.ran c.in-Next.next c.in-Next.is c.run_over-user.ensures.aligned))
 
@@ -240,7 +320,7 @@ pub returns-in-Next-clause-ready : goal.returns-in-Next-clause-ready
 returns-in-Next-clause-ready g c =
     let back : c.self-1.given.0 ≡ c.run_over-user.result.mem.now = given_back _ _ _ c.self-1.given c.run_over-user.ensures.rest.0 in
     subst (λ mem. ready_at (machine_of g.W.SwapStore.held (record (with_both mem c.run_over-user.new.timer c.args.self.now) { threads = with_thread c.args.self.now.threads c.args.who (record { pc = c.in-Next.next; regs = c.run_over-user.new.thread.regs; state = c.run_over-user.new.thread.state }) })) c.args.who ≡ ready_at (machine_of g.W.SwapStore.held c.args.self.now) c.args.who) (sym back)
-    (ran_ready g.W.SwapStore.is_honest g.W.SwapStore.held g.W.SwapStore.slot_count g.W.SwapStore.asked g.W.SwapStore.faults c.args.self.now c.run_over-user.result.mem.now c.args.who c.requires.matched c.run_over-user.ensures.rest.2 c.has_timer-on.result c.run_over-user.new.timer c.has_timer-on.ensures c.run_over-user.ensures.timer c.thread_mut-thread.result.now
+    (ran_ready g.W.SwapStore c.args.self.now c.run_over-user.result.mem.now c.args.who c.requires.matched c.run_over-user.ensures.rest.2 c.has_timer-on.result c.run_over-user.new.timer c.has_timer-on.ensures c.run_over-user.ensures.timer c.thread_mut-thread.result.now
     (record { pc = c.in-Next.next; regs = c.run_over-user.new.thread.regs; state = c.run_over-user.new.thread.state }) c.thread_mut-thread.ensures.value _ (c.thread_mut-thread.ensures.writes _) (ap (λ (thread : Thread). thread.state) c.run_over-user.ensures.thread))
 
 pub returns-in-Next-clause-none : goal.returns-in-Next-clause-none
@@ -251,6 +331,6 @@ returns-in-Next-clause-none g c =
 pub returns-in-Next-clause-keeps : goal.returns-in-Next-clause-keeps
 returns-in-Next-clause-keeps g c =
     let back : c.self-1.given.0 ≡ c.run_over-user.result.mem.now = given_back _ _ _ c.self-1.given c.run_over-user.ensures.rest.0 in
-    let kept : Keeps g.W.SwapStore.is_honest g.W.SwapStore.held g.W.SwapStore.slot_count g.W.SwapStore.asked g.W.SwapStore.faults c.args.self.now (with_memory c.self-1.given.0 c.args.self.now) =
-    subst (λ mem. Keeps g.W.SwapStore.is_honest g.W.SwapStore.held g.W.SwapStore.slot_count g.W.SwapStore.asked g.W.SwapStore.faults c.args.self.now (with_memory mem c.args.self.now)) (sym back) (keeps_with g.W.SwapStore.is_honest g.W.SwapStore.held g.W.SwapStore.slot_count g.W.SwapStore.asked g.W.SwapStore.faults c.args.self.now c.run_over-user.result.mem.now c.requires.whole c.args.who.pid c.run_over-user.ensures.rest.2) in
+    let kept : Keeps g.W.SwapStore c.args.self.now (with_memory c.self-1.given.0 c.args.self.now) =
+    subst (λ mem. Keeps g.W.SwapStore c.args.self.now (with_memory mem c.args.self.now)) (sym back) (keeps_with g.W.SwapStore c.args.self.now c.run_over-user.result.mem.now c.requires.whole c.args.who.pid c.run_over-user.ensures.rest.2) in
     record { size = kept.size; store = kept.store; room = kept.room }

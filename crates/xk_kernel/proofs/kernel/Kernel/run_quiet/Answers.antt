@@ -28,7 +28,7 @@ returns-then-has_timer-clause-runs g c known =
     record { steps = refl; next = λ _. loud }
 
 pub returns-then-has_timer-clause-tie : goal.returns-then-has_timer-clause-tie
-returns-then-has_timer-clause-tie g c = sound-tied g.W.SwapStore.slot_count g.W.SwapStore.held c.args.self.now.mem c.requires.sound.whole.mem
+returns-then-has_timer-clause-tie g c = sound-tied g.W.SwapStore c.args.self.now.mem c.requires.sound.whole.mem
 
 -- ---- the row
 
@@ -37,11 +37,20 @@ unfolding machine_of
 steps_before_due-until-requires g c = record { few = c.requires.few }
 
 pub quiet_steps-requires-clause-aligned : goal.quiet_steps-requires-clause-aligned
-quiet_steps-requires-clause-aligned g c = aligned_in_hand g.W.SwapStore.held c.args.self.now (record { thread = c.thread.result.now; reserved = c.reserved_by-reserved.result }) c.thread.ensures (c.requires.sound.matched c.requires.usable)
+quiet_steps-requires-clause-aligned g c = aligned_in_hand g.W.SwapStore c.args.self.now (record { thread = c.thread.result.now; reserved = c.reserved_by-reserved.result }) c.thread.ensures (c.requires.sound.matched c.requires.usable)
 
 pub returns-in_err-done-clause-sound : goal.returns-in_err-done-clause-sound
 returns-in_err-done-clause-sound g c =
-    failed_sound g.W.SwapStore.slot_count g.W.SwapStore.held c.quiet_steps.new.self (whole_still g.W.SwapStore.is_honest g.W.SwapStore.held g.W.SwapStore.slot_count g.W.SwapStore.asked g.W.SwapStore.faults c.args.self.now c.quiet_steps.new.self (record { thread = c.thread.result.now; reserved = c.reserved_by-reserved.result }) (record { thread = c.quiet_steps.new.thread; reserved = c.quiet_steps.new.reserved }) (record { same = c.quiet_steps.ensures.same; rest = c.quiet_steps.ensures.rest; state = c.quiet_steps.ensures.state; aligned = c.quiet_steps.ensures.aligned }) c.requires.sound.whole) c.in_err-done.ensures.failed
+    failed_sound g.W.SwapStore c.quiet_steps.new.self
+    (whole_still g.W.SwapStore c.args.self.now c.quiet_steps.new.self
+    (record { thread = c.thread.result.now; reserved = c.reserved_by-reserved.result })
+    (record { thread = c.quiet_steps.new.thread; reserved = c.quiet_steps.new.reserved })
+    (record {
+      same = c.quiet_steps.ensures.same;
+      rest = c.quiet_steps.ensures.rest;
+      state = c.quiet_steps.ensures.state;
+      aligned = c.quiet_steps.ensures.aligned;
+    }) c.requires.sound.whole) c.in_err-done.ensures.failed
 
 pub returns-in_err-done-clause-idle : goal.returns-in_err-done-clause-idle
 unfolding machine_of
@@ -51,29 +60,49 @@ returns-in_err-done-clause-idle g c = on_failure c.from_residual.result _ (ready
 
 pub returns-then-done-eq0-clause-sound : goal.returns-then-done-eq0-clause-sound
 returns-then-done-eq0-clause-sound g c = record {
-  whole = whole_still g.W.SwapStore.is_honest g.W.SwapStore.held g.W.SwapStore.slot_count g.W.SwapStore.asked g.W.SwapStore.faults c.args.self.now c.quiet_steps.new.self (record { thread = c.thread.result.now; reserved = c.reserved_by-reserved.result }) (record { thread = c.quiet_steps.new.thread; reserved = c.quiet_steps.new.reserved }) (record { same = c.quiet_steps.ensures.same; rest = c.quiet_steps.ensures.rest; state = c.quiet_steps.ensures.state; aligned = c.quiet_steps.ensures.aligned }) c.requires.sound.whole;
-  matched = λ _. matched_still g.W.SwapStore.is_honest g.W.SwapStore.held g.W.SwapStore.slot_count g.W.SwapStore.asked g.W.SwapStore.faults c.args.self.now c.quiet_steps.new.self (record { thread = c.thread.result.now; reserved = c.reserved_by-reserved.result }) (record { thread = c.quiet_steps.new.thread; reserved = c.quiet_steps.new.reserved }) (record { same = c.quiet_steps.ensures.same; rest = c.quiet_steps.ensures.rest; state = c.quiet_steps.ensures.state; aligned = c.quiet_steps.ensures.aligned }) (c.requires.sound.matched c.requires.usable);
+  whole = whole_still g.W.SwapStore c.args.self.now c.quiet_steps.new.self
+      (record { thread = c.thread.result.now; reserved = c.reserved_by-reserved.result })
+      (record { thread = c.quiet_steps.new.thread; reserved = c.quiet_steps.new.reserved })
+      (record {
+        same = c.quiet_steps.ensures.same;
+        rest = c.quiet_steps.ensures.rest;
+        state = c.quiet_steps.ensures.state;
+        aligned = c.quiet_steps.ensures.aligned;
+      }) c.requires.sound.whole;
+  matched = λ _. matched_still g.W.SwapStore c.args.self.now c.quiet_steps.new.self
+      (record { thread = c.thread.result.now; reserved = c.reserved_by-reserved.result })
+      (record { thread = c.quiet_steps.new.thread; reserved = c.quiet_steps.new.reserved })
+      (record {
+        same = c.quiet_steps.ensures.same;
+        rest = c.quiet_steps.ensures.rest;
+        state = c.quiet_steps.ensures.state;
+        aligned = c.quiet_steps.ensures.aligned;
+      }) (c.requires.sound.matched c.requires.usable);
 }
 
 pub returns-then-done-eq0-clause-runs : goal.returns-then-done-eq0-clause-runs
 returns-then-done-eq0-clause-runs g c known =
-    none_quiet g.W.SwapStore.held c.args.self.now (record { thread = c.thread.result.now; reserved = c.reserved_by-reserved.result }) c.thread.ensures c.reserved_by-reserved.ensures
-    g.W.SwapStore.is_honest g.W.SwapStore.slot_count g.W.SwapStore.asked g.W.SwapStore.faults c.quiet_steps.new.self (record { thread = c.quiet_steps.new.thread; reserved = c.quiet_steps.new.reserved }) (record { same = c.quiet_steps.ensures.same; rest = c.quiet_steps.ensures.rest; state = c.quiet_steps.ensures.state; aligned = c.quiet_steps.ensures.aligned })
+    none_quiet g.W.SwapStore c.args.self.now (record { thread = c.thread.result.now; reserved = c.reserved_by-reserved.result }) c.thread.ensures c.reserved_by-reserved.ensures
+    c.quiet_steps.new.self (record { thread = c.quiet_steps.new.thread; reserved = c.quiet_steps.new.reserved }) (record { same = c.quiet_steps.ensures.same; rest = c.quiet_steps.ensures.rest; state = c.quiet_steps.ensures.state; aligned = c.quiet_steps.ensures.aligned })
     c.steps_before_due-until.result c.args.most c.steps_before_due-until.ensures.most c.steps_before_due-until.ensures.due
-    (subst (λ n. RunsQuietly c.steps_before_due-until.result n (hand_in g.W.SwapStore.held c.args.self.now.cursor c.args.self.now (record { thread = c.thread.result.now; reserved = c.reserved_by-reserved.result }) c.args.self.now.steps) (hand_in g.W.SwapStore.held c.args.self.now.cursor c.quiet_steps.new.self (record { thread = c.quiet_steps.new.thread; reserved = c.quiet_steps.new.reserved }) (c.args.self.now.steps + n))) c.if-done-eq0.true
-    (c.in_ok-done.ensures.runs (means_ends g.W.SwapStore.is_honest g.W.SwapStore.held g.W.SwapStore.slot_count g.W.SwapStore.asked g.W.SwapStore.faults c.args.self.now.mem c.quiet_steps.new.self.mem c.quiet_steps.ensures.rest.store known).0))
+    (subst (λ n. RunsQuietly c.steps_before_due-until.result n
+    (hand_in g.W.SwapStore.held c.args.self.now.cursor c.args.self.now
+    (record { thread = c.thread.result.now; reserved = c.reserved_by-reserved.result }) c.args.self.now.steps)
+    (hand_in g.W.SwapStore.held c.args.self.now.cursor c.quiet_steps.new.self
+    (record { thread = c.quiet_steps.new.thread; reserved = c.quiet_steps.new.reserved }) (c.args.self.now.steps + n))) c.if-done-eq0.true
+    (c.in_ok-done.ensures.runs (means_ends g.W.SwapStore c.args.self.now.mem c.quiet_steps.new.self.mem c.quiet_steps.ensures.rest.store known).0))
 
 -- ---- some were
 
 pub take_back-requires-clause-there : goal.take_back-requires-clause-there
-take_back-requires-clause-there g c = ap is_some (still_there g.W.SwapStore.held c.args.self.now (record { thread = c.thread.result.now; reserved = c.reserved_by-reserved.result }) c.thread.ensures c.reserved_by-reserved.ensures
-    g.W.SwapStore.is_honest g.W.SwapStore.slot_count g.W.SwapStore.asked g.W.SwapStore.faults c.quiet_steps.new.self (record { thread = c.quiet_steps.new.thread; reserved = c.quiet_steps.new.reserved }) (record { same = c.quiet_steps.ensures.same; rest = c.quiet_steps.ensures.rest; state = c.quiet_steps.ensures.state; aligned = c.quiet_steps.ensures.aligned }))
+take_back-requires-clause-there g c = ap is_some (still_there g.W.SwapStore c.args.self.now (record { thread = c.thread.result.now; reserved = c.reserved_by-reserved.result }) c.thread.ensures c.reserved_by-reserved.ensures
+    c.quiet_steps.new.self (record { thread = c.quiet_steps.new.thread; reserved = c.quiet_steps.new.reserved }) (record { same = c.quiet_steps.ensures.same; rest = c.quiet_steps.ensures.rest; state = c.quiet_steps.ensures.state; aligned = c.quiet_steps.ensures.aligned }))
 
 pub take_back-requires-clause-few : goal.take_back-requires-clause-few
 unfolding machine_of
 take_back-requires-clause-few g c =
-    let same : c.quiet_steps.new.self.steps ≡ c.args.self.now.steps = still_steps g.W.SwapStore.held c.args.self.now (record { thread = c.thread.result.now; reserved = c.reserved_by-reserved.result }) c.thread.ensures c.reserved_by-reserved.ensures
-    g.W.SwapStore.is_honest g.W.SwapStore.slot_count g.W.SwapStore.asked g.W.SwapStore.faults c.quiet_steps.new.self (record { thread = c.quiet_steps.new.thread; reserved = c.quiet_steps.new.reserved }) (record { same = c.quiet_steps.ensures.same; rest = c.quiet_steps.ensures.rest; state = c.quiet_steps.ensures.state; aligned = c.quiet_steps.ensures.aligned }) in
+    let same : c.quiet_steps.new.self.steps ≡ c.args.self.now.steps = still_steps g.W.SwapStore c.args.self.now (record { thread = c.thread.result.now; reserved = c.reserved_by-reserved.result }) c.thread.ensures c.reserved_by-reserved.ensures
+    c.quiet_steps.new.self (record { thread = c.quiet_steps.new.thread; reserved = c.quiet_steps.new.reserved }) (record { same = c.quiet_steps.ensures.same; rest = c.quiet_steps.ensures.rest; state = c.quiet_steps.ensures.state; aligned = c.quiet_steps.ensures.aligned }) in
     let few : c.args.self.now.steps + c.args.most ≤ 4000000000 = c.requires.few in
     let done : c.in_ok-done.done ≤ c.steps_before_due-until.result = c.in_ok-done.ensures.most in
     let until : c.steps_before_due-until.result ≤ c.args.most = c.steps_before_due-until.ensures.most in
@@ -81,16 +110,33 @@ take_back-requires-clause-few g c =
 
 pub returns-clause-sound : goal.returns-clause-sound
 returns-clause-sound g c = record {
-  whole = c.take_back.ensures.whole (whole_still g.W.SwapStore.is_honest g.W.SwapStore.held g.W.SwapStore.slot_count g.W.SwapStore.asked g.W.SwapStore.faults c.args.self.now c.quiet_steps.new.self (record { thread = c.thread.result.now; reserved = c.reserved_by-reserved.result }) (record { thread = c.quiet_steps.new.thread; reserved = c.quiet_steps.new.reserved }) (record { same = c.quiet_steps.ensures.same; rest = c.quiet_steps.ensures.rest; state = c.quiet_steps.ensures.state; aligned = c.quiet_steps.ensures.aligned }) c.requires.sound.whole);
-  matched = λ _. subst Matched (sym (came_back g.W.SwapStore.held c.args.self.now (record { thread = c.thread.result.now; reserved = c.reserved_by-reserved.result }) c.thread.ensures c.reserved_by-reserved.ensures
-      g.W.SwapStore.is_honest g.W.SwapStore.slot_count g.W.SwapStore.asked g.W.SwapStore.faults c.quiet_steps.new.self (record { thread = c.quiet_steps.new.thread; reserved = c.quiet_steps.new.reserved }) (record { same = c.quiet_steps.ensures.same; rest = c.quiet_steps.ensures.rest; state = c.quiet_steps.ensures.state; aligned = c.quiet_steps.ensures.aligned }) c.take_back.new.self c.in_ok-done.done c.take_back.ensures.machine)) (matched_back g.W.SwapStore.held c.args.self.now (record { thread = c.thread.result.now; reserved = c.reserved_by-reserved.result }) c.thread.ensures c.reserved_by-reserved.ensures
-      g.W.SwapStore.is_honest g.W.SwapStore.slot_count g.W.SwapStore.asked g.W.SwapStore.faults c.quiet_steps.new.self (record { thread = c.quiet_steps.new.thread; reserved = c.quiet_steps.new.reserved }) (record { same = c.quiet_steps.ensures.same; rest = c.quiet_steps.ensures.rest; state = c.quiet_steps.ensures.state; aligned = c.quiet_steps.ensures.aligned }) (c.requires.sound.matched c.requires.usable) c.in_ok-done.done);
+  whole = c.take_back.ensures.whole
+      (whole_still g.W.SwapStore c.args.self.now c.quiet_steps.new.self
+      (record { thread = c.thread.result.now; reserved = c.reserved_by-reserved.result })
+      (record { thread = c.quiet_steps.new.thread; reserved = c.quiet_steps.new.reserved })
+      (record {
+        same = c.quiet_steps.ensures.same;
+        rest = c.quiet_steps.ensures.rest;
+        state = c.quiet_steps.ensures.state;
+        aligned = c.quiet_steps.ensures.aligned;
+      }) c.requires.sound.whole);
+  matched = λ _. subst Matched (sym (came_back g.W.SwapStore c.args.self.now (record { thread = c.thread.result.now; reserved = c.reserved_by-reserved.result }) c.thread.ensures c.reserved_by-reserved.ensures
+      c.quiet_steps.new.self (record { thread = c.quiet_steps.new.thread; reserved = c.quiet_steps.new.reserved })
+      (record {
+        same = c.quiet_steps.ensures.same;
+        rest = c.quiet_steps.ensures.rest;
+        state = c.quiet_steps.ensures.state;
+        aligned = c.quiet_steps.ensures.aligned;
+      }) c.take_back.new.self c.in_ok-done.done c.take_back.ensures.machine))
+      (matched_back g.W.SwapStore c.args.self.now
+      (record { thread = c.thread.result.now; reserved = c.reserved_by-reserved.result }) c.thread.ensures c.reserved_by-reserved.ensures
+      c.quiet_steps.new.self (record { thread = c.quiet_steps.new.thread; reserved = c.quiet_steps.new.reserved }) (record { same = c.quiet_steps.ensures.same; rest = c.quiet_steps.ensures.rest; state = c.quiet_steps.ensures.state; aligned = c.quiet_steps.ensures.aligned }) (c.requires.sound.matched c.requires.usable) c.in_ok-done.done);
 }
 
 pub returns-clause-counts : goal.returns-clause-counts
 unfolding machine_of
-returns-clause-counts g c = ap (λ (m : Machine). m.steps) (came_back g.W.SwapStore.held c.args.self.now (record { thread = c.thread.result.now; reserved = c.reserved_by-reserved.result }) c.thread.ensures c.reserved_by-reserved.ensures
-    g.W.SwapStore.is_honest g.W.SwapStore.slot_count g.W.SwapStore.asked g.W.SwapStore.faults c.quiet_steps.new.self (record { thread = c.quiet_steps.new.thread; reserved = c.quiet_steps.new.reserved }) (record { same = c.quiet_steps.ensures.same; rest = c.quiet_steps.ensures.rest; state = c.quiet_steps.ensures.state; aligned = c.quiet_steps.ensures.aligned }) c.take_back.new.self c.in_ok-done.done c.take_back.ensures.machine)
+returns-clause-counts g c = ap (λ (m : Machine). m.steps) (came_back g.W.SwapStore c.args.self.now (record { thread = c.thread.result.now; reserved = c.reserved_by-reserved.result }) c.thread.ensures c.reserved_by-reserved.ensures
+    c.quiet_steps.new.self (record { thread = c.quiet_steps.new.thread; reserved = c.quiet_steps.new.reserved }) (record { same = c.quiet_steps.ensures.same; rest = c.quiet_steps.ensures.rest; state = c.quiet_steps.ensures.state; aligned = c.quiet_steps.ensures.aligned }) c.take_back.new.self c.in_ok-done.done c.take_back.ensures.machine)
 
 pub returns-clause-there : goal.returns-clause-there
 unfolding machine_of
@@ -98,14 +144,14 @@ returns-clause-there g c some = ready_acts (machine_of g.W.SwapStore.held c.args
 
 pub returns-clause-runs : goal.returns-clause-runs
 returns-clause-runs g c known =
-    some_quiet g.W.SwapStore.held c.args.self.now (record { thread = c.thread.result.now; reserved = c.reserved_by-reserved.result }) c.thread.ensures c.reserved_by-reserved.ensures
-    g.W.SwapStore.is_honest g.W.SwapStore.slot_count g.W.SwapStore.asked g.W.SwapStore.faults c.quiet_steps.new.self (record { thread = c.quiet_steps.new.thread; reserved = c.quiet_steps.new.reserved }) (record { same = c.quiet_steps.ensures.same; rest = c.quiet_steps.ensures.rest; state = c.quiet_steps.ensures.state; aligned = c.quiet_steps.ensures.aligned })
+    some_quiet g.W.SwapStore c.args.self.now (record { thread = c.thread.result.now; reserved = c.reserved_by-reserved.result }) c.thread.ensures c.reserved_by-reserved.ensures
+    c.quiet_steps.new.self (record { thread = c.quiet_steps.new.thread; reserved = c.quiet_steps.new.reserved }) (record { same = c.quiet_steps.ensures.same; rest = c.quiet_steps.ensures.rest; state = c.quiet_steps.ensures.state; aligned = c.quiet_steps.ensures.aligned })
     c.steps_before_due-until.result c.args.most c.steps_before_due-until.ensures.most c.steps_before_due-until.ensures.due
     c.in_ok-done.done (machine_of g.W.SwapStore.held c.take_back.new.self) (let some = c.if-done-eq0.false in omega (arith, some)) c.in_ok-done.ensures.most
-    (c.in_ok-done.ensures.runs (means_ends g.W.SwapStore.is_honest g.W.SwapStore.held g.W.SwapStore.slot_count g.W.SwapStore.asked g.W.SwapStore.faults c.args.self.now.mem c.quiet_steps.new.self.mem c.quiet_steps.ensures.rest.store
-    (subst (λ mem. MeansBytesOver g.W.SwapStore.is_honest g.W.SwapStore.held c.args.self.now.mem mem) c.take_back.ensures.mem known)).0)
-    (came_back g.W.SwapStore.held c.args.self.now (record { thread = c.thread.result.now; reserved = c.reserved_by-reserved.result }) c.thread.ensures c.reserved_by-reserved.ensures
-    g.W.SwapStore.is_honest g.W.SwapStore.slot_count g.W.SwapStore.asked g.W.SwapStore.faults c.quiet_steps.new.self (record { thread = c.quiet_steps.new.thread; reserved = c.quiet_steps.new.reserved }) (record { same = c.quiet_steps.ensures.same; rest = c.quiet_steps.ensures.rest; state = c.quiet_steps.ensures.state; aligned = c.quiet_steps.ensures.aligned }) c.take_back.new.self c.in_ok-done.done c.take_back.ensures.machine)
+    (c.in_ok-done.ensures.runs (means_ends g.W.SwapStore c.args.self.now.mem c.quiet_steps.new.self.mem c.quiet_steps.ensures.rest.store
+    (subst (λ mem. MeansBytesOver g.W.SwapStore c.args.self.now.mem mem) c.take_back.ensures.mem known)).0)
+    (came_back g.W.SwapStore c.args.self.now (record { thread = c.thread.result.now; reserved = c.reserved_by-reserved.result }) c.thread.ensures c.reserved_by-reserved.ensures
+    c.quiet_steps.new.self (record { thread = c.quiet_steps.new.thread; reserved = c.quiet_steps.new.reserved }) (record { same = c.quiet_steps.ensures.same; rest = c.quiet_steps.ensures.rest; state = c.quiet_steps.ensures.state; aligned = c.quiet_steps.ensures.aligned }) c.take_back.new.self c.in_ok-done.done c.take_back.ensures.machine)
 
 pub returns-clause-tie : goal.returns-clause-tie
 returns-clause-tie g c = subst (λ mem. IsTied g.W.SwapStore.held mem) (sym c.take_back.ensures.mem) (c.quiet_steps.ensures.rest.tie c.requires.sound.whole.mem)

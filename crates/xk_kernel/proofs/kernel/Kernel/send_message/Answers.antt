@@ -27,7 +27,7 @@ send-sent-requires-clause-above g c = c.requires.calls.matched.rest.above.number
 
 pub send-sent-requires-clause-sound : goal.send-sent-requires-clause-sound
 send-sent-requires-clause-sound g c =
-    parts_sound_over g.W.SwapStore.slot_count g.W.SwapStore.held c.args.self.now c.requires.calls.whole c.requires.calls.matched
+    parts_sound_over g.W.SwapStore c.args.self.now c.requires.calls.whole c.requires.calls.matched
 
 -- ---- accepted
 
@@ -44,7 +44,7 @@ unfolding machine_of
 returns-in-Accepted-clause-whole g c =
     let k = c.args.self.now in
     let new = parts_of c.send-sent.new.mem c.send-sent.new.threads k.servers c.send-sent.new.queues c.send-sent.new.log in
-    new_whole g.W.SwapStore.slot_count g.W.SwapStore.held k new (k.next + 1) c.requires.calls.whole
+    new_whole g.W.SwapStore k new (k.next + 1) c.requires.calls.whole
     (c.in-Accepted.ensures.sound (may_send c.args.words c.args.tries c.requires.number (machine_of g.W.SwapStore.held k) c.requires.free)).sound
     c.in-Accepted.ensures.mem.size (served_room (c.in-Accepted.ensures.row (machine_of g.W.SwapStore.held k)))
 
@@ -63,7 +63,7 @@ pub returns-in-Accepted-clause-keeps : goal.returns-in-Accepted-clause-keeps
 returns-in-Accepted-clause-keeps g c =
     let k = c.args.self.now in
     let new = parts_of c.send-sent.new.mem c.send-sent.new.threads k.servers c.send-sent.new.queues c.send-sent.new.log in
-    new_keeps g.W.SwapStore.is_honest g.W.SwapStore.held g.W.SwapStore.slot_count g.W.SwapStore.asked g.W.SwapStore.faults k (with_new k new (k.next + 1))
+    new_keeps g.W.SwapStore k (with_new k new (k.next + 1))
     c.in-Accepted.ensures.mem (served_room (c.in-Accepted.ensures.row (machine_of g.W.SwapStore.held k)))
 
 -- ---- full

@@ -18,29 +18,29 @@ unfolding machine_of
 act-requires-clause-few g c = c.requires.few
 
 pub ring-requires-clause-whole : goal.ring-requires-clause-whole
-ring-requires-clause-whole g c = counting_whole g.W.SwapStore.slot_count g.W.SwapStore.held c.args.self.now c.act.new.self c.args.who c.requires.who c.in_ok-reserved.reserved c.reservation-self.result c.reservation-self.ensures c.in_ok-reserved.ensures.whole
+ring-requires-clause-whole g c = counting_whole g.W.SwapStore c.args.self.now c.act.new.self c.args.who c.requires.who c.in_ok-reserved.reserved c.reservation-self.result c.reservation-self.ensures c.in_ok-reserved.ensures.whole
 
 pub ring-requires-clause-claim : goal.ring-requires-clause-claim
-ring-requires-clause-claim g c = claim_there g.W.SwapStore.slot_count g.W.SwapStore.held c.args.self.now c.act.new.self c.args.who c.requires.who c.in_ok-reserved.reserved c.reservation-self.result c.reservation-self.ensures c.in_ok-reserved.ensures.tells c.in_ok-reserved.ensures.settles
+ring-requires-clause-claim g c = claim_there g.W.SwapStore c.args.self.now c.act.new.self c.args.who c.requires.who c.in_ok-reserved.reserved c.reservation-self.result c.reservation-self.ensures c.in_ok-reserved.ensures.tells c.in_ok-reserved.ensures.settles
 
 pub ring-requires-clause-few : goal.ring-requires-clause-few
-ring-requires-clause-few g c = few_records g.W.SwapStore.slot_count g.W.SwapStore.held c.args.self.now c.act.new.self c.args.who c.requires.who c.in_ok-reserved.reserved c.reservation-self.result c.reservation-self.ensures c.in_ok-reserved.ensures.tells c.requires.sound.whole
+ring-requires-clause-few g c = few_records g.W.SwapStore c.args.self.now c.act.new.self c.args.who c.requires.who c.in_ok-reserved.reserved c.reservation-self.result c.reservation-self.ensures c.in_ok-reserved.ensures.tells c.requires.sound.whole
 
 pub ring-requires-clause-step : goal.ring-requires-clause-step
-ring-requires-clause-step g c = of_its_step g.W.SwapStore.slot_count g.W.SwapStore.held c.args.self.now c.act.new.self c.args.who c.requires.who c.in_ok-reserved.reserved c.reservation-self.result c.reservation-self.ensures c.in_ok-reserved.ensures.tells
+ring-requires-clause-step g c = of_its_step g.W.SwapStore c.args.self.now c.act.new.self c.args.who c.requires.who c.in_ok-reserved.reserved c.reservation-self.result c.reservation-self.ensures c.in_ok-reserved.ensures.tells
 
 pub returns-clause-sound : goal.returns-clause-sound
 returns-clause-sound g c =
-    did_sound g.W.SwapStore.slot_count g.W.SwapStore.held c.args.self.now c.act.new.self c.args.who c.requires.who c.in_ok-reserved.reserved c.reservation-self.result c.reservation-self.ensures c.in_ok-reserved.ensures.tells c.in_ok-reserved.ensures.settles c.ring.new.self c.ring.ensures.whole c.ring.ensures.rings
+    did_sound g.W.SwapStore c.args.self.now c.act.new.self c.args.who c.requires.who c.in_ok-reserved.reserved c.reservation-self.result c.reservation-self.ensures c.in_ok-reserved.ensures.tells c.in_ok-reserved.ensures.settles c.ring.new.self c.ring.ensures.whole c.ring.ensures.rings
 
 pub returns-clause-counts : goal.returns-clause-counts
 returns-clause-counts g c =
-    (ap is_some c.requires.who, counts_one g.W.SwapStore.slot_count g.W.SwapStore.held c.args.self.now c.act.new.self c.args.who c.requires.who c.in_ok-reserved.reserved c.reservation-self.result c.reservation-self.ensures c.in_ok-reserved.ensures.tells c.ring.new.self c.ring.ensures.rings)
+    (ap is_some c.requires.who, counts_one g.W.SwapStore c.args.self.now c.act.new.self c.args.who c.requires.who c.in_ok-reserved.reserved c.reservation-self.result c.reservation-self.ensures c.in_ok-reserved.ensures.tells c.ring.new.self c.ring.ensures.rings)
 
 pub returns-clause-does : goal.returns-clause-does
 returns-clause-does g c known =
-    did g.W.SwapStore.slot_count g.W.SwapStore.held c.args.self.now c.act.new.self c.args.who c.requires.who c.in_ok-reserved.reserved c.reservation-self.result c.reservation-self.ensures
-    (c.in_ok-reserved.ensures.acts (subst (λ mem. MeansBytesOver g.W.SwapStore.is_honest g.W.SwapStore.held c.args.self.now.mem mem) c.ring.ensures.mem known))
+    did g.W.SwapStore c.args.self.now c.act.new.self c.args.who c.requires.who c.in_ok-reserved.reserved c.reservation-self.result c.reservation-self.ensures
+    (c.in_ok-reserved.ensures.acts (subst (λ mem. MeansBytesOver g.W.SwapStore c.args.self.now.mem mem) c.ring.ensures.mem known))
     c.ring.new.self c.ring.ensures.rings
 
 pub returns-clause-out : goal.returns-clause-out
@@ -59,4 +59,4 @@ pub returns-in_err-reserved-clause-out : goal.returns-in_err-reserved-clause-out
 returns-in_err-reserved-clause-out g c out = may_exchange g.W.SwapStore.held c.args.self.now c.args.who c.requires.who (c.act.ensures.out out)
 
 pub returns-in_err-reserved-clause-sound : goal.returns-in_err-reserved-clause-sound
-returns-in_err-reserved-clause-sound g c = failed_sound g.W.SwapStore.slot_count g.W.SwapStore.held c.act.new.self c.act.ensures.whole c.in_err-reserved.ensures.failed
+returns-in_err-reserved-clause-sound g c = failed_sound g.W.SwapStore c.act.new.self c.act.ensures.whole c.in_err-reserved.ensures.failed

@@ -16,5 +16,5 @@ returns-clause-machine g c =
 
 pub returns-clause-whole : goal.returns-clause-whole
 returns-clause-whole g c whole =
-    whole_back g.W.SwapStore.slot_count g.W.SwapStore.held c.args.self.now _ (c.thread_mut.ensures.count c.args.thread)
+    whole_back g.W.SwapStore c.args.self.now _ (c.thread_mut.ensures.count c.args.thread)
     c.reservation-self.result (c.args.self.now.steps + c.args.done) c.clear.new.self (ap (λ (log : LogState). log.room) c.clear.ensures) whole

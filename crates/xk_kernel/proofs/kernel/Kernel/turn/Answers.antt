@@ -7,7 +7,7 @@ use Rattle.xk_kernel.proofs.kernel.Kernel.turn.Goals as goal
 pub returns-in-Some-clause-whole : goal.returns-in-Some-clause-whole
 returns-in-Some-clause-whole g c =
     let k = c.args.self.now in
-    cursor_whole g.W.SwapStore.slot_count g.W.SwapStore.held k c.in-Some.next c.requires.whole
+    cursor_whole g.W.SwapStore k c.in-Some.next c.requires.whole
     (next_valid k (processes k.mem) k.cursor c.in-Some.next c.requires.whole.threads (sym c.next_ready_after.ensures ∙ c.in-Some.is))
 
 pub returns-in-Some-clause-machine : goal.returns-in-Some-clause-machine

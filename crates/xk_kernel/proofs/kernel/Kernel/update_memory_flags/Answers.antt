@@ -8,11 +8,11 @@ use Rattle.xk_kernel.proofs.Memory.MemoryCallLemmas.{caller_process, right_told,
 use Rattle.xk_kernel.proofs.kernel.Kernel.update_memory_flags.Goals as goal
 
 pub reduce_run-requires-clause-process : goal.reduce_run-requires-clause-process
-reduce_run-requires-clause-process g c = rw c.caller_place-first.ensures (caller_process g.W.SwapStore.slot_count g.W.SwapStore.held c.args.self.now c.requires.whole)
+reduce_run-requires-clause-process g c = rw c.caller_place-first.ensures (caller_process g.W.SwapStore c.args.self.now c.requires.whole)
 
 pub returns-in-Ok-clause-whole : goal.returns-in-Ok-clause-whole
 returns-in-Ok-clause-whole g c =
-    whole_with_mem g.W.SwapStore.slot_count g.W.SwapStore.held c.args.self.now c.reduce_run.new.self c.requires.whole c.reduce_run.ensures.size c.reduce_run.ensures.sound
+    whole_with_mem g.W.SwapStore c.args.self.now c.reduce_run.new.self c.requires.whole c.reduce_run.ensures.size c.reduce_run.ensures.sound
     (reduce_keeps c.reduce_run.result c.caller_place-first.result (c.args.size / 4096) c.in-Some.right (ledger g.W.SwapStore.held c.args.self.now.mem)
     (ledger g.W.SwapStore.held c.reduce_run.new.self) c.reduce_run.ensures.ledger)
 

@@ -13,7 +13,7 @@ steps-init g c = record {
   pid = refl;
   sound = c.requires.sound;
   remembers = c.requires.known;
-  gone = gone_none g.W.SwapStore.is_honest g.W.SwapStore.held g.W.SwapStore.slot_count g.W.SwapStore.asked g.W.SwapStore.faults c.args.who c.args.user.now.pid c.args.user.now.mem.now c.args.thread.now c.args.reserved.now c.requires.usable c.requires.aligned;
+  gone = gone_none g.W.SwapStore c.args.who c.args.user.now.pid c.args.user.now.mem.now c.args.thread.now c.args.reserved.now c.requires.usable c.requires.aligned;
 }
 
 pub quiet_step-requires-clause-pid : goal.quiet_step-requires-clause-pid
@@ -40,18 +40,18 @@ steps-preserved g c = record {
   pid = c.quiet_step.ensures.pid ∙ c.steps.invariant.pid;
   sound = c.quiet_step.ensures.rest.sound c.steps.invariant.sound;
   remembers = c.quiet_step.ensures.known;
-  gone = gone_on g.W.SwapStore.is_honest g.W.SwapStore.held g.W.SwapStore.slot_count g.W.SwapStore.asked g.W.SwapStore.faults c.args.who c.args.user.now.pid c.steps.user.pid c.requires.pid c.steps.invariant.pid c.args.user.now.mem.now c.steps.user.mem.now c.quiet_step.new.user.mem.now c.args.thread.now c.steps.thread c.args.reserved.now c.steps.reserved c.steps.done c.steps.invariant.gone
+  gone = gone_on g.W.SwapStore c.args.who c.args.user.now.pid c.steps.user.pid c.requires.pid c.steps.invariant.pid c.args.user.now.mem.now c.steps.user.mem.now c.quiet_step.new.user.mem.now c.args.thread.now c.steps.thread c.args.reserved.now c.steps.reserved c.steps.done c.steps.invariant.gone
       c.quiet_step.new.thread c.quiet_step.new.reserved c.quiet_step.ensures.rest c.quiet_step.ensures.state c.quiet_step.ensures.aligned c.in_ok-quiet_step.ensures.usable
-      (subst (λ quiet. StepsOver g.W.SwapStore.is_honest g.W.SwapStore.held g.W.SwapStore.slot_count c.args.who c.steps.user.mem.now c.quiet_step.new.user.mem.now
+      (subst (λ quiet. StepsOver g.W.SwapStore c.args.who c.steps.user.mem.now c.quiet_step.new.user.mem.now
       (taken c.steps.thread c.steps.reserved) (taken c.quiet_step.new.thread c.quiet_step.new.reserved) quiet) c.if-not-branch.false c.in_ok-quiet_step.ensures.does);
 }
 
 pub returns-then-not-branch-clause-rest : goal.returns-then-not-branch-clause-rest
-returns-then-not-branch-clause-rest g c = rest_on g.W.SwapStore.is_honest g.W.SwapStore.held g.W.SwapStore.slot_count g.W.SwapStore.asked g.W.SwapStore.faults c.args.who c.args.user.now.pid c.steps.user.pid c.requires.pid c.steps.invariant.pid c.args.user.now.mem.now c.steps.user.mem.now c.quiet_step.new.user.mem.now c.args.thread.now c.steps.thread c.args.reserved.now c.steps.reserved c.steps.done c.steps.invariant.gone c.quiet_step.ensures.rest
+returns-then-not-branch-clause-rest g c = rest_on g.W.SwapStore c.args.who c.args.user.now.pid c.steps.user.pid c.requires.pid c.steps.invariant.pid c.args.user.now.mem.now c.steps.user.mem.now c.quiet_step.new.user.mem.now c.args.thread.now c.steps.thread c.args.reserved.now c.steps.reserved c.steps.done c.steps.invariant.gone c.quiet_step.ensures.rest
 
 pub returns-then-not-branch-clause-runs : goal.returns-then-not-branch-clause-runs
 returns-then-not-branch-clause-runs g c =
-    gone_out g.W.SwapStore.is_honest g.W.SwapStore.held g.W.SwapStore.slot_count g.W.SwapStore.asked g.W.SwapStore.faults c.args.who c.args.user.now.pid c.steps.user.pid c.requires.pid c.steps.invariant.pid c.args.user.now.mem.now c.steps.user.mem.now c.quiet_step.new.user.mem.now c.args.thread.now c.steps.thread c.args.reserved.now c.steps.reserved c.steps.done c.steps.invariant.gone
+    gone_out g.W.SwapStore c.args.who c.args.user.now.pid c.steps.user.pid c.requires.pid c.steps.invariant.pid c.args.user.now.mem.now c.steps.user.mem.now c.quiet_step.new.user.mem.now c.args.thread.now c.steps.thread c.args.reserved.now c.steps.reserved c.steps.done c.steps.invariant.gone
     c.quiet_step.new.thread c.quiet_step.new.reserved c.args.most c.steps-test.true
-    (subst (λ quiet. StepsOver g.W.SwapStore.is_honest g.W.SwapStore.held g.W.SwapStore.slot_count c.args.who c.steps.user.mem.now c.quiet_step.new.user.mem.now
+    (subst (λ quiet. StepsOver g.W.SwapStore c.args.who c.steps.user.mem.now c.quiet_step.new.user.mem.now
     (taken c.steps.thread c.steps.reserved) (taken c.quiet_step.new.thread c.quiet_step.new.reserved) quiet) c.if-not-branch.true c.in_ok-quiet_step.ensures.does)

@@ -11,6 +11,6 @@ invariant-steps g l = record {
   pid : l.user.pid ≡ l.fn.user.pid;
   sound : IsSound g.W.SwapStore.slot_count l.user.mem.now;
   remembers : Remembers l.user.mem.now l.user.pid l.user.known;
-  gone : HasGone g.W.SwapStore.is_honest g.W.SwapStore.held g.W.SwapStore.slot_count g.W.SwapStore.asked g.W.SwapStore.faults l.fn.who
+  gone : HasGone g.W.SwapStore l.fn.who
       l.fn.user.pid l.fn.user.mem.now l.user.mem.now l.fn.thread l.thread l.fn.reserved l.reserved l.done;
 }

@@ -15,15 +15,15 @@ pub run_or_leave-requires-clause-fit : goal.run_or_leave-requires-clause-fit
 run_or_leave-requires-clause-fit g c = (c.requires.sound, c.requires.usable, c.requires.known)
 
 pub returns-then-ends_thread-clause-rest : goal.returns-then-ends_thread-clause-rest
-returns-then-ends_thread-clause-rest g c = rest_same g.W.SwapStore.is_honest g.W.SwapStore.held g.W.SwapStore.slot_count g.W.SwapStore.asked g.W.SwapStore.faults c.args.user.now.pid c.args.user.now.mem.now
+returns-then-ends_thread-clause-rest g c = rest_same g.W.SwapStore c.args.user.now.pid c.args.user.now.mem.now
 
 pub returns-then-ends_thread-clause-does : goal.returns-then-ends_thread-clause-does
 returns-then-ends_thread-clause-does g c = elim c.then-ends_thread.branch [
   | then-ends_thread-via-then-ends_thread w ↦
-      end_over g.W.SwapStore.is_honest g.W.SwapStore.held g.W.SwapStore.slot_count g.W.SwapStore.asked g.W.SwapStore.faults c.args.who c.args.user.now.mem.now c.args.thread.now c.requires.ready c.args.reserved.now
+      end_over g.W.SwapStore c.args.who c.args.user.now.mem.now c.args.thread.now c.requires.ready c.args.reserved.now
       (sym c.ends_thread.ensures ∙ w.if-ends_thread.true)
   | then-ends_thread-via-else-ends_thread+then-ends_handler w ↦
-      handler_end_over g.W.SwapStore.is_honest g.W.SwapStore.held g.W.SwapStore.slot_count g.W.SwapStore.asked g.W.SwapStore.faults c.args.who c.args.user.now.mem.now c.args.thread.now c.requires.ready c.args.reserved.now
+      handler_end_over g.W.SwapStore c.args.who c.args.user.now.mem.now c.args.thread.now c.requires.ready c.args.reserved.now
       (sym w.ends_handler.ensures ∙ w.if-ends_handler.true)
 ]
 
@@ -36,7 +36,7 @@ returns-in-Next-clause-usable g c = c.in-Next.ensures.fit.1
 pub returns-in-Next-clause-does : goal.returns-in-Next-clause-does
 returns-in-Next-clause-does g c =
     let ran = c.run_or_leave in
-    next_over g.W.SwapStore.is_honest g.W.SwapStore.held g.W.SwapStore.slot_count g.W.SwapStore.asked g.W.SwapStore.faults c.args.who c.args.user.now.mem.now c.args.thread.now c.requires.ready c.args.reserved.now
+    next_over g.W.SwapStore c.args.who c.args.user.now.mem.now c.args.thread.now c.requires.ready c.args.reserved.now
     c.args.user.now.pid ran.new.mem.pid c.requires.pid ran.ensures.rest.1 ran.new.mem.mem.now ran.ensures.rest.2
     (record { regs = ran.new.regs; reserved = ran.new.reserved }) ran.result ran.ensures.performs
     c.in-Next.next c.in-Next.is (sym c.ends_thread.ensures ∙ c.if-ends_thread.false) (sym c.ends_handler.ensures ∙ c.if-ends_handler.false)
@@ -55,7 +55,7 @@ returns-in-Ecall-clause-usable g c =
 pub returns-in-Ecall-clause-does : goal.returns-in-Ecall-clause-does
 returns-in-Ecall-clause-does g c =
     let ran = c.run_or_leave in
-    other_over g.W.SwapStore.is_honest g.W.SwapStore.held g.W.SwapStore.slot_count g.W.SwapStore.asked g.W.SwapStore.faults c.args.who c.args.user.now.mem.now c.args.thread.now c.requires.ready c.args.reserved.now
+    other_over g.W.SwapStore c.args.who c.args.user.now.mem.now c.args.thread.now c.requires.ready c.args.reserved.now
     c.args.user.now.pid ran.new.mem.pid c.requires.pid ran.ensures.rest.1 ran.new.mem.mem.now ran.ensures.rest.2
     (record { regs = ran.new.regs; reserved = ran.new.reserved }) ran.result ran.ensures.performs c.in-Ecall.is
 

@@ -3,10 +3,10 @@ use Rattle.std.specs.Option.{option_copied}
 use Rattle.boot_plan.specs.declared.plans.BootPlan.{BootPlan}
 use Rattle.vm_memory.specs.Memory.{size, store_of}
 use Rattle.xk_kernel.specs.Start.{start}
-use Rattle.xousim.specs.Gathering.{Text}
+use Rattle.event_player.specs.Gathering.{Text}
 use Rattle.xousim.specs.Outcome.Sides.{Prepares, store_side}
 use Rattle.xousim.specs.Outcome.Starts.{Stops, room_of}
-use Rattle.xousim.specs.Standing.{Begins, room_in, stand}
+use Rattle.event_player.specs.Standing.{Begins, room_in, stand}
 use Rattle.xousim.proofs.Images.StartingLemmas.{all_ok, if_err, image_of}
 use Rattle.xousim.proofs.commands.booting.boot_image.Goals as goal
 
@@ -17,10 +17,10 @@ returns-in-Ok-clause-booted g c =
     let bytes : List ℕ = c.as_slice.result.now in
     let image = image_of (g.H.Host.file c.args.host.now) c.args.play.image.now planned.bytes.items bytes c.args.play.slots planned.args planned.plan is.read is.image is.planned c.as_slice.ensures.value in
     all_ok c.start_run.result
-    (λ k. (text : Text) → Begins (start planned.plan bytes) (stand g.W.SwapStore.is_honest g.W.SwapStore.held k text))
+    (λ k. (text : Text) → Begins (start planned.plan bytes) (stand g.W.SwapStore k text))
     (λ k. room_in k ≡ room_of planned.plan)
     (λ k. (size k.mem).slots ≡ planned.plan.slots)
-    (λ k. Prepares (store_side g.W.SwapStore.is_honest g.W.SwapStore.held g.W.SwapStore.asked g.W.SwapStore.faults c.args.store (store_of k.mem)) planned.plan.slots (option_copied c.args.play.store) true)
+    (λ k. Prepares (store_side g.W.SwapStore c.args.store (store_of k.mem)) planned.plan.slots (option_copied c.args.play.store) true)
     _
     (λ k begins room slots prepared. (
       start planned.plan bytes,
@@ -29,7 +29,7 @@ returns-in-Ok-clause-booted g c =
         image = image;
         room = room ∙ ap room_of is.planned;
         slots = slots ∙ ap (λ (p : BootPlan). p.slots) is.planned;
-        prepared = (let P : ℕ → Type 0 = λ n. Prepares (store_side g.W.SwapStore.is_honest g.W.SwapStore.held g.W.SwapStore.asked g.W.SwapStore.faults c.args.store (store_of k.mem)) n (option_copied c.args.play.store) true in
+        prepared = (let P : ℕ → Type 0 = λ n. Prepares (store_side g.W.SwapStore c.args.store (store_of k.mem)) n (option_copied c.args.play.store) true in
             subst P (sym slots) prepared);
       },
     ))
@@ -42,13 +42,13 @@ returns-in-Ok-clause-ends g c = λ out unwritten.
     let bytes : List ℕ = c.as_slice.result.now in
     let image = image_of (g.H.Host.file c.args.host.now) c.args.play.image.now planned.bytes.items bytes c.args.play.slots planned.args planned.plan is.read is.image is.planned c.as_slice.ensures.value in
     if_err c.start_run.result
-    (λ e. Stops planned.plan (option_copied c.args.play.store) (start planned.plan bytes) (store_side g.W.SwapStore.is_honest g.W.SwapStore.held g.W.SwapStore.asked g.W.SwapStore.faults c.args.store e.store) e.status)
+    (λ e. Stops planned.plan (option_copied c.args.play.store) (start planned.plan bytes) (store_side g.W.SwapStore c.args.store e.store) e.status)
     _
     (λ e stopped. inr (record {
       asked = is.picked;
       machine = start planned.plan bytes;
       image = image;
-      stopped = (let S : BootPlan → Type 0 = λ p. Stops p (option_copied c.args.play.store) (start planned.plan bytes) (store_side g.W.SwapStore.is_honest g.W.SwapStore.held g.W.SwapStore.asked g.W.SwapStore.faults c.args.store e.store) e.status in
+      stopped = (let S : BootPlan → Type 0 = λ p. Stops p (option_copied c.args.play.store) (start planned.plan bytes) (store_side g.W.SwapStore c.args.store e.store) e.status in
           subst S is.planned stopped);
       unwritten = unwritten;
     }))

@@ -4,7 +4,7 @@ use Rattle.xousim.proofs.commands.booting.start_run.Goals as goal
 
 pub returns-in-Ok-boot-clause-begins : goal.returns-in-Ok-boot-clause-begins
 returns-in-Ok-boot-clause-begins g c = λ text.
-    begins g.W.SwapStore.is_honest g.W.SwapStore.held c.in-Ok-boot.kernel c.args.plan.now c.args.file.now text c.requires.lawful c.in-Ok-boot.ensures.start c.in-Ok-boot.ensures.near
+    begins g.W.SwapStore c.in-Ok-boot.kernel c.args.plan.now c.args.file.now text c.requires.lawful c.in-Ok-boot.ensures.start c.in-Ok-boot.ensures.near
     (room_is c.in-Ok-boot.kernel c.args.plan.now _ c.in-Ok-boot.ensures.size refl refl)
 
 pub returns-in-Ok-boot-clause-steps : goal.returns-in-Ok-boot-clause-steps

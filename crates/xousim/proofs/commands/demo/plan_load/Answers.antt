@@ -2,8 +2,8 @@ use Rattle.std.proofs.Common.{◌≡◌, ℕ, List, length, None, Some, ap, ◌�
 use Rattle.kernel_args.specs.declared.args.Args.{Args}
 use Rattle.boot_plan.specs.Faults.{IsPlanFault, plan_fault}
 use Rattle.boot_plan.specs.declared.faults.PlanError.{PlanError}
-use Rattle.xousim.specs.Load.Image.{load_args, load_image}
-use Rattle.xousim.proofs.Loading.LoadImageLemmas.{length-load_image, load_plan_has_no_fault}
+use Rattle.demo_load.specs.Image.{load_args, load_image}
+use Rattle.demo_load.proofs.LoadImageLemmas.{length-load_image, load_plan_has_no_fault}
 use Rattle.xousim.proofs.commands.demo.plan_load.Goals as goal
 
 pub plan-requires-clause-size : goal.plan-requires-clause-size

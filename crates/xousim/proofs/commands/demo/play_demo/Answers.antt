@@ -2,14 +2,14 @@ use Rattle.std.proofs.Common.{◌≡◌, ℕ, ap, ◌∙◌, subst, sym, refl, i
 use Rattle.machine_model.specs.State.Machine.{Machine}
 use Rattle.vm_memory.specs.Memory.{store_of}
 use Rattle.xk_base.specs.declared.limits.TheConstants.{DEFAULT_STEPS}
-use Rattle.xk_kernel.specs.History.{history}
-use Rattle.xk_kernel.specs.HistoryMoments.{moments_of}
-use Rattle.xousim.specs.Load.Events.{load_events, load_history, load_machine}
-use Rattle.xousim.specs.Load.Totals.{demo_line, totals_of}
+use Rattle.machine_history.specs.History.{history}
+use Rattle.machine_history.specs.HistoryMoments.{moments_of}
+use Rattle.demo_load.specs.Events.{load_events, load_history, load_machine}
+use Rattle.demo_load.specs.Totals.{demo_line, totals_of}
 use Rattle.xousim.specs.Outcome.Demo.{Demonstrates}
-use Rattle.xousim.specs.Outcome.Sides.{SinkSide, store_side}
-use Rattle.xousim.specs.Outcome.Starts.{ComesFull, Room}
-use Rattle.xousim.specs.Standing.{room_in}
+use Rattle.xousim.specs.Outcome.Sides.{SinkSide, sink_side, store_side}
+use Rattle.event_player.specs.Rooms.{ComesFull, Room}
+use Rattle.event_player.specs.Standing.{room_in}
 use Rattle.xousim.specs.declared.status.Status.TheVariants.{SwapFault}
 use Rattle.xousim.proofs.Images.StartingLemmas.{asked_on, load_told, rose_before}
 use Rattle.xousim.proofs.commands.demo.play_demo.Goals as goal
@@ -20,13 +20,8 @@ returns-in-Ok-play_load-clause-told g c =
     let asked = g.W.SwapStore.asked in
     let before = c.in-Ok.kernel in
     let after = c.play_load.new.kernel in
-    let out : SinkSide = record {
-      written = g.K.Sink.written c.args.out.now;
-      written_after = g.K.Sink.written c.write_totals-status.new.out;
-      faults = g.K.Sink.faults c.args.out.now;
-      faults_after = g.K.Sink.faults c.write_totals-status.new.out;
-    } in
-    let S : g.row.W.Denot → Type 0 = λ store. Demonstrates clients out (store_side g.W.SwapStore.is_honest g.W.SwapStore.held asked g.W.SwapStore.faults c.args.store store) c.write_totals-status.result in
+    let out : SinkSide = sink_side g.K.Sink c.args.out.now c.write_totals-status.new.out in
+    let S : g.row.W.Denot → Type 0 = λ store. Demonstrates clients out (store_side g.W.SwapStore asked g.W.SwapStore.faults c.args.store store) c.write_totals-status.result in
     let line : demo_line clients c.in-Ok-play_load.totals ≡ demo_line clients (totals_of (load_history clients).records) =
     ap (demo_line clients)
     (c.in-Ok-play_load.ensures.counted
@@ -34,7 +29,7 @@ returns-in-Ok-play_load-clause-told g c =
     subst S (sym c.close.ensures)
     (inr (record {
       prepared = asked_on (asked c.args.store) (asked (store_of before.mem)) (asked (store_of after.mem)) _ c.play_load.ensures.keeps.store.preparations c.in-Ok.ensures.prepared;
-      content = load_told clients out (store_side g.W.SwapStore.is_honest g.W.SwapStore.held asked g.W.SwapStore.faults c.args.store (store_of after.mem)) (demo_line clients c.in-Ok-play_load.totals) c.write_totals-status.result line c.write_totals-status.ensures.ended
+      content = load_told clients out (store_side g.W.SwapStore asked g.W.SwapStore.faults c.args.store (store_of after.mem)) (demo_line clients c.in-Ok-play_load.totals) c.write_totals-status.result line c.write_totals-status.ensures.ended
           c.write_totals-status.ensures.written c.write_totals-status.ensures.front;
     }))
 
@@ -45,13 +40,8 @@ returns-in-Err-play_load-clause-told g c =
     let faults = g.W.SwapStore.faults in
     let before = c.in-Ok.kernel in
     let after = c.play_load.new.kernel in
-    let out : SinkSide = record {
-      written = g.K.Sink.written c.args.out.now;
-      written_after = g.K.Sink.written c.args.out.now;
-      faults = g.K.Sink.faults c.args.out.now;
-      faults_after = g.K.Sink.faults c.args.out.now;
-    } in
-    let S : g.row.W.Denot → Type 0 = λ store. Demonstrates clients out (store_side g.W.SwapStore.is_honest g.W.SwapStore.held asked faults c.args.store store) SwapFault in
+    let out : SinkSide = sink_side g.K.Sink c.args.out.now c.args.out.now in
+    let S : g.row.W.Denot → Type 0 = λ store. Demonstrates clients out (store_side g.W.SwapStore asked faults c.args.store store) SwapFault in
     let R : Room → Type 0 = λ room. ComesFull room (load_machine clients) (moments_of (load_events clients) DEFAULT_STEPS (load_machine clients)) in
     let M : Machine → Type 0 = λ m. ComesFull (room_in before) m (moments_of (load_events clients) DEFAULT_STEPS m) in
     subst S (sym c.close-in-Err-play_load.ensures)

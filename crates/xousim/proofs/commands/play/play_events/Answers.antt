@@ -4,20 +4,21 @@ use Rattle.vm_memory.specs.Memory.{store_of}
 use Rattle.xk_kernel.specs.State.{machine_of}
 use Rattle.xk_ports.specs.Host.{FileAsked}
 use Rattle.xk_ports.specs.declared.host.FileSlot.TheVariants.{First, Second}
-use Rattle.xousim.specs.declared.playing.event_file.RunFault.{RunFault}
-use Rattle.xousim.specs.declared.playing.event_file.RunFault.TheVariants as faults
-use Rattle.xousim.specs.declared.playing.ending.Ending.{Ending}
+use Rattle.event_player.specs.declared.event_file.RunFault.{RunFault}
+use Rattle.event_player.specs.declared.event_file.RunFault.TheVariants as faults
+use Rattle.event_player.specs.declared.ending.Ending.{Ending}
 use Rattle.xousim.specs.declared.status.Status.{Status}
 use Rattle.xousim.specs.declared.status.Status.TheVariants.{Done}
 use Rattle.xousim.specs.Finish.{Finishes}
-use Rattle.xousim.specs.Gathering.{put}
-use Rattle.xousim.specs.Outcome.Sides.{Call, SinkSide, store_side}
-use Rattle.xousim.specs.Playing.{Runs, run_from}
-use Rattle.xousim.specs.Reading.{Asked}
-use Rattle.xousim.specs.Standing.{room_in, stand}
+use Rattle.event_player.specs.Gathering.{put}
+use Rattle.xousim.specs.Outcome.Sides.{Call, SinkSide, host_side, sink_side, store_side}
+use Rattle.event_player.specs.Playing.{Runs, run_from}
+use Rattle.host_io.specs.Reading.{Asked}
+use Rattle.event_player.specs.Standing.{room_in, stand}
 use Rattle.xousim.specs.Words.{Play, play_in}
-use Rattle.xousim.proofs.Reading.ReadingLemmas.{told_file, read_of_file}
-use Rattle.xousim.proofs.Telling.StandingLemmas.{room_stays, trusted_side}
+use Rattle.host_io.proofs.ReadingLemmas.{told_file, read_of_file}
+use Rattle.event_player.proofs.Playing.StandingLemmas.{room_stays}
+use Rattle.xousim.proofs.Outcome.TrustLemmas.{trusted_side}
 use Rattle.xousim.proofs.Outcome.TopLemmas.{finished_cause, finished_tells, full_on, part_of_whole, rose_after}
 use Rattle.xousim.proofs.commands.play.play_events.Goals as goal
 
@@ -29,30 +30,12 @@ returns-in-Ok-play_file-clause-played g c = λ start begins.
     let runs = c.in-Ok-play_file.ensures.runs start begins in
     let A : Option (List FileAsked) → Type 0 = λ asked. Asked (g.H.Host.asked c.args.host.now) asked Second c.args.play.events.now true in
     let call : Call = record {
-      host = record {
-        files = file;
-        asked = g.H.Host.asked c.args.host.now;
-        asked_after = g.H.Host.asked c.play_file.new.host;
-        image_left = g.H.Host.left c.play_file.new.host First;
-        left = g.H.Host.left c.play_file.new.host Second;
-        faults = g.H.Host.faults c.args.host.now;
-        faults_after = g.H.Host.faults c.play_file.new.host;
-      };
-      out = record {
-        written = g.K.Sink.written c.args.out.now;
-        written_after = g.K.Sink.written c.finish.new.out;
-        faults = g.K.Sink.faults c.args.out.now;
-        faults_after = g.K.Sink.faults c.finish.new.out;
-      };
-      store = store_side g.W.SwapStore.is_honest g.W.SwapStore.held g.W.SwapStore.asked g.W.SwapStore.faults (store_of c.args.kernel.now.mem) (store_of c.play_file.new.kernel.mem);
+      host = host_side g.H.Host c.args.host.now c.play_file.new.host;
+      out = sink_side g.K.Sink c.args.out.now c.finish.new.out;
+      store = store_side g.W.SwapStore (store_of c.args.kernel.now.mem) (store_of c.play_file.new.kernel.mem);
       status = c.finish.result;
     } in
-    let side : SinkSide = record {
-      written = g.K.Sink.written c.play_file.new.out;
-      written_after = g.K.Sink.written c.finish.new.out;
-      faults = faults c.play_file.new.out;
-      faults_after = faults c.finish.new.out;
-    } in
+    let side : SinkSide = sink_side g.K.Sink c.play_file.new.out c.finish.new.out in
     let last : Machine = machine_of g.W.SwapStore.held c.play_file.new.kernel in
     inr (record {
       asked = subst A (sym c.play_file.ensures.asked) c.in-Ok.ensures.asked;
@@ -74,7 +57,7 @@ returns-in-Err-Read-clause-played g c = λ start begins.
     let before = g.H.Host.left c.pick_file.new.self Second in
     let left = g.H.Host.left c.play_file.new.host Second in
     let run = run_from c.args.play.tells c.args.play.limit start (put (g.K.Sink.written c.args.out.now)) in
-    let P : RunFault → Type 0 = λ f. Runs run before left (stand g.W.SwapStore.is_honest g.W.SwapStore.held c.play_file.new.kernel (put (g.K.Sink.written c.play_file.new.out))) (Err f) in
+    let P : RunFault → Type 0 = λ f. Runs run before left (stand g.W.SwapStore c.play_file.new.kernel (put (g.K.Sink.written c.play_file.new.out))) (Err f) in
     let runs : P faults.Read = subst P c.in-Err-Read.field-0-is (c.in-Err-Read.ensures.runs start begins) in
     let A : Option (List FileAsked) → Type 0 = λ asked. Asked (g.H.Host.asked c.args.host.now) asked Second c.args.play.events.now true in
     inr (record {
@@ -99,7 +82,7 @@ returns-in-Err-Write-clause-played g c = λ start begins.
     let before = g.H.Host.left c.pick_file.new.self Second in
     let left = g.H.Host.left c.play_file.new.host Second in
     let run = run_from c.args.play.tells c.args.play.limit start (put (g.K.Sink.written c.args.out.now)) in
-    let P : RunFault → Type 0 = λ f. Runs run before left (stand g.W.SwapStore.is_honest g.W.SwapStore.held c.play_file.new.kernel (put (g.K.Sink.written c.play_file.new.out))) (Err f) in
+    let P : RunFault → Type 0 = λ f. Runs run before left (stand g.W.SwapStore c.play_file.new.kernel (put (g.K.Sink.written c.play_file.new.out))) (Err f) in
     let runs : P faults.Write = subst P c.in-Err-Write.field-0-is (c.in-Err-Write.ensures.runs start begins) in
     let A : Option (List FileAsked) → Type 0 = λ asked. Asked (g.H.Host.asked c.args.host.now) asked Second c.args.play.events.now true in
     inr (record {
@@ -119,7 +102,7 @@ returns-in-Err-Swap-clause-played g c = λ start begins.
     let before = g.H.Host.left c.pick_file.new.self Second in
     let left = g.H.Host.left c.play_file.new.host Second in
     let run = run_from c.args.play.tells c.args.play.limit start (put (g.K.Sink.written c.args.out.now)) in
-    let P : RunFault → Type 0 = λ f. Runs run before left (stand g.W.SwapStore.is_honest g.W.SwapStore.held c.play_file.new.kernel (put (g.K.Sink.written c.play_file.new.out))) (Err f) in
+    let P : RunFault → Type 0 = λ f. Runs run before left (stand g.W.SwapStore c.play_file.new.kernel (put (g.K.Sink.written c.play_file.new.out))) (Err f) in
     let runs : P faults.Swap = subst P c.in-Err-Swap.field-0-is (c.in-Err-Swap.ensures.runs start begins) in
     let A : Option (List FileAsked) → Type 0 = λ asked. Asked (g.H.Host.asked c.args.host.now) asked Second c.args.play.events.now true in
     inr (record {

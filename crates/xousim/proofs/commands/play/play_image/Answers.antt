@@ -2,11 +2,11 @@ use Rattle.std.proofs.Common.{ℕ, List, [], Option, refl, sym, subst, inl, inr,
 use Rattle.vm_memory.specs.Memory.{size, store_of}
 use Rattle.xk_ports.specs.declared.host.FileSlot.TheVariants.{First, Second}
 use Rattle.xousim.specs.Finish.{Booted}
-use Rattle.xousim.specs.Gathering.{put}
+use Rattle.event_player.specs.Gathering.{put}
 use Rattle.xousim.specs.Outcome.Plays.{EndsPlay}
-use Rattle.xousim.specs.Outcome.Sides.{Call, SinkSide, store_side}
-use Rattle.xousim.specs.Reading.{IsTold}
-use Rattle.xousim.specs.Standing.{room_in}
+use Rattle.xousim.specs.Outcome.Sides.{Call, SinkSide, host_side, sink_side, store_side}
+use Rattle.host_io.specs.Reading.{IsTold}
+use Rattle.event_player.specs.Standing.{room_in}
 use Rattle.xousim.specs.Words.{Play, play_in}
 use Rattle.xousim.proofs.Outcome.TopLemmas.{Before, begun_at, ends_booted}
 use Rattle.xousim.proofs.commands.play.play_image.Goals as goal
@@ -30,27 +30,14 @@ returns-in-Ok-clause-ends g c =
       store_faults = g.W.SwapStore.faults c.args.store;
     } in
     let call : Call = record {
-      host = record {
-        files = g.H.Host.file c.boot_image.new.host;
-        asked = g.H.Host.asked c.boot_image.new.host;
-        asked_after = g.H.Host.asked c.play_events-status.new.host;
-        image_left = g.H.Host.left c.play_events-status.new.host First;
-        left = g.H.Host.left c.play_events-status.new.host Second;
-        faults = g.H.Host.faults c.boot_image.new.host;
-        faults_after = g.H.Host.faults c.play_events-status.new.host;
-      };
-      out = record {
-        written = g.K.Sink.written c.args.out.now;
-        written_after = g.K.Sink.written c.play_events-status.new.out;
-        faults = g.K.Sink.faults c.args.out.now;
-        faults_after = g.K.Sink.faults c.play_events-status.new.out;
-      };
-      store = store_side g.W.SwapStore.is_honest g.W.SwapStore.held g.W.SwapStore.asked g.W.SwapStore.faults (store_of kernel.mem) (store_of after.mem);
+      host = host_side g.H.Host c.boot_image.new.host c.play_events-status.new.host;
+      out = sink_side g.K.Sink c.args.out.now c.play_events-status.new.out;
+      store = store_side g.W.SwapStore (store_of kernel.mem) (store_of after.mem);
       status = c.play_events-status.result;
     } in
-    let S : g.row.W.Denot → Type 0 = λ store. EndsPlay play (record (begun_at file before call) { store = store_side g.W.SwapStore.is_honest g.W.SwapStore.held g.W.SwapStore.asked g.W.SwapStore.faults c.args.store store }) in
+    let S : g.row.W.Denot → Type 0 = λ store. EndsPlay play (record (begun_at file before call) { store = store_side g.W.SwapStore c.args.store store }) in
     subst S (sym c.close.ensures)
-    (ends_booted play begin file before call (store_side g.W.SwapStore.is_honest g.W.SwapStore.held g.W.SwapStore.asked g.W.SwapStore.faults c.args.store (store_of kernel.mem))
+    (ends_booted play begin file before call (store_side g.W.SwapStore c.args.store (store_of kernel.mem))
     c.boot_image.ensures.file booted.2 refl refl c.play_events-status.ensures.keeps.store.preparations
     (record { host = c.boot_image.ensures.never_falls; store = c.in-Ok.ensures.count }) c.in-Ok.ensures.picked
     (subst I (sym c.play_events-status.ensures.first) c.in-Ok.ensures.end)
@@ -58,12 +45,7 @@ returns-in-Ok-clause-ends g c =
 
 pub returns-in-Err-clause-ends : goal.returns-in-Err-clause-ends
 returns-in-Err-clause-ends g c =
-    let out : SinkSide = record {
-      written = g.K.Sink.written c.args.out.now;
-      written_after = g.K.Sink.written c.args.out.now;
-      faults = g.K.Sink.faults c.args.out.now;
-      faults_after = g.K.Sink.faults c.args.out.now;
-    } in
+    let out : SinkSide = sink_side g.K.Sink c.args.out.now c.args.out.now in
     elim (c.in-Err.ensures.ends out refl) [
       | inl refused ↦ inl refused
       | inr unstarted ↦ inr (inl unstarted)

@@ -1,13 +1,13 @@
 use Rattle.std.proofs.Common.{◌≡◌, inr, subst, sym, ℕ, true, List, None}
 use Rattle.machine_model.specs.State.Machine.{Machine}
-use Rattle.suspend_image.specs.Machines.{machine_of as machine_in}
+use Rattle.state_rows.specs.Machines.{machine_of as machine_in}
 use Rattle.vm_memory.specs.Memory.{size, store_of}
 use Rattle.xk_kernel.specs.State.{machine_of}
-use Rattle.xousim.specs.Gathering.{Text}
+use Rattle.event_player.specs.Gathering.{Text}
 use Rattle.xousim.specs.Outcome.Sides.{Prepares, store_side}
 use Rattle.xousim.specs.Outcome.Starts.{StopsIn}
 use Rattle.xousim.specs.Outcome.States.{room_from}
-use Rattle.xousim.specs.Standing.{Begins, room_in, stand}
+use Rattle.event_player.specs.Standing.{Begins, room_in, stand}
 use Rattle.xousim.specs.StateFiles.{IsSoundState}
 use Rattle.xousim.proofs.Images.StartingLemmas.{all_ok, both_ok, if_err}
 use Rattle.xousim.proofs.Outcome.ResumeLemmas.{state_file_of}
@@ -30,14 +30,14 @@ returns-in-Ok-clause-resumed g c =
     let file = state_file_of (g.H.Host.file c.args.host.now) c.args.resume.state.now saved.bytes.items bytes slots saved.state is.read is.sound
     c.as_slice.ensures.value in
     all_ok c.resume_state.result
-    (λ k. ((text : Text) → Begins machine (stand g.W.SwapStore.is_honest held k text)) × ((machine_of held k).steps ≡ saved.state.steps))
+    (λ k. ((text : Text) → Begins machine (stand g.W.SwapStore k text)) × ((machine_of held k).steps ≡ saved.state.steps))
     (λ k. room_in k ≡ room_from machine slots)
     (λ k. (size k.mem).slots ≡ slots)
-    (λ k. Prepares (store_side g.W.SwapStore.is_honest held g.W.SwapStore.asked g.W.SwapStore.faults c.args.store (store_of k.mem)) slots None true)
+    (λ k. Prepares (store_side g.W.SwapStore g.W.SwapStore c.args.store (store_of k.mem)) slots None true)
     _
     (λ k first room same prepared. (machine, first.0, first.1, record { state = file; room = room; slots = same; prepared = prepared }))
     (both_ok c.resume_state.result
-    (λ k. (text : Text) → Begins machine (stand g.W.SwapStore.is_honest held k text))
+    (λ k. (text : Text) → Begins machine (stand g.W.SwapStore k text))
     (λ k. (machine_of held k).steps ≡ saved.state.steps)
     _ (λ k begins steps. (begins, steps)) c.resume_state.ensures.begins c.resume_state.ensures.steps)
     c.resume_state.ensures.room c.resume_state.ensures.slots c.resume_state.ensures.prepared
@@ -53,7 +53,7 @@ returns-in-Ok-clause-ends g c = λ out unwritten.
     c.as_slice.ensures.value in
     if_err c.resume_state.result
     (λ e. StopsIn (room_from machine slots) slots None machine
-    (store_side g.W.SwapStore.is_honest g.W.SwapStore.held g.W.SwapStore.asked g.W.SwapStore.faults c.args.store e.store) e.status)
+    (store_side g.W.SwapStore c.args.store e.store) e.status)
     _
     (λ e stopped. inr (record { asked = is.picked; machine = machine; state = file; stopped = stopped; unwritten = unwritten }))
     c.resume_state.ensures.stopped

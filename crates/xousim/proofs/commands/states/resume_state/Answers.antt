@@ -5,7 +5,7 @@ use Rattle.xousim.proofs.commands.states.resume_state.Goals as goal
 
 pub returns-in-Ok-resume-clause-begins : goal.returns-in-Ok-resume-clause-begins
 returns-in-Ok-resume-clause-begins g c = λ text.
-    resumed_begins g.W.SwapStore.is_honest g.W.SwapStore.held c.in-Ok-resume.kernel c.args.file.now c.args.state.now c.args.slots text
+    resumed_begins g.W.SwapStore c.in-Ok-resume.kernel c.args.file.now c.args.state.now c.args.slots text
     c.in-Ok-resume.ensures.machine c.in-Ok-resume.ensures.near c.in-Ok-resume.ensures.size
 
 pub returns-in-Ok-resume-clause-steps : goal.returns-in-Ok-resume-clause-steps

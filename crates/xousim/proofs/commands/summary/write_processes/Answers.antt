@@ -4,7 +4,7 @@ use Rattle.xk_ports.specs.Told.{Grows, GrowsByPrefix}
 use Rattle.xk_ports.proofs.ToldLemmas.{Grows-append}
 use Rattle.xousim.specs.Summary.{process_line, process_lines}
 use Rattle.xousim.proofs.Output.SummaryLemmas.{lines_next, lines_split}
-use Rattle.xousim.proofs.Telling.ToldLemmas.{on_err, prefix_after}
+use Rattle.host_io.proofs.ToldLemmas.{on_err, prefix_after}
 use Rattle.xousim.proofs.commands.summary.write_processes.Goals as goal
 
 pub returns-in_err-put_all-clause-front : goal.returns-in_err-put_all-clause-front

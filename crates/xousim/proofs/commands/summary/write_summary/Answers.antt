@@ -5,7 +5,7 @@ use Rattle.std.specs.Prelude.{OnErr, OnOk}
 use Rattle.xk_ports.specs.Told.{Grows, GrowsByPrefix}
 use Rattle.xk_ports.proofs.ToldLemmas.{Grows-append}
 use Rattle.xousim.specs.Summary.{process_lines, ram_line, summary_of, total_line}
-use Rattle.xousim.proofs.Telling.ToldLemmas.{front_later, front_longer, on_err, on_err_map, on_ok_map}
+use Rattle.host_io.proofs.ToldLemmas.{front_later, front_longer, on_err, on_err_map, on_ok_map}
 use Rattle.xousim.proofs.commands.summary.write_summary.Goals as goal
 
 pub returns-in_err-put_all-clause-front : goal.returns-in_err-put_all-clause-front

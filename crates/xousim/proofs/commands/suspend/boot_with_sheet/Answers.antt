@@ -19,7 +19,7 @@ returns-in_err-kernel-clause-ends g c = λ out unwritten.
     planned.plan is.read is.image is.planned c.as_slice.ensures.value in
     let e = c.in_err-kernel.field-0.0 in
     let S : BootPlan → Type 0 = λ p. Stops p None (start planned.plan bytes)
-    (store_side g.W.SwapStore.is_honest g.W.SwapStore.held g.W.SwapStore.asked g.W.SwapStore.faults c.args.store e.store) e.status in
+    (store_side g.W.SwapStore c.args.store e.store) e.status in
     if_error c.from_residual.result _ e c.from_residual.ensures.1
     (inr (record {
       asked = is.picked;
@@ -39,7 +39,7 @@ returns-in-Ok-new-clause-booted g c =
     let k = c.in_ok-kernel.kernel in
     let starts = c.in_ok-kernel.ensures in
     let P : ℕ → Type 0 = λ n. Prepares
-    (store_side g.W.SwapStore.is_honest g.W.SwapStore.held g.W.SwapStore.asked g.W.SwapStore.faults c.args.store (store_of k.mem)) n None true in (
+    (store_side g.W.SwapStore c.args.store (store_of k.mem)) n None true in (
       start planned.plan bytes,
       starts.begins,
       record {
@@ -64,7 +64,7 @@ returns-clause-ends g c = λ out unwritten.
     let image = image_of (g.H.Host.file c.args.host.now) c.args.suspend.image.now planned.bytes.items bytes c.args.suspend.slots planned.args
     planned.plan is.read is.image is.planned c.as_slice.ensures.value in
     let P : g.row.W.Denot → BootPlan → Type 0 = λ store plan. Prepares
-    (store_side g.W.SwapStore.is_honest g.W.SwapStore.held g.W.SwapStore.asked g.W.SwapStore.faults c.args.store store) plan.slots None true in
+    (store_side g.W.SwapStore c.args.store store) plan.slots None true in
     inr (record {
       asked = is.picked;
       machine = start planned.plan bytes;

@@ -4,24 +4,25 @@ use Rattle.vm_memory.specs.Memory.{store_of}
 use Rattle.xk_kernel.specs.State.{machine_of}
 use Rattle.xk_ports.specs.Host.{FileAsked}
 use Rattle.xk_ports.specs.declared.host.FileSlot.TheVariants.{First, Second}
-use Rattle.xousim.specs.declared.playing.ending.Ending.{Ending}
-use Rattle.xousim.specs.declared.playing.ending.Ending.TheVariants.{Played, LimitMet, BadLine}
-use Rattle.xousim.specs.declared.playing.event_file.RunFault.{RunFault}
-use Rattle.xousim.specs.declared.playing.event_file.RunFault.TheVariants as faults
-use Rattle.xousim.specs.declared.commands.command.Telling.TheVariants.{Nothing}
-use Rattle.xousim.specs.Gathering.{put}
-use Rattle.xousim.specs.Outcome.Plays.{run_of}
-use Rattle.xousim.specs.Outcome.Sides.{Call, store_side}
+use Rattle.event_player.specs.declared.ending.Ending.{Ending}
+use Rattle.event_player.specs.declared.ending.Ending.TheVariants.{Played, LimitMet, BadLine}
+use Rattle.event_player.specs.declared.event_file.RunFault.{RunFault}
+use Rattle.event_player.specs.declared.event_file.RunFault.TheVariants as faults
+use Rattle.event_player.specs.declared.telling.Telling.TheVariants.{Nothing}
+use Rattle.event_player.specs.Gathering.{put}
+use Rattle.event_player.specs.History.{run_of}
+use Rattle.xousim.specs.Outcome.Sides.{Call, host_side, sink_side, store_side}
 use Rattle.xousim.specs.Outcome.Suspends.{silent}
-use Rattle.xousim.specs.Playing.{Runs, run_from}
-use Rattle.xousim.specs.Reading.{Asked}
-use Rattle.xousim.specs.Standing.{Stand, room_in, stand}
+use Rattle.event_player.specs.Playing.{Runs, run_from}
+use Rattle.host_io.specs.Reading.{Asked}
+use Rattle.event_player.specs.Standing.{Stand, room_in, stand}
 use Rattle.xousim.specs.Words.{Play, Suspend, suspend_in}
-use Rattle.xousim.proofs.Outcome.KeptLemmas.{kept_after}
+use Rattle.event_player.proofs.Playing.KeptLemmas.{kept_after}
 use Rattle.xousim.proofs.Outcome.SuspendLemmas.{full_where_out, last_reserver, part_of_saved, room_kept, saved_cause, saved_tells, steps_untouched, unsaved, untouched}
 use Rattle.xousim.proofs.Outcome.TopLemmas.{full_on, rose_after}
-use Rattle.xousim.proofs.Reading.ReadingLemmas.{told_file, read_of_file}
-use Rattle.xousim.proofs.Telling.StandingLemmas.{room_stays, trust_stays, trusted_means, trusted_side}
+use Rattle.host_io.proofs.ReadingLemmas.{told_file, read_of_file}
+use Rattle.event_player.proofs.Playing.StandingLemmas.{room_stays, trust_stays, trusted_means}
+use Rattle.xousim.proofs.Outcome.TrustLemmas.{trusted_side}
 use Rattle.xousim.proofs.commands.suspend.suspend_events.Goals as goal
 
 pub save_state-requires-clause-room : goal.save_state-requires-clause-room
@@ -36,36 +37,23 @@ returns-in-Ok-Played-clause-played g c = λ start begins.
     let suspend : Suspend = suspend_in c.args.suspend in
     let play : Play = silent suspend in
     let run = run_from Nothing c.args.suspend.limit start (put (g.K.Sink.written c.args.out.now)) in
-    let mid : Stand = stand g.W.SwapStore.is_honest g.W.SwapStore.held c.play_file.new.kernel (put (g.K.Sink.written c.play_file.new.out)) in
+    let mid : Stand = stand g.W.SwapStore c.play_file.new.kernel (put (g.K.Sink.written c.play_file.new.out)) in
     let P : Ending → Type 0 = λ e. Runs run before left mid (Ok e) in
     let runs : P Played = subst P c.in-Ok-Played.field-0-is (c.in-Ok-Played.ensures.runs start begins) in
     let A : Option (List FileAsked) → Type 0 = λ asked. Asked (g.H.Host.asked c.args.host.now) asked Second c.args.suspend.events.now true in
     let played = c.play_file.ensures.keeps in
     let last : Machine = machine_of g.W.SwapStore.held c.play_file.new.kernel in
     let call : Call = record {
-      host = record {
-        files = file;
-        asked = g.H.Host.asked c.args.host.now;
-        asked_after = g.H.Host.asked c.play_file.new.host;
-        image_left = g.H.Host.left c.play_file.new.host First;
-        left = left;
-        faults = g.H.Host.faults c.args.host.now;
-        faults_after = g.H.Host.faults c.play_file.new.host;
-      };
-      out = record {
-        written = g.K.Sink.written c.args.out.now;
-        written_after = g.K.Sink.written c.save_state.new.out;
-        faults = faults c.args.out.now;
-        faults_after = faults c.save_state.new.out;
-      };
-      store = store_side g.W.SwapStore.is_honest g.W.SwapStore.held g.W.SwapStore.asked g.W.SwapStore.faults
+      host = host_side g.H.Host c.args.host.now c.play_file.new.host;
+      out = sink_side g.K.Sink c.args.out.now c.save_state.new.out;
+      store = store_side g.W.SwapStore
           (store_of c.args.kernel.now.mem) (store_of c.save_state.new.kernel.mem);
       status = c.save_state.result;
     } in
     inr (record {
       asked = subst A (sym c.play_file.ensures.asked) c.in-Ok.ensures.asked;
       cause = saved_cause play (room_in c.args.kernel.now) start call mid.near (g.K.Sink.written c.play_file.new.out) (faults c.play_file.new.out)
-          (store_side g.W.SwapStore.is_honest g.W.SwapStore.held g.W.SwapStore.asked g.W.SwapStore.faults
+          (store_side g.W.SwapStore
           (store_of c.play_file.new.kernel.mem) (store_of c.save_state.new.kernel.mem))
           c.save_state.result c.play_file.ensures.out played.store.never_falls refl
           (full_where_out play (room_in c.args.kernel.now) start call (put (g.K.Sink.written c.args.out.now)) before mid c.in-Ok.ensures.left
@@ -80,7 +68,7 @@ returns-in-Ok-Played-clause-played g c = λ start begins.
           let old : Machine = machine_of g.W.SwapStore.held c.args.kernel.now in
           saved_tells suspend start last call (g.K.Sink.written c.play_file.new.out) (faults c.play_file.new.out) runs.0 c.save_state.result
           (told_file file suspend.events before runs.0 c.in-Ok.ensures.left runs.1) all.0 all.1
-          (c.save_state.ensures.saved (trusted_means g.W.SwapStore.is_honest g.W.SwapStore.held c.play_file.new.kernel at_mid)
+          (c.save_state.ensures.saved (trusted_means g.W.SwapStore c.play_file.new.kernel at_mid)
           (last_reserver suspend.limit runs.0 old start last at_start (c.requires.sound.matched c.requires.usable) c.requires.unreserved all.1));
       events_read = λ done. c.in-Ok-Played.ensures.end (ap (λ (e : Ending). Ok e) c.in-Ok-Played.field-0-is);
     })
@@ -92,7 +80,7 @@ returns-in-Ok-LimitMet-clause-played g c = λ start begins.
     let left = g.H.Host.left c.play_file.new.host Second in
     let suspend : Suspend = suspend_in c.args.suspend in
     let run = run_from Nothing c.args.suspend.limit start (put (g.K.Sink.written c.args.out.now)) in
-    let now : Stand = stand g.W.SwapStore.is_honest g.W.SwapStore.held c.play_file.new.kernel (put (g.K.Sink.written c.play_file.new.out)) in
+    let now : Stand = stand g.W.SwapStore c.play_file.new.kernel (put (g.K.Sink.written c.play_file.new.out)) in
     let P : Ending → Type 0 = λ e. Runs run before left now (Ok e) in
     let runs : P LimitMet = subst P c.in-Ok-LimitMet.field-0-is (c.in-Ok-LimitMet.ensures.runs start begins) in
     let A : Option (List FileAsked) → Type 0 = λ asked. Asked (g.H.Host.asked c.args.host.now) asked Second c.args.suspend.events.now true in
@@ -113,7 +101,7 @@ returns-in-Ok-BadLine-clause-played g c = λ start begins.
     let suspend : Suspend = suspend_in c.args.suspend in
     let line = c.in-Ok-BadLine.line in
     let run = run_from Nothing c.args.suspend.limit start (put (g.K.Sink.written c.args.out.now)) in
-    let now : Stand = stand g.W.SwapStore.is_honest g.W.SwapStore.held c.play_file.new.kernel (put (g.K.Sink.written c.play_file.new.out)) in
+    let now : Stand = stand g.W.SwapStore c.play_file.new.kernel (put (g.K.Sink.written c.play_file.new.out)) in
     let P : Ending → Type 0 = λ e. Runs run before left now (Ok e) in
     let runs : P (BadLine line) = subst P c.in-Ok-BadLine.field-0-is (c.in-Ok-BadLine.ensures.runs start begins) in
     let A : Option (List FileAsked) → Type 0 = λ asked. Asked (g.H.Host.asked c.args.host.now) asked Second c.args.suspend.events.now true in
@@ -132,7 +120,7 @@ returns-in-Err-Read-clause-played g c = λ start begins.
     let before = g.H.Host.left c.pick_file.new.self Second in
     let left = g.H.Host.left c.play_file.new.host Second in
     let run = run_from Nothing c.args.suspend.limit start (put (g.K.Sink.written c.args.out.now)) in
-    let now : Stand = stand g.W.SwapStore.is_honest g.W.SwapStore.held c.play_file.new.kernel (put (g.K.Sink.written c.play_file.new.out)) in
+    let now : Stand = stand g.W.SwapStore c.play_file.new.kernel (put (g.K.Sink.written c.play_file.new.out)) in
     let P : RunFault → Type 0 = λ f. Runs run before left now (Err f) in
     let runs : P faults.Read = subst P c.in-Err-Read.field-0-is (c.in-Err-Read.ensures.runs start begins) in
     let A : Option (List FileAsked) → Type 0 = λ asked. Asked (g.H.Host.asked c.args.host.now) asked Second c.args.suspend.events.now true in
@@ -160,7 +148,7 @@ returns-in-Err-Write-clause-played g c = λ start begins.
     let before = g.H.Host.left c.pick_file.new.self Second in
     let left = g.H.Host.left c.play_file.new.host Second in
     let run = run_from Nothing c.args.suspend.limit start (put (g.K.Sink.written c.args.out.now)) in
-    let now : Stand = stand g.W.SwapStore.is_honest g.W.SwapStore.held c.play_file.new.kernel (put (g.K.Sink.written c.play_file.new.out)) in
+    let now : Stand = stand g.W.SwapStore c.play_file.new.kernel (put (g.K.Sink.written c.play_file.new.out)) in
     let P : RunFault → Type 0 = λ f. Runs run before left now (Err f) in
     let runs : P faults.Write = subst P c.in-Err-Write.field-0-is (c.in-Err-Write.ensures.runs start begins) in
     let A : Option (List FileAsked) → Type 0 = λ asked. Asked (g.H.Host.asked c.args.host.now) asked Second c.args.suspend.events.now true in
@@ -182,7 +170,7 @@ returns-in-Err-Swap-clause-played g c = λ start begins.
     let before = g.H.Host.left c.pick_file.new.self Second in
     let left = g.H.Host.left c.play_file.new.host Second in
     let run = run_from Nothing c.args.suspend.limit start (put (g.K.Sink.written c.args.out.now)) in
-    let now : Stand = stand g.W.SwapStore.is_honest g.W.SwapStore.held c.play_file.new.kernel (put (g.K.Sink.written c.play_file.new.out)) in
+    let now : Stand = stand g.W.SwapStore c.play_file.new.kernel (put (g.K.Sink.written c.play_file.new.out)) in
     let P : RunFault → Type 0 = λ f. Runs run before left now (Err f) in
     let runs : P faults.Swap = subst P c.in-Err-Swap.field-0-is (c.in-Err-Swap.ensures.runs start begins) in
     let A : Option (List FileAsked) → Type 0 = λ asked. Asked (g.H.Host.asked c.args.host.now) asked Second c.args.suspend.events.now true in

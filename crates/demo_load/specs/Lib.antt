@@ -1,0 +1,4 @@
+pub mod Code
+pub mod Events
+pub mod Image
+pub mod Totals

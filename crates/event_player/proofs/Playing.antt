@@ -1,0 +1,17 @@
+pub mod FileLemmas
+pub mod FullLemmas
+pub mod GatheringLemmas
+pub mod HistoryLemmas
+pub mod KeptLemmas
+pub mod NearLemmas
+pub mod OnceLemmas
+pub mod PlayingLemmas
+pub mod QuietLemmas
+pub mod RecordLemmas
+pub mod RestLemmas
+pub mod SomeStepsLemmas
+pub mod StandingLemmas
+pub mod StepLemmas
+pub mod StepLimitLemmas
+pub mod TableLemmas
+pub mod TickLemmas

@@ -1,0 +1,107 @@
+-- Telling, one piece after another, while what is told is gathered.
+use Rattle.std.proofs.Common.{◌≡◌, ℕ, List, [], ◌∷◌, ◌++◌, Option, refl, sym, ap, subst, ◌∙◌, append_assoc, append-nil}
+use Rattle.xk_ports.specs.Told.{Grows, GrowsByPrefix}
+use Rattle.xk_ports.proofs.ToldLemmas.{Grows-append, Grows-none}
+use Rattle.event_player.specs.declared.telling.Telling.{Telling}
+use Rattle.event_player.specs.declared.ending.Ending.{Ending}
+use Rattle.event_player.specs.Gathering.{Gathered, Gathers, GathersPart, GathersSome, Puts, Text, put, text}
+use Rattle.event_player.specs.History.{History}
+use Rattle.event_player.specs.Telling.{told}
+use Rattle.event_player.specs.Writing.{Wrote, WroteSome}
+
+-- ---- what is put
+
+pub first_none : (xs ys : List ℕ) → xs ++ ys ≡ [] → xs ≡ []
+first_none [] ys none = refl
+first_none (x ∷ xs) ys none = cc
+
+second_none : (xs ys : List ℕ) → xs ++ ys ≡ [] → ys ≡ []
+second_none [] ys none = none
+second_none (x ∷ xs) ys none = cc
+
+pub puts_append : (before mid after : Option (List ℕ)) (xs ys : List ℕ) → Puts before mid xs → Puts mid after ys → Puts before after (xs ++ ys)
+puts_append before mid after xs ys first second = record {
+  grown = Grows-append before mid after xs ys first.grown second.grown;
+  still = λ none. second.still (second_none xs ys none) ∙ first.still (first_none xs ys none);
+}
+
+-- ---- what is told
+
+-- nothing is told
+pub gathers_none : (on : Text) → Gathers on on []
+gathers_none on = record { front = []; cut = append-nil on.held; puts = record { grown = Grows-none on.out; still = λ none. refl } }
+
+-- one after the other: the first is held, then the second
+held_on : (held one other xs ys p q : List ℕ) → held ++ xs ≡ p ++ one → one ++ ys ≡ q ++ other → held ++ (xs ++ ys) ≡ (p ++ q) ++ other
+held_on held one other xs ys p q first second =
+    sym (append_assoc held xs ys)
+    ∙ (ap (λ (l : List ℕ). l ++ ys) first
+    ∙ (append_assoc p one ys
+    ∙ (ap (λ (l : List ℕ). p ++ l) second
+    ∙ sym (append_assoc p q other))))
+
+pub gathers_append : (before mid after : Text) (xs ys : List ℕ) → Gathers before mid xs → Gathers mid after ys → Gathers before after (xs ++ ys)
+gathers_append before mid after xs ys first second = record {
+  front = first.front ++ second.front;
+  cut = held_on before.held mid.held after.held xs ys first.front second.front first.cut second.cut;
+  puts = puts_append before.out mid.out after.out first.front second.front first.puts second.puts;
+}
+
+-- a whole text, and then a front of what comes behind it
+pub part_later : (before mid after : Text) (xs ys : List ℕ) → Gathers before mid xs → GathersPart mid after ys → GathersPart before after (xs ++ ys)
+part_later before mid after xs ys first second = (
+  first.front ++ second.0,
+  second.1,
+  held_on before.held mid.held second.1 xs ys first.front second.0 first.cut second.2,
+  Grows-append before.out mid.out after.out first.front second.0 first.puts.grown second.3,
+)
+
+-- a front of some text is a front of it with more behind it
+pub part_longer : (before after : Text) (xs ys : List ℕ) → GathersPart before after xs → GathersPart before after (xs ++ ys)
+part_longer before after xs ys part = (
+  part.0,
+  part.1 ++ ys,
+  sym (append_assoc before.held xs ys) ∙ (ap (λ (l : List ℕ). l ++ ys) part.2 ∙ append_assoc part.0 part.1 ys),
+  part.3,
+)
+
+-- a front of what comes after
+pub part_after : (before mid after : Text) (xs ys zs : List ℕ) → Gathers before mid xs → GathersPart mid after ys → GathersPart before after (xs ++ (ys ++ zs))
+part_after before mid after xs ys zs first second = part_later before mid after xs (ys ++ zs) first (part_longer mid after ys zs second)
+
+-- ---- what is held is put
+
+-- all of it
+pub gathers_put : (before : Text) (out after : Option (List ℕ)) (held xs : List ℕ) → Gathers before (text out held) xs → Puts out after held
+    → Gathers before (put after) xs
+gathers_put before out after held xs first puts = record {
+  front = first.front ++ held;
+  cut = first.cut ∙ sym (append-nil (first.front ++ held));
+  puts = puts_append before.out out after first.front held first.puts puts;
+}
+
+-- .. or a front of it
+pub gathers_unput : (before : Text) (out after : Option (List ℕ)) (held xs : List ℕ) → Gathers before (text out held) xs → GrowsByPrefix out after held → GathersPart before (put after) xs
+gathers_unput before out after held xs first front = (
+  first.front ++ front.0,
+  front.1,
+  first.cut ∙ (ap (λ (l : List ℕ). first.front ++ l) front.2 ∙ sym (append_assoc first.front front.0 front.1)),
+  Grows-append before.out out after first.front front.0 first.puts.grown front.3,
+)
+
+-- where all was put before and after, what was told was written
+put_whole : (before after : Option (List ℕ)) (all : List ℕ) → Gathers (put before) (put after) all → Puts before after all
+put_whole before after all gathered =
+    let P : List ℕ → Type 0 = λ text. Puts before after text in subst P (sym (gathered.cut ∙ append-nil gathered.front)) gathered.puts
+
+pub all_put : (tells : Telling) (before after : Option (List ℕ)) (h : History) (ending : Ending) → Gathered tells (put before) (put after) h ending
+    → Wrote tells before after h ending
+all_put tells before after h ending gathered =
+    let puts : Puts before after (told tells h.records) = put_whole before after (told tells h.records) gathered.1 in
+    record { ended = gathered.0; written = puts.grown; still = puts.still }
+
+pub some_put : (tells : Telling) (before after : Option (List ℕ)) (limit : ℕ) (h : ℕ → History) → GathersSome tells (put before) (put after) limit h
+    → WroteSome tells before after limit h
+some_put tells before after limit h some =
+    let puts : Puts before after (told tells (h some.done).records) = put_whole before after (told tells (h some.done).records) some.gathered in
+    record { done = some.done; within = some.within; met = some.met; written = puts.grown; still = puts.still }

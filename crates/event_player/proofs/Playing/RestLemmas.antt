@@ -1,0 +1,147 @@
+-- What is left of a tick: what comes of the rest comes of the whole.
+use Rattle.xk_ports.specs.declared.store.SwapStore.{Ghosts as SwapStore}
+use Rattle.std.proofs.Common.{◌≡◌, ◌-◌, ◌≤◌, ◌⊎◌, ◌∙◌, inl, inr, ℕ, zero, suc, Bool, true, false, List, Result, Ok, Err, IsErrAnd, is_some, refl, sym, ap, subst, arith}
+use Rattle.xk_base.specs.declared.events.Event.{Event}
+use Rattle.xk_base.specs.declared.events.Event.TheVariants.{Tick}
+use Rattle.machine_model.specs.Runs.Moments.{Moment}
+use Rattle.machine_model.specs.State.Machine.{Machine}
+use Rattle.machine_model.specs.State.Order.{actor}
+use Rattle.sv32_space.specs.Tie.{Held}
+use Rattle.machine_history.specs.History as kernel
+use Rattle.machine_history.specs.History.{play}
+use Rattle.machine_history.specs.HistoryMoments.{event_moments, tick_moments}
+use Rattle.xk_kernel.specs.Knowing.{KnowsBytes, PutsNoneOut}
+use Rattle.xk_kernel.specs.Quiet.{GoesQuietly}
+use Rattle.xk_kernel.specs.Sound.{Keeps}
+use Rattle.xk_kernel.specs.State.{machine_of}
+use Rattle.xk_kernel.specs.declared.kernel.Kernel.{Kernel}
+use Rattle.machine_history.proofs.Histories.HistoryLemmas.{tick_idle, tick_zero}
+use Rattle.event_player.specs.declared.telling.Telling.{Telling}
+use Rattle.event_player.specs.declared.ending.Ending.{Ending}
+use Rattle.event_player.specs.declared.ending.Ending.TheVariants.{LimitMet, Played}
+use Rattle.event_player.specs.declared.events.PlayFault.{PlayFault}
+use Rattle.event_player.specs.declared.events.PlayFault.TheVariants.{Swap, Write}
+use Rattle.event_player.specs.Gathering.{Gathered, GatheredPart, Text}
+use Rattle.event_player.specs.History.{with_ending}
+use Rattle.event_player.specs.Rooms.{ComesFull, Room}
+use Rattle.event_player.specs.Playing.{Comes, Plays, PlaysOn, StaysNear}
+use Rattle.event_player.specs.Standing.{Stand, stand}
+use Rattle.event_player.proofs.Playing.HistoryLemmas.{gathered_same, met_steps, part_same}
+use Rattle.event_player.proofs.Playing.QuietLemmas.{quiet_counts, quiet_full, quiet_tick}
+use Rattle.event_player.proofs.Playing.StandingLemmas.{near_knows, room_stays, trust_stays, trusted_knows}
+use Rattle.event_player.proofs.Playing.StepLimitLemmas.{play_grows}
+
+-- ---- the rest of an event, of whose front nothing is told
+
+-- Up to any limit that isn't passed by then, the history is that of this event on this machine, and its states are among those of the whole.
+pub record IsRest (whole rest : Event) (old mid : Machine) : Type 0 where
+  pub history : (limit : ℕ) → mid.steps ≤ limit → play whole limit old ≡ play rest limit mid
+  pub states : (room : Room) (limit : ℕ) → mid.steps ≤ limit → ComesFull room mid (event_moments rest limit mid) → ComesFull room old (event_moments whole limit old)
+
+-- The run stands before the rest of an event: where the kernel is trusted; and where no page was out, and then none is.
+pub record StandsBefore (limit : ℕ) (whole rest : Event) (old mid : Stand) : Type 0 where
+  pub text : mid.text ≡ old.text
+  pub trust : mid.trusted ≡ old.trusted
+  pub room : mid.room ≡ old.room
+  pub within : mid.machine.steps ≤ limit
+  pub trusted : old.trusted ≡ true → IsRest whole rest old.machine mid.machine
+  pub near : old.near ≡ true → (mid.near ≡ true) × IsRest whole rest old.machine mid.machine
+
+comes_of_rest : (tells : Telling) (whole rest : Event) (limit : ℕ) (old mid new : Stand) (result : Result Ending PlayFault) → mid.text ≡ old.text
+    → mid.machine.steps ≤ limit → IsRest whole rest old.machine mid.machine → Comes tells rest limit mid new result → Comes tells whole limit old new result
+comes_of_rest tells whole rest limit old mid new (Ok ending) same within is comes =
+    let alike = is.history limit within in
+    let P : Text → Type 0 = λ text. Gathered tells text new.text (with_ending Played (play rest limit mid.machine)) ending in (
+      gathered_same tells old.text new.text _ _ ending (ap (with_ending Played) alike) (subst P same comes.0),
+      comes.1 ∙ sym (ap (λ (h : kernel.History). h.machine) alike),
+    )
+comes_of_rest tells whole rest limit old mid new (Err Write) same within is comes =
+    let P : Text → Type 0 = λ text. GatheredPart tells text new.text (with_ending Played (play rest limit mid.machine)) in
+    part_same tells old.text new.text _ _ (ap (with_ending Played) (is.history limit within)) (subst P same comes)
+comes_of_rest tells whole rest limit old mid new (Err Swap) same within is comes =
+    let done : ℕ = comes.done in
+    let grown = play_grows rest done mid.machine in
+    let ends = met_steps rest done mid.machine comes.met in
+    let alike = is.history done (omega (arith, grown, ends)) in
+    let P : Text → Type 0 = λ text. Gathered tells text new.text (with_ending Played (play rest done mid.machine)) LimitMet in
+    let wrote = gathered_same tells old.text new.text (with_ending Played (play whole done old.machine)) _ LimitMet (ap (with_ending Played) alike) (subst P same (comes.met, comes.gathered)) in
+    record { done = done; within = comes.within; met = wrote.0; gathered = wrote.1 }
+
+pub plays_of_rest : (tells : Telling) (whole rest : Event) (limit : ℕ) (old mid new : Stand) (result : Result Ending PlayFault)
+    → StandsBefore limit whole rest old mid → Plays tells rest limit mid new result → Plays tells whole limit old new result
+plays_of_rest tells whole rest limit old mid new result stands plays = record {
+  trusted = λ trusted.
+      comes_of_rest tells whole rest limit old mid new result stands.text stands.within (stands.trusted trusted) (plays.trusted (stands.trust ∙ trusted));
+  near = λ near. let both = stands.near near in go both.1 (plays.near both.0);
+}
+  where
+    go : IsRest whole rest old.machine mid.machine
+        → (StaysNear new result × Comes tells rest limit mid new result) ⊎ ComesFull mid.room mid.machine (event_moments rest limit mid.machine)
+        → (StaysNear new result × Comes tells whole limit old new result) ⊎ ComesFull old.room old.machine (event_moments whole limit old.machine)
+    go is (inl both) = inl (both.0, comes_of_rest tells whole rest limit old mid new result stands.text stands.within is both.1)
+    go is (inr later) =
+        let A : Room → Type 0 = λ r. ComesFull r mid.machine (event_moments rest limit mid.machine) in
+        inr (is.states old.room limit stands.within (subst A stands.room later))
+
+-- so it is as the tick is played on from there
+pub on_from_rest : (tells : Telling) (left middle limit : ℕ) (old mid new : Stand) (result : Result ℕ PlayFault)
+    → StandsBefore limit (Tick left) (Tick middle) old mid → PlaysOn tells middle limit mid new result → PlaysOn tells left limit old new result
+on_from_rest tells left middle limit old mid new (Ok rest) stands on =
+    λ end result plays. plays_of_rest tells (Tick left) (Tick middle) limit old mid end result stands (on end result plays)
+on_from_rest tells left middle limit old mid new (Err fault) stands on =
+    plays_of_rest tells (Tick left) (Tick middle) limit old mid new (Err fault) stands on
+
+-- a fault of it is handed on
+pub plays_err : (tells : Telling) (event : Event) (limit : ℕ) (old new : Stand) (result : Result Ending PlayFault) (fault : PlayFault)
+    → IsErrAnd result (λ e. e ≡ fault) → Plays tells event limit old new (Err fault) → Plays tells event limit old new result
+plays_err tells event limit old new (Ok ending) fault same plays = absurd same
+plays_err tells event limit old new (Err e) fault same plays =
+    let P : PlayFault → Type 0 = λ x. Plays tells event limit old new (Err x) in subst P (sym same) plays
+
+-- ---- which fronts are so
+
+-- quiet steps
+pub quiet_rest : (done n : ℕ) (m new : Machine) → GoesQuietly done m new → done ≤ n → IsRest (Tick n) (Tick (n - done)) m new
+quiet_rest done n m new goes within =
+    let counts = quiet_counts done m new goes in
+    record {
+      history = λ limit below. quiet_tick done n limit m new goes within (omega (arith, counts, below));
+      states = λ room limit below full. quiet_full room done n limit m new goes within (omega (arith, counts, below)) full;
+    }
+
+idle_moments : (n limit : ℕ) (m : Machine) → is_some (actor m) ≡ false → event_moments (Tick 0) limit m ≡ event_moments (Tick n) limit m
+unfolding event_moments tick_moments
+idle_moments zero limit m idle = refl
+idle_moments (suc n) limit m idle = rw idle refl
+
+-- none, where no thread is Ready: no step is left of the tick
+idle_rest : (n : ℕ) (m : Machine) → is_some (actor m) ≡ false → IsRest (Tick n) (Tick 0) m m
+idle_rest n m idle = record {
+  history = λ limit below. tick_idle n limit m idle ∙ sym (tick_zero limit m);
+  states = λ room limit below full.
+      let A : List Moment → Type 0 = λ moments. ComesFull room m moments in subst A (idle_moments n limit m idle) full;
+}
+
+pub stands_idle : (n limit : ℕ) (now : Stand) → now.machine.steps ≤ limit → is_some (actor now.machine) ≡ false → StandsBefore limit (Tick n) (Tick 0) now now
+stands_idle n limit now within idle = record {
+  text = refl;
+  trust = refl;
+  room = refl;
+  within = within;
+  trusted = λ trusted. idle_rest n now.machine idle;
+  near = λ near. (near, idle_rest n now.machine idle);
+}
+
+-- .. after a run of a kernel
+pub stands_after_run : {W : Type 0} {S : SwapStore W} {old new : Kernel W} (done left limit : ℕ) (before : Text)
+    → Keeps S old new → (KnowsBytes S old new → GoesQuietly done (machine_of S.held old) (machine_of S.held new)) → PutsNoneOut old new
+    → done ≤ left → (machine_of S.held new).steps ≤ limit → StandsBefore limit (Tick left) (Tick (left - done)) (stand S old before) (stand S new before)
+stands_after_run {S = S} {old = old} {new = new} done left limit before keeps runs none some within = record {
+  text = refl;
+  trust = trust_stays keeps;
+  room = room_stays keeps;
+  within = within;
+  trusted = λ trusted. quiet_rest done left (machine_of S.held old) (machine_of S.held new) (runs (trusted_knows keeps trusted)) some;
+  near = λ near.
+      let after = none near in (after, quiet_rest done left (machine_of S.held old) (machine_of S.held new) (runs (near_knows S old new near after)) some);
+}

@@ -1,0 +1,181 @@
+-- A tick, one step further: what comes of the rest comes of the whole.
+use Rattle.std.proofs.Common.{◌≡◌, ◌≢◌, ◌+◌, ◌-◌, ◌≤◌, ◌⊎◌, ◌∙◌, inl, inr, ℕ, true, false, Result, Ok, Err, is_some, refl, sym, ap, subst, arith}
+use Rattle.xk_base.specs.declared.events.Event.TheVariants.{Tick}
+use Rattle.machine_model.specs.State.Machine.{Machine}
+use Rattle.machine_model.specs.State.Order.{actor, turn}
+use Rattle.machine_model.specs.Stepping.Events.{nothing}
+use Rattle.machine_model.specs.Stepping.Step.{step}
+use Rattle.machine_history.specs.History as kernel
+use Rattle.machine_history.specs.History.{play}
+use Rattle.machine_history.specs.HistoryMoments.{event_moments}
+use Rattle.machine_history.proofs.Histories.HistoryLemmas.{tick_idle, tick_met, tick_steps, tick_zero}
+use Rattle.machine_history.proofs.Histories.LimitLemmas.{step_steps}
+use Rattle.event_player.specs.declared.telling.Telling.{Telling}
+use Rattle.event_player.specs.declared.ending.Ending.{Ending}
+use Rattle.event_player.specs.declared.ending.Ending.TheVariants.{Played, LimitMet}
+use Rattle.event_player.specs.declared.events.PlayFault.{PlayFault}
+use Rattle.event_player.specs.declared.events.PlayFault.TheVariants.{Write, Swap}
+use Rattle.event_player.specs.Gathering.{Gathered, Gathers, GathersPart, Text}
+use Rattle.event_player.specs.History.{with_ending}
+use Rattle.event_player.specs.Rooms.{ComesFull, IsFull, Room}
+use Rattle.event_player.specs.Playing.{Comes, Plays, StaysNear}
+use Rattle.event_player.specs.Standing.{Stand}
+use Rattle.event_player.specs.Telling.{told}
+use Rattle.event_player.proofs.Playing.FullLemmas.{full_start, step_full, tick_full}
+use Rattle.event_player.proofs.Playing.HistoryLemmas.{gathered_behind, gathered_nothing, gathered_same, gathered_stopped, met_steps, part_behind, part_front, part_same}
+use Rattle.event_player.proofs.Playing.StepLimitLemmas.{play_grows}
+
+-- ---- a step
+
+-- the step was done, and what is told of it was gathered
+pub record StepsTo (tells : Telling) (old mid : Stand) : Type 0 where
+  pub machine : mid.machine ≡ (step old.machine).machine
+  pub gathered : Gathers old.text mid.text (told tells (step old.machine).records)
+
+-- .. where the kernel is trusted, and where no page is out before and after; else the state after it has more pages than there are frames for
+pub record DoesOne (tells : Telling) (limit : ℕ) (old mid : Stand) : Type 0 where
+  pub actor : is_some (actor old.machine) ≡ true
+  pub more : old.machine.steps ≢ limit
+  pub trust : mid.trusted ≡ old.trusted
+  pub room : mid.room ≡ old.room
+  pub trusted : old.trusted ≡ true → StepsTo tells old mid
+  pub near : old.near ≡ true → ((mid.near ≡ true) × StepsTo tells old mid) ⊎ IsFull old.room (step old.machine).machine
+
+-- the tick is the step, and then the tick of one step fewer
+one_step : (n limit : ℕ) (old mid : Stand) → 1 ≤ n → is_some (actor old.machine) ≡ true → old.machine.steps ≢ limit → mid.machine ≡ (step old.machine).machine
+    → play (Tick n) limit old.machine ≡ kernel.behind (step old.machine).records (play (Tick (n - 1)) limit mid.machine)
+one_step n limit old mid some ready more there =
+    tick_steps n limit old.machine some ready more
+    ∙ ap (λ (m : Machine). kernel.behind (step old.machine).records (play (Tick (n - 1)) limit m)) (sym there)
+
+-- a tick that meets a limit later meets it after the step
+later_met : (n done : ℕ) (m : Machine) → (with_ending Played (play (Tick n) done m)).ending ≡ LimitMet → m.steps ≤ done
+later_met n done m met = omega (arith, play_grows (Tick n) done m, met_steps (Tick n) done m met)
+
+comes_later : (tells : Telling) (n limit : ℕ) (old mid new : Stand) (result : Result Ending PlayFault) → 1 ≤ n → is_some (actor old.machine) ≡ true
+    → old.machine.steps ≢ limit → StepsTo tells old mid → Comes tells (Tick (n - 1)) limit mid new result → Comes tells (Tick n) limit old new result
+comes_later tells n limit old mid new (Ok ending) some ready more did comes =
+    let one = one_step n limit old mid some ready more did.machine in (
+      gathered_same tells old.text new.text _ _ ending (ap (with_ending Played) one)
+          (gathered_behind tells old.text mid.text new.text (step old.machine).records (with_ending Played (play (Tick (n - 1)) limit mid.machine)) ending did.gathered comes.0),
+      comes.1 ∙ sym (ap (λ (h : kernel.History). h.machine) one),
+    )
+comes_later tells n limit old mid new (Err Write) some ready more did comes =
+    let one = one_step n limit old mid some ready more did.machine in
+    part_same tells old.text new.text _ _ (ap (with_ending Played) one)
+    (part_behind tells old.text mid.text new.text (step old.machine).records (with_ending Played (play (Tick (n - 1)) limit mid.machine)) did.gathered comes)
+comes_later tells n limit old mid new (Err Swap) some ready more did comes =
+    let done : ℕ = comes.done in
+    let grown = later_met (n - 1) done mid.machine comes.met in
+    let steps : mid.machine.steps ≡ old.machine.steps + 1 = ap (λ (m : Machine). m.steps) did.machine ∙ step_steps old.machine ready in
+    let other : old.machine.steps ≢ done = λ e. absurd (omega (arith, e, grown, steps)) in
+    let one : with_ending Played (play (Tick n) done old.machine) ≡ with_ending Played (kernel.behind (step old.machine).records (play (Tick (n - 1)) done mid.machine)) =
+    ap (with_ending Played) (one_step n done old mid some ready other did.machine) in
+    let wrote = gathered_same tells old.text new.text (with_ending Played (play (Tick n) done old.machine)) _ LimitMet one
+    (gathered_behind tells old.text mid.text new.text (step old.machine).records (with_ending Played (play (Tick (n - 1)) done mid.machine)) LimitMet did.gathered (comes.met, comes.gathered)) in
+    record { done = done; within = comes.within; met = wrote.0; gathered = wrote.1 }
+
+pub plays_later : (tells : Telling) (n limit : ℕ) (old mid new : Stand) (result : Result Ending PlayFault) → 1 ≤ n → DoesOne tells limit old mid
+    → Plays tells (Tick (n - 1)) limit mid new result → Plays tells (Tick n) limit old new result
+plays_later tells n limit old mid new result some one plays = record {
+  trusted = λ trusted.
+      comes_later tells n limit old mid new result some one.actor one.more (one.trusted trusted) (plays.trusted (one.trust ∙ trusted));
+  near = λ near. go (one.near near);
+}
+  where
+    full : (m : Machine) → m ≡ (step old.machine).machine → ComesFull mid.room m (event_moments (Tick (n - 1)) limit m) → ComesFull old.room old.machine (event_moments (Tick n) limit old.machine)
+    full m is later =
+        let A : Machine → Type 0 = λ x. ComesFull mid.room x (event_moments (Tick (n - 1)) limit x) in
+        let B : Room → Type 0 = λ r. ComesFull r (step old.machine).machine (event_moments (Tick (n - 1)) limit (step old.machine).machine) in
+        tick_full old.room n limit old.machine some one.actor one.more (subst B one.room (subst A is later))
+
+    rest : StepsTo tells old mid → (StaysNear new result × Comes tells (Tick (n - 1)) limit mid new result) ⊎ ComesFull mid.room mid.machine (event_moments (Tick (n - 1)) limit mid.machine)
+        → (StaysNear new result × Comes tells (Tick n) limit old new result) ⊎ ComesFull old.room old.machine (event_moments (Tick n) limit old.machine)
+    rest did (inl both) = inl (both.0, comes_later tells n limit old mid new result some one.actor one.more did both.1)
+    rest did (inr later) = inr (full mid.machine did.machine later)
+
+    go : ((mid.near ≡ true) × StepsTo tells old mid) ⊎ IsFull old.room (step old.machine).machine
+        → (StaysNear new result × Comes tells (Tick n) limit old new result) ⊎ ComesFull old.room old.machine (event_moments (Tick n) limit old.machine)
+    go (inl both) = rest both.1 (plays.near both.0)
+    go (inr crowd) = inr (full (step old.machine).machine refl
+        (let B : Room → Type 0 = λ r. ComesFull r (step old.machine).machine (event_moments (Tick (n - 1)) limit (step old.machine).machine) in
+        subst B (sym one.room) (full_start old.room (step old.machine).machine (event_moments (Tick (n - 1)) limit (step old.machine).machine) crowd)))
+
+-- ---- where a tick ends
+
+-- what comes is so whatever is trusted, and puts no page out
+pub plays_surely : (tells : Telling) (n limit : ℕ) (old new : Stand) (ending : Ending) → (old.near ≡ true → new.near ≡ true)
+    → Comes tells (Tick n) limit old new (Ok ending) → Plays tells (Tick n) limit old new (Ok ending)
+plays_surely tells n limit old new ending stays comes = record {
+  trusted = λ trusted. comes;
+  near = λ near. inl (stays near, comes);
+}
+
+-- at the limit
+pub comes_met : (tells : Telling) (n limit : ℕ) (now : Stand) → 1 ≤ n → is_some (actor now.machine) ≡ true → now.machine.steps ≡ limit
+    → Comes tells (Tick n) limit now now (Ok LimitMet)
+comes_met tells n limit now some ready met =
+    let is = tick_met n limit now.machine some ready met in (
+      gathered_same tells now.text now.text _ _ LimitMet (ap (with_ending Played) is) (gathered_stopped tells now.text Played now.machine),
+      sym (ap (λ (h : kernel.History). h.machine) is),
+    )
+
+-- the turn ends
+comes_turn : (tells : Telling) (n limit : ℕ) (old new : Stand) → play (Tick n) limit old.machine ≡ kernel.reached (nothing (turn old.machine))
+    → new.text ≡ old.text → new.machine ≡ turn old.machine → Comes tells (Tick n) limit old new (Ok Played)
+comes_turn tells n limit old new is same turned =
+    let P : Text → Type 0 = λ text. Gathered tells old.text text (with_ending Played (play (Tick n) limit old.machine)) Played in (
+      subst P (sym same) (gathered_same tells old.text old.text _ _ Played (ap (with_ending Played) is) (gathered_nothing tells old.text Played (turn old.machine))),
+      turned ∙ sym (ap (λ (h : kernel.History). h.machine) is),
+    )
+
+-- .. where no thread is ready
+pub comes_idle : (tells : Telling) (n limit : ℕ) (old new : Stand) → is_some (actor old.machine) ≡ false → new.text ≡ old.text → new.machine ≡ turn old.machine
+    → Comes tells (Tick n) limit old new (Ok Played)
+comes_idle tells n limit old new idle same turned = comes_turn tells n limit old new (tick_idle n limit old.machine idle) same turned
+
+-- .. where no step is left
+pub comes_over : (tells : Telling) (n limit : ℕ) (old new : Stand) → n ≡ 0 → new.text ≡ old.text → new.machine ≡ turn old.machine
+    → Comes tells (Tick n) limit old new (Ok Played)
+comes_over tells n limit old new none same turned =
+    comes_turn tells n limit old new (ap (λ (k : ℕ). play (Tick k) limit old.machine) none ∙ tick_zero limit old.machine) same turned
+
+-- ---- where a step stops the tick
+
+-- a write failed behind a step
+pub record FailsOne (tells : Telling) (limit : ℕ) (old new : Stand) : Type 0 where
+  pub actor : is_some (actor old.machine) ≡ true
+  pub more : old.machine.steps ≢ limit
+  pub trusted : old.trusted ≡ true → GathersPart old.text new.text (told tells (step old.machine).records)
+  pub near : old.near ≡ true
+      → ((new.near ≡ true) × GathersPart old.text new.text (told tells (step old.machine).records)) ⊎ IsFull old.room (step old.machine).machine
+
+comes_unwritten : (tells : Telling) (n limit : ℕ) (old new : Stand) → 1 ≤ n → is_some (actor old.machine) ≡ true → old.machine.steps ≢ limit
+    → GathersPart old.text new.text (told tells (step old.machine).records) → Comes tells (Tick n) limit old new (Err Write)
+comes_unwritten tells n limit old new some ready more part =
+    part_same tells old.text new.text _ _ (ap (with_ending Played) (tick_steps n limit old.machine some ready more))
+    (part_front tells old.text new.text (step old.machine).records (with_ending Played (play (Tick (n - 1)) limit (step old.machine).machine)) part)
+
+pub plays_unwritten : (tells : Telling) (n limit : ℕ) (old new : Stand) → 1 ≤ n → FailsOne tells limit old new → Plays tells (Tick n) limit old new (Err Write)
+plays_unwritten tells n limit old new some one = record {
+  trusted = λ trusted. comes_unwritten tells n limit old new some one.actor one.more (one.trusted trusted);
+  near = λ near. go (one.near near);
+}
+  where
+    go : ((new.near ≡ true) × GathersPart old.text new.text (told tells (step old.machine).records)) ⊎ IsFull old.room (step old.machine).machine
+        → ((new.near ≡ true) × Comes tells (Tick n) limit old new (Err Write)) ⊎ ComesFull old.room old.machine (event_moments (Tick n) limit old.machine)
+    go (inl both) = inl (both.0, comes_unwritten tells n limit old new some one.actor one.more both.1)
+    go (inr crowd) = inr (step_full old.room n limit old.machine some one.actor one.more crowd)
+
+-- the store failed in a step
+pub plays_swap : (tells : Telling) (n limit : ℕ) (old new : Stand) → 1 ≤ n → is_some (actor old.machine) ≡ true → old.machine.steps ≢ limit → old.machine.steps ≤ limit
+    → new.text ≡ old.text → (old.near ≡ true → IsFull old.room (step old.machine).machine) → Plays tells (Tick n) limit old new (Err Swap)
+plays_swap tells n limit old new some ready more within same crowd =
+    let done : ℕ = old.machine.steps in
+    let is : with_ending Played (play (Tick n) done old.machine) ≡ with_ending Played (kernel.stopped old.machine) = ap (with_ending Played) (tick_met n done old.machine some ready refl) in
+    let P : Text → Type 0 = λ text. Gathered tells old.text text (with_ending Played (play (Tick n) done old.machine)) LimitMet in
+    let wrote : P new.text = subst P (sym same) (gathered_same tells old.text old.text _ _ LimitMet is (gathered_stopped tells old.text Played old.machine)) in
+    record {
+      trusted = λ trusted. record { done = done; within = within; met = wrote.0; gathered = wrote.1 };
+      near = λ near. inr (step_full old.room n limit old.machine some ready more (crowd near));
+    }

@@ -1,0 +1,3 @@
+pub mod PageFileLemmas
+pub mod ReadingLemmas
+pub mod ToldLemmas

@@ -1,0 +1,4 @@
+pub mod Adapters
+pub mod PageFile
+pub mod ProgramStore
+pub mod Reading

@@ -1,0 +1,4 @@
+pub mod CountLemmas
+pub mod DifferLemmas
+pub mod NumberLemmas
+pub mod SearchLemmas

@@ -1,0 +1,4 @@
+pub mod Keys
+pub mod LedgerLemmas
+pub mod LoanRuns
+pub mod Pages

@@ -1,0 +1,3 @@
+pub mod LendLemmas
+pub mod MadeLemmas
+pub mod MatchedLoanLemmas

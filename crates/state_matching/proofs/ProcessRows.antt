@@ -1,0 +1,4 @@
+pub mod ClaimLemmas
+pub mod ConnectionLemmas
+pub mod HeapLemmas
+pub mod ProcessLemmas

@@ -1,0 +1,5 @@
+pub mod EachThreadLemmas
+pub mod JoiningLemmas
+pub mod ReceivingLemmas
+pub mod ServedLemmas
+pub mod ThreadLemmas

@@ -1,8 +1,0 @@
--- Parts that speak of pages.
-pub mod AloneLemmas
-pub mod ApartLemmas
-pub mod CapacityLemmas
-pub mod HolderLemmas
-pub mod OrphanLemmas
-pub mod PageLemmas
-pub mod PlacedLemmas

@@ -1,6 +1,0 @@
--- Parts of the invariant that speak of threads.
-pub mod EachThreadLemmas
-pub mod JoiningLemmas
-pub mod ReceivingLemmas
-pub mod ServedLemmas
-pub mod ThreadLemmas

@@ -1,5 +1,0 @@
-use Rattle.suspend_image.proofs.Parts.Processes.ClaimLemmas.{handlers_told}
-use Rattle.suspend_image.proofs.matching.are_handlers_matched.Goals as goal
-
-pub returns : goal.returns
-returns c = handlers_told c.args.claims.now c.are_handlers_whole.result c.requires c.are_handlers_whole.ensures

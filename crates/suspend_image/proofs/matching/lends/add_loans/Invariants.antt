@@ -1,7 +1,0 @@
-use Rattle.std.proofs.Common.{◌≡◌, ◌++◌, map}
-use Rattle.std.specs.Prelude.{take}
-use Rattle.suspend_image.specs.LendParts.{loan_lend}
-use Rattle.suspend_image.proofs.matching.lends.add_loans.Given as goal
-
-abbrev pub invariant-loop-run : goal.invariant-loop-run
-invariant-loop-run l = l.lends.items ≡ l.fn.lends.items ++ map loan_lend (take l.run-index l.runs)

@@ -1,2 +1,0 @@
-pub mod ReserverLemmas
-pub mod ResumedLemmas

@@ -1,6 +1,0 @@
-use Rattle.std.proofs.Common.{◌≡◌, ◌++◌, take}
-use Rattle.xousim.specs.Load.Code.{code_bytes}
-use Rattle.xousim.proofs.load.code.append_code.Given as goal
-
-abbrev pub invariant-loop-insn : goal.invariant-loop-insn
-invariant-loop-insn l = l.image ≡ l.fn.image ++ code_bytes (take l.insn-index l.code)

@@ -1,8 +1,0 @@
-use Rattle.std.proofs.Common.{rules}
-use Rattle.std.proofs.lemmas.List.Elements.{All-from_recursion}
-use Rattle.rv32_words.specs.Table.{IsInRange}
-use Rattle.xousim.specs.Load.Code.{client_code}
-use Rattle.xousim.proofs.load.code.append_codes.Goals as goal
-
-pub append_code-requires-2 : goal.append_code-requires-2
-append_code-requires-2 c = All-from_recursion IsInRange client_code (search rules)

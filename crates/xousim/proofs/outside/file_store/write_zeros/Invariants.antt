@@ -1,7 +1,0 @@
-use Rattle.xk_ports.specs.Store.{HoldsZeros}
-use Rattle.xousim.specs.PageFile.{slots_in}
-use Rattle.xousim.proofs.outside.file_store.write_zeros.Given as goal
-
--- the slots so far hold zeros
-abbrev pub invariant-loop-slot : goal.invariant-loop-slot
-invariant-loop-slot g l = HoldsZeros (slots_in (g.F.PageFile.bytes l.file)) l.slot

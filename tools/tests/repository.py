@@ -1,0 +1,105 @@
+"""The copies of the examples in the program's tests, and `./xousim`, which starts the program."""
+
+import importlib.machinery
+import importlib.util
+import os
+import pathlib
+import shutil
+import subprocess
+
+TOOLS = pathlib.Path(__file__).resolve().parent.parent
+
+
+def load(name):
+    """A tool that is one file, as a module."""
+    module_name = name.replace("-", "_")
+    loader = importlib.machinery.SourceFileLoader(module_name, str(TOOLS / name))
+    module = importlib.util.module_from_spec(importlib.util.spec_from_loader(module_name, loader))
+    loader.exec_module(module)
+    return module
+
+
+class Checkout:
+    """A folder as a checkout is, whose program and whose commands rt and find only tell that they were called."""
+
+    def __init__(self, folder):
+        self.top = pathlib.Path(folder, "checkout")
+        self.commands = pathlib.Path(folder, "commands")
+        self.top.mkdir()
+        shutil.copy(TOOLS.parent / "xousim", self.top / "xousim")
+        (self.top / "crates.txt").write_text("base:\nxousim: base\n")
+        self.write(".git/index", 100)
+        for name in ("crates/base/src/lib.rt", "crates/xousim/src/main.rt", "crates/xousim/src/tests/examples.rt"):
+            self.write(name, 100)
+        self.command("crates/xousim/out/xousim", 'echo "played $*"', self.top, 200)
+        self.command("rt", "echo 'crate base: proved'; echo 'called rt' >&2; exit 2", self.commands)
+        self.looks = pathlib.Path(folder, "looks")
+        self.command("find", f'echo look >>{self.looks}; exec {shutil.which("find")} "$@"', self.commands)
+
+    def write(self, name, time, text=""):
+        path = self.top / name
+        path.parent.mkdir(parents=True, exist_ok=True)
+        path.write_text(text)
+        os.utime(path, (time, time))
+
+    def command(self, name, body, top, time=None):
+        path = top / name
+        path.parent.mkdir(parents=True, exist_ok=True)
+        path.write_text(f"#!/bin/sh\n{body}\n")
+        path.chmod(0o755)
+        if time is not None:
+            os.utime(path, (time, time))
+
+    def start(self, program=None, path=None):
+        """The status, what was written, and what was said or done besides."""
+        self.looks.write_text("")
+        path = path or f"{self.commands}:{os.environ['PATH']}"
+        words = [program or self.top / "xousim", "check", "an image"]
+        run = subprocess.run(words, env={"PATH": path}, capture_output=True, text=True, check=False)
+        return run.returncode, run.stdout, run.stderr + self.looks.read_text()
+
+
+PLAYED = (0, "played check an image\n", "")
+LOOKED = (0, "played check an image\n", "look\n")
+
+
+def checks_of_start(folder):
+    tree = Checkout(folder)
+    yield tree.start() == LOOKED, "the first start looks at the sources"
+    yield tree.start() == PLAYED, "the next start looks at nothing"
+    link = pathlib.Path(folder, "link")
+    link.symlink_to(tree.top / "xousim")
+    yield tree.start(link) == PLAYED, "a start by a symbolic link"
+    far = 2**31 - 9
+    tree.write("crates/xousim/src/tests/examples.rt", far)
+    tree.write(".git/index", far)
+    yield tree.start() == LOOKED, "a newer test isn't proved by a start"
+    (tree.top / "crates/xousim/out/xousim").chmod(0o644)
+    yield tree.start() == LOOKED, "a program without the right to be executed"
+    tree.write("crates/base/src/lib.rt", far)
+    status, out, said = tree.start()
+    yield (status, out) == (0, PLAYED[1]) and "xousim: 1 of 2: base\n" in said, f"a newer source is proved: {said}"
+    (tree.top / "crates/xousim/out/xousim").unlink()
+    bare = pathlib.Path(folder, "bare")
+    bare.mkdir()
+    for name in ("sh", "find", "head", "dirname"):
+        (bare / name).symlink_to(shutil.which(name))
+    status, _, said = tree.start(path=str(bare))
+    yield status == 127 and "where the kit is got stands in README.md" in said, "the command rt is missing"
+
+
+def checks_of_copies():
+    copier = load("copy-examples")
+    text = copier.COPIES.read_text()
+    is_same = copier.with_tables(text) == text
+    yield is_same, "the copies of the examples: make them by tools/copy-examples"
+    if not is_same:
+        return
+    before = copier.COPIES.stat().st_mtime_ns
+    subprocess.run([TOOLS / "copy-examples"], capture_output=True, check=True)
+    yield copier.COPIES.stat().st_mtime_ns == before, "copies that are as the examples are stay untouched"
+
+
+def checks(_program, folder):
+    yield from checks_of_copies()
+    yield from checks_of_start(folder)

@@ -1,0 +1,264 @@
+"""Answers gdb: each packet that a debugger of recorded runs needs (gdb's manual, "Remote Protocol")."""
+
+import os
+import sys
+
+from xous import reach
+from xous.gdb import points, target
+from xous.gdb.history import History
+from xous.gdb.monitor import Monitor
+from xous.gdb.packets import Closed, Interrupted
+from xous.gdb.points import Breakpoint, Stop, Watchpoint
+from xous.run import Refusal
+from xous.state import FIRST_PID
+
+FEATURES = (
+    "PacketSize=20000;QStartNoAckMode+;multiprocess+;ReverseStep+;ReverseContinue+;vContSupported+;"
+    "qXfer:features:read+;qXfer:threads:read+;qXfer:exec-file:read+"
+)
+NOT_WRITTEN = "nothing can be written: the run is what its image and its events make of it"
+ALL, ANY = -1, 0
+
+
+class Server:
+    def __init__(self, packets, run, programs, first):
+        """`programs` are paths of ELF files by pid; `first` is the pid of the file that gdb has already, or None."""
+        self.packets, self.run, self.programs, self.first = packets, run, programs, first
+        self.history = History(run)
+        self.monitor = Monitor(self.history)
+        self.last_stop = Stop(0, self.first_thread())
+        self.general = self.last_stop.who
+        self.chosen = None  # the thread that steps backwards are of
+
+    def first_thread(self):
+        return (self.first, 2) if self.first else self.history.actor() or (FIRST_PID, 2)
+
+    def serve(self):
+        try:
+            while True:
+                self.answer(self.packets.read())
+        except Closed:
+            return
+
+    def answer(self, packet):
+        text = packet.decode("latin-1")
+        if text == "QStartNoAckMode":
+            self.packets.send("OK")
+            self.packets.acknowledges = False
+            return
+        for name, method in HANDLERS.items():
+            if text.startswith(name):
+                reply = method(self, text[len(name) :])
+                self.packets.send("" if reply is None else reply)
+                return
+        self.packets.send("")
+
+    # Going.
+
+    def go(self, move):
+        """Goes by `move`, which gives a stop, and tells it."""
+        old = self.history.step
+        try:
+            if self.monitor.target is not None:
+                step, self.monitor.target = self.monitor.target, None
+                stop = self.history.goto(step)
+            else:
+                stop = move()
+        except Interrupted:
+            self.history.step = old
+            stop = Stop(old, self.last_stop.who, points.SIGINT)
+        except Refusal as refusal:
+            self.history.step = old
+            stop = Stop(old, self.last_stop.who, points.SIGINT, text=f"xous-gdb: {refusal}\n")
+        if stop.text:
+            self.packets.console(stop.text)
+        stop.who = self.thread_to_tell(stop.who)
+        self.last_stop, self.general = stop, stop.who
+        return self.stop_text(stop)
+
+    def thread_to_tell(self, who):
+        """That thread, or another where it is gone: who acts next, else one that gdb knows, else any."""
+        threads = self.history.state().threads
+        others = [who, self.history.actor(), self.last_stop.who, *sorted(threads, key=lambda other: -other[1])]
+        return next((other for other in others if other in threads), self.last_stop.who)
+
+    def stop_text(self, stop):
+        thread = self.history.state().threads.get(stop.who)
+        pc = f"{target.PC:x}:{thread.pc.to_bytes(4, 'little').hex()};" if thread else ""
+        return f"T{stop.signal:02x}thread:{target.thread_text(stop.who)};{pc}{stop.detail}"
+
+    def last_status(self, _):
+        return self.stop_text(self.last_stop)
+
+    def resume(self, text):
+        """vCont: the first action counts, since the whole machine goes on with each."""
+        action, _, thread = text.split(";")[1].partition(":")
+        if action[0] in "cC":
+            return self.go(self.history.forward)
+        if action[0] in "sS":
+            return self.go(self.history.step_forward)
+        if action[0] == "r":
+            start, end = (int(word, 16) for word in action[1:].split(","))
+            who = target.read_thread(thread) if thread else self.general
+            return self.go(lambda: self.history.step_over(who, start, end))
+        return None
+
+    def backward(self, text):
+        moves = {"c": self.history.backward, "s": self.history.step_backward}
+        return self.go(moves[text]) if text in moves else None
+
+    # What is there.
+
+    def choose(self, text):
+        pid, tid = target.read_thread(text[1:])
+        if text[0] == "g" and pid not in (ALL, ANY):
+            self.general = pid, tid if tid not in (ALL, ANY) else self.some_tid(pid)
+        return "OK"
+
+    def some_tid(self, pid):
+        return next((tid for other, tid in sorted(self.history.state().threads) if other == pid and tid > 1), 1)
+
+    def current(self, _):
+        return f"QC{target.thread_text(self.general)}"
+
+    def is_alive(self, text):
+        return "OK" if target.read_thread(text) in target.listed(self.history.state()) else "E01"
+
+    def first_threads(self, _):
+        return "m" + ",".join(map(target.thread_text, target.listed(self.history.state(), self.first)))
+
+    def more_threads(self, _):
+        return "l"
+
+    def extra(self, text):
+        return target.thread_note(self.history.state(), target.read_thread(text)).encode().hex()
+
+    def read_registers(self, _):
+        return target.registers(self.history.state(), self.general)
+
+    def read_register(self, text):
+        at = 8 * int(text, 16)
+        return target.registers(self.history.state(), self.general)[at : at + 8] or "E01"
+
+    def read_memory(self, text):
+        address, length = (int(word, 16) for word in text.split(","))
+        state, pid = self.history.state(), self.general[0]
+        try:
+            return reach.load(state, pid, address, length).hex()
+        except reach.OutOfReach:
+            return self.reached_part(state, pid, address, length)
+
+    @staticmethod
+    def reached_part(state, pid, address, length):
+        """What can be loaded up to the first page that is out of reach; gdb asks for the rest again."""
+        count = -address % reach.PAGE
+        try:
+            return reach.load(state, pid, address, count).hex() if 0 < count < length else "E14"
+        except reach.OutOfReach:
+            return "E14"
+
+    def refuse_write(self, _):
+        return f"E.{NOT_WRITTEN}"
+
+    def refuse_memory(self, _):
+        """gdb doesn't show why a store failed, but what the command that it started writes as an error."""
+        print(f"xous-gdb: {NOT_WRITTEN}", file=sys.stderr, flush=True)
+        return "E01"
+
+    # Points.
+
+    def points_of(self, text):
+        """The set of the point that a packet names, and the point."""
+        kind, address, length = text.split(";")[0].split(",")
+        pid, address = self.general[0], int(address, 16)
+        if kind in "01":
+            return self.history.breaks.points, Breakpoint(pid, address)
+        if kind == "2":
+            return self.history.watches.points, Watchpoint(pid, address, int(length, 16))
+        return None, None
+
+    def insert(self, text):
+        known, point = self.points_of(text)
+        if known is None:
+            return None
+        known.add(point)
+        return "OK"
+
+    def remove(self, text):
+        known, point = self.points_of(text)
+        if known is None:
+            return None
+        known.discard(point)
+        return "OK"
+
+    # Texts.
+
+    def command(self, text):
+        answer = self.monitor.do(bytes.fromhex(text).decode(errors="replace"))
+        if answer:
+            self.packets.console(answer)
+        return "OK"
+
+    def transfer(self, text):
+        kind, _, annex, part = text.split(":")
+        contents = {
+            "features": lambda: target.description() if annex == "target.xml" else None,
+            "threads": lambda: target.thread_list(self.history.state(), self.first, self.programs),
+            "exec-file": lambda: self.program_path(int(annex, 16) if annex else self.general[0]),
+        }.get(kind, lambda: None)()
+        if contents is None:
+            return "E00"
+        offset, length = (int(word, 16) for word in part.split(","))
+        data = contents.encode()
+        piece = data[offset : offset + length]
+        return (b"m" if offset + len(piece) < len(data) else b"l") + piece
+
+    def program_path(self, pid):
+        """The process's program; where it wasn't given, a file that names the machine alone."""
+        if pid in self.programs:
+            return self.programs[pid]
+        path = os.path.join(self.run.folder.name, f"process-{pid}")
+        with open(path, "wb") as file:
+            file.write(target.empty_program())
+        return path
+
+    def supported(self, _):
+        return FEATURES
+
+    def detach(self, text):
+        return "OK"
+
+    def kill(self, _):
+        raise Closed
+
+
+HANDLERS = {
+    "qSupported": Server.supported,
+    "vMustReplyEmpty": lambda server, _: None,
+    "vCont?": lambda server, _: "vCont;c;C;s;S;r",
+    "vCont": Server.resume,
+    "vKill": Server.kill,
+    "bc": lambda server, _: server.backward("c"),
+    "bs": lambda server, _: server.backward("s"),
+    "H": Server.choose,
+    "?": Server.last_status,
+    "qC": Server.current,
+    "qfThreadInfo": Server.first_threads,
+    "qsThreadInfo": Server.more_threads,
+    "qThreadExtraInfo,": Server.extra,
+    "qAttached": lambda server, _: "1",
+    "qRcmd,": Server.command,
+    "qXfer:": Server.transfer,
+    "T": Server.is_alive,
+    "g": Server.read_registers,
+    "p": Server.read_register,
+    "G": Server.refuse_write,
+    "P": Server.refuse_write,
+    "m": Server.read_memory,
+    "M": Server.refuse_memory,
+    "Z": Server.insert,
+    "z": Server.remove,
+    "D": Server.detach,
+    "k": Server.kill,
+}
+HANDLERS["qC"] = lambda server, text: server.current(text) if not text else None  # not qCRC

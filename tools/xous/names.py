@@ -1,0 +1,30 @@
+"""Names of the numbers in calls (docs/calls.md)."""
+
+CALLS = {
+    2: "MapMemory",
+    3: "Yield",
+    5: "ClaimInterrupt",
+    6: "FreeInterrupt",
+    10: "IncreaseHeap",
+    11: "DecreaseHeap",
+    12: "UpdateMemoryFlags",
+    14: "CreateServerWithAddress",
+    15: "ReceiveMessage",
+    16: "SendMessage",
+    17: "Connect",
+    18: "CreateThread",
+    19: "UnmapMemory",
+    20: "ReturnMemory",
+    22: "TerminateProcess",
+    24: "TrySendMessage",
+    25: "TryConnect",
+    26: "ReturnScalar1",
+    27: "ReturnScalar2",
+    28: "TryReceiveMessage",
+    36: "JoinThread",
+    41: "DestroyServer",
+    42: "GetThreadId",
+    43: "GetProcessId",
+    44: "ForwardMessage",
+}
+NUMBERS = {name: number for number, name in CALLS.items()}

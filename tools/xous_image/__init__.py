@@ -1,0 +1,1 @@
+"""Boot images: the format, programs as they are linked, and the command `xous-image`."""

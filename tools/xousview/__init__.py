@@ -1,0 +1,1 @@
+"""Reading, following and drawing transcripts of xousim, for the tool xous-view."""
