@@ -81,18 +81,24 @@ pub record HasFreeFrame (procs frames : ℕ) (ledger : Ledger) (seat : Place →
   pub in_ram : frame < frames
   pub free : (p : Place) → IsTrue (has_page ledger p) → seat p ≢ frame_seat frame
 
+-- What RAM and the swap store show of the pages of `procs` processes: how many frames there are, the entry of each place, and the
+-- bytes that are told of each seat.
+pub record Shown : Type 0 where
+  pub procs : ℕ
+  pub frames : ℕ
+  pub entries : Entries
+  pub told : Seat → Option (List ℕ)
+
 -- All parts but the last sentence of part 5, which isn't claimed between the two halves of an exchange. Part 1 is `tables`:
 -- the root and the tables of each process are as they were made.
-pub record StandsAt (tables_made : ℕ → Type 0) (procs frames : ℕ) (E : Entries) (told : Seat → Option (List ℕ)) (ledger : Ledger)
-    (seat : Place → Seat) : Type 0 where
-  pub tables : (pid : ℕ) → IsTrue (is_pid procs pid) → tables_made pid
-  pub spelled : AreSpelled procs E ledger seat
-  pub bytes : AreBytes told ledger seat
-  pub apart : AreSeatsApart procs frames ledger seat
+pub record StandsAt (tables_made : ℕ → Type 0) (shown : Shown) (ledger : Ledger) (seat : Place → Seat) : Type 0 where
+  pub tables : (pid : ℕ) → IsTrue (is_pid shown.procs pid) → tables_made pid
+  pub spelled : AreSpelled shown.procs shown.entries ledger seat
+  pub bytes : AreBytes shown.told ledger seat
+  pub apart : AreSeatsApart shown.procs shown.frames ledger seat
 
--- The entries, the bytes of frames and the slots stand for the ledger.
-pub record StandsFor (tables_made : ℕ → Type 0) (procs frames : ℕ) (E : Entries) (told : Seat → Option (List ℕ))
-    (ledger : Ledger) : Type 0 where
+-- What is shown stands for the ledger.
+pub record StandsFor (tables_made : ℕ → Type 0) (shown : Shown) (ledger : Ledger) : Type 0 where
   pub seat : Place → Seat
-  pub stands : StandsAt tables_made procs frames E told ledger seat
-  pub room : HasFreeFrame procs frames ledger seat
+  pub stands : StandsAt tables_made shown ledger seat
+  pub room : HasFreeFrame shown.procs shown.frames ledger seat

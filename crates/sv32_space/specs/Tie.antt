@@ -11,7 +11,7 @@ use Rattle.sv32_space.specs.Agreement.{Agrees, procs_of}
 use Rattle.sv32_space.specs.EntryLedger.{SeatBytes, ledger_of}
 use Rattle.sv32_space.specs.Spaces.{IsMade}
 use Rattle.sv32_space.specs.SpelledEntries.{entries}
-use Rattle.sv32_space.specs.StandsFor.{StandsAt, StandsFor, told_slot, told_bytes}
+use Rattle.sv32_space.specs.StandsFor.{Shown, StandsAt, StandsFor, told_slot, told_bytes}
 
 -- The entries in RAM agree with the owners.
 abbrev pub agrees : RamBytes → OwnerTable → Type 0
@@ -34,11 +34,19 @@ bytes_at ram held (Slot s) = slot_bytes held s.0
 abbrev pub ledger_in : RamBytes → OwnerTable → Held → Ledger
 ledger_in ram owners held = ledger_of (entries (procs_of (extent owners)) ram) (infos owners) (bytes_at ram held)
 
+-- what the bytes of RAM, with what the store's slots hold, show of the pages of `procs` processes
+abbrev pub shown_in : RamBytes → ℕ → Held → Shown
+shown_in ram procs held = record {
+  procs = procs;
+  frames = (area ram).frames;
+  entries = entries procs ram;
+  told = told_bytes (pages ram) held;
+}
+
 -- STANDS FOR: the bytes of RAM, with what the store's slots hold, stand for the ledger of `procs` processes.
 abbrev pub stands_for : RamBytes → ℕ → Held → Ledger → Type 0
-stands_for ram procs held ledger = StandsFor (IsMade ram) procs (area ram).frames (entries procs ram) (told_bytes (pages ram) held) ledger
+stands_for ram procs held ledger = StandsFor (IsMade ram) (shown_in ram procs held) ledger
 
 -- .. but for the last sentence of part 5: no frame need be free
 abbrev pub stands_without_room : RamBytes → ℕ → Held → Ledger → Type 0
-stands_without_room ram procs held ledger =
-    (seat : Place → Seat) × StandsAt (IsMade ram) procs (area ram).frames (entries procs ram) (told_bytes (pages ram) held) ledger seat
+stands_without_room ram procs held ledger = (seat : Place → Seat) × StandsAt (IsMade ram) (shown_in ram procs held) ledger seat

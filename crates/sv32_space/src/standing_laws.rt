@@ -9,23 +9,24 @@ ghost use Rattle.sv32_space.specs.Agreement.{Agrees, EntriesAgree, HasUnusedFram
 ghost use Rattle.sv32_space.specs.Entries.{Entries};
 ghost use Rattle.sv32_space.specs.EntryLedger.{IsWellPlaced, SeatBytes, ledger_of};
 ghost use Rattle.sv32_space.specs.EntryLoans.{IsUnlent, StandsIn};
-ghost use Rattle.sv32_space.specs.StandsFor.{StandsAt, StandsFor};
+ghost use Rattle.sv32_space.specs.StandsFor.{Shown, StandsAt, StandsFor};
 ghost use Rattle.xk_base.specs.declared.ids.Number.{Number};
 
 /// Where entries and owners agree, they stand for their ledger, and where a frame is free besides, with room.
 pub fn agreeing_entries_stand()
-    ensures at { (made : ℕ → Bool) (frames : ℕ) (E : Entries) (table : Extent) (I : Infos) (B : SeatBytes) (told : Seat → Option (List ℕ))
-        → Agrees (λ pid. IsTrue (made pid)) frames E table I
+    ensures at { (made : ℕ → Bool) (shown : Shown) (table : Extent) (I : Infos) (B : SeatBytes)
+        → shown.procs ≡ procs_of table
+        → Agrees (λ pid. IsTrue (made pid)) shown.frames shown.entries table I
         → ((s : Seat) (info : PageInfo) → I s ≡ Some info → HasSeat table s)
-        → ((s : Seat) (known : List ℕ) → told s ≡ Some known → B s ≡ known)
-        → StandsAt (λ pid. IsTrue (made pid)) (procs_of table) frames E told (ledger_of E I B) (λ p. seat_in (E p)) }
-    ensures whole { (made : ℕ → Bool) (frames : ℕ) (E : Entries) (table : Extent) (I : Infos) (B : SeatBytes)
-        (told : Seat → Option (List ℕ))
-        → Agrees (λ pid. IsTrue (made pid)) frames E table I
+        → ((s : Seat) (known : List ℕ) → shown.told s ≡ Some known → B s ≡ known)
+        → StandsAt (λ pid. IsTrue (made pid)) shown (ledger_of shown.entries I B) (λ p. seat_in (shown.entries p)) }
+    ensures whole { (made : ℕ → Bool) (shown : Shown) (table : Extent) (I : Infos) (B : SeatBytes)
+        → shown.procs ≡ procs_of table
+        → Agrees (λ pid. IsTrue (made pid)) shown.frames shown.entries table I
         → ((s : Seat) (info : PageInfo) → I s ≡ Some info → HasSeat table s)
-        → ((s : Seat) (known : List ℕ) → told s ≡ Some known → B s ≡ known)
+        → ((s : Seat) (known : List ℕ) → shown.told s ≡ Some known → B s ≡ known)
         → HasUnusedFrame table I
-        → StandsFor (λ pid. IsTrue (made pid)) (procs_of table) frames E told (ledger_of E I B) }
+        → StandsFor (λ pid. IsTrue (made pid)) shown (ledger_of shown.entries I B) }
 {}
 
 /// What of a lawful ledger holds where entries and owners agree.

@@ -1,10 +1,11 @@
 -- Where entries and owners agree, they stand for the ledger that they make.
 use Rattle.std.proofs.Common.{◌≡◌, ◌≢◌, ℕ, ◌+◌, ◌<◌, ◌≤◌, true, false, ◌||◌, List, Option, Some, None, refl, sym, ap, subst, ◌∙◌, ◌⊎◌, inl, inr, arith}
-use Rattle.std.specs.Prelude.{is_some}
+use Rattle.std.specs.Prelude.{IsTrue, is_some}
 use Rattle.std.specs.Option.{option_and_then, option_map}
 use Rattle.std.proofs.lemmas.Bool.{both_ways, false≢true, cases_Bool}
 use Rattle.std.proofs.lemmas.Option.{none-some, same_Some}
 use Rattle.xk_base.specs.Numbers.Limits.{table_frames}
+use Rattle.xk_base.specs.Tables.Circle.{is_pid}
 use Rattle.xk_base.specs.declared.ids.Place.{Place}
 use Rattle.xk_base.specs.declared.ids.Frame.{Frame as FrameNumber}
 use Rattle.xk_base.specs.declared.pages.LoanKind.{LoanKind}
@@ -24,7 +25,7 @@ use Rattle.sv32_space.specs.declared.sides.Entry.{Entry}
 use Rattle.sv32_space.specs.declared.sides.Entry.TheVariants.{Free, At, OnConsole}
 use Rattle.sv32_space.specs.Entries.{Entries}
 use Rattle.sv32_space.specs.EntryLedger.{SeatBytes, IsWellPlaced, ledger_of, page_loan, page_of_entry, orphan_of_info, orphan_of_entry}
-use Rattle.sv32_space.specs.StandsFor.{home_side, has_page, AreSpelled, AreBytes, AreSeatsApart, HasFreeFrame, StandsAt, StandsFor}
+use Rattle.sv32_space.specs.StandsFor.{home_side, has_page, AreSpelled, AreBytes, AreSeatsApart, HasFreeFrame, Shown, StandsAt, StandsFor}
 use Rattle.sv32_space.proofs.Ledgers.EntryLedgerLemmas.{home_at, orphan_at, page_of_holder, orphan_of_holder}
 
 -- the place that names the page of a seat: its home, or the holder's place of an orphan
@@ -372,29 +373,30 @@ module _ (procs : ℕ) (E : Entries) (I : Infos) (B : SeatBytes) (agree : Entrie
 
 -- ---- the whole
 
-pub stands_at : (is_made : ℕ → Type 0) (frames : ℕ) (E : Entries) (table : Extent) (I : Infos) (B : SeatBytes) (told : Seat → Option (List ℕ))
-    → Agrees is_made frames E table I → ((s : Seat) (info : PageInfo) → I s ≡ Some info → HasSeat table s)
-    → ((s : Seat) (known : List ℕ) → told s ≡ Some known → B s ≡ known)
-    → StandsAt is_made (procs_of table) frames E told (ledger_of E I B) (λ p. seat_in (E p))
-stands_at is_made frames E table I B told agrees within holds = record {
-  tables = agrees.made;
-  spelled = are_spelled (procs_of table) E I B agrees.entries;
-  bytes = are_bytes (procs_of table) E I B agrees.entries told holds;
-  apart = are_apart (procs_of table) E I B agrees.entries table frames agrees.first agrees.last within;
-}
+module _ (is_made : ℕ → Type 0) (shown : Shown) (table : Extent) (I : Infos) (B : SeatBytes) (same : shown.procs ≡ procs_of table)
+    (agrees : Agrees is_made shown.frames shown.entries table I) (within : (s : Seat) (info : PageInfo) → I s ≡ Some info → HasSeat table s)
+    (holds : (s : Seat) (known : List ℕ) → shown.told s ≡ Some known → B s ≡ known) where
+  with_procs : EntriesAgree shown.procs shown.entries I
+  with_procs = subst (λ n. EntriesAgree n shown.entries I) (sym same) agrees.entries
 
-pub stands_for : (is_made : ℕ → Type 0) (frames : ℕ) (E : Entries) (table : Extent) (I : Infos) (B : SeatBytes) (told : Seat → Option (List ℕ))
-    → Agrees is_made frames E table I → ((s : Seat) (info : PageInfo) → I s ≡ Some info → HasSeat table s)
-    → ((s : Seat) (known : List ℕ) → told s ≡ Some known → B s ≡ known)
-    → HasUnusedFrame table I
-    → StandsFor is_made (procs_of table) frames E told (ledger_of E I B)
-stands_for is_made frames E table I B told agrees within holds free =
-    let first : table.first ≡ table_frames (procs_of table) = agrees.first in
-    let last : table.first + table.frames ≡ frames = agrees.last in
-    let low : table.first ≤ free.frame = free.within.0 in
-    let high : free.frame < table.first + table.frames = free.within.1 in
-    record {
-      seat = λ p. seat_in (E p);
-      stands = stands_at is_made frames E table I B told agrees within holds;
-      room = has_room (procs_of table) E I B agrees.entries frames free.frame (omega arith) (omega arith) free.free;
-    }
+  first : table.first ≡ table_frames shown.procs
+  first = agrees.first ∙ ap table_frames (sym same)
+
+  pub stands_at : StandsAt is_made shown (ledger_of shown.entries I B) (λ p. seat_in (shown.entries p))
+  stands_at = record {
+    tables = λ pid lies. agrees.made pid (subst (λ n. IsTrue (is_pid n pid)) same lies);
+    spelled = are_spelled shown.procs shown.entries I B with_procs;
+    bytes = are_bytes shown.procs shown.entries I B with_procs shown.told holds;
+    apart = are_apart shown.procs shown.entries I B with_procs table shown.frames first agrees.last within;
+  }
+
+  pub stands_for : HasUnusedFrame table I → StandsFor is_made shown (ledger_of shown.entries I B)
+  stands_for free =
+      let low : table.first ≤ free.frame = free.within.0 in
+      let high : free.frame < table.first + table.frames = free.within.1 in
+      let last : table.first + table.frames ≡ shown.frames = agrees.last in
+      record {
+        seat = λ p. seat_in (shown.entries p);
+        stands = stands_at;
+        room = has_room shown.procs shown.entries I B with_procs shown.frames free.frame (omega (arith, first, low)) (omega (arith, high, last)) free.free;
+      }
