@@ -11,7 +11,7 @@ use Rattle.machine_model.specs.Hart.Instructions.{Executed, Next, Stores, Stores
 use Rattle.rv32_hart.specs.declared.ran.Ran.{Ran}
 use Rattle.rv32_hart.specs.declared.ran.Ran.TheVariants.{Ecall, Trap, Device, Failed}
 use Rattle.rv32_hart.specs.declared.ran.Ran.TheVariants as ran
-use Rattle.rv32_hart.specs.Running.{DoesExecute, ExecutesOver, IfFailed, IsExecuted, IsExecutedAlone, OverBytes, View, execute_fetched, ran_of, seen}
+use Rattle.rv32_hart.specs.Running.{DoesExecute, Executes, IfFailed, IsExecuted, IsExecutedAlone, OverBytes, View, execute_fetched, ran_of, seen}
 
 -- what is answered of an executed instruction isn't a failure
 pub not_of : (x : Executed) (answer : Ran) (fact : Type 0) → answer ≡ ran_of x → IfFailed answer fact
@@ -73,7 +73,7 @@ module _ (may : Access → ℕ → Bool) (console : ℕ → Bool) (timer : Optio
 
     -- what the word does that stands at the pc is what the instruction there does
     of_word : (content : Content) (pc word : ℕ) (answer : Ran) → StandsAt content pc Word word
-        → DoesExecute (execute_fetched old pc word) (told content) after old new answer → ExecutesOver content (told content) after old new pc answer
+        → DoesExecute (execute_fetched old pc word) (told content) after old new answer → Executes (told content) after old new pc answer
     unfolding execute_base_at
     of_word None pc word answer s h = (word, h)
     of_word (Some byte) pc word answer s h = told_word answer (subst (λ w. DoesExecute (execute_fetched old pc w) (told (Some byte)) after old new answer) s h)
@@ -104,7 +104,7 @@ module _ (may : Access → ℕ → Bool) (console : ℕ → Bool) (timer : Optio
 
     pub executes_word : (before middle : Content) (pc word : ℕ) (answer : Ran)
         → may Fetch pc ≡ true → StandsAt before pc Word word → KeepsContent before middle
-        → DoesExecute (execute_base old pc word) (told middle) after old new answer → ExecutesOver before (told before) after old new pc answer
+        → DoesExecute (execute_base old pc word) (told middle) after old new answer → Executes (told before) after old new pc answer
     executes_word before middle pc word answer m s k h =
         of_word before pc word answer s
         (agree (execute_fetched old pc word) (execute_base old pc word) before answer (fetched pc word m)
@@ -136,7 +136,7 @@ module _ (may : Access → ℕ → Bool) (console : ℕ → Bool) (timer : Optio
 
   pub fetch_denied : (before : Content) (after : View) (regs : List ℕ) (pc : ℕ)
       → may Fetch pc ≡ false → KeepsContent before after.content → after.timer ≡ timer
-      → ExecutesOver before (told before) after regs regs pc (Trap fetch_page_fault pc)
+      → Executes (told before) after regs regs pc (Trap fetch_page_fault pc)
   unfolding execute_base_at
   fetch_denied None after regs pc m k t = (
     0,

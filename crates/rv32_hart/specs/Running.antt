@@ -69,6 +69,11 @@ abbrev pub OverBytes : Content → ((ℕ → ℕ) → Type 0) → Type 0
 OverBytes (Some byte) fact = fact byte
 OverBytes None fact = (byte : ℕ → ℕ) × fact byte
 
+-- one where the bytes are told, and the other where they aren't
+abbrev pub IfTold : Content → Type 0 → Type 0 → Type 0
+IfTold (Some byte) one other = one
+IfTold None one other = other
+
 -- what is told after an instruction is what it leaves of what was told
 abbrev pub TellsAfter : Content → Executed → Content → Type 0
 TellsAfter (Some byte) x after = after ≡ Some (bytes_after byte x)
@@ -109,12 +114,9 @@ execute_fetched regs pc word mem = if mem.may Fetch pc then execute_base regs pc
 
 -- The instruction at the pc is executed, over what the process reaches and what it is told to stand there. Where it is told
 -- nothing, it is that of some word.
-abbrev pub ExecutesOver : Content → View → View → List ℕ → List ℕ → ℕ → Ran → Type 0
-ExecutesOver (Some byte) before after old new pc answer = DoesExecute (execute_base_at old pc) before after old new answer
-ExecutesOver None before after old new pc answer = (word : ℕ) × DoesExecute (execute_fetched old pc word) before after old new answer
-
 abbrev pub Executes : View → View → List ℕ → List ℕ → ℕ → Ran → Type 0
-Executes before after old new pc answer = ExecutesOver before.content before after old new pc answer
+Executes before after old new pc answer = IfTold before.content (DoesExecute (execute_base_at old pc) before after old new answer)
+    ((word : ℕ) × DoesExecute (execute_fetched old pc word) before after old new answer)
 
 -- on a trap, a call of the kernel and a failure the registers are as before, also where memory tells nothing; and where a store
 -- went to a device, since a store writes no register
