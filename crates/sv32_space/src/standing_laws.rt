@@ -4,7 +4,7 @@ ghost use Rattle.ledger_model.specs.Loans.{IsFresh, LoanRun, Stands, loans};
 ghost use Rattle.phys_pages.specs.Owners.{Extent, HasSeat};
 ghost use Rattle.phys_pages.specs.declared.infos.PageInfo.{PageInfo};
 ghost use Rattle.phys_pages.specs.declared.infos.Seat.{Seat};
-ghost use Rattle.std.specs.Prelude.{Bool, IsTrue, List, Option, Some, ℕ, ◌≡◌};
+ghost use Rattle.std.specs.Prelude.{Bool, IsTrue, List, Some, ℕ, ◌≡◌};
 ghost use Rattle.sv32_space.specs.Agreement.{Agrees, EntriesAgree, HasUnusedFrame, Infos, procs_of, seat_in};
 ghost use Rattle.sv32_space.specs.Entries.{Entries};
 ghost use Rattle.sv32_space.specs.EntryLedger.{IsWellPlaced, SeatBytes, ledger_of};

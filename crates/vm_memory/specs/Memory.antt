@@ -31,6 +31,14 @@ frames_for_pages m = page_frames (area m.ram).frames (processes m)
 abbrev pub capacity_of : {W : Type 0} → Memory W → ℕ
 capacity_of m = capacity (area m.ram).frames (processes m) (extent m.owners).slots
 
+-- what room there is for pages: how many processes may have them, and how many there may be in all
+pub record Room : Type 0 where
+  pub procs : ℕ
+  pub capacity : ℕ
+
+abbrev pub room_in : {W : Type 0} → Memory W → Room
+room_in m = record { procs = processes m; capacity = capacity_of m }
+
 -- the RAM whose bytes the tie speaks of, and the store
 abbrev pub ram_of : {W : Type 0} → Memory W → RamBytes
 ram_of m = m.ram

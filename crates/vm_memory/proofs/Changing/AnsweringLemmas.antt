@@ -86,7 +86,7 @@ place_in procs pid window vpn process low high =
 
 -- MAKE may make what it answered
 pub can_answered : (procs capacity : ℕ) (l : Ledger) (pid : Pid) (window : Window) (at : Option Vpn) (n : ℕ) (first : Vpn)
-    → is_pid procs pid.0 ≡ true → make_answer procs capacity l pid window at n ≡ Ok first → CanMake procs capacity l (page_place pid first) n
+    → is_pid procs pid.0 ≡ true → make_answer (record { procs = procs; capacity = capacity }) l pid window at n ≡ Ok first → CanMake procs capacity l (page_place pid first) n
 can_answered procs capacity l pid window at n first process e =
     let parts : (nat_lt capacity (pages procs l + n) ≡ false) × (run_place procs l pid window at n ≡ Ok first) =
     room_of (nat_lt capacity (pages procs l + n)) (run_place procs l pid window at n) first e in

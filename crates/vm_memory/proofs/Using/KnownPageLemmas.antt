@@ -29,7 +29,7 @@ use Rattle.vm_memory.proofs.Using.UserStoringLemmas.{entries_stay}
 -- a store changes no entry
 pub remembers_stored : {W : Type 0} (S : SwapStore W) (m : Memory W) (sound : IsSound S.slot_count m) (pid : Pid)
     (va : ℕ) (width : Width) (value : ℕ) (aligned : va % size_of width ≡ 0) (known : KnownPages) (k : Memory W) (stored : Stored)
-    → DoesStore m k pid va width value stored → Remembers m pid known → Remembers k pid known
+    → DoesStore (record { pid = pid; address = va; width = width; value = value }) m k stored → Remembers m pid known → Remembers k pid known
 remembers_stored S m sound pid va width value aligned known k Done h remembers =
     subst (λ x. Remembers x pid known) (sym h.stored) (λ access page e.
     ap (λ E. entry_target (E (record { pid = pid; vpn = page.vpn })) access) (entries_stay S m sound pid va width value aligned h.frame h.target)

@@ -15,7 +15,7 @@ use Rattle.vm_memory.specs.Bytes.{means_bytes, none_out}
 use Rattle.xk_base.specs.Numbers.Windows.{page_of}
 use Rattle.vm_memory.specs.Memory.{IsUsable, processes}
 use Rattle.vm_memory.specs.Sound.{IsSound}
-use Rattle.vm_memory.specs.Using.UserStores.{DoesStore, StoresBytes, store_target}
+use Rattle.vm_memory.specs.Using.UserStores.{DoesStore, StoresBytes, UserStore, store_target}
 use Rattle.vm_memory.specs.Using.EntryAccess.{is_given_target}
 use Rattle.vm_memory.specs.Using.UserView.{KeepsRest, user_view, user_content}
 use Rattle.vm_memory.proofs.Changing.SoundMemoryLemmas.{sound-tied}
@@ -42,7 +42,10 @@ keeps_same (Some byte) = refl
 
 module _ {W : Type 0} (S : SwapStore W)
     (m : Memory W) (sound : IsSound S.slot_count m) (pid : Pid) (va : ℕ) (width : Width) (value : ℕ) (aligned : va % size_of width ≡ 0) where
-  rest_written : (k : Memory W) → StoresBytes m k pid va width value → KeepsRest S pid m k
+  abbrev store : UserStore
+  store = record { pid = pid; address = va; width = width; value = value }
+
+  rest_written : (k : Memory W) → StoresBytes store m k → KeepsRest S pid m k
   unfolding none_out
   rest_written k h = subst (λ x. KeepsRest S pid m x) (sym h.stored) (record {
     rights = stored_rights S m sound pid va width value aligned h.frame h.target;
@@ -56,24 +59,24 @@ module _ {W : Type 0} (S : SwapStore W)
     store = record { honest = refl; told = refl; slots = refl; preparations = refl; never_falls = omega arith };
   })
 
-  pub rest_stored : (k : Memory W) (stored : Stored) → DoesStore m k pid va width value stored → KeepsRest S pid m k
+  pub rest_stored : (k : Memory W) (stored : Stored) → DoesStore store m k stored → KeepsRest S pid m k
   rest_stored k Done h = rest_written k h
   rest_stored k (Device offset) h = subst (λ x. KeepsRest S pid m x) (sym h.2) (rest_same S pid m)
   rest_stored k Fault h = subst (λ x. KeepsRest S pid m x) (sym h.1) (rest_same S pid m)
 
   -- it stays fit
-  pub fit_stored : (k : Memory W) (stored : Stored) → IsUsable m → DoesStore m k pid va width value stored → IsSound S.slot_count k × IsUsable k
+  pub fit_stored : (k : Memory W) (stored : Stored) → IsUsable m → DoesStore store m k stored → IsSound S.slot_count k × IsUsable k
   fit_stored k Done usable h = subst (λ x. IsSound S.slot_count x × IsUsable x) (sym h.stored)
       (stored_sound S m sound pid va width value aligned h.frame h.target, usable)
   fit_stored k (Device offset) usable h = subst (λ x. IsSound S.slot_count x × IsUsable x) (sym h.2) (sound, usable)
   fit_stored k Fault usable h = subst (λ x. IsSound S.slot_count x × IsUsable x) (sym h.1) (sound, usable)
 
-  pub may_stored : (k : Memory W) (stored : Stored) → DoesStore m k pid va width value stored → (user_view S.held k pid).may ≡ (user_view S.held m pid).may
+  pub may_stored : (k : Memory W) (stored : Stored) → DoesStore store m k stored → (user_view S.held k pid).may ≡ (user_view S.held m pid).may
   may_stored k Done h = ap (λ x. (user_view S.held x pid).may) h.stored ∙ stored_may S m sound pid va width value aligned h.frame h.target
   may_stored k (Device offset) h = ap (λ x. (user_view S.held x pid).may) h.2
   may_stored k Fault h = ap (λ x. (user_view S.held x pid).may) h.1
 
-  pub console_stored : (k : Memory W) (stored : Stored) → DoesStore m k pid va width value stored → (user_view S.held k pid).console ≡ (user_view S.held m pid).console
+  pub console_stored : (k : Memory W) (stored : Stored) → DoesStore store m k stored → (user_view S.held k pid).console ≡ (user_view S.held m pid).console
   console_stored k Done h = ap (λ x. (user_view S.held x pid).console) h.stored ∙ stored_console S m sound pid va width value aligned h.frame h.target
   console_stored k (Device offset) h = ap (λ x. (user_view S.held x pid).console) h.2
   console_stored k Fault h = ap (λ x. (user_view S.held x pid).console) h.1
@@ -85,7 +88,7 @@ module _ {W : Type 0} (S : SwapStore W)
   number_told true new byte after e is = ap (λ b. if b then Some after else None) e ∙ ap (λ a. Some a) is
   number_told false new byte after e is = tt
 
-  content_written : (k : Memory W) → StoresBytes m k pid va width value
+  content_written : (k : Memory W) → StoresBytes store m k
       → StoresNumber (user_content S m pid) (user_content S k pid) va width value
   unfolding none_out
   content_written k h = subst (λ x. StoresNumber (user_content S m pid) (user_content S x pid) va width value) (sym h.stored)
@@ -99,7 +102,7 @@ module _ {W : Type 0} (S : SwapStore W)
   told x = record { content = user_content S x pid; timer = None }
 
   pub stores_told : (k : Memory W) (stored : Stored) → is_given_target (store_target m pid va) ≡ entry_may (entries (processes m) m.ram (page_of pid va)) Store
-      → DoesStore m k pid va width value stored
+      → DoesStore store m k stored
       → StoresAsTold ((user_view S.held m pid).may Store va) ((user_view S.held m pid).console va) (told m) (told k) va width value stored
   stores_told k Done ready h = (
     store_given S m sound pid va width value aligned h.frame h.target,

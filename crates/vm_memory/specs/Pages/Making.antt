@@ -19,7 +19,7 @@ use Rattle.xk_ports.specs.declared.store.SwapStore.{Ghosts as SwapStore}
 use Rattle.xk_ports.specs.Keeping.{KeepsStore}
 use Rattle.vm_memory.specs.declared.memory.Memory.{Memory}
 use Rattle.vm_memory.specs.Bytes.{MeansBytesOver, none_out}
-use Rattle.vm_memory.specs.Memory.{ledger, size, store_of}
+use Rattle.vm_memory.specs.Memory.{Room, ledger, size, store_of}
 use Rattle.vm_memory.specs.Sound.{IsSound}
 
 abbrev pub page_place : Pid → Vpn → Place
@@ -46,9 +46,9 @@ abbrev pub if_room : Bool → Result Vpn XousError → Result Vpn XousError
 if_room over (Ok first) = if over then Err OutOfMemory else Ok first
 if_room over (Err error) = Err error
 
-abbrev pub make_answer : ℕ → ℕ → Ledger → Pid → Window → Option Vpn → ℕ → Result Vpn XousError
-make_answer procs capacity ledger pid window at n =
-    if_room (nat_lt capacity (pages procs ledger + n)) (run_place procs ledger pid window at n)
+abbrev pub make_answer : Room → Ledger → Pid → Window → Option Vpn → ℕ → Result Vpn XousError
+make_answer room ledger pid window at n =
+    if_room (nat_lt room.capacity (pages room.procs ledger + n)) (run_place room.procs ledger pid window at n)
 
 -- n pages of zeros at the place that was answered; nothing on a refusal
 abbrev pub after_make : Pid → ℕ → Right → Result Vpn XousError → Ledger → Ledger

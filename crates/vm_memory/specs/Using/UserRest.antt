@@ -22,10 +22,9 @@ store_over S a b c x y = record {
   never_falls = omega (arith, x.never_falls, y.never_falls);
 }
 
-pub rest_over : {W : Type 0} (S : SwapStore W) (pid : Pid) (a b c : Memory W)
-    → KeepsRest S pid a b → KeepsRest S pid b c
+pub rest_over : {W : Type 0} {pid : Pid} {a b c : Memory W} (S : SwapStore W) → KeepsRest S pid a b → KeepsRest S pid b c
     → KeepsRest S pid a c
-rest_over S pid a b c x y = record {
+rest_over {W} {pid} {a} {b} {c} S x y = record {
   rights = y.rights ∙ x.rights;
   sizes = y.sizes ∙ x.sizes;
   means = λ m. y.means (x.means m);
@@ -44,8 +43,6 @@ rest_over S pid a b c x y = record {
         (subst (λ n. IsUnseen n (bare (ledger S.held a)) pid name) (sym (ap (λ (s : Size). s.procs) x.sizes)) unseen)
 
 -- .. also where the process is told by two numbers that are the same
-pub pid_rest_over : {W : Type 0} (S : SwapStore W) (pid other : Pid) (a b c : Memory W)
-    → other ≡ pid → KeepsRest S pid a b → KeepsRest S other b c
-    → KeepsRest S pid a c
-pid_rest_over S pid other a b c same x y =
-    rest_over S pid a b c x (subst (λ p. KeepsRest S p b c) same y)
+pub pid_rest_over : {W : Type 0} {pid other : Pid} {a b c : Memory W} (S : SwapStore W) → other ≡ pid → KeepsRest S pid a b
+    → KeepsRest S other b c → KeepsRest S pid a c
+pid_rest_over {W} {pid} {other} {a} {b} {c} S same x y = rest_over S x (subst (λ p. KeepsRest S p b c) same y)

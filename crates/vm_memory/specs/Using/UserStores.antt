@@ -21,15 +21,24 @@ use Rattle.vm_memory.specs.Memory.{processes}
 abbrev pub store_target : {W : Type 0} → Memory W → Pid → ℕ → Target
 store_target m pid address = entry_target (entries (processes m) m.ram (page_of pid address)) Store
 
--- the page of a frame with the low bytes of a value at an offset, and nothing else changed
-pub record StoresBytes {W : Type 0} (old new : Memory W) (pid : Pid) (address : ℕ) (width : Width) (value : ℕ) : Type 0 where
-  pub frame : Frame
-  pub target : store_target old pid address ≡ Page frame
-  pub stored : new
-      ≡ record old { ram = with_page old.ram frame.0 (written (pages old.ram frame.0) (address % 4096) (low_bytes width value)) }
+-- a store that a process does: of the low bytes of a value, at an address
+pub record UserStore : Type 0 where
+  pub pid : Pid
+  pub address : ℕ
+  pub width : Width
+  pub value : ℕ
 
-abbrev pub DoesStore : {W : Type 0} → Memory W → Memory W → Pid → ℕ → Width → ℕ → Stored → Type 0
-DoesStore old new pid address width value Done = StoresBytes old new pid address width value
-DoesStore old new pid address width value (Device offset) = (store_target old pid address ≡ Console) × (offset ≡ address % 4096)
+-- the page of a frame with the bytes of the store at its offset, and nothing else changed
+pub record StoresBytes {W : Type 0} (store : UserStore) (old new : Memory W) : Type 0 where
+  pub frame : Frame
+  pub target : store_target old store.pid store.address ≡ Page frame
+  pub stored : new ≡ record old {
+    ram = with_page old.ram frame.0 (written (pages old.ram frame.0) (store.address % 4096) (low_bytes store.width store.value));
+  }
+
+-- the store is done between these memories, with this answer
+abbrev pub DoesStore : {W : Type 0} → UserStore → Memory W → Memory W → Stored → Type 0
+DoesStore store old new Done = StoresBytes store old new
+DoesStore store old new (Device offset) = (store_target old store.pid store.address ≡ Console) × (offset ≡ store.address % 4096)
     × (new ≡ old)
-DoesStore old new pid address width value Fault = (store_target old pid address ≡ Nothing) × (new ≡ old)
+DoesStore store old new Fault = (store_target old store.pid store.address ≡ Nothing) × (new ≡ old)

@@ -215,7 +215,7 @@ impl<W: SwapStore> UserMemory for KnownUser<'_, W> {
     ghost rest_over = { λ a b c x y. (
       y.0 ∙ x.0,
       y.1 ∙ x.1,
-      pid_rest_over W.SwapStore.own a.pid b.pid a.mem.now b.mem.now c.mem.now x.1 x.2 y.2,
+      pid_rest_over W.SwapStore.own x.1 x.2 y.2,
       λ known. y.3 (x.3 known),
     ) };
 

@@ -14,7 +14,7 @@ ghost use Rattle.vm_memory.specs.Bytes.{MeansBytes, MeansBytesOver, none_out};
 ghost use Rattle.xk_ports.specs.Keeping.{KeepsStore};
 ghost use Rattle.vm_memory.specs.Pages.Changing.{ChangesPagesAlone};
 ghost use Rattle.vm_memory.specs.Pages.Making.{HasMadeFirst, MakesFirst, MakesPages, after_console, after_make, console_answer, make_answer, run_place};
-ghost use Rattle.vm_memory.specs.Memory.{IsUsable, capacity_of, frames_for_pages, has_failed, ledger, processes, size, store_of};
+ghost use Rattle.vm_memory.specs.Memory.{IsUsable, capacity_of, frames_for_pages, has_failed, ledger, processes, room_in, size, store_of};
 ghost use Rattle.vm_memory.specs.Sound.{IsSound};
 ghost use Rattle.vm_memory.specs.Tie.{IsTied};
 ghost use Rattle.xk_base.specs.Outside.{Rose};
@@ -53,7 +53,7 @@ impl<W: SwapStore> Memory<W> {
         requires usable { IsUsable self.now }
         requires process { is_pid (processes self.now) pid.0 ≡ true }
         requires some { 1 ≤ n }
-        ensures { result ≡ make_answer (processes self.now) (capacity_of self.now) (ledger W.held self.now) pid window at n }
+        ensures { result ≡ make_answer (room_in self.now) (ledger W.held self.now) pid window at n }
     {
         let first = self.find_run(pid, window, at, n)?;
         if self.pages() as u64 + n as u64 > self.cap() as u64 {
@@ -167,8 +167,8 @@ impl<W: SwapStore> Memory<W> {
         requires process { is_pid (processes self.old) pid.0 ≡ true }
         requires some { 1 ≤ n }
         ensures sound { IsSound W.slot_count self.new }
-        ensures answer { IfOk result (λ answer. answer
-            ≡ make_answer (processes self.old) (capacity_of self.old) (ledger W.held self.old) pid window at n) }
+        ensures answer { IfOk result
+            (λ answer. answer ≡ make_answer (room_in self.old) (ledger W.held self.old) pid window at n) }
         ensures rights { IfOk result
             (λ answer. bare (ledger W.held self.new) ≡ bare (after_make pid n right answer (ledger W.held self.old))) }
         ensures whole { MeansBytesOver W.SwapStore self.old self.new
@@ -177,7 +177,7 @@ impl<W: SwapStore> Memory<W> {
         ensures usable { OnOk result (IsUsable self.new) }
         ensures failed { OnErr result (has_failed self.new ≡ true) }
         ensures partial { OnErr result (HasMadeFirst (MeansBytesOver W.SwapStore self.old self.new)
-            (make_answer (processes self.old) (capacity_of self.old) (ledger W.held self.old) pid window at n)
+            (make_answer (room_in self.old) (ledger W.held self.old) pid window at n)
             pid n right (ledger W.held self.old) (ledger W.held self.new)) }
         ensures cause { OnErr result (Rose (W.faults (store_of self.old)) (W.faults (store_of self.new))) }
         ensures full { OnErr result (frames_for_pages self.old < pages (processes self.old) (ledger W.held self.old) + n) }

@@ -10,7 +10,7 @@ ghost use Rattle.vm_memory.specs.Bytes.{is_out};
 ghost use Rattle.vm_memory.specs.Memory.{IsUsable, has_failed, processes, ram_of, store_of};
 ghost use Rattle.vm_memory.specs.Pages.Exchanging.{BringsIn};
 ghost use Rattle.vm_memory.specs.Sound.{IsSound};
-ghost use Rattle.vm_memory.specs.Using.UserStores.{DoesStore};
+ghost use Rattle.vm_memory.specs.Using.UserStores.{DoesStore, UserStore};
 ghost use Rattle.xk_base.specs.Outside.{Rose};
 ghost use Rattle.xk_base.specs.UserMemory.{KeepsContent, low_bytes, LoadsNumber, StoresAsTold, number_at, size_of};
 ghost use Rattle.vm_memory.specs.Using.UserView.{KeepsRest, user_content, user_seen, user_view};
@@ -128,7 +128,8 @@ impl<W: SwapStore> Memory<W> {
         requires sound { IsSound W.slot_count self.old }
         requires aligned { va % size_of width ≡ 0 }
         requires target { target ≡ entry_target (entries (processes self.old) (ram_of self.old) (page_of pid va)) Store }
-        ensures { DoesStore self.old self.new pid va width value result }
+        ensures { let store : UserStore = record { pid = pid; address = va; width = width; value = value } in
+            DoesStore store self.old self.new result }
     {
         match target {
             Target::Page(f) => {
@@ -211,7 +212,7 @@ impl<W: SwapStore> UserMemory for User<'_, W> {
     ghost rest_over = { λ a b c x y. (
       y.0 ∙ x.0,
       y.1 ∙ x.1,
-      pid_rest_over W.SwapStore.own a.pid b.pid a.mem.now b.mem.now c.mem.now x.1 x.2 y.2,
+      pid_rest_over W.SwapStore.own x.1 x.2 y.2,
     ) };
 
     fn fetch(&mut self, va: u32) -> Result<Option<u32>, Failed> {

@@ -2,7 +2,7 @@ use Rattle.std.proofs.Common.{◌≡◌, ◌+◌, ◌<◌, sym, subst, ◌∙◌
 use Rattle.ledger_model.specs.Ledger.{pages}
 use Rattle.swap_map.proofs.ExchangeLemmas.{on_err}
 use Rattle.vm_memory.specs.Bytes.{MeansBytesOver}
-use Rattle.vm_memory.specs.Memory.{capacity_of, frames_for_pages, ledger, processes}
+use Rattle.vm_memory.specs.Memory.{capacity_of, frames_for_pages, ledger, processes, room_in}
 use Rattle.vm_memory.specs.Pages.Making.{HasMadeFirst, make_answer}
 use Rattle.vm_memory.proofs.Changing.AnsweringLemmas.{can_answered}
 use Rattle.vm_memory.proofs.Changing.CrowdedLemmas.{first_made}
@@ -22,9 +22,9 @@ make_run-requires-clause-can g c = can_answered (processes c.args.self.now) (cap
 
 pub returns-in_err-make_run-in-Ok-clause-partial : goal.returns-in_err-make_run-in-Ok-clause-partial
 returns-in_err-make_run-in-Ok-clause-partial g c = on_err c.from_residual.result
-    (HasMadeFirst (MeansBytesOver g.W.SwapStore c.args.self.now c.make_run.new.self) (make_answer (processes c.args.self.now) (capacity_of c.args.self.now) (ledger g.W.SwapStore.held c.args.self.now) c.args.pid c.args.window c.args.at c.args.n)
+    (HasMadeFirst (MeansBytesOver g.W.SwapStore c.args.self.now c.make_run.new.self) (make_answer (room_in c.args.self.now) (ledger g.W.SwapStore.held c.args.self.now) c.args.pid c.args.window c.args.at c.args.n)
     c.args.pid c.args.n c.args.right (ledger g.W.SwapStore.held c.args.self.now) (ledger g.W.SwapStore.held c.make_run.new.self))
-    (first_made g.W.SwapStore c.args.self.now c.make_run.new.self (make_answer (processes c.args.self.now) (capacity_of c.args.self.now) (ledger g.W.SwapStore.held c.args.self.now) c.args.pid c.args.window c.args.at c.args.n) c.args.pid c.in-Ok.first c.args.n c.args.right (sym c.find_room.ensures ∙ c.in-Ok.is) c.make_run.ensures.first)
+    (first_made g.W.SwapStore c.args.self.now c.make_run.new.self (make_answer (room_in c.args.self.now) (ledger g.W.SwapStore.held c.args.self.now) c.args.pid c.args.window c.args.at c.args.n) c.args.pid c.in-Ok.first c.args.n c.args.right (sym c.find_room.ensures ∙ c.in-Ok.is) c.make_run.ensures.first)
 
 pub returns-in_err-make_run-in-Ok-clause-full : goal.returns-in_err-make_run-in-Ok-clause-full
 returns-in_err-make_run-in-Ok-clause-full g c =

@@ -55,7 +55,7 @@ returns-clause-console g c =
 
 pub returns-clause-rest : goal.returns-clause-rest
 returns-clause-rest g c =
-    rest_over g.W.SwapStore c.args.pid c.args.self.now c.find_near.new.self c.store_at.new.self
+    rest_over g.W.SwapStore
     (brings_rest g.W.SwapStore c.args.self.now c.find_near.new.self c.find_near.ensures.brings c.args.pid)
     (rest_stored g.W.SwapStore c.find_near.new.self c.find_near.ensures.brings.moves.sound
     c.args.pid c.args.va c.args.width c.args.value c.requires.aligned c.store_at.new.self c.store_at.result c.store_at.ensures)
