@@ -8,7 +8,7 @@ use Rattle.rv32_hart.specs.declared.ran.Ran.TheVariants.{Ecall, Trap, Device, Fa
 use Rattle.rv32_hart.specs.declared.ran.Ran.TheVariants as ran
 use Rattle.rv32_hart.specs.Running.{LeavesRegisters, View}
 use Rattle.rv32_hart.proofs.ExecutingLemmas.{told}
-use Rattle.rv32_atomics.specs.Performing.{Core, PerformsOver, core_left, goes_on, reserved_after}
+use Rattle.rv32_atomics.specs.Performing.{Core, Performs, core_left, goes_on, reserved_after}
 use Rattle.rv32_atomics.proofs.PerformingLemmas.{core}
 
 -- an instruction of the base table leaves the reservation as it was where it goes on
@@ -28,6 +28,6 @@ stayed old done answer e = sym (cond-false (goes_on answer) done old e)
 
 -- where memory failed, nothing was done
 pub failed_over : (may : Access → ℕ → Bool) (console : ℕ → Bool) (timer : Option Timer) (after : View) (now : Core) (content : Content) (pc : ℕ)
-    → KeepsContent content after.content → after.timer ≡ timer → PerformsOver content (told may console timer content) after now now pc Failed
+    → KeepsContent content after.content → after.timer ≡ timer → Performs (told may console timer content) after now now pc Failed
 failed_over may console timer after now None pc k t = inr (0, ((k, t), refl))
 failed_over may console timer after now (Some byte) pc k t = ((k, t), refl)

@@ -21,7 +21,7 @@ use Rattle.rv32_atomics.specs.declared.kind.Kind.{Kind}
 use Rattle.rv32_atomics.specs.declared.kind.Kind.TheVariants.{LoadReserved, StoreConditional, Amo}
 use Rattle.rv32_atomics.specs.Meaning.{kind_of, meaning, of_kind, reserves_by}
 use Rattle.rv32_atomics.specs.Table.{fields_of}
-use Rattle.rv32_atomics.specs.Performing.{Core, DoesPerform, IsPerformed, LeavesReserved, PerformsOver, reserved_after}
+use Rattle.rv32_atomics.specs.Performing.{Core, DoesPerform, IsPerformed, LeavesReserved, Performs, reserved_after}
 
 -- what an answer leaves of a reservation is what its instruction does
 left_by : (x : Executed) (before left : Option ℕ) → reserved_after (ran_of x) before left ≡ unless_ended left x
@@ -105,7 +105,7 @@ module _ (may : Access → ℕ → Bool) (console : ℕ → Bool) (timer : Optio
       → may Fetch pc ≡ true → StandsAt content pc Word word → KeepsContent content middle → atomic_at word ≡ Some atomic
       → kept ≡ reserved_after answer before (reserves old before atomic)
       → DoesExecute (λ mem. atomic_effect mem old pc before atomic) (view middle) after old new answer
-      → PerformsOver content (view content) after (core old before) (core new kept) pc answer
+      → Performs (view content) after (core old before) (core new kept) pc answer
   performs_atomic None middle pc word atomic answer m s k i e h =
       inl (
         atomic,
@@ -122,7 +122,7 @@ module _ (may : Access → ℕ → Bool) (console : ℕ → Bool) (timer : Optio
   pub performs_base : (content middle : Content) (pc word : ℕ) (answer : Ran)
       → may Fetch pc ≡ true → StandsAt content pc Word word → KeepsContent content middle → atomic_at word ≡ None
       → kept ≡ reserved_after answer before before → DoesExecute (execute_base old pc word) (view middle) after old new answer
-      → PerformsOver content (view content) after (core old before) (core new kept) pc answer
+      → Performs (view content) after (core old before) (core new kept) pc answer
   performs_base None middle pc word answer m s k i e h =
       inr (
         word,
@@ -139,7 +139,7 @@ module _ (may : Access → ℕ → Bool) (console : ℕ → Bool) (timer : Optio
 -- a fetch that is denied traps, and nothing is reserved any more
 pub performs_denied : (may : Access → ℕ → Bool) (console : ℕ → Bool) (timer : Option Timer) (after : View) (old : List ℕ) (before : Option ℕ)
     (content : Content) (pc : ℕ) → may Fetch pc ≡ false → KeepsContent content after.content → after.timer ≡ timer
-    → PerformsOver content (told may console timer content) after (core old before) (core old None) pc (Trap fetch_page_fault pc)
+    → Performs (told may console timer content) after (core old before) (core old None) pc (Trap fetch_page_fault pc)
 unfolding execute_at
 performs_denied may console timer after old before None pc m k t =
     inr (

@@ -1,15 +1,15 @@
 -- What running any instruction at the pc comes to: what the tables of instructions give for the registers, the pc, the thread's
 -- reservation and the memory that the process sees.
-use Rattle.std.specs.Prelude.{◌≡◌, ℕ, Bool, true, false, not, List, ◌⊎◌, if◌then◌else◌, Option, Some, None}
+use Rattle.std.specs.Prelude.{◌≡◌, ℕ, Bool, true, false, not, List, ◌⊎◌, if◌then◌else◌, Option, None}
 use Rattle.xk_base.specs.declared.pages.Access.TheVariants.{Fetch, Store}
 use Rattle.xk_base.specs.declared.pages.Width.TheVariants.{Word}
-use Rattle.xk_base.specs.UserMemory.{Memory, Content}
+use Rattle.xk_base.specs.UserMemory.{Memory}
 use Rattle.machine_model.specs.Hart.Atomics.{Atomic, Performed, atomic_effect, execute_at, leaving, reserves}
 use Rattle.machine_model.specs.Hart.Instructions.{Executed, Traps, puts, store_page_fault}
 use Rattle.rv32_hart.specs.declared.ran.Ran.{Ran}
 use Rattle.rv32_hart.specs.declared.ran.Ran.TheVariants.{Ecall, Trap, Device, Failed}
 use Rattle.rv32_hart.specs.declared.ran.Ran.TheVariants as ran
-use Rattle.rv32_hart.specs.Running.{DoesExecute, IsExecuted, KeepsView, OverBytes, View, execute_fetched, seen}
+use Rattle.rv32_hart.specs.Running.{IfTold, IsExecuted, KeepsView, OverBytes, View, execute_fetched, seen}
 
 -- the word goes to the address, where the process may store there
 abbrev pub puts_if_allowed : Memory → ℕ → ℕ → List ℕ → ℕ → Executed
@@ -58,28 +58,22 @@ DoesPerform effect before after old new Failed = KeepsView before after × (new.
 DoesPerform effect before after old new answer =
     OverBytes before.content (λ byte. IsPerformed (effect (seen before byte)) before after old new answer)
 
--- an atomic instruction is performed
-abbrev pub PerformsAtomic : View → View → Core → Core → ℕ → Ran → Atomic → Type 0
-PerformsAtomic before after old new pc answer atomic =
-    DoesPerform (λ mem. leaving (reserves old.regs old.reserved atomic) (atomic_effect mem old.regs pc old.reserved atomic))
-    before after old new answer
+-- what an atomic instruction does that stands at the pc
+abbrev pub perform_atomic : Core → ℕ → Atomic → Memory → Performed
+perform_atomic core pc atomic mem =
+    leaving (reserves core.regs core.reserved atomic) (atomic_effect mem core.regs pc core.reserved atomic)
 
--- an instruction of the base table is performed, or the fetch of its word traps
-abbrev pub PerformsBase : View → View → Core → Core → ℕ → Ran → ℕ → Type 0
-PerformsBase before after old new pc answer word =
-    DoesPerform (λ mem. leaving old.reserved (execute_fetched old.regs pc word mem)) before after old new answer
+-- what an instruction of the base table does, or the trap of the fetch of its word
+abbrev pub perform_fetched : Core → ℕ → ℕ → Memory → Performed
+perform_fetched core pc word mem = leaving core.reserved (execute_fetched core.regs pc word mem)
 
 -- The instruction at the pc is performed, over what the process reaches and what it is told to stand there. Where it is told
 -- nothing, it is some atomic instruction, where the process may fetch at the pc, or that of some word.
-abbrev pub PerformsOver : Content → View → View → Core → Core → ℕ → Ran → Type 0
-PerformsOver (Some byte) before after old new pc answer =
-    DoesPerform (execute_at old.regs pc old.reserved) before after old new answer
-PerformsOver None before after old new pc answer =
-    ((atomic : Atomic) × (before.may Fetch pc ≡ true) × PerformsAtomic before after old new pc answer atomic)
-    ⊎ ((word : ℕ) × PerformsBase before after old new pc answer word)
-
 abbrev pub Performs : View → View → Core → Core → ℕ → Ran → Type 0
-Performs before after old new pc answer = PerformsOver before.content before after old new pc answer
+Performs before after old new pc answer = IfTold before.content
+    (DoesPerform (execute_at old.regs pc old.reserved) before after old new answer)
+    (((atomic : Atomic) × (before.may Fetch pc ≡ true) × DoesPerform (perform_atomic old pc atomic) before after old new answer)
+    ⊎ ((word : ℕ) × DoesPerform (perform_fetched old pc word) before after old new answer))
 
 -- ---- .. or left as it is
 
@@ -95,18 +89,14 @@ goes_on Failed = false
 abbrev pub core_left : Core → Core → Ran → Core
 core_left old done answer = if goes_on answer then done else old
 
--- An instruction of this effect over memory is executed, and leaves this reservation unless it traps; or it is left so.
-pub record ExecutesOrLeaves (effect : Memory → Executed) (left : Option ℕ) (before after : View) (old new : Core)
-    (answer : Ran) : Type 0 where
+-- An instruction is done, or left: this holds of what it would leave to the thread. The thread has that where it goes on by it; on any
+-- other answer, also where memory tells nothing, it has what it had before.
+pub record DoesOrLeaves (fact : Core → Type 0) (old new : Core) (answer : Ran) : Type 0 where
   pub done : Core
-  pub executes : DoesExecute effect before after old.regs done.regs answer
-  pub reserved : done.reserved ≡ reserved_after answer old.reserved left
+  pub does : fact done
   pub core : new ≡ core_left old done answer
 
 -- THE INSTRUCTION AT THE PC IS PERFORMED, OR LEFT: which it is, is said by the registers and the reservation with which it would be
--- performed. They are the thread's where it goes on by it; on any other answer, also where memory tells nothing, the thread has
--- those of before.
-pub record PerformsOrLeaves (before after : View) (old new : Core) (pc : ℕ) (answer : Ran) : Type 0 where
-  pub done : Core
-  pub performs : Performs before after old done pc answer
-  pub core : new ≡ core_left old done answer
+-- performed.
+abbrev pub PerformsOrLeaves : View → View → Core → Core → ℕ → Ran → Type 0
+PerformsOrLeaves before after old new pc answer = DoesOrLeaves (λ done. Performs before after old done pc answer) old new answer

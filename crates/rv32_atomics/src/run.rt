@@ -2,10 +2,12 @@
 
 ghost use Rattle.std.specs.Prelude.{◌≡◌, ◌≤◌, ◌%◌};
 ghost use Rattle.xk_base.specs.Outside.{Rose};
+ghost use Rattle.xk_base.specs.UserMemory.{Memory};
 ghost use Rattle.machine_model.specs.Hart.Atomics.{atomic_effect, reserves};
+ghost use Rattle.machine_model.specs.Hart.Instructions.{Executed};
 ghost use Rattle.rv32_hart.specs.Running.{DoesExecute, GoesOnAligned, UnlessFailed, IfFailed, view_of};
 ghost use Rattle.rv32_atomics.specs.Meaning.{meaning};
-ghost use Rattle.rv32_atomics.specs.Performing.{Core, ExecutesOrLeaves, LeavesRegistersUnlessDone, LeavesReserved, Performs, PerformsOrLeaves, goes_on, reserved_after};
+ghost use Rattle.rv32_atomics.specs.Performing.{Core, DoesOrLeaves, LeavesRegistersUnlessDone, LeavesReserved, Performs, PerformsOrLeaves, goes_on, reserved_after};
 ghost use Rattle.rv32_atomics.specs.Table.{IsInRange};
 
 use crate::atomic::Atomic;
@@ -159,8 +161,10 @@ fn perform_or_leave<U: UserMemory>(
         let after = view_of U.UserMemory mem.new in
         let old : Core = record { regs = regs.old; reserved = reserved.old } in
         let new : Core = record { regs = regs.new; reserved = reserved.new } in
-        ExecutesOrLeaves (λ mem. atomic_effect mem regs.old pc reserved.old (meaning atomic))
-        (reserves regs.old reserved.old (meaning atomic)) before after old new result }
+        let effect : Memory → Executed = λ mem. atomic_effect mem regs.old pc reserved.old (meaning atomic) in
+        let left = reserves regs.old reserved.old (meaning atomic) in
+        DoesOrLeaves (λ done. DoesExecute effect before after regs.old done.regs result
+        × (done.reserved ≡ reserved_after result reserved.old left)) old new result }
     ensures aligned { GoesOnAligned result }
     ensures may { U.may mem.new ≡ U.may mem.old }
     ensures console { U.console mem.new ≡ U.console mem.old }
