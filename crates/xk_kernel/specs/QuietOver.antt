@@ -26,25 +26,26 @@ pub record MayStep {W : Type 0} (S : SwapStore W) (k : Kernel W) : Type 0 where
   pub matched : Matched (machine_of S.held k)
   pub untimed : is_claim_of k.cursor.pid ((machine_of S.held k).claims TIMER_INTERRUPT) ≡ false
 
--- a thread out of its table, with the address that it has reserved
-pub record Taken : Type 0 where
+-- what a kernel has lent for quiet steps: its memory, and a thread out of its table, with the address that it has reserved
+pub record Lent (W : Type 0) : Type 0 where
+  pub mem : Memory W
   pub thread : Thread
   pub reserved : Option ℕ
 
--- the machine of the kernel with this memory and with the thread in hand, after so many steps
-abbrev pub machine_with : {W : Type 0} → (W → Held) → Kernel W → ThreadId → Memory W → Taken → ℕ → Machine
-machine_with held k who mem taken n = in_hand who taken.thread taken.reserved n (machine_of held (around mem who k))
+-- the machine of the kernel with what is lent in hand, after so many steps
+abbrev pub machine_with : {W : Type 0} → (W → Held) → Kernel W → ThreadId → Lent W → ℕ → Machine
+machine_with held k who lent n = in_hand who lent.thread lent.reserved n (machine_of held (around lent.mem who k))
 
 -- What came of a step that was to be done only if it is quiet, in every kernel around the memory whose timer isn't due at its end,
 -- with any number of steps done before it, where bytes mean something.
-abbrev pub StepsOver : {W : Type 0} → SwapStore W → ThreadId → Memory W → Memory W → Taken → Taken → Bool → Type 0
-StepsOver {W} S who old new taken left quiet =
-    (k : Kernel W) → MayStep S (around old who k) → (n : ℕ) → is_due k.timer (n + 1) ≡ false → MeansBytes S old
-    → StepsIfQuiet quiet (machine_with S.held k who old taken n) (machine_with S.held k who new left (steps_after quiet n))
+abbrev pub StepsOver : {W : Type 0} → SwapStore W → ThreadId → Lent W → Lent W → Bool → Type 0
+StepsOver {W} S who old new quiet =
+    (k : Kernel W) → MayStep S (around old.mem who k) → (n : ℕ) → is_due k.timer (n + 1) ≡ false → MeansBytes S old.mem
+    → StepsIfQuiet quiet (machine_with S.held k who old n) (machine_with S.held k who new (steps_after quiet n))
 
 -- a quiet run of at most so many steps, in every kernel around the memory whose timer isn't due at the end of any of them
-abbrev pub RunsOver : {W : Type 0} → SwapStore W → ThreadId → Memory W → Memory W → Taken → Taken → ℕ → ℕ → Type 0
-RunsOver {W} S who old new taken left most done =
-    (k : Kernel W) → MayStep S (around old who k) → ((j : ℕ) → j < most → is_due k.timer (k.steps + j + 1) ≡ false)
-    → MeansBytes S old
-    → RunsQuietly most done (machine_with S.held k who old taken k.steps) (machine_with S.held k who new left (k.steps + done))
+abbrev pub RunsOver : {W : Type 0} → SwapStore W → ThreadId → Lent W → Lent W → ℕ → ℕ → Type 0
+RunsOver {W} S who old new most done =
+    (k : Kernel W) → MayStep S (around old.mem who k) → ((j : ℕ) → j < most → is_due k.timer (k.steps + j + 1) ≡ false)
+    → MeansBytes S old.mem
+    → RunsQuietly most done (machine_with S.held k who old k.steps) (machine_with S.held k who new (k.steps + done))

@@ -15,14 +15,14 @@ use Rattle.vm_memory.specs.declared.memory.Memory.{Memory}
 use Rattle.xk_base.specs.declared.ids.Pid.{Pid}
 use Rattle.xk_base.specs.declared.ids.ThreadId.{ThreadId}
 use Rattle.xk_kernel.specs.Quiet.{StepsIfQuiet, in_hand}
-use Rattle.xk_kernel.specs.QuietOver.{StepsOver, Taken, around}
+use Rattle.xk_kernel.specs.QuietOver.{Lent, StepsOver, around}
 use Rattle.xk_kernel.specs.State.{machine_of}
 use Rattle.xk_kernel.specs.declared.kernel.Kernel.{Kernel}
 use Rattle.xk_kernel.proofs.Quieting.InstructionLemmas.{IsOther, end_is_loud, handler_end_is_loud, has_done, next_done, next_is_quiet, other_done, other_is_loud, view_of}
 
--- a thread of the table in hand
-abbrev pub taken : TableThread → Option ℕ → Taken
-taken t reserved = record { thread = thread_of t; reserved = reserved }
+-- what is lent, with a thread of the table in hand
+abbrev pub lent : {W : Type 0} → Memory W → TableThread → Option ℕ → Lent W
+lent mem t reserved = record { mem = mem; thread = thread_of t; reserved = reserved }
 
 abbrev pub core_of : TableThread → Option ℕ → Core
 core_of t reserved = record { regs = t.regs; reserved = reserved }
@@ -39,12 +39,12 @@ left_by_other old done new answer (inr (inr is)) e = e ∙ ap (core_left old don
 module _ {W : Type 0} (S : SwapStore W)
     (who : ThreadId) (old : Memory W) (t : TableThread) (ready : is_ready_state t.state ≡ true) (reserved : Option ℕ) where
   -- where the thread or its handler ends, there is no quiet step
-  pub end_over : ends_thread who t.pc ≡ true → StepsOver S who old old (taken t reserved) (taken t reserved) false
+  pub end_over : ends_thread who t.pc ≡ true → StepsOver S who (lent old t reserved) (lent old t reserved) false
   end_over e k may n undue means =
       end_is_loud S (around old who k) old who.pid refl may.whole may.matched may.untimed
       (rest_same S who.pid old) t ready reserved n e
 
-  pub handler_end_over : ends_handler who t.pc ≡ true → StepsOver S who old old (taken t reserved) (taken t reserved) false
+  pub handler_end_over : ends_handler who t.pc ≡ true → StepsOver S who (lent old t reserved) (lent old t reserved) false
   handler_end_over e k may n undue means =
       handler_end_is_loud S (around old who k) old who.pid refl may.whole may.matched may.untimed
       (rest_same S who.pid old) t ready reserved n e
@@ -57,11 +57,11 @@ module _ {W : Type 0} (S : SwapStore W)
     rest = subst (λ p. KeepsRest S p old new) own kept
 
     performs : Performs (view_of S old who.pid) (view_of S new other) (core_of t reserved) run.done t.pc answer
-    performs = subst (λ p. Performs (view_of S old p) (view_of S new other) (core_of t reserved) run.done t.pc answer) own run.performs
+    performs = subst (λ p. Performs (view_of S old p) (view_of S new other) (core_of t reserved) run.done t.pc answer) own run.does
 
     -- an instruction by which the thread doesn't go on isn't done
     pub other_over : IsOther answer
-        → StepsOver S who old new (taken t reserved) (taken (record t { regs = core.regs }) core.reserved) false
+        → StepsOver S who (lent old t reserved) (lent new (record t { regs = core.regs }) core.reserved) false
     other_over is k may n undue means =
         let a : Kernel W = around old who k in
         let done = has_done S a new other (same ∙ own) may.whole may.matched may.untimed rest
@@ -74,7 +74,7 @@ module _ {W : Type 0} (S : SwapStore W)
 
     -- any other is the quiet step
     pub next_over : (next : ℕ) → answer ≡ ran.Next next → ends_thread who t.pc ≡ false → ends_handler who t.pc ≡ false
-        → StepsOver S who old new (taken t reserved) (taken (record t { regs = core.regs; pc = next }) core.reserved) true
+        → StepsOver S who (lent old t reserved) (lent new (record t { regs = core.regs; pc = next }) core.reserved) true
     next_over next is past stays k may n undue means =
         let a : Kernel W = around old who k in
         let done = has_done S a new other (same ∙ own) may.whole may.matched may.untimed rest

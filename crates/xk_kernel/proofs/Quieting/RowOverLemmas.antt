@@ -16,11 +16,11 @@ use Rattle.xk_base.specs.Outside.{Rose}
 use Rattle.xk_base.specs.declared.ids.Pid.{Pid}
 use Rattle.xk_base.specs.declared.ids.ThreadId.{ThreadId}
 use Rattle.xk_kernel.specs.Quiet.{GoesQuietly, is_quiet}
-use Rattle.xk_kernel.specs.QuietOver.{MayStep, RunsOver, StepsOver, Taken, around, machine_with}
+use Rattle.xk_kernel.specs.QuietOver.{Lent, MayStep, RunsOver, StepsOver, around, machine_with}
 use Rattle.xk_kernel.specs.State.{machine_of}
 use Rattle.xk_kernel.specs.declared.kernel.Kernel.{Kernel}
 use Rattle.xk_kernel.proofs.Memory.MemoryPartLemmas.{whole_with}
-use Rattle.xk_kernel.proofs.Quieting.OverLemmas.{taken}
+use Rattle.xk_kernel.proofs.Quieting.OverLemmas.{lent}
 use Rattle.xk_kernel.proofs.Quieting.QuietStepLemmas.{goes_once_more}
 use Rattle.xk_kernel.proofs.Running.RanLemmas.{matched_memory}
 
@@ -35,10 +35,10 @@ rose_since before between now low rose = omega (arith, low, rose)
 
 module _ {W : Type 0} (S : SwapStore W) (who : ThreadId) where
   -- so many steps were done, each of them quiet, in every kernel around the memory
-  abbrev pub GoesOver : ℕ → Memory W → Memory W → Taken → Taken → Type 0
-  GoesOver done old new a b =
-      (k : Kernel W) → MayStep S (around old who k) → ((j : ℕ) → j < done → is_due k.timer (k.steps + j + 1) ≡ false)
-      → MeansBytes S old → GoesQuietly done (machine_with S.held k who old a k.steps) (machine_with S.held k who new b (k.steps + done))
+  abbrev pub GoesOver : ℕ → Lent W → Lent W → Type 0
+  GoesOver done old new =
+      (k : Kernel W) → MayStep S (around old.mem who k) → ((j : ℕ) → j < done → is_due k.timer (k.steps + j + 1) ≡ false)
+      → MeansBytes S old.mem → GoesQuietly done (machine_with S.held k who old k.steps) (machine_with S.held k who new (k.steps + done))
 
   -- .. of the thread of that process, and what its steps keep
   pub record HasGone (pid : Pid) (old new : Memory W) (before after : TableThread) (reserved left : Option ℕ) (done : ℕ) : Type 0 where
@@ -46,7 +46,7 @@ module _ {W : Type 0} (S : SwapStore W) (who : ThreadId) where
     pub state : after.state ≡ before.state
     pub aligned : after.pc % 4 ≡ 0
     pub usable : IsUsable new
-    pub goes : GoesOver done old new (taken before reserved) (taken after left)
+    pub goes : GoesOver done (lent old before reserved) (lent new after left)
 
   pub gone_none : (pid : Pid) (old : Memory W) (t : TableThread) (reserved : Option ℕ) → IsUsable old → t.pc % 4 ≡ 0
       → HasGone pid old old t t reserved reserved 0
@@ -55,49 +55,48 @@ module _ {W : Type 0} (S : SwapStore W) (who : ThreadId) where
     state = refl;
     aligned = aligned;
     usable = usable;
-    goes = λ k may undue means. let e : k.steps + 0 ≡ k.steps = omega arith in ap (machine_with S.held k who old (taken t reserved)) e;
+    goes = λ k may undue means. let e : k.steps + 0 ≡ k.steps = omega arith in ap (machine_with S.held k who (lent old t reserved)) e;
   }
 
   -- the kernels around a memory are as they were around the one before
-  module _ (old mid : Memory W) (kept : KeepsRest S who.pid old mid) where
-    still : (k : Kernel W) → MayStep S (around old who k) → MayStep S (around mid who k)
+  module _ (old mid : Lent W) (kept : KeepsRest S who.pid old.mem mid.mem) where
+    still : (k : Kernel W) → MayStep S (around old.mem who k) → MayStep S (around mid.mem who k)
     unfolding machine_of
     still k may = record {
-      whole = whole_with S (around old who k) mid may.whole who.pid kept;
-      matched = matched_memory S (around old who k) mid who may.matched kept;
+      whole = whole_with S (around old.mem who k) mid.mem may.whole who.pid kept;
+      matched = matched_memory S (around old.mem who k) mid.mem who may.matched kept;
       untimed = may.untimed;
     }
 
-    module _ (new : Memory W) (a b c : Taken) (done : ℕ) (goes : GoesOver done old mid a b) where
+    module _ (new : Lent W) (done : ℕ) (goes : GoesOver done old mid) where
       -- one more
-      pub goes_on : StepsOver S who mid new b c true → GoesOver (done + 1) old new a c
+      pub goes_on : StepsOver S who mid new true → GoesOver (done + 1) old new
       goes_on s k may undue means =
-          let d : (is_quiet (machine_with S.held k who mid b (k.steps + done)) ≡ true)
-          × (machine_with S.held k who new c (k.steps + done + 1) ≡ (step (machine_with S.held k who mid b (k.steps + done))).machine) =
+          let d : (is_quiet (machine_with S.held k who mid (k.steps + done)) ≡ true)
+          × (machine_with S.held k who new (k.steps + done + 1) ≡ (step (machine_with S.held k who mid (k.steps + done))).machine) =
           s k (still k may) (k.steps + done) (undue done (omega arith)) (kept.means means) in
           let count : k.steps + (done + 1) ≡ k.steps + done + 1 = omega arith in
           let more : suc done ≡ done + 1 = omega arith in
-          subst (λ n. GoesQuietly n (machine_with S.held k who old a k.steps) (machine_with S.held k who new c (k.steps + (done + 1)))) more
-          (goes_once_more done (machine_with S.held k who old a k.steps) (machine_with S.held k who mid b (k.steps + done)) (machine_with S.held k who new c (k.steps + (done + 1)))
-          (goes k may (λ j less. undue j (omega (arith, less))) means) d.0 (ap (machine_with S.held k who new c) count ∙ d.1))
+          subst (λ n. GoesQuietly n (machine_with S.held k who old k.steps) (machine_with S.held k who new (k.steps + (done + 1)))) more
+          (goes_once_more done (machine_with S.held k who old k.steps) (machine_with S.held k who mid (k.steps + done)) (machine_with S.held k who new (k.steps + (done + 1)))
+          (goes k may (λ j less. undue j (omega (arith, less))) means) d.0 (ap (machine_with S.held k who new) count ∙ d.1))
 
       -- the next one isn't quiet
-      pub goes_out : (most : ℕ) → done < most → StepsOver S who mid new b c false
-          → RunsOver S who old new a c most done
+      pub goes_out : (most : ℕ) → done < most → StepsOver S who mid new false → RunsOver S who old new most done
       goes_out most within s k may undue means =
-          let d : (is_quiet (machine_with S.held k who mid b (k.steps + done)) ≡ false)
-          × (machine_with S.held k who new c (k.steps + done) ≡ machine_with S.held k who mid b (k.steps + done)) =
+          let d : (is_quiet (machine_with S.held k who mid (k.steps + done)) ≡ false)
+          × (machine_with S.held k who new (k.steps + done) ≡ machine_with S.held k who mid (k.steps + done)) =
           s k (still k may) (k.steps + done) (undue done within) (kept.means means) in
           record {
-            steps = subst (GoesQuietly done (machine_with S.held k who old a k.steps)) (sym d.1) (goes k may (λ j less. undue j (omega (arith, less, within))) means);
+            steps = subst (GoesQuietly done (machine_with S.held k who old k.steps)) (sym d.1) (goes k may (λ j less. undue j (omega (arith, less, within))) means);
             next = λ _. ap is_quiet d.1 ∙ d.0;
           }
 
   -- all were done that were to be
-  pub goes_all : (old new : Memory W) (a b : Taken) (most done : ℕ) → done ≡ most → GoesOver done old new a b
-      → RunsOver S who old new a b most most
-  goes_all old new a b most done all goes k may undue means = record {
-    steps = (subst (λ n. GoesOver n old new a b) all goes) k may undue means;
+  pub goes_all : (old new : Lent W) (most done : ℕ) → done ≡ most → GoesOver done old new
+      → RunsOver S who old new most most
+  goes_all old new most done all goes k may undue means = record {
+    steps = (subst (λ n. GoesOver n old new) all goes) k may undue means;
     next = λ less. absurd (omega (arith, less));
   }
 
@@ -109,22 +108,22 @@ module _ {W : Type 0} (S : SwapStore W) (who : ThreadId) where
     kept = subst (λ p. KeepsRest S p old mid) own h.rest
 
     pub rest_on : KeepsRest S other mid new → KeepsRest S pid old new
-    rest_on rest = pid_rest_over S pid other old mid new same h.rest rest
+    rest_on rest = pid_rest_over S same h.rest rest
 
     module _ (v : TableThread) (q : Option ℕ) where
       pub gone_on : KeepsRest S other mid new → v.state ≡ u.state → v.pc % 4 ≡ 0 → IsUsable new
-          → StepsOver S who mid new (taken u s) (taken v q) true → HasGone pid old new t v r q (done + 1)
+          → StepsOver S who (lent mid u s) (lent new v q) true → HasGone pid old new t v r q (done + 1)
       gone_on rest state aligned usable step = record {
         rest = rest_on rest;
         state = state ∙ h.state;
         aligned = aligned;
         usable = usable;
-        goes = goes_on old mid kept new (taken t r) (taken u s) (taken v q) done h.goes step;
+        goes = goes_on (lent old t r) (lent mid u s) kept (lent new v q) done h.goes step;
       }
 
-      pub gone_out : (most : ℕ) → done < most → StepsOver S who mid new (taken u s) (taken v q) false
-          → RunsOver S who old new (taken t r) (taken v q) most done
-      gone_out most within step = goes_out old mid kept new (taken t r) (taken u s) (taken v q) done h.goes most within step
+      pub gone_out : (most : ℕ) → done < most → StepsOver S who (lent mid u s) (lent new v q) false
+          → RunsOver S who (lent old t r) (lent new v q) most done
+      gone_out most within step = goes_out (lent old t r) (lent mid u s) kept (lent new v q) done h.goes most within step
 
     -- where the store failed
     pub out_on : none_out mid ≡ false → none_out old ≡ false

@@ -18,7 +18,7 @@ ghost use Rattle.xk_base.specs.Outside.{Rose};
 ghost use Rattle.xk_base.specs.declared.limits.TheConstants.{TIMER_INTERRUPT};
 ghost use Rattle.xk_kernel.specs.Knowing.{KnowsBytes, PutsNoneOut};
 ghost use Rattle.xk_kernel.specs.Quiet.{RunsQuietly, in_hand};
-ghost use Rattle.xk_kernel.specs.QuietOver.{RunsOver, StepsOver, Taken};
+ghost use Rattle.xk_kernel.specs.QuietOver.{Lent, RunsOver, StepsOver};
 ghost use Rattle.xk_kernel.specs.Sound.{IsSound, IsUsable, IsWhole, Keeps};
 ghost use Rattle.xk_kernel.specs.State.{machine_of};
 ghost use Rattle.xk_kernel.specs.Stepping.{last_of};
@@ -176,9 +176,9 @@ fn quiet_row<W: SwapStore>(
     ensures cause { OnErr result (Rose (W.faults (store_of user.old.mem.now)) (W.faults (store_of user.new.mem.now))) }
     ensures out { OnErr result (none_out user.old.mem.now ≡ false) }
     ensures most { IfOk result (λ done. done ≤ most) }
-    ensures runs { let old : Taken = record { thread = thread_of thread.old; reserved = reserved.old } in
-        let new : Taken = record { thread = thread_of thread.new; reserved = reserved.new } in
-        IfOk result (λ done. RunsOver W.SwapStore who user.old.mem.now user.new.mem.now old new most done) }
+    ensures runs { let old : Lent W = record { mem = user.old.mem.now; thread = thread_of thread.old; reserved = reserved.old } in
+        let new : Lent W = record { mem = user.new.mem.now; thread = thread_of thread.new; reserved = reserved.new } in
+        IfOk result (λ done. RunsOver W.SwapStore who old new most done) }
 {
     'steps: for done in 0..most {
         if !quiet_step(who, thread, reserved, user)? {
@@ -213,9 +213,9 @@ fn quiet_step<W: SwapStore>(
     ensures failed { OnErr result (has_failed user.new.mem.now ≡ true) }
     ensures cause { OnErr result (Rose (W.faults (store_of user.old.mem.now)) (W.faults (store_of user.new.mem.now))) }
     ensures out { OnErr result (none_out user.old.mem.now ≡ false) }
-    ensures does { let old : Taken = record { thread = thread_of thread.old; reserved = reserved.old } in
-        let new : Taken = record { thread = thread_of thread.new; reserved = reserved.new } in
-        IfOk result (λ quiet. StepsOver W.SwapStore who user.old.mem.now user.new.mem.now old new quiet) }
+    ensures does { let old : Lent W = record { mem = user.old.mem.now; thread = thread_of thread.old; reserved = reserved.old } in
+        let new : Lent W = record { mem = user.new.mem.now; thread = thread_of thread.new; reserved = reserved.new } in
+        IfOk result (λ quiet. StepsOver W.SwapStore who old new quiet) }
 {
     if ends_thread(who, thread.pc) || ends_handler(who, thread.pc) {
         return Ok(false);

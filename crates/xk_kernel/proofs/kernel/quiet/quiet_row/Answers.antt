@@ -2,7 +2,7 @@
 use Rattle.std.proofs.Common.{ap, refl, subst, ◌∙◌}
 use Rattle.thread_table.specs.States.{is_ready_state}
 use Rattle.xk_kernel.specs.QuietOver.{StepsOver}
-use Rattle.xk_kernel.proofs.Quieting.OverLemmas.{taken}
+use Rattle.xk_kernel.proofs.Quieting.OverLemmas.{lent}
 use Rattle.xk_kernel.proofs.Quieting.RowOverLemmas.{gone_none, gone_on, gone_out, rest_on}
 use Rattle.xk_kernel.proofs.kernel.quiet.quiet_row.Goals as goal
 
@@ -42,8 +42,8 @@ steps-preserved g c = record {
   remembers = c.quiet_step.ensures.known;
   gone = gone_on g.W.SwapStore c.args.who c.args.user.now.pid c.steps.user.pid c.requires.pid c.steps.invariant.pid c.args.user.now.mem.now c.steps.user.mem.now c.quiet_step.new.user.mem.now c.args.thread.now c.steps.thread c.args.reserved.now c.steps.reserved c.steps.done c.steps.invariant.gone
       c.quiet_step.new.thread c.quiet_step.new.reserved c.quiet_step.ensures.rest c.quiet_step.ensures.state c.quiet_step.ensures.aligned c.in_ok-quiet_step.ensures.usable
-      (subst (λ quiet. StepsOver g.W.SwapStore c.args.who c.steps.user.mem.now c.quiet_step.new.user.mem.now
-      (taken c.steps.thread c.steps.reserved) (taken c.quiet_step.new.thread c.quiet_step.new.reserved) quiet) c.if-not-branch.false c.in_ok-quiet_step.ensures.does);
+      (subst (λ quiet. StepsOver g.W.SwapStore c.args.who (lent c.steps.user.mem.now c.steps.thread c.steps.reserved)
+      (lent c.quiet_step.new.user.mem.now c.quiet_step.new.thread c.quiet_step.new.reserved) quiet) c.if-not-branch.false c.in_ok-quiet_step.ensures.does);
 }
 
 pub returns-then-not-branch-clause-rest : goal.returns-then-not-branch-clause-rest
@@ -53,5 +53,5 @@ pub returns-then-not-branch-clause-runs : goal.returns-then-not-branch-clause-ru
 returns-then-not-branch-clause-runs g c =
     gone_out g.W.SwapStore c.args.who c.args.user.now.pid c.steps.user.pid c.requires.pid c.steps.invariant.pid c.args.user.now.mem.now c.steps.user.mem.now c.quiet_step.new.user.mem.now c.args.thread.now c.steps.thread c.args.reserved.now c.steps.reserved c.steps.done c.steps.invariant.gone
     c.quiet_step.new.thread c.quiet_step.new.reserved c.args.most c.steps-test.true
-    (subst (λ quiet. StepsOver g.W.SwapStore c.args.who c.steps.user.mem.now c.quiet_step.new.user.mem.now
-    (taken c.steps.thread c.steps.reserved) (taken c.quiet_step.new.thread c.quiet_step.new.reserved) quiet) c.if-not-branch.true c.in_ok-quiet_step.ensures.does)
+    (subst (λ quiet. StepsOver g.W.SwapStore c.args.who (lent c.steps.user.mem.now c.steps.thread c.steps.reserved)
+    (lent c.quiet_step.new.user.mem.now c.quiet_step.new.thread c.quiet_step.new.reserved) quiet) c.if-not-branch.true c.in_ok-quiet_step.ensures.does)
