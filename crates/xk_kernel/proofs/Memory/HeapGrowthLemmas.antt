@@ -31,7 +31,7 @@ use Rattle.sv32_space.specs.Tie.{Held}
 use Rattle.syscall_codec.specs.declared.replies.Reply.TheVariants.{Range}
 use Rattle.vm_memory.specs.declared.memory.Memory.{Memory}
 use Rattle.vm_memory.specs.Pages.Making.{if_room, make_answer, page_place, run_place}
-use Rattle.vm_memory.specs.Memory.{capacity_of, frames_for_pages, ledger, processes, size}
+use Rattle.vm_memory.specs.Memory.{capacity_of, frames_for_pages, ledger, processes, room_in, size}
 use Rattle.vm_memory.proofs.Changing.SoundMemoryLemmas.{pages-ledger}
 use Rattle.xk_base.specs.Tables.Circle.{is_pid}
 use Rattle.xk_kernel.specs.Calling.{CrowdsBy, ServesAs, outcome_of}
@@ -140,7 +140,7 @@ module _ {W : Type 0} (S : SwapStore W) (k : Kernel W) (whole : IsWhole S k) (he
     over = nat_lt (capacity_of k.mem) (pages (processes k.mem) (ledger S.held k.mem) + bytes / 4096)
 
     abbrev answer : Result Vpn XousError
-    answer = make_answer (processes k.mem) (capacity_of k.mem) (ledger S.held k.mem) k.cursor.pid Heap (Some first) (bytes / 4096)
+    answer = make_answer (room_in k.mem) (ledger S.held k.mem) k.cursor.pid Heap (Some first) (bytes / 4096)
 
     answered : answer ≡ (if over then Err OutOfMemory else Ok first)
     answered = ap (if_room over) run_above

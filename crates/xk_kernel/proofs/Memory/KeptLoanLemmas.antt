@@ -82,10 +82,10 @@ reduce_keeps r first n right old new e = ap loans e ∙ go r
 -- ---- pages are made
 
 pub make_keeps : (procs capacity : ℕ) (pid : Pid) (window : Window) (at : Option Vpn) (n : ℕ) (right : Right) (r : Result Vpn XousError) (old new : Ledger)
-    → is_pid procs pid.0 ≡ true → r ≡ make_answer procs capacity old pid window at n → new ≡ after_make pid n right r old → loans new ≡ loans old
+    → is_pid procs pid.0 ≡ true → r ≡ make_answer (record { procs = procs; capacity = capacity }) old pid window at n → new ≡ after_make pid n right r old → loans new ≡ loans old
 make_keeps procs capacity pid window at n right r old new process a e = ap loans e ∙ go r a
   where
-    go : (r : Result Vpn XousError) → r ≡ make_answer procs capacity old pid window at n → loans (after_make pid n right r old) ≡ loans old
+    go : (r : Result Vpn XousError) → r ≡ make_answer (record { procs = procs; capacity = capacity }) old pid window at n → loans (after_make pid n right r old) ≡ loans old
     go (Ok first) a = make_loans procs capacity (page_place pid first) n right old (can_answered procs capacity old pid window at n first process (sym a))
     go (Err error) a = refl
 
@@ -97,7 +97,7 @@ in_wider first i n p few e =
 
 -- .. also where only the first of them are
 pub made_first_keeps : {Known : Type 0} (procs capacity : ℕ) (pid : Pid) (window : Window) (at : Option Vpn) (n : ℕ) (right : Right) (old new : Ledger)
-    → is_pid procs pid.0 ≡ true → HasMadeFirst Known (make_answer procs capacity old pid window at n) pid n right old new → loans new ≡ loans old
+    → is_pid procs pid.0 ≡ true → HasMadeFirst Known (make_answer (record { procs = procs; capacity = capacity }) old pid window at n) pid n right old new → loans new ≡ loans old
 made_first_keeps procs capacity pid window at n right old new process h =
     let at_first = page_place pid h.first in
     let can : CanMake procs capacity old at_first n = can_answered procs capacity old pid window at n h.first process h.served in

@@ -18,7 +18,7 @@ use Rattle.process_table.specs.declared.table.Processes.{Processes}
 use Rattle.sv32_space.specs.Tie.{Held}
 use Rattle.syscall_codec.specs.declared.replies.Reply.{Reply}
 use Rattle.vm_memory.proofs.Changing.AnsweringLemmas.{can_answered}
-use Rattle.vm_memory.specs.Memory.{capacity_of, frames_for_pages, ledger, processes, size}
+use Rattle.vm_memory.specs.Memory.{capacity_of, frames_for_pages, ledger, processes, room_in, size}
 use Rattle.vm_memory.specs.Pages.Making.{after_make, make_answer, page_place}
 use Rattle.vm_memory.specs.declared.memory.Memory.{Memory}
 use Rattle.xk_ports.specs.declared.store.SwapStore.{Ghosts as SwapStore}
@@ -92,7 +92,7 @@ too_many frames count b near out = elim (cases_lt frames count) [
 
 module _ {W : Type 0} (held : W → Held) (k : Kernel W) (window : Window) (at : Option Vpn) (n : ℕ) (right : Right) (process : is_pid (processes k.mem) k.cursor.pid.0 ≡ true) where
   abbrev answer : Result Vpn XousError
-  answer = make_answer (processes k.mem) (capacity_of k.mem) (ledger held k.mem) k.cursor.pid window at n
+  answer = make_answer (room_in k.mem) (ledger held k.mem) k.cursor.pid window at n
 
   -- as many pages more
   pub made_crowded : (first : Vpn) → answer ≡ Ok first → frames_for_pages k.mem < pages (processes k.mem) (ledger held k.mem) + n

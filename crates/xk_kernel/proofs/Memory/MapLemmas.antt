@@ -24,7 +24,7 @@ use Rattle.sv32_space.specs.Tie.{Held}
 use Rattle.syscall_codec.specs.declared.replies.Reply.TheVariants.{Range}
 use Rattle.vm_memory.specs.declared.memory.Memory.{Memory}
 use Rattle.vm_memory.specs.Pages.Making.{console_answer, if_room, make_answer, page_place, run_found, run_place}
-use Rattle.vm_memory.specs.Memory.{capacity_of, frames_for_pages, ledger, processes, size}
+use Rattle.vm_memory.specs.Memory.{frames_for_pages, ledger, processes, room_in, size}
 use Rattle.vm_memory.proofs.Changing.AnsweringLemmas.{run_answered}
 use Rattle.xk_base.specs.Tables.Circle.{is_pid}
 use Rattle.xk_kernel.specs.Calling.{CrowdsBy, ServesAs, outcome_of}
@@ -215,7 +215,7 @@ module _ {W : Type 0} (held : W → Held) (k : Kernel W) (phys virt bytes flags 
 
   module _ (zero : (phys == 0) ≡ true) (other : (phys == CONSOLE_ADDRESS) ≡ false) where
     abbrev answer : Result Vpn XousError
-    answer = make_answer (processes k.mem) (capacity_of k.mem) (ledger held k.mem) k.cursor.pid Map at (bytes / 4096)
+    answer = make_answer (room_in k.mem) (ledger held k.mem) k.cursor.pid Map at (bytes / 4096)
 
     pages_row : told answer served ≡ row
     unfolding machine_of row_by
@@ -305,7 +305,7 @@ narrow bytes flags right one asked e =
 
 -- ---- addresses fit
 
-pub made_low : (procs capacity : ℕ) (l : Ledger) (pid : Pid) (at : Option Vpn) (n : ℕ) (first : Vpn) → Ok first ≡ make_answer procs capacity l pid Map at n → first.0 ≤ 397312
+pub made_low : (procs capacity : ℕ) (l : Ledger) (pid : Pid) (at : Option Vpn) (n : ℕ) (first : Vpn) → Ok first ≡ make_answer (record { procs = procs; capacity = capacity }) l pid Map at n → first.0 ≤ 397312
 made_low procs capacity l pid at n first e =
     let high : first.0 + n ≤ 397312 = (run_answered procs l pid Map at n first (sym (not_room (nat_lt capacity (pages procs l + n)) (run_place procs l pid Map at n) first e))).high in
     omega arith

@@ -163,7 +163,7 @@ module _ (procs capacity : ℕ) (whole : Ledger) (lawful : IsLawful procs capaci
 
   -- so they can be made in any ledger that is alike but for bytes
   pub made : (l : Ledger) → ((p : Place) → in_run from n p ≡ true → is_free procs l p ≡ true) → pages procs l + n ≤ capacity
-      → make_answer procs capacity l from.pid Map (Some from.vpn) n ≡ Ok from.vpn
+      → make_answer (record { procs = procs; capacity = capacity }) l from.pid Map (Some from.vpn) n ≡ Ok from.vpn
   made l free fits =
       let limit = few in
       let over : nat_lt capacity (pages procs l + n) ≡ false = le-ltb capacity (pages procs l + n) fits in

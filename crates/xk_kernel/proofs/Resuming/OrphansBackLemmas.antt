@@ -21,7 +21,7 @@ use Rattle.state_rows.specs.declared.state.State.{State}
 use Rattle.sv32_space.specs.Tie.{Held}
 use Rattle.vm_memory.proofs.Changing.CrowdedLemmas.{make_bare}
 use Rattle.vm_memory.specs.Loaning.Sending.{IsFreeArrival, send_answer}
-use Rattle.vm_memory.specs.Memory.{capacity_of, ledger, processes}
+use Rattle.vm_memory.specs.Memory.{capacity_of, ledger, processes, room_in}
 use Rattle.vm_memory.specs.Pages.Making.{make_answer}
 use Rattle.vm_memory.specs.declared.memory.Memory.{Memory}
 use Rattle.xk_base.specs.Tables.Circle.{is_pid}
@@ -150,11 +150,11 @@ module _ {W : Type 0} (S : SwapStore W)
   pub orphans_fit_now : pages (processes old) (ledger S.held old) + row.count ≤ state_pages file s
   orphans_fit_now = let fits = orphans_fit in let same = bare-pages (processes old) now (ledger S.held old) come.rights in omega (arith, fits, same)
 
-  pub orphans_served : make_answer (processes old) (capacity_of old) (ledger S.held old) from.pid Map (Some from.vpn) row.count ≡ Ok from.vpn
+  pub orphans_served : make_answer (room_in old) (ledger S.held old) from.pid Map (Some from.vpn) row.count ≡ Ok from.vpn
   orphans_served =
       let same = bare-pages s.n now (ledger S.held old) come.rights in
       let fits = fits_cap in
-      (λ j. make_answer (procs j) (cap j) (ledger S.held old) from.pid Map (Some from.vpn) row.count)
+      (λ j. make_answer (record { procs = procs j; capacity = cap j }) (ledger S.held old) from.pid Map (Some from.vpn) row.count)
       ∙ made s.n s.cap whole h.matched.body.ledger.lawful so_far from row.count to (row_kind row) (number_of row) stands some not_yet own first
       (ledger S.held old)
       (λ p inside. bare-free s.n now (ledger S.held old) p come.rights

@@ -59,7 +59,7 @@ unfolding any_used run
 unused_one procs l at free = ap (λ b. not b || false) free
 
 pub make_served : (procs capacity : ℕ) (l : Ledger) (at : Place) (w : Window) → window_at at.vpn.0 ≡ Some w → is_free procs l at ≡ true
-    → pages procs l + 1 ≤ capacity → make_answer procs capacity l at.pid w (Some at.vpn) 1 ≡ Ok at.vpn
+    → pages procs l + 1 ≤ capacity → make_answer (record { procs = procs; capacity = capacity }) l at.pid w (Some at.vpn) 1 ≡ Ok at.vpn
 make_served procs capacity l at w lies free room =
     let within : nat_lt capacity (pages procs l + 1) ≡ false = grind (arith, nat_tests, room) in
     (λ i. if_room (within i) (if not (fits_one w at.vpn.0 (window_holds at.vpn.0 w lies) i) then Err BadAddress else (

@@ -58,7 +58,7 @@ abbrev pub beyond : {W : Type 0} → (W → Held) → Memory W → ℕ
 beyond held m = frames_for_pages m + pages (processes m) (ledger held m) + 2
 
 module _ (procs capacity : ℕ) (l k : Ledger) (at : Place) (right : Right) (window : Window) (process : is_pid procs at.pid.0 ≡ true)
-    (served : make_answer procs capacity l at.pid window (Some at.vpn) 1 ≡ Ok at.vpn) (rights : bare k ≡ bare (make at 1 right l)) where
+    (served : make_answer (record { procs = procs; capacity = capacity }) l at.pid window (Some at.vpn) 1 ≡ Ok at.vpn) (rights : bare k ≡ bare (make at 1 right l)) where
   -- no loan has changed
   pub made_loans : loans k ≡ loans l
   made_loans =

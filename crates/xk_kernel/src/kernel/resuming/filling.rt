@@ -7,7 +7,7 @@ ghost use Rattle.ledger_model.specs.Places.{in_run};
 ghost use Rattle.ledger_model.specs.Reach.{reach};
 ghost use Rattle.ledger_model.specs.Steps.{make, reduce, write};
 ghost use Rattle.vm_memory.specs.Bytes.{none_out};
-ghost use Rattle.vm_memory.specs.Memory.{IsUsable, capacity_of, frames_for_pages, ledger, processes};
+ghost use Rattle.vm_memory.specs.Memory.{IsUsable, frames_for_pages, ledger, processes, room_in};
 ghost use Rattle.vm_memory.specs.Pages.Making.{make_answer};
 ghost use Rattle.vm_memory.specs.Pages.Removing.{reduce_answer};
 ghost use Rattle.vm_memory.specs.Sound.{IsSound};
@@ -32,8 +32,7 @@ pub(super) fn make_run<W: SwapStore>(
     requires usable { IsUsable mem.old }
     requires process { is_pid (processes mem.old) first.pid.0 ≡ true }
     requires some { 1 ≤ n }
-    requires served { make_answer (processes mem.old) (capacity_of mem.old) (ledger W.held mem.old) first.pid window (Some first.vpn) n
-        ≡ Ok first.vpn }
+    requires served { make_answer (room_in mem.old) (ledger W.held mem.old) first.pid window (Some first.vpn) n ≡ Ok first.vpn }
     ensures comes { (total : ℕ) (l : Ledger) → HasCome W.SwapStore total mem.old l
         → pages (processes mem.old) l + n ≤ total
         → OnOk result (HasCome W.SwapStore total mem.new (make first n right l)) }

@@ -1,6 +1,6 @@
 use Rattle.std.proofs.Common.{Some, ap, ◌∙◌}
 use Rattle.ledger_model.specs.Loans.{bare}
-use Rattle.vm_memory.specs.Memory.{capacity_of, ledger, processes}
+use Rattle.vm_memory.specs.Memory.{capacity_of, ledger, processes, room_in}
 use Rattle.vm_memory.specs.Pages.Making.{make_answer}
 use Rattle.xk_kernel.proofs.Memory.KeptLoanLemmas.{made_first_keeps}
 use Rattle.xk_kernel.proofs.Resuming.ComingLemmas.{make_comes, on_failed, served_make}
@@ -17,7 +17,7 @@ returns-in_err-make-clause-failed g c =
 pub returns-clause-comes : goal.returns-clause-comes
 returns-clause-comes g c = λ total l come fits.
     let same = served_make c.args.first c.args.n c.args.right c.in_ok-make.field-0
-    (make_answer (processes c.args.mem.now) (capacity_of c.args.mem.now) (ledger g.W.SwapStore.held c.args.mem.now) c.args.first.pid c.args.window (Some c.args.first.vpn) c.args.n)
+    (make_answer (room_in c.args.mem.now) (ledger g.W.SwapStore.held c.args.mem.now) c.args.first.pid c.args.window (Some c.args.first.vpn) c.args.n)
     (ledger g.W.SwapStore.held c.args.mem.now) c.in_ok-make.ensures.answer c.requires.served in
     make_comes g.W.SwapStore c.args.mem.now c.make.new.self
     (record { size = c.in_ok-make.ensures.size; store = c.in_ok-make.ensures.store }) total l come c.args.first c.args.n c.args.right
