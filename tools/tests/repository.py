@@ -1,4 +1,4 @@
-"""The copies of the examples in the program's tests, and `./xousim`, which starts the program."""
+"""The copies of the examples in the program's tests, the must-fail edits, and `./xousim`, which starts the program."""
 
 import importlib.machinery
 import importlib.util
@@ -100,6 +100,38 @@ def checks_of_copies():
     yield copier.COPIES.stat().st_mtime_ns == before, "copies that are as the examples are stay untouched"
 
 
+EDIT = "file: src/lib.rt\nold: one\nnew: two\n"
+BAD_EDITS = {
+    "a text that stands twice": "file: src/lib.rt\nold: three\nnew: four\n",
+    "a text that an earlier pair took away": EDIT + "old: one\nnew: five\n",
+    "a text that stands nowhere": "file: src/lib.rt\nold: six\nnew: two\n",
+    "no change": "file: src/lib.rt\nold: one\nnew: one\n",
+    "no pair": "file: src/lib.rt\n",
+    "a definition": "file: specs/Lib.antt\nold: one\nnew: two\n",
+    "a line that isn't read": EDIT + "odd: one\n",
+}
+
+
+def is_applied(try_edit, crate, text):
+    try:
+        try_edit(crate, text)
+    except ValueError:
+        return False
+    return True
+
+
+def checks_of_edits(folder):
+    try_edit, crate = load("check-edits").try_edit, pathlib.Path(folder, "edited")
+    for name in ("src/lib.rt", "specs/Lib.antt"):
+        (crate / name).parent.mkdir(parents=True)
+        (crate / name).write_text("one three three\n")
+    yield is_applied(try_edit, crate, EDIT), "an edit"
+    yield is_applied(try_edit, crate, EDIT + "old: two three\nnew:\n"), "an edit of what it put in"
+    for name, text in BAD_EDITS.items():
+        yield not is_applied(try_edit, crate, text), f"an edit of {name}"
+
+
 def checks(_program, folder):
     yield from checks_of_copies()
+    yield from checks_of_edits(folder)
     yield from checks_of_start(folder)
