@@ -1,0 +1,5 @@
+pub mod Parts
+pub mod Seats
+pub mod Shown
+pub mod Sound
+pub mod Threads
