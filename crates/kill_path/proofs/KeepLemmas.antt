@@ -3,7 +3,7 @@ use Rattle.xk_ports.specs.declared.store.SwapStore.{Ghosts as SwapStore}
 use Rattle.std.proofs.Common.{Bool, ℕ, refl, ◌∙◌}
 use Rattle.ledger_model.proofs.Pages.BareLemmas.{bare-lawful}
 use Rattle.ledger_model.specs.Lawful.{IsLawful}
-use Rattle.send_path.specs.Sound.{KeepsMemory}
+use Rattle.send_path.specs.Keeping.{KeepsMemory}
 use Rattle.sv32_space.specs.Tie.{Held}
 use Rattle.vm_memory.proofs.Changing.SoundMemoryLemmas.{bare-ledger}
 use Rattle.vm_memory.specs.Loaning.Loans.{KeepsSeats}

@@ -12,6 +12,7 @@ use Rattle.xk_base.specs.Tables.Counting.{put_at}
 use Rattle.xk_base.specs.declared.ids.Number.{Number}
 use Rattle.xk_base.specs.declared.ids.ThreadId.{ThreadId}
 use Rattle.xk_base.specs.declared.limits.TheConstants.{PROCESS_LIMIT}
+use Rattle.xk_parts.specs.Sound.{HasKnownSender}
 use Rattle.kill_path.specs.ThreadSets.{ThreadSet}
 
 -- ---- what can end
@@ -23,10 +24,6 @@ IsLoanEndable all number (Some run) = Stands all run × (run.number ≡ number)
 
 abbrev pub IsEndable : Loans → Held → Type 0
 IsEndable all h = IsLoanEndable all h.msg.number h.loan
-
--- the sender of the message, where it has one, can be a thread, and the message is to be answered
-abbrev pub HasKnownSender : Held → Type 0
-HasKnownSender h = IfSome h.msg.sender (λ id. (is_thread_id PROCESS_LIMIT id ≡ true) × (is_answered h.msg.kind ≡ true))
 
 -- each of the messages can end, and no two have one number
 pub record AreEndable (all : Loans) (messages : List Held) : Type 0 where
