@@ -1,17 +1,15 @@
 -- Messages that end, each with its loan.
-use Rattle.std.specs.Prelude.{◌≡◌, ◌≤◌, Bool, true, ◌||◌, IfSome, All, List, [], ◌∷◌, map, Option, Some, None}
+use Rattle.std.specs.Prelude.{◌≡◌, ◌≤◌, Bool, true, ◌||◌, All, List, [], ◌∷◌, map, Option, Some, None}
 use Rattle.std.specs.List.{list_any, remove}
 use Rattle.ledger_model.specs.Loans.{IsFresh, LoanRun, Loans, Stands}
 use Rattle.machine_model.specs.Messaging.MessageCounts.{count_in}
 use Rattle.machine_model.specs.Messaging.Messages.{is_of_number as is_message_of, is_sent_by}
 use Rattle.msg_queue.specs.Seats.{Seat, empty_seat, is_of_number, message_of}
 use Rattle.msg_queue.specs.declared.held.Held.{Held}
-use Rattle.xk_base.specs.Calls.Kinds.{is_answered}
-use Rattle.xk_base.specs.Tables.Circle.{is_thread_id, same_thread}
+use Rattle.xk_base.specs.Tables.Circle.{same_thread}
 use Rattle.xk_base.specs.Tables.Counting.{put_at}
 use Rattle.xk_base.specs.declared.ids.Number.{Number}
 use Rattle.xk_base.specs.declared.ids.ThreadId.{ThreadId}
-use Rattle.xk_base.specs.declared.limits.TheConstants.{PROCESS_LIMIT}
 use Rattle.xk_parts.specs.Sound.{HasKnownSender}
 use Rattle.kill_path.specs.ThreadSets.{ThreadSet}
 

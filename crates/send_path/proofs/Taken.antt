@@ -1,5 +1,5 @@
 -- The parts as lemmas take them, with those that a call takes at hand.
-use Rattle.std.proofs.Common.{ℕ, List, Option, Some, None}
+use Rattle.std.proofs.Common.{ℕ, List, Some, None}
 use Rattle.machine_model.specs.State.Machine.{Machine}
 use Rattle.msg_queue.specs.Seats.{Seat}
 use Rattle.process_table.specs.declared.table.Processes.{Processes}

@@ -1,16 +1,13 @@
 -- The messages of a server's seat, each with its loan.
-use Rattle.std.specs.Prelude.{◌≡◌, ◌≢◌, ℕ, List, [], ◌∷◌, ◌++◌, is_some, Option, Some, None, if◌then◌else◌}
-use Rattle.std.specs.Option.{option_and_then, option_map}
+use Rattle.std.specs.Prelude.{◌≡◌, ℕ, List, [], ◌∷◌, ◌++◌, Option, Some, None, if◌then◌else◌}
+use Rattle.std.specs.Option.{option_map}
 use Rattle.xk_base.specs.Calls.Kinds.{is_answered}
-use Rattle.machine_model.specs.Messaging.Messages.{is_lend}
 use Rattle.msg_queue.specs.Seats.{Seat, message_of, of_number, seat_of}
 use Rattle.msg_queue.specs.declared.held.Held.{Held}
-use Rattle.server_table.specs.ServerState.{Server, ServerState, at_seat, is_of, with_sid}
+use Rattle.server_table.specs.ServerState.{ServerState, at_seat}
 use Rattle.server_table.specs.declared.table.ServerSeat.{ServerSeat}
 use Rattle.xk_base.specs.declared.ids.Number.{Number}
 use Rattle.xk_base.specs.declared.ids.Pid.{Pid}
-use Rattle.xk_base.specs.declared.ids.Serial.{Serial}
-use Rattle.xk_base.specs.declared.ids.Sid.{Sid}
 use Rattle.xk_base.specs.declared.messages.Message.{Message}
 use Rattle.xk_parts.specs.Seats.{IsSeatOf}
 use Rattle.send_path.specs.declared.holding.HeldAt.{HeldAt}

@@ -30,7 +30,6 @@ use Rattle.send_path.specs.Rows.{IsServed, log_with}
 use Rattle.xk_parts.specs.Threads.{answered, changed_thread}
 use Rattle.server_table.specs.ServersOf.{servers_of}
 use Rattle.server_table.specs.ServerState.{Server as TableServer}
-use Rattle.sv32_space.specs.Tie.{Held}
 use Rattle.thread_table.specs.States.{is_receiving_state}
 use Rattle.thread_table.specs.ThreadMap.{is_ready as is_table_ready, is_receiving}
 use Rattle.thread_table.specs.ThreadsOf.{process_count, threads_of}

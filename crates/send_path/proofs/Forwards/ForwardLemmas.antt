@@ -25,7 +25,6 @@ use Rattle.process_table.specs.ProcessesOf.{processes_of}
 use Rattle.process_table.specs.State.{ProcessState}
 use Rattle.process_table.specs.declared.table.Processes.{Processes}
 use Rattle.server_table.specs.ServersOf.{servers_of}
-use Rattle.sv32_space.specs.Tie.{Held as HeldBytes}
 use Rattle.syscall_codec.specs.Calls.{Asks}
 use Rattle.syscall_codec.specs.declared.calls.Call.TheVariants.{ForwardMessage}
 use Rattle.thread_table.specs.ThreadMap.{is_ready as is_table_ready, receiver as table_receiver}

@@ -24,7 +24,6 @@ use Rattle.process_table.specs.ProcessesOf.{processes_of}
 use Rattle.process_table.specs.declared.table.Processes.{Processes}
 use Rattle.server_table.proofs.Lemmas.{seats_differ}
 use Rattle.server_table.specs.ServersOf.{servers_of}
-use Rattle.sv32_space.specs.Tie.{Held as HeldBytes}
 use Rattle.thread_table.specs.ThreadMap.{is_ready as is_table_ready}
 use Rattle.thread_table.specs.ThreadsOf.{threads_of}
 use Rattle.vm_memory.specs.Memory.{ledger}

@@ -7,11 +7,10 @@ use Rattle.machine_laws.proofs.Sending.SendStepLemmas.{MayWait, send_keeps}
 use Rattle.machine_model.proofs.Matching.MatchedLemmas.{number_is_fresh}
 use Rattle.machine_model.specs.Messaging.SendCalls.{send_call}
 use Rattle.machine_model.specs.Runs.Matched.{Matched}
-use Rattle.machine_model.specs.State.Machine.{Machine, Process}
+use Rattle.machine_model.specs.State.Machine.{Machine}
 use Rattle.machine_model.specs.State.Order.{ready_at}
 use Rattle.ledger_model.specs.Loans.{IsFresh, loans}
 use Rattle.process_table.specs.declared.table.Processes.{Processes}
-use Rattle.sv32_space.specs.Tie.{Held as HeldBytes}
 use Rattle.thread_table.specs.ThreadMap.{is_ready as is_table_ready}
 use Rattle.thread_table.specs.ThreadsOf.{threads_of}
 use Rattle.vm_memory.specs.Memory.{ledger}

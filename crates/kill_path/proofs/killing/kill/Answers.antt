@@ -100,9 +100,11 @@ returns-clause-sound g c =
       size = c.forget_process.ensures.size ∙ c.leave_servers.ensures.stays.keeps.size ∙ c.close_servers.ensures.stays.keeps.size;
       process = c.end-2.ensures.after;
       claims = c.end.ensures;
-    } in
-    (c.requires.sound.0, died_sound g.W.SwapStore c.args.pid old c.requires.sound.0 c.requires.sound.1 c.requires.alive after closed (processes c.close_servers.new.mem) procs (ledger g.W.SwapStore.held c.leave_servers.new.mem) c.leave_servers.new.queues c.leave_servers.ensures.left new refl refl gone
-    c.forget_process.ensures.sound c.end-2.ensures.count c.leave_servers.ensures.messages)
+    } in (
+      c.requires.sound.0,
+      died_sound g.W.SwapStore c.args.pid old c.requires.sound.0 c.requires.sound.1 c.requires.alive after closed (processes c.close_servers.new.mem) procs (ledger g.W.SwapStore.held c.leave_servers.new.mem) c.leave_servers.new.queues c.leave_servers.ensures.left new refl refl gone
+          c.forget_process.ensures.sound c.end-2.ensures.count c.leave_servers.ensures.messages,
+    )
 
 pub returns-clause-mem : goal.returns-clause-mem
 returns-clause-mem g c =

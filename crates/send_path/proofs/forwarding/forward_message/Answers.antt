@@ -296,8 +296,11 @@ returns-clause-row g c =
     let room = room_left c.is_full.result (used_of (seat_of c.args.queues.now c.in-Some-connected_server.to.seat)) c.is_full.ensures.full c.is_full.ensures.few c.if-is_full.false in
     let got = receiver (process_count c.args.threads.now) c.in-Some-connected_server.to.serial (threads_of c.args.threads.now) in
     passed_on store c.args.procs.now c.args.who old alone c.requires.ready c.args.number c.args.cid.0 c.in-Some.from c.in-Some.ensures can
-    c.in-Some-connected_server.to c.in-Some-connected_server.ensures apart room c.in-Some-free_run.first (sym c.in-Some-free_run.ensures) (record { msg =
-    c.moved_to.result; loan = Some c.pass-loan.result }) (parts_of c.pass-loan.new.self c.arrive_and_answer.new.threads c.args.servers.now c.arrive_and_answer.new.queues
+    c.in-Some-connected_server.to c.in-Some-connected_server.ensures apart room c.in-Some-free_run.first (sym c.in-Some-free_run.ensures) (record {
+      msg =
+          c.moved_to.result;
+      loan = Some c.pass-loan.result;
+    }) (parts_of c.pass-loan.new.self c.arrive_and_answer.new.threads c.args.servers.now c.arrive_and_answer.new.queues
     c.arrive_and_answer.new.log)
     (record {
       message = c.moved_to.ensures;
@@ -321,8 +324,11 @@ returns-clause-sound g c =
     let can = sym c.is_passable.ensures ∙ c.if-not-is_passable.false in
     let apart = sym c.eq.ensures ∙ c.if-eq.false in
     let got = receiver (process_count c.args.threads.now) c.in-Some-connected_server.to.serial (threads_of c.args.threads.now) in
-    let left : ledger store.held c.pass-loan.new.self ≡ (pass c.args.number (record { pid = c.args.who.pid; vpn = c.in-Some.from.message.first }) (record { pid =
-    c.in-Some-connected_server.to.pid; vpn = c.in-Some-free_run.first }) (ledger store.held c.args.mem.now)) = c.pass-loan.ensures.ledger ∙ pass_is store c.args.procs.now
+    let left : ledger store.held c.pass-loan.new.self ≡ (pass c.args.number (record { pid = c.args.who.pid; vpn = c.in-Some.from.message.first }) (record {
+      pid =
+          c.in-Some-connected_server.to.pid;
+      vpn = c.in-Some-free_run.first;
+    }) (ledger store.held c.args.mem.now)) = c.pass-loan.ensures.ledger ∙ pass_is store c.args.procs.now
     c.args.who old alone c.requires.ready c.args.number c.in-Some.from c.in-Some.ensures can c.args.cid.0 c.in-Some-connected_server.to
     c.in-Some-connected_server.ensures c.in-Some-take.loan lent c.in-Some-free_run.first in
     let queues : c.arrive_and_answer.new.queues ≡ changed_at c.in-Some-connected_server.to.seat (with_arrived got (record { msg = c.moved_to.result; loan = Some c.pass-loan.result })) (changed_at c.in-Some.from.seat (without_held c.args.number) c.args.queues.now) =
@@ -339,8 +345,10 @@ returns-clause-sound g c =
       loans = subst (λ l. AreLoansSound (loans l) (servers_of c.args.servers.now) c.arrive_and_answer.new.queues) (sym left)
           (subst (AreLoansSound (loans (pass c.args.number (record { pid = c.args.who.pid; vpn = c.in-Some.from.message.first }) (record { pid = c.in-Some-connected_server.to.pid; vpn = c.in-Some-free_run.first }) (ledger store.held c.args.mem.now))) (servers_of c.args.servers.now)) (sym queues)
           (loans_on store c.args.procs.now c.args.who old alone c.requires.ready c.args.number c.in-Some.from c.in-Some.ensures can c.args.cid.0
-          c.in-Some-connected_server.to c.in-Some-connected_server.ensures c.in-Some-take.loan lent apart c.in-Some-free_run.first (record { msg = c.moved_to.result;
-          loan = Some c.pass-loan.result }) c.moved_to.ensures (ap Some c.pass-loan.ensures.loan) got (stood_on left c.pass-loan.ensures.loan
+          c.in-Some-connected_server.to c.in-Some-connected_server.ensures c.in-Some-take.loan lent apart c.in-Some-free_run.first (record {
+            msg = c.moved_to.result;
+            loan = Some c.pass-loan.result;
+          }) c.moved_to.ensures (ap Some c.pass-loan.ensures.loan) got (stood_on left c.pass-loan.ensures.loan
           c.pass-loan.ensures.stands)));
       procs = c.requires.sound.procs ∙ sym c.arrive_and_answer.ensures.count;
     }

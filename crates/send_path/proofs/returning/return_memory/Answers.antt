@@ -26,29 +26,32 @@ use Rattle.xk_parts.specs.Parts.{machine_at}
 pub returns-in_default-clause-row : goal.returns-in_default-clause-row
 returns-in_default-clause-row g c =
     let store = g.W.SwapStore in
-    let old = parts_of c.args.mem.now c.args.threads.now c.args.servers.now c.args.queues.now c.args.log.now in
-    (refl, λ m. memory_refused store.held c.args.who old (machine_at store.held c.args.who (taken old) c.requires.sound.machine) c.args.returned.number (held_alike store c.args.who old
-    c.requires.sound c.requires.ready c.args.returned.number) c.args.returned.address c.args.returned.size c.args.returned.offset c.args.returned.valid m (none_held
-    store c.args.who old c.requires.sound c.requires.ready c.args.returned.number c.in_default.ensures (λ (x : Message). is_lend x.kind)))
+    let old = parts_of c.args.mem.now c.args.threads.now c.args.servers.now c.args.queues.now c.args.log.now in (
+      refl,
+      λ m. memory_refused store.held c.args.who old (machine_at store.held c.args.who (taken old) c.requires.sound.machine) c.args.returned.number (held_alike store c.args.who old
+          c.requires.sound c.requires.ready c.args.returned.number) c.args.returned.address c.args.returned.size c.args.returned.offset c.args.returned.valid m (none_held
+          store c.args.who old c.requires.sound c.requires.ready c.args.returned.number c.in_default.ensures (λ (x : Message). is_lend x.kind)),
+    )
 
 pub returns-then-not-is_lend-clause-row : goal.returns-then-not-is_lend-clause-row
 returns-then-not-is_lend-clause-row g c =
     let store = g.W.SwapStore in
-    let old = parts_of c.args.mem.now c.args.threads.now c.args.servers.now c.args.queues.now c.args.log.now in
-    (refl, λ m. memory_refused store.held c.args.who old (machine_at store.held c.args.who (taken old) c.requires.sound.machine) c.args.returned.number (held_alike store c.args.who old
-    c.requires.sound c.requires.ready c.args.returned.number) c.args.returned.address c.args.returned.size c.args.returned.offset c.args.returned.valid m (other_kind
-    store c.args.who old c.requires.sound c.requires.ready c.args.returned.number c.in-Some.field-0 c.in-Some.ensures (λ (x : Message). is_lend x.kind) (sym
-    c.is_lend.ensures ∙ c.if-not-is_lend.true)))
+    let old = parts_of c.args.mem.now c.args.threads.now c.args.servers.now c.args.queues.now c.args.log.now in (
+      refl,
+      λ m. memory_refused store.held c.args.who old (machine_at store.held c.args.who (taken old) c.requires.sound.machine) c.args.returned.number (held_alike store c.args.who old
+          c.requires.sound c.requires.ready c.args.returned.number) c.args.returned.address c.args.returned.size c.args.returned.offset c.args.returned.valid m (other_kind
+          store c.args.who old c.requires.sound c.requires.ready c.args.returned.number c.in-Some.field-0 c.in-Some.ensures (λ (x : Message). is_lend x.kind) (sym
+          c.is_lend.ensures ∙ c.if-not-is_lend.true)),
+    )
 
 pub returns-then-not-is_its_range-clause-row : goal.returns-then-not-is_its_range-clause-row
 returns-then-not-is_its_range-clause-row g c =
     let store = g.W.SwapStore in
-    let old = parts_of c.args.mem.now c.args.threads.now c.args.servers.now c.args.queues.now c.args.log.now in
-    (
-  refl,
-  λ m. memory_elsewhere store.held c.args.who old (machine_at store.held c.args.who (taken old) c.requires.sound.machine) c.args.returned.number (held_alike store c.args.who old c.requires.sound c.requires.ready c.args.returned.number) c.args.returned.address c.args.returned.size c.args.returned.offset c.args.returned.valid m c.in-Some.field-0.message
-      (its_kind store c.args.who old c.requires.sound c.requires.ready c.args.returned.number c.in-Some.field-0 c.in-Some.ensures (λ (x : Message). is_lend x.kind) (sym c.is_lend.ensures ∙ c.if-not-is_lend.false)) (sym c.is_its_range.ensures ∙ c.if-not-is_its_range.true),
-)
+    let old = parts_of c.args.mem.now c.args.threads.now c.args.servers.now c.args.queues.now c.args.log.now in (
+      refl,
+      λ m. memory_elsewhere store.held c.args.who old (machine_at store.held c.args.who (taken old) c.requires.sound.machine) c.args.returned.number (held_alike store c.args.who old c.requires.sound c.requires.ready c.args.returned.number) c.args.returned.address c.args.returned.size c.args.returned.offset c.args.returned.valid m c.in-Some.field-0.message
+          (its_kind store c.args.who old c.requires.sound c.requires.ready c.args.returned.number c.in-Some.field-0 c.in-Some.ensures (λ (x : Message). is_lend x.kind) (sym c.is_lend.ensures ∙ c.if-not-is_lend.false)) (sym c.is_its_range.ensures ∙ c.if-not-is_its_range.true),
+    )
 
 pub end_loan-requires-clause-stands : goal.end_loan-requires-clause-stands
 end_loan-requires-clause-stands g c =
@@ -85,8 +88,10 @@ returns-clause-row g c =
     λ m.
     let q = sym c.is_lend.ensures ∙ c.if-not-is_lend.false in
     let loan = lent in
-    gave_back store c.args.who old c.requires.sound c.requires.ready c.args.returned.number c.in-Some.field-0 c.in-Some.ensures (record { mem = c.end_loan.new.self;
-    tables = record { threads = c.answer_with_sender.new.threads; servers = c.args.servers.now; queues = c.take.new.queues; log = c.answer_with_sender.new.log } })
+    gave_back store c.args.who old c.requires.sound c.requires.ready c.args.returned.number c.in-Some.field-0 c.in-Some.ensures (record {
+      mem = c.end_loan.new.self;
+      tables = record { threads = c.answer_with_sender.new.threads; servers = c.args.servers.now; queues = c.take.new.queues; log = c.answer_with_sender.new.log };
+    })
     (end_loan c.args.returned.number (ledger store.held c.args.mem.now)) (returned_words c.args.returned.offset c.args.returned.valid)
     (record {
       threads = c.answer_with_sender.ensures.after
@@ -121,9 +126,17 @@ returns-clause-sound g c =
     c.end_loan.ensures.ledger ∙ ap (λ number. end_loan number (ledger store.held c.args.mem.now)) (loan_number store c.args.who old c.requires.sound c.requires.ready c.args.returned.number c.in-Some.field-0 c.in-Some.ensures c.in-Some-take.loan loan) in
     record {
       machine = record c.requires.sound.machine { steps = c.requires.sound.machine.steps + 1 };
-      matched = still_matched store c.args.who old c.requires.sound c.requires.ready c.args.returned.number c.in-Some.field-0 c.in-Some.ensures (record { mem =
-          c.end_loan.new.self; tables = record { threads = c.answer_with_sender.new.threads; servers = c.args.servers.now; queues = c.take.new.queues; log =
-          c.answer_with_sender.new.log } }) (memory_row c.args.returned.number c.args.returned.address c.args.returned.size c.args.returned.offset c.args.returned.valid
+      matched = still_matched store c.args.who old c.requires.sound c.requires.ready c.args.returned.number c.in-Some.field-0 c.in-Some.ensures (record {
+        mem =
+            c.end_loan.new.self;
+        tables = record {
+          threads = c.answer_with_sender.new.threads;
+          servers = c.args.servers.now;
+          queues = c.take.new.queues;
+          log =
+              c.answer_with_sender.new.log;
+        };
+      }) (memory_row c.args.returned.number c.args.returned.address c.args.returned.size c.args.returned.offset c.args.returned.valid
           (machine_at store.held c.args.who (taken old) c.requires.sound.machine)) (memory_keeps store c.args.who old c.requires.sound c.requires.ready c.args.returned.number
           c.args.returned.address c.args.returned.size c.args.returned.offset c.args.returned.valid) (returns-clause-row g c c.requires.sound.machine);
       mem = c.end_loan.ensures.keeps.sound;

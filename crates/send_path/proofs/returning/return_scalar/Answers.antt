@@ -31,10 +31,12 @@ returns-in_default-clause-row g c =
 pub returns-then-not-is_blocking-clause-row : goal.returns-then-not-is_blocking-clause-row
 returns-then-not-is_blocking-clause-row g c =
     let store = g.W.SwapStore in
-    let old = parts_of c.args.mem.now c.args.threads.now c.args.servers.now c.args.queues.now c.args.log.now in
-    (refl, λ m. scalar_refused store.held c.args.who old (machine_at store.held c.args.who (taken old) c.requires.sound.machine) c.args.number (held_alike store c.args.who old
-    c.requires.sound c.requires.ready c.args.number) (words_of c.args.reply) m (other_kind store c.args.who old c.requires.sound c.requires.ready c.args.number
-    c.in-Some.field-0 c.in-Some.ensures (λ (x : Message). is_blocking_scalar x.kind) (sym c.is_blocking.ensures ∙ c.if-not-is_blocking.true)))
+    let old = parts_of c.args.mem.now c.args.threads.now c.args.servers.now c.args.queues.now c.args.log.now in (
+      refl,
+      λ m. scalar_refused store.held c.args.who old (machine_at store.held c.args.who (taken old) c.requires.sound.machine) c.args.number (held_alike store c.args.who old
+          c.requires.sound c.requires.ready c.args.number) (words_of c.args.reply) m (other_kind store c.args.who old c.requires.sound c.requires.ready c.args.number
+          c.in-Some.field-0 c.in-Some.ensures (λ (x : Message). is_blocking_scalar x.kind) (sym c.is_blocking.ensures ∙ c.if-not-is_blocking.true)),
+    )
 
 pub unreachable-requires : goal.unreachable-requires
 unreachable-requires g c =
@@ -87,16 +89,18 @@ returns-clause-sound g c =
     let store = g.W.SwapStore in
     let old = parts_of c.args.mem.now c.args.threads.now c.args.servers.now c.args.queues.now c.args.log.now in
     record {
-  machine = record c.requires.sound.machine { steps = c.requires.sound.machine.steps + 1 };
-  matched = still_matched store c.args.who old c.requires.sound c.requires.ready c.args.number c.in-Some.field-0 c.in-Some.ensures (record { mem = c.args.mem.now;
-      tables = record { threads = c.answer_with_sender.new.threads; servers = c.args.servers.now; queues = c.take.new.queues; log = c.answer_with_sender.new.log } })
-      (scalar_row c.args.number (words_of c.args.reply) (machine_at store.held c.args.who (taken old) c.requires.sound.machine)) (row_keeps store c.args.who old c.requires.sound
-      c.requires.ready c.args.number (words_of c.args.reply))
-      (returns-clause-row g c c.requires.sound.machine);
-  mem = c.requires.sound.mem;
-  processes = c.answer_with_sender.ensures.count ∙ c.requires.sound.processes;
-  procs = tt;
-  seats = subst (λ q. AreSeatsSound (servers_of c.args.servers.now) q) (sym c.take.ensures.rest) (seats_left store c.args.who old c.requires.sound c.requires.ready c.args.number c.in-Some.field-0 c.in-Some.ensures);
-  loans = subst (λ q. AreLoansSound (loans (ledger store.held c.args.mem.now)) (servers_of c.args.servers.now) q) (sym c.take.ensures.rest)
-      (loans_left store c.args.who old c.requires.sound c.requires.ready c.args.number c.in-Some.field-0 c.in-Some.ensures (ledger store.held c.args.mem.now) (λ run other s. s));
-}
+      machine = record c.requires.sound.machine { steps = c.requires.sound.machine.steps + 1 };
+      matched = still_matched store c.args.who old c.requires.sound c.requires.ready c.args.number c.in-Some.field-0 c.in-Some.ensures (record {
+        mem = c.args.mem.now;
+        tables = record { threads = c.answer_with_sender.new.threads; servers = c.args.servers.now; queues = c.take.new.queues; log = c.answer_with_sender.new.log };
+      })
+          (scalar_row c.args.number (words_of c.args.reply) (machine_at store.held c.args.who (taken old) c.requires.sound.machine)) (row_keeps store c.args.who old c.requires.sound
+          c.requires.ready c.args.number (words_of c.args.reply))
+          (returns-clause-row g c c.requires.sound.machine);
+      mem = c.requires.sound.mem;
+      processes = c.answer_with_sender.ensures.count ∙ c.requires.sound.processes;
+      procs = tt;
+      seats = subst (λ q. AreSeatsSound (servers_of c.args.servers.now) q) (sym c.take.ensures.rest) (seats_left store c.args.who old c.requires.sound c.requires.ready c.args.number c.in-Some.field-0 c.in-Some.ensures);
+      loans = subst (λ q. AreLoansSound (loans (ledger store.held c.args.mem.now)) (servers_of c.args.servers.now) q) (sym c.take.ensures.rest)
+          (loans_left store c.args.who old c.requires.sound c.requires.ready c.args.number c.in-Some.field-0 c.in-Some.ensures (ledger store.held c.args.mem.now) (λ run other s. s));
+    }

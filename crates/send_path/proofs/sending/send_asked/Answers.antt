@@ -57,9 +57,8 @@ pub returns-in-Err-clause-row : goal.returns-in-Err-clause-row
 unfolding machine_at
 returns-in-Err-clause-row g c =
     let store = g.W.SwapStore in
-    let old = parts_of c.args.mem.now c.args.threads.now c.args.servers.now c.args.queues.now c.args.log.now in
-    (
-  refl,
+    let old = parts_of c.args.mem.now c.args.threads.now c.args.servers.now c.args.queues.now c.args.log.now in (
+      refl,
       pages_error store c.args.who c.args.procs.now c.args.number old c.requires.sound c.requires.above c.args.asked c.in-Some.to c.in-Some.ensures c.in-Some-kind_of.kind (sym c.in-Some-kind_of.ensures) c.in-Err.error (sym c.in-Err.ensures),
       λ m. pages_row store c.args.who c.args.procs.now c.args.number old c.requires.sound c.requires.above c.args.asked c.in-Some.to c.in-Some.ensures c.in-Some-kind_of.kind (sym c.in-Some-kind_of.ensures) c.in-Err.error (sym c.in-Err.ensures) m,
     )
@@ -178,27 +177,27 @@ returns-clause-sound g c =
     let lend = made_if_lend (record { msg = c.new_message-msg.result; loan = c.carry-loan.result }) c.in-Some-kind_of.kind c.page_of-from.result (slice_index_or c.args.asked.words 1 0 / 4096) (record { pid = c.in-Some.to.pid; vpn = c.in-Some-arrival.first }) c.args.number (ap (λ x. x.kind) message) c.carry-loan.ensures.loan in
     let late = rest store c.args.who c.args.procs.now c.args.number old c.requires.sound c.requires.above in
     record {
-        machine = record (with_next c.args.procs.now (c.args.number.0 + 1) late) { steps = late.steps + 1 };
+      machine = record (with_next c.args.procs.now (c.args.number.0 + 1) late) { steps = late.steps + 1 };
       matched = sent_matched store c.args.who c.args.procs.now c.args.number old c.requires.sound c.requires.above c.requires.ready (asked_words c.args.asked) no_wait (parts_of c.carry-loan.new.mem c.arrive_and_answer.new.threads c.args.servers.now c.arrive_and_answer.new.queues c.arrive_and_answer.new.log) (returns-clause-row g c late);
-        mem = c.carry-loan.ensures.sound;
+      mem = c.carry-loan.ensures.sound;
       processes = c.arrive_and_answer.ensures.count ∙ c.requires.sound.processes
-            ∙ sym (ap (λ (s : Size). s.procs) c.carry-loan.ensures.keeps.size);
-        seats = subst (λ q. AreSeatsSound (servers_of c.args.servers.now) q) (sym c.arrive_and_answer.ensures.queues)
+          ∙ sym (ap (λ (s : Size). s.procs) c.carry-loan.ensures.keeps.size);
+      seats = subst (λ q. AreSeatsSound (servers_of c.args.servers.now) q) (sym c.arrive_and_answer.ensures.queues)
           (arrived_seats c.args.servers.now c.args.queues.now c.in-Some.to.serial.0 c.in-Some.to.seat c.requires.sound.seats c.in-Some.ensures.seat got (record { msg = c.new_message-msg.result; loan = c.carry-loan.result }) lend);
       loans = subst (λ q. AreLoansSound (loans (ledger store.held c.carry-loan.new.mem)) (servers_of c.args.servers.now) q)
-            (sym c.arrive_and_answer.ensures.queues)
+          (sym c.arrive_and_answer.ensures.queues)
           (arrived_loans c.args.servers.now c.args.queues.now c.args.number c.requires.above (loans (ledger store.held c.args.mem.now))
           (loans (ledger store.held c.carry-loan.new.mem))
-            (λ run other stands. subst (λ l. Stands (loans l) run) (sym c.carry-loan.ensures.ledger)
+          (λ run other stands. subst (λ l. Stands (loans l) run) (sym c.carry-loan.ensures.ledger)
           (others_stand_after (processes c.args.mem.now) (ledger store.held c.args.mem.now) c.page_of-from.result (slice_index_or c.args.asked.words 1 0 / 4096) (record { pid = c.in-Some.to.pid; vpn = c.in-Some-arrival.first })
           c.args.number c.in-Some-kind_of.kind (λ carries. subst (λ (from : Place). MayGo (processes c.args.mem.now) (ledger store.held c.args.mem.now)
-    (record { kind = c.in-Some-kind_of.kind; from = from; count = slice_index_or c.args.asked.words 1 0 / 4096; to = record { pid = c.in-Some.to.pid; vpn = c.in-Some-arrival.first }; number = c.args.number }))
+          (record { kind = c.in-Some-kind_of.kind; from = from; count = slice_index_or c.args.asked.words 1 0 / 4096; to = record { pid = c.in-Some.to.pid; vpn = c.in-Some-arrival.first }; number = c.args.number }))
           (sym c.page_of-from.ensures) (may_go store c.args.who c.args.procs.now c.args.number old c.requires.sound c.requires.above c.args.asked c.in-Some.to
           c.in-Some.ensures c.in-Some-kind_of.kind (sym c.in-Some-kind_of.ensures) (sym c.in-Ok.ensures) room c.in-Some-arrival.first (sym c.in-Some-arrival.ensures)
           carries (to_in_mem store c.args.who old alone c.in-Some.to c.in-Some.ensures))) run other stands))
           c.requires.sound.loans c.in-Some.to.serial.0 c.in-Some.to.seat c.in-Some.ensures.seat c.requires.sound.seats.all got (record { msg = c.new_message-msg.result; loan = c.carry-loan.result })
           (held_loan store.held c.args.who c.args.procs.now c.args.number old c.in-Some-kind_of.kind (asked_words c.args.asked) c.page_of-from.result (record { pid = c.in-Some.to.pid; vpn = c.in-Some-arrival.first })
           (ap (λ (p : Place). p.pid) c.page_of-from.ensures) (loans (ledger store.held c.carry-loan.new.mem)) (record { msg = c.new_message-msg.result; loan = c.carry-loan.result }) m message
-            c.carry-loan.ensures.loan c.carry-loan.ensures.stands c.in-Some.ensures.seat.server.pid c.in-Some.ensures.own));
+          c.carry-loan.ensures.loan c.carry-loan.ensures.stands c.in-Some.ensures.seat.server.pid c.in-Some.ensures.own));
       procs = c.requires.sound.procs ∙ sym c.arrive_and_answer.ensures.count;
     }
