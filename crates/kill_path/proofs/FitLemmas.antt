@@ -23,13 +23,13 @@ use Rattle.machine_model.specs.State.Servers.{messages_of}
 use Rattle.msg_queue.specs.Seats.{Seat, seat_of}
 use Rattle.msg_queue.specs.declared.held.Held.{Held}
 use Rattle.send_path.proofs.Servers.HeldListLemmas.{of_shown}
-use Rattle.send_path.specs.Parts.{Parts, Tables, server_of, server_with, servers_shown, with_parts, with_tables}
-use Rattle.send_path.specs.Seats.{messages_at}
-use Rattle.send_path.specs.Sound.{AreLoansSound, AreSeatsSound, AreTablesSound, IsSound}
+use Rattle.send_path.proofs.Taken.{CallParts, CallTables, taken, without_memory}
+use Rattle.xk_parts.specs.Shown.{server_of, server_with, servers_shown}
+use Rattle.xk_parts.specs.Seats.{messages_at}
+use Rattle.xk_parts.specs.Sound.{AreLoansSound, AreSeatsSound, HasKnownSender, AreOpen, AreServersSound, IsLoanFitOf, AreSound}
 use Rattle.server_table.specs.ServersOf.{servers_of}
 use Rattle.server_table.specs.ServerState.{Server as TableServer}
 use Rattle.server_table.specs.declared.table.Servers.{Servers}
-use Rattle.sv32_space.specs.Tie.{Held as HeldBytes}
 use Rattle.thread_table.specs.ThreadsOf.{process_count}
 use Rattle.vm_memory.specs.Memory.{ledger, processes}
 use Rattle.xk_base.proofs.CircleLemmas.{is_pid-bounds}
@@ -39,9 +39,8 @@ use Rattle.xk_base.specs.declared.ids.Number.{Number}
 use Rattle.xk_base.specs.declared.ids.Place.{Place}
 use Rattle.xk_base.specs.declared.ids.ThreadId.{ThreadId}
 use Rattle.xk_base.specs.declared.messages.Message.{Message}
-use Rattle.kill_path.specs.Ending.{HasKnownSender}
-use Rattle.kill_path.specs.Open.{AreOpen, AreServersSound, IsLoanFitOf}
 use Rattle.kill_path.proofs.Servers.OpenLemmas.{messages_shown}
+use Rattle.xk_parts.specs.Parts.{machine_at, no_store}
 
 module _ (s : ℕ → Option Server) (all : Loans) (lent : AreLoansMatched all s) (numbers : (number : Number) → HasAtMostOne s (is_of_number number))
     (n : ℕ) (server : Server) (e : s n ≡ Some server) where
@@ -193,34 +192,34 @@ module _ (m : Machine) (matched : Matched m) (t : Servers) (q : List Seat) (same
 
 -- ---- sound parts
 
-module _ {W : Type 0} (S : SwapStore W) (who : ThreadId) (old : Parts W) (sound : IsSound S who old) where
+module _ {W : Type 0} (S : SwapStore W) (who : ThreadId) (old : CallParts W) (sound : AreSound S who (taken old)) where
   abbrev m0 : Machine
-  m0 = with_parts S.held who old sound.machine
+  m0 = machine_at S.held who (taken old) sound.machine
 
   pub few_processes : process_count old.tables.threads ≤ 64
-  unfolding with_parts with_tables
+  unfolding machine_at
   few_processes = sound.matched.body.processes.few
 
   -- sound parts can lose messages ..
   pub sound_open : AreOpen (loans (ledger S.held old.mem)) old.tables.servers old.tables.queues
-  unfolding with_parts with_tables
+  unfolding machine_at
   sound_open =
       matched_open m0 sound.matched old.tables.servers old.tables.queues refl sound.seats (loans (ledger S.held old.mem)) sound.matched.body.loans sound.loans
 
   -- .. and all their servers be closed
   pub sound_servers : AreServersSound (processes old.mem) (loans (ledger S.held old.mem)) old.tables.servers old.tables.queues
-  unfolding with_parts with_tables
+  unfolding machine_at
   sound_servers =
       subst (λ n. AreServersSound n (loans (ledger S.held old.mem)) old.tables.servers old.tables.queues) sound.processes
       (servers_of_matched m0 sound.matched old.tables.servers old.tables.queues refl sound.seats (loans (ledger S.held old.mem)) sound.matched.body.loans
       sound.loans)
 
--- Parts that are sound but for the memory, with loans that a call on them left alone.
-pub tables_servers : (who : ThreadId) (old : Tables) (all : Loans) → AreTablesSound who old → AreLoansMatched all (servers_shown old.servers old.queues)
+-- CallParts that are sound but for the memory, with loans that a call on them left alone.
+pub tables_servers : (who : ThreadId) (old : CallTables) (all : Loans) → AreSound no_store who (without_memory old) → AreLoansMatched all (servers_shown old.servers old.queues)
     → AreLoansSound all (servers_of old.servers) old.queues → AreServersSound (process_count old.threads) all old.servers old.queues
-unfolding with_tables
+unfolding machine_at
 tables_servers who old all sound lent its =
-    servers_of_matched (with_tables who old sound.machine) sound.matched old.servers old.queues refl sound.seats all lent its
+    servers_of_matched (machine_at no_store.held who (without_memory old) sound.machine) sound.matched old.servers old.queues refl sound.seats all lent its
 
 -- what is left has sound loans
 pub open_loans : (all : Loans) (servers : Servers) (seats : List Seat) → AreOpen all servers seats

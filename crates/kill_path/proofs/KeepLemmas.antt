@@ -1,10 +1,9 @@
 -- What stays of the memory over one call and over two.
 use Rattle.xk_ports.specs.declared.store.SwapStore.{Ghosts as SwapStore}
-use Rattle.std.proofs.Common.{Bool, ℕ, refl, ◌∙◌}
+use Rattle.std.proofs.Common.{refl, ◌∙◌}
 use Rattle.ledger_model.proofs.Pages.BareLemmas.{bare-lawful}
 use Rattle.ledger_model.specs.Lawful.{IsLawful}
-use Rattle.send_path.specs.Sound.{KeepsMemory}
-use Rattle.sv32_space.specs.Tie.{Held}
+use Rattle.send_path.specs.Keeping.{KeepsMemory}
 use Rattle.vm_memory.proofs.Changing.SoundMemoryLemmas.{bare-ledger}
 use Rattle.vm_memory.specs.Loaning.Loans.{KeepsSeats}
 use Rattle.vm_memory.specs.Memory.{blank_ledger, capacity_of, ledger, processes}

@@ -4,3 +4,4 @@ pub mod Servers
 pub mod Threads
 pub mod Messages
 pub mod Deaths
+pub mod TakenAll

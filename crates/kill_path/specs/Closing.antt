@@ -5,7 +5,7 @@ use Rattle.machine_model.specs.Ending.Closing.{is_message_at, is_sender_at}
 use Rattle.machine_model.specs.Messaging.LoanSets.{end_loans}
 use Rattle.machine_model.specs.State.Machine.{Machine}
 use Rattle.msg_queue.specs.Seats.{Seat}
-use Rattle.send_path.specs.Parts.{servers_shown}
+use Rattle.xk_parts.specs.Shown.{servers_shown}
 use Rattle.server_table.specs.ServersOf.{servers_of}
 use Rattle.server_table.specs.declared.table.Servers.{Servers}
 use Rattle.xk_base.specs.declared.ids.ThreadId.{ThreadId}

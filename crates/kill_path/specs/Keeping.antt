@@ -1,8 +1,6 @@
 -- What the calls keep of the memory.
 use Rattle.xk_ports.specs.declared.store.SwapStore.{Ghosts as SwapStore}
-use Rattle.std.specs.Prelude.{ℕ, Bool}
-use Rattle.send_path.specs.Sound.{KeepsMemory}
-use Rattle.sv32_space.specs.Tie.{Held}
+use Rattle.send_path.specs.Keeping.{KeepsMemory}
 use Rattle.vm_memory.specs.Sound.{IsSound}
 use Rattle.vm_memory.specs.declared.memory.Memory.{Memory}
 

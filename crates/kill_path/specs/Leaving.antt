@@ -9,8 +9,8 @@ use Rattle.machine_model.specs.Messaging.Messages.{is_sent_from}
 use Rattle.machine_model.specs.State.Machine.{Machine, Server}
 use Rattle.msg_queue.specs.Seats.{Seat, is_of_number, of_number, without_queued}
 use Rattle.msg_queue.specs.declared.held.Held.{Held}
-use Rattle.send_path.specs.Parts.{servers_shown}
-use Rattle.send_path.specs.Seats.{messages_at}
+use Rattle.xk_parts.specs.Shown.{servers_shown}
+use Rattle.xk_parts.specs.Seats.{messages_at}
 use Rattle.server_table.specs.declared.table.Servers.{Servers}
 use Rattle.xk_base.specs.declared.ids.Number.{Number}
 use Rattle.xk_base.specs.declared.ids.Pid.{Pid}
@@ -78,6 +78,6 @@ AreOfOthers pid seat = All (λ h. is_sent_from pid h.msg ≡ false) (messages_at
 -- What the death of the process makes of the ledger and of the servers was made of them.
 pub record HasLeft (procs : ℕ) (pid : Pid) (old new : Closable) : Type 0 where
   pub ledger : (m : Machine)
-      → new.ledger ≡ orphan_loans procs (is_held_from pid (with_servers old m))
-      (end_loans (is_queued_from pid (with_servers old m)) old.ledger)
+      → new.ledger
+      ≡ orphan_loans procs (is_held_from pid (with_servers old m)) (end_loans (is_queued_from pid (with_servers old m)) old.ledger)
   pub servers : (n : ℕ) → servers_shown new.servers new.seats n ≡ option_map (left_by pid) (servers_shown old.servers old.seats n)

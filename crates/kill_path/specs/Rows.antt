@@ -1,14 +1,15 @@
 -- The row of the call table that the end of a server is.
+use Rattle.std.specs.Prelude.{Ok}
 use Rattle.machine_model.specs.Ending.Closing.{destroyed}
 use Rattle.machine_model.specs.State.Changes.{Change, Outcome, Served}
 use Rattle.machine_model.specs.State.Machine.{Machine}
 use Rattle.machine_model.specs.State.Threads.{answer_to, both_answers}
-use Rattle.send_path.specs.Parts.{Parts, with_parts}
-use Rattle.send_path.specs.Rows.{IsServed}
+use Rattle.send_path.specs.Rows.{IsRow}
 use Rattle.sv32_space.specs.Tie.{Held}
 use Rattle.xk_base.specs.Calls.Replies.{plain_words}
 use Rattle.xk_base.specs.declared.ids.Serial.{Serial}
 use Rattle.xk_base.specs.declared.ids.ThreadId.{ThreadId}
+use Rattle.xk_parts.specs.Parts.{Parts}
 
 -- DestroyServer of the server with that serial: it is destroyed, and the caller is answered that it was served
 abbrev pub destroy_change : Serial → Machine → Change
@@ -21,6 +22,4 @@ destroy_row serial m = Served (destroy_change serial m)
 
 -- A call of the thread that always succeeds is this row, whatever the rest of the machine is.
 abbrev pub DoesRow : {W : Type 0} → (W → Held) → (Machine → Outcome) → ThreadId → Parts W → Parts W → Type 0
-DoesRow held row who old new =
-    (m : Machine) → IsServed (row (with_parts held who old m)) (with_parts held who old m)
-    (with_parts held who new m) old.tables.log new.tables.log
+DoesRow held row who old new = IsRow held row who old new (Ok (tt {0}))

@@ -6,8 +6,8 @@ ghost use Rattle.ledger_model.specs.Steps.{end_loan};
 ghost use Rattle.machine_model.specs.Messaging.LoanSets.{end_loans};
 ghost use Rattle.msg_queue.specs.Seats.{changed_at, seat_of as seat_in, without_held_at};
 ghost use Rattle.machine_model.specs.State.Servers.{is_server_of};
-ghost use Rattle.send_path.specs.Parts.{servers_shown};
-ghost use Rattle.send_path.specs.Seats.{IsSeatOf, messages_at};
+ghost use Rattle.xk_parts.specs.Shown.{servers_shown};
+ghost use Rattle.xk_parts.specs.Seats.{IsSeatOf, messages_at};
 ghost use Rattle.server_table.specs.ServersOf.{servers_of};
 ghost use Rattle.vm_memory.specs.Memory.{ledger};
 ghost use Rattle.vm_memory.specs.Sound.{IsSound as IsMemorySound};
@@ -17,7 +17,7 @@ ghost use Rattle.kill_path.specs.Ending.{AreEndable, IsEndable, emptied, is_numb
 ghost use Rattle.kill_path.specs.Closing.{AreClosed, closable};
 ghost use Rattle.kill_path.specs.Keeping.{Stays};
 ghost use Rattle.kill_path.specs.Noted.{noted};
-ghost use Rattle.kill_path.specs.Open.{AreOpen};
+ghost use Rattle.xk_parts.specs.Sound.{AreOpen};
 
 use crate::answered::Answered;
 use msg_queue::{Held, Queues};

@@ -7,7 +7,7 @@ ghost use Rattle.vm_memory.specs.Memory.{ledger, processes};
 ghost use Rattle.vm_memory.specs.Sound.{IsSound as IsMemorySound};
 ghost use Rattle.xk_base.specs.declared.ids.Number.{Number as MessageNumber};
 ghost use Rattle.kill_path.specs.Keeping.{Stays};
-ghost use Rattle.kill_path.specs.Open.{AreServersSound};
+ghost use Rattle.xk_parts.specs.Sound.{AreServersSound};
 
 use crate::answered::Answered;
 use crate::closing::close_servers;

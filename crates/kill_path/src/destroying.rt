@@ -2,8 +2,9 @@
 
 ghost use Rattle.std.specs.Prelude.{◌≡◌, ◌+◌, ◌≤◌, length, true, IsSome, Some};
 ghost use Rattle.std.specs.Option.{option_map};
-ghost use Rattle.send_path.specs.Parts.{parts_of};
-ghost use Rattle.send_path.specs.Sound.{IsSound, KeepsMemory};
+ghost use Rattle.xk_parts.specs.Parts.{parts_of};
+ghost use Rattle.xk_parts.specs.Sound.{AreSound};
+ghost use Rattle.send_path.specs.Keeping.{KeepsMemory};
 ghost use Rattle.server_table.specs.ServersOf.{servers_of};
 ghost use Rattle.thread_table.specs.ThreadMap.{is_ready};
 ghost use Rattle.thread_table.specs.ThreadsOf.{process_count, threads_of};
@@ -14,11 +15,11 @@ use crate::answered::Answered;
 use crate::closing::{close_server, seat_of};
 use crate::telling::{note_receiving, tell};
 use msg_queue::Queues;
-use send_path::pass;
 use server_table::Servers;
 use thread_table::Threads;
 use vm_memory::Memory;
 use xk_base::{Log, Pid, Serial, ThreadId};
+use xk_parts::pass;
 use xk_ports::SwapStore;
 
 /// The process of a live server.
@@ -47,11 +48,11 @@ pub fn destroy<W: SwapStore>(
     requires live { IsSome ((servers_of servers.old).live s.0) }
     requires ready { is_ready (threads_of threads.old who) ≡ true }
     requires room { length log.old.records + thread_ids (process_count threads.old) ≤ log.old.room }
-    requires sound { IsSound W.SwapStore who (parts_of mem.old threads.old servers.old queues.old log.old) }
+    requires sound { AreSound W.SwapStore who (parts_of mem.old threads.old servers.old queues.old log.old) }
     ensures row { let old = parts_of mem.old threads.old servers.old queues.old log.old in
         let new = parts_of mem.new threads.new servers.new queues.new log.new in
         DoesRow W.held (destroy_row s) who old new }
-    ensures sound { IsSound W.SwapStore who (parts_of mem.new threads.new servers.new queues.new log.new) }
+    ensures sound { AreSound W.SwapStore who (parts_of mem.new threads.new servers.new queues.new log.new) }
     ensures mem { KeepsMemory W.SwapStore mem.old mem.new }
 {
     let mut noted_ids = Answered::new();

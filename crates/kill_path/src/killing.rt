@@ -1,14 +1,16 @@
 //! A process dies.
 
-ghost use Rattle.std.specs.Prelude.{◌≡◌, ◌+◌, ◌≤◌, length, true};
+ghost use Rattle.std.specs.Prelude.{◌≡◌, ◌+◌, ◌≤◌, length, true, Some};
 ghost use Rattle.process_table.specs.ProcessMap.{is_alive};
 ghost use Rattle.process_table.specs.ProcessesOf.{processes_of};
-ghost use Rattle.send_path.specs.Parts.{parts_of};
-ghost use Rattle.send_path.specs.Sound.{KeepsMemory};
+ghost use Rattle.xk_base.specs.declared.ids.ThreadId.{ThreadId};
+ghost use Rattle.xk_parts.specs.Parts.{parts_of};
+ghost use Rattle.xk_parts.specs.Sound.{AreSound};
+ghost use Rattle.send_path.specs.Keeping.{KeepsMemory};
 ghost use Rattle.thread_table.specs.ThreadsOf.{process_count};
 ghost use Rattle.vm_memory.specs.Memory.{IsUsable};
 ghost use Rattle.xk_base.specs.Tables.Circle.{thread_ids};
-ghost use Rattle.kill_path.specs.Dying.{AreAllSound, Dies};
+ghost use Rattle.kill_path.specs.Dying.{Dies};
 
 use crate::answered::Answered;
 use crate::closing::close_servers;
@@ -42,14 +44,17 @@ pub fn kill<W: SwapStore>(
     requires alive { is_alive (processes_of procs.old pid.0) ≡ true }
     requires usable { IsUsable mem.old }
     requires room { length log.old.records + thread_ids (process_count threads.old) ≤ log.old.room }
-    requires sound { let parts = parts_of mem.old threads.old servers.old queues.old log.old in
-        AreAllSound W.SwapStore (record { parts = parts; procs = procs.old; claims = claims.old }) }
-    ensures death { let old = parts_of mem.old threads.old servers.old queues.old log.old in
-        let new = parts_of mem.new threads.new servers.new queues.new log.new in
-        Dies W.held pid (record { parts = old; procs = procs.old; claims = claims.old })
-        (record { parts = new; procs = procs.new; claims = claims.new }) }
-    ensures sound { let parts = parts_of mem.new threads.new servers.new queues.new log.new in
-        AreAllSound W.SwapStore (record { parts = parts; procs = procs.new; claims = claims.new }) }
+    requires sound { let before = parts_of mem.old threads.old servers.old queues.old log.old in
+        let old = record before { procs = Some procs.old; claims = Some claims.old } in
+        (who : ThreadId) × AreSound W.SwapStore who old }
+    ensures death { let before = parts_of mem.old threads.old servers.old queues.old log.old in
+        let old = record before { procs = Some procs.old; claims = Some claims.old } in
+        let after = parts_of mem.new threads.new servers.new queues.new log.new in
+        let new = record after { procs = Some procs.new; claims = Some claims.new } in
+        Dies W.held pid old new }
+    ensures sound { let after = parts_of mem.new threads.new servers.new queues.new log.new in
+        let new = record after { procs = Some procs.new; claims = Some claims.new } in
+        (who : ThreadId) × AreSound W.SwapStore who new }
     ensures mem { KeepsMemory W.SwapStore mem.old mem.new }
 {
     let mut noted_ids = Answered::new();

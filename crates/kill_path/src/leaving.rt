@@ -11,7 +11,7 @@ ghost use Rattle.xk_base.specs.declared.limits.TheConstants.{SERVER_LIMIT};
 ghost use Rattle.kill_path.specs.Keeping.{Stays};
 ghost use Rattle.kill_path.specs.Leaving.{AreOfOthers, HasLeft, LeavesAlike, standing};
 ghost use Rattle.kill_path.specs.Leaving.{IsLeavable, IsOrphanable, alone, is_queued, with_alone, without_message};
-ghost use Rattle.kill_path.specs.Open.{AreOpen};
+ghost use Rattle.xk_parts.specs.Sound.{AreOpen};
 
 use crate::closing::spend;
 use msg_queue::{Held, Queues};
@@ -59,8 +59,8 @@ fn leave_held<W: SwapStore>(mem: &mut Memory<W>, queues: &mut Queues, seat: u8, 
     requires seat { seat < SERVER_LIMIT }
     requires seats { length queues.old ≡ SERVER_LIMIT }
     requires there { IsSome (of_number number (seat_of queues.old seat).held) }
-    requires loan { (h : HeldMessage) → of_number number (seat_of queues.old seat).held ≡ Some h
-        → IsOrphanable (loans (ledger W.held mem.old)) h }
+    requires loan { let all = loans (ledger W.held mem.old) in
+        (h : HeldMessage) → of_number number (seat_of queues.old seat).held ≡ Some h → IsOrphanable all h }
     ensures queues { queues.new ≡ changed_at seat (with_alone number) queues.old }
     ensures ledger { ledger W.held mem.new ≡ orphan_loan (processes mem.old) number (ledger W.held mem.old) }
     ensures stays { Stays W.SwapStore mem.old mem.new }

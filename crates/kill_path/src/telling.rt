@@ -3,9 +3,9 @@
 ghost use Rattle.std.specs.Prelude.{◌≡◌, ◌+◌, ◌<◌, ◌≤◌, ◌||◌, [], ◌∷◌, length, true, if◌then◌else◌};
 ghost use Rattle.machine_model.specs.State.Changes.{replies};
 ghost use Rattle.machine_model.specs.State.Threads.{answer_to};
-ghost use Rattle.send_path.specs.Parts.{threads_shown};
+ghost use Rattle.xk_parts.specs.Shown.{threads_shown};
 ghost use Rattle.send_path.specs.Rows.{log_with};
-ghost use Rattle.send_path.specs.Threads.{answered};
+ghost use Rattle.xk_parts.specs.Threads.{answered};
 ghost use Rattle.thread_table.specs.ThreadMap.{is_receiving as is_receiving_at};
 ghost use Rattle.thread_table.specs.ThreadsOf.{process_count, threads_of};
 ghost use Rattle.xk_base.specs.Tables.Circle.{id_at, is_pid, is_thread_id, same_thread, thread_ids};
@@ -18,11 +18,11 @@ ghost use Rattle.kill_path.specs.Telling.{is_receiver_of, is_served, told_to, wo
 ghost use Rattle.kill_path.specs.ThreadSets.{ids_of_all};
 
 use crate::answered::{Answered, PLACES};
-use send_path::answer;
 use syscall_codec::{Reply, reply_words};
 use thread_table::{Threads, id_at};
 use xk_base::limits::TID_LIMIT;
 use xk_base::{Log, Pid, Serial, ThreadId, Tid, What, XousError};
+use xk_parts::answer;
 
 /// The thread is to be answered, if it is Receiving at the server.
 fn note_if_receiving(threads: &Threads, id: ThreadId, serial: Serial, noted_ids: &mut Answered)

@@ -3,3 +3,4 @@ pub mod Receivers
 pub mod Rows
 pub mod Sends
 pub mod Servers
+pub mod Taken

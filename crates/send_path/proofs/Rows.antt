@@ -1,3 +1,2 @@
 pub mod ReplyLemmas
 pub mod RowLemmas
-pub mod ThreadLemmas

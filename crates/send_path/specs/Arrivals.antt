@@ -13,8 +13,9 @@ use Rattle.xk_base.specs.declared.ids.Number.{Number}
 use Rattle.xk_base.specs.declared.ids.Serial.{Serial}
 use Rattle.xk_base.specs.declared.ids.ThreadId.{ThreadId}
 use Rattle.xk_base.specs.declared.messages.Message.{Message}
-use Rattle.send_path.specs.Seats.{IsSeatOf, with_received}
-use Rattle.send_path.specs.Threads.{ThreadMap, changed_thread}
+use Rattle.xk_parts.specs.Seats.{IsSeatOf}
+use Rattle.send_path.specs.Seats.{with_received}
+use Rattle.xk_parts.specs.Threads.{ThreadMap, changed_thread}
 use Rattle.send_path.specs.declared.seats.Reached.{Reached}
 
 -- ---- the server
@@ -49,5 +50,5 @@ waiting_if (Some number) who threads = changed_thread who (with_state (Waiting n
 
 -- the thread that receives the message gets it, and the caller is answered that the call was served unless it waits
 abbrev pub arrival_answers : Option ThreadId → Message → Option Number → ThreadId → Answers
-arrival_answers receiver message waits who = both_answers (thread_gets (message_words message) receiver)
-    (sender_answered (is_some waits) who)
+arrival_answers receiver message waits who =
+    both_answers (thread_gets (message_words message) receiver) (sender_answered (is_some waits) who)

@@ -1,9 +1,8 @@
 pub mod Arrivals
 pub mod Forwarding
-pub mod Parts
+pub mod Keeping
 pub mod Returning
 pub mod Rows
 pub mod Seats
 pub mod Sending
-pub mod Sound
 pub mod Threads

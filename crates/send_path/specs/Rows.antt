@@ -3,7 +3,8 @@ use Rattle.std.specs.Prelude.{◌≡◌, ◌++◌, ℕ, Bool, List, map, Result,
 use Rattle.machine_model.specs.Calling.Calls.{call_at, call_table}
 use Rattle.machine_model.specs.Calling.ServerCalls.{own_server_refusals}
 use Rattle.machine_model.specs.Messaging.ReceiveCalls.{receive_served, try_receive_served}
-use Rattle.machine_model.specs.Messaging.ReturnCalls.{return_memory_refusals, return_memory_served, return_scalar_refusals, return_scalar_served}
+use Rattle.machine_model.specs.Messaging.ReturnCalls.{return_memory_refusals, return_memory_served}
+use Rattle.machine_model.specs.Messaging.ReturnCalls.{return_scalar_refusals, return_scalar_served}
 use Rattle.machine_model.specs.State.Changes.{Change, Outcome, Refused, Served, call_settled, unless_refused}
 use Rattle.machine_model.specs.State.Machine.{Machine}
 use Rattle.machine_model.specs.Stepping.Step.{record_of}
@@ -15,7 +16,7 @@ use Rattle.xk_base.specs.declared.ids.Number.{Number}
 use Rattle.xk_base.specs.declared.ids.Sid.{Sid}
 use Rattle.xk_base.specs.declared.ids.ThreadId.{ThreadId}
 use Rattle.xk_base.specs.declared.records.What.{What}
-use Rattle.send_path.specs.Parts.{Parts, Tables, with_parts, with_tables}
+use Rattle.xk_parts.specs.Parts.{Parts, machine_at}
 
 -- the log with these records of its step
 abbrev pub log_with : List What → LogState → LogState
@@ -29,24 +30,19 @@ pub record IsServed (outcome : Outcome) (old new : Machine) (log_before log_afte
   pub machine : new ≡ (call_settled old outcome).machine
   pub log : log_after ≡ log_with (call_settled old outcome).told log_before
 
--- A call of the thread that takes no page is this row, whatever the rest of the machine is: it does all that comes of it, or
--- answers the error of which it is refused and changes nothing.
-abbrev pub IsTableRow : {A : Type 0} → (Machine → Outcome) → ThreadId → Tables → Tables → Result A XousError → Type 0
-IsTableRow row who old new (Ok done) =
-    (m : Machine) → IsServed (row (with_tables who old m)) (with_tables who old m) (with_tables who new m) old.log new.log
-IsTableRow row who old new (Err error) = (new ≡ old) × ((m : Machine) → row (with_tables who old m) ≡ Refused error)
+-- A call of the thread is this row, whatever the rest of the machine is: it does all that comes of it, or answers the error of which
+-- it is refused and changes nothing.
+abbrev pub IsRow : {W A : Type 0} → (W → Held) → (Machine → Outcome) → ThreadId → Parts W → Parts W → Result A XousError → Type 0
+IsRow held row who old new (Ok done) =
+    (m : Machine) →
+    let before = machine_at held who old m in
+    IsServed (row before) before (machine_at held who new m) old.log new.log
+IsRow held row who old new (Err error) = (new ≡ old) × ((m : Machine) → row (machine_at held who old m) ≡ Refused error)
 
 -- ReceiveMessage, which waits where no message is queued, and TryReceiveMessage, which doesn't
 abbrev pub receive_row : Sid → Bool → Machine → Outcome
 receive_row sid wait m =
     unless_refused (own_server_refusals m sid) (Served (if wait then receive_served m sid else try_receive_served m sid))
-
--- A call of the thread that takes the memory too is this row.
-abbrev pub IsRow : {W A : Type 0} → (W → Held) → (Machine → Outcome) → ThreadId → Parts W → Parts W → Result A XousError → Type 0
-IsRow held row who old new (Ok done) =
-    (m : Machine) → IsServed (row (with_parts held who old m)) (with_parts held who old m)
-    (with_parts held who new m) old.tables.log new.tables.log
-IsRow held row who old new (Err error) = (new ≡ old) × ((m : Machine) → row (with_parts held who old m) ≡ Refused error)
 
 -- the row of the call with these words
 abbrev pub table_row : List ℕ → Machine → Outcome

@@ -1,45 +1,20 @@
 -- The messages of a server's seat, each with its loan.
-use Rattle.std.specs.Prelude.{◌≡◌, ◌≢◌, ℕ, List, [], ◌∷◌, ◌++◌, is_some, Option, Some, None, if◌then◌else◌}
-use Rattle.std.specs.Option.{option_and_then, option_map}
+use Rattle.std.specs.Prelude.{◌≡◌, ℕ, List, [], ◌∷◌, ◌++◌, Option, Some, None, if◌then◌else◌}
+use Rattle.std.specs.Option.{option_map}
 use Rattle.xk_base.specs.Calls.Kinds.{is_answered}
-use Rattle.machine_model.specs.Messaging.Messages.{is_lend}
 use Rattle.msg_queue.specs.Seats.{Seat, message_of, of_number, seat_of}
 use Rattle.msg_queue.specs.declared.held.Held.{Held}
-use Rattle.server_table.specs.ServerState.{Server, ServerState, at_seat, is_of, with_sid}
+use Rattle.server_table.specs.ServerState.{ServerState, at_seat}
 use Rattle.server_table.specs.declared.table.ServerSeat.{ServerSeat}
 use Rattle.xk_base.specs.declared.ids.Number.{Number}
 use Rattle.xk_base.specs.declared.ids.Pid.{Pid}
-use Rattle.xk_base.specs.declared.ids.Serial.{Serial}
-use Rattle.xk_base.specs.declared.ids.Sid.{Sid}
 use Rattle.xk_base.specs.declared.messages.Message.{Message}
+use Rattle.xk_parts.specs.Seats.{IsSeatOf}
 use Rattle.send_path.specs.declared.holding.HeldAt.{HeldAt}
-
--- all messages of a seat
-abbrev pub messages_at : Seat → List Held
-messages_at seat = seat.queued ++ seat.held
-
--- the message has a loan exactly where it is a lend or mutable lend
-abbrev pub HasLoanIfLend : Held → Type 0
-HasLoanIfLend h = is_some h.loan ≡ is_lend h.msg.kind
 
 -- a thread received the message: one that is to be answered is held, any other leaves the seat
 abbrev pub with_received : Held → Seat → Seat
 with_received h seat = record seat { held = if is_answered h.msg.kind then seat.held ++ h ∷ [] else seat.held }
-
--- the live server of that serial has this seat
-pub record IsSeatOf (servers : ServerState) (serial seat : ℕ) : Type 0 where
-  pub server : Server
-  pub live : servers.live serial ≡ Some server
-  pub its : server.seat ≡ seat
-
--- the live server with that identifier, where it is one of the process
-abbrev pub own_serial : Pid → Sid → ServerState → Option Serial
-own_serial pid sid servers =
-    option_and_then (λ serial. if is_of pid (servers.live serial.0) then Some serial else None) (with_sid sid servers)
-
--- no live server has the seat
-abbrev pub HasNoServer : ServerState → ℕ → Type 0
-HasNoServer servers seat = (serial : ℕ) (server : Server) → servers.live serial ≡ Some server → server.seat ≢ seat
 
 -- the message of that number that the server at a seat holds, as the server shows it
 abbrev pub held_shown : Number → Seat → Option Message

@@ -1,5 +1,5 @@
 -- SendMessage and TrySendMessage over the parts: what they ask for, how their pages go, and which row of the call table they are.
-use Rattle.std.specs.Prelude.{◌≡◌, ◌≢◌, ℕ, ◌+◌, ◌/◌, ◌≤◌, ◌&&◌, ◌==◌, false, List, ◌∷◌, if◌then◌else◌}
+use Rattle.std.specs.Prelude.{◌≡◌, ◌≢◌, ℕ, ◌+◌, ◌/◌, ◌<◌, ◌≤◌, ◌&&◌, ◌==◌, false, All, List, ◌∷◌, if◌then◌else◌}
 use Rattle.std.specs.Prelude.{Option, Some, None, Result, Ok, Err}
 use Rattle.ledger_model.specs.Ledger.{Ledger}
 use Rattle.ledger_model.specs.LeastRun.{least_run}
@@ -9,8 +9,10 @@ use Rattle.machine_model.specs.Calling.MemoryCalls.{is_bad_range}
 use Rattle.machine_model.specs.Messaging.Messages.{carries_pages}
 use Rattle.machine_model.specs.Messaging.SendCalls.{is_lend_mut, send_call}
 use Rattle.machine_model.specs.State.Changes.{Outcome, Refused, Retried}
-use Rattle.machine_model.specs.State.Machine.{Machine}
-use Rattle.process_table.specs.declared.table.Processes.{Processes}
+use Rattle.machine_model.specs.State.Machine.{Machine, Server}
+use Rattle.machine_model.specs.State.Servers.{messages_of}
+use Rattle.msg_queue.specs.Seats.{Seat}
+use Rattle.server_table.specs.declared.table.Servers.{Servers}
 use Rattle.sv32_space.specs.Tie.{Held}
 use Rattle.vm_memory.specs.Loaning.Sending.{IsFreeArrival}
 use Rattle.xk_base.specs.Calls.CallNumbers.{try_send_message}
@@ -29,7 +31,8 @@ use Rattle.xk_base.specs.declared.messages.MemKind.TheVariants as pages
 use Rattle.xk_base.specs.declared.messages.MsgKind.{MsgKind}
 use Rattle.xk_base.specs.declared.messages.MsgKind.TheVariants.{LendMut, Lend, Move, Scalar, BlockingScalar}
 use Rattle.xk_base.specs.declared.windows.Window.TheVariants.{Message as MessageWindow}
-use Rattle.send_path.specs.Parts.{Parts, processes_shown, with_parts}
+use Rattle.xk_parts.specs.Parts.{Parts, machine_at}
+use Rattle.xk_parts.specs.Shown.{servers_shown}
 use Rattle.send_path.specs.Rows.{IsServed, table_row}
 use Rattle.send_path.specs.declared.sending.Asked.{Asked}
 use Rattle.send_path.specs.declared.sending.Sent.{Sent}
@@ -68,46 +71,62 @@ abbrev pub arrival_of : ℕ → Ledger → Pid → MsgKind → ℕ → Option Vp
 arrival_of procs ledger pid kind n =
     if carries_pages kind then least_run procs ledger pid MessageWindow n else Some (record { 0 = 0 })
 
--- The n pages from a place on may go to the free places from another on, in a message of that kind and number.
-pub record MayGo (procs : ℕ) (ledger : Ledger) (kind : MsgKind) (from : Place) (n : ℕ) (to : Place) (number : Number) : Type 0 where
-  pub some : 1 ≤ n
-  pub there : any_free procs ledger from n ≡ false
-  pub sendable : any_not_sent procs ledger from n (is_lend_mut kind) ≡ false
-  pub arrival : IsFreeArrival procs ledger to n
-  pub fresh : IsFresh (loans ledger) number
+-- the pages that go in a message of a kind and number: so many from a place of its sender on, to the places from another on
+pub record Parcel : Type 0 where
+  pub kind : MsgKind
+  pub from : Place
+  pub count : ℕ
+  pub to : Place
+  pub number : Number
+
+-- They may go: they can be sent, they arrive at free places, and no loan has the number.
+pub record MayGo (procs : ℕ) (ledger : Ledger) (sent : Parcel) : Type 0 where
+  pub some : 1 ≤ sent.count
+  pub there : any_free procs ledger sent.from sent.count ≡ false
+  pub sendable : any_not_sent procs ledger sent.from sent.count (is_lend_mut sent.kind) ≡ false
+  pub arrival : IsFreeArrival procs ledger sent.to sent.count
+  pub fresh : IsFresh (loans ledger) sent.number
 
 -- ---- the row
 
--- the machine with these processes, whose next accepted message gets the number
-abbrev pub with_next : Processes → ℕ → Machine → Machine
-with_next procs number m = record m { process = processes_shown procs; next_number = number }
+-- the machine whose next accepted message gets the number
+abbrev pub with_number : ℕ → Machine → Machine
+with_number number m = record m { next_number = number }
 
--- what comes of a send, and what of it means that the server is full
+-- the number that a send takes where it is accepted, what comes of it, and what of that means that the server is full
 pub record SendRow : Type 0 where
+  pub number : Number
   pub call : Machine → Outcome
   pub full : Outcome
 
 -- the row of the call with these words: to a full server SendMessage retries, and TrySendMessage is refused
-abbrev pub send_row : List ℕ → SendRow
-send_row words = record {
+abbrev pub send_row : Number → List ℕ → SendRow
+send_row number words = record {
+  number = number;
   call = table_row words;
   full = if call_number words == try_send_message then Refused ServerQueueFull else Retried;
 }
 
 -- SendMessage of what is asked for
-abbrev pub asked_row : Asked → SendRow
-asked_row asked = record { call = λ m. send_call m (asked_words asked); full = Retried }
+abbrev pub asked_row : Number → Asked → SendRow
+asked_row number asked = record { number = number; call = λ m. send_call m (asked_words asked); full = Retried }
 
 -- A send of the thread is this row, whatever the rest of the machine is. An accepted one does all that comes of it, and takes the
 -- number. Any other changes nothing: it is refused with the error of the row, or the server is full.
-abbrev pub IsSendRow : {W : Type 0} → (W → Held) → SendRow → ThreadId → Processes → Number → Parts W → Parts W → Sent → Type 0
-IsSendRow held row who procs number old new sent.Accepted =
+abbrev pub IsSendRow : {W : Type 0} → (W → Held) → SendRow → ThreadId → Parts W → Parts W → Sent → Type 0
+IsSendRow held row who old new sent.Accepted =
     (m : Machine) →
-    let before = with_parts held who old (with_next procs number.0 m) in
-    let after = with_parts held who new (with_next procs (number.0 + 1) m) in
-    IsServed (row.call before) before after old.tables.log new.tables.log
-IsSendRow held row who procs number old new sent.Full =
-    (new ≡ old) × ((m : Machine) → row.call (with_parts held who old (with_next procs number.0 m)) ≡ row.full)
-IsSendRow held row who procs number old new (sent.Refused error) =
+    let before = machine_at held who old (with_number row.number.0 m) in
+    let after = machine_at held who new (with_number (row.number.0 + 1) m) in
+    IsServed (row.call before) before after old.log new.log
+IsSendRow held row who old new sent.Full =
+    (new ≡ old) × ((m : Machine) → row.call (machine_at held who old (with_number row.number.0 m)) ≡ row.full)
+IsSendRow held row who old new (sent.Refused error) =
     (new ≡ old) × (error ≢ ServerQueueFull)
-    × ((m : Machine) → row.call (with_parts held who old (with_next procs number.0 m)) ≡ Refused error)
+    × ((m : Machine) → row.call (machine_at held who old (with_number row.number.0 m)) ≡ Refused error)
+
+-- the number is above those of all messages
+abbrev pub IsAboveMessages : Number → Servers → List Seat → Type 0
+IsAboveMessages number servers seats =
+    (n : ℕ) (server : Server) → servers_shown servers seats n ≡ Some server
+    → All (λ message. message.number.0 < number.0) (messages_of server)

@@ -12,17 +12,18 @@ ghost use Rattle.xk_base.specs.Tables.Circle.{IsPid, is_thread_id, same_thread};
 ghost use Rattle.xk_base.specs.declared.ids.ThreadId.{ThreadId as Id};
 ghost use Rattle.xk_base.specs.declared.limits.TheConstants.{SERVER_LIMIT, MESSAGE_LIMIT};
 ghost use Rattle.send_path.specs.Arrivals.{arrival_answers, waiting_if, with_arrived};
-ghost use Rattle.send_path.specs.Parts.{threads_shown};
+ghost use Rattle.xk_parts.specs.Shown.{threads_shown};
 ghost use Rattle.send_path.specs.Rows.{log_with};
-ghost use Rattle.send_path.specs.Seats.{HasLoanIfLend};
-ghost use Rattle.send_path.specs.Threads.{answered, changed_thread};
+ghost use Rattle.xk_parts.specs.Seats.{HasLoanIfLend};
+ghost use Rattle.xk_parts.specs.Threads.{answered, changed_thread};
 
 use crate::seats::{Reached, arrive};
-use crate::threads::{answer_and_tell, answer_both, pass, wait};
+use crate::threads::{answer_and_tell, answer_both};
 use msg_queue::{Held, Queues};
 use syscall_codec::{Reply, reply_words};
 use thread_table::{ThreadState, Threads};
 use xk_base::{Log, Number, ThreadId};
+use xk_parts::{pass, wait};
 
 // A message arrives at a live server: of the threads that are Receiving there the one of least tid gets
 // it, and where there is none it is queued. The caller goes past its call. It waits for the answer to
@@ -84,10 +85,10 @@ fn answer_arrival(
     requires room { length log.old.records + 2 ≤ log.old.room }
     requires who { is_thread_id (process_count threads.old) who ≡ true }
     requires receiver { IfSome receiver (λ id. (is_thread_id (process_count threads.old) id ≡ true) × (same_thread id who ≡ false)) }
-    ensures after { threads_shown threads.new ≡ answered (both_answers (thread_gets words receiver) (sender_answered waits who))
-        (threads_shown threads.old) }
-    ensures log { log.new
-        ≡ log_with (replies (process_count threads.old) (both_answers (thread_gets words receiver) (sender_answered waits who))) log.old }
+    ensures after { let given = both_answers (thread_gets words receiver) (sender_answered waits who) in
+        threads_shown threads.new ≡ answered given (threads_shown threads.old) }
+    ensures log { let given = both_answers (thread_gets words receiver) (sender_answered waits who) in
+        log.new ≡ log_with (replies (process_count threads.old) given) log.old }
     ensures count { process_count threads.new ≡ process_count threads.old }
 {
     let plain = reply_words(&Reply::Plain);

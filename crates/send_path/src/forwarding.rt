@@ -8,10 +8,11 @@ ghost use Rattle.thread_table.specs.ThreadsOf.{threads_of};
 ghost use Rattle.vm_memory.specs.Memory.{IsUsable};
 ghost use Rattle.xk_base.specs.Calls.CallNumbers.{forward_message as forward_number};
 ghost use Rattle.xk_base.specs.Calls.CallWords.{call_number};
-ghost use Rattle.send_path.specs.Forwarding.{IsRowOver, forward_row};
-ghost use Rattle.send_path.specs.Parts.{parts_of};
-ghost use Rattle.send_path.specs.Rows.{table_row};
-ghost use Rattle.send_path.specs.Sound.{IsSoundOver, KeepsMemory};
+ghost use Rattle.send_path.specs.Forwarding.{forward_row};
+ghost use Rattle.xk_parts.specs.Parts.{parts_of};
+ghost use Rattle.xk_parts.specs.Sound.{AreSound};
+ghost use Rattle.send_path.specs.Rows.{IsRow, table_row};
+ghost use Rattle.send_path.specs.Keeping.{KeepsMemory};
 
 use crate::carrying::arrive_and_answer;
 use crate::holding::{held_by, is_lend, take};
@@ -47,13 +48,13 @@ pub fn forward<W: SwapStore>(
     requires room { length log.old.records + 2 ≤ log.old.room }
     requires served { call_number words ≡ forward_number }
     requires usable { IsUsable mem.old }
-    requires sound { let old = parts_of mem.old threads.old servers.now queues.old log.old in
-        IsSoundOver W.SwapStore who procs.now old }
-    ensures row { let old = parts_of mem.old threads.old servers.now queues.old log.old in
-        let new = parts_of mem.new threads.new servers.now queues.new log.new in
-        IsRowOver W.held (table_row words) who procs.now old new result }
-    ensures sound { let new = parts_of mem.new threads.new servers.now queues.new log.new in
-        IsSoundOver W.SwapStore who procs.now new }
+    requires sound { let old = record (parts_of mem.old threads.old servers.now queues.old log.old) { procs = Some procs.now } in
+        AreSound W.SwapStore who old }
+    ensures row { let old = record (parts_of mem.old threads.old servers.now queues.old log.old) { procs = Some procs.now } in
+        let new = record old { mem = Some mem.new; threads = threads.new; queues = queues.new; log = log.new } in
+        IsRow W.held (table_row words) who old new result }
+    ensures sound { let new = record (parts_of mem.new threads.new servers.now queues.new log.new) { procs = Some procs.now } in
+        AreSound W.SwapStore who new }
     ensures mem { KeepsMemory W.SwapStore mem.old mem.new }
 {
     match read_call(words) {
@@ -87,13 +88,13 @@ fn forward_message<W: SwapStore>(
     requires ready { is_ready (threads_of threads.old who) ≡ true }
     requires room { length log.old.records + 2 ≤ log.old.room }
     requires usable { IsUsable mem.old }
-    requires sound { let old = parts_of mem.old threads.old servers.now queues.old log.old in
-        IsSoundOver W.SwapStore who procs.now old }
-    ensures row { let old = parts_of mem.old threads.old servers.now queues.old log.old in
-        let new = parts_of mem.new threads.new servers.now queues.new log.new in
-        IsRowOver W.held (forward_row number cid.0) who procs.now old new result }
-    ensures sound { let new = parts_of mem.new threads.new servers.now queues.new log.new in
-        IsSoundOver W.SwapStore who procs.now new }
+    requires sound { let old = record (parts_of mem.old threads.old servers.now queues.old log.old) { procs = Some procs.now } in
+        AreSound W.SwapStore who old }
+    ensures row { let old = record (parts_of mem.old threads.old servers.now queues.old log.old) { procs = Some procs.now } in
+        let new = record old { mem = Some mem.new; threads = threads.new; queues = queues.new; log = log.new } in
+        IsRow W.held (forward_row number cid.0) who old new result }
+    ensures sound { let new = record (parts_of mem.new threads.new servers.now queues.new log.new) { procs = Some procs.now } in
+        AreSound W.SwapStore who new }
     ensures mem { KeepsMemory W.SwapStore mem.old mem.new }
 {
     let Some(from) = held_by(servers, queues, who.pid, number) else {

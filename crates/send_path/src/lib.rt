@@ -15,4 +15,3 @@ pub use forwarding::forward;
 pub use receiving::receive;
 pub use returning::give_back;
 pub use sending::{Sent, send};
-pub use threads::{answer, pass};

@@ -10,8 +10,8 @@ ghost use Rattle.vm_memory.specs.Memory.{IsUsable, ledger, processes};
 ghost use Rattle.vm_memory.specs.Sound.{IsSound as IsMemorySound};
 ghost use Rattle.xk_base.specs.Tables.Circle.{is_pid};
 ghost use Rattle.xk_base.specs.Numbers.Windows.{page_of};
-ghost use Rattle.send_path.specs.Sending.{MayGo, arrival_of, mem_kind_of, pages_answer};
-ghost use Rattle.send_path.specs.Sound.{KeepsMemory};
+ghost use Rattle.send_path.specs.Sending.{MayGo, Parcel, arrival_of, mem_kind_of, pages_answer};
+ghost use Rattle.send_path.specs.Keeping.{KeepsMemory};
 
 use loan_flags::Loan;
 use vm_memory::Memory;
@@ -106,7 +106,8 @@ pub(crate) fn carry<W: SwapStore>(
 ) -> Option<Loan>
     requires sound { IsMemorySound W.slot_count mem.old }
     requires usable { IsUsable mem.old }
-    requires may { has_pages kind ≡ true → MayGo (processes mem.old) (ledger W.held mem.old) kind from n to number }
+    requires may { let sent : Parcel = record { kind = kind; from = from; count = n; to = to; number = number } in
+        has_pages kind ≡ true → MayGo (processes mem.old) (ledger W.held mem.old) sent }
     ensures loan { result ≡ option_map (λ loaned. record { lender = Some from; holder = to; count = n; kind = loaned; number = number })
         (loan_kind kind) }
     ensures ledger { ledger W.held mem.new ≡ sent_ledger kind from n to number (ledger W.held mem.old) }

@@ -4,18 +4,19 @@ ghost use Rattle.std.specs.Prelude.{◌≡◌, ◌+◌, ◌≤◌, ◌==◌, ◌
 ghost use Rattle.ledger_model.specs.Loans.{Loans};
 ghost use Rattle.thread_table.specs.ThreadMap.{is_ready};
 ghost use Rattle.thread_table.specs.ThreadsOf.{threads_of};
-ghost use Rattle.send_path.specs.Parts.{tables_of};
-ghost use Rattle.send_path.specs.Rows.{IsTableRow, receive_row};
-ghost use Rattle.send_path.specs.Sound.{AreLoansSound, AreTablesSound};
+ghost use Rattle.xk_parts.specs.Parts.{no_store, tables_of};
+ghost use Rattle.send_path.specs.Rows.{IsRow, receive_row};
+ghost use Rattle.xk_parts.specs.Sound.{AreLoansSound, AreSound};
 ghost use Rattle.server_table.specs.ServersOf.{servers_of};
 
-use crate::seats::{Seated, keep_received, own_server};
-use crate::threads::{answer_caller, pass, wait};
+use crate::seats::keep_received;
+use crate::threads::answer_caller;
 use msg_queue::Queues;
 use server_table::Servers;
 use syscall_codec::{Reply, reply_words};
 use thread_table::{ThreadState, Threads};
 use xk_base::{Log, Sid, ThreadId, What, XousError};
+use xk_parts::{Seated, own_server, pass, wait};
 
 /// A thread asks for a message of the server with that identifier, which is one of its process: it
 /// gets the oldest queued message. Where none is queued it waits for one, if it wants to wait, and
@@ -33,12 +34,12 @@ pub fn receive(
 ) -> Result<(), XousError>
     requires ready { is_ready (threads_of threads.old who) ≡ true }
     requires room { length log.old.records + 2 ≤ log.old.room }
-    requires sound { AreTablesSound who (tables_of threads.old servers.now queues.old log.old) }
+    requires sound { AreSound no_store who (tables_of threads.old servers.now queues.old log.old) }
     ensures row { let old = tables_of threads.old servers.now queues.old log.old in
-        let new = tables_of threads.new servers.now queues.new log.new in
-        IsTableRow (receive_row sid wait_for_one) who old new result }
+        let new = record old { threads = threads.new; queues = queues.new; log = log.new } in
+        IsRow no_store.held (receive_row sid wait_for_one) who old new result }
     ensures sound { let new = tables_of threads.new servers.now queues.new log.new in
-        IsFalse (wait_for_one && (who.tid.0 == 1)) → AreTablesSound who new }
+        IsFalse (wait_for_one && (who.tid.0 == 1)) → AreSound no_store who new }
     ensures loans { let live = servers_of servers.now in
         (all : Loans) → AreLoansSound all live queues.old → AreLoansSound all live queues.new }
 {

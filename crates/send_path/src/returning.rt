@@ -4,13 +4,15 @@ ghost use Rattle.std.specs.Prelude.{◌≡◌, ◌+◌, ◌≤◌, ◌==◌, ◌
 ghost use Rattle.syscall_codec.specs.Replies.{words_of};
 ghost use Rattle.thread_table.specs.ThreadMap.{is_ready};
 ghost use Rattle.thread_table.specs.ThreadsOf.{threads_of};
-ghost use Rattle.xk_base.specs.Calls.CallNumbers.{return_memory as memory_number, return_scalar1 as scalar1_number, return_scalar2 as scalar2_number};
+ghost use Rattle.xk_base.specs.Calls.CallNumbers.{return_memory as memory_number};
+ghost use Rattle.xk_base.specs.Calls.CallNumbers.{return_scalar1 as scalar1_number, return_scalar2 as scalar2_number};
 ghost use Rattle.xk_base.specs.Calls.CallWords.{call_number};
 ghost use Rattle.machine_model.specs.State.Machine.{Machine};
-ghost use Rattle.send_path.specs.Parts.{parts_of};
+ghost use Rattle.xk_parts.specs.Parts.{parts_of};
+ghost use Rattle.xk_parts.specs.Sound.{AreSound};
 ghost use Rattle.send_path.specs.Returning.{given_row};
 ghost use Rattle.send_path.specs.Rows.{IsRow, memory_row, scalar_row, table_row};
-ghost use Rattle.send_path.specs.Sound.{IsSound, KeepsMemory};
+ghost use Rattle.send_path.specs.Keeping.{KeepsMemory};
 
 use crate::holding::{HeldAt, held_by, is_blocking, is_its_range, is_lend, take};
 use crate::threads::answer_with_sender;
@@ -54,13 +56,13 @@ pub fn give_back<W: SwapStore>(
 ) -> Result<(), XousError>
     requires ready { is_ready (threads_of threads.old who) ≡ true }
     requires room { length log.old.records + 2 ≤ log.old.room }
-    requires served { (call_number words == memory_number || call_number words == scalar1_number
-        || call_number words == scalar2_number) ≡ true }
-    requires sound { IsSound W.SwapStore who (parts_of mem.old threads.old servers.now queues.old log.old) }
+    requires served { let call = call_number words in
+        (call == memory_number || call == scalar1_number || call == scalar2_number) ≡ true }
+    requires sound { AreSound W.SwapStore who (parts_of mem.old threads.old servers.now queues.old log.old) }
     ensures row { let old = parts_of mem.old threads.old servers.now queues.old log.old in
-        let new = parts_of mem.new threads.new servers.now queues.new log.new in
+        let new = record old { mem = Some mem.new; threads = threads.new; queues = queues.new; log = log.new } in
         IsRow W.held (table_row words) who old new result }
-    ensures sound { IsSound W.SwapStore who (parts_of mem.new threads.new servers.now queues.new log.new) }
+    ensures sound { AreSound W.SwapStore who (parts_of mem.new threads.new servers.now queues.new log.new) }
     ensures mem { KeepsMemory W.SwapStore mem.old mem.new }
 {
     match given_back(words) {
@@ -75,7 +77,8 @@ pub fn give_back<W: SwapStore>(
 
 // What the words of a return give back.
 fn given_back(words: [u32; 8]) -> GivenBack
-    requires { (call_number words == memory_number || call_number words == scalar1_number || call_number words == scalar2_number) ≡ true }
+    requires { let call = call_number words in
+        (call == memory_number || call == scalar1_number || call == scalar2_number) ≡ true }
     ensures { (m : Machine) → table_row words m ≡ given_row result m }
 {
     match read_call(words) {
@@ -120,11 +123,11 @@ fn return_memory<W: SwapStore>(
 ) -> Result<(), XousError>
     requires ready { is_ready (threads_of threads.old who) ≡ true }
     requires room { length log.old.records + 2 ≤ log.old.room }
-    requires sound { IsSound W.SwapStore who (parts_of mem.old threads.old servers.now queues.old log.old) }
+    requires sound { AreSound W.SwapStore who (parts_of mem.old threads.old servers.now queues.old log.old) }
     ensures row { let old = parts_of mem.old threads.old servers.now queues.old log.old in
-        let new = parts_of mem.new threads.new servers.now queues.new log.new in
+        let new = record old { mem = Some mem.new; threads = threads.new; queues = queues.new; log = log.new } in
         IsRow W.held (memory_row returned.number returned.address returned.size returned.offset returned.valid) who old new result }
-    ensures sound { IsSound W.SwapStore who (parts_of mem.new threads.new servers.now queues.new log.new) }
+    ensures sound { AreSound W.SwapStore who (parts_of mem.new threads.new servers.now queues.new log.new) }
     ensures mem { KeepsMemory W.SwapStore mem.old mem.new }
 {
     let Some(HeldAt { seat, message, .. }) = held_by(servers, queues, who.pid, returned.number)
@@ -159,11 +162,11 @@ fn return_scalar<W: SwapStore>(
 ) -> Result<(), XousError>
     requires ready { is_ready (threads_of threads.old who) ≡ true }
     requires room { length log.old.records + 2 ≤ log.old.room }
-    requires sound { IsSound W.SwapStore who (parts_of mem.now threads.old servers.now queues.old log.old) }
+    requires sound { AreSound W.SwapStore who (parts_of mem.now threads.old servers.now queues.old log.old) }
     ensures row { let old = parts_of mem.now threads.old servers.now queues.old log.old in
-        let new = parts_of mem.now threads.new servers.now queues.new log.new in
+        let new = record old { threads = threads.new; queues = queues.new; log = log.new } in
         IsRow W.held (scalar_row number (words_of reply)) who old new result }
-    ensures sound { IsSound W.SwapStore who (parts_of mem.now threads.new servers.now queues.new log.new) }
+    ensures sound { AreSound W.SwapStore who (parts_of mem.now threads.new servers.now queues.new log.new) }
 {
     let Some(HeldAt { seat, message, .. }) = held_by(servers, queues, who.pid, number) else {
         return Err(XousError::DoubleFree);

@@ -10,19 +10,12 @@ ghost use Rattle.process_table.specs.ProcessMap.{connections_of};
 ghost use Rattle.process_table.specs.ProcessesOf.{process_count, processes_of};
 ghost use Rattle.xk_base.specs.Tables.Circle.{IsPid};
 ghost use Rattle.send_path.specs.Arrivals.{IsReachedIf, with_arrived};
-ghost use Rattle.send_path.specs.Seats.{HasLoanIfLend, IsSeatOf, own_serial};
+ghost use Rattle.xk_parts.specs.Seats.{HasLoanIfLend, IsSeatOf, own_serial};
 
 use msg_queue::{Held, Queues};
 use process_table::Processes;
 use server_table::Servers;
-use xk_base::{Cid, MsgKind, Pid, Serial, Sid, ThreadId};
-
-/// A live server and its seat.
-#[derive(Clone, Copy, Debug, PartialEq, Eq)]
-pub(crate) struct Seated {
-    pub serial: Serial,
-    pub seat: u8,
-}
+use xk_base::{Cid, Pid, Serial, ThreadId};
 
 /// A live server that a connection leads to, with its process and its seat.
 #[derive(Clone, Copy, Debug, PartialEq, Eq)]
@@ -30,19 +23,6 @@ pub(crate) struct Reached {
     pub serial: Serial,
     pub pid: Pid,
     pub seat: u8,
-}
-
-// The live server of the process with that identifier.
-pub(crate) fn own_server(servers: &Servers, pid: Pid, sid: Sid) -> Option<Seated>
-    ensures serial { option_map (λ s. s.serial) result ≡ own_serial pid sid (servers_of servers.now) }
-    ensures seat { IfSome result (λ s. IsSeatOf (servers_of servers.now) s.serial.0 s.seat) }
-{
-    let serial = servers.find(sid)?;
-    if servers.owner(serial)? != pid {
-        return None;
-    }
-    let seat = servers.seat(serial)?;
-    Some(Seated { serial, seat })
 }
 
 // The live server that the connection of the process leads to.
@@ -61,16 +41,6 @@ pub(crate) fn connected_server(
     Some(Reached { serial, pid, seat })
 }
 
-/// Whether a message of the kind holds its sender until it is answered.
-pub(crate) fn is_answered(kind: MsgKind) -> bool
-    ensures { result ≡ is_kind_answered kind }
-{
-    match kind {
-        MsgKind::LendMut | MsgKind::Lend | MsgKind::BlockingScalar => true,
-        MsgKind::Move | MsgKind::Scalar => false,
-    }
-}
-
 // A thread received the message, which was taken out or is new: one that is to be answered is held,
 // and any other leaves its slot.
 pub(crate) fn keep_received(queues: &mut Queues, seat: u8, received: Held)
@@ -79,7 +49,7 @@ pub(crate) fn keep_received(queues: &mut Queues, seat: u8, received: Held)
     requires loan { HasLoanIfLend received }
     ensures { queues.new ≡ (if is_kind_answered received.msg.kind then changed_at seat (with_held received) queues.old else queues.old) }
 {
-    if is_answered(received.msg.kind) {
+    if received.msg.kind.is_answered() {
         queues.hold(seat, received);
     } else {
         let Held { msg: _, loan } = received;

@@ -9,13 +9,14 @@ ghost use Rattle.vm_memory.specs.Memory.{IsUsable};
 ghost use Rattle.xk_base.specs.Calls.CallNumbers.{send_message, try_send_message};
 ghost use Rattle.xk_base.specs.Calls.CallWords.{call_number, send_kind};
 ghost use Rattle.xk_base.specs.Calls.Kinds.{is_answered as is_kind_answered, is_waiting_kind, kind_at};
-ghost use Rattle.send_path.specs.Parts.{parts_of};
-ghost use Rattle.send_path.specs.Sending.{AreAsked, IsSendRow, asked_row, asked_words, send_row};
-ghost use Rattle.send_path.specs.Sound.{IsAboveMessages, IsSoundOver, KeepsMemory};
+ghost use Rattle.xk_parts.specs.Parts.{parts_of};
+ghost use Rattle.xk_parts.specs.Sound.{AreSound};
+ghost use Rattle.send_path.specs.Sending.{AreAsked, IsSendRow, asked_row, asked_words, send_row, IsAboveMessages};
+ghost use Rattle.send_path.specs.Keeping.{KeepsMemory};
 
 use crate::carrying::arrive_and_answer;
 use crate::pages::{arrival, carries_pages, carry, page_of, test_pages};
-use crate::seats::{connected_server, is_answered};
+use crate::seats::connected_server;
 use msg_queue::{Held, Queues};
 use process_table::Processes;
 use server_table::Servers;
@@ -74,13 +75,13 @@ pub fn send<W: SwapStore>(
     requires served { (call_number words == send_message || call_number words == try_send_message) ≡ true }
     requires usable { IsUsable mem.old }
     requires above { IsAboveMessages number servers.now queues.old }
-    requires sound { let old = parts_of mem.old threads.old servers.now queues.old log.old in
-        IsSoundOver W.SwapStore who procs.now old }
-    ensures row { let old = parts_of mem.old threads.old servers.now queues.old log.old in
-        let new = parts_of mem.new threads.new servers.now queues.new log.new in
-        IsSendRow W.held (send_row words) who procs.now number old new result }
-    ensures sound { let new = parts_of mem.new threads.new servers.now queues.new log.new in
-        IsFalse (is_waiting_kind (send_kind words) && (who.tid.0 == 1)) → IsSoundOver W.SwapStore who procs.now new }
+    requires sound { let old = record (parts_of mem.old threads.old servers.now queues.old log.old) { procs = Some procs.now } in
+        AreSound W.SwapStore who old }
+    ensures row { let old = record (parts_of mem.old threads.old servers.now queues.old log.old) { procs = Some procs.now } in
+        let new = record old { mem = Some mem.new; threads = threads.new; queues = queues.new; log = log.new } in
+        IsSendRow W.held (send_row number words) who old new result }
+    ensures sound { let new = record (parts_of mem.new threads.new servers.now queues.new log.new) { procs = Some procs.now } in
+        IsFalse (is_waiting_kind (send_kind words) && (who.tid.0 == 1)) → AreSound W.SwapStore who new }
     ensures mem { KeepsMemory W.SwapStore mem.old mem.new }
 {
     let asked = asked_in(words);
@@ -134,13 +135,13 @@ fn send_asked<W: SwapStore>(
     requires room { length log.old.records + 2 ≤ log.old.room }
     requires usable { IsUsable mem.old }
     requires above { IsAboveMessages number servers.now queues.old }
-    requires sound { let old = parts_of mem.old threads.old servers.now queues.old log.old in
-        IsSoundOver W.SwapStore who procs.now old }
-    ensures row { let old = parts_of mem.old threads.old servers.now queues.old log.old in
-        let new = parts_of mem.new threads.new servers.now queues.new log.new in
-        IsSendRow W.held (asked_row asked) who procs.now number old new result }
-    ensures sound { let new = parts_of mem.new threads.new servers.now queues.new log.new in
-        IsFalse (is_waiting_kind asked.kind && (who.tid.0 == 1)) → IsSoundOver W.SwapStore who procs.now new }
+    requires sound { let old = record (parts_of mem.old threads.old servers.now queues.old log.old) { procs = Some procs.now } in
+        AreSound W.SwapStore who old }
+    ensures row { let old = record (parts_of mem.old threads.old servers.now queues.old log.old) { procs = Some procs.now } in
+        let new = record old { mem = Some mem.new; threads = threads.new; queues = queues.new; log = log.new } in
+        IsSendRow W.held (asked_row number asked) who old new result }
+    ensures sound { let new = record (parts_of mem.new threads.new servers.now queues.new log.new) { procs = Some procs.now } in
+        IsFalse (is_waiting_kind asked.kind && (who.tid.0 == 1)) → AreSound W.SwapStore who new }
     ensures mem { KeepsMemory W.SwapStore mem.old mem.new }
 {
     let Some(to) = connected_server(procs, servers, who.pid, asked.cid) else {
@@ -177,7 +178,7 @@ fn send_asked<W: SwapStore>(
 fn awaited(kind: MsgKind, number: Number) -> Option<Number>
     ensures { result ≡ (if is_kind_answered kind then Some number else None) }
 {
-    if is_answered(kind) {
+    if kind.is_answered() {
         Some(number)
     } else {
         None
@@ -203,7 +204,7 @@ fn new_message(asked: &Asked, number: Number, who: ThreadId, kind: MsgKind, firs
     requires { has_pages kind ≡ true → first.0 < 2 ^ 20 }
     ensures { (m : Machine) → m.cursor ≡ who → m.next_number ≡ number.0 → result ≡ new_message m kind (asked_words asked.now) first }
 {
-    let sender = if is_answered(kind) { Some(who) } else { None };
+    let sender = if kind.is_answered() { Some(who) } else { None };
     let [one, length, offset, valid] = asked.words;
     let (words, first, count) = if carries_pages(kind) {
         let address = PAGE_SIZE * first.0;

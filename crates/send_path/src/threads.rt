@@ -1,4 +1,4 @@
-//! One thread goes past its call, waits, or is answered.
+//! Threads are answered, of which records tell.
 
 ghost use Rattle.std.specs.Prelude.{◌≡◌, ◌+◌, ◌<◌, ◌≤◌, [], ◌∷◌, length, true, false, IfSome};
 ghost use Rattle.machine_model.specs.Messaging.ReturnCalls.{sender_gets};
@@ -8,48 +8,15 @@ ghost use Rattle.thread_table.specs.ThreadsOf.{process_count};
 ghost use Rattle.xk_base.specs.Tables.Circle.{is_thread_id, same_thread};
 ghost use Rattle.xk_base.specs.Calls.Replies.{plain_words};
 ghost use Rattle.xk_base.specs.declared.records.What.TheVariants.{Reply as Replied};
-ghost use Rattle.send_path.specs.Parts.{state_of, threads_shown};
+ghost use Rattle.xk_parts.specs.Shown.{state_of, threads_shown};
 ghost use Rattle.send_path.specs.Rows.{log_with};
-ghost use Rattle.send_path.specs.Threads.{answered, changed_thread, is_before};
+ghost use Rattle.xk_parts.specs.Threads.{answered, changed_thread};
+ghost use Rattle.send_path.specs.Threads.{is_before};
 
 use syscall_codec::{Reply, reply_words};
-use thread_table::{ThreadState, Threads};
+use thread_table::Threads;
 use xk_base::{Log, ThreadId, What};
-
-/// How far the pc goes at each instruction.
-const INSTRUCTION_SIZE: u32 = 4;
-
-/// The thread goes past the call at its pc, where it is there, and stays so else. All other threads stay.
-pub fn pass(threads: &mut Threads, id: ThreadId)
-    ensures after { threads_shown threads.new ≡ changed_thread id passed (threads_shown threads.old) }
-    ensures count { process_count threads.new ≡ process_count threads.old }
-{
-    if let Some(thread) = threads.get_mut(id) {
-        thread.pc = thread.pc.wrapping_add(INSTRUCTION_SIZE);
-    }
-}
-
-// The thread waits so, where it is there.
-pub(crate) fn wait(threads: &mut Threads, id: ThreadId, state: ThreadState)
-    ensures after { threads_shown threads.new ≡ changed_thread id (with_state (state_of state)) (threads_shown threads.old) }
-    ensures count { process_count threads.new ≡ process_count threads.old }
-{
-    if let Some(thread) = threads.get_mut(id) {
-        thread.state = state;
-    }
-}
-
-/// The thread, where it is there, has the words in a0 to a7 and is Ready, whatever it waited for. Its pc stays,
-/// and so do all other threads.
-pub fn answer(threads: &mut Threads, id: ThreadId, words: [u32; 8])
-    ensures after { threads_shown threads.new ≡ answered (answer_to id words) (threads_shown threads.old) }
-    ensures count { process_count threads.new ≡ process_count threads.old }
-{
-    if let Some(thread) = threads.get_mut(id) {
-        thread.regs.set_arguments(words);
-        thread.state = ThreadState::Ready;
-    }
-}
+use xk_parts::{answer, pass};
 
 // The thread, where it is there, is answered, of which a record tells.
 pub(crate) fn answer_and_tell(threads: &mut Threads, log: &mut Log, id: ThreadId, words: [u32; 8])
@@ -86,10 +53,10 @@ pub(crate) fn answer_both(
     requires one { is_thread_id (process_count threads.old) one ≡ true }
     requires other { is_thread_id (process_count threads.old) other ≡ true }
     requires apart { same_thread one other ≡ false }
-    ensures after { threads_shown threads.new ≡ answered (both_answers (answer_to one one_words) (answer_to other other_words))
-        (threads_shown threads.old) }
-    ensures log { log.new
-        ≡ log_with (replies (process_count threads.old) (both_answers (answer_to one one_words) (answer_to other other_words))) log.old }
+    ensures after { let given = both_answers (answer_to one one_words) (answer_to other other_words) in
+        threads_shown threads.new ≡ answered given (threads_shown threads.old) }
+    ensures log { let given = both_answers (answer_to one one_words) (answer_to other other_words) in
+        log.new ≡ log_with (replies (process_count threads.old) given) log.old }
     ensures count { process_count threads.new ≡ process_count threads.old }
 {
     answer(threads, one, one_words);
@@ -124,8 +91,8 @@ pub(crate) fn answer_with_sender(
     requires sender { IfSome sender (λ id. (is_thread_id (process_count threads.old) id ≡ true) × (same_thread who id ≡ false)) }
     ensures after { let past = changed_thread who passed (threads_shown threads.old) in
         threads_shown threads.new ≡ answered (both_answers (answer_to who plain_words) (sender_gets words sender)) past }
-    ensures log { log.new
-        ≡ log_with (replies (process_count threads.old) (both_answers (answer_to who plain_words) (sender_gets words sender))) log.old }
+    ensures log { let given = both_answers (answer_to who plain_words) (sender_gets words sender) in
+        log.new ≡ log_with (replies (process_count threads.old) given) log.old }
     ensures count { process_count threads.new ≡ process_count threads.old }
 {
     let plain = reply_words(&Reply::Plain);

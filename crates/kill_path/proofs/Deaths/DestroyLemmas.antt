@@ -23,14 +23,13 @@ use Rattle.machine_model.specs.State.Servers.{messages_of}
 use Rattle.machine_model.specs.State.Threads.{Answers, answer_to, both_answers, passed}
 use Rattle.msg_queue.specs.Seats.{seat_of}
 use Rattle.send_path.proofs.Rows.RowLemmas.{served_so}
-use Rattle.send_path.proofs.Rows.ThreadLemmas.{ready_id, ready_there}
-use Rattle.send_path.specs.Parts.{Parts, server_of, server_with, servers_shown, state_of, thread_of, threads_shown, with_parts, with_tables}
+use Rattle.xk_parts.proofs.ThreadLemmas.{ready_id, ready_there}
+use Rattle.send_path.proofs.Taken.{CallParts, taken}
+use Rattle.xk_parts.specs.Shown.{server_of, server_with, servers_shown, state_of, thread_of, threads_shown}
 use Rattle.send_path.specs.Rows.{IsServed, log_with}
-use Rattle.send_path.specs.Sound.{IsSound}
-use Rattle.send_path.specs.Threads.{answered, changed_thread}
+use Rattle.xk_parts.specs.Threads.{answered, changed_thread}
 use Rattle.server_table.specs.ServersOf.{servers_of}
 use Rattle.server_table.specs.ServerState.{Server as TableServer}
-use Rattle.sv32_space.specs.Tie.{Held}
 use Rattle.thread_table.specs.States.{is_receiving_state}
 use Rattle.thread_table.specs.ThreadMap.{is_ready as is_table_ready, is_receiving}
 use Rattle.thread_table.specs.ThreadsOf.{process_count, threads_of}
@@ -49,11 +48,12 @@ use Rattle.xk_base.specs.declared.ids.ThreadId.{ThreadId}
 use Rattle.xk_base.specs.declared.messages.Message.{Message}
 use Rattle.kill_path.specs.Closing.{AreClosed, closable}
 use Rattle.kill_path.specs.Keeping.{Stays}
-use Rattle.kill_path.specs.Open.{AreOpen}
+use Rattle.xk_parts.specs.Sound.{AreOpen, AreSound}
 use Rattle.kill_path.specs.Rows.{destroy_row}
 use Rattle.kill_path.specs.Telling.{is_receiver_of, told_to}
 use Rattle.kill_path.specs.ThreadSets.{ThreadSet, nobody}
 use Rattle.kill_path.proofs.FitLemmas.{few_processes, known_of_all, known_pid_of_all, open_loans}
+use Rattle.xk_parts.specs.Parts.{machine_at}
 
 -- ---- the change
 
@@ -112,28 +112,28 @@ told_at false true false = refl
 told_at false false true = refl
 told_at false false false = refl
 
-module _ {W : Type 0} (S : SwapStore W) (who : ThreadId) (old : Parts W) (sound : IsSound S who old)
+module _ {W : Type 0} (S : SwapStore W) (who : ThreadId) (old : CallParts W) (sound : AreSound S who (taken old))
     (ready : is_table_ready (threads_of old.tables.threads who) ≡ true) (s : Serial) (v : TableServer)
     (live : (servers_of old.tables.servers).live s.0 ≡ Some v) where
   abbrev m0 : Machine
-  m0 = with_parts S.held who old sound.machine
+  m0 = machine_at S.held who (taken old) sound.machine
 
   abbrev n : ℕ
   n = process_count old.tables.threads
 
   caller_ready : ready_at m0 m0.cursor ≡ true
-  unfolding with_parts with_tables
+  unfolding machine_at
   caller_ready = ready_there (threads_of old.tables.threads who) ready
 
   pub caller_known : is_thread_id 64 who ≡ true
   caller_known = known_of_all n who (few_processes S who old sound) (ready_id old.tables.threads who ready)
 
   shown_live : m0.servers s.0 ≡ Some (server_with (seat_of old.tables.queues v.seat) v)
-  unfolding with_parts with_tables
+  unfolding machine_at
   shown_live = ap (option_map (server_of old.tables.queues)) live
 
   pub owner_known : is_pid 64 v.pid.0 ≡ true
-  unfolding with_parts with_tables
+  unfolding machine_at
   owner_known =
       known_pid_of_all n v.pid.0 (few_processes S who old sound)
       (sound.matched.body.processes.pids v.pid
@@ -146,7 +146,7 @@ module _ {W : Type 0} (S : SwapStore W) (who : ThreadId) (old : Parts W) (sound 
     own : (id.pid.0 == v.pid.0) ≡ true
 
   receives : (id : ThreadId) → is_receiving s (threads_of old.tables.threads id) ≡ true → Receives id
-  unfolding with_parts with_tables
+  unfolding machine_at
   receives id e = go (threads_of old.tables.threads id) refl e
     where
       go : (o : Option TableThread) → threads_of old.tables.threads id ≡ o → is_receiving s o ≡ true → Receives id
@@ -198,17 +198,17 @@ module _ {W : Type 0} (S : SwapStore W) (who : ThreadId) (old : Parts W) (sound 
   pub its_owner : (pid : Pid) → option_map (λ (w : TableServer). w.pid) ((servers_of old.tables.servers).live s.0) ≡ Some pid → is_pid 64 pid.0 ≡ true
   its_owner pid owner = subst (λ (p : Pid). is_pid 64 p.0 ≡ true) (same_Some v.pid pid (sym (ap (option_map (λ (w : TableServer). w.pid)) live) ∙ owner)) owner_known
 
-  module _ (new : Parts W) (noted : ThreadSet)
+  module _ (new : CallParts W) (noted : ThreadSet)
       (is_closed : AreClosed (λ k. k == s.0)
       (closable (ledger S.held old.mem) old.tables.servers old.tables.queues second)
       (closable (ledger S.held new.mem) new.tables.servers new.tables.queues noted)) where
-    noted_is : (m : Machine) (id : ThreadId) → noted id ≡ (second id || is_sender_at (λ k. k == s.0) (with_parts S.held who old m) id)
-    unfolding any_server with_parts with_tables
+    noted_is : (m : Machine) (id : ThreadId) → noted id ≡ (second id || is_sender_at (λ k. k == s.0) (machine_at S.held who (taken old) m) id)
+    unfolding any_server machine_at
     noted_is m id = is_closed.noted m id
 
     -- a sender is a thread
     sender_known : (id : ThreadId) → is_sender_at (λ k. k == s.0) m0 id ≡ true → is_thread_id n id ≡ true
-    unfolding with_parts with_tables
+    unfolding machine_at
     sender_known id e = by_sender (get_or (messages_of at.server) place.0 place.1).sender refl place.3
       where
         at : PassingServer m0 (λ k server. (k == s.0) && list_any (is_sent_by id) (messages_of server))
@@ -236,13 +236,13 @@ module _ {W : Type 0} (S : SwapStore W) (who : ThreadId) (old : Parts W) (sound 
         by_parts false p false q false r x = absurd (false≢true x)
 
     -- .. and each is answered as by the row
-    told_so : (m : Machine) → told_to (Some who) noted ≡ destroy_answers s (with_parts S.held who old m)
-    unfolding with_parts with_tables
+    told_so : (m : Machine) → told_to (Some who) noted ≡ destroy_answers s (machine_at S.held who (taken old) m)
+    unfolding machine_at
     told_so m = λ i id. (
         ap (λ b. if b then Some (if same_thread id who then plain_words else refused_words ServerNotFound) else None) (noted_is m id)
-        ∙ told_at (same_thread id who) (is_receiver_of v.pid s (threads_of old.tables.threads) id) (is_sender_at (λ k. k == s.0) (with_parts S.held who old m) id)
+        ∙ told_at (same_thread id who) (is_receiver_of v.pid s (threads_of old.tables.threads) id) (is_sender_at (λ k. k == s.0) (machine_at S.held who (taken old) m) id)
         ∙ ap (λ b. option_or (if same_thread id who then Some plain_words else None)
-        (option_or (if is_sender_at (λ k. k == s.0) (with_parts S.held who old m) id then Some (refused_words ServerNotFound) else None)
+        (option_or (if is_sender_at (λ k. k == s.0) (machine_at S.held who (taken old) m) id then Some (refused_words ServerNotFound) else None)
         (if b then Some (refused_words ServerNotFound) else None)))
         (receiver_is id ∙ sym (receiving_shown s (threads_of old.tables.threads id)))) i
 
@@ -251,20 +251,20 @@ module _ {W : Type 0} (S : SwapStore W) (who : ThreadId) (old : Parts W) (sound 
         (count : process_count new.tables.threads ≡ n)
         (stays : Stays S old.mem new.mem)
         (now_open : AreOpen (loans (ledger S.held new.mem)) new.tables.servers new.tables.queues) where
-      ledger_left : (m : Machine) → ledger S.held new.mem ≡ end_loans (is_message_at (λ k. k == s.0) (with_parts S.held who old m)) (ledger S.held old.mem)
-      unfolding any_server with_parts with_tables
+      ledger_left : (m : Machine) → ledger S.held new.mem ≡ end_loans (is_message_at (λ k. k == s.0) (machine_at S.held who (taken old) m)) (ledger S.held old.mem)
+      unfolding any_server machine_at
       ledger_left m = is_closed.ledger m
 
       same_capacity : capacity_of new.mem ≡ capacity_of old.mem
       same_capacity = ap (λ (z : Size). capacity z.area.frames z.procs z.slots) stays.keeps.size
 
-      pub destroyed_row : (m : Machine) → IsServed (destroy_row s (with_parts S.held who old m)) (with_parts S.held who old m) (with_parts S.held who new m)
+      pub destroyed_row : (m : Machine) → IsServed (destroy_row s (machine_at S.held who (taken old) m)) (machine_at S.held who (taken old) m) (machine_at S.held who (taken new) m)
           old.tables.log new.tables.log
-      unfolding with_parts with_tables
+      unfolding machine_at
       destroyed_row m =
-          served_so (with_parts S.held who old m) (without s (with_parts S.held who old m)) (with_parts S.held who new m)
-          (destroy_answers s (with_parts S.held who old m)) (destroy_row s (with_parts S.held who old m)) old.tables.log new.tables.log
-          (destroy_is s (with_parts S.held who old m))
+          served_so (machine_at S.held who (taken old) m) (without s (machine_at S.held who (taken old) m)) (machine_at S.held who (taken new) m)
+          (destroy_answers s (machine_at S.held who (taken old) m)) (destroy_row s (machine_at S.held who (taken old) m)) old.tables.log new.tables.log
+          (destroy_is s (machine_at S.held who (taken old) m))
           (λ i. record m {
             processes = count i;
             cursor = who;
@@ -276,19 +276,20 @@ module _ {W : Type 0} (S : SwapStore W) (who : ThreadId) (old : Parts W) (sound 
           })
           (log ∙ ap (λ a. log_with (replies n a) old.tables.log) (told_so m))
 
-      pub destroyed_sound : IsSound S who new
-      unfolding with_parts with_tables
+      pub destroyed_sound : AreSound S who (taken new)
+      unfolding machine_at
       destroyed_sound = record {
         machine = record sound.machine { steps = sound.machine.steps + 1 };
         matched = still (destroyed_row sound.machine);
         mem = stays.sound;
         processes = count ∙ sound.processes ∙ sym (ap (λ (z : Size). z.procs) stays.keeps.size);
+        procs = tt;
         seats = now_open.seats;
         loans = open_loans (loans (ledger S.held new.mem)) new.tables.servers new.tables.queues now_open;
       }
         where
-          still : IsServed (destroy_row s m0) m0 (with_parts S.held who new sound.machine) old.tables.log new.tables.log
-              → Matched (with_parts S.held who new (record sound.machine { steps = sound.machine.steps + 1 }))
+          still : IsServed (destroy_row s m0) m0 (machine_at S.held who (taken new) sound.machine) old.tables.log new.tables.log
+              → Matched (machine_at S.held who (taken new) (record sound.machine { steps = sound.machine.steps + 1 }))
           still served =
               subst (λ (x : Machine). Matched (record x { steps = sound.machine.steps + 1 })) (sym served.machine) (destroyed_keeps m0 sound.matched caller_ready s)
 

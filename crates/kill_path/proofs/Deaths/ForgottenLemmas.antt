@@ -8,10 +8,9 @@ use Rattle.machine_model.specs.Ending.Ends.{dead_process}
 use Rattle.machine_model.specs.Stepping.Interrupts.{is_claim_of}
 use Rattle.process_table.specs.ProcessMap.{is_alive}
 use Rattle.process_table.specs.State.{ProcessState, dead_process as dead_state}
-use Rattle.send_path.specs.Parts.{process_of, thread_of}
+use Rattle.xk_parts.specs.Shown.{process_of, thread_of, claim_of}
 use Rattle.thread_table.specs.declared.thread.Thread.{Thread as TableThread}
 use Rattle.xk_base.specs.declared.ids.Pid.{Pid}
-use Rattle.kill_path.specs.Claims.{claim_of}
 
 pub thread_gone : (b : Bool) (o : Option TableThread) → option_map thread_of (if b then None else o) ≡ (if b then None else option_map thread_of o)
 thread_gone true o = refl

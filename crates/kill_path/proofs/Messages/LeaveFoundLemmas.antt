@@ -15,16 +15,14 @@ use Rattle.machine_model.specs.Messaging.MessageCounts.{count_in}
 use Rattle.machine_model.specs.Messaging.Messages.{is_sent_from}
 use Rattle.msg_queue.specs.Seats.{IsFirstOf, Seat, changed_at, empty_seat, is_awaited_in, is_of_number, message_of, of_number, message_place, seat_of, without_queued}
 use Rattle.msg_queue.specs.declared.held.Held.{Held}
-use Rattle.send_path.specs.Seats.{messages_at}
-use Rattle.send_path.specs.Sound.{IsLenderOf}
+use Rattle.xk_parts.specs.Seats.{messages_at}
+use Rattle.xk_parts.specs.Sound.{IsLenderOf, HasKnownSender, IsLoanFit, IsLoanFitOf}
 use Rattle.xk_base.specs.Calls.Kinds.{is_answered}
 use Rattle.xk_base.specs.Tables.Circle.{is_thread_id}
 use Rattle.xk_base.specs.declared.ids.Number.{Number}
 use Rattle.xk_base.specs.declared.ids.Pid.{Pid}
 use Rattle.xk_base.specs.declared.ids.ThreadId.{ThreadId}
-use Rattle.kill_path.specs.Ending.{HasKnownSender}
 use Rattle.kill_path.specs.Leaving.{IsLeavable, IsLoanOrphanable, IsOrphanable, alone, first_alone, is_queued, with_alone}
-use Rattle.kill_path.specs.Open.{IsLoanFit, IsLoanFitOf}
 use Rattle.kill_path.proofs.Messages.LeaveStepLemmas.{none_of, number_count}
 use Rattle.kill_path.proofs.Messages.LeavingLemmas.{found_number, placed}
 use Rattle.kill_path.proofs.Servers.OpenLemmas.{fit_endable}

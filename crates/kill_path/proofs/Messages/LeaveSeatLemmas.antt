@@ -13,8 +13,8 @@ use Rattle.machine_model.specs.Messaging.Messages.{is_sent_from}
 use Rattle.msg_queue.specs.declared.held.Held.{Held}
 use Rattle.send_path.proofs.Servers.SeatLemmas.{seat_changed, seat_is_there, seat_other}
 use Rattle.send_path.proofs.Servers.SeatSearchLemmas.{found_seat, seat_found}
-use Rattle.send_path.specs.Seats.{IsSeatOf, messages_at}
-use Rattle.send_path.specs.Sound.{AreSeatsSound}
+use Rattle.xk_parts.specs.Seats.{IsSeatOf, messages_at}
+use Rattle.xk_parts.specs.Sound.{AreSeatsSound, HasKnownSender, AreOpen, IsLoanFit}
 use Rattle.server_table.specs.ServersOf.{servers_of}
 use Rattle.server_table.specs.ServerState.{Server as TableServer, at_seat}
 use Rattle.server_table.specs.declared.table.ServerSeat.{ServerSeat}
@@ -23,9 +23,7 @@ use Rattle.xk_base.specs.declared.ids.Number.{Number}
 use Rattle.xk_base.specs.declared.ids.Pid.{Pid}
 use Rattle.xk_base.specs.declared.limits.TheConstants.{SERVER_LIMIT}
 use Rattle.kill_path.specs.Closing.{Closable}
-use Rattle.kill_path.specs.Ending.{HasKnownSender}
 use Rattle.kill_path.specs.Leaving.{AreOfOthers, IsLeavable, LeavesAlike, is_queued, standing, with_alone, without_message}
-use Rattle.kill_path.specs.Open.{AreOpen, IsLoanFit}
 use Rattle.kill_path.specs.ThreadSets.{nobody}
 use Rattle.kill_path.proofs.Messages.LeaveFoundLemmas.{can_leave, each_sent, fewer_alone, fewer_queued, found_both, found_second, found_sent, sent_count, sent_is_some}
 use Rattle.kill_path.proofs.Messages.LeaveSetLemmas.{held_alike, queued_alike}

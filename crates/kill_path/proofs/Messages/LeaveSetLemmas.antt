@@ -21,8 +21,8 @@ use Rattle.machine_model.specs.State.Servers.{messages_of}
 use Rattle.msg_queue.specs.Seats.{Seat, changed_at, is_of_number, message_of, of_number, message_place, seat_of, without_queued}
 use Rattle.msg_queue.specs.declared.held.Held.{Held}
 use Rattle.send_path.proofs.Servers.SeatLemmas.{seat_changed, seat_is_there, seat_other, server_there}
-use Rattle.send_path.specs.Parts.{server_of, server_with, servers_shown}
-use Rattle.send_path.specs.Seats.{IsSeatOf, messages_at}
+use Rattle.xk_parts.specs.Shown.{server_of, server_with, servers_shown}
+use Rattle.xk_parts.specs.Seats.{IsSeatOf, messages_at}
 use Rattle.server_table.proofs.Lemmas.{live_below, seats_differ}
 use Rattle.server_table.specs.ServersOf.{servers_of}
 use Rattle.server_table.specs.ServerState.{Server as TableServer}
@@ -35,7 +35,7 @@ use Rattle.xk_base.specs.declared.limits.TheConstants.{SERVER_LIMIT}
 use Rattle.xk_base.specs.declared.messages.Message.{Message}
 use Rattle.kill_path.specs.Closing.{Closable, closable, with_servers}
 use Rattle.kill_path.specs.Leaving.{LeavesAlike, alone, first_alone, left_by, with_alone}
-use Rattle.kill_path.specs.Open.{AreOpen}
+use Rattle.xk_parts.specs.Sound.{AreOpen}
 use Rattle.kill_path.specs.ThreadSets.{ThreadSet}
 use Rattle.kill_path.proofs.Servers.EndingLemmas.{same_back}
 use Rattle.kill_path.proofs.Messages.LeaveStepLemmas.{count_both, found_counts, most, number_count}

@@ -24,9 +24,9 @@ use Rattle.msg_queue.specs.declared.held.Held.{Held}
 use Rattle.send_path.proofs.Servers.HeldListLemmas.{of_shown, others_fail}
 use Rattle.send_path.proofs.Servers.SeatLemmas.{seat_changed, seat_is_there, seat_other, server_there}
 use Rattle.send_path.proofs.Servers.SoundLemmas.{seats_changed}
-use Rattle.send_path.specs.Parts.{server_of, server_with, servers_shown}
-use Rattle.send_path.specs.Seats.{HasLoanIfLend, IsSeatOf, messages_at}
-use Rattle.send_path.specs.Sound.{IsLenderOf}
+use Rattle.xk_parts.specs.Shown.{server_of, server_with, servers_shown}
+use Rattle.xk_parts.specs.Seats.{HasLoanIfLend, IsSeatOf, messages_at}
+use Rattle.xk_parts.specs.Sound.{IsLenderOf, HasKnownSender, AreOpen, IsLoanFit, IsLoanFitOf}
 use Rattle.server_table.proofs.Lemmas.{seats_differ}
 use Rattle.server_table.specs.ServersOf.{servers_of}
 use Rattle.server_table.specs.ServerState.{Server as TableServer}
@@ -35,9 +35,7 @@ use Rattle.xk_base.specs.declared.ids.Number.{Number}
 use Rattle.xk_base.specs.declared.ids.Place.{Place}
 use Rattle.xk_base.specs.declared.ids.ThreadId.{ThreadId}
 use Rattle.xk_base.specs.declared.messages.Message.{Message}
-use Rattle.kill_path.specs.Ending.{HasKnownSender}
 use Rattle.kill_path.specs.Leaving.{alone, first_alone, with_alone}
-use Rattle.kill_path.specs.Open.{AreOpen, IsLoanFit, IsLoanFitOf}
 use Rattle.kill_path.proofs.Messages.LeavingLemmas.{fresh_orphans}
 use Rattle.kill_path.proofs.Servers.OpenLemmas.{at_number_counted, fit_still, messages_shown, most_fewer}
 

@@ -1,6 +1,6 @@
 -- The first held message of a number: its place, and what is there once it is left alone.
 use Rattle.std.proofs.Common.{◌≡◌, ℕ, zero, suc, ◌+◌, ◌<◌, ◌≤◌, Bool, true, false, List, [], ◌∷◌, cond, length, set, Option, Some, None, refl, sym, ap, ◌∙◌, arith, inl, inr}
-use Rattle.std.specs.Prelude.{◌≢◌, IsSome, if◌then◌else◌, is_some, not, slice_get}
+use Rattle.std.specs.Prelude.{IsSome, if◌then◌else◌, is_some, not, slice_get}
 use Rattle.std.specs.List.{insert, remove}
 use Rattle.std.specs.Option.{option_and_then, option_map, option_or}
 use Rattle.std.proofs.lemmas.Bool.{false≢true}

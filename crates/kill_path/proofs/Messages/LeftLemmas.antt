@@ -14,7 +14,7 @@ use Rattle.machine_model.specs.Messaging.Messages.{is_of_number as is_message_of
 use Rattle.machine_model.specs.State.Machine.{Machine, Server}
 use Rattle.msg_queue.specs.Seats.{Seat, message_of, seat_of}
 use Rattle.msg_queue.specs.declared.held.Held.{Held}
-use Rattle.send_path.specs.Parts.{server_of, server_with, servers_shown}
+use Rattle.xk_parts.specs.Shown.{server_of, server_with, servers_shown}
 use Rattle.server_table.specs.ServersOf.{servers_of}
 use Rattle.server_table.specs.ServerState.{Server as TableServer}
 use Rattle.xk_base.specs.declared.ids.Number.{Number}

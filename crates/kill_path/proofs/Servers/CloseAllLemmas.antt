@@ -23,7 +23,7 @@ use Rattle.machine_model.specs.Messaging.Messages.{is_lend, is_lend_of, is_of_nu
 use Rattle.machine_model.specs.State.Machine.{Machine, Server}
 use Rattle.machine_model.specs.State.Servers.{is_server_of, messages_of}
 use Rattle.msg_queue.specs.Seats.{empty_seat, used_of}
-use Rattle.send_path.specs.Parts.{server_of, servers_shown}
+use Rattle.xk_parts.specs.Shown.{server_of, servers_shown}
 use Rattle.server_table.proofs.Lemmas.{live_below}
 use Rattle.server_table.specs.ServersOf.{servers_of}
 use Rattle.server_table.specs.ServerState.{Server as TableServer}
@@ -34,7 +34,7 @@ use Rattle.xk_base.specs.declared.ids.Pid.{Pid}
 use Rattle.xk_base.specs.declared.ids.Place.{Place}
 use Rattle.xk_base.specs.declared.messages.Message.{Message}
 use Rattle.kill_path.specs.Closing.{AreClosed, Closable, with_servers}
-use Rattle.kill_path.specs.Open.{AreOpen, AreServersSound}
+use Rattle.xk_parts.specs.Sound.{AreOpen, AreServersSound}
 use Rattle.kill_path.proofs.Servers.CloseLemmas.{both_closed, nothing_closed, owned}
 use Rattle.kill_path.proofs.Servers.OpenLemmas.{ended_same}
 

@@ -14,7 +14,7 @@ use Rattle.machine_model.specs.State.Machine.{Machine, Server}
 use Rattle.machine_model.specs.State.Servers.{is_server_of, messages_of}
 use Rattle.msg_queue.specs.Seats.{Seat}
 use Rattle.send_path.proofs.Servers.MachineLemmas.{same_owner_test}
-use Rattle.send_path.specs.Parts.{servers_shown}
+use Rattle.xk_parts.specs.Shown.{servers_shown}
 use Rattle.server_table.proofs.Lemmas.{live_below}
 use Rattle.server_table.specs.ServersOf.{servers_of}
 use Rattle.server_table.specs.ServerState.{Server as TableServer, is_of, least_of}

@@ -22,12 +22,13 @@ use Rattle.machine_model.specs.Messaging.Messages.{is_of_number as is_message_of
 use Rattle.msg_queue.specs.Seats.{Seat, changed_at, is_of_number, message_of, seat_of, of_number as first_of_number, message_place, without_held_at, without_queued_at}
 use Rattle.msg_queue.specs.declared.held.Held.{Held}
 use Rattle.send_path.proofs.Servers.SeatLemmas.{changed_twice, seat_changed, seats_counted}
-use Rattle.send_path.specs.Seats.{messages_at}
+use Rattle.xk_parts.specs.Seats.{messages_at}
 use Rattle.xk_base.specs.Tables.Circle.{same_thread}
 use Rattle.xk_base.specs.declared.ids.Number.{Number}
 use Rattle.xk_base.specs.declared.ids.ThreadId.{ThreadId}
 use Rattle.xk_base.specs.declared.messages.Message.{Message}
-use Rattle.kill_path.specs.Ending.{AreEndable, HasKnownSender, IsEndable, IsLoanEndable, emptied, is_number_in, with_sender, with_senders, without_first, without_first_of}
+use Rattle.kill_path.specs.Ending.{AreEndable, IsEndable, IsLoanEndable, emptied, is_number_in, with_sender, with_senders, without_first, without_first_of}
+use Rattle.xk_parts.specs.Sound.{HasKnownSender}
 use Rattle.kill_path.specs.ThreadSets.{ThreadSet}
 
 -- ---- loans

@@ -23,9 +23,9 @@ use Rattle.machine_model.specs.State.Servers.{messages_of}
 use Rattle.msg_queue.specs.Seats.{Seat, changed_at, empty_seat, message_of, seat_of}
 use Rattle.msg_queue.specs.declared.held.Held.{Held}
 use Rattle.send_path.proofs.Servers.SeatLemmas.{seat_changed, seat_is_there, seat_other, seats_counted, server_there}
-use Rattle.send_path.specs.Parts.{server_of, server_with, servers_shown}
-use Rattle.send_path.specs.Seats.{HasLoanIfLend, HasNoServer, IsSeatOf, messages_at}
-use Rattle.send_path.specs.Sound.{AreSeatsSound}
+use Rattle.xk_parts.specs.Shown.{server_of, server_with, servers_shown}
+use Rattle.xk_parts.specs.Seats.{HasLoanIfLend, HasNoServer, IsSeatOf, messages_at}
+use Rattle.xk_parts.specs.Sound.{AreSeatsSound, HasKnownSender, AreOpen, IsLoanFit, IsLoanFitOf}
 use Rattle.server_table.proofs.Lemmas.{live_below, seats_differ}
 use Rattle.server_table.specs.ServersOf.{servers_of}
 use Rattle.server_table.specs.ServerState.{Server as TableServer, ServerState, without_server}
@@ -36,8 +36,7 @@ use Rattle.xk_base.specs.declared.ids.ThreadId.{ThreadId}
 use Rattle.xk_base.specs.declared.limits.TheConstants.{SERVER_LIMIT}
 use Rattle.xk_base.specs.declared.messages.Message.{Message}
 use Rattle.kill_path.specs.Closing.{AreClosed, Closable, closable, with_servers}
-use Rattle.kill_path.specs.Ending.{AreEndable, HasKnownSender, IsEndable, IsLoanEndable, emptied, is_number_in, with_senders}
-use Rattle.kill_path.specs.Open.{AreOpen, IsLoanFit, IsLoanFitOf}
+use Rattle.kill_path.specs.Ending.{AreEndable, IsEndable, IsLoanEndable, emptied, is_number_in, with_senders}
 
 -- ---- loans of other numbers
 

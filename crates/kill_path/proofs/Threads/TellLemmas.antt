@@ -11,7 +11,7 @@ use Rattle.machine_model.specs.State.Machine.{Thread}
 use Rattle.machine_model.specs.State.Threads.{Answers, answer_to, with_answer}
 use Rattle.machine_model.specs.Stepping.Step.{record_of}
 use Rattle.send_path.specs.Rows.{log_with}
-use Rattle.send_path.specs.Threads.{ThreadMap, answered}
+use Rattle.xk_parts.specs.Threads.{ThreadMap, answered}
 use Rattle.xk_base.proofs.CircleLemmas.{id_at-place_of, place_of-bound, place_of-id_at}
 use Rattle.xk_base.proofs.CountingLemmas.{count_below-bound, length-listed_below}
 use Rattle.xk_base.specs.Log.{LogState}

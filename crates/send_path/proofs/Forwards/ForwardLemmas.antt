@@ -25,7 +25,6 @@ use Rattle.process_table.specs.ProcessesOf.{processes_of}
 use Rattle.process_table.specs.State.{ProcessState}
 use Rattle.process_table.specs.declared.table.Processes.{Processes}
 use Rattle.server_table.specs.ServersOf.{servers_of}
-use Rattle.sv32_space.specs.Tie.{Held as HeldBytes}
 use Rattle.syscall_codec.specs.Calls.{Asks}
 use Rattle.syscall_codec.specs.declared.calls.Call.TheVariants.{ForwardMessage}
 use Rattle.thread_table.specs.ThreadMap.{is_ready as is_table_ready, receiver as table_receiver}
@@ -44,12 +43,12 @@ use Rattle.xk_base.specs.declared.limits.TheConstants.{MESSAGE_LIMIT}
 use Rattle.xk_base.specs.declared.messages.Message.{Message}
 use Rattle.xk_base.specs.declared.windows.Window.TheVariants.{Message as MessageWindow}
 use Rattle.send_path.specs.Arrivals.{IsReached, IsUnreached, arrival_answers, with_arrived}
-use Rattle.send_path.specs.Forwarding.{forward_row, with_all, with_processes}
-use Rattle.send_path.specs.Parts.{Parts, process_of, server_of, server_with, servers_shown, threads_shown, with_parts, with_tables}
+use Rattle.send_path.specs.Forwarding.{forward_row}
+use Rattle.send_path.proofs.Taken.{with_processes, CallParts, taken}
+use Rattle.xk_parts.specs.Shown.{process_of, server_of, server_with, servers_shown, threads_shown}
 use Rattle.send_path.specs.Rows.{IsServed, log_with, table_row}
 use Rattle.send_path.specs.Seats.{IsHeldAt}
-use Rattle.send_path.specs.Sound.{IsSound}
-use Rattle.send_path.specs.Threads.{answered, changed_thread}
+use Rattle.xk_parts.specs.Threads.{answered, changed_thread}
 use Rattle.send_path.specs.declared.holding.HeldAt.{HeldAt}
 use Rattle.send_path.specs.declared.seats.Reached.{Reached}
 use Rattle.send_path.proofs.Sends.ArriveLemmas.{receiver_alike}
@@ -58,6 +57,8 @@ use Rattle.send_path.proofs.Rows.RowLemmas.{served_so}
 use Rattle.send_path.proofs.Servers.SeatLemmas.{seats_counted, server_changed, server_there}
 use Rattle.send_path.proofs.Sends.SendRowLemmas.{arrived_shown}
 use Rattle.send_path.proofs.Sends.SentLemmas.{arrival_shown}
+use Rattle.xk_parts.specs.Parts.{machine_at}
+use Rattle.xk_parts.specs.Sound.{AreSound}
 
 and_assoc : (a b c : Bool) → ((a && b) && c) ≡ (a && (b && c))
 and_assoc true b c = refl
@@ -76,16 +77,16 @@ abbrev refused_by : Bool → Bool → Bool → Bool → Outcome → Outcome
 refused_by a b c d outcome =
     refused_or (if a then Some DoubleFree else (if b then Some ServerNotFound else (if c then Some InvalidSyscall else (if d then Some ServerQueueFull else None)))) outcome
 
-module _ {W : Type 0} (S : SwapStore W) (procs : Processes) (who : ThreadId) (old : Parts W)
-    (sound : IsSound S who old) (ready : is_table_ready (threads_of old.tables.threads who) ≡ true) (number : Number) (cid : ℕ) where
+module _ {W : Type 0} (S : SwapStore W) (procs : Processes) (who : ThreadId) (old : CallParts W)
+    (sound : AreSound S who (taken old)) (ready : is_table_ready (threads_of old.tables.threads who) ≡ true) (number : Number) (cid : ℕ) where
   abbrev seats : List Seat
   seats = old.tables.queues
 
   abbrev m0 : Machine
-  m0 = with_parts S.held who old sound.machine
+  m0 = machine_at S.held who (taken old) sound.machine
 
   abbrev all : Machine → Machine
-  all m = with_all S.held who procs old m
+  all m = machine_at S.held who (taken old) (with_processes procs m)
 
   abbrev own : List Serial
   own = connections_of (processes_of procs who.pid.0)
@@ -104,7 +105,7 @@ module _ {W : Type 0} (S : SwapStore W) (procs : Processes) (who : ThreadId) (ol
   from_is m = ap (holder_of (all m)) same_test ∙ holder_alike S who old sound ready number (with_processes procs m) test
 
   to_is : (m : Machine) → passed_to (all m) cid ≡ connected_to own cid
-  unfolding with_parts with_tables
+  unfolding machine_at
   to_is m = ap (λ cs. connected_to cs cid) (own_connections_are (processes_of procs who.pid.0))
 
   abbrev rest : Machine → Outcome
@@ -120,7 +121,7 @@ module _ {W : Type 0} (S : SwapStore W) (procs : Processes) (who : ThreadId) (ol
   -- ---- the connection leads to no live server
 
   unreached_at : IsUnreached own cid (servers_of old.tables.servers) → (m : Machine) → server_at (all m) cid ≡ None
-  unfolding with_parts with_tables
+  unfolding machine_at
   unreached_at none m = ap (option_and_then (λ (serial : Serial). (all m).servers serial.0)) (to_is m) ∙ go (connected_to own cid) refl
     where
       go : (o : Option Serial) → connected_to own cid ≡ o → option_and_then (λ (serial : Serial). servers_shown old.tables.servers seats serial.0) o ≡ None
@@ -151,7 +152,7 @@ module _ {W : Type 0} (S : SwapStore W) (procs : Processes) (who : ThreadId) (ol
     to_there m = to_is m ∙ there.connected
 
     server_is : (m : Machine) → server_at (all m) cid ≡ Some b
-    unfolding with_parts with_tables
+    unfolding machine_at
     server_is m =
         ap (option_and_then (λ (serial : Serial). (all m).servers serial.0)) (to_there m)
         ∙ server_there old.tables.servers seats to.serial.0 to.seat there.seat sound.seats.all
@@ -206,7 +207,7 @@ module _ {W : Type 0} (S : SwapStore W) (procs : Processes) (who : ThreadId) (ol
         run_found = least_run (processes old.mem) (ledger S.held old.mem) to.pid MessageWindow x.count
 
         arrival_is : (m : Machine) → next_arrival (all m) number cid ≡ run_found
-        unfolding next_arrival with_parts with_tables
+        unfolding next_arrival machine_at
         arrival_is m =
             (λ i. option_and_then (message_run (all m) (option_map_or (λ (message : Message). message.count) (passable_there m i) 0)) (server_is m i))
             ∙ (λ i. least_run (sound.processes i) (ledger S.held old.mem) (there.own i) MessageWindow x.count)
@@ -229,7 +230,7 @@ module _ {W : Type 0} (S : SwapStore W) (procs : Processes) (who : ThreadId) (ol
           got = table_receiver (process_count old.tables.threads) to.serial (threads_of old.tables.threads)
 
           receives : (m : Machine) → receiver (all m) to.serial ≡ got
-          unfolding receiver with_parts with_tables
+          unfolding receiver machine_at
           receives m = receiver_alike who old.tables (with_processes procs m) to.serial
 
           abbrev pub y : Message
@@ -255,7 +256,7 @@ module _ {W : Type 0} (S : SwapStore W) (procs : Processes) (who : ThreadId) (ol
           its_number = message_number S who old sound ready number at its
 
           places_are : (m : Machine) → pass x.number (held_place (all m) x) (passed_place (all m) cid first) (all m).ledger ≡ l
-          unfolding with_parts with_tables
+          unfolding machine_at
           places_are m =
               λ i. pass (its_number i) (record { pid = who.pid; vpn = x.first })
               (record { pid = (ap (λ o. option_map_or (λ (server : Server). server.pid) o who.pid) (server_is m) ∙ there.own) i; vpn = first }) (ledger S.held old.mem)
@@ -267,7 +268,7 @@ module _ {W : Type 0} (S : SwapStore W) (procs : Processes) (who : ThreadId) (ol
           by_receiver (Some id) m = refl
 
           change_is : (m : Machine) → forward_served (all m) number cid (Some first) ≡ answering told (next m)
-          unfolding with_parts with_tables
+          unfolding machine_at
           change_is m =
               ap (forward_served_if (all m) number cid first) (passable_there m)
               ∙ (λ i. passed_message (all m) cid first (unwrap_or (from_there m i) (serial_of 0)) (unwrap_or (to_there m i) (serial_of 0)) x)
@@ -277,7 +278,7 @@ module _ {W : Type 0} (S : SwapStore W) (procs : Processes) (who : ThreadId) (ol
           -- ---- the outcome
 
           -- the message was passed on
-          pub record PassedOn (h : Held) (new : Parts W) : Type 0 where
+          pub record PassedOn (h : Held) (new : CallParts W) : Type 0 where
             pub message : h.msg ≡ y
             pub threads : threads_shown new.tables.threads
                 ≡ answered (arrival_answers got h.msg None who) (changed_thread who passed (threads_shown old.tables.threads))
@@ -288,7 +289,7 @@ module _ {W : Type 0} (S : SwapStore W) (procs : Processes) (who : ThreadId) (ol
             pub capacity : capacity_of new.mem ≡ capacity_of old.mem
             pub ledger : ledger S.held new.mem ≡ l
 
-          module _ (h : Held) (new : Parts W) (p : PassedOn h new) where
+          module _ (h : Held) (new : CallParts W) (p : PassedOn h new) where
             abbrev between : List Seat
             between = changed_at at.seat (without_held_at number) seats
 
@@ -308,10 +309,10 @@ module _ {W : Type 0} (S : SwapStore W) (procs : Processes) (who : ThreadId) (ol
                 ∙ (λ i. put_at nat_eq (left_is i) to.serial.0 (option_map (arrived_shown got (p.message i)) (left_is i to.serial.0)))
 
             pub passed_on : (m : Machine)
-                → IsServed (forward_row number cid (all m)) (all m) (with_all S.held who procs new m) old.tables.log new.tables.log
-            unfolding with_parts with_tables
+                → IsServed (forward_row number cid (all m)) (all m) (machine_at S.held who (taken new) (with_processes procs m)) old.tables.log new.tables.log
+            unfolding machine_at
             passed_on m =
-                served_so (all m) (next m) (with_all S.held who procs new m) told (forward_row number cid (all m)) old.tables.log new.tables.log
+                served_so (all m) (next m) (machine_at S.held who (taken new) (with_processes procs m)) told (forward_row number cid (all m)) old.tables.log new.tables.log
                 (row_served m ∙ ap Served (change_is m))
                 (λ i. record (with_processes procs m) {
                   processes = p.counted i;

@@ -24,7 +24,6 @@ use Rattle.process_table.specs.ProcessesOf.{processes_of}
 use Rattle.process_table.specs.declared.table.Processes.{Processes}
 use Rattle.server_table.proofs.Lemmas.{seats_differ}
 use Rattle.server_table.specs.ServersOf.{servers_of}
-use Rattle.sv32_space.specs.Tie.{Held as HeldBytes}
 use Rattle.thread_table.specs.ThreadMap.{is_ready as is_table_ready}
 use Rattle.thread_table.specs.ThreadsOf.{threads_of}
 use Rattle.vm_memory.specs.Memory.{ledger}
@@ -36,11 +35,13 @@ use Rattle.xk_base.specs.declared.limits.TheConstants.{MESSAGE_LIMIT, SERVER_LIM
 use Rattle.xk_base.specs.declared.messages.Message.{Message}
 use Rattle.xk_base.specs.declared.pages.LoanKind.{LoanKind}
 use Rattle.send_path.specs.Arrivals.{IsReached, with_arrived}
-use Rattle.send_path.specs.Forwarding.{forward_row, with_all, with_processes}
-use Rattle.send_path.specs.Parts.{Parts, server_with, with_parts, with_tables}
+use Rattle.send_path.specs.Forwarding.{forward_row}
+use Rattle.send_path.proofs.Taken.{CallParts, over, with_processes, taken}
+use Rattle.xk_parts.specs.Shown.{server_with}
 use Rattle.send_path.specs.Rows.{IsServed}
-use Rattle.send_path.specs.Seats.{HasLoanIfLend, IsHeldAt}
-use Rattle.send_path.specs.Sound.{AreLoansSound, AreSeatsSound, IsLenderOf, IsLoanOf, IsSound, IsSoundOver}
+use Rattle.xk_parts.specs.Seats.{HasLoanIfLend}
+use Rattle.send_path.specs.Seats.{IsHeldAt}
+use Rattle.xk_parts.specs.Sound.{AreLoansSound, AreSeatsSound, AreSound, IsLenderOf, IsLoanOf}
 use Rattle.send_path.specs.declared.holding.HeldAt.{HeldAt}
 use Rattle.send_path.specs.declared.seats.Reached.{Reached}
 use Rattle.send_path.proofs.Forwards.ForwardLemmas.{goes_on}
@@ -48,7 +49,8 @@ use Rattle.send_path.proofs.Servers.HeldListLemmas.{find_shown}
 use Rattle.send_path.proofs.Receivers.ReturnLemmas.{its_loan, loan_number, loans_left, seats_left, shown}
 use Rattle.send_path.proofs.Servers.SeatLemmas.{seat_other, seats_counted, server_there}
 use Rattle.send_path.proofs.Sends.SentSoundLemmas.{arrived_seats, loans_arrived}
-use Rattle.send_path.proofs.Rows.ThreadLemmas.{ready_there}
+use Rattle.xk_parts.proofs.ThreadLemmas.{ready_there}
+use Rattle.xk_parts.specs.Parts.{machine_at}
 
 -- the loan of another number stands when this one is passed on
 passed_stand : (l : Ledger) (number : Number) (from to : Place) (run : LoanRun) → same_number run.number number ≡ false → Stands (loans l) run
@@ -63,37 +65,38 @@ stood_on {l} {m} {r} {q} e f h = subst (λ k. Stands (loans k) q) e (subst (Stan
 
 -- ---- matched still
 
-module _ {W : Type 0} (S : SwapStore W) (who : ThreadId) (procs : Processes) (old : Parts W)
-    (sound : IsSoundOver S who procs old) (ready : is_table_ready (threads_of old.tables.threads who) ≡ true)
+module _ {W : Type 0} (S : SwapStore W) (who : ThreadId) (procs : Processes) (old : CallParts W)
+    (sound : AreSound S who (over procs old)) (ready : is_table_ready (threads_of old.tables.threads who) ≡ true)
     (number : Number) (cid : ℕ) where
   abbrev m0 : Machine
-  m0 = sound.sound.machine
+  m0 = with_processes procs sound.machine
 
-  matched_over : Matched (with_all S.held who procs old m0)
-  matched_over = subst Matched (λ i. with_parts S.held who old (record m0 { process = sound.same i })) sound.sound.matched
+  matched_over : Matched (machine_at S.held who (taken old) (with_processes procs m0))
+  unfolding machine_at
+  matched_over = sound.matched
 
-  forward_row_keeps : Keeps (with_all S.held who procs old m0) (forward_row number cid (with_all S.held who procs old m0))
-  unfolding forward_call with_parts with_tables
+  forward_row_keeps : Keeps (machine_at S.held who (taken old) (with_processes procs m0)) (forward_row number cid (machine_at S.held who (taken old) (with_processes procs m0)))
+  unfolding forward_call machine_at
   forward_row_keeps =
-      forward_keeps (with_all S.held who procs old m0) (0 ∷ number.0 ∷ cid ∷ []) matched_over (ready_there (threads_of old.tables.threads who) ready)
+      forward_keeps (machine_at S.held who (taken old) (with_processes procs m0)) (0 ∷ number.0 ∷ cid ∷ []) matched_over (ready_there (threads_of old.tables.threads who) ready)
 
-  pub still_matched : (new : Parts W)
-      → IsServed (forward_row number cid (with_all S.held who procs old m0)) (with_all S.held who procs old m0) (with_all S.held who procs new m0) old.tables.log new.tables.log
-      → Matched (with_parts S.held who new (record (with_processes procs m0) { steps = m0.steps + 1 }))
-  unfolding with_parts with_tables
+  pub still_matched : (new : CallParts W)
+      → IsServed (forward_row number cid (machine_at S.held who (taken old) (with_processes procs m0))) (machine_at S.held who (taken old) (with_processes procs m0)) (machine_at S.held who (taken new) (with_processes procs m0)) old.tables.log new.tables.log
+      → Matched (machine_at S.held who (taken new) (record (with_processes procs m0) { steps = m0.steps + 1 }))
+  unfolding machine_at
   still_matched new served = subst (λ (x : Machine). Matched (record x { steps = m0.steps + 1 })) (sym served.machine) forward_row_keeps
 
 -- ---- the message and the two servers
 
-module _ {W : Type 0} (S : SwapStore W) (procs : Processes) (who : ThreadId) (old : Parts W)
-    (sound : IsSound S who old) (ready : is_table_ready (threads_of old.tables.threads who) ≡ true) (number : Number)
+module _ {W : Type 0} (S : SwapStore W) (procs : Processes) (who : ThreadId) (old : CallParts W)
+    (sound : AreSound S who (taken old)) (ready : is_table_ready (threads_of old.tables.threads who) ≡ true) (number : Number)
     (at : HeldAt) (its : IsHeldAt who.pid number (servers_of old.tables.servers) old.tables.queues at) (can : goes_on at.message ≡ true)
     (cid : ℕ) (to : Reached) (there : IsReached (connections_of (processes_of procs who.pid.0)) cid (servers_of old.tables.servers) to) where
   abbrev seats : List Seat
   seats = old.tables.queues
 
   abbrev all : Machine
-  all = with_parts S.held who old sound.machine
+  all = machine_at S.held who (taken old) sound.machine
 
   abbrev x : Message
   x = at.message
@@ -102,7 +105,7 @@ module _ {W : Type 0} (S : SwapStore W) (procs : Processes) (who : ThreadId) (ol
   a = server_with (seat_of seats at.seat) its.seat.server
 
   from_live : all.servers at.serial.0 ≡ Some a
-  unfolding with_parts with_tables
+  unfolding machine_at
   from_live = server_there old.tables.servers seats at.serial.0 at.seat its.seat sound.seats.all
 
   parts : (is_lend x.kind ≡ true) × (is_some x.sender ≡ true)

@@ -31,18 +31,20 @@ use Rattle.xk_base.specs.declared.ids.Sid.{Sid}
 use Rattle.xk_base.specs.declared.ids.ThreadId.{ThreadId}
 use Rattle.xk_base.specs.declared.messages.Message.{Message}
 use Rattle.xk_base.specs.declared.records.What.TheVariants.{Reply}
-use Rattle.send_path.specs.Parts.{Tables, server_with, servers_shown, threads_shown, with_tables}
+use Rattle.send_path.proofs.Taken.{CallTables, without_memory}
+use Rattle.xk_parts.specs.Shown.{server_with, servers_shown, threads_shown}
 use Rattle.send_path.specs.Rows.{IsServed, log_with, receive_row}
-use Rattle.send_path.specs.Seats.{HasLoanIfLend, IsSeatOf, own_serial}
-use Rattle.send_path.specs.Sound.{AreLoansAt, AreLoansSound, AreSeatsSound, AreTablesSound, IsLoanOf}
-use Rattle.send_path.specs.Threads.{answered, changed_thread}
+use Rattle.xk_parts.specs.Seats.{HasLoanIfLend, IsSeatOf, own_serial}
+use Rattle.xk_parts.specs.Sound.{AreLoansAt, AreLoansSound, AreSeatsSound, IsLoanOf, AreSound}
+use Rattle.xk_parts.specs.Threads.{answered, changed_thread}
 use Rattle.send_path.proofs.Servers.MachineLemmas.{IsOwn, not_own, own_found}
 use Rattle.send_path.proofs.Rows.ReplyLemmas.{no_reply, one_reply}
 use Rattle.send_path.proofs.Rows.RowLemmas.{first_passes, first_refuses, served_so}
 use Rattle.send_path.proofs.Servers.SeatLemmas.{changed_twice, oldest_left, one_more, server_changed, server_there}
 use Rattle.send_path.proofs.Sends.SentSoundLemmas.{loans_changed}
 use Rattle.send_path.proofs.Servers.SoundLemmas.{seats_changed, taken, taken_all}
-use Rattle.send_path.proofs.Rows.ThreadLemmas.{ready_there, unanswered}
+use Rattle.xk_parts.proofs.ThreadLemmas.{ready_there, unanswered}
+use Rattle.xk_parts.specs.Parts.{machine_at, no_store}
 
 -- ---- at a seat
 
@@ -70,11 +72,11 @@ taken_from seats mid new k h low took kept = go (is_answered h.msg.kind) kept
 
 -- ---- the row
 
-module _ (who : ThreadId) (old : Tables) (sid : Sid) (wait : Bool) where
+module _ (who : ThreadId) (old : CallTables) (sid : Sid) (wait : Bool) where
   module _ (none : own_serial who.pid sid (servers_of old.servers) ≡ None) where
-    pub not_found : (m : Machine) → receive_row sid wait (with_tables who old m) ≡ Refused ServerNotFound
+    pub not_found : (m : Machine) → receive_row sid wait (machine_at no_store.held who (without_memory old) m) ≡ Refused ServerNotFound
     not_found m =
-        let all : Machine = with_tables who old m in
+        let all : Machine = machine_at no_store.held who (without_memory old) m in
         first_refuses (not (is_own all (with_sid all sid))) ServerNotFound
         (Served (if wait then receive_served all sid else try_receive_served all sid))
         (ap not (not_own who old m sid none))
@@ -83,7 +85,7 @@ module _ (who : ThreadId) (old : Tables) (sid : Sid) (wait : Bool) where
       (its : IsSeatOf (servers_of old.servers) serial.0 k) (count : length old.queues ≡ 64) where
     module _ (m : Machine) where
       abbrev all : Machine
-      all = with_tables who old m
+      all = machine_at no_store.held who (without_memory old) m
 
       own : IsOwn who old m sid serial
       own = own_found who old m sid serial found
@@ -99,7 +101,7 @@ module _ (who : ThreadId) (old : Tables) (sid : Sid) (wait : Bool) where
           ∙ ap Served e
 
       its_oldest : oldest_queued all serial ≡ option_map message_of (slice_get (seat_of old.queues k).queued 0)
-      unfolding with_tables
+      unfolding machine_at
       its_oldest =
           ap (option_and_then (λ (server : Server). oldest server.queued)) (server_there old.servers old.queues serial.0 k its count)
           ∙ oldest_shown (seat_of old.queues k).queued
@@ -110,7 +112,7 @@ module _ (who : ThreadId) (old : Tables) (sid : Sid) (wait : Bool) where
       -- both calls differ only where no message is queued
       served_is : (o : Option Message) → oldest_queued all serial ≡ o
           → (if wait then receive_served all sid else try_receive_served all sid) ≡ received all serial o otherwise
-      unfolding with_tables
+      unfolding machine_at
       served_is o e = go wait
         where
           go : (b : Bool) → (if b then receive_served all sid else try_receive_served all sid)
@@ -124,7 +126,7 @@ module _ (who : ThreadId) (old : Tables) (sid : Sid) (wait : Bool) where
 
     -- ---- a message is queued
 
-    module _ (h : Held) (first : slice_get (seat_of old.queues k).queued 0 ≡ Some h) (new : Tables) where
+    module _ (h : Held) (first : slice_get (seat_of old.queues k).queued 0 ≡ Some h) (new : CallTables) where
       pub record TookMessage : Type 0 where
         pub threads : threads_shown new.threads ≡ answered (answer_to who (message_words h.msg)) (changed_thread who passed (threads_shown old.threads))
         pub procs : process_count new.threads ≡ process_count old.threads
@@ -134,10 +136,10 @@ module _ (who : ThreadId) (old : Tables) (sid : Sid) (wait : Bool) where
         pub id : is_thread_id (process_count old.threads) who ≡ true
 
       pub message_got : TookMessage → (m : Machine)
-          → IsServed (receive_row sid wait (with_tables who old m)) (with_tables who old m) (with_tables who new m) old.log new.log
-      unfolding with_tables
+          → IsServed (receive_row sid wait (machine_at no_store.held who (without_memory old) m)) (machine_at no_store.held who (without_memory old) m) (machine_at no_store.held who (without_memory new) m) old.log new.log
+      unfolding machine_at
       message_got t m =
-          served_so (all m) next (with_tables who new m) (answer_to who (message_words h.msg)) (receive_row sid wait (all m)) old.log new.log
+          served_so (all m) next (machine_at no_store.held who (without_memory new) m) (answer_to who (message_words h.msg)) (receive_row sid wait (all m)) old.log new.log
           (row_is m (answering (answer_to who (message_words h.msg)) next)
           (served_is m (Some h.msg) (its_oldest m ∙ ap (option_map message_of) first)))
           (λ i. record m {
@@ -165,15 +167,15 @@ module _ (who : ThreadId) (old : Tables) (sid : Sid) (wait : Bool) where
 
     -- ---- none is queued
 
-    module _ (none : slice_get (seat_of old.queues k).queued 0 ≡ None) (new : Tables) (queues : new.queues ≡ old.queues)
+    module _ (none : slice_get (seat_of old.queues k).queued 0 ≡ None) (new : CallTables) (queues : new.queues ≡ old.queues)
         (servers : new.servers ≡ old.servers) (procs : process_count new.threads ≡ process_count old.threads) where
       pub waited : wait ≡ true
           → threads_shown new.threads ≡ changed_thread who passed (changed_thread who (with_state (Receiving serial)) (threads_shown old.threads))
           → new.log ≡ old.log → (m : Machine)
-          → IsServed (receive_row sid wait (with_tables who old m)) (with_tables who old m) (with_tables who new m) old.log new.log
-      unfolding with_tables
+          → IsServed (receive_row sid wait (machine_at no_store.held who (without_memory old) m)) (machine_at no_store.held who (without_memory old) m) (machine_at no_store.held who (without_memory new) m) old.log new.log
+      unfolding machine_at
       waited waits threads log m =
-          served_so (all m) next (with_tables who new m) no_answers (receive_row sid wait (all m)) old.log new.log
+          served_so (all m) next (machine_at no_store.held who (without_memory new) m) no_answers (receive_row sid wait (all m)) old.log new.log
           (row_is m (only next)
           (served_is m None (its_oldest m ∙ ap (option_map message_of) none)
           ∙ ap (λ b. if b then waits_at serial (all m) else answering (answer_to who plain_words) (all m)) waits))
@@ -195,10 +197,10 @@ module _ (who : ThreadId) (old : Tables) (sid : Sid) (wait : Bool) where
       pub told_none : wait ≡ false
           → threads_shown new.threads ≡ answered (answer_to who plain_words) (changed_thread who passed (threads_shown old.threads))
           → new.log ≡ log_with (Reply who plain_words ∷ []) old.log → is_thread_id (process_count old.threads) who ≡ true → (m : Machine)
-          → IsServed (receive_row sid wait (with_tables who old m)) (with_tables who old m) (with_tables who new m) old.log new.log
-      unfolding with_tables
+          → IsServed (receive_row sid wait (machine_at no_store.held who (without_memory old) m)) (machine_at no_store.held who (without_memory old) m) (machine_at no_store.held who (without_memory new) m) old.log new.log
+      unfolding machine_at
       told_none waits threads log id m =
-          served_so (all m) (all m) (with_tables who new m) (answer_to who plain_words) (receive_row sid wait (all m)) old.log new.log
+          served_so (all m) (all m) (machine_at no_store.held who (without_memory new) m) (answer_to who plain_words) (receive_row sid wait (all m)) old.log new.log
           (row_is m (answering (answer_to who plain_words) (all m))
           (served_is m None (its_oldest m ∙ ap (option_map message_of) none)
           ∙ ap (λ b. if b then waits_at serial (all m) else answering (answer_to who plain_words) (all m)) waits))
@@ -214,23 +216,23 @@ module _ (who : ThreadId) (old : Tables) (sid : Sid) (wait : Bool) where
 -- ---- the parts stay sound
 
 -- the machine that the parts stand for afterwards is matched, where it is what comes of the call
-pub still_matched : (who : ThreadId) (old new : Tables) (sid : Sid) (wait : Bool) (m : Machine) → Matched (with_tables who old m)
+pub still_matched : (who : ThreadId) (old new : CallTables) (sid : Sid) (wait : Bool) (m : Machine) → Matched (machine_at no_store.held who (without_memory old) m)
     → is_table_ready (threads_of old.threads who) ≡ true → (wait && (who.tid.0 == 1)) ≡ false
-    → IsServed (receive_row sid wait (with_tables who old m)) (with_tables who old m) (with_tables who new m) old.log new.log
-    → Matched (with_tables who new (record m { steps = m.steps + 1 }))
-unfolding with_tables
+    → IsServed (receive_row sid wait (machine_at no_store.held who (without_memory old) m)) (machine_at no_store.held who (without_memory old) m) (machine_at no_store.held who (without_memory new) m) old.log new.log
+    → Matched (machine_at no_store.held who (without_memory new) (record m { steps = m.steps + 1 }))
+unfolding machine_at
 still_matched who old new sid wait m h ready above served =
     subst (λ (x : Machine). Matched (record x { steps = m.steps + 1 })) (sym served.machine) (go wait above)
   where
-    is_ready : ready_at (with_tables who old m) who ≡ true
+    is_ready : ready_at (machine_at no_store.held who (without_memory old) m) who ≡ true
     is_ready = ready_there (threads_of old.threads who) ready
 
-    go : (b : Bool) → (b && (who.tid.0 == 1)) ≡ false → Keeps (with_tables who old m) (receive_row sid b (with_tables who old m))
-    go true e = receive_named_keeps (with_tables who old m) h is_ready sid e
-    go false e = try_receive_named_keeps (with_tables who old m) h is_ready sid
+    go : (b : Bool) → (b && (who.tid.0 == 1)) ≡ false → Keeps (machine_at no_store.held who (without_memory old) m) (receive_row sid b (machine_at no_store.held who (without_memory old) m))
+    go true e = receive_named_keeps (machine_at no_store.held who (without_memory old) m) h is_ready sid e
+    go false e = try_receive_named_keeps (machine_at no_store.held who (without_memory old) m) h is_ready sid
 
 -- .. and the seats are sound
-pub taken_sound : (who : ThreadId) (old : Tables) (serial k : ℕ) (h : Held) → AreTablesSound who old → IsSeatOf (servers_of old.servers) serial k
+pub taken_sound : (who : ThreadId) (old : CallTables) (serial k : ℕ) (h : Held) → AreSound no_store who (without_memory old) → IsSeatOf (servers_of old.servers) serial k
     → slice_get (seat_of old.queues k).queued 0 ≡ Some h → AreSeatsSound (servers_of old.servers) (changed_at k (taken h) old.queues)
 taken_sound who old serial k h sound its first =
     seats_changed old.servers old.queues serial k sound.seats its (taken h)

@@ -55,11 +55,13 @@ use Rattle.xk_base.specs.declared.ids.ThreadId.{ThreadId}
 use Rattle.xk_base.specs.declared.messages.Message.{Message}
 use Rattle.xk_base.specs.declared.messages.MsgKind.{MsgKind}
 use Rattle.xk_base.specs.declared.messages.MsgKind.TheVariants.{LendMut, Lend, Move, Scalar, BlockingScalar}
-use Rattle.send_path.specs.Parts.{Parts, server_with, servers_shown, threads_shown, with_parts, with_tables}
+use Rattle.send_path.proofs.Taken.{CallParts, taken}
+use Rattle.xk_parts.specs.Shown.{server_with, servers_shown, threads_shown}
 use Rattle.send_path.specs.Rows.{IsServed, log_with, memory_row, scalar_row, table_row}
-use Rattle.send_path.specs.Seats.{HasLoanIfLend, IsHeldAt, IsNotHeldAt, messages_at}
-use Rattle.send_path.specs.Sound.{AreLoansAt, AreLoansSound, AreSeatsSound, IsLoanOf, IsSound}
-use Rattle.send_path.specs.Threads.{answered, changed_thread}
+use Rattle.xk_parts.specs.Seats.{HasLoanIfLend, messages_at}
+use Rattle.send_path.specs.Seats.{IsHeldAt, IsNotHeldAt}
+use Rattle.xk_parts.specs.Sound.{AreLoansAt, AreLoansSound, AreSeatsSound, IsLoanOf, AreSound}
+use Rattle.xk_parts.specs.Threads.{answered, changed_thread}
 use Rattle.send_path.specs.declared.holding.HeldAt.{HeldAt}
 use Rattle.send_path.proofs.Servers.HeldListLemmas.{find_shown, of_shown, others_fail, removed_shown}
 use Rattle.send_path.proofs.Servers.HolderLemmas.{held_nowhere, held_otherwise, holder_is, message_is, none_elsewhere}
@@ -67,7 +69,8 @@ use Rattle.send_path.proofs.Rows.RowLemmas.{first_refuses, first_passes, served_
 use Rattle.send_path.proofs.Servers.SeatLemmas.{seat_changed, seat_is_there, seat_other, server_changed, server_there}
 use Rattle.send_path.proofs.Servers.SeatSearchLemmas.{IsShown, seat_found, shown_message}
 use Rattle.send_path.proofs.Servers.SoundLemmas.{seats_changed}
-use Rattle.send_path.proofs.Rows.ThreadLemmas.{ready_there}
+use Rattle.xk_parts.proofs.ThreadLemmas.{ready_there}
+use Rattle.xk_parts.specs.Parts.{machine_at}
 
 -- ---- lists without one of the second part
 
@@ -91,23 +94,23 @@ found_all : (P : Held → Type 0) (test : Held → Bool) (xs ys : List Held) (h 
 found_all P test [] ys h a e = found_one P test ys h a e
 found_all P test (x ∷ xs) ys h a e = found_all P test xs ys h (λ k d l. let low : k < length (xs ++ ys) = l in a (suc k) d (omega arith)) e
 
-module _ {W : Type 0} (S : SwapStore W) (who : ThreadId) (old : Parts W) (sound : IsSound S who old)
+module _ {W : Type 0} (S : SwapStore W) (who : ThreadId) (old : CallParts W) (sound : AreSound S who (taken old))
     (ready : is_table_ready (threads_of old.tables.threads who) ≡ true) (number : Number) where
   abbrev seats : List Seat
   seats = old.tables.queues
 
   abbrev m0 : Machine
-  m0 = with_parts S.held who old sound.machine
+  m0 = machine_at S.held who (taken old) sound.machine
 
   abbrev of_it : Message → Bool
   of_it = is_of_number number
 
   pub is_ready : ready_at m0 who ≡ true
-  unfolding with_parts with_tables
+  unfolding machine_at
   is_ready = ready_there (threads_of old.tables.threads who) ready
 
   pub caller_ready : ready_at m0 m0.cursor ≡ true
-  unfolding with_parts with_tables
+  unfolding machine_at
   caller_ready = ready_there (threads_of old.tables.threads who) ready
 
   -- what comes of the calls keeps the machine matched
@@ -120,19 +123,19 @@ module _ {W : Type 0} (S : SwapStore W) (who : ThreadId) (old : Parts W) (sound 
   row_keeps words = scalar_keeps m0 (0 ∷ number.0 ∷ []) sound.matched caller_ready words
 
   -- the same server holds it, whatever the rest of the machine is
-  pub holder_alike : (m : Machine) (test : Message → Bool) → holder_of (with_parts S.held who old m) test ≡ holder_of m0 test
-  unfolding with_parts with_tables holder_of
+  pub holder_alike : (m : Machine) (test : Message → Bool) → holder_of (machine_at S.held who (taken old) m) test ≡ holder_of m0 test
+  unfolding machine_at holder_of
   holder_alike m test = refl
 
-  pub held_alike : (m : Machine) (test : Message → Bool) → held_by_caller (with_parts S.held who old m) test ≡ held_by_caller m0 test
-  unfolding with_parts with_tables holder_of
+  pub held_alike : (m : Machine) (test : Message → Bool) → held_by_caller (machine_at S.held who (taken old) m) test ≡ held_by_caller m0 test
+  unfolding machine_at holder_of
   held_alike m test = refl
 
   -- ---- none is held
 
   module _ (none : (seat : ℕ) → IsNotHeldAt who.pid number (servers_of old.tables.servers) seats seat) (kind : Message → Bool) where
     pub none_held : held_by_caller m0 (λ x. of_it x && kind x) ≡ None
-    unfolding with_parts with_tables
+    unfolding machine_at
     none_held = held_nowhere m0 sound.matched number kind (λ n other e own. at n other ((servers_of old.tables.servers).live n) refl e own)
       where
         at : (n : ℕ) (other : Server) (o : Option TableServer) → (servers_of old.tables.servers).live n ≡ o
@@ -159,11 +162,11 @@ module _ {W : Type 0} (S : SwapStore W) (who : ThreadId) (old : Parts W) (sound 
     server = server_with seat its.seat.server
 
     live : m0.servers k ≡ Some server
-    unfolding with_parts with_tables
+    unfolding machine_at
     live = server_there old.tables.servers seats k at.seat its.seat sound.seats.all
 
     own : (server.pid.0 == m0.cursor.pid.0) ≡ true
-    unfolding with_parts with_tables
+    unfolding machine_at
     own = eq-eqb its.seat.server.pid.0 who.pid.0 its.own
 
     found : find of_it server.held ≡ Some at.message
@@ -194,7 +197,7 @@ module _ {W : Type 0} (S : SwapStore W) (who : ThreadId) (old : Parts W) (sound 
     -- its sender is another thread
     pub sender_fits : (o : Option ThreadId) → at.message.sender ≡ o
         → IfSome o (λ id. (is_thread_id (process_count old.tables.threads) id ≡ true) × (same_thread who id ≡ false))
-    unfolding with_parts with_tables
+    unfolding machine_at
     sender_fits None e = tt
     sender_fits (Some id) e = (known, apart (same_thread who id) refl)
       where
@@ -242,7 +245,7 @@ module _ {W : Type 0} (S : SwapStore W) (who : ThreadId) (old : Parts W) (sound 
     replied words = both_answers (answer_to who plain_words) (sender_gets words at.message.sender)
 
     -- the message was given back, with this ledger and these words
-    pub record GaveBack (new : Parts W) (l : Ledger) (words : List ℕ) : Type 0 where
+    pub record GaveBack (new : CallParts W) (l : Ledger) (words : List ℕ) : Type 0 where
       pub threads : threads_shown new.tables.threads ≡ answered (replied words) (changed_thread who passed (threads_shown old.tables.threads))
       pub log : new.tables.log ≡ log_with (replies (process_count old.tables.threads) (replied words)) old.tables.log
       pub procs : process_count new.tables.threads ≡ process_count old.tables.threads
@@ -252,9 +255,9 @@ module _ {W : Type 0} (S : SwapStore W) (who : ThreadId) (old : Parts W) (sound 
       pub ledger : ledger S.held new.mem ≡ l
 
     abbrev next : Machine → Ledger → Machine
-    next m l = record (change_server (serial_of k) (without_held number) (with_parts S.held who old m)) { ledger = l }
+    next m l = record (change_server (serial_of k) (without_held number) (machine_at S.held who (taken old) m)) { ledger = l }
 
-    module _ (new : Parts W) (l : Ledger) (words : List ℕ) (g : GaveBack new l words) where
+    module _ (new : CallParts W) (l : Ledger) (words : List ℕ) (g : GaveBack new l words) where
       left : servers_shown new.tables.servers new.tables.queues
           ≡ put_at nat_eq (servers_shown old.tables.servers seats) k (option_map (without_held number) (servers_shown old.tables.servers seats k))
       left =
@@ -262,10 +265,10 @@ module _ {W : Type 0} (S : SwapStore W) (who : ThreadId) (old : Parts W) (sound 
           ∙ server_changed old.tables.servers seats k at.seat its.seat sound.seats.all (without_held_at number) (without_held number) left_shown
 
       pub gave_back : (m : Machine) (row : Outcome) → row ≡ Served (answering (replied words) (next m l))
-          → IsServed row (with_parts S.held who old m) (with_parts S.held who new m) old.tables.log new.tables.log
-      unfolding with_parts with_tables
+          → IsServed row (machine_at S.held who (taken old) m) (machine_at S.held who (taken new) m) old.tables.log new.tables.log
+      unfolding machine_at
       gave_back m row is =
-          served_so (with_parts S.held who old m) (next m l) (with_parts S.held who new m) (replied words) row old.tables.log new.tables.log is
+          served_so (machine_at S.held who (taken old) m) (next m l) (machine_at S.held who (taken new) m) (replied words) row old.tables.log new.tables.log is
           (λ i. record m {
             processes = g.procs i;
             cursor = who;
@@ -294,7 +297,7 @@ module _ {W : Type 0} (S : SwapStore W) (who : ThreadId) (old : Parts W) (sound 
             (held_not_queued m0.servers sound.matched.body.servers.numbers k server live place.0 place.1 place.2)
 
     others_there : (n : ℕ) (v : TableServer) → (servers_of old.tables.servers).live n ≡ Some v → n ≢ k → All Others (messages_at (seat_of seats v.seat))
-    unfolding with_parts with_tables
+    unfolding machine_at
     others_there n v e ne =
         of_shown (λ x. of_it x ≡ false) (messages_at (seat_of seats v.seat))
         (subst (All (λ x. of_it x ≡ false)) (sym (map-append message_of (seat_of seats v.seat).queued (seat_of seats v.seat).held))
@@ -362,64 +365,64 @@ module _ {W : Type 0} (S : SwapStore W) (who : ThreadId) (old : Parts W) (sound 
 
     -- ---- matched still
 
-    pub still_matched : (new : Parts W) (row : Outcome) → Keeps m0 row
-        → IsServed row m0 (with_parts S.held who new sound.machine) old.tables.log new.tables.log
-        → Matched (with_parts S.held who new (record sound.machine { steps = sound.machine.steps + 1 }))
-    unfolding with_parts with_tables
+    pub still_matched : (new : CallParts W) (row : Outcome) → Keeps m0 row
+        → IsServed row m0 (machine_at S.held who (taken new) sound.machine) old.tables.log new.tables.log
+        → Matched (machine_at S.held who (taken new) (record sound.machine { steps = sound.machine.steps + 1 }))
+    unfolding machine_at
     still_matched new row keeps served =
         subst (λ (x : Machine). Matched (record x { steps = sound.machine.steps + 1 })) (sym served.machine) keeps
 
 -- ---- the rows
 
-module _ {W : Type 0} (held : W → HeldBytes) (who : ThreadId) (old : Parts W) (m0 : Machine) (number : Number)
-    (alike : (m : Machine) (test : Message → Bool) → held_by_caller (with_parts held who old m) test ≡ held_by_caller m0 test) where
+module _ {W : Type 0} (held : W → HeldBytes) (who : ThreadId) (old : CallParts W) (m0 : Machine) (number : Number)
+    (alike : (m : Machine) (test : Message → Bool) → held_by_caller (machine_at held who (taken old) m) test ≡ held_by_caller m0 test) where
   pub scalar_refused : (words : List ℕ) (m : Machine) → held_by_caller m0 (is_blocking_of number) ≡ None
-      → scalar_row number words (with_parts held who old m) ≡ Refused DoubleFree
+      → scalar_row number words (machine_at held who (taken old) m) ≡ Refused DoubleFree
   scalar_refused words m none =
-      first_refuses (is_none (held_by_caller (with_parts held who old m) (is_blocking_of number))) DoubleFree
-      (Served (return_scalar_served (with_parts held who old m) number words)) (ap is_none (alike m (is_blocking_of number) ∙ none))
+      first_refuses (is_none (held_by_caller (machine_at held who (taken old) m) (is_blocking_of number))) DoubleFree
+      (Served (return_scalar_served (machine_at held who (taken old) m) number words)) (ap is_none (alike m (is_blocking_of number) ∙ none))
 
   module _ (address size offset valid : ℕ) (m : Machine) where
     abbrev refused_so : Bool → Bool → Outcome
     refused_so a b =
         refused_or (if a then Some DoubleFree else (if b then Some BadAddress else None))
-        (Served (return_memory_served (with_parts held who old m) number offset valid))
+        (Served (return_memory_served (machine_at held who (taken old) m) number offset valid))
 
     pub memory_refused : held_by_caller m0 (is_lend_of number) ≡ None
-        → memory_row number address size offset valid (with_parts held who old m) ≡ Refused DoubleFree
+        → memory_row number address size offset valid (machine_at held who (taken old) m) ≡ Refused DoubleFree
     memory_refused none =
-        ap (λ a. refused_so a (not (option_map_or (is_its_range address size) (held_by_caller (with_parts held who old m) (is_lend_of number)) false)))
+        ap (λ a. refused_so a (not (option_map_or (is_its_range address size) (held_by_caller (machine_at held who (taken old) m) (is_lend_of number)) false)))
         (ap is_none (alike m (is_lend_of number) ∙ none))
 
     pub memory_elsewhere : (x : Message) → held_by_caller m0 (is_lend_of number) ≡ Some x → is_its_range address size x ≡ false
-        → memory_row number address size offset valid (with_parts held who old m) ≡ Refused BadAddress
+        → memory_row number address size offset valid (machine_at held who (taken old) m) ≡ Refused BadAddress
     memory_elsewhere x its far =
         λ i. refused_so (is_none ((alike m (is_lend_of number) ∙ its) i))
         (not ((ap (λ o. option_map_or (is_its_range address size) o false) (alike m (is_lend_of number) ∙ its) ∙ far) i))
 
     pub memory_served : (x : Message) → held_by_caller m0 (is_lend_of number) ≡ Some x → is_its_range address size x ≡ true
-        → memory_row number address size offset valid (with_parts held who old m)
-        ≡ Served (return_memory_served (with_parts held who old m) number offset valid)
+        → memory_row number address size offset valid (machine_at held who (taken old) m)
+        ≡ Served (return_memory_served (machine_at held who (taken old) m) number offset valid)
     memory_served x its near =
         λ i. refused_so (is_none ((alike m (is_lend_of number) ∙ its) i))
         (not ((ap (λ o. option_map_or (is_its_range address size) o false) (alike m (is_lend_of number) ∙ its) ∙ near) i))
 
   pub scalar_served : (words : List ℕ) (m : Machine) (x : Message) → held_by_caller m0 (is_blocking_of number) ≡ Some x
-      → scalar_row number words (with_parts held who old m) ≡ Served (return_scalar_served (with_parts held who old m) number words)
+      → scalar_row number words (machine_at held who (taken old) m) ≡ Served (return_scalar_served (machine_at held who (taken old) m) number words)
   scalar_served words m x its =
-      first_passes (is_none (held_by_caller (with_parts held who old m) (is_blocking_of number))) DoubleFree
-      (Served (return_scalar_served (with_parts held who old m) number words)) (ap is_none (alike m (is_blocking_of number) ∙ its))
+      first_passes (is_none (held_by_caller (machine_at held who (taken old) m) (is_blocking_of number))) DoubleFree
+      (Served (return_scalar_served (machine_at held who (taken old) m) number words)) (ap is_none (alike m (is_blocking_of number) ∙ its))
 
 -- the change by the message and the server that are found
-module _ {W : Type 0} (held : W → HeldBytes) (who : ThreadId) (old : Parts W) (number : Number) (test : Message → Bool) (m : Machine)
-    (x : Message) (serial : Serial) (message : held_by_caller (with_parts held who old m) test ≡ Some x)
-    (holder : holder_of (with_parts held who old m) test ≡ Some serial) (words : List ℕ) where
+module _ {W : Type 0} (held : W → HeldBytes) (who : ThreadId) (old : CallParts W) (number : Number) (test : Message → Bool) (m : Machine)
+    (x : Message) (serial : Serial) (message : held_by_caller (machine_at held who (taken old) m) test ≡ Some x)
+    (holder : holder_of (machine_at held who (taken old) m) test ≡ Some serial) (words : List ℕ) where
   abbrev all : Machine
-  all = with_parts held who old m
+  all = machine_at held who (taken old) m
 
   pub change_is : Served (given_back all number test words)
       ≡ Served (answering (both_answers (answer_to who plain_words) (sender_gets words x.sender)) (record (change_server serial (without_held number) all) { ledger = ledger held old.mem }))
-  unfolding with_parts with_tables
+  unfolding machine_at
   change_is = λ i. Served (answering (both_answers (answer_to who plain_words) (sender_gets words (sender_of_message (message i))))
       (change_server (unwrap_or (holder i) (serial_of 0)) (without_held number) all))
 
@@ -437,15 +440,15 @@ blocking_no_lend Move e = refl
 blocking_no_lend Scalar e = refl
 blocking_no_lend BlockingScalar e = refl
 
-module _ {W : Type 0} (held : W → HeldBytes) (who : ThreadId) (old : Parts W) (number : Number) (m : Machine)
-    (x : Message) (serial : Serial) (message : held_by_caller (with_parts held who old m) (is_lend_of number) ≡ Some x)
-    (holder : holder_of (with_parts held who old m) (is_lend_of number) ≡ Some serial) (offset valid : ℕ) where
-  pub memory_change_is : Served (return_memory_served (with_parts held who old m) number offset valid)
+module _ {W : Type 0} (held : W → HeldBytes) (who : ThreadId) (old : CallParts W) (number : Number) (m : Machine)
+    (x : Message) (serial : Serial) (message : held_by_caller (machine_at held who (taken old) m) (is_lend_of number) ≡ Some x)
+    (holder : holder_of (machine_at held who (taken old) m) (is_lend_of number) ≡ Some serial) (offset valid : ℕ) where
+  pub memory_change_is : Served (return_memory_served (machine_at held who (taken old) m) number offset valid)
       ≡ Served (answering (both_answers (answer_to who plain_words) (sender_gets (returned_words offset valid) x.sender))
-      (record (change_server serial (without_held number) (with_parts held who old m)) { ledger = end_loan number (ledger held old.mem) }))
-  unfolding with_parts with_tables
+      (record (change_server serial (without_held number) (machine_at held who (taken old) m)) { ledger = end_loan number (ledger held old.mem) }))
+  unfolding machine_at
   memory_change_is = λ i. Served (answering (both_answers (answer_to who plain_words) (sender_gets (returned_words offset valid) (sender_of_message (message i))))
-      (record (change_server (unwrap_or (holder i) (serial_of 0)) (without_held number) (with_parts held who old m)) { ledger = end_loan number (ledger held old.mem) }))
+      (record (change_server (unwrap_or (holder i) (serial_of 0)) (without_held number) (machine_at held who (taken old) m)) { ledger = end_loan number (ledger held old.mem) }))
 
 -- ---- the rows of the call table
 

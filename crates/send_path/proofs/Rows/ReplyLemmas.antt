@@ -18,7 +18,8 @@ use Rattle.xk_base.specs.Log.{LogState}
 use Rattle.xk_base.specs.declared.records.What.{What}
 use Rattle.xk_base.specs.declared.records.What.TheVariants.{Reply}
 use Rattle.send_path.specs.Rows.{log_with}
-use Rattle.send_path.specs.Threads.{ThreadMap, answered, is_before}
+use Rattle.xk_parts.specs.Threads.{ThreadMap, answered}
+use Rattle.send_path.specs.Threads.{is_before}
 
 pub none_listed : (n : ℕ) (f : ℕ → Bool) → ((j : ℕ) → j < n → f j ≡ false) → listed_below n f ≡ []
 unfolding listed_below

@@ -21,8 +21,10 @@ use Rattle.xk_base.specs.Tables.Circle.{id_by_tid, is_thread_id, same_thread, th
 use Rattle.xk_base.specs.Tables.Counting.{least_below}
 use Rattle.xk_base.specs.declared.ids.Serial.{Serial}
 use Rattle.xk_base.specs.declared.ids.ThreadId.{ThreadId}
-use Rattle.send_path.specs.Parts.{Tables, state_of, thread_of, with_tables}
+use Rattle.send_path.proofs.Taken.{CallTables, without_memory}
+use Rattle.xk_parts.specs.Shown.{state_of, thread_of}
 use Rattle.send_path.specs.Rows.{log_with}
+use Rattle.xk_parts.specs.Parts.{machine_at, no_store}
 
 -- ---- the receiver
 
@@ -39,9 +41,9 @@ receives_alike serial None = refl
 receives_alike serial (Some t) = receiving_shown serial t.state
 
 -- the receiver of the machine is that of the table
-pub receiver_alike : (who : ThreadId) (parts : Tables) (m : Machine) (serial : Serial)
-    → receiver (with_tables who parts m) serial ≡ table_receiver (process_count parts.threads) serial (threads_of parts.threads)
-unfolding receiver with_tables
+pub receiver_alike : (who : ThreadId) (parts : CallTables) (m : Machine) (serial : Serial)
+    → receiver (machine_at no_store.held who (without_memory parts) m) serial ≡ table_receiver (process_count parts.threads) serial (threads_of parts.threads)
+unfolding receiver machine_at
 receiver_alike who parts m serial = λ i.
     option_map (id_by_tid (process_count parts.threads))
     (least_below (thread_ids (process_count parts.threads))

@@ -37,9 +37,9 @@ use Rattle.xk_base.specs.declared.messages.Message.{Message}
 use Rattle.xk_base.specs.declared.messages.MsgKind.{MsgKind}
 use Rattle.xk_base.specs.declared.windows.Window.TheVariants.{Message as MessageWindow}
 use Rattle.send_path.specs.Arrivals.{IsReached, IsUnreached}
-use Rattle.send_path.specs.Parts.{Parts, with_parts, with_tables}
-use Rattle.send_path.specs.Sending.{MayGo, arrival_of, asked_words, pages_answer}
-use Rattle.send_path.specs.Sound.{IsAboveMessages, IsLoanOf, IsSoundOver}
+use Rattle.send_path.proofs.Taken.{CallParts, over}
+use Rattle.send_path.specs.Sending.{MayGo, arrival_of, asked_words, pages_answer, IsAboveMessages}
+use Rattle.xk_parts.specs.Sound.{AreSound, IsLoanOf}
 use Rattle.send_path.specs.declared.seats.Reached.{Reached}
 use Rattle.send_path.specs.declared.sending.Asked.{Asked}
 use Rattle.send_path.proofs.Sends.MatchedSendLemmas.{fresh}
@@ -47,6 +47,7 @@ use Rattle.send_path.proofs.Servers.ReachedLemmas.{arrival_low}
 use Rattle.send_path.proofs.Sends.SendRowLemmas.{full, no_kind, no_run, no_server, pages_refused, run_found}
 use Rattle.send_path.proofs.Sends.SentLemmas.{at_send, reached_there, server, unreached}
 use Rattle.send_path.proofs.Sends.SentSoundLemmas.{loan_made, made_is}
+use Rattle.xk_parts.specs.Parts.{machine_at}
 
 -- ---- the answer of the tests of pages
 
@@ -94,8 +95,8 @@ other_error error f = λ e. false≢true (sym f ∙ ap (λ x. is_queue_full (Err
 shown_used : (seat : Seat) → length (map message_of seat.queued) + length (map message_of seat.held) ≡ used_of seat
 shown_used seat = λ i. length-map seat.queued message_of i + length-map seat.held message_of i
 
-module _ {W : Type 0} (S : SwapStore W) (who : ThreadId) (procs : Processes) (number : Number) (old : Parts W)
-    (sound : IsSoundOver S who procs old) (above : IsAboveMessages number old.tables.servers old.tables.queues) (asked : Asked) where
+module _ {W : Type 0} (S : SwapStore W) (who : ThreadId) (procs : Processes) (number : Number) (old : CallParts W)
+    (sound : AreSound S who (over procs old)) (above : IsAboveMessages number old.tables.servers old.tables.queues) (asked : Asked) where
   abbrev w : List ℕ
   w = asked_words asked
 
@@ -118,21 +119,21 @@ module _ {W : Type 0} (S : SwapStore W) (who : ThreadId) (procs : Processes) (nu
 
     pub no_kind_row : kind_at asked.kind ≡ None → (m : Machine) → send_call (M m) w ≡ Refused InvalidSyscall
     no_kind_row none m =
-        no_kind (M m) w (server S.held who procs number old asked.cid.0 to its sound.sound.seats.all)
-        (reached_there S.held who procs number old asked.cid.0 to its sound.sound.seats.all m) none
+        no_kind (M m) w (server S.held who procs number old asked.cid.0 to its sound.seats.all)
+        (reached_there S.held who procs number old asked.cid.0 to its sound.seats.all m) none
 
     module _ (kind : MsgKind) (named : kind_at asked.kind ≡ Some kind) where
       abbrev answer : ℕ → Result (Unit {0}) XousError
       answer n = pages_answer n (ledger S.held old.mem) who.pid kind address size
 
       answer_is : (r : Result (Unit {0}) XousError) → answer (processes old.mem) ≡ r → answer (process_count old.tables.threads) ≡ r
-      answer_is r e = ap answer sound.sound.processes ∙ e
+      answer_is r e = ap answer sound.processes ∙ e
 
       pub pages_row : (error : XousError) → answer (processes old.mem) ≡ Err error → (m : Machine) → send_call (M m) w ≡ Refused error
-      unfolding with_parts with_tables
+      unfolding machine_at
       pages_row error e m =
-          pages_refused (M m) w (server S.held who procs number old asked.cid.0 to its sound.sound.seats.all)
-          (reached_there S.held who procs number old asked.cid.0 to its sound.sound.seats.all m) kind named error (answer_is (Err error) e)
+          pages_refused (M m) w (server S.held who procs number old asked.cid.0 to its sound.seats.all)
+          (reached_there S.held who procs number old asked.cid.0 to its sound.seats.all m) kind named error (answer_is (Err error) e)
 
       pub pages_error : (error : XousError) → answer (processes old.mem) ≡ Err error → error ≢ ServerQueueFull
       pages_error error e = λ f.
@@ -143,10 +144,10 @@ module _ {W : Type 0} (S : SwapStore W) (who : ThreadId) (procs : Processes) (nu
 
       module _ (passed : answer (processes old.mem) ≡ Ok tt) where
         pub full_row : used_of seat ≡ 128 → (m : Machine) → send_call (M m) w ≡ Retried
-        unfolding with_parts with_tables
+        unfolding machine_at
         full_row used m =
-            full (M m) w (server S.held who procs number old asked.cid.0 to its sound.sound.seats.all)
-            (reached_there S.held who procs number old asked.cid.0 to its sound.sound.seats.all m) kind named (answer_is (Ok tt) passed)
+            full (M m) w (server S.held who procs number old asked.cid.0 to its sound.seats.all)
+            (reached_there S.held who procs number old asked.cid.0 to its sound.seats.all m) kind named (answer_is (Ok tt) passed)
             (eq-eqb (length (map message_of seat.queued) + length (map message_of seat.held)) 128 (shown_used seat ∙ used))
 
         module _ (room : used_of seat < 128) where
@@ -166,21 +167,21 @@ module _ {W : Type 0} (S : SwapStore W) (who : ThreadId) (procs : Processes) (nu
           place_is : (m : Machine) (r : Option Vpn) → place_at (processes old.mem) ≡ r
               → arrival_of (process_count old.tables.threads) (ledger S.held old.mem) its.seat.server.pid kind (size / 4096) ≡ r
           place_is m r e =
-              (λ i. arrival_of (sound.sound.processes i) (ledger S.held old.mem) (its.own i) kind (size / 4096)) ∙ e
+              (λ i. arrival_of (sound.processes i) (ledger S.held old.mem) (its.own i) kind (size / 4096)) ∙ e
 
           pub no_run_row : place_at (processes old.mem) ≡ None → (m : Machine) → send_call (M m) w ≡ Refused MemoryInUse
-          unfolding with_parts with_tables
+          unfolding machine_at
           no_run_row none m =
-              no_run (M m) w (server S.held who procs number old asked.cid.0 to its sound.sound.seats.all)
-              (reached_there S.held who procs number old asked.cid.0 to its sound.sound.seats.all m) kind named (answer_is (Ok tt) passed) has_room
+              no_run (M m) w (server S.held who procs number old asked.cid.0 to its sound.seats.all)
+              (reached_there S.held who procs number old asked.cid.0 to its sound.seats.all m) kind named (answer_is (Ok tt) passed) has_room
               (place_is m None none)
 
           module _ (first : Vpn) (found : place_at (processes old.mem) ≡ Some first) where
             pub run_row : (m : Machine) → send_call (M m) w ≡ Served (sent (M m) kind w first)
-            unfolding with_parts with_tables
+            unfolding machine_at
             run_row m =
-                run_found (M m) w (server S.held who procs number old asked.cid.0 to its sound.sound.seats.all)
-                (reached_there S.held who procs number old asked.cid.0 to its sound.sound.seats.all m) kind named (answer_is (Ok tt) passed) has_room
+                run_found (M m) w (server S.held who procs number old asked.cid.0 to its sound.seats.all)
+                (reached_there S.held who procs number old asked.cid.0 to its sound.seats.all m) kind named (answer_is (Ok tt) passed) has_room
                 first (place_is m (Some first) found)
 
             module _ (carries : carries_pages kind ≡ true) where
@@ -203,7 +204,8 @@ module _ {W : Type 0} (S : SwapStore W) (who : ThreadId) (procs : Processes) (nu
               range = second_false (carries_pages kind) (is_bad_range address size) parts.0 carries
 
               pub may_go : is_pid (processes old.mem) to.pid.0 ≡ true
-                  → MayGo (processes old.mem) (ledger S.held old.mem) kind (page_of who.pid address) (size / 4096) (record { pid = to.pid; vpn = first }) number
+                  → MayGo (processes old.mem) (ledger S.held old.mem)
+                  (record { kind = kind; from = page_of who.pid address; count = size / 4096; to = record { pid = to.pid; vpn = first }; number = number })
               may_go pid = record {
                 some = some_pages address size range;
                 there = second_false (carries_pages kind)
@@ -219,12 +221,12 @@ module _ {W : Type 0} (S : SwapStore W) (who : ThreadId) (procs : Processes) (nu
 
 -- ---- the loan of what is sent
 
-module _ {W : Type 0} (held : W → HeldBytes) (who : ThreadId) (procs : Processes) (number : Number) (old : Parts W) (kind : MsgKind)
+module _ {W : Type 0} (held : W → HeldBytes) (who : ThreadId) (procs : Processes) (number : Number) (old : CallParts W) (kind : MsgKind)
     (w : List ℕ) (from to : Place) (own : from.pid ≡ who.pid) (all : Loans) (h : Held) (m : Machine)
     (msg : h.msg ≡ new_message (at_send held who procs number old m) kind w to.vpn)
     (made : h.loan ≡ loan_made kind from (sent_pages w) to number) (stands : IfSome h.loan (λ run. Stands all run)) where
   pub held_loan : (pid : Pid) → pid ≡ to.pid → (run : LoanRun) → h.loan ≡ Some run → IsLoanOf all pid h.msg run
-  unfolding with_parts with_tables
+  unfolding machine_at
   held_loan pid there run e =
       subst (λ (p : Pid). IsLoanOf all p h.msg run) (sym there)
       (subst (λ (x : Message). IsLoanOf all to.pid x run) (sym msg)

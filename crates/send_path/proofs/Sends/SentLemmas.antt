@@ -39,15 +39,16 @@ use Rattle.xk_base.specs.declared.ids.Vpn.{Vpn}
 use Rattle.xk_base.specs.declared.messages.Message.{Message}
 use Rattle.xk_base.specs.declared.messages.MsgKind.{MsgKind}
 use Rattle.send_path.specs.Arrivals.{IsReached, IsUnreached, arrival_answers, waiting_if, with_arrived}
-use Rattle.send_path.specs.Parts.{Parts, process_of, processes_shown, server_of, server_with, servers_shown, threads_shown, with_parts, with_tables}
+use Rattle.send_path.proofs.Taken.{CallParts, with_next, taken}
+use Rattle.xk_parts.specs.Shown.{process_of, processes_shown, server_of, server_with, servers_shown, threads_shown}
 use Rattle.send_path.specs.Rows.{IsServed, log_with}
-use Rattle.send_path.specs.Sending.{with_next}
-use Rattle.send_path.specs.Threads.{answered, changed_thread}
+use Rattle.xk_parts.specs.Threads.{answered, changed_thread}
 use Rattle.send_path.specs.declared.seats.Reached.{Reached}
 use Rattle.send_path.proofs.Sends.ArriveLemmas.{receiver_alike}
 use Rattle.send_path.proofs.Rows.RowLemmas.{served_so}
 use Rattle.send_path.proofs.Servers.SeatLemmas.{one_more, server_changed, server_there}
 use Rattle.send_path.proofs.Sends.SendRowLemmas.{arrived_shown, sent_is}
+use Rattle.xk_parts.specs.Parts.{machine_at}
 
 -- ---- at a seat
 
@@ -67,26 +68,26 @@ connections_alike (Some p) = refl
 
 -- ---- the machine of a send
 
-module _ {W : Type 0} (held : W → HeldBytes) (who : ThreadId) (procs : Processes) (number : Number) (old : Parts W) where
+module _ {W : Type 0} (held : W → HeldBytes) (who : ThreadId) (procs : Processes) (number : Number) (old : CallParts W) where
   abbrev pub at_send : Machine → Machine
-  at_send m = with_parts held who old (with_next procs number.0 m)
+  at_send m = machine_at held who (taken old) (with_next procs number.0 m)
 
   abbrev own : List Serial
   own = connections_of (processes_of procs who.pid.0)
 
   connected_is : (m : Machine) (cid : ℕ) → connected_to (own_connections (at_send m)) cid ≡ connected_to own cid
-  unfolding with_parts with_tables
+  unfolding machine_at
   connected_is m cid = ap (λ connections. connected_to connections cid) (connections_alike (processes_of procs who.pid.0))
 
   live_is : (m : Machine) (n : ℕ) → (at_send m).servers n ≡ servers_shown old.tables.servers old.tables.queues n
-  unfolding with_parts with_tables
+  unfolding machine_at
   live_is m n = refl
 
   -- what a message of the caller is in every such machine
   pub message_at : (x : Message) (kind : MsgKind) (w : List ℕ) (first : Vpn)
       → ((m : Machine) → m.cursor ≡ who → m.next_number ≡ number.0 → x ≡ new_message m kind w first) → (m : Machine)
       → x ≡ new_message (at_send m) kind w first
-  unfolding with_parts with_tables
+  unfolding machine_at
   message_at x kind w first is m = is (at_send m) refl refl
 
   pub unreached : (cid : ℕ) → IsUnreached own cid (servers_of old.tables.servers) → (m : Machine) → server_at (at_send m) cid ≡ None
@@ -143,7 +144,7 @@ module _ {W : Type 0} (held : W → HeldBytes) (who : ThreadId) (procs : Process
           sent_ledger kind (page_of who.pid (send_address w)) (sent_pages w) place number (ledger held old.mem)
 
       -- what an accepted send leaves
-      pub record Left (new : Parts W) : Type 0 where
+      pub record Left (new : CallParts W) : Type 0 where
         pub threads : threads_shown new.tables.threads
             ≡ answered (arrival_answers got h.msg waits who) (changed_thread who passed (waiting_if waits who (threads_shown old.tables.threads)))
         pub log : new.tables.log ≡ log_with (replies (process_count old.tables.threads) (arrival_answers got h.msg waits who)) old.tables.log
@@ -153,7 +154,7 @@ module _ {W : Type 0} (held : W → HeldBytes) (who : ThreadId) (procs : Process
         pub capacity : capacity_of new.mem ≡ capacity_of old.mem
         pub ledger : ledger held new.mem ≡ ledger_then
 
-      module _ (new : Parts W) (g : Left new) where
+      module _ (new : CallParts W) (g : Left new) where
         left : servers_shown new.tables.servers new.tables.queues
             ≡ put_at nat_eq (servers_shown old.tables.servers old.tables.queues) k
             (option_map (arrived_shown got h.msg) (servers_shown old.tables.servers old.tables.queues k))
@@ -178,11 +179,11 @@ module _ {W : Type 0} (held : W → HeldBytes) (who : ThreadId) (procs : Process
             → threads_shown new.tables.threads
             ≡ answered (arrival_answers got h.msg (waits_so b) who) (changed_thread who passed (waiting_if (waits_so b) who (threads_shown old.tables.threads)))
             → new.tables.log ≡ log_with (replies (process_count old.tables.threads) (arrival_answers got h.msg (waits_so b) who)) old.tables.log
-            → IsServed (outcome b) (at_send m) (with_parts held who new (with_next procs (number.0 + 1) m)) old.tables.log new.tables.log
-        unfolding with_parts with_tables
+            → IsServed (outcome b) (at_send m) (machine_at held who (taken new) (with_next procs (number.0 + 1) m)) old.tables.log new.tables.log
+        unfolding machine_at
         by_wait true threads log =
             served_so (at_send m) (change_server to.serial (arrived_shown got h.msg) (sender_left true number paged))
-            (with_parts held who new (with_next procs (number.0 + 1) m)) (arrival_answers got h.msg (Some number) who) (outcome true) old.tables.log
+            (machine_at held who (taken new) (with_next procs (number.0 + 1) m)) (arrival_answers got h.msg (Some number) who) (outcome true) old.tables.log
             new.tables.log refl
             (λ i. record m {
               processes = g.same_count i;
@@ -198,7 +199,7 @@ module _ {W : Type 0} (held : W → HeldBytes) (who : ThreadId) (procs : Process
             log
         by_wait false threads log =
             served_so (at_send m) (change_server to.serial (arrived_shown got h.msg) (sender_left false number paged))
-            (with_parts held who new (with_next procs (number.0 + 1) m)) (arrival_answers got h.msg None who) (outcome false) old.tables.log
+            (machine_at held who (taken new) (with_next procs (number.0 + 1) m)) (arrival_answers got h.msg None who) (outcome false) old.tables.log
             new.tables.log refl
             (λ i. record m {
               processes = g.same_count i;
@@ -214,7 +215,7 @@ module _ {W : Type 0} (held : W → HeldBytes) (who : ThreadId) (procs : Process
             log
 
         sent_so : Served (sent (at_send m) kind w first) ≡ outcome (is_answered kind)
-        unfolding with_parts with_tables receiver
+        unfolding machine_at receiver
         sent_so =
             ap Served (sent_is (at_send m) w kind first got (ap (receiver (at_send m)) serial_is ∙ receiver_alike who old.tables (with_next procs number.0 m) to.serial))
             ∙ (λ i. Served (answering (both_answers (thread_gets (message_words (sym msg i)) got) (sender_answered (is_answered kind) who))
@@ -224,7 +225,7 @@ module _ {W : Type 0} (held : W → HeldBytes) (who : ThreadId) (procs : Process
             })))))
 
         pub sent_row : (o : Outcome) → o ≡ Served (sent (at_send m) kind w first)
-            → IsServed o (at_send m) (with_parts held who new (with_next procs (number.0 + 1) m)) old.tables.log new.tables.log
+            → IsServed o (at_send m) (machine_at held who (taken new) (with_next procs (number.0 + 1) m)) old.tables.log new.tables.log
         sent_row o is =
-            subst (λ x. IsServed x (at_send m) (with_parts held who new (with_next procs (number.0 + 1) m)) old.tables.log new.tables.log)
+            subst (λ x. IsServed x (at_send m) (machine_at held who (taken new) (with_next procs (number.0 + 1) m)) old.tables.log new.tables.log)
             (sym (is ∙ sent_so)) (by_wait (is_answered kind) g.threads g.log)

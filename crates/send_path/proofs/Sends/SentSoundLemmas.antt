@@ -33,10 +33,10 @@ use Rattle.xk_base.specs.declared.messages.MsgKind.TheVariants.{LendMut, Lend, M
 use Rattle.xk_base.specs.declared.pages.LoanKind.{LoanKind}
 use Rattle.xk_base.specs.declared.pages.LoanKind.TheVariants.{Shared, Exclusive}
 use Rattle.send_path.specs.Arrivals.{with_arrived}
-use Rattle.send_path.specs.Parts.{server_of, server_with}
-use Rattle.send_path.specs.Seats.{HasLoanIfLend, IsSeatOf, messages_at}
-use Rattle.send_path.specs.Sending.{MayGo}
-use Rattle.send_path.specs.Sound.{AreLoansAt, AreLoansSound, AreSeatsSound, IsAboveMessages, IsLoanOf}
+use Rattle.xk_parts.specs.Shown.{server_of, server_with}
+use Rattle.xk_parts.specs.Seats.{HasLoanIfLend, IsSeatOf, messages_at}
+use Rattle.send_path.specs.Sending.{MayGo, Parcel, IsAboveMessages}
+use Rattle.xk_parts.specs.Sound.{AreLoansAt, AreLoansSound, AreSeatsSound, IsLoanOf}
 use Rattle.send_path.proofs.Servers.HeldListLemmas.{of_shown}
 use Rattle.send_path.proofs.Servers.SeatLemmas.{seat_changed, seat_is_there, seat_other}
 use Rattle.send_path.proofs.Servers.SoundLemmas.{seats_changed}
@@ -68,7 +68,10 @@ arrived_seats servers seats serial k sound its o h here =
 -- ---- the ledger of a send
 
 module _ (procs : ℕ) (l : Ledger) (from : Place) (n : ℕ) (to : Place) (number : Number) where
-  can_lend : (kind : MsgKind) (loan : LoanKind) → is_lend_mut kind ≡ is_exclusive loan → MayGo procs l kind from n to number
+  abbrev pub as_sent : MsgKind → Parcel
+  as_sent kind = record { kind = kind; from = from; count = n; to = to; number = number }
+
+  can_lend : (kind : MsgKind) (loan : LoanKind) → is_lend_mut kind ≡ is_exclusive loan → MayGo procs l (as_sent kind)
       → CanLend procs l from n to loan number
   can_lend kind loan mutably may = record {
     pages = sent_may_lend procs l from n loan may.there (ap (any_not_sent procs l from n) (sym mutably) ∙ may.sendable);
@@ -77,7 +80,7 @@ module _ (procs : ℕ) (l : Ledger) (from : Place) (n : ℕ) (to : Place) (numbe
     fresh = may.fresh;
   }
 
-  can_give : MayGo procs l Move from n to number → CanGive procs l from n to
+  can_give : MayGo procs l (as_sent Move) → CanGive procs l from n to
   can_give may = record {
     pages = sent_may_move procs l from n false may.there may.sendable;
     free = may.arrival.free;
@@ -85,7 +88,7 @@ module _ (procs : ℕ) (l : Ledger) (from : Place) (n : ℕ) (to : Place) (numbe
   }
 
   -- the loans of other numbers stand
-  pub others_stand_after : (kind : MsgKind) → (carries_pages kind ≡ true → MayGo procs l kind from n to number) → (run : LoanRun)
+  pub others_stand_after : (kind : MsgKind) → (carries_pages kind ≡ true → MayGo procs l (as_sent kind)) → (run : LoanRun)
       → run.number ≢ number → Stands (loans l) run → Stands (loans (sent_ledger kind from n to number l)) run
   others_stand_after LendMut may run other stands =
       stands_still (loans l) (loans (sent_ledger LendMut from n to number l)) run

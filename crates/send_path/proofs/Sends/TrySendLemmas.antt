@@ -9,16 +9,15 @@ use Rattle.machine_model.specs.State.Changes.{Change, Outcome, Refused, Retried,
 use Rattle.machine_model.specs.State.Machine.{Machine}
 use Rattle.machine_model.specs.State.Servers.{server_at}
 use Rattle.ledger_model.specs.RunTests.{any_free, any_not_sent}
-use Rattle.process_table.specs.declared.table.Processes.{Processes}
 use Rattle.sv32_space.specs.Tie.{Held as HeldBytes}
 use Rattle.xk_base.specs.Calls.CallNumbers.{send_message, try_send_message}
 use Rattle.xk_base.specs.Calls.CallWords.{call_number, send_address, send_cid, send_id, send_kind, send_length, send_words}
 use Rattle.xk_base.specs.declared.errors.XousError.TheVariants.{MemoryInUse, ServerQueueFull}
 use Rattle.xk_base.specs.declared.ids.Number.{Number}
 use Rattle.xk_base.specs.declared.ids.ThreadId.{ThreadId}
-use Rattle.send_path.specs.Parts.{Parts, with_parts}
+use Rattle.xk_parts.specs.Parts.{Parts, machine_at}
 use Rattle.send_path.specs.Rows.{IsServed, table_row}
-use Rattle.send_path.specs.Sending.{AreAsked, IsSendRow, asked_row, asked_words, send_row, with_next}
+use Rattle.send_path.specs.Sending.{AreAsked, IsSendRow, asked_row, asked_words, send_row, with_number}
 use Rattle.send_path.specs.declared.sending.Asked.{Asked}
 use Rattle.send_path.specs.declared.sending.Sent.{Sent}
 use Rattle.send_path.specs.declared.sending.Sent.TheVariants as sent
@@ -65,39 +64,39 @@ module _ (w : List ℕ) (asked : Asked) (are : AreAsked w asked) where
   abbrev full_of : ℕ → Outcome
   full_of number = if number == try_send_message then Refused ServerQueueFull else Retried
 
-  module _ {W : Type 0} (held : W → HeldBytes) (who : ThreadId) (procs : Processes) (number : Number) (old new : Parts W) where
+  module _ {W : Type 0} (held : W → HeldBytes) (who : ThreadId) (number : Number) (old new : Parts W) where
     module _ (is : call_number w ≡ send_message) where
       row_is : (m : Machine) → table_row w m ≡ send_call m (asked_words asked)
       row_is m = ap (λ n. call_at n call_table m w) is ∙ asked_is m
 
-      send_of : (answer : Sent) → IsSendRow held (asked_row asked) who procs number old new answer
-          → IsSendRow held (send_row w) who procs number old new answer
+      send_of : (answer : Sent) → IsSendRow held (asked_row number asked) who old new answer
+          → IsSendRow held (send_row number w) who old new answer
       send_of sent.Accepted h = λ m.
-          let before : Machine = with_parts held who old (with_next procs number.0 m) in
-          subst (λ o. IsServed o before (with_parts held who new (with_next procs (number.0 + 1) m)) old.tables.log new.tables.log)
+          let before : Machine = machine_at held who old (with_number number.0 m) in
+          subst (λ o. IsServed o before (machine_at held who new (with_number (number.0 + 1) m)) old.log new.log)
           (sym (row_is before)) (h m)
-      send_of sent.Full h = (h.0, λ m. row_is (with_parts held who old (with_next procs number.0 m)) ∙ h.1 m ∙ sym (ap full_of is))
-      send_of (sent.Refused error) h = (h.0, h.1, λ m. row_is (with_parts held who old (with_next procs number.0 m)) ∙ h.2 m)
+      send_of sent.Full h = (h.0, λ m. row_is (machine_at held who old (with_number number.0 m)) ∙ h.1 m ∙ sym (ap full_of is))
+      send_of (sent.Refused error) h = (h.0, h.1, λ m. row_is (machine_at held who old (with_number number.0 m)) ∙ h.2 m)
 
     module _ (is : call_number w ≡ try_send_message) where
       tried_is : (m : Machine) → table_row w m ≡ tried (send_call m (asked_words asked))
       tried_is m = ap (λ n. call_at n call_table m w) is ∙ try_is m w ∙ ap tried (asked_is m)
 
-      try_of : (answer : Sent) → IsSendRow held (asked_row asked) who procs number old new answer
-          → IsSendRow held (send_row w) who procs number old new answer
+      try_of : (answer : Sent) → IsSendRow held (asked_row number asked) who old new answer
+          → IsSendRow held (send_row number w) who old new answer
       try_of sent.Accepted h = λ m.
-          let before : Machine = with_parts held who old (with_next procs number.0 m) in
+          let before : Machine = machine_at held who old (with_number number.0 m) in
           let served = (h m).served in
-          subst (λ o. IsServed o before (with_parts held who new (with_next procs (number.0 + 1) m)) old.tables.log new.tables.log)
+          subst (λ o. IsServed o before (machine_at held who new (with_number (number.0 + 1) m)) old.log new.log)
           (served ∙ sym (tried_is before ∙ ap tried served)) (h m)
-      try_of sent.Full h = (h.0, λ m. tried_is (with_parts held who old (with_next procs number.0 m)) ∙ ap tried (h.1 m) ∙ sym (ap full_of is))
-      try_of (sent.Refused error) h = (h.0, h.1, λ m. tried_is (with_parts held who old (with_next procs number.0 m)) ∙ ap tried (h.2 m))
+      try_of sent.Full h = (h.0, λ m. tried_is (machine_at held who old (with_number number.0 m)) ∙ ap tried (h.1 m) ∙ sym (ap full_of is))
+      try_of (sent.Refused error) h = (h.0, h.1, λ m. tried_is (machine_at held who old (with_number number.0 m)) ∙ ap tried (h.2 m))
 
     pub row_of : (call_number w == send_message || call_number w == try_send_message) ≡ true → (answer : Sent)
-        → IsSendRow held (asked_row asked) who procs number old new answer → IsSendRow held (send_row w) who procs number old new answer
+        → IsSendRow held (asked_row number asked) who old new answer → IsSendRow held (send_row number w) who old new answer
     row_of served answer h = go (call_number w == send_message) refl served
       where
         go : (b : Bool) → (call_number w == send_message) ≡ b → (b || (call_number w == try_send_message)) ≡ true
-            → IsSendRow held (send_row w) who procs number old new answer
+            → IsSendRow held (send_row number w) who old new answer
         go true q r = send_of (eqb-true (call_number w) send_message q) answer h
         go false q r = try_of (eqb-true (call_number w) try_send_message r) answer h

@@ -13,8 +13,10 @@ use Rattle.xk_base.specs.declared.ids.Pid.{Pid}
 use Rattle.xk_base.specs.declared.ids.Serial.{Serial}
 use Rattle.xk_base.specs.declared.ids.Sid.{Sid}
 use Rattle.xk_base.specs.declared.ids.ThreadId.{ThreadId}
-use Rattle.send_path.specs.Parts.{Tables, server_of, with_tables}
-use Rattle.send_path.specs.Seats.{own_serial}
+use Rattle.send_path.proofs.Taken.{CallTables, without_memory}
+use Rattle.xk_parts.specs.Shown.{server_of}
+use Rattle.xk_parts.specs.Seats.{own_serial}
+use Rattle.xk_parts.specs.Parts.{machine_at, no_store}
 
 same_sid_of : (seats : List Seat) (o : Option TableServer) → option_map (λ s. s.sid) (option_map (server_of seats) o) ≡ option_map (λ s. s.sid) o
 same_sid_of seats None = refl
@@ -24,16 +26,16 @@ pub same_owner_test : (pid : Pid) (seats : List Seat) (o : Option TableServer) �
 same_owner_test pid seats None = refl
 same_owner_test pid seats (Some v) = refl
 
-module _ (who : ThreadId) (parts : Tables) (m : Machine) (sid : Sid) where
+module _ (who : ThreadId) (parts : CallTables) (m : Machine) (sid : Sid) where
   abbrev all : Machine
-  all = with_tables who parts m
+  all = machine_at no_store.held who (without_memory parts) m
 
   named : with_sid all sid ≡ with_table_sid sid (servers_of parts.servers)
-  unfolding with_sid with_tables
+  unfolding with_sid machine_at
   named = ap (serial_with sid (servers_of parts.servers).next) (λ i n. same_sid_of parts.queues ((servers_of parts.servers).live n) i)
 
   owned : (serial : Serial) → is_own all (Some serial) ≡ is_of who.pid ((servers_of parts.servers).live serial.0)
-  unfolding with_tables
+  unfolding machine_at
   owned serial = same_owner_test who.pid parts.queues ((servers_of parts.servers).live serial.0)
 
   -- the server isn't there, or is another process's

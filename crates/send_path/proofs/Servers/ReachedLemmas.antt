@@ -15,7 +15,6 @@ use Rattle.process_table.specs.ProcessesOf.{process_count as made_for}
 use Rattle.process_table.specs.declared.table.Processes.{Processes}
 use Rattle.server_table.specs.ServersOf.{servers_of}
 use Rattle.server_table.specs.ServerState.{Server, ServerState}
-use Rattle.sv32_space.specs.Tie.{Held as HeldBytes}
 use Rattle.thread_table.specs.States.{is_receiving_state}
 use Rattle.thread_table.specs.ThreadMap.{is_ready as is_table_ready, is_receiving as is_table_receiving}
 use Rattle.thread_table.specs.ThreadsOf.{process_count, threads_of}
@@ -32,11 +31,13 @@ use Rattle.xk_base.specs.declared.ids.ThreadId.{ThreadId}
 use Rattle.xk_base.specs.declared.ids.Vpn.{Vpn}
 use Rattle.xk_base.specs.declared.windows.Window.TheVariants.{Message as MessageWindow}
 use Rattle.send_path.specs.Arrivals.{IsReached}
-use Rattle.send_path.specs.Parts.{Parts, server_with, state_of, thread_of, with_parts, with_tables}
-use Rattle.send_path.specs.Sound.{IsSound, IsSoundOver}
+use Rattle.xk_parts.specs.Sound.{AreSound}
+use Rattle.send_path.proofs.Taken.{CallParts, over, taken}
+use Rattle.xk_parts.specs.Shown.{server_with, state_of, thread_of}
 use Rattle.send_path.specs.declared.seats.Reached.{Reached}
 use Rattle.send_path.proofs.Servers.SeatLemmas.{seat_in_limit, server_there}
-use Rattle.send_path.proofs.Rows.ThreadLemmas.{ready_id}
+use Rattle.xk_parts.proofs.ThreadLemmas.{ready_id}
+use Rattle.xk_parts.specs.Parts.{machine_at}
 
 pub reached : (connections : List Serial) (cid : ℕ) (servers : ServerState) (to : Reached) → connected_to connections cid ≡ Some to.serial
     → option_map (λ v. v.pid) (servers.live to.serial.0) ≡ Some to.pid → option_map (λ v. v.seat) (servers.live to.serial.0) ≡ Some to.seat
@@ -66,17 +67,17 @@ arrival_low procs l pid n first found = let run = least_run-Some procs l pid Mes
 
 -- ---- the caller's process is there
 
-module _ {W : Type 0} (S : SwapStore W) (who : ThreadId) (procs : Processes) (old : Parts W)
-    (sound : IsSoundOver S who procs old) (ready : is_table_ready (threads_of old.tables.threads who) ≡ true) where
+module _ {W : Type 0} (S : SwapStore W) (who : ThreadId) (procs : Processes) (old : CallParts W)
+    (sound : AreSound S who (over procs old)) (ready : is_table_ready (threads_of old.tables.threads who) ≡ true) where
   caller_pid : is_pid (process_count old.tables.threads) who.pid.0 ≡ true
   caller_pid =
       (and_parts (is_pid (process_count old.tables.threads) who.pid.0) (is_tid who.tid.0) (ready_id old.tables.threads who ready)).0
 
   pub caller_in_mem : is_pid (processes old.mem) who.pid.0 ≡ true
-  caller_in_mem = ap (λ n. is_pid n who.pid.0) (sym sound.sound.processes) ∙ caller_pid
+  caller_in_mem = ap (λ n. is_pid n who.pid.0) (sym sound.processes) ∙ caller_pid
 
   pub caller_bounds : IsPid (made_for procs) who.pid.0
-  caller_bounds = is_pid-bounds (made_for procs) who.pid.0 (ap (λ n. is_pid n who.pid.0) sound.count ∙ caller_pid)
+  caller_bounds = is_pid-bounds (made_for procs) who.pid.0 (ap (λ n. is_pid n who.pid.0) sound.procs ∙ caller_pid)
 
 -- ---- the server
 
@@ -88,20 +89,20 @@ receiving_then serial (table.Waiting number) e = absurd (false≢true e)
 receiving_then serial (table.Joining tid) e = absurd (false≢true e)
 receiving_then serial table.Idle e = absurd (false≢true e)
 
-module _ {W : Type 0} (S : SwapStore W) (who : ThreadId) (old : Parts W) (sound : IsSound S who old)
+module _ {W : Type 0} (S : SwapStore W) (who : ThreadId) (old : CallParts W) (sound : AreSound S who (taken old))
     {connections : List Serial} {cid : ℕ} (to : Reached) (its : IsReached connections cid (servers_of old.tables.servers) to) where
   abbrev m0 : Machine
-  m0 = with_parts S.held who old sound.machine
+  m0 = machine_at S.held who (taken old) sound.machine
 
   abbrev server : MachineServer
   server = server_with (seat_of old.tables.queues to.seat) its.seat.server
 
   live : m0.servers to.serial.0 ≡ Some server
-  unfolding with_parts with_tables
+  unfolding machine_at
   live = server_there old.tables.servers old.tables.queues to.serial.0 to.seat its.seat sound.seats.all
 
   to_pid : is_pid (process_count old.tables.threads) to.pid.0 ≡ true
-  unfolding with_parts with_tables
+  unfolding machine_at
   to_pid =
       ap (λ (p : Pid). is_pid (process_count old.tables.threads) p.0) (sym its.own)
       ∙ sound.matched.body.processes.pids its.seat.server.pid (sound.matched.body.servers.living to.serial.0 server live)
@@ -117,7 +118,7 @@ module _ {W : Type 0} (S : SwapStore W) (who : ThreadId) (old : Parts W) (sound 
 
   -- who is Receiving there is of its process
   pub to_receivers : (id : ThreadId) → is_table_receiving to.serial (threads_of old.tables.threads id) ≡ true → id.pid.0 ≡ to.pid.0
-  unfolding with_parts with_tables
+  unfolding machine_at
   to_receivers id e = go (threads_of old.tables.threads id) refl e
     where
       go : (o : Option TableThread) → threads_of old.tables.threads id ≡ o → is_table_receiving to.serial o ≡ true → id.pid.0 ≡ to.pid.0

@@ -14,8 +14,8 @@ use Rattle.server_table.specs.ServerState.{Server as TableServer}
 use Rattle.server_table.specs.declared.table.Servers.{Servers}
 use Rattle.xk_base.specs.Tables.Counting.{put_at}
 use Rattle.xk_base.specs.declared.limits.TheConstants.{SERVER_LIMIT}
-use Rattle.send_path.specs.Parts.{server_of, server_with, servers_shown}
-use Rattle.send_path.specs.Seats.{IsSeatOf}
+use Rattle.xk_parts.specs.Shown.{server_of, server_with, servers_shown}
+use Rattle.xk_parts.specs.Seats.{IsSeatOf}
 
 -- ---- one seat
 

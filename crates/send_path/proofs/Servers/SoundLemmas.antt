@@ -12,10 +12,12 @@ use Rattle.server_table.specs.ServersOf.{servers_of}
 use Rattle.server_table.specs.declared.table.Servers.{Servers}
 use Rattle.xk_base.specs.Calls.Kinds.{is_answered}
 use Rattle.xk_base.specs.declared.ids.ThreadId.{ThreadId}
-use Rattle.send_path.specs.Seats.{HasLoanIfLend, IsSeatOf, messages_at}
-use Rattle.send_path.specs.Parts.{Tables, server_with, with_tables}
-use Rattle.send_path.specs.Sound.{AreSeatsSound, AreTablesSound}
+use Rattle.xk_parts.specs.Seats.{HasLoanIfLend, IsSeatOf, messages_at}
+use Rattle.send_path.proofs.Taken.{CallTables, without_memory}
+use Rattle.xk_parts.specs.Shown.{server_with}
+use Rattle.xk_parts.specs.Sound.{AreSeatsSound, AreSound}
 use Rattle.send_path.proofs.Servers.SeatLemmas.{seat_changed, seat_is_there, seat_other, seats_counted, server_there}
+use Rattle.xk_parts.specs.Parts.{machine_at, no_store}
 
 pub seats_changed : (servers : Servers) (seats : List Seat) (serial k : ℕ) → AreSeatsSound (servers_of servers) seats
     → IsSeatOf (servers_of servers) serial k → (f : Seat → Seat) → All HasLoanIfLend (messages_at (f (seat_of seats k)))
@@ -91,9 +93,9 @@ taken_all P h seat first all = go (is_answered h.msg.kind)
     go false = others_too P seat all
 
 -- a server's messages are few
-pub slots_few : (who : ThreadId) (parts : Tables) (serial k : ℕ) → AreTablesSound who parts → IsSeatOf (servers_of parts.servers) serial k
+pub slots_few : (who : ThreadId) (parts : CallTables) (serial k : ℕ) → AreSound no_store who (without_memory parts) → IsSeatOf (servers_of parts.servers) serial k
     → length (map message_of (seat_of parts.queues k).queued) + length (map message_of (seat_of parts.queues k).held) ≤ 128
-unfolding with_tables
+unfolding machine_at
 slots_few who parts serial k sound its =
     sound.matched.body.servers.slots serial (server_with (seat_of parts.queues k) its.server)
     (server_there parts.servers parts.queues serial k its sound.seats.all)

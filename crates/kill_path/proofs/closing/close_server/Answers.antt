@@ -6,7 +6,7 @@ use Rattle.send_path.proofs.Servers.SeatLemmas.{seat_in_limit}
 use Rattle.vm_memory.specs.Memory.{ledger}
 use Rattle.kill_path.specs.Closing.{AreClosed, closable}
 use Rattle.kill_path.specs.Noted.{noted}
-use Rattle.kill_path.specs.Open.{AreOpen}
+use Rattle.xk_parts.specs.Sound.{AreOpen}
 use Rattle.kill_path.proofs.Servers.OpenLemmas.{can_end, open_left, server_closed}
 use Rattle.kill_path.proofs.closing.close_server.Goals as goal
 

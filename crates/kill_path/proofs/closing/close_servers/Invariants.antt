@@ -5,7 +5,7 @@ use Rattle.xk_base.specs.Tables.Counting.{count_below}
 use Rattle.kill_path.specs.Closing.{AreClosed, Closable, closable}
 use Rattle.kill_path.specs.Keeping.{Stays}
 use Rattle.kill_path.specs.Noted.{noted}
-use Rattle.kill_path.specs.Open.{AreOpen}
+use Rattle.xk_parts.specs.Sound.{AreOpen}
 use Rattle.kill_path.proofs.Servers.CloseLemmas.{gone_so_far, owned}
 use Rattle.kill_path.proofs.closing.close_servers.Given as goal
 

@@ -1,5 +1,5 @@
 use Rattle.std.proofs.Common.{◌<◌, length, sym, subst, ◌∙◌}
-use Rattle.send_path.specs.Seats.{messages_at}
+use Rattle.xk_parts.specs.Seats.{messages_at}
 use Rattle.msg_queue.specs.Seats.{seat_of}
 use Rattle.vm_memory.specs.Memory.{ledger}
 use Rattle.kill_path.specs.Noted.{noted}

@@ -2,7 +2,7 @@ use Rattle.std.proofs.Common.{◌≡◌, length}
 use Rattle.ledger_model.specs.Loans.{loans}
 use Rattle.machine_model.specs.Messaging.LoanSets.{end_loans}
 use Rattle.msg_queue.specs.Seats.{changed_at, seat_of}
-use Rattle.send_path.specs.Seats.{messages_at}
+use Rattle.xk_parts.specs.Seats.{messages_at}
 use Rattle.vm_memory.specs.Memory.{ledger}
 use Rattle.xk_base.specs.declared.limits.TheConstants.{SERVER_LIMIT}
 use Rattle.kill_path.specs.Ending.{AreEndable, emptied, is_number_in, with_senders}

@@ -4,7 +4,7 @@ use Rattle.vm_memory.specs.Memory.{ledger}
 use Rattle.kill_path.specs.Closing.{AreClosed, Closable, closable}
 use Rattle.kill_path.specs.Keeping.{Stays}
 use Rattle.kill_path.specs.Noted.{noted}
-use Rattle.kill_path.specs.Open.{AreOpen}
+use Rattle.xk_parts.specs.Sound.{AreOpen}
 use Rattle.kill_path.proofs.Servers.CloseAllLemmas.{AreFrom, gone}
 use Rattle.kill_path.proofs.closing_all.close_all.Given as goal
 

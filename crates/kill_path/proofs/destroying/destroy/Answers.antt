@@ -1,13 +1,13 @@
 use Rattle.std.proofs.Common.{◌==◌, Some, ap, subst, ◌∙◌}
 use Rattle.machine_model.specs.State.Changes.{replies}
-use Rattle.send_path.proofs.Rows.ThreadLemmas.{ready_id}
+use Rattle.xk_parts.proofs.ThreadLemmas.{ready_id}
 use Rattle.send_path.specs.Rows.{log_with}
-use Rattle.send_path.specs.Threads.{answered}
+use Rattle.xk_parts.specs.Threads.{answered}
 use Rattle.server_table.specs.ServersOf.{servers_of}
 use Rattle.thread_table.specs.ThreadsOf.{process_count}
 use Rattle.vm_memory.specs.Memory.{ledger}
 use Rattle.xk_base.specs.Tables.Circle.{is_thread_id}
-use Rattle.send_path.specs.Parts.{parts_of}
+use Rattle.send_path.proofs.Taken.{parts_of}
 use Rattle.kill_path.specs.Closing.{AreClosed, closable}
 use Rattle.kill_path.specs.Noted.{noted}
 use Rattle.kill_path.specs.Telling.{told_to}

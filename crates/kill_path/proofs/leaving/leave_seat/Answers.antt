@@ -1,7 +1,7 @@
 use Rattle.std.proofs.Common.{◌≡◌, sym, ap, subst, ◌∙◌}
 use Rattle.std.specs.Prelude.{is_some, not}
 use Rattle.msg_queue.specs.Seats.{seat_of}
-use Rattle.send_path.specs.Seats.{messages_at}
+use Rattle.xk_parts.specs.Seats.{messages_at}
 use Rattle.vm_memory.specs.Memory.{Size, capacity_of, ledger, processes}
 use Rattle.kill_path.specs.Leaving.{LeavesAlike, standing}
 use Rattle.kill_path.proofs.KeepLemmas.{after_both, sound_lawful}

@@ -2,11 +2,11 @@ use Rattle.std.proofs.Common.{◌≡◌, ℕ}
 use Rattle.std.specs.Prelude.{◌≢◌}
 use Rattle.ledger_model.specs.Loans.{loans}
 use Rattle.msg_queue.specs.Seats.{seat_of}
-use Rattle.send_path.specs.Seats.{messages_at}
+use Rattle.xk_parts.specs.Seats.{messages_at}
 use Rattle.vm_memory.specs.Memory.{ledger, processes}
 use Rattle.kill_path.specs.Keeping.{Stays}
 use Rattle.kill_path.specs.Leaving.{LeavesAlike, standing}
-use Rattle.kill_path.specs.Open.{AreOpen}
+use Rattle.xk_parts.specs.Sound.{AreOpen}
 use Rattle.kill_path.proofs.Messages.LeaveFoundLemmas.{sent_count}
 use Rattle.kill_path.proofs.leaving.leave_seat.Given as goal
 

@@ -4,7 +4,7 @@ use Rattle.msg_queue.specs.Seats.{seat_of}
 use Rattle.vm_memory.specs.Memory.{ledger, processes}
 use Rattle.kill_path.specs.Keeping.{Stays}
 use Rattle.kill_path.specs.Leaving.{AreOfOthers, LeavesAlike, standing}
-use Rattle.kill_path.specs.Open.{AreOpen}
+use Rattle.xk_parts.specs.Sound.{AreOpen}
 use Rattle.kill_path.proofs.leaving.leave_servers.Given as goal
 
 -- what the death makes of what is left is what it made at first, and at the seats so far no message of the process is left

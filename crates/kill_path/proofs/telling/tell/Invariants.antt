@@ -1,7 +1,7 @@
 use Rattle.std.proofs.Common.{◌≡◌}
-use Rattle.send_path.specs.Parts.{threads_shown}
+use Rattle.xk_parts.specs.Shown.{threads_shown}
 use Rattle.send_path.specs.Rows.{log_with}
-use Rattle.send_path.specs.Threads.{answered}
+use Rattle.xk_parts.specs.Threads.{answered}
 use Rattle.thread_table.specs.ThreadsOf.{process_count}
 use Rattle.kill_path.specs.Noted.{noted}
 use Rattle.kill_path.specs.Telling.{told_to}

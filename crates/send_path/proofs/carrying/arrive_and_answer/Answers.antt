@@ -2,7 +2,7 @@ use Rattle.std.proofs.Common.{◌≡◌, true, false, sym, ap, subst, ◌∙◌}
 use Rattle.std.specs.Prelude.{IfSome}
 use Rattle.xk_base.specs.Tables.Circle.{is_thread_id, same_thread}
 use Rattle.send_path.proofs.Sends.ArriveLemmas.{receiver_fits}
-use Rattle.send_path.proofs.Rows.ThreadLemmas.{ready_id}
+use Rattle.xk_parts.proofs.ThreadLemmas.{ready_id}
 use Rattle.send_path.proofs.carrying.arrive_and_answer.Goals as goal
 
 pub answer_arrival-requires-clause-who : goal.answer_arrival-requires-clause-who

@@ -1,8 +1,8 @@
 use Rattle.std.proofs.Common.{sym, ap, ◌∙◌}
 use Rattle.machine_model.specs.State.Threads.{passed}
 use Rattle.send_path.specs.Arrivals.{waiting_if}
-use Rattle.send_path.specs.Parts.{threads_shown}
-use Rattle.send_path.specs.Threads.{changed_thread}
+use Rattle.xk_parts.specs.Shown.{threads_shown}
+use Rattle.xk_parts.specs.Threads.{changed_thread}
 use Rattle.send_path.proofs.carrying.leave.Goals.{in-Some, in-None}
 use Rattle.send_path.proofs.carrying.leave.Goals as goal
 

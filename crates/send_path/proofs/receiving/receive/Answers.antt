@@ -1,18 +1,18 @@
 use Rattle.std.proofs.Common.{◌<◌, ◌+◌, [], ◌∷◌, refl, sym, ap, subst, ◌∙◌}
-use Rattle.machine_model.specs.State.Threads.{passed}
+use Rattle.machine_model.specs.State.Threads.{passed, answer_to}
 use Rattle.msg_queue.specs.Seats.{seat_of, used_of, without_queued_at}
 use Rattle.xk_base.specs.declared.records.What.TheVariants.{Reply}
-use Rattle.send_path.specs.Parts.{Tables, threads_shown}
+use Rattle.send_path.proofs.Taken.{CallTables}
+use Rattle.xk_parts.specs.Shown.{threads_shown}
 use Rattle.send_path.specs.Rows.{log_with}
-use Rattle.send_path.specs.Seats.{HasLoanIfLend}
-use Rattle.send_path.specs.Sound.{AreLoansSound, AreSeatsSound}
-use Rattle.send_path.specs.Threads.{answered, changed_thread}
+use Rattle.xk_parts.specs.Seats.{HasLoanIfLend}
+use Rattle.xk_parts.specs.Sound.{AreLoansSound, AreSeatsSound}
+use Rattle.xk_parts.specs.Threads.{answered, changed_thread}
 use Rattle.server_table.specs.ServersOf.{servers_of}
-use Rattle.machine_model.specs.State.Threads.{answer_to}
 use Rattle.send_path.proofs.Receivers.ReceiveLemmas.{message_got, not_found, still_matched, taken_from, taken_loans, taken_sound, told_none, waited}
 use Rattle.send_path.proofs.Servers.SeatLemmas.{seat_changed, seat_in_limit, seat_is_there}
 use Rattle.send_path.proofs.Servers.SoundLemmas.{nothing_taken, oldest_too, one_fewer, slots_few, unchanged_at}
-use Rattle.send_path.proofs.Rows.ThreadLemmas.{ready_id}
+use Rattle.xk_parts.proofs.ThreadLemmas.{ready_id}
 use Rattle.send_path.proofs.receiving.receive.Goals as goal
 
 pub returns-in_default-clause-row : goal.returns-in_default-clause-row
@@ -48,8 +48,8 @@ pub returns-in-Some-take_oldest-clause-row : goal.returns-in-Some-take_oldest-cl
 returns-in-Some-take_oldest-clause-row c =
     let k = c.in-Some.field-0.seat in
     let h = c.in-Some-take_oldest.message in
-    let old : Tables = record { threads = c.args.threads.now; servers = c.args.servers.now; queues = c.args.queues.now; log = c.args.log.now } in
-    let new : Tables = record { threads = c.answer_caller.new.threads; servers = c.args.servers.now; queues = c.keep_received.new.queues; log = c.answer_caller.new.log } in
+    let old : CallTables = record { threads = c.args.threads.now; servers = c.args.servers.now; queues = c.args.queues.now; log = c.args.log.now } in
+    let new : CallTables = record { threads = c.answer_caller.new.threads; servers = c.args.servers.now; queues = c.keep_received.new.queues; log = c.answer_caller.new.log } in
     message_got c.args.who old c.args.sid c.args.wait_for_one c.in-Some.field-0.serial k (sym c.in-Some.ensures.serial) c.in-Some.ensures.seat
     c.requires.sound.seats.all h (sym c.in-Some-take_oldest.ensures.message) new
     (record {
@@ -68,17 +68,21 @@ pub returns-in-Some-take_oldest-clause-sound : goal.returns-in-Some-take_oldest-
 returns-in-Some-take_oldest-clause-sound c = λ above.
     let k = c.in-Some.field-0.seat in
     let h = c.in-Some-take_oldest.message in
-    let old : Tables = record { threads = c.args.threads.now; servers = c.args.servers.now; queues = c.args.queues.now; log = c.args.log.now } in
-    let new : Tables = record { threads = c.answer_caller.new.threads; servers = c.args.servers.now; queues = c.keep_received.new.queues; log = c.answer_caller.new.log } in
+    let old : CallTables = record { threads = c.args.threads.now; servers = c.args.servers.now; queues = c.args.queues.now; log = c.args.log.now } in
+    let new : CallTables = record { threads = c.answer_caller.new.threads; servers = c.args.servers.now; queues = c.keep_received.new.queues; log = c.answer_caller.new.log } in
     record {
       machine = record c.requires.sound.machine { steps = c.requires.sound.machine.steps + 1 };
       matched = still_matched c.args.who old new c.args.sid c.args.wait_for_one c.requires.sound.machine c.requires.sound.matched c.requires.ready above
           (returns-in-Some-take_oldest-clause-row c c.requires.sound.machine);
+      mem = tt;
+      processes = tt;
+      procs = tt;
       seats = subst (λ q. AreSeatsSound (servers_of c.args.servers.now) q)
           (sym (taken_from c.args.queues.now c.take_oldest.new.self c.keep_received.new.queues k h
           (seat_is_there c.args.servers.now c.args.queues.now c.in-Some.field-0.serial.0 k c.in-Some.ensures.seat c.requires.sound.seats.all)
           c.take_oldest.ensures.rest c.keep_received.ensures))
           (taken_sound c.args.who old c.in-Some.field-0.serial.0 k h c.requires.sound c.in-Some.ensures.seat (sym c.in-Some-take_oldest.ensures.message));
+      loans = tt;
     }
 
 pub returns-in-Some-take_oldest-clause-loans : goal.returns-in-Some-take_oldest-clause-loans
@@ -97,8 +101,8 @@ pub returns-then-wait_for_one-clause-row : goal.returns-then-wait_for_one-clause
 returns-then-wait_for_one-clause-row c =
     let k = c.in-Some.field-0.seat in
     let none = sym c.in_default-take_oldest.ensures.message in
-    let old : Tables = record { threads = c.args.threads.now; servers = c.args.servers.now; queues = c.args.queues.now; log = c.args.log.now } in
-    let new : Tables = record { threads = c.pass.new.threads; servers = c.args.servers.now; queues = c.take_oldest.new.self; log = c.args.log.now } in
+    let old : CallTables = record { threads = c.args.threads.now; servers = c.args.servers.now; queues = c.args.queues.now; log = c.args.log.now } in
+    let new : CallTables = record { threads = c.pass.new.threads; servers = c.args.servers.now; queues = c.take_oldest.new.self; log = c.args.log.now } in
     waited c.args.who old c.args.sid c.args.wait_for_one c.in-Some.field-0.serial k (sym c.in-Some.ensures.serial) c.in-Some.ensures.seat
     c.requires.sound.seats.all none new
     (c.take_oldest.ensures.rest ∙ unchanged_at c.args.queues.now k (without_queued_at 0) (nothing_taken (seat_of c.args.queues.now k) none))
@@ -109,15 +113,19 @@ pub returns-then-wait_for_one-clause-sound : goal.returns-then-wait_for_one-clau
 returns-then-wait_for_one-clause-sound c = λ above.
     let k = c.in-Some.field-0.seat in
     let none = sym c.in_default-take_oldest.ensures.message in
-    let old : Tables = record { threads = c.args.threads.now; servers = c.args.servers.now; queues = c.args.queues.now; log = c.args.log.now } in
-    let new : Tables = record { threads = c.pass.new.threads; servers = c.args.servers.now; queues = c.take_oldest.new.self; log = c.args.log.now } in
+    let old : CallTables = record { threads = c.args.threads.now; servers = c.args.servers.now; queues = c.args.queues.now; log = c.args.log.now } in
+    let new : CallTables = record { threads = c.pass.new.threads; servers = c.args.servers.now; queues = c.take_oldest.new.self; log = c.args.log.now } in
     record {
       machine = record c.requires.sound.machine { steps = c.requires.sound.machine.steps + 1 };
       matched = still_matched c.args.who old new c.args.sid c.args.wait_for_one c.requires.sound.machine c.requires.sound.matched c.requires.ready above
           (returns-then-wait_for_one-clause-row c c.requires.sound.machine);
+      mem = tt;
+      processes = tt;
+      procs = tt;
       seats = subst (λ q. AreSeatsSound (servers_of c.args.servers.now) q)
           (sym (c.take_oldest.ensures.rest ∙ unchanged_at c.args.queues.now k (without_queued_at 0) (nothing_taken (seat_of c.args.queues.now k) none)))
           c.requires.sound.seats;
+      loans = tt;
     }
 
 pub returns-then-wait_for_one-clause-loans : goal.returns-then-wait_for_one-clause-loans
@@ -132,8 +140,8 @@ pub returns-else-wait_for_one-clause-row : goal.returns-else-wait_for_one-clause
 returns-else-wait_for_one-clause-row c =
     let k = c.in-Some.field-0.seat in
     let none = sym c.in_default-take_oldest.ensures.message in
-    let old : Tables = record { threads = c.args.threads.now; servers = c.args.servers.now; queues = c.args.queues.now; log = c.args.log.now } in
-    let new : Tables = record { threads = c.answer_caller-else-wait_for_one.new.threads; servers = c.args.servers.now; queues = c.take_oldest.new.self; log = c.answer_caller-else-wait_for_one.new.log } in
+    let old : CallTables = record { threads = c.args.threads.now; servers = c.args.servers.now; queues = c.args.queues.now; log = c.args.log.now } in
+    let new : CallTables = record { threads = c.answer_caller-else-wait_for_one.new.threads; servers = c.args.servers.now; queues = c.take_oldest.new.self; log = c.answer_caller-else-wait_for_one.new.log } in
     told_none c.args.who old c.args.sid c.args.wait_for_one c.in-Some.field-0.serial k (sym c.in-Some.ensures.serial) c.in-Some.ensures.seat
     c.requires.sound.seats.all none new
     (c.take_oldest.ensures.rest ∙ unchanged_at c.args.queues.now k (without_queued_at 0) (nothing_taken (seat_of c.args.queues.now k) none))
@@ -147,15 +155,19 @@ pub returns-else-wait_for_one-clause-sound : goal.returns-else-wait_for_one-clau
 returns-else-wait_for_one-clause-sound c = λ above.
     let k = c.in-Some.field-0.seat in
     let none = sym c.in_default-take_oldest.ensures.message in
-    let old : Tables = record { threads = c.args.threads.now; servers = c.args.servers.now; queues = c.args.queues.now; log = c.args.log.now } in
-    let new : Tables = record { threads = c.answer_caller-else-wait_for_one.new.threads; servers = c.args.servers.now; queues = c.take_oldest.new.self; log = c.answer_caller-else-wait_for_one.new.log } in
+    let old : CallTables = record { threads = c.args.threads.now; servers = c.args.servers.now; queues = c.args.queues.now; log = c.args.log.now } in
+    let new : CallTables = record { threads = c.answer_caller-else-wait_for_one.new.threads; servers = c.args.servers.now; queues = c.take_oldest.new.self; log = c.answer_caller-else-wait_for_one.new.log } in
     record {
       machine = record c.requires.sound.machine { steps = c.requires.sound.machine.steps + 1 };
       matched = still_matched c.args.who old new c.args.sid c.args.wait_for_one c.requires.sound.machine c.requires.sound.matched c.requires.ready above
           (returns-else-wait_for_one-clause-row c c.requires.sound.machine);
+      mem = tt;
+      processes = tt;
+      procs = tt;
       seats = subst (λ q. AreSeatsSound (servers_of c.args.servers.now) q)
           (sym (c.take_oldest.ensures.rest ∙ unchanged_at c.args.queues.now k (without_queued_at 0) (nothing_taken (seat_of c.args.queues.now k) none)))
           c.requires.sound.seats;
+      loans = tt;
     }
 
 pub returns-else-wait_for_one-clause-loans : goal.returns-else-wait_for_one-clause-loans

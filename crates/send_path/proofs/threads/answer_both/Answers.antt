@@ -2,9 +2,9 @@ use Rattle.std.proofs.Common.{sym, ap, ◌∙◌}
 use Rattle.machine_model.specs.State.Threads.{answer_to}
 use Rattle.thread_table.specs.ThreadsOf.{process_count}
 use Rattle.xk_base.specs.declared.records.What.TheVariants.{Reply}
-use Rattle.send_path.specs.Parts.{threads_shown}
+use Rattle.xk_parts.specs.Shown.{threads_shown}
 use Rattle.send_path.specs.Rows.{log_with}
-use Rattle.send_path.specs.Threads.{answered}
+use Rattle.xk_parts.specs.Threads.{answered}
 use Rattle.send_path.proofs.Rows.ReplyLemmas.{both_given, both_told, both_told_back, pushed_two}
 use Rattle.send_path.proofs.threads.answer_both.Goals as goal
 

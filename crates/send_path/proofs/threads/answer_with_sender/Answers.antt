@@ -5,9 +5,9 @@ use Rattle.machine_model.specs.State.Threads.{answer_to, both_answers, passed}
 use Rattle.thread_table.specs.ThreadsOf.{process_count}
 use Rattle.xk_base.specs.Calls.Replies.{plain_words}
 use Rattle.xk_base.specs.declared.records.What.TheVariants.{Reply}
-use Rattle.send_path.specs.Parts.{threads_shown}
+use Rattle.xk_parts.specs.Shown.{threads_shown}
 use Rattle.send_path.specs.Rows.{log_with}
-use Rattle.send_path.specs.Threads.{answered, changed_thread}
+use Rattle.xk_parts.specs.Threads.{answered, changed_thread}
 use Rattle.send_path.proofs.Rows.ReplyLemmas.{both_with_none, one_reply}
 use Rattle.send_path.proofs.threads.answer_with_sender.Goals as goal
 

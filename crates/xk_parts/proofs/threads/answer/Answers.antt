@@ -4,9 +4,9 @@ use Rattle.machine_model.specs.State.Threads.{with_answer}
 use Rattle.std.specs.Option.{option_copied_mut}
 use Rattle.thread_table.specs.ThreadsOf.{threads_of}
 use Rattle.thread_table.specs.declared.thread.ThreadState.TheVariants as table
-use Rattle.send_path.specs.Parts.{threads_shown}
-use Rattle.send_path.proofs.Rows.ThreadLemmas.{answered_one, put_shown}
-use Rattle.send_path.proofs.threads.answer.Goals as goal
+use Rattle.xk_parts.specs.Shown.{threads_shown}
+use Rattle.xk_parts.proofs.ThreadLemmas.{answered_one, put_shown}
+use Rattle.xk_parts.proofs.threads.answer.Goals as goal
 
 pub returns-in-Some-clause-after : goal.returns-in-Some-clause-after
 returns-in-Some-clause-after c =

@@ -1,9 +1,11 @@
--- What the parts of a kernel stand for in the machine: one definition for each of the tables, for the messages of the servers,
--- and for the memory.
-use Rattle.std.specs.Prelude.{ℕ, List, map, Option, Some, None}
-use Rattle.std.specs.Option.{option_map}
+-- What each table of a kernel stands for in the machine.
+use Rattle.std.specs.Prelude.{ℕ, Bool, false, List, map, Option, Some, None}
+use Rattle.std.specs.Option.{option_map, option_map_or}
+use Rattle.irq_claims.specs.ClaimsOf.{claims_of}
+use Rattle.irq_claims.specs.declared.claims.Claim.{Claim as TableClaim}
+use Rattle.irq_claims.specs.declared.claims.Claims.{Claims}
 use Rattle.machine_model.specs.Ending.Ends.{dead_process}
-use Rattle.machine_model.specs.State.Machine.{Machine, Thread, ThreadState, Process, Server, Ready, Receiving, Waiting, Joining, Idle}
+use Rattle.machine_model.specs.State.Machine.{Claim, Process, Server, Thread, ThreadState, Ready, Receiving, Waiting, Joining, Idle}
 use Rattle.msg_queue.specs.Seats.{Seat, message_of, seat_of}
 use Rattle.process_table.specs.State.{ProcessState}
 use Rattle.process_table.specs.ProcessesOf.{processes_of}
@@ -11,15 +13,11 @@ use Rattle.process_table.specs.declared.table.Processes.{Processes}
 use Rattle.server_table.specs.ServersOf.{servers_of}
 use Rattle.server_table.specs.ServerState.{Server as TableServer}
 use Rattle.server_table.specs.declared.table.Servers.{Servers}
-use Rattle.sv32_space.specs.Tie.{Held}
-use Rattle.thread_table.specs.ThreadsOf.{process_count, threads_of}
+use Rattle.thread_table.specs.ThreadsOf.{threads_of}
 use Rattle.thread_table.specs.declared.table.Threads.{Threads}
 use Rattle.thread_table.specs.declared.thread.Thread.{Thread as TableThread}
 use Rattle.thread_table.specs.declared.thread.ThreadState.{ThreadState as TableState}
 use Rattle.thread_table.specs.declared.thread.ThreadState.TheVariants as table
-use Rattle.vm_memory.specs.Memory.{capacity_of, ledger}
-use Rattle.vm_memory.specs.declared.memory.Memory.{Memory}
-use Rattle.xk_base.specs.Log.{LogState}
 use Rattle.xk_base.specs.declared.ids.ThreadId.{ThreadId}
 
 -- ---- threads
@@ -61,39 +59,13 @@ server_of seats s = server_with (seat_of seats s.seat) s
 abbrev pub servers_shown : Servers → List Seat → ℕ → Option Server
 servers_shown servers seats n = option_map (server_of seats) ((servers_of servers).live n)
 
--- ---- the machine
+-- ---- claims: each claimed interrupt with its claim, and the numbers that are pending
 
--- the parts that a call which moves no page takes
-pub record Tables : Type 0 where
-  pub threads : Threads
-  pub servers : Servers
-  pub queues : List Seat
-  pub log : LogState
+abbrev pub claim_of : TableClaim → Claim
+claim_of c = record { pid = c.pid; handler = c.handler; argument = c.arg }
 
-abbrev pub tables_of : Threads → Servers → List Seat → LogState → Tables
-tables_of threads servers queues log = record { threads = threads; servers = servers; queues = queues; log = log }
+abbrev pub claims_shown : Claims → ℕ → Option Claim
+claims_shown claims n = option_map claim_of (claims_of claims n)
 
--- The machine at the turn of a thread, whose threads, servers and messages are those of the parts. All else is as in `m`.
-unfoldable pub with_tables : ThreadId → Tables → Machine → Machine
-with_tables who parts m = record m {
-  processes = process_count parts.threads;
-  cursor = who;
-  threads = threads_shown parts.threads;
-  servers = servers_shown parts.servers parts.queues;
-  next_serial = (servers_of parts.servers).next;
-}
-
--- the parts that a call which ends or makes a loan takes
-pub record Parts (W : Type 0) : Type 0 where
-  pub mem : Memory W
-  pub tables : Tables
-
-abbrev pub parts_of : {W : Type 0} → Memory W → Threads → Servers → List Seat → LogState → Parts W
-parts_of mem threads servers queues log = record { mem = mem; tables = tables_of threads servers queues log }
-
--- the same with the ledger of the memory
-unfoldable pub with_parts : {W : Type 0} → (W → Held) → ThreadId → Parts W → Machine → Machine
-with_parts held who parts m = record (with_tables who parts.tables m) {
-  capacity = capacity_of parts.mem;
-  ledger = ledger held parts.mem;
-}
+abbrev pub pending_shown : Claims → ℕ → Bool
+pending_shown claims n = option_map_or (λ c. c.pending) (claims_of claims n) false

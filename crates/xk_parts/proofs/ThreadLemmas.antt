@@ -17,8 +17,8 @@ use Rattle.thread_table.specs.declared.thread.ThreadState.TheVariants as table
 use Rattle.xk_base.specs.Tables.Circle.{is_thread_id, same_thread}
 use Rattle.xk_base.specs.Tables.Counting.{put_at}
 use Rattle.xk_base.specs.declared.ids.ThreadId.{ThreadId}
-use Rattle.send_path.specs.Parts.{state_of, thread_of, threads_shown}
-use Rattle.send_path.specs.Threads.{ThreadMap, answered, changed_thread}
+use Rattle.xk_parts.specs.Shown.{state_of, thread_of, threads_shown}
+use Rattle.xk_parts.specs.Threads.{ThreadMap, answered, changed_thread}
 
 -- ---- one thread changed
 
