@@ -27,7 +27,7 @@ use Rattle.ledger_model.proofs.ReachingLemmas.{is_free-all}
 use Rattle.ledger_model.proofs.Stepping.MakingLemmas.{make_console_loans, make_loans}
 use Rattle.ledger_model.proofs.Stepping.RemovingLemmas.{reduce_loans, remove_loans}
 use Rattle.ledger_model.proofs.Stepping.WritingLemmas.{bare-loans}
-use Rattle.kill_path.specs.Open.{AreServersSound}
+use Rattle.xk_parts.specs.Sound.{AreServersSound}
 use Rattle.machine_laws.proofs.Calling.RunRefusalLemmas.{can_remove}
 use Rattle.msg_queue.specs.Seats.{Seat}
 use Rattle.server_table.specs.declared.table.Servers.{Servers}
