@@ -4,4 +4,5 @@ pub mod Lemmas
 pub mod ListedLemmas
 pub mod MadeLemmas
 pub mod SavedLemmas
+pub mod SeatSearchLemmas
 pub mod SerialLemmas
