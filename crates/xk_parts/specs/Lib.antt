@@ -1,3 +1,4 @@
+pub mod Comes
 pub mod Parts
 pub mod Seats
 pub mod Shown

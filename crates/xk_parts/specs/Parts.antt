@@ -91,6 +91,10 @@ no_store = record {
 
 -- ---- what no part holds
 
+-- a thread with the address that it has reserved
+abbrev pub as_reservation : ThreadId × ℕ → Reservation
+as_reservation r = record { who = r.0; address = r.1 }
+
 -- how many processes there are, the steps done, whose turn it is, the number of the next message, the step at which the timer is due, and
 -- the reservation
 pub record Beside : Type 0 where
