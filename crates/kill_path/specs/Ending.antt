@@ -1,18 +1,17 @@
 -- Messages that end, each with its loan.
-use Rattle.std.specs.Prelude.{◌≡◌, ◌≤◌, Bool, true, ◌||◌, IfSome, All, List, [], ◌∷◌, map, Option, Some, None}
+use Rattle.std.specs.Prelude.{◌≡◌, ◌≤◌, Bool, true, ◌||◌, All, List, [], ◌∷◌, map, Option, Some, None}
 use Rattle.std.specs.List.{list_any, remove}
 use Rattle.ledger_model.specs.Loans.{IsFresh, LoanRun, Loans, Stands}
 use Rattle.machine_model.specs.Messaging.MessageCounts.{count_in}
 use Rattle.machine_model.specs.Messaging.Messages.{is_of_number as is_message_of, is_sent_by}
 use Rattle.msg_queue.specs.Seats.{Seat, empty_seat, is_of_number, message_of}
 use Rattle.msg_queue.specs.declared.held.Held.{Held}
-use Rattle.xk_base.specs.Calls.Kinds.{is_answered}
-use Rattle.xk_base.specs.Tables.Circle.{is_thread_id, same_thread}
+use Rattle.xk_base.specs.Tables.Circle.{same_thread}
 use Rattle.xk_base.specs.Tables.Counting.{put_at}
 use Rattle.xk_base.specs.declared.ids.Number.{Number}
 use Rattle.xk_base.specs.declared.ids.ThreadId.{ThreadId}
-use Rattle.xk_base.specs.declared.limits.TheConstants.{PROCESS_LIMIT}
 use Rattle.kill_path.specs.ThreadSets.{ThreadSet}
+pub use Rattle.xk_parts.specs.Sound.{HasKnownSender}
 
 -- ---- what can end
 
@@ -23,10 +22,6 @@ IsLoanEndable all number (Some run) = Stands all run × (run.number ≡ number)
 
 abbrev pub IsEndable : Loans → Held → Type 0
 IsEndable all h = IsLoanEndable all h.msg.number h.loan
-
--- the sender of the message, where it has one, can be a thread, and the message is to be answered
-abbrev pub HasKnownSender : Held → Type 0
-HasKnownSender h = IfSome h.msg.sender (λ id. (is_thread_id PROCESS_LIMIT id ≡ true) × (is_answered h.msg.kind ≡ true))
 
 -- each of the messages can end, and no two have one number
 pub record AreEndable (all : Loans) (messages : List Held) : Type 0 where

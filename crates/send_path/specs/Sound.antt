@@ -1,39 +1,24 @@
 -- The soundness of the parts, which each call needs of those that it takes, and keeps.
 use Rattle.xk_ports.specs.declared.store.SwapStore.{Ghosts as SwapStore}
-use Rattle.std.specs.Prelude.{◌≡◌, ℕ, ◌<◌, Bool, true, All, List, length, Option, Some, None}
-use Rattle.ledger_model.specs.Loans.{LoanRun, Loans, Stands, loans}
-use Rattle.machine_model.specs.Messaging.Messages.{loan_kind}
+use Rattle.std.specs.Prelude.{◌≡◌, ℕ, ◌<◌, true, All, List, Some}
+use Rattle.ledger_model.specs.Loans.{loans}
 use Rattle.machine_model.specs.Runs.Matched.{Matched}
 use Rattle.machine_model.specs.State.Machine.{Machine, Server as MachineServer}
 use Rattle.machine_model.specs.State.Servers.{messages_of}
-use Rattle.msg_queue.specs.Seats.{Seat, empty_seat, seat_of}
+use Rattle.msg_queue.specs.Seats.{Seat}
 use Rattle.process_table.specs.ProcessesOf.{process_count as made_for}
 use Rattle.process_table.specs.declared.table.Processes.{Processes}
 use Rattle.server_table.specs.declared.table.Servers.{Servers}
 use Rattle.server_table.specs.ServersOf.{servers_of}
-use Rattle.server_table.specs.ServerState.{Server, ServerState}
-use Rattle.sv32_space.specs.Tie.{Held}
 use Rattle.thread_table.specs.ThreadsOf.{process_count}
 use Rattle.vm_memory.specs.Bytes.{MeansBytes, none_out}
 use Rattle.vm_memory.specs.Memory.{has_failed, ledger, processes, size, store_of}
 use Rattle.vm_memory.specs.Sound.{IsSound as IsMemorySound}
 use Rattle.vm_memory.specs.declared.memory.Memory.{Memory}
 use Rattle.xk_base.specs.declared.ids.Number.{Number}
-use Rattle.xk_base.specs.declared.ids.Pid.{Pid}
-use Rattle.xk_base.specs.declared.ids.Place.{Place}
 use Rattle.xk_base.specs.declared.ids.ThreadId.{ThreadId}
-use Rattle.xk_base.specs.declared.limits.TheConstants.{SERVER_LIMIT}
-use Rattle.xk_base.specs.declared.messages.Message.{Message}
 use Rattle.send_path.specs.Parts.{Parts, Tables, processes_shown, servers_shown, with_parts, with_tables}
-use Rattle.send_path.specs.Seats.{HasLoanIfLend, HasNoServer, messages_at}
-
--- of the seats
-pub record AreSeatsSound (servers : ServerState) (seats : List Seat) : Type 0 where
-  pub all : length seats ≡ SERVER_LIMIT
-  -- a seat without a live server is empty
-  pub empty : (seat : ℕ) → seat < SERVER_LIMIT → HasNoServer servers seat → seat_of seats seat ≡ empty_seat
-  -- a message has a loan exactly where it is a lend or mutable lend
-  pub loans : (seat : ℕ) → All HasLoanIfLend (messages_at (seat_of seats seat))
+pub use Rattle.xk_parts.specs.Sound.{AreLoansAt, AreLoansSound, AreSeatsSound, IsLenderOf, IsLoanOf}
 
 -- Of the parts that a call which moves no page takes. They are those of a matched machine: what the invariant says of threads,
 -- servers and messages holds of them.
@@ -43,30 +28,6 @@ pub record AreTablesSound (who : ThreadId) (parts : Tables) : Type 0 where
   pub seats : AreSeatsSound (servers_of parts.servers) parts.queues
 
 -- ---- with the memory
-
--- the thread's place, or none for none
-abbrev pub IsLenderOf : Option ThreadId → Option Place → Type 0
-IsLenderOf None lender = lender ≡ None
-IsLenderOf (Some sender) lender = (from : Place) × (lender ≡ Some from) × (from.pid ≡ sender.pid)
-
--- The loan of a message is one to the server of this process that stands. It has the message's number, kind, first place and
--- count. Its lender is in the sender's process, and there is none where the message has no sender.
-pub record IsLoanOf (all : Loans) (pid : Pid) (message : Message) (run : LoanRun) : Type 0 where
-  pub stands : Stands all run
-  pub number : run.number ≡ message.number
-  pub kind : loan_kind message.kind ≡ Some run.kind
-  pub first : run.holder ≡ record { pid = pid; vpn = message.first }
-  pub count : run.count ≡ message.count
-  pub lender : IsLenderOf message.sender run.lender
-
--- each loan at a seat is that of its message
-abbrev pub AreLoansAt : Loans → Pid → Seat → Type 0
-AreLoansAt all pid seat = All (λ h. (run : LoanRun) → h.loan ≡ Some run → IsLoanOf all pid h.msg run) (messages_at seat)
-
--- .. at the seat of every live server
-abbrev pub AreLoansSound : Loans → ServerState → List Seat → Type 0
-AreLoansSound all servers seats =
-    (serial : ℕ) (server : Server) → servers.live serial ≡ Some server → AreLoansAt all server.pid (seat_of seats server.seat)
 
 -- the parts that a call which ends or makes a loan takes
 pub record IsSound {W : Type 0} (S : SwapStore W) (who : ThreadId) (parts : Parts W) : Type 0 where
