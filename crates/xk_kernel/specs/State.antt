@@ -1,12 +1,12 @@
 -- The machine that a kernel stands for: that of its parts, with what no part holds.
 use Rattle.std.specs.Prelude.{ℕ, Some}
 use Rattle.std.specs.Option.{option_map}
-use Rattle.machine_model.specs.State.Machine.{Machine, Reservation}
+use Rattle.machine_model.specs.State.Machine.{Machine}
 use Rattle.sv32_space.specs.Tie.{Held}
 use Rattle.vm_memory.specs.Memory.{processes}
-use Rattle.xk_base.specs.declared.ids.ThreadId.{ThreadId}
 use Rattle.xk_kernel.specs.declared.kernel.Kernel.{Kernel}
 use Rattle.xk_parts.specs.Parts.{Beside, Parts, bare_machine, machine_over}
+pub use Rattle.xk_parts.specs.Parts.{as_reservation}
 pub use Rattle.xk_parts.specs.Shown.{claim_of}
 
 -- the parts of the kernel
@@ -20,9 +20,6 @@ all_parts k = record {
   claims = Some k.claims;
   log = k.log;
 }
-
-abbrev pub as_reservation : ThreadId × ℕ → Reservation
-as_reservation r = record { who = r.0; address = r.1 }
 
 -- what no part holds
 abbrev pub beside : {W : Type 0} → Kernel W → Beside
