@@ -1,33 +1,36 @@
--- The machine that a kernel stands for: one definition over what its parts hold.
-use Rattle.std.specs.Prelude.{ℕ}
+-- The machine that a kernel stands for: that of its parts, with what no part holds.
+use Rattle.std.specs.Prelude.{ℕ, Some}
 use Rattle.std.specs.Option.{option_map}
-use Rattle.kill_path.specs.Claims.{claims_shown, pending_shown}
-use Rattle.machine_model.specs.State.Machine.{Machine, Reservation}
-use Rattle.send_path.specs.Parts.{processes_shown, servers_shown, threads_shown}
-use Rattle.server_table.specs.ServersOf.{servers_of}
+use Rattle.machine_model.specs.State.Machine.{Machine}
 use Rattle.sv32_space.specs.Tie.{Held}
-use Rattle.vm_memory.specs.Memory.{capacity_of, ledger, processes}
-use Rattle.xk_base.specs.declared.ids.ThreadId.{ThreadId}
+use Rattle.vm_memory.specs.Memory.{processes}
 use Rattle.xk_kernel.specs.declared.kernel.Kernel.{Kernel}
-pub use Rattle.kill_path.specs.Claims.{claim_of}
+use Rattle.xk_parts.specs.Parts.{Beside, Parts, bare_machine, machine_over}
+pub use Rattle.xk_parts.specs.Parts.{as_reservation}
+pub use Rattle.xk_parts.specs.Shown.{claim_of}
 
-abbrev pub as_reservation : ThreadId × ℕ → Reservation
-as_reservation r = record { who = r.0; address = r.1 }
+-- the parts of the kernel
+abbrev pub all_parts : {W : Type 0} → Kernel W → Parts W
+all_parts k = record {
+  mem = Some k.mem;
+  threads = k.threads;
+  procs = Some k.procs;
+  servers = k.servers;
+  queues = k.queues;
+  claims = Some k.claims;
+  log = k.log;
+}
 
-unfoldable pub machine_of : {W : Type 0} → (W → Held) → Kernel W → Machine
-machine_of held k = record {
-  capacity = capacity_of k.mem;
+-- what no part holds
+abbrev pub beside : {W : Type 0} → Kernel W → Beside
+beside k = record {
   processes = processes k.mem;
-  ledger = ledger held k.mem;
   steps = k.steps;
   cursor = k.cursor;
-  threads = threads_shown k.threads;
-  process = processes_shown k.procs;
-  servers = servers_shown k.servers k.queues;
-  claims = claims_shown k.claims;
-  pending = pending_shown k.claims;
   next_number = k.next;
-  next_serial = (servers_of k.servers).next;
   compare = k.timer;
   reserved = option_map as_reservation k.reserved;
 }
+
+unfoldable pub machine_of : {W : Type 0} → (W → Held) → Kernel W → Machine
+machine_of held k = machine_over held (all_parts k) (bare_machine (beside k))

@@ -18,7 +18,7 @@ use Rattle.thread_table.specs.declared.thread.Thread.{Thread as TableThread}
 use Rattle.thread_table.specs.declared.thread.ThreadState.{ThreadState as TableState}
 use Rattle.thread_table.specs.declared.thread.ThreadState.TheVariants.{Ready, Receiving, Waiting, Joining, Idle}
 use Rattle.vm_memory.specs.Memory.{processes}
-use Rattle.send_path.specs.Parts.{state_of, thread_of}
+use Rattle.xk_parts.specs.Shown.{state_of, thread_of}
 use Rattle.xk_kernel.specs.State.{machine_of}
 use Rattle.xk_kernel.specs.Sound.{IsWhole}
 use Rattle.xk_kernel.proofs.Acting.ThreadLemmas.{is_id}

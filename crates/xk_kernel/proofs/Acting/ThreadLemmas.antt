@@ -14,7 +14,7 @@ use Rattle.thread_table.specs.ThreadsOf.{process_count, threads_of}
 use Rattle.thread_table.specs.declared.table.Threads.{Threads}
 use Rattle.thread_table.specs.declared.thread.Thread.{Thread as TableThread}
 use Rattle.thread_table.proofs.PlaceLemmas.{same_thread-true, same_thread-self, thread_map_valid}
-use Rattle.send_path.specs.Parts.{thread_of}
+use Rattle.xk_parts.specs.Shown.{thread_of}
 use Rattle.xk_kernel.specs.State.{machine_of}
 use Rattle.xk_kernel.specs.declared.kernel.Kernel.{Kernel}
 
@@ -62,16 +62,6 @@ module _ {W : Type 0} (held : W → Held) (k : Kernel W) (id : ThreadId) where
   -- .. or none
   pub not_lent : (o : Option (Bor TableThread)) → option_copied o ≡ threads_of k.threads id → o ≡ None → (machine_of held k).threads id ≡ None
   not_lent o e is = thread_missing (sym e ∙ ap option_copied is)
-
-  -- .. and the thread that it lends to be changed, or none
-  pub to_change : (o : Option (MutBor TableThread)) (t : MutBor TableThread) → option_copied_mut o ≡ threads_of k.threads id → o ≡ Some t
-      → IsSome (threads_of k.threads id) × ((machine_of held k).threads id ≡ Some (thread_of t.now))
-  to_change o t e is =
-      let there : threads_of k.threads id ≡ Some t.now = sym e ∙ ap option_copied_mut is in (ap is_some there, thread_found t.now there)
-
-  pub not_to_change : (o : Option (MutBor TableThread)) → option_copied_mut o ≡ threads_of k.threads id → o ≡ None
-      → (machine_of held k).threads id ≡ None
-  not_to_change o e is = thread_missing (sym e ∙ ap option_copied_mut is)
 
   pub there_is_one : (o : Option (Bor TableThread)) → option_copied o ≡ threads_of k.threads id → o ≡ None
       → IsSome ((machine_of held k).threads id) → ⊥
@@ -124,32 +114,7 @@ put_same m id t e = λ i. record m { threads = λ q. at q (same_thread q id) ref
     at q true s = sym (ap m.threads (same_thread-true q id s) ∙ e)
     at q false s = refl
 
--- none in place of none changes nothing
-pub put_none : (m : Machine) (id : ThreadId) → m.threads id ≡ None → put_thread id None m ≡ m
-put_none m id e = λ i. record m { threads = λ q. at q (same_thread q id) refl i }
-  where
-    at : (q : ThreadId) (b : Bool) → same_thread q id ≡ b → (if b then None else m.threads q) ≡ m.threads q
-    at q true s = sym (ap m.threads (same_thread-true q id s) ∙ e)
-    at q false s = refl
-
 -- a change of a thread that is there
 pub change_there : (m : Machine) (id : ThreadId) (change : Thread → Thread) (t : Thread) → m.threads id ≡ Some t
     → put_thread id (Some (change t)) m ≡ change_thread id change m
 change_there m id change t e = ap (λ o. put_thread id (option_map change o) m) (sym e)
-
-pub change_missing : (m : Machine) (id : ThreadId) (change : Thread → Thread) → m.threads id ≡ None → m ≡ change_thread id change m
-change_missing m id change e = sym (put_none m id e) ∙ ap (λ o. put_thread id (option_map change o) m) (sym e)
-
-unanswered : (o : Option Thread) → o ≡ option_map (with_answer None) o
-unanswered None = refl
-unanswered (Some t) = refl
-
--- an answer to one thread changes that thread
-pub answer_there : (m : Machine) (id : ThreadId) (words : List ℕ) (t : Thread) → m.threads id ≡ Some t
-    → put_thread id (Some (with_answer (Some words) t)) m ≡ give_answers (answer_to id words) m
-answer_there m id words t e = λ i. record m { threads = λ q. at q (same_thread q id) refl i }
-  where
-    at : (q : ThreadId) (b : Bool) → same_thread q id ≡ b
-        → (if b then Some (with_answer (Some words) t) else m.threads q) ≡ option_map (with_answer (if b then Some words else None)) (m.threads q)
-    at q true s = sym (ap (option_map (with_answer (Some words))) (ap m.threads (same_thread-true q id s) ∙ e))
-    at q false s = unanswered (m.threads q)

@@ -17,7 +17,7 @@ use Rattle.thread_table.specs.ThreadMap.{free_tid as table_free_tid}
 use Rattle.thread_table.specs.ThreadsOf.{threads_of}
 use Rattle.thread_table.specs.declared.table.Threads.{Threads}
 use Rattle.thread_table.specs.declared.thread.Thread.{Thread as TableThread}
-use Rattle.send_path.specs.Parts.{thread_of}
+use Rattle.xk_parts.specs.Shown.{thread_of}
 use Rattle.xk_kernel.specs.State.{machine_of}
 use Rattle.xk_kernel.specs.declared.kernel.Kernel.{Kernel}
 use Rattle.xk_kernel.proofs.Acting.ThreadLemmas.{machine_put}

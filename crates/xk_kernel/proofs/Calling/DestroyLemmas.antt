@@ -8,8 +8,7 @@ use Rattle.machine_model.specs.Calling.ServerCalls.{destroy_served, own_server_r
 use Rattle.machine_model.specs.State.Changes.{Outcome, Refused, Served, unless_refused}
 use Rattle.machine_model.specs.State.Machine.{Machine}
 use Rattle.machine_model.specs.State.Servers.{is_own, with_sid}
-use Rattle.send_path.specs.Parts.{with_tables}
-use Rattle.send_path.specs.Seats.{own_serial}
+use Rattle.xk_parts.specs.Seats.{own_serial}
 use Rattle.send_path.proofs.Servers.MachineLemmas.{IsOwn, not_own, own_found}
 use Rattle.server_table.specs.ServersOf.{servers_of}
 use Rattle.sv32_space.specs.Tie.{Held}
@@ -20,6 +19,8 @@ use Rattle.xk_kernel.specs.Sound.{IsWhole}
 use Rattle.xk_kernel.specs.State.{machine_of}
 use Rattle.xk_kernel.specs.declared.kernel.Kernel.{Kernel}
 use Rattle.xk_kernel.proofs.Messaging.PartsLemmas.{machine_tables, tables}
+use Rattle.send_path.proofs.Taken.{without_memory}
+use Rattle.xk_parts.specs.Parts.{machine_at, no_store}
 
 refused_first : (b : Bool) (o : Outcome) → b ≡ false → unless_refused ((not b, ServerNotFound) ∷ []) o ≡ Refused ServerNotFound
 refused_first false o e = refl
@@ -36,7 +37,7 @@ module _ {W : Type 0} (S : SwapStore W) (k : Kernel W) (whole : IsWhole S k) (si
   abbrev row : Outcome
   row = unless_refused (own_server_refusals m sid) (Served (destroy_served m sid))
 
-  shown : with_tables k.cursor (tables k) m ≡ m
+  shown : machine_at no_store.held k.cursor (without_memory (tables k)) m ≡ m
   shown = machine_tables S.held k (tables k) whole.threads
 
   pub refuses : None ≡ own_serial k.cursor.pid sid (servers_of k.servers) → row ≡ Refused ServerNotFound

@@ -8,12 +8,12 @@ use Rattle.xk_base.specs.declared.errors.XousError.TheVariants.{InvalidThread}
 use Rattle.machine_model.specs.State.Changes.{Outcome, Refused, Served, only, refused_or, unless_refused}
 use Rattle.machine_model.specs.State.Machine.{Machine, Joining}
 use Rattle.machine_model.specs.Calling.ThreadCalls.{has_thread, join_refusals, join_served}
-use Rattle.machine_model.specs.State.Threads.{put_thread, thread_id, with_state}
+use Rattle.machine_model.specs.State.Threads.{change_thread, put_thread, thread_id, with_state}
 use Rattle.sv32_space.specs.Tie.{Held}
 use Rattle.thread_table.specs.ThreadsOf.{threads_of}
 use Rattle.thread_table.specs.declared.thread.Thread.{Thread as TableThread}
 use Rattle.thread_table.specs.declared.thread.ThreadState.TheVariants as table
-use Rattle.send_path.specs.Parts.{thread_of}
+use Rattle.xk_parts.specs.Shown.{thread_of}
 use Rattle.xk_kernel.specs.State.{machine_of}
 use Rattle.xk_kernel.specs.declared.kernel.Kernel.{Kernel}
 use Rattle.xk_kernel.proofs.Acting.TidLemmas.{is_some_mapped}
@@ -103,11 +103,8 @@ module _ {W : Type 0} (held : W → Held) (k : Kernel W) (tid : ℕ) where
       let live : there ≡ true = there_is ∙ h.live in
       λ i. not (low i && high i && live i) || ne_eqb tid k.cursor.tid.0 h.other i
 
-  pub join_waits : (new : Kernel W) (t : TableThread) → MayJoin → (machine_of held k).threads k.cursor ≡ Some (thread_of t)
-      → machine_of held new ≡ put_thread k.cursor (Some (thread_of (record t { state = table.Joining (record { 0 = tid }) }))) (machine_of held k)
+  pub join_waits : (new : Kernel W) → MayJoin
+      → machine_of held new ≡ change_thread k.cursor (with_state (Joining (record { 0 = tid }))) (machine_of held k)
       → Served (only (machine_of held new)) ≡ its_row
   unfolding machine_of
-  join_waits new t h own after =
-      ap (λ x. Served (only x)) after
-      ∙ sym (ap (λ o. Served (only (put_thread k.cursor (option_map (with_state (Joining (record { 0 = tid }))) o) (machine_of held k)))) own)
-      ∙ served (machine_of held k) tid (may h)
+  join_waits new h after = ap (λ x. Served (only x)) after ∙ served (machine_of held k) tid (may h)

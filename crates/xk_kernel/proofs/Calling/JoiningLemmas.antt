@@ -10,7 +10,7 @@ use Rattle.thread_table.specs.declared.thread.ThreadState.{ThreadState as TableS
 use Rattle.thread_table.specs.declared.thread.ThreadState.TheVariants as table
 use Rattle.xk_base.specs.declared.ids.ThreadId.{ThreadId}
 use Rattle.xk_base.specs.declared.ids.Tid.{Tid}
-use Rattle.send_path.specs.Parts.{state_of, thread_of}
+use Rattle.xk_parts.specs.Shown.{state_of, thread_of}
 use Rattle.xk_kernel.specs.State.{machine_of}
 use Rattle.xk_kernel.specs.declared.kernel.Kernel.{Kernel}
 

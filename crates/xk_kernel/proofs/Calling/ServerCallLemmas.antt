@@ -34,9 +34,9 @@ use Rattle.process_table.specs.ProcessesOf.{process_count, processes_of}
 use Rattle.process_table.specs.State.{ProcessState, connection, with_connection}
 use Rattle.process_table.specs.declared.table.Processes.{Processes}
 use Rattle.send_path.proofs.Servers.SeatSearchLemmas.{seat_found}
-use Rattle.send_path.specs.Parts.{process_of, server_of}
-use Rattle.send_path.specs.Seats.{HasNoServer}
-use Rattle.send_path.specs.Sound.{AreLoansAt, AreLoansSound, AreSeatsSound}
+use Rattle.xk_parts.specs.Shown.{process_of, server_of}
+use Rattle.xk_parts.specs.Seats.{HasNoServer}
+use Rattle.xk_parts.specs.Sound.{AreLoansAt, AreLoansSound, AreSeatsSound}
 use Rattle.server_table.specs.ServersOf.{servers_of}
 use Rattle.server_table.specs.ServerState.{Server as TableServer, ServerState, at_seat, free_seat, live_count, made_answer, with_server, with_sid}
 use Rattle.server_table.specs.declared.table.Servers.{Servers}

@@ -24,7 +24,7 @@ use Rattle.xk_base.specs.declared.ids.Pid.{Pid}
 use Rattle.xk_base.specs.declared.ids.ThreadId.{ThreadId}
 use Rattle.xk_base.specs.declared.limits.TheConstants.{RECORD_LIMIT}
 use Rattle.xk_kernel.specs.Sound.{IsSound, IsUsable, IsWhole}
-use Rattle.send_path.specs.Parts.{process_of}
+use Rattle.xk_parts.specs.Shown.{process_of}
 use Rattle.xk_kernel.specs.State.{machine_of}
 use Rattle.xk_kernel.specs.Stepping.{Becomes}
 use Rattle.xk_kernel.specs.Telling.{Tells, log_with}

@@ -13,7 +13,7 @@ use Rattle.machine_model.specs.State.Changes.{Change, Delivery, Told, delivery_t
 use Rattle.machine_model.specs.State.Machine.{Machine, Ready, Thread}
 use Rattle.machine_model.specs.State.Threads.{fresh_registers, handler_return, handler_stack, handler_thread, no_answers, put_thread, thread_id}
 use Rattle.machine_model.specs.Stepping.Interrupts.{delivered, delivered_lowest, handler_started, is_claim_of, is_free_for_interrupt, is_idle, lowest_pending}
-use Rattle.send_path.specs.Parts.{state_of, thread_of}
+use Rattle.xk_parts.specs.Shown.{state_of, thread_of}
 use Rattle.sv32_space.specs.Tie.{Held}
 use Rattle.thread_table.specs.ThreadsOf.{threads_of}
 use Rattle.thread_table.specs.declared.table.Threads.{Threads}

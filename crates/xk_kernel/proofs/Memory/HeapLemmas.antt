@@ -34,9 +34,9 @@ use Rattle.vm_memory.specs.Memory.{ledger, processes, size}
 use Rattle.vm_memory.specs.Pages.Removing.{clear_answer}
 use Rattle.vm_memory.specs.Sound.{IsSound as IsMemorySound}
 use Rattle.xk_kernel.specs.Calling.{outcome_of}
-use Rattle.xk_kernel.specs.Knowing.{without_bytes}
+use Rattle.machine_model.specs.Runs.Isolation.{without_bytes}
 use Rattle.xk_kernel.specs.Sound.{IsWhole}
-use Rattle.send_path.specs.Parts.{process_of}
+use Rattle.xk_parts.specs.Shown.{process_of}
 use Rattle.xk_kernel.specs.State.{machine_of}
 use Rattle.xk_kernel.specs.declared.kernel.Kernel.{Kernel}
 use Rattle.xk_kernel.specs.declared.kernel.calls.CallerFate.TheVariants.{Answered}

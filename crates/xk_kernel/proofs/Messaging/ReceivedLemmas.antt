@@ -9,9 +9,9 @@ use Rattle.machine_model.specs.State.Changes.{Change, Outcome, Refused, Retried,
 use Rattle.machine_model.specs.State.Machine.{Machine}
 use Rattle.machine_model.specs.State.Threads.{answer_to}
 use Rattle.send_path.proofs.Receivers.ReceiveLemmas.{still_matched}
-use Rattle.send_path.specs.Parts.{Tables, with_parts, with_tables}
-use Rattle.send_path.specs.Rows.{IsServed, IsTableRow, receive_row}
-use Rattle.send_path.specs.Sound.{AreLoansSound, AreSeatsSound, IsSound as ArePartsSound}
+use Rattle.send_path.proofs.Taken.{CallTables, without_memory, taken}
+use Rattle.send_path.specs.Rows.{IsServed, IsRow, receive_row}
+use Rattle.xk_parts.specs.Sound.{AreLoansSound, AreSeatsSound, AreSound}
 use Rattle.server_table.specs.ServersOf.{servers_of}
 use Rattle.sv32_space.specs.Tie.{Held}
 use Rattle.thread_table.specs.ThreadsOf.{process_count}
@@ -25,6 +25,7 @@ use Rattle.xk_kernel.specs.State.{machine_of}
 use Rattle.xk_kernel.specs.declared.kernel.Kernel.{Kernel}
 use Rattle.xk_kernel.proofs.Acting.OrderLemmas.{ready_is}
 use Rattle.xk_kernel.proofs.Messaging.PartsLemmas.{tables, tables_matched}
+use Rattle.xk_parts.specs.Parts.{machine_at, no_store}
 
 -- ---- it is made for as many processes
 
@@ -63,21 +64,21 @@ module _ (m : Machine) (sid : Sid) where
 
 -- ---- it is sound
 
-module _ {W : Type 0} (S : SwapStore W) (k : Kernel W) (calls : IsCaller S k) (sid : Sid) (waits : Bool) (new : Tables)
-    (row : IsTableRow (receive_row sid waits) k.cursor (tables k) new (Ok (tt {0}))) where
-  abbrev served : IsServed (receive_row sid waits (with_tables k.cursor (tables k) (machine_of S.held k))) (with_tables k.cursor (tables k) (machine_of S.held k))
-      (with_tables k.cursor new (machine_of S.held k)) k.log new.log
+module _ {W : Type 0} (S : SwapStore W) (k : Kernel W) (calls : IsCaller S k) (sid : Sid) (waits : Bool) (new : CallTables)
+    (row : IsRow no_store.held (receive_row sid waits) k.cursor (without_memory (tables k)) (without_memory new) (Ok (tt {0}))) where
+  abbrev served : IsServed (receive_row sid waits (machine_at no_store.held k.cursor (without_memory (tables k)) (machine_of S.held k))) (machine_at no_store.held k.cursor (without_memory (tables k)) (machine_of S.held k))
+      (machine_at no_store.held k.cursor (without_memory new) (machine_of S.held k)) k.log new.log
   served = row (machine_of S.held k)
 
   pub received_count : process_count new.threads ≡ process_count k.threads
-  unfolding with_tables
+  unfolding machine_at
   received_count =
-      received_processes (with_tables k.cursor (tables k) (machine_of S.held k)) sid waits (with_tables k.cursor new (machine_of S.held k)) served.change served.served
+      received_processes (machine_at no_store.held k.cursor (without_memory (tables k)) (machine_of S.held k)) sid waits (machine_at no_store.held k.cursor (without_memory new) (machine_of S.held k)) served.change served.served
       served.machine
 
   pub received_sound : (waits && (k.cursor.tid.0 == 1)) ≡ false → new.servers ≡ k.servers → AreSeatsSound (servers_of new.servers) new.queues
-      → AreLoansSound (loans (ledger S.held k.mem)) (servers_of new.servers) new.queues → ArePartsSound S k.cursor (record { mem = k.mem; tables = new })
-  unfolding machine_of with_parts with_tables
+      → AreLoansSound (loans (ledger S.held k.mem)) (servers_of new.servers) new.queues → AreSound S k.cursor (taken (record { mem = k.mem; tables = new }))
+  unfolding machine_of machine_at
   received_sound free same seats lent = record {
     machine = record (machine_of S.held k) { steps = k.steps + 1 };
     matched =
@@ -85,6 +86,7 @@ module _ {W : Type 0} (S : SwapStore W) (k : Kernel W) (calls : IsCaller S k) (s
         (ready_is S.held k k.cursor ∙ calls.ready) free served;
     mem = calls.whole.mem;
     processes = received_count ∙ calls.whole.threads;
+    procs = tt;
     seats = seats;
     loans = lent;
   }

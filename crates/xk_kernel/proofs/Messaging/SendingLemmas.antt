@@ -4,6 +4,7 @@ use Rattle.std.specs.Prelude.{◌==◌, ◌&&◌, ◌||◌, if◌then◌else◌}
 use Rattle.std.proofs.lemmas.Bool.{false≢true}
 use Rattle.machine_model.specs.State.Changes.{Refused, Retried}
 use Rattle.machine_model.specs.State.Machine.{Machine}
+use Rattle.xk_base.specs.declared.ids.Number.{Number}
 use Rattle.send_path.specs.Sending.{send_row}
 use Rattle.xk_base.specs.Calls.CallNumbers.{connect, join_thread, receive_message, send_message, try_send_message}
 use Rattle.xk_base.specs.Calls.CallWords.{call_number, is_refused_to_handler, send_kind}
@@ -40,8 +41,8 @@ module _ (w : List ℕ) (tries : Bool) (number : call_number w ≡ (if tries the
           by false = refl
 
 -- at a full server the one is refused, and the other made again
-pub full_tried : (w : List ℕ) → call_number w ≡ try_send_message → (send_row w).full ≡ Refused ServerQueueFull
-full_tried w number = ap (λ n. if n == try_send_message then Refused ServerQueueFull else Retried) number
+pub full_tried : (next : Number) (w : List ℕ) → call_number w ≡ try_send_message → (send_row next w).full ≡ Refused ServerQueueFull
+full_tried next w number = ap (λ n. if n == try_send_message then Refused ServerQueueFull else Retried) number
 
-pub full_sent : (w : List ℕ) → call_number w ≡ send_message → (send_row w).full ≡ Retried
-full_sent w number = ap (λ n. if n == try_send_message then Refused ServerQueueFull else Retried) number
+pub full_sent : (next : Number) (w : List ℕ) → call_number w ≡ send_message → (send_row next w).full ≡ Retried
+full_sent next w number = ap (λ n. if n == try_send_message then Refused ServerQueueFull else Retried) number

@@ -5,7 +5,7 @@ use Rattle.machine_model.specs.Stepping.Step.{ends_handler, ends_thread}
 use Rattle.rv32_atomics.specs.Performing.{Core, Performs, PerformsOrLeaves, core_left}
 use Rattle.rv32_hart.specs.declared.ran.Ran.{Ran}
 use Rattle.rv32_hart.specs.declared.ran.Ran.TheVariants as ran
-use Rattle.send_path.specs.Parts.{thread_of}
+use Rattle.xk_parts.specs.Shown.{thread_of}
 use Rattle.sv32_space.specs.Tie.{Held}
 use Rattle.thread_table.specs.States.{is_ready_state}
 use Rattle.thread_table.specs.declared.thread.Thread.{Thread as TableThread}

@@ -14,7 +14,7 @@ use Rattle.machine_model.specs.State.Threads.{change_thread, put_thread, with_re
 use Rattle.machine_model.specs.Stepping.Interrupts.{is_claim_of}
 use Rattle.machine_model.specs.Stepping.Reservations.{reservation_of, reserved_by}
 use Rattle.machine_model.specs.Stepping.Timer.{is_due}
-use Rattle.send_path.specs.Parts.{state_of, thread_of}
+use Rattle.xk_parts.specs.Shown.{state_of, thread_of}
 use Rattle.sv32_space.specs.Tie.{Held}
 use Rattle.thread_table.specs.States.{is_ready_state}
 use Rattle.thread_table.specs.ThreadsOf.{process_count, threads_of}

@@ -18,7 +18,7 @@ use Rattle.irq_claims.specs.ClaimsOf.{claims_of}
 use Rattle.ledger_model.specs.Lawful.{IsLawful}
 use Rattle.ledger_model.specs.Ledger.{Ledger}
 use Rattle.ledger_model.proofs.Pages.BareLemmas.{bare-lawful}
-use Rattle.kill_path.specs.Open.{AreServersSound}
+use Rattle.xk_parts.specs.Sound.{AreServersSound}
 use Rattle.ledger_model.specs.Loans.{bare, loans}
 use Rattle.machine_model.specs.State.Machine.{Thread, Idle, Ready}
 use Rattle.machine_model.specs.Runs.Matched.{Matched}
@@ -43,11 +43,12 @@ use Rattle.xk_base.specs.declared.ids.ThreadId.{ThreadId}
 use Rattle.xk_base.specs.declared.limits.TheConstants.{RECORD_LIMIT, SERVER_LIMIT}
 use Rattle.xk_kernel.proofs.Starting.FirstLedgerLemmas.{IsPlanned, first_no_heap, first_unlent, pid_of_planned, planned_of_pid}
 use Rattle.xk_kernel.proofs.Memory.KnownLemmas.{matched_alike}
-use Rattle.xk_kernel.specs.Knowing.{ComesTo, without_bytes}
+use Rattle.xk_kernel.specs.Knowing.{ComesTo}
+use Rattle.machine_model.specs.Runs.Isolation.{without_bytes}
 use Rattle.xk_kernel.specs.Sound.{IsSound}
 use Rattle.xk_kernel.specs.Start.{first_threads, start, threads_at_start}
-use Rattle.send_path.specs.Parts.{process_of, server_of, thread_of}
-use Rattle.send_path.specs.Seats.{HasLoanIfLend, messages_at}
+use Rattle.xk_parts.specs.Shown.{process_of, server_of, thread_of}
+use Rattle.xk_parts.specs.Seats.{HasLoanIfLend, messages_at}
 use Rattle.xk_kernel.specs.State.{as_reservation, claim_of, machine_of}
 use Rattle.xk_kernel.specs.declared.kernel.Kernel.{Kernel}
 

@@ -24,7 +24,7 @@ ghost use Rattle.xk_base.specs.declared.limits.TheConstants.{RECORD_LIMIT, SERVE
 ghost use Rattle.xk_kernel.specs.Knowing.{ComesTo};
 ghost use Rattle.xk_kernel.specs.Sound.{IsSound, IsUsable};
 ghost use Rattle.xk_kernel.specs.Start.{first_threads, start, threads_at_start};
-ghost use Rattle.send_path.specs.Parts.{thread_of};
+ghost use Rattle.xk_parts.specs.Shown.{thread_of};
 ghost use Rattle.xk_kernel.specs.State.{machine_of};
 ghost use Rattle.xk_kernel.specs.Stepping.{last_of};
 

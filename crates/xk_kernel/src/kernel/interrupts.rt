@@ -10,7 +10,7 @@ ghost use Rattle.machine_model.specs.State.Threads.{fresh_registers, handler_ret
 ghost use Rattle.machine_model.specs.Stepping.Events.{raised};
 ghost use Rattle.machine_model.specs.Stepping.Interrupts.{delivered, is_free_for_interrupt};
 ghost use Rattle.machine_model.specs.Stepping.Step.{after};
-ghost use Rattle.send_path.specs.Parts.{thread_of};
+ghost use Rattle.xk_parts.specs.Shown.{thread_of};
 ghost use Rattle.xk_base.specs.declared.records.What.TheVariants.{End};
 ghost use Rattle.xk_kernel.specs.Sound.{IsWhole};
 ghost use Rattle.xk_kernel.specs.State.{machine_of};
@@ -23,6 +23,7 @@ use irq_claims::Due;
 use thread_table::{Thread, ThreadState};
 use xk_base::limits::INTERRUPT_LIMIT;
 use xk_base::{Pid, ThreadId, Tid, What};
+use xk_parts::wait;
 use xk_ports::SwapStore;
 
 /// The address at which an interrupt handler ends: a fetch there by tid 1 ends it.
@@ -40,11 +41,8 @@ pub(super) fn handler_id(pid: Pid) -> ThreadId
 
 // The interrupt thread as the handler of what is due begins.
 fn handler_thread(due: Due) -> Thread
-    ensures { thread_of result ≡ record {
-      pc = due.handler;
-      regs = fresh_registers handler_return handler_stack (due.k ∷ due.arg ∷ []);
-      state = Ready;
-    } }
+    ensures { let regs = fresh_registers handler_return handler_stack (due.k ∷ due.arg ∷ []) in
+        thread_of result ≡ record { pc = due.handler; regs = regs; state = Ready } }
 {
     Thread {
         pc: due.handler,
@@ -116,13 +114,13 @@ impl<W: SwapStore> Kernel<W> {
         requires handler { self.old.cursor.tid.0 ≡ 1 }
         requires room { length self.old.log.records + 2 ≤ self.old.log.room }
         ensures whole { IsWhole W.SwapStore self.new }
-        ensures tells { Tells W.held self.old self.new
-            (after (End self.old.cursor) (settled (handler_ended self.old.cursor.pid (machine_of W.held self.old)))) }
+        ensures tells { let ended = handler_ended self.old.cursor.pid (machine_of W.held self.old) in
+            Tells W.held self.old self.new (after (End self.old.cursor) (settled ended)) }
         ensures mem { self.new.mem ≡ self.old.mem }
     {
         let who = self.cursor;
         self.log.push(What::End(who));
-        self.threads.thread_mut(who).state = ThreadState::Idle;
+        wait(&mut self.threads, who, ThreadState::Idle);
         self.deliver(who.pid);
     }
 }

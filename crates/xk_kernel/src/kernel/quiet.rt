@@ -6,7 +6,7 @@ ghost use Rattle.machine_model.specs.State.Order.{actor, ready_at};
 ghost use Rattle.machine_model.specs.Stepping.Interrupts.{is_claim_of};
 ghost use Rattle.machine_model.specs.Stepping.Step.{step};
 ghost use Rattle.machine_model.specs.Stepping.Timer.{is_due};
-ghost use Rattle.send_path.specs.Parts.{thread_of};
+ghost use Rattle.xk_parts.specs.Shown.{thread_of};
 ghost use Rattle.thread_table.specs.States.{is_ready_state};
 ghost use Rattle.vm_memory.specs.Bytes.{MeansBytes, none_out};
 ghost use Rattle.vm_memory.specs.Memory.{IsUsable as IsMemoryUsable, has_failed, store_of};

@@ -1,12 +1,12 @@
 //! The calls that make a server, connect to one and end one. The caller is the thread whose turn it is.
 
 ghost use Rattle.std.specs.Prelude.{◌≡◌, ◌+◌, ◌<◌, ◌≤◌, ◌∷◌, length, true};
-ghost use Rattle.machine_model.specs.Calling.ServerCalls.{connect_refusals, connect_served, create_server_refusals, create_server_served, destroy_served, is_missing, own_server_refusals};
+ghost use Rattle.machine_model.specs.Calling.ServerCalls.{connect_refusals, connect_served, create_server_refusals, create_server_served};
+ghost use Rattle.machine_model.specs.Calling.ServerCalls.{destroy_served, is_missing, own_server_refusals};
 ghost use Rattle.machine_model.specs.Runs.Matched.{Matched};
 ghost use Rattle.machine_model.specs.State.Changes.{Served, call_settled, unless_refused, unless_retried};
 ghost use Rattle.machine_model.specs.State.Connections.{connect_caller, own_connections};
 ghost use Rattle.machine_model.specs.State.Order.{ready_at};
-ghost use Rattle.send_path.specs.Seats.{own_serial};
 ghost use Rattle.server_table.specs.ServersOf.{servers_of};
 ghost use Rattle.xk_base.specs.Tables.Circle.{thread_ids};
 ghost use Rattle.xk_base.specs.Tables.Connections.{cid_for, has_room};
@@ -23,6 +23,7 @@ use crate::kernel::calls::CallerFate;
 use kill_path::destroy;
 use syscall_codec::Reply;
 use xk_base::{Cid, Serial, Sid, XousError};
+use xk_parts::{Seated, own_server};
 use xk_ports::SwapStore;
 
 impl<W: SwapStore> Kernel<W> {
@@ -84,8 +85,8 @@ impl<W: SwapStore> Kernel<W> {
     fn connect_to(&mut self, serial: Serial) -> Result<CallerFate, XousError>
         requires whole { IsWhole W.SwapStore self.old }
         ensures whole { IsWhole W.SwapStore self.new }
-        ensures outcome { outcome_of self.old.cursor (machine_of W.held self.new) result
-            ≡ connected_outcome (machine_of W.held self.old) serial }
+        ensures outcome { let old = machine_of W.held self.old in
+            outcome_of self.old.cursor (machine_of W.held self.new) result ≡ connected_outcome old serial }
         ensures undone { IfUndone result (self.new ≡ self.old) }
         ensures mem { self.new.mem ≡ self.old.mem }
         ensures log { self.new.log ≡ self.old.log }
@@ -102,8 +103,8 @@ impl<W: SwapStore> Kernel<W> {
         ensures whole { IsWhole W.SwapStore self.new }
         ensures outcome { let old = machine_of W.held self.old in
             let new = machine_of W.held self.new in
-            outcome_of self.old.cursor new result
-            ≡ unless_retried (is_missing old sid) (unless_refused (connect_refusals old sid) (Served (connect_served old sid))) }
+            let served = unless_refused (connect_refusals old sid) (Served (connect_served old sid)) in
+            outcome_of self.old.cursor new result ≡ unless_retried (is_missing old sid) served }
         ensures undone { IfUndone result (self.new ≡ self.old) }
         ensures mem { self.new.mem ≡ self.old.mem }
         ensures log { self.new.log ≡ self.old.log }
@@ -120,8 +121,8 @@ impl<W: SwapStore> Kernel<W> {
         ensures whole { IsWhole W.SwapStore self.new }
         ensures outcome { let old = machine_of W.held self.old in
             let new = machine_of W.held self.new in
-            outcome_of self.old.cursor new result
-            ≡ unless_refused ((is_missing old sid, NotFound) ∷ connect_refusals old sid) (Served (connect_served old sid)) }
+            let refusals = (is_missing old sid, NotFound) ∷ connect_refusals old sid in
+            outcome_of self.old.cursor new result ≡ unless_refused refusals (Served (connect_served old sid)) }
         ensures undone { IfUndone result (self.new ≡ self.old) }
         ensures mem { self.new.mem ≡ self.old.mem }
         ensures log { self.new.log ≡ self.old.log }
@@ -130,17 +131,6 @@ impl<W: SwapStore> Kernel<W> {
             Some(serial) => self.connect_to(serial),
             None => Err(XousError::ServerNotFound),
         }
-    }
-
-    // The live server with that identifier, where it is one of the caller's process.
-    fn own_server(&self, sid: Sid) -> Option<Serial>
-        ensures { result ≡ own_serial self.now.cursor.pid sid (servers_of self.now.servers) }
-    {
-        let serial = self.servers.find(sid)?;
-        if self.servers.owner(serial)? != self.cursor.pid {
-            return None;
-        }
-        Some(serial)
     }
 
     // DestroyServer: a server of the caller's process ends. The loans of its messages end, and whoever
@@ -155,8 +145,8 @@ impl<W: SwapStore> Kernel<W> {
         ensures none { PutsNoneOut self.old self.new }
         ensures keeps { Keeps W.SwapStore self.old self.new }
     {
-        match self.own_server(sid) {
-            Some(serial) => destroy(
+        match own_server(&self.servers, self.cursor.pid, sid) {
+            Some(Seated { serial, .. }) => destroy(
                 &mut self.mem,
                 &mut self.threads,
                 &mut self.servers,

@@ -15,6 +15,7 @@ use syscall_codec::Reply;
 use thread_table::ThreadState;
 use xk_base::limits::TID_LIMIT;
 use xk_base::{ThreadId, Tid, XousError};
+use xk_parts::wait;
 use xk_ports::SwapStore;
 
 impl<W: SwapStore> Kernel<W> {
@@ -70,7 +71,7 @@ impl<W: SwapStore> Kernel<W> {
         if self.threads.get(id).is_none() {
             return Err(XousError::InvalidThread);
         }
-        self.threads.thread_mut(who).state = ThreadState::Joining(awaited);
+        wait(&mut self.threads, who, ThreadState::Joining(awaited));
         Ok(CallerFate::Waits)
     }
 }

@@ -6,13 +6,14 @@ ghost use Rattle.vm_memory.specs.Memory.{processes};
 ghost use Rattle.xk_base.specs.Tables.Circle.{is_thread_id};
 ghost use Rattle.xk_base.specs.declared.records.What.TheVariants.{Reply};
 ghost use Rattle.xk_kernel.specs.Sound.{IsWhole};
-ghost use Rattle.send_path.specs.Parts.{thread_of};
+ghost use Rattle.xk_parts.specs.Shown.{thread_of};
 ghost use Rattle.xk_kernel.specs.State.{machine_of};
 ghost use Rattle.xk_kernel.specs.Telling.{Tells};
 
 use crate::kernel::Kernel;
 use thread_table::{Thread, ThreadState};
 use xk_base::{Regs, ThreadId, What};
+use xk_parts::{answer, pass};
 use xk_ports::SwapStore;
 
 /// The address at which a thread ends: a fetch there by a thread above tid 1 ends it.
@@ -64,9 +65,7 @@ impl<W: SwapStore> Kernel<W> {
         ensures told { length self.new.log.records ≡ length self.old.log.records + 1 }
         ensures mem { self.new.mem ≡ self.old.mem }
     {
-        let thread = self.threads.thread_mut(id);
-        thread.regs.set_arguments(words);
-        thread.state = ThreadState::Ready;
+        answer(&mut self.threads, id, words);
         self.log.push(What::Reply(id, words));
     }
 
@@ -78,9 +77,7 @@ impl<W: SwapStore> Kernel<W> {
         ensures mem { self.new.mem ≡ self.old.mem }
         ensures log { self.new.log ≡ self.old.log }
     {
-        if let Some(thread) = self.threads.get_mut(id) {
-            thread.pc = thread.pc.wrapping_add(4);
-        }
+        pass(&mut self.threads, id);
     }
 
     // A step of the thread begins: it is its turn, and there is no record of the step so far.

@@ -22,7 +22,7 @@ use Rattle.xk_base.specs.Tables.Circle.{is_thread_id}
 use Rattle.xk_base.specs.Calls.Registers.{reg_at}
 use Rattle.xk_base.specs.declared.records.What.TheVariants.{Call, Fault}
 use Rattle.xk_kernel.specs.Running.{machine_after}
-use Rattle.send_path.specs.Parts.{thread_of}
+use Rattle.xk_parts.specs.Shown.{thread_of}
 use Rattle.xk_kernel.specs.State.{machine_of}
 use Rattle.xk_kernel.proofs.Acting.ActLemmas.{actor_known, at, begun_calls, begun_done, begun_log, call_known, device_executed, fetched, if_failed_at, left_executed, next_executed, run_done, told_end, told_executed, told_handler, trap_executed, unless_at}
 use Rattle.xk_kernel.proofs.Acting.SettlesLemmas.{begun_few, begun_settles, crowds_acted, done_few, end_settles, handler_settles, on_failure, out_before, out_since, settles_alike, settles_as}

@@ -1,12 +1,12 @@
 -- A message is forwarded, or the caller refused.
 use Rattle.std.proofs.Common.{◌∙◌}
 use Rattle.machine_model.specs.State.Changes.{Refused}
-use Rattle.send_path.specs.Forwarding.{with_all}
-use Rattle.send_path.specs.Parts.{parts_of}
+use Rattle.send_path.proofs.Taken.{over, parts_of}
+use Rattle.xk_parts.specs.Parts.{machine_at}
 use Rattle.send_path.specs.Rows.{table_row}
 use Rattle.xk_kernel.specs.State.{machine_of}
 use Rattle.xk_kernel.proofs.Acting.OrderLemmas.{ready_is}
-use Rattle.xk_kernel.proofs.Messaging.PartsLemmas.{left_alone, machine_over, new_whole, parts, parts_sound_over, with_new}
+use Rattle.xk_kernel.proofs.Messaging.PartsLemmas.{left_ready, left_with_processes, machine_with_processes, sound_without, new_whole, parts, parts_sound_over, with_new}
 use Rattle.xk_kernel.proofs.Messaging.RowLemmas.{served_room, served_settles, undone_settles}
 use Rattle.xk_kernel.proofs.kernel.Kernel.forward_message.Goals as goal
 
@@ -21,7 +21,7 @@ pub returns-in-Ok-clause-whole : goal.returns-in-Ok-clause-whole
 returns-in-Ok-clause-whole g c =
     let k = c.args.self.now in
     let new = parts_of c.forward-forwarded.new.mem c.forward-forwarded.new.threads k.servers c.forward-forwarded.new.queues c.forward-forwarded.new.log in
-    new_whole g.W.SwapStore k new k.next c.requires.calls.whole c.in-Ok.ensures.sound.sound c.in-Ok.ensures.mem.size
+    new_whole g.W.SwapStore k new k.next c.requires.calls.whole (sound_without g.W.SwapStore k new c.in-Ok.ensures.sound) c.in-Ok.ensures.mem.size
     (served_room (c.in-Ok.ensures.row (machine_of g.W.SwapStore.held k)))
 
 pub returns-in-Ok-clause-tells : goal.returns-in-Ok-clause-tells
@@ -29,15 +29,21 @@ returns-in-Ok-clause-tells g c =
     let k = c.args.self.now in
     let held = g.W.SwapStore.held in
     let new = parts_of c.forward-forwarded.new.mem c.forward-forwarded.new.threads k.servers c.forward-forwarded.new.queues c.forward-forwarded.new.log in
-    served_settles held k (table_row c.args.words) (with_new k new k.next) (with_all held k.cursor k.procs (parts k) (machine_of held k))
-    (with_all held k.cursor k.procs new (machine_of held k)) (machine_over held k (parts k) c.requires.calls.whole.threads)
-    (machine_over held k new c.in-Ok.ensures.sound.sound.processes) (c.in-Ok.ensures.row (machine_of held k))
+    served_settles held k (table_row c.args.words) (with_new k new k.next) (machine_at held k.cursor (over k.procs (parts k)) (machine_of held k))
+    (machine_at held k.cursor (over k.procs new) (machine_of held k)) (machine_with_processes held k (parts k) c.requires.calls.whole.threads)
+    (machine_with_processes held k new c.in-Ok.ensures.sound.processes) (c.in-Ok.ensures.row (machine_of held k))
 
 pub returns-in-Err-clause-tells : goal.returns-in-Err-clause-tells
 returns-in-Err-clause-tells g c =
     let k = c.args.self.now in
     let held = g.W.SwapStore.held in
     let new = parts_of c.forward-forwarded.new.mem c.forward-forwarded.new.threads k.servers c.forward-forwarded.new.queues c.forward-forwarded.new.log in
-    undone_settles held k (table_row c.args.words) (with_new k new k.next) c.refuse.new.self (with_all held k.cursor k.procs (parts k) (machine_of held k))
-    (Refused c.in-Err.error) (left_alone k new c.in-Err.ensures.row.0) (machine_over held k (parts k) c.requires.calls.whole.threads)
+    undone_settles held k (table_row c.args.words) (with_new k new k.next) c.refuse.new.self (machine_at held k.cursor (over k.procs (parts k)) (machine_of held k))
+    (Refused c.in-Err.error) (left_with_processes k new c.in-Err.ensures.row.0) (machine_with_processes held k (parts k) c.requires.calls.whole.threads)
     (c.in-Err.ensures.row.1 (machine_of held k)) c.refuse.ensures.tells
+
+pub refuse-requires-clause-ready : goal.refuse-requires-clause-ready
+refuse-requires-clause-ready g c =
+    let k = c.args.self.now in
+    let new = parts_of c.forward-forwarded.new.mem c.forward-forwarded.new.threads k.servers c.forward-forwarded.new.queues c.forward-forwarded.new.log in
+    left_ready g.W.SwapStore.held k (with_new k new k.next) (left_with_processes k new c.in-Err.ensures.row.0) c.requires.calls.ready

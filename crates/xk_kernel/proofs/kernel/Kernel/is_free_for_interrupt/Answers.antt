@@ -1,6 +1,6 @@
 use Rattle.std.proofs.Common.{ap, sym, ◌∙◌}
 use Rattle.machine_model.specs.Stepping.Interrupts.{is_idle}
-use Rattle.send_path.specs.Parts.{state_of}
+use Rattle.xk_parts.specs.Shown.{state_of}
 use Rattle.xk_kernel.specs.State.{machine_of}
 use Rattle.xk_kernel.proofs.Acting.ThreadLemmas.{not_lent, thread_lent}
 use Rattle.xk_kernel.proofs.Interrupting.DeliveryLemmas.{idle_found, idle_missing, not_idle}

@@ -1,8 +1,7 @@
 use Rattle.std.proofs.Common.{sym, ap, ◌∙◌}
 use Rattle.std.specs.Prelude.{is_some}
 use Rattle.thread_table.proofs.CountLemmas.{is_some_copied}
-use Rattle.xk_kernel.proofs.Acting.ThreadLemmas.{machine_put, thread_found}
-use Rattle.xk_kernel.proofs.Ending.EndingLemmas.{ready_is_there}
+use Rattle.xk_kernel.specs.State.{machine_of}
 use Rattle.xk_kernel.proofs.Calling.JoinLemmas.{join_low, join_high, join_itself, join_absent, join_waits}
 use Rattle.xk_kernel.proofs.kernel.Kernel.join_thread.Goals as goal
 use Rattle.xk_kernel.proofs.kernel.Kernel.join_thread.Goals.{then-tid-lt2-via-then-tid-lt2, then-tid-lt2-via-else-tid-lt2+then-tid, then-tid-lt2-via-else-tid-lt2+else-tid+then-tid-who}
@@ -20,17 +19,14 @@ returns-then-is_none-clause-outcome g c =
     join_absent g.W.SwapStore.held c.args.self.now c.args.tid
     (sym (ap is_some c.get.ensures) ∙ is_some_copied c.get.result ∙ c.if-is_none.ensures)
 
-pub thread_mut-requires : goal.thread_mut-requires
-thread_mut-requires g c = ready_is_there g.W.SwapStore.held c.args.self.now c.args.self.now.cursor c.requires.ready
-
 pub returns-clause-outcome : goal.returns-clause-outcome
+unfolding machine_of
 returns-clause-outcome g c =
-    join_waits g.W.SwapStore.held c.args.self.now c.args.tid _ c.thread_mut.result.now
+    join_waits g.W.SwapStore.held c.args.self.now c.args.tid (record c.args.self.now { threads = c.wait.new.threads })
     (record {
       above = c.if-tid-lt2.false;
       within = c.if-tid.false;
       other = c.if-tid-who.false;
       live = sym (ap is_some c.get.ensures) ∙ is_some_copied c.get.result ∙ c.if-is_none.ensures;
     })
-    (thread_found g.W.SwapStore.held c.args.self.now c.args.self.now.cursor c.thread_mut.result.now c.thread_mut.ensures.value)
-    (machine_put g.W.SwapStore.held c.args.self.now _ c.args.self.now.cursor _ (c.thread_mut.ensures.writes _))
+    (λ i. record (machine_of g.W.SwapStore.held c.args.self.now) { threads = c.wait.ensures.after i })

@@ -3,26 +3,27 @@ use Rattle.std.proofs.Common.{refl, ap, ◌∙◌}
 use Rattle.ledger_model.specs.Loans.{loans}
 use Rattle.kill_path.proofs.FitLemmas.{open_loans}
 use Rattle.machine_model.specs.State.Changes.{Refused}
-use Rattle.send_path.specs.Parts.{Parts, Tables, tables_of, with_tables}
+use Rattle.send_path.proofs.Taken.{CallParts, CallTables, tables_of, without_memory, taken}
 use Rattle.send_path.specs.Rows.{receive_row}
-use Rattle.send_path.specs.Sound.{IsSound as ArePartsSound}
 use Rattle.vm_memory.specs.Memory.{ledger}
 use Rattle.xk_kernel.specs.State.{machine_of}
 use Rattle.xk_kernel.proofs.Acting.OrderLemmas.{ready_is}
-use Rattle.xk_kernel.proofs.Messaging.PartsLemmas.{left_alone, left_ready, machine_tables, new_whole, tables, tables_sound, with_new}
+use Rattle.xk_kernel.proofs.Messaging.PartsLemmas.{left_without_memory, left_ready, machine_tables, new_whole, tables, tables_sound, with_new}
 use Rattle.xk_kernel.proofs.Messaging.ReceivedLemmas.{received_sound}
 use Rattle.xk_kernel.proofs.Messaging.RowLemmas.{served_room, served_settles, undone_settles}
 use Rattle.xk_kernel.proofs.kernel.Kernel.receive_message.Given.{Over}
 use Rattle.xk_kernel.proofs.kernel.Kernel.receive_message.Goals as goal
+use Rattle.xk_parts.specs.Parts.{machine_at, no_store}
+use Rattle.xk_parts.specs.Sound.{AreSound}
 
 -- the parts that are left
-abbrev left : (g : Over) → goal.In-Ok g → Parts g.row.W.Denot
+abbrev left : (g : Over) → goal.In-Ok g → CallParts g.row.W.Denot
 left g c = record {
   mem = c.args.self.now.mem;
   tables = tables_of c.receive-received.new.threads c.args.self.now.servers c.receive-received.new.queues c.receive-received.new.log;
 }
 
-left_sound : (g : Over) (c : goal.In-Ok g) → ArePartsSound g.W.SwapStore c.args.self.now.cursor (left g c)
+left_sound : (g : Over) (c : goal.In-Ok g) → AreSound g.W.SwapStore c.args.self.now.cursor (taken (left g c))
 left_sound g c =
     let k = c.args.self.now in
     received_sound g.W.SwapStore k c.requires.calls c.args.sid c.args.waits (left g c).tables c.in-Ok.ensures.row c.requires.free
@@ -40,11 +41,11 @@ receive-received-requires-clause-sound g c =
 pub refuse-requires-clause-ready : goal.refuse-requires-clause-ready
 refuse-requires-clause-ready g c =
     let k = c.args.self.now in
-    let new : Parts g.row.W.Denot = record {
+    let new : CallParts g.row.W.Denot = record {
       mem = k.mem;
       tables = tables_of c.receive-received.new.threads k.servers c.receive-received.new.queues c.receive-received.new.log;
     } in
-    left_ready g.W.SwapStore.held k (with_new k new k.next) (left_alone k new (ap (λ (t : Tables). record { mem = k.mem; tables = t }) c.in-Err.ensures.row.0))
+    left_ready g.W.SwapStore.held k (with_new k new k.next) (left_without_memory k new.tables c.in-Err.ensures.row.0)
     c.requires.calls.ready
 
 pub returns-in-Ok-clause-whole : goal.returns-in-Ok-clause-whole
@@ -58,18 +59,18 @@ returns-in-Ok-clause-tells g c =
     let k = c.args.self.now in
     let held = g.W.SwapStore.held in
     let new = left g c in
-    served_settles held k (receive_row c.args.sid c.args.waits) (with_new k new k.next) (with_tables k.cursor (tables k) (machine_of held k))
-    (with_tables k.cursor new.tables (machine_of held k)) (machine_tables held k (tables k) c.requires.calls.whole.threads)
+    served_settles held k (receive_row c.args.sid c.args.waits) (with_new k new k.next) (machine_at no_store.held k.cursor (without_memory (tables k)) (machine_of held k))
+    (machine_at no_store.held k.cursor (without_memory new.tables) (machine_of held k)) (machine_tables held k (tables k) c.requires.calls.whole.threads)
     (machine_tables held k new.tables (left_sound g c).processes) (c.in-Ok.ensures.row (machine_of held k))
 
 pub returns-in-Err-clause-tells : goal.returns-in-Err-clause-tells
 returns-in-Err-clause-tells g c =
     let k = c.args.self.now in
     let held = g.W.SwapStore.held in
-    let new : Parts g.row.W.Denot = record {
+    let new : CallParts g.row.W.Denot = record {
       mem = k.mem;
       tables = tables_of c.receive-received.new.threads k.servers c.receive-received.new.queues c.receive-received.new.log;
     } in
-    undone_settles held k (receive_row c.args.sid c.args.waits) (with_new k new k.next) c.refuse.new.self (with_tables k.cursor (tables k) (machine_of held k))
-    (Refused c.in-Err.error) (left_alone k new (ap (λ (t : Tables). record { mem = k.mem; tables = t }) c.in-Err.ensures.row.0))
+    undone_settles held k (receive_row c.args.sid c.args.waits) (with_new k new k.next) c.refuse.new.self (machine_at no_store.held k.cursor (without_memory (tables k)) (machine_of held k))
+    (Refused c.in-Err.error) (left_without_memory k new.tables c.in-Err.ensures.row.0)
     (machine_tables held k (tables k) c.requires.calls.whole.threads) (c.in-Err.ensures.row.1 (machine_of held k)) c.refuse.ensures.tells

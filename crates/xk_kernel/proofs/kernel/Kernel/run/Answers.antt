@@ -14,7 +14,7 @@ use Rattle.vm_memory.specs.Memory.{IsUsable, has_failed, store_of}
 use Rattle.xk_base.specs.Outside.{Rose}
 use Rattle.xk_kernel.specs.Running.{machine_after}
 use Rattle.xk_kernel.specs.Sound.{IsWhole, Keeps}
-use Rattle.send_path.specs.Parts.{thread_of}
+use Rattle.xk_parts.specs.Shown.{thread_of}
 use Rattle.xk_kernel.specs.State.{machine_of}
 use Rattle.xk_kernel.proofs.Acting.ThreadLemmas.{in_table, machine_put, put_same, thread_found}
 use Rattle.xk_kernel.proofs.Memory.MemoryPartLemmas.{keeps_with, with_memory}
@@ -36,7 +36,9 @@ pub returns-in-Ecall-clause-whole : goal.returns-in-Ecall-clause-whole
 returns-in-Ecall-clause-whole g c =
     let back : c.self-1.given.0 ≡ c.run_over-user.result.mem.now = given_back _ _ _ c.self-1.given c.run_over-user.ensures.rest.0 in
     subst (λ mem. IsWhole g.W.SwapStore (record (with_both mem c.run_over-user.new.timer c.args.self.now) { threads = with_thread c.args.self.now.threads c.args.who c.run_over-user.new.thread })) (sym back)
-    (whole_lent g.W.SwapStore _ _ (c.thread_mut-thread.ensures.count _) (whole_ran g.W.SwapStore c.args.self.now c.run_over-user.result.mem.now c.run_over-user.new.timer c.requires.whole c.args.who.pid c.run_over-user.ensures.rest.2))
+    (whole_lent g.W.SwapStore (with_both c.run_over-user.result.mem.now c.run_over-user.new.timer c.args.self.now)
+    (with_thread c.args.self.now.threads c.args.who c.run_over-user.new.thread) (c.thread_mut-thread.ensures.count _)
+    (whole_ran g.W.SwapStore c.args.self.now c.run_over-user.result.mem.now c.run_over-user.new.timer c.requires.whole c.args.who.pid c.run_over-user.ensures.rest.2))
 
 pub returns-in-Ecall-clause-usable : goal.returns-in-Ecall-clause-usable
 returns-in-Ecall-clause-usable g c =
@@ -183,7 +185,10 @@ pub returns-in-Next-clause-whole : goal.returns-in-Next-clause-whole
 returns-in-Next-clause-whole g c =
     let back : c.self-1.given.0 ≡ c.run_over-user.result.mem.now = given_back _ _ _ c.self-1.given c.run_over-user.ensures.rest.0 in
     subst (λ mem. IsWhole g.W.SwapStore (record (with_both mem c.run_over-user.new.timer c.args.self.now) { threads = with_thread c.args.self.now.threads c.args.who (record { pc = c.in-Next.next; regs = c.run_over-user.new.thread.regs; state = c.run_over-user.new.thread.state }) })) (sym back)
-    (whole_lent g.W.SwapStore _ _ (c.thread_mut-thread.ensures.count _) (whole_ran g.W.SwapStore c.args.self.now c.run_over-user.result.mem.now c.run_over-user.new.timer c.requires.whole c.args.who.pid c.run_over-user.ensures.rest.2))
+    (whole_lent g.W.SwapStore (with_both c.run_over-user.result.mem.now c.run_over-user.new.timer c.args.self.now)
+    (with_thread c.args.self.now.threads c.args.who
+    (record { pc = c.in-Next.next; regs = c.run_over-user.new.thread.regs; state = c.run_over-user.new.thread.state })) (c.thread_mut-thread.ensures.count _)
+    (whole_ran g.W.SwapStore c.args.self.now c.run_over-user.result.mem.now c.run_over-user.new.timer c.requires.whole c.args.who.pid c.run_over-user.ensures.rest.2))
 
 pub returns-in-Next-clause-usable : goal.returns-in-Next-clause-usable
 returns-in-Next-clause-usable g c =

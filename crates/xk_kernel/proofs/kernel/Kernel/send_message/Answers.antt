@@ -2,15 +2,16 @@
 use Rattle.std.proofs.Common.{◌≡◌, ◌+◌, ◌<◌, ◌≤◌, ap, ◌∙◌, arith}
 use Rattle.std.specs.Prelude.{if◌then◌else◌}
 use Rattle.machine_model.specs.State.Changes.{Refused, Retried}
-use Rattle.send_path.specs.Parts.{parts_of, with_parts}
+use Rattle.send_path.proofs.Taken.{over, parts_of}
+use Rattle.send_path.specs.Sending.{with_number}
+use Rattle.xk_parts.specs.Parts.{machine_at}
 use Rattle.send_path.specs.Rows.{table_row}
-use Rattle.send_path.specs.Sending.{with_next}
 use Rattle.xk_base.specs.Calls.CallNumbers.{send_message, try_send_message}
 use Rattle.xk_base.specs.Calls.CallWords.{call_number}
 use Rattle.xk_base.specs.declared.errors.XousError.TheVariants.{ServerQueueFull}
 use Rattle.xk_kernel.specs.State.{machine_of}
 use Rattle.xk_kernel.proofs.Acting.OrderLemmas.{ready_is}
-use Rattle.xk_kernel.proofs.Messaging.PartsLemmas.{left_alone, left_ready, machine_next, new_keeps, new_whole, parts, parts_sound_over, with_new}
+use Rattle.xk_kernel.proofs.Messaging.PartsLemmas.{left_with_processes, sound_without, left_ready, machine_next, new_keeps, new_whole, parts, parts_sound_over, with_new}
 use Rattle.xk_kernel.proofs.Messaging.RowLemmas.{served_room, served_settles, undone_settles}
 use Rattle.xk_kernel.proofs.Messaging.SendingLemmas.{full_sent, full_tried, is_send, may_send}
 use Rattle.xk_kernel.proofs.kernel.Kernel.send_message.Goals as goal
@@ -45,7 +46,8 @@ returns-in-Accepted-clause-whole g c =
     let k = c.args.self.now in
     let new = parts_of c.send-sent.new.mem c.send-sent.new.threads k.servers c.send-sent.new.queues c.send-sent.new.log in
     new_whole g.W.SwapStore k new (k.next + 1) c.requires.calls.whole
-    (c.in-Accepted.ensures.sound (may_send c.args.words c.args.tries c.requires.number (machine_of g.W.SwapStore.held k) c.requires.free)).sound
+    (sound_without g.W.SwapStore k new
+    (c.in-Accepted.ensures.sound (may_send c.args.words c.args.tries c.requires.number (machine_of g.W.SwapStore.held k) c.requires.free)))
     c.in-Accepted.ensures.mem.size (served_room (c.in-Accepted.ensures.row (machine_of g.W.SwapStore.held k)))
 
 pub returns-in-Accepted-clause-tells : goal.returns-in-Accepted-clause-tells
@@ -54,9 +56,9 @@ returns-in-Accepted-clause-tells g c =
     let k = c.args.self.now in
     let new = parts_of c.send-sent.new.mem c.send-sent.new.threads k.servers c.send-sent.new.queues c.send-sent.new.log in
     let held = g.W.SwapStore.held in
-    let sound = (c.in-Accepted.ensures.sound (may_send c.args.words c.args.tries c.requires.number (machine_of held k) c.requires.free)).sound in
-    served_settles held k (table_row c.args.words) (with_new k new (k.next + 1)) (with_parts held k.cursor (parts k) (with_next k.procs k.next (machine_of held k)))
-    (with_parts held k.cursor new (with_next k.procs (k.next + 1) (machine_of held k))) (machine_next held k (parts k) c.requires.calls.whole.threads k.next)
+    let sound = c.in-Accepted.ensures.sound (may_send c.args.words c.args.tries c.requires.number (machine_of held k) c.requires.free) in
+    served_settles held k (table_row c.args.words) (with_new k new (k.next + 1)) (machine_at held k.cursor (over k.procs (parts k)) (with_number k.next (machine_of held k)))
+    (machine_at held k.cursor (over k.procs new) (with_number (k.next + 1) (machine_of held k))) (machine_next held k (parts k) c.requires.calls.whole.threads k.next)
     (machine_next held k new sound.processes (k.next + 1)) (c.in-Accepted.ensures.row (machine_of held k))
 
 pub returns-in-Accepted-clause-keeps : goal.returns-in-Accepted-clause-keeps
@@ -72,7 +74,7 @@ pub refuse-requires-clause-ready : goal.refuse-requires-clause-ready
 refuse-requires-clause-ready g c =
     let k = c.args.self.now in
     let new = parts_of c.send-sent.new.mem c.send-sent.new.threads k.servers c.send-sent.new.queues c.send-sent.new.log in
-    left_ready g.W.SwapStore.held k (with_new k new k.next) (left_alone k new c.in-Full.ensures.row.0) c.requires.calls.ready
+    left_ready g.W.SwapStore.held k (with_new k new k.next) (left_with_processes k new c.in-Full.ensures.row.0) c.requires.calls.ready
 
 pub returns-in-Full-clause-tells : goal.returns-in-Full-clause-tells
 returns-in-Full-clause-tells g c =
@@ -82,8 +84,8 @@ returns-in-Full-clause-tells g c =
     let number : call_number c.args.words ≡ try_send_message =
     c.requires.number ∙ ap (λ b. if b then try_send_message else send_message) c.if-tries.true in
     undone_settles held k (table_row c.args.words) (with_new k new k.next) c.refuse.new.self
-    (with_parts held k.cursor (parts k) (with_next k.procs k.next (machine_of held k))) (Refused ServerQueueFull) (left_alone k new c.in-Full.ensures.row.0)
-    (machine_next held k (parts k) c.requires.calls.whole.threads k.next) (c.in-Full.ensures.row.1 (machine_of held k) ∙ full_tried c.args.words number)
+    (machine_at held k.cursor (over k.procs (parts k)) (with_number k.next (machine_of held k))) (Refused ServerQueueFull) (left_with_processes k new c.in-Full.ensures.row.0)
+    (machine_next held k (parts k) c.requires.calls.whole.threads k.next) (c.in-Full.ensures.row.1 (machine_of held k) ∙ full_tried (record { 0 = k.next }) c.args.words number)
     c.refuse.ensures.tells
 
 pub returns-in-Full-2-clause-tells : goal.returns-in-Full-2-clause-tells
@@ -94,8 +96,8 @@ returns-in-Full-2-clause-tells g c =
     let number : call_number c.args.words ≡ send_message =
     c.requires.number ∙ ap (λ b. if b then try_send_message else send_message) c.if-tries.false in
     undone_settles held k (table_row c.args.words) (with_new k new k.next) c.retry.new.self
-    (with_parts held k.cursor (parts k) (with_next k.procs k.next (machine_of held k))) Retried (left_alone k new c.in-Full-2.ensures.row.0)
-    (machine_next held k (parts k) c.requires.calls.whole.threads k.next) (c.in-Full-2.ensures.row.1 (machine_of held k) ∙ full_sent c.args.words number)
+    (machine_at held k.cursor (over k.procs (parts k)) (with_number k.next (machine_of held k))) Retried (left_with_processes k new c.in-Full-2.ensures.row.0)
+    (machine_next held k (parts k) c.requires.calls.whole.threads k.next) (c.in-Full-2.ensures.row.1 (machine_of held k) ∙ full_sent (record { 0 = k.next }) c.args.words number)
     c.retry.ensures.tells
 
 -- ---- refused
@@ -104,7 +106,7 @@ pub refuse-requires-in-Refused-clause-ready : goal.refuse-requires-in-Refused-cl
 refuse-requires-in-Refused-clause-ready g c =
     let k = c.args.self.now in
     let new = parts_of c.send-sent.new.mem c.send-sent.new.threads k.servers c.send-sent.new.queues c.send-sent.new.log in
-    left_ready g.W.SwapStore.held k (with_new k new k.next) (left_alone k new c.in-Refused.ensures.row.0) c.requires.calls.ready
+    left_ready g.W.SwapStore.held k (with_new k new k.next) (left_with_processes k new c.in-Refused.ensures.row.0) c.requires.calls.ready
 
 pub returns-in-Refused-clause-tells : goal.returns-in-Refused-clause-tells
 returns-in-Refused-clause-tells g c =
@@ -112,6 +114,6 @@ returns-in-Refused-clause-tells g c =
     let new = parts_of c.send-sent.new.mem c.send-sent.new.threads k.servers c.send-sent.new.queues c.send-sent.new.log in
     let held = g.W.SwapStore.held in
     undone_settles held k (table_row c.args.words) (with_new k new k.next) c.refuse-in-Refused.new.self
-    (with_parts held k.cursor (parts k) (with_next k.procs k.next (machine_of held k))) (Refused c.in-Refused.error)
-    (left_alone k new c.in-Refused.ensures.row.0) (machine_next held k (parts k) c.requires.calls.whole.threads k.next)
+    (machine_at held k.cursor (over k.procs (parts k)) (with_number k.next (machine_of held k))) (Refused c.in-Refused.error)
+    (left_with_processes k new c.in-Refused.ensures.row.0) (machine_next held k (parts k) c.requires.calls.whole.threads k.next)
     (c.in-Refused.ensures.row.2 (machine_of held k)) c.refuse-in-Refused.ensures.tells

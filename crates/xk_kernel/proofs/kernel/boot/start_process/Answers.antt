@@ -3,7 +3,7 @@ use Rattle.machine_model.specs.State.Threads.{first_handler_thread}
 use Rattle.thread_table.specs.ThreadsOf.{threads_of}
 use Rattle.thread_table.specs.declared.thread.Thread.{Thread as TableThread}
 use Rattle.thread_table.specs.declared.thread.ThreadState.TheVariants as table
-use Rattle.send_path.specs.Parts.{thread_of}
+use Rattle.xk_parts.specs.Shown.{thread_of}
 use Rattle.xk_kernel.proofs.Starting.StartLemmas.{process_started}
 use Rattle.xk_kernel.proofs.kernel.boot.start_process.Goals as goal
 

@@ -1,0 +1,10 @@
+pub mod ComingLemmas
+pub mod FillingLemmas
+pub mod FrameLemmas
+pub mod MadeFirstLemmas
+pub mod PageRowLemmas
+pub mod PagesBackLemmas
+pub mod PutPageLemmas
+pub mod PuttingLemmas
+pub mod SizeLemmas
+pub mod StandingLemmas

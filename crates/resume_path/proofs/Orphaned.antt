@@ -1,0 +1,5 @@
+pub mod OrphanLemmas
+pub mod OrphanBackLemmas
+pub mod OrphanLoopLemmas
+pub mod OrphanStepLemmas
+pub mod OrphansBackLemmas

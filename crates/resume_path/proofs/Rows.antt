@@ -1,0 +1,10 @@
+pub mod ApartLemmas
+pub mod ClaimRowLemmas
+pub mod KeptLemmas
+pub mod MessageRowLemmas
+pub mod OnceLemmas
+pub mod ProcessRowLemmas
+pub mod RowLemmas
+pub mod SeatListLemmas
+pub mod ServerRowLemmas
+pub mod ThreadRowLemmas

@@ -1,0 +1,6 @@
+pub mod Coming
+pub mod Messages
+pub mod Resumable
+pub mod Resumed
+pub mod Standing
+pub mod Tables

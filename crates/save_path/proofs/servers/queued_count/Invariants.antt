@@ -1,0 +1,7 @@
+use Rattle.std.proofs.Common.{◌≤◌, length}
+use Rattle.msg_queue.specs.Seats.{seat_of}
+use Rattle.save_path.proofs.servers.queued_count.Given as goal
+
+-- there are at least so many
+abbrev pub invariant-loop-k : goal.invariant-loop-k
+invariant-loop-k l = l.k ≤ length (seat_of l.queues l.seat).queued

@@ -1,0 +1,13 @@
+//! The state of a machine is spelled, part by part, into a sheet: a run that goes on from these bytes is one that was never cut.
+#![tactic(auto)]
+
+mod claims;
+mod numbers;
+mod pages;
+mod processes;
+mod saving;
+mod servers;
+mod threads;
+
+pub use numbers::Numbers;
+pub use saving::save;
