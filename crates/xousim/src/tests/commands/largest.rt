@@ -3,14 +3,13 @@
 
 use crate::status::Status;
 use crate::tests::expecting::{expect_out, expect_outcome, expect_transcript};
-use crate::tests::lines::transcript;
 use crate::tests::programs::Act::{Call, Store, Tell};
 use crate::tests::programs::{
     Act, INCREASE_HEAP, MAP_MEMORY, PAGE, UNMAP_MEMORY, image_of_programs,
 };
 use crate::tests::running::{Named, Outcome, SOUND, add_file, run_words, words};
 use crate::tests::swapping::expect_in_houses;
-use crate::tests::{FIRST_IMAGE, FIRST_RECORDS, first_lines};
+use crate::tests::{FIRST_IMAGE, first_lines};
 use kernel_args::ArgFault;
 use std::alloc::Global;
 use std::process::Abort;
@@ -252,8 +251,8 @@ fn all_slots_are_taken(rt: HostRuntime) -> Result<(), Fail> {
     expect_in_houses(&rt, alloc, files, &[(0x3_D000, "16384")], &ALL_SLOTS)
 }
 
-/// A million ticks of one step each, and these lines.
-fn million_events(alloc: Global, more: &[u8]) -> Result<Vec<u8>, Fail> {
+/// A million ticks of one step each.
+fn million_events(alloc: Global) -> Result<Vec<u8>, Fail> {
     let mut thousand = Vec::new(alloc);
     for _ in 0..1000 {
         thousand.extend_from_slice(b"tick 1\n")?;
@@ -262,32 +261,17 @@ fn million_events(alloc: Global, more: &[u8]) -> Result<Vec<u8>, Fail> {
     for _ in 0..1000 {
         events.extend_from_slice(thousand.as_slice())?;
     }
-    events.extend_from_slice(more)?;
     Ok(events)
 }
 
-/// The first run over a million event lines and these.
-fn play_million(alloc: Global, more: &[u8]) -> Result<Outcome, Fail> {
-    let image = FIRST_IMAGE.to_vec(alloc)?;
-    let events = million_events(alloc, more)?;
-    call(alloc, image, &["trace", "i", "e"], events.as_slice())
-}
-
+/// The first run over a million event lines.
 #[test]
 fn million_event_lines(rt: HostRuntime) -> Result<(), Fail> {
-    let lines = first_lines(rt.alloc(), "end 1000000 done")?;
-    let run = play_million(rt.alloc(), b"")?;
+    let alloc = rt.alloc();
+    let image = FIRST_IMAGE.to_vec(alloc)?;
+    let events = million_events(alloc)?;
+    let lines = first_lines(alloc, "end 1000000 done")?;
+    let run = call(alloc, image, &["trace", "i", "e"], events.as_slice())?;
     expect_out(&rt, &run, Status::Done, lines.as_slice());
-    Ok(())
-}
-
-/// The line behind a million is bad, and counted.
-#[test]
-fn bad_line_behind_a_million(rt: HostRuntime) -> Result<(), Fail> {
-    let lines = transcript(rt.alloc(), &FIRST_RECORDS)?;
-    let run = play_million(rt.alloc(), b"tick\n")?;
-    let status = Status::EventFault(1_000_001);
-    let notes = b"event fault at line 1000001\n";
-    expect_outcome(&rt, &run, status, lines.as_slice(), notes);
     Ok(())
 }
