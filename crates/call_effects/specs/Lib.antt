@@ -1,0 +1,4 @@
+pub mod Deciding
+pub mod Effects
+pub mod Rows
+pub mod Verdicts

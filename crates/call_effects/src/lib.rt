@@ -1,0 +1,10 @@
+//! What the system calls of the abstract machine do, as data: the effects of each, and the verdict on it. The definitions stand in
+//! `specs/`; the functions have no code, and their contracts are the laws.
+#![tactic(auto)]
+
+ghost use Rattle.call_effects.specs.Deciding.{CallsAreMeant};
+
+/// What comes of each system call is what the verdict on it means: its tests in their order, and then its effects in theirs.
+pub fn calls_are_meant()
+    ensures { CallsAreMeant }
+{}
