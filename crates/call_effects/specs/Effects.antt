@@ -100,7 +100,7 @@ pub data Effect : Type 0 where
   -- a message does this at a server
   Serves : Serial → MessageStep → Effect
   -- these servers close: their loans end, and they go with their messages
-  Closes : (ℕ → Bool) → Effect
+  ClosesServers : (ℕ → Bool) → Effect
   -- the queued messages that threads of a process wait for go, and their loans end
   Unqueues : Pid → Effect
   -- the held ones have no sender from now on, and their loans become orphans
@@ -124,7 +124,7 @@ apply (Founds server) m = with_server server m
 apply (Connects serial) m = connect_caller serial m
 apply TakesNumber m = record m { next_number = m.next_number + 1 }
 apply (Serves serial step) m = change_server serial (at_server step) m
-apply (Closes which) m = (closed which m).machine
+apply (ClosesServers which) m = (closed which m).machine
 apply (Unqueues pid) m = senders_queued_gone pid m
 apply (Orphans pid) m = senders_held_gone pid m
 apply (Forgets pid) m = forgotten pid m

@@ -1,5 +1,6 @@
 -- What comes of a call, as data: its tests in their order, and then what is done.
-use Rattle.std.specs.Prelude.{ℕ, Bool, List, Option, None}
+use Rattle.std.specs.Prelude.{ℕ, Bool, true, List, Option, None}
+use Rattle.std.specs.List.{list_all}
 use Rattle.xk_base.specs.declared.errors.XousError.{XousError}
 use Rattle.xk_base.specs.declared.ids.Pid.{Pid}
 use Rattle.machine_model.specs.State.Changes.{Outcome, Refused, Served, unless_refused, unless_retried}
@@ -33,6 +34,13 @@ meant m (RetriedIf test verdict) = unless_retried test (meant m verdict)
 -- the verdict on a call that the cursor's thread makes with these eight words
 abbrev pub Row : Type 0
 Row = Machine → List ℕ → Verdict
+
+-- each effect of the verdict passes the test
+abbrev pub all_effects : (Effect → Bool) → Verdict → Bool
+all_effects test (Refuses error) = true
+all_effects test (Does plan) = list_all test plan.effects
+all_effects test (RefusedIf refusals verdict) = all_effects test verdict
+all_effects test (RetriedIf retried verdict) = all_effects test verdict
 
 -- ---- plans
 

@@ -8,7 +8,7 @@ use Rattle.machine_model.specs.Ending.Closing.{is_sender_at, refused_server}
 use Rattle.machine_model.specs.Messaging.Receivers.{receiving_at}
 use Rattle.machine_model.specs.State.Connections.{own_connections}
 use Rattle.machine_model.specs.State.Threads.{answer_to, both_answers}
-use Rattle.call_effects.specs.Effects.{Closes, Connects, Founds}
+use Rattle.call_effects.specs.Effects.{ClosesServers, Connects, Founds}
 use Rattle.call_effects.specs.Verdicts.{RefusedIf, RetriedIf, Row, answers_caller, answers_with}
 
 -- CreateServerWithAddress: a server, and the caller is connected to it
@@ -42,4 +42,4 @@ destroy_row m w =
     let this : ℕ → Bool = λ n. n == serial.0 in
     let others = both_answers (refused_server (is_sender_at this m)) (refused_server (receiving_at m serial)) in
     RefusedIf (own_server_refusals m (named_sid w))
-    (answers_with (both_answers (answer_to m.cursor plain_words) others) (Closes this ∷ []))
+    (answers_with (both_answers (answer_to m.cursor plain_words) others) (ClosesServers this ∷ []))

@@ -8,7 +8,7 @@ use Rattle.machine_model.specs.Ending.Closing.{is_sender_at, refused_server}
 use Rattle.machine_model.specs.State.Machine.{Joining, Machine}
 use Rattle.machine_model.specs.State.Servers.{is_server_of}
 use Rattle.machine_model.specs.State.Threads.{new_thread, thread_id}
-use Rattle.call_effects.specs.Effects.{Closes, EndsTurn, Forgets, Orphans, Starts, Unqueues, Waits}
+use Rattle.call_effects.specs.Effects.{ClosesServers, EndsTurn, Forgets, Orphans, Starts, Unqueues, Waits}
 use Rattle.call_effects.specs.Verdicts.{Does, Plan, RefusedIf, Row, answers_caller, answers_nobody}
 
 -- Yield: the turn ends
@@ -35,7 +35,7 @@ abbrev pub death_plan : Pid → Machine → Plan
 death_plan pid m =
     let own : ℕ → Bool = λ n. is_server_of pid (m.servers n) in
     record {
-      effects = Closes own ∷ Unqueues pid ∷ Orphans pid ∷ Forgets pid ∷ [];
+      effects = ClosesServers own ∷ Unqueues pid ∷ Orphans pid ∷ Forgets pid ∷ [];
       answers = refused_server (is_sender_at own m);
       gone = Some pid;
     }
