@@ -1,0 +1,5 @@
+pub mod Deciding
+pub mod Effects
+pub mod Footprints
+pub mod Rows
+pub mod Verdicts

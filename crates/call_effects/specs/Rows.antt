@@ -1,0 +1,6 @@
+-- The verdict on each call.
+pub mod InterruptRows
+pub mod MemoryRows
+pub mod MessageRows
+pub mod ServerRows
+pub mod ThreadRows
