@@ -5,8 +5,6 @@ pub mod Interrupting
 pub mod Memory
 pub mod Messaging
 pub mod Quieting
-pub mod Resuming
 pub mod Ringing
 pub mod Running
-pub mod Saving
 pub mod Starting

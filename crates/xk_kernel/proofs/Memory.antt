@@ -7,5 +7,6 @@ pub mod MadeLemmas
 pub mod MapLemmas
 pub mod MemoryCallLemmas
 pub mod MemoryPartLemmas
+pub mod SavedLemmas
 pub mod StoreLemmas
 pub mod TimerViewLemmas

@@ -1,24 +1,13 @@
--- When the bytes of a kernel's pages are known, what a machine is but for them, and when pages stand in frames alone.
+-- When the bytes of a kernel's pages are known, and when pages stand in frames alone.
 use Rattle.xk_ports.specs.declared.store.SwapStore.{Ghosts as SwapStore}
 use Rattle.std.specs.Prelude.{◌≡◌, ◌<◌, ◌==◌, ◌||◌, Bool, true, IsTrue}
 use Rattle.ledger_model.specs.Ledger.{Ledger, pages}
-use Rattle.ledger_model.specs.Loans.{bare}
-use Rattle.machine_model.specs.State.Machine.{Machine}
-use Rattle.sv32_space.specs.Tie.{Held}
 use Rattle.vm_memory.specs.Bytes.{MeansBytesOver, is_known, none_out}
 use Rattle.vm_memory.specs.Memory.{frames_for_pages, processes, size}
 use Rattle.xk_kernel.specs.declared.kernel.Kernel.{Kernel}
+pub use Rattle.xk_parts.specs.Comes.{ComesTo}
 
 -- ---- bytes
-
--- the machine without the bytes of its pages
-abbrev pub without_bytes : Machine → Machine
-without_bytes m = record m { ledger = bare m.ledger }
-
--- The state is that one: but for the bytes of pages, whatever the store does; and wholly where these are known.
-pub record ComesTo (known : Type 0) (new target : Machine) : Type 0 where
-  pub alike : without_bytes new ≡ without_bytes target
-  pub whole : known → new ≡ target
 
 -- bytes are known over a call: the store is honest and tells, or no page is out before and after
 abbrev pub KnowsBytes : {W : Type 0} → SwapStore W → Kernel W → Kernel W → Type 0

@@ -3,10 +3,8 @@ pub mod Acting
 pub mod Calling
 pub mod Quiet
 pub mod QuietOver
-pub mod Resuming
 pub mod Ringing
 pub mod Running
-pub mod Saving
 pub mod Sound
 pub mod Start
 pub mod State

@@ -1,18 +1,14 @@
 -- The machine that a kernel stands for: one definition over what its parts hold.
-use Rattle.std.specs.Prelude.{ℕ}
 use Rattle.std.specs.Option.{option_map}
 use Rattle.kill_path.specs.Claims.{claims_shown, pending_shown}
-use Rattle.machine_model.specs.State.Machine.{Machine, Reservation}
+use Rattle.machine_model.specs.State.Machine.{Machine}
 use Rattle.send_path.specs.Parts.{processes_shown, servers_shown, threads_shown}
 use Rattle.server_table.specs.ServersOf.{servers_of}
 use Rattle.sv32_space.specs.Tie.{Held}
 use Rattle.vm_memory.specs.Memory.{capacity_of, ledger, processes}
-use Rattle.xk_base.specs.declared.ids.ThreadId.{ThreadId}
 use Rattle.xk_kernel.specs.declared.kernel.Kernel.{Kernel}
 pub use Rattle.kill_path.specs.Claims.{claim_of}
-
-abbrev pub as_reservation : ThreadId × ℕ → Reservation
-as_reservation r = record { who = r.0; address = r.1 }
+pub use Rattle.xk_parts.specs.Parts.{as_reservation}
 
 unfoldable pub machine_of : {W : Type 0} → (W → Held) → Kernel W → Machine
 machine_of held k = record {

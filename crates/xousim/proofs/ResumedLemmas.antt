@@ -12,7 +12,7 @@ use Rattle.suspend_image.specs.StateBytes.{saved_bytes}
 use Rattle.suspend_image.proofs.Saved.StateAgainLemmas.{saved_spelled}
 use Rattle.suspend_image.proofs.SpellsLemmas.{spelled_once}
 use Rattle.machine_history.specs.History.{History, followed_by, go_on, history}
-use Rattle.xk_kernel.specs.Resuming.Resumable.{IsResumable}
+use Rattle.resume_path.specs.Resumable.{IsResumable}
 use Rattle.machine_history.proofs.Histories.HistoryLemmas.{history_append}
 use Rattle.machine_history.proofs.Histories.LimitLemmas.{history_within}
 use Rattle.machine_history.proofs.Histories.MomentLemmas.{history_matched}

@@ -5,7 +5,7 @@ use Rattle.machine_model.specs.State.Machine.{Machine}
 use Rattle.state_rows.specs.declared.state.State.{State}
 use Rattle.suspend_image.specs.StateBytes.{saved_bytes}
 use Rattle.machine_history.specs.History.{History, history}
-use Rattle.xk_kernel.specs.Resuming.Resumable.{IsResumable}
+use Rattle.resume_path.specs.Resumable.{IsResumable}
 
 -- The events don't meet the limit, the file has the state bytes of the state to which they lead, and this is the state that is read of it.
 pub record IsCut (before : List Event) (limit : ℕ) (start : Machine) (file : List ℕ) (state : State) : Type 0 where

@@ -7,7 +7,7 @@ use Rattle.state_rows.specs.declared.state.State.{State}
 use Rattle.suspend_image.specs.FileFaults.{IsFirstFault}
 use Rattle.state_rows.specs.Machines.{machine_of}
 use Rattle.xk_base.specs.declared.limits.TheConstants.{FRAME_LIMIT}
-use Rattle.xk_kernel.specs.Resuming.Resumable.{CanSplit, IsResumable, resumed_frames}
+use Rattle.resume_path.specs.Resumable.{CanSplit, IsResumable, resumed_frames}
 use Rattle.xousim.specs.declared.commands.states.TheConstants.{STATE_LIMIT}
 
 -- ---- a sound file

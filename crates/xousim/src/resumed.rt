@@ -9,7 +9,7 @@ ghost use Rattle.state_rows.specs.Machines.{machine_of};
 ghost use Rattle.suspend_image.specs.Saveable.{IsSaveable};
 ghost use Rattle.suspend_image.specs.StateBytes.{saved_bytes};
 ghost use Rattle.machine_history.specs.History.{history};
-ghost use Rattle.xk_kernel.specs.Resuming.Resumable.{IsResumable};
+ghost use Rattle.resume_path.specs.Resumable.{IsResumable};
 ghost use Rattle.xousim.specs.Outcome.Resumes.{limit_from};
 ghost use Rattle.xousim.specs.Resumed.{IsCut, IsJoined};
 

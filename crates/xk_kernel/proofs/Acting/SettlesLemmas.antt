@@ -28,7 +28,8 @@ use Rattle.xk_base.specs.declared.ids.ThreadId.{ThreadId}
 use Rattle.xk_base.specs.declared.records.What.TheVariants.{Call}
 use Rattle.xk_kernel.specs.Acting.{IsDone, TellsFew, told_by}
 use Rattle.xk_kernel.specs.Calling.{CrowdsBy}
-use Rattle.xk_kernel.specs.Knowing.{IsCrowded, without_bytes}
+use Rattle.xk_kernel.specs.Knowing.{IsCrowded}
+use Rattle.machine_model.specs.Runs.Isolation.{without_bytes}
 use Rattle.xk_kernel.specs.State.{machine_of}
 use Rattle.xk_kernel.specs.Telling.{log_with}
 use Rattle.xk_kernel.specs.declared.kernel.Kernel.{Kernel}

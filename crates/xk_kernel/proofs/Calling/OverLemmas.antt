@@ -6,7 +6,8 @@ use Rattle.machine_model.specs.State.Machine.{Machine}
 use Rattle.machine_model.specs.Stepping.Step.{after}
 use Rattle.sv32_space.specs.Tie.{Held}
 use Rattle.xk_base.specs.declared.records.What.{What}
-use Rattle.xk_kernel.specs.Knowing.{ComesTo, without_bytes}
+use Rattle.xk_kernel.specs.Knowing.{ComesTo}
+use Rattle.machine_model.specs.Runs.Isolation.{without_bytes}
 use Rattle.xk_kernel.specs.State.{machine_of}
 use Rattle.xk_kernel.specs.Telling.{Tells, TellsOver, log_with}
 use Rattle.xk_kernel.specs.declared.kernel.Kernel.{Kernel}

@@ -27,7 +27,6 @@ use Rattle.process_table.specs.ProcessesOf.{processes_of}
 use Rattle.process_table.specs.ProcessMap.{change}
 use Rattle.process_table.specs.State.{with_heap as heap_set}
 use Rattle.process_table.specs.declared.table.Processes.{Processes}
-use Rattle.sv32_space.specs.Tie.{Held}
 use Rattle.syscall_codec.specs.declared.replies.Reply.TheVariants.{Range}
 use Rattle.vm_memory.specs.declared.memory.Memory.{Memory}
 use Rattle.vm_memory.specs.Pages.Making.{if_room, make_answer, page_place, run_place}
@@ -39,7 +38,8 @@ use Rattle.xk_kernel.specs.Sound.{IsWhole}
 use Rattle.xk_kernel.specs.State.{machine_of}
 use Rattle.xk_kernel.specs.declared.kernel.Kernel.{Kernel}
 use Rattle.xk_kernel.specs.declared.kernel.calls.CallerFate.TheVariants.{Answered}
-use Rattle.xk_kernel.proofs.Memory.KeptLoanLemmas.{free_below_messages, sound-lawful}
+use Rattle.xk_parts.proofs.LawfulLemmas.{sound_lawful}
+use Rattle.xk_kernel.proofs.Memory.KeptLoanLemmas.{free_below_messages}
 use Rattle.xk_kernel.proofs.Memory.MadeLemmas.{crowds_by, grown_comes, made_crowded}
 use Rattle.xk_kernel.proofs.Memory.HeapLemmas.{aligned, none_of_three, not_above, on_heap, second_of_three, third_of_three, with_parts}
 
@@ -120,7 +120,7 @@ module _ {W : Type 0} (S : SwapStore W) (k : Kernel W) (whole : IsWhole S k) (he
     free_above i low =
         let p = place_after (page_place k.cursor.pid first) i in
         let below : first.0 + i < 262144 = omega (arith, (above i low).to) in
-        free_below_messages (processes k.mem) (capacity_of k.mem) (ledger S.held k.mem) p (sound-lawful S k.mem whole.mem) below
+        free_below_messages (processes k.mem) (capacity_of k.mem) (ledger S.held k.mem) p (sound_lawful S k.mem whole.mem) below
         (no_home (first.0 + i) (above i low) ((ledger S.held k.mem).home p) refl)
 
     fits : fits_window Heap first.0 (bytes / 4096) ≡ true

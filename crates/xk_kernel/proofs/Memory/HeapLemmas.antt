@@ -27,14 +27,13 @@ use Rattle.process_table.specs.ProcessesOf.{process_count, processes_of}
 use Rattle.process_table.specs.ProcessMap.{change, heap_of as heap_in}
 use Rattle.process_table.specs.State.{ProcessState, new_process, with_heap as heap_set}
 use Rattle.process_table.specs.declared.table.Processes.{Processes}
-use Rattle.sv32_space.specs.Tie.{Held}
 use Rattle.syscall_codec.specs.declared.replies.Reply.TheVariants.{Plain}
 use Rattle.vm_memory.specs.declared.memory.Memory.{Memory}
 use Rattle.vm_memory.specs.Memory.{ledger, processes, size}
 use Rattle.vm_memory.specs.Pages.Removing.{clear_answer}
 use Rattle.vm_memory.specs.Sound.{IsSound as IsMemorySound}
 use Rattle.xk_kernel.specs.Calling.{outcome_of}
-use Rattle.xk_kernel.specs.Knowing.{without_bytes}
+use Rattle.machine_model.specs.Runs.Isolation.{without_bytes}
 use Rattle.xk_kernel.specs.Sound.{IsWhole}
 use Rattle.send_path.specs.Parts.{process_of}
 use Rattle.xk_kernel.specs.State.{machine_of}

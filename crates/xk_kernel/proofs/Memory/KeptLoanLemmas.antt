@@ -1,6 +1,6 @@
 -- What changes pages keeps every loan, so that the servers stay sound over the memory.
 use Rattle.xk_ports.specs.declared.store.SwapStore.{Ghosts as SwapStore}
-use Rattle.std.proofs.Common.{◌≡◌, ℕ, ◌+◌, ◌≤◌, ◌<◌, if◌then◌else◌, Bool, true, false, List, Option, Some, None, refl, sym, ap, subst, ◌∙◌, arith, nat_le}
+use Rattle.std.proofs.Common.{◌≡◌, ℕ, ◌≤◌, ◌<◌, if◌then◌else◌, Bool, true, false, List, Option, Some, None, refl, sym, ap, subst, ◌∙◌, arith, nat_le}
 use Rattle.std.specs.Prelude.{Result, Ok, Err}
 use Rattle.std.proofs.lemmas.Bool.{and_parts, leb-true}
 use Rattle.xk_base.specs.Numbers.Windows.{in_window}
@@ -13,32 +13,25 @@ use Rattle.xk_base.specs.declared.ids.Vpn.{Vpn}
 use Rattle.xk_base.specs.declared.pages.Right.{Right}
 use Rattle.xk_base.specs.declared.windows.Window.{Window}
 use Rattle.xk_base.specs.declared.windows.Window.TheVariants.{Map, Message}
-use Rattle.ledger_model.specs.Conditions.{CanMake}
 use Rattle.ledger_model.specs.Lawful.{IsLawful}
-use Rattle.ledger_model.specs.Ledger.{Ledger, Orphan, pages}
+use Rattle.ledger_model.specs.Ledger.{Ledger, Orphan}
 use Rattle.ledger_model.specs.Loans.{Loans, loans}
 use Rattle.ledger_model.specs.Places.{in_run, is_place_in}
 use Rattle.ledger_model.specs.Reach.{is_free}
 use Rattle.ledger_model.specs.RunTests.{any_free, any_on_loan, console_mapped}
-use Rattle.ledger_model.specs.Steps.{make}
-use Rattle.ledger_model.proofs.Pages.BareLemmas.{bare-lawful}
-use Rattle.ledger_model.proofs.PlaceLemmas.{IsInRun, in_run-from, in_run-true}
 use Rattle.ledger_model.proofs.ReachingLemmas.{is_free-all}
 use Rattle.ledger_model.proofs.Stepping.MakingLemmas.{make_console_loans, make_loans}
 use Rattle.ledger_model.proofs.Stepping.RemovingLemmas.{reduce_loans, remove_loans}
-use Rattle.ledger_model.proofs.Stepping.WritingLemmas.{bare-loans}
 use Rattle.kill_path.specs.Open.{AreServersSound}
 use Rattle.machine_laws.proofs.Calling.RunRefusalLemmas.{can_remove}
 use Rattle.msg_queue.specs.Seats.{Seat}
 use Rattle.server_table.specs.declared.table.Servers.{Servers}
-use Rattle.sv32_space.specs.Tie.{Held}
-use Rattle.vm_memory.specs.Memory.{blank_ledger, capacity_of, ledger, processes}
-use Rattle.vm_memory.specs.Pages.Making.{HasMadeFirst, after_console, after_make, console_answer, make_answer, page_place, run_place}
+use Rattle.vm_memory.specs.Memory.{ledger, processes}
+use Rattle.vm_memory.specs.Pages.Making.{after_console, after_make, console_answer, make_answer, page_place, run_place}
 use Rattle.vm_memory.specs.Pages.Removing.{after_reduce, after_remove, clear_answer, remove_answer}
 use Rattle.vm_memory.specs.Sound.{IsSound as IsMemorySound}
 use Rattle.vm_memory.specs.declared.memory.Memory.{Memory}
 use Rattle.vm_memory.proofs.Changing.AnsweringLemmas.{can_answered, can_console}
-use Rattle.vm_memory.proofs.Changing.SoundMemoryLemmas.{bare-ledger}
 
 -- SERVERS stay sound over a memory for as many processes that has the same loans
 pub servers_over : (t : Servers) (q : List Seat) (n m : ℕ) (a b : Loans) → m ≡ n → b ≡ a → AreServersSound n a t q → AreServersSound m b t q
@@ -89,25 +82,6 @@ make_keeps procs capacity pid window at n right r old new process a e = ap loans
     go (Ok first) a = make_loans procs capacity (page_place pid first) n right old (can_answered procs capacity old pid window at n first process (sym a))
     go (Err error) a = refl
 
-in_wider : (first : Place) (i n : ℕ) (p : Place) → i ≤ n → in_run first i p ≡ true → in_run first n p ≡ true
-in_wider first i n p few e =
-    let r : IsInRun first i p = in_run-true first i p e in
-    let high : p.vpn.0 < first.vpn.0 + i = r.to in
-    in_run-from first n p (record { pid = r.pid; from = r.from; to = omega (arith, high, few) })
-
--- .. also where only the first of them are
-pub made_first_keeps : {Known : Type 0} (procs capacity : ℕ) (pid : Pid) (window : Window) (at : Option Vpn) (n : ℕ) (right : Right) (old new : Ledger)
-    → is_pid procs pid.0 ≡ true → HasMadeFirst Known (make_answer procs capacity old pid window at n) pid n right old new → loans new ≡ loans old
-made_first_keeps procs capacity pid window at n right old new process h =
-    let at_first = page_place pid h.first in
-    let can : CanMake procs capacity old at_first n = can_answered procs capacity old pid window at n h.first process h.served in
-    bare-loans (make at_first h.count right old) new h.rights
-    ∙ make_loans procs capacity at_first h.count right old (record {
-      lies = λ p e. can.lies p (in_wider at_first h.count n p h.few e);
-      free = λ p e. can.free p (in_wider at_first h.count n p h.few e);
-      room = let fits : pages procs old + n ≤ capacity = can.room in let few : h.count ≤ n = h.few in omega (arith, fits, few);
-    })
-
 console_free : (mapped : Bool) (r : Result Vpn XousError) (first : Vpn) → Ok first ≡ (if mapped then Err MemoryInUse else r) → (mapped ≡ false) × (r ≡ Ok first)
 console_free true r first e = cc
 console_free false r first e = (refl, sym e)
@@ -124,9 +98,6 @@ make_console_keeps S mem sound pid at w r new process a e = ap loans e ∙ go r 
     go (Err error) a = refl
 
 -- ---- holders and orphans lie in the Message window
-
-pub sound-lawful : {W : Type 0} (S : SwapStore W) (mem : Memory W) → IsMemorySound S.slot_count mem → IsLawful (processes mem) (capacity_of mem) (ledger S.held mem)
-sound-lawful S mem sound = bare-lawful (processes mem) (capacity_of mem) (blank_ledger mem) (ledger S.held mem) (bare-ledger S.held mem) sound.lawful
 
 message_page : (procs : ℕ) (p : Place) → is_place_in procs Message p ≡ true → 262144 ≤ p.vpn.0
 message_page procs p e =

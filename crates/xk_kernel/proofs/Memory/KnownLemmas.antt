@@ -1,22 +1,16 @@
 -- A machine that is another but for bytes is as matched; and when bytes are known over the parts of a call.
-use Rattle.std.proofs.Common.{◌≡◌, ℕ, Bool, true, false, Option, Some, None, refl, sym, ap, subst, ◌∙◌}
+use Rattle.std.proofs.Common.{◌≡◌, Bool, true, false, refl, sym, ap, subst, ◌∙◌}
 use Rattle.std.specs.Prelude.{◌==◌, ◌&&◌, ◌||◌}
-use Rattle.std.specs.Option.{option_map}
 use Rattle.std.proofs.lemmas.Bool.{false≢true, eqb-true}
-use Rattle.std.proofs.lemmas.Option.{none-some}
-use Rattle.ledger_model.proofs.Pages.BareLemmas.{bare-lawful}
-use Rattle.ledger_model.proofs.Stepping.WritingLemmas.{bare-loans}
-use Rattle.ledger_model.specs.Ledger.{Ledger, Page}
-use Rattle.ledger_model.specs.Loans.{bare, bare_page}
-use Rattle.machine_laws.proofs.Calling.PageChangeLemmas.{IsLikeLedger, matched_on, stands_now}
+use Rattle.save_path.proofs.AlikeLemmas.{matched_bare}
 use Rattle.machine_model.specs.Runs.Matched.{Matched}
 use Rattle.machine_model.specs.State.Machine.{Machine}
-use Rattle.sv32_space.specs.Tie.{Held}
 use Rattle.vm_memory.proofs.Changing.CallLemmas.{no_slots-none_out}
 use Rattle.vm_memory.specs.Bytes.{MeansBytes, MeansBytesOver, is_known, none_out}
 use Rattle.vm_memory.specs.Memory.{Size, size, store_of}
 use Rattle.vm_memory.specs.declared.memory.Memory.{Memory}
-use Rattle.xk_kernel.specs.Knowing.{ComesTo, IsTrusted, KnowsBytes, is_trusted, without_bytes}
+use Rattle.xk_kernel.specs.Knowing.{ComesTo, IsTrusted, KnowsBytes, is_trusted}
+use Rattle.machine_model.specs.Runs.Isolation.{without_bytes}
 use Rattle.xk_kernel.specs.Sound.{Keeps}
 use Rattle.xk_kernel.specs.declared.kernel.Kernel.{Kernel}
 use Rattle.xk_ports.specs.declared.store.SwapStore.{Ghosts as SwapStore}
@@ -24,27 +18,11 @@ use Rattle.xk_ports.specs.Keeping.{KeepsStore}
 
 -- ---- alike but for bytes
 
-bare_stood : (a b : Option Page) → option_map bare_page a ≡ option_map bare_page b → (page : Page) → a ≡ Some page
-    → (q : Page) × (b ≡ Some q)
-bare_stood None b e page q = absurd (none-some page q)
-bare_stood (Some v) None e page q = absurd (none-some (bare_page v) (sym e))
-bare_stood (Some v) (Some u) e page q = (u, refl)
-
-like_bare : (m : Machine) (l : Ledger) → bare l ≡ bare m.ledger → Matched m → IsLikeLedger m l
-unfolding bare
-like_bare m l e h = record {
-  lawful = bare-lawful m.processes m.capacity m.ledger l e h.body.ledger.lawful;
-  same = bare-loans m.ledger l e;
-  stand = λ p page is.
-      let old = bare_stood (l.home p) (m.ledger.home p) (ap (λ (b : Ledger). b.home p) e) page is in
-      stands_now m h p old.0 old.1;
-}
-
 -- THE INVARIANT holds of it too: it speaks of no bytes
 pub matched_alike : (new target : Machine) → without_bytes new ≡ without_bytes target → Matched target → Matched new
 matched_alike new target e h =
     let there : Matched (record target { ledger = new.ledger }) =
-    matched_on new.ledger target (like_bare target new.ledger (ap (λ (m : Machine). m.ledger) e) h) h in
+    matched_bare target new.ledger (ap (λ (m : Machine). m.ledger) e) h in
     subst (λ (m : Machine). Matched (record m { ledger = new.ledger })) (sym e) there
 
 pub comes_same : {known : Type 0} (new target : Machine) → new ≡ target → ComesTo known new target

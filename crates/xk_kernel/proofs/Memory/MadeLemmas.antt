@@ -29,7 +29,8 @@ use Rattle.xk_base.specs.declared.ids.Vpn.{Vpn}
 use Rattle.xk_base.specs.declared.pages.Right.{Right}
 use Rattle.xk_base.specs.declared.windows.Window.{Window}
 use Rattle.xk_kernel.specs.Calling.{CrowdsBy, ServesAs, outcome_of}
-use Rattle.xk_kernel.specs.Knowing.{ComesTo, IsCrowded, without_bytes}
+use Rattle.xk_kernel.specs.Knowing.{ComesTo, IsCrowded}
+use Rattle.machine_model.specs.Runs.Isolation.{without_bytes}
 use Rattle.xk_kernel.specs.Sound.{IsWhole}
 use Rattle.xk_kernel.specs.State.{machine_of}
 use Rattle.xk_kernel.specs.declared.kernel.Kernel.{Kernel}

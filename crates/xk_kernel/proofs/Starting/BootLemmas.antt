@@ -43,7 +43,8 @@ use Rattle.xk_base.specs.declared.ids.ThreadId.{ThreadId}
 use Rattle.xk_base.specs.declared.limits.TheConstants.{RECORD_LIMIT, SERVER_LIMIT}
 use Rattle.xk_kernel.proofs.Starting.FirstLedgerLemmas.{IsPlanned, first_no_heap, first_unlent, pid_of_planned, planned_of_pid}
 use Rattle.xk_kernel.proofs.Memory.KnownLemmas.{matched_alike}
-use Rattle.xk_kernel.specs.Knowing.{ComesTo, without_bytes}
+use Rattle.xk_kernel.specs.Knowing.{ComesTo}
+use Rattle.machine_model.specs.Runs.Isolation.{without_bytes}
 use Rattle.xk_kernel.specs.Sound.{IsSound}
 use Rattle.xk_kernel.specs.Start.{first_threads, start, threads_at_start}
 use Rattle.send_path.specs.Parts.{process_of, server_of, thread_of}

@@ -1,105 +1,24 @@
-//! A kernel is built again from a state, by the calls by which a run builds it: the tables; a memory without pages;
-//! orphans, lent to the places at which they are held and without their lenders then; all other pages at their homes; and
-//! the messages, each with its loan.
+//! The kernel is made again of a state.
 
-mod claims;
-mod filling;
-mod lends;
-mod messages;
-mod orphans;
-mod pages;
-mod processes;
-mod servers;
-mod sizes;
-mod threads;
-
-ghost use Rattle.std.specs.Option.{option_map};
-ghost use Rattle.std.specs.Prelude.{◌≡◌, ◌<◌, ◌≤◌, ℕ, true, [], IfErr, IfOk, OnErr, OnOk, map, replicate};
-ghost use Rattle.ledger_model.specs.Ledger.{empty_ledger};
-ghost use Rattle.msg_queue.specs.Seats.{empty_seat};
-ghost use Rattle.process_table.specs.ProcessesOf.{process_count as processes_made, processes_of};
-ghost use Rattle.send_path.specs.Parts.{process_of, thread_of};
-ghost use Rattle.server_table.specs.Listed.{listed_servers};
-ghost use Rattle.server_table.specs.ServersOf.{servers_of};
-ghost use Rattle.state_rows.specs.Machines.{machine_of as state_machine, processes_of as state_processes, threads_of as state_threads};
-ghost use Rattle.thread_table.specs.ThreadsOf.{process_count as processes_threaded, threads_of};
+ghost use Rattle.std.specs.Prelude.{◌≡◌, ◌<◌, ◌≤◌, true, [], IfErr, IfOk};
+ghost use Rattle.resume_path.specs.Resumable.{CanSplit, IsResumable, resumed_page_frames, resumed_size, state_pages};
+ghost use Rattle.state_rows.specs.Machines.{machine_of as state_machine};
 ghost use Rattle.vm_memory.specs.Bytes.{MeansBytes, none_out};
-ghost use Rattle.vm_memory.specs.Memory.{capacity_of, frames_for_pages, processes, size, store_of};
+ghost use Rattle.vm_memory.specs.Memory.{size, store_of};
 ghost use Rattle.vm_memory.specs.Tie.{IsTied};
 ghost use Rattle.xk_base.specs.Outside.{Rose};
-ghost use Rattle.xk_base.specs.declared.ids.ThreadId.{ThreadId as Id};
-ghost use Rattle.xk_base.specs.declared.limits.TheConstants.{RECORD_LIMIT, SERVER_LIMIT};
 ghost use Rattle.xk_kernel.specs.Knowing.{ComesTo};
-ghost use Rattle.xk_kernel.specs.Resuming.Coming.{HasCome, KeepsSize};
-ghost use Rattle.xk_kernel.specs.Resuming.Messages.{AreBack, IsStopped};
-ghost use Rattle.xk_kernel.specs.Resuming.Resumable.{CanResume, CanSplit, IsResumable, resumed_page_frames, resumed_size, state_ledger, state_pages};
-ghost use Rattle.xk_kernel.specs.Resuming.Tables.{row_seat};
 ghost use Rattle.xk_kernel.specs.Sound.{IsSound, IsUsable};
 ghost use Rattle.xk_kernel.specs.State.{machine_of};
 ghost use Rattle.xk_kernel.specs.Stepping.{last_of};
 ghost use Rattle.xk_ports.specs.Keeping.{KeepsStore};
 
 use crate::kernel::Kernel;
-use kill_path::close_all;
-use msg_queue::Queues;
-use process_table::Processes;
-use server_table::Servers;
+use resume_path::{Resumed, resume};
 use std::alloc::Global;
 use suspend_image::State;
-use thread_table::Threads;
-use vm_memory::{BootError, BootFault, Memory};
-use xk_base::limits::RECORD_LIMIT;
-use xk_base::{Failed, Log, NoMemory};
+use vm_memory::{BootError, BootFault};
 use xk_ports::SwapStore;
-
-// The threads, processes and servers of a state, the log, and no messages.
-type Tables = (Threads, Processes, Servers, Log, Queues);
-
-// The tables of a state.
-fn tables(alloc: Global, state: &State) -> Result<Tables, NoMemory>
-    requires resumable { CanResume state.now }
-    ensures threads { IfOk result (λ t. (id : Id) → option_map thread_of (threads_of t.0 id) ≡ state_threads state.now.threads id) }
-    ensures threaded { IfOk result (λ t. processes_threaded t.0 ≡ state.now.n) }
-    ensures procs { IfOk result (λ t. (pid : ℕ) → process_of (processes_of t.1 pid) ≡ state_processes state.now.procs pid) }
-    ensures made { IfOk result (λ t. processes_made t.1 ≡ state.now.n) }
-    ensures servers { IfOk result (λ t. servers_of t.2 ≡ listed_servers (map row_seat state.now.servers) state.now.next_serial) }
-    ensures log { IfOk result (λ t. t.3 ≡ record { step = 0; records = []; room = RECORD_LIMIT }) }
-    ensures queues { IfOk result (λ t. t.4 ≡ replicate SERVER_LIMIT empty_seat) }
-{
-    let threads = threads::resume_threads(alloc, state)?;
-    let procs = processes::resume_processes(alloc, state)?;
-    let seats = servers::server_seats(alloc, state)?;
-    let servers = Servers::resume(alloc, seats.as_slice(), state.next_serial)?;
-    let log = Log::new(alloc, RECORD_LIMIT as usize)?;
-    // These come last: they are closed, and not just let go.
-    let queues = Queues::new(alloc)?;
-    Ok((threads, procs, servers, log, queues))
-}
-
-// The pages and the messages of a state are there again.
-fn resume_all<W: SwapStore>(
-    mem: &mut Memory<W>,
-    queues: &mut Queues,
-    state: &State,
-    file: &[u8],
-) -> Result<(), Failed>
-    requires resumable { IsResumable file.now state.now }
-    requires processes { processes mem.old ≡ state.now.n }
-    requires capacity { capacity_of mem.old ≡ state.now.cap }
-    requires come { HasCome W.SwapStore (state_pages file.now state.now) mem.old empty_ledger }
-    requires empty { queues.old ≡ replicate SERVER_LIMIT empty_seat }
-    ensures come { OnOk result (HasCome W.SwapStore (state_pages file.now state.now) mem.new
-        (state_ledger file.now state.now)) }
-    ensures back { OnOk result (AreBack state.now (λ row. true) queues.new) }
-    ensures failed { OnErr result (IsStopped W.SwapStore file.now state.now mem.old mem.new queues.new) }
-    ensures full { OnErr result (frames_for_pages mem.old < state_pages file.now state.now) }
-    ensures keeps { KeepsSize W.SwapStore mem.old mem.new }
-{
-    orphans::resume_orphans(mem, queues, state, file)?;
-    pages::resume_pages(mem, state, file)?;
-    lends::resume_messages(mem, queues, state, file);
-    Ok(())
-}
 
 impl<W: SwapStore> Kernel<W> {
     /// Builds the kernel again from a state that a file spells, with so many of the pages that there may be in slots of the
@@ -132,45 +51,37 @@ impl<W: SwapStore> Kernel<W> {
         ensures out { IfErr result (λ fault. fault.why ≡ BootError.SwapFault
             → resumed_page_frames state.now slots < state_pages file.now state.now) }
     {
-        let (threads, procs, mut servers, log, mut queues) = match tables(alloc, state) {
-            Ok(tables) => tables,
-            Err(NoMemory) => {
-                return Err(BootFault {
-                    why: BootError::NoMemory,
-                    store,
-                });
-            }
-        };
-        let mut mem = match sizes::empty_memory(alloc, state, slots, store) {
-            Ok(mem) => mem,
-            Err(fault) => {
-                queues.close();
-                return Err(fault);
-            }
-        };
-        match resume_all(&mut mem, &mut queues, state, file) {
-            Ok(()) => Ok(Kernel {
+        match resume(alloc, state, file, slots, store) {
+            Ok(
+                Resumed {
+                    mem,
+                    threads,
+                    procs,
+                    servers,
+                    queues,
+                    claims,
+                    log,
+                    cursor,
+                    next,
+                    steps,
+                    timer,
+                    reserved,
+                },
+            ) => Ok(Kernel {
                 mem,
                 threads,
                 procs,
                 servers,
                 queues,
-                claims: claims::resume_claims(state),
+                claims,
                 log,
-                cursor: claims::resume_cursor(state),
-                next: state.next_number,
-                steps: state.steps,
-                timer: claims::resume_timer(state),
-                reserved: claims::resume_reservation(state),
+                cursor,
+                next,
+                steps,
+                timer,
+                reserved,
             }),
-            Err(Failed) => {
-                close_all(&mut mem, &mut servers, &mut queues);
-                queues.close();
-                Err(BootFault {
-                    why: BootError::SwapFault,
-                    store: mem.close(),
-                })
-            }
+            Err(fault) => Err(fault),
         }
     }
 }

@@ -12,7 +12,7 @@ use Rattle.vm_memory.specs.Bytes.{MeansBytes, none_out}
 use Rattle.vm_memory.specs.Memory.{Size, size}
 use Rattle.xk_base.specs.Numbers.Limits.{table_frames}
 use Rattle.xk_kernel.specs.Knowing.{ComesTo}
-use Rattle.xk_kernel.specs.Resuming.Resumable.{CanSplit, resumed_page_frames, resumed_size, state_pages}
+use Rattle.resume_path.specs.Resumable.{CanSplit, resumed_page_frames, resumed_size, state_pages}
 use Rattle.xk_kernel.specs.State.{machine_of}
 use Rattle.xk_kernel.specs.declared.kernel.Kernel.{Kernel}
 use Rattle.xk_ports.specs.declared.store.SwapStore.{Ghosts as SwapStore}

@@ -9,7 +9,7 @@ use Rattle.suspend_image.specs.FileFaults.{IsFirstFault}
 use Rattle.state_rows.specs.Machines.{machine_of}
 use Rattle.suspend_image.proofs.FaultLemmas.{fault_once, matched_has_no_fault}
 use Rattle.suspend_image.proofs.SpellsLemmas.{spelled_once}
-use Rattle.xk_kernel.specs.Resuming.Resumable.{CanSplit, IsResumable}
+use Rattle.resume_path.specs.Resumable.{CanSplit, IsResumable}
 use Rattle.xousim.specs.declared.commands.states.TheConstants.{STATE_LIMIT}
 use Rattle.event_player.specs.declared.ending.Ending.{Ending}
 use Rattle.event_player.specs.declared.ending.Ending.TheVariants.{Played, LimitMet, BadLine}

@@ -7,7 +7,7 @@ ghost use Rattle.machine_model.specs.State.Machine.{Machine};
 ghost use Rattle.state_rows.specs.Machines.{machine_of as machine_in};
 ghost use Rattle.vm_memory.specs.Memory.{size, store_of};
 ghost use Rattle.xk_base.specs.Outside.{Rose};
-ghost use Rattle.xk_kernel.specs.Resuming.Resumable.{CanSplit, IsResumable};
+ghost use Rattle.resume_path.specs.Resumable.{CanSplit, IsResumable};
 ghost use Rattle.xk_kernel.specs.Sound.{IsSound, IsUsable};
 ghost use Rattle.xk_kernel.specs.State.{machine_of};
 ghost use Rattle.xk_ports.specs.declared.host.FileSlot.TheVariants.{First};

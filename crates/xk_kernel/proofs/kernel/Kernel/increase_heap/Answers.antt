@@ -7,7 +7,7 @@ use Rattle.vm_memory.specs.Bytes.{none_out}
 use Rattle.vm_memory.specs.Memory.{capacity_of, frames_for_pages, ledger, processes}
 use Rattle.xk_kernel.proofs.Memory.HeapGrowthLemmas.{heap_right, increase_by_none, increase_crowds, increase_done, increase_past, increase_refused}
 use Rattle.xk_kernel.proofs.Memory.HeapLemmas.{heap_told, heap_within, whole_with_parts}
-use Rattle.xk_kernel.proofs.Memory.KeptLoanLemmas.{made_first_keeps}
+use Rattle.resume_path.proofs.Homes.MadeFirstLemmas.{made_first_keeps}
 use Rattle.xk_kernel.proofs.Memory.MadeLemmas.{made_loans, serves_by, too_many}
 use Rattle.xk_kernel.proofs.Memory.MemoryCallLemmas.{caller_process, whole_with_mem}
 use Rattle.xk_kernel.proofs.kernel.Kernel.increase_heap.Goals as goal

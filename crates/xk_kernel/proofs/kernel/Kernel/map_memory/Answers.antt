@@ -10,7 +10,8 @@ use Rattle.vm_memory.specs.Bytes.{none_out}
 use Rattle.vm_memory.specs.Memory.{capacity_of, frames_for_pages, ledger, processes}
 use Rattle.xk_kernel.proofs.Memory.MadeLemmas.{made_loans, serves_by, too_many}
 use Rattle.xk_kernel.proofs.Memory.MapLemmas.{console_done, console_low, console_refused, elsewhere_refused, made_low, map_crowds, map_done, map_refused, narrow, wide_by_right, wide_by_size, wide_refused}
-use Rattle.xk_kernel.proofs.Memory.KeptLoanLemmas.{made_first_keeps, make_console_keeps}
+use Rattle.resume_path.proofs.Homes.MadeFirstLemmas.{made_first_keeps}
+use Rattle.xk_kernel.proofs.Memory.KeptLoanLemmas.{make_console_keeps}
 use Rattle.xk_kernel.proofs.Memory.MemoryCallLemmas.{caller_process, right_told, whole_with_mem}
 use Rattle.xk_kernel.proofs.kernel.Kernel.map_memory.Goals.{then-size-ne-PAGE_SIZE-via-then-size-ne-PAGE_SIZE, then-size-ne-PAGE_SIZE-via-else-size-ne-PAGE_SIZE+then-right}
 use Rattle.xk_kernel.proofs.kernel.Kernel.map_memory.Goals as goal

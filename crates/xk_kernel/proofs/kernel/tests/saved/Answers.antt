@@ -2,7 +2,7 @@ use Rattle.std.proofs.Common.{◌≡◌, ◌≤◌, ap, arith}
 use Rattle.suspend_image.specs.Sheets.{SheetBytes, room_for}
 use Rattle.vm_memory.specs.Memory.{capacity_of}
 use Rattle.xk_kernel.specs.State.{machine_of}
-use Rattle.xk_kernel.proofs.Saving.SavingLemmas.{few_pages}
+use Rattle.save_path.proofs.SavingLemmas.{few_pages}
 use Rattle.xk_kernel.proofs.kernel.tests.saved.Goals as goal
 
 pub new-requires-clause-processes : goal.new-requires-clause-processes
@@ -16,7 +16,7 @@ pub new-requires-clause-pages : goal.new-requires-clause-pages
 unfolding machine_of
 new-requires-clause-pages g c =
     let is = c.cap-cap.ensures in
-    let few : capacity_of c.args.kernel.now.mem ≤ 32768 = few_pages g.W.SwapStore c.args.kernel.now c.requires.sound in
+    let few : capacity_of c.args.kernel.now.mem ≤ 32768 = few_pages g.W.SwapStore c.args.kernel.now.mem c.requires.sound.whole.mem in
     omega arith
 
 pub save-requires-clause-room : goal.save-requires-clause-room

@@ -1,7 +1,0 @@
-use Rattle.xk_kernel.proofs.Resuming.LentLoopLemmas.{AreLentTo}
-use Rattle.xk_kernel.proofs.kernel.resuming.lends.resume_server_messages.Given as goal
-
-abbrev pub invariant-messages : goal.invariant-messages
-invariant-messages g l =
-    AreLentTo g.W.SwapStore l.file l.state l.fn.mem l.mem
-    l.queues l.i l.k

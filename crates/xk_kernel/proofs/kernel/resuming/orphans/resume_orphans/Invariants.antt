@@ -1,7 +1,0 @@
-use Rattle.xk_kernel.proofs.Resuming.OrphanLoopLemmas.{AreOrphansTo}
-use Rattle.xk_kernel.proofs.kernel.resuming.orphans.resume_orphans.Given as goal
-
-abbrev pub invariant-servers : goal.invariant-servers
-invariant-servers g l =
-    AreOrphansTo g.W.SwapStore l.file l.state l.fn.mem l.mem
-    l.queues l.i 0

@@ -1,7 +1,0 @@
-use Rattle.xk_kernel.proofs.Resuming.OrphanLoopLemmas.{AreOrphansTo}
-use Rattle.xk_kernel.proofs.kernel.resuming.orphans.resume_server_orphans.Given as goal
-
-abbrev pub invariant-messages : goal.invariant-messages
-invariant-messages g l =
-    AreOrphansTo g.W.SwapStore l.file l.state l.fn.mem l.mem
-    l.queues l.i l.k

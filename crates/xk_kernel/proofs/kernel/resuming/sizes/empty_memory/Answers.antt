@@ -1,8 +1,0 @@
-use Rattle.xk_kernel.proofs.Resuming.SizeLemmas.{booted_empty}
-use Rattle.xk_kernel.proofs.kernel.resuming.sizes.empty_memory.Goals as goal
-
--- src/kernel/resuming/sizes.rt
-pub returns-clause-come : goal.returns-clause-come
-returns-clause-come g c =
-    booted_empty g.W.SwapStore c.args.state.now c.args.slots c.in-Ok.plan c.in-Ok.ensures c.boot.result
-    c.boot.ensures.sound c.boot.ensures.usable c.boot.ensures.rights c.boot.ensures.whole c.boot.ensures.near

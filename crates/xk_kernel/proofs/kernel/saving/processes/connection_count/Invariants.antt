@@ -1,7 +1,0 @@
-use Rattle.std.proofs.Common.{◌≤◌, length}
-use Rattle.send_path.specs.Parts.{processes_shown}
-use Rattle.xk_kernel.proofs.kernel.saving.processes.connection_count.Given as goal
-
--- there are at least so many
-abbrev pub invariant-loop-k : goal.invariant-loop-k
-invariant-loop-k l = l.k ≤ length (processes_shown l.procs l.pid.0).connections

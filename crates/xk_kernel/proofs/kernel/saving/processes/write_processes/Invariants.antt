@@ -1,9 +1,0 @@
-use Rattle.send_path.specs.Parts.{processes_shown}
-use Rattle.suspend_image.specs.Spelling.{proc_bytes}
-use Rattle.xk_kernel.proofs.Saving.SheetLemmas.{HasWritten}
-use Rattle.xk_kernel.specs.Saving.Rows.{proc_at}
-use Rattle.xk_kernel.proofs.kernel.saving.processes.write_processes.Given as goal
-
--- the processes so far were appended
-abbrev pub invariant-loop-k : goal.invariant-loop-k
-invariant-loop-k l = HasWritten proc_bytes 140 (proc_at (processes_shown l.procs)) l.k l.fn.sheet l.sheet l.k

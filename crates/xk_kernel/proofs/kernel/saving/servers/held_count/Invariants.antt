@@ -1,7 +1,0 @@
-use Rattle.std.proofs.Common.{◌≤◌, length}
-use Rattle.msg_queue.specs.Seats.{seat_of}
-use Rattle.xk_kernel.proofs.kernel.saving.servers.held_count.Given as goal
-
--- there are at least so many
-abbrev pub invariant-loop-k : goal.invariant-loop-k
-invariant-loop-k l = l.k ≤ length (seat_of l.queues l.seat).held

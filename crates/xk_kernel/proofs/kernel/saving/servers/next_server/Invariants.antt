@@ -1,6 +1,0 @@
-use Rattle.xk_kernel.proofs.Saving.NextServerLemmas.{IsLeastSeated}
-use Rattle.xk_kernel.proofs.kernel.saving.servers.next_server.Given as goal
-
--- the least of the seats so far
-abbrev pub invariant-loop-seat : goal.invariant-loop-seat
-invariant-loop-seat l = IsLeastSeated l.servers l.from l.seat l.least

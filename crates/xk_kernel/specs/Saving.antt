@@ -1,6 +1,0 @@
-pub mod Fitting
-pub mod Kept
-pub mod Pages
-pub mod Rows
-pub mod Servers
-pub mod Written
