@@ -2,7 +2,6 @@
 use Rattle.xk_ports.specs.declared.store.SwapStore.{Ghosts as SwapStore}
 use Rattle.std.specs.Prelude.{◌≡◌, ◌<◌, ◌==◌, ◌||◌, Bool, true, IsTrue}
 use Rattle.ledger_model.specs.Ledger.{Ledger, pages}
-use Rattle.sv32_space.specs.Tie.{Held}
 use Rattle.vm_memory.specs.Bytes.{MeansBytesOver, is_known, none_out}
 use Rattle.vm_memory.specs.Memory.{frames_for_pages, processes, size}
 use Rattle.xk_kernel.specs.declared.kernel.Kernel.{Kernel}

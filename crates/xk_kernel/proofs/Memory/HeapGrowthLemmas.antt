@@ -27,7 +27,6 @@ use Rattle.process_table.specs.ProcessesOf.{processes_of}
 use Rattle.process_table.specs.ProcessMap.{change}
 use Rattle.process_table.specs.State.{with_heap as heap_set}
 use Rattle.process_table.specs.declared.table.Processes.{Processes}
-use Rattle.sv32_space.specs.Tie.{Held}
 use Rattle.syscall_codec.specs.declared.replies.Reply.TheVariants.{Range}
 use Rattle.vm_memory.specs.declared.memory.Memory.{Memory}
 use Rattle.vm_memory.specs.Pages.Making.{if_room, make_answer, page_place, run_place}

@@ -27,7 +27,6 @@ use Rattle.process_table.specs.ProcessesOf.{process_count, processes_of}
 use Rattle.process_table.specs.ProcessMap.{change, heap_of as heap_in}
 use Rattle.process_table.specs.State.{ProcessState, new_process, with_heap as heap_set}
 use Rattle.process_table.specs.declared.table.Processes.{Processes}
-use Rattle.sv32_space.specs.Tie.{Held}
 use Rattle.syscall_codec.specs.declared.replies.Reply.TheVariants.{Plain}
 use Rattle.vm_memory.specs.declared.memory.Memory.{Memory}
 use Rattle.vm_memory.specs.Memory.{ledger, processes, size}

@@ -1,6 +1,6 @@
 -- What changes pages keeps every loan, so that the servers stay sound over the memory.
 use Rattle.xk_ports.specs.declared.store.SwapStore.{Ghosts as SwapStore}
-use Rattle.std.proofs.Common.{◌≡◌, ℕ, ◌+◌, ◌≤◌, ◌<◌, if◌then◌else◌, Bool, true, false, List, Option, Some, None, refl, sym, ap, subst, ◌∙◌, arith, nat_le}
+use Rattle.std.proofs.Common.{◌≡◌, ℕ, ◌≤◌, ◌<◌, if◌then◌else◌, Bool, true, false, List, Option, Some, None, refl, sym, ap, subst, ◌∙◌, arith, nat_le}
 use Rattle.std.specs.Prelude.{Result, Ok, Err}
 use Rattle.std.proofs.lemmas.Bool.{and_parts, leb-true}
 use Rattle.xk_base.specs.Numbers.Windows.{in_window}
@@ -13,32 +13,25 @@ use Rattle.xk_base.specs.declared.ids.Vpn.{Vpn}
 use Rattle.xk_base.specs.declared.pages.Right.{Right}
 use Rattle.xk_base.specs.declared.windows.Window.{Window}
 use Rattle.xk_base.specs.declared.windows.Window.TheVariants.{Map, Message}
-use Rattle.ledger_model.specs.Conditions.{CanMake}
 use Rattle.ledger_model.specs.Lawful.{IsLawful}
-use Rattle.ledger_model.specs.Ledger.{Ledger, Orphan, pages}
+use Rattle.ledger_model.specs.Ledger.{Ledger, Orphan}
 use Rattle.ledger_model.specs.Loans.{Loans, loans}
 use Rattle.ledger_model.specs.Places.{in_run, is_place_in}
 use Rattle.ledger_model.specs.Reach.{is_free}
 use Rattle.ledger_model.specs.RunTests.{any_free, any_on_loan, console_mapped}
-use Rattle.ledger_model.specs.Steps.{make}
-use Rattle.ledger_model.proofs.Pages.BareLemmas.{bare-lawful}
-use Rattle.ledger_model.proofs.PlaceLemmas.{IsInRun, in_run-from, in_run-true}
 use Rattle.ledger_model.proofs.ReachingLemmas.{is_free-all}
 use Rattle.ledger_model.proofs.Stepping.MakingLemmas.{make_console_loans, make_loans}
 use Rattle.ledger_model.proofs.Stepping.RemovingLemmas.{reduce_loans, remove_loans}
-use Rattle.ledger_model.proofs.Stepping.WritingLemmas.{bare-loans}
 use Rattle.xk_parts.specs.Sound.{AreServersSound}
 use Rattle.machine_laws.proofs.Calling.RunRefusalLemmas.{can_remove}
 use Rattle.msg_queue.specs.Seats.{Seat}
 use Rattle.server_table.specs.declared.table.Servers.{Servers}
-use Rattle.sv32_space.specs.Tie.{Held}
-use Rattle.vm_memory.specs.Memory.{blank_ledger, capacity_of, ledger, processes}
-use Rattle.vm_memory.specs.Pages.Making.{HasMadeFirst, after_console, after_make, console_answer, make_answer, page_place, run_place}
+use Rattle.vm_memory.specs.Memory.{ledger, processes}
+use Rattle.vm_memory.specs.Pages.Making.{after_console, after_make, console_answer, make_answer, page_place, run_place}
 use Rattle.vm_memory.specs.Pages.Removing.{after_reduce, after_remove, clear_answer, remove_answer}
 use Rattle.vm_memory.specs.Sound.{IsSound as IsMemorySound}
 use Rattle.vm_memory.specs.declared.memory.Memory.{Memory}
 use Rattle.vm_memory.proofs.Changing.AnsweringLemmas.{can_answered, can_console}
-use Rattle.vm_memory.proofs.Changing.SoundMemoryLemmas.{bare-ledger}
 
 -- SERVERS stay sound over a memory for as many processes that has the same loans
 pub servers_over : (t : Servers) (q : List Seat) (n m : ℕ) (a b : Loans) → m ≡ n → b ≡ a → AreServersSound n a t q → AreServersSound m b t q

@@ -1,17 +1,10 @@
 -- A machine that is another but for bytes is as matched; and when bytes are known over the parts of a call.
-use Rattle.std.proofs.Common.{◌≡◌, ℕ, Bool, true, false, Option, Some, None, refl, sym, ap, subst, ◌∙◌}
+use Rattle.std.proofs.Common.{◌≡◌, Bool, true, false, refl, sym, ap, subst, ◌∙◌}
 use Rattle.std.specs.Prelude.{◌==◌, ◌&&◌, ◌||◌}
-use Rattle.std.specs.Option.{option_map}
 use Rattle.std.proofs.lemmas.Bool.{false≢true, eqb-true}
-use Rattle.std.proofs.lemmas.Option.{none-some}
-use Rattle.ledger_model.proofs.Pages.BareLemmas.{bare-lawful}
-use Rattle.ledger_model.proofs.Stepping.WritingLemmas.{bare-loans}
-use Rattle.ledger_model.specs.Ledger.{Ledger, Page}
-use Rattle.ledger_model.specs.Loans.{bare, bare_page}
 use Rattle.save_path.proofs.AlikeLemmas.{matched_bare}
 use Rattle.machine_model.specs.Runs.Matched.{Matched}
 use Rattle.machine_model.specs.State.Machine.{Machine}
-use Rattle.sv32_space.specs.Tie.{Held}
 use Rattle.vm_memory.proofs.Changing.CallLemmas.{no_slots-none_out}
 use Rattle.vm_memory.specs.Bytes.{MeansBytes, MeansBytesOver, is_known, none_out}
 use Rattle.vm_memory.specs.Memory.{Size, size, store_of}

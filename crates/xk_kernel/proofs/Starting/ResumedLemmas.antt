@@ -1,5 +1,4 @@
 -- A kernel of the parts that were made again of a state.
-use Rattle.std.proofs.Common.{ℕ}
 use Rattle.machine_model.specs.Runs.Matched.{Matched}
 use Rattle.machine_model.specs.State.Machine.{Machine}
 use Rattle.resume_path.specs.Resumed.{resumed_machine, resumed_parts}
