@@ -1,5 +1,6 @@
 -- The faults of a plan, in the order in which they are looked for. A fault of a process is at its pid.
-use Rattle.std.specs.Prelude.{◌≡◌, ℕ, ◌+◌, ◌*◌, ◌/◌, ◌%◌, Bool, false, not, ◌&&◌, ◌||◌, ◌==◌, nat_lt, List, [], ◌∷◌, ◌++◌, length, take, slice_index_or, Option, Some, None}
+use Rattle.std.specs.Prelude.{◌≡◌, ℕ, ◌+◌, ◌*◌, ◌/◌, ◌%◌, Bool, false, not, ◌&&◌, ◌||◌, ◌==◌, nat_lt, List, [], ◌∷◌, ◌++◌, length, take}
+use Rattle.std.specs.Prelude.{slice_index_or, Option, Some, None}
 use Rattle.std.specs.List.{list_any}
 use Rattle.xk_base.specs.Numbers.Limits.{table_frames}
 use Rattle.xk_base.specs.Numbers.Windows.{in_window}
@@ -13,7 +14,8 @@ use Rattle.kernel_args.specs.Faults.{Check, ◌⇒◌at◌, first_fault}
 use Rattle.kernel_args.specs.Loads.{is_load_outside, loaded_bytes}
 use Rattle.boot_plan.specs.declared.faults.PlanError.{PlanError}
 use Rattle.boot_plan.specs.declared.faults.PlanError.TheVariants as errors
-use Rattle.boot_plan.specs.FaultNumbers.{section_outside, section_misaligned, sections_overlap, load_outside, bad_load, entry_outside, ram_too_small}
+use Rattle.boot_plan.specs.FaultNumbers.{section_outside, section_misaligned, sections_overlap, load_outside, bad_load, entry_outside}
+use Rattle.boot_plan.specs.FaultNumbers.{ram_too_small}
 use Rattle.boot_plan.specs.Sections.{section_pages, has_page, shares_page, is_executable}
 use Rattle.boot_plan.specs.Slots.{slots_used}
 use Rattle.boot_plan.specs.Capacity.{capacity}

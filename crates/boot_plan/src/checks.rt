@@ -6,7 +6,8 @@ ghost use Rattle.kernel_args.specs.Faults.{first_fault};
 ghost use Rattle.kernel_args.specs.Image.{IsSoundArgs};
 ghost use Rattle.kernel_args.specs.Loads.{file_sizes, is_load_outside};
 ghost use Rattle.boot_plan.specs.Sections.{shares_page, has_page, is_executable};
-ghost use Rattle.boot_plan.specs.Faults.{IsFaultAt, section_faults, sections_faults, is_bad_load, is_entry_outside, process_faults, processes_faults, is_ram_too_small, plan_fault};
+ghost use Rattle.boot_plan.specs.Faults.{IsFaultAt, section_faults, sections_faults, is_bad_load, is_entry_outside, process_faults};
+ghost use Rattle.boot_plan.specs.Faults.{processes_faults, is_ram_too_small, plan_fault};
 ghost use Rattle.boot_plan.specs.FirstPages.{process_pages, process_plan};
 ghost use Rattle.xk_base.specs.declared.limits.TheConstants.{SLOT_LIMIT};
 

@@ -1,6 +1,7 @@
 //! What holds of the plan of any arguments.
 
-ghost use Rattle.std.specs.Prelude.{◌≡◌, ◌<◌, ℕ, ◌+◌, ◌*◌, ◌%◌, List, [], ◌∷◌, ◌++◌, length, map, take, slice_index, slice_index_or, Any, Option};
+ghost use Rattle.std.specs.Prelude.{◌≡◌, ◌<◌, ℕ, ◌+◌, ◌*◌, ◌%◌, List, [], ◌∷◌, ◌++◌, length, map, take, slice_index, slice_index_or, Any};
+ghost use Rattle.std.specs.Prelude.{Option};
 ghost use Rattle.std.specs.List.{flat_map};
 ghost use Rattle.kernel_args.specs.declared.args.ProcArgs.{ProcArgs};
 ghost use Rattle.kernel_args.specs.declared.args.Section.{Section};
@@ -9,9 +10,11 @@ ghost use Rattle.kernel_args.specs.Loads.{file_sizes};
 ghost use Rattle.boot_plan.specs.Sections.{page_count, section_pages};
 ghost use Rattle.boot_plan.specs.FirstPages.{process_pages, stack_pages, interrupt_page};
 ghost use Rattle.boot_plan.specs.Content.{HoldsByte};
-ghost use Rattle.boot_plan.specs.FaultNumbers.{section_outside, section_misaligned, sections_overlap, load_outside, entry_outside, ram_too_small, too_long, bad_load};
+ghost use Rattle.boot_plan.specs.FaultNumbers.{section_outside, section_misaligned, sections_overlap, load_outside, entry_outside};
+ghost use Rattle.boot_plan.specs.FaultNumbers.{ram_too_small, too_long, bad_load};
 ghost use Rattle.boot_plan.specs.ImageFault.{IsImageFault};
-ghost use Rattle.boot_plan.specs.declared.faults.TheConstants.{SECTION_OUTSIDE, SECTION_MISALIGNED, SECTIONS_OVERLAP, LOAD_OUTSIDE, ENTRY_OUTSIDE, RAM_TOO_SMALL, TOO_LONG, BAD_LOAD};
+ghost use Rattle.boot_plan.specs.declared.faults.TheConstants.{SECTION_OUTSIDE, SECTION_MISALIGNED, SECTIONS_OVERLAP, LOAD_OUTSIDE};
+ghost use Rattle.boot_plan.specs.declared.faults.TheConstants.{ENTRY_OUTSIDE, RAM_TOO_SMALL, TOO_LONG, BAD_LOAD};
 
 /// A process starts with the pages of its sections, its stack and its interrupt page, and its
 /// sections stand there with their bytes, each from its address on, and zeros up to the end of

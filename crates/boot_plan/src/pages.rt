@@ -4,7 +4,8 @@ ghost use Rattle.std.specs.Prelude.{◌≡◌, ◌≤◌, ◌<◌, ◌+◌, ◌^
 ghost use Rattle.std.specs.List.{range_with_len};
 ghost use Rattle.kernel_args.specs.Loads.{file_size, file_sizes};
 ghost use Rattle.boot_plan.specs.Sections.{page_count};
-ghost use Rattle.boot_plan.specs.FirstPages.{section_page, section_run, sections_pages, zero_page, stack_pages, interrupt_page, process_pages};
+ghost use Rattle.boot_plan.specs.FirstPages.{section_page, section_run, sections_pages, zero_page, stack_pages, interrupt_page};
+ghost use Rattle.boot_plan.specs.FirstPages.{process_pages};
 
 use crate::plans::PagePlan;
 use crate::sections::{first_page, is_executable, is_writable, page_count};

@@ -2,13 +2,18 @@
 -- machine makes of it.
 use Rattle.std.specs.Prelude.{◌≡◌, ℕ, ◌==◌, if◌then◌else◌, List, [], ◌∷◌}
 use Rattle.xk_base.specs.declared.errors.XousError.TheVariants.{UnhandledSyscall}
-use Rattle.xk_base.specs.Calls.CallNumbers.{map_memory, yield_turn, claim_interrupt, free_interrupt, increase_heap, decrease_heap, update_memory_flags, create_server_with_address, receive_message, send_message, connect, create_thread, unmap_memory, return_memory, terminate_process, try_send_message, try_connect, return_scalar1, return_scalar2, try_receive_message, join_thread, destroy_server, get_thread_id, get_process_id, forward_message}
+use Rattle.xk_base.specs.Calls.CallNumbers.{map_memory, yield_turn, claim_interrupt, free_interrupt, increase_heap, decrease_heap}
+use Rattle.xk_base.specs.Calls.CallNumbers.{update_memory_flags, create_server_with_address, receive_message, send_message, connect}
+use Rattle.xk_base.specs.Calls.CallNumbers.{create_thread, unmap_memory, return_memory, terminate_process, try_send_message, try_connect}
+use Rattle.xk_base.specs.Calls.CallNumbers.{return_scalar1, return_scalar2, try_receive_message, join_thread, destroy_server, get_thread_id}
+use Rattle.xk_base.specs.Calls.CallNumbers.{get_process_id, forward_message}
 use Rattle.xk_base.specs.Calls.CallWords.{call_number}
 use Rattle.machine_model.specs.Calling.Calls.{any_refusals, call}
 use Rattle.machine_model.specs.State.Machine.{Machine}
 use Rattle.call_effects.specs.Rows.InterruptRows.{claim_row, free_row}
 use Rattle.call_effects.specs.Rows.MemoryRows.{decrease_row, increase_row, map_row, unmap_row, update_row}
-use Rattle.call_effects.specs.Rows.MessageRows.{forward_row, receive_row, return_memory_row, return_scalar1_row, return_scalar2_row, send_row, try_receive_row, try_send_row}
+use Rattle.call_effects.specs.Rows.MessageRows.{forward_row, receive_row, return_memory_row, return_scalar1_row, return_scalar2_row}
+use Rattle.call_effects.specs.Rows.MessageRows.{send_row, try_receive_row, try_send_row}
 use Rattle.call_effects.specs.Rows.ServerRows.{connect_row, create_server_row, destroy_row, try_connect_row}
 use Rattle.call_effects.specs.Rows.ThreadRows.{create_row, join_row, process_id_row, terminate_row, thread_id_row, yield_row}
 use Rattle.call_effects.specs.Verdicts.{RefusedIf, Refuses, Row, meant}

@@ -1,5 +1,6 @@
 -- A reader of an event file, as contracts see it, and what it answers.
-use Rattle.std.specs.Prelude.{◌≡◌, ℕ, ◌+◌, ◌≤◌, ◌==◌, ◌||◌, ◌&&◌, nat_lt, not, Bool, true, false, List, [], ◌∷◌, ◌++◌, length, drop, Option, Some, None, if◌then◌else◌}
+use Rattle.std.specs.Prelude.{◌≡◌, ℕ, ◌+◌, ◌≤◌, ◌==◌, ◌||◌, ◌&&◌, nat_lt, not, Bool, true, false, List, [], ◌∷◌, ◌++◌, length, drop, Option}
+use Rattle.std.specs.Prelude.{Some, None, if◌then◌else◌}
 use Rattle.xk_base.specs.declared.limits.TheConstants.{EVENT_FILE_LIMIT, EVENT_LINE_LIMIT}
 use Rattle.std.specs.List.{list_any}
 use Rattle.event_text.specs.declared.event.Line.{Line}

@@ -4,7 +4,8 @@ ghost use Rattle.std.specs.Prelude.{◌≡◌, ◌+◌, ◌≤◌, ◌<◌, [], 
 ghost use Rattle.xk_base.specs.declared.limits.TheConstants.{EVENT_FILE_LIMIT};
 ghost use Rattle.xk_base.specs.declared.events.Event.{Event};
 ghost use Rattle.event_text.specs.declared.event.NextEvent.TheVariants as answer;
-ghost use Rattle.event_text.specs.Held.{new_reader, with_bytes, known_line, first_line, can_grow, known_bad, IsWaiting, front_of, is_good, past_line, rest_answer, answer_of, after_next};
+ghost use Rattle.event_text.specs.Held.{new_reader, with_bytes, known_line, first_line, can_grow, known_bad, IsWaiting, front_of, is_good};
+ghost use Rattle.event_text.specs.Held.{past_line, rest_answer, answer_of, after_next};
 
 use crate::event::{Line, NextEvent};
 use crate::line::{is_over, read_line};

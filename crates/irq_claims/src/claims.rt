@@ -42,7 +42,7 @@ pub struct Claims {
     by_number: [Option<Claim>; NUMBERS],
 }
 
-#[tactic(auto, using(xk_base::proofs::RowMapLemmas::row_map_set, xk_base::proofs::RowMapLemmas::row_map_replicate, xk_base::proofs::RowMapLemmas::row_map_read), unfolding(crate::specs::ClaimsOf::claims_of))]
+#[tactic(auto, using(xk_base::proofs::RowMapLemmas::row_map_laws), unfolding(crate::specs::ClaimsOf::claims_of))]
 impl Claims {
     ghost use Rattle.irq_claims.specs.ClaimsOf.{claims_of};
 

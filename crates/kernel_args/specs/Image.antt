@@ -1,5 +1,6 @@
 -- The grammar of images: which arguments bytes spell.
-use Rattle.std.specs.Prelude.{◌≡◌, ◌<◌, ◌≤◌, ℕ, ◌+◌, ◌*◌, ◌%◌, ◌^◌, ◌⊎◌, ◌==◌, if◌then◌else◌, List, ◌∷◌, ◌++◌, length, map, codes, All, IfSome}
+use Rattle.std.specs.Prelude.{◌≡◌, ◌<◌, ◌≤◌, ℕ, ◌+◌, ◌*◌, ◌%◌, ◌^◌, ◌⊎◌, ◌==◌, if◌then◌else◌, List, ◌∷◌, ◌++◌, length, map, codes, All}
+use Rattle.std.specs.Prelude.{IfSome}
 use Rattle.std.specs.List.{flat_map, AllByRecursion}
 use Rattle.std.specs.Option.{option_to_list}
 use Rattle.kernel_args.specs.declared.args.Args.{Args}
@@ -7,7 +8,8 @@ use Rattle.kernel_args.specs.declared.args.ProcArgs.{ProcArgs}
 use Rattle.kernel_args.specs.declared.args.ProcName.{ProcName}
 use Rattle.kernel_args.specs.CheckNumber.{check_number}
 use Rattle.kernel_args.specs.Tags.{Tag, IsTag, tag_bytes, has_name, is_slots, contents_of}
-use Rattle.kernel_args.specs.Contents.{header_contents, process_contents, HasCheck, IsProcess, slots_contents, Entry, IsEntry, entry_bytes, name_of}
+use Rattle.kernel_args.specs.Contents.{header_contents, process_contents, HasCheck, IsProcess, slots_contents, Entry, IsEntry, entry_bytes}
+use Rattle.kernel_args.specs.Contents.{name_of}
 
 -- RAM is whole pages of 4096 bytes, at most 64 MiB, and ends at or below the console at 0xF000_0000.
 pub record IsRam (start size : ℕ) : Type 0 where

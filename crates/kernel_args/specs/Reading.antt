@@ -1,5 +1,6 @@
 -- What the readers of the parts of an image answer.
-use Rattle.std.specs.Prelude.{◌≡◌, ◌<◌, ◌≤◌, ℕ, ◌^◌, ◌==◌, Bool, true, false, List, [], ◌∷◌, ◌++◌, length, map, take, drop, Option, Some, None, is_some, IfSome}
+use Rattle.std.specs.Prelude.{◌≡◌, ◌<◌, ◌≤◌, ℕ, ◌^◌, ◌==◌, Bool, true, false, List, [], ◌∷◌, ◌++◌, length, map, take, drop, Option, Some}
+use Rattle.std.specs.Prelude.{None, is_some, IfSome}
 use Rattle.std.specs.List.{flat_map, AllByRecursion, list_any}
 use Rattle.std.specs.Option.{option_to_list}
 use Rattle.kernel_args.specs.declared.args.ProcArgs.{ProcArgs}
@@ -10,7 +11,8 @@ use Rattle.kernel_args.specs.declared.header.Header.{Header}
 use Rattle.kernel_args.specs.declared.tag.TagAt.{TagAt}
 use Rattle.kernel_args.specs.Joined.{cut}
 use Rattle.kernel_args.specs.Tags.{Tag, IsTag, tag_bytes, front_tag}
-use Rattle.kernel_args.specs.Contents.{section_bytes, IsSection, front_section, check_word, slots_contents, SpellsProcess, Entry, SpellsNames, front_entry, name_of}
+use Rattle.kernel_args.specs.Contents.{section_bytes, IsSection, front_section, check_word, slots_contents, SpellsProcess, Entry}
+use Rattle.kernel_args.specs.Contents.{SpellsNames, front_entry, name_of}
 use Rattle.kernel_args.specs.Image.{process_limit, Parts, SpellsTags}
 use Rattle.kernel_args.specs.Faults.{number_at, version_of, has_unknown_flag, is_bad_process, is_bad_names, is_bad_slots, Before}
 

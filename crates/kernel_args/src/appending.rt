@@ -2,7 +2,8 @@
 
 ghost use Rattle.std.specs.Prelude.{◌≡◌, ◌<◌, ◌*◌, ◌++◌, ◌^◌, length, IfOk, OnOk};
 ghost use Rattle.kernel_args.specs.Tags.{tag_bytes};
-ghost use Rattle.kernel_args.specs.Contents.{word, section_bytes, process_contents as process_contents_of, header_contents as header_contents_of, slots_contents as slots_contents_of, entry_bytes};
+ghost use Rattle.kernel_args.specs.Contents.{word, section_bytes, process_contents as process_contents_of};
+ghost use Rattle.kernel_args.specs.Contents.{header_contents as header_contents_of, slots_contents as slots_contents_of, entry_bytes};
 ghost use Rattle.kernel_args.specs.Writing.{with_size, with_load, right_tag, written_entry, names_contents as names_contents_of};
 
 use crate::args::{Args, ProcArgs, ProcName, Section};

@@ -6,7 +6,8 @@ ghost use Rattle.kernel_args.specs.Tags.{Tag, tag_bytes};
 ghost use Rattle.kernel_args.specs.Image.{IsRightTag, Spells};
 ghost use Rattle.kernel_args.specs.Reading.{tag_of};
 ghost use Rattle.kernel_args.specs.Writing.{process_row};
-ghost use Rattle.kernel_args.specs.Converting.{tags_in, row_behind_header, left_out as left_out_of, converted_row as converted_row_of, converted_process, converted_tags, converted, IsConvertible, IsRowOf, CanMove};
+ghost use Rattle.kernel_args.specs.Converting.{tags_in, row_behind_header, left_out as left_out_of, converted_row as converted_row_of};
+ghost use Rattle.kernel_args.specs.Converting.{converted_process, converted_tags, converted, IsConvertible, IsRowOf, CanMove};
 
 use crate::appending::append_tag;
 use crate::args::{Args, ProcArgs};

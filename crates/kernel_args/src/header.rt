@@ -2,7 +2,9 @@
 
 ghost use Rattle.std.specs.Prelude.{◌≡◌, ◌≤◌, ◌+◌, length, IfNone};
 ghost use Rattle.std.specs.Bool.{OnFalse};
-ghost use Rattle.kernel_args.specs.Faults.{first_fault, is_not_xarg as is_not_xarg_of, is_bad_header_check, is_bad_total as is_bad_total_of, is_bad_ram as is_bad_ram_of, number_at, row_size, is_bad_version as is_bad_version_of, header_faults};
+ghost use Rattle.kernel_args.specs.Faults.{first_fault, is_not_xarg as is_not_xarg_of, is_bad_header_check};
+ghost use Rattle.kernel_args.specs.Faults.{is_bad_total as is_bad_total_of, is_bad_ram as is_bad_ram_of, number_at, row_size};
+ghost use Rattle.kernel_args.specs.Faults.{is_bad_version as is_bad_version_of, header_faults};
 ghost use Rattle.kernel_args.specs.Reading.{HeaderIs};
 
 use crate::check_number::crc_x25;

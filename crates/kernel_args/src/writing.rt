@@ -1,10 +1,12 @@
 //! Images are written.
 
-ghost use Rattle.std.specs.Prelude.{◌≡◌, ◌<◌, ◌≤◌, ◌+◌, ◌*◌, ◌++◌, ◌^◌, ℕ, List, length, map, IfOk, OnOk, IfSome, MatchOption, IsTrue, ◌==◌, is_some, ◌↔◌, All};
+ghost use Rattle.std.specs.Prelude.{◌≡◌, ◌<◌, ◌≤◌, ◌+◌, ◌*◌, ◌++◌, ◌^◌, ℕ, List, length, map, IfOk, OnOk, IfSome, MatchOption, IsTrue};
+ghost use Rattle.std.specs.Prelude.{◌==◌, is_some, ◌↔◌, All};
 ghost use Rattle.std.specs.List.{flat_map, AllByRecursion};
 ghost use Rattle.kernel_args.specs.Contents.{IsSection, IsProcess};
 ghost use Rattle.kernel_args.specs.Image.{process_limit as process_limit_of, Spells};
-ghost use Rattle.kernel_args.specs.Writing.{with_size, with_load, header_row, slots_row, process_row, row_size, names_row, names_contents as names_contents_of, HasPid, IsWritable, written};
+ghost use Rattle.kernel_args.specs.Writing.{with_size, with_load, header_row, slots_row, process_row, row_size, names_row};
+ghost use Rattle.kernel_args.specs.Writing.{names_contents as names_contents_of, HasPid, IsWritable, written};
 ghost use Rattle.xk_base.specs.declared.limits.TheConstants.{SLOT_LIMIT};
 
 use crate::appending::{

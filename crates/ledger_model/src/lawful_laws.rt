@@ -1,6 +1,7 @@
 //! Each step keeps the ledger lawful, under the condition of the step.
 
-ghost use Rattle.ledger_model.specs.Conditions.{CanForget, CanGive, CanLend, CanMake, CanMakeConsole, CanPass, CanReduce, CanRemove, CanWrite};
+ghost use Rattle.ledger_model.specs.Conditions.{CanForget, CanGive, CanLend, CanMake, CanMakeConsole, CanPass, CanReduce, CanRemove};
+ghost use Rattle.ledger_model.specs.Conditions.{CanWrite};
 ghost use Rattle.ledger_model.specs.Lawful.{IsLawful};
 ghost use Rattle.ledger_model.specs.Ledger.{Ledger, PageName};
 ghost use Rattle.ledger_model.specs.Life.{LedgerStep, MayAll, after_all};

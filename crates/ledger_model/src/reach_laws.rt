@@ -2,7 +2,8 @@
 
 ghost use Rattle.ledger_model.specs.Conditions.{CanLend};
 ghost use Rattle.ledger_model.specs.Lawful.{IsLawful};
-ghost use Rattle.ledger_model.specs.Ledger.{Bytes, Console, Contents, Homed, Ledger, Orphan, Orphaned, Page, PageLoan, PageName, contents_of, loan_at};
+ghost use Rattle.ledger_model.specs.Ledger.{Bytes, Console, Contents, Homed, Ledger, Orphan, Orphaned, Page, PageLoan, PageName};
+ghost use Rattle.ledger_model.specs.Ledger.{contents_of, loan_at};
 ghost use Rattle.ledger_model.specs.Loans.{bare};
 ghost use Rattle.ledger_model.specs.Places.{place_after};
 ghost use Rattle.ledger_model.specs.Reach.{holder_may, home_may, is_free, lender_may, reach};

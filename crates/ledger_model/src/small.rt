@@ -7,7 +7,8 @@ ghost use Rattle.std.specs.Option.{option_map};
 ghost use Rattle.ledger_model.specs.LeastRun.{is_free_run, least_run};
 ghost use Rattle.ledger_model.specs.Ledger.{Console};
 ghost use Rattle.ledger_model.specs.Places.{same_place, place_after};
-ghost use Rattle.ledger_model.specs.Reach.{is_held_at, role_at, owner_may, lender_may, holder_may, may, page_at_role, reach, is_free, is_free_role};
+ghost use Rattle.ledger_model.specs.Reach.{is_held_at, role_at, owner_may, lender_may, holder_may, may, page_at_role, reach, is_free};
+ghost use Rattle.ledger_model.specs.Reach.{is_free_role};
 ghost use Rattle.ledger_model.specs.Small.{ledger_of, is_listed, name_of, role_of, loan_of_entry, page_of_entry};
 ghost use Rattle.ledger_model.specs.Steps.{new_page};
 

@@ -322,3 +322,10 @@ module _ (ram one : RamBytes) (owners left : OwnerTable) (loan : LoanInfo) (agre
   pub forget_page_keeps : KeepsPages (tables ram owners) (tables one left)
   forget_page_keeps = keeps_after (tables ram owners) (tables one left) (with_entry (entries_of (tables ram owners)) loan.holder Free) (with_info (infos owners) (seat_in (entries_of (tables ram owners) loan.holder)) None) forget_rewrites
       (λ t none. seat_kept (infos owners) (seat_in (entries_of (tables ram owners) loan.holder)) t None (used_apart (infos owners) (seat_in (entries_of (tables ram owners) loan.holder)) t (on_loan None loan) orphan.info none) ∙ none)
+
+-- what is known of a page's entry and seat: of an own page, of one with a loan, and of an orphan
+pub ruleset own_page_laws = (entry_made, entry_window, own_seat)
+
+pub ruleset loan_page_laws = (entry_made, entry_window, info_seat)
+
+pub ruleset orphan_page_laws = (entry_made, entry_window, orphan_seat)

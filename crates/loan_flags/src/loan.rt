@@ -19,7 +19,13 @@ impl Model for Loan {
 
     ghost Value = { LoanRun };
 
-    ghost view = { λ loan. record { lender = loan.lender; holder = loan.holder; count = loan.count; kind = loan.kind; number = loan.number } };
+    ghost view = { λ loan. record {
+      lender = loan.lender;
+      holder = loan.holder;
+      count = loan.count;
+      kind = loan.kind;
+      number = loan.number;
+    } };
 }
 
 impl Loan {

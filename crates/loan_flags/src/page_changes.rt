@@ -39,7 +39,7 @@ pub(crate) fn holder_side(kind: LoanKind) -> Side
 }
 
 // The right and the seat of a page at its home, without a loan.
-#[tactic(auto, using(crate::proofs::PageChangeLemmas::entry_made, crate::proofs::PageChangeLemmas::entry_window, crate::proofs::PageChangeLemmas::own_seat))]
+#[tactic(auto, using(crate::proofs::PageChangeLemmas::own_page_laws))]
 fn own_page(ram: &Ram, owners: &Owners, home: Place) -> (Right, Seat)
     requires agrees { agrees ram.now owners.now }
     requires own { IsOwn (entries_of (tables ram.now owners.now)) home }
@@ -107,7 +107,7 @@ fn right_told(side: Side) -> Right
 }
 
 // The former right and the seat of a page on loan.
-#[tactic(auto, using(crate::proofs::PageChangeLemmas::entry_made, crate::proofs::PageChangeLemmas::entry_window, crate::proofs::PageChangeLemmas::info_seat))]
+#[tactic(auto, using(crate::proofs::PageChangeLemmas::loan_page_laws))]
 fn lent_page(ram: &Ram, owners: &Owners, home: Place, loan: LoanInfo) -> (Right, Seat)
     requires agrees { agrees ram.now owners.now }
     requires lent { IsLentFrom (entries_of (tables ram.now owners.now)) (infos owners.now) home loan }
@@ -244,7 +244,7 @@ pub(crate) fn orphan_page(ram: &mut Ram, owners: &mut Owners, home: Place, loan:
 }
 
 // An orphan is forgotten.
-#[tactic(auto, using(crate::proofs::PageChangeLemmas::entry_made, crate::proofs::PageChangeLemmas::entry_window, crate::proofs::PageChangeLemmas::orphan_seat))]
+#[tactic(auto, using(crate::proofs::PageChangeLemmas::orphan_page_laws))]
 pub(crate) fn forget_page(ram: &mut Ram, owners: &mut Owners, loan: LoanInfo)
     requires agrees { agrees ram.old owners.old }
     requires orphan { IsOrphaned (entries_of (tables ram.old owners.old)) (infos owners.old) loan }
@@ -262,7 +262,7 @@ pub(crate) fn forget_page(ram: &mut Ram, owners: &mut Owners, loan: LoanInfo)
 }
 
 // The seat of an orphan.
-#[tactic(auto, using(crate::proofs::PageChangeLemmas::entry_made, crate::proofs::PageChangeLemmas::entry_window, crate::proofs::PageChangeLemmas::orphan_seat))]
+#[tactic(auto, using(crate::proofs::PageChangeLemmas::orphan_page_laws))]
 fn seat_at(ram: &Ram, owners: &Owners, loan: LoanInfo) -> Seat
     requires agrees { agrees ram.now owners.now }
     requires orphan { IsOrphaned (entries_of (tables ram.now owners.now)) (infos owners.now) loan }

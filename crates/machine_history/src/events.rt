@@ -15,7 +15,7 @@ ghost use Rattle.machine_model.specs.Stepping.Step.{step};
 ghost use Rattle.machine_history.specs.History.{play, history, reached, stopped, behind, followed_by};
 
 /// `pick P T`, `irq K` and `kill P` are what the machine makes of them. They meet no limit.
-#[tactic(auto, using(crate::proofs::Histories::HistoryLemmas::pick_plays, crate::proofs::Histories::HistoryLemmas::irq_plays, crate::proofs::Histories::HistoryLemmas::kill_plays))]
+#[tactic(auto, using(crate::proofs::Histories::HistoryLemmas::stepless_plays))]
 pub fn events_without_steps_are_played()
     ensures pick { (pid : Pid) (tid : Tid) (limit : ℕ) (m : Machine)
         → play (Pick pid tid) limit m ≡ reached (picked (record { pid = pid; tid = tid }) m) }

@@ -29,7 +29,8 @@ ghost use Rattle.machine_model.specs.Messaging.ReturnCalls.{return_memory_call, 
 ghost use Rattle.machine_model.specs.Messaging.SendCalls.{send_call, try_send_call};
 ghost use Rattle.machine_model.specs.Calling.ServerCalls.{create_server_call, connect_call, try_connect_call, destroy_call};
 ghost use Rattle.machine_model.specs.State.Servers.{messages_of};
-ghost use Rattle.machine_model.specs.Calling.ThreadCalls.{yield_call, create_call, join_call, terminate_call, thread_id_call, process_id_call};
+ghost use Rattle.machine_model.specs.Calling.ThreadCalls.{yield_call, create_call, join_call, terminate_call, thread_id_call};
+ghost use Rattle.machine_model.specs.Calling.ThreadCalls.{process_id_call};
 ghost use Rattle.machine_model.specs.State.Threads.{both_answers};
 
 /// Every number of a call has its row in the table, in the order of the numbers.

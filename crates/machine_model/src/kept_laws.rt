@@ -1,7 +1,8 @@
 //! Laws of the machine's invariant.
 
 ghost use Rattle.std.specs.Prelude.{ℕ, ◌≤◌, List};
-ghost use Rattle.machine_model.specs.Runs.Kept.{StepKeepsMatched, PickKeepsMatched, IrqKeepsMatched, KillKeepsMatched, TurnKeepsMatched, AllKeepMatched, KeepsCursor, AllKeepCursor};
+ghost use Rattle.machine_model.specs.Runs.Kept.{StepKeepsMatched, PickKeepsMatched, IrqKeepsMatched, KillKeepsMatched, TurnKeepsMatched};
+ghost use Rattle.machine_model.specs.Runs.Kept.{AllKeepMatched, KeepsCursor, AllKeepCursor};
 ghost use Rattle.machine_model.specs.State.Machine.{Machine};
 ghost use Rattle.machine_model.specs.Runs.Moments.{ByStep, Moment, IsRun, state_at};
 ghost use Rattle.machine_model.specs.Runs.Matched.{Matched};

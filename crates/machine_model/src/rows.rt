@@ -1,10 +1,13 @@
 //! Worked rows of the machine: what is told of calls and events on small machines.
 
 ghost use Rattle.std.specs.Prelude.{◌≡◌};
-ghost use Rattle.machine_model.specs.Worked.LendRows.{lend_begin, lend_begin_told, lend_row, lend_told, orphan_row, orphan_told, refusal_row, refusal_told};
+ghost use Rattle.machine_model.specs.Worked.LendRows.{lend_begin, lend_begin_told, lend_row, lend_told, orphan_row, orphan_told};
+ghost use Rattle.machine_model.specs.Worked.LendRows.{refusal_row, refusal_told};
 ghost use Rattle.machine_model.specs.Worked.MapRows.{map_row, map_told};
 ghost use Rattle.machine_model.specs.Worked.Rows.{small_machine, told_all, after_all};
-ghost use Rattle.machine_model.specs.Worked.ServerRows.{pending_row, pending_told, scalar_row, scalar_told, waiting_row, waiting_told, stale_row, stale_told, senderless_row, senderless_told, kill_row, kill_told, full_row, full_told, interrupt_row, interrupt_told, death_row, death_told};
+ghost use Rattle.machine_model.specs.Worked.ServerRows.{pending_row, pending_told, scalar_row, scalar_told, waiting_row, waiting_told};
+ghost use Rattle.machine_model.specs.Worked.ServerRows.{stale_row, stale_told, senderless_row, senderless_told, kill_row, kill_told};
+ghost use Rattle.machine_model.specs.Worked.ServerRows.{full_row, full_told, interrupt_row, interrupt_told, death_row, death_told};
 
 /// An interrupt that is raised while its handler runs is delivered once more, however often.
 #[tactic(auto, using(crate::proofs::State::RowLemmas::pending_is_a_set))]

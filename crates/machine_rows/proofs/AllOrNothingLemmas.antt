@@ -162,3 +162,6 @@ pub three_sent : told_all three_pages_row after_refusal ≡ three_pages_told
 three_sent =
     ap (told_all three_pages_row) left_is
     ∙ (rest_since ∙ (ap (told_from lending_rest (drop 1 three_pages_row)) rest_comes ∙ rest_then))
+
+-- the row
+pub ruleset all_or_nothing_row = (begun, refused, none_lent, three_sent)

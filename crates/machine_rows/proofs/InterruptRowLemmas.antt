@@ -30,3 +30,6 @@ handler_starts = refl
 pub handler_is_next : handling.cursor ≡ id_of 2 1
 unfolding left_by coded_machine small_machine listed_ledger code step step_by actor memory_of reach role_at execute_at execute execute_base atomic_at insn_at call claim_call call_settled settled raised delivered lowest_pending least_below listed_below listed_ids
 handler_is_next = refl
+
+-- the row
+pub ruleset interrupt_row = (pending_told, handler_starts, handler_is_next)

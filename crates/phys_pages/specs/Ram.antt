@@ -1,5 +1,6 @@
 -- RAM as functions: what page each frame holds, and what word stands at each physical address.
-use Rattle.std.specs.Prelude.{◌≡◌, ℕ, ◌+◌, ◌-◌, ◌*◌, ◌/◌, ◌%◌, ◌<◌, ◌≤◌, ◌==◌, Bool, ◌&&◌, nat_le, nat_lt, List, ◌++◌, length, take, drop, slice_range, Option, Some, None, if◌then◌else◌}
+use Rattle.std.specs.Prelude.{◌≡◌, ℕ, ◌+◌, ◌-◌, ◌*◌, ◌/◌, ◌%◌, ◌<◌, ◌≤◌, ◌==◌, Bool, ◌&&◌, nat_le, nat_lt, List, ◌++◌, length, take, drop}
+use Rattle.std.specs.Prelude.{slice_range, Option, Some, None, if◌then◌else◌}
 use Rattle.std.specs.List.{refill}
 use Rattle.byteorder.specs.Endian.{little_number, little_bytes}
 use Rattle.xk_base.specs.declared.ids.Frame.{Frame}

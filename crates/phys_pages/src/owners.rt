@@ -51,7 +51,7 @@ fn first_free(seats: &[Option<PageInfo>]) -> Option<usize>
     seats.iter().position(|seat| seat.is_none())
 }
 
-#[tactic(auto, using(xk_base::proofs::RowMapLemmas::row_map_set, xk_base::proofs::RowMapLemmas::row_map_replicate, xk_base::proofs::RowMapLemmas::row_map_read), unfolding(crate::specs::Owners::extent, crate::specs::Owners::infos))]
+#[tactic(auto, using(xk_base::proofs::RowMapLemmas::row_map_laws), unfolding(crate::specs::Owners::extent, crate::specs::Owners::infos))]
 impl Owners {
     ghost use Rattle.xk_base.specs.Tables.Counting.{put_at};
     ghost use Rattle.phys_pages.specs.Owners.{extent, infos, no_infos, seat_eq, HasSeat, AreFramesUsed, AreSlotsUsed};

@@ -2,7 +2,8 @@
 use Rattle.std.specs.Prelude.{ℕ, Option, Some, None}
 use Rattle.machine_model.specs.Hart.Atomics as model
 use Rattle.rv32_atomics.specs.declared.atomic.Atomic.{Atomic}
-use Rattle.rv32_atomics.specs.declared.atomic.Atomic.TheVariants.{Lr, Sc, AmoSwap, AmoAdd, AmoXor, AmoAnd, AmoOr, AmoMin, AmoMax, AmoMinu, AmoMaxu}
+use Rattle.rv32_atomics.specs.declared.atomic.Atomic.TheVariants.{Lr, Sc, AmoSwap, AmoAdd, AmoXor, AmoAnd, AmoOr, AmoMin, AmoMax, AmoMinu}
+use Rattle.rv32_atomics.specs.declared.atomic.Atomic.TheVariants.{AmoMaxu}
 use Rattle.rv32_atomics.specs.declared.fields.Fields.{Fields}
 use Rattle.rv32_atomics.specs.declared.kind.Kind.{Kind}
 use Rattle.rv32_atomics.specs.declared.kind.Kind.TheVariants.{LoadReserved, StoreConditional, Amo}

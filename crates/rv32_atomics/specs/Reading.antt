@@ -5,7 +5,8 @@ use Rattle.xk_base.specs.Numbers.Fields.{field}
 use Rattle.rv32_words.specs.Reading.{opcode_of, funct3_of, rd_of, rs1_of, rs2_of}
 use Rattle.machine_model.specs.Hart.Atomics.{funct5_of}
 use Rattle.rv32_atomics.specs.declared.atomic.Atomic.{Atomic}
-use Rattle.rv32_atomics.specs.declared.atomic.Atomic.TheVariants.{Lr, Sc, AmoSwap, AmoAdd, AmoXor, AmoAnd, AmoOr, AmoMin, AmoMax, AmoMinu, AmoMaxu}
+use Rattle.rv32_atomics.specs.declared.atomic.Atomic.TheVariants.{Lr, Sc, AmoSwap, AmoAdd, AmoXor, AmoAnd, AmoOr, AmoMin, AmoMax, AmoMinu}
+use Rattle.rv32_atomics.specs.declared.atomic.Atomic.TheVariants.{AmoMaxu}
 use Rattle.rv32_atomics.specs.declared.fields.Fields.{Fields}
 
 -- what stands in the fields of a word

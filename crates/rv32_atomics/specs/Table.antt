@@ -5,7 +5,8 @@ use Rattle.xk_base.specs.Numbers.Fields.{Drawing, word_of}
 use Rattle.rv32_words.specs.Formats.{IsRegister}
 use Rattle.machine_model.specs.Hart.Instructions.{flag_of}
 use Rattle.rv32_atomics.specs.declared.atomic.Atomic.{Atomic}
-use Rattle.rv32_atomics.specs.declared.atomic.Atomic.TheVariants.{Lr, Sc, AmoSwap, AmoAdd, AmoXor, AmoAnd, AmoOr, AmoMin, AmoMax, AmoMinu, AmoMaxu}
+use Rattle.rv32_atomics.specs.declared.atomic.Atomic.TheVariants.{Lr, Sc, AmoSwap, AmoAdd, AmoXor, AmoAnd, AmoOr, AmoMin, AmoMax, AmoMinu}
+use Rattle.rv32_atomics.specs.declared.atomic.Atomic.TheVariants.{AmoMaxu}
 use Rattle.rv32_atomics.specs.declared.fields.Fields.{Fields}
 
 -- a row of the table: its funct5, and the fields of the instruction

@@ -7,7 +7,8 @@ ghost use Rattle.machine_model.specs.Hart.Atomics.{atomic_effect, reserves};
 ghost use Rattle.machine_model.specs.Hart.Instructions.{Executed};
 ghost use Rattle.rv32_hart.specs.Running.{DoesExecute, GoesOnAligned, UnlessFailed, IfFailed, view_of};
 ghost use Rattle.rv32_atomics.specs.Meaning.{meaning};
-ghost use Rattle.rv32_atomics.specs.Performing.{Core, DoesOrLeaves, LeavesRegistersUnlessDone, LeavesReserved, Performs, PerformsOrLeaves, goes_on, reserved_after};
+ghost use Rattle.rv32_atomics.specs.Performing.{Core, DoesOrLeaves, LeavesRegistersUnlessDone, LeavesReserved, Performs, PerformsOrLeaves};
+ghost use Rattle.rv32_atomics.specs.Performing.{goes_on, reserved_after};
 ghost use Rattle.rv32_atomics.specs.Table.{IsInRange};
 
 use crate::atomic::Atomic;

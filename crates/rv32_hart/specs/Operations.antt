@@ -4,7 +4,8 @@ use Rattle.xk_base.specs.declared.pages.Width.{Width}
 use Rattle.xk_base.specs.declared.pages.Width.TheVariants.{Byte, Half, Word}
 use Rattle.xk_base.specs.UserMemory.{Memory}
 use Rattle.rv32_words.specs.Formats.{IsRegister}
-use Rattle.machine_model.specs.Hart.Instructions.{Executed, Next, CallsKernel, Traps, breakpoint, following, writes, jumps, branches, loads, stores, sign_extended_byte, sign_extended_half}
+use Rattle.machine_model.specs.Hart.Instructions.{Executed, Next, CallsKernel, Traps, breakpoint, following, writes, jumps, branches, loads}
+use Rattle.machine_model.specs.Hart.Instructions.{stores, sign_extended_byte, sign_extended_half}
 use Rattle.rv32_hart.specs.declared.operation.Operation.{Operation}
 use Rattle.rv32_hart.specs.declared.operation.Operation.TheVariants.{Write, Jump, Branch, Load, Store, Fence, Call, Break}
 

@@ -6,7 +6,8 @@ use Rattle.xk_base.specs.declared.pages.Access.{Access}
 use Rattle.xk_base.specs.declared.pages.Access.TheVariants.{Fetch}
 use Rattle.xk_base.specs.declared.user_memory.UserMemory.{Ghosts as UserMemory}
 use Rattle.xk_base.specs.UserMemory.{Memory, Content, KeepsContent, Timer, timer_stored, with_number}
-use Rattle.machine_model.specs.Hart.Instructions.{Executed, Next, Stores, StoresToConsole, StoresToTimer, CallsKernel, Traps, execute_base, execute_base_at, fetch_page_fault}
+use Rattle.machine_model.specs.Hart.Instructions.{Executed, Next, Stores, StoresToConsole, StoresToTimer, CallsKernel, Traps, execute_base}
+use Rattle.machine_model.specs.Hart.Instructions.{execute_base_at, fetch_page_fault}
 use Rattle.rv32_hart.specs.declared.ran.Ran.{Ran}
 use Rattle.rv32_hart.specs.declared.ran.Ran.TheVariants.{Ecall, Trap, Device, Failed}
 use Rattle.rv32_hart.specs.declared.ran.Ran.TheVariants as ran

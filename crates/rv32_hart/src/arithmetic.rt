@@ -1,7 +1,9 @@
 //! Arithmetic on words, which wraps (RISC-V Unprivileged ISA, 2.4, and chapter "M").
 
 ghost use Rattle.std.specs.Prelude.{◌≡◌, ◌*◌, ◌/◌, ◌%◌, ◌^◌, ◌*ℤ◌, pos, nat_lt};
-ghost use Rattle.machine_model.specs.Hart.Instructions.{as_word, signed, sum_of, difference_of, flag_of, signed_below, left_shift_of, right_shift_of, signed_right_shift_of, upper_half, signed_quotient, quotient, signed_remainder, remainder, sign_extended_byte, sign_extended_half};
+ghost use Rattle.machine_model.specs.Hart.Instructions.{as_word, signed, sum_of, difference_of, flag_of, signed_below, left_shift_of};
+ghost use Rattle.machine_model.specs.Hart.Instructions.{right_shift_of, signed_right_shift_of, upper_half, signed_quotient, quotient};
+ghost use Rattle.machine_model.specs.Hart.Instructions.{signed_remainder, remainder, sign_extended_byte, sign_extended_half};
 
 /// An immediate as a word.
 pub fn word(imm: i32) -> u32

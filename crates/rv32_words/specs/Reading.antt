@@ -3,7 +3,10 @@
 use Rattle.std.specs.Prelude.{ℕ, [], ◌∷◌, Option, Some, None, ◌==◌, if◌then◌else◌}
 use Rattle.xk_base.specs.Numbers.Fields.{field, word_of, sign_extended}
 use Rattle.rv32_words.specs.declared.insn.Insn.{Insn}
-use Rattle.rv32_words.specs.declared.insn.Insn.TheVariants.{Lui, Auipc, Jal, Jalr, Beq, Bne, Blt, Bge, Bltu, Bgeu, Lb, Lh, Lw, Lbu, Lhu, Sb, Sh, Sw, Addi, Slti, Sltiu, Xori, Ori, Andi, Slli, Srli, Srai, Add, Sub, Sll, Slt, Sltu, Xor, Srl, Sra, Or, And, Mul, Mulh, Mulhsu, Mulhu, Div, Divu, Rem, Remu, Fence, FenceI, Ecall, Ebreak}
+use Rattle.rv32_words.specs.declared.insn.Insn.TheVariants.{Lui, Auipc, Jal, Jalr, Beq, Bne, Blt, Bge, Bltu, Bgeu, Lb, Lh, Lw, Lbu, Lhu, Sb}
+use Rattle.rv32_words.specs.declared.insn.Insn.TheVariants.{Sh, Sw, Addi, Slti, Sltiu, Xori, Ori, Andi, Slli, Srli, Srai, Add, Sub, Sll}
+use Rattle.rv32_words.specs.declared.insn.Insn.TheVariants.{Slt, Sltu, Xor, Srl, Sra, Or, And, Mul, Mulh, Mulhsu, Mulhu, Div, Divu, Rem}
+use Rattle.rv32_words.specs.declared.insn.Insn.TheVariants.{Remu, Fence, FenceI, Ecall, Ebreak}
 
 -- the fields of a word (2.2)
 abbrev pub opcode_of : ℕ → ℕ

@@ -3,7 +3,8 @@
 ghost use Rattle.std.specs.Prelude.{◌≡◌, MatchOption};
 ghost use Rattle.rv32_words.specs.declared.insn.Insn.{Insn};
 ghost use Rattle.rv32_words.specs.Table.{Spells};
-ghost use Rattle.rv32_words.specs.Reading.{insn_at, branch_at, load_at, store_at, op_imm_at, shift_left_at, shift_right_at, op_at, base_op_at, alternate_op_at, muldiv_at, misc_mem_at, jalr_at, system_at};
+ghost use Rattle.rv32_words.specs.Reading.{insn_at, branch_at, load_at, store_at, op_imm_at, shift_left_at, shift_right_at, op_at};
+ghost use Rattle.rv32_words.specs.Reading.{base_op_at, alternate_op_at, muldiv_at, misc_mem_at, jalr_at, system_at};
 
 use crate::fields::{
     b_immediate, funct3, funct7, i_immediate, j_immediate, opcode, rd, rs1, rs2, s_immediate,

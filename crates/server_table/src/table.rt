@@ -1,12 +1,14 @@
 //! The table of servers.
 
-ghost use Rattle.std.specs.Prelude.{◌≡◌, ◌<◌, ◌≤◌, All, AllPairs, Option, IfOk, IfSome, OnOk, OnErr, is_none, length, position, slice_get, vec_len};
+ghost use Rattle.std.specs.Prelude.{◌≡◌, ◌<◌, ◌≤◌, All, AllPairs, Option, IfOk, IfSome, OnOk, OnErr, is_none, length, position, slice_get};
+ghost use Rattle.std.specs.Prelude.{vec_len};
 ghost use Rattle.std.specs.List.Sorted.{IsStrictlyIncreasing};
 ghost use Rattle.std.specs.Option.{option_map};
 ghost use Rattle.xk_base.specs.declared.limits.TheConstants.{SERVER_LIMIT};
 ghost use Rattle.server_table.specs.Listed.{serials_of, HaveTwoSids, listed_servers};
 ghost use Rattle.server_table.specs.Seats.{has_serial, seat_has_sid, seat_with, own_serial, AreApart, AreCounted};
-ghost use Rattle.server_table.specs.ServerState.{no_servers, with_sid, least_of, at_seat, free_seat, made_answer, with_server, without_server};
+ghost use Rattle.server_table.specs.ServerState.{no_servers, with_sid, least_of, at_seat, free_seat, made_answer, with_server};
+ghost use Rattle.server_table.specs.ServerState.{without_server};
 
 use std::alloc::Global;
 use xk_base::limits::SERVER_LIMIT;

@@ -1,7 +1,8 @@
 -- The ledger that entries, owners and the bytes of seats make. At a home the entry tells the right, the owner table the
 -- loan; at a holder's place an orphan stands where the owner table has no home for the seat. A page that is out is there
 -- like any other: its seat is a slot.
-use Rattle.std.specs.Prelude.{◌≡◌, ℕ, ◌+◌, ◌-◌, Bool, true, false, nat_lt, is_none, is_some, IsTrue, List, Option, Some, None, if◌then◌else◌}
+use Rattle.std.specs.Prelude.{◌≡◌, ℕ, ◌+◌, ◌-◌, Bool, true, false, nat_lt, is_none, is_some, IsTrue, List, Option, Some, None}
+use Rattle.std.specs.Prelude.{if◌then◌else◌}
 use Rattle.std.specs.Option.{option_and_then, option_map}
 use Rattle.xk_base.specs.declared.ids.Place.{Place}
 use Rattle.xk_base.specs.Tables.Counting.{count_below}

@@ -11,7 +11,8 @@ ghost use Rattle.sv32_space.specs.Agreement.{EntriesAgree, Infos, on_loan, owned
 ghost use Rattle.sv32_space.specs.declared.sides.Entry.TheVariants.{At, Free, OnConsole};
 ghost use Rattle.sv32_space.specs.Entries.{Entries};
 ghost use Rattle.sv32_space.specs.EntryLedger.{SeatBytes, ledger_of};
-ghost use Rattle.sv32_space.specs.PageChanges.{ended_entries, given_entries, held_at, lent_entries, moved_infos, passed_entries, renamed, with_bytes, with_entry, with_info};
+ghost use Rattle.sv32_space.specs.PageChanges.{ended_entries, given_entries, held_at, lent_entries, moved_infos, passed_entries, renamed};
+ghost use Rattle.sv32_space.specs.PageChanges.{with_bytes, with_entry, with_info};
 ghost use Rattle.sv32_space.specs.PageSteps.{end_at, forget_orphans, orphan_run, pass_run, place_page};
 ghost use Rattle.sv32_space.specs.declared.sides.Side.TheVariants.{Own};
 ghost use Rattle.xk_base.specs.declared.ids.Place.{Place};

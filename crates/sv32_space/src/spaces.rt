@@ -9,7 +9,8 @@ ghost use Rattle.xk_base.specs.Numbers.Windows.{window_at};
 ghost use Rattle.phys_pages.specs.Ram.{area, pages, words, IsInside, IsPlaced};
 ghost use Rattle.ledger_model.specs.Places.{is_user_place, same_place};
 ghost use Rattle.sv32_space.specs.declared.sides.Entry.TheVariants.{Free};
-ghost use Rattle.sv32_space.specs.Spaces.{root_at, window_order, first_root_entry, table_frame, table_word, root_word, window_of_root_entry, leaf_word, leaf_address, IsSpace, IsTableFrame, IsMade};
+ghost use Rattle.sv32_space.specs.Spaces.{root_at, window_order, first_root_entry, table_frame, table_word, root_word};
+ghost use Rattle.sv32_space.specs.Spaces.{window_of_root_entry, leaf_word, leaf_address, IsSpace, IsTableFrame, IsMade};
 ghost use Rattle.sv32_space.specs.SpelledEntries.{entries, entry_spelled};
 ghost use Rattle.sv32_space.specs.Spellings.{kind_at};
 

@@ -10,7 +10,8 @@ ghost use Rattle.sv32_space.specs.declared.sides.Entry.{Entry};
 ghost use Rattle.sv32_space.specs.EntryReach.{entry_reach};
 ghost use Rattle.sv32_space.specs.Spaces.{root_at, IsMade};
 ghost use Rattle.sv32_space.specs.SpelledEntries.{entries};
-ghost use Rattle.sv32_space.specs.Walk.{entry_in_table, flag, is_valid, is_leaf, is_pointer, lets_through, is_aligned, from_last_level, from_large_leaf, from_pointer, from_root, walk_of, vpn_1};
+ghost use Rattle.sv32_space.specs.Walk.{entry_in_table, flag, is_valid, is_leaf, is_pointer, lets_through, is_aligned, from_last_level};
+ghost use Rattle.sv32_space.specs.Walk.{from_large_leaf, from_pointer, from_root, walk_of, vpn_1};
 
 use crate::tables::entry_word;
 use phys_pages::Ram;

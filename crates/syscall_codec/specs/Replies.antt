@@ -1,8 +1,10 @@
 -- The words of each reply.
 use Rattle.std.specs.Prelude.{ℕ, List}
-use Rattle.xk_base.specs.Calls.Replies.{plain_words, refused_words, range_words, connection_words, new_server_words, message_words, thread_words, scalar1_words, scalar2_words, returned_words}
+use Rattle.xk_base.specs.Calls.Replies.{plain_words, refused_words, range_words, connection_words, new_server_words, message_words}
+use Rattle.xk_base.specs.Calls.Replies.{thread_words, scalar1_words, scalar2_words, returned_words}
 use Rattle.syscall_codec.specs.declared.replies.Reply.{Reply}
-use Rattle.syscall_codec.specs.declared.replies.Reply.TheVariants.{Plain, Refused, Range, Connection, NewServer, Got, Thread, Scalar1, Scalar2, Returned}
+use Rattle.syscall_codec.specs.declared.replies.Reply.TheVariants.{Plain, Refused, Range, Connection, NewServer, Got, Thread, Scalar1}
+use Rattle.syscall_codec.specs.declared.replies.Reply.TheVariants.{Scalar2, Returned}
 
 -- the eight words by which a reply is told
 abbrev pub words_of : Reply → List ℕ

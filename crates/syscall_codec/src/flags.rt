@@ -1,7 +1,8 @@
 //! The flags of memory that MapMemory and UpdateMemoryFlags take.
 
 ghost use Rattle.std.specs.Prelude.{⊤, ◌≡◌, ◌↔◌, [], ◌∷◌, codes, IsTrue, IsSome, IfSome};
-ghost use Rattle.xk_base.specs.Calls.Flags.{flag_reserve, flag_read, flag_write, flag_execute, flag_device, are_known_flags, has_flag, right_of};
+ghost use Rattle.xk_base.specs.Calls.Flags.{flag_reserve, flag_read, flag_write, flag_execute, flag_device, are_known_flags, has_flag};
+ghost use Rattle.xk_base.specs.Calls.Flags.{right_of};
 ghost use Rattle.syscall_codec.specs.MapFlags.{bits_of};
 
 use bitflags::{Flag, Flags, bitflag_items};
@@ -26,7 +27,8 @@ impl Flags for MapFlags {
 
     ghost exact = { ⊤ };
 
-    ghost table = { (codes "RESERVE", flag_reserve) ∷ (codes "R", flag_read) ∷ (codes "W", flag_write) ∷ (codes "X", flag_execute) ∷ (codes "DEV", flag_device) ∷ [] };
+    ghost table = { (codes "RESERVE", flag_reserve) ∷ (codes "R", flag_read) ∷ (codes "W", flag_write)
+        ∷ (codes "X", flag_execute) ∷ (codes "DEV", flag_device) ∷ [] };
 
     ghost set_of = { bits_of };
 

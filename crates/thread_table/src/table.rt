@@ -1,12 +1,14 @@
 //! The table of threads.
 
-ghost use Rattle.std.specs.Prelude.{◌≡◌, ◌<◌, ◌≤◌, ◌+◌, ◌-◌, ◌%◌, ℕ, true, false, IfOk, IfSome, IfNone, IsSome, Some, None, is_none, replicate, vec_len};
+ghost use Rattle.std.specs.Prelude.{◌≡◌, ◌<◌, ◌≤◌, ◌+◌, ◌-◌, ◌%◌, ℕ, true, false, IfOk, IfSome, IfNone, IsSome, Some, None, is_none};
+ghost use Rattle.std.specs.Prelude.{replicate, vec_len};
 ghost use Rattle.std.specs.Option.{option_copied};
 ghost use Rattle.xk_base.specs.Tables.Circle.{IsPid, IsTid, is_thread_id, same_thread, thread_ids, place_of, id_at, id_by_tid};
 ghost use Rattle.xk_base.specs.Tables.Counting.{put_at};
 ghost use Rattle.xk_base.specs.declared.ids.ThreadId.{ThreadId as Id};
 ghost use Rattle.xk_base.specs.declared.limits.TheConstants.{PROCESS_LIMIT};
-ghost use Rattle.thread_table.specs.ThreadMap.{no_threads, thread_map, without_process, free_tid, thread_above, tids_above, live_threads, receiver, next_ready, id_in_row, is_ready_in, is_receiving};
+ghost use Rattle.thread_table.specs.ThreadMap.{no_threads, thread_map, without_process, free_tid, thread_above, tids_above, live_threads};
+ghost use Rattle.thread_table.specs.ThreadMap.{receiver, next_ready, id_in_row, is_ready_in, is_receiving};
 ghost use Rattle.thread_table.specs.TidSets.{no_tids, AreMarked};
 
 use crate::thread::{Thread, thread_in};

@@ -31,3 +31,6 @@ row_map_replicate {V} n = λ i q. at q i
       | inl inside ↦ get_or-replicate n q None None inside
       | inr past ↦ get_or_past (replicate {A = Option V} n None) q None (omega (arith, length-replicate {A = Option V} n None))
     ]
+
+-- all of them
+pub ruleset row_map_laws = (row_map_set, row_map_replicate, row_map_read)

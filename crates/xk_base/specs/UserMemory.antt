@@ -1,5 +1,6 @@
 -- Memory as a process sees it, by the virtual address of a byte, and what its fetches, loads and stores give.
-use Rattle.std.specs.Prelude.{◌≡◌, ℕ, ◌+◌, ◌-◌, ◌*◌, ◌/◌, ◌%◌, ◌^◌, Bool, true, false, ◌&&◌, ◌==◌, nat_le, nat_lt, if◌then◌else◌, List, is_some, unwrap_or, Option, Some, None}
+use Rattle.std.specs.Prelude.{◌≡◌, ℕ, ◌+◌, ◌-◌, ◌*◌, ◌/◌, ◌%◌, ◌^◌, Bool, true, false, ◌&&◌, ◌==◌, nat_le, nat_lt, if◌then◌else◌, List}
+use Rattle.std.specs.Prelude.{is_some, unwrap_or, Option, Some, None}
 use Rattle.std.specs.Int.{bytes_low_first}
 use Rattle.std.specs.Option.{option_and_then, option_map}
 use Rattle.xk_base.specs.declared.pages.Access.{Access}

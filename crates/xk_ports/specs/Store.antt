@@ -1,5 +1,6 @@
 -- The swap store: what its slots hold, and the preparations that were asked for.
-use Rattle.std.specs.Prelude.{◌≡◌, ◌<◌, ◌==◌, ℕ, Bool, true, false, List, [], ◌∷◌, length, slice_index, Option, Some, Result, Ok, Err, if◌then◌else◌}
+use Rattle.std.specs.Prelude.{◌≡◌, ◌<◌, ◌==◌, ℕ, Bool, true, false, List, [], ◌∷◌, length, slice_index, Option, Some, Result, Ok, Err}
+use Rattle.std.specs.Prelude.{if◌then◌else◌}
 use Rattle.std.specs.Option.{option_map}
 use Rattle.xk_ports.specs.declared.store.StoreFault.{StoreFault}
 use Rattle.xk_ports.specs.declared.store.StoreFault.TheVariants.{Failed, NoMemory}

@@ -1,6 +1,7 @@
 //! The host: files that are asked for by name and read from their start.
 
-ghost use Rattle.std.specs.Prelude.{◌≡◌, ◌<◌, ◌≤◌, ◌↔◌, ◌∷◌, ◌||◌, [], ℕ, Bool, List, Option, length, take, is_ok, IsTrue, IfOk, OnOk, OnErr};
+ghost use Rattle.std.specs.Prelude.{◌≡◌, ◌<◌, ◌≤◌, ◌↔◌, ◌∷◌, ◌||◌, [], ℕ, Bool, List, Option, length, take, is_ok, IsTrue, IfOk, OnOk};
+ghost use Rattle.std.specs.Prelude.{OnErr};
 ghost use Rattle.xk_base.specs.Outside.{Rose};
 ghost use Rattle.xk_ports.specs.Told.{Consumes, Grows};
 ghost use Rattle.xk_ports.specs.Host.{FileAsked, IsLeftOf, other_slot};

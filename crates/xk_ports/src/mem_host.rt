@@ -1,6 +1,7 @@
 //! A host in memory, with calls that are to fail.
 
-ghost use Rattle.std.specs.Prelude.{◌≡◌, ◌<◌, ◌≤◌, ◌↔◌, ◌-◌, ◌++◌, [], ℕ, map, length, take, drop, min, is_err, is_some, true, false, IsTrue, MatchOption, IfOk, OnOk, OnErr, option_and_then, slice_get, if◌then◌else◌};
+ghost use Rattle.std.specs.Prelude.{◌≡◌, ◌<◌, ◌≤◌, ◌↔◌, ◌-◌, ◌++◌, [], ℕ, map, length, take, drop, min, is_err, is_some, true, false};
+ghost use Rattle.std.specs.Prelude.{IsTrue, MatchOption, IfOk, OnOk, OnErr, option_and_then, slice_get, if◌then◌else◌};
 ghost use Rattle.std.specs.Option.{option_map};
 ghost use Rattle.xk_ports.specs.AskedView.{shown};
 ghost use Rattle.xk_ports.specs.Calls.{no_calls, is_next_to_fail, called, failed};
@@ -80,7 +81,8 @@ impl Model for MemHost {
           calls = h.calls;
         } };
 
-    ghost invariant = { λ h. let files = plain_files h.files.items in IsReadingOf files h.readings.first × IsReadingOf files h.readings.second
+    ghost invariant = { λ h. let files = plain_files h.files.items in
+        IsReadingOf files h.readings.first × IsReadingOf files h.readings.second
         × (1 ≤ h.piece) };
 }
 

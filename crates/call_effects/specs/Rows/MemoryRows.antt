@@ -4,7 +4,8 @@ use Rattle.xk_base.specs.declared.limits.TheConstants.{CONSOLE_ADDRESS, PAGE_SIZ
 use Rattle.xk_base.specs.Calls.CallWords.{heap_bytes, map_flags, map_phys, map_size, map_virt, range_address, range_flags, range_size}
 use Rattle.xk_base.specs.Calls.Flags.{right_of}
 use Rattle.xk_base.specs.Calls.Replies.{plain_words, range_words}
-use Rattle.machine_model.specs.Calling.MemoryCalls.{caller_place, decrease_refusals, heap_of, heap_start, increase_refusals, map_address, map_refusals, unmap_refusals, update_refusals}
+use Rattle.machine_model.specs.Calling.MemoryCalls.{caller_place, decrease_refusals, heap_of, heap_start, increase_refusals, map_address}
+use Rattle.machine_model.specs.Calling.MemoryCalls.{map_refusals, unmap_refusals, update_refusals}
 use Rattle.call_effects.specs.Effects.{HasHeap, Maps, Pages, Reduces, Removes}
 use Rattle.call_effects.specs.Verdicts.{RefusedIf, Row, answers_caller}
 

@@ -7,18 +7,22 @@ use Rattle.xk_base.specs.declared.ids.ThreadId.{ThreadId}
 use Rattle.xk_base.specs.declared.ids.Vpn.{Vpn}
 use Rattle.xk_base.specs.declared.messages.Message.{Message}
 use Rattle.xk_base.specs.declared.messages.MsgKind.TheVariants.{Scalar}
-use Rattle.xk_base.specs.Calls.CallWords.{forward_cid, return_address, return_offset, return_size, return_valid, return_value1, return_value2, send_address}
+use Rattle.xk_base.specs.Calls.CallWords.{forward_cid, return_address, return_offset, return_size, return_valid, return_value1}
+use Rattle.xk_base.specs.Calls.CallWords.{return_value2, send_address}
 use Rattle.xk_base.specs.Calls.Kinds.{is_answered}
 use Rattle.xk_base.specs.Calls.Replies.{message_words, plain_words, returned_words, scalar1_words, scalar2_words}
 use Rattle.xk_base.specs.Tables.Sids.{serial_of}
 use Rattle.machine_model.specs.Calling.MemoryCalls.{caller_place}
 use Rattle.machine_model.specs.Calling.ServerCalls.{named_server, named_sid, own_server_refusals}
-use Rattle.machine_model.specs.Messaging.ForwardCalls.{forward_refusals, held_place, next_arrival, next_arrival_refusals, passable, passed_from, passed_number, passed_place, passed_to, with_first}
+use Rattle.machine_model.specs.Messaging.ForwardCalls.{forward_refusals, held_place, next_arrival, next_arrival_refusals, passable}
+use Rattle.machine_model.specs.Messaging.ForwardCalls.{passed_from, passed_number, passed_place, passed_to, with_first}
 use Rattle.machine_model.specs.Messaging.Messages.{is_blocking_of, is_lend_of, new_message, new_number}
 use Rattle.machine_model.specs.Messaging.ReceiveCalls.{oldest_queued}
 use Rattle.machine_model.specs.Messaging.Receivers.{receiver}
-use Rattle.machine_model.specs.Messaging.ReturnCalls.{held_by_caller, holder_of, named_number, return_memory_refusals, return_scalar_refusals, sender_gets, sender_of_message}
-use Rattle.machine_model.specs.Messaging.SendCalls.{arrival, arrival_refusals, is_full_for, named_kind, send_refusals, sender_answered, sent_pages, sent_place, sent_serial}
+use Rattle.machine_model.specs.Messaging.ReturnCalls.{held_by_caller, holder_of, named_number, return_memory_refusals}
+use Rattle.machine_model.specs.Messaging.ReturnCalls.{return_scalar_refusals, sender_gets, sender_of_message}
+use Rattle.machine_model.specs.Messaging.SendCalls.{arrival, arrival_refusals, is_full_for, named_kind, send_refusals, sender_answered}
+use Rattle.machine_model.specs.Messaging.SendCalls.{sent_pages, sent_place, sent_serial}
 use Rattle.machine_model.specs.State.Machine.{Machine, Receiving}
 use Rattle.machine_model.specs.State.Threads.{Answers, answer_to, both_answers, no_answers}
 use Rattle.call_effects.specs.Effects.{Awaits, Effect, Ends, Pages, Passes, Returned, Sends, Serves, TakesNumber, Taken, Waits, arriving}

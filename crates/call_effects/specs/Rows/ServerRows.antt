@@ -3,7 +3,8 @@ use Rattle.std.specs.Prelude.{ℕ, ◌==◌, Bool, [], ◌∷◌}
 use Rattle.xk_base.specs.declared.errors.XousError.TheVariants.{ServerNotFound}
 use Rattle.xk_base.specs.Calls.Replies.{connection_words, new_server_words, plain_words}
 use Rattle.xk_base.specs.Tables.Connections.{cid_for}
-use Rattle.machine_model.specs.Calling.ServerCalls.{connect_refusals, create_server_refusals, is_missing, named_server, named_sid, new_serial, new_server, own_server_refusals}
+use Rattle.machine_model.specs.Calling.ServerCalls.{connect_refusals, create_server_refusals, is_missing, named_server, named_sid}
+use Rattle.machine_model.specs.Calling.ServerCalls.{new_serial, new_server, own_server_refusals}
 use Rattle.machine_model.specs.Ending.Closing.{is_sender_at, refused_server}
 use Rattle.machine_model.specs.Messaging.Receivers.{receiving_at}
 use Rattle.machine_model.specs.State.Connections.{own_connections}

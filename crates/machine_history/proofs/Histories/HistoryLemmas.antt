@@ -145,3 +145,6 @@ pub records_front : (before after : List Event) (limit : ℕ) (m : Machine)
 records_front before after limit m =
     let front = front_go_on (history before limit m).met (history before limit m) (history after limit) in
     (front.0, ap (λ (h : History). h.records) (history_append before after limit m) ∙ front.1)
+
+-- what events without steps play
+pub ruleset stepless_plays = (pick_plays, irq_plays, kill_plays)

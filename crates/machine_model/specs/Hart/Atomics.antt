@@ -1,6 +1,7 @@
 -- The atomic instructions (RISC-V Unprivileged ISA: A 2.1): how their words are read and what each does; and with them and
 -- the base table, what any word does.
-use Rattle.std.specs.Prelude.{ℕ, ◌%◌, List, Bool, false, not, ◌&&◌, ◌==◌, nat_lt, bit_and, bit_or, bit_xor, if◌then◌else◌, Option, Some, None}
+use Rattle.std.specs.Prelude.{ℕ, ◌%◌, List, Bool, false, not, ◌&&◌, ◌==◌, nat_lt, bit_and, bit_or, bit_xor, if◌then◌else◌, Option, Some}
+use Rattle.std.specs.Prelude.{None}
 use Rattle.std.specs.Option.{option_map, option_map_or}
 use Rattle.xk_base.specs.declared.pages.Access.TheVariants.{Fetch, Load, Store}
 use Rattle.xk_base.specs.declared.pages.Width.TheVariants.{Word}
@@ -8,7 +9,9 @@ use Rattle.xk_base.specs.Numbers.Fields.{field}
 use Rattle.xk_base.specs.Calls.Registers.{with_reg}
 use Rattle.xk_base.specs.UserMemory.{Memory, number_at, number_loaded}
 use Rattle.rv32_words.specs.Reading.{opcode_of, funct3_of, rd_of, rs1_of, rs2_of}
-use Rattle.machine_model.specs.Hart.Instructions.{Executed, Next, Stores, StoresToConsole, StoresToTimer, CallsKernel, Traps, execute_base, fetch_page_fault, following, loads, puts, signed_below, store_misaligned, store_page_fault, sum_of, x}
+use Rattle.machine_model.specs.Hart.Instructions.{Executed, Next, Stores, StoresToConsole, StoresToTimer, CallsKernel, Traps, execute_base}
+use Rattle.machine_model.specs.Hart.Instructions.{fetch_page_fault, following, loads, puts, signed_below, store_misaligned}
+use Rattle.machine_model.specs.Hart.Instructions.{store_page_fault, sum_of, x}
 
 -- ---- the table
 

@@ -1,6 +1,7 @@
 -- What one instruction of the base table does, over any memory that it may see (RISC-V Unprivileged ISA: RV32I 2.1, M 2.0,
 -- Zifencei 2.0). Words are numbers below 2 ^ 32, and arithmetic wraps there.
-use Rattle.std.specs.Prelude.{ℕ, ◌+◌, ◌-◌, ◌*◌, ◌/◌, ◌%◌, ◌^◌, List, is_some, ℤ, pos, ◌*ℤ◌, Bool, not, ◌==◌, nat_lt, int_lt, int_div, int_rem, bit_and, bit_or, bit_xor, if◌then◌else◌, Option, Some, None}
+use Rattle.std.specs.Prelude.{ℕ, ◌+◌, ◌-◌, ◌*◌, ◌/◌, ◌%◌, ◌^◌, List, is_some, ℤ, pos, ◌*ℤ◌, Bool, not, ◌==◌, nat_lt, int_lt, int_div}
+use Rattle.std.specs.Prelude.{int_rem, bit_and, bit_or, bit_xor, if◌then◌else◌, Option, Some, None}
 use Rattle.std.specs.Int.{w8, w16, w32, w64, cast_signed, cast_unsigned, int_shr}
 use Rattle.xk_base.specs.declared.pages.Access.TheVariants.{Fetch, Load, Store}
 use Rattle.xk_base.specs.declared.pages.Width.{Width}
@@ -8,7 +9,10 @@ use Rattle.xk_base.specs.declared.pages.Width.TheVariants.{Byte, Half, Word}
 use Rattle.xk_base.specs.Calls.Registers.{reg_at, with_reg}
 use Rattle.xk_base.specs.UserMemory.{Memory, size_of, number_at, number_loaded, timer_at}
 use Rattle.rv32_words.specs.declared.insn.Insn.{Insn}
-use Rattle.rv32_words.specs.declared.insn.Insn.TheVariants.{Lui, Auipc, Jal, Jalr, Beq, Bne, Blt, Bge, Bltu, Bgeu, Lb, Lh, Lw, Lbu, Lhu, Sb, Sh, Sw, Addi, Slti, Sltiu, Xori, Ori, Andi, Slli, Srli, Srai, Add, Sub, Sll, Slt, Sltu, Xor, Srl, Sra, Or, And, Mul, Mulh, Mulhsu, Mulhu, Div, Divu, Rem, Remu, Fence, FenceI, Ecall, Ebreak}
+use Rattle.rv32_words.specs.declared.insn.Insn.TheVariants.{Lui, Auipc, Jal, Jalr, Beq, Bne, Blt, Bge, Bltu, Bgeu, Lb, Lh, Lw, Lbu, Lhu, Sb}
+use Rattle.rv32_words.specs.declared.insn.Insn.TheVariants.{Sh, Sw, Addi, Slti, Sltiu, Xori, Ori, Andi, Slli, Srli, Srai, Add, Sub, Sll}
+use Rattle.rv32_words.specs.declared.insn.Insn.TheVariants.{Slt, Sltu, Xor, Srl, Sra, Or, And, Mul, Mulh, Mulhsu, Mulhu, Div, Divu, Rem}
+use Rattle.rv32_words.specs.declared.insn.Insn.TheVariants.{Remu, Fence, FenceI, Ecall, Ebreak}
 use Rattle.rv32_words.specs.Reading.{insn_at}
 
 -- ---- what comes of an instruction

@@ -3,7 +3,8 @@
 use Rattle.std.specs.Prelude.{ℕ, ◌+◌, ◌/◌, Bool, true, false, ◌&&◌, is_none, unwrap_or, List, [], ◌∷◌, ◌++◌, Option, Some, None}
 use Rattle.std.specs.Option.{option_and_then, option_map_or}
 use Rattle.xk_base.specs.declared.errors.XousError.{XousError}
-use Rattle.xk_base.specs.declared.errors.XousError.TheVariants.{BadAlignment, BadAddress, MemoryInUse, ServerNotFound, ServerQueueFull, InvalidSyscall, ShareViolation}
+use Rattle.xk_base.specs.declared.errors.XousError.TheVariants.{BadAlignment, BadAddress, MemoryInUse, ServerNotFound, ServerQueueFull}
+use Rattle.xk_base.specs.declared.errors.XousError.TheVariants.{InvalidSyscall, ShareViolation}
 use Rattle.xk_base.specs.declared.ids.Number.{Number}
 use Rattle.xk_base.specs.declared.ids.Place.{Place}
 use Rattle.xk_base.specs.declared.ids.Serial.{Serial}

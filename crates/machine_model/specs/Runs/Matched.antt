@@ -1,6 +1,7 @@
 -- The invariant of the whole machine: what every state keeps that a run from a lawful start can reach. It has nine parts. Each is
 -- said of just the components that it speaks of, so that what a change leaves alone stays matched as it is.
-use Rattle.std.specs.Prelude.{◌≡◌, ℕ, ◌+◌, ◌/◌, ◌%◌, ◌<◌, ◌≤◌, ◌⊎◌, ◌==◌, Bool, true, false, ◌&&◌, is_some, IsTrue, IsFalse, [], length, Option, Some, None}
+use Rattle.std.specs.Prelude.{◌≡◌, ℕ, ◌+◌, ◌/◌, ◌%◌, ◌<◌, ◌≤◌, ◌⊎◌, ◌==◌, Bool, true, false, ◌&&◌, is_some, IsTrue, IsFalse, [], length}
+use Rattle.std.specs.Prelude.{Option, Some, None}
 use Rattle.std.specs.List.{All, AllPairs}
 use Rattle.std.specs.Option.{option_map_or}
 use Rattle.xk_base.specs.declared.ids.Number.{Number}
@@ -9,7 +10,8 @@ use Rattle.xk_base.specs.declared.ids.Serial.{Serial}
 use Rattle.xk_base.specs.declared.ids.ThreadId.{ThreadId}
 use Rattle.xk_base.specs.declared.ids.Tid.{Tid}
 use Rattle.xk_base.specs.declared.ids.Pid.{Pid}
-use Rattle.xk_base.specs.declared.limits.TheConstants.{PAGE_SIZE, PROCESS_LIMIT, SERVER_LIMIT, MESSAGE_LIMIT, CONNECTION_LIMIT, INTERRUPT_LIMIT, TIMER_INTERRUPT}
+use Rattle.xk_base.specs.declared.limits.TheConstants.{PAGE_SIZE, PROCESS_LIMIT, SERVER_LIMIT, MESSAGE_LIMIT, CONNECTION_LIMIT}
+use Rattle.xk_base.specs.declared.limits.TheConstants.{INTERRUPT_LIMIT, TIMER_INTERRUPT}
 use Rattle.xk_base.specs.declared.messages.Message.{Message}
 use Rattle.xk_base.specs.declared.pages.LoanKind.{LoanKind}
 use Rattle.xk_base.specs.declared.windows.Window.TheVariants.{Heap}
@@ -19,7 +21,8 @@ use Rattle.xk_base.specs.Numbers.Windows.{first_page, in_window}
 use Rattle.ledger_model.specs.Lawful.{IsLawful}
 use Rattle.ledger_model.specs.Ledger.{Ledger, Page, PageLoan, Orphan, loan_at}
 use Rattle.ledger_model.specs.Loans.{LoanRun, Loans, OrphanLoan, Stands, loans}
-use Rattle.machine_model.specs.State.Machine.{Machine, Process, Thread, ThreadState, Server, Claim, Ready, Receiving, Waiting, Joining, Idle}
+use Rattle.machine_model.specs.State.Machine.{Machine, Process, Thread, ThreadState, Server, Claim, Ready, Receiving, Waiting, Joining}
+use Rattle.machine_model.specs.State.Machine.{Idle}
 use Rattle.machine_model.specs.Calling.MemoryCalls.{heap_limit}
 use Rattle.machine_model.specs.Messaging.MessageCounts.{HasOne, HasIf, HasAtMostOne}
 use Rattle.machine_model.specs.Messaging.Messages.{carries_pages, loan_kind, is_of_number, is_lend_of, is_sent_by}

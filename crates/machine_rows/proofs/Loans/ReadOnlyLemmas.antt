@@ -140,3 +140,6 @@ returned_load_then regs pc rd = refl
 pub returned_loads : (regs : List ℕ) (pc rd : ℕ) → load_in 3 0x2000_0000 read_only_returned regs pc rd ≡ writes regs pc rd 0x1122_3344
 returned_loads regs pc rd =
     ap (λ m. load_in 3 0x2000_0000 m regs pc rd) (returned_since ∙ ap (after_from lending read_only_return) comes) ∙ returned_load_then regs pc rd
+
+-- the row
+pub ruleset read_only_row = (reduced, told, lent_loads, lent_traps, returned_loads, returned_traps)

@@ -145,3 +145,6 @@ second_load_then regs pc rd = refl
 
 pub second_loads : (regs : List ℕ) (pc rd : ℕ) → load_at 0x2000_1000 two_pages_returned regs pc rd ≡ writes regs pc rd 0x5566_7788
 second_loads regs pc rd = ap (λ m. load_at 0x2000_1000 (after_all two_pages_return (both m)) regs pc rd) lent_is ∙ second_load_then regs pc rd
+
+-- the row
+pub ruleset two_page_row = (begun, sent, first_stores, second_stores, returned, first_loads, second_loads)

@@ -1,7 +1,10 @@
 -- The numbers of errors.
 use Rattle.std.specs.Prelude.{ℕ}
 use Rattle.xk_base.specs.declared.errors.XousError.{XousError}
-use Rattle.xk_base.specs.declared.errors.XousError.TheVariants.{BadAlignment, BadAddress, OutOfMemory, MemoryInUse, InterruptNotFound, InterruptInUse, ServerExists, ServerNotFound, ServerQueueFull, ThreadNotAvailable, UnhandledSyscall, InvalidSyscall, ShareViolation, InvalidThread, AccessDenied, DoubleFree, InvalidLimit}
+use Rattle.xk_base.specs.declared.errors.XousError.TheVariants.{BadAlignment, BadAddress, OutOfMemory, MemoryInUse, InterruptNotFound}
+use Rattle.xk_base.specs.declared.errors.XousError.TheVariants.{InterruptInUse, ServerExists, ServerNotFound, ServerQueueFull}
+use Rattle.xk_base.specs.declared.errors.XousError.TheVariants.{ThreadNotAvailable, UnhandledSyscall, InvalidSyscall, ShareViolation}
+use Rattle.xk_base.specs.declared.errors.XousError.TheVariants.{InvalidThread, AccessDenied, DoubleFree, InvalidLimit}
 
 -- the number of an error: the second word of a refused call's reply
 abbrev pub code_of : XousError → ℕ

@@ -3,7 +3,8 @@ use Rattle.std.specs.Prelude.{ℕ, List, [], ◌∷◌, ◌++◌, take, replicat
 use Rattle.xk_base.specs.declared.errors.XousError.{XousError}
 use Rattle.xk_base.specs.declared.ids.Sid.{Sid}
 use Rattle.xk_base.specs.declared.messages.Message.{Message}
-use Rattle.xk_base.specs.Calls.CallNumbers.{reply_ok, reply_error, reply_memory_range, reply_connection_id, reply_message, reply_thread_id, reply_scalar1, reply_scalar2, reply_memory_returned, reply_new_server}
+use Rattle.xk_base.specs.Calls.CallNumbers.{reply_ok, reply_error, reply_memory_range, reply_connection_id, reply_message, reply_thread_id}
+use Rattle.xk_base.specs.Calls.CallNumbers.{reply_scalar1, reply_scalar2, reply_memory_returned, reply_new_server}
 use Rattle.xk_base.specs.Calls.Errors.{code_of}
 use Rattle.xk_base.specs.Calls.Kinds.{kind_number}
 

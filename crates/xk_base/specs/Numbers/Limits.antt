@@ -1,6 +1,10 @@
 -- The limits of the machine, each pinned to the number that it is, and what follows from them alone.
 use Rattle.std.specs.Prelude.{◌≡◌, ℕ, ◌*◌}
-use Rattle.xk_base.specs.declared.limits.TheConstants.{PAGE_SIZE, PROCESS_LIMIT, FIRST_PROCESS_LIMIT, TID_LIMIT, SERVER_LIMIT, MESSAGE_LIMIT, CONNECTION_LIMIT, INTERRUPT_LIMIT, TABLE_FRAMES, FRAME_LIMIT, SLOT_LIMIT, IMAGE_LIMIT, SECTION_LIMIT, EVENT_LINE_LIMIT, EVENT_FILE_LIMIT, STEP_LIMIT, DEFAULT_STEPS, RECORD_LIMIT, CONSOLE_ADDRESS, TIMER_ADDRESS, TIMER_INTERRUPT}
+use Rattle.xk_base.specs.declared.limits.TheConstants.{PAGE_SIZE, PROCESS_LIMIT, FIRST_PROCESS_LIMIT, TID_LIMIT, SERVER_LIMIT}
+use Rattle.xk_base.specs.declared.limits.TheConstants.{MESSAGE_LIMIT, CONNECTION_LIMIT, INTERRUPT_LIMIT, TABLE_FRAMES, FRAME_LIMIT}
+use Rattle.xk_base.specs.declared.limits.TheConstants.{SLOT_LIMIT, IMAGE_LIMIT, SECTION_LIMIT, EVENT_LINE_LIMIT, EVENT_FILE_LIMIT}
+use Rattle.xk_base.specs.declared.limits.TheConstants.{STEP_LIMIT, DEFAULT_STEPS, RECORD_LIMIT, CONSOLE_ADDRESS, TIMER_ADDRESS}
+use Rattle.xk_base.specs.declared.limits.TheConstants.{TIMER_INTERRUPT}
 
 -- Definitions name the limits by the constants of src/limits.rt. These are their values.
 pub record AreLimits : Type 0 where

@@ -3,7 +3,9 @@
 ghost use Rattle.std.specs.Prelude.{◌≡◌, ◌==◌, ◌/◌, true, false, if◌then◌else◌, None, Some, IfOk, OnErr, OnOk};
 ghost use Rattle.machine_model.specs.State.Changes.{Served, unless_refused};
 ghost use Rattle.machine_model.specs.Runs.Matched.{AreHeapsMatched};
-ghost use Rattle.machine_model.specs.Calling.MemoryCalls.{are_bad_flags, is_bad_range, decrease_refusals, decrease_served, increase_refusals, increase_served, map_refusals, map_served, unmap_refusals, unmap_served, update_refusals, update_served};
+ghost use Rattle.machine_model.specs.Calling.MemoryCalls.{are_bad_flags, is_bad_range, decrease_refusals, decrease_served};
+ghost use Rattle.machine_model.specs.Calling.MemoryCalls.{increase_refusals, increase_served, map_refusals, map_served, unmap_refusals};
+ghost use Rattle.machine_model.specs.Calling.MemoryCalls.{unmap_served, update_refusals, update_served};
 ghost use Rattle.vm_memory.specs.Bytes.{none_out};
 ghost use Rattle.vm_memory.specs.Memory.{has_failed, store_of};
 ghost use Rattle.xk_base.specs.Numbers.Windows.{page_of};
