@@ -1,12 +1,10 @@
 ghost use Rattle.std.specs.Prelude.{◌≤◌, length};
 
-use self::expecting::*;
 use super::*;
 use std::process::Abort;
 use std::test::*;
 use xk_base::{NoMemory, Row};
 
-mod expecting;
 mod second;
 
 /// The row of tags of an image of one process, 52 bytes; a file has the sections' bytes behind it.
@@ -79,23 +77,28 @@ fn fault_in(alloc: std::alloc::Global, bytes: &[u8]) -> Result<Option<(u8, u32)>
 
 #[test]
 fn check_numbers(rt: HostRuntime) {
-    expect_number(&rt, crc_x25(b"123456789") as u32, 0x906E);
-    expect_number(&rt, crc_x25(b"") as u32, 0);
+    assert_eq!(rt; crc_x25(b"123456789"), 0x906E);
+    assert_eq!(rt; crc_x25(b""), 0);
 }
 
 #[test]
 fn args_of_one_process(rt: HostRuntime) -> Result<(), Fail> {
     let args = read_args(rt.alloc(), &ONE_PROCESS)?;
-    expect_number(&rt, args.words, 13);
-    expect_number(&rt, args.ram_start, 0x4000_0000);
-    expect_number(&rt, args.ram_size, 0x0100_0000);
-    expect_bytes(&rt, args.ram_name.as_slice(), b"sram");
-    expect_length(&rt, args.names.as_slice().len(), 0);
-    expect_length(&rt, args.procs.as_slice().len(), 1);
+    assert_eq!(rt; args.words, 13);
+    assert_eq!(rt; args.ram_start, 0x4000_0000);
+    assert_eq!(rt; args.ram_size, 0x0100_0000);
+    assert_eq!(rt; &args.ram_name, b"sram");
+    assert_eq!(rt; args.names.as_slice().len(), 0);
+    assert_eq!(rt; args.procs.as_slice().len(), 1);
     for process in args.procs.as_slice() {
-        expect_number(&rt, process.load, 52);
-        expect_number(&rt, process.entry, 0x1_0000);
-        expect_sections(&rt, process.sections.as_slice(), &[CODE]);
+        assert_eq!(rt; process.load, 52);
+        assert_eq!(rt; process.entry, 0x1_0000);
+        let section = Section {
+            addr: 0x1_0000,
+            size: 36,
+            flags: 4,
+        };
+        assert_eq!(rt; process.sections.as_slice(), [section].as_slice());
     }
     Ok(())
 }
@@ -103,11 +106,13 @@ fn args_of_one_process(rt: HostRuntime) -> Result<(), Fail> {
 #[test]
 fn names_of_two_processes(rt: HostRuntime) -> Result<(), Fail> {
     let args = read_args(rt.alloc(), &TWO_PROCESSES)?;
-    expect_length(&rt, args.procs.as_slice().len(), 2);
+    assert_eq!(rt; args.procs.as_slice().len(), 2);
     let names = args.names.as_slice();
     assert_eq!(rt; names.len(), 2);
-    expect_name(&rt, &names[0], 2, b"init");
-    expect_name(&rt, &names[1], 3, b"shell");
+    assert_eq!(rt; names[0].pid, 2);
+    assert_eq!(rt; names[0].name.as_slice(), b"init".as_slice());
+    assert_eq!(rt; names[1].pid, 3);
+    assert_eq!(rt; names[1].name.as_slice(), b"shell".as_slice());
     Ok(())
 }
 
@@ -120,7 +125,7 @@ fn cut_images(rt: HostRuntime) -> Result<(), Fail> {
         } else {
             (BAD_TOTAL, 8)
         };
-        expect_fault(&rt, fault, Some(wanted));
+        assert_eq!(rt; fault, Some(wanted));
     }
     Ok(())
 }
@@ -170,22 +175,22 @@ fn damaged_images(rt: HostRuntime) -> Result<(), Fail> {
         checked(120, 8, (100, 0x872e), None),
         checked(120, 9, (100, 0x027b), Some((BAD_NAMES, 96))),
     ];
-    expect_fault(&rt, fault_in(rt.alloc(), &TWO_PROCESSES)?, None);
+    assert_eq!(rt; fault_in(rt.alloc(), &TWO_PROCESSES)?, None);
     for damage in &table {
         let mut image = TWO_PROCESSES;
         put(&rt, &mut image, damage.at, &damage.word.to_le_bytes());
         if let Some((at, check)) = damage.check {
             put(&rt, &mut image, at, &check.to_le_bytes());
         }
-        expect_fault(&rt, fault_in(rt.alloc(), &image)?, damage.fault);
+        assert_eq!(rt; fault_in(rt.alloc(), &image)?, damage.fault);
     }
     Ok(())
 }
 
 #[test]
 fn files_without_tags(rt: HostRuntime) -> Result<(), Fail> {
-    expect_fault(&rt, fault_in(rt.alloc(), &[])?, Some((TOO_SHORT, 0)));
-    expect_fault(&rt, fault_in(rt.alloc(), &[0; 28])?, Some((NOT_XARG, 0)));
+    assert_eq!(rt; fault_in(rt.alloc(), &[])?, Some((TOO_SHORT, 0)));
+    assert_eq!(rt; fault_in(rt.alloc(), &[0; 28])?, Some((NOT_XARG, 0)));
     Ok(())
 }
 
@@ -194,7 +199,7 @@ fn no_process(rt: HostRuntime) -> Result<(), Fail> {
     let mut image = TWO_PROCESSES;
     put(&rt, &mut image, 40, b"IniX");
     put(&rt, &mut image, 64, b"IniX");
-    expect_fault(&rt, fault_in(rt.alloc(), &image)?, Some((NO_PROCESS, 132)));
+    assert_eq!(rt; fault_in(rt.alloc(), &image)?, Some((NO_PROCESS, 132)));
     Ok(())
 }
 
@@ -249,7 +254,7 @@ fn one_process_is_written(rt: HostRuntime) -> Result<(), Fail> {
     let args = args_of(13, procs, Row::new(rt.alloc()));
     assert!(rt; writable(&args));
     let row = write_args(rt.alloc(), &args)?;
-    expect_bytes(&rt, row.as_slice(), &ONE_PROCESS);
+    assert_eq!(rt; row.as_slice(), ONE_PROCESS.as_slice());
     Ok(())
 }
 
@@ -260,7 +265,7 @@ fn sizes_that_can_be_written(rt: HostRuntime) -> Result<(), Fail> {
         let section = Section { size, ..CODE };
         procs.push(process_with(rt.alloc(), 52, &[section])?)?;
         let args = args_of(13, procs, Row::new(rt.alloc()));
-        expect_flag(&rt, writable(&args), fits);
+        assert_eq!(rt; writable(&args), fits);
     }
     Ok(())
 }
@@ -279,19 +284,20 @@ fn largest_row_is_read_back(rt: HostRuntime) -> Result<(), Fail> {
     let row = write_args(rt.alloc(), &args)?;
     assert_eq!(rt; row.as_slice().len(), 9252);
     let again = read_args(rt.alloc(), row.as_slice())?;
-    expect_number(&rt, again.words, 2313);
-    expect_length(&rt, again.procs.as_slice().len(), 32);
-    expect_length(&rt, again.names.as_slice().len(), 32);
+    assert_eq!(rt; again.words, 2313);
+    assert_eq!(rt; again.procs.as_slice().len(), 32);
+    assert_eq!(rt; again.names.as_slice().len(), 32);
     let mut load = 0;
     for process in again.procs.as_slice() {
-        expect_number(&rt, process.load, load);
-        expect_number(&rt, process.entry, 0x1_0000);
-        expect_sections(&rt, process.sections.as_slice(), &[CODE; 32]);
+        assert_eq!(rt; process.load, load);
+        assert_eq!(rt; process.entry, 0x1_0000);
+        assert_eq!(rt; process.sections.as_slice(), [CODE; 32].as_slice());
         load = process.load.wrapping_add(1);
     }
     let mut pid = 2;
     for name in again.names.as_slice() {
-        expect_name(&rt, name, pid, b"process");
+        assert_eq!(rt; name.pid, pid);
+        assert_eq!(rt; name.name.as_slice(), b"process".as_slice());
         pid = name.pid.wrapping_add(1);
     }
     Ok(())

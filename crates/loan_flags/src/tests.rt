@@ -11,35 +11,12 @@ mod loans;
 use super::*;
 use crate::page_changes::{holder_side, lender_side};
 use phys_pages::{Ram, Seat};
-use std::process::Abort;
 use sv32_space::{Entry, EntryKind, Side, entry_of, new_space, set_entry};
 use xk_base::{Frame, LoanKind, MemKind, Pid, Place, Right, Slot, Vpn, Window, XousError};
 
 const START: u32 = 0x4000_0000;
 
 const RW: Right = Right { w: true, x: false };
-
-// Each assertion takes a proof wherever it stands, which costs more than a call.
-
-/// The word is the one that was wanted.
-fn expect_word(rt: &impl Abort, told: u32, wanted: u32) {
-    assert_eq!(rt; told, wanted);
-}
-
-/// The free run begins there, or there is none.
-fn expect_run(rt: &impl Abort, told: Option<Vpn>, wanted: Option<Vpn>) {
-    assert_eq!(rt; told, wanted);
-}
-
-/// The pages may be sent, or not for this reason.
-fn expect_sent(rt: &impl Abort, told: Result<(), XousError>, wanted: Result<(), XousError>) {
-    assert_eq!(rt; told, wanted);
-}
-
-/// Ends the test, which has nothing to go on with.
-fn fail(rt: &impl Abort) {
-    assert!(rt; false);
-}
 
 fn near(side: Side) -> EntryKind
     ensures { result ≡ Here side 262166 }
@@ -59,28 +36,21 @@ fn out(side: Side) -> EntryKind
 // Written down by hand from the bits of each kind.
 #[test]
 fn words_of_loans(rt: HostRuntime) {
-    expect_word(&rt, entry_of(near(Side::Own(RW))), 0x1000_58D7);
-    expect_word(
-        &rt,
+    assert_eq!(rt; entry_of(near(Side::Own(RW))), 0x1000_58D7);
+    assert_eq!(rt;
         entry_of(near(lender_side(LoanKind::Shared, RW))),
-        0x1000_5BD3,
+        0x1000_5BD3
     );
-    expect_word(
-        &rt,
-        entry_of(near(holder_side(LoanKind::Shared))),
-        0x1000_5953,
-    );
-    expect_word(
-        &rt,
+    assert_eq!(rt; entry_of(near(holder_side(LoanKind::Shared))), 0x1000_5953);
+    assert_eq!(rt;
         entry_of(near(lender_side(LoanKind::Exclusive, RW))),
-        0x1000_5B06,
+        0x1000_5B06
     );
-    expect_word(
-        &rt,
+    assert_eq!(rt;
         entry_of(near(holder_side(LoanKind::Exclusive))),
-        0x1000_59D7,
+        0x1000_59D7
     );
-    expect_word(&rt, entry_of(out(Side::Own(RW))), 0x0000_14F6);
+    assert_eq!(rt; entry_of(out(Side::Own(RW))), 0x0000_14F6);
 }
 
 // An entry at a place of the Message window of process 2.
@@ -118,19 +88,19 @@ fn free_runs(rt: HostRuntime) {
     };
     if let Ok(mut ram) = Ram::new(rt.alloc(), START, 64) {
         new_space(&mut ram, Frame(0));
-        expect_run(&rt, run_of(&ram, 2), Some(Vpn(0x4_0000)));
-        expect_run(&rt, run_of(&ram, 4096), Some(Vpn(0x4_0000)));
-        expect_run(&rt, run_of(&ram, 4097), None);
+        assert_eq!(rt; run_of(&ram, 2), Some(Vpn(0x4_0000)));
+        assert_eq!(rt; run_of(&ram, 4096), Some(Vpn(0x4_0000)));
+        assert_eq!(rt; run_of(&ram, 4097), None);
         put(&mut ram, 0x4_0001, near);
-        expect_run(&rt, run_of(&ram, 1), Some(Vpn(0x4_0000)));
-        expect_run(&rt, run_of(&ram, 2), Some(Vpn(0x4_0002)));
-        expect_run(&rt, run_of(&ram, 4094), Some(Vpn(0x4_0002)));
-        expect_run(&rt, run_of(&ram, 4095), None);
+        assert_eq!(rt; run_of(&ram, 1), Some(Vpn(0x4_0000)));
+        assert_eq!(rt; run_of(&ram, 2), Some(Vpn(0x4_0002)));
+        assert_eq!(rt; run_of(&ram, 4094), Some(Vpn(0x4_0002)));
+        assert_eq!(rt; run_of(&ram, 4095), None);
         put(&mut ram, 0x4_0FFD, near);
-        expect_run(&rt, run_of(&ram, 4091), Some(Vpn(0x4_0002)));
-        expect_run(&rt, run_of(&ram, 4092), None);
+        assert_eq!(rt; run_of(&ram, 4091), Some(Vpn(0x4_0002)));
+        assert_eq!(rt; run_of(&ram, 4092), None);
     } else {
-        fail(&rt);
+        assert!(rt; false);
     }
 }
 
@@ -164,25 +134,19 @@ fn pages_to_send(rt: HostRuntime) {
         put(&mut ram, 0x4_0000, near);
         put(&mut ram, 0x4_0001, out);
         put(&mut ram, 0x4_0002, lent);
-        expect_sent(&rt, sent(&ram, 1, MemKind::LendMut), Ok(()));
-        expect_sent(&rt, sent(&ram, 2, MemKind::Lend), Ok(()));
-        expect_sent(&rt, sent(&ram, 2, MemKind::Move), Ok(()));
-        expect_sent(
-            &rt,
+        assert_eq!(rt; sent(&ram, 1, MemKind::LendMut), Ok(()));
+        assert_eq!(rt; sent(&ram, 2, MemKind::Lend), Ok(()));
+        assert_eq!(rt; sent(&ram, 2, MemKind::Move), Ok(()));
+        assert_eq!(rt;
             sent(&ram, 2, MemKind::LendMut),
-            Err(XousError::ShareViolation),
+            Err(XousError::ShareViolation)
         );
-        expect_sent(
-            &rt,
+        assert_eq!(rt;
             sent(&ram, 3, MemKind::Move),
-            Err(XousError::ShareViolation),
+            Err(XousError::ShareViolation)
         );
-        expect_sent(
-            &rt,
-            sent(&ram, 4, MemKind::Move),
-            Err(XousError::BadAddress),
-        );
+        assert_eq!(rt; sent(&ram, 4, MemKind::Move), Err(XousError::BadAddress));
     } else {
-        fail(&rt);
+        assert!(rt; false);
     }
 }

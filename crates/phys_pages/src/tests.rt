@@ -9,55 +9,14 @@ use xk_base::{Frame, LoanKind, Number, Pid, Place, Slot, Vpn};
 
 const START: u32 = 0x4000_0000;
 
-// Each assertion takes a proof wherever it stands, which costs more than a call.
-
-/// Ends the test, which has nothing to go on with.
-fn fail(rt: &impl Abort) {
-    assert!(rt; false);
-}
-
-/// The number is the one that was wanted.
-fn expect_number(rt: &impl Abort, told: u32, wanted: u32) {
-    assert_eq!(rt; told, wanted);
-}
-
-fn expect_byte(rt: &impl Abort, told: u8, wanted: u8) {
-    assert_eq!(rt; told, wanted);
-}
-
-/// The bytes are just those that were wanted.
-fn expect_bytes(rt: &impl Abort, told: &[u8], wanted: &[u8]) {
-    assert_eq!(rt; told, wanted);
-}
-
-/// A page begins and ends with these bytes.
-fn expect_ends(rt: &impl Abort, told: (u8, u8), wanted: (u8, u8)) {
-    assert_eq!(rt; told, wanted);
-}
-
-/// The frame is this one, or there is none.
-fn expect_frame(rt: &impl Abort, told: Option<Frame>, wanted: Option<Frame>) {
-    assert_eq!(rt; told, wanted);
-}
-
-/// The slot is this one, or there is none.
-fn expect_slot(rt: &impl Abort, told: Option<Slot>, wanted: Option<Slot>) {
-    assert_eq!(rt; told, wanted);
-}
-
-/// This is told of the seat, or nothing.
-fn expect_info(rt: &impl Abort, told: Option<PageInfo>, wanted: Option<PageInfo>) {
-    assert_eq!(rt; told, wanted);
-}
-
 // Writes both ends of a frame that holds zeros.
 #[tactic(auto, using(crate::proofs::PageLemmas::page_writes))]
 fn write_ends(rt: &impl Abort, ram: &mut Ram, f: Frame, first: u8, last: u8)
     requires { f.0 < (area ram.old).frames }
     ensures { area ram.new ≡ area ram.old }
 {
-    expect_byte(rt, ram.page(f)[0], 0);
-    expect_byte(rt, ram.page(f)[4095], 0);
+    assert_eq!(rt; ram.page(f)[0], 0);
+    assert_eq!(rt; ram.page(f)[4095], 0);
     let page = ram.page_mut(f);
     page[0] = first;
     page[4095] = last;
@@ -73,21 +32,21 @@ fn ends(ram: &Ram, f: Frame) -> (u8, u8)
 #[test]
 fn pages_of_64_mib(rt: HostRuntime) {
     if let Ok(mut ram) = Ram::new(rt.alloc(), START, 16_384) {
-        expect_number(&rt, ram.frames(), 16_384);
+        assert_eq!(rt; ram.frames(), 16_384);
         write_ends(&rt, &mut ram, Frame(0), 1, 2);
         write_ends(&rt, &mut ram, Frame(8191), 3, 4);
         write_ends(&rt, &mut ram, Frame(16_383), 5, 6);
-        expect_ends(&rt, ends(&ram, Frame(0)), (1, 2));
-        expect_ends(&rt, ends(&ram, Frame(1)), (0, 0));
-        expect_ends(&rt, ends(&ram, Frame(8191)), (3, 4));
-        expect_ends(&rt, ends(&ram, Frame(16_383)), (5, 6));
-        expect_number(&rt, ram.ppn_of(Frame(16_383)), 0x4_3FFF);
-        expect_frame(&rt, ram.frame_of(0x3_FFFF), None);
-        expect_frame(&rt, ram.frame_of(0x4_0000), Some(Frame(0)));
-        expect_frame(&rt, ram.frame_of(0x4_3FFF), Some(Frame(16_383)));
-        expect_frame(&rt, ram.frame_of(0x4_4000), None);
+        assert_eq!(rt; ends(&ram, Frame(0)), (1, 2));
+        assert_eq!(rt; ends(&ram, Frame(1)), (0, 0));
+        assert_eq!(rt; ends(&ram, Frame(8191)), (3, 4));
+        assert_eq!(rt; ends(&ram, Frame(16_383)), (5, 6));
+        assert_eq!(rt; ram.ppn_of(Frame(16_383)), 0x4_3FFF);
+        assert_eq!(rt; ram.frame_of(0x3_FFFF), None);
+        assert_eq!(rt; ram.frame_of(0x4_0000), Some(Frame(0)));
+        assert_eq!(rt; ram.frame_of(0x4_3FFF), Some(Frame(16_383)));
+        assert_eq!(rt; ram.frame_of(0x4_4000), None);
     } else {
-        fail(&rt);
+        assert!(rt; false);
     }
 }
 
@@ -96,14 +55,14 @@ fn words_at_page_ends(rt: HostRuntime) {
     if let Ok(mut ram) = Ram::new(rt.alloc(), START, 2) {
         ram.set_word(START + 4092, 0x0403_0201);
         ram.set_word(START + 4096, 0x0807_0605);
-        expect_bytes(&rt, &ram.page(Frame(0))[4092..], &[1, 2, 3, 4]);
-        expect_bytes(&rt, &ram.page(Frame(1))[..5], &[5, 6, 7, 8, 0]);
-        expect_number(&rt, ram.word(START + 4088), 0);
-        expect_number(&rt, ram.word(START + 4092), 0x0403_0201);
-        expect_number(&rt, ram.word(START + 4096), 0x0807_0605);
-        expect_number(&rt, ram.word(START + 8188), 0);
+        assert_eq!(rt; &ram.page(Frame(0))[4092..], [1, 2, 3, 4].as_slice());
+        assert_eq!(rt; &ram.page(Frame(1))[..5], [5, 6, 7, 8, 0].as_slice());
+        assert_eq!(rt; ram.word(START + 4088), 0);
+        assert_eq!(rt; ram.word(START + 4092), 0x0403_0201);
+        assert_eq!(rt; ram.word(START + 4096), 0x0807_0605);
+        assert_eq!(rt; ram.word(START + 8188), 0);
     } else {
-        fail(&rt);
+        assert!(rt; false);
     }
 }
 
@@ -122,7 +81,7 @@ fn memory_parts(rt: HostRuntime) {
             assert_eq!(rt; ram::parts::parts(&ram), (START, 22 * 4096));
             assert_eq!(rt; owners::parts::parts(&owners), (Frame(21), 1, 2));
         }
-        _ => fail(&rt),
+        _ => assert!(rt; false),
     }
 }
 
@@ -141,22 +100,22 @@ fn full_but_for_the_last_frame(rt: HostRuntime) {
         }),
     };
     if let Ok(mut owners) = Owners::new(rt.alloc(), Frame(21), 16_363, 2) {
-        expect_frame(&rt, owners.free_frame(), Some(Frame(21)));
+        assert_eq!(rt; owners.free_frame(), Some(Frame(21)));
         for n in 21..16_383 {
             owners.set(Seat::Frame(Frame(n)), Some(lent));
         }
         let last = Seat::Frame(Frame(16_383));
-        expect_frame(&rt, owners.free_frame(), Some(Frame(16_383)));
-        expect_info(&rt, owners.info(last).copied(), None);
+        assert_eq!(rt; owners.free_frame(), Some(Frame(16_383)));
+        assert_eq!(rt; owners.info(last).copied(), None);
         owners.set(last, Some(lent));
-        expect_frame(&rt, owners.free_frame(), None);
-        expect_info(&rt, owners.info(last).copied(), Some(lent));
-        expect_slot(&rt, owners.free_slot(), Some(Slot(0)));
+        assert_eq!(rt; owners.free_frame(), None);
+        assert_eq!(rt; owners.info(last).copied(), Some(lent));
+        assert_eq!(rt; owners.free_slot(), Some(Slot(0)));
         owners.set(Seat::Slot(Slot(0)), Some(lent));
-        expect_slot(&rt, owners.free_slot(), Some(Slot(1)));
+        assert_eq!(rt; owners.free_slot(), Some(Slot(1)));
         owners.set(Seat::Frame(Frame(21)), None);
-        expect_frame(&rt, owners.free_frame(), Some(Frame(21)));
+        assert_eq!(rt; owners.free_frame(), Some(Frame(21)));
     } else {
-        fail(&rt);
+        assert!(rt; false);
     }
 }

@@ -113,13 +113,6 @@ fn outcome_by(
     }
 }
 
-// Each assertion takes a proof wherever it stands, which costs more than a call.
-
-/// The instruction leaves this.
-fn expect_outcome(rt: &impl Abort, told: Outcome, wanted: Outcome) {
-    assert_eq!(rt; told, wanted);
-}
-
 /// Each AMO puts the old word in a0 and its result in memory, and keeps a reservation.
 #[test]
 fn operations(rt: HostRuntime) {
@@ -147,20 +140,15 @@ fn reservations(rt: HostRuntime) {
         stored,
         reserved,
     };
-    expect_outcome(&rt, outcome_of(LR, 5, 256, 9, None), next(9, 9, Some(256)));
-    expect_outcome(
-        &rt,
-        outcome_of(LR, 5, 256, 9, Some(4)),
-        next(9, 9, Some(256)),
-    );
-    expect_outcome(&rt, outcome_of(SC, 5, 256, 9, Some(256)), next(0, 5, None));
-    expect_outcome(&rt, outcome_of(SC, 5, 256, 9, Some(260)), next(1, 9, None));
-    expect_outcome(&rt, outcome_of(SC, 5, 256, 9, None), next(1, 9, None));
+    assert_eq!(rt; outcome_of(LR, 5, 256, 9, None), next(9, 9, Some(256)));
+    assert_eq!(rt; outcome_of(LR, 5, 256, 9, Some(4)), next(9, 9, Some(256)));
+    assert_eq!(rt; outcome_of(SC, 5, 256, 9, Some(256)), next(0, 5, None));
+    assert_eq!(rt; outcome_of(SC, 5, 256, 9, Some(260)), next(1, 9, None));
+    assert_eq!(rt; outcome_of(SC, 5, 256, 9, None), next(1, 9, None));
     // addi a0, a0, 1
-    expect_outcome(
-        &rt,
+    assert_eq!(rt;
         outcome_of(0x0015_0513, 5, 256, 9, Some(256)),
-        next(8, 9, Some(256)),
+        next(8, 9, Some(256))
     );
 }
 
@@ -222,28 +210,19 @@ fn leaving(rt: HostRuntime) {
         );
     }
     let call = kept(Ran::Ecall, 7, 9, Some(256));
-    expect_outcome(
-        &rt,
-        outcome_by(true, 0x0000_0073, 5, 256, 9, Some(256)),
-        call,
-    );
+    assert_eq!(rt; outcome_by(true, 0x0000_0073, 5, 256, 9, Some(256)), call);
     let trap = Ran::Trap {
         cause: 6,
         value: 258,
     };
-    expect_outcome(
-        &rt,
+    assert_eq!(rt;
         outcome_by(true, SC, 5, 258, 9, Some(256)),
-        kept(trap, 7, 9, Some(256)),
+        kept(trap, 7, 9, Some(256))
     );
     let next = kept(Ran::Next(4), 0, 5, None);
-    expect_outcome(&rt, outcome_by(true, SC, 5, 256, 9, Some(256)), next);
+    assert_eq!(rt; outcome_by(true, SC, 5, 256, 9, Some(256)), next);
     let swapped = kept(Ran::Next(4), 9, 5, Some(256));
-    expect_outcome(
-        &rt,
-        outcome_by(true, AMOS[0], 5, 256, 9, Some(256)),
-        swapped,
-    );
+    assert_eq!(rt; outcome_by(true, AMOS[0], 5, 256, 9, Some(256)), swapped);
 }
 
 /// Each word decodes to its instruction, and that encodes to the word.

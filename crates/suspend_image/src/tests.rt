@@ -9,24 +9,6 @@ use crate::writing::sheet::Sheet;
 use crate::writing::{begin_state, finish_state};
 use kernel_args::{ArgFault, crc_x25};
 use std::alloc::{AllocError, Global};
-use std::process::Abort;
-
-// Each assertion takes a proof wherever it stands, which costs more than a call.
-
-/// Ends the test, which has nothing to go on with.
-fn fail(rt: &impl Abort) {
-    assert!(rt; false);
-}
-
-/// The number is the one that was wanted.
-fn expect_number(rt: &impl Abort, told: u32, wanted: u32) {
-    assert_eq!(rt; told, wanted);
-}
-
-/// The bytes are just those that were wanted.
-fn expect_bytes(rt: &impl Abort, told: &[u8], wanted: &[u8]) {
-    assert_eq!(rt; told, wanted);
-}
 
 #[test]
 fn words_are_little_endian(rt: HostRuntime) {
@@ -35,11 +17,11 @@ fn words_are_little_endian(rt: HostRuntime) {
         sheet.clear();
         sheet.push_bytes(b"ab".as_slice());
         sheet.push_word(0x0403_0201);
-        expect_bytes(&rt, sheet.as_slice(), b"ab\x01\x02\x03\x04".as_slice());
+        assert_eq!(rt; sheet.as_slice(), b"ab\x01\x02\x03\x04".as_slice());
         sheet.set_word(1, 0x0807_0605);
-        expect_bytes(&rt, sheet.as_slice(), b"a\x05\x06\x07\x08\x04".as_slice());
+        assert_eq!(rt; sheet.as_slice(), b"a\x05\x06\x07\x08\x04".as_slice());
     } else {
-        fail(&rt);
+        assert!(rt; false);
     }
 }
 
@@ -57,11 +39,6 @@ fn has_fault(bytes: &[u8], rt: &HostRuntime, what: u8, at: u32) -> bool {
     }
 }
 
-/// The bytes are no state, for this reason at this place.
-fn expect_fault(rt: &HostRuntime, bytes: &[u8], what: u8, at: u32) {
-    assert!(rt; has_fault(bytes, rt, what, at));
-}
-
 #[test]
 fn small_state_is_read(rt: HostRuntime) {
     match read_state(rt.alloc(), FILE.as_slice()) {
@@ -75,7 +52,7 @@ fn small_state_is_read(rt: HostRuntime) {
             }
             assert!(rt; state.orphans.as_slice().is_empty());
         }
-        Err(_) => fail(&rt),
+        Err(_) => assert!(rt; false),
     }
 }
 
@@ -85,9 +62,9 @@ fn header_is_set(rt: HostRuntime) {
         begin_state(&mut sheet);
         sheet.push_bytes(&FILE[16..]);
         finish_state(&mut sheet);
-        expect_bytes(&rt, sheet.as_slice(), FILE.as_slice());
+        assert_eq!(rt; sheet.as_slice(), FILE.as_slice());
     } else {
-        fail(&rt);
+        assert!(rt; false);
     }
 }
 
@@ -192,36 +169,36 @@ fn unmatched_part(rt: &HostRuntime, at: usize, word: u32) -> u32 {
 
 #[test]
 fn state_with_loan_and_orphan_is_read(rt: HostRuntime) {
-    expect_number(&rt, unmatched_part(&rt, 99_999, 0), 0);
+    assert_eq!(rt; unmatched_part(&rt, 99_999, 0), 0);
 }
 
 #[test]
 fn first_unmatched_part_is_named(rt: HostRuntime) {
     // A home outside the windows, and an orphan of another kind than its lend.
-    expect_number(&rt, unmatched_part(&rt, 816, 1), 1);
-    expect_number(&rt, unmatched_part(&rt, 4948, 2), 2);
+    assert_eq!(rt; unmatched_part(&rt, 816, 1), 1);
+    assert_eq!(rt; unmatched_part(&rt, 4948, 2), 2);
     // A thread that waits for a number that no message has, and one that is Receiving at no server.
-    expect_number(&rt, unmatched_part(&rt, 244, 7), 3);
-    expect_number(&rt, unmatched_part(&rt, 528, 1), 4);
+    assert_eq!(rt; unmatched_part(&rt, 244, 7), 3);
+    assert_eq!(rt; unmatched_part(&rt, 528, 1), 4);
     // A pc within an instruction, a heap of one byte, and a next number that a message has.
-    expect_number(&rt, unmatched_part(&rt, 380, 2), 6);
-    expect_number(&rt, unmatched_part(&rt, 72, 1), 7);
-    expect_number(&rt, unmatched_part(&rt, 20, 2), 8);
+    assert_eq!(rt; unmatched_part(&rt, 380, 2), 6);
+    assert_eq!(rt; unmatched_part(&rt, 72, 1), 7);
+    assert_eq!(rt; unmatched_part(&rt, 20, 2), 8);
     // An armed timer whose interrupt isn't claimed.
-    expect_number(&rt, unmatched_part(&rt, 28, 1), 9);
+    assert_eq!(rt; unmatched_part(&rt, 28, 1), 9);
 }
 
 #[test]
 fn first_fault_is_named(rt: HostRuntime) {
-    expect_fault(&rt, &[], NOT_STATE, 0);
-    expect_fault(&rt, &FILE[..99], STATE_LENGTH, 8);
+    assert!(rt; has_fault(&[], &rt, NOT_STATE, 0));
+    assert!(rt; has_fault(&FILE[..99], &rt, STATE_LENGTH, 8));
     let mut damaged = FILE;
     damaged[99] = 1;
-    expect_fault(&rt, damaged.as_slice(), STATE_CHECK, 12);
+    assert!(rt; has_fault(damaged.as_slice(), &rt, STATE_CHECK, 12));
     // A cursor of tid 0, with its check number.
     let mut without_cursor = FILE;
     without_cursor[32] = 0;
     without_cursor[12] = 0xb8;
     without_cursor[13] = 0x9b;
-    expect_fault(&rt, without_cursor.as_slice(), STATE_FORM, 32);
+    assert!(rt; has_fault(without_cursor.as_slice(), &rt, STATE_FORM, 32));
 }

@@ -16,7 +16,6 @@ use loan_flags::{Loan, end_run, free_run, lend_run, may_send, orphan_run};
 use phys_pages::{Owners, PageInfo, Ram, Seat};
 use std::alloc::Global;
 use std::marker::Model;
-use std::process::Abort;
 use std::test::Fail;
 use sv32_space::{Entry, Side, entry_at, leaf, new_space, set_entry};
 use xk_base::{Frame, LoanKind, MemKind, NoMemory, Number, Pid, Place, Right, Slot, Vpn, Window};
@@ -31,23 +30,6 @@ const FIRST: u32 = 0x2_0000;
 const MESSAGE: u32 = 0x4_0000;
 
 const FREE: [u32; 2] = [0, 0];
-
-// Each assertion takes a proof wherever it stands, which costs more than a call.
-
-/// The words of two entries are these.
-fn expect_words(rt: &impl Abort, told: [u32; 2], wanted: [u32; 2]) {
-    assert_eq!(rt; told, wanted);
-}
-
-/// It is so, or it isn't, as was wanted.
-fn expect_flag(rt: &impl Abort, told: bool, wanted: bool) {
-    assert_eq!(rt; told, wanted);
-}
-
-/// Ends the test, which has nothing to go on with.
-fn fail(rt: &impl Abort) {
-    assert!(rt; false);
-}
 
 /// The memory of one process.
 #[derive(Drop)]
@@ -237,23 +219,23 @@ fn comes_back(s: &mut Space, store: &mut MemStore) -> bool
 #[test]
 fn page_goes_out_and_comes_back(rt: HostRuntime) -> Result<(), Fail> {
     let mut store = MemStore::new([2, 4].to_vec(rt.alloc())?);
-    expect_flag(&rt, store.prepare(rt.alloc(), 16, None).is_ok(), true);
+    assert!(rt; store.prepare(rt.alloc(), 16, None).is_ok());
     let Some(mut s) = two_pages(rt.alloc()) else {
-        fail(&rt);
+        assert!(rt; false);
         return Ok(());
     };
-    expect_flag(&rt, goes_out(&mut s, &mut store), false);
-    expect_words(&rt, words(&s, FIRST), [0x1000_58D7, 0x1000_5CD7]);
-    expect_flag(&rt, is_free(&s, Seat::Slot(Slot(5))), true);
-    expect_flag(&rt, goes_out(&mut s, &mut store), true);
-    expect_words(&rt, words(&s, FIRST), [0x0000_14F6, 0x1000_5CD7]);
-    expect_flag(&rt, is_free(&s, Seat::Frame(Frame(22))), true);
-    expect_flag(&rt, comes_back(&mut s, &mut store), false);
-    expect_words(&rt, words(&s, FIRST), [0x0000_14F6, 0x1000_5CD7]);
-    expect_flag(&rt, is_free(&s, Seat::Frame(Frame(30))), true);
-    expect_flag(&rt, comes_back(&mut s, &mut store), true);
-    expect_words(&rt, words(&s, FIRST), [0x1000_78D7, 0x1000_5CD7]);
-    expect_flag(&rt, is_free(&s, Seat::Slot(Slot(5))), true);
+    assert!(rt; !goes_out(&mut s, &mut store));
+    assert_eq!(rt; words(&s, FIRST), [0x1000_58D7, 0x1000_5CD7]);
+    assert!(rt; is_free(&s, Seat::Slot(Slot(5))));
+    assert!(rt; goes_out(&mut s, &mut store));
+    assert_eq!(rt; words(&s, FIRST), [0x0000_14F6, 0x1000_5CD7]);
+    assert!(rt; is_free(&s, Seat::Frame(Frame(22))));
+    assert!(rt; !comes_back(&mut s, &mut store));
+    assert_eq!(rt; words(&s, FIRST), [0x0000_14F6, 0x1000_5CD7]);
+    assert!(rt; is_free(&s, Seat::Frame(Frame(30))));
+    assert!(rt; comes_back(&mut s, &mut store));
+    assert_eq!(rt; words(&s, FIRST), [0x1000_78D7, 0x1000_5CD7]);
+    assert!(rt; is_free(&s, Seat::Slot(Slot(5))));
     assert!(rt; bytes(&s) == [7; 4096].as_slice());
     Ok(())
 }
@@ -261,24 +243,24 @@ fn page_goes_out_and_comes_back(rt: HostRuntime) -> Result<(), Fail> {
 #[test]
 fn lent_page_goes_out_with_both_entries(rt: HostRuntime) -> Result<(), Fail> {
     let mut store = MemStore::new(Vec::new(rt.alloc()));
-    expect_flag(&rt, store.prepare(rt.alloc(), 16, None).is_ok(), true);
+    assert!(rt; store.prepare(rt.alloc(), 16, None).is_ok());
     let Some(mut s) = two_pages(rt.alloc()) else {
-        fail(&rt);
+        assert!(rt; false);
         return Ok(());
     };
     let Some(loan) = lend(&mut s, LoanKind::Shared) else {
-        fail(&rt);
+        assert!(rt; false);
         return Ok(());
     };
-    expect_flag(&rt, goes_out(&mut s, &mut store), true);
-    expect_words(&rt, words(&s, FIRST), [0x0000_17F2, 0x1000_5FD3]);
-    expect_words(&rt, words(&s, MESSAGE), [0x0000_1572, 0x1000_5D53]);
+    assert!(rt; goes_out(&mut s, &mut store));
+    assert_eq!(rt; words(&s, FIRST), [0x0000_17F2, 0x1000_5FD3]);
+    assert_eq!(rt; words(&s, MESSAGE), [0x0000_1572, 0x1000_5D53]);
     let orphans = orphan(&mut s, loan);
-    expect_words(&rt, words(&s, FIRST), FREE);
-    expect_words(&rt, words(&s, MESSAGE), [0x0000_1572, 0x1000_5D53]);
-    expect_flag(&rt, comes_back(&mut s, &mut store), true);
-    expect_words(&rt, words(&s, FIRST), FREE);
-    expect_words(&rt, words(&s, MESSAGE), [0x1000_7953, 0x1000_5D53]);
+    assert_eq!(rt; words(&s, FIRST), FREE);
+    assert_eq!(rt; words(&s, MESSAGE), [0x0000_1572, 0x1000_5D53]);
+    assert!(rt; comes_back(&mut s, &mut store));
+    assert_eq!(rt; words(&s, FIRST), FREE);
+    assert_eq!(rt; words(&s, MESSAGE), [0x1000_7953, 0x1000_5D53]);
     end(&mut s, orphans);
     Ok(())
 }
@@ -286,22 +268,22 @@ fn lent_page_goes_out_with_both_entries(rt: HostRuntime) -> Result<(), Fail> {
 #[test]
 fn mutably_lent_page_goes_out_with_both_entries(rt: HostRuntime) -> Result<(), Fail> {
     let mut store = MemStore::new(Vec::new(rt.alloc()));
-    expect_flag(&rt, store.prepare(rt.alloc(), 16, None).is_ok(), true);
+    assert!(rt; store.prepare(rt.alloc(), 16, None).is_ok());
     let Some(mut s) = two_pages(rt.alloc()) else {
-        fail(&rt);
+        assert!(rt; false);
         return Ok(());
     };
     let Some(loan) = lend(&mut s, LoanKind::Exclusive) else {
-        fail(&rt);
+        assert!(rt; false);
         return Ok(());
     };
-    expect_flag(&rt, goes_out(&mut s, &mut store), true);
-    expect_words(&rt, words(&s, FIRST), [0x0000_1726, 0x1000_5F06]);
-    expect_words(&rt, words(&s, MESSAGE), [0x0000_15F6, 0x1000_5DD7]);
-    expect_flag(&rt, comes_back(&mut s, &mut store), true);
-    expect_words(&rt, words(&s, FIRST), [0x1000_7B06, 0x1000_5F06]);
-    expect_words(&rt, words(&s, MESSAGE), [0x1000_79D7, 0x1000_5DD7]);
+    assert!(rt; goes_out(&mut s, &mut store));
+    assert_eq!(rt; words(&s, FIRST), [0x0000_1726, 0x1000_5F06]);
+    assert_eq!(rt; words(&s, MESSAGE), [0x0000_15F6, 0x1000_5DD7]);
+    assert!(rt; comes_back(&mut s, &mut store));
+    assert_eq!(rt; words(&s, FIRST), [0x1000_7B06, 0x1000_5F06]);
+    assert_eq!(rt; words(&s, MESSAGE), [0x1000_79D7, 0x1000_5DD7]);
     end(&mut s, loan);
-    expect_words(&rt, words(&s, FIRST), [0x1000_78D7, 0x1000_5CD7]);
+    assert_eq!(rt; words(&s, FIRST), [0x1000_78D7, 0x1000_5CD7]);
     Ok(())
 }

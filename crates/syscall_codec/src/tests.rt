@@ -5,22 +5,10 @@ use xk_base::{Cid, Message, MsgKind, Number, Pid, Sid, ThreadId, Tid, Vpn, XousE
 
 const SID: Sid = Sid([1, 2, 3, 4]);
 
-// Each assertion takes a proof wherever it stands, which costs more than a call.
-
-/// The words ask for this call, or are refused for this reason.
-fn expect_call(rt: &impl Abort, told: Result<Call, XousError>, wanted: Result<Call, XousError>) {
-    assert_eq!(rt; told, wanted);
-}
-
-/// The words are just those that were wanted.
-fn expect_words(rt: &impl Abort, told: [u32; 8], wanted: [u32; 8]) {
-    assert_eq!(rt; told, wanted);
-}
-
 /// The words ask for the call and are its words, and the call is one that can wait or not.
 fn expect_both_ways(rt: &impl Abort, words: [u32; 8], call: Call, waits: bool) {
-    expect_call(rt, read_call(words), Ok(call));
-    expect_words(rt, call_words(&call), words);
+    assert_eq!(rt; read_call(words), Ok(call));
+    assert_eq!(rt; call_words(&call), words);
     assert_eq!(rt; can_wait(&call), waits);
 }
 
@@ -147,32 +135,26 @@ fn thread_calls(rt: HostRuntime) {
 #[test]
 fn other_words(rt: HostRuntime) {
     let unhandled = Err(XousError::UnhandledSyscall);
-    expect_call(&rt, read_call([1, 0, 0, 0, 0, 0, 0, 0]), unhandled);
-    expect_call(&rt, read_call([0, 0, 0, 0, 0, 0, 0, 0]), unhandled);
-    expect_call(&rt, read_call([45, 0, 0, 0, 0, 0, 0, 0]), unhandled);
-    expect_call(&rt, read_call([3, 9, 9, 9, 9, 9, 9, 9]), Ok(Call::Yield));
+    assert_eq!(rt; read_call([1, 0, 0, 0, 0, 0, 0, 0]), unhandled);
+    assert_eq!(rt; read_call([0, 0, 0, 0, 0, 0, 0, 0]), unhandled);
+    assert_eq!(rt; read_call([45, 0, 0, 0, 0, 0, 0, 0]), unhandled);
+    assert_eq!(rt; read_call([3, 9, 9, 9, 9, 9, 9, 9]), Ok(Call::Yield));
 }
 
 #[test]
 fn replies(rt: HostRuntime) {
-    expect_words(&rt, reply_words(&Reply::Plain), [0, 0, 0, 0, 0, 0, 0, 0]);
+    assert_eq!(rt; reply_words(&Reply::Plain), [0, 0, 0, 0, 0, 0, 0, 0]);
     let refused = Reply::Refused(XousError::ShareViolation);
-    expect_words(&rt, reply_words(&refused), [1, 19, 0, 0, 0, 0, 0, 0]);
+    assert_eq!(rt; reply_words(&refused), [1, 19, 0, 0, 0, 0, 0, 0]);
     let range = Reply::Range(0x6000_0000, 4096);
-    expect_words(
-        &rt,
-        reply_words(&range),
-        [3, 0x6000_0000, 4096, 0, 0, 0, 0, 0],
-    );
-    expect_words(
-        &rt,
+    assert_eq!(rt; reply_words(&range), [3, 0x6000_0000, 4096, 0, 0, 0, 0, 0]);
+    assert_eq!(rt;
         reply_words(&Reply::Connection(Cid(2))),
-        [7, 2, 0, 0, 0, 0, 0, 0],
+        [7, 2, 0, 0, 0, 0, 0, 0]
     );
-    expect_words(
-        &rt,
+    assert_eq!(rt;
         reply_words(&Reply::NewServer(SID, Cid(2))),
-        [19, 1, 2, 3, 4, 2, 0, 0],
+        [19, 1, 2, 3, 4, 2, 0, 0]
     );
     let message = Message {
         number: Number(1),
@@ -186,30 +168,22 @@ fn replies(rt: HostRuntime) {
         first: Vpn(0x4_0000),
         count: 1,
     };
-    expect_words(
-        &rt,
+    assert_eq!(rt;
         reply_words(&Reply::Got(message)),
-        [9, 1, 2, 7, 0x4000_0000, 4096, 0, 0],
+        [9, 1, 2, 7, 0x4000_0000, 4096, 0, 0]
     );
-    expect_words(
-        &rt,
+    assert_eq!(rt;
         reply_words(&Reply::Thread(Tid(3))),
-        [10, 3, 0, 0, 0, 0, 0, 0],
+        [10, 3, 0, 0, 0, 0, 0, 0]
     );
-    expect_words(
-        &rt,
-        reply_words(&Reply::Scalar1(8)),
-        [14, 8, 0, 0, 0, 0, 0, 0],
-    );
-    expect_words(
-        &rt,
+    assert_eq!(rt; reply_words(&Reply::Scalar1(8)), [14, 8, 0, 0, 0, 0, 0, 0]);
+    assert_eq!(rt;
         reply_words(&Reply::Scalar2(8, 9)),
-        [15, 8, 9, 0, 0, 0, 0, 0],
+        [15, 8, 9, 0, 0, 0, 0, 0]
     );
-    expect_words(
-        &rt,
+    assert_eq!(rt;
         reply_words(&Reply::Returned(7, 9)),
-        [18, 7, 9, 0, 0, 0, 0, 0],
+        [18, 7, 9, 0, 0, 0, 0, 0]
     );
 }
 

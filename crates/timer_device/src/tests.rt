@@ -4,7 +4,6 @@
 ghost use Rattle.std.specs.Prelude.{◌≡◌};
 
 use super::*;
-use std::process::Abort;
 use std::test::Fail;
 use xk_base::{Failed, Stored, UserMemory, Width};
 
@@ -62,48 +61,26 @@ impl UserMemory for OneWord {
     ghost rest_over = { λ a b c h k. tt };
 }
 
-// Each assertion takes a proof wherever it stands, which costs more than a call.
-
-/// It is so, or it isn't, as was wanted.
-fn expect_flag(rt: &impl Abort, told: bool, wanted: bool) {
-    assert_eq!(rt; told, wanted);
-}
-
-/// The number is the one that was wanted.
-fn expect_number(rt: &impl Abort, told: u32, wanted: u32) {
-    assert_eq!(rt; told, wanted);
-}
-
-/// The number is this one, or there is none.
-fn expect_answer(rt: &impl Abort, told: Option<u32>, wanted: Option<u32>) {
-    assert_eq!(rt; told, wanted);
-}
-
-/// The store ended so.
-fn expect_stored(rt: &impl Abort, told: Stored, wanted: Stored) {
-    assert_eq!(rt; told, wanted);
-}
-
 #[test]
 fn timer_is_armed_and_due_once(rt: HostRuntime) {
     let mut timer = Timer::new();
-    expect_answer(&rt, timer.compare(), None);
-    expect_number(&rt, timer.load(8, Width::Word, 24), 0);
+    assert_eq!(rt; timer.compare(), None);
+    assert_eq!(rt; timer.load(8, Width::Word, 24), 0);
     timer.store(4, Width::Word, 30);
-    expect_answer(&rt, timer.compare(), Some(30));
-    expect_number(&rt, timer.load(0, Width::Word, 25), 25);
-    expect_number(&rt, timer.load(4, Width::Word, 25), 30);
-    expect_number(&rt, timer.load(8, Width::Word, 25), 1);
-    expect_number(&rt, timer.load(4, Width::Half, 25), 0);
-    expect_flag(&rt, timer.due(29), false);
-    expect_flag(&rt, timer.due(30), true);
-    expect_flag(&rt, timer.due(30), false);
+    assert_eq!(rt; timer.compare(), Some(30));
+    assert_eq!(rt; timer.load(0, Width::Word, 25), 25);
+    assert_eq!(rt; timer.load(4, Width::Word, 25), 30);
+    assert_eq!(rt; timer.load(8, Width::Word, 25), 1);
+    assert_eq!(rt; timer.load(4, Width::Half, 25), 0);
+    assert!(rt; !timer.due(29));
+    assert!(rt; timer.due(30));
+    assert!(rt; !timer.due(30));
     timer.store(4, Width::Word, 40);
     timer.disarm();
-    expect_answer(&rt, timer.compare(), None);
+    assert_eq!(rt; timer.compare(), None);
     timer.store(4, Width::Word, 40);
     timer.store(8, Width::Word, 7);
-    expect_answer(&rt, timer.compare(), None);
+    assert_eq!(rt; timer.compare(), None);
 }
 
 #[test]
@@ -114,20 +91,20 @@ fn view_serves_the_page_where_it_is_on(rt: HostRuntime) -> Result<(), Fail> {
         on: true,
         steps: 25,
     };
-    expect_stored(&rt, view.store(PAGE + 4, Width::Word, 30)?, Stored::Done);
-    expect_answer(&rt, view.load(PAGE, Width::Word)?, Some(25));
-    expect_answer(&rt, view.load(PAGE + 4, Width::Word)?, Some(30));
-    expect_answer(&rt, view.fetch(PAGE)?, None);
-    expect_flag(&rt, view.can_store(PAGE + 8, Width::Word), true);
-    expect_answer(&rt, view.load(PAGE + 4096, Width::Word)?, None);
-    expect_stored(&rt, view.store(0, Width::Word, 9)?, Stored::Done);
-    expect_answer(&rt, view.fetch(0)?, Some(9));
+    assert_eq!(rt; view.store(PAGE + 4, Width::Word, 30)?, Stored::Done);
+    assert_eq!(rt; view.load(PAGE, Width::Word)?, Some(25));
+    assert_eq!(rt; view.load(PAGE + 4, Width::Word)?, Some(30));
+    assert_eq!(rt; view.fetch(PAGE)?, None);
+    assert!(rt; view.can_store(PAGE + 8, Width::Word));
+    assert_eq!(rt; view.load(PAGE + 4096, Width::Word)?, None);
+    assert_eq!(rt; view.store(0, Width::Word, 9)?, Stored::Done);
+    assert_eq!(rt; view.fetch(0)?, Some(9));
     view.on = false;
-    expect_answer(&rt, view.load(PAGE, Width::Word)?, None);
-    expect_stored(&rt, view.store(PAGE + 8, Width::Word, 0)?, Stored::Fault);
-    expect_flag(&rt, view.can_store(PAGE + 8, Width::Word), false);
-    expect_answer(&rt, view.load(0, Width::Word)?, Some(9));
+    assert_eq!(rt; view.load(PAGE, Width::Word)?, None);
+    assert_eq!(rt; view.store(PAGE + 8, Width::Word, 0)?, Stored::Fault);
+    assert!(rt; !view.can_store(PAGE + 8, Width::Word));
+    assert_eq!(rt; view.load(0, Width::Word)?, Some(9));
     let TimerView { timer, .. } = view;
-    expect_answer(&rt, timer.compare(), Some(30));
+    assert_eq!(rt; timer.compare(), Some(30));
     Ok(())
 }

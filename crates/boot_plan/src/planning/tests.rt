@@ -9,7 +9,6 @@ use crate::{
     SECTION_OUTSIDE, SECTIONS_OVERLAP, cap,
 };
 use kernel_args::{ArgFault, Section};
-use std::process::Abort;
 use std::test::Fail;
 use xk_base::{Right, Vpn};
 
@@ -111,13 +110,6 @@ fn fault(
     fault_of(alloc, &args, Some(slots))
 }
 
-// Each assertion takes a proof wherever it stands, which costs more than a call.
-
-/// The image has this fault, or none.
-fn expect_fault(rt: &impl Abort, told: Option<ArgFault>, wanted: Option<ArgFault>) {
-    assert_eq!(rt; told, wanted);
-}
-
 fn at_pid(what: u8) -> Option<ArgFault> {
     Some(ArgFault { what, at: 2 })
 }
@@ -208,10 +200,10 @@ fn image_gives_slots_where_none_are_asked_for(rt: HostRuntime) -> Result<(), Fai
         what: RAM_TOO_SMALL,
         at: 0,
     });
-    expect_fault(&rt, fault_of(rt.alloc(), &silent, None)?, too_small);
-    expect_fault(&rt, fault_of(rt.alloc(), &silent, Some(9))?, None);
-    expect_fault(&rt, fault_of(rt.alloc(), &giving, None)?, None);
-    expect_fault(&rt, fault_of(rt.alloc(), &giving, Some(8))?, too_small);
+    assert_eq!(rt; fault_of(rt.alloc(), &silent, None)?, too_small);
+    assert_eq!(rt; fault_of(rt.alloc(), &silent, Some(9))?, None);
+    assert_eq!(rt; fault_of(rt.alloc(), &giving, None)?, None);
+    assert_eq!(rt; fault_of(rt.alloc(), &giving, Some(8))?, too_small);
     Ok(())
 }
 
@@ -223,17 +215,12 @@ fn full_house_needs_all_room(rt: HostRuntime) -> Result<(), Fail> {
     });
     let start = (52, 0x1_0000, None);
     let empty = (0, 0, 0);
-    expect_fault(&rt, fault(rt.alloc(), (23, 9), start, CODE, empty)?, None);
-    expect_fault(&rt, fault(rt.alloc(), (32, 0), start, CODE, empty)?, None);
-    expect_fault(
-        &rt,
-        fault(rt.alloc(), (23, 8), start, CODE, empty)?,
-        too_small,
-    );
-    expect_fault(
-        &rt,
+    assert_eq!(rt; fault(rt.alloc(), (23, 9), start, CODE, empty)?, None);
+    assert_eq!(rt; fault(rt.alloc(), (32, 0), start, CODE, empty)?, None);
+    assert_eq!(rt; fault(rt.alloc(), (23, 8), start, CODE, empty)?, too_small);
+    assert_eq!(rt;
         fault(rt.alloc(), (22, 16_384), start, CODE, empty)?,
-        too_small,
+        too_small
     );
     Ok(())
 }

@@ -26,17 +26,17 @@ const NINE_SLOTS: [u8; 80] = [
 #[test]
 fn args_of_version_2(rt: HostRuntime) -> Result<(), Fail> {
     let args = read_args(rt.alloc(), &ONE)?;
-    expect_number(&rt, args.words, 14);
-    expect_number(&rt, args.version, 2);
-    expect_number(&rt, args.ram_start, 0x4000_0000);
-    expect_number(&rt, args.ram_size, 0x0100_0000);
-    expect_slots(&rt, args.slots, None);
-    expect_length(&rt, args.procs.as_slice().len(), 1);
+    assert_eq!(rt; args.words, 14);
+    assert_eq!(rt; args.version, 2);
+    assert_eq!(rt; args.ram_start, 0x4000_0000);
+    assert_eq!(rt; args.ram_size, 0x0100_0000);
+    assert_eq!(rt; args.slots, None);
+    assert_eq!(rt; args.procs.as_slice().len(), 1);
     for process in args.procs.as_slice() {
-        expect_number(&rt, process.load, 56);
-        expect_number(&rt, process.entry, 0x1_0000);
+        assert_eq!(rt; process.load, 56);
+        assert_eq!(rt; process.entry, 0x1_0000);
         assert_eq!(rt; process.check, Some(crc_x25(&ONE[56..])));
-        expect_sections(&rt, process.sections.as_slice(), &[CODE]);
+        assert_eq!(rt; process.sections.as_slice(), [CODE].as_slice());
     }
     Ok(())
 }
@@ -44,12 +44,12 @@ fn args_of_version_2(rt: HostRuntime) -> Result<(), Fail> {
 #[test]
 fn slots_of_images(rt: HostRuntime) -> Result<(), Fail> {
     let args = read_args(rt.alloc(), &NINE_SLOTS)?;
-    expect_slots(&rt, args.slots, Some(9));
+    assert_eq!(rt; args.slots, Some(9));
     let mut first_version = TWO_PROCESSES;
     put(&rt, &mut first_version, 28, b"SwpS");
     let args = read_args(rt.alloc(), &first_version)?;
-    expect_number(&rt, args.version, 1);
-    expect_slots(&rt, args.slots, None);
+    assert_eq!(rt; args.version, 1);
+    assert_eq!(rt; args.slots, None);
     Ok(())
 }
 
@@ -69,14 +69,14 @@ fn damaged_images_of_version_2(rt: HostRuntime) -> Result<(), Fail> {
         checked(68, 0x1_0000, (56, 0xf486), Some((BAD_INI, 52))),
         broken(56, 0x0004d4f8, (BAD_INI, 52)),
     ];
-    expect_fault(&rt, fault_in(rt.alloc(), &NINE_SLOTS)?, None);
+    assert_eq!(rt; fault_in(rt.alloc(), &NINE_SLOTS)?, None);
     for damage in &table {
         let mut image = NINE_SLOTS;
         put(&rt, &mut image, damage.at, &damage.word.to_le_bytes());
         if let Some((at, check)) = damage.check {
             put(&rt, &mut image, at, &check.to_le_bytes());
         }
-        expect_fault(&rt, fault_in(rt.alloc(), &image)?, damage.fault);
+        assert_eq!(rt; fault_in(rt.alloc(), &image)?, damage.fault);
     }
     Ok(())
 }
@@ -127,7 +127,7 @@ fn most_processes(rt: HostRuntime) -> Result<(), Fail> {
         assert!(rt; of_one.len() >= 52);
         let image = equal_processes(rt.alloc(), words, check, of_one, count)?;
         assert!(rt; image.as_slice().len() <= 2000);
-        expect_fault(&rt, fault_in(rt.alloc(), image.as_slice())?, fault);
+        assert_eq!(rt; fault_in(rt.alloc(), image.as_slice())?, fault);
     }
     Ok(())
 }

@@ -10,12 +10,10 @@ ghost use Rattle.sv32_space.specs.declared.sides.Entry.TheVariants.{Free};
 ghost use Rattle.xk_base.specs.declared.windows.Window.TheVariants.{Message};
 ghost use Rattle.xk_base.specs.Numbers.Windows.{window_at};
 
-use super::fail;
 use crate::*;
 use phys_pages::{Owners, PageInfo, Ram, Seat};
 use std::alloc::Global;
 use std::marker::Model;
-use std::process::Abort;
 use sv32_space::{Entry, Side, entry_at, leaf, new_space, set_entry};
 use xk_base::{Frame, LoanKind, MemKind, NoMemory, Number, Pid, Place, Right, Slot, Vpn, Window};
 
@@ -31,16 +29,6 @@ const MESSAGE: u32 = 0x4_0000;
 const OWN: [u32; 2] = [0x1000_58D7, 0x0000_14F6];
 
 const FREE: [u32; 2] = [0, 0];
-
-/// The words of two entries are these.
-fn expect_words(rt: &impl Abort, told: [u32; 2], wanted: [u32; 2]) {
-    assert_eq!(rt; told, wanted);
-}
-
-/// It is so, or it isn't, as was wanted.
-fn expect_flag(rt: &impl Abort, told: bool, wanted: bool) {
-    assert_eq!(rt; told, wanted);
-}
 
 /// The memory of one process.
 #[derive(Drop)]
@@ -223,70 +211,70 @@ fn give(s: &mut Space) -> bool {
 #[test]
 fn lend_ends(rt: HostRuntime) {
     let Some(mut s) = two_pages(rt.alloc()) else {
-        fail(&rt);
+        assert!(rt; false);
         return;
     };
-    expect_words(&rt, words(&s, FIRST), OWN);
+    assert_eq!(rt; words(&s, FIRST), OWN);
     let Some(loan) = lend(&mut s, LoanKind::Shared) else {
-        fail(&rt);
+        assert!(rt; false);
         return;
     };
-    expect_words(&rt, words(&s, FIRST), [0x1000_5BD3, 0x0000_17F2]);
-    expect_words(&rt, words(&s, MESSAGE), [0x1000_5953, 0x0000_1572]);
+    assert_eq!(rt; words(&s, FIRST), [0x1000_5BD3, 0x0000_17F2]);
+    assert_eq!(rt; words(&s, MESSAGE), [0x1000_5953, 0x0000_1572]);
     end(&mut s, loan);
-    expect_words(&rt, words(&s, FIRST), OWN);
-    expect_words(&rt, words(&s, MESSAGE), FREE);
+    assert_eq!(rt; words(&s, FIRST), OWN);
+    assert_eq!(rt; words(&s, MESSAGE), FREE);
 }
 
 #[test]
 fn mutable_lend_is_passed_and_ends(rt: HostRuntime) {
     let Some(mut s) = two_pages(rt.alloc()) else {
-        fail(&rt);
+        assert!(rt; false);
         return;
     };
     let Some(loan) = lend(&mut s, LoanKind::Exclusive) else {
-        fail(&rt);
+        assert!(rt; false);
         return;
     };
-    expect_words(&rt, words(&s, FIRST), [0x1000_5B06, 0x0000_1726]);
-    expect_words(&rt, words(&s, MESSAGE), [0x1000_59D7, 0x0000_15F6]);
+    assert_eq!(rt; words(&s, FIRST), [0x1000_5B06, 0x0000_1726]);
+    assert_eq!(rt; words(&s, MESSAGE), [0x1000_59D7, 0x0000_15F6]);
     let passed = pass(&mut s, loan);
-    expect_words(&rt, words(&s, FIRST), [0x1000_5B06, 0x0000_1726]);
-    expect_words(&rt, words(&s, MESSAGE), FREE);
-    expect_words(&rt, words(&s, MESSAGE + 2), [0x1000_59D7, 0x0000_15F6]);
+    assert_eq!(rt; words(&s, FIRST), [0x1000_5B06, 0x0000_1726]);
+    assert_eq!(rt; words(&s, MESSAGE), FREE);
+    assert_eq!(rt; words(&s, MESSAGE + 2), [0x1000_59D7, 0x0000_15F6]);
     end(&mut s, passed);
-    expect_words(&rt, words(&s, FIRST), OWN);
-    expect_words(&rt, words(&s, MESSAGE + 2), FREE);
+    assert_eq!(rt; words(&s, FIRST), OWN);
+    assert_eq!(rt; words(&s, MESSAGE + 2), FREE);
 }
 
 #[test]
 fn lend_is_orphaned_and_ends(rt: HostRuntime) {
     let Some(mut s) = two_pages(rt.alloc()) else {
-        fail(&rt);
+        assert!(rt; false);
         return;
     };
     let Some(loan) = lend(&mut s, LoanKind::Shared) else {
-        fail(&rt);
+        assert!(rt; false);
         return;
     };
     let orphans = orphan(&mut s, loan);
-    expect_words(&rt, words(&s, FIRST), FREE);
-    expect_words(&rt, words(&s, MESSAGE), [0x1000_5953, 0x0000_1572]);
-    expect_flag(&rt, is_free(&s, Seat::Frame(Frame(22))), false);
-    expect_flag(&rt, is_free(&s, Seat::Slot(Slot(5))), false);
+    assert_eq!(rt; words(&s, FIRST), FREE);
+    assert_eq!(rt; words(&s, MESSAGE), [0x1000_5953, 0x0000_1572]);
+    assert!(rt; !is_free(&s, Seat::Frame(Frame(22))));
+    assert!(rt; !is_free(&s, Seat::Slot(Slot(5))));
     end(&mut s, orphans);
-    expect_words(&rt, words(&s, MESSAGE), FREE);
-    expect_flag(&rt, is_free(&s, Seat::Frame(Frame(22))), true);
-    expect_flag(&rt, is_free(&s, Seat::Slot(Slot(5))), true);
+    assert_eq!(rt; words(&s, MESSAGE), FREE);
+    assert!(rt; is_free(&s, Seat::Frame(Frame(22))));
+    assert!(rt; is_free(&s, Seat::Slot(Slot(5))));
 }
 
 #[test]
 fn pages_are_moved(rt: HostRuntime) {
     let Some(mut s) = two_pages(rt.alloc()) else {
-        fail(&rt);
+        assert!(rt; false);
         return;
     };
-    expect_flag(&rt, give(&mut s), true);
-    expect_words(&rt, words(&s, FIRST), FREE);
-    expect_words(&rt, words(&s, MESSAGE), OWN);
+    assert!(rt; give(&mut s));
+    assert_eq!(rt; words(&s, FIRST), FREE);
+    assert_eq!(rt; words(&s, MESSAGE), OWN);
 }

@@ -35,19 +35,6 @@ fn number_of(rt: &impl Abort, h: Option<Held>) -> Option<u32> {
     }
 }
 
-// Each assertion takes a proof wherever it stands, which costs more than a call. Those of room stand
-// where a message comes in, whose call asks for it.
-
-/// The message found has this number, or there is none.
-fn expect_number(rt: &impl Abort, told: Option<Number>, wanted: Option<Number>) {
-    assert_eq!(rt; told, wanted);
-}
-
-/// The message taken out has this number, or there is none.
-fn expect_taken(rt: &impl Abort, told: Option<Held>, wanted: Option<u32>) {
-    assert_eq!(rt; number_of(rt, told), wanted);
-}
-
 /// Ends queues without messages.
 fn end(rt: &impl Abort, queues: Queues) {
     for seat in 0..64 {
@@ -69,28 +56,23 @@ fn each_call(rt: HostRuntime) {
     queues.hold_at(3, 0, message(1, MsgKind::BlockingScalar, Some(8)));
 
     assert_eq!(rt; (queues.used(2), queues.used(3)), (0, 4));
-    expect_number(
-        &rt,
-        queues.queued_at(3, 1).map(|m| m.number),
-        Some(Number(5)),
-    );
-    expect_number(&rt, queues.queued_at(3, 2).map(|m| m.number), None);
-    expect_number(&rt, queues.held_at(3, 0).map(|m| m.number), Some(Number(1)));
-    expect_number(
-        &rt,
+    assert_eq!(rt; queues.queued_at(3, 1).map(|m| m.number), Some(Number(5)));
+    assert_eq!(rt; queues.queued_at(3, 2).map(|m| m.number), None);
+    assert_eq!(rt; queues.held_at(3, 0).map(|m| m.number), Some(Number(1)));
+    assert_eq!(rt;
         queues.held(3, Number(2)).map(|m| m.number),
-        Some(Number(2)),
+        Some(Number(2))
     );
-    expect_number(&rt, queues.held(3, Number(4)).map(|m| m.number), None);
+    assert_eq!(rt; queues.held(3, Number(4)).map(|m| m.number), None);
     assert_eq!(rt; queues.held_place(3, Number(2)), Some(1));
     assert_eq!(rt; queues.held_place(3, Number(4)), None);
-    expect_number(&rt, queues.first_of(3, Pid(9)), Some(Number(2)));
-    expect_number(&rt, queues.first_of(3, Pid(8)), Some(Number(1)));
-    expect_number(&rt, queues.first_of(3, Pid(7)), None);
+    assert_eq!(rt; queues.first_of(3, Pid(9)), Some(Number(2)));
+    assert_eq!(rt; queues.first_of(3, Pid(8)), Some(Number(1)));
+    assert_eq!(rt; queues.first_of(3, Pid(7)), None);
 
-    expect_taken(&rt, queues.take_queued(3, Number(5)), Some(5));
-    expect_taken(&rt, queues.take_held(3, Number(2)), Some(2));
-    expect_taken(&rt, queues.take_held(3, Number(1)), Some(1));
-    expect_taken(&rt, queues.take_oldest(3), Some(4));
+    assert_eq!(rt; number_of(&rt, queues.take_queued(3, Number(5))), Some(5));
+    assert_eq!(rt; number_of(&rt, queues.take_held(3, Number(2))), Some(2));
+    assert_eq!(rt; number_of(&rt, queues.take_held(3, Number(1))), Some(1));
+    assert_eq!(rt; number_of(&rt, queues.take_oldest(3)), Some(4));
     end(&rt, queues);
 }

@@ -37,22 +37,6 @@ fn number_of(rt: &impl Abort, h: Option<Held>) -> Option<u32> {
     }
 }
 
-// Each assertion takes a proof wherever it stands, which costs more than a call.
-
-/// The slot is the one that was wanted.
-fn expect_slot(rt: &impl Abort, told: u8, wanted: u8) {
-    assert_eq!(rt; told, wanted);
-}
-
-/// The message taken out has this number, or there is none.
-fn expect_taken(rt: &impl Abort, told: Option<Held>, wanted: Option<u32>) {
-    assert_eq!(rt; number_of(rt, told), wanted);
-}
-
-fn expect_full(rt: &impl Abort, ring: &Ring) {
-    assert!(rt; ring.is_full());
-}
-
 /// Ends a ring without messages.
 fn end(rt: &impl Abort, ring: Ring) {
     assert_eq!(rt; ring.used(), 0);
@@ -63,7 +47,7 @@ fn end(rt: &impl Abort, ring: Ring) {
 fn words<const N: usize>(rt: &impl Abort, next: &[u8], first: u8, slots: [u8; N]) {
     let mut slot = first;
     for wanted in slots {
-        expect_slot(rt, slot, wanted);
+        assert_eq!(rt; slot, wanted);
         slot = *next.get(slot as usize).expect(rt, "a slot");
     }
 }
@@ -77,7 +61,7 @@ fn ring_walk(rt: HostRuntime) {
     let oldest = ring.take_oldest().expect(&rt, "a message");
     assert!(&rt; !ring.is_full());
     ring.hold(oldest);
-    expect_taken(&rt, ring.take_queued(Number(3)), Some(3));
+    assert_eq!(rt; number_of(&rt, ring.take_queued(Number(3))), Some(3));
     put(&rt, &mut ring, 4);
     {
         let Ring {
@@ -92,13 +76,13 @@ fn ring_walk(rt: HostRuntime) {
         assert_eq!(rt; slots.len(), 128);
         words(&rt, next.as_slice(), *queued, [1, 2]);
         assert_eq!(rt; next.get(2), Some(&NONE));
-        expect_slot(&rt, *last_queued, 2);
+        assert_eq!(rt; *last_queued, 2);
         words(&rt, next.as_slice(), *held, [0]);
         assert_eq!(rt; next.get(0), Some(&NONE));
-        expect_slot(&rt, *last_held, 0);
+        assert_eq!(rt; *last_held, 0);
         words(&rt, next.as_slice(), *free, [3, 4]);
     }
-    expect_taken(&rt, ring.take_held(Number(1)), Some(1));
+    assert_eq!(rt; number_of(&rt, ring.take_held(Number(1))), Some(1));
     {
         let Ring {
             slots: _,
@@ -112,9 +96,9 @@ fn ring_walk(rt: HostRuntime) {
         words(&rt, next.as_slice(), *free, [0, 3]);
         assert_eq!(rt; (*held, *last_held), (NONE, NONE));
     }
-    expect_taken(&rt, ring.take_oldest(), Some(2));
-    expect_taken(&rt, ring.take_oldest(), Some(4));
-    expect_taken(&rt, ring.take_oldest(), None);
+    assert_eq!(rt; number_of(&rt, ring.take_oldest()), Some(2));
+    assert_eq!(rt; number_of(&rt, ring.take_oldest()), Some(4));
+    assert_eq!(rt; number_of(&rt, ring.take_oldest()), None);
     end(&rt, ring);
 }
 
@@ -124,19 +108,19 @@ fn filled_emptied_from_the_middle_and_filled_again(rt: HostRuntime) {
     for n in 0..128 {
         put(&rt, &mut ring, n);
     }
-    expect_full(&rt, &ring);
+    assert!(&rt; ring.is_full());
     for n in 32..96 {
-        expect_taken(&rt, ring.take_queued(Number(n)), Some(n));
-        expect_taken(&rt, ring.take_queued(Number(n)), None);
+        assert_eq!(rt; number_of(&rt, ring.take_queued(Number(n))), Some(n));
+        assert_eq!(rt; number_of(&rt, ring.take_queued(Number(n))), None);
     }
     assert_eq!(rt; ring.used(), 64);
     for n in 128..192 {
         put(&rt, &mut ring, n);
     }
-    expect_full(&rt, &ring);
+    assert!(&rt; ring.is_full());
     for n in 0..192 {
         if n < 32 || n >= 96 {
-            expect_taken(&rt, ring.take_oldest(), Some(n));
+            assert_eq!(rt; number_of(&rt, ring.take_oldest()), Some(n));
         }
     }
     end(&rt, ring);

@@ -9,7 +9,6 @@ ghost use Rattle.vm_memory.specs.Sound.{IsSound};
 ghost use Rattle.xk_base.specs.declared.ids.Number.{Number};
 
 mod exchange;
-mod expecting;
 mod first_pages;
 mod first_run;
 mod known;
@@ -17,7 +16,6 @@ mod loans;
 mod user;
 mod windows;
 
-use self::expecting::{expect_flag, fail};
 use crate::memory::{BootError, BootFault, Memory};
 use boot_plan::{BootPlan, PagePlan, ProcPlan};
 use std::alloc::Global;
@@ -130,11 +128,11 @@ fn memory_parts(rt: HostRuntime) {
                 (ram.frames(), owners.free_frame()),
                 (4096, Some(Frame(23)))
             );
-            expect_flag(&rt, store.preparations().is_empty(), true);
-            expect_flag(&rt, *failed, false);
+            assert!(rt; store.preparations().is_empty());
+            assert!(rt; !*failed);
             assert_eq!(rt; (*procs, *slots, *pages, *hand), (1, 0, 2, 0));
             let _ = end(memory);
         }
-        Err(_) => fail(&rt),
+        Err(_) => assert!(rt; false),
     }
 }

@@ -11,9 +11,6 @@ ghost use Rattle.vm_memory.specs.Using.UserView.{KeepsRest};
 ghost use Rattle.xk_base.specs.declared.ids.Number.{Number};
 
 use super::WRITE;
-use super::expecting::{
-    expect_byte, expect_flag, expect_here, expect_room, expect_stored, expect_word, fail,
-};
 use crate::memory::{BootError, BootFault, Here, Memory, User};
 use boot_plan::{BootPlan, PagePlan, ProcPlan};
 use std::alloc::Global;
@@ -163,13 +160,13 @@ fn turn<W: SwapStore>(
     ensures loans { loans (ledger W.held memory.new) ≡ loans (ledger W.held memory.old) }
 {
     let (old, new) = bytes;
-    expect_byte(rt, byte_in(memory, at), None);
+    assert_eq!(rt; byte_in(memory, at), None);
     let loaded = load(memory, at)?;
-    expect_word(rt, loaded, Some(old as u32));
-    expect_byte(rt, byte_in(memory, at), Some(old));
+    assert_eq!(rt; loaded, Some(old as u32));
+    assert_eq!(rt; byte_in(memory, at), Some(old));
     let stored = store(memory, at, new as u32)?;
-    expect_stored(rt, stored, Stored::Done);
-    expect_byte(rt, byte_in(memory, at), Some(new));
+    assert_eq!(rt; stored, Stored::Done);
+    assert_eq!(rt; byte_in(memory, at), Some(new));
     Ok(())
 }
 
@@ -198,20 +195,20 @@ fn round<W: SwapStore>(
 fn as_before<W: SwapStore>(rt: &impl Abort, memory: &Memory<W>)
     requires sound { IsSound W.slot_count memory.now }
 {
-    expect_room(rt, (memory.pages(), memory.cap()), (6, 6));
+    assert_eq!(rt; (memory.pages(), memory.cap()), (6, 6));
     for k in 0..6 {
         let own = Here::Own {
             right: WRITE,
             console: false,
             loan: None,
         };
-        expect_here(rt, memory.at(place(k)), own);
+        assert_eq!(rt; memory.at(place(k)), own);
         let k = k as u8;
         let is_known = match byte_in(memory, place(k as u32)) {
             None => true,
             Some(byte) => [1 + k, 11 + k, 21 + k].contains(&byte),
         };
-        expect_flag(rt, is_known, true);
+        assert!(rt; is_known);
     }
 }
 
@@ -275,7 +272,7 @@ fn pages_go_out_and_come_in(rt: HostRuntime) {
             assert_eq!(rt; store.preparations().len(), 1);
             assert_eq!(rt; store.slots(), if failing == 1 { 0 } else { 4 });
         } else {
-            fail(&rt);
+            assert!(rt; false);
         }
     }
 }

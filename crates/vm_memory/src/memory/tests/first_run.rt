@@ -4,7 +4,6 @@ ghost use Rattle.std.specs.Prelude.{◌≤◌, ◌<◌, length, IfOk};
 ghost use Rattle.vm_memory.specs.Memory.{IsUsable};
 ghost use Rattle.vm_memory.specs.Sound.{IsSound};
 
-use super::expecting::{expect_flag, expect_room, fail};
 use super::{PID, end};
 use crate::memory::{BootFault, Memory};
 use boot_plan::plan;
@@ -72,10 +71,10 @@ fn page_starts(ram: &Ram, vpn: u32, front: &[u8]) -> bool
 fn pages<W: SwapStore>(rt: &impl Abort, memory: &Memory<W>)
     requires sound { IsSound W.slot_count memory.now }
 {
-    expect_room(rt, (memory.pages(), memory.cap()), (10, 4074));
+    assert_eq!(rt; (memory.pages(), memory.cap()), (10, 4074));
     for k in 0..10 {
         let front: &[u8] = if k == 0 { &FIRST_IMAGE[52..] } else { &[] };
-        expect_flag(rt, page_starts(memory.ram(), FIRST_PAGES[k], front), true);
+        assert!(rt; page_starts(memory.ram(), FIRST_PAGES[k], front));
     }
 }
 
@@ -86,6 +85,6 @@ fn pages_of_the_first_run(rt: HostRuntime) {
             pages(&rt, &memory);
             let _ = end(memory);
         }
-        Err(_) => fail(&rt),
+        Err(_) => assert!(rt; false),
     }
 }

@@ -8,10 +8,6 @@ ghost use Rattle.vm_memory.specs.Memory.{IsUsable, ledger, processes, size};
 ghost use Rattle.vm_memory.specs.Sound.{IsSound};
 ghost use Rattle.vm_memory.specs.Using.UserView.{KeepsRest};
 
-use super::expecting::{
-    expect_flag, expect_here, expect_made, expect_number, expect_run, expect_walk, expect_word,
-    fail,
-};
 use super::{WRITE, end};
 use crate::laws::found_run_takes_pages;
 use crate::memory::{BootError, BootFault, Here, Memory, User};
@@ -180,12 +176,12 @@ fn lent<W: SwapStore>(rt: &impl Abort, memory: &mut Memory<W>, kind: LoanKind) -
     ensures loan { MatchOption result Unit (λ loan. (loan.lender ≡ Some (record { pid = LENDER; vpn = record { 0 = 131072 } }))
         × Stands (loans (ledger W.held memory.new)) loan) }
 {
-    expect_flag(rt, store(memory, LENDER, FROM, 0x1234_5678), true);
-    expect_flag(rt, store(memory, LENDER, FROM + 0x1FFC, 0x9ABC_DEF0), true);
-    expect_word(rt, load(memory, HOLDER, TO), None);
+    assert!(rt; store(memory, LENDER, FROM, 0x1234_5678));
+    assert!(rt; store(memory, LENDER, FROM + 0x1FFC, 0x9ABC_DEF0));
+    assert_eq!(rt; load(memory, HOLDER, TO), None);
     found_run_takes_pages();
     let to = memory.free_run(HOLDER, Window::Message, 2)?;
-    expect_run(rt, Some(to), Some(Vpn(0x4_0000)));
+    assert_eq!(rt; to, Vpn(0x4_0000));
     let from = place(LENDER, FROM);
     memory.may_send(from, 2, sent_as(kind)).ok()?;
     let to = Place {
@@ -201,12 +197,12 @@ fn none_lent<W: SwapStore>(rt: &impl Abort, memory: &mut Memory<W>, last: u32)
     requires usable { IsUsable memory.old }
     requires slots { (size memory.old).slots ≡ 0 }
 {
-    expect_here(rt, memory.at(place(HOLDER, TO)), Here::Nothing);
-    expect_word(rt, load(memory, HOLDER, TO + 0x1FFC), None);
-    expect_flag(rt, store(memory, HOLDER, TO + 0x1FFC, 1), false);
-    expect_word(rt, load(memory, LENDER, FROM), Some(0x1234_5678));
-    expect_word(rt, load(memory, LENDER, FROM + 0x1FFC), Some(last));
-    expect_flag(rt, store(memory, LENDER, FROM + 0x1FFC, 2), true);
+    assert_eq!(rt; memory.at(place(HOLDER, TO)), Here::Nothing);
+    assert_eq!(rt; load(memory, HOLDER, TO + 0x1FFC), None);
+    assert!(rt; !store(memory, HOLDER, TO + 0x1FFC, 1));
+    assert_eq!(rt; load(memory, LENDER, FROM), Some(0x1234_5678));
+    assert_eq!(rt; load(memory, LENDER, FROM + 0x1FFC), Some(last));
+    assert!(rt; store(memory, LENDER, FROM + 0x1FFC, 2));
 }
 
 // While they are lent both sides load, and neither stores.
@@ -218,20 +214,20 @@ fn lend_script<W: SwapStore>(rt: &impl Abort, memory: &mut Memory<W>)
     requires fresh { IsFresh (loans (ledger W.held memory.old)) ONE }
 {
     let Some(loan) = lent(rt, memory, LoanKind::Shared) else {
-        fail(rt);
+        assert!(rt; false);
         return;
     };
-    expect_word(rt, load(memory, LENDER, FROM), Some(0x1234_5678));
-    expect_word(rt, load(memory, HOLDER, TO), Some(0x1234_5678));
-    expect_word(rt, load(memory, HOLDER, TO + 0x1FFC), Some(0x9ABC_DEF0));
-    expect_flag(rt, store(memory, LENDER, FROM + 0x1FFC, 1), false);
-    expect_flag(rt, store(memory, HOLDER, TO, 1), false);
+    assert_eq!(rt; load(memory, LENDER, FROM), Some(0x1234_5678));
+    assert_eq!(rt; load(memory, HOLDER, TO), Some(0x1234_5678));
+    assert_eq!(rt; load(memory, HOLDER, TO + 0x1FFC), Some(0x9ABC_DEF0));
+    assert!(rt; !store(memory, LENDER, FROM + 0x1FFC, 1));
+    assert!(rt; !store(memory, HOLDER, TO, 1));
     let here = Here::Lent {
         kind: LoanKind::Shared,
         lender: Some(place(LENDER, FROM + 0x1000)),
         number: ONE,
     };
-    expect_here(rt, memory.at(place(HOLDER, TO + 0x1000)), here);
+    assert_eq!(rt; memory.at(place(HOLDER, TO + 0x1000)), here);
     memory.end_loan(loan);
     none_lent(rt, memory, 0x9ABC_DEF0);
 }
@@ -243,7 +239,7 @@ fn lent_pages_are_read_by_both(rt: HostRuntime) {
             lend_script(&rt, &mut memory);
             let _ = end(memory);
         }
-        Err(_) => fail(&rt),
+        Err(_) => assert!(rt; false),
     }
 }
 
@@ -256,13 +252,13 @@ fn mutable_script<W: SwapStore>(rt: &impl Abort, memory: &mut Memory<W>)
     requires fresh { IsFresh (loans (ledger W.held memory.old)) ONE }
 {
     let Some(loan) = lent(rt, memory, LoanKind::Exclusive) else {
-        fail(rt);
+        assert!(rt; false);
         return;
     };
-    expect_word(rt, load(memory, LENDER, FROM), None);
-    expect_flag(rt, store(memory, LENDER, FROM, 1), false);
-    expect_word(rt, load(memory, HOLDER, TO), Some(0x1234_5678));
-    expect_flag(rt, store(memory, HOLDER, TO + 0x1FFC, 0x0BAD_CAFE), true);
+    assert_eq!(rt; load(memory, LENDER, FROM), None);
+    assert!(rt; !store(memory, LENDER, FROM, 1));
+    assert_eq!(rt; load(memory, HOLDER, TO), Some(0x1234_5678));
+    assert!(rt; store(memory, HOLDER, TO + 0x1FFC, 0x0BAD_CAFE));
     memory.end_loan(loan);
     none_lent(rt, memory, 0x0BAD_CAFE);
 }
@@ -274,7 +270,7 @@ fn mutably_lent_pages_are_the_holders(rt: HostRuntime) {
             mutable_script(&rt, &mut memory);
             let _ = end(memory);
         }
-        Err(_) => fail(&rt),
+        Err(_) => assert!(rt; false),
     }
 }
 
@@ -288,7 +284,7 @@ fn orphan_script<W: SwapStore>(rt: &impl Abort, memory: &mut Memory<W>)
     requires fresh { IsFresh (loans (ledger W.held memory.old)) ONE }
 {
     let Some(loan) = lent(rt, memory, LoanKind::Exclusive) else {
-        fail(rt);
+        assert!(rt; false);
         return;
     };
     let loan = memory.orphan(loan);
@@ -297,21 +293,21 @@ fn orphan_script<W: SwapStore>(rt: &impl Abort, memory: &mut Memory<W>)
         lender: None,
         number: ONE,
     };
-    expect_here(rt, memory.at(place(HOLDER, TO)), here);
-    expect_here(rt, memory.at(place(LENDER, FROM)), Here::Nothing);
-    expect_flag(rt, store(memory, HOLDER, TO, 0x0BAD_CAFE), true);
-    expect_word(rt, load(memory, HOLDER, TO), Some(0x0BAD_CAFE));
-    expect_word(rt, load(memory, LENDER, FROM), None);
-    expect_number(rt, memory.pages(), 4);
+    assert_eq!(rt; memory.at(place(HOLDER, TO)), here);
+    assert_eq!(rt; memory.at(place(LENDER, FROM)), Here::Nothing);
+    assert!(rt; store(memory, HOLDER, TO, 0x0BAD_CAFE));
+    assert_eq!(rt; load(memory, HOLDER, TO), Some(0x0BAD_CAFE));
+    assert_eq!(rt; load(memory, LENDER, FROM), None);
+    assert_eq!(rt; memory.pages(), 4);
     memory.end_loan(loan);
-    expect_number(rt, memory.pages(), 2);
-    expect_word(rt, load(memory, HOLDER, TO), None);
+    assert_eq!(rt; memory.pages(), 2);
+    assert_eq!(rt; load(memory, HOLDER, TO), None);
     let made = memory.make(HOLDER, Window::Heap, None, 2, WRITE);
-    expect_made(rt, made, Ok(Vpn(0x2_0000)));
+    assert!(rt; made == Ok(Ok(Vpn(0x2_0000))));
     let reached = walk(memory.ram(), root_of(HOLDER), FROM, Access::Load);
-    expect_walk(rt, reached, Walked::Reaches(0x4002_C000));
-    expect_word(rt, load(memory, HOLDER, FROM), Some(0));
-    expect_word(rt, load(memory, HOLDER, FROM + 0x1FFC), Some(0));
+    assert_eq!(rt; reached, Walked::Reaches(0x4002_C000));
+    assert_eq!(rt; load(memory, HOLDER, FROM), Some(0));
+    assert_eq!(rt; load(memory, HOLDER, FROM + 0x1FFC), Some(0));
 }
 
 #[test]
@@ -321,6 +317,6 @@ fn orphans_are_the_holders_until_they_are_forgotten(rt: HostRuntime) {
             orphan_script(&rt, &mut memory);
             let _ = end(memory);
         }
-        Err(_) => fail(&rt),
+        Err(_) => assert!(rt; false),
     }
 }

@@ -5,10 +5,6 @@ ghost use Rattle.std.specs.Prelude.{◌≡◌, true};
 ghost use Rattle.vm_memory.specs.Memory.{IsUsable, processes};
 ghost use Rattle.vm_memory.specs.Sound.{IsSound};
 
-use super::expecting::{
-    expect_done, expect_here, expect_made, expect_mapped, expect_number, expect_room, expect_run,
-    fail,
-};
 use super::{PID, READ, WRITE, at, booted, end};
 use crate::memory::{Here, Memory};
 use std::process::Abort;
@@ -24,25 +20,24 @@ fn heap_script<W: SwapStore>(rt: &impl Abort, memory: &mut Memory<W>)
 {
     let first = Some(Vpn(0x2_0000));
     let made = memory.make(PID, Window::Heap, first, 2, WRITE);
-    expect_made(rt, made, Ok(Vpn(0x2_0000)));
+    assert!(rt; made == Ok(Ok(Vpn(0x2_0000))));
     let made = memory.make(PID, Window::Heap, first, 2, WRITE);
-    expect_made(rt, made, Err(XousError::MemoryInUse));
-    expect_room(rt, (memory.pages(), memory.cap()), (4, 4074));
+    assert!(rt; made == Ok(Err(XousError::MemoryInUse)));
+    assert_eq!(rt; (memory.pages(), memory.cap()), (4, 4074));
     // Own, readable and writable, of the first frame behind those of the tables and two pages.
-    expect_number(
-        rt,
+    assert_eq!(rt;
         leaf(memory.ram(), at(0x2_0000)),
-        (0x4_0000 + 23) * 1024 + 0x0D7,
+        (0x4_0000 + 23) * 1024 + 0x0D7
     );
-    expect_done(rt, memory.reduce_run(at(0x2_0000), 2, READ), Ok(()));
+    assert_eq!(rt; memory.reduce_run(at(0x2_0000), 2, READ), Ok(()));
     let reduced = memory.reduce_run(at(0x2_0000), 2, WRITE);
-    expect_done(rt, reduced, Err(XousError::AccessDenied));
-    expect_done(rt, memory.remove_run(at(0x2_0000), 2), Ok(()));
+    assert_eq!(rt; reduced, Err(XousError::AccessDenied));
+    assert_eq!(rt; memory.remove_run(at(0x2_0000), 2), Ok(()));
     let removed = memory.remove_run(at(0x2_0000), 2);
-    expect_done(rt, removed, Err(XousError::BadAddress));
-    expect_done(rt, memory.clear_run(at(0x2_0000), 2), Ok(()));
-    expect_run(rt, memory.free_run(PID, Window::Heap, 2), first);
-    expect_number(rt, memory.pages(), 2);
+    assert_eq!(rt; removed, Err(XousError::BadAddress));
+    assert_eq!(rt; memory.clear_run(at(0x2_0000), 2), Ok(()));
+    assert_eq!(rt; memory.free_run(PID, Window::Heap, 2), first);
+    assert_eq!(rt; memory.pages(), 2);
 }
 
 #[test]
@@ -52,7 +47,7 @@ fn heap_pages_come_and_go(rt: HostRuntime) {
             heap_script(&rt, &mut memory);
             let _ = end(memory);
         }
-        Err(_) => fail(&rt),
+        Err(_) => assert!(rt; false),
     }
 }
 
@@ -64,22 +59,22 @@ fn map_script<W: SwapStore>(rt: &impl Abort, memory: &mut Memory<W>)
 {
     let last = Some(Vpn(0x6_0FFF));
     let made = memory.make(PID, Window::Map, last, 1, WRITE);
-    expect_made(rt, made, Ok(Vpn(0x6_0FFF)));
+    assert!(rt; made == Ok(Ok(Vpn(0x6_0FFF))));
     let made = memory.make(PID, Window::Map, last, 2, WRITE);
-    expect_made(rt, made, Err(XousError::BadAddress));
+    assert!(rt; made == Ok(Err(XousError::BadAddress)));
     let made = memory.make(PID, Window::Map, last, 1, WRITE);
-    expect_made(rt, made, Err(XousError::MemoryInUse));
+    assert!(rt; made == Ok(Err(XousError::MemoryInUse)));
     let mapped = memory.make_console(PID, None, true);
-    expect_mapped(rt, mapped, Ok(Vpn(0x6_0000)));
+    assert_eq!(rt; mapped, Ok(Vpn(0x6_0000)));
     let mapped = memory.make_console(PID, None, true);
-    expect_mapped(rt, mapped, Err(XousError::MemoryInUse));
+    assert_eq!(rt; mapped, Err(XousError::MemoryInUse));
     let console = Here::Own {
         right: WRITE,
         console: true,
         loan: None,
     };
-    expect_here(rt, memory.at(at(0x6_0000)), console);
-    expect_number(rt, memory.pages(), 3);
+    assert_eq!(rt; memory.at(at(0x6_0000)), console);
+    assert_eq!(rt; memory.pages(), 3);
 }
 
 #[test]
@@ -89,7 +84,7 @@ fn map_window_ends(rt: HostRuntime) {
             map_script(&rt, &mut memory);
             let _ = end(memory);
         }
-        Err(_) => fail(&rt),
+        Err(_) => assert!(rt; false),
     }
 }
 
@@ -100,12 +95,12 @@ fn last_page_script<W: SwapStore>(rt: &impl Abort, memory: &mut Memory<W>)
     requires process { is_pid (processes memory.old) 2 ≡ true }
 {
     let mapped = memory.make_console(PID, Some(Vpn(0x6_0FFF)), false);
-    expect_mapped(rt, mapped, Ok(Vpn(0x6_0FFF)));
+    assert_eq!(rt; mapped, Ok(Vpn(0x6_0FFF)));
     let mapped = memory.make_console(PID, None, false);
-    expect_mapped(rt, mapped, Err(XousError::MemoryInUse));
-    expect_done(rt, memory.remove_run(at(0x6_0FFF), 1), Ok(()));
+    assert_eq!(rt; mapped, Err(XousError::MemoryInUse));
+    assert_eq!(rt; memory.remove_run(at(0x6_0FFF), 1), Ok(()));
     let mapped = memory.make_console(PID, None, false);
-    expect_mapped(rt, mapped, Ok(Vpn(0x6_0000)));
+    assert_eq!(rt; mapped, Ok(Vpn(0x6_0000)));
 }
 
 #[test]
@@ -115,6 +110,6 @@ fn console_at_the_last_page_is_found(rt: HostRuntime) {
             last_page_script(&rt, &mut memory);
             let _ = end(memory);
         }
-        Err(_) => fail(&rt),
+        Err(_) => assert!(rt; false),
     }
 }
