@@ -188,9 +188,9 @@ class State:
 
 
 def identifier_text(words):
-    """An identifier as the text that it spells, a letter or four in each word, else as four words."""
+    """An identifier as the text that it spells, a letter or four in each word but for blanks at the end, else as four words."""
     data = struct.pack("<4I", *words)
-    letters = bytes(words) if all(32 < word < 127 for word in words) else data.rstrip(b"\0")
+    letters = bytes(words) if all(32 < word < 127 for word in words) else data.rstrip(b"\0 ")
     if letters and all(32 < byte < 127 for byte in letters):
         return letters.decode()
     return ".".join(f"{word:x}" for word in words)
