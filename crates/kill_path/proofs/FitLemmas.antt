@@ -30,7 +30,7 @@ use Rattle.xk_parts.specs.Sound.{AreLoansSound, AreSeatsSound, HasKnownSender, A
 use Rattle.server_table.specs.ServersOf.{servers_of}
 use Rattle.server_table.specs.ServerState.{Server as TableServer}
 use Rattle.server_table.specs.declared.table.Servers.{Servers}
-use Rattle.thread_table.specs.ThreadsOf.{process_count}
+use Rattle.thread_table.specs.Shown.{process_count}
 use Rattle.vm_memory.specs.Memory.{ledger, processes}
 use Rattle.xk_base.proofs.CircleLemmas.{is_pid-bounds}
 use Rattle.xk_base.specs.Calls.Kinds.{is_answered}

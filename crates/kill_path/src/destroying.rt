@@ -7,7 +7,7 @@ ghost use Rattle.xk_parts.specs.Sound.{AreSound};
 ghost use Rattle.send_path.specs.Keeping.{KeepsMemory};
 ghost use Rattle.server_table.specs.ServersOf.{servers_of};
 ghost use Rattle.thread_table.specs.ThreadMap.{is_ready};
-ghost use Rattle.thread_table.specs.ThreadsOf.{process_count, threads_of};
+ghost use Rattle.thread_table.specs.Shown.{process_count, threads_of};
 ghost use Rattle.xk_base.specs.Tables.Circle.{thread_ids};
 ghost use Rattle.kill_path.specs.Rows.{DoesRow, destroy_row};
 

@@ -2,12 +2,12 @@
 
 ghost use Rattle.std.specs.Prelude.{◌≡◌, ◌+◌, ◌≤◌, length, true, Some};
 ghost use Rattle.process_table.specs.ProcessMap.{is_alive};
-ghost use Rattle.process_table.specs.ProcessesOf.{processes_of};
+ghost use Rattle.process_table.specs.Shown.{processes_of};
 ghost use Rattle.xk_base.specs.declared.ids.ThreadId.{ThreadId};
 ghost use Rattle.xk_parts.specs.Parts.{parts_of};
 ghost use Rattle.xk_parts.specs.Sound.{AreSound};
 ghost use Rattle.send_path.specs.Keeping.{KeepsMemory};
-ghost use Rattle.thread_table.specs.ThreadsOf.{process_count};
+ghost use Rattle.thread_table.specs.Shown.{process_count};
 ghost use Rattle.vm_memory.specs.Memory.{IsUsable};
 ghost use Rattle.xk_base.specs.Tables.Circle.{thread_ids};
 ghost use Rattle.kill_path.specs.Dying.{Dies};

@@ -7,7 +7,7 @@ ghost use Rattle.xk_parts.specs.Shown.{threads_shown};
 ghost use Rattle.send_path.specs.Rows.{log_with};
 ghost use Rattle.xk_parts.specs.Threads.{answered};
 ghost use Rattle.thread_table.specs.ThreadMap.{is_receiving as is_receiving_at};
-ghost use Rattle.thread_table.specs.ThreadsOf.{process_count, threads_of};
+ghost use Rattle.thread_table.specs.Shown.{process_count, threads_of};
 ghost use Rattle.xk_base.specs.Tables.Circle.{id_at, is_pid, is_thread_id, same_thread, thread_ids};
 ghost use Rattle.xk_base.specs.Tables.Counting.{put_at};
 ghost use Rattle.xk_base.specs.declared.ids.ThreadId.{ThreadId as Id};

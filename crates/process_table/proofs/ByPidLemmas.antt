@@ -74,4 +74,4 @@ by_pid_new n = λ i k. at k i
       ]
     ]
 
-pub ruleset by_pid_laws = (by_pid_read, by_pid_past, by_pid_low, by_pid_set)
+pub ruleset laws = (by_pid_read, by_pid_past, by_pid_low, by_pid_set)

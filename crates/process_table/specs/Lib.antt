@@ -1,3 +1,3 @@
 pub mod ProcessMap
-pub mod ProcessesOf
+pub mod Shown
 pub mod State

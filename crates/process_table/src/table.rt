@@ -19,9 +19,9 @@ pub struct Processes {
     ghost few: { vec_len by_pid ≤ PROCESS_LIMIT },
 }
 
-#[tactic(auto, using(crate::proofs::ByPidLemmas::by_pid_laws), unfolding(crate::specs::ProcessesOf::process_count, crate::specs::ProcessesOf::processes_of))]
+#[tactic(auto, using(crate::proofs::ByPidLemmas::laws), unfolding(crate::specs::Shown::process_count, crate::specs::Shown::processes_of))]
 impl Processes {
-    ghost use Rattle.process_table.specs.ProcessesOf.{process_count, processes_of};
+    ghost use Rattle.process_table.specs.Shown.{process_count, processes_of};
 
     /// A table of `procs` processes, all alive, with no heap and no connection. It takes all memory that
     /// they will ever need.

@@ -2,7 +2,7 @@
 
 ghost use Rattle.std.specs.Prelude.{◌≡◌, ◌≤◌, ℕ, true, [], IfOk, Some, length, map, nat_eq};
 ghost use Rattle.process_table.specs.ProcessMap.{change, connections_of, heap_of};
-ghost use Rattle.process_table.specs.ProcessesOf.{process_count, processes_of};
+ghost use Rattle.process_table.specs.Shown.{process_count, processes_of};
 ghost use Rattle.process_table.specs.State.{new_process};
 ghost use Rattle.xk_parts.specs.Shown.{process_of};
 ghost use Rattle.suspend_image.specs.Forms.{IsProcRow};

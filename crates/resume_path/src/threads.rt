@@ -5,7 +5,7 @@ ghost use Rattle.std.specs.Prelude.{◌≡◌, ◌∷◌, ◌≤◌, IfOk, None,
 ghost use Rattle.xk_parts.specs.Shown.{state_of, thread_of};
 ghost use Rattle.suspend_image.specs.Forms.{IsThreadRow};
 ghost use Rattle.state_rows.specs.Machines.{thread_at_id, thread_of as row_thread, thread_state as row_state, threads_of as state_threads};
-ghost use Rattle.thread_table.specs.ThreadsOf.{process_count, threads_of};
+ghost use Rattle.thread_table.specs.Shown.{process_count, threads_of};
 ghost use Rattle.xk_base.specs.Tables.Circle.{same_thread};
 ghost use Rattle.xk_base.specs.declared.ids.ThreadId.{ThreadId as Id};
 ghost use Rattle.resume_path.specs.Resumable.{CanResume};

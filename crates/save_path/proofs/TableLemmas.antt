@@ -23,7 +23,7 @@ use Rattle.msg_queue.specs.Seats.{Seat}
 use Rattle.server_table.specs.ServerState.{Server as TableServer}
 use Rattle.server_table.specs.ServersOf.{servers_of}
 use Rattle.server_table.specs.declared.table.Servers.{Servers}
-use Rattle.thread_table.specs.ThreadsOf.{threads_of}
+use Rattle.thread_table.specs.Shown.{threads_of}
 use Rattle.thread_table.specs.declared.table.Threads.{Threads}
 use Rattle.thread_table.specs.declared.thread.Thread.{Thread as TableThread}
 use Rattle.xk_base.specs.Tables.Circle.{id_at}

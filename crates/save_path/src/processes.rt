@@ -2,7 +2,7 @@
 
 ghost use Rattle.std.specs.Prelude.{◌≡◌, ◌≤◌, ◌*◌, length};
 ghost use Rattle.std.specs.List.{flat_map};
-ghost use Rattle.process_table.specs.ProcessesOf.{process_count};
+ghost use Rattle.process_table.specs.Shown.{process_count};
 ghost use Rattle.xk_parts.specs.Shown.{processes_shown};
 ghost use Rattle.suspend_image.specs.Spelling.{proc_bytes};
 ghost use Rattle.xk_base.specs.Tables.Circle.{IsPid};

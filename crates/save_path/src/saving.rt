@@ -3,7 +3,7 @@
 ghost use Rattle.std.specs.Prelude.{◌≡◌, ◌≤◌, ◌+◌, ◌*◌, IsTrue, true, OnErr, OnOk};
 ghost use Rattle.machine_history.specs.Reserved.{IsReservedByThread};
 ghost use Rattle.machine_model.specs.Runs.Matched.{Matched};
-ghost use Rattle.process_table.specs.ProcessesOf.{process_count};
+ghost use Rattle.process_table.specs.Shown.{process_count};
 ghost use Rattle.save_path.specs.Fitting.{IsFit};
 ghost use Rattle.save_path.specs.Saved.{saved_machine, saved_parts};
 ghost use Rattle.save_path.specs.Written.{Appends, BringsPages, Fits, IsSaved, WritesPages, front_parts};

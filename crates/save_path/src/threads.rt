@@ -3,7 +3,7 @@
 ghost use Rattle.std.specs.Prelude.{◌≡◌, ◌≤◌, ◌+◌, ◌*◌, drop, length};
 ghost use Rattle.xk_parts.specs.Shown.{state_of, thread_of, threads_shown};
 ghost use Rattle.suspend_image.specs.Spelling.{rows_bytes, thread_bytes};
-ghost use Rattle.thread_table.specs.ThreadsOf.{process_count};
+ghost use Rattle.thread_table.specs.Shown.{process_count};
 ghost use Rattle.xk_base.specs.Tables.Circle.{id_at, thread_ids};
 ghost use Rattle.xk_base.specs.declared.limits.TheConstants.{PROCESS_LIMIT};
 ghost use Rattle.save_path.specs.Fitting.{AreRegisters, EachBelow, IsThreadFit};

@@ -7,7 +7,7 @@ ghost use Rattle.machine_model.specs.State.Changes.{replies};
 ghost use Rattle.machine_model.specs.State.Threads.{both_answers, passed};
 ghost use Rattle.msg_queue.specs.Seats.{changed_at, seat_of, used_of};
 ghost use Rattle.thread_table.specs.ThreadMap.{is_ready, is_receiving, receiver};
-ghost use Rattle.thread_table.specs.ThreadsOf.{process_count, threads_of};
+ghost use Rattle.thread_table.specs.Shown.{process_count, threads_of};
 ghost use Rattle.xk_base.specs.Tables.Circle.{IsPid, is_thread_id, same_thread};
 ghost use Rattle.xk_base.specs.declared.ids.ThreadId.{ThreadId as Id};
 ghost use Rattle.xk_base.specs.declared.limits.TheConstants.{SERVER_LIMIT, MESSAGE_LIMIT};

@@ -4,7 +4,7 @@ ghost use Rattle.std.specs.Prelude.{◌≡◌, ◌+◌, ◌<◌, ◌≤◌, ◌^
 ghost use Rattle.machine_model.specs.Messaging.ForwardCalls.{with_first};
 ghost use Rattle.machine_model.specs.Messaging.Messages.{is_lend as is_lend_kind};
 ghost use Rattle.thread_table.specs.ThreadMap.{is_ready};
-ghost use Rattle.thread_table.specs.ThreadsOf.{threads_of};
+ghost use Rattle.thread_table.specs.Shown.{threads_of};
 ghost use Rattle.vm_memory.specs.Memory.{IsUsable};
 ghost use Rattle.xk_base.specs.Calls.CallNumbers.{forward_message as forward_number};
 ghost use Rattle.xk_base.specs.Calls.CallWords.{call_number};

@@ -3,7 +3,7 @@
 ghost use Rattle.std.specs.Prelude.{◌≡◌, ◌+◌, ◌≤◌, ◌==◌, ◌&&◌, length, true, IsFalse};
 ghost use Rattle.ledger_model.specs.Loans.{Loans};
 ghost use Rattle.thread_table.specs.ThreadMap.{is_ready};
-ghost use Rattle.thread_table.specs.ThreadsOf.{threads_of};
+ghost use Rattle.thread_table.specs.Shown.{threads_of};
 ghost use Rattle.xk_parts.specs.Parts.{no_store, tables_of};
 ghost use Rattle.send_path.specs.Rows.{IsRow, receive_row};
 ghost use Rattle.xk_parts.specs.Sound.{AreLoansSound, AreSound};

@@ -3,7 +3,7 @@
 ghost use Rattle.std.specs.Prelude.{◌≡◌, ◌+◌, ◌≤◌, ◌==◌, ◌||◌, length, true};
 ghost use Rattle.syscall_codec.specs.Replies.{words_of};
 ghost use Rattle.thread_table.specs.ThreadMap.{is_ready};
-ghost use Rattle.thread_table.specs.ThreadsOf.{threads_of};
+ghost use Rattle.thread_table.specs.Shown.{threads_of};
 ghost use Rattle.xk_base.specs.Calls.CallNumbers.{return_memory as memory_number};
 ghost use Rattle.xk_base.specs.Calls.CallNumbers.{return_scalar1 as scalar1_number, return_scalar2 as scalar2_number};
 ghost use Rattle.xk_base.specs.Calls.CallWords.{call_number};

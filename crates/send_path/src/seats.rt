@@ -7,7 +7,7 @@ ghost use Rattle.server_table.specs.ServersOf.{servers_of};
 ghost use Rattle.xk_base.specs.declared.limits.TheConstants.{SERVER_LIMIT, MESSAGE_LIMIT};
 ghost use Rattle.xk_base.specs.Calls.Kinds.{is_answered as is_kind_answered};
 ghost use Rattle.process_table.specs.ProcessMap.{connections_of};
-ghost use Rattle.process_table.specs.ProcessesOf.{process_count, processes_of};
+ghost use Rattle.process_table.specs.Shown.{process_count, processes_of};
 ghost use Rattle.xk_base.specs.Tables.Circle.{IsPid};
 ghost use Rattle.send_path.specs.Arrivals.{IsReachedIf, with_arrived};
 ghost use Rattle.xk_parts.specs.Seats.{HasLoanIfLend, IsSeatOf, own_serial};

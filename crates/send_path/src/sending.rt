@@ -4,7 +4,7 @@ ghost use Rattle.std.specs.Prelude.{◌≡◌, ◌+◌, ◌<◌, ◌≤◌, ◌=
 ghost use Rattle.machine_model.specs.Messaging.Messages.{carries_pages as has_pages, new_message};
 ghost use Rattle.machine_model.specs.State.Machine.{Machine};
 ghost use Rattle.thread_table.specs.ThreadMap.{is_ready};
-ghost use Rattle.thread_table.specs.ThreadsOf.{threads_of};
+ghost use Rattle.thread_table.specs.Shown.{threads_of};
 ghost use Rattle.vm_memory.specs.Memory.{IsUsable};
 ghost use Rattle.xk_base.specs.Calls.CallNumbers.{send_message, try_send_message};
 ghost use Rattle.xk_base.specs.Calls.CallWords.{call_number, send_kind};

@@ -15,7 +15,7 @@ use Rattle.xk_base.specs.declared.limits.TheConstants.{PROCESS_LIMIT}
 use Rattle.thread_table.specs.Lending.{in_place_of, with_thread}
 use Rattle.thread_table.specs.ThreadMap.{thread_map}
 use Rattle.thread_table.specs.TidSets.{AreMarked}
-use Rattle.thread_table.specs.ThreadsOf.{process_count, threads_of}
+use Rattle.thread_table.specs.Shown.{process_count, threads_of}
 use Rattle.thread_table.specs.declared.table.Threads.{Threads}
 use Rattle.thread_table.specs.declared.thread.Thread.{Thread}
 use Rattle.thread_table.proofs.MarkLemmas.{marked_once}

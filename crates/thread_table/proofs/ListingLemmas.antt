@@ -8,7 +8,7 @@ use Rattle.xk_base.proofs.CountingLemmas.{listed_below-ascends}
 use Rattle.xk_base.proofs.CircleLemmas.{places-listed_ids, listed_ids-passes, listed_ids-contains}
 use Rattle.thread_table.specs.declared.table.Threads.{Threads}
 use Rattle.thread_table.specs.ThreadMap.{ThreadMap, live_ids}
-use Rattle.thread_table.specs.ThreadsOf.{process_count, threads_of}
+use Rattle.thread_table.specs.Shown.{process_count, threads_of}
 use Rattle.thread_table.proofs.PlaceLemmas.{thread_map_valid}
 
 -- their places in the order of all ids ascend, so that the list has each id once

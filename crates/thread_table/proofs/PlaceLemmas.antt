@@ -77,7 +77,7 @@ thread_map_empty n m = λ i d. at d i
       | inr outside ↦ thread_map_outside n (replicate m None) d outside
     ]
 
-pub ruleset thread_map_laws = (thread_map_read, thread_map_outside, thread_map_at, thread_map_valid, thread_map_set)
+pub ruleset laws = (thread_map_read, thread_map_outside, thread_map_at, thread_map_valid, thread_map_set)
 
 -- a write at that place, however the place is spelled
 pub thread_map_write : (n : ℕ) (xs : List (Option Thread)) (id : ThreadId) (p : ℕ) (v : Option Thread) → p ≡ place_of id → length xs ≡ thread_ids n

@@ -1,5 +1,5 @@
 pub mod States
 pub mod TidSets
 pub mod ThreadMap
-pub mod ThreadsOf
+pub mod Shown
 pub mod Lending

@@ -98,13 +98,13 @@ fn empty_places(alloc: Global, places: usize) -> Result<Vec<Option<Thread>>, NoM
     Ok(threads)
 }
 
-#[tactic(auto, using(crate::proofs::PlaceLemmas::thread_map_laws), unfolding(crate::specs::ThreadsOf::process_count, crate::specs::ThreadsOf::threads_of, crate::specs::Lending::with_thread))]
+#[tactic(auto, using(crate::proofs::PlaceLemmas::laws), unfolding(crate::specs::Shown::process_count, crate::specs::Shown::threads_of))]
 impl Threads {
     ghost use Rattle.std.specs.Borrow.{sem};
     ghost use Rattle.std.specs.Option.{option_copied_mut};
     ghost use Rattle.thread_table.specs.declared.thread.Thread.{Thread};
     ghost use Rattle.thread_table.specs.Lending.{LendsThread, LendsThreadIf, with_thread};
-    ghost use Rattle.thread_table.specs.ThreadsOf.{process_count, threads_of};
+    ghost use Rattle.thread_table.specs.Shown.{process_count, threads_of};
 
     /// A table without threads for `procs` processes. It takes all memory that their threads will ever
     /// need.
@@ -142,6 +142,7 @@ impl Threads {
 
     /// The thread, to be changed; `None` exactly where there is no such one. What is written into it is
     /// what the table then holds, and all other threads stay.
+    #[tactic(auto, unfolding(crate::specs::Shown::process_count, crate::specs::Shown::threads_of, crate::specs::Lending::with_thread))]
     pub fn get_mut(&mut self, id: ThreadId) -> Option<&mut Thread>
         ensures* lends { sem 𝓛 (LendsThreadIf self.entry id result) }
         ensures value { option_copied_mut result ≡ threads_of self.old id }
@@ -158,6 +159,7 @@ impl Threads {
 
     /// The thread, which there is, to be changed. What is written into it is what the table then holds,
     /// and all other threads stay.
+    #[tactic(auto, unfolding(crate::specs::Shown::process_count, crate::specs::Shown::threads_of, crate::specs::Lending::with_thread))]
     pub fn thread_mut(&mut self, id: ThreadId) -> &mut Thread
         requires { IsSome (threads_of self.old id) }
         ensures* lends { sem 𝓛 (LendsThread self.entry id result) }

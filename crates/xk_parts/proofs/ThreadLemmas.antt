@@ -9,7 +9,7 @@ use Rattle.machine_model.specs.State.Threads.{answer_to, with_answer}
 use Rattle.thread_table.proofs.PlaceLemmas.{same_thread-true, thread_map_valid}
 use Rattle.thread_table.specs.States.{is_ready_state}
 use Rattle.thread_table.specs.ThreadMap.{is_ready as is_table_ready}
-use Rattle.thread_table.specs.ThreadsOf.{process_count, threads_of}
+use Rattle.thread_table.specs.Shown.{process_count, threads_of}
 use Rattle.thread_table.specs.declared.table.Threads.{Threads}
 use Rattle.thread_table.specs.declared.thread.Thread.{Thread as TableThread}
 use Rattle.thread_table.specs.declared.thread.ThreadState.{ThreadState as TableState}

@@ -10,7 +10,7 @@ use Rattle.process_table.specs.declared.table.Processes.{Processes}
 use Rattle.server_table.specs.ServersOf.{servers_of}
 use Rattle.server_table.specs.declared.table.Servers.{Servers}
 use Rattle.sv32_space.specs.Tie.{Held}
-use Rattle.thread_table.specs.ThreadsOf.{process_count}
+use Rattle.thread_table.specs.Shown.{process_count}
 use Rattle.thread_table.specs.declared.table.Threads.{Threads}
 use Rattle.vm_memory.specs.Memory.{capacity_of, ledger}
 use Rattle.vm_memory.specs.declared.memory.Memory.{Memory}

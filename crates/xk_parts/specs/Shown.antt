@@ -8,12 +8,12 @@ use Rattle.machine_model.specs.Ending.Ends.{dead_process}
 use Rattle.machine_model.specs.State.Machine.{Claim, Process, Server, Thread, ThreadState, Ready, Receiving, Waiting, Joining, Idle}
 use Rattle.msg_queue.specs.Seats.{Seat, message_of, seat_of}
 use Rattle.process_table.specs.State.{ProcessState}
-use Rattle.process_table.specs.ProcessesOf.{processes_of}
+use Rattle.process_table.specs.Shown.{processes_of}
 use Rattle.process_table.specs.declared.table.Processes.{Processes}
 use Rattle.server_table.specs.ServersOf.{servers_of}
 use Rattle.server_table.specs.ServerState.{Server as TableServer}
 use Rattle.server_table.specs.declared.table.Servers.{Servers}
-use Rattle.thread_table.specs.ThreadsOf.{threads_of}
+use Rattle.thread_table.specs.Shown.{threads_of}
 use Rattle.thread_table.specs.declared.table.Threads.{Threads}
 use Rattle.thread_table.specs.declared.thread.Thread.{Thread as TableThread}
 use Rattle.thread_table.specs.declared.thread.ThreadState.{ThreadState as TableState}

@@ -7,11 +7,11 @@ use Rattle.machine_model.specs.Runs.Matched.{AreLoansMatched, Matched}
 use Rattle.machine_model.specs.State.Machine.{Machine}
 use Rattle.msg_queue.specs.Seats.{Seat, empty_seat, seat_of}
 use Rattle.msg_queue.specs.declared.held.Held.{Held as HeldMessage}
-use Rattle.process_table.specs.ProcessesOf.{process_count as made_for}
+use Rattle.process_table.specs.Shown.{process_count as made_for}
 use Rattle.server_table.specs.ServerState.{Server, ServerState}
 use Rattle.server_table.specs.ServersOf.{servers_of}
 use Rattle.server_table.specs.declared.table.Servers.{Servers}
-use Rattle.thread_table.specs.ThreadsOf.{process_count}
+use Rattle.thread_table.specs.Shown.{process_count}
 use Rattle.vm_memory.specs.Memory.{ledger, processes}
 use Rattle.vm_memory.specs.Sound.{IsSound as IsMemorySound}
 use Rattle.xk_ports.specs.declared.store.SwapStore.{Ghosts as SwapStore}

@@ -2,7 +2,7 @@
 
 ghost use Rattle.std.specs.Prelude.{◌≡◌};
 ghost use Rattle.machine_model.specs.State.Threads.{answer_to, passed, with_state};
-ghost use Rattle.thread_table.specs.ThreadsOf.{process_count};
+ghost use Rattle.thread_table.specs.Shown.{process_count};
 ghost use Rattle.xk_parts.specs.Shown.{state_of, threads_shown};
 ghost use Rattle.xk_parts.specs.Threads.{answered, changed_thread};
 

@@ -32,7 +32,7 @@ use Rattle.server_table.specs.ServersOf.{servers_of}
 use Rattle.server_table.specs.ServerState.{Server as TableServer}
 use Rattle.thread_table.specs.States.{is_receiving_state}
 use Rattle.thread_table.specs.ThreadMap.{is_ready as is_table_ready, is_receiving}
-use Rattle.thread_table.specs.ThreadsOf.{process_count, threads_of}
+use Rattle.thread_table.specs.Shown.{process_count, threads_of}
 use Rattle.thread_table.specs.declared.thread.Thread.{Thread as TableThread}
 use Rattle.thread_table.specs.declared.thread.ThreadState.{ThreadState as TableState}
 use Rattle.thread_table.specs.declared.thread.ThreadState.TheVariants as table

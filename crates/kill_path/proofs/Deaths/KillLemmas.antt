@@ -29,7 +29,7 @@ use Rattle.machine_model.specs.State.Servers.{is_server_of, messages_of}
 use Rattle.machine_model.specs.State.Threads.{Answers, with_answer}
 use Rattle.msg_queue.specs.Seats.{Seat}
 use Rattle.process_table.specs.ProcessMap.{ProcessMap, change, is_alive}
-use Rattle.process_table.specs.ProcessesOf.{process_count as made_for, processes_of}
+use Rattle.process_table.specs.Shown.{process_count as made_for, processes_of}
 use Rattle.process_table.specs.State.{dead_process as dead_state}
 use Rattle.process_table.specs.declared.table.Processes.{Processes}
 use Rattle.send_path.proofs.Taken.{CallParts}
@@ -41,7 +41,7 @@ use Rattle.server_table.specs.ServersOf.{servers_of}
 use Rattle.server_table.specs.declared.table.Servers.{Servers}
 use Rattle.sv32_space.specs.Tie.{Held}
 use Rattle.thread_table.specs.ThreadMap.{ThreadMap, without_process}
-use Rattle.thread_table.specs.ThreadsOf.{process_count, threads_of}
+use Rattle.thread_table.specs.Shown.{process_count, threads_of}
 use Rattle.thread_table.specs.declared.table.Threads.{Threads}
 use Rattle.vm_memory.specs.Memory.{Size, ledger, processes, size}
 use Rattle.vm_memory.specs.Pages.Removing.{HasNoLoan}

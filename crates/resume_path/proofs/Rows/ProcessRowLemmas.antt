@@ -7,7 +7,7 @@ use Rattle.std.proofs.lemmas.Bool.{cases_Bool, cases_eq, cases_lt, cond-true, co
 use Rattle.std.proofs.lemmas.Bool.Decides.{nat_tests}
 use Rattle.std.proofs.lemmas.List.{get_or_default, get_or_past, length-map, length-take-le, map-append, take_more}
 use Rattle.process_table.specs.ProcessMap.{ProcessMap, change, connections_of, new_processes}
-use Rattle.process_table.specs.ProcessesOf.{process_count, processes_of}
+use Rattle.process_table.specs.Shown.{process_count, processes_of}
 use Rattle.process_table.specs.State.{ProcessState, dead_process, new_process, with_connection, with_heap, connection}
 use Rattle.process_table.specs.declared.table.Processes.{Processes}
 use Rattle.xk_parts.specs.Shown.{process_of}

@@ -14,7 +14,7 @@ use Rattle.suspend_image.specs.Forms.{IsThreadRow}
 use Rattle.state_rows.specs.Machines.{thread_at_id, thread_of as row_thread, threads_of as state_threads}
 use Rattle.state_rows.specs.declared.state.ThreadRow.{ThreadRow}
 use Rattle.thread_table.specs.ThreadMap.{no_threads}
-use Rattle.thread_table.specs.ThreadsOf.{process_count, threads_of}
+use Rattle.thread_table.specs.Shown.{process_count, threads_of}
 use Rattle.thread_table.specs.declared.table.Threads.{Threads}
 use Rattle.thread_table.specs.declared.thread.Thread.{Thread as TableThread}
 use Rattle.xk_base.specs.Calls.Registers.{with_reg}

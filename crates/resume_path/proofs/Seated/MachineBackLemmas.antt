@@ -12,7 +12,7 @@ use Rattle.ledger_model.proofs.Stepping.WritingLemmas.{bare-loans, bare-pages}
 use Rattle.ledger_model.specs.Ledger.{Ledger, pages}
 use Rattle.ledger_model.specs.Loans.{Loans, bare, loans}
 use Rattle.msg_queue.specs.Seats.{Seat}
-use Rattle.process_table.specs.ProcessesOf.{process_count as processes_made, processes_of}
+use Rattle.process_table.specs.Shown.{process_count as processes_made, processes_of}
 use Rattle.xk_parts.specs.Shown.{process_of, thread_of}
 use Rattle.server_table.specs.Listed.{listed_servers}
 use Rattle.server_table.specs.ServersOf.{servers_of}
@@ -22,7 +22,7 @@ use Rattle.state_rows.specs.Machines.{claims_of as state_claims, compare_of, mac
 use Rattle.state_rows.specs.declared.state.MessageRow.{MessageRow}
 use Rattle.state_rows.specs.declared.state.State.{State}
 use Rattle.sv32_space.specs.Tie.{Held}
-use Rattle.thread_table.specs.ThreadsOf.{process_count as processes_threaded, threads_of}
+use Rattle.thread_table.specs.Shown.{process_count as processes_threaded, threads_of}
 use Rattle.vm_memory.specs.Bytes.{MeansBytes, is_known, none_out}
 use Rattle.vm_memory.specs.Memory.{Size, capacity_of, frames_for_pages, ledger, processes, size, store_of}
 use Rattle.vm_memory.specs.Sound.{IsSound as IsMemorySound}

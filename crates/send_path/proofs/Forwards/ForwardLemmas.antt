@@ -21,14 +21,14 @@ use Rattle.machine_model.specs.State.Threads.{answer_to, both_answers, passed}
 use Rattle.msg_queue.specs.Seats.{Seat, changed_at, message_of, seat_of, used_of, without_held as without_held_at}
 use Rattle.msg_queue.specs.declared.held.Held.{Held}
 use Rattle.process_table.specs.ProcessMap.{connections_of}
-use Rattle.process_table.specs.ProcessesOf.{processes_of}
+use Rattle.process_table.specs.Shown.{processes_of}
 use Rattle.process_table.specs.State.{ProcessState}
 use Rattle.process_table.specs.declared.table.Processes.{Processes}
 use Rattle.server_table.specs.ServersOf.{servers_of}
 use Rattle.syscall_codec.specs.Calls.{Asks}
 use Rattle.syscall_codec.specs.declared.calls.Call.TheVariants.{ForwardMessage}
 use Rattle.thread_table.specs.ThreadMap.{is_ready as is_table_ready, receiver as table_receiver}
-use Rattle.thread_table.specs.ThreadsOf.{process_count, threads_of}
+use Rattle.thread_table.specs.Shown.{process_count, threads_of}
 use Rattle.vm_memory.specs.Memory.{capacity_of, ledger, processes}
 use Rattle.xk_base.specs.Calls.Replies.{message_words, plain_words}
 use Rattle.xk_base.specs.Tables.Connections.{connected_to}

@@ -21,7 +21,7 @@ use Rattle.server_table.specs.ServersOf.{servers_of}
 use Rattle.server_table.specs.ServerState.{Server as TableServer}
 use Rattle.server_table.specs.declared.table.Servers.{Servers}
 use Rattle.thread_table.specs.ThreadMap.{is_ready as is_table_ready}
-use Rattle.thread_table.specs.ThreadsOf.{process_count, threads_of}
+use Rattle.thread_table.specs.Shown.{process_count, threads_of}
 use Rattle.xk_base.specs.Tables.Circle.{is_thread_id}
 use Rattle.xk_base.specs.Tables.Counting.{put_at}
 use Rattle.xk_base.specs.Calls.Replies.{message_words, plain_words}

@@ -42,7 +42,7 @@ use Rattle.sv32_space.specs.Tie.{Held as HeldBytes}
 use Rattle.syscall_codec.specs.Calls.{Asks}
 use Rattle.syscall_codec.specs.declared.calls.Call.TheVariants.{ReturnMemory, ReturnScalar1, ReturnScalar2}
 use Rattle.thread_table.specs.ThreadMap.{is_ready as is_table_ready}
-use Rattle.thread_table.specs.ThreadsOf.{process_count, threads_of}
+use Rattle.thread_table.specs.Shown.{process_count, threads_of}
 use Rattle.vm_memory.specs.Memory.{capacity_of, ledger}
 use Rattle.xk_base.specs.Tables.Circle.{is_thread_id, same_thread}
 use Rattle.xk_base.specs.Tables.Counting.{put_at}

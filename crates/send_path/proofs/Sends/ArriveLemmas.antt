@@ -10,7 +10,7 @@ use Rattle.machine_model.specs.State.Machine.{Machine, Thread}
 use Rattle.thread_table.proofs.PlaceLemmas.{thread_map_valid}
 use Rattle.thread_table.specs.States.{is_ready_state, is_receiving_state}
 use Rattle.thread_table.specs.ThreadMap.{is_ready as is_table_ready, is_receiving as is_table_receiving, receiver as table_receiver}
-use Rattle.thread_table.specs.ThreadsOf.{process_count, threads_of}
+use Rattle.thread_table.specs.Shown.{process_count, threads_of}
 use Rattle.thread_table.specs.declared.table.Threads.{Threads}
 use Rattle.thread_table.specs.declared.thread.Thread.{Thread as TableThread}
 use Rattle.thread_table.specs.declared.thread.ThreadState.{ThreadState as TableState}

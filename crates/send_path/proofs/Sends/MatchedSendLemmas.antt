@@ -12,7 +12,7 @@ use Rattle.machine_model.specs.State.Order.{ready_at}
 use Rattle.ledger_model.specs.Loans.{IsFresh, loans}
 use Rattle.process_table.specs.declared.table.Processes.{Processes}
 use Rattle.thread_table.specs.ThreadMap.{is_ready as is_table_ready}
-use Rattle.thread_table.specs.ThreadsOf.{threads_of}
+use Rattle.thread_table.specs.Shown.{threads_of}
 use Rattle.vm_memory.specs.Memory.{ledger}
 use Rattle.xk_base.specs.Calls.CallWords.{send_kind}
 use Rattle.xk_base.specs.Calls.Kinds.{is_answered, is_waiting_kind}

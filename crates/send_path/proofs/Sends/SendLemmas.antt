@@ -16,11 +16,11 @@ use Rattle.machine_model.specs.State.Machine.{Machine}
 use Rattle.msg_queue.specs.Seats.{Seat, message_of, seat_of, used_of}
 use Rattle.msg_queue.specs.declared.held.Held.{Held}
 use Rattle.process_table.specs.ProcessMap.{connections_of}
-use Rattle.process_table.specs.ProcessesOf.{processes_of}
+use Rattle.process_table.specs.Shown.{processes_of}
 use Rattle.process_table.specs.declared.table.Processes.{Processes}
 use Rattle.server_table.specs.ServersOf.{servers_of}
 use Rattle.sv32_space.specs.Tie.{Held as HeldBytes}
-use Rattle.thread_table.specs.ThreadsOf.{process_count}
+use Rattle.thread_table.specs.Shown.{process_count}
 use Rattle.vm_memory.proofs.Changing.LoanCallLemmas.{found_arrival}
 use Rattle.vm_memory.specs.Memory.{ledger, processes}
 use Rattle.xk_base.specs.Calls.Kinds.{kind_at}

@@ -15,14 +15,14 @@ use Rattle.machine_model.specs.State.Threads.{both_answers, passed}
 use Rattle.msg_queue.specs.Seats.{Seat, changed_at, message_of, seat_of}
 use Rattle.msg_queue.specs.declared.held.Held.{Held}
 use Rattle.process_table.specs.ProcessMap.{connections_of}
-use Rattle.process_table.specs.ProcessesOf.{processes_of}
+use Rattle.process_table.specs.Shown.{processes_of}
 use Rattle.process_table.specs.State.{ProcessState}
 use Rattle.process_table.specs.declared.table.Processes.{Processes}
 use Rattle.server_table.specs.ServersOf.{servers_of}
 use Rattle.server_table.specs.ServerState.{Server as TableServer}
 use Rattle.sv32_space.specs.Tie.{Held as HeldBytes}
 use Rattle.thread_table.specs.ThreadMap.{receiver as table_receiver}
-use Rattle.thread_table.specs.ThreadsOf.{process_count, threads_of}
+use Rattle.thread_table.specs.Shown.{process_count, threads_of}
 use Rattle.vm_memory.specs.Memory.{capacity_of, ledger}
 use Rattle.xk_base.specs.Calls.CallWords.{send_address, send_cid}
 use Rattle.xk_base.specs.Calls.Kinds.{is_answered}

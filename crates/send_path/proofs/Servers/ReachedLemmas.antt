@@ -11,13 +11,13 @@ use Rattle.ledger_model.specs.LeastRun.{least_run}
 use Rattle.machine_model.specs.Runs.Matched.{IsServerAwaited}
 use Rattle.machine_model.specs.State.Machine.{Machine, Server as MachineServer, Receiving}
 use Rattle.msg_queue.specs.Seats.{seat_of}
-use Rattle.process_table.specs.ProcessesOf.{process_count as made_for}
+use Rattle.process_table.specs.Shown.{process_count as made_for}
 use Rattle.process_table.specs.declared.table.Processes.{Processes}
 use Rattle.server_table.specs.ServersOf.{servers_of}
 use Rattle.server_table.specs.ServerState.{Server, ServerState}
 use Rattle.thread_table.specs.States.{is_receiving_state}
 use Rattle.thread_table.specs.ThreadMap.{is_ready as is_table_ready, is_receiving as is_table_receiving}
-use Rattle.thread_table.specs.ThreadsOf.{process_count, threads_of}
+use Rattle.thread_table.specs.Shown.{process_count, threads_of}
 use Rattle.thread_table.specs.declared.thread.Thread.{Thread as TableThread}
 use Rattle.thread_table.specs.declared.thread.ThreadState.{ThreadState as TableState}
 use Rattle.thread_table.specs.declared.thread.ThreadState.TheVariants as table

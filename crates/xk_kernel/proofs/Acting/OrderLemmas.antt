@@ -13,7 +13,7 @@ use Rattle.machine_model.specs.Stepping.Events.{picked}
 use Rattle.sv32_space.specs.Tie.{Held}
 use Rattle.thread_table.specs.States.{is_ready_state}
 use Rattle.thread_table.specs.ThreadMap as table
-use Rattle.thread_table.specs.ThreadsOf.{process_count, threads_of}
+use Rattle.thread_table.specs.Shown.{process_count, threads_of}
 use Rattle.thread_table.specs.declared.thread.Thread.{Thread as TableThread}
 use Rattle.thread_table.specs.declared.thread.ThreadState.{ThreadState as TableState}
 use Rattle.thread_table.specs.declared.thread.ThreadState.TheVariants.{Ready, Receiving, Waiting, Joining, Idle}

@@ -14,7 +14,7 @@ use Rattle.machine_model.specs.Calling.ThreadCalls.{create_refusals, create_serv
 use Rattle.machine_model.specs.State.Threads.{answer_to, new_thread, put_thread, thread_id}
 use Rattle.sv32_space.specs.Tie.{Held}
 use Rattle.thread_table.specs.ThreadMap.{free_tid as table_free_tid}
-use Rattle.thread_table.specs.ThreadsOf.{threads_of}
+use Rattle.thread_table.specs.Shown.{threads_of}
 use Rattle.thread_table.specs.declared.table.Threads.{Threads}
 use Rattle.thread_table.specs.declared.thread.Thread.{Thread as TableThread}
 use Rattle.xk_parts.specs.Shown.{thread_of}

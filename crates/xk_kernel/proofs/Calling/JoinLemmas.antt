@@ -10,7 +10,7 @@ use Rattle.machine_model.specs.State.Machine.{Machine, Joining}
 use Rattle.machine_model.specs.Calling.ThreadCalls.{has_thread, join_refusals, join_served}
 use Rattle.machine_model.specs.State.Threads.{change_thread, put_thread, thread_id, with_state}
 use Rattle.sv32_space.specs.Tie.{Held}
-use Rattle.thread_table.specs.ThreadsOf.{threads_of}
+use Rattle.thread_table.specs.Shown.{threads_of}
 use Rattle.thread_table.specs.declared.thread.Thread.{Thread as TableThread}
 use Rattle.thread_table.specs.declared.thread.ThreadState.TheVariants as table
 use Rattle.xk_parts.specs.Shown.{thread_of}

@@ -30,7 +30,7 @@ use Rattle.machine_model.specs.State.Servers.{live_servers, with_sid as machine_
 use Rattle.machine_model.specs.State.Threads.{answer_to}
 use Rattle.msg_queue.specs.Seats.{Seat, empty_seat, message_of, seat_of}
 use Rattle.process_table.specs.ProcessMap.{change, connections_of}
-use Rattle.process_table.specs.ProcessesOf.{process_count, processes_of}
+use Rattle.process_table.specs.Shown.{process_count, processes_of}
 use Rattle.process_table.specs.State.{ProcessState, connection, with_connection}
 use Rattle.process_table.specs.declared.table.Processes.{Processes}
 use Rattle.send_path.proofs.Servers.SeatSearchLemmas.{seat_found}

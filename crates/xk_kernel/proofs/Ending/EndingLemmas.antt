@@ -12,7 +12,7 @@ use Rattle.machine_model.specs.Stepping.Step.{after}
 use Rattle.machine_model.specs.State.Threads.{Answers, both_answers, put_thread}
 use Rattle.sv32_space.specs.Tie.{Held}
 use Rattle.thread_table.proofs.PlaceLemmas.{same_thread-true}
-use Rattle.thread_table.specs.ThreadsOf.{threads_of}
+use Rattle.thread_table.specs.Shown.{threads_of}
 use Rattle.thread_table.specs.declared.table.Threads.{Threads}
 use Rattle.xk_base.specs.Tables.Circle.{same_thread}
 use Rattle.xk_base.specs.Tables.Counting.{put_at}

@@ -13,7 +13,7 @@ use Rattle.machine_model.specs.State.Machine.{Machine}
 use Rattle.machine_model.specs.Stepping.Reservations.{unreserved}
 use Rattle.machine_model.specs.Runs.Matched.{Matched}
 use Rattle.machine_model.specs.Stepping.Step.{Recorded}
-use Rattle.process_table.specs.ProcessesOf.{processes_of}
+use Rattle.process_table.specs.Shown.{processes_of}
 use Rattle.process_table.specs.ProcessMap.{is_alive}
 use Rattle.process_table.specs.State.{ProcessState}
 use Rattle.sv32_space.specs.Tie.{Held}

@@ -16,11 +16,11 @@ use Rattle.machine_model.specs.State.Machine.{Machine}
 use Rattle.machine_model.specs.State.Threads.{Answers}
 use Rattle.machine_model.specs.Stepping.Interrupts.{disarmed_if, is_claim_of}
 use Rattle.process_table.specs.ProcessMap.{is_alive}
-use Rattle.process_table.specs.ProcessesOf.{processes_of}
+use Rattle.process_table.specs.Shown.{processes_of}
 use Rattle.send_path.proofs.Taken.{parts_of}
 use Rattle.send_path.specs.Keeping.{KeepsMemory}
 use Rattle.sv32_space.specs.Tie.{Held}
-use Rattle.thread_table.specs.ThreadsOf.{process_count}
+use Rattle.thread_table.specs.Shown.{process_count}
 use Rattle.vm_memory.specs.Memory.{Size, ledger, processes}
 use Rattle.xk_base.specs.Log.{LogState}
 use Rattle.xk_base.specs.Tables.Circle.{id_at, is_thread_id, listed_ids, thread_ids}

@@ -23,7 +23,7 @@ use Rattle.machine_model.specs.State.Changes.{Outcome, Refused, Served, unless_r
 use Rattle.machine_model.specs.State.Machine.{Machine}
 use Rattle.machine_model.specs.Runs.Matched.{AreHeapsMatched}
 use Rattle.machine_model.specs.Calling.MemoryCalls.{are_too_many, heap_limit, heap_of, increase_refusals, increase_served, is_aligned}
-use Rattle.process_table.specs.ProcessesOf.{processes_of}
+use Rattle.process_table.specs.Shown.{processes_of}
 use Rattle.process_table.specs.ProcessMap.{change}
 use Rattle.process_table.specs.State.{with_heap as heap_set}
 use Rattle.process_table.specs.declared.table.Processes.{Processes}

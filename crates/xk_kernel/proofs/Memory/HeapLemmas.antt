@@ -23,7 +23,7 @@ use Rattle.machine_model.specs.State.Machine.{Machine}
 use Rattle.machine_model.specs.Runs.Matched.{AreHeapsMatched}
 use Rattle.machine_model.specs.Calling.MemoryCalls.{caller_place, decrease_refusals, decrease_served, heap_of, heap_start, is_aligned}
 use Rattle.xk_base.specs.Numbers.Windows.{page_of}
-use Rattle.process_table.specs.ProcessesOf.{process_count, processes_of}
+use Rattle.process_table.specs.Shown.{process_count, processes_of}
 use Rattle.process_table.specs.ProcessMap.{change, heap_of as heap_in}
 use Rattle.process_table.specs.State.{ProcessState, new_process, with_heap as heap_set}
 use Rattle.process_table.specs.declared.table.Processes.{Processes}

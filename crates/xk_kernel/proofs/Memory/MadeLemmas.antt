@@ -12,7 +12,7 @@ use Rattle.ledger_model.specs.Steps.{make}
 use Rattle.machine_model.specs.State.Changes.{Outcome, call_settled, settled}
 use Rattle.machine_model.specs.State.Machine.{Machine}
 use Rattle.process_table.specs.ProcessMap.{change}
-use Rattle.process_table.specs.ProcessesOf.{processes_of}
+use Rattle.process_table.specs.Shown.{processes_of}
 use Rattle.process_table.specs.State.{with_heap as heap_set}
 use Rattle.process_table.specs.declared.table.Processes.{Processes}
 use Rattle.sv32_space.specs.Tie.{Held}

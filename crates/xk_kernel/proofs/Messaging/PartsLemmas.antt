@@ -11,7 +11,7 @@ use Rattle.std.specs.Prelude.{unwrap_or}
 use Rattle.xk_parts.specs.Sound.{AreSound}
 use Rattle.send_path.specs.Keeping.{KeepsMemory}
 use Rattle.sv32_space.specs.Tie.{Held}
-use Rattle.thread_table.specs.ThreadsOf.{process_count}
+use Rattle.thread_table.specs.Shown.{process_count}
 use Rattle.vm_memory.specs.Memory.{ledger, processes, size, store_of}
 use Rattle.xk_base.specs.Tables.Circle.{is_thread_id}
 use Rattle.xk_base.specs.declared.limits.TheConstants.{RECORD_LIMIT}

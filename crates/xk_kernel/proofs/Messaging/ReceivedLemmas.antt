@@ -14,7 +14,7 @@ use Rattle.send_path.specs.Rows.{IsServed, IsRow, receive_row}
 use Rattle.xk_parts.specs.Sound.{AreLoansSound, AreSeatsSound, AreSound}
 use Rattle.server_table.specs.ServersOf.{servers_of}
 use Rattle.sv32_space.specs.Tie.{Held}
-use Rattle.thread_table.specs.ThreadsOf.{process_count}
+use Rattle.thread_table.specs.Shown.{process_count}
 use Rattle.vm_memory.specs.Memory.{ledger}
 use Rattle.xk_base.specs.Calls.Replies.{plain_words}
 use Rattle.xk_base.specs.declared.errors.XousError.{XousError}

@@ -17,7 +17,7 @@ use Rattle.machine_model.specs.Stepping.Timer.{is_due}
 use Rattle.xk_parts.specs.Shown.{state_of, thread_of}
 use Rattle.sv32_space.specs.Tie.{Held}
 use Rattle.thread_table.specs.States.{is_ready_state}
-use Rattle.thread_table.specs.ThreadsOf.{process_count, threads_of}
+use Rattle.thread_table.specs.Shown.{process_count, threads_of}
 use Rattle.thread_table.specs.declared.table.Threads.{Threads}
 use Rattle.thread_table.specs.declared.thread.Thread.{Thread as TableThread}
 use Rattle.thread_table.specs.declared.thread.ThreadState.{ThreadState as TableState}

@@ -17,7 +17,7 @@ use Rattle.rv32_hart.specs.declared.ran.Ran.{Ran}
 use Rattle.rv32_hart.specs.declared.ran.Ran.TheVariants.{Device, Ecall, Failed, Trap}
 use Rattle.rv32_hart.specs.declared.ran.Ran.TheVariants as ran
 use Rattle.xk_parts.specs.Shown.{thread_of}
-use Rattle.thread_table.specs.ThreadsOf.{threads_of}
+use Rattle.thread_table.specs.Shown.{threads_of}
 use Rattle.thread_table.specs.declared.table.Threads.{Threads}
 use Rattle.thread_table.specs.declared.thread.Thread.{Thread as TableThread}
 use Rattle.vm_memory.specs.Bytes.{none_out}

@@ -27,12 +27,12 @@ use Rattle.machine_model.specs.State.Threads.{first_handler_thread, first_thread
 use Rattle.machine_model.proofs.State.StartLemmas.{start_matched}
 use Rattle.msg_queue.specs.Seats.{Seat, empty_seat, seat_of, used_of}
 use Rattle.process_table.specs.ProcessMap.{ProcessMap, new_processes}
-use Rattle.process_table.specs.ProcessesOf.{process_count as processes_made, processes_of}
+use Rattle.process_table.specs.Shown.{process_count as processes_made, processes_of}
 use Rattle.process_table.specs.State.{new_process}
 use Rattle.server_table.specs.ServerState.{Server, ServerState, no_servers}
 use Rattle.server_table.specs.ServersOf.{servers_of}
 use Rattle.sv32_space.specs.Tie.{Held}
-use Rattle.thread_table.specs.ThreadsOf.{process_count as processes_threaded, threads_of}
+use Rattle.thread_table.specs.Shown.{process_count as processes_threaded, threads_of}
 use Rattle.vm_memory.specs.FirstLedger.{first_ledger, process_of as planned_process}
 use Rattle.vm_memory.specs.Memory.{Size, blank_ledger, capacity_of, ledger, processes, size}
 use Rattle.vm_memory.specs.Sound.{IsSound as IsMemorySound}

@@ -10,7 +10,7 @@ use Rattle.boot_plan.specs.declared.plans.ProcPlan.{ProcPlan}
 use Rattle.machine_model.specs.State.Machine.{Thread}
 use Rattle.machine_model.specs.State.Threads.{first_handler_thread, first_thread}
 use Rattle.thread_table.specs.ThreadMap.{ThreadMap, no_threads}
-use Rattle.thread_table.specs.ThreadsOf.{process_count, threads_of}
+use Rattle.thread_table.specs.Shown.{process_count, threads_of}
 use Rattle.thread_table.specs.declared.table.Threads.{Threads}
 use Rattle.thread_table.specs.declared.thread.Thread.{Thread as TableThread}
 use Rattle.xk_base.specs.Tables.Circle.{same_thread}

@@ -4,7 +4,7 @@ use Rattle.xk_parts.proofs.ThreadLemmas.{ready_id}
 use Rattle.send_path.specs.Rows.{log_with}
 use Rattle.xk_parts.specs.Threads.{answered}
 use Rattle.server_table.specs.ServersOf.{servers_of}
-use Rattle.thread_table.specs.ThreadsOf.{process_count}
+use Rattle.thread_table.specs.Shown.{process_count}
 use Rattle.vm_memory.specs.Memory.{ledger}
 use Rattle.xk_base.specs.Tables.Circle.{is_thread_id}
 use Rattle.send_path.proofs.Taken.{parts_of}

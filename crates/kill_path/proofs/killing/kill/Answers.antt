@@ -1,7 +1,7 @@
 use Rattle.std.proofs.Common.{◌≡◌, None, refl, ap, sym, ◌∙◌}
-use Rattle.process_table.specs.ProcessesOf.{process_count as made_for}
+use Rattle.process_table.specs.Shown.{process_count as made_for}
 use Rattle.send_path.proofs.Taken.{parts_of}
-use Rattle.thread_table.specs.ThreadsOf.{process_count}
+use Rattle.thread_table.specs.Shown.{process_count}
 use Rattle.vm_memory.specs.Memory.{Size, ledger, processes}
 use Rattle.xk_base.proofs.CircleLemmas.{is_pid-bounds}
 use Rattle.xk_base.specs.Tables.Circle.{is_pid}

@@ -1,5 +1,5 @@
 use Rattle.std.proofs.Common.{◌≡◌, ap, ◌∙◌, arith}
-use Rattle.thread_table.specs.ThreadsOf.{threads_of}
+use Rattle.thread_table.specs.Shown.{threads_of}
 use Rattle.kill_path.specs.Noted.{noted}
 use Rattle.kill_path.proofs.Threads.ReceivingLemmas.{all_up_to, none_up_to, noted_up_to, one_more_up_to}
 use Rattle.kill_path.proofs.telling.note_receiving.Goals as goal

@@ -1,5 +1,5 @@
 use Rattle.std.proofs.Common.{◌≡◌}
-use Rattle.thread_table.specs.ThreadsOf.{threads_of}
+use Rattle.thread_table.specs.Shown.{threads_of}
 use Rattle.kill_path.specs.Noted.{noted}
 use Rattle.kill_path.proofs.Threads.ReceivingLemmas.{noted_up_to}
 use Rattle.kill_path.proofs.telling.note_receiving.Given as goal

@@ -2,7 +2,7 @@ use Rattle.std.proofs.Common.{◌≡◌}
 use Rattle.xk_parts.specs.Shown.{threads_shown}
 use Rattle.send_path.specs.Rows.{log_with}
 use Rattle.xk_parts.specs.Threads.{answered}
-use Rattle.thread_table.specs.ThreadsOf.{process_count}
+use Rattle.thread_table.specs.Shown.{process_count}
 use Rattle.kill_path.specs.Noted.{noted}
 use Rattle.kill_path.specs.Telling.{told_to}
 use Rattle.kill_path.proofs.Threads.TellLemmas.{below, replies_below}

@@ -1,5 +1,5 @@
 use Rattle.std.proofs.Common.{arith}
-use Rattle.process_table.specs.ProcessesOf.{processes_of}
+use Rattle.process_table.specs.Shown.{processes_of}
 use Rattle.resume_path.proofs.Rows.ProcessRowLemmas.{connecting_all, connecting_next, connecting_none, never_refused}
 use Rattle.resume_path.proofs.processes.connect_all.Goals as goal
 

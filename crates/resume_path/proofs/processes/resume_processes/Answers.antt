@@ -1,7 +1,7 @@
 use Rattle.std.proofs.Common.{◌≡◌, ℕ, ◌+◌, List, length, get_or, Some, sym, ap, subst, ◌∙◌, arith}
 use Rattle.std.specs.Prelude.{nat_eq}
 use Rattle.process_table.specs.ProcessMap.{new_processes}
-use Rattle.process_table.specs.ProcessesOf.{processes_of}
+use Rattle.process_table.specs.Shown.{processes_of}
 use Rattle.state_matching.specs.ProcessParts.{are_apart, is_within_limits}
 use Rattle.state_rows.specs.declared.state.ProcRow.{ProcRow}
 use Rattle.xk_base.specs.Tables.Counting.{put_at}

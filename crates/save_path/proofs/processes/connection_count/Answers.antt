@@ -1,6 +1,6 @@
 use Rattle.std.proofs.Common.{◌∙◌, sym, ap}
 use Rattle.std.specs.Prelude.{is_some, not}
-use Rattle.process_table.specs.ProcessesOf.{processes_of}
+use Rattle.process_table.specs.Shown.{processes_of}
 use Rattle.xk_parts.specs.Shown.{processes_shown}
 use Rattle.save_path.proofs.TableLemmas.{connection_at, count_ends, count_more}
 use Rattle.save_path.proofs.processes.connection_count.Goals as goal

@@ -1,6 +1,6 @@
 use Rattle.std.proofs.Common.{◌∙◌, sym, ap, arith}
 use Rattle.std.specs.Option.{option_map}
-use Rattle.process_table.specs.ProcessesOf.{processes_of}
+use Rattle.process_table.specs.Shown.{processes_of}
 use Rattle.xk_parts.specs.Shown.{processes_shown}
 use Rattle.suspend_image.specs.Words.{word}
 use Rattle.xk_base.specs.declared.ids.Serial.{Serial}

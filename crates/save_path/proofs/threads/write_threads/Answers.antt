@@ -4,7 +4,7 @@ use Rattle.std.specs.Option.{option_map}
 use Rattle.suspend_image.specs.Sheets.{appended}
 use Rattle.suspend_image.specs.Spelling.{thread_bytes}
 use Rattle.suspend_image.specs.Words.{word}
-use Rattle.thread_table.specs.ThreadsOf.{threads_of}
+use Rattle.thread_table.specs.Shown.{threads_of}
 use Rattle.xk_base.specs.Tables.Circle.{id_at}
 use Rattle.save_path.specs.Fitting.{IsThreadFit}
 use Rattle.save_path.specs.Rows.{thread_at}

@@ -7,7 +7,7 @@ use Rattle.machine_model.specs.Messaging.Messages.{is_lend}
 use Rattle.msg_queue.specs.Seats.{changed_at, seat_of, used_of, without_held}
 use Rattle.server_table.specs.ServersOf.{servers_of}
 use Rattle.thread_table.specs.ThreadMap.{receiver}
-use Rattle.thread_table.specs.ThreadsOf.{process_count, threads_of}
+use Rattle.thread_table.specs.Shown.{process_count, threads_of}
 use Rattle.vm_memory.proofs.Changing.LoanCallLemmas.{found_arrival}
 use Rattle.vm_memory.specs.Loaning.Sending.{IsFreeArrival}
 use Rattle.vm_memory.specs.Memory.{Size, ledger, processes}

@@ -10,7 +10,7 @@ use Rattle.machine_model.specs.Messaging.ReturnCalls.{sender_gets}
 use Rattle.boot_plan.specs.Capacity.{capacity}
 use Rattle.vm_memory.specs.Memory.{Size, ledger}
 use Rattle.server_table.specs.ServersOf.{servers_of}
-use Rattle.thread_table.specs.ThreadsOf.{process_count}
+use Rattle.thread_table.specs.Shown.{process_count}
 use Rattle.xk_base.specs.Calls.Replies.{plain_words, returned_words}
 use Rattle.xk_base.specs.declared.messages.Message.{Message}
 use Rattle.xk_parts.specs.Shown.{threads_shown}

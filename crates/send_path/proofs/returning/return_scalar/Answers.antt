@@ -9,7 +9,7 @@ use Rattle.machine_model.specs.Messaging.ReturnCalls.{sender_gets}
 use Rattle.vm_memory.specs.Memory.{ledger}
 use Rattle.server_table.specs.ServersOf.{servers_of}
 use Rattle.syscall_codec.specs.Replies.{words_of}
-use Rattle.thread_table.specs.ThreadsOf.{process_count}
+use Rattle.thread_table.specs.Shown.{process_count}
 use Rattle.xk_base.specs.Calls.Replies.{plain_words}
 use Rattle.xk_base.specs.declared.messages.Message.{Message}
 use Rattle.xk_parts.specs.Shown.{threads_shown}

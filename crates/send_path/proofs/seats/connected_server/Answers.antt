@@ -1,6 +1,6 @@
 use Rattle.std.proofs.Common.{sym}
 use Rattle.process_table.specs.ProcessMap.{connections_of}
-use Rattle.process_table.specs.ProcessesOf.{processes_of}
+use Rattle.process_table.specs.Shown.{processes_of}
 use Rattle.server_table.specs.ServersOf.{servers_of}
 use Rattle.send_path.proofs.Servers.ReachedLemmas.{reached}
 use Rattle.send_path.proofs.seats.connected_server.Goals as goal

@@ -8,7 +8,7 @@ use Rattle.machine_model.specs.State.Threads.{passed}
 use Rattle.msg_queue.specs.Seats.{seat_of, used_of}
 use Rattle.server_table.specs.ServersOf.{servers_of}
 use Rattle.thread_table.specs.ThreadMap.{receiver}
-use Rattle.thread_table.specs.ThreadsOf.{process_count, threads_of}
+use Rattle.thread_table.specs.Shown.{process_count, threads_of}
 use Rattle.vm_memory.specs.Memory.{Size, ledger, processes}
 use Rattle.xk_base.specs.declared.ids.Place.{Place}
 use Rattle.xk_base.specs.declared.errors.XousError.TheVariants.{InvalidSyscall, MemoryInUse, ServerNotFound}

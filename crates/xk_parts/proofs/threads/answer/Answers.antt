@@ -2,7 +2,7 @@ use Rattle.std.proofs.Common.{◌≡◌, Some, is_some, sym, ap, ◌∙◌}
 use Rattle.machine_model.specs.State.Machine.{Ready}
 use Rattle.machine_model.specs.State.Threads.{with_answer}
 use Rattle.std.specs.Option.{option_copied_mut}
-use Rattle.thread_table.specs.ThreadsOf.{threads_of}
+use Rattle.thread_table.specs.Shown.{threads_of}
 use Rattle.thread_table.specs.declared.thread.ThreadState.TheVariants as table
 use Rattle.xk_parts.specs.Shown.{threads_shown}
 use Rattle.xk_parts.proofs.ThreadLemmas.{answered_one, put_shown}

@@ -1,6 +1,6 @@
 use Rattle.std.proofs.Common.{◌≡◌, replicate, ap, ◌∙◌, arith}
 use Rattle.process_table.specs.ProcessMap.{by_pid}
-use Rattle.process_table.specs.ProcessesOf.{processes_of}
+use Rattle.process_table.specs.Shown.{processes_of}
 use Rattle.process_table.specs.State.{new_process}
 use Rattle.process_table.proofs.ByPidLemmas.{by_pid_new}
 use Rattle.process_table.proofs.table.Processes.new.Goals as goal

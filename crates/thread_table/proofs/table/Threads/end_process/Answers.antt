@@ -1,7 +1,7 @@
 use Rattle.std.proofs.Common.{rules, ◌≡◌, ◌<◌, List, Option, None, length, replicate, slice_set, subst, sym, arith}
 use Rattle.thread_table.specs.declared.thread.Thread.{Thread}
 use Rattle.thread_table.specs.ThreadMap.{thread_map, without_process}
-use Rattle.thread_table.specs.ThreadsOf.{process_count, threads_of}
+use Rattle.thread_table.specs.Shown.{process_count, threads_of}
 use Rattle.thread_table.specs.TidSets.{AreMarked}
 use Rattle.thread_table.proofs.EmptyingLemmas.{emptied_process, filled}
 use Rattle.thread_table.proofs.MarkLemmas.{marked_without}

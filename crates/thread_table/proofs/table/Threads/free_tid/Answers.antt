@@ -3,7 +3,7 @@ use Rattle.std.proofs.lemmas.Iterator.{first_from_Range}
 use Rattle.std.specs.Option.{option_map}
 use Rattle.xk_base.specs.Tables.Counting.{least_below}
 use Rattle.thread_table.specs.ThreadMap.{thread_above, tid_above, tids_above}
-use Rattle.thread_table.specs.ThreadsOf.{threads_of}
+use Rattle.thread_table.specs.Shown.{threads_of}
 use Rattle.thread_table.proofs.CountLemmas.{least_found}
 use Rattle.thread_table.proofs.table.Threads.free_tid.Goals as goal
 

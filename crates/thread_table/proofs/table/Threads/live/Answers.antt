@@ -4,7 +4,7 @@ use Rattle.std.proofs.lemmas.Iterator.Consumers.{YieldsList-from_filter, count_f
 use Rattle.std.proofs.lemmas.List.Sums.{length-filter}
 use Rattle.std.specs.List.{filter, range_with_len}
 use Rattle.thread_table.specs.ThreadMap.{thread_above}
-use Rattle.thread_table.specs.ThreadsOf.{threads_of}
+use Rattle.thread_table.specs.Shown.{threads_of}
 use Rattle.thread_table.proofs.CountLemmas.{count_all}
 use Rattle.thread_table.proofs.table.Threads.live.Goals as goal
 

@@ -1,7 +1,7 @@
 use Rattle.std.proofs.Common.{◌≡◌, ◌<◌, ◌≤◌, ◌+◌, ◌-◌, ◌*◌, ◌%◌, min, sym, ap, ◌∙◌, Some, subst, true, false, ℕ, arith}
 use Rattle.xk_base.specs.declared.limits.TheConstants.{TID_LIMIT}
 use Rattle.thread_table.specs.ThreadMap.{id_in_row, is_ready_in}
-use Rattle.thread_table.specs.ThreadsOf.{process_count, threads_of}
+use Rattle.thread_table.specs.Shown.{process_count, threads_of}
 use Rattle.thread_table.proofs.TurnLemmas.{found, go_on, none_found, own_row}
 use Rattle.thread_table.proofs.table.Threads.next_ready_after.Goals as goal
 

@@ -2,7 +2,7 @@ use Rattle.std.proofs.Common.{◌≡◌, ◌<◌, ◌+◌, ◌*◌, ℕ, min, fa
 use Rattle.xk_base.specs.declared.limits.TheConstants.{TID_LIMIT}
 use Rattle.xk_base.specs.Tables.Circle.{id_behind}
 use Rattle.thread_table.specs.ThreadMap.{is_ready}
-use Rattle.thread_table.specs.ThreadsOf.{process_count, threads_of}
+use Rattle.thread_table.specs.Shown.{process_count, threads_of}
 use Rattle.thread_table.proofs.table.Threads.next_ready_after.Given as goal
 
 -- no thread of the processes that were looked at is Ready

@@ -1,6 +1,6 @@
 use Rattle.std.proofs.Common.{◌≡◌, ◌<◌, ◌≤◌, ℕ, false}
 use Rattle.thread_table.specs.ThreadMap.{is_ready_in}
-use Rattle.thread_table.specs.ThreadsOf.{threads_of}
+use Rattle.thread_table.specs.Shown.{threads_of}
 use Rattle.thread_table.proofs.table.Threads.ready_from.Given as goal
 
 -- no thread with an earlier tid is Ready

@@ -4,7 +4,7 @@ use Rattle.std.specs.Option.{option_map}
 use Rattle.xk_base.specs.Tables.Circle.{id_by_tid, thread_ids}
 use Rattle.xk_base.specs.Tables.Counting.{least_below}
 use Rattle.thread_table.specs.ThreadMap.{is_receiving}
-use Rattle.thread_table.specs.ThreadsOf.{process_count, threads_of}
+use Rattle.thread_table.specs.Shown.{process_count, threads_of}
 use Rattle.thread_table.proofs.CountLemmas.{least_found}
 use Rattle.thread_table.proofs.table.Threads.receiver.Goals as goal
 

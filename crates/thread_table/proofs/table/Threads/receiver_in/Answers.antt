@@ -1,6 +1,6 @@
 use Rattle.std.proofs.Common.{sym, ap, ◌∙◌, arith}
 use Rattle.thread_table.specs.ThreadMap.{is_receiving}
-use Rattle.thread_table.specs.ThreadsOf.{process_count, threads_of}
+use Rattle.thread_table.specs.Shown.{process_count, threads_of}
 use Rattle.thread_table.proofs.ReceiverLemmas.{receiver_found, receiver_missing}
 use Rattle.thread_table.proofs.table.Threads.receiver_in.Goals as goal
 

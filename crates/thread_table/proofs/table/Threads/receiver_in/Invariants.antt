@@ -1,6 +1,6 @@
 use Rattle.std.proofs.Common.{◌≡◌, ◌<◌, ◌+◌, ℕ, false}
 use Rattle.thread_table.specs.ThreadMap.{is_receiving}
-use Rattle.thread_table.specs.ThreadsOf.{threads_of}
+use Rattle.thread_table.specs.Shown.{threads_of}
 use Rattle.thread_table.proofs.table.Threads.receiver_in.Given as goal
 
 -- no thread of the process with a lower tid waits there

@@ -1,7 +1,7 @@
 use Rattle.std.proofs.Common.{◌≡◌, Some, length, subst, sym, arith}
 use Rattle.xk_base.specs.Tables.Circle.{thread_ids}
 use Rattle.thread_table.specs.ThreadMap.{thread_map}
-use Rattle.thread_table.specs.ThreadsOf.{threads_of}
+use Rattle.thread_table.specs.Shown.{threads_of}
 use Rattle.thread_table.specs.TidSets.{AreMarked}
 use Rattle.thread_table.proofs.MarkLemmas.{marked_put}
 use Rattle.thread_table.proofs.PlaceLemmas.{thread_map_valid, thread_map_write}

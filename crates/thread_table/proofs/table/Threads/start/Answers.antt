@@ -1,7 +1,7 @@
 use Rattle.std.proofs.Common.{◌≡◌, ◌<◌, Some, true, length, slice_set, subst, sym, arith}
 use Rattle.std.proofs.lemmas.Bool.Decides.{nat_tests}
 use Rattle.xk_base.specs.Tables.Circle.{is_thread_id, thread_ids}
-use Rattle.thread_table.specs.ThreadsOf.{process_count, threads_of}
+use Rattle.thread_table.specs.Shown.{process_count, threads_of}
 use Rattle.thread_table.specs.TidSets.{AreMarked}
 use Rattle.thread_table.proofs.MarkLemmas.{marked_start}
 use Rattle.thread_table.proofs.PlaceLemmas.{thread_map_write}

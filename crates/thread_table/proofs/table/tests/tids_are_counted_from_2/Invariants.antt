@@ -1,5 +1,5 @@
 use Rattle.std.proofs.Common.{◌≡◌}
-use Rattle.thread_table.specs.ThreadsOf.{process_count}
+use Rattle.thread_table.specs.Shown.{process_count}
 use Rattle.thread_table.proofs.table.tests.tids_are_counted_from_2.Given as goal
 
 abbrev pub invariant-loop-tid : goal.invariant-loop-tid

@@ -2,7 +2,7 @@
 use Rattle.std.proofs.Common.{◌≡◌, true, sym, ap, ◌∙◌}
 use Rattle.xk_base.specs.Tables.Connections.{cid_for, has_room}
 use Rattle.process_table.specs.ProcessMap.{connections_of}
-use Rattle.process_table.specs.ProcessesOf.{processes_of}
+use Rattle.process_table.specs.Shown.{processes_of}
 use Rattle.xk_kernel.proofs.Calling.ServerCallLemmas.{connected_cid, connected_whole, connections_told, machine_connected, not_unconnected}
 use Rattle.xk_kernel.proofs.Memory.HeapLemmas.{caller_pid}
 use Rattle.xk_kernel.proofs.kernel.Kernel.connect_caller.Goals as goal

@@ -1,5 +1,5 @@
 use Rattle.std.proofs.Common.{sym, ◌∙◌, arith}
-use Rattle.thread_table.specs.ThreadsOf.{threads_of}
+use Rattle.thread_table.specs.Shown.{threads_of}
 use Rattle.xk_kernel.proofs.Calling.CreateLemmas.{create_finds_none, create_starts}
 use Rattle.xk_kernel.proofs.Acting.TidLemmas.{IsFreeTid, found_is_free}
 use Rattle.xk_kernel.proofs.kernel.Kernel.create_thread.Goals as goal

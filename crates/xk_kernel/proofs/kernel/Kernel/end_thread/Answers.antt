@@ -12,7 +12,7 @@ use Rattle.xk_base.specs.Tables.Circle.{is_pid, is_thread_id, is_tid}
 use Rattle.xk_base.specs.Tables.Counting.{count_below}
 use Rattle.xk_base.specs.declared.records.What.TheVariants.{End}
 use Rattle.xk_base.proofs.CircleLemmas.{is_pid-bounds}
-use Rattle.thread_table.specs.ThreadsOf.{process_count}
+use Rattle.thread_table.specs.Shown.{process_count}
 use Rattle.machine_model.specs.Stepping.Step.{after}
 use Rattle.xk_kernel.specs.State.{machine_of}
 use Rattle.xk_kernel.specs.Telling.{Tells}
