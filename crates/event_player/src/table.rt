@@ -2,7 +2,6 @@
 
 ghost use Rattle.std.specs.Prelude.{◌≡◌, ◌+◌, ◌≤◌, ◌<◌, ◌++◌, length, OnOk, OnErr};
 ghost use Rattle.arrayvec.specs.ArrayVec.{array_vec_len};
-ghost use Rattle.ledger_model.specs.Places.{page_at, place_at};
 ghost use Rattle.xk_base.specs.Outside.{Rose};
 ghost use Rattle.xk_kernel.specs.Sound.{IsSound, IsUsable};
 ghost use Rattle.xk_kernel.specs.State.{machine_of};
@@ -12,42 +11,14 @@ ghost use Rattle.event_player.specs.Table.{place_text, right_text, table_of};
 
 use host_io::text::{Line, put, put_five_digits, put_number};
 use phys_pages::LoanInfo;
+use save_path::{PLACES_OF_PROCESS, place_at};
 use vm_memory::Here;
-use xk_base::{Failed, LoanKind, Number, Pid, Place, Right, Vpn};
+use xk_base::{Failed, LoanKind, Number, PROCESS_LIMIT, Place, Right};
 use xk_kernel::Kernel;
 use xk_ports::{Sink, SwapStore, put_all};
 
-/// The user places of a process.
-const PLACES_OF_PROCESS: u32 = 20_464;
-
 /// The user places of as many processes as there can be.
-const PLACES: u32 = 1_309_696;
-
-/// The page number of the user place of that number in a process.
-fn page_at(number: u32) -> u32
-    requires { number < 20464 }
-    ensures value { result ≡ page_at number }
-{
-    match number {
-        0..4_080 => 0x0_0010 + number,
-        4_080..8_176 => 0x2_0000 + (number - 4_080),
-        8_176..12_272 => 0x4_0000 + (number - 8_176),
-        12_272..16_368 => 0x6_0000 + (number - 12_272),
-        _ => 0x7_F000 + (number - 16_368),
-    }
-}
-
-/// The user place of that number.
-#[tactic(auto, unfolding(ledger_model::specs::Places::place_at))]
-fn place_at(number: u32) -> Place
-    requires { number < 1309696 }
-    ensures { result ≡ place_at number }
-{
-    Place {
-        pid: Pid(2 + (number / PLACES_OF_PROCESS) as u8),
-        vpn: Vpn(page_at(number % PLACES_OF_PROCESS)),
-    }
-}
+const PLACES: u32 = PLACES_OF_PROCESS * PROCESS_LIMIT;
 
 fn put_place(line: &mut Line, place: Place)
     requires { array_vec_len line.old + 16 ≤ 128 }

@@ -4,10 +4,12 @@
 mod claims;
 mod numbers;
 mod pages;
+mod places;
 mod processes;
 mod saving;
 mod servers;
 mod threads;
 
 pub use numbers::Numbers;
+pub use places::{PLACES_OF_PROCESS, place_at};
 pub use saving::save;

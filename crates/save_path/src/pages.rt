@@ -3,7 +3,7 @@
 ghost use Rattle.std.specs.Prelude.{◌≡◌, ◌<◌, ◌≤◌, ◌+◌, ◌*◌, true, length, IfOk, IsTrue, None, OnErr, OnOk, Some, [], if◌then◌else◌};
 ghost use Rattle.ledger_model.specs.Lawful.{IsLawful};
 ghost use Rattle.ledger_model.specs.Ledger.{Bytes, Console};
-ghost use Rattle.ledger_model.specs.Places.{page_at, place_at};
+ghost use Rattle.ledger_model.specs.Places.{place_at, places_of_process};
 ghost use Rattle.vm_memory.specs.Bytes.{MeansBytes};
 ghost use Rattle.vm_memory.specs.Memory.{IsUsable, capacity_of, has_failed, ledger, processes, store_of};
 ghost use Rattle.vm_memory.specs.Sound.{IsSound};
@@ -16,40 +16,12 @@ ghost use Rattle.save_path.specs.Rows.{home_at, home_texts, orphan_at, orphan_te
 ghost use Rattle.suspend_image.specs.SavedRows.{loan_number, orphan_row, page_row, right_number};
 ghost use Rattle.save_path.specs.Written.{AppendsTexts, BringsPages, Fits};
 
+use crate::places::{PLACES_OF_PROCESS, place_at};
 use phys_pages::LoanInfo;
 use suspend_image::{OrphanRow, PageRow, Sheet, write_orphan_words, write_page_words};
 use vm_memory::{Here, Memory};
-use xk_base::{Access, Failed, LoanKind, Number, Pid, Place, Right, Vpn};
+use xk_base::{Access, Failed, LoanKind, Number, Pid, Place, Right};
 use xk_ports::SwapStore;
-
-/// The user places of a process.
-const PLACES: u32 = 20_464;
-
-// The page number of the user place of that number in a process.
-fn page_at(number: u32) -> u32
-    requires { number < 20464 }
-    ensures { result ≡ page_at number }
-{
-    match number {
-        0..4_080 => 0x0_0010 + number,
-        4_080..8_176 => 0x2_0000 + (number - 4_080),
-        8_176..12_272 => 0x4_0000 + (number - 8_176),
-        12_272..16_368 => 0x6_0000 + (number - 12_272),
-        _ => 0x7_F000 + (number - 16_368),
-    }
-}
-
-// The user place of that number.
-#[tactic(auto, unfolding(ledger_model::specs::Places::place_at))]
-fn place_at(number: u32) -> Place
-    requires { number < 1309696 }
-    ensures { result ≡ place_at number }
-{
-    Place {
-        pid: Pid(2 + (number / PLACES) as u8),
-        vpn: Vpn(page_at(number % PLACES)),
-    }
-}
 
 fn loan_number(kind: LoanKind) -> u32
     ensures { result ≡ loan_number kind }
@@ -147,7 +119,7 @@ fn write_home<W: SwapStore>(
 ) -> Result<bool, Failed>
     requires sound { IsSound W.slot_count mem.old }
     requires usable { IsUsable mem.old }
-    requires number { number < 1309696 }
+    requires number { number < places_of_process * PROCESS_LIMIT }
     requires room { Fits sheet.old 4124 }
     ensures brings { BringsPages W.SwapStore mem.old mem.new }
     ensures usable { OnOk result (IsUsable mem.new) }
@@ -180,7 +152,7 @@ fn write_orphan<W: SwapStore>(
 ) -> Result<bool, Failed>
     requires sound { IsSound W.slot_count mem.old }
     requires usable { IsUsable mem.old }
-    requires number { number < 1309696 }
+    requires number { number < places_of_process * PROCESS_LIMIT }
     requires room { Fits sheet.old 4124 }
     ensures brings { BringsPages W.SwapStore mem.old mem.new }
     ensures usable { OnOk result (IsUsable mem.new) }
@@ -228,7 +200,7 @@ pub(crate) fn write_homes<W: SwapStore>(
     let at = sheet.as_slice().len() as u32;
     sheet.push_word(0);
     let mut many = 0;
-    for number in 0..PLACES * procs {
+    for number in 0..PLACES_OF_PROCESS * procs {
         many += u32::from(write_home(mem, sheet, number)?);
     }
     sheet.set_word(at, many);
@@ -256,7 +228,7 @@ pub(crate) fn write_orphans<W: SwapStore>(
     let at = sheet.as_slice().len() as u32;
     sheet.push_word(0);
     let mut many = 0;
-    for number in 0..PLACES * procs {
+    for number in 0..PLACES_OF_PROCESS * procs {
         many += u32::from(write_orphan(mem, sheet, number)?);
     }
     sheet.set_word(at, many);
