@@ -1,5 +1,5 @@
 -- The machine that a kernel stands for: that of its parts, with what no part holds.
-use Rattle.std.specs.Prelude.{ℕ, Some}
+use Rattle.std.specs.Prelude.{Some}
 use Rattle.std.specs.Option.{option_map}
 use Rattle.machine_model.specs.State.Machine.{Machine}
 use Rattle.sv32_space.specs.Tie.{Held}

@@ -1,14 +1,14 @@
 -- The threads of the table and those of the machine that it stands for.
-use Rattle.std.proofs.Common.{◌≡◌, Bor, MutBor, Bool, true, false, List, ℕ, Option, Some, None, IsSome, is_some, refl, sym, ap, subst, ◌∙◌}
+use Rattle.std.proofs.Common.{◌≡◌, Bor, Bool, true, false, ℕ, Option, Some, None, IsSome, is_some, refl, sym, ap, subst, ◌∙◌}
 use Rattle.std.specs.Prelude.{if◌then◌else◌, IsTrue}
-use Rattle.std.specs.Option.{option_map, option_copied, option_copied_mut}
+use Rattle.std.specs.Option.{option_map, option_copied}
 use Rattle.std.proofs.lemmas.Bool.{false≢true}
 use Rattle.xk_base.specs.Tables.Circle.{is_thread_id, same_thread}
 use Rattle.xk_base.specs.Tables.Counting.{put_at}
 use Rattle.xk_base.specs.Log.{LogState}
 use Rattle.xk_base.specs.declared.ids.ThreadId.{ThreadId}
 use Rattle.machine_model.specs.State.Machine.{Machine, Thread}
-use Rattle.machine_model.specs.State.Threads.{answer_to, change_thread, give_answers, put_thread, with_answer}
+use Rattle.machine_model.specs.State.Threads.{change_thread, put_thread}
 use Rattle.sv32_space.specs.Tie.{Held}
 use Rattle.thread_table.specs.Shown.{process_count, threads_of}
 use Rattle.thread_table.specs.declared.table.Threads.{Threads}

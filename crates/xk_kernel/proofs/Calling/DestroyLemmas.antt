@@ -1,6 +1,6 @@
 -- DestroyServer: the server of the identifier is one of the caller's process, or the call is refused.
 use Rattle.xk_ports.specs.declared.store.SwapStore.{Ghosts as SwapStore}
-use Rattle.std.proofs.Common.{◌≡◌, ℕ, Bool, true, false, ◌∷◌, [], Some, None, refl, sym, ap, ◌∙◌}
+use Rattle.std.proofs.Common.{◌≡◌, Bool, true, false, ◌∷◌, [], Some, None, refl, sym, ap, ◌∙◌}
 use Rattle.std.specs.Prelude.{not, unwrap_or}
 use Rattle.std.proofs.lemmas.Bool.{false≢true}
 use Rattle.kill_path.specs.Rows.{destroy_row}
@@ -11,7 +11,6 @@ use Rattle.machine_model.specs.State.Servers.{is_own, with_sid}
 use Rattle.xk_parts.specs.Seats.{own_serial}
 use Rattle.send_path.proofs.Servers.MachineLemmas.{IsOwn, not_own, own_found}
 use Rattle.server_table.specs.ServersOf.{servers_of}
-use Rattle.sv32_space.specs.Tie.{Held}
 use Rattle.xk_base.specs.declared.errors.XousError.TheVariants.{ServerNotFound}
 use Rattle.xk_base.specs.declared.ids.Serial.{Serial}
 use Rattle.xk_base.specs.declared.ids.Sid.{Sid}

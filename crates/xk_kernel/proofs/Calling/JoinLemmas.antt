@@ -1,19 +1,15 @@
 -- JoinThread: the caller waits for the end of another thread of its process.
 use Rattle.std.proofs.Common.{◌≡◌, ℕ, ◌<◌, ◌≤◌, Bool, true, false, Some, None, refl, sym, ap, ◌∙◌, arith}
 use Rattle.std.specs.Prelude.{◌==◌, ◌&&◌, ◌||◌, ◌≢◌, not, nat_le, is_some, if◌then◌else◌}
-use Rattle.std.specs.Option.{option_map}
 use Rattle.std.proofs.lemmas.Bool.{eq-eqb, ne_eqb}
 use Rattle.std.proofs.lemmas.Bool.Decides.{nat_tests}
 use Rattle.xk_base.specs.declared.errors.XousError.TheVariants.{InvalidThread}
 use Rattle.machine_model.specs.State.Changes.{Outcome, Refused, Served, only, refused_or, unless_refused}
 use Rattle.machine_model.specs.State.Machine.{Machine, Joining}
 use Rattle.machine_model.specs.Calling.ThreadCalls.{has_thread, join_refusals, join_served}
-use Rattle.machine_model.specs.State.Threads.{change_thread, put_thread, thread_id, with_state}
+use Rattle.machine_model.specs.State.Threads.{change_thread, thread_id, with_state}
 use Rattle.sv32_space.specs.Tie.{Held}
 use Rattle.thread_table.specs.Shown.{threads_of}
-use Rattle.thread_table.specs.declared.thread.Thread.{Thread as TableThread}
-use Rattle.thread_table.specs.declared.thread.ThreadState.TheVariants as table
-use Rattle.xk_parts.specs.Shown.{thread_of}
 use Rattle.xk_kernel.specs.State.{machine_of}
 use Rattle.xk_kernel.specs.declared.kernel.Kernel.{Kernel}
 use Rattle.xk_kernel.proofs.Acting.TidLemmas.{is_some_mapped}

@@ -16,7 +16,6 @@ use Rattle.machine_model.specs.Stepping.Step.{Recorded}
 use Rattle.process_table.specs.Shown.{processes_of}
 use Rattle.process_table.specs.ProcessMap.{is_alive}
 use Rattle.process_table.specs.State.{ProcessState}
-use Rattle.sv32_space.specs.Tie.{Held}
 use Rattle.vm_memory.specs.Memory.{processes}
 use Rattle.xk_base.specs.Tables.Circle.{is_pid}
 use Rattle.xk_base.specs.Log.{LogState}

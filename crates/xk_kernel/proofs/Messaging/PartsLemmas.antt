@@ -1,6 +1,6 @@
 -- The parts of a kernel that a call on messages takes: they are sound, the machine that they stand for is the kernel's, and a kernel
 -- with sound parts is whole.
-use Rattle.std.proofs.Common.{◌≡◌, ℕ, ◌≤◌, Bool, true, refl, sym, ap, subst, ◌∙◌, arith}
+use Rattle.std.proofs.Common.{◌≡◌, ℕ, ◌≤◌, true, refl, sym, ap, subst, ◌∙◌, arith}
 use Rattle.kill_path.proofs.FitLemmas.{open_loans, sound_servers}
 use Rattle.ledger_model.specs.Loans.{loans}
 use Rattle.machine_model.specs.Runs.Matched.{Matched}

@@ -1,6 +1,6 @@
 -- The parts that a receive leaves are sound.
 use Rattle.xk_ports.specs.declared.store.SwapStore.{Ghosts as SwapStore}
-use Rattle.std.proofs.Common.{◌≡◌, ℕ, ◌+◌, Bool, true, false, Option, Some, None, Ok, sym, ap, ◌∙◌, refl}
+use Rattle.std.proofs.Common.{◌≡◌, ◌+◌, Bool, true, false, Option, Some, None, Ok, sym, ap, ◌∙◌, refl}
 use Rattle.std.specs.Prelude.{◌==◌, ◌&&◌, if◌then◌else◌}
 use Rattle.ledger_model.specs.Loans.{loans}
 use Rattle.machine_model.specs.Calling.ServerCalls.{named_server, own_server_refusals}
@@ -13,7 +13,6 @@ use Rattle.send_path.proofs.Taken.{CallTables, without_memory, taken}
 use Rattle.send_path.specs.Rows.{IsServed, IsRow, receive_row}
 use Rattle.xk_parts.specs.Sound.{AreLoansSound, AreSeatsSound, AreSound}
 use Rattle.server_table.specs.ServersOf.{servers_of}
-use Rattle.sv32_space.specs.Tie.{Held}
 use Rattle.thread_table.specs.Shown.{process_count}
 use Rattle.vm_memory.specs.Memory.{ledger}
 use Rattle.xk_base.specs.Calls.Replies.{plain_words}

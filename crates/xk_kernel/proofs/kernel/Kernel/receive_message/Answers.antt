@@ -1,9 +1,9 @@
 -- A message is received or waited for, or the caller refused.
-use Rattle.std.proofs.Common.{refl, ap, ◌∙◌}
+use Rattle.std.proofs.Common.{refl, ◌∙◌}
 use Rattle.ledger_model.specs.Loans.{loans}
 use Rattle.kill_path.proofs.FitLemmas.{open_loans}
 use Rattle.machine_model.specs.State.Changes.{Refused}
-use Rattle.send_path.proofs.Taken.{CallParts, CallTables, tables_of, without_memory, taken}
+use Rattle.send_path.proofs.Taken.{CallParts, tables_of, without_memory, taken}
 use Rattle.send_path.specs.Rows.{receive_row}
 use Rattle.vm_memory.specs.Memory.{ledger}
 use Rattle.xk_kernel.specs.State.{machine_of}
