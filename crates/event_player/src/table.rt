@@ -13,7 +13,8 @@ use host_io::text::{Line, put, put_five_digits, put_number};
 use phys_pages::LoanInfo;
 use save_path::{PLACES_OF_PROCESS, place_at};
 use vm_memory::Here;
-use xk_base::{Failed, LoanKind, Number, PROCESS_LIMIT, Place, Right};
+use xk_base::limits::PROCESS_LIMIT;
+use xk_base::{Failed, LoanKind, Number, Place, Right};
 use xk_kernel::Kernel;
 use xk_ports::{Sink, SwapStore, put_all};
 
