@@ -164,4 +164,4 @@ three_sent =
     ∙ (rest_since ∙ (ap (told_from lending_rest (drop 1 three_pages_row)) rest_comes ∙ rest_then))
 
 -- the row
-pub ruleset all_or_nothing_row = (begun, refused, none_lent, three_sent)
+pub ruleset all_or_nothing_rules = (begun, refused, none_lent, three_sent)

@@ -32,4 +32,4 @@ unfolding left_by coded_machine small_machine listed_ledger code step step_by ac
 handler_is_next = refl
 
 -- the row
-pub ruleset interrupt_row = (pending_told, handler_starts, handler_is_next)
+pub ruleset interrupt_rules = (pending_told, handler_starts, handler_is_next)

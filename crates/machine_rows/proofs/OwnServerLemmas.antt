@@ -139,4 +139,4 @@ pub returned_traps : (regs : List ℕ) (pc rd : ℕ) → load_at 0x4000_0000 own
 returned_traps regs pc rd = ap (λ m. load_at 0x4000_0000 (after_all own_server_return m) regs pc rd) lent_is ∙ traps_then regs pc rd
 
 -- the row
-pub ruleset own_server_row = (begun, sent, lender_loads, holder_loads, returned, home_loads, returned_traps)
+pub ruleset own_server_rules = (begun, sent, lender_loads, holder_loads, returned, home_loads, returned_traps)

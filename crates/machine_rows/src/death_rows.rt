@@ -26,7 +26,7 @@ pub fn destroyed_server_gives_back_its_loans()
 
 /// The lenders to a killed server are answered in ascending order before its death is told, and have their former rights. A page that
 /// was moved to it is gone.
-#[tactic(auto, using(crate::proofs::Deaths::ServerKilledLemmas::server_killed_row))]
+#[tactic(auto, using(crate::proofs::Deaths::ServerKilledLemmas::server_killed_rules))]
 pub fn killed_server_gives_back_its_loans()
     ensures told { IsToldAs server_killed_row (coded_machine 4) }
     ensures gone { server_killed.ledger.home (page_of (pid_of 2) 0x4000_3000) ≡ None }

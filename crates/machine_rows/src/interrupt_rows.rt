@@ -7,7 +7,7 @@ ghost use Rattle.machine_rows.specs.Playing.{IsToldAs, coded_machine};
 
 /// Pending is a set: an interrupt that comes twice while its handler runs starts it once more. The cursor goes to the handler, which
 /// starts with the number and the argument in a0 and a1.
-#[tactic(auto, using(crate::proofs::InterruptRowLemmas::interrupt_row))]
+#[tactic(auto, using(crate::proofs::InterruptRowLemmas::interrupt_rules))]
 pub fn pending_is_a_set()
     ensures told { IsToldAs pending_row (coded_machine 1) }
     ensures starts { handling.threads (id_of 2 1) ≡ Some begun_thread }

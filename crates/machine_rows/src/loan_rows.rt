@@ -23,7 +23,7 @@ pub fn lent_page_is_not_written_by_its_lender()
 {}
 
 /// A moved page leaves its sender, and stands at the receiver with its bytes and its right.
-#[tactic(auto, using(crate::proofs::Loans::LoanRowLemmas::moved_page_row))]
+#[tactic(auto, using(crate::proofs::Loans::LoanRowLemmas::moved_page_rules))]
 pub fn moved_page_is_the_receivers()
     ensures told { IsToldAs move_row (coded_machine 2) }
     ensures came { number_at (memory_of after_move (pid_of 2)).byte 0x4000_0000 Word ≡ 0x1122_3344 }

@@ -20,7 +20,7 @@ ghost use Rattle.machine_rows.specs.TwoPages.{first_written, both_written, two_p
 /// Read-only page. `3.2` stores a word in the page of its heap, gives up W there and lends it, and the server loads the word.
 /// The return gives back the right that the page had: `3.2` loads the word, and a store there traps with cause 15, as it does
 /// during the loan. What is told before the store is that of the row of a lend in `machine_model`.
-#[tactic(auto, using(crate::proofs::Loans::ReadOnlyLemmas::read_only_row))]
+#[tactic(auto, using(crate::proofs::Loans::ReadOnlyLemmas::read_only_rules))]
 pub fn read_only_page_is_lent()
     ensures reduces { told_all read_only_reduce read_only_written ≡ read_only_reduce_told }
     ensures lends { told_all read_only_row read_only_reduced ≡ read_only_told }
@@ -36,7 +36,7 @@ pub fn read_only_page_is_lent()
 
 /// Mutable lend of two pages. `3.2` lends both pages of its heap. `2.2` may store to both at its own addresses, stores a word in
 /// each and returns them with offset 7 and valid 9. `3.2` gets the two numbers, and loads the server's words.
-#[tactic(auto, using(crate::proofs::Loans::TwoPageLemmas::two_page_row))]
+#[tactic(auto, using(crate::proofs::Loans::TwoPageLemmas::two_page_rules))]
 pub fn two_pages_are_lent_mutably()
     ensures begins { told_all two_pages_begin (small_machine 2) ≡ two_pages_begin_told }
     ensures sends { told_all two_pages_send (after_all two_pages_begin (small_machine 2)) ≡ two_pages_send_told }
@@ -54,7 +54,7 @@ pub fn two_pages_are_lent_mutably()
 /// Own server. `2.3` waits at a server of its own process, and `2.2` lends it the page of its heap. During the loan a load at the
 /// receiver's address and one at the lender's give the word that was stored before; after the return there is no page at the
 /// receiver's address, and a load there traps with cause 13.
-#[tactic(auto, using(crate::proofs::OwnServerLemmas::own_server_row))]
+#[tactic(auto, using(crate::proofs::OwnServerLemmas::own_server_rules))]
 pub fn page_is_lent_to_an_own_server()
     ensures begins { told_all own_server_begin (small_machine 2) ≡ own_server_begin_told }
     ensures sends { told_all own_server_send own_server_written ≡ own_server_send_told }
@@ -72,7 +72,7 @@ pub fn page_is_lent_to_an_own_server()
 /// All or nothing. `3.3` lends the last of four pages, and `2.2` holds it. `3.2` sends all four and is refused with
 /// ShareViolation, and none of the other three is on loan. They are then accepted as message 2, and stand behind the first at
 /// the receiver.
-#[tactic(auto, using(crate::proofs::AllOrNothingLemmas::all_or_nothing_row))]
+#[tactic(auto, using(crate::proofs::AllOrNothingLemmas::all_or_nothing_rules))]
 pub fn all_pages_are_lent_or_none()
     ensures begins { told_all four_pages_begin (small_machine 2) ≡ four_pages_begin_told }
     ensures refused { told_all four_pages_refused (after_all four_pages_begin (small_machine 2)) ≡ four_pages_refused_told }

@@ -319,4 +319,4 @@ pub none_left : server_killed.ledger.home (page_of (pid_of 5) 0x2000_0000) ≡ N
 none_left = ap (λ m. m.ledger.home (page_of (pid_of 5) 0x2000_0000)) killed_is ∙ none_left_then
 
 -- the row
-pub ruleset server_killed_row = (server_killed_told, none_there, none_left)
+pub ruleset server_killed_rules = (server_killed_told, none_there, none_left)

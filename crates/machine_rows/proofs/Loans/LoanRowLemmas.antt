@@ -230,4 +230,4 @@ pub page_left : after_move.ledger.home (page_of (pid_of 3) 0x2000_0000) ≡ None
 page_left = ap (λ m. m.ledger.home (page_of (pid_of 3) 0x2000_0000)) moved_is ∙ left_then
 
 -- the row of a moved page
-pub ruleset moved_page_row = (moved_row, word_came, word_stored_there, page_left)
+pub ruleset moved_page_rules = (moved_row, word_came, word_stored_there, page_left)

@@ -142,4 +142,4 @@ returned_loads regs pc rd =
     ap (λ m. load_in 3 0x2000_0000 m regs pc rd) (returned_since ∙ ap (after_from lending read_only_return) comes) ∙ returned_load_then regs pc rd
 
 -- the row
-pub ruleset read_only_row = (reduced, told, lent_loads, lent_traps, returned_loads, returned_traps)
+pub ruleset read_only_rules = (reduced, told, lent_loads, lent_traps, returned_loads, returned_traps)

@@ -147,4 +147,4 @@ pub second_loads : (regs : List ℕ) (pc rd : ℕ) → load_at 0x2000_1000 two_p
 second_loads regs pc rd = ap (λ m. load_at 0x2000_1000 (after_all two_pages_return (both m)) regs pc rd) lent_is ∙ second_load_then regs pc rd
 
 -- the row
-pub ruleset two_page_row = (begun, sent, first_stores, second_stores, returned, first_loads, second_loads)
+pub ruleset two_page_rules = (begun, sent, first_stores, second_stores, returned, first_loads, second_loads)
