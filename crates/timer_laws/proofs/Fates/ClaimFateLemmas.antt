@@ -11,7 +11,7 @@ use Rattle.xk_base.specs.Tables.Counting.{put_at}
 use Rattle.machine_model.specs.Calling.InterruptCalls.{claim_call, claim_refusals, claim_served, free_call, free_refusals, free_served}
 use Rattle.machine_model.specs.Ending.Closing.{closed, servers_closed, senders_queued_gone, senders_held_gone}
 use Rattle.machine_model.specs.Ending.Ends.{death, end_with_last_thread, forgotten, handler_ended, has_threads, thread_ended}
-use Rattle.machine_model.specs.State.Changes.{Call, Outcome, Refused, Retried, Served, call_settled, first_refusal, refused_or, settled, unless_refused, unless_retried}
+use Rattle.machine_model.specs.State.Changes.{Call, Outcome, Refused, Retried, Served, call_settled, first_refusal, refused_or, settled, unless_refused}
 use Rattle.machine_model.specs.State.Machine.{Claim, Machine}
 use Rattle.machine_model.specs.State.Order.{turn}
 use Rattle.machine_model.specs.State.Threads.{change_thread, put_thread, thread_id, with_state}
@@ -51,10 +51,6 @@ unless_refused_fate m refusals outcome of = go (first_refusal refusals) refl
     go : (o : Option XousError) → first_refusal refusals ≡ o → OutcomeFate m (refused_or o outcome)
     go None e = of e
     go (Some error) e = as_before m
-
-pub unless_retried_fate : (m : Machine) (test : Bool) (outcome : Outcome) → OutcomeFate m outcome → OutcomeFate m (unless_retried test outcome)
-unless_retried_fate m true outcome of = as_before m
-unless_retried_fate m false outcome of = of
 
 pub settled_fate : (m : Machine) (outcome : Outcome) → OutcomeFate m outcome → FateOf m (call_settled m outcome).machine
 unfolding call_settled settled turn
