@@ -1,8 +1,6 @@
 pub mod CallTableLemmas
 pub mod ChangeLemmas
+pub mod EffectLemmas
 pub mod EndLemmas
 pub mod InterruptLemmas
-pub mod MemoryCallLemmas
-pub mod PassCallLemmas
-pub mod PlainCallLemmas
-pub mod SendCallLemmas
+pub mod VerdictLemmas

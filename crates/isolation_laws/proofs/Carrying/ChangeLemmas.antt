@@ -1,7 +1,7 @@
 -- Changes and outcomes with other bytes: what is told of them is the same, and so is what a call is refused for.
 use Rattle.machine_model.specs.Runs.Isolation.{without_bytes}
 use Rattle.isolation_laws.proofs.Ledgers.OtherBytesLemmas.{machine_through, no_bytes}
-use Rattle.std.proofs.Common.{◌≡◌, ℕ, Bool, true, false, List, Option, Some, None, refl, ap, ◌∙◌}
+use Rattle.std.proofs.Common.{◌≡◌, ℕ, Bool, true, false, List, Option, Some, None, refl, ◌∙◌}
 use Rattle.xk_base.specs.declared.errors.XousError.{XousError}
 use Rattle.ledger_model.specs.Ledger.{Ledger}
 use Rattle.machine_model.specs.State.Changes.{Call, Change, Outcome, Refused, Retried, Served, Told, call_settled, first_refusal, refused_or, settled, unless_refused, unless_retried}
@@ -38,7 +38,7 @@ IsBlind served =
 module _ (g : List ℕ → List ℕ) where
   -- ---- refusals and retries
 
-  pub refused_through : (x : Option XousError) (outcome : Outcome)
+  refused_through : (x : Option XousError) (outcome : Outcome)
       → outcome_through g (refused_or x outcome) ≡ refused_or x (outcome_through g outcome)
   refused_through None outcome = refl
   refused_through (Some error) outcome = refl
@@ -50,25 +50,10 @@ module _ (g : List ℕ → List ℕ) where
   unless_through refusals others outcome other same e =
       refused_through (first_refusal refusals) outcome ∙ (λ i. unless_refused (same i) (e i))
 
-  pub served_unless : (refusals others : List (Bool × XousError)) (change other : Change) → refusals ≡ others
-      → change_through g change ≡ other
-      → outcome_through g (unless_refused refusals (Served change)) ≡ unless_refused others (Served other)
-  served_unless refusals others change other same e =
-      unless_through refusals others (Served change) (Served other) same (ap (λ c. Served c) e)
-
-  -- .. where the refusals see nothing of the ledger
-  pub refused_alike : (refusals : List (Bool × XousError)) (change other : Change) → change_through g change ≡ other
-      → outcome_through g (unless_refused refusals (Served change)) ≡ unless_refused refusals (Served other)
-  refused_alike refusals change other e = served_unless refusals refusals change other refl e
-
   pub retried_through : (test : Bool) (outcome : Outcome)
       → outcome_through g (unless_retried test outcome) ≡ unless_retried test (outcome_through g outcome)
   retried_through true outcome = refl
   retried_through false outcome = refl
-
-  pub served_through : (change other : Change) → change_through g change ≡ other
-      → outcome_through g (Served change) ≡ Served other
-  served_through change other e = ap (λ c. Served c) e
 
   -- ---- settled
 

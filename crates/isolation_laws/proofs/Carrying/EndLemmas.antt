@@ -41,18 +41,18 @@ module _ (g : List ℕ → List ℕ) where
   abbrev with_ledger : Machine → Ledger → Machine
   with_ledger m ledger = record m { ledger = ledger }
 
-  queued_through : (pid : Pid) (m : Machine)
+  pub queued_through : (pid : Pid) (m : Machine)
       → machine_through g (senders_queued_gone pid m) ≡ senders_queued_gone pid (machine_through g m)
   unfolding senders_queued_gone any_server
   queued_through pid m = ap (with_ledger (senders_queued_gone pid m)) (end_loans_through g (is_queued_from pid m) m.ledger)
 
-  held_through : (pid : Pid) (m : Machine)
+  pub held_through : (pid : Pid) (m : Machine)
       → machine_through g (senders_held_gone pid m) ≡ senders_held_gone pid (machine_through g m)
   unfolding senders_held_gone any_server
   held_through pid m =
       ap (with_ledger (senders_held_gone pid m)) (orphan_loans_through g m.processes (is_held_from pid m) m.ledger)
 
-  forgotten_through : (pid : Pid) (m : Machine) → machine_through g (forgotten pid m) ≡ forgotten pid (machine_through g m)
+  pub forgotten_through : (pid : Pid) (m : Machine) → machine_through g (forgotten pid m) ≡ forgotten pid (machine_through g m)
   unfolding forgotten
   forgotten_through pid m = ap (with_ledger (forgotten pid m)) (forget_through g pid m.ledger)
 
