@@ -1,11 +1,7 @@
-//! Laws of isolation: what a step doesn't know, and which bytes it leaves. The functions have no code; their contracts are the
-//! laws.
+//! Isolation: what a step doesn't know, which bytes it leaves, and two runs side by side. The theorems are those of `laws`; the law
+//! here is the one under them, and the lemmas stand in `proofs/`. The function has no code; its contract is the law.
 #![tactic(auto)]
 
 mod differences;
-mod isolation;
-mod two_runs;
 
-pub use differences::{causes_make_no_difference, differences_come_from_the_start};
-pub use isolation::{call_changes_no_byte, step_is_isolated};
-pub use two_runs::{runs_are_same_but_bytes, runs_tell_the_same};
+pub use differences::causes_make_no_difference;

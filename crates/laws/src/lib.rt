@@ -43,7 +43,7 @@ pub fn every_state_stays_matched()
 {}
 
 /// **The next thread.** The next ready thread after `c` is Ready, and no thread between the two in the circle of ids is. There is none
-/// only where no thread is Ready. Where one is, there is who does the next step.
+/// only where no thread is Ready. There is who does the next step exactly where one is.
 pub fn next_thread_is_the_first_ready()
     ensures ready { (m : Machine) (c d : ThreadId) → next_ready m c ≡ Some d → ready_at m d ≡ true }
     ensures first { (m : Machine) (c d between : ThreadId) → is_pid m.processes c.pid.0 ≡ true → next_ready m c ≡ Some d
@@ -53,6 +53,7 @@ pub fn next_thread_is_the_first_ready()
         → is_thread_id m.processes d ≡ true → ready_at m d ≡ false }
     ensures does { (m : Machine) (d : ThreadId) → is_pid m.processes m.cursor.pid.0 ≡ true → is_thread_id m.processes d ≡ true
         → ready_at m d ≡ true → is_some (actor m) ≡ true }
+    ensures only { (m : Machine) → is_some (actor m) ≡ true → (d : ThreadId) × (ready_at m d ≡ true) }
 {}
 
 /// **Every interleaving is played.** For threads that are each Ready at their turn, `pick` and `tick 1` for each of them do their steps

@@ -4,9 +4,7 @@ ghost use Rattle.std.specs.Prelude.{ℕ, ◌≡◌, ◌≢◌, ◌-◌, ◌≤�
 ghost use Rattle.xk_base.specs.declared.events.Event.{Event};
 ghost use Rattle.xk_base.specs.declared.events.Event.TheVariants.{Tick, Pick, Irq, Kill};
 ghost use Rattle.xk_base.specs.declared.ids.Pid.{Pid};
-ghost use Rattle.xk_base.specs.declared.ids.ThreadId.{ThreadId};
 ghost use Rattle.xk_base.specs.declared.ids.Tid.{Tid};
-ghost use Rattle.xk_base.specs.Tables.Circle.{is_pid, is_thread_id};
 ghost use Rattle.xk_base.specs.declared.records.Rec.{Rec};
 ghost use Rattle.machine_model.specs.Stepping.Events.{picked, raised, killed, nothing};
 ghost use Rattle.machine_model.specs.State.Machine.{Machine};
@@ -28,15 +26,6 @@ pub fn events_without_steps_are_played()
 pub fn unready_thread_is_not_picked()
     ensures { (pid : Pid) (tid : Tid) (limit : ℕ) (m : Machine) → ready_at m (record { pid = pid; tid = tid }) ≡ false
         → play (Pick pid tid) limit m ≡ reached (nothing m) }
-{}
-
-/// There is who does the next step only where a thread is Ready, and, as the cursor's process is one of the machine's, wherever
-/// one is.
-#[tactic(auto, using(crate::proofs::Histories::HistoryLemmas::actor_is_ready, crate::proofs::Histories::HistoryLemmas::ready_has_actor))]
-pub fn ready_thread_does_a_step()
-    ensures only { (m : Machine) → is_some (actor m) ≡ true → (d : ThreadId) × (ready_at m d ≡ true) }
-    ensures there { (m : Machine) (d : ThreadId) → is_pid m.processes m.cursor.pid.0 ≡ true → is_thread_id m.processes d ≡ true
-        → ready_at m d ≡ true → is_some (actor m) ≡ true }
 {}
 
 /// `tick 0` ends the turn.

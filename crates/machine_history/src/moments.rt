@@ -8,7 +8,6 @@ ghost use Rattle.machine_model.specs.Runs.Matched.{Matched};
 ghost use Rattle.machine_model.specs.Runs.Moments.{IsRun, state_at};
 ghost use Rattle.machine_history.specs.History.{history};
 ghost use Rattle.machine_history.specs.HistoryMoments.{moments_of};
-ghost use Rattle.machine_history.specs.Reserved.{IsReservedByThread};
 
 /// The moments of a history are a run from its start.
 #[tactic(auto, using(crate::proofs::Histories::MomentLemmas::history_is_run))]
@@ -32,28 +31,10 @@ pub fn moments_follow_each_other()
         ++ (if (history before limit m).met then [] else moments_of after limit (history before limit m).machine) }
 {}
 
-/// Every moment of a history from a matched state is matched.
-pub fn moments_stay_matched()
-    ensures { (events : List Event) (limit : ℕ) (start : Machine) → Matched start
-        → (i : ℕ) → Matched (state_at start (moments_of events limit start) i) }
-{}
-
-/// So is its last state.
-pub fn history_stays_matched()
-    ensures { (events : List Event) (limit : ℕ) (start : Machine) → Matched start → Matched (history events limit start).machine }
-{}
-
 /// Where the cursor of a matched start is the id of a thread of the processes, it is so at every moment of a history.
 pub fn moments_keep_the_cursor()
     ensures { (events : List Event) (limit : ℕ) (start : Machine) → Matched start
         → IsTrue (is_thread_id start.processes start.cursor) → (i : ℕ)
         → IsTrue (is_thread_id (state_at start (moments_of events limit start) i).processes
         (state_at start (moments_of events limit start) i).cursor) }
-{}
-
-/// Where the reservation of a matched start is that of an id that a thread of its processes can have, or there is
-/// none, it is so in the last state of a history.
-pub fn history_keeps_the_reservation()
-    ensures { (events : List Event) (limit : ℕ) (start : Machine) → Matched start → IsReservedByThread start
-        → IsReservedByThread (history events limit start).machine }
 {}

@@ -6,7 +6,6 @@ ghost use Rattle.xk_base.specs.UserMemory.{Memory};
 ghost use Rattle.machine_model.specs.Stepping.Acts.{does_instruction};
 ghost use Rattle.machine_model.specs.Hart.Atomics.{execute_at};
 ghost use Rattle.machine_model.specs.Hart.Instructions.{Next};
-ghost use Rattle.machine_model.specs.Runs.Isolation.{InstructionStoresOnePage};
 ghost use Rattle.machine_model.specs.State.Machine.{Machine};
 ghost use Rattle.machine_model.specs.Runs.Matched.{Matched};
 ghost use Rattle.machine_model.specs.State.Order.{actor};
@@ -22,10 +21,4 @@ pub fn execution_stays_aligned()
 pub fn instruction_keeps_matched()
     ensures { (m : Machine) (who : ThreadId) → Matched m → actor m ≡ Some who → does_instruction m who ≡ true
         → Matched (step m).machine }
-{}
-
-/// An instruction leaves the ledger, or changes at most the bytes of one page at a place where its
-/// process may store.
-pub fn instruction_stores_one_page()
-    ensures { InstructionStoresOnePage }
 {}

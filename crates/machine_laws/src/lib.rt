@@ -30,9 +30,7 @@ pub use death_laws::{
 pub use held_laws::{
     forward_message_keeps_matched, return_scalar1_keeps_matched, return_scalar2_keeps_matched,
 };
-pub use instruction_laws::{
-    execution_stays_aligned, instruction_keeps_matched, instruction_stores_one_page,
-};
+pub use instruction_laws::{execution_stays_aligned, instruction_keeps_matched};
 pub use irq_laws::{
     claim_interrupt_keeps_matched, free_interrupt_keeps_matched, irq_keeps_matched,
 };
@@ -47,9 +45,7 @@ pub use server_laws::{
     connect_keeps_matched, create_server_keeps_matched, destroy_server_keeps_matched,
     try_connect_keeps_matched,
 };
-pub use step_laws::{
-    all_keep_cursor, all_keep_matched, calls_keep_matched, runs_stay_matched, step_keeps_matched,
-};
+pub use step_laws::{all_keep_cursor, all_keep_matched, calls_keep_matched, step_keeps_matched};
 pub use thread_end_laws::{end_of_handler_keeps_matched, end_of_thread_keeps_matched};
 pub use thread_laws::{
     answered_call_keeps_matched, count_of_steps_keeps_matched, create_thread_keeps_matched,

@@ -1,12 +1,11 @@
 //! Steps keep the invariant, and so does whatever leads from a state to the next.
 
-ghost use Rattle.std.specs.Prelude.{ℕ, ◌≡◌, true, List, Some};
+ghost use Rattle.std.specs.Prelude.{ℕ, ◌≡◌, List, Some};
 ghost use Rattle.xk_base.specs.declared.ids.ThreadId.{ThreadId};
 ghost use Rattle.machine_model.specs.Stepping.Acts.{call_by};
 ghost use Rattle.machine_model.specs.Runs.Kept.{AllKeepCursor, AllKeepMatched, StepKeepsMatched};
 ghost use Rattle.machine_model.specs.State.Machine.{Machine};
 ghost use Rattle.machine_model.specs.Runs.Matched.{Matched};
-ghost use Rattle.machine_model.specs.Runs.Moments.{IsRun, Moment, state_at};
 ghost use Rattle.machine_model.specs.State.Order.{actor};
 ghost use Rattle.machine_model.specs.Stepping.Step.{step};
 
@@ -24,12 +23,6 @@ pub fn step_keeps_matched()
 /// Whatever leads from a state to the next keeps the machine matched: a step, a pick, an interrupt, a kill, the end of a turn.
 pub fn all_keep_matched()
     ensures { AllKeepMatched }
-{}
-
-/// Every state of a run from a matched start is matched.
-pub fn runs_stay_matched()
-    ensures { (start : Machine) (moments : List Moment) → Matched start → IsRun start moments → (i : ℕ)
-        → Matched (state_at start moments i) }
 {}
 
 /// Whatever leads from a state to the next keeps the cursor the id of a thread of the processes.

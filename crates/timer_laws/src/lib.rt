@@ -1,9 +1,9 @@
-//! The law of the timer over runs of the abstract machine. The functions have no code; their contracts are the laws.
+//! The timer over runs of the abstract machine: what a raise is, and who stores in the timer's page, under the theorem
+//! `timer_raises_at_its_step` of `laws`. The functions have no code; their contracts are the laws.
 #![tactic(auto)]
 
 ghost use Rattle.timer_laws.specs.Arming.{OnlyClaimantStores};
-ghost use Rattle.timer_laws.specs.Raising.{ElseNothing, RaiseFindsClaim, RaiseIsEvent};
-ghost use Rattle.timer_laws.specs.TimerLaw.{TimerHolds};
+ghost use Rattle.timer_laws.specs.Raising.{ElseNothing, RaiseIsEvent};
 ghost use Rattle.timer_laws.specs.TimerPage.{PageIsApart};
 
 /// In a step that the timer raises its interrupt in, that comes last, as by an event.
@@ -16,21 +16,10 @@ pub fn nothing_else_is_done()
     ensures { ElseNothing }
 {}
 
-/// Where the machine is matched, the timer's interrupt is claimed in each raise.
-pub fn raise_finds_a_claim()
-    ensures { RaiseFindsClaim }
-{}
-
 /// Where the machine is matched, only the process that has claimed the timer's interrupt arms or disarms the
 /// timer by a store.
 pub fn only_the_claimant_stores()
     ensures { OnlyClaimantStores }
-{}
-
-/// Each arming raises at most once, in the step whose number is the compare value, and there exactly where
-/// nothing touches the timer in between.
-pub fn timer_holds()
-    ensures { TimerHolds }
 {}
 
 /// Where the machine is matched, no page of the ledger is reached at an address of the timer's page.

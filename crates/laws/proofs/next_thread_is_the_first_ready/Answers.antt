@@ -1,5 +1,5 @@
 use Rattle.machine_model.proofs.StepLemmas.{next_ready_passes, none_is_ready}
-use Rattle.machine_history.proofs.Histories.HistoryLemmas.{ready_has_actor}
+use Rattle.machine_history.proofs.Histories.HistoryLemmas.{actor_is_ready, ready_has_actor}
 use Rattle.laws.proofs.OrderLemmas.{first_is_ready}
 use Rattle.laws.proofs.next_thread_is_the_first_ready.Goals as goal
 
@@ -15,3 +15,6 @@ returns-clause-none c = none_is_ready
 
 pub returns-clause-does : goal.returns-clause-does
 returns-clause-does c = ready_has_actor
+
+pub returns-clause-only : goal.returns-clause-only
+returns-clause-only c = actor_is_ready
