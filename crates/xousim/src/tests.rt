@@ -1,9 +1,9 @@
 //! The program over files and streams in memory, and each real adapter once.
 
+mod assembled;
 mod atomics;
 mod commands;
 mod deaths;
-mod drivers;
 mod examples;
 pub mod expecting;
 mod forwards;

@@ -1,5 +1,8 @@
 //! The commands by their words.
 
+mod largest;
+mod ledgers;
+
 use super::expecting::{
     expect_bytes, expect_length, expect_number, expect_out, expect_outcome, expect_status,
 };

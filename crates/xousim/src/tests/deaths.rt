@@ -3,8 +3,9 @@
 use super::programs::Act::{Call, Store, Tell};
 use super::programs::{
     Act, CONNECT, CREATE_SERVER, CREATE_THREAD, DESTROY_SERVER, HEAP, INCREASE_HEAP, MESSAGE, PAGE,
-    RECEIVE, RETURN_MEMORY, RETURN_SCALAR1, SECOND, SEND, YIELD, expect_run,
+    RECEIVE, RETURN_MEMORY, RETURN_SCALAR1, SECOND, SEND, YIELD, expect_run, image_of_programs,
 };
+use super::swapping::expect_in_houses;
 use std::test::Fail;
 
 /// A server holds a lend, reads it and gives it back.
@@ -180,6 +181,54 @@ fn a_server_is_killed(rt: HostRuntime) -> Result<(), Fail> {
     ];
     let events = b"tick 17\ntick 187\npick 2 2\ntick 17\nkill 2\npick 3 3\ntick 24\n";
     expect_run(&rt, rt.alloc(), &processes, events, &SERVER_KILLED)
+}
+
+/// Who moved a page asks for twelve pages and for eleven, and loads from the page that it moved.
+const TAKER: [Act; 6] = [
+    Call([CONNECT, 1, 2, 3, 4, 0, 0, 0]),
+    Call([INCREASE_HEAP, PAGE, 0, 0, 0, 0, 0, 0]),
+    Call([SEND, 2, 3, 7, HEAP, PAGE, 0, 0]),
+    Call([INCREASE_HEAP, 12 * PAGE, 0, 0, 0, 0, 0, 0]),
+    Call([INCREASE_HEAP, 11 * PAGE, 0, 0, 0, 0, 0, 0]),
+    Tell(HEAP, HEAP),
+];
+
+/// What follows on the kill of the server. The server's ten first pages are gone, and the one that was moved to it.
+const AFTER_THE_KILL: [&str; 7] = [
+    "238 5.2 call a c000",
+    "238 5.2 reply 1 3",
+    "255 5.2 call a b000",
+    "255 5.2 reply 3 20001000 b000",
+    "272 5.2 fault 13 20000000",
+    "272 5 gone",
+    "end 272 done",
+];
+
+/// The server with its lenders and who moves a page to it.
+pub const SERVED: [[&[Act]; 2]; 4] = [
+    [&HOLDER, &[]],
+    [&FIRST_LENDER, &SECOND_LENDER],
+    [&MUTABLE_LENDER, &[]],
+    [&TAKER, &[]],
+];
+
+/// The events up to the kill.
+pub const SERVER_KILL: &[u8] = b"tick 17\ntick 187\npick 2 2\ntick 17\nkill 2\n";
+
+/// For four processes, room for the ten first pages of each and the four of heaps: in RAM, and in one frame and slots.
+const HOUSES_OF_FOUR: [(u32, &str); 2] = [(0x8_1000, "0"), (0x5_6000, "43")];
+
+/// A page that was moved to a server and not received goes with it: there is room for one page more than its own.
+#[test]
+fn a_moved_page_goes_with_the_server(rt: HostRuntime) -> Result<(), Fail> {
+    let alloc = rt.alloc();
+    let image = image_of_programs(alloc, &SERVED)?;
+    let mut events = SERVER_KILL.to_vec(alloc)?;
+    events.extend_from_slice(b"pick 5 2\ntick 51\n")?;
+    let mut lines = SERVER_KILLED[..27].to_vec(alloc)?;
+    lines.extend_from_slice(&AFTER_THE_KILL)?;
+    let files = (image.as_slice(), events.as_slice());
+    expect_in_houses(&rt, alloc, files, &HOUSES_OF_FOUR, lines.as_slice())
 }
 
 const MAKER: [Act; 1] = [Call([CREATE_SERVER, 1, 2, 3, 4, 0, 0, 0])];

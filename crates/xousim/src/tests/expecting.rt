@@ -14,6 +14,11 @@ pub fn expect_bytes(rt: &impl Abort, told: &[u8], wanted: &[u8]) {
     assert_eq!(rt; told, wanted);
 }
 
+/// The words are just those that were wanted.
+pub fn expect_words(rt: &impl Abort, told: &[u32], wanted: &[u32]) {
+    assert_eq!(rt; told, wanted);
+}
+
 /// There are so many bytes.
 pub fn expect_length(rt: &impl Abort, told: &[u8], wanted: usize) {
     assert_eq!(rt; told.len(), wanted);

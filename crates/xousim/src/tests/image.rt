@@ -27,6 +27,15 @@ pub fn image(alloc: Global, processes: u8, code: &[u32]) -> Result<Vec<u8>, Fail
     image_of(alloc, codes.as_slice())
 }
 
+/// The image of processes that begin with these words each.
+pub fn image_of_words(alloc: Global, codes: &[&[u32]]) -> Result<Vec<u8>, Fail> {
+    let mut each = Vec::new(alloc);
+    for code in codes {
+        each.push(code.to_vec(alloc)?)?;
+    }
+    image_of(alloc, each.as_slice())
+}
+
 /// The image of processes that begin with these instructions each.
 pub fn image_of(alloc: Global, codes: &[Vec<u32>]) -> Result<Vec<u8>, Fail> {
     if codes.len() > PROCESS_LIMIT as usize {

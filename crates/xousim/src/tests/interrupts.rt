@@ -1,7 +1,12 @@
-//! Interrupts: claims, handlers, and numbers that are pending.
+//! Interrupts: claims, handlers and what these may call, and numbers that are pending.
 
 use super::expecting::{expect_code, expect_out};
 use super::image::image;
+use super::programs::Act::{Call, Return};
+use super::programs::{
+    Act, CLAIM_INTERRUPT, CONNECT, CREATE_SERVER, FREE_INTERRUPT, HEAP, INCREASE_HEAP, JOIN_THREAD,
+    PAGE, RECEIVE, SECOND, SEND, TRY_RECEIVE, TRY_SEND, expect_run,
+};
 use super::running::trace;
 use crate::status::Status;
 use std::alloc::Global;
@@ -99,6 +104,122 @@ const CLAIM_LINES: [&str; 22] = [
 fn claims_and_refusals(rt: HostRuntime) -> Result<(), Fail> {
     let events = b"irq 4\ntick 17\ntick 17\nirq 4\ntick 4\nkill 2\nirq 4\ntick 1\n";
     expect_code(&rt, rt.alloc(), 2, &CLAIMS, events, &CLAIM_LINES)
+}
+
+/// A process has a server and a page, and claims number 4 with argument 9. Then it frees it twice.
+const CLAIMANT: [Act; 5] = [
+    Call([CREATE_SERVER, 1, 2, 3, 4, 0, 0, 0]),
+    Call([INCREASE_HEAP, PAGE, 0, 0, 0, 0, 0, 0]),
+    Call([CLAIM_INTERRUPT, 4, SECOND, 9, 0, 0, 0, 0]),
+    Call([FREE_INTERRUPT, 4, 0, 0, 0, 0, 0, 0]),
+    Call([FREE_INTERRUPT, 4, 0, 0, 0, 0, 0, 0]),
+];
+
+/// Its handler makes the calls that might wait, which another thread could make, and then sends a scalar and looks for it.
+const PATIENT_HANDLER: [Act; 10] = [
+    Call([RECEIVE, 1, 2, 3, 4, 0, 0, 0]),
+    Call([SEND, 2, 4, 8, 10, 11, 12, 13]),
+    Call([CONNECT, 1, 2, 3, 4, 0, 0, 0]),
+    Call([JOIN_THREAD, 2, 0, 0, 0, 0, 0, 0]),
+    Call([TRY_SEND, 2, 1, 8, HEAP, PAGE, 0, 0]),
+    Call([TRY_SEND, 2, 2, 8, HEAP, PAGE, 0, 0]),
+    Call([TRY_SEND, 2, 5, 8, 10, 11, 12, 13]),
+    Call([TRY_SEND, 2, 4, 8, 10, 11, 12, 13]),
+    Call([TRY_RECEIVE, 1, 2, 3, 4, 0, 0, 0]),
+    Return,
+];
+
+/// Another frees what it hasn't claimed, and claims what it can't.
+const RIVAL: [Act; 5] = [
+    Call([FREE_INTERRUPT, 4, 0, 0, 0, 0, 0, 0]),
+    Call([CLAIM_INTERRUPT, 32, SECOND, 0, 0, 0, 0, 0]),
+    Call([CLAIM_INTERRUPT, 4, SECOND + 2, 0, 0, 0, 0, 0]),
+    Call([CLAIM_INTERRUPT, 4, SECOND, 0, 0, 0, 0, 0]),
+    Call([FREE_INTERRUPT, 4, 0, 0, 0, 0, 0, 0]),
+];
+
+const REFUSED_TO_HANDLERS: [&str; 41] = [
+    "17 3.2 call 6 4",
+    "17 3.2 reply 1 5",
+    "34 3.2 call 5 20 10400",
+    "34 3.2 reply 1 5",
+    "51 3.2 call 5 4 10402",
+    "51 3.2 reply 1 1",
+    "68 2.2 call e 1 2 3 4",
+    "68 2.2 reply 13 1 2 3 4 2",
+    "85 2.2 call a 1000",
+    "85 2.2 reply 3 20000000 1000",
+    "102 2.2 call 5 4 10400 9",
+    "102 2.2 reply 0",
+    "119 3.2 call 5 4 10400",
+    "119 3.2 reply 1 6",
+    "136 3.2 call 6 4",
+    "136 3.2 reply 1 5",
+    "136 2.1 irq 4",
+    "153 2.1 call f 1 2 3 4",
+    "153 2.1 reply 1 12",
+    "170 2.1 call 10 2 4 8 a b c d",
+    "170 2.1 reply 1 12",
+    "187 2.1 call 11 1 2 3 4",
+    "187 2.1 reply 1 12",
+    "204 2.1 call 24 2",
+    "204 2.1 reply 1 12",
+    "221 2.1 call 18 2 1 8 20000000 1000",
+    "221 2.1 reply 1 12",
+    "238 2.1 call 18 2 2 8 20000000 1000",
+    "238 2.1 reply 1 12",
+    "255 2.1 call 18 2 5 8 a b c d",
+    "255 2.1 reply 1 12",
+    "272 2.1 call 18 2 4 8 a b c d",
+    "272 2.1 reply 0",
+    "289 2.1 call 1c 1 2 3 4",
+    "289 2.1 reply 9 1 4 8 a b c d",
+    "291 2.1 end",
+    "308 2.2 call 6 4",
+    "308 2.2 reply 0",
+    "325 2.2 call 6 4",
+    "325 2.2 reply 1 5",
+    "end 325 done",
+];
+
+/// Who hasn't claimed a number doesn't free it, and a handler makes no call that might wait.
+#[test]
+fn claims_are_kept_and_handlers_never_wait(rt: HostRuntime) -> Result<(), Fail> {
+    let processes: [[&[Act]; 2]; 2] = [[&CLAIMANT, &PATIENT_HANDLER], [&RIVAL, &[]]];
+    let events = b"pick 3 2\ntick 51\ntick 51\ntick 34\nirq 4\ntick 155\ntick 34\nirq 4\n";
+    expect_run(&rt, rt.alloc(), &processes, events, &REFUSED_TO_HANDLERS)
+}
+
+/// A driver: a server claims number 4 with argument 9, and waits for a message.
+const DRIVER: [Act; 3] = [
+    Call([CREATE_SERVER, 1, 2, 3, 4, 0, 0, 0]),
+    Call([CLAIM_INTERRUPT, 4, SECOND, 9, 0, 0, 0, 0]),
+    Call([RECEIVE, 1, 2, 3, 4, 0, 0, 0]),
+];
+
+/// The handler sends it a scalar.
+const DRIVERS_HANDLER: [Act; 2] = [Call([TRY_SEND, 2, 4, 8, 10, 11, 12, 13]), Return];
+
+const DRIVEN: [&str; 11] = [
+    "17 2.2 call e 1 2 3 4",
+    "17 2.2 reply 13 1 2 3 4 2",
+    "34 2.2 call 5 4 10400 9",
+    "34 2.2 reply 0",
+    "51 2.2 call f 1 2 3 4",
+    "51 2.1 irq 4",
+    "68 2.1 call 18 2 4 8 a b c d",
+    "68 2.1 reply 0",
+    "68 2.2 reply 9 1 4 8 a b c d",
+    "70 2.1 end",
+    "end 70 done",
+];
+
+/// The thread that waits gets what the handler sends.
+#[test]
+fn a_handler_sends_to_its_own_server(rt: HostRuntime) -> Result<(), Fail> {
+    let processes: [[&[Act]; 2]; 1] = [[&DRIVER, &DRIVERS_HANDLER]];
+    let events = b"tick 51\nirq 4\ntick 19\n";
+    expect_run(&rt, rt.alloc(), &processes, events, &DRIVEN)
 }
 
 /// The run of the first process over these events ends so, and writes this.

@@ -1,6 +1,8 @@
 //! Calls on memory, one after another.
 
 use super::expecting::expect_code;
+use super::programs::Act::Call;
+use super::programs::{Act, MAP_MEMORY, PAGE, expect_run};
 use std::test::Fail;
 
 /// The heap grows by a page, which loses its W and is unmapped.
@@ -115,4 +117,39 @@ fn calls_on_the_heap(rt: HostRuntime) -> Result<(), Fail> {
 #[test]
 fn calls_on_the_map_window(rt: HostRuntime) -> Result<(), Fail> {
     expect_code(&rt, rt.alloc(), 1, &MAP, b"tick 36", &MAP_LINES)
+}
+
+/// The last page of the Map window.
+const LAST: u32 = 0x60FF_F000;
+
+/// The last page; two pages from there on; none; flags without R; an unknown flag; and the last page again.
+const ENDS: [Act; 6] = [
+    Call([MAP_MEMORY, 0, LAST, PAGE, 6, 0, 0, 0]),
+    Call([MAP_MEMORY, 0, LAST, 2 * PAGE, 6, 0, 0, 0]),
+    Call([MAP_MEMORY, 0, LAST, 0, 6, 0, 0, 0]),
+    Call([MAP_MEMORY, 0, LAST, PAGE, 4, 0, 0, 0]),
+    Call([MAP_MEMORY, 0, LAST, PAGE, 32, 0, 0, 0]),
+    Call([MAP_MEMORY, 0, LAST, PAGE, 6, 0, 0, 0]),
+];
+
+const ENDS_LINES: [&str; 13] = [
+    "17 2.2 call 2 0 60fff000 1000 6",
+    "17 2.2 reply 3 60fff000 1000",
+    "34 2.2 call 2 0 60fff000 2000 6",
+    "34 2.2 reply 1 2",
+    "51 2.2 call 2 0 60fff000 0 6",
+    "51 2.2 reply 1 1",
+    "68 2.2 call 2 0 60fff000 1000 4",
+    "68 2.2 reply 1 12",
+    "85 2.2 call 2 0 60fff000 1000 20",
+    "85 2.2 reply 1 12",
+    "102 2.2 call 2 0 60fff000 1000 6",
+    "102 2.2 reply 1 4",
+    "end 102 done",
+];
+
+#[test]
+fn ends_of_the_map_window(rt: HostRuntime) -> Result<(), Fail> {
+    let processes: [[&[Act]; 2]; 1] = [[&ENDS, &[]]];
+    expect_run(&rt, rt.alloc(), &processes, b"tick 102\n", &ENDS_LINES)
 }

@@ -5,7 +5,7 @@ ghost use Rattle.std.specs.Prelude.{◌<◌};
 use super::expecting::expect_transcript;
 use super::image::{START, image_of};
 use super::running::{Outcome, trace};
-use super::swapping::trace_with_one_page;
+use super::swapping::play_with_one_page;
 use Act::{Call, Return, Store, Tell};
 use rv32_words::{Insn, encode};
 use std::alloc::Global;
@@ -14,9 +14,13 @@ use std::test::Fail;
 
 // The numbers of calls.
 
+pub const MAP_MEMORY: u32 = 2;
+
 pub const YIELD: u32 = 3;
 
 pub const CLAIM_INTERRUPT: u32 = 5;
+
+pub const FREE_INTERRUPT: u32 = 6;
 
 pub const INCREASE_HEAP: u32 = 10;
 
@@ -32,6 +36,8 @@ pub const CONNECT: u32 = 17;
 
 pub const CREATE_THREAD: u32 = 18;
 
+pub const UNMAP_MEMORY: u32 = 19;
+
 pub const RETURN_MEMORY: u32 = 20;
 
 pub const TRY_SEND: u32 = 24;
@@ -41,6 +47,8 @@ pub const RETURN_SCALAR1: u32 = 26;
 pub const RETURN_SCALAR2: u32 = 27;
 
 pub const TRY_RECEIVE: u32 = 28;
+
+pub const JOIN_THREAD: u32 = 36;
 
 pub const DESTROY_SERVER: u32 = 41;
 
@@ -99,7 +107,7 @@ pub fn expect_run(
 ) -> Result<(), Fail> {
     let run = play(alloc, processes, events)?;
     expect_transcript(rt, alloc, &run, lines)?;
-    let run = trace_with_one_page(alloc, processes, events)?;
+    let run = play_with_one_page(alloc, "trace", processes, events)?;
     expect_transcript(rt, alloc, &run, lines)
 }
 
@@ -126,6 +134,12 @@ pub fn image_of_programs(alloc: Global, processes: &[[&[Act]; 2]]) -> Result<Vec
 }
 
 /// The instructions of a thread that does these acts and then loops.
+pub fn code_of(alloc: Global, acts: &[Act]) -> Result<Vec<u32>, Fail> {
+    let mut code = Vec::new(alloc);
+    push_acts(&mut code, acts)?;
+    Ok(code)
+}
+
 fn push_acts(code: &mut Vec<u32>, acts: &[Act]) -> Result<(), Fail> {
     for act in acts {
         push_act(code, *act)?;

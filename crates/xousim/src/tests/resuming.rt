@@ -4,8 +4,11 @@ use super::deaths::{HEIR, LENDER_KILLED, MUTABLE_LENDER};
 use super::expecting::{
     expect_bytes, expect_length, expect_out, expect_outcome, expect_status, expect_transcript,
 };
+use super::image::with_ram;
+use super::lends::{LENDER, LENT_AND_RETURNED, READER};
 use super::programs::{Act, image_of_programs};
 use super::running::{Outcome, SOUND, run};
+use super::swapping::{House, expect_swap_faults};
 use super::{FIRST_IMAGE, FIRST_RECORDS};
 use crate::status::Status;
 use kernel_args::ArgFault;
@@ -168,4 +171,27 @@ fn orphan_is_kept(rt: HostRuntime) -> Result<(), Fail> {
     expect_resumed(&rt, alloc, &["resume", "i", "e"], files, rest)?;
     let with_slots = ["resume", "i", "e", "1000", "4052"];
     expect_resumed(&rt, alloc, &with_slots, files, rest)
+}
+
+/// A run is suspended while a page is on loan, and goes on with one page in RAM over a store of which each call fails in
+/// turn, from the first, which prepares the slots: that is a swap fault, and no want of memory. Calls fail before any line,
+/// as pages go out while the state is loaded.
+#[test]
+fn a_state_on_a_failing_store(rt: HostRuntime) -> Result<(), Fail> {
+    let alloc = rt.alloc();
+    let processes: [[&[Act]; 2]; 2] = [[&READER, &[]], [&LENDER, &[]]];
+    let image = image_of_programs(alloc, &processes)?;
+    let image = with_ram(alloc, image.as_slice(), 0x4_0000)?;
+    let run = suspended(alloc, image.as_slice(), b"tick 90")?;
+    expect_suspended(&rt, &run);
+    let house = House {
+        command: "resume",
+        file: run.out.as_slice().to_vec(alloc)?,
+        slots: "20",
+        events: b"tick 36\ntick 24\n",
+    };
+    let lines = &LENT_AND_RETURNED[9..];
+    let before = expect_swap_faults(&rt, alloc, &house, lines, 0)?;
+    assert!(rt; before > 20);
+    Ok(())
 }

@@ -1,6 +1,10 @@
 //! Runs with one page in RAM: every change of page is an exchange with the store.
 
-use super::expecting::{expect_bytes, expect_out, expect_outcome, expect_status};
+mod real;
+
+use super::expecting::{
+    expect_bytes, expect_out, expect_outcome, expect_status, expect_transcript,
+};
 use super::image::{patched, with_ram};
 use super::lends::{LENDER, LENT_AND_RETURNED, READER};
 use super::lines::transcript;
@@ -24,9 +28,10 @@ const ONE_PAGE: [(u32, &str); 6] = [
     (0x6_B000, "3989"),
 ];
 
-/// The run of these programs with one page in RAM, and with as many pages in all as in 16 MiB.
-pub fn trace_with_one_page(
+/// The run of these programs by this command with one page in RAM, and with as many pages in all as in 16 MiB.
+pub fn play_with_one_page(
     alloc: Global,
+    command: &str,
     processes: &[[&[Act]; 2]],
     events: &[u8],
 ) -> Result<Outcome, Fail> {
@@ -34,9 +39,34 @@ pub fn trace_with_one_page(
         return Err(Fail::from("no such RAM"));
     };
     let image = image_of_programs(alloc, processes)?;
-    let image = with_ram(alloc, image.as_slice(), *ram)?;
-    let texts = ["trace", "i", "e", "10000000", *slots];
+    play_in_house(alloc, command, (image.as_slice(), events), (*ram, *slots))
+}
+
+/// The run of an image over these events by this command, in a house of this RAM and these slots.
+fn play_in_house(
+    alloc: Global,
+    command: &str,
+    (image, events): (&[u8], &[u8]),
+    (ram, slots): (u32, &str),
+) -> Result<Outcome, Fail> {
+    let image = with_ram(alloc, image, ram)?;
+    let texts = [command, "i", "e", "10000000", slots];
     call(alloc, &texts, image.as_slice(), events, 0)
+}
+
+/// The run of an image over these events has just these lines, in each of the houses.
+pub fn expect_in_houses(
+    rt: &impl Abort,
+    alloc: Global,
+    files: (&[u8], &[u8]),
+    houses: &[(u32, &str)],
+    lines: &[&str],
+) -> Result<(), Fail> {
+    for house in houses {
+        let run = play_in_house(alloc, "trace", files, *house)?;
+        expect_transcript(rt, alloc, &run, lines)?;
+    }
+    Ok(())
 }
 
 /// Runs the program with these words on the image `i` and the event file `e`. The call of the store with
@@ -147,12 +177,13 @@ fn fault_of_the_store(rt: HostRuntime) -> Result<(), Fail> {
 /// More calls of the store than a run makes.
 const CALLS: u64 = 2000;
 
-/// An image with one page in RAM, its slots and its events.
+/// A command on an image or a state with one page in RAM, its slots and its events.
 #[derive(Drop)]
-struct House {
-    image: Vec<u8>,
-    slots: &'static str,
-    events: &'static [u8],
+pub struct House {
+    pub command: &'static str,
+    pub file: Vec<u8>,
+    pub slots: &'static str,
+    pub events: &'static [u8],
 }
 
 /// A call of the store fails in this run of these lines: those of whole steps stand there, and the answer is
@@ -175,17 +206,17 @@ fn lines_before_fault(
 
 /// Each call of the store fails, as long as there is one that can: there stand the lines of whole steps.
 /// The answer is the last of these calls that leaves so many lines, or 0 for none.
-fn expect_swap_faults(
+pub fn expect_swap_faults(
     rt: &impl Abort,
     alloc: Global,
     house: &House,
     lines: &[&str],
     sought: usize,
 ) -> Result<u64, Fail> {
-    let texts = ["trace", "i", "e", "1000", house.slots];
+    let texts = [house.command, "i", "e", "1000", house.slots];
     let mut last = 0;
     for failing in 1..CALLS {
-        let run = call(alloc, &texts, house.image.as_slice(), house.events, failing)?;
+        let run = call(alloc, &texts, house.file.as_slice(), house.events, failing)?;
         let Some(told) = lines_before_fault(rt, alloc, lines, &run)? else {
             return Ok(last);
         };
@@ -217,7 +248,8 @@ fn whole_steps(alloc: Global, lines: &[&str], part: &[u8]) -> Result<usize, Fail
 fn full_house_on_a_failing_store(rt: HostRuntime) -> Result<(), Fail> {
     let alloc = rt.alloc();
     let house = House {
-        image: with_ram(alloc, &FIRST_IMAGE, 0x1_7000)?,
+        command: "trace",
+        file: with_ram(alloc, &FIRST_IMAGE, 0x1_7000)?,
         slots: "9",
         events: b"tick 100",
     };
@@ -235,7 +267,8 @@ fn lend_and_return_on_a_failing_store(rt: HostRuntime) -> Result<(), Fail> {
     let processes: [[&[Act]; 2]; 2] = [[&READER, &[]], [&LENDER, &[]]];
     let image = image_of_programs(alloc, &processes)?;
     let house = House {
-        image: with_ram(alloc, image.as_slice(), 0x2_C000)?,
+        command: "trace",
+        file: with_ram(alloc, image.as_slice(), 0x2_C000)?,
         slots: "20",
         events: b"tick 126\ntick 24\n",
     };

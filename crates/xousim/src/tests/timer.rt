@@ -1,6 +1,8 @@
 //! The timer's page and its interrupt.
 
 use super::expecting::expect_code;
+use super::programs::Act::{Call, Return, Store, Tell};
+use super::programs::{Act, CLAIM_INTERRUPT, SECOND, expect_run};
 use std::alloc::Global;
 use std::process::Abort;
 use std::test::Fail;
@@ -200,4 +202,42 @@ const LOADED_LINES: [&str; 9] = [
 fn is_told_before_a_death(rt: HostRuntime) -> Result<(), Fail> {
     let events = b"tick 9\ntick 8\npick 2 1\ntick 3\n";
     expect_code(&rt, rt.alloc(), 2, &LOADED, events, &LOADED_LINES)
+}
+
+/// The timer's page.
+const TIMER: u32 = 0xF000_1000;
+
+/// A process claims number 20, arms the timer with step 5000 and disarms it by any store at 8, arms it with step 200, and
+/// stores at 0 and at 12. Each time it tells words of the page.
+const LOADS_AND_STORES: [Act; 9] = [
+    Call([CLAIM_INTERRUPT, 20, SECOND, 9, 0, 0, 0, 0]),
+    Store(TIMER + 4, 5000),
+    Tell(TIMER, TIMER + 4),
+    Tell(TIMER + 8, TIMER + 12),
+    Store(TIMER + 8, 7),
+    Tell(TIMER + 4, TIMER + 8),
+    Store(TIMER + 4, 200),
+    Store(TIMER, 77),
+    Store(TIMER + 12, 77),
+];
+
+const SERVED: [&str; 11] = [
+    "17 2.2 call 5 14 10400 9",
+    "17 2.2 reply 0",
+    "41 2.2 call 2a 26 1388",
+    "41 2.2 reply a 2",
+    "60 2.2 call 2a 1",
+    "60 2.2 reply a 2",
+    "84 2.2 call 2a",
+    "84 2.2 reply a 2",
+    "200 2.1 irq 20",
+    "202 2.1 end",
+    "end 5050 done",
+];
+
+/// The steps at 0, the compare value at 4, at 8 whether it is armed, and nothing elsewhere. What was disarmed raises nothing.
+#[test]
+fn loads_and_stores_of_its_page(rt: HostRuntime) -> Result<(), Fail> {
+    let processes: [[&[Act]; 2]; 1] = [[&LOADS_AND_STORES, &[Return]]];
+    expect_run(&rt, rt.alloc(), &processes, b"tick 5050\n", &SERVED)
 }

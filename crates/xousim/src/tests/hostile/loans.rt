@@ -3,7 +3,7 @@
 use crate::tests::programs::Act::Call;
 use crate::tests::programs::{
     Act, CONNECT, CREATE_SERVER, CREATE_THREAD, HEAP, INCREASE_HEAP, MESSAGE, PAGE, RECEIVE,
-    RETURN_MEMORY, RETURN_SCALAR1, SECOND, SEND, UPDATE_MEMORY_FLAGS, expect_run,
+    RETURN_MEMORY, RETURN_SCALAR1, SECOND, SEND, UNMAP_MEMORY, UPDATE_MEMORY_FLAGS, expect_run,
 };
 use std::test::Fail;
 
@@ -49,8 +49,6 @@ const OTHER_SERVER: [Act; 3] = [
     Call([RECEIVE, 5, 6, 7, 8, 0, 0, 0]),
     Call([RETURN_MEMORY, 1, MESSAGE, PAGE, 0, 0, 0, 0]),
 ];
-
-const UNMAP_MEMORY: u32 = 19;
 
 const DECREASE_HEAP: u32 = 11;
 

@@ -1,0 +1,33 @@
+"""The words of an assembler in the program's tests: each is what llvm-mc makes of the source line beside it."""
+
+import pathlib
+import re
+import shutil
+import subprocess
+
+TESTS = pathlib.Path(__file__).resolve().parent.parent.parent / "crates" / "xousim" / "src" / "tests"
+FILES = (*sorted((TESTS / "assembled").glob("*.rt")), TESTS / "commands" / "largest.rt")
+ASSEMBLER = "llvm-mc"
+# A word, and its source line.
+ROW = re.compile(r"^ +0x([0-9A-F]{4})_([0-9A-F]{4}), // (.+)$", re.M)
+ENCODED = re.compile(r"# encoding: \[(.*)\]")
+
+
+def assembled(lines):
+    """The words of these lines."""
+    command = [ASSEMBLER, "-arch=riscv32", "-mattr=+m,+a", "-show-encoding"]
+    ran = subprocess.run(command, input="\n".join(lines) + "\n", capture_output=True, text=True, check=False)
+    return [int.from_bytes(bytes.fromhex(re.sub("0x|,", "", word)), "little") for word in ENCODED.findall(ran.stdout)]
+
+
+def checks(_program, _folder):
+    if not shutil.which(ASSEMBLER):
+        print(f"skipped the words of the tests: {ASSEMBLER} is missing; apt-get install llvm")
+        return
+    for file in FILES:
+        rows = [(int(high + low, 16), line) for high, low, line in ROW.findall(file.read_text())]
+        yield bool(rows), f"{file.name}: there are words"
+        words = assembled([line for _, line in rows])
+        yield len(words) == len(rows), f"{file.name}: {len(words)} of {len(rows)} lines have a word"
+        for (word, line), made in zip(rows, words):
+            yield word == made, f"{file.name}: {line} is {made:08x}, not {word:08x}"
