@@ -3,5 +3,9 @@
 #![tactic(auto)]
 
 mod differences;
+mod records;
+mod side_by_side;
 
 pub use differences::causes_make_no_difference;
+pub use records::records_are_of_the_moments;
+pub use side_by_side::histories_are_side_by_side;

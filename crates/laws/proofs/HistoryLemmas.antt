@@ -20,10 +20,10 @@ use Rattle.irq_laws.specs.Delivering.{deliveries, once_if, raises}
 use Rattle.irq_laws.proofs.RunLemmas.{delivered_at_most_once}
 use Rattle.machine_history.specs.History.{history}
 use Rattle.machine_history.specs.HistoryMoments.{moments_of}
-use Rattle.machine_history.specs.TwoHistories.{StartSideBySide}
+use Rattle.isolation_laws.specs.TwoHistories.{StartSideBySide}
 use Rattle.machine_history.proofs.Histories.MomentLemmas.{history_is_run, history_last}
-use Rattle.machine_history.proofs.Histories.RecordLemmas.{history_tells}
-use Rattle.machine_history.proofs.Histories.SideBySideLemmas.{side_by_side}
+use Rattle.isolation_laws.proofs.Histories.RecordLemmas.{history_tells}
+use Rattle.isolation_laws.proofs.Histories.SideBySideLemmas.{side_by_side}
 
 pub run_spans : SpansHold
 run_spans = spans_hold every_cause_keeps all_have_fates

@@ -29,7 +29,7 @@ ghost use Rattle.machine_history.specs.History.{behind, history, reached, stoppe
 ghost use Rattle.machine_history.specs.HistoryMoments.{moments_of};
 ghost use Rattle.machine_history.specs.Interleaving.{AreReadyInTurn, picks_and_ticks, steps_in_turn};
 ghost use Rattle.machine_history.specs.Reserved.{IsReservedByThread};
-ghost use Rattle.machine_history.specs.TwoHistories.{StartSideBySide, TellTheSame};
+ghost use Rattle.isolation_laws.specs.TwoHistories.{StartSideBySide, TellTheSame};
 
 /// **Every state is matched.** The state in which a machine starts has the invariant, and so has every state of every run and of every
 /// history from a state that has it, the last one too.

@@ -4,8 +4,6 @@
 
 mod events;
 mod moments;
-mod records;
-mod side_by_side;
 
 pub use events::{
     events_are_played_in_order, events_without_steps_are_played, histories_follow_each_other,
@@ -18,5 +16,3 @@ pub use moments::{
     history_is_a_run, moments_follow_each_other, moments_keep_the_cursor,
     run_ends_in_the_last_state,
 };
-pub use records::records_are_of_the_moments;
-pub use side_by_side::histories_are_side_by_side;

@@ -10,3 +10,4 @@ pub mod Sending
 pub mod Serving
 pub mod Stepping
 pub mod Threading
+pub mod TimerPageLemmas

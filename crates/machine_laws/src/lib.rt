@@ -16,6 +16,7 @@ mod server_laws;
 mod step_laws;
 mod thread_end_laws;
 mod thread_laws;
+mod timer_page;
 
 pub use call_laws::{
     call_step_keeps_matched, refused_call_keeps_matched, retried_call_keeps_matched,
@@ -52,3 +53,4 @@ pub use thread_laws::{
     get_process_id_keeps_matched, get_thread_id_keeps_matched, join_thread_keeps_matched,
     yield_keeps_matched,
 };
+pub use timer_page::timer_page_is_apart;

@@ -1,4 +1,3 @@
 pub mod Arming
 pub mod Raising
 pub mod TimerLaw
-pub mod TimerPage

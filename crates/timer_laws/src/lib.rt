@@ -4,7 +4,6 @@
 
 ghost use Rattle.timer_laws.specs.Arming.{OnlyClaimantStores};
 ghost use Rattle.timer_laws.specs.Raising.{ElseNothing, RaiseIsEvent};
-ghost use Rattle.timer_laws.specs.TimerPage.{PageIsApart};
 
 /// In a step that the timer raises its interrupt in, that comes last, as by an event.
 pub fn raise_is_an_event()
@@ -20,9 +19,4 @@ pub fn nothing_else_is_done()
 /// timer by a store.
 pub fn only_the_claimant_stores()
     ensures { OnlyClaimantStores }
-{}
-
-/// Where the machine is matched, no page of the ledger is reached at an address of the timer's page.
-pub fn timer_page_is_apart()
-    ensures { PageIsApart }
 {}

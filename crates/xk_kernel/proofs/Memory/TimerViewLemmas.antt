@@ -14,7 +14,7 @@ use Rattle.rv32_hart.specs.Running.{timer_left}
 use Rattle.sv32_space.specs.Tie.{Held}
 use Rattle.timer_device.proofs.PageLemmas.{view_is_memory}
 use Rattle.timer_device.specs.Page.{IsMemoryOf, console_with_timer, may_with_timer, timer_with}
-use Rattle.timer_laws.proofs.TimerPageLemmas.{page_is_apart}
+use Rattle.machine_laws.proofs.TimerPageLemmas.{page_is_apart}
 use Rattle.vm_memory.specs.Using.UserView.{seen_memory, user_view}
 use Rattle.xk_base.specs.UserMemory.{Memory as SeenMemory, Timer, compare_stored, in_timer_page, timer_at}
 use Rattle.xk_base.specs.declared.ids.Pid.{Pid}

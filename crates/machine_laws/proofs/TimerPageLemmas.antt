@@ -12,7 +12,7 @@ use Rattle.ledger_model.specs.Ledger.{Ledger, Orphan, Page, PageLoan, loan_at}
 use Rattle.ledger_model.specs.Places.{is_place_in, is_user_place}
 use Rattle.ledger_model.specs.Reach.{FreePlace, lender_of, reach}
 use Rattle.ledger_model.proofs.LedgerLemmas.{lender_of-loan, reach-role, role_at-free}
-use Rattle.timer_laws.specs.TimerPage.{PageIsApart}
+use Rattle.machine_laws.specs.TimerPage.{PageIsApart}
 
 -- ---- outside the windows
 

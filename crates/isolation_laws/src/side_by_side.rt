@@ -2,7 +2,7 @@
 
 ghost use Rattle.std.specs.Prelude.{ℕ, List};
 ghost use Rattle.xk_base.specs.declared.events.Event.{Event};
-ghost use Rattle.machine_history.specs.TwoHistories.{StartSideBySide};
+ghost use Rattle.isolation_laws.specs.TwoHistories.{StartSideBySide};
 ghost use Rattle.isolation_laws.specs.TwoRuns.{IsSideBySide};
 ghost use Rattle.machine_model.specs.State.Machine.{Machine};
 ghost use Rattle.machine_history.specs.HistoryMoments.{moments_of};

@@ -1,6 +1,0 @@
-use Rattle.machine_history.proofs.Histories.RecordLemmas.{history_tells}
-use Rattle.machine_history.proofs.records.records_are_of_the_moments.Goals as goal
-
--- src/records.rt
-pub returns : goal.returns
-returns c = history_tells

@@ -1,6 +1,0 @@
-use Rattle.machine_history.proofs.Histories.SideBySideLemmas.{side_by_side}
-use Rattle.machine_history.proofs.side_by_side.histories_are_side_by_side.Goals as goal
-
--- src/side_by_side.rt
-pub returns : goal.returns
-returns c = side_by_side
