@@ -245,32 +245,3 @@ decided_within m w =
 pub calls_leave_the_rest : CallsLeaveTheRest
 calls_leave_the_rest m w change e =
     (subst (OutcomeLeaves (footprint (call_number w)) m) (sym (calls_meant m w) ∙ e) (decided_within m w)).0
-
--- ---- the numbers of a part
-
--- the calls that can change a part have one of these numbers
-abbrev pub is_number_of : Part → ℕ → List (ℕ × List Part) → Bool
-is_number_of part number others = list_any (λ row. names row.1 part && (number == row.0)) others
-
-passed_over : (x rest : Bool) → rest ≡ true → ((x && false) || rest) ≡ true
-passed_over true rest e = e
-passed_over false rest e = e
-
-named_at : (part : Part) (number : ℕ) (others : List (ℕ × List Part)) → names (footprint_at number others) part ≡ true
-    → is_number_of part number others ≡ true
-named_at part number [] e = absurd (false≢true e)
-named_at part number (row ∷ others) e = go (number == row.0) e (named_at part number others)
-  where
-    go : (b : Bool) → names (if b then row.1 else footprint_at number others) part ≡ true
-        → (names (footprint_at number others) part ≡ true → is_number_of part number others ≡ true)
-        → ((names row.1 part && b) || is_number_of part number others) ≡ true
-    go true named later = ap (λ x. (x && true) || is_number_of part number others) named
-    go false named later = passed_over (names row.1 part) (is_number_of part number others) (later named)
-
--- so a call of another number leaves the part
-pub unnamed_by : (part : Part) (number : ℕ) → is_number_of part number footprints ≡ false → names (footprint number) part ≡ false
-unnamed_by part number other = go (names (footprint number) part) refl
-  where
-    go : (b : Bool) → names (footprint number) part ≡ b → b ≡ false
-    go false e = refl
-    go true e = absurd (false≢true (sym other ∙ named_at part number footprints e))
