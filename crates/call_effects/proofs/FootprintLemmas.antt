@@ -15,13 +15,13 @@ use Rattle.machine_model.specs.Calling.ServerCalls.{named_server, named_sid}
 use Rattle.machine_model.specs.Messaging.ForwardCalls.{next_arrival, passable, passed_number}
 use Rattle.machine_model.specs.Messaging.ReceiveCalls.{oldest_queued}
 use Rattle.machine_model.specs.State.Order.{turn}
-use Rattle.call_effects.specs.Footprints.{CallsLeaveTheRest, LeavesAllBut, Part, LedgerPart, ThreadsPart, ProcessesPart, ServersPart, ClaimsPart, PendingPart, ComparePart, CursorPart, NumberPart, SerialPart, are_among, footprint, footprint_at, footprints, names, part_code, touched}
+use Rattle.call_effects.specs.Footprints.{CallsLeaveTheRest, LeavesAllBut, Part, LedgerPart, ThreadsPart, ProcessesPart, ServersPart, ClaimsPart, PendingPart, ComparePart, CursorPart, NumberPart, SerialPart, are_among, footprint, names, part_code, touched}
 use Rattle.call_effects.specs.Effects.{Effect, Pages, HasHeap, Starts, Waits, Awaits, EndsTurn, Founds, Connects, TakesNumber, Serves, ClosesServers, Unqueues, Orphans, Forgets, Claims, Frees, apply}
 use Rattle.call_effects.proofs.LeadingLemmas.{Leads, verdict_leads}
 use Rattle.call_effects.proofs.RowLemmas.{OfRows, ◌also◌, of_row}
 use Rattle.call_effects.specs.Verdicts.{Row, Verdict, all_effects, answers_caller, answers_nobody, meant}
 use Rattle.call_effects.proofs.MeantLemmas.{calls_meant}
-use Rattle.call_effects.specs.Deciding.{decide, row_at, rows}
+use Rattle.call_effects.specs.Deciding.{decide, rows}
 use Rattle.call_effects.specs.Rows.MessageRows.{forward_row, passed_if, receive_row, taken_or, try_receive_row}
 
 -- ---- parts among parts

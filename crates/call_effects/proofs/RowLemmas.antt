@@ -9,9 +9,9 @@ use Rattle.call_effects.specs.Deciding.{row_at}
 use Rattle.call_effects.specs.Verdicts.{Refuses, Row}
 
 -- the first too, where the test says so
-abbrev pub Both_if : Bool → Type 0 → Type 0 → Type 0
-Both_if true A B = A × B
-Both_if false A B = B
+abbrev pub BothIf : Bool → Type 0 → Type 0 → Type 0
+BothIf true A B = A × B
+BothIf false A B = B
 
 -- what is shown of one row, and of the rows after it
 infixr 5 ◌also◌
@@ -22,13 +22,13 @@ module _ (chosen : ℕ → Bool) (P : ℕ → Row → Type 0) where
   -- this of each row that is chosen, with its number
   abbrev pub OfRows : List (ℕ × Row) → Type 0
   OfRows [] = ⊤
-  OfRows (row ∷ others) = Both_if (chosen row.0) (P row.0 row.1) (OfRows others)
+  OfRows (row ∷ others) = BothIf (chosen row.0) (P row.0 row.1) (OfRows others)
 
-  rest_of : (b : Bool) (A B : Type 0) → Both_if b A B → B
+  rest_of : (b : Bool) (A B : Type 0) → BothIf b A B → B
   rest_of true A B of = of.1
   rest_of false A B of = of
 
-  first_of : (b : Bool) (A B : Type 0) → b ≡ true → Both_if b A B → A
+  first_of : (b : Bool) (A B : Type 0) → b ≡ true → BothIf b A B → A
   first_of true A B e of = of.0
   first_of false A B e of = absurd (false≢true e)
 

@@ -1,5 +1,5 @@
 -- The verdict on a call is the same where pages hold other bytes.
-use Rattle.std.proofs.Common.{◌≡◌, ℕ, Bool, true, false, List, [], ◌∷◌, ◌++◌, ◌*◌, Option, Some, None, is_none, refl, sym, ap, ◌∙◌}
+use Rattle.std.proofs.Common.{◌≡◌, ℕ, Bool, true, List, [], ◌∷◌, ◌++◌, ◌*◌, Option, Some, None, is_none, refl, sym, ap, ◌∙◌}
 use Rattle.std.specs.Option.{option_and_then, option_map_or}
 use Rattle.std.specs.Prelude.{◌+◌, ◌-◌, ◌/◌, ◌==◌, ◌&&◌, ◌||◌, if◌then◌else◌, nat_lt, not, unwrap_or}
 use Rattle.xk_base.specs.declared.errors.XousError.{XousError}
@@ -28,7 +28,7 @@ use Rattle.machine_model.specs.Messaging.ReturnCalls.{holder_of}
 use Rattle.machine_model.specs.Messaging.SendCalls.{arrival, arrival_refusals, is_full_for, named_kind, send_refusals, sends_lend_mut, sends_pages, sent_pages}
 use Rattle.machine_model.specs.State.Machine.{Machine, Receiving}
 use Rattle.machine_model.specs.State.Servers.{live_servers, server_at, with_sid}
-use Rattle.call_effects.specs.Deciding.{decide, row_at, rows}
+use Rattle.call_effects.specs.Deciding.{decide, rows}
 use Rattle.call_effects.specs.Effects.{Maps, Pages, Waits}
 use Rattle.call_effects.specs.Rows.MemoryRows.{decrease_row, increase_row, map_row, unmap_row, update_row}
 use Rattle.call_effects.specs.Rows.MessageRows.{forward_row, passed_if, receive_row, send_row, sent_row, sent_to_row, taken_or, try_receive_row, try_send_row}
