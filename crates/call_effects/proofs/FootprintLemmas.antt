@@ -15,12 +15,13 @@ use Rattle.machine_model.specs.Calling.ServerCalls.{named_server, named_sid}
 use Rattle.machine_model.specs.Messaging.ForwardCalls.{next_arrival, passable, passed_number}
 use Rattle.machine_model.specs.Messaging.ReceiveCalls.{oldest_queued}
 use Rattle.machine_model.specs.State.Order.{turn}
-use Rattle.call_effects.specs.Footprints.{CallsLeaveTheRest, LeavesAllBut, Part, LedgerPart, ThreadsPart, ProcessesPart, ServersPart, ClaimsPart, PendingPart, ComparePart, CursorPart, NumberPart, SerialPart, are_among, footprint, footprint_at, footprints, names, part_code, touched}
+use Rattle.call_effects.specs.Footprints.{CallsLeaveTheRest, LeavesAllBut, Part, LedgerPart, ThreadsPart, ProcessesPart, ServersPart, ClaimsPart, PendingPart, ComparePart, CursorPart, NumberPart, SerialPart, are_among, footprint, names, part_code, touched}
 use Rattle.call_effects.specs.Effects.{Effect, Pages, HasHeap, Starts, Waits, Awaits, EndsTurn, Founds, Connects, TakesNumber, Serves, ClosesServers, Unqueues, Orphans, Forgets, Claims, Frees, apply}
 use Rattle.call_effects.proofs.LeadingLemmas.{Leads, verdict_leads}
+use Rattle.call_effects.proofs.RowLemmas.{OfRows, ◌also◌, of_row}
 use Rattle.call_effects.specs.Verdicts.{Row, Verdict, all_effects, answers_caller, answers_nobody, meant}
 use Rattle.call_effects.proofs.MeantLemmas.{calls_meant}
-use Rattle.call_effects.specs.Deciding.{decide, row_at, rows}
+use Rattle.call_effects.specs.Deciding.{decide, rows}
 use Rattle.call_effects.specs.Rows.MessageRows.{forward_row, passed_if, receive_row, taken_or, try_receive_row}
 
 -- ---- parts among parts
@@ -192,30 +193,11 @@ try_receive_within m w =
 
 -- ---- the table
 
--- each row of verdicts is within the row of parts at the same number
-data AreWithin : List (ℕ × Row) → List (ℕ × List Part) → Type 0 where
-  NoRow : AreWithin [] []
-  OneRow : (number : ℕ) (row : Row) (parts : List Part) (verdicts : List (ℕ × Row)) (others : List (ℕ × List Part)) → IsWithin row parts
-      → AreWithin verdicts others → AreWithin ((number, row) ∷ verdicts) ((number, parts) ∷ others)
+-- each row of verdicts is within the parts of its number
+abbrev WithinItsParts : ℕ → Row → Type 0
+WithinItsParts number row = IsWithin row (footprint number)
 
-infixr 5 ◌also◌
-◌also◌ : {number : ℕ} {row : Row} {parts : List Part} {verdicts : List (ℕ × Row)} {others : List (ℕ × List Part)} → IsWithin row parts
-    → AreWithin verdicts others → AreWithin ((number, row) ∷ verdicts) ((number, parts) ∷ others)
-◌also◌ one others = OneRow _ _ _ _ _ one others
-
-choice_within : (b : Bool) (x y : Verdict) (these those : List Part) → all_effects (touches_among these) x ≡ true
-    → all_effects (touches_among those) y ≡ true → all_effects (touches_among (if b then these else those)) (if b then x else y) ≡ true
-choice_within true x y these those a b = a
-choice_within false x y these those a b = b
-
-rows_within : (number : ℕ) (verdicts : List (ℕ × Row)) (others : List (ℕ × List Part)) → AreWithin verdicts others
-    → IsWithin (row_at number verdicts) (footprint_at number others)
-rows_within number _ _ NoRow m w = refl
-rows_within number _ _ (OneRow k row parts verdicts others one rest) m w =
-    choice_within (number == k) (row m w) (row_at number verdicts m w) parts (footprint_at number others) (one m w)
-    (rows_within number verdicts others rest m w)
-
-table_within : AreWithin rows footprints
+table_within : OfRows (λ number. true) WithinItsParts rows
 table_within =
     (λ m w. refl)
     also (λ m w. refl)
@@ -242,7 +224,7 @@ table_within =
     also (λ m w. refl)
     also (λ m w. refl)
     also forward_within
-    also NoRow
+    also tt
 
 -- ---- calls
 
@@ -255,7 +237,7 @@ unfolding decide
 decided_within m w =
     verdict_leads (LeavesAllBut parts) (touches_among parts) (as_before parts) (one_after_the_other parts)
     (λ effect n among. widened (touched effect) parts n (apply effect n) among (touches_its_parts effect n)) m (decide m w)
-    (rows_within (call_number w) rows footprints table_within m w)
+    (of_row (λ number. true) WithinItsParts (call_number w) refl (λ m w. refl) rows table_within m w)
   where
     parts : List Part
     parts = footprint (call_number w)
@@ -263,32 +245,3 @@ decided_within m w =
 pub calls_leave_the_rest : CallsLeaveTheRest
 calls_leave_the_rest m w change e =
     (subst (OutcomeLeaves (footprint (call_number w)) m) (sym (calls_meant m w) ∙ e) (decided_within m w)).0
-
--- ---- the numbers of a part
-
--- the calls that can change a part have one of these numbers
-abbrev pub is_number_of : Part → ℕ → List (ℕ × List Part) → Bool
-is_number_of part number others = list_any (λ row. names row.1 part && (number == row.0)) others
-
-passed_over : (x rest : Bool) → rest ≡ true → ((x && false) || rest) ≡ true
-passed_over true rest e = e
-passed_over false rest e = e
-
-named_at : (part : Part) (number : ℕ) (others : List (ℕ × List Part)) → names (footprint_at number others) part ≡ true
-    → is_number_of part number others ≡ true
-named_at part number [] e = absurd (false≢true e)
-named_at part number (row ∷ others) e = go (number == row.0) e (named_at part number others)
-  where
-    go : (b : Bool) → names (if b then row.1 else footprint_at number others) part ≡ true
-        → (names (footprint_at number others) part ≡ true → is_number_of part number others ≡ true)
-        → ((names row.1 part && b) || is_number_of part number others) ≡ true
-    go true named later = ap (λ x. (x && true) || is_number_of part number others) named
-    go false named later = passed_over (names row.1 part) (is_number_of part number others) (later named)
-
--- so a call of another number leaves the part
-pub unnamed_by : (part : Part) (number : ℕ) → is_number_of part number footprints ≡ false → names (footprint number) part ≡ false
-unnamed_by part number other = go (names (footprint number) part) refl
-  where
-    go : (b : Bool) → names (footprint number) part ≡ b → b ≡ false
-    go false e = refl
-    go true e = absurd (false≢true (sym other ∙ named_at part number footprints e))

@@ -1,23 +1,24 @@
 -- Whatever relation of two machines each effect leads along, if it holds of a machine and itself and one after the other, each call
 -- leads along. A test narrows this to the effects that pass it.
-use Rattle.std.proofs.Common.{◌≡◌, ℕ, Bool, true, false, List, [], ◌∷◌, Option, Some, None, refl, subst, sym}
+use Rattle.std.proofs.Common.{◌≡◌, ℕ, Bool, true, List, [], ◌∷◌, None, refl, subst, sym}
 use Rattle.std.specs.List.{list_all}
-use Rattle.std.specs.Bool.{⊤}
 use Rattle.std.proofs.lemmas.Bool.{and_parts}
-use Rattle.xk_base.specs.declared.errors.XousError.{XousError}
-use Rattle.machine_model.specs.State.Changes.{Outcome, Refused, Retried, Served, first_refusal, refused_or, unless_refused, unless_retried}
+use Rattle.machine_model.specs.State.Changes.{Change, Outcome}
 use Rattle.machine_model.specs.State.Machine.{Machine}
 use Rattle.machine_model.specs.Calling.Calls.{call}
 use Rattle.call_effects.specs.Deciding.{decide}
 use Rattle.call_effects.proofs.MeantLemmas.{calls_meant}
 use Rattle.call_effects.specs.Effects.{Effect, apply, run}
 use Rattle.call_effects.specs.Verdicts.{Does, RefusedIf, Refuses, RetriedIf, Verdict, all_effects, meant}
+use Rattle.call_effects.proofs.ServedLemmas.{OfPlan, OfServed, done, of_plan}
 
--- what is served leads along the relation, and delivers no interrupt
+-- the change leads along the relation, and delivers no interrupt
+abbrev pub LeadsTo : (Machine → Machine → Type 0) → Machine → Change → Type 0
+LeadsTo R m change = R m change.machine × (change.delivery ≡ None)
+
+-- .. where the call is served
 abbrev pub Leads : (Machine → Machine → Type 0) → Machine → Outcome → Type 0
-Leads R m (Refused error) = ⊤
-Leads R m Retried = ⊤
-Leads R m (Served change) = R m change.machine × (change.delivery ≡ None)
+Leads R m outcome = OfServed (LeadsTo R m) outcome
 
 module _ (R : Machine → Machine → Type 0) (test : Effect → Bool) (same : (m : Machine) → R m m)
     (behind : (a b c : Machine) → R a b → R b c → R a c) (each : (effect : Effect) (m : Machine) → test effect ≡ true → R m (apply effect m)) where
@@ -28,23 +29,14 @@ module _ (R : Machine → Machine → Type 0) (test : Effect → Bool) (same : (
       behind m (apply effect m) (run effects (apply effect m)) (each effect m each_passes.0)
       (run_leads effects (apply effect m) each_passes.1)
 
-  unless_refused_leads : (m : Machine) (refusals : List (Bool × XousError)) (outcome : Outcome) → Leads R m outcome
-      → Leads R m (unless_refused refusals outcome)
-  unless_refused_leads m refusals outcome of = go (first_refusal refusals)
-    where
-      go : (o : Option XousError) → Leads R m (refused_or o outcome)
-      go None = of
-      go (Some error) = tt
-
-  unless_retried_leads : (m : Machine) (retried : Bool) (outcome : Outcome) → Leads R m outcome → Leads R m (unless_retried retried outcome)
-  unless_retried_leads m true outcome of = tt
-  unless_retried_leads m false outcome of = of
+  plan_leads : (m : Machine) (verdict : Verdict) → all_effects test verdict ≡ true → OfPlan (λ plan. LeadsTo R m (done m plan)) verdict
+  plan_leads m (Refuses error) passes = tt
+  plan_leads m (Does plan) passes = (run_leads plan.effects m passes, refl)
+  plan_leads m (RefusedIf refusals verdict) passes = λ none. plan_leads m verdict passes
+  plan_leads m (RetriedIf retried verdict) passes = λ passed. plan_leads m verdict passes
 
   pub verdict_leads : (m : Machine) (verdict : Verdict) → all_effects test verdict ≡ true → Leads R m (meant m verdict)
-  verdict_leads m (Refuses error) passes = tt
-  verdict_leads m (Does plan) passes = (run_leads plan.effects m passes, refl)
-  verdict_leads m (RefusedIf refusals verdict) passes = unless_refused_leads m refusals (meant m verdict) (verdict_leads m verdict passes)
-  verdict_leads m (RetriedIf retried verdict) passes = unless_retried_leads m retried (meant m verdict) (verdict_leads m verdict passes)
+  verdict_leads m verdict passes = of_plan (LeadsTo R m) m verdict (plan_leads m verdict passes)
 
 -- ---- whatever the effects are
 

@@ -1,3 +1,6 @@
 pub mod FootprintLemmas
 pub mod LeadingLemmas
 pub mod MeantLemmas
+pub mod PartLemmas
+pub mod RowLemmas
+pub mod ServedLemmas

@@ -1,11 +1,11 @@
 pub mod CallLemmas
 pub mod CallStepLemmas
 pub mod DeathLemmas
+pub mod EndingCallLemmas
 pub mod GivenPageLemmas
 pub mod LedgerStepLemmas
 pub mod MadePageLemmas
 pub mod MemoryCallLemmas
 pub mod OrphanedPageLemmas
-pub mod PlainCallLemmas
 pub mod SendCallLemmas
 pub mod StandingPageLemmas

@@ -1,14 +1,13 @@
 -- What holds of every run holds of every history, whose moments are a run.
-use Rattle.std.proofs.Common.{◌≡◌, ℕ, ◌+◌, ◌≤◌, List, length, slice_get, Some, None, sym, subst}
+use Rattle.std.proofs.Common.{◌≡◌, ℕ, ◌+◌, ◌≤◌, List, length, slice_get, Some, sym, subst}
 use Rattle.xk_base.specs.declared.events.Event.{Event}
 use Rattle.xk_base.specs.declared.ids.Number.{Number}
 use Rattle.xk_base.specs.declared.records.Rec.{Rec}
 use Rattle.machine_model.specs.Runs.LoanSpan.{LoanSpan, SpansHold}
 use Rattle.machine_model.specs.Runs.Matched.{Matched}
 use Rattle.machine_model.specs.Runs.Moments.{Moment, state_at}
-use Rattle.machine_model.specs.Runs.Reserving.{IsReservedSince, IsSucceeding}
+use Rattle.machine_model.specs.Runs.Reserving.{IsSucceeding}
 use Rattle.machine_model.specs.State.Machine.{Machine, Reservation}
-use Rattle.machine_model.proofs.Runs.ReservingLemmas.{reservation_holds}
 use Rattle.machine_laws.proofs.Stepping.EveryStepLemmas.{every_cause_keeps}
 use Rattle.isolation_laws.specs.Differences.{OnlyMovesDifferences}
 use Rattle.isolation_laws.proofs.Spreading.RunLemmas.{run_moves}
@@ -24,6 +23,8 @@ use Rattle.isolation_laws.specs.TwoHistories.{StartSideBySide}
 use Rattle.machine_history.proofs.Histories.MomentLemmas.{history_is_run, history_last}
 use Rattle.isolation_laws.proofs.Histories.RecordLemmas.{history_tells}
 use Rattle.isolation_laws.proofs.Histories.SideBySideLemmas.{side_by_side}
+use Rattle.laws.specs.Standing.{IsReservedBefore}
+use Rattle.laws.proofs.ReservedLemmas.{every_reservation_holds}
 
 pub run_spans : SpansHold
 run_spans = spans_hold every_cause_keeps all_have_fates
@@ -37,8 +38,8 @@ pub history_moves : (events : List Event) (limit : ℕ) (m n : Machine) → Star
 history_moves events limit m n beside h i =
     run_moves m n (moments_of events limit m) (moments_of events limit n) (side_by_side events limit m n beside) h i
 
-pub history_timer : (events : List Event) (limit : ℕ) (start : Machine) → start.compare ≡ None → TimerLaw start (moments_of events limit start)
-history_timer events limit start unarmed = timer_holds start (moments_of events limit start) unarmed (history_is_run events limit start)
+pub history_timer : (events : List Event) (limit : ℕ) (start : Machine) → TimerLaw start (moments_of events limit start)
+history_timer events limit start = timer_holds start (moments_of events limit start) (history_is_run events limit start)
 
 pub history_delivers : (k : ℕ) (events : List Event) (limit : ℕ) (start : Machine)
     → deliveries k (history events limit start).records + once_if ((history events limit start).machine.pending k)
@@ -54,8 +55,8 @@ history_delivers k events limit start =
     most : ℕ
     most = raises k start (moments_of events limit start) + once_if (start.pending k)
 
-pub history_reserves : (events : List Event) (limit : ℕ) (start : Machine) (i : ℕ) (moment : Moment) (r : Reservation) → start.reserved ≡ None
+pub history_reserves : (events : List Event) (limit : ℕ) (start : Machine) (i : ℕ) (moment : Moment) (r : Reservation)
     → slice_get (moments_of events limit start) i ≡ Some moment → IsSucceeding r (state_at start (moments_of events limit start) i) moment.cause
-    → IsReservedSince r start (moments_of events limit start) i
-history_reserves events limit start i moment r none there succeeds =
-    reservation_holds start (moments_of events limit start) i moment r none (history_is_run events limit start) there succeeds
+    → IsReservedBefore r start (moments_of events limit start) i
+history_reserves events limit start i moment r there succeeds =
+    every_reservation_holds start (moments_of events limit start) i moment r (history_is_run events limit start) there succeeds

@@ -14,7 +14,7 @@ ghost use Rattle.machine_model.specs.Runs.Isolation.{CallChangesNoByte, Instruct
 ghost use Rattle.machine_model.specs.Runs.LoanSpan.{LoanSpan, SpansHold};
 ghost use Rattle.machine_model.specs.Runs.Matched.{Matched};
 ghost use Rattle.machine_model.specs.Runs.Moments.{IsRun, Moment, state_at};
-ghost use Rattle.machine_model.specs.Runs.Reserving.{IsReservedSince, IsSucceeding, ReservationHolds};
+ghost use Rattle.machine_model.specs.Runs.Reserving.{IsSucceeding, ReservationHolds};
 ghost use Rattle.machine_model.specs.State.Machine.{Machine, Reservation};
 ghost use Rattle.machine_model.specs.State.Order.{actor, next_ready, ready_at};
 ghost use Rattle.machine_model.specs.State.Start.{IsStart};
@@ -22,7 +22,7 @@ ghost use Rattle.machine_model.specs.Stepping.Events.{picked};
 ghost use Rattle.isolation_laws.specs.Differences.{DifferencesComeFromTheStart, OnlyMovesDifferences};
 ghost use Rattle.isolation_laws.specs.TwoRuns.{RunsAreSameButBytes, RunsTellTheSame};
 ghost use Rattle.timer_laws.specs.Raising.{RaiseFindsClaim};
-ghost use Rattle.timer_laws.specs.TimerLaw.{TimerHolds, TimerLaw};
+ghost use Rattle.timer_laws.specs.TimerLaw.{ArmingsAreMoments, TimerHolds, TimerLaw};
 ghost use Rattle.irq_laws.specs.Delivering.{DeliveredAtMostOnce, PendingAreClaimed, deliveries, once_if, raises};
 ghost use Rattle.irq_laws.specs.Starting.{IrqStartsOneOrNothing};
 ghost use Rattle.machine_history.specs.History.{behind, history, reached, stopped};
@@ -30,9 +30,10 @@ ghost use Rattle.machine_history.specs.HistoryMoments.{moments_of};
 ghost use Rattle.machine_history.specs.Interleaving.{AreReadyInTurn, picks_and_ticks, steps_in_turn};
 ghost use Rattle.machine_history.specs.Reserved.{IsReservedByThread};
 ghost use Rattle.isolation_laws.specs.TwoHistories.{StartSideBySide, TellTheSame};
+ghost use Rattle.laws.specs.Standing.{EveryReservationHolds, IsReservedBefore};
 
 /// **Every state is matched.** The state in which a machine starts has the invariant, and so has every state of every run and of every
-/// history from a state that has it, the last one too.
+/// history from a state that has it, the last one too: so of a history that goes on from there, too.
 pub fn every_state_stays_matched()
     ensures start { (m : Machine) → IsStart m → Matched m }
     ensures runs { (start : Machine) (moments : List Moment) → Matched start → IsRun start moments → (i : ℕ)
@@ -108,11 +109,12 @@ pub fn two_histories_tell_the_same()
 {}
 
 /// **The timer.** Each arming raises at most once, only in the step whose number is the compare value, and there exactly where nothing
-/// touches the timer in between. Each raise finds the interrupt claimed.
+/// touches the timer in between. A start in which the timer is armed, as that of a run that goes on after a suspend can be, counts as
+/// an arming before the first moment; where it isn't, each arming is that of a moment. Each raise finds the interrupt claimed.
 pub fn timer_raises_at_its_step()
     ensures runs { TimerHolds }
-    ensures histories { (events : List Event) (limit : ℕ) (start : Machine) → start.compare ≡ None
-        → TimerLaw start (moments_of events limit start) }
+    ensures unarmed { ArmingsAreMoments }
+    ensures histories { (events : List Event) (limit : ℕ) (start : Machine) → TimerLaw start (moments_of events limit start) }
     ensures claimed { RaiseFindsClaim }
 {}
 
@@ -128,14 +130,16 @@ pub fn interrupts_are_delivered_once()
     ensures starts { IrqStartsOneOrNothing }
 {}
 
-/// **The reservation.** Between an LR and the SC that succeeds on it, only that thread did steps. It is that of an id which a thread can
-/// have.
+/// **The reservation.** Between an LR and the SC that succeeds on it, only that thread did steps. A start that has a reservation, as that
+/// of a run that goes on after a suspend can, counts as its LR; in a run from a state without one there is an LR. The reservation is
+/// that of an id which a thread can have.
 pub fn reservation_is_of_one_thread()
-    ensures runs { ReservationHolds }
+    ensures runs { EveryReservationHolds }
+    ensures unreserved { ReservationHolds }
     ensures histories { (events : List Event) (limit : ℕ) (start : Machine) (i : ℕ) (moment : Moment) (r : Reservation)
-        → start.reserved ≡ None → slice_get (moments_of events limit start) i ≡ Some moment
+        → slice_get (moments_of events limit start) i ≡ Some moment
         → IsSucceeding r (state_at start (moments_of events limit start) i) moment.cause
-        → IsReservedSince r start (moments_of events limit start) i }
+        → IsReservedBefore r start (moments_of events limit start) i }
     ensures last { (events : List Event) (limit : ℕ) (start : Machine) → Matched start → IsReservedByThread start
         → IsReservedByThread (history events limit start).machine }
 {}

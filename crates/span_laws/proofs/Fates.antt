@@ -1,5 +1,4 @@
 pub mod CallFateLemmas
-pub mod CallTableLemmas
 pub mod CauseFateLemmas
 pub mod DeathFateLemmas
 pub mod DestroyFateLemmas
@@ -7,7 +6,6 @@ pub mod EndedFateLemmas
 pub mod FateLemmas
 pub mod ForwardFateLemmas
 pub mod InstructionFateLemmas
-pub mod LeavingCallLemmas
 pub mod LikeLemmas
 pub mod MemoryCallLemmas
 pub mod ReturnFateLemmas

@@ -1,12 +1,10 @@
 -- Ends of servers, processes, threads and handlers carry bytes as they are.
 use Rattle.isolation_laws.proofs.Ledgers.OtherBytesLemmas.{machine_through}
 use Rattle.ledger_model.specs.Ledger.{Ledger}
-use Rattle.machine_model.specs.Messaging.Receivers.{receiving_at}
-use Rattle.std.proofs.Common.{◌≡◌, ℕ, Bool, true, false, refl, ap, ◌∙◌, Some, None, ◌==◌, List}
+use Rattle.std.proofs.Common.{◌≡◌, ℕ, Bool, true, false, refl, ap, ◌∙◌, Some, None, List}
 use Rattle.xk_base.specs.declared.ids.Pid.{Pid}
-use Rattle.xk_base.specs.declared.ids.Serial.{Serial}
 use Rattle.xk_base.specs.declared.ids.ThreadId.{ThreadId}
-use Rattle.machine_model.specs.Ending.Closing.{any_server, closed, destroyed, is_held_from, is_message_at, is_queued_from, senders_held_gone, senders_queued_gone, servers_closed, refused_server}
+use Rattle.machine_model.specs.Ending.Closing.{any_server, closed, is_held_from, is_message_at, is_queued_from, senders_held_gone, senders_queued_gone, servers_closed}
 use Rattle.machine_model.specs.Ending.Ends.{death, end_with_last_thread, forgotten, handler_ended, has_threads, joiners_answered, thread_ended}
 use Rattle.machine_model.specs.State.Changes.{Change}
 use Rattle.machine_model.specs.State.Machine.{Idle, Machine}
@@ -22,14 +20,6 @@ module _ (g : List ℕ → List ℕ) where
   pub closed_through : (which : ℕ → Bool) (m : Machine) → change_through g (closed which m) ≡ closed which (machine_through g m)
   unfolding closed any_server
   closed_through which m = ap (with_left (closed which m)) (end_loans_through g (is_message_at which m) m.ledger)
-
-  pub destroyed_through : (serial : Serial) (m : Machine)
-      → change_through g (destroyed serial m) ≡ destroyed serial (machine_through g m)
-  unfolding destroyed
-  destroyed_through serial m = ap answered (closed_through (λ n. n == serial.0) m)
-    where
-      answered : Change → Change
-      answered left = record left { answers = both_answers left.answers (refused_server (receiving_at m serial)) }
 
   servers_closed_through : (pid : Pid) (m : Machine)
       → change_through g (servers_closed pid m) ≡ servers_closed pid (machine_through g m)

@@ -1,5 +1,5 @@
 -- The verdict on a call is the same where pages hold other bytes.
-use Rattle.std.proofs.Common.{◌≡◌, ℕ, Bool, true, false, List, [], ◌∷◌, ◌++◌, ◌*◌, Option, Some, None, is_none, refl, sym, ap, ◌∙◌}
+use Rattle.std.proofs.Common.{◌≡◌, ℕ, Bool, true, List, [], ◌∷◌, ◌++◌, ◌*◌, Option, Some, None, is_none, refl, sym, ap, ◌∙◌}
 use Rattle.std.specs.Option.{option_and_then, option_map_or}
 use Rattle.std.specs.Prelude.{◌+◌, ◌-◌, ◌/◌, ◌==◌, ◌&&◌, ◌||◌, if◌then◌else◌, nat_lt, not, unwrap_or}
 use Rattle.xk_base.specs.declared.errors.XousError.{XousError}
@@ -28,11 +28,12 @@ use Rattle.machine_model.specs.Messaging.ReturnCalls.{holder_of}
 use Rattle.machine_model.specs.Messaging.SendCalls.{arrival, arrival_refusals, is_full_for, named_kind, send_refusals, sends_lend_mut, sends_pages, sent_pages}
 use Rattle.machine_model.specs.State.Machine.{Machine, Receiving}
 use Rattle.machine_model.specs.State.Servers.{live_servers, server_at, with_sid}
-use Rattle.call_effects.specs.Deciding.{decide, row_at, rows}
+use Rattle.call_effects.specs.Deciding.{decide, rows}
 use Rattle.call_effects.specs.Effects.{Maps, Pages, Waits}
 use Rattle.call_effects.specs.Rows.MemoryRows.{decrease_row, increase_row, map_row, unmap_row, update_row}
 use Rattle.call_effects.specs.Rows.MessageRows.{forward_row, passed_if, receive_row, send_row, sent_row, sent_to_row, taken_or, try_receive_row, try_send_row}
 use Rattle.call_effects.specs.Verdicts.{RefusedIf, RetriedIf, Row, Verdict, answers_caller, answers_nobody}
+use Rattle.call_effects.proofs.RowLemmas.{OfRows, ◌also◌, of_row}
 use Rattle.isolation_laws.proofs.Ledgers.BareTestLemmas.{any_free_alike, any_lacks_alike, any_not_sent_alike, any_on_loan_alike, console_mapped_alike, least_run_alike, pages_alike, used_alike}
 use Rattle.isolation_laws.proofs.Ledgers.OtherBytesLemmas.{machine_through, through}
 
@@ -205,28 +206,8 @@ module _ (g : List ℕ → List ℕ) where
 
 -- ---- the table
 
--- the verdict of each row is the same where pages hold other bytes
-data AreAlike (g : List ℕ → List ℕ) : List (ℕ × Row) → Type 0 where
-  NoRow : AreAlike g []
-  OneRow : (number : ℕ) (row : Row) (others : List (ℕ × Row)) → IsAlike g row → AreAlike g others → AreAlike g ((number, row) ∷ others)
-
-infixr 5 ◌also◌
-◌also◌ : {g : List ℕ → List ℕ} {number : ℕ} {row : Row} {others : List (ℕ × Row)} → IsAlike g row → AreAlike g others
-    → AreAlike g ((number, row) ∷ others)
-◌also◌ one rest = OneRow _ _ _ one rest
-
-choice_alike : (b : Bool) (x y u v : Verdict) → x ≡ u → y ≡ v → (if b then x else y) ≡ (if b then u else v)
-choice_alike true x y u v a b = a
-choice_alike false x y u v a b = b
-
 module _ (g : List ℕ → List ℕ) where
-  rows_alike : (number : ℕ) (others : List (ℕ × Row)) → AreAlike g others → IsAlike g (row_at number others)
-  rows_alike number _ NoRow m w = refl
-  rows_alike number _ (OneRow k row others one rest) m w =
-      choice_alike (number == k) (row m w) (row_at number others m w) (row (machine_through g m) w) (row_at number others (machine_through g m) w)
-      (one m w) (rows_alike number others rest m w)
-
-  table_alike : AreAlike g rows
+  table_alike : OfRows (λ number. true) (λ number row. IsAlike g row) rows
   unfolding any_server free_tid holder_of live_servers with_sid
   table_alike =
       map_alike g
@@ -254,8 +235,10 @@ module _ (g : List ℕ → List ℕ) where
       also (λ m w. refl)
       also (λ m w. refl)
       also forward_alike g
-      also NoRow
+      also tt
 
   pub decide_alike : (m : Machine) (w : List ℕ) → decide m w ≡ decide (machine_through g m) w
   unfolding decide
-  decide_alike m w = ap (RefusedIf (any_refusals m w)) (rows_alike (call_number w) rows table_alike m w)
+  decide_alike m w =
+      ap (RefusedIf (any_refusals m w))
+      (of_row (λ number. true) (λ number row. IsAlike g row) (call_number w) refl (λ m w. refl) rows table_alike m w)

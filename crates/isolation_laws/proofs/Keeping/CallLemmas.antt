@@ -1,15 +1,17 @@
--- What comes of a call changes no byte: refused and retried it leaves the ledger, and served it does what its change does.
-use Rattle.std.proofs.Common.{◌≡◌, ℕ, Bool, true, false, List, [], ◌∷◌, Option, Some, None, refl, sym, subst}
+-- What comes of a call changes no byte: refused and retried it leaves the ledger, and served it does what its plan does.
+use Rattle.std.proofs.Common.{◌≡◌, ℕ, Bool, true, false, List, [], ◌∷◌, None, refl, sym}
 use Rattle.std.specs.Bool.{⊤}
 use Rattle.std.proofs.lemmas.Option.{none-some}
 use Rattle.xk_base.specs.declared.errors.XousError.{XousError}
 use Rattle.ledger_model.specs.Ledger.{Ledger}
 use Rattle.machine_model.specs.Runs.Isolation.{ChangesNoByte}
 use Rattle.machine_model.specs.Runs.Matched.{Matched}
-use Rattle.machine_model.specs.State.Changes.{Call, Change, Outcome, Refused, Retried, Served, call_settled, first_refusal, refused_or, settled, unless_refused, unless_retried}
+use Rattle.machine_model.specs.State.Changes.{Call, Outcome, Refused, Retried, Served, call_settled, first_refusal, settled}
 use Rattle.machine_model.specs.State.Machine.{Machine}
 use Rattle.machine_model.specs.State.Order.{turn}
-use Rattle.isolation_laws.proofs.Keeping.StandingPageLemmas.{stays}
+use Rattle.call_effects.specs.Effects.{run}
+use Rattle.call_effects.specs.Verdicts.{Plan, Row}
+use Rattle.call_effects.proofs.ServedLemmas.{OfPlan}
 
 abbrev pub ledger_after : Machine → Outcome → Ledger
 ledger_after m (Refused error) = m.ledger
@@ -28,26 +30,13 @@ settled_ledger m (Refused error) = refl
 settled_ledger m Retried = refl
 settled_ledger m (Served change) = refl
 
-pub unless_refused_keeps : (m : Machine) (refusals : List (Bool × XousError)) (outcome : Outcome)
-    → (first_refusal refusals ≡ None → KeepsBytes m outcome) → KeepsBytes m (unless_refused refusals outcome)
-unless_refused_keeps m refusals outcome keep = go (first_refusal refusals) refl
-  where
-    go : (o : Option XousError) → first_refusal refusals ≡ o → KeepsBytes m (refused_or o outcome)
-    go None e = keep e
-    go (Some error) e = stays m.ledger
+-- what the plan does changes no byte
+abbrev pub PlanKeeps : Machine → Plan → Type 0
+PlanKeeps m plan = ChangesNoByte m.ledger (run plan.effects m).ledger
 
-pub unless_retried_keeps : (m : Machine) (test : Bool) (outcome : Outcome) → KeepsBytes m outcome
-    → KeepsBytes m (unless_retried test outcome)
-unless_retried_keeps m true outcome keep = stays m.ledger
-unless_retried_keeps m false outcome keep = keep
-
--- a change that leaves the ledger
-pub left_keeps : (m : Machine) (change : Change) → change.machine.ledger ≡ m.ledger → KeepsBytes m (Served change)
-left_keeps m change e = subst (ChangesNoByte m.ledger) (sym e) (stays m.ledger)
-
-pub unless_left_keeps : (m : Machine) (refusals : List (Bool × XousError)) (change : Change) → change.machine.ledger ≡ m.ledger
-    → KeepsBytes m (unless_refused refusals (Served change))
-unless_left_keeps m refusals change e = unless_refused_keeps m refusals (Served change) (λ none. left_keeps m change e)
+-- .. where the call of this row is served
+abbrev pub RowKeeps : Row → Type 0
+RowKeeps row = (m : Machine) (w : List ℕ) → OfPlan (PlanKeeps m) (row m w)
 
 -- none of the tests of a list holds
 abbrev pub NoneHold : List (Bool × XousError) → Type 0

@@ -1,79 +1,55 @@
 -- The step of a call changes no byte.
 use Rattle.std.proofs.lemmas.Option.{none-some}
 use Rattle.machine_model.specs.Stepping.Step.{step}
-use Rattle.xk_base.specs.Calls.CallWords.{call_number}
 use Rattle.machine_model.specs.Stepping.Acts.{call_by, words_if_call, executes}
-use Rattle.machine_model.specs.Calling.Calls.{call_table, call, call_at, any_refusals}
+use Rattle.machine_model.specs.Calling.Calls.{call}
 use Rattle.machine_model.specs.State.Machine.{Machine, Thread}
-use Rattle.machine_model.specs.State.Changes.{Call, Outcome}
-use Rattle.std.proofs.Common.{◌≡◌, ℕ, Bool, true, false, List, [], ◌∷◌, Option, Some, None, refl, sym, ap, ◌∙◌, subst}
-use Rattle.std.specs.Prelude.{◌==◌, if◌then◌else◌}
+use Rattle.machine_model.specs.Runs.Matched.{Matched}
+use Rattle.machine_model.specs.State.Changes.{Outcome, Refused, Retried, Served}
+use Rattle.std.proofs.Common.{◌≡◌, ℕ, List, Option, Some, None, refl, sym, ap, ◌∙◌, subst}
 use Rattle.std.specs.Option.{option_and_then}
 use Rattle.machine_model.specs.Runs.Isolation.{CallChangesNoByte, ChangesNoByte}
 use Rattle.machine_model.proofs.Runs.KeptLemmas.{matched_at}
 use Rattle.machine_laws.proofs.Threading.ThreadStepLemmas.{acted_call, step_ledger, turned_to}
-use Rattle.isolation_laws.proofs.Keeping.CallLemmas.{CallKeepsBytes, KeepsBytes, settled_ledger, unless_refused_keeps}
+use Rattle.call_effects.specs.Footprints.{LedgerPart, names}
+use Rattle.call_effects.proofs.PartLemmas.{OfChanging, of_parts}
+use Rattle.call_effects.proofs.RowLemmas.{◌also◌}
+use Rattle.call_effects.proofs.ServedLemmas.{OfServed}
+use Rattle.isolation_laws.proofs.Keeping.CallLemmas.{CallKeepsBytes, KeepsBytes, settled_ledger}
+use Rattle.isolation_laws.proofs.Keeping.EndingCallLemmas.{destroy_keeps, return_memory_keeps, terminate_keeps}
 use Rattle.isolation_laws.proofs.Keeping.MemoryCallLemmas.{decrease_keeps, increase_keeps, map_keeps, unmap_keeps, update_keeps}
-use Rattle.isolation_laws.proofs.Keeping.PlainCallLemmas.{claim_keeps, connect_keeps, create_keeps, create_server_keeps, destroy_keeps, free_keeps, join_keeps, process_id_keeps, receive_keeps, return_memory_keeps, return_scalar1_keeps, return_scalar2_keeps, terminate_keeps, thread_id_keeps, try_connect_keeps, try_receive_keeps, yield_keeps}
 use Rattle.isolation_laws.proofs.Keeping.SendCallLemmas.{forward_keeps, send_keeps, try_send_keeps}
 use Rattle.isolation_laws.proofs.Keeping.StandingPageLemmas.{stays}
 
--- ---- the table
+-- ---- the calls that can change the ledger
 
--- each call of the rows changes no byte
-data KeepBytes : List (ℕ × Call) → Type 0 where
-  NoRow : KeepBytes []
-  Row : (number : ℕ) (served : Call) (rows : List (ℕ × Call)) → CallKeepsBytes served → KeepBytes rows
-      → KeepBytes ((number, served) ∷ rows)
-
-infixr 5 ◌also◌
-◌also◌ : {number : ℕ} {served : Call} {rows : List (ℕ × Call)} → CallKeepsBytes served → KeepBytes rows
-    → KeepBytes ((number, served) ∷ rows)
-◌also◌ one others = Row _ _ _ one others
-
-choice_keeps : (m : Machine) (b : Bool) (x y : Outcome) → KeepsBytes m x → KeepsBytes m y → KeepsBytes m (if b then x else y)
-choice_keeps m true x y a b = a
-choice_keeps m false x y a b = b
-
-rows_keep : (number : ℕ) (rows : List (ℕ × Call)) → KeepBytes rows → CallKeepsBytes (call_at number rows)
-rows_keep number _ NoRow m w h = stays m.ledger
-rows_keep number _ (Row k served rows one others) m w h =
-    choice_keeps m (number == k) (served m w) (call_at number rows m w) (one m w h) (rows_keep number rows others m w h)
-
-table_keeps : KeepBytes call_table
-table_keeps =
-    map_keeps
-    also yield_keeps
-    also claim_keeps
-    also free_keeps
-    also increase_keeps
-    also decrease_keeps
-    also update_keeps
-    also create_server_keeps
-    also receive_keeps
-    also send_keeps
-    also connect_keeps
-    also create_keeps
-    also unmap_keeps
-    also return_memory_keeps
-    also terminate_keeps
-    also try_send_keeps
-    also try_connect_keeps
-    also return_scalar1_keeps
-    also return_scalar2_keeps
-    also try_receive_keeps
-    also join_keeps
-    also destroy_keeps
-    also thread_id_keeps
-    also process_id_keeps
-    also forward_keeps
-    also NoRow
+served_keeps : (m : Machine) (w : List ℕ) → Matched m → OfServed (λ change. ChangesNoByte m.ledger change.machine.ledger) (call m w)
+served_keeps m w h =
+    of_parts (λ parts. names parts LedgerPart) (λ change. ChangesNoByte m.ledger change.machine.ledger) m w each
+    (λ change rest untouched. subst (ChangesNoByte m.ledger) (sym (rest.ledger untouched)) (stays m.ledger))
+  where
+    each : OfChanging (λ parts. names parts LedgerPart) (λ change. ChangesNoByte m.ledger change.machine.ledger) m w
+    each =
+        (λ e. map_keeps m w)
+        also (λ e. increase_keeps m w h)
+        also (λ e. decrease_keeps m w)
+        also (λ e. update_keeps m w)
+        also (λ e. send_keeps m w)
+        also (λ e. unmap_keeps m w)
+        also (λ e. return_memory_keeps m w)
+        also (λ e. terminate_keeps m w h)
+        also (λ e. try_send_keeps m w)
+        also (λ e. destroy_keeps m w)
+        also (λ e. forward_keeps m w)
+        also tt
 
 pub call_keeps : CallKeepsBytes call
-unfolding call
-call_keeps m w h =
-    unless_refused_keeps m (any_refusals m w) (call_at (call_number w) call_table m w)
-    (λ none. rows_keep (call_number w) call_table table_keeps m w h)
+call_keeps m w h = go (call m w) (served_keeps m w h)
+  where
+    go : (outcome : Outcome) → OfServed (λ change. ChangesNoByte m.ledger change.machine.ledger) outcome → KeepsBytes m outcome
+    go (Refused error) of = stays m.ledger
+    go Retried of = stays m.ledger
+    go (Served change) of = of
 
 -- ---- the step
 

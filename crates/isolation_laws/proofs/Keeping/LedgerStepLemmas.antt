@@ -1,17 +1,16 @@
 -- The steps of the ledger by which pages stand where they stood or go: remove, reduce, forget, lend, end, pass.
 use Rattle.std.proofs.Common.{◌≡◌, ℕ, Bool, true, false, Option, Some, None, refl, sym, ap, ◌∙◌}
-use Rattle.std.specs.Prelude.{◌==◌, if◌then◌else◌}
+use Rattle.std.specs.Prelude.{if◌then◌else◌}
 use Rattle.std.specs.Option.{option_map}
 use Rattle.std.proofs.lemmas.Option.{none-some, same_Some}
 use Rattle.xk_base.specs.declared.ids.Number.{Number}
-use Rattle.xk_base.specs.declared.ids.Pid.{Pid}
 use Rattle.xk_base.specs.declared.ids.Place.{Place}
 use Rattle.xk_base.specs.declared.pages.LoanKind.{LoanKind}
 use Rattle.xk_base.specs.declared.pages.Right.{Right}
 use Rattle.ledger_model.specs.Ledger.{Ledger, Page, Orphan}
 use Rattle.ledger_model.specs.Loans.{same_number}
 use Rattle.ledger_model.specs.Places.{in_run, moved}
-use Rattle.ledger_model.specs.Steps.{end_loan, forget, freed, lend, pass, passed, reduce, remove, with_loan, with_right}
+use Rattle.ledger_model.specs.Steps.{end_loan, freed, lend, pass, passed, reduce, remove, with_loan, with_right}
 use Rattle.machine_model.specs.Messaging.LoanSets.{end_loans, freed_but, orphan_but}
 use Rattle.isolation_laws.proofs.Keeping.StandingPageLemmas.{OnlyGoes, StoodAt}
 
@@ -49,10 +48,6 @@ left_orphan ends (Some old) orphan e = go (ends old.number) e
 pub remove_only : (places : Place → Bool) (l : Ledger) → OnlyGoes l (remove places l)
 unfolding remove
 remove_only places l = record { homes = λ p page e. left_stood l p (places p) page e; orphans = λ q orphan e. e }
-
-pub forget_only : (pid : Pid) (l : Ledger) → OnlyGoes l (forget pid l)
-unfolding forget
-forget_only pid l = record { homes = λ p page e. left_stood l p (p.pid.0 == pid.0) page e; orphans = λ q orphan e. e }
 
 pub reduce_only : (places : Place → Bool) (right : Right) (l : Ledger) → OnlyGoes l (reduce places right l)
 unfolding reduce

@@ -1,14 +1,13 @@
 -- The calls on memory change no byte: pages are made where none was, change their right, or go.
 use Rattle.ledger_model.specs.Steps.{remove, reduce}
-use Rattle.machine_model.specs.State.Changes.{Served}
 use Rattle.xk_base.specs.Calls.Flags.{right_of, has_flag, flag_execute}
 use Rattle.xk_base.specs.Calls.CallWords.{heap_bytes, range_address, map_phys, range_size, map_virt, map_size, range_flags, map_flags}
 use Rattle.machine_model.specs.Runs.Matched.{Matched}
 use Rattle.machine_model.specs.Runs.Isolation.{ChangesNoByte}
 use Rattle.machine_model.specs.State.Machine.{Machine}
 use Rattle.ledger_model.specs.Reach.{is_free}
-use Rattle.machine_model.specs.Calling.MemoryCalls.{unmap_call, update_call, decrease_call, map_call, increase_call, caller_place, mapped_ledger, map_refusals, heap_start, heap_of, decrease_refusals, increase_refusals, unmap_refusals, unmap_served, decrease_served, increase_served, update_refusals, map_served, heap_limit, update_served, map_address}
-use Rattle.std.proofs.Common.{◌≡◌, ℕ, ◌+◌, ◌*◌, ◌/◌, ◌<◌, ◌≤◌, Bool, true, false, Option, Some, None, refl, sym, ap, ◌∙◌, arith, subst}
+use Rattle.machine_model.specs.Calling.MemoryCalls.{caller_place, mapped_ledger, map_refusals, heap_start, heap_of, increase_refusals, heap_limit, map_address}
+use Rattle.std.proofs.Common.{◌≡◌, ℕ, List, ◌+◌, ◌*◌, ◌/◌, ◌<◌, ◌≤◌, Bool, true, false, Option, Some, None, refl, sym, ap, ◌∙◌, arith, subst}
 use Rattle.std.specs.Prelude.{◌-◌, ◌==◌, ◌&&◌, ◌||◌, if◌then◌else◌, is_none, nat_le, not, unwrap_or}
 use Rattle.std.proofs.lemmas.Bool.{and_from, eqb-true, false≢true, le-leb, ltb-false, or_parts}
 use Rattle.xk_base.specs.declared.ids.Pid.{Pid}
@@ -27,36 +26,30 @@ use Rattle.ledger_model.proofs.Runs.LeastRunLemmas.{is_free_run-each, least_run-
 use Rattle.ledger_model.proofs.LedgerLemmas.{is_free-true}
 use Rattle.ledger_model.proofs.PlaceLemmas.{in_run-from, in_run-index, in_run-true, place_from}
 use Rattle.machine_laws.proofs.Calling.RunRefusalLemmas.{not_false, run_free}
-use Rattle.isolation_laws.proofs.Keeping.CallLemmas.{CallKeepsBytes, none_hold, unless_refused_keeps}
+use Rattle.call_effects.specs.Rows.MemoryRows.{decrease_row, increase_row, map_row, unmap_row, update_row}
+use Rattle.call_effects.proofs.ServedLemmas.{OfPlan}
+use Rattle.isolation_laws.proofs.Keeping.CallLemmas.{PlanKeeps, RowKeeps, none_hold}
 use Rattle.isolation_laws.proofs.Keeping.LedgerStepLemmas.{reduce_only, remove_only}
 use Rattle.isolation_laws.proofs.Keeping.MadePageLemmas.{make_console_keeps, make_keeps}
 use Rattle.isolation_laws.proofs.Keeping.StandingPageLemmas.{goes_keep}
 
 -- ---- pages that go or change their right
 
-pub unmap_keeps : CallKeepsBytes unmap_call
-unfolding unmap_call
-unmap_keeps m w h =
+pub unmap_keeps : RowKeeps unmap_row
+unmap_keeps m w =
     let places = in_run (caller_place m (range_address w)) (range_size w / PAGE_SIZE) in
-    unless_refused_keeps m (unmap_refusals m (range_address w) (range_size w))
-    (Served (unmap_served m (range_address w) (range_size w)))
-    (λ none. goes_keep m.ledger (remove places m.ledger) (remove_only places m.ledger))
+    λ none. goes_keep m.ledger (remove places m.ledger) (remove_only places m.ledger)
 
-pub update_keeps : CallKeepsBytes update_call
-unfolding update_call
-update_keeps m w h =
+pub update_keeps : RowKeeps update_row
+update_keeps m w =
     let places = in_run (caller_place m (range_address w)) (range_size w / PAGE_SIZE) in
     let right = right_of (range_flags w) in
-    unless_refused_keeps m (update_refusals m (range_address w) (range_size w) (range_flags w))
-    (Served (update_served m (range_address w) (range_size w) (range_flags w)))
-    (λ none. goes_keep m.ledger (reduce places right m.ledger) (reduce_only places right m.ledger))
+    λ none. goes_keep m.ledger (reduce places right m.ledger) (reduce_only places right m.ledger)
 
-pub decrease_keeps : CallKeepsBytes decrease_call
-unfolding decrease_call
-decrease_keeps m w h =
+pub decrease_keeps : RowKeeps decrease_row
+decrease_keeps m w =
     let places = in_run (caller_place m (heap_start + (heap_of m - heap_bytes w))) (heap_bytes w / PAGE_SIZE) in
-    unless_refused_keeps m (decrease_refusals m (heap_bytes w)) (Served (decrease_served m (heap_bytes w)))
-    (λ none. goes_keep m.ledger (remove places m.ledger) (remove_only places m.ledger))
+    λ none. goes_keep m.ledger (remove places m.ledger) (remove_only places m.ledger)
 
 -- ---- free runs
 
@@ -108,17 +101,13 @@ mapped_keeps : (l : Ledger) (console x : Bool) (first : Place) (size : ℕ) (rig
 mapped_keeps l false x first size right e free = make_keeps first (size / PAGE_SIZE) right l free
 mapped_keeps l true x first size right e free = make_console_keeps first right.w l (free first (first_in x first size e))
 
-pub map_keeps : CallKeepsBytes map_call
-unfolding map_call
-map_keeps m w h =
-    unless_refused_keeps m (map_refusals m (map_phys w) (map_virt w) (map_size w) (map_flags w))
-    (Served (map_served m (map_phys w) (map_virt w) (map_size w) (map_flags w)))
-    (λ none.
+pub map_keeps : RowKeeps map_row
+map_keeps m w = λ none.
     let passed = none_hold (map_refusals m (map_phys w) (map_virt w) (map_size w) (map_flags w)) none in
     mapped_keeps m.ledger (map_phys w == CONSOLE_ADDRESS) (has_flag (map_flags w) flag_execute)
     (caller_place m (map_address m (map_virt w) (map_size w))) (map_size w) (right_of (map_flags w)) passed.1.1.1.0
     (map_free m (map_virt w) (map_size w / PAGE_SIZE) (map_virt w == 0)
-    (least_run m.processes m.ledger m.cursor.pid Map (map_size w / PAGE_SIZE)) refl passed.1.1.1.1.1.1.0 passed.1.1.1.1.1.1.1.0))
+    (least_run m.processes m.ledger m.cursor.pid Map (map_size w / PAGE_SIZE)) refl passed.1.1.1.1.1.1.0 passed.1.1.1.1.1.1.1.0)
 
 -- ---- IncreaseHeap
 
@@ -150,13 +139,9 @@ grown_free m bytes h le p inside = go (m.ledger.home p) refl
         (h.body.heaps.below p page e (heap_window p.vpn.0 (omega arith) (omega arith))) in
         absurd (omega arith)
 
-pub increase_keeps : CallKeepsBytes increase_call
-unfolding increase_call
-increase_keeps m w h =
+pub increase_keeps : (m : Machine) (w : List ℕ) → Matched m → OfPlan (PlanKeeps m) (increase_row m w)
+increase_keeps m w h = λ none.
     let bytes = heap_bytes w in
-    let first = caller_place m (heap_start + heap_of m) in
-    unless_refused_keeps m (increase_refusals m bytes) (Served (increase_served m bytes))
-    (λ none.
     let passed = none_hold (increase_refusals m bytes) none in
-    make_keeps first (bytes / PAGE_SIZE) (record { w = true; x = false }) m.ledger
-    (grown_free m bytes h (ltb-false heap_limit (heap_of m + bytes) passed.1.0)))
+    make_keeps (caller_place m (heap_start + heap_of m)) (bytes / PAGE_SIZE) (record { w = true; x = false }) m.ledger
+    (grown_free m bytes h (ltb-false heap_limit (heap_of m + bytes) passed.1.0))

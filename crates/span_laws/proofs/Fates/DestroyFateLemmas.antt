@@ -2,19 +2,18 @@
 use Rattle.std.proofs.Common.{◌≡◌, ℕ, List, None, ap, ◌∙◌, arith, inl, inr}
 use Rattle.std.specs.Prelude.{◌==◌, if◌then◌else◌}
 use Rattle.xk_base.specs.declared.ids.Number.{Number}
-use Rattle.xk_base.specs.declared.ids.Sid.{Sid}
 use Rattle.xk_base.specs.declared.ids.ThreadId.{ThreadId}
-use Rattle.machine_model.specs.Calling.ServerCalls.{destroy_call, destroy_served, named_server, named_sid, own_server_refusals}
-use Rattle.machine_model.specs.Ending.Closing.{closed, destroyed, is_message_at}
+use Rattle.machine_model.specs.Calling.ServerCalls.{named_server, named_sid}
+use Rattle.machine_model.specs.Ending.Closing.{closed, is_message_at}
 use Rattle.machine_model.specs.Runs.Matched.{Matched}
 use Rattle.machine_model.specs.Runs.Moments.{ByStep}
-use Rattle.machine_model.specs.State.Changes.{Served}
 use Rattle.machine_model.specs.State.Machine.{Machine}
 use Rattle.machine_model.proofs.Runs.KeptLemmas.{matched_at}
 use Rattle.machine_laws.proofs.Threading.ThreadStepLemmas.{turned_to}
 use Rattle.ledger_model.specs.Loans.{LoanRun}
 use Rattle.machine_model.specs.Runs.LoanSpan.{IsOut}
-use Rattle.span_laws.proofs.Fates.CallTableLemmas.{OfServed, of_unless_refused}
+use Rattle.call_effects.specs.Rows.ServerRows.{destroy_row}
+use Rattle.call_effects.proofs.ServedLemmas.{OfPlan, done}
 use Rattle.span_laws.proofs.Fates.EndedFateLemmas.{ended_fate}
 use Rattle.span_laws.proofs.Fates.ServedFateLemmas.{HasServedFate}
 use Rattle.span_laws.proofs.Lending.ClosedLendLemmas.{IsLendAt, lend_of_closed}
@@ -23,10 +22,10 @@ pub turned_out : (number : Number) (who : ThreadId) (m : Machine) (a : LoanRun) 
 turned_out number who m a out = record { numbered = out.numbered; some = out.some; stands = out.stands }
 
 module _ (number : Number) (m : Machine) (who : ThreadId) (w : List ℕ) (h : Matched m) where
-  destroyed_fate : (sid : Sid) → HasServedFate number m who w (destroy_served (turned_to who m) sid)
-  unfolding destroyed closed
-  destroyed_fate sid n like accepted =
-      let serial = (named_server (turned_to who m) sid).0 in
+  pub destroy_fate : OfPlan (λ plan. HasServedFate number m who w (done (turned_to who m) plan)) (destroy_row (turned_to who m) w)
+  unfolding closed
+  destroy_fate none n like accepted =
+      let serial = (named_server (turned_to who m) (named_sid w)).0 in
       ended_fate number m (record { cause = ByStep; machine = n }) h (is_message_at (λ k. k == serial) (turned_to who m)) like.ledger
       (let same : n.next_number ≡ m.next_number = like.number in omega arith)
       (λ e a out.
@@ -39,9 +38,3 @@ module _ (number : Number) (m : Machine) (who : ThreadId) (w : List ℕ) (h : Ma
         sent = at.sent;
         gone = ap (λ servers. servers at.serial) like.servers ∙ ap (λ b. if b then None else m.servers at.serial) at.closes;
       })))
-
-  pub destroy_fate : OfServed (HasServedFate number m who w) (destroy_call (turned_to who m) w)
-  unfolding destroy_call
-  destroy_fate =
-      of_unless_refused (HasServedFate number m who w) (own_server_refusals (turned_to who m) (named_sid w))
-      (Served (destroy_served (turned_to who m) (named_sid w))) (λ none. destroyed_fate (named_sid w))

@@ -7,7 +7,6 @@ use Rattle.std.proofs.lemmas.Bool.{and_parts, false≢true}
 use Rattle.xk_base.specs.declared.errors.XousError.TheVariants.{DoubleFree, InvalidSyscall, MemoryInUse, ServerNotFound, ServerQueueFull}
 use Rattle.xk_base.specs.declared.ids.Number.{Number}
 use Rattle.xk_base.specs.declared.ids.Place.{Place}
-use Rattle.xk_base.specs.declared.ids.Serial.{Serial}
 use Rattle.xk_base.specs.declared.ids.ThreadId.{ThreadId}
 use Rattle.xk_base.specs.declared.ids.Vpn.{Vpn}
 use Rattle.xk_base.specs.declared.messages.Message.{Message}
@@ -20,28 +19,26 @@ use Rattle.ledger_model.specs.Places.{place_after}
 use Rattle.ledger_model.specs.Steps.{pass, passed}
 use Rattle.ledger_model.proofs.LedgerLemmas.{same_number-true}
 use Rattle.ledger_model.proofs.Stepping.PassingLemmas.{pass_fresh, pass_stands}
-use Rattle.machine_model.specs.Messaging.ForwardCalls.{are_one_server, forward_call, forward_refusals, forward_served, forward_served_if, forwarded_to, held_place, is_passable_of, next_arrival, next_arrival_refusals, passable, passed_from, passed_message, passed_number, passed_place, passed_to, with_first}
-use Rattle.machine_model.specs.Messaging.Messages.{is_lend, is_lend_of, is_of_number, without_held}
-use Rattle.machine_model.specs.Messaging.Receivers.{receiver}
+use Rattle.machine_model.specs.Messaging.ForwardCalls.{are_one_server, held_place, is_passable_of, next_arrival, passable, passed_from, passed_number, passed_place, passed_to}
+use Rattle.machine_model.specs.Messaging.Messages.{is_lend, is_lend_of, is_of_number}
 use Rattle.machine_model.specs.Messaging.SendCalls.{message_run}
 use Rattle.machine_model.specs.Runs.LoanSpan.{IsIn, IsOut, page_name, right_of_name}
 use Rattle.machine_model.specs.Runs.Matched.{Matched}
 use Rattle.machine_model.specs.Runs.Moments.{ByStep}
-use Rattle.machine_model.specs.State.Changes.{Served}
 use Rattle.machine_model.specs.State.Machine.{Machine}
-use Rattle.xk_base.specs.Tables.Sids.{serial_of}
-use Rattle.machine_model.specs.State.Servers.{change_server, is_full, server_at}
+use Rattle.machine_model.specs.State.Servers.{is_full, server_at}
 use Rattle.machine_model.specs.Stepping.Acts.{is_call_served}
 use Rattle.machine_model.proofs.Runs.SpanLemmas.{out_or_in}
 use Rattle.machine_laws.proofs.Calling.RunRefusalLemmas.{none_holds}
 use Rattle.machine_laws.proofs.Threading.ThreadStepLemmas.{turned_to}
 use Rattle.span_laws.specs.Fates.{Fate, IsKept}
 use Rattle.span_laws.specs.Leaving.{Leaves}
-use Rattle.span_laws.proofs.Fates.CallTableLemmas.{OfServed, of_unless_refused}
+use Rattle.call_effects.specs.Rows.MessageRows.{forward_row, passed_if}
+use Rattle.call_effects.proofs.ServedLemmas.{OfPlan, done}
 use Rattle.span_laws.proofs.Fates.FateLemmas.{fate_in, fate_left, fate_out}
 use Rattle.span_laws.proofs.Fates.ServedFateLemmas.{HasServedFate, IsCaller, served_call}
 use Rattle.span_laws.proofs.Leaving.LedgerStepLemmas.{pass_leaves}
-use Rattle.span_laws.proofs.Lending.ArrivalLemmas.{IsArrival, arrival_of, arrived_leaves}
+use Rattle.span_laws.proofs.Lending.ArrivalLemmas.{IsArrival, arrival_of}
 use Rattle.span_laws.proofs.Lending.HeldMessageLemmas.{IsHeldBy, held_by, held_passes, held_run}
 use Rattle.span_laws.proofs.Lending.LendMessageLemmas.{From, IsRunOf, IsSentBy, Senderless}
 
@@ -61,16 +58,6 @@ name_at_home : (r : LoanRun) (home : Place) (k : ℕ) → r.lender ≡ Some home
 name_at_home r home k e = ap (λ o. option_map_or (λ from. Homed (place_after from k)) o (Orphaned (place_after r.holder k))) e
 
 -- ---- the loan
-
-passed_left : (m : Machine) (cid : ℕ) (first : Vpn) (from to : Serial) (message : Message)
-    → ((passed_message m cid first from to message).machine.ledger ≡ pass message.number (held_place m message) (passed_place m cid first) m.ledger)
-    × ((passed_message m cid first from to message).machine.next_number ≡ m.next_number)
-passed_left m cid first from to message =
-    let paged = record (change_server from (without_held message.number) m) {
-      ledger = pass message.number (held_place m message) (passed_place m cid first) m.ledger;
-    } in
-    let left = arrived_leaves (receiver m to) to (with_first first message) paged in
-    (left.ledger, left.number)
 
 module _ (number : Number) (m : Machine) (who : ThreadId) (w : List ℕ) (h : Matched m) (turned : Matched (turned_to who m))
     (calls : IsCaller m who w) (forwards : call_number w ≡ forward_message) where
@@ -184,15 +171,12 @@ module _ (number : Number) (m : Machine) (who : ThreadId) (w : List ℕ) (h : Ma
           go (inl fresh) = fate_in number m (record { cause = ByStep; machine = after }) fresh (fresh_after fresh) climbs
           go (inr (a, out)) = fate_out number m (record { cause = ByStep; machine = after }) a (with_holder to a) out (now a out) (kept a out) climbs
 
-    forwarded_fate : (from goal : Serial) → HasServedFate number m who w (passed_message n (forward_cid w) first from goal message)
-    forwarded_fate from goal after like accepted = go (same_number message.number number) refl
+    forwarded_fate : (after : Machine) → after.ledger ≡ pass message.number (held_place n message) to m.ledger
+        → after.next_number ≡ m.next_number → is_call_served m who w ≡ true → Fate number m (record { cause = ByStep; machine = after })
+    forwarded_fate after is same accepted = go (same_number message.number number) refl
       where
-        is : after.ledger ≡ pass message.number (held_place n message) to m.ledger
-        is = like.ledger ∙ (passed_left n (forward_cid w) first from goal message).0
-
         climbs : m.next_number ≤ after.next_number
-        climbs =
-            let equal : after.next_number ≡ m.next_number = like.number ∙ (passed_left n (forward_cid w) first from goal message).1 in omega arith
+        climbs = omega (arith, same)
 
         go : (b : Bool) → same_number message.number number ≡ b → Fate number m (record { cause = ByStep; machine = after })
         go true e = this_fate after is climbs accepted (same_number-true message.number number e)
@@ -204,29 +188,25 @@ module _ (number : Number) (m : Machine) (who : ThreadId) (w : List ℕ) (h : Ma
 
   by_message : (o : Option Message) → passable n (passed_number w) ≡ o → is_none o ≡ false → (first : Option Vpn) → is_none first ≡ false
       → option_and_then (message_run n (option_map_or (λ message. message.count) o 0)) (server_at n (forward_cid w)) ≡ first
-      → HasServedFate number m who w (forward_served_if n (passed_number w) (forward_cid w) (unwrap_or first (record { 0 = 0 })) o)
+      → OfPlan (λ plan. HasServedFate number m who w (done n plan))
+      (passed_if n (passed_number w) (forward_cid w) (unwrap_or first (record { 0 = 0 })) o)
   by_message None e some first found arrives = absurd (false≢true (sym some))
   by_message (Some message) e some None found arrives = absurd (false≢true (sym found))
-  by_message (Some message) e some (Some first) found arrives =
-      forwarded_fate message e first arrives (unwrap_or (passed_from n (passed_number w)) (serial_of 0))
-      (unwrap_or (passed_to n (forward_cid w)) (serial_of 0))
+  by_message (Some message) e some (Some first) found arrives = λ after like accepted.
+      forwarded_fate message e first arrives after like.ledger like.number accepted
 
   arrives_as : next_arrival n (passed_number w) (forward_cid w)
       ≡ option_and_then (message_run n (option_map_or (λ message. message.count) (passable n (passed_number w)) 0)) (server_at n (forward_cid w))
   unfolding next_arrival
   arrives_as = refl
 
-  pub forward_fate : OfServed (HasServedFate number m who w) (forward_call n w)
-  unfolding forward_call
-  forward_fate =
+  pub forward_fate : OfPlan (λ plan. HasServedFate number m who w (done n plan)) (forward_row n w)
+  forward_fate = λ none there.
       let first = next_arrival n (passed_number w) (forward_cid w) in
-      of_unless_refused (HasServedFate number m who w) (forward_refusals n (passed_number w) (forward_cid w)) (forwarded_to n w first)
-      (λ none. of_unless_refused (HasServedFate number m who w) (next_arrival_refusals first)
-      (Served (forward_served n (passed_number w) (forward_cid w) first))
-      (λ there. by_message (passable n (passed_number w)) refl
+      by_message (passable n (passed_number w)) refl
       (none_holds (is_none (passable n (passed_number w))) DoubleFree
       ((is_none (server_at n (forward_cid w)), ServerNotFound)
       ∷ (are_one_server (passed_from n (passed_number w)) (passed_to n (forward_cid w)), InvalidSyscall)
       ∷ (is_full (server_at n (forward_cid w)), ServerQueueFull)
       ∷ []) none).0
-      first (none_holds (is_none first) MemoryInUse [] there).0 (sym arrives_as)))
+      first (none_holds (is_none first) MemoryInUse [] there).0 (sym arrives_as)

@@ -1,5 +1,5 @@
 -- The calls on memory leave every number: they make pages at free places, and change none that is on loan.
-use Rattle.std.proofs.Common.{◌≡◌, ℕ, ◌+◌, ◌-◌, ◌/◌, ◌≤◌, Bool, true, false, List, [], ◌∷◌, None, refl, ap, ◌∙◌, arith}
+use Rattle.std.proofs.Common.{◌≡◌, ℕ, ◌+◌, ◌-◌, ◌/◌, ◌≤◌, Bool, true, false, [], ◌∷◌, None, refl, ap, ◌∙◌, arith}
 use Rattle.std.specs.Prelude.{◌%◌, ◌==◌, nat_lt, not}
 use Rattle.std.proofs.lemmas.Bool.{eqb-true, ltb-false}
 use Rattle.xk_base.specs.declared.errors.XousError.TheVariants.{BadAlignment, InvalidLimit, OutOfMemory, ShareViolation}
@@ -8,7 +8,6 @@ use Rattle.xk_base.specs.declared.ids.Place.{Place}
 use Rattle.xk_base.specs.declared.limits.TheConstants.{CONSOLE_ADDRESS, PAGE_SIZE}
 use Rattle.xk_base.specs.declared.pages.Right.{Right}
 use Rattle.xk_base.specs.declared.windows.Window.TheVariants.{Map}
-use Rattle.xk_base.specs.Calls.CallWords.{heap_bytes, map_flags, map_phys, map_size, map_virt, range_address, range_flags, range_size}
 use Rattle.xk_base.specs.Calls.Flags.{flag_execute, has_flag, right_of}
 use Rattle.ledger_model.specs.Conditions.{is_lent}
 use Rattle.ledger_model.specs.Ledger.{pages}
@@ -16,9 +15,9 @@ use Rattle.ledger_model.specs.LeastRun.{least_run}
 use Rattle.ledger_model.specs.Places.{in_run}
 use Rattle.ledger_model.specs.RunTests.{any_on_loan}
 use Rattle.ledger_model.proofs.PlaceLemmas.{same_place-true}
-use Rattle.machine_model.specs.Calling.MemoryCalls.{are_too_many, caller_place, decrease_call, decrease_refusals, decrease_served, heap_limit, heap_of, heap_start, increase_call, increase_refusals, increase_served, is_aligned, map_address, map_call, map_refusals, map_served, mapped_ledger, unmap_call, unmap_refusals, unmap_served, update_call, update_refusals, update_served}
+use Rattle.machine_model.specs.Calling.MemoryCalls.{are_too_many, caller_place, decrease_refusals, decrease_served, heap_limit, heap_of, heap_start, increase_refusals, increase_served, is_aligned, map_address, map_refusals, map_served, mapped_ledger, unmap_refusals, unmap_served, update_refusals, update_served}
 use Rattle.machine_model.specs.Runs.Matched.{Matched}
-use Rattle.machine_model.specs.State.Changes.{Served, first_refusal}
+use Rattle.machine_model.specs.State.Changes.{first_refusal}
 use Rattle.machine_model.specs.State.Machine.{Machine}
 use Rattle.machine_model.specs.State.Order.{ready_at}
 use Rattle.machine_laws.proofs.Calling.HeapCallLemmas.{can_grow}
@@ -26,8 +25,7 @@ use Rattle.machine_laws.proofs.Calling.MapCallLemmas.{IsFreeRun, console_one, ma
 use Rattle.machine_laws.proofs.Calling.MemoryCallStepLemmas.{unmap_loan, update_allowed}
 use Rattle.machine_laws.proofs.Calling.RunRefusalLemmas.{none_holds, not_false, run_not_lent}
 use Rattle.span_laws.specs.Leaving.{Leaves}
-use Rattle.span_laws.proofs.Fates.CallTableLemmas.{LeavesAll, of_unless_refused}
-use Rattle.span_laws.proofs.Fates.LeavingCallLemmas.{Leaving}
+use Rattle.span_laws.proofs.Fates.ServedFateLemmas.{LeavesAll}
 use Rattle.span_laws.proofs.Leaving.LedgerStepLemmas.{console_leaves, free_unlent, make_leaves, reduce_leaves, remove_leaves}
 
 at_least : (a : ℕ) → a ≤ a
@@ -44,7 +42,7 @@ mapped_leaves m true n first right run one number =
     console_leaves number m.processes m.ledger first right.w
     (λ p same. ap (λ q. is_lent (m.ledger.home q)) (same_place-true p first same) ∙ free_unlent m.processes m.ledger first (run.free first (one refl)))
 
-mapping_leaves : (m : Machine) (phys virt size flags : ℕ) → first_refusal (map_refusals m phys virt size flags) ≡ None
+pub mapping_leaves : (m : Machine) (phys virt size flags : ℕ) → first_refusal (map_refusals m phys virt size flags) ≡ None
     → LeavesAll m (map_served m phys virt size flags)
 mapping_leaves m phys virt size flags none =
     let can = mappable m phys virt size flags none in
@@ -59,7 +57,7 @@ mapping_leaves m phys virt size flags none =
 
 -- ---- the heap
 
-growing_leaves : (m : Machine) (bytes : ℕ) → Matched m → ready_at m m.cursor ≡ true → first_refusal (increase_refusals m bytes) ≡ None
+pub growing_leaves : (m : Machine) (bytes : ℕ) → Matched m → ready_at m m.cursor ≡ true → first_refusal (increase_refusals m bytes) ≡ None
     → LeavesAll m (increase_served m bytes)
 growing_leaves m bytes h r none =
     let third = (are_too_many m (bytes / PAGE_SIZE), OutOfMemory) ∷ [] in
@@ -75,7 +73,7 @@ growing_leaves m bytes h r none =
       climbs = at_least m.next_number;
     }
 
-shrinking_leaves : (m : Machine) (bytes : ℕ) → first_refusal (decrease_refusals m bytes) ≡ None → LeavesAll m (decrease_served m bytes)
+pub shrinking_leaves : (m : Machine) (bytes : ℕ) → first_refusal (decrease_refusals m bytes) ≡ None → LeavesAll m (decrease_served m bytes)
 shrinking_leaves m bytes none =
     let first = caller_place m (heap_start + (heap_of m - bytes)) in
     let loan = any_on_loan m.processes m.ledger first (bytes / PAGE_SIZE) in
@@ -92,7 +90,7 @@ shrinking_leaves m bytes none =
 
 -- ---- UnmapMemory and UpdateMemoryFlags
 
-unmapping_leaves : (m : Machine) (address size : ℕ) → first_refusal (unmap_refusals m address size) ≡ None
+pub unmapping_leaves : (m : Machine) (address size : ℕ) → first_refusal (unmap_refusals m address size) ≡ None
     → LeavesAll m (unmap_served m address size)
 unmapping_leaves m address size none = record {
   leaves = λ number. remove_leaves number m.processes m.ledger (in_run (caller_place m address) (size / PAGE_SIZE))
@@ -100,45 +98,10 @@ unmapping_leaves m address size none = record {
   climbs = at_least m.next_number;
 }
 
-updating_leaves : (m : Machine) (address size flags : ℕ) → first_refusal (update_refusals m address size flags) ≡ None
+pub updating_leaves : (m : Machine) (address size flags : ℕ) → first_refusal (update_refusals m address size flags) ≡ None
     → LeavesAll m (update_served m address size flags)
 updating_leaves m address size flags none = record {
   leaves = λ number. reduce_leaves number m.processes m.ledger (in_run (caller_place m address) (size / PAGE_SIZE)) (right_of flags)
       (run_not_lent m.processes m.ledger (caller_place m address) (size / PAGE_SIZE) (update_allowed m address size flags none).0);
   climbs = at_least m.next_number;
 }
-
--- ---- the calls
-
-module _ (m : Machine) (w : List ℕ) where
-  pub map_leaves : Leaving m (map_call m w)
-  unfolding map_call
-  map_leaves =
-      of_unless_refused (LeavesAll m) (map_refusals m (map_phys w) (map_virt w) (map_size w) (map_flags w))
-      (Served (map_served m (map_phys w) (map_virt w) (map_size w) (map_flags w)))
-      (mapping_leaves m (map_phys w) (map_virt w) (map_size w) (map_flags w))
-
-  pub unmap_leaves : Leaving m (unmap_call m w)
-  unfolding unmap_call
-  unmap_leaves =
-      of_unless_refused (LeavesAll m) (unmap_refusals m (range_address w) (range_size w)) (Served (unmap_served m (range_address w) (range_size w)))
-      (unmapping_leaves m (range_address w) (range_size w))
-
-  pub update_leaves : Leaving m (update_call m w)
-  unfolding update_call
-  update_leaves =
-      of_unless_refused (LeavesAll m) (update_refusals m (range_address w) (range_size w) (range_flags w))
-      (Served (update_served m (range_address w) (range_size w) (range_flags w)))
-      (updating_leaves m (range_address w) (range_size w) (range_flags w))
-
-  pub increase_leaves : Matched m → ready_at m m.cursor ≡ true → Leaving m (increase_call m w)
-  unfolding increase_call
-  increase_leaves h r =
-      of_unless_refused (LeavesAll m) (increase_refusals m (heap_bytes w)) (Served (increase_served m (heap_bytes w)))
-      (growing_leaves m (heap_bytes w) h r)
-
-  pub decrease_leaves : Leaving m (decrease_call m w)
-  unfolding decrease_call
-  decrease_leaves =
-      of_unless_refused (LeavesAll m) (decrease_refusals m (heap_bytes w)) (Served (decrease_served m (heap_bytes w)))
-      (shrinking_leaves m (heap_bytes w))

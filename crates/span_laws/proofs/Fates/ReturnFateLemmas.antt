@@ -11,16 +11,16 @@ use Rattle.xk_base.specs.declared.messages.Message.{Message}
 use Rattle.ledger_model.specs.Loans.{LoanRun, same_number}
 use Rattle.ledger_model.proofs.LedgerLemmas.{same_number-true}
 use Rattle.machine_model.specs.Messaging.Messages.{is_lend_of}
-use Rattle.machine_model.specs.Messaging.ReturnCalls.{held_by_caller, is_its_range, named_number, return_memory_call, return_memory_refusals, return_memory_served}
+use Rattle.machine_model.specs.Messaging.ReturnCalls.{held_by_caller, is_its_range, named_number, return_memory_served}
 use Rattle.machine_model.specs.Runs.LoanSpan.{IsOut}
 use Rattle.machine_model.specs.Runs.Matched.{Matched}
 use Rattle.machine_model.specs.Runs.Moments.{ByStep}
-use Rattle.machine_model.specs.State.Changes.{Served}
 use Rattle.machine_model.specs.State.Machine.{Machine}
 use Rattle.machine_model.proofs.Messaging.LoanSetLemmas.{only_one_ends}
 use Rattle.machine_laws.proofs.Calling.ThreadCallLemmas.{two_passed}
 use Rattle.machine_laws.proofs.Threading.ThreadStepLemmas.{turned_to}
-use Rattle.span_laws.proofs.Fates.CallTableLemmas.{OfServed, of_unless_refused}
+use Rattle.call_effects.specs.Rows.MessageRows.{return_memory_row}
+use Rattle.call_effects.proofs.ServedLemmas.{OfPlan, done}
 use Rattle.span_laws.proofs.Fates.EndedFateLemmas.{ended_fate}
 use Rattle.span_laws.proofs.Fates.ServedFateLemmas.{HasServedFate, IsCaller, served_call, some_of}
 use Rattle.span_laws.proofs.Lending.HeldMessageLemmas.{IsHeldBy, held_by, held_passes, held_run}
@@ -58,12 +58,9 @@ module _ (number : Number) (m : Machine) (who : ThreadId) (w : List ℕ) (h : Ma
         token = sym (ap (λ (k : Number). k.0) named);
       }))
 
-  pub return_memory_fate : call_number w ≡ return_memory → OfServed (HasServedFate number m who w) (return_memory_call (turned_to who m) w)
-  unfolding return_memory_call
-  return_memory_fate returns =
-      of_unless_refused (HasServedFate number m who w) (return_memory_refusals (turned_to who m) (named_number w) (return_address w) (return_size w))
-      (Served (return_memory_served (turned_to who m) (named_number w) (return_offset w) (return_valid w)))
-      (λ none. returned_fate returns
+  pub return_memory_fate : call_number w ≡ return_memory → OfPlan (λ plan. HasServedFate number m who w (done (turned_to who m) plan)) (return_memory_row (turned_to who m) w)
+  return_memory_fate returns = λ none.
+      returned_fate returns
       (two_passed (is_none (held_by_caller (turned_to who m) (is_lend_of (named_number w))))
       (not (option_map_or (is_its_range (return_address w) (return_size w)) (held_by_caller (turned_to who m) (is_lend_of (named_number w))) false))
-      DoubleFree BadAddress none).0)
+      DoubleFree BadAddress none).0

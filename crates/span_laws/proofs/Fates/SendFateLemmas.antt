@@ -24,14 +24,12 @@ use Rattle.ledger_model.proofs.LedgerLemmas.{cases_Option, is_free-true, same_nu
 use Rattle.ledger_model.proofs.PlaceLemmas.{in_run-true}
 use Rattle.machine_model.specs.Calling.MemoryCalls.{caller_place, is_bad_range}
 use Rattle.machine_model.specs.Messaging.Messages.{carries_pages, is_lend, new_number}
-use Rattle.machine_model.specs.Messaging.Receivers.{receiver}
-use Rattle.machine_model.specs.Messaging.SendCalls.{arrival, arrival_refusals, is_full_for, named_kind, send_call, send_refusals, send_served, sender_left, sends_lend_mut, sends_pages, sent, sent_ledger, sent_pages, sent_place, sent_serial, sent_to, try_send_call, with_sent}
+use Rattle.machine_model.specs.Messaging.SendCalls.{arrival, is_full_for, named_kind, send_refusals, sender_left, sends_lend_mut, sends_pages, sent_ledger, sent_pages, sent_place, with_sent}
 use Rattle.xk_base.specs.Calls.Kinds.{is_answered}
-use Rattle.machine_model.specs.Messaging.Messages.{new_message}
 use Rattle.machine_model.specs.Runs.LoanSpan.{IsOut, Opens, is_lend_call, is_send}
 use Rattle.machine_model.specs.Runs.Matched.{Matched}
 use Rattle.machine_model.specs.Runs.Moments.{ByStep}
-use Rattle.machine_model.specs.State.Changes.{Served, first_refusal}
+use Rattle.machine_model.specs.State.Changes.{first_refusal}
 use Rattle.machine_model.specs.State.Machine.{Machine}
 use Rattle.machine_model.specs.State.Servers.{server_at}
 use Rattle.machine_model.specs.Stepping.Acts.{is_call_served}
@@ -40,13 +38,14 @@ use Rattle.machine_laws.proofs.Calling.RunRefusalLemmas.{none_holds, run_not_len
 use Rattle.machine_laws.proofs.Threading.ThreadStepLemmas.{turned_to}
 use Rattle.span_laws.specs.Fates.{Fate}
 use Rattle.span_laws.specs.Leaving.{Leaves}
-use Rattle.span_laws.proofs.Fates.CallTableLemmas.{OfServed, of_unless_refused, of_unless_retried}
+use Rattle.call_effects.specs.Rows.MessageRows.{send_row, sent_to_row, try_send_row}
+use Rattle.call_effects.proofs.ServedLemmas.{OfPlan, done}
 use Rattle.span_laws.proofs.Fates.FateLemmas.{fate_left, fate_opens}
 use Rattle.span_laws.proofs.Fates.ServedFateLemmas.{HasServedFate, IsCaller, served_call, some_of}
 use Rattle.span_laws.proofs.Leaving.LedgerStepLemmas.{give_leaves, lend_leaves}
 use Rattle.span_laws.proofs.Leaving.NumberPageLemmas.{leaves_itself}
 use Rattle.machine_model.proofs.Runs.KeptLemmas.{matched_at}
-use Rattle.span_laws.proofs.Lending.ArrivalLemmas.{IsArrived, arrival_of, arrived_leaves}
+use Rattle.span_laws.proofs.Lending.ArrivalLemmas.{IsArrived, arrival_of}
 use Rattle.span_laws.proofs.Lending.LentPageLemmas.{before_lend, home_in, no_orphans}
 
 -- ---- what the refusals leave true
@@ -90,21 +89,10 @@ sendable m w none =
 
 -- ---- an accepted send
 
--- what an accepted send leaves, by its kind
-sender_leaves : (b : Bool) (number : Number) (m : Machine) → IsArrived m (sender_left b number m)
+-- that the sender waits leaves the ledger and the next number
+sender_leaves : (waits : Bool) (number : Number) (m : Machine) → IsArrived m (sender_left waits number m)
 sender_leaves true number m = record { ledger = refl; number = refl }
 sender_leaves false number m = record { ledger = refl; number = refl }
-
-sent_left : (m : Machine) (kind : MsgKind) (w : List ℕ) (first : Vpn)
-    → ((sent m kind w first).machine.ledger
-    ≡ sent_ledger kind (caller_place m (send_address w)) (sent_pages w) (sent_place m w first) (new_number m) m.ledger)
-    × ((sent m kind w first).machine.next_number ≡ m.next_number + 1)
-sent_left m kind w first =
-    let paged = with_sent m kind (caller_place m (send_address w)) (sent_pages w) (sent_place m w first) in
-    let sender = sender_leaves (is_answered kind) (new_number m) paged in
-    let left = arrived_leaves (receiver m (sent_serial m w)) (sent_serial m w) (new_message m kind w first)
-    (sender_left (is_answered kind) (new_number m) paged) in
-    (left.ledger ∙ sender.ledger, left.number ∙ sender.number)
 
 -- the places where a move goes are free
 free_arrival : (m : Machine) → Matched m → (w : List ℕ) (first : Vpn) → arrival m w ≡ Some first → (p : Place)
@@ -173,13 +161,13 @@ module _ (number : Number) (m : Machine) (who : ThreadId) (w : List ℕ) (h : Ma
           (lend_leaves number m.processes m.ledger from (sent_pages w) to kind (new_number m) e (can.clear carries)))
           climbs
 
-  sent_fate : (first : Vpn) → (sends_pages w ≡ true → arrival n w ≡ Some first) → (kind : MsgKind) → can.kind ≡ kind
-      → HasServedFate number m who w (sent n kind w first)
-  sent_fate first there kind e after like accepted =
-      by_kind kind e (like.ledger ∙ (sent_left n kind w first).0)
+  sent_fate : (first : Vpn) → (sends_pages w ≡ true → arrival n w ≡ Some first) → (kind : MsgKind) → can.kind ≡ kind → (after : Machine)
+      → after.ledger ≡ sent_ledger kind from (sent_pages w) (sent_place n w first) (new_number m) m.ledger
+      → after.next_number ≡ m.next_number + 1 → is_call_served m who w ≡ true → Fate number m (record { cause = ByStep; machine = after })
+  sent_fate first there kind e after is next accepted = by_kind kind e is
     where
       climbs : m.next_number ≤ after.next_number
-      climbs = let next : after.next_number ≡ m.next_number + 1 = like.number ∙ (sent_left n kind w first).1 in omega arith
+      climbs = omega (arith, next)
 
       left : Leaves number m.ledger after.ledger → Fate number m (record { cause = ByStep; machine = after })
       left leaves = fate_left number m (record { cause = ByStep; machine = after }) h leaves climbs
@@ -204,29 +192,22 @@ module _ (number : Number) (m : Machine) (who : ThreadId) (w : List ℕ) (h : Ma
 
   -- ---- the calls
 
-  served_fate : first_refusal (arrival_refusals w (arrival n w)) ≡ None → HasServedFate number m who w (send_served n w (arrival n w))
-  served_fate none =
-      subst (λ kind. HasServedFate number m who w (sent n kind w (unwrap_or (arrival n w) (record { 0 = 0 }))))
-      (sym (ap (λ o. unwrap_or o Scalar) can.named))
-      (sent_fate (unwrap_or (arrival n w) (record { 0 = 0 }))
-      (found (arrival n w) (none_holds (sends_pages w && is_none (arrival n w)) MemoryInUse [] none).0) can.kind refl)
+  arrival_fate : OfPlan (λ plan. HasServedFate number m who w (done n plan)) (sent_to_row n w)
+  arrival_fate = λ none after like accepted.
+      let kind = unwrap_or (named_kind w) Scalar in
+      let first = unwrap_or (arrival n w) (record { 0 = 0 }) in
+      let sender = sender_leaves (is_answered kind) (new_number n) (with_sent n kind from (sent_pages w) (sent_place n w first)) in
+      sent_fate first (found (arrival n w) (none_holds (sends_pages w && is_none (arrival n w)) MemoryInUse [] none).0) kind
+      (sym (ap (λ o. unwrap_or o Scalar) can.named)) after (like.ledger ∙ sender.ledger) (like.number ∙ sender.number) accepted
     where
       found : (o : Option Vpn) → sends_pages w && is_none o ≡ false → sends_pages w ≡ true → o ≡ Some (unwrap_or o (record { 0 = 0 }))
       found None e pages = absurd (false≢true (sym e ∙ ap (λ b. b && true) pages))
       found (Some v) e pages = refl
 
-  arrival_fate : OfServed (HasServedFate number m who w) (sent_to n w (arrival n w))
-  arrival_fate =
-      of_unless_refused (HasServedFate number m who w) (arrival_refusals w (arrival n w)) (Served (send_served n w (arrival n w))) served_fate
-
 module _ (number : Number) (m : Machine) (who : ThreadId) (w : List ℕ) (h : Matched m) (calls : IsCaller m who w)
     (sends : is_send (call_number w) ≡ true) where
-  pub send_fate : OfServed (HasServedFate number m who w) (send_call (turned_to who m) w)
-  unfolding send_call
-  send_fate =
-      of_unless_refused (HasServedFate number m who w) (send_refusals (turned_to who m) w) _
-      (λ none. of_unless_retried (HasServedFate number m who w) (is_full_for (turned_to who m) w) _
-      (arrival_fate number m who w h calls sends (sendable (turned_to who m) w none)))
+  pub send_fate : OfPlan (λ plan. HasServedFate number m who w (done (turned_to who m) plan)) (send_row (turned_to who m) w)
+  send_fate = λ none accepts. arrival_fate number m who w h calls sends (sendable (turned_to who m) w none)
 
   -- where no refusal of a list and of one more holds, none of the list does
   first_ones : (xs ys : List (Bool × XousError)) → first_refusal (xs ++ ys) ≡ None → first_refusal xs ≡ None
@@ -238,10 +219,8 @@ module _ (number : Number) (m : Machine) (who : ThreadId) (w : List ℕ) (h : Ma
       go rest true q = q
       go rest false q = rest q
 
-  pub try_send_fate : OfServed (HasServedFate number m who w) (try_send_call (turned_to who m) w)
-  unfolding try_send_call
-  try_send_fate =
-      of_unless_refused (HasServedFate number m who w) (send_refusals (turned_to who m) w ++ (is_full_for (turned_to who m) w, ServerQueueFull) ∷ []) _
-      (λ none. arrival_fate number m who w h calls sends
+  pub try_send_fate : OfPlan (λ plan. HasServedFate number m who w (done (turned_to who m) plan)) (try_send_row (turned_to who m) w)
+  try_send_fate = λ none.
+      arrival_fate number m who w h calls sends
       (sendable (turned_to who m) w
-      (first_ones (send_refusals (turned_to who m) w) ((is_full_for (turned_to who m) w, ServerQueueFull) ∷ []) none)))
+      (first_ones (send_refusals (turned_to who m) w) ((is_full_for (turned_to who m) w, ServerQueueFull) ∷ []) none))

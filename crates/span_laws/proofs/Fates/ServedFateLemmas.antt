@@ -1,5 +1,5 @@
 -- The fate of a number in a served call: from its change to the state after the step.
-use Rattle.std.proofs.Common.{◌≡◌, ℕ, ◌≤◌, true, false, List, Option, Some, None, refl, sym, subst}
+use Rattle.std.proofs.Common.{◌≡◌, ℕ, ◌≤◌, true, false, List, Option, Some, None, refl, sym, arith, subst}
 use Rattle.std.specs.Prelude.{is_none}
 use Rattle.std.proofs.lemmas.Bool.{false≢true}
 use Rattle.xk_base.specs.declared.ids.Number.{Number}
@@ -15,9 +15,9 @@ use Rattle.machine_model.specs.Stepping.Acts.{call_by, is_call_served}
 use Rattle.machine_laws.proofs.Threading.ThreadStepLemmas.{turned_to}
 use Rattle.span_laws.specs.Fates.{Fate}
 use Rattle.span_laws.specs.Leaving.{Leaves}
-use Rattle.span_laws.proofs.Fates.CallTableLemmas.{LeavesAll}
 use Rattle.span_laws.proofs.Fates.FateLemmas.{fate_left}
 use Rattle.span_laws.proofs.Fates.LikeLemmas.{IsLike}
+use Rattle.span_laws.proofs.Leaving.NumberPageLemmas.{leaves_itself}
 
 -- what a refusal says is there
 pub some_of : {A : Type 0} → (o : Option A) → is_none o ≡ false → (x : A) × (o ≡ Some x)
@@ -38,6 +38,18 @@ pub served_call : (m : Machine) (who : ThreadId) (w : List ℕ) (n : Machine) (p
     → who.pid ≡ pid → IsServedCallOf pid w m (record { cause = ByStep; machine = n })
 served_call m who w n pid calls accepted own =
     record { who = who; step = refl; by_who = calls.acts; of_process = own; call = calls.call; served = accepted }
+
+-- ---- changes that leave every number
+
+pub record LeavesAll (m : Machine) (change : Change) : Type 0 where
+  pub leaves : (number : Number) → Leaves number m.ledger change.machine.ledger
+  pub climbs : m.next_number ≤ change.machine.next_number
+
+pub leaves_all : (m : Machine) (change : Change) → change.machine.ledger ≡ m.ledger → change.machine.next_number ≡ m.next_number → LeavesAll m change
+leaves_all m change same number = record {
+  leaves = λ k. subst (λ l. Leaves k m.ledger l) (sym same) (leaves_itself k m.ledger);
+  climbs = omega arith;
+}
 
 pub leaving_fate : (number : Number) (m : Machine) (who : ThreadId) (w : List ℕ) → Matched m → (change : Change)
     → LeavesAll (turned_to who m) change → HasServedFate number m who w change

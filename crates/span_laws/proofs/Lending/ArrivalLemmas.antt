@@ -39,11 +39,7 @@ arrival_of m h cid n first e = go (server_at m cid) refl e
         let lives : is_living m server.pid ≡ true = server_lives m h (connected_to (own_connections m) cid) server q in
         record { free = run_free m h server.pid lives n first r; lies = run_lies m h server.pid lives n first r }
 
--- what gets to a server leaves the ledger and the next number
+-- what leaves the ledger and the next number
 pub record IsArrived (m after : Machine) : Type 0 where
   pub ledger : after.ledger ≡ m.ledger
   pub number : after.next_number ≡ m.next_number
-
-pub arrived_leaves : (o : Option ThreadId) (to : Serial) (message : Message) (m : Machine) → IsArrived m (arrived o to message m).machine
-arrived_leaves None to message m = record { ledger = refl; number = refl }
-arrived_leaves (Some who) to message m = record { ledger = refl; number = refl }

@@ -1,53 +1,46 @@
 -- Every call leaves the compare value and the claim on the timer's interrupt, but ClaimInterrupt, which claims one that nobody has,
 -- and FreeInterrupt and TerminateProcess.
-use Rattle.std.proofs.Common.{◌≡◌, ℕ, Bool, true, false, List, refl, sym, ap, ◌∙◌, subst}
-use Rattle.std.specs.Prelude.{◌==◌, ◌||◌}
-use Rattle.std.proofs.lemmas.Bool.{eqb-true}
+use Rattle.std.proofs.Common.{ℕ, Bool, List, ap, ◌∙◌}
+use Rattle.std.specs.Prelude.{◌||◌}
+use Rattle.std.proofs.lemmas.Bool.{or_parts}
 use Rattle.xk_base.specs.declared.limits.TheConstants.{TIMER_INTERRUPT}
-use Rattle.xk_base.specs.Calls.CallNumbers.{claim_interrupt, free_interrupt, terminate_process}
 use Rattle.xk_base.specs.Calls.CallWords.{call_number}
-use Rattle.machine_model.specs.Calling.Calls.{any_refusals, call, call_at, call_table}
-use Rattle.machine_model.specs.Calling.InterruptCalls.{claim_call, free_call}
-use Rattle.machine_model.specs.Calling.ThreadCalls.{terminate_call}
-use Rattle.machine_model.specs.State.Changes.{Call, Outcome, Refused, Retried, Served, settled}
+use Rattle.machine_model.specs.Calling.Calls.{call}
+use Rattle.machine_model.specs.State.Changes.{Change, Outcome, Refused, Retried, Served}
 use Rattle.machine_model.specs.State.Machine.{Machine}
-use Rattle.call_effects.specs.Footprints.{ClaimsPart, ComparePart, footprint, names}
-use Rattle.call_effects.proofs.FootprintLemmas.{calls_leave_the_rest, unnamed_by}
-use Rattle.timer_laws.proofs.Fates.ClaimFateLemmas.{CallFate, OutcomeFate, Kept, as_before, claim_fate, death_fate, free_fate, unless_refused_fate}
+use Rattle.call_effects.specs.Footprints.{ClaimsPart, ComparePart, Part, footprint, names}
+use Rattle.call_effects.proofs.PartLemmas.{OfChanging, of_parts}
+use Rattle.call_effects.proofs.RowLemmas.{◌also◌}
+use Rattle.call_effects.proofs.ServedLemmas.{OfServed}
+use Rattle.timer_laws.proofs.Fates.ClaimFateLemmas.{FateOf, Kept, OutcomeFate, as_before, claim_fate, free_fate, terminate_fate}
 
-terminate_fate : CallFate terminate_call
-unfolding terminate_call settled
-terminate_fate m w = death_fate m.cursor.pid m
+-- the law is about claims, and about the compare value
+abbrev touches_timer : List Part → Bool
+touches_timer parts = names parts ClaimsPart || names parts ComparePart
 
 module _ (m : Machine) (w : List ℕ) where
-  -- a call of a number that has its fate
-  by_row : (k : ℕ) (served : Call) → call_at k call_table m w ≡ served m w → CallFate served → (call_number w == k) ≡ true → OutcomeFate m (call m w)
-  unfolding call
-  by_row k served is of e =
-      unless_refused_fate m (any_refusals m w) (call_at (call_number w) call_table m w)
-      (λ none. subst (OutcomeFate m) (sym (ap (λ n. call_at n call_table m w) (eqb-true (call_number w) k e) ∙ is)) (of m w))
+  abbrev ChangeFate : Change → Type 0
+  ChangeFate change = FateOf m change.machine
 
-  -- a call that touches neither claims nor the timer
-  untouched : names (footprint (call_number w)) ClaimsPart ≡ false → names (footprint (call_number w)) ComparePart ≡ false
-      → OutcomeFate m (call m w)
-  untouched claims compare = go (call m w) refl
+  -- the calls that can change them
+  each : OfChanging touches_timer ChangeFate m w
+  each =
+      (λ e. claim_fate m w)
+      also (λ e. free_fate m w)
+      also (λ e. terminate_fate m w)
+      also tt
+
+  served_fate : OfServed ChangeFate (call m w)
+  served_fate =
+      of_parts touches_timer ChangeFate m w each
+      (λ change rest untouched.
+      let parts = or_parts (names (footprint (call_number w)) ClaimsPart) (names (footprint (call_number w)) ComparePart) untouched in
+      Kept (rest.compare parts.1) (λ c claimed. ap (λ all. all TIMER_INTERRUPT) (rest.claims parts.0) ∙ claimed))
+
+  pub call_fate : OutcomeFate m (call m w)
+  call_fate = go (call m w) served_fate
     where
-      go : (outcome : Outcome) → call m w ≡ outcome → OutcomeFate m outcome
-      go (Refused error) e = as_before m
-      go Retried e = as_before m
-      go (Served change) e =
-          let rest = calls_leave_the_rest m w change e in
-          Kept (rest.compare compare) (λ c claimed. ap (λ all. all TIMER_INTERRUPT) (rest.claims claims) ∙ claimed)
-
-  by_number : (a b c : Bool) → (call_number w == claim_interrupt) ≡ a → (call_number w == free_interrupt) ≡ b
-      → (call_number w == terminate_process) ≡ c → OutcomeFate m (call m w)
-  by_number true b c p q r = by_row claim_interrupt claim_call refl claim_fate p
-  by_number false true c p q r = by_row free_interrupt free_call refl free_fate q
-  by_number false false true p q r = by_row terminate_process terminate_call refl terminate_fate r
-  by_number false false false p q r =
-      untouched (unnamed_by ClaimsPart (call_number w) (λ i. p i || (q i || (r i || false))))
-      (unnamed_by ComparePart (call_number w) (λ i. q i || (r i || false)))
-
-pub call_fate : CallFate call
-call_fate m w =
-    by_number m w (call_number w == claim_interrupt) (call_number w == free_interrupt) (call_number w == terminate_process) refl refl refl
+      go : (outcome : Outcome) → OfServed ChangeFate outcome → OutcomeFate m outcome
+      go (Refused error) of = as_before m
+      go Retried of = as_before m
+      go (Served change) of = of

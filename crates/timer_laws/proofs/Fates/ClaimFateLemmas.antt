@@ -8,16 +8,20 @@ use Rattle.xk_base.specs.declared.ids.Pid.{Pid}
 use Rattle.xk_base.specs.declared.limits.TheConstants.{INTERRUPT_LIMIT, TIMER_INTERRUPT}
 use Rattle.xk_base.specs.Calls.CallWords.{interrupt_number, interrupt_handler, interrupt_argument}
 use Rattle.xk_base.specs.Tables.Counting.{put_at}
-use Rattle.machine_model.specs.Calling.InterruptCalls.{claim_call, claim_refusals, claim_served, free_call, free_refusals, free_served}
 use Rattle.machine_model.specs.Ending.Closing.{closed, servers_closed, senders_queued_gone, senders_held_gone}
 use Rattle.machine_model.specs.Ending.Ends.{death, end_with_last_thread, forgotten, handler_ended, has_threads, thread_ended}
-use Rattle.machine_model.specs.State.Changes.{Call, Outcome, Refused, Retried, Served, call_settled, first_refusal, refused_or, settled, unless_refused}
+use Rattle.machine_model.specs.State.Changes.{Outcome, Refused, Retried, Served, call_settled, settled}
 use Rattle.machine_model.specs.State.Machine.{Claim, Machine}
 use Rattle.machine_model.specs.State.Order.{turn}
 use Rattle.machine_model.specs.State.Threads.{change_thread, put_thread, thread_id, with_state}
 use Rattle.machine_model.specs.State.Machine.{Idle}
 use Rattle.machine_model.specs.Stepping.Interrupts.{delivered, delivered_lowest, disarmed_if, handler_started, is_claim_of, is_free_for_interrupt, lowest_pending}
 use Rattle.machine_laws.proofs.Calling.RunRefusalLemmas.{none_holds, not_false}
+use Rattle.call_effects.specs.Effects.{run}
+use Rattle.call_effects.specs.Rows.InterruptRows.{claim_row, free_row}
+use Rattle.call_effects.specs.Rows.ThreadRows.{terminate_row}
+use Rattle.call_effects.specs.Verdicts.{Verdict}
+use Rattle.call_effects.proofs.ServedLemmas.{OfPlan}
 use Rattle.xk_base.specs.declared.ids.ThreadId.{ThreadId}
 
 -- Both stand, or the claim ends and the timer is disarmed with it.
@@ -40,17 +44,6 @@ machine_after m (Served change) = change.machine
 
 abbrev pub OutcomeFate : Machine → Outcome → Type 0
 OutcomeFate m outcome = FateOf m (machine_after m outcome)
-
-abbrev pub CallFate : Call → Type 0
-CallFate served = (m : Machine) (w : List ℕ) → OutcomeFate m (served m w)
-
-pub unless_refused_fate : (m : Machine) (refusals : List (Bool × XousError)) (outcome : Outcome)
-    → (first_refusal refusals ≡ None → OutcomeFate m outcome) → OutcomeFate m (unless_refused refusals outcome)
-unless_refused_fate m refusals outcome of = go (first_refusal refusals) refl
-  where
-    go : (o : Option XousError) → first_refusal refusals ≡ o → OutcomeFate m (refused_or o outcome)
-    go None e = of e
-    go (Some error) e = as_before m
 
 pub settled_fate : (m : Machine) (outcome : Outcome) → OutcomeFate m outcome → FateOf m (call_settled m outcome).machine
 unfolding call_settled settled turn
@@ -98,29 +91,27 @@ module _ (m : Machine) (k : ℕ) where
       go true false p q = absurd (false≢true (sym q ∙ eq-eqb TIMER_INTERRUPT k (sym (eqb-true k TIMER_INTERRUPT p))))
       go false true p q = absurd (false≢true (sym p ∙ eq-eqb k TIMER_INTERRUPT (sym (eqb-true TIMER_INTERRUPT k q))))
 
-pub claim_fate : CallFate claim_call
-unfolding claim_call
-claim_fate m w =
-    unless_refused_fate m (claim_refusals m k (interrupt_handler w)) (Served (claim_served m k (interrupt_handler w) (interrupt_argument w)))
-    (λ none.
+-- what is done of the verdict on a call
+abbrev PlanFate : Machine → Verdict → Type 0
+PlanFate m verdict = OfPlan (λ plan. FateOf m (run plan.effects m)) verdict
+
+pub claim_fate : (m : Machine) (w : List ℕ) → PlanFate m (claim_row m w)
+claim_fate m w = λ none.
     let last : List (Bool × XousError) = (is_some (m.claims k), InterruptInUse) ∷ [] in
     let later : List (Bool × XousError) = (not (interrupt_handler w % 4 == 0), BadAlignment) ∷ last in
     let past_number = none_holds (not (nat_lt k INTERRUPT_LIMIT)) InterruptNotFound later none in
     let past_handler = none_holds (not (interrupt_handler w % 4 == 0)) BadAlignment last past_number.1 in
     let past_use = none_holds (is_some (m.claims k)) InterruptInUse [] past_handler.1 in
-    claimed_fate m k (record { pid = m.cursor.pid; handler = interrupt_handler w; argument = interrupt_argument w }) past_use.0)
+    claimed_fate m k (record { pid = m.cursor.pid; handler = interrupt_handler w; argument = interrupt_argument w }) past_use.0
   where
     k : ℕ
     k = interrupt_number w
 
-pub free_fate : CallFate free_call
-unfolding free_call
-free_fate m w =
-    unless_refused_fate m (free_refusals m (interrupt_number w)) (Served (free_served m (interrupt_number w)))
-    (λ none.
+pub free_fate : (m : Machine) (w : List ℕ) → PlanFate m (free_row m w)
+free_fate m w = λ none.
     freed_fate m (interrupt_number w) m.cursor.pid
     (not_false (is_claim_of m.cursor.pid (m.claims (interrupt_number w)))
-    (none_holds (not (is_claim_of m.cursor.pid (m.claims (interrupt_number w)))) InterruptNotFound [] none).0))
+    (none_holds (not (is_claim_of m.cursor.pid (m.claims (interrupt_number w)))) InterruptNotFound [] none).0)
 
 -- ---- deaths and ends
 
@@ -135,6 +126,10 @@ forgotten_fate pid (Some claim) compare = go (is_claim_of pid (Some claim)) comp
     go true (Some compare) = Freed claim refl refl refl
     go false None = Kept refl (λ c e. e)
     go false (Some compare) = Kept refl (λ c e. e)
+
+pub terminate_fate : (m : Machine) (w : List ℕ) → PlanFate m (terminate_row m w)
+unfolding closed senders_queued_gone senders_held_gone forgotten
+terminate_fate m w = forgotten_fate m.cursor.pid (m.claims TIMER_INTERRUPT) m.compare
 
 pub death_fate : (pid : Pid) (m : Machine) → FateOf m (settled (death pid m)).machine
 unfolding settled death servers_closed closed senders_queued_gone senders_held_gone forgotten

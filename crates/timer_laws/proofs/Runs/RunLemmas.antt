@@ -20,7 +20,7 @@ use Rattle.machine_model.proofs.StepLemmas.{no_step, one_step}
 use Rattle.machine_model.proofs.Runs.TimerLemmas.{pended_raised}
 use Rattle.timer_laws.specs.Arming.{Arms, Disarms, EndsClaim, LeavesTimer, TimerStore}
 use Rattle.timer_laws.specs.Raising.{IsRaise}
-use Rattle.timer_laws.specs.TimerLaw.{IsArming, IsLeft, IsRaisedBy, IsRaisedByAny, IsRaising, IsStepOf, TimerHolds, TimerLaw}
+use Rattle.timer_laws.specs.TimerLaw.{ArmingsAreMoments, IsArmedAt, IsArming, IsLeft, IsRaisedBy, IsRaisedByAny, IsRaising, IsStepOf, TimerHolds, TimerLaw, steps_at}
 use Rattle.timer_laws.proofs.Runs.MomentLemmas.{Armed, Disarmed, Left, Touch, effects_of, touch_of}
 use Rattle.timer_laws.proofs.Runs.RaiseLemmas.{decides}
 
@@ -81,7 +81,7 @@ state_first : (start : Machine) (moments : List Moment) → state_at start momen
 unfolding state_at
 state_first start moments = refl
 
-module _ (start : Machine) (moments : List Moment) (unarmed : start.compare ≡ None) (run : IsRun start moments) where
+module _ (start : Machine) (moments : List Moment) (run : IsRun start moments) where
   abbrev at : ℕ → Machine
   at k = state_at start moments k
 
@@ -221,30 +221,44 @@ module _ (start : Machine) (moments : List Moment) (unarmed : start.compare ≡ 
       ap (λ (s : TimerStore). s.value)
       (same_Some (record { offset = 4; width = Word; value = c }) (record { offset = 4; width = Word; value = d }) (sym a.arms.store ∙ b.arms.store))
 
-  -- up to before moment k the timer is armed with this value, since moment `from`
+  same_armed : (c d place : ℕ) → IsArmedAt c start moments place → IsArmedAt d start moments place → c ≡ d
+  same_armed c d zero a b = same_Some c d (sym a ∙ b)
+  same_armed c d (suc i) a b = same_arming c d i a b
+
+  -- an arming after a place is that of a moment
+  record IsMoment (c place : ℕ) : Type 0 where
+    moment : ℕ
+    next : place ≡ suc moment
+    arming : IsArming c start moments moment
+
+  moment_of : (c place i : ℕ) → i < place → IsArmedAt c start moments place → IsMoment c place
+  moment_of c zero i lt a = absurd (omega (arith, lt))
+  moment_of c (suc k) i lt a = record { moment = k; next = refl; arming = a }
+
+  -- up to before moment k the timer is armed with this value, since this place
   record IsSince (c k : ℕ) : Type 0 where
-    from : ℕ
-    arming : IsArming c start moments from
-    before : from < k
-    left : (j : ℕ) (between : Moment) → from < j → j < k → slice_get moments j ≡ Some between → LeavesTimer (at j) between
+    place : ℕ
+    armed : IsArmedAt c start moments place
+    before : place ≤ k
+    left : (j : ℕ) (between : Moment) → place ≤ j → j < k → slice_get moments j ≡ Some between → LeavesTimer (at j) between
 
   newly : (c d k : ℕ) (moment : Moment) → slice_get moments k ≡ Some moment → Arms d (at k) moment.cause → Some d ≡ Some c → IsSince c (suc k)
   newly c d k moment there arms e = record {
-    from = k;
-    arming = record { moment = moment; there = there; arms = subst (λ v. Arms v (at k) moment.cause) (same_Some d c e) arms };
+    place = suc k;
+    armed = record { moment = moment; there = there; arms = subst (λ v. Arms v (at k) moment.cause) (same_Some d c e) arms };
     before = omega arith;
     left = λ j between p q h. absurd (omega (arith, p, q));
   }
 
   longer : (c k : ℕ) (moment : Moment) → slice_get moments k ≡ Some moment → LeavesTimer (at k) moment → IsSince c k → IsSince c (suc k)
   longer c k moment there h s = record {
-    from = s.from;
-    arming = s.arming;
-    before = let lt : s.from < k = s.before in omega (arith, lt);
+    place = s.place;
+    armed = s.armed;
+    before = let le : s.place ≤ k = s.before in omega (arith, le);
     left = λ j between p q e. go j between p q e (cases_lt j k);
   }
     where
-      go : (j : ℕ) (between : Moment) → s.from < j → j < suc k → slice_get moments j ≡ Some between → (j < k) ⊎ (k ≤ j)
+      go : (j : ℕ) (between : Moment) → s.place ≤ j → j < suc k → slice_get moments j ≡ Some between → (j < k) ⊎ (k ≤ j)
           → LeavesTimer (at j) between
       go j between p q e (inl lt) = s.left j between p lt e
       go j between p q e (inr ge) = left_here k moment there h j between (omega (arith, q, ge)) e
@@ -261,8 +275,12 @@ module _ (start : Machine) (moments : List Moment) (unarmed : start.compare ≡ 
       go (Disarmed none not_armed by) = absurd (none-some c (sym none ∙ e))
 
   since : (c k : ℕ) → k ≤ length moments → (at k).compare ≡ Some c → IsSince c k
-  since c zero low e =
-      absurd (none-some c (sym unarmed ∙ (ap (λ (x : Machine). x.compare) (sym (state_first start moments)) ∙ e)))
+  since c zero low e = record {
+    place = 0;
+    armed = ap (λ (x : Machine). x.compare) (sym (state_first start moments)) ∙ e;
+    before = omega arith;
+    left = λ j between p q h. absurd (omega (arith, q));
+  }
   since c (suc k) low e =
       let found = moment_at k (omega (arith, low)) in
       onward c k found.0 found.1 (armed_before k found.0 found.1 c e) (λ h. since c k (omega (arith, low)) h)
@@ -271,10 +289,10 @@ module _ (start : Machine) (moments : List Moment) (unarmed : start.compare ≡ 
 
   -- the timer raises in moment j by an arming of this value that nothing touched since
   record IsArmedFor (number j : ℕ) : Type 0 where
-    from : ℕ
-    arming : IsArming number start moments from
-    order : from ≤ j
-    left : IsLeft start moments from j
+    place : ℕ
+    armed : IsArmedAt number start moments place
+    order : place ≤ suc j
+    left : IsLeft start moments place j
 
   number_of : ℕ → ℕ
   number_of j = (at j).steps + 1
@@ -288,136 +306,151 @@ module _ (start : Machine) (moments : List Moment) (unarmed : start.compare ≡ 
       let s : IsSince ((at j).steps + 1) (suc j) =
       onward ((at j).steps + 1) j raising.moment raising.there (due_effects j raising.moment raising.raise)
       (λ h. since ((at j).steps + 1) j (omega (arith, low)) h) in
-      let lt : s.from < suc j = s.before in
       record {
-        from = s.from;
-        arming = s.arming;
-        order = omega (arith, lt);
+        place = s.place;
+        armed = s.armed;
+        order = s.before;
         left = λ k between p q e. s.left k between p (omega (arith, q)) e;
       }
 
   -- nothing between is an arming
-  last_of : (i j : ℕ) → IsLeft start moments i j → (k other : ℕ) → i < k → k ≤ j → ¬ IsArming other start moments k
-  last_of i j left k other p q a = (left k a.moment p q a.there).not_armed other a.arms
+  last_of : (place j : ℕ) → IsLeft start moments place j → (k other : ℕ) → place ≤ k → k ≤ j → ¬ IsArming other start moments k
+  last_of place j left k other p q a = (left k a.moment p q a.there).not_armed other a.arms
 
   by_an_arming : (j : ℕ) → IsRaising start moments j → IsRaisedByAny start moments j
   by_an_arming j raising =
       let a : IsArmedFor ((at j).steps + 1) j = armed_for j raising in
+      let order : a.place ≤ suc j = a.order in
       record {
         compare = (at j).steps + 1;
-        arming = a.from;
-        raised = record { arming = a.arming; raising = raising; order = a.order; last = last_of a.from j a.left };
+        place = a.place;
+        raised = record { armed = a.armed; raising = raising; order = omega (arith, order); last = last_of a.place j a.left };
       }
 
   -- the arming is the one that nothing touched since
-  record IsThat (c i j : ℕ) : Type 0 where
+  record IsThat (c place j : ℕ) : Type 0 where
     value : c ≡ (at j).steps + 1
-    left : IsLeft start moments i j
+    left : IsLeft start moments place j
 
-  that : (c i j : ℕ) → IsRaisedBy c start moments i j → IsThat c i j
-  that c i j raised = go (cases_lt i a.from) (cases_lt a.from i)
+  that : (c place j : ℕ) → IsRaisedBy c start moments place j → IsThat c place j
+  that c place j raised = go (cases_lt place a.place) (cases_lt a.place place)
     where
       a : IsArmedFor ((at j).steps + 1) j
       a = armed_for j raised.raising
 
-      go : (i < a.from) ⊎ (a.from ≤ i) → (a.from < i) ⊎ (i ≤ a.from) → IsThat c i j
-      go (inl lt) q = absurd (raised.last a.from ((at j).steps + 1) lt a.order a.arming)
-      go (inr ge) (inl lt) = absurd (last_of a.from j a.left i c lt raised.order raised.arming)
+      latest : a.place ≤ suc j
+      latest = a.order
+
+      this : place ≤ j + 1
+      this = raised.order
+
+      go : (place < a.place) ⊎ (a.place ≤ place) → (a.place < place) ⊎ (place ≤ a.place) → IsThat c place j
+      go (inl lt) q =
+          let later : IsMoment ((at j).steps + 1) a.place = moment_of ((at j).steps + 1) a.place place lt a.armed in
+          let next : a.place ≡ suc later.moment = later.next in
+          absurd (raised.last later.moment ((at j).steps + 1) (omega (arith, lt, next)) (omega (arith, next, latest)) later.arming)
+      go (inr ge) (inl lt) =
+          let later : IsMoment c place = moment_of c place a.place lt raised.armed in
+          let next : place ≡ suc later.moment = later.next in
+          absurd (last_of a.place j a.left later.moment c (omega (arith, lt, next)) (omega (arith, next, this)) later.arming)
       go (inr ge) (inr le) =
-          let same : a.from ≡ i = omega (arith, ge, le) in
+          let same : a.place ≡ place = omega (arith, ge, le) in
           record {
-            value = same_arming c ((at j).steps + 1) i raised.arming (subst (IsArming ((at j).steps + 1) start moments) same a.arming);
+            value = same_armed c ((at j).steps + 1) place raised.armed (subst (IsArmedAt ((at j).steps + 1) start moments) same a.armed);
             left = subst (λ k. IsLeft start moments k j) same a.left;
           }
 
-  only_there : (c i j : ℕ) → IsRaisedBy c start moments i j → IsStepOf c start moments j
-  only_there c i j raised = record {
+  only_there : (c place j : ℕ) → IsRaisedBy c start moments place j → IsStepOf c start moments j
+  only_there c place j raised = record {
     moment = raised.raising.moment;
     there = raised.raising.there;
     step = raised.raising.raise.step;
     acts = raised.raising.raise.acts;
-    numbered = sym (that c i j raised).value;
+    numbered = sym (that c place j raised).value;
   }
 
   -- ---- an arming that nothing touches
 
-  module _ (c i j : ℕ) (arming : IsArming c start moments i) (low : j < length moments) (left : IsLeft start moments i j) where
+  module _ (c place j : ℕ) (armed : IsArmedAt c start moments place) (low : j < length moments) (left : IsLeft start moments place j) where
     -- its moments leave it armed before the timer
-    armed_by : (k : ℕ) (moment : Moment) → i ≤ k → k ≤ j → slice_get moments k ≡ Some moment → (i < k → (at k).compare ≡ Some c)
-        → (effects_of moment.cause (at k)).compare ≡ Some c
-    armed_by k moment p q there earlier = go (cases_lt i k) (touch k moment there)
+    armed_by : (k : ℕ) (moment : Moment) → place ≤ suc k → k ≤ j → slice_get moments k ≡ Some moment
+        → (place ≤ k → (at k).compare ≡ Some c) → (effects_of moment.cause (at k)).compare ≡ Some c
+    armed_by k moment p q there earlier = go (cases_lt k place) (touch k moment there)
       where
-        here : k ≤ i → Arms c (at k) moment.cause
-        here le =
-            let same : i ≡ k = omega (arith, p, le) in
-            let moved : IsArming c start moments k = subst (IsArming c start moments) same arming in
+        here : k < place → Arms c (at k) moment.cause
+        here lt =
+            let same : place ≡ suc k = omega (arith, p, lt) in
+            let moved : IsArming c start moments k = subst (IsArmedAt c start moments) same armed in
             subst (λ (x : Moment). Arms c (at k) x.cause) (same_moment k moved.moment moment moved.there there) moved.arms
 
-        go : (i < k) ⊎ (k ≤ i) → Touch (at k) moment.cause (effects_of moment.cause (at k)) → (effects_of moment.cause (at k)).compare ≡ Some c
-        go (inl lt) (Left same not_armed not_disarmed stands) = same ∙ earlier lt
-        go (inl lt) (Armed d arms value stands) = absurd ((left k moment lt q there).not_armed d arms)
-        go (inl lt) (Disarmed none not_armed (inl disarms)) = absurd ((left k moment lt q there).not_disarmed disarms)
-        go (inl lt) (Disarmed none not_armed (inr ends)) = absurd ((left k moment lt q there).claim_stands (ended_after k moment there ends))
-        go (inr le) (Left same not_armed not_disarmed stands) = absurd (not_armed c (here le))
-        go (inr le) (Armed d arms value stands) =
+        go : (k < place) ⊎ (place ≤ k) → Touch (at k) moment.cause (effects_of moment.cause (at k)) → (effects_of moment.cause (at k)).compare ≡ Some c
+        go (inr le) (Left same not_armed not_disarmed stands) = same ∙ earlier le
+        go (inr le) (Armed d arms value stands) = absurd ((left k moment le q there).not_armed d arms)
+        go (inr le) (Disarmed none not_armed (inl disarms)) = absurd ((left k moment le q there).not_disarmed disarms)
+        go (inr le) (Disarmed none not_armed (inr ends)) = absurd ((left k moment le q there).claim_stands (ended_after k moment there ends))
+        go (inl lt) (Left same not_armed not_disarmed stands) = absurd (not_armed c (here lt))
+        go (inl lt) (Armed d arms value stands) =
             value
             ∙ ap Some (same_arming d c k (record { moment = moment; there = there; arms = arms })
-            (record { moment = moment; there = there; arms = here le }))
-        go (inr le) (Disarmed none not_armed by) = absurd (not_armed c (here le))
+            (record { moment = moment; there = there; arms = here lt }))
+        go (inl lt) (Disarmed none not_armed by) = absurd (not_armed c (here lt))
 
     -- where none of the moments before one is a raise, it is still armed there
     abbrev Quiet : ℕ → Type 0
     Quiet end =
-        (k : ℕ) (moment : Moment) → i ≤ k → k < end → slice_get moments k ≡ Some moment → (effects_of moment.cause (at k)).compare ≡ Some c
-        → ¬ IsRaise (at k) moment.cause
+        (k : ℕ) (moment : Moment) → place ≤ suc k → k < end → slice_get moments k ≡ Some moment
+        → (effects_of moment.cause (at k)).compare ≡ Some c → ¬ IsRaise (at k) moment.cause
 
-    held : (end : ℕ) → Quiet end → end ≤ suc j → (k : ℕ) → i < k → k ≤ end → (at k).compare ≡ Some c
-    held end quiet room zero p q = absurd (omega (arith, p))
+    held : (end : ℕ) → Quiet end → end ≤ suc j → (k : ℕ) → place ≤ k → k ≤ end → (at k).compare ≡ Some c
+    held end quiet room zero p q =
+        let first : place ≡ 0 = omega (arith, p) in
+        let started : start.compare ≡ Some c = subst (IsArmedAt c start moments) first armed in
+        ap (λ (x : Machine). x.compare) (state_first start moments) ∙ started
     held end quiet room (suc k) p q =
         let found = moment_at k (omega (arith, low, q, room)) in
-        let armed : (effects_of found.0.cause (at k)).compare ≡ Some c =
-        armed_by k found.0 (omega (arith, p)) (omega (arith, q, room)) found.1 (λ lt. held end quiet room k lt (omega (arith, q))) in
-        ap (λ (x : Machine). x.compare) (unraised k found.0 found.1 (quiet k found.0 (omega (arith, p)) (omega (arith, q)) found.1 armed)) ∙ armed
+        let value : (effects_of found.0.cause (at k)).compare ≡ Some c =
+        armed_by k found.0 p (omega (arith, q, room)) found.1 (λ le. held end quiet room k le (omega (arith, q))) in
+        ap (λ (x : Machine). x.compare) (unraised k found.0 found.1 (quiet k found.0 p (omega (arith, q)) found.1 value)) ∙ value
 
     -- a raise in between is its own
-    raised_by : (k : ℕ) (moment : Moment) → i ≤ k → k ≤ j → slice_get moments k ≡ Some moment → IsRaise (at k) moment.cause
-        → IsRaisedBy c start moments i k
+    raised_by : (k : ℕ) (moment : Moment) → place ≤ suc k → k ≤ j → slice_get moments k ≡ Some moment → IsRaise (at k) moment.cause
+        → IsRaisedBy c start moments place k
     raised_by k moment p q there r = record {
-      arming = arming;
+      armed = armed;
       raising = record { moment = moment; there = there; raise = r };
-      order = p;
-      last = λ n other lt le. last_of i j left n other lt (omega (arith, le, q));
+      order = omega (arith, p);
+      last = λ n other le up. last_of place j left n other le (omega (arith, up, q));
     }
 
-    stays : i ≤ j → ((k : ℕ) → k ≤ j → ¬ IsRaisedBy c start moments i k) → (at (suc j)).compare ≡ Some c
+    stays : place ≤ j + 1 → ((k : ℕ) → k ≤ j → ¬ IsRaisedBy c start moments place k) → (at (suc j)).compare ≡ Some c
     stays order none =
         held (suc j) (λ k moment p q there e r. none k (omega (arith, q)) (raised_by k moment p (omega (arith, q)) there r)) (omega arith) (suc j)
         (omega (arith, order)) (omega arith)
 
   -- ---- it raises at its step
 
-  module _ (c i j : ℕ) (arming : IsArming c start moments i) (at_step : IsStepOf c start moments j) (left : IsLeft start moments i j) where
+  module _ (c place j : ℕ) (armed : IsArmedAt c start moments place) (at_step : IsStepOf c start moments j) (left : IsLeft start moments place j) where
     low : j < length moments
     low = slice_get_within moments j at_step.moment at_step.there
 
     -- no moment before that step is a raise
-    no_raise : Quiet c i j arming low left j
+    no_raise : Quiet c place j armed low left j
     no_raise k moment order lt there e r =
         let value : (at k).steps + 1 ≡ c = same_Some ((at k).steps + 1) c (sym (due_effects k moment r) ∙ e) in
         let number : (at j).steps + 1 ≡ c = at_step.numbered in
         let less : (at k).steps + 1 ≤ (at j).steps = step_climbs k j lt (omega (arith, low)) moment there r.step r.acts in
         omega (arith, value, number, less)
 
-    raises : i ≤ j → IsRaisedBy c start moments i j
+    raises : place ≤ suc j → IsRaisedBy c start moments place j
     raises order =
-        let armed : (effects_of at_step.moment.cause (at j)).compare ≡ Some c =
-        armed_by c i j arming low left j at_step.moment order (omega arith) at_step.there
-        (λ lt. held c i j arming low left j no_raise (omega arith) j lt (omega arith)) in
-        raised_by c i j arming low left j at_step.moment order (omega arith) at_step.there
+        let value : (effects_of at_step.moment.cause (at j)).compare ≡ Some c =
+        armed_by c place j armed low left j at_step.moment order (omega arith) at_step.there
+        (λ le. held c place j armed low left j no_raise (omega arith) j le (omega arith)) in
+        raised_by c place j armed low left j at_step.moment order (omega arith) at_step.there
         (record {
           step = at_step.step;
           acts = at_step.acts;
-          due = ap (λ cause. (effects_of cause (at j)).compare) (sym at_step.step) ∙ (armed ∙ ap Some (sym at_step.numbered));
+          due = ap (λ cause. (effects_of cause (at j)).compare) (sym at_step.step) ∙ (value ∙ ap Some (sym at_step.numbered));
         })
 
   -- ---- and so once
@@ -446,29 +479,40 @@ module _ (start : Machine) (moments : List Moment) (unarmed : start.compare ≡ 
           absurd (omega (arith, less, a_number, b_number))
       go (inr ge) (inr le) = omega (arith, ge, le)
 
-  never_past : (c i j : ℕ) → IsArming c start moments i → c ≤ (at i).steps → ¬ IsRaisedBy c start moments i j
-  never_past c i j arming past raised =
-      let there : IsStepOf c start moments j = only_there c i j raised in
+  steps_since : (place j : ℕ) → place ≤ j + 1 → j ≤ length moments → steps_at start moments place ≤ (at j).steps
+  steps_since zero j order low =
+      subst (λ (x : Machine). x.steps ≤ (at j).steps) (state_first start moments) (state_climbs 0 j (omega arith) low)
+  steps_since (suc i) j order low = state_climbs i j (omega (arith, order)) low
+
+  never_past : (c place j : ℕ) → IsArmedAt c start moments place → c ≤ steps_at start moments place → ¬ IsRaisedBy c start moments place j
+  never_past c place j armed past raised =
+      let there : IsStepOf c start moments j = only_there c place j raised in
       let number : (at j).steps + 1 ≡ c = there.numbered in
       let low : j < length moments = slice_get_within moments j there.moment there.there in
-      let climbs : (at i).steps ≤ (at j).steps = state_climbs i j raised.order (omega (arith, low)) in
+      let climbs : steps_at start moments place ≤ (at j).steps = steps_since place j raised.order (omega (arith, low)) in
       omega (arith, number, past, climbs)
 
   law : TimerLaw start moments
   law = record {
     by_an_arming = by_an_arming;
-    once = λ c i j k a b. same_step c j k (only_there c i j a) (only_there c i k b);
+    once = λ c place j k a b. same_step c j k (only_there c place j a) (only_there c place k b);
     only_there = only_there;
-    exactly = λ c i j arming. (
-      λ raised. record { order = raised.order; reached = only_there c i j raised; left = (that c i j raised).left },
-      λ due. raises c i j arming due.reached due.left due.order,
+    exactly = λ c place j armed. (
+      λ raised. record { order = raised.order; reached = only_there c place j raised; left = (that c place j raised).left },
+      λ due.
+          let order : place ≤ j + 1 = due.order in
+          raises c place j armed due.reached due.left (omega (arith, order)),
     );
-    stays = λ c i j moment arming order there left none.
+    stays = λ c place j moment armed order there left none.
         ap (λ (x : Machine). x.compare) (sym (next j moment there).now)
-        ∙ stays c i j arming (slice_get_within moments j moment there) left order none;
+        ∙ stays c place j armed (slice_get_within moments j moment there) left order none;
     never_past = never_past;
     disarmed = disarmed;
   }
 
 pub timer_holds : TimerHolds
 timer_holds = law
+
+pub armings_are_moments : ArmingsAreMoments
+armings_are_moments start moments c zero unarmed armed = absurd (none-some c (sym unarmed ∙ armed))
+armings_are_moments start moments c (suc i) unarmed armed = let next : suc i ≡ i + 1 = omega arith in (i, next, armed)
