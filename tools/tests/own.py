@@ -1,4 +1,4 @@
-"""The tests that stand by themselves: those of xous-view, of its charts, and of states and xous-gdb."""
+"""The tests that stand by themselves: those of xous-view, of its charts, of states and xous-gdb, and of the laws of records."""
 
 import importlib.machinery
 import importlib.util
@@ -19,3 +19,4 @@ def checks(program, folder):
     yield from load("test-view").checks()
     yield from load("test-view-chart").checks()
     yield from load("test-gdb").checks(program, pathlib.Path(folder))
+    yield from load("test-records").checks(program, folder)
