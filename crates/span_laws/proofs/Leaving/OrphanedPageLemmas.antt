@@ -6,7 +6,7 @@ use Rattle.std.proofs.lemmas.Option.{none-some}
 use Rattle.xk_base.specs.declared.ids.Number.{Number}
 use Rattle.xk_base.specs.declared.ids.Place.{Place}
 use Rattle.ledger_model.specs.Lawful.{IsLawful}
-use Rattle.ledger_model.specs.Ledger.{Bytes, Console, Contents, Homed, Ledger, Orphan, Orphaned, Page, PageLoan, contents_of, loan_at, loan_of}
+use Rattle.ledger_model.specs.Ledger.{Bytes, Console, Contents, Homed, Ledger, Orphan, Orphaned, Page, PageLoan, contents_of, loan_of}
 use Rattle.ledger_model.specs.Loans.{IsFresh, LoanRun, Stands, loan_of_orphan, loans, of_number, orphan_of_number, same_number}
 use Rattle.ledger_model.specs.Places.{place_after}
 use Rattle.ledger_model.specs.Reach.{lender_of}
@@ -49,10 +49,6 @@ module _ (procs capacity : ℕ) (set : Number → Bool) (l : Ledger) (lawful : I
 -- ---- fresh numbers
 
 module _ (procs : ℕ) (set : Number → Bool) (l : Ledger) (number : Number) (fresh : IsFresh (loans l) number) where
-  fresh_at : (p : Place) → of_number number (loan_at l p) ≡ None
-  unfolding loans
-  fresh_at p = fresh.homes p
-
   page_fresh : (o : Option Page) → of_number number (loan_of o) ≡ None → of_number number (loan_of (page_but set o)) ≡ None
   page_fresh None e = refl
   page_fresh (Some page) e = go (is_lent_by set page.loan)

@@ -52,9 +52,6 @@ pub record SameRun (a b : LoanRun) : Type 0 where
 module _ (a b : LoanRun) (some_a : 1 ≤ a.count) (some_b : 1 ≤ b.count)
     (homes : (p : Place) → option_map (λ loan. loan.kind) (loan_of_run a p) ≡ option_map (λ loan. loan.kind) (loan_of_run b p))
     (orphans : (p : Place) → orphan_of_run a p ≡ orphan_of_run b p) where
-  abbrev loan_at_run : LoanRun → Place → Place → PageLoan
-  loan_at_run r from p = record { holder = moved from r.holder p; kind = r.kind; number = r.number }
-
   -- where a run with a lender has a page, told by its kind
   by_kind : (r : LoanRun) (from p : Place) → r.lender ≡ Some from
       → option_map (λ loan. loan.kind) (loan_of_run r p) ≡ (if in_run from r.count p then Some r.kind else None)

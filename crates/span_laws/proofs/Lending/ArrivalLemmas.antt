@@ -5,13 +5,11 @@ use Rattle.std.proofs.lemmas.Option.{none-some}
 use Rattle.xk_base.specs.Tables.Connections.{connected_to}
 use Rattle.xk_base.specs.declared.ids.Place.{Place}
 use Rattle.xk_base.specs.declared.ids.Serial.{Serial}
-use Rattle.xk_base.specs.declared.ids.ThreadId.{ThreadId}
 use Rattle.xk_base.specs.declared.ids.Vpn.{Vpn}
-use Rattle.xk_base.specs.declared.messages.Message.{Message}
 use Rattle.xk_base.specs.declared.windows.Window.TheVariants.{Message as MessageWindow}
 use Rattle.ledger_model.specs.Places.{in_run, is_place_in}
 use Rattle.ledger_model.specs.Reach.{is_free}
-use Rattle.machine_model.specs.Messaging.SendCalls.{arrived, message_run}
+use Rattle.machine_model.specs.Messaging.SendCalls.{message_run}
 use Rattle.machine_model.specs.Runs.Matched.{Matched, is_living}
 use Rattle.machine_model.specs.State.Connections.{own_connections}
 use Rattle.machine_model.specs.State.Machine.{Machine, Server}
