@@ -1,0 +1,3 @@
+pub mod Ordering
+pub mod StuckLemmas
+pub mod Turning

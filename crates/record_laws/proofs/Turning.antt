@@ -1,0 +1,4 @@
+pub mod FairLemmas
+pub mod GoingLemmas
+pub mod NearingLemmas
+pub mod RoundLemmas

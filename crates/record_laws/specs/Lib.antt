@@ -1,0 +1,3 @@
+pub mod RecordOrder
+pub mod Stuck
+pub mod Turns

@@ -1,0 +1,11 @@
+//! What a reader of a transcript may rely on: laws of the records of steps and of histories, and of whose turn it is. The definitions
+//! stand in `specs/`; the functions have no code, and their contracts are the laws.
+#![tactic(auto)]
+
+mod record_order;
+mod stuck;
+mod turns;
+
+pub use record_order::records_stand_in_order;
+pub use stuck::stuck_is_exactly_that;
+pub use turns::turns_are_fair;
