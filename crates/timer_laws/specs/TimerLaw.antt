@@ -2,7 +2,7 @@
 -- there exactly where three things hold: that step is the arming step or a later one, the run reaches it, and from after the arming
 -- up to and with that step's other effects nothing arms or disarms the timer, and the claim on its interrupt doesn't end. A run may
 -- start armed, as one that was suspended does when it goes on: then the arming was before its first moment.
-use Rattle.std.specs.Prelude.{◌≡◌, ℕ, zero, suc, ◌+◌, ◌<◌, ◌≤◌, ◌⊎◌, ◌↔◌, true, is_some, List, slice_get, Some, None}
+use Rattle.std.specs.Prelude.{◌≡◌, ℕ, zero, suc, ◌+◌, ◌≤◌, ◌⊎◌, ◌↔◌, true, is_some, List, slice_get, Some, None}
 use Rattle.machine_model.specs.Runs.Moments.{ByStep, Moment, IsRun, state_at}
 use Rattle.machine_model.specs.State.Machine.{Machine}
 use Rattle.machine_model.specs.State.Order.{actor}
