@@ -1,0 +1,2 @@
+pub mod AnswerWordLemmas
+pub mod RowWordLemmas

@@ -1,0 +1,3 @@
+pub mod EffectWordLemmas
+pub mod HoldingLemmas
+pub mod PageWordLemmas

@@ -1,0 +1,2 @@
+pub mod EndWordLemmas
+pub mod StepWordLemmas
