@@ -211,8 +211,11 @@ module _ (m : Machine) (w : List ℕ) (c : IsCalling m w) where
   sid_are = record { four = refl; words = All-from_recursion (λ x. x ≤ greatest) (sid_words w) (arg 1, (arg 2, (arg 3, (arg 4, tt)))) }
 
   create_server_are : IsVerdictOfWords (create_server_row m w)
-  create_server_are = ((record { sid = sid_are; messages = All-nil IsMessageOfWords }, (tt, tt)), caller (eight_are (reply_new_server ∷ (sid_words w ++ cid_for (new_serial m) (own_connections m) ∷ []))
-      (omega arith, (arg 1, (arg 2, (arg 3, (arg 4, (own_cid (new_serial m), tt))))))))
+  create_server_are = (
+    (record { sid = sid_are; messages = All-nil IsMessageOfWords }, (tt, tt)),
+    caller (eight_are (reply_new_server ∷ (sid_words w ++ cid_for (new_serial m) (own_connections m) ∷ []))
+        (omega arith, (arg 1, (arg 2, (arg 3, (arg 4, (own_cid (new_serial m), tt))))))),
+  )
 
   connection_are : (serial : Serial) → AreEightWords (connection_words (cid_for serial (own_connections m)))
   connection_are serial = eight_are (reply_connection_id ∷ cid_for serial (own_connections m) ∷ []) (omega arith, (own_cid serial, tt))
@@ -226,10 +229,12 @@ module _ (m : Machine) (w : List ℕ) (c : IsCalling m w) where
   destroy_are : IsVerdictOfWords (destroy_row m w)
   destroy_are =
       let serial = named_server m (named_sid w) in
-      let this : ℕ → Bool = λ n. n == serial.0 in
-      ((tt, tt), both_are (answer_to m.cursor plain_words) (both_answers (refused_server (is_sender_at this m)) (refused_server (receiving_at m serial)))
-      (answer_are m.cursor plain_words plain_are)
-      (both_are (refused_server (is_sender_at this m)) (refused_server (receiving_at m serial)) (server_refused_are (is_sender_at this m)) (server_refused_are (receiving_at m serial))))
+      let this : ℕ → Bool = λ n. n == serial.0 in (
+        (tt, tt),
+        both_are (answer_to m.cursor plain_words) (both_answers (refused_server (is_sender_at this m)) (refused_server (receiving_at m serial)))
+            (answer_are m.cursor plain_words plain_are)
+            (both_are (refused_server (is_sender_at this m)) (refused_server (receiving_at m serial)) (server_refused_are (is_sender_at this m)) (server_refused_are (receiving_at m serial))),
+      )
 
   -- ---- interrupts
 
@@ -281,8 +286,7 @@ module _ (m : Machine) (w : List ℕ) (c : IsCalling m w) where
   sent_are first low =
       let kind = unwrap_or (named_kind w) Scalar in
       let serial = sent_serial m w in
-      let message = new_message m kind w first in
-      (
+      let message = new_message m kind w first in (
         (tt, (tt, (tt, (arriving_are (receiver m serial) message (new_are kind first low), tt)))),
         both_are (arrival_answers (receiver m serial) message) (sender_answered (is_answered kind) m.cursor)
             (arrival_are (receiver m serial) message (new_are kind first low)) (sender_are (is_answered kind)),
@@ -333,8 +337,7 @@ module _ (m : Machine) (w : List ℕ) (c : IsCalling m w) where
   passed_are number cid first low None f = (tt, nobody_are)
   passed_are number cid first low (Some message) f =
       let to = unwrap_or (passed_to m cid) (serial_of 0) in
-      let next = first_are message first (f message refl) low in
-      (
+      let next = first_are message first (f message refl) low in (
         (tt, (tt, (arriving_are (receiver m to) (with_first first message) next, tt))),
         both_are (arrival_answers (receiver m to) (with_first first message)) (answer_to m.cursor plain_words)
             (arrival_are (receiver m to) (with_first first message) next) (answer_are m.cursor plain_words plain_are),
@@ -405,9 +408,49 @@ module _ (m : Machine) (w : List ℕ) (c : IsCalling m w) where
   rows_are number (row ∷ others) f = chosen_verdict (number == row.0) (row.1 m w) (row_at number others m w) f.0 (rows_are number others f.1)
 
   table_are : AreRowsOfWords rows
-  table_are =
-      (map_are, (yield_are, (claim_are, (free_are, (increase_are, (decrease_are, (update_are, (create_server_are, (receive_are, (send_are, (connect_are, (create_are, (unmap_are, (return_memory_are,
-      (terminate_are, (try_send_are, (try_connect_are, (return_scalar1_are, (return_scalar2_are, (try_receive_are, (join_are, (destroy_are, (thread_id_are, (process_id_are, (forward_are, tt)))))))))))))))))))))))))
+  table_are = (
+    map_are,
+    (
+      yield_are,
+      (
+        claim_are,
+        (
+          free_are,
+          (
+            increase_are,
+            (
+              decrease_are,
+              (
+                update_are,
+                (
+                  create_server_are,
+                  (
+                    receive_are,
+                    (
+                      send_are,
+                      (
+                        connect_are,
+                        (
+                          create_are,
+                          (
+                            unmap_are,
+                            (
+                              return_memory_are,
+                              (terminate_are, (try_send_are, (try_connect_are, (return_scalar1_are, (return_scalar2_are, (try_receive_are, (join_are, (destroy_are, (thread_id_are, (process_id_are, (forward_are, tt))))))))))),
+                            ),
+                          ),
+                        ),
+                      ),
+                    ),
+                  ),
+                ),
+              ),
+            ),
+          ),
+        ),
+      ),
+    ),
+  )
 
   pub called_keeps : IsOutcomeOfWords (call m w)
   unfolding decide

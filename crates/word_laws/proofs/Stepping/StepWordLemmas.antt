@@ -110,7 +110,7 @@ module _ (m : Machine) (t : Thread) (there : m.threads m.cursor ≡ Some t) (k :
   calling : IsCalling m (arguments_of t.regs)
   calling =
       let ids : (is_pid m.processes m.cursor.pid.0 ≡ true) × (is_tid m.cursor.tid.0 ≡ true) =
-          and_parts (is_pid m.processes m.cursor.pid.0) (is_tid m.cursor.tid.0) known in
+      and_parts (is_pid m.processes m.cursor.pid.0) (is_tid m.cursor.tid.0) known in
       let pids = and_parts (nat_le 2 m.cursor.pid.0) (nat_lt m.cursor.pid.0 (m.processes + 2)) ids.0 in
       let tids = and_parts (nat_le 1 m.cursor.tid.0) (nat_le m.cursor.tid.0 TID_LIMIT) ids.1 in
       let pid : m.cursor.pid.0 < m.processes + 2 = ltb-true m.cursor.pid.0 (m.processes + 2) pids.1 in
