@@ -32,7 +32,7 @@ use Rattle.xk_base.specs.declared.pages.Right.{Right}
 use Rattle.xk_base.specs.Calls.Replies.{plain_words}
 use Rattle.ledger_model.specs.Conditions.{is_lent}
 use Rattle.ledger_model.specs.Ledger.{Ledger, PageLoan, PageName, loan_at}
-use Rattle.ledger_model.specs.Loans.{same_number}
+use Rattle.ledger_model.specs.Loans.{loans, same_number}
 use Rattle.ledger_model.specs.Places.{in_run}
 use Rattle.ledger_model.specs.RunTests.{any_console, any_lacks, any_not_sent, any_on_loan}
 use Rattle.ledger_model.specs.Steps.{give, lend, pass}

@@ -146,7 +146,7 @@ module _ (x : Machine) (pid : Pid) (page : PageName) (place : Place) (apart : pl
       go false q = write_others name page (address % 4096) bytes x.ledger (λ same. false≢true (sym q ∙ same_page_at page name same))
 
 -- the same bytes written to a page that holds the same
-both_written : (a b : Ledger) (name page : PageName) (offset : ℕ) (bytes : List ℕ) (c : Contents) → contents_of a name ≡ Some c
+pub both_written : (a b : Ledger) (name page : PageName) (offset : ℕ) (bytes : List ℕ) (c : Contents) → contents_of a name ≡ Some c
     → contents_of a name ≡ contents_of b name → (same_page page name ≡ false → contents_of a page ≡ contents_of b page)
     → contents_of (write name offset bytes a) page ≡ contents_of (write name offset bytes b) page
 both_written a b name page offset bytes c holds same else_ = go (same_page page name) refl
@@ -254,7 +254,7 @@ module _ (group : Group) (m n : Machine) (h : Matched m) (same : SameButInside g
         (call_sources group (both mine middle apart) w two_matched) page s) gives
         ∙ ap (λ l. contents_of l page) (call_middle w)
 
-    died_holds : (pid : Pid) (page : PageName) → Gives (left_over mine pid) pid page
+    pub died_holds : (pid : Pid) (page : PageName) → Gives (left_over mine pid) pid page
         → shows group (death pid mine).machine.ledger page ≡ true
         → contents_of (death pid mine).machine.ledger page ≡ contents_of (death pid its).machine.ledger page
     died_holds pid page gives s =
