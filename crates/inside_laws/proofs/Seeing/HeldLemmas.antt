@@ -59,9 +59,10 @@ module _ (m : Machine) (number : Number) (p : Place) (loan : PageLoan) (there : 
       go : (b : Bool) → in_run from r.count p ≡ b
           → (if b then Some (record { holder = moved from r.holder p; kind = r.kind; number = r.number }) else None) ≡ Some loan
           → (loan.holder.pid ≡ r.holder.pid) × (p.pid.0 ≡ from.pid.0)
-      go true q f =
-          (ap (λ (x : PageLoan). x.holder.pid) (sym (same_Some (record { holder = moved from r.holder p; kind = r.kind; number = r.number }) loan f)),
-           (in_run-true from r.count p q).pid)
+      go true q f = (
+        ap (λ (x : PageLoan). x.holder.pid) (sym (same_Some (record { holder = moved from r.holder p; kind = r.kind; number = r.number }) loan f)),
+        (in_run-true from r.count p q).pid,
+      )
       go false q f = absurd (none-some loan f)
 
   -- of a lend of that number at a server

@@ -370,9 +370,9 @@ module _ (group : Group) where
   caller_holds m h number test lends x e p loan there is =
       let held : IsHeld m test x = held_is m test x e in
       let its = of_message m number p loan there (same_number-true loan.number number is) held.server (get_or held.server.held held.index held.default)
-          (all_right (IsMessageLent (loans m.ledger) held.server) held.server.queued held.server.held (h.loans.lends held.serial held.server held.live)
-          held.index held.default held.low)
-          (ap (is_lend_of number) held.at ∙ lends x held.passes) in
+      (all_right (IsMessageLent (loans m.ledger) held.server) held.server.queued held.server.held (h.loans.lends held.serial held.server held.live)
+      held.index held.default held.low)
+      (ap (is_lend_of number) held.at ∙ lends x held.passes) in
       ap (λ (k : Pid). k.0) its.holder ∙ held.own
 
   is_there : (o : Option Message) → is_none o ≡ false → (x : Message) × (o ≡ Some x)
