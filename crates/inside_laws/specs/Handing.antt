@@ -1,5 +1,5 @@
 -- Which pages an act hands over, said of the pages as they are before it.
-use Rattle.std.specs.Prelude.{ℕ, ◌==◌, ◌&&◌, Bool, false, List, [], ◌∷◌, if◌then◌else◌, None}
+use Rattle.std.specs.Prelude.{◌≡◌, ℕ, ◌==◌, ◌&&◌, Bool, true, false, List, [], ◌∷◌, if◌then◌else◌, Some, None}
 use Rattle.xk_base.specs.declared.ids.Number.{Number}
 use Rattle.xk_base.specs.declared.ids.Pid.{Pid}
 use Rattle.xk_base.specs.declared.ids.Place.{Place}
@@ -7,7 +7,7 @@ use Rattle.xk_base.specs.declared.ids.ThreadId.{ThreadId}
 use Rattle.xk_base.specs.Calls.CallNumbers.{destroy_server, forward_message, return_memory}
 use Rattle.xk_base.specs.Calls.CallNumbers.{send_message, terminate_process, try_send_message}
 use Rattle.xk_base.specs.Calls.CallWords.{call_number, send_address}
-use Rattle.ledger_model.specs.Ledger.{Homed, Ledger, Orphaned, PageName, loan_at}
+use Rattle.ledger_model.specs.Ledger.{Homed, Ledger, Orphaned, PageName, contents_of, loan_at}
 use Rattle.ledger_model.specs.Loans.{same_number}
 use Rattle.ledger_model.specs.Places.{in_run}
 use Rattle.machine_model.specs.Calling.MemoryCalls.{caller_place}
@@ -18,10 +18,14 @@ use Rattle.machine_model.specs.Messaging.ForwardCalls.{passed_number}
 use Rattle.machine_model.specs.Messaging.LoanSets.{is_lent_by}
 use Rattle.machine_model.specs.Messaging.ReturnCalls.{named_number}
 use Rattle.machine_model.specs.Messaging.SendCalls.{sends_pages, sent_pages}
+use Rattle.machine_model.specs.Runs.Matched.{Matched}
+use Rattle.machine_model.specs.Runs.Moments.{ByKill}
 use Rattle.machine_model.specs.State.Machine.{Machine}
+use Rattle.machine_model.specs.State.Order.{actor}
 use Rattle.machine_model.specs.State.Servers.{is_server_of}
 use Rattle.machine_model.specs.State.Threads.{put_thread}
-use Rattle.inside_laws.specs.Acting.{Act, Arms, Calls, EndsHandler, EndsThread, Faults, Prints, Silent}
+use Rattle.inside_laws.specs.Acting.{Act, Arms, Calls, DoesAlike, EndsHandler, EndsThread, Faults, HandsAlike, Prints, Silent, act_of}
+use Rattle.inside_laws.specs.Inside.{Group, SameButInside}
 
 -- ---- sets of pages
 
@@ -94,3 +98,23 @@ act_over m who (Calls words) = called_over (record m { cursor = who }) words
 act_over m who (Faults cause value) = left_over m who.pid
 act_over m who (EndsThread a0) = ended_over m who
 act_over m who EndsHandler = no_pages
+
+-- ---- in two states
+
+-- each page of the set holds the same in both
+abbrev pub HoldAlike : (PageName → Bool) → Machine → Machine → Type 0
+HoldAlike pages m n = (page : PageName) → pages page ≡ true → contents_of m.ledger page ≡ contents_of n.ledger page
+
+-- the step of the thread is this act in both, and the pages that it hands over hold the same
+pub record HandsOver (who : ThreadId) (act : Act) (m n : Machine) : Type 0 where
+  pub one : act_of m who ≡ Some act
+  pub other : act_of n who ≡ Some act
+  pub pages : HoldAlike (act_over m who act) m n
+
+-- What the pages hold before is enough: a step of the group, and the death of a process, are alike in two states that are the same but
+-- for the inside, where the pages that they hand over hold the same.
+pub record PagesAreEnough : Type 0 where
+  pub steps : (group : Group) (who : ThreadId) (act : Act) (m n : Machine) → Matched m → SameButInside group m n
+      → actor m ≡ Some who → group who.pid.0 ≡ true → HandsOver who act m n → DoesAlike group who m n
+  pub kills : (group : Group) (pid : Pid) (m n : Machine) → Matched m → SameButInside group m n → HoldAlike (left_over m pid) m n
+      → HandsAlike group (ByKill pid) m n

@@ -3,6 +3,7 @@
 //! lemmas stand in `proofs/`.
 #![tactic(auto)]
 
+ghost use Rattle.inside_laws.specs.Handing.{PagesAreEnough};
 ghost use Rattle.inside_laws.specs.Inside.{InsideIsThere};
 ghost use Rattle.inside_laws.specs.TwoInsides.{HistoriesKeepInside, InsideIsUnseen, RunsKeepInside};
 
@@ -18,6 +19,12 @@ pub fn inside_is_unseen()
 pub fn runs_keep_the_inside()
     ensures runs { RunsKeepInside }
     ensures histories { HistoriesKeepInside }
+{}
+
+/// **What is handed over is known before.** Where a step of the group is one act in both states, and the pages that this act hands over
+/// hold the same in both, the group acts alike; and the death of a process hands over alike where the pages on loan to its servers do.
+pub fn handed_pages_are_enough()
+    ensures { PagesAreEnough }
 {}
 
 /// **There is an inside.** Other registers, another pc, and other bytes of an own page that isn't on loan make states that are the same

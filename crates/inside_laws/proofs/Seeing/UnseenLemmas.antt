@@ -1,6 +1,6 @@
 -- Whatever comes next leaves the inside of a group unseen, where the group acts alike.
 use Rattle.std.proofs.Common.{◌≡◌, ◌≢◌, ℕ, Bool, true, false, ◌⊎◌, inl, inr, List, [], Option, Some, None, refl, sym, ap, ◌∙◌, subst}
-use Rattle.std.specs.Prelude.{◌%◌, if◌then◌else◌}
+use Rattle.std.specs.Prelude.{◌%◌, ◌==◌, if◌then◌else◌}
 use Rattle.std.specs.Option.{option_map}
 use Rattle.std.proofs.lemmas.Bool.{false≢true}
 use Rattle.std.proofs.lemmas.Option.{none-some, same_Some}
@@ -39,8 +39,8 @@ use Rattle.isolation_laws.proofs.Isolating.StepLemmas.{acts}
 use Rattle.isolation_laws.proofs.Ledgers.OtherBytesLemmas.{no_bytes}
 use Rattle.isolation_laws.proofs.Spreading.WrittenPageLemmas.{stored_is_loaded}
 use Rattle.integrity_laws.proofs.InstructionLemmas.{same_page}
-use Rattle.inside_laws.specs.Acting.{Act, ActsAlike, Calls, EndsHandler, EndsThread, Faults, HandsAlike, act_of, act_of_thread}
-use Rattle.inside_laws.specs.Handing.{act_over, left_over}
+use Rattle.inside_laws.specs.Acting.{Act, ActsAlike, Arms, Calls, DoesAlike, EndsHandler, EndsThread, Faults, HandsAlike, Prints, Silent, act_of, act_of_thread}
+use Rattle.inside_laws.specs.Handing.{HandsOver, HoldAlike, PagesAreEnough, act_over, left_over}
 use Rattle.inside_laws.specs.Inside.{Group, IsSeenByOther, SameButInside}
 use Rattle.inside_laws.specs.TwoInsides.{InsideIsUnseen}
 use Rattle.inside_laws.proofs.Seeing.SeenLemmas.{Gives, both_written, did_holds, died_holds, held_alike, own_holds, seen_there, shade_shows}
@@ -50,6 +50,48 @@ use Rattle.inside_laws.proofs.Stepping.ActLemmas.{act_by, did, own_does, written
 use Rattle.inside_laws.proofs.Stepping.CauseLemmas.{cause_shade}
 use Rattle.inside_laws.proofs.Stepping.ShadeLemmas.{actor_shade, recorded_shade, shade, shaded, told_shade, unshaded}
 use Rattle.inside_laws.proofs.Stepping.StepLemmas.{performed_same, thread_same}
+
+-- ---- acts that leave the ledger but for bytes
+
+is_quiet : Act → Bool
+is_quiet Silent = true
+is_quiet (Prints byte) = true
+is_quiet (Arms compare) = true
+is_quiet (Calls words) = false
+is_quiet (Faults cause value) = false
+is_quiet (EndsThread a0) = false
+is_quiet EndsHandler = false
+
+console_quiet : (b : Bool) (value : ℕ) → is_quiet (if b then Prints value else Silent) ≡ true
+unfolding is_quiet
+console_quiet true value = refl
+console_quiet false value = refl
+
+-- the same pages show after them
+quiet_shows : (group : Group) (x : Machine) (who : ThreadId) (page : PageName) (act : Act) → is_quiet act ≡ true
+    → shows group (did x who act).machine.ledger page ≡ shows group x.ledger page
+unfolding is_quiet
+quiet_shows group x who page Silent q = refl
+quiet_shows group x who page (Prints byte) q = refl
+quiet_shows group x who page (Arms compare) q = refl
+quiet_shows group x who page (Calls words) q = absurd (false≢true q)
+quiet_shows group x who page (Faults cause value) q = absurd (false≢true q)
+quiet_shows group x who page (EndsThread a0) q = absurd (false≢true q)
+quiet_shows group x who page EndsHandler q = absurd (false≢true q)
+
+-- what does another act makes the ledger of it
+loud_ledger : (x : Machine) (who : ThreadId) (t : Thread) (a b : Bool) (y : Executed) → is_quiet (act_by x t a b y) ≡ false
+    → (acts x who t a b y).machine.ledger ≡ (did x who (act_by x t a b y)).machine.ledger
+unfolding is_quiet
+loud_ledger x who t true b y q = refl
+loud_ledger x who t false true y q = refl
+loud_ledger x who t false false (Next regs pc) q = absurd (false≢true (sym q))
+loud_ledger x who t false false (Stores address width value regs pc) q = absurd (false≢true (sym q))
+loud_ledger x who t false false (StoresToConsole offset value regs pc) q =
+    absurd (false≢true (sym q ∙ console_quiet (offset == 0) (value % 256)))
+loud_ledger x who t false false (StoresToTimer offset width value regs pc) q = absurd (false≢true (sym q))
+loud_ledger x who t false false CallsKernel q = refl
+loud_ledger x who t false false (Traps cause value) q = refl
 
 module _ (group : Group) (m n : Machine) (h : Matched m) (same : SameButInside group m n) where
   e : shade group m ≡ shade group n
@@ -101,6 +143,12 @@ module _ (group : Group) (m n : Machine) (h : Matched m) (same : SameButInside g
           (sym (ap (option_map (act_of_thread m who)) there) ∙ (is ∙ ap (option_map (act_of_thread n who)) there_too))
           ∙ act_turned n u)
 
+      shows_did : (page : PageName) → shows group mine page ≡ true → shows group (did m who (act_in m t)).machine.ledger page ≡ true
+      shows_did page s =
+          sym (shade_shows group (acts m who t (ends_thread who t.pc) (ends_handler who t.pc) (does m t)).machine (did m who (act_in m t)).machine
+          (ap (λ (told : Told). told.machine) (own_does group m who own t (ends_thread who t.pc) (ends_handler who t.pc) (does m t))) page)
+          ∙ s
+
       -- a page that was seen before holds the same
       seen_before : act_of m who ≡ act_of n who → (page : PageName) → IsSeenByOther group m page → shows group mine page ≡ true
           → contents_of mine page ≡ contents_of its page
@@ -111,12 +159,6 @@ module _ (group : Group) (m n : Machine) (h : Matched m) (same : SameButInside g
           (shows_did page s)
           ∙ (ap (λ act. contents_of (did n who act).machine.ledger page) (acts_same is)
           ∙ sym (own_holds group n who own u page (seen_there group m n same.outside page seen) (ends_thread who u.pc) (ends_handler who u.pc) (does n u))))
-        where
-          shows_did : (page : PageName) → shows group mine page ≡ true → shows group (did m who (act_in m t)).machine.ledger page ≡ true
-          shows_did page s =
-              sym (shade_shows group (acts m who t (ends_thread who t.pc) (ends_handler who t.pc) (does m t)).machine (did m who (act_in m t)).machine
-              (ap (λ (told : Told). told.machine) (own_does group m who own t (ends_thread who t.pc) (ends_handler who t.pc) (does m t))) page)
-              ∙ s
 
       pub own_step_holds : act_of m who ≡ act_of n who → HandsAlike group ByStep m n → (page : PageName)
           → IsSeenByOther group (step m).machine page
@@ -125,6 +167,47 @@ module _ (group : Group) (m n : Machine) (h : Matched m) (same : SameButInside g
         | inl before ↦ steps_hold page (seen_before is page before (shows_mine page seen))
         | inr done ↦ done
       ]
+
+      -- what it hands over holds the same, where the pages did
+      module _ (act : Act) (over : HandsOver who act m n) where
+        its_act_is : (x : Machine) (v : Thread) → x.threads who ≡ Some v → act_of x who ≡ Some act → act_in x v ≡ act
+        its_act_is x v stands is =
+            sym (act_turned x v)
+            ∙ same_Some (act_of_thread x who v) act (sym (ap (option_map (act_of_thread x who)) stands) ∙ is)
+
+        mine_is : act_in m t ≡ act
+        mine_is = its_act_is m t there over.one
+
+        its_is_too : act_in n u ≡ act
+        its_is_too = its_act_is n u there_too over.other
+
+        does_act : (x : Machine) (v : Thread) → act_in x v ≡ act → is_quiet act ≡ false
+            → (acts x who v (ends_thread who v.pc) (ends_handler who v.pc) (does x v)).machine.ledger ≡ (did x who act).machine.ledger
+        does_act x v is loud =
+            loud_ledger x who v (ends_thread who v.pc) (ends_handler who v.pc) (does x v) (ap is_quiet is ∙ loud)
+            ∙ ap (λ a. (did x who a).machine.ledger) is
+
+        shown_by_act : (page : PageName) → shows group mine page ≡ true → shows group (did m who act).machine.ledger page ≡ true
+        shown_by_act page s = sym (ap (λ a. shows group (did m who a).machine.ledger page) mine_is) ∙ shows_did page s
+
+        new_holds : (page : PageName) → shows group m.ledger page ≡ false → shows group mine page ≡ true
+            → contents_of mine page ≡ contents_of its page
+        new_holds page hidden s = go (is_quiet act) refl
+          where
+            go : (b : Bool) → is_quiet act ≡ b → contents_of mine page ≡ contents_of its page
+            go true q = absurd (false≢true (sym hidden ∙ (sym (quiet_shows group m who page act q) ∙ shown_by_act page s)))
+            go false q =
+                ap (λ l. contents_of l page) (does_act m t mine_is q)
+                ∙ (did_holds group m n h same who act page (λ unseen old handed before. over.pages old handed) (shown_by_act page s)
+                ∙ ap (λ l. contents_of l page) (sym (does_act n u its_is_too q)))
+
+        pub pages_hand : HandsAlike group ByStep m n
+        pages_hand page seen = go (shows group m.ledger page) refl
+          where
+            go : (b : Bool) → shows group m.ledger page ≡ b
+                → IsSeenByOther group m page ⊎ (contents_of (step m).machine.ledger page ≡ contents_of (step n).machine.ledger page)
+            go true q = inl (shows_seen group m h.body.ledger.lawful page q)
+            go false q = inr (steps_hold page (new_holds page q (shows_mine page seen)))
 
     -- ---- of another
 
@@ -232,6 +315,15 @@ module _ (group : Group) (m n : Machine) (h : Matched m) (same : SameButInside g
           (ap (λ (r : Recorded). r.machine.ledger) (no_step n (sym (actor_shade group m n e) ∙ q))) page seen
       go (Some who) q = by who q (group who.pid.0) refl
 
+  step_hands : (who : ThreadId) (act : Act) → actor m ≡ Some who → group who.pid.0 ≡ true → HandsOver who act m n → DoesAlike group who m n
+  step_hands who act q own over =
+      let mine = ready_thread m who (actor_ready m who q) in
+      let its = ready_thread n who (actor_ready n who (sym (actor_shade group m n e) ∙ q)) in
+      record {
+        act = over.one ∙ sym over.other;
+        hands = pages_hand who mine.thread its.thread q mine.there its.there own act over;
+      }
+
   -- ---- events
 
   raised_ledger : (k : ℕ) (o : Option Claim) (x : Machine) → (raised_if k o x).machine.ledger ≡ x.ledger
@@ -276,6 +368,9 @@ module _ (group : Group) (m n : Machine) (h : Matched m) (same : SameButInside g
         | inr done ↦ done
       ]
 
+  kill_hands : (pid : Pid) → HoldAlike (left_over m pid) m n → HandsAlike group (ByKill pid) m n
+  kill_hands pid alike page seen = inr (kill_gives pid page (λ hidden old is before. alike old is) seen)
+
   cause_holds : (cause : Cause) → ActsAlike group cause m n → (page : PageName) → IsSeenByOther group (caused cause m) page
       → contents_of (caused cause m).ledger page ≡ contents_of (caused cause n).ledger page
   unfolding picked turn
@@ -297,3 +392,9 @@ inside_unseen group cause m n h same alike = record {
   where
     shades : recorded_shade group (by_cause cause m) ≡ recorded_shade group (by_cause cause n)
     shades = cause_shade group m n same cause alike
+
+pub pages_enough : PagesAreEnough
+pages_enough = record {
+  steps = λ group who act m n h same q own over. step_hands group m n h same who act q own over;
+  kills = λ group pid m n h same alike. kill_hands group m n h same pid alike;
+}
