@@ -10,7 +10,7 @@ use Rattle.machine_model.specs.Runs.Moments.{Cause, ByStep, ByPick, ByIrq, ByKil
 use Rattle.machine_model.specs.State.Machine.{Machine}
 use Rattle.machine_model.specs.State.Order.{actor, turn}
 use Rattle.machine_model.specs.Stepping.Events.{nothing}
-use Rattle.machine_model.specs.Stepping.Step.{Recorded, step}
+use Rattle.machine_model.specs.Stepping.Step.{step}
 use Rattle.machine_laws.proofs.Stepping.EveryStepLemmas.{every_cause_keeps}
 use Rattle.machine_history.specs.History.{History, reached, stopped, behind, go_on, ticks, play, history}
 use Rattle.machine_history.specs.HistoryMoments.{tick_moments, event_moments, moments_of}

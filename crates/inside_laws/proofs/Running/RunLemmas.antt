@@ -1,5 +1,5 @@
 -- Two runs in which a group acts alike tell the same, and are the same but for its inside at each moment.
-use Rattle.std.proofs.Common.{◌≡◌, zero, suc, ℕ, List, [], ◌∷◌, ◌++◌, map, Option, Some, None, refl, sym, ap, ◌∙◌, subst}
+use Rattle.std.proofs.Common.{◌≡◌, zero, suc, ℕ, List, [], ◌∷◌, ◌++◌, map, refl, sym, ap, ◌∙◌, subst}
 use Rattle.machine_model.specs.Runs.Matched.{Matched}
 use Rattle.machine_model.specs.Runs.Moments.{Cause, IsRun, Moment, caused, state_at}
 use Rattle.machine_model.specs.State.Machine.{Machine}
@@ -8,7 +8,7 @@ use Rattle.isolation_laws.specs.TwoRuns.{records_by, records_of}
 use Rattle.isolation_laws.proofs.Isolating.RunLemmas.{no_cause}
 use Rattle.inside_laws.specs.Acting.{ActsAlike}
 use Rattle.inside_laws.specs.Inside.{Group, SameButInside}
-use Rattle.inside_laws.specs.TwoInsides.{RunsActAlike, RunsKeepInside, RunsStayInside, StaysInside}
+use Rattle.inside_laws.specs.TwoInsides.{RunsActAlike, RunsKeepInside, StaysInside}
 use Rattle.inside_laws.proofs.Seeing.UnseenLemmas.{inside_unseen}
 
 same_head : (a b : Cause) (rest others : List Cause) → a ∷ rest ≡ b ∷ others → a ≡ b

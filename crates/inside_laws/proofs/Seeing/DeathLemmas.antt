@@ -1,32 +1,31 @@
 -- Where the pages come from that others than a group can load after a death.
-use Rattle.std.proofs.Common.{◌≡◌, ◌≢◌, ℕ, ◌<◌, ◌≤◌, ◌+◌, Bool, ◌&&◌, true, false, ◌⊎◌, inl, inr, List, ◌++◌, length, get_or, Option, Some, None, refl, sym, ap, ◌∙◌, subst, arith}
+use Rattle.std.proofs.Common.{◌≡◌, ℕ, ◌<◌, ◌+◌, Bool, ◌&&◌, true, false, inl, inr, length, get_or, Option, Some, None, refl, sym, ap, ◌∙◌, arith}
 use Rattle.std.specs.Prelude.{◌==◌, if◌then◌else◌, not}
 use Rattle.std.specs.List.{list_any}
 use Rattle.std.specs.Option.{option_map}
 use Rattle.std.proofs.lemmas.Bool.{and_parts, eq-eqb, eqb-true, false≢true}
 use Rattle.std.proofs.lemmas.List.{get_or_append_left, length-append}
-use Rattle.std.proofs.lemmas.Option.{none-some, same_Some}
+use Rattle.std.proofs.lemmas.Option.{none-some}
 use Rattle.xk_base.specs.declared.ids.Number.{Number}
 use Rattle.xk_base.specs.declared.ids.Pid.{Pid}
 use Rattle.xk_base.specs.declared.ids.Place.{Place}
 use Rattle.xk_base.specs.declared.ids.ThreadId.{ThreadId}
 use Rattle.xk_base.specs.declared.messages.Message.{Message}
-use Rattle.ledger_model.specs.Ledger.{Bytes, Homed, Ledger, Orphan, Orphaned, Page, PageLoan, PageName, contents_of, loan_at, loan_of}
+use Rattle.ledger_model.specs.Ledger.{Bytes, Homed, Ledger, Orphan, Orphaned, Page, PageLoan, contents_of, loan_at, loan_of}
 use Rattle.ledger_model.specs.Steps.{forget}
 use Rattle.machine_model.specs.Ending.Closing.{any_server, closed, is_held_from, is_message_at, is_queued_from, senders_held_gone, senders_queued_gone, servers_closed}
 use Rattle.machine_model.specs.Ending.Ends.{death, end_with_last_thread, forgotten, has_threads, thread_ended}
 use Rattle.machine_model.specs.Messaging.LoanSets.{end_loans, freed_but, is_lent_by, loan_but, orphan_loans, page_but}
 use Rattle.machine_model.specs.Messaging.Messages.{is_of_number, is_sent_from}
-use Rattle.machine_model.specs.Runs.Isolation.{IsOrphaned}
 use Rattle.machine_model.specs.State.Machine.{Machine, Server}
 use Rattle.machine_model.specs.State.Servers.{is_server_of, messages_of}
 use Rattle.machine_model.specs.State.Threads.{put_thread}
 use Rattle.machine_laws.proofs.Messaging.ListedLemmas.{listed_at}
 use Rattle.isolation_laws.proofs.Keeping.OrphanedPageLemmas.{OnlyOrphans, end_loans_orphans, forget_orphans, orphan_loans_orphans, orphans_then}
-use Rattle.inside_laws.specs.Handing.{ended_over, left_over, lent_pages, no_pages}
+use Rattle.inside_laws.specs.Handing.{ended_over, left_over, no_pages}
 use Rattle.inside_laws.specs.Inside.{Group}
 use Rattle.inside_laws.proofs.Seeing.HeldLemmas.{HasLoans, at_servers, home_of_sender, some_server}
-use Rattle.inside_laws.proofs.Seeing.LedgerStepLemmas.{AreHeld, Handed, Shown, Source, Sources, held_in, same_orphan, stay_sources}
+use Rattle.inside_laws.proofs.Seeing.LedgerStepLemmas.{Handed, Shown, Source, Sources, held_in, same_orphan, stay_sources}
 use Rattle.inside_laws.proofs.Seeing.ShownLemmas.{loan_shows, shows, shows_home, shows_orphan, shows_page}
 
 module _ (pid : Pid) (m : Machine) where

@@ -1,32 +1,30 @@
 -- The loan of a message is held at its server, and is of pages of its sender.
-use Rattle.std.proofs.Common.{◌≡◌, ◌≢◌, ℕ, ◌<◌, ◌≤◌, ◌+◌, Bool, ◌&&◌, true, false, ◌⊎◌, inl, inr, List, ◌++◌, length, Option, Some, None, refl, sym, ap, ◌∙◌, subst, arith, is_some, get_or}
+use Rattle.std.proofs.Common.{◌≡◌, ℕ, ◌<◌, ◌≤◌, Bool, ◌&&◌, true, false, inl, inr, length, Option, Some, None, refl, sym, ap, ◌∙◌, subst, arith, is_some, get_or}
 use Rattle.std.specs.Prelude.{◌==◌, if◌then◌else◌}
-use Rattle.std.specs.List.{list_any, All}
-use Rattle.std.specs.Option.{option_and_then, option_map, option_map_or}
-use Rattle.std.proofs.lemmas.Bool.{and_from, and_parts, eq-eqb, eqb-true, false≢true}
+use Rattle.std.specs.List.{list_any}
+use Rattle.std.specs.Option.{option_map_or}
+use Rattle.std.proofs.lemmas.Bool.{and_parts, eq-eqb, eqb-true, false≢true}
 use Rattle.std.proofs.lemmas.Option.{none-some, same_Some}
 use Rattle.xk_base.specs.declared.ids.Number.{Number}
 use Rattle.xk_base.specs.declared.ids.Pid.{Pid}
 use Rattle.xk_base.specs.declared.ids.Place.{Place}
 use Rattle.xk_base.specs.declared.ids.ThreadId.{ThreadId}
 use Rattle.xk_base.specs.declared.messages.Message.{Message}
-use Rattle.xk_base.specs.declared.messages.MsgKind.{MsgKind}
 use Rattle.xk_base.specs.declared.pages.LoanKind.{LoanKind}
 use Rattle.xk_base.specs.Tables.Counting.{least_below}
 use Rattle.xk_base.proofs.CountingLemmas.{least_below-passes}
 use Rattle.ledger_model.specs.Lawful.{IsLawful}
 use Rattle.ledger_model.specs.Ledger.{PageLoan, loan_at}
-use Rattle.ledger_model.specs.Loans.{LoanRun, Loans, Stands, lent_from, loan_of_run, loans, of_number, same_number}
+use Rattle.ledger_model.specs.Loans.{LoanRun, Stands, lent_from, loan_of_run, loans, of_number, same_number}
 use Rattle.ledger_model.specs.Places.{in_run, moved}
 use Rattle.ledger_model.proofs.LedgerLemmas.{same_number-true}
 use Rattle.ledger_model.proofs.PlaceLemmas.{in_run-true}
 use Rattle.machine_model.specs.Ending.Closing.{any_server, is_message_at, server_passes}
 use Rattle.machine_model.specs.Messaging.MessageCounts.{HasAtMostOne, count_at, count_in}
 use Rattle.machine_model.specs.Messaging.Messages.{is_lend, is_lend_of, is_of_number, is_sent_from, loan_kind}
-use Rattle.machine_model.specs.Messaging.ReturnCalls.{held_at, held_by_caller, holder_of, holds}
-use Rattle.machine_model.specs.Runs.Matched.{AreLoansMatched, IsLendMatched, IsMessageLent, IsOnLoan, Matched, lend_run}
+use Rattle.machine_model.specs.Runs.Matched.{AreLoansMatched, IsMessageLent, IsOnLoan, Matched, lend_run}
 use Rattle.machine_model.specs.State.Machine.{Machine, Server}
-use Rattle.machine_model.specs.State.Servers.{is_server_of, messages_of}
+use Rattle.machine_model.specs.State.Servers.{messages_of}
 use Rattle.machine_model.proofs.Matching.CountLemmas.{first_in}
 use Rattle.machine_model.proofs.Matching.OneMessageLemmas.{HasServer, one_server, same_or_not}
 use Rattle.machine_laws.proofs.Messaging.AnyServerLemmas.{messages_apart, number_counted, one_listed, only_at}

@@ -1,9 +1,8 @@
 -- Registers, pcs and bytes of own pages are inside.
-use Rattle.std.proofs.Common.{◌≡◌, ℕ, Bool, true, false, List, Option, Some, None, refl, sym, ap, ◌∙◌}
+use Rattle.std.proofs.Common.{◌≡◌, ℕ, Bool, true, false, List, Some, None, refl, sym, ap, ◌∙◌}
 use Rattle.std.specs.Prelude.{not}
 use Rattle.std.proofs.lemmas.Bool.{false≢true}
 use Rattle.xk_base.specs.declared.ids.Place.{Place}
-use Rattle.xk_base.specs.declared.ids.ThreadId.{ThreadId}
 use Rattle.ledger_model.specs.Ledger.{Homed, Page, PageName, contents_of}
 use Rattle.ledger_model.specs.Steps.{write}
 use Rattle.ledger_model.proofs.ReachingLemmas.{write_others}
@@ -11,8 +10,8 @@ use Rattle.ledger_model.proofs.Stepping.WritingLemmas.{write_bare}
 use Rattle.machine_model.specs.State.Machine.{Machine}
 use Rattle.machine_model.specs.State.Threads.{with_registers}
 use Rattle.integrity_laws.proofs.InstructionLemmas.{same_page, same_page_at, same_page_true}
-use Rattle.inside_laws.specs.Inside.{Group, InsideIsThere, IsSeenByOther, SameButInside, outside}
-use Rattle.inside_laws.proofs.Seeing.ShownLemmas.{seen_shows, shows, shows_home, shows_page}
+use Rattle.inside_laws.specs.Inside.{Group, InsideIsThere, IsSeenByOther, outside}
+use Rattle.inside_laws.proofs.Seeing.ShownLemmas.{seen_shows, shows_home, shows_page}
 use Rattle.inside_laws.proofs.Veiling.VeilLemmas.{own_change}
 
 module _ (group : Group) (m : Machine) (home : Place) (page : Page) (offset : ℕ) (bytes : List ℕ) (own : group home.pid.0 ≡ true)

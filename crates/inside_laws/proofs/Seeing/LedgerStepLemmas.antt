@@ -1,10 +1,9 @@
 -- Where the pages come from that others than a group can load after a step of the ledger: new ones, ones that another could load before,
 -- and ones that are handed over.
-use Rattle.std.proofs.Common.{◌≡◌, ℕ, Bool, true, false, ◌⊎◌, inl, inr, List, Option, Some, None, refl, sym, ap, ◌∙◌}
+use Rattle.std.proofs.Common.{◌≡◌, ℕ, Bool, true, false, Option, Some, None, refl, sym, ap, ◌∙◌}
 use Rattle.std.specs.Prelude.{if◌then◌else◌, is_some, not}
-use Rattle.std.specs.Option.{option_and_then, option_map}
+use Rattle.std.specs.Option.{option_map}
 use Rattle.std.proofs.lemmas.Bool.{false≢true}
-use Rattle.std.proofs.lemmas.Option.{none-some, same_Some}
 use Rattle.xk_base.specs.declared.ids.Number.{Number}
 use Rattle.xk_base.specs.declared.ids.Pid.{Pid}
 use Rattle.xk_base.specs.declared.ids.Place.{Place}
@@ -14,7 +13,7 @@ use Rattle.ledger_model.specs.Conditions.{is_lent}
 use Rattle.ledger_model.specs.Ledger.{Bytes, Console, Contents, Homed, Ledger, Orphan, Orphaned, Page, PageLoan, PageName, contents_of, loan_at, loan_of}
 use Rattle.ledger_model.specs.Loans.{same_number}
 use Rattle.ledger_model.specs.Places.{in_run, moved, same_place}
-use Rattle.ledger_model.specs.Steps.{end_loan, freed, give, lend, loan_without, make, make_console, new_page, pass, passed, passed_loan, reduce, remove, with_loan, with_right, zero_page}
+use Rattle.ledger_model.specs.Steps.{end_loan, freed, give, lend, make, make_console, new_page, pass, passed, passed_loan, reduce, remove, with_loan, with_right, zero_page}
 use Rattle.ledger_model.proofs.PlaceLemmas.{in_run-true, moved-in_run}
 use Rattle.machine_model.specs.Messaging.LoanSets.{end_loans, freed_but, is_lent_by, loan_but, orphan_but}
 use Rattle.inside_laws.specs.Handing.{lent_pages, run_pages}

@@ -1,10 +1,10 @@
 -- Where the pages come from that others can load is the same in two states that are the same but for bytes.
-use Rattle.std.proofs.Common.{◌≡◌, ℕ, Bool, true, false, List, Option, Some, None, refl, sym, ap, ◌∙◌, subst}
+use Rattle.std.proofs.Common.{◌≡◌, ℕ, Bool, true, false, List, Option, Some, None, refl, sym, ap, ◌∙◌}
 use Rattle.std.specs.Option.{option_map}
 use Rattle.xk_base.specs.declared.ids.Number.{Number}
 use Rattle.xk_base.specs.declared.ids.Pid.{Pid}
 use Rattle.xk_base.specs.declared.ids.Place.{Place}
-use Rattle.ledger_model.specs.Ledger.{Bytes, Console, Contents, Homed, Ledger, Orphan, Orphaned, Page, PageName, contents_of, loan_at, loan_of}
+use Rattle.ledger_model.specs.Ledger.{Bytes, Console, Contents, Homed, Ledger, Orphan, Orphaned, Page, PageName, contents_of, loan_of}
 use Rattle.ledger_model.specs.Steps.{zero_page}
 use Rattle.machine_model.specs.Messaging.LoanSets.{is_lent_by}
 use Rattle.machine_model.specs.Runs.Isolation.{without_bytes}

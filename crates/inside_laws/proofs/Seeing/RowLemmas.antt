@@ -1,18 +1,16 @@
 -- Where the pages come from that others than a group can load after a call.
 use Rattle.std.proofs.Common.{◌≡◌, ℕ, ◌<◌, Bool, ◌&&◌, ◌||◌, true, false, List, [], ◌∷◌, ◌++◌, Option, Some, None, is_none, length, get_or, refl, sym, ap, ◌∙◌, subst}
-use Rattle.std.specs.Prelude.{◌+◌, ◌-◌, ◌/◌, ◌==◌, if◌then◌else◌, is_some, not, unwrap_or, find}
+use Rattle.std.specs.Prelude.{◌+◌, ◌-◌, ◌/◌, ◌==◌, if◌then◌else◌, is_some, unwrap_or, find}
 use Rattle.std.specs.Bool.{⊤}
-use Rattle.std.specs.List.{list_all, list_any}
 use Rattle.std.specs.Option.{option_and_then, option_map, option_map_or}
 use Rattle.std.proofs.lemmas.Bool.{and_parts, eqb-true, false≢true, or_parts}
-use Rattle.std.proofs.lemmas.Option.{none-some, same_Some}
+use Rattle.std.proofs.lemmas.Option.{none-some}
 use Rattle.xk_base.specs.declared.errors.XousError.{XousError}
 use Rattle.xk_base.specs.declared.errors.XousError.TheVariants.{ServerQueueFull}
 use Rattle.xk_base.specs.declared.ids.Number.{Number}
 use Rattle.xk_base.specs.declared.ids.Pid.{Pid}
 use Rattle.xk_base.specs.declared.ids.Place.{Place}
 use Rattle.xk_base.specs.declared.ids.Serial.{Serial}
-use Rattle.xk_base.specs.declared.ids.ThreadId.{ThreadId}
 use Rattle.xk_base.specs.declared.ids.Vpn.{Vpn}
 use Rattle.xk_base.specs.declared.messages.Message.{Message}
 use Rattle.xk_base.specs.declared.messages.MsgKind.{MsgKind}
@@ -30,8 +28,7 @@ use Rattle.xk_base.proofs.CountingLemmas.{least_below-passes}
 use Rattle.xk_base.specs.declared.limits.TheConstants.{CONSOLE_ADDRESS, PAGE_SIZE}
 use Rattle.xk_base.specs.declared.pages.Right.{Right}
 use Rattle.xk_base.specs.Calls.Replies.{plain_words}
-use Rattle.ledger_model.specs.Conditions.{is_lent}
-use Rattle.ledger_model.specs.Ledger.{Ledger, PageLoan, PageName, loan_at}
+use Rattle.ledger_model.specs.Ledger.{Ledger, PageName}
 use Rattle.ledger_model.specs.Loans.{loans, same_number}
 use Rattle.ledger_model.specs.Places.{in_run}
 use Rattle.ledger_model.specs.RunTests.{any_console, any_lacks, any_not_sent, any_on_loan}
@@ -39,41 +36,38 @@ use Rattle.ledger_model.specs.Steps.{give, lend, pass}
 use Rattle.ledger_model.proofs.LedgerLemmas.{same_number-true}
 use Rattle.machine_model.specs.Calling.Calls.{any_refusals, call}
 use Rattle.machine_model.specs.Calling.MemoryCalls.{caller_place, decrease_refusals, heap_of, heap_start, increase_refusals, map_address, map_refusals, mapped_ledger, unmap_refusals, update_refusals}
-use Rattle.machine_model.specs.Calling.ServerCalls.{is_missing, named_server, named_sid, own_server_refusals}
+use Rattle.machine_model.specs.Calling.ServerCalls.{named_server, named_sid, own_server_refusals}
 use Rattle.machine_model.specs.Ending.Closing.{closed, is_message_at, servers_closed}
 use Rattle.machine_model.specs.Ending.Ends.{death}
-use Rattle.machine_model.specs.Messaging.ForwardCalls.{forward_refusals, held_place, is_passable_of, next_arrival, next_arrival_refusals, passable, passed_from, passed_number, passed_place, passed_to, with_first}
-use Rattle.machine_model.specs.Messaging.LoanSets.{end_loans}
+use Rattle.machine_model.specs.Messaging.ForwardCalls.{forward_refusals, held_place, is_passable_of, next_arrival, next_arrival_refusals, passable, passed_number, passed_place}
 use Rattle.machine_model.specs.Messaging.Messages.{carries_pages, is_lend, is_lend_of, is_of_number, new_number}
 use Rattle.machine_model.specs.Messaging.ReceiveCalls.{oldest_queued}
-use Rattle.machine_model.specs.Messaging.Receivers.{receiver}
 use Rattle.machine_model.specs.Messaging.ReturnCalls.{held_at, held_by_caller, holder_of, holds, named_number, return_memory_refusals}
-use Rattle.machine_model.specs.Messaging.SendCalls.{arrival, arrival_refusals, is_full_for, message_run, named_kind, send_refusals, sender_left, sends_lend_mut, sends_pages, sent_ledger, sent_pages, sent_place}
+use Rattle.machine_model.specs.Messaging.SendCalls.{arrival, arrival_refusals, is_full_for, message_run, named_kind, send_refusals, sender_left, sends_lend_mut, sends_pages, sent_pages, sent_place}
 use Rattle.machine_model.specs.Runs.Matched.{IsMessageLent, Matched}
-use Rattle.machine_model.specs.State.Changes.{Change, Outcome, Refused, Retried, Served, first_refusal, refused_or, unless_refused, unless_retried}
+use Rattle.machine_model.specs.State.Changes.{Outcome, first_refusal, refused_or, unless_refused, unless_retried}
 use Rattle.machine_model.specs.State.Machine.{Machine, Receiving, Server}
 use Rattle.machine_model.specs.State.Order.{turn}
-use Rattle.machine_model.specs.State.Servers.{is_own, is_server_of, messages_of, server_at, with_sid}
-use Rattle.machine_laws.proofs.Calling.RunRefusalLemmas.{none_holds, not_false, run_not_lent}
+use Rattle.machine_model.specs.State.Servers.{is_own, is_server_of, server_at, with_sid}
+use Rattle.machine_laws.proofs.Calling.RunRefusalLemmas.{not_false, run_not_lent}
 use Rattle.machine_laws.proofs.Returning.GivenBackLemmas.{found_at}
 use Rattle.machine_model.proofs.Matching.CountLemmas.{all_right}
 use Rattle.isolation_laws.proofs.Keeping.CallLemmas.{ledger_after, none_hold}
 use Rattle.isolation_laws.proofs.Keeping.MemoryCallLemmas.{HasNoHome, found_free}
 use Rattle.call_effects.specs.Deciding.{decide, row_at, rows}
-use Rattle.call_effects.specs.Effects.{Awaits, Effect, Pages, Sends, Serves, TakesNumber, Waits, apply, arriving, paged, run}
-use Rattle.call_effects.specs.Footprints.{LedgerPart, touched, names}
+use Rattle.call_effects.specs.Effects.{Sends, Waits, paged, run}
 use Rattle.call_effects.specs.Rows.InterruptRows.{claim_row, free_row}
 use Rattle.call_effects.specs.Rows.MemoryRows.{decrease_row, increase_row, map_row, unmap_row, update_row}
 use Rattle.call_effects.specs.Rows.MessageRows.{forward_row, passed_if, receive_row, return_memory_row, return_scalar1_row, return_scalar2_row, send_row, sent_row, sent_to_row, taken_or, try_receive_row, try_send_row}
 use Rattle.call_effects.specs.Rows.ServerRows.{connect_row, create_server_row, destroy_row, try_connect_row}
 use Rattle.call_effects.specs.Rows.ThreadRows.{create_row, join_row, process_id_row, terminate_row, thread_id_row, yield_row}
-use Rattle.call_effects.specs.Verdicts.{answers_caller, answers_nobody, Does, Plan, RefusedIf, Refuses, RetriedIf, Row, Verdict, meant}
+use Rattle.call_effects.specs.Verdicts.{answers_caller, answers_nobody, Does, RefusedIf, Refuses, RetriedIf, Row, Verdict, meant}
 use Rattle.call_effects.proofs.MeantLemmas.{calls_meant}
-use Rattle.inside_laws.specs.Handing.{called_over, destroyed_over, forwarded_over, returned_over, handing_at, handings, lent_pages, no_pages, run_pages, sent_over}
+use Rattle.inside_laws.specs.Handing.{called_over, destroyed_over, forwarded_over, returned_over, handing_at, handings, no_pages, run_pages, sent_over}
 use Rattle.inside_laws.specs.Inside.{Group}
 use Rattle.inside_laws.proofs.Seeing.DeathLemmas.{death_sources}
 use Rattle.inside_laws.proofs.Seeing.HeldLemmas.{HasLoans, at_servers, has_loans, of_message}
-use Rattle.inside_laws.proofs.Seeing.LedgerStepLemmas.{AreHeld, AreSendable, Handed, Shown, Source, Sources, TheConsole, Zeros, console_sources, end_loan_sources, end_loans_sources, give_sources, lend_sources, make_sources, pass_sources, reduce_sources, remove_sources, stay_sources}
+use Rattle.inside_laws.proofs.Seeing.LedgerStepLemmas.{AreHeld, AreSendable, Sources, console_sources, end_loan_sources, end_loans_sources, give_sources, lend_sources, make_sources, pass_sources, reduce_sources, remove_sources, stay_sources}
 
 module _ (group : Group) where
   -- what comes of a verdict

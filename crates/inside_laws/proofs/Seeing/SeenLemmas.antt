@@ -1,43 +1,37 @@
 -- Each page that others than a group can load holds the same after whatever comes next, where it was so before.
-use Rattle.std.proofs.Common.{◌≡◌, ◌≢◌, ℕ, Bool, true, false, ◌⊎◌, inl, inr, List, Option, Some, None, refl, sym, ap, ◌∙◌, subst}
+use Rattle.std.proofs.Common.{◌≡◌, ◌≢◌, ℕ, Bool, true, false, List, Option, Some, None, refl, sym, ap, ◌∙◌}
 use Rattle.std.specs.Prelude.{◌%◌, ◌==◌, if◌then◌else◌}
-use Rattle.std.specs.Option.{option_map}
 use Rattle.std.proofs.lemmas.Bool.{false≢true}
-use Rattle.std.proofs.lemmas.Option.{none-some, same_Some}
 use Rattle.xk_base.specs.declared.ids.Pid.{Pid}
 use Rattle.xk_base.specs.declared.ids.Place.{Place}
 use Rattle.xk_base.specs.declared.ids.ThreadId.{ThreadId}
 use Rattle.xk_base.specs.declared.pages.Access.TheVariants.{Load, Store}
-use Rattle.xk_base.specs.declared.pages.Width.{Width}
 use Rattle.xk_base.specs.Calls.CallWords.{call_number}
 use Rattle.xk_base.specs.Calls.CallNumbers.{destroy_server, forward_message, return_memory, send_message, terminate_process, try_send_message}
-use Rattle.xk_base.specs.Calls.Registers.{arguments_of, reg_at}
 use Rattle.xk_base.specs.Numbers.Windows.{page_of}
 use Rattle.xk_base.specs.UserMemory.{low_bytes}
 use Rattle.ledger_model.specs.Lawful.{IsLawful}
 use Rattle.ledger_model.specs.Ledger.{Bytes, Console, Contents, Ledger, PageName, contents_of}
 use Rattle.ledger_model.specs.Loans.{same_number}
 use Rattle.ledger_model.specs.Reach.{reach}
-use Rattle.ledger_model.specs.Steps.{write, written}
+use Rattle.ledger_model.specs.Steps.{write}
 use Rattle.ledger_model.proofs.Pages.BareLemmas.{reach-bare}
-use Rattle.ledger_model.proofs.ReachingLemmas.{reached_contents, write_changed, write_console, write_others}
+use Rattle.ledger_model.proofs.ReachingLemmas.{write_changed, write_console, write_others}
 use Rattle.machine_model.specs.Calling.Calls.{call}
 use Rattle.machine_model.specs.Calling.ServerCalls.{named_server, named_sid}
 use Rattle.machine_model.specs.Ending.Closing.{any_server, is_message_at}
 use Rattle.machine_model.specs.Ending.Ends.{death, handler_ended, has_threads, thread_ended}
-use Rattle.machine_model.specs.Hart.Atomics.{Performed}
 use Rattle.machine_model.specs.Hart.Instructions.{CallsKernel, Executed, Next, Stores, StoresToConsole, StoresToTimer, Traps}
 use Rattle.machine_model.specs.Messaging.ForwardCalls.{passed_number}
 use Rattle.machine_model.specs.Messaging.ReturnCalls.{named_number}
 use Rattle.machine_model.specs.Runs.Isolation.{without_bytes}
 use Rattle.machine_model.specs.Runs.Matched.{Matched}
-use Rattle.machine_model.specs.State.Changes.{Change, Outcome, Refused, Retried, Served, call_settled, settled}
+use Rattle.machine_model.specs.State.Changes.{Change, Outcome, Refused, Retried, Served, settled}
 use Rattle.machine_model.specs.State.Machine.{Claim, Idle, Machine, Thread}
 use Rattle.machine_model.specs.State.Servers.{is_server_of, with_sid}
 use Rattle.machine_model.specs.State.Threads.{change_thread, put_thread, thread_id, with_state}
 use Rattle.machine_model.specs.State.Views.{page_reached, stored, timer_set, write_to}
 use Rattle.machine_model.specs.Stepping.Interrupts.{delivered, delivered_lowest, handler_started, is_free_for_interrupt, lowest_pending}
-use Rattle.machine_model.specs.Stepping.Step.{acted, ends_handler, ends_thread, executed, performed}
 use Rattle.machine_model.proofs.Runs.KeptLemmas.{matched_at}
 use Rattle.machine_laws.proofs.Threading.ThreadStepLemmas.{turned_to}
 use Rattle.isolation_laws.proofs.Carrying.CallTableLemmas.{call_carries}
@@ -48,19 +42,17 @@ use Rattle.isolation_laws.proofs.Keeping.CallLemmas.{ledger_after, settled_ledge
 use Rattle.isolation_laws.proofs.Ledgers.OtherBytesLemmas.{machine_through, no_bytes, through}
 use Rattle.isolation_laws.proofs.Ledgers.PairLemmas.{both}
 use Rattle.isolation_laws.proofs.Spreading.CallLemmas.{both_matched}
-use Rattle.isolation_laws.proofs.Spreading.WrittenPageLemmas.{stored_is_loaded}
 use Rattle.integrity_laws.proofs.InstructionLemmas.{same_page, same_page_at, same_page_true}
 use Rattle.integrity_laws.proofs.ReachedPageLemmas.{stored_alone}
-use Rattle.inside_laws.specs.Acting.{Act, Arms, Calls, EndsHandler, EndsThread, Faults, Prints, Silent, act_of_executed}
-use Rattle.inside_laws.specs.Handing.{act_over, called_over, destroyed_over, ended_over, forwarded_over, handing_at, handings, left_over, lent_pages, no_pages, returned_over, terminated_over}
+use Rattle.inside_laws.specs.Acting.{Act, Arms, Calls, EndsHandler, EndsThread, Faults, Prints, Silent}
+use Rattle.inside_laws.specs.Handing.{act_over, called_over, destroyed_over, ended_over, left_over, no_pages}
 use Rattle.inside_laws.specs.Inside.{Group, IsSeenByOther, SameButInside, outside}
 use Rattle.inside_laws.proofs.Seeing.DeathLemmas.{death_sources, ended_sources}
-use Rattle.inside_laws.proofs.Seeing.HeldLemmas.{HasLoans, has_loans}
-use Rattle.inside_laws.proofs.Seeing.LedgerStepLemmas.{Sources}
+use Rattle.inside_laws.proofs.Seeing.HeldLemmas.{has_loans}
 use Rattle.inside_laws.proofs.Seeing.PairLemmas.{Alike, CarriesLedger, CarriesPages, FromBoth, FromHanded, FromShown, from_both, lent_through, shows_through}
 use Rattle.inside_laws.proofs.Seeing.RowLemmas.{call_sources}
-use Rattle.inside_laws.proofs.Seeing.ShownLemmas.{seen_shows, shows, shows_seen}
-use Rattle.inside_laws.proofs.Stepping.ActLemmas.{act_by, did, own_does}
+use Rattle.inside_laws.proofs.Seeing.ShownLemmas.{shows, shows_seen}
+use Rattle.inside_laws.proofs.Stepping.ActLemmas.{act_by, did}
 use Rattle.inside_laws.proofs.Stepping.ShadeLemmas.{shade}
 use Rattle.inside_laws.proofs.Stepping.StepLemmas.{between, between_bare}
 use Rattle.inside_laws.proofs.Veiling.EffectLemmas.{call_veil, change_veil, outcome_veil}

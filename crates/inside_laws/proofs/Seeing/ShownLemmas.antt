@@ -1,7 +1,6 @@
 -- Whether a process that isn't of a group can load a page, by the page's home and its loan.
-use Rattle.std.proofs.Common.{◌≡◌, ℕ, Bool, ◌||◌, true, false, ◌⊎◌, inl, inr, List, Option, Some, None, refl, sym, ap, ◌∙◌}
+use Rattle.std.proofs.Common.{◌≡◌, Bool, ◌||◌, true, false, ◌⊎◌, inl, inr, Option, Some, None, refl, ap, ◌∙◌}
 use Rattle.std.specs.Prelude.{if◌then◌else◌, not}
-use Rattle.std.specs.Option.{option_map}
 use Rattle.std.proofs.lemmas.Bool.{false≢true}
 use Rattle.std.proofs.lemmas.Option.{none-some}
 use Rattle.xk_base.specs.declared.ids.Place.{Place}
@@ -11,7 +10,7 @@ use Rattle.xk_base.specs.declared.pages.LoanKind.TheVariants.{Exclusive, Shared}
 use Rattle.xk_base.specs.declared.pages.Right.{Right}
 use Rattle.ledger_model.specs.Lawful.{IsLawful}
 use Rattle.ledger_model.specs.Ledger.{Homed, Ledger, Orphan, Orphaned, Page, PageLoan, PageName, loan_at, loan_of}
-use Rattle.ledger_model.specs.Reach.{holder_may, home_may, lender_may, reach}
+use Rattle.ledger_model.specs.Reach.{holder_may, home_may, lender_may}
 use Rattle.ledger_model.proofs.ReachingLemmas.{reach-holder, reach-home, reach-orphan}
 use Rattle.machine_model.specs.State.Machine.{Machine}
 use Rattle.integrity_laws.proofs.ReachedPageLemmas.{AtHolder, AtHome, AtOrphan, ReachedAs, reached_as}

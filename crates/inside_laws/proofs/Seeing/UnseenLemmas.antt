@@ -1,9 +1,9 @@
 -- Whatever comes next leaves the inside of a group unseen, where the group acts alike.
-use Rattle.std.proofs.Common.{◌≡◌, ◌≢◌, ℕ, Bool, true, false, ◌⊎◌, inl, inr, List, [], Option, Some, None, refl, sym, ap, ◌∙◌, subst}
+use Rattle.std.proofs.Common.{◌≡◌, ℕ, Bool, true, false, ◌⊎◌, inl, inr, List, Option, Some, None, refl, sym, ap, ◌∙◌}
 use Rattle.std.specs.Prelude.{◌%◌, ◌==◌, if◌then◌else◌}
 use Rattle.std.specs.Option.{option_map}
 use Rattle.std.proofs.lemmas.Bool.{false≢true}
-use Rattle.std.proofs.lemmas.Option.{none-some, same_Some}
+use Rattle.std.proofs.lemmas.Option.{same_Some}
 use Rattle.xk_base.specs.declared.ids.Pid.{Pid}
 use Rattle.xk_base.specs.declared.ids.Place.{Place}
 use Rattle.xk_base.specs.declared.ids.ThreadId.{ThreadId}
@@ -26,19 +26,16 @@ use Rattle.machine_model.specs.State.Machine.{Claim, Machine, Thread}
 use Rattle.machine_model.specs.State.Order.{actor, turn}
 use Rattle.machine_model.specs.State.Views.{page_reached, stored, timer_set, write_to}
 use Rattle.machine_model.specs.Stepping.Events.{killed, killed_if, picked, raised, raised_if}
-use Rattle.machine_model.specs.Stepping.Interrupts.{pended}
 use Rattle.machine_model.specs.Stepping.Reservations.{unreserved}
 use Rattle.machine_model.specs.Stepping.Step.{Recorded, ends_handler, ends_thread, performed, step}
-use Rattle.machine_model.proofs.Runs.KeptLemmas.{matched_at}
 use Rattle.machine_model.proofs.Runs.TimerLemmas.{pended_raised}
 use Rattle.machine_model.proofs.StepLemmas.{no_step}
-use Rattle.machine_laws.proofs.Threading.ThreadAnswerLemmas.{IsReadyThread, ready_thread}
+use Rattle.machine_laws.proofs.Threading.ThreadAnswerLemmas.{ready_thread}
 use Rattle.machine_laws.proofs.Threading.ThreadStepLemmas.{actor_ready, performed_turned, step_ledger, turned_to}
 use Rattle.isolation_laws.proofs.Isolating.RunLemmas.{by_cause}
 use Rattle.isolation_laws.proofs.Isolating.StepLemmas.{acts}
 use Rattle.isolation_laws.proofs.Ledgers.OtherBytesLemmas.{no_bytes}
 use Rattle.isolation_laws.proofs.Spreading.WrittenPageLemmas.{stored_is_loaded}
-use Rattle.integrity_laws.proofs.InstructionLemmas.{same_page}
 use Rattle.inside_laws.specs.Acting.{Act, ActsAlike, Arms, Calls, DoesAlike, EndsHandler, EndsThread, Faults, HandsAlike, Prints, Silent, act_of, act_of_thread}
 use Rattle.inside_laws.specs.Handing.{HandsOver, HoldAlike, PagesAreEnough, act_over, left_over}
 use Rattle.inside_laws.specs.Inside.{Group, IsSeenByOther, SameButInside}
@@ -48,7 +45,7 @@ use Rattle.inside_laws.proofs.Seeing.PairLemmas.{shows_through}
 use Rattle.inside_laws.proofs.Seeing.ShownLemmas.{seen_shows, shows, shows_seen}
 use Rattle.inside_laws.proofs.Stepping.ActLemmas.{act_by, did, own_does, written_bare}
 use Rattle.inside_laws.proofs.Stepping.CauseLemmas.{cause_shade}
-use Rattle.inside_laws.proofs.Stepping.ShadeLemmas.{actor_shade, recorded_shade, shade, shaded, told_shade, unshaded}
+use Rattle.inside_laws.proofs.Stepping.ShadeLemmas.{actor_shade, recorded_shade, shade, shaded, unshaded}
 use Rattle.inside_laws.proofs.Stepping.StepLemmas.{performed_same, thread_same}
 
 -- ---- acts that leave the ledger but for bytes

@@ -1,11 +1,11 @@
 -- A step of the group is told and seen by its act alone.
-use Rattle.std.proofs.Common.{◌≡◌, ℕ, ◌+◌, Bool, true, false, List, [], ◌∷◌, Option, Some, None, refl, sym, ap, ◌∙◌}
+use Rattle.std.proofs.Common.{◌≡◌, ℕ, Bool, true, false, List, [], ◌∷◌, Option, Some, None, refl, sym, ap, ◌∙◌}
 use Rattle.std.specs.Prelude.{◌==◌, ◌%◌, if◌then◌else◌}
 use Rattle.std.specs.Option.{option_map}
 use Rattle.xk_base.specs.declared.ids.ThreadId.{ThreadId}
 use Rattle.xk_base.specs.declared.pages.Access.TheVariants.{Store}
 use Rattle.xk_base.specs.declared.records.What.TheVariants.{Byte, Call, End, Fault}
-use Rattle.xk_base.specs.Calls.Registers.{arguments_of, reg_at}
+use Rattle.xk_base.specs.Calls.Registers.{reg_at}
 use Rattle.xk_base.specs.Tables.Circle.{same_thread}
 use Rattle.xk_base.specs.Tables.Counting.{put_at}
 use Rattle.xk_base.specs.UserMemory.{compare_stored, low_bytes}
@@ -24,9 +24,9 @@ use Rattle.machine_laws.proofs.Threading.ThreadStepLemmas.{turned_to}
 use Rattle.isolation_laws.proofs.Isolating.StepLemmas.{acts}
 use Rattle.isolation_laws.proofs.Ledgers.OtherBytesLemmas.{bare_is, no_bytes, through}
 use Rattle.inside_laws.specs.Acting.{Act, Arms, Calls, EndsHandler, EndsThread, Faults, Prints, Silent, act_of_executed}
-use Rattle.inside_laws.specs.Inside.{Group, hidden_reservation, hidden_threads}
+use Rattle.inside_laws.specs.Inside.{Group, hidden_threads}
 use Rattle.inside_laws.proofs.Stepping.ShadeLemmas.{called_shade, death_shade, ended_shade, handled_shade, shade, told_shade}
-use Rattle.inside_laws.proofs.Veiling.VeilLemmas.{own_change, veil}
+use Rattle.inside_laws.proofs.Veiling.VeilLemmas.{own_change}
 
 -- what an act makes of a machine, but for what is hidden
 abbrev pub did : Machine → ThreadId → Act → Told

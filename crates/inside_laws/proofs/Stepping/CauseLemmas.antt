@@ -1,7 +1,7 @@
 -- Whatever comes next is told alike, and leads to states whose outside is the same.
-use Rattle.std.proofs.Common.{◌≡◌, ℕ, Bool, true, false, List, [], Option, Some, None, refl, sym, ap, ◌∙◌}
+use Rattle.std.proofs.Common.{◌≡◌, Bool, true, false, [], Option, Some, None, refl, sym, ap, ◌∙◌}
 use Rattle.xk_base.specs.declared.ids.ThreadId.{ThreadId}
-use Rattle.machine_model.specs.Runs.Moments.{ByIrq, ByKill, ByPick, ByStep, ByTurn, Cause, caused}
+use Rattle.machine_model.specs.Runs.Moments.{ByIrq, ByKill, ByPick, ByStep, ByTurn, Cause}
 use Rattle.machine_model.specs.State.Machine.{Machine}
 use Rattle.machine_model.specs.State.Order.{actor}
 use Rattle.machine_model.specs.Stepping.Step.{Recorded, step, step_by}

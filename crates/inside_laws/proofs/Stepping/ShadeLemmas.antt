@@ -1,12 +1,11 @@
 -- What is done to a machine is the same but for bytes and what is hidden from machines that are the same but for these.
-use Rattle.std.proofs.Common.{◌≡◌, ℕ, ◌+◌, Bool, true, false, List, [], Option, Some, None, refl, sym, ap, ◌∙◌}
+use Rattle.std.proofs.Common.{◌≡◌, ℕ, List, sym, ap, ◌∙◌}
 use Rattle.xk_base.specs.declared.ids.Pid.{Pid}
 use Rattle.xk_base.specs.declared.ids.ThreadId.{ThreadId}
 use Rattle.machine_model.specs.Calling.Calls.{call}
 use Rattle.machine_model.specs.Ending.Ends.{death, handler_ended, thread_ended}
 use Rattle.machine_model.specs.Hart.Instructions.{Executed}
-use Rattle.machine_model.specs.Runs.Isolation.{without_bytes}
-use Rattle.machine_model.specs.State.Changes.{Change, Outcome, Told, call_settled, settled}
+use Rattle.machine_model.specs.State.Changes.{Change, Told, call_settled, settled}
 use Rattle.machine_model.specs.State.Machine.{Machine, Thread}
 use Rattle.machine_model.specs.State.Order.{actor, turn}
 use Rattle.machine_model.specs.Stepping.Events.{killed, picked, raised}
@@ -19,7 +18,7 @@ use Rattle.isolation_laws.proofs.Carrying.InterruptLemmas.{timed_through}
 use Rattle.isolation_laws.proofs.Isolating.EventLemmas.{killed_bare, picked_bare, raised_bare, turn_bare}
 use Rattle.isolation_laws.proofs.Isolating.InstructionLemmas.{executed_alike}
 use Rattle.isolation_laws.proofs.Isolating.StepLemmas.{actor_alike, bare_recorded}
-use Rattle.isolation_laws.proofs.Ledgers.OtherBytesLemmas.{alike_through, alike_without, bare_is, machine_through, no_bytes, through}
+use Rattle.isolation_laws.proofs.Ledgers.OtherBytesLemmas.{alike_without, bare_is, machine_through, no_bytes}
 use Rattle.inside_laws.specs.Inside.{Group, outside}
 use Rattle.inside_laws.proofs.Veiling.EffectLemmas.{called_veil, change_veil, settled_alike, told_veil}
 use Rattle.inside_laws.proofs.Veiling.EndLemmas.{death_veil, executed_veil, handler_ended_veil, irq_veil, kill_veil, picked_veil, recorded_veil, thread_ended_veil, timed_veil, turned_veil}

@@ -1,5 +1,5 @@
 -- A step is the same but for the inside of a group from states that are: a step of another, and a step of the group that is one act.
-use Rattle.std.proofs.Common.{◌≡◌, ℕ, ◌+◌, Bool, true, false, List, [], map, Option, Some, None, refl, sym, ap, ◌∙◌, subst}
+use Rattle.std.proofs.Common.{◌≡◌, ℕ, ◌+◌, Bool, true, false, [], map, Option, Some, None, refl, sym, ap, ◌∙◌}
 use Rattle.std.specs.Prelude.{if◌then◌else◌}
 use Rattle.std.specs.Option.{option_map}
 use Rattle.std.proofs.lemmas.Bool.{and_parts, eqb-true, false≢true}
@@ -9,25 +9,22 @@ use Rattle.xk_base.specs.declared.ids.ThreadId.{ThreadId}
 use Rattle.xk_base.specs.declared.records.What.TheVariants.{End}
 use Rattle.xk_base.specs.Calls.Registers.{reg_at}
 use Rattle.xk_base.specs.Tables.Circle.{same_thread}
-use Rattle.ledger_model.specs.Ledger.{Ledger}
 use Rattle.machine_model.specs.Hart.Atomics.{Performed, execute_at}
 use Rattle.machine_model.specs.Hart.Instructions.{Executed}
 use Rattle.machine_model.specs.Runs.Isolation.{IsSameFor, without_bytes}
 use Rattle.machine_model.specs.State.Changes.{Told}
 use Rattle.machine_model.specs.State.Machine.{Machine, Reservation, Thread}
-use Rattle.machine_model.specs.State.Order.{actor}
 use Rattle.machine_model.specs.State.Views.{memory_of}
 use Rattle.machine_model.specs.Stepping.Reservations.{reservation_of, reserved_by}
-use Rattle.machine_model.specs.Stepping.Step.{Recorded, acted_if_there, after, counted, ends_handler, ends_thread, executed, performed, record_of, reservation_left_if_there, step, step_by}
+use Rattle.machine_model.specs.Stepping.Step.{acted_if_there, after, counted, ends_handler, ends_thread, performed, record_of, reservation_left_if_there, step_by}
 use Rattle.machine_model.specs.Stepping.Timer.{timed}
-use Rattle.machine_model.proofs.StepLemmas.{no_step}
 use Rattle.machine_laws.proofs.Threading.ThreadStepLemmas.{performed_turned, turned_to}
 use Rattle.isolation_laws.proofs.Isolating.SeenMemoryLemmas.{memory_alike}
-use Rattle.isolation_laws.proofs.Isolating.StepLemmas.{acts, step_of}
-use Rattle.inside_laws.specs.Acting.{Act, DoesAlike, act_of, act_of_thread}
+use Rattle.isolation_laws.proofs.Isolating.StepLemmas.{acts}
+use Rattle.inside_laws.specs.Acting.{act_of, act_of_thread}
 use Rattle.inside_laws.specs.Inside.{Group, SameButInside, hidden_if, hidden_reservation, outside}
 use Rattle.inside_laws.proofs.Stepping.ActLemmas.{act_by, did, did_alike, own_does}
-use Rattle.inside_laws.proofs.Stepping.ShadeLemmas.{actor_shade, ended_shade, executed_shade, handled_shade, recorded_shade, shade, shaded, timed_shade, told_shade}
+use Rattle.inside_laws.proofs.Stepping.ShadeLemmas.{ended_shade, executed_shade, handled_shade, recorded_shade, shade, timed_shade, told_shade}
 use Rattle.inside_laws.proofs.Veiling.EffectLemmas.{told_veil}
 
 -- a state with the threads and the reservation of another

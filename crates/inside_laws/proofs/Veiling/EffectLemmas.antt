@@ -17,7 +17,7 @@ use Rattle.call_effects.specs.Deciding.{decide}
 use Rattle.call_effects.specs.Effects.{Awaits, Claims, ClosesServers, Connects, Effect, EndsTurn, Forgets, Founds, Frees, HasHeap, Orphans, Pages, Serves, Starts, TakesNumber, Unqueues, Waits, apply, run}
 use Rattle.call_effects.specs.Verdicts.{Does, RefusedIf, Refuses, RetriedIf, Verdict, meant}
 use Rattle.call_effects.proofs.MeantLemmas.{calls_meant}
-use Rattle.inside_laws.specs.Inside.{Group, hidden_reservation, hidden_threads}
+use Rattle.inside_laws.specs.Inside.{Group, hidden_threads}
 use Rattle.inside_laws.proofs.Veiling.VeilLemmas.{again, answered_veil, changed_veil, forgotten_veil, next_ready_veil, put_veil, reserved_twice, veil}
 use Rattle.inside_laws.proofs.Veiling.VerdictLemmas.{decide_veil}
 

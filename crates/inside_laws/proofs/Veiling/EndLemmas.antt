@@ -1,30 +1,28 @@
 -- Deaths, ends, deliveries and the timer make the same of a machine beside what is hidden.
-use Rattle.std.proofs.Common.{◌≡◌, ℕ, ◌+◌, Bool, true, false, List, [], ◌∷◌, Option, Some, None, refl, sym, ap, ◌∙◌, map}
-use Rattle.std.specs.Prelude.{if◌then◌else◌, nat_eq, is_some}
+use Rattle.std.proofs.Common.{◌≡◌, ℕ, Bool, true, false, List, [], Option, Some, None, refl, sym, ap, ◌∙◌}
+use Rattle.std.specs.Prelude.{if◌then◌else◌, nat_eq}
 use Rattle.std.specs.Option.{option_map}
 use Rattle.xk_base.specs.declared.ids.Pid.{Pid}
 use Rattle.xk_base.specs.declared.ids.ThreadId.{ThreadId}
 use Rattle.xk_base.specs.declared.limits.TheConstants.{TIMER_INTERRUPT}
-use Rattle.xk_base.specs.declared.pages.Width.{Width}
-use Rattle.xk_base.specs.declared.records.What.TheVariants.{Call, End, Fault}
-use Rattle.xk_base.specs.Calls.Registers.{arguments_of, reg_at}
+use Rattle.xk_base.specs.declared.records.What.TheVariants.{Call, Fault}
+use Rattle.xk_base.specs.Calls.Registers.{arguments_of}
 use Rattle.xk_base.specs.Tables.Circle.{same_thread}
 use Rattle.xk_base.specs.Tables.Counting.{put_at}
-use Rattle.machine_model.specs.Calling.Calls.{call}
 use Rattle.machine_model.specs.Ending.Closing.{any_server, closed, senders_held_gone, senders_queued_gone, servers_closed}
-use Rattle.machine_model.specs.Ending.Ends.{death, end_with_last_thread, forgotten, handler_ended, has_threads, joiners_answered, thread_ended}
+use Rattle.machine_model.specs.Ending.Ends.{death, end_with_last_thread, forgotten, handler_ended, has_threads, thread_ended}
 use Rattle.machine_model.specs.Hart.Instructions.{CallsKernel, Executed, Next, Stores, StoresToConsole, StoresToTimer, Traps}
-use Rattle.machine_model.specs.State.Changes.{Change, Told, call_settled, settled}
+use Rattle.machine_model.specs.State.Changes.{Change, Told, settled}
 use Rattle.machine_model.specs.State.Machine.{Claim, Idle, Machine, Thread}
 use Rattle.machine_model.specs.State.Order.{turn}
-use Rattle.machine_model.specs.State.Threads.{Answers, both_answers, change_thread, handler_thread, put_thread, thread_id, with_registers, with_state}
+use Rattle.machine_model.specs.State.Threads.{both_answers, change_thread, handler_thread, thread_id, with_registers, with_state}
 use Rattle.machine_model.specs.State.Views.{stored, timer_set}
 use Rattle.machine_model.specs.Stepping.Events.{at_event, killed, killed_if, picked, raised, raised_if}
 use Rattle.machine_model.specs.Stepping.Interrupts.{delivered, delivered_lowest, handler_started, is_free_for_interrupt, lowest_pending, pended, with_handler_next}
 use Rattle.machine_model.specs.Stepping.Reservations.{unreserved}
 use Rattle.machine_model.specs.Stepping.Step.{Recorded, after, executed}
 use Rattle.machine_model.specs.Stepping.Timer.{is_due, raised_by_timer, timed, timed_if, with_irq_if}
-use Rattle.inside_laws.specs.Inside.{Group, hidden_reservation, hidden_threads}
+use Rattle.inside_laws.specs.Inside.{Group, hidden_threads}
 use Rattle.inside_laws.proofs.Veiling.EffectLemmas.{called_veil, change_veil, settled_alike, told_veil, turn_veil}
 use Rattle.inside_laws.proofs.Veiling.VeilLemmas.{again, changed_veil, forgotten_veil, free_for_veil, has_threads_veil, joiners_veil, put_veil, ready_veil, reserved_twice, veil}
 

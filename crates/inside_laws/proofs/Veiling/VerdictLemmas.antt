@@ -1,7 +1,6 @@
 -- The verdict on a call is the same where the threads of a group are hidden.
-use Rattle.std.proofs.Common.{◌≡◌, ℕ, Bool, ◌||◌, true, false, List, [], ◌∷◌, ◌++◌, Option, Some, None, is_none, refl, sym, ap, ◌∙◌}
+use Rattle.std.proofs.Common.{◌≡◌, ℕ, Bool, ◌||◌, true, false, List, [], ◌∷◌, ◌++◌, Option, Some, None, is_none, refl, sym, ap}
 use Rattle.std.specs.Prelude.{◌%◌, ◌==◌, if◌then◌else◌, not, unwrap_or}
-use Rattle.xk_base.specs.declared.errors.XousError.{XousError}
 use Rattle.xk_base.specs.declared.errors.XousError.TheVariants.{BadAlignment, InvalidThread, ServerQueueFull, ThreadNotAvailable}
 use Rattle.xk_base.specs.declared.ids.Number.{Number}
 use Rattle.xk_base.specs.declared.ids.Serial.{Serial}
@@ -11,17 +10,15 @@ use Rattle.xk_base.specs.declared.messages.Message.{Message}
 use Rattle.xk_base.specs.declared.messages.MsgKind.TheVariants.{Scalar}
 use Rattle.xk_base.specs.Calls.CallWords.{call_number, forward_cid, join_tid, send_address, thread_arguments, thread_entry, thread_sp}
 use Rattle.xk_base.specs.Calls.Kinds.{is_answered}
-use Rattle.xk_base.specs.Calls.Replies.{message_words, plain_words, thread_words}
+use Rattle.xk_base.specs.Calls.Replies.{plain_words, thread_words}
 use Rattle.xk_base.specs.Tables.Sids.{serial_of}
 use Rattle.machine_model.specs.Calling.Calls.{any_refusals}
 use Rattle.machine_model.specs.Calling.MemoryCalls.{caller_place}
 use Rattle.machine_model.specs.Calling.ServerCalls.{named_server, named_sid, own_server_refusals}
-use Rattle.machine_model.specs.Calling.ThreadCalls.{create_refusals, free_tid, has_thread, join_refusals}
 use Rattle.machine_model.specs.Ending.Closing.{any_server, is_sender_at, refused_server}
 use Rattle.machine_model.specs.Messaging.ForwardCalls.{forward_refusals, held_place, next_arrival, next_arrival_refusals, passable, passed_from, passed_number, passed_place, passed_to, with_first}
 use Rattle.machine_model.specs.Messaging.Messages.{new_message, new_number}
 use Rattle.machine_model.specs.Messaging.ReceiveCalls.{oldest_queued}
-use Rattle.machine_model.specs.Messaging.Receivers.{receiver, receiving_at}
 use Rattle.machine_model.specs.Messaging.ReturnCalls.{holder_of}
 use Rattle.machine_model.specs.Messaging.SendCalls.{arrival, arrival_refusals, is_full_for, named_kind, send_refusals, sender_answered, sent_pages, sent_place, sent_serial}
 use Rattle.machine_model.specs.State.Machine.{Joining, Machine, Receiving}
@@ -29,7 +26,7 @@ use Rattle.machine_model.specs.State.Servers.{live_servers, with_sid}
 use Rattle.machine_model.specs.State.Threads.{answer_to, both_answers, new_thread, thread_id}
 use Rattle.call_effects.specs.Deciding.{decide, row_at, rows}
 use Rattle.call_effects.specs.Effects.{Awaits, ClosesServers, Pages, Passes, Returned, Sends, Serves, Starts, TakesNumber, Waits, arriving}
-use Rattle.call_effects.specs.Rows.MessageRows.{arrival_answers, forward_row, passed_if, passed_row, receive_row, send_row, sent_row, sent_to_row, taken_or, try_receive_row, try_send_row}
+use Rattle.call_effects.specs.Rows.MessageRows.{arrival_answers, forward_row, passed_if, receive_row, send_row, sent_row, sent_to_row, taken_or, try_receive_row, try_send_row}
 use Rattle.call_effects.specs.Rows.ServerRows.{destroy_row}
 use Rattle.call_effects.specs.Rows.ThreadRows.{create_row, join_row}
 use Rattle.call_effects.specs.Verdicts.{RefusedIf, RetriedIf, Row, Verdict, answers_caller, answers_nobody, answers_with}
