@@ -1,4 +1,11 @@
 pub mod CallFitLemmas
+pub mod CallSayLemmas
 pub mod CallTableLemmas
+pub mod CountLemmas
+pub mod DeathFitLemmas
+pub mod DeliverSayLemmas
 pub mod DueLemmas
 pub mod FitLemmas
+pub mod SayLemmas
+pub mod StandLemmas
+pub mod StepSayLemmas

@@ -1,3 +1,4 @@
+pub mod AnsweredOnce
 pub mod Answering
 pub mod RecordOrder
 pub mod Stuck

@@ -90,7 +90,7 @@ module _ (P : What → Type 0) (irq : (pid : Pid) (k : ℕ) → P (Irq pid k)) (
 -- ---- deaths, ends, deliveries
 
 -- a death answers threads that wait
-death_waits : (m : Machine) → Matched m → (pid : Pid) (id : ThreadId) → is_some ((death pid m).answers id) ≡ true → is_waiting (m.threads id) ≡ true
+pub death_waits : (m : Machine) → Matched m → (pid : Pid) (id : ThreadId) → is_some ((death pid m).answers id) ≡ true → is_waiting (m.threads id) ≡ true
 unfolding death servers_closed closed
 death_waits m h pid id e = go (is_sender_at (λ n. is_server_of pid (m.servers n)) m id) refl e
   where
@@ -127,7 +127,7 @@ same_death : (m : Machine) (who id : ThreadId) → (death who.pid m).answers id 
 unfolding death servers_closed closed any_server
 same_death m who id = refl
 
-thread_end_waits : (m : Machine) → Matched m → (who : ThreadId) (a0 : ℕ) (id : ThreadId)
+pub thread_end_waits : (m : Machine) → Matched m → (who : ThreadId) (a0 : ℕ) (id : ThreadId)
     → is_some ((thread_ended who a0 m).answers id) ≡ true → is_waiting (m.threads id) ≡ true
 unfolding thread_ended
 thread_end_waits m h who a0 id e =

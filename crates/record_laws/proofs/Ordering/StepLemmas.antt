@@ -39,13 +39,13 @@ use Rattle.record_laws.proofs.Ordering.PairLemmas.{pairs_none, pairs_one, pairs_
 -- ---- a handler that is started by a change runs
 
 -- each interrupt that is told is that of a process whose interrupt thread runs a handler now
-abbrev IsRunning : Machine → What → Type 0
+abbrev pub IsRunning : Machine → What → Type 0
 IsRunning m what = (pid : Pid) (k : ℕ) → what ≡ Irq pid k → is_free_for_interrupt m pid ≡ false
 
 -- what is told stands in order, and its handlers run
-record IsTold (done : Told) : Type 0 where
-  ordered : IsOrdered done.told
-  running : All (IsRunning done.machine) done.told
+pub record IsTold (done : Told) : Type 0 where
+  pub ordered : IsOrdered done.told
+  pub running : All (IsRunning done.machine) done.told
 
 no_irq : (m : Machine) (what : What) → ((pid : Pid) (k : ℕ) → what ≢ Irq pid k) → IsRunning m what
 no_irq m what none pid k e = absurd (none pid k e)
@@ -196,7 +196,7 @@ executed_is_told m t (Traps cause value) =
     then_told m (Fault m.cursor cause value) refl (λ pid k e. let d : Fault m.cursor cause value ≡ Irq pid k = e in cc) (death m.cursor.pid m)
     (no_delivery (settled (death m.cursor.pid m)).machine (death m.cursor.pid m).delivery (death_delivers_none m m.cursor.pid))
 
-acted_is_told : (m : Machine) (o : Option Thread) → IsTold (acted_if_there m o)
+pub acted_is_told : (m : Machine) (o : Option Thread) → IsTold (acted_if_there m o)
 acted_is_told m None = nothing_told m
 acted_is_told m (Some t) = go (ends_thread m.cursor t.pc) (ends_handler m.cursor t.pc)
   where
