@@ -80,6 +80,11 @@ slice_counts quantum who m =
     let steps : at.steps ≡ m.steps = pick_steps who m in
     turn_steps (steps_up_to quantum at).machine ∙ (counted_steps quantum at ∙ ap (λ (n : ℕ). n + (steps_up_to quantum at).done) steps)
 
+-- a pick has no record
+picked_first : (who : ThreadId) (m : Machine) (next : Machine → History) → followed_by (reached (picked who m)) next ≡ next (picked who m).machine
+unfolding picked
+picked_first who m next = refl
+
 -- `pick` and the tick
 pub slice_plays : (quantum limit : ℕ) (who : ThreadId) (m : Machine) → ready_at m who ≡ true → m.steps + (slice quantum who m).done ≤ limit
     → history (slice_events quantum who m) limit m ≡ reached (turned (slice quantum who m))
@@ -95,10 +100,6 @@ slice_plays quantum limit who m ready within =
     ∙ (ap (λ (h : History). followed_by h (history [] limit)) (ticked quantum limit at fits)
     ∙ (ap (behind (steps_up_to quantum at).records) (history_none limit (turn (steps_up_to quantum at).machine))
     ∙ ap (λ (all : List Rec). reached (record { machine = turn (steps_up_to quantum at).machine; records = all })) (append-nil (steps_up_to quantum at).records))))))
-  where
-    picked_first : (who : ThreadId) (m : Machine) (next : Machine → History) → followed_by (reached (picked who m)) next ≡ next (picked who m).machine
-    unfolding picked
-    picked_first who m next = refl
 
 -- a pick forgets whose turn it was
 pub slice_from_any_turn : (quantum : ℕ) (who cursor : ThreadId) (m : Machine) → ready_at m who ≡ true
