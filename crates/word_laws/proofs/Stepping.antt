@@ -1,2 +1,3 @@
 pub mod EndWordLemmas
+pub mod SizeWordLemmas
 pub mod StepWordLemmas

@@ -1,0 +1,3 @@
+pub mod FileLemmas
+pub mod SaveableLemmas
+pub mod SpellableLemmas
