@@ -1,21 +1,18 @@
 -- The state that a file spells is one of words.
-use Rattle.std.proofs.Common.{◌≡◌, ℕ, zero, suc, ◌+◌, ◌-◌, ◌<◌, ◌≤◌, Bool, true, false, List, [], ◌∷◌, ◌++◌, length, take, drop, Option, Some, None, refl, sym, ap, subst, ◌∙◌, arith, length-drop}
+use Rattle.std.proofs.Common.{◌≡◌, ℕ, suc, ◌+◌, ◌-◌, ◌<◌, ◌≤◌, Bool, true, false, List, [], ◌∷◌, length, drop, Option, Some, None, refl, ap, ◌∙◌, arith, length-drop}
 use Rattle.std.specs.Prelude.{◌==◌, ◌&&◌, All, IsTrue, find, if◌then◌else◌, map, min, nat_le, nat_lt}
 use Rattle.std.specs.List.{AllByRecursion, flat_map}
 use Rattle.std.specs.Option.{option_map}
 use Rattle.std.proofs.lemmas.Bool.{le-leb, lt-ltb}
 use Rattle.std.proofs.lemmas.List.{length-take}
 use Rattle.std.proofs.lemmas.List.Elements.{All-append, All-cons, All-drop, All-from_recursion, All-map, All-take, All-weaker}
-use Rattle.xk_base.specs.declared.ids.Place.{Place}
 use Rattle.xk_base.specs.declared.ids.ThreadId.{ThreadId}
-use Rattle.xk_base.specs.declared.messages.Message.{Message}
 use Rattle.xk_base.specs.Tables.Circle.{is_thread_id}
-use Rattle.ledger_model.specs.Ledger.{Bytes, Console, Contents, Ledger, Orphan, Page}
+use Rattle.ledger_model.specs.Ledger.{Bytes, Console}
 use Rattle.ledger_model.specs.WholePages.{HasWholePages, IsPage}
 use Rattle.ledger_model.proofs.Pages.WholePageLemmas.{WholeContents, WholeOrphan, WholePage, whole_from}
 use Rattle.machine_model.specs.Runs.Matched.{Matched}
-use Rattle.machine_model.specs.State.Machine.{Claim, Reservation, Server, Thread}
-use Rattle.machine_history.specs.Reserved.{IsReservedByThread}
+use Rattle.machine_model.specs.State.Machine.{Reservation}
 use Rattle.state_rows.specs.declared.state.State.{State}
 use Rattle.state_rows.specs.declared.state.ThreadRow.{ThreadRow}
 use Rattle.state_rows.specs.declared.state.MessageRow.{MessageRow}
@@ -25,11 +22,11 @@ use Rattle.state_rows.specs.declared.state.PageRow.{PageRow}
 use Rattle.state_rows.specs.declared.state.OrphanRow.{OrphanRow}
 use Rattle.state_rows.specs.Machines.{claim_of, compare_of, contents_at, ledger_of, ledger_orphan, ledger_page, machine_of, message_of, reservation_of, server_of, thread_at_id, thread_of}
 use Rattle.state_rows.specs.Order.{AreInOrder, claim_key, orphan_key, page_key, server_key, thread_key}
-use Rattle.suspend_image.specs.Forms.{ArePlaced, HasForm, IsClaimRow, IsField, IsMessageRow, IsOrphanRow, IsPageRow, IsServerRow, IsThreadRow, IsWithin, IsWord, Spells, StandsBefore}
+use Rattle.suspend_image.specs.Forms.{ArePlaced, HasForm, IsClaimRow, IsField, IsMessageRow, IsOrphanRow, IsPageRow, IsServerRow, IsThreadRow, IsWithin, IsWord, StandsBefore}
 use Rattle.suspend_image.specs.Saveable.{IsSpellable}
 use Rattle.suspend_image.specs.Spelling.{orphan_bytes, page_bytes}
-use Rattle.word_laws.specs.Words.{AreFourWords, AreWords, IsClaimOfWords, IsMachineOfWords, IsMessageOfWords, IsServerOfWords, IsThreadOfWords, greatest}
-use Rattle.word_laws.proofs.Changing.HoldingLemmas.{Holds, find_holds, if_holds, map_holds, none_holds, some_holds}
+use Rattle.word_laws.specs.Words.{AreWords, IsClaimOfWords, IsMachineOfWords, IsMessageOfWords, IsServerOfWords, IsThreadOfWords, greatest}
+use Rattle.word_laws.proofs.Changing.HoldingLemmas.{Holds, find_holds, map_holds, none_holds, some_holds}
 use Rattle.saveable_laws.specs.Keeping.{FilesSpellable}
 use Rattle.saveable_laws.proofs.SaveableLemmas.{saveable_of}
 

@@ -1,30 +1,26 @@
 -- A state of words that has the invariant can be saved.
-use Rattle.std.proofs.Common.{◌≡◌, ℕ, zero, suc, ◌+◌, ◌<◌, ◌≤◌, Bool, true, false, List, [], ◌∷◌, ◌++◌, Option, Some, None, is_some, refl, sym, ap, subst, ◌∙◌, arith}
-use Rattle.std.specs.Prelude.{◌==◌, ◌&&◌, All, IsTrue, if◌then◌else◌, nat_le}
+use Rattle.std.proofs.Common.{◌≡◌, ℕ, ◌+◌, ◌<◌, ◌≤◌, Bool, true, false, List, [], ◌∷◌, Option, Some, None, is_some, refl, ap, subst, ◌∙◌, arith}
+use Rattle.std.specs.Prelude.{All, IsTrue, if◌then◌else◌, nat_le}
 use Rattle.std.specs.Option.{option_map, option_map_or}
 use Rattle.std.proofs.lemmas.Bool.{and_parts, eq-eqb, eqb-true, false≢true, leb-true}
 use Rattle.std.proofs.lemmas.List.Elements.{All-head, All-tail}
-use Rattle.std.proofs.lemmas.Option.{none-some}
 use Rattle.xk_base.specs.declared.ids.Number.{Number}
-use Rattle.xk_base.specs.declared.ids.Pid.{Pid}
 use Rattle.xk_base.specs.declared.ids.Place.{Place}
-use Rattle.xk_base.specs.declared.ids.Serial.{Serial}
 use Rattle.xk_base.specs.declared.ids.ThreadId.{ThreadId}
-use Rattle.xk_base.specs.declared.ids.Tid.{Tid}
 use Rattle.xk_base.specs.declared.limits.TheConstants.{TID_LIMIT}
 use Rattle.xk_base.specs.declared.messages.Message.{Message}
 use Rattle.xk_base.specs.Tables.Circle.{is_pid, is_thread_id, is_tid}
-use Rattle.ledger_model.specs.Ledger.{Orphan, Page, PageLoan, loan_at, loan_of}
+use Rattle.ledger_model.specs.Ledger.{Orphan, Page, PageLoan, loan_of}
 use Rattle.ledger_model.specs.Loans.{OrphanLoan, loans}
 use Rattle.machine_model.specs.Messaging.MessageCounts.{HasOne, count_at, count_in, HasIf}
 use Rattle.machine_model.specs.Messaging.Messages.{is_lend, is_lend_of, is_of_number, is_sent_by}
 use Rattle.machine_model.specs.Runs.Matched.{Matched, is_sent_as, is_waiting_for, waits_for}
-use Rattle.machine_model.specs.State.Machine.{Claim, Machine, Reservation, Server, Thread, ThreadState, Ready, Receiving, Waiting, Joining, Idle}
+use Rattle.machine_model.specs.State.Machine.{Machine, Server, Thread, ThreadState, Ready, Receiving, Waiting, Joining, Idle}
 use Rattle.machine_model.specs.State.Servers.{messages_of}
 use Rattle.machine_history.specs.Reserved.{IsReservedByThread}
-use Rattle.suspend_image.specs.Saveable.{HasSizes, IsClaimSaveable, IsMessageSaveable, IsSaveable, IsServerSaveable, IsThreadSaveable}
+use Rattle.suspend_image.specs.Saveable.{IsMessageSaveable, IsSaveable}
 use Rattle.suspend_image.specs.SavedRows.{state_waits}
-use Rattle.word_laws.specs.Words.{AreFourWords, IsMachineOfWords, IsMessageOfWords, IsServerOfWords, IsThreadOfWords, greatest}
+use Rattle.word_laws.specs.Words.{IsMachineOfWords, IsMessageOfWords, greatest}
 use Rattle.word_laws.proofs.Words.RegisterLemmas.{first_x0, x0_first}
 
 -- ---- from saveable
@@ -67,11 +63,11 @@ module _ (Q : Type 0) (P : Message → Type 0) (test : Message → Bool) (says :
   of_one : (xs : List Message) → count_in test xs ≡ 1 → All P xs → Q
   unfolding count_in
   of_one [] one all = absurd (let d : 0 ≡ 1 = one in omega arith)
-  of_one (x ∷ xs) one all = go (test x) refl one
+  of_one (x ∷ xs) one all = go (test x) refl one (λ rest. of_one xs rest (All-tail P x xs all))
     where
-      go : (b : Bool) → test x ≡ b → (if b then 1 else 0) + count_in test xs ≡ 1 → Q
-      go true e counted = says x (All-head P x xs all) e
-      go false e counted = of_one xs (omega arith) (All-tail P x xs all)
+      go : (b : Bool) → test x ≡ b → (if b then 1 else 0) + count_in test xs ≡ 1 → (count_in test xs ≡ 1 → Q) → Q
+      go true e counted others = says x (All-head P x xs all) e
+      go false e counted others = others (omega arith)
 
   of_server : (o : Option Server) → count_at test o ≡ 1 → ((s : Server) → o ≡ Some s → All P (messages_of s)) → Q
   of_server None one all = absurd (let d : 0 ≡ 1 = one in omega arith)
@@ -84,9 +80,9 @@ module _ (m : Machine) (k : Matched m) (few : m.steps ≤ 4000000000) where
   number_fits number test is one =
       of_server (number.0 ≤ greatest) (λ (x : Message). x.number.0 < m.next_number) test
       (λ x low e.
-        let same : x.number.0 ≡ number.0 = is x e in
-        let next : m.next_number ≤ m.steps + 1 = k.rest.stepped.number_steps in
-        omega arith)
+      let same : x.number.0 ≡ number.0 = is x e in
+      let next : m.next_number ≤ m.steps + 1 = k.rest.stepped.number_steps in
+      omega arith)
       (m.servers one.serial) one.here (λ s e. k.rest.above.numbers one.serial s e)
 
   of_number : (number : Number) (x : Message) → is_of_number number x ≡ true → x.number.0 ≡ number.0

@@ -1,6 +1,5 @@
 -- State bytes spell each state of a history.
-use Rattle.std.proofs.Common.{◌≡◌, ℕ, zero, suc, ◌+◌, ◌<◌, ◌≤◌, Bool, true, false, List, [], ◌∷◌, length, Option, Some, None, is_some, refl, sym, ap, subst, ◌∙◌, arith, le_refl, le_trans}
-use Rattle.std.specs.Prelude.{IsTrue}
+use Rattle.std.proofs.Common.{◌≡◌, ℕ, zero, suc, ◌+◌, ◌≤◌, List, [], ◌∷◌, length, Option, Some, None, is_some, refl, sym, ap, subst, arith, le_refl, le_trans}
 use Rattle.xk_base.specs.declared.events.Event.{Event}
 use Rattle.xk_base.specs.declared.ids.ThreadId.{ThreadId}
 use Rattle.machine_model.specs.Runs.Matched.{Matched}
@@ -16,8 +15,8 @@ use Rattle.machine_history.specs.HistoryMoments.{moments_of}
 use Rattle.machine_history.proofs.Histories.LimitLemmas.{history_within, irq_steps, kill_steps, pick_steps, step_steps, turn_steps}
 use Rattle.machine_history.proofs.Histories.MomentLemmas.{history_is_run, history_last, moments_keep}
 use Rattle.suspend_image.specs.Saveable.{IsSpellable}
-use Rattle.word_laws.specs.Keeping.{IsSameSize}
-use Rattle.word_laws.proofs.Stepping.SizeWordLemmas.{cause_reserved, cause_size}
+use Rattle.saveable_laws.specs.Keeping.{IsSameSize}
+use Rattle.saveable_laws.proofs.SizeLemmas.{cause_reserved, cause_size}
 use Rattle.word_laws.proofs.Stepping.StepWordLemmas.{causes_keep}
 use Rattle.saveable_laws.specs.Keeping.{AllKeepSpellable, LastSpellable, MomentsSpellable}
 use Rattle.saveable_laws.proofs.SaveableLemmas.{saveable_of, words_of}
@@ -94,9 +93,9 @@ module _ (events : List Event) (limit : ℕ) (start : Machine) (h : IsSpellable 
   moment_few i =
       let moments = moments_of events limit start in
       let each : (state_at start moments i).steps ≤ (state_at start moments (length moments)).steps =
-          (run_later start moments (history_is_run events limit start)).1 i in
+      (run_later start moments (history_is_run events limit start)).1 i in
       let last : (state_at start moments (length moments)).steps ≡ (history events limit start).machine.steps =
-          ap (λ (m : Machine). m.steps) (history_last events limit start) in
+      ap (λ (m : Machine). m.steps) (history_last events limit start) in
       let most : (history events limit start).machine.steps ≤ limit = history_within events limit start within in
       omega arith
 

@@ -1,17 +1,30 @@
 -- What keeps a state of the machine one that state bytes spell, while no more steps are done than they count.
-use Rattle.std.specs.Prelude.{ℕ, ◌<◌, ◌≤◌, All, List}
+use Rattle.std.specs.Prelude.{◌≡◌, ℕ, ◌<◌, ◌≤◌, All, List}
 use Rattle.xk_base.specs.declared.events.Event.{Event}
 use Rattle.machine_model.specs.Runs.Matched.{Matched}
 use Rattle.machine_model.specs.Runs.Moments.{Cause, caused, state_at}
 use Rattle.machine_model.specs.State.Machine.{Machine}
 use Rattle.machine_history.specs.History.{history}
 use Rattle.machine_history.specs.HistoryMoments.{moments_of}
+use Rattle.machine_history.specs.Reserved.{IsReservedByThread}
 use Rattle.state_rows.specs.declared.state.State.{State}
 use Rattle.state_rows.specs.Machines.{machine_of}
 use Rattle.suspend_image.specs.Forms.{Spells}
 use Rattle.suspend_image.specs.Saveable.{IsSpellable}
 
--- whatever leads from such a state to the next
+-- there are as many processes, and there is as much room for pages
+abbrev pub IsSameSize : Machine → Machine → Type 0
+IsSameSize before after = (after.capacity ≡ before.capacity) × (after.processes ≡ before.processes)
+
+-- .. whatever leads to the next state
+abbrev pub AllKeepSize : Type 0
+AllKeepSize = (cause : Cause) (m : Machine) → IsSameSize m (caused cause m)
+
+-- the reservation stays that of an id that a thread can have
+abbrev pub AllKeepReserved : Type 0
+AllKeepReserved = (cause : Cause) (m : Machine) → Matched m → IsReservedByThread m → IsReservedByThread (caused cause m)
+
+-- whatever leads from a state that state bytes spell to the next leads to such a state
 abbrev pub AllKeepSpellable : Type 0
 AllKeepSpellable =
     (cause : Cause) (m : Machine) → IsSpellable m → (caused cause m).steps ≤ 4000000000 → IsSpellable (caused cause m)

@@ -1,3 +1,2 @@
 pub mod EndWordLemmas
-pub mod SizeWordLemmas
 pub mod StepWordLemmas

@@ -1,7 +1,6 @@
 -- The machine has as many processes and as much room for pages at any time, and its reservation is a thread's.
-use Rattle.std.proofs.Common.{◌≡◌, ℕ, Bool, true, false, List, Option, Some, None, refl, sym, ap, subst, ◌∙◌}
-use Rattle.std.specs.Prelude.{IsTrue, if◌then◌else◌}
-use Rattle.std.proofs.lemmas.Option.{same_Some}
+use Rattle.std.proofs.Common.{◌≡◌, ℕ, Bool, true, false, Option, Some, None, refl, sym, ap, subst, ◌∙◌}
+use Rattle.std.specs.Prelude.{if◌then◌else◌}
 use Rattle.xk_base.specs.declared.ids.Pid.{Pid}
 use Rattle.xk_base.specs.declared.ids.ThreadId.{ThreadId}
 use Rattle.xk_base.specs.declared.records.What.TheVariants.{End}
@@ -9,14 +8,14 @@ use Rattle.xk_base.specs.Calls.Registers.{arguments_of, reg_at}
 use Rattle.xk_base.specs.Tables.Circle.{is_thread_id}
 use Rattle.machine_model.specs.Calling.Calls.{call}
 use Rattle.machine_model.specs.Ending.Closing.{closed, servers_closed, senders_held_gone, senders_queued_gone}
-use Rattle.machine_model.specs.Ending.Ends.{death, end_with_last_thread, forgotten, handler_ended, has_threads, joiners_answered, thread_ended}
+use Rattle.machine_model.specs.Ending.Ends.{death, end_with_last_thread, forgotten, handler_ended, has_threads, thread_ended}
 use Rattle.machine_model.specs.Hart.Instructions.{Executed, Next, Stores, StoresToConsole, StoresToTimer, CallsKernel, Traps}
 use Rattle.machine_model.specs.Runs.Matched.{Matched}
 use Rattle.machine_model.specs.Runs.Moments.{Cause, ByStep, ByPick, ByIrq, ByKill, ByTurn, caused}
 use Rattle.machine_model.specs.State.Changes.{Outcome, Refused, Retried, Served, call_settled, settled}
 use Rattle.machine_model.specs.State.Machine.{Claim, Idle, Machine, Reservation, Thread}
 use Rattle.machine_model.specs.State.Order.{actor, turn}
-use Rattle.machine_model.specs.State.Threads.{both_answers, change_thread, put_thread, thread_id, with_state}
+use Rattle.machine_model.specs.State.Threads.{change_thread, put_thread, thread_id, with_state}
 use Rattle.machine_model.specs.State.Views.{stored, timer_set}
 use Rattle.machine_model.specs.Stepping.Events.{killed, killed_if, picked, raised, raised_if}
 use Rattle.machine_model.specs.Stepping.Interrupts.{delivered, delivered_lowest, handler_started, is_free_for_interrupt, lowest_pending}
@@ -29,7 +28,7 @@ use Rattle.machine_laws.proofs.Threading.ThreadStepLemmas.{actor_ready, step_of_
 use Rattle.machine_history.specs.Reserved.{IsReservedByThread}
 use Rattle.call_effects.specs.Effects.{Effect, Pages, HasHeap, Starts, Waits, Awaits, EndsTurn, Founds, Connects, TakesNumber, Serves, ClosesServers, Unqueues, Orphans, Forgets, Claims, Frees, apply}
 use Rattle.call_effects.proofs.LeadingLemmas.{Leads, call_leads}
-use Rattle.word_laws.specs.Keeping.{IsSameSize}
+use Rattle.saveable_laws.specs.Keeping.{IsSameSize}
 use Rattle.word_laws.proofs.Changing.HoldingLemmas.{Holds, if_holds, map_holds, none_holds}
 
 same : (m : Machine) → IsSameSize m m
@@ -128,13 +127,12 @@ module _ (m : Machine) (t : Thread) where
 
 -- the step of a thread, before the timer
 module _ (m : Machine) (who : ThreadId) (t : Thread) (e : actor m ≡ Some who) (there : m.threads who ≡ Some t) where
-  left : Machine
+  abbrev left : Machine
   left = (counted (turned_to who m) (Some t) (acted (turned_to who m) t)).machine
 
   stepped_size : IsSameSize left (step m).machine
   stepped_size =
-      let raised = (timed_raised (counted (turned_to who m) (Some t) (acted (turned_to who m) t))).is in
-      (
+      let raised = (timed_raised (counted (turned_to who m) (Some t) (acted (turned_to who m) t))).is in (
         ap (λ (x : Machine). x.capacity) (step_of_thread m who t e there ∙ raised),
         ap (λ (x : Machine). x.processes) (step_of_thread m who t e there ∙ raised),
       )
