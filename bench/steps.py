@@ -4,7 +4,8 @@
 Makes an image and an event file for each row, runs `trace` on them, and prints a table. The loops
 make no system call and run up to the step limit of ten million, in an image of one process and in
 one of 32, the most of an image of version 1, whose other processes have the same code. Each time is
-that of the whole program, the best of five runs.
+that of the whole program, the best of five runs. Where the environment has BESIDE=PROGRAM, the times of that program stand
+in one more column.
 """
 
 import pathlib
@@ -12,6 +13,8 @@ import struct
 import subprocess
 import tempfile
 import time
+
+import measure
 
 TOP = pathlib.Path(__file__).resolve().parent.parent
 LAUNCHER = TOP / "xousim"
@@ -109,7 +112,7 @@ def image(code, processes=1, zero_pages=0, ram_bytes=RAM_BYTES):
     return row + struct.pack(f"<{len(code)}I", *code)
 
 
-def seconds(image_bytes, events, last_line):
+def seconds(program, image_bytes, events, last_line):
     """The best time of a run that ends with this line."""
     best = None
     with tempfile.TemporaryDirectory() as folder:
@@ -120,7 +123,7 @@ def seconds(image_bytes, events, last_line):
         for _ in range(RUNS):
             start = time.perf_counter()
             run = subprocess.run(
-                [LAUNCHER, "trace", image_path, events_path], capture_output=True, check=False
+                [program, "trace", image_path, events_path], capture_output=True, check=False
             )
             took = time.perf_counter() - start
             if run.stdout != last_line.encode() + b"\n":
@@ -137,26 +140,33 @@ def processor():
 
 
 def main():
-    # The launcher builds the program where it is out of date; with no words it does nothing else.
-    subprocess.run([LAUNCHER], stderr=subprocess.DEVNULL, check=False)
+    programs = measure.programs()
     print(f"One core of {processor()}:")
     print()
-    print("| Run | Seconds | Million a second |")
-    print("|---|---|---|")
+    print(f"| Run | Seconds | Million a second |{measure.more_columns(programs)}")
+    print("|---|---|---|" + "---|" * (len(programs) - 1))
+
+    def row(text, image_bytes, events, last_line, count=None, digits=0):
+        took, *others = [seconds(program, image_bytes, events, last_line) for program in programs]
+        speed = f"{count / took / 1e6:.{digits}f}" if count else ""
+        beside = "".join(f" {other:.3f} |" for other in others)
+        print(f"| {text} | {took:.3f} | {speed} |{beside}", flush=True)
+
     for name, code in LOOPS:
         for processes in (1, 32):
-            took = seconds(image(code, processes), b"tick 4294967295\n", f"end {STEPS} limit")
-            text = f"{STEPS:,} steps: {name}, {processes} process{'es' * (processes > 1)}"
-            print(f"| {text} | {took:.2f} | {STEPS / took / 1e6:.0f} |")
+            text = f"{STEPS:,} steps: {name}, {counted(processes)}"
+            row(text, image(code, processes), b"tick 4294967295\n", f"end {STEPS} limit", STEPS)
     loop = LOOPS[0][1]
     for processes, zero_pages in ((1, 0), (32, 391)):
         pages = processes * (1 + 9 + zero_pages)
-        took = seconds(image(loop, processes, zero_pages), b"", "end 0 done")
-        print(f"| boot of {processes} process{'es' * (processes > 1)} with {pages:,} pages | {took:.3f} | |")
+        row(f"boot of {counted(processes)} with {pages:,} pages", image(loop, processes, zero_pages), b"", "end 0 done")
     for processes in (1, 32):
-        took = seconds(image(loop, processes), b"tick 1\n" * EVENTS, f"end {EVENTS} done")
-        text = f"{EVENTS:,} events `tick 1`, {processes} process{'es' * (processes > 1)}"
-        print(f"| {text} | {took:.2f} | {EVENTS / took / 1e6:.1f} |")
+        text = f"{EVENTS:,} events `tick 1`, {counted(processes)}"
+        row(text, image(loop, processes), b"tick 1\n" * EVENTS, f"end {EVENTS} done", EVENTS, 1)
+
+
+def counted(processes):
+    return f"{processes} process{'es' * (processes > 1)}"
 
 
 if __name__ == "__main__":

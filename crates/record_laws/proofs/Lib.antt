@@ -1,3 +1,4 @@
+pub mod Answering
 pub mod Ordering
 pub mod StuckLemmas
 pub mod Turning

@@ -1,4 +1,5 @@
 pub mod FairLemmas
+pub mod FootprintLemmas
 pub mod GoingLemmas
 pub mod NearingLemmas
 pub mod RoundLemmas

@@ -1,3 +1,4 @@
+pub mod Answering
 pub mod RecordOrder
 pub mod Stuck
 pub mod Turns

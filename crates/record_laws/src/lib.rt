@@ -3,9 +3,11 @@
 #![tactic(auto)]
 
 mod record_order;
+mod replies;
 mod stuck;
 mod turns;
 
 pub use record_order::records_stand_in_order;
+pub use replies::{calls_answer_who_waits, replies_are_due};
 pub use stuck::stuck_is_exactly_that;
 pub use turns::turns_are_fair;

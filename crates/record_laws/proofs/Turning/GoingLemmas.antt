@@ -18,7 +18,8 @@ use Rattle.xk_base.specs.Calls.CallWords.{call_number}
 use Rattle.xk_base.specs.Calls.Registers.{arguments_of, reg_at}
 use Rattle.xk_base.specs.Tables.Counting.{put_at}
 use Rattle.call_effects.specs.Footprints.{CursorPart}
-use Rattle.call_effects.proofs.FootprintLemmas.{calls_leave_the_rest, unnamed_by}
+use Rattle.call_effects.proofs.FootprintLemmas.{calls_leave_the_rest}
+use Rattle.record_laws.proofs.Turning.FootprintLemmas.{unnamed_by}
 use Rattle.machine_model.specs.Calling.Calls.{any_refusals, call, call_at, call_table}
 use Rattle.machine_model.specs.Calling.ThreadCalls.{yield_call}
 use Rattle.machine_model.specs.Ending.Closing.{closed, senders_held_gone, senders_queued_gone, servers_closed}

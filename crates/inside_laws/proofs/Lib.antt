@@ -1,0 +1,4 @@
+pub mod Running
+pub mod Seeing
+pub mod Stepping
+pub mod Veiling

@@ -1,0 +1,9 @@
+pub mod DeathLemmas
+pub mod HeldLemmas
+pub mod InsideLemmas
+pub mod LedgerStepLemmas
+pub mod PairLemmas
+pub mod RowLemmas
+pub mod SeenLemmas
+pub mod ShownLemmas
+pub mod UnseenLemmas

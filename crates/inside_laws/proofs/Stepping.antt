@@ -1,0 +1,4 @@
+pub mod ActLemmas
+pub mod CauseLemmas
+pub mod ShadeLemmas
+pub mod StepLemmas

@@ -1,0 +1,4 @@
+pub mod EffectLemmas
+pub mod EndLemmas
+pub mod VeilLemmas
+pub mod VerdictLemmas

@@ -1,0 +1,4 @@
+pub mod Acting
+pub mod Handing
+pub mod Inside
+pub mod TwoInsides

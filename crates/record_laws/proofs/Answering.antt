@@ -1,0 +1,4 @@
+pub mod CallFitLemmas
+pub mod CallTableLemmas
+pub mod DueLemmas
+pub mod FitLemmas

@@ -1,0 +1,3 @@
+#define OWN 'l'
+#define OTHERS 'r'
+#include "lender.h"

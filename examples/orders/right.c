@@ -1,0 +1,3 @@
+#define OWN 'r'
+#define OTHERS 'l'
+#include "lender.h"

@@ -1,0 +1,186 @@
+"""Every order of the threads of an image, searched breadth first over runs of the program. It is slow, and proves nothing.
+
+A *slice* of a ready thread is `pick` of it and its steps up to the first that leaves a record, at most so many as the quantum. A
+*node* is a state without its cursor and, as long as nobody has claimed the timer's interrupt, without its count of steps, with the
+console's bytes so far and the events that may still come. An *ending* is a node in which nobody is ready, or where steps count
+and are at their bound.
+
+A state comes by `suspend` from the image's start, and where a slice ends is read off `resume` from that state.
+"""
+
+import dataclasses
+import hashlib
+import itertools
+import os
+import subprocess
+from concurrent.futures import ThreadPoolExecutor
+from dataclasses import dataclass, field
+
+from xousview import decode
+
+from . import events, state
+
+TIMER_INTERRUPT = 20
+MOST_STEPS = state.MOST_STEPS
+WORKERS = 3
+
+
+@dataclass
+class Asked:
+    """What is searched: the quantum, the bound of steps where these count, how many nodes at most, events that may come once, and
+    the events that are played first."""
+
+    quantum: int = 1000
+    steps: int = 100_000
+    states: int = 100_000
+    once: tuple = ()
+    first: list = field(default_factory=list)
+
+
+@dataclass
+class Node:
+    path: list  # events from the image's start
+    slices: int
+    console: bytes
+    once: tuple
+    machine: state.State = None
+    file: str = ""  # of the machine's bytes, as long as the node isn't expanded
+
+
+def counts_steps(machine):
+    return any(claim.number == TIMER_INTERRUPT for claim in machine.claims)
+
+
+def key_of(node):
+    """What tells this node from others."""
+    machine = node.machine
+    kept = dataclasses.replace(machine, cursor=(2, 2), steps=machine.steps if counts_steps(machine) else 0)
+    digest = hashlib.sha256(kept.to_bytes())
+    return digest.digest(), node.console, tuple(event.text() for event in node.once)
+
+
+class Search:
+    def __init__(self, program, image, asked, folder):
+        self.program, self.image, self.asked, self.folder = program, image, asked, folder
+        self.files, self.slices = itertools.count(), 0
+        self.nodes, self.endings = {}, []
+        self.whole = True
+
+    # Runs.
+
+    def run(self, command, subject, played, limit, may_be_empty=False):
+        path = os.path.join(self.folder, f"{next(self.files)}.events")
+        with open(path, "wb") as file:
+            file.write(events.spelled(played))
+        words = [self.program, command, subject, path, str(limit)]
+        ran = subprocess.run(words, stdout=subprocess.PIPE, stderr=subprocess.PIPE, check=False)
+        os.unlink(path)
+        if ran.returncode not in (0, 7) or not (ran.stdout or may_be_empty):
+            raise RuntimeError(f"xousim {command}: {ran.stderr.decode().strip()}")
+        return ran.stdout
+
+    def visited(self, node):
+        """The node with its state, which stands in a file, too."""
+        data = self.run("suspend", self.image, node.path, MOST_STEPS)
+        node.machine = state.read(data)
+        node.file = os.path.join(self.folder, f"{hashlib.sha256(data + node.console).hexdigest()}.state")
+        with open(node.file, "wb") as file:
+            file.write(data)
+        return node
+
+    def bound(self, machine):
+        return self.asked.steps if counts_steps(machine) else MOST_STEPS
+
+    def is_ending(self, node):
+        return not node.machine.ready() or node.machine.steps >= self.bound(node.machine)
+
+    def slice_of(self, node, who):
+        """The node behind a slice of this thread."""
+        machine = node.machine
+        most = min(self.asked.quantum, self.bound(machine) - machine.steps)
+        pick = events.Event(0, "pick", who)
+        told = self.run("resume", node.file, [pick, events.tick(most)], MOST_STEPS).decode().splitlines()
+        records = [decode.record_of(line) for line in told]
+        last = records[0].step if len(records) > 1 else min(records[-1].step, machine.steps + most)
+        written = bytes(record.words[0] for record in records if record.what == decode.BYTE and record.step == last)
+        path = [*node.path, pick, events.tick(last - machine.steps)]
+        return self.visited(Node(path, node.slices + 1, node.console + written, node.once))
+
+    def after_event(self, node, event):
+        rest = tuple(other for other in node.once if other is not event)
+        return self.visited(Node([*node.path, event], node.slices, node.console, rest))
+
+    # The search.
+
+    def meet(self, node):
+        """Whether this node is a new one."""
+        key = key_of(node)
+        if key in self.nodes or len(self.nodes) >= self.asked.states:
+            self.whole = self.whole and key in self.nodes
+            if os.path.exists(node.file) and key not in self.nodes:
+                os.unlink(node.file)
+            return False
+        self.nodes[key] = node
+        if self.is_ending(node):
+            self.endings.append(node)
+        return True
+
+    def successors(self, pool, node):
+        """The nodes behind each slice and each event, in order."""
+        ready = [] if self.is_ending(node) else node.machine.ready()
+        self.slices += len(ready)
+        jobs = [pool.submit(self.slice_of, node, who) for who in ready]
+        return jobs + [pool.submit(self.after_event, node, event) for event in node.once]
+
+    def search(self):
+        first = self.visited(Node(list(self.asked.first), 0, b"", self.asked.once))
+        with ThreadPoolExecutor(WORKERS) as pool:
+            level = [first] if self.meet(first) else []
+            while level:
+                jobs = [(node, self.successors(pool, node)) for node in level]
+                level = []
+                for node, coming in jobs:
+                    met = [job.result() for job in coming]
+                    level += [other for other in met if self.meet(other)]
+                    node.machine = None if node not in self.endings else node.machine
+        return self
+
+    # What is told.
+
+    def told(self):
+        """The lines of what was found: endings that look alike are one, with the shortest order."""
+        alike = {}
+        for node in self.endings:
+            alike.setdefault(seen(node), []).append(node)
+        how = "whole" if self.whole else "cut"
+        lines = [f"states {len(self.nodes)} slices {self.slices} {how}"]
+        for number, (text, nodes) in enumerate(alike.items(), 1):
+            lines.append(f"ending {number}: {text}; {counted(len(nodes), 'node')}; {counted(nodes[0].slices, 'slice')}")
+        return lines + [counted(len(alike), "ending")], [nodes[0] for nodes in alike.values()]
+
+
+def counted(count, word):
+    return f"{count} {word}{'s' * (count != 1)}"
+
+
+def seen(node):
+    """What is seen of an ending: the console, who lives, and for what each thread waits."""
+    machine = node.machine
+    parts = [f"console {node.console.hex() or 'empty'}"]
+    for place, process in enumerate(machine.processes):
+        pid = place + state.FIRST_PID
+        waits = [wait_of(machine, thread) for who, thread in sorted(machine.threads.items()) if who[0] == pid and who[1] > 1]
+        parts.append(f"{pid} waits: {', '.join(waits)}" if process.alive else f"{pid} gone")
+    return "; ".join(parts)
+
+
+def wait_of(machine, thread):
+    name = f"{thread.pid}.{thread.tid}"
+    if thread.state == state.RECEIVING:
+        return f"{name} receives at {machine.server(thread.waits_for).name}"
+    if thread.state == state.WAITING:
+        server, message, held = machine.find_message(thread.waits_for)
+        return f"{name} waits for message {message.number} {'held' if held else 'queued'} at {server.name}"
+    if thread.state == state.JOINING:
+        return f"{name} joins {thread.pid}.{thread.waits_for}"
+    return f"{name} ready"
