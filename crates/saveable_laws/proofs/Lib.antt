@@ -1,0 +1,4 @@
+pub mod FileLemmas
+pub mod SaveableLemmas
+pub mod SizeLemmas
+pub mod SpellableLemmas
