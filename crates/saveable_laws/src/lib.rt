@@ -1,7 +1,8 @@
 //! Each state that a run comes to can be written as state bytes. The functions have no code; their contracts are the laws.
 #![tactic(auto)]
 
-ghost use Rattle.saveable_laws.specs.Keeping.{AllKeepReserved, AllKeepSize, AllKeepSpellable, FilesSpellable, LastSpellable, MomentsSpellable};
+ghost use Rattle.saveable_laws.specs.Keeping.{AllKeepReserved, AllKeepSize, AllKeepSpellable, FilesSpellable};
+ghost use Rattle.saveable_laws.specs.Keeping.{LastSpellable, MomentsSpellable};
 
 /// Whatever leads from a state to the next, a step, a pick, an interrupt, a kill or the end of a turn, there are as many processes as
 /// before, and as much room for pages.
