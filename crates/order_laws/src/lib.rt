@@ -10,8 +10,8 @@ ghost use Rattle.machine_history.specs.History.{history, reached};
 ghost use Rattle.order_laws.specs.Slices.{slice, slice_events, turned};
 ghost use Rattle.order_laws.specs.Orders.{AreReadyInSlices, order_events, slices_in_turn, steps_of_order};
 
-/// **A slice is played.** For a thread that is Ready, `pick` and a `tick` of as many steps as its slice has do exactly its slice and end the
-/// turn, where the limit allows these steps.
+/// **A slice is played.** For a thread that is Ready, `pick` and a `tick` of as many steps as its slice has do exactly its slice and end
+/// the turn, where the limit allows these steps.
 #[tactic(auto, using(crate::proofs::SliceLemmas::slice_plays))]
 pub fn slice_is_played()
     ensures { (quantum limit : ℕ) (who : ThreadId) (m : Machine) → ready_at m who ≡ true
