@@ -1,45 +1,35 @@
 -- Whom a served call answers, and what it leaves of the threads: the caller is answered or waits, each other thread that is answered
 -- waited, and no other thread begins or ceases to wait.
-use Rattle.std.proofs.Common.{◌≡◌, ℕ, ◌+◌, ◌<◌, ◌⊎◌, inl, inr, Bool, true, false, List, [], ◌∷◌, ◌++◌, find, length, get_or, Option, Some, None, refl, sym, ap, ◌∙◌, subst, arith}
-use Rattle.std.specs.Prelude.{◌==◌, ◌&&◌, is_none, is_some, nat_eq, nat_le, unwrap_or, if◌then◌else◌}
-use Rattle.std.specs.Bool.{⊤}
-use Rattle.std.specs.List.{All}
+use Rattle.std.proofs.Common.{◌≡◌, ℕ, ◌+◌, ◌⊎◌, inl, inr, Bool, true, false, List, find, Option, Some, None, refl, sym, ap, ◌∙◌}
+use Rattle.std.specs.Prelude.{◌&&◌, is_none, is_some, nat_eq, nat_le, unwrap_or, if◌then◌else◌}
 use Rattle.std.specs.Option.{option_and_then, option_map, option_map_or, option_or}
 use Rattle.std.proofs.lemmas.Bool.{and_parts, eqb-true, false≢true}
-use Rattle.std.proofs.lemmas.Option.{none-some, same_Some}
+use Rattle.std.proofs.lemmas.Option.{none-some}
 use Rattle.xk_base.proofs.CountingLemmas.{least_below-passes}
-use Rattle.xk_base.specs.declared.errors.XousError.{XousError}
 use Rattle.xk_base.specs.declared.ids.Number.{Number}
 use Rattle.xk_base.specs.declared.ids.Serial.{Serial}
 use Rattle.xk_base.specs.declared.ids.ThreadId.{ThreadId}
-use Rattle.xk_base.specs.declared.ids.Vpn.{Vpn}
 use Rattle.xk_base.specs.declared.limits.TheConstants.{TID_LIMIT}
 use Rattle.xk_base.specs.declared.messages.Message.{Message}
-use Rattle.xk_base.specs.declared.messages.MsgKind.{MsgKind}
-use Rattle.xk_base.specs.Calls.Kinds.{is_answered}
 use Rattle.xk_base.specs.Calls.Replies.{message_words, plain_words, thread_words}
 use Rattle.xk_base.specs.Tables.Circle.{same_thread}
 use Rattle.xk_base.specs.Tables.Counting.{put_at}
-use Rattle.machine_model.specs.Calling.MemoryCalls.{caller_place}
 use Rattle.machine_model.specs.Calling.ThreadCalls.{create_served, free_tid}
-use Rattle.machine_model.specs.Ending.Closing.{closed, destroyed, is_sender_at, refused_server}
-use Rattle.machine_model.specs.Messaging.ForwardCalls.{forward_served_if, passed_message}
-use Rattle.machine_model.specs.Messaging.Messages.{is_sent_by, new_message, new_number}
-use Rattle.machine_model.specs.Messaging.ReceiveCalls.{received, waits_at}
-use Rattle.machine_model.specs.Messaging.Receivers.{receiver, receiving_at}
-use Rattle.machine_model.specs.Messaging.ReturnCalls.{given_back, held_at, held_by_caller, holder_of, sender_gets, sender_of_message}
-use Rattle.machine_model.specs.Messaging.SendCalls.{arrived, send_served, sender_answered, sender_left, sent, sent_pages, sent_place, sent_serial, with_sent}
+use Rattle.machine_model.specs.Ending.Closing.{refused_server}
+use Rattle.machine_model.specs.Messaging.Messages.{is_sent_by}
+use Rattle.machine_model.specs.Messaging.ReceiveCalls.{received}
+use Rattle.machine_model.specs.Messaging.ReturnCalls.{held_at, held_by_caller, holder_of, sender_gets, sender_of_message}
+use Rattle.machine_model.specs.Messaging.SendCalls.{arrived, sender_answered, sender_left}
 use Rattle.machine_model.specs.Runs.Matched.{Matched}
-use Rattle.machine_model.specs.State.Changes.{Change, Outcome, Refused, Retried, Served, answering, only}
+use Rattle.machine_model.specs.State.Changes.{Change, answering, only}
 use Rattle.machine_model.specs.State.Machine.{Machine, Process, Server, Thread, ThreadState, Waiting}
-use Rattle.machine_model.specs.State.Servers.{messages_of}
-use Rattle.machine_model.specs.State.Threads.{Answers, answer_to, both_answers, change_thread, new_thread, no_answers, put_thread, thread_id, with_state}
+use Rattle.machine_model.specs.State.Threads.{Answers, answer_to, both_answers, change_thread, new_thread, put_thread, thread_id, with_state}
 use Rattle.machine_model.proofs.Matching.CountLemmas.{all_right}
 use Rattle.machine_laws.proofs.Returning.GivenBackLemmas.{found_at}
 use Rattle.machine_laws.proofs.Threading.ThreadAnswerLemmas.{same_thread-self}
 use Rattle.machine_laws.proofs.Threading.ThreadPutLemmas.{alike}
 use Rattle.record_laws.specs.Answering.{AnswersWhoWaits, awaits_reply, is_waiting}
-use Rattle.record_laws.proofs.Answering.FitLemmas.{no_sender, receiver_waits, receiving_at_waits, same_waits, sender_at_waits, waits_unless}
+use Rattle.record_laws.proofs.Answering.FitLemmas.{no_sender, same_waits, waits_unless}
 
 -- the processes are as alive
 abbrev pub AreAsAlive : Machine → Machine → Type 0

@@ -1,12 +1,10 @@
 -- What a system call tells of each thread: its caller is answered or waits, and it answers threads that wait.
-use Rattle.std.proofs.Common.{◌≡◌, ◌≢◌, ℕ, ◌⊎◌, inl, inr, Bool, true, false, List, [], ◌∷◌, Option, Some, None, refl, sym, ap, ◌∙◌, subst}
+use Rattle.std.proofs.Common.{◌≡◌, ℕ, ◌⊎◌, inl, inr, Bool, true, false, List, [], Option, None, refl, sym, ap, ◌∙◌, subst}
 use Rattle.std.specs.Prelude.{◌==◌, is_some}
 use Rattle.std.specs.Bool.{⊤}
 use Rattle.std.proofs.lemmas.Bool.{eq-eqb, false≢true}
-use Rattle.xk_base.specs.declared.errors.XousError.{XousError}
 use Rattle.xk_base.specs.declared.ids.Pid.{Pid}
 use Rattle.xk_base.specs.declared.ids.ThreadId.{ThreadId}
-use Rattle.xk_base.specs.declared.records.What.{What}
 use Rattle.xk_base.specs.declared.records.What.TheVariants.{Call, Reply, Retry}
 use Rattle.xk_base.specs.Calls.Replies.{refused_words}
 use Rattle.xk_base.specs.Tables.Circle.{is_thread_id, same_thread}
@@ -14,22 +12,20 @@ use Rattle.call_effects.proofs.FootprintLemmas.{calls_leave_the_rest}
 use Rattle.call_effects.proofs.LeadingLemmas.{call_leads}
 use Rattle.call_effects.proofs.ServedLemmas.{OfServed}
 use Rattle.machine_model.specs.Calling.Calls.{call}
-use Rattle.machine_model.specs.Ending.Closing.{closed, servers_closed}
 use Rattle.machine_model.specs.Ending.Ends.{death}
 use Rattle.machine_model.specs.Runs.Matched.{Matched}
-use Rattle.machine_model.specs.State.Changes.{Change, Outcome, Refused, Retried, Served, Told, call_settled, settled, with_refusal}
-use Rattle.machine_model.specs.State.Machine.{Machine, Thread}
+use Rattle.machine_model.specs.State.Changes.{Change, Outcome, Refused, Retried, Served, call_settled, with_refusal}
+use Rattle.machine_model.specs.State.Machine.{Machine}
 use Rattle.machine_model.specs.State.Order.{ready_at, turn}
 use Rattle.machine_model.specs.State.Threads.{change_thread, passed}
 use Rattle.machine_model.specs.Stepping.Step.{after}
-use Rattle.machine_laws.proofs.Threading.ThreadAnswerLemmas.{IsReadyThread, ready_lives, ready_thread, same_thread-self}
+use Rattle.machine_laws.proofs.Threading.ThreadAnswerLemmas.{IsReadyThread, ready_lives, ready_thread}
 use Rattle.machine_laws.proofs.Threading.ThreadPutLemmas.{alike}
-use Rattle.record_laws.specs.AnsweredOnce.{Dead, Free, LeadsIf, Says, SayInTurn, Standing, Waits, standing, standing_by}
+use Rattle.record_laws.specs.AnsweredOnce.{Free, LeadsIf, Says, Standing, Waits, standing, standing_by}
 use Rattle.record_laws.specs.Answering.{AnswersWhoWaits, is_waiting}
 use Rattle.record_laws.proofs.Answering.CallTableLemmas.{calls_answer_who_waits}
 use Rattle.record_laws.proofs.Answering.DeathFitLemmas.{StoodAs, death_itself_fits}
 use Rattle.record_laws.proofs.Answering.DeliverSayLemmas.{Tells}
-use Rattle.record_laws.proofs.Answering.DueLemmas.{death_waits}
 use Rattle.record_laws.proofs.Answering.SayLemmas.{ChangeFits, change_says, dies_by, say_first, say_none}
 use Rattle.record_laws.proofs.Answering.StandLemmas.{changed_stands, ready_stands, turned_apart, waiting_known, waiting_lives, waiting_stands}
 

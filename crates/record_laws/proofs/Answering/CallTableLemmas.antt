@@ -1,12 +1,11 @@
 -- Every served call fits, or is the death of the caller's process.
-use Rattle.std.proofs.Common.{◌≡◌, ℕ, ◌⊎◌, inl, inr, Bool, true, false, List, [], ◌∷◌, ◌++◌, Option, Some, None, refl, sym, ap, ◌∙◌, subst}
+use Rattle.std.proofs.Common.{◌≡◌, ℕ, ◌⊎◌, inl, inr, Bool, true, false, List, [], ◌∷◌, ◌++◌, Option, Some, None, refl, sym, subst}
 use Rattle.std.specs.Prelude.{◌==◌, is_none, is_some, unwrap_or, if◌then◌else◌}
 use Rattle.std.specs.Bool.{⊤}
-use Rattle.std.proofs.lemmas.Bool.{eqb-true, false≢true}
+use Rattle.std.proofs.lemmas.Bool.{false≢true}
 use Rattle.std.proofs.lemmas.Option.{none-some}
 use Rattle.xk_base.specs.declared.errors.XousError.{XousError}
 use Rattle.xk_base.specs.declared.errors.XousError.TheVariants.{BadAlignment, DoubleFree, InvalidSyscall, ServerNotFound, ServerQueueFull, ThreadNotAvailable}
-use Rattle.xk_base.specs.declared.ids.Number.{Number}
 use Rattle.xk_base.specs.declared.ids.Serial.{Serial}
 use Rattle.xk_base.specs.declared.ids.ThreadId.{ThreadId}
 use Rattle.xk_base.specs.declared.ids.Vpn.{Vpn}
@@ -15,10 +14,10 @@ use Rattle.xk_base.specs.declared.messages.MsgKind.{MsgKind}
 use Rattle.xk_base.specs.declared.messages.MsgKind.TheVariants.{Scalar}
 use Rattle.xk_base.specs.Calls.CallWords.{call_number, forward_cid, heap_bytes, interrupt_argument, interrupt_handler, interrupt_number, join_tid, map_flags, map_phys, map_size, map_virt, range_address, range_flags, range_size, return_address, return_offset, return_size, return_valid, return_value1, return_value2, send_address, thread_arguments, thread_entry, thread_sp}
 use Rattle.xk_base.specs.Calls.Kinds.{is_answered}
-use Rattle.xk_base.specs.Calls.Replies.{connection_words, plain_words, range_words, returned_words, scalar1_words, scalar2_words, thread_words}
+use Rattle.xk_base.specs.Calls.Replies.{plain_words, returned_words, scalar1_words, scalar2_words, thread_words}
 use Rattle.machine_model.specs.Calling.Calls.{any_refusals, call, call_at, call_table}
 use Rattle.machine_model.specs.Calling.InterruptCalls.{claim_call, claim_refusals, claim_served, free_call, free_refusals, free_served}
-use Rattle.machine_model.specs.Calling.MemoryCalls.{caller_place, decrease_call, decrease_refusals, decrease_served, heap_of, increase_call, increase_refusals, increase_served, map_call, map_refusals, map_served, unmap_call, unmap_refusals, unmap_served, update_call, update_refusals, update_served}
+use Rattle.machine_model.specs.Calling.MemoryCalls.{caller_place, decrease_call, decrease_refusals, decrease_served, increase_call, increase_refusals, increase_served, map_call, map_refusals, map_served, unmap_call, unmap_refusals, unmap_served, update_call, update_refusals, update_served}
 use Rattle.machine_model.specs.Calling.ServerCalls.{connect_call, connect_refusals, connect_served, create_server_call, create_server_refusals, create_server_served, destroy_call, destroy_served, is_missing, named_server, named_sid, own_server_refusals, try_connect_call}
 use Rattle.machine_model.specs.Calling.ThreadCalls.{create_call, create_refusals, create_served, free_tid, join_call, join_refusals, join_served, process_id_call, terminate_call, thread_id_call, yield_call}
 use Rattle.machine_model.specs.Ending.Closing.{closed, destroyed, is_sender_at}

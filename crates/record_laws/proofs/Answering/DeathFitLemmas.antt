@@ -1,6 +1,6 @@
 -- A death, and the end of a thread, fit: they answer threads that wait, and leave the others as they stand.
 use Rattle.std.proofs.Common.{◌≡◌, ◌≢◌, ℕ, ◌⊎◌, inl, inr, Bool, true, false, Option, Some, None, refl, sym, ap, ◌∙◌, subst}
-use Rattle.std.specs.Prelude.{◌==◌, is_some, nat_eq, if◌then◌else◌}
+use Rattle.std.specs.Prelude.{◌==◌, is_some, if◌then◌else◌}
 use Rattle.std.proofs.lemmas.Bool.{eqb-true, false≢true}
 use Rattle.xk_base.specs.declared.ids.Pid.{Pid}
 use Rattle.xk_base.specs.declared.ids.ThreadId.{ThreadId}
@@ -11,7 +11,7 @@ use Rattle.machine_model.specs.Runs.Matched.{Matched}
 use Rattle.machine_model.specs.State.Changes.{Change}
 use Rattle.machine_model.specs.State.Machine.{Machine, Process, Thread}
 use Rattle.machine_model.specs.State.Threads.{Answers, both_answers, put_thread}
-use Rattle.record_laws.specs.AnsweredOnce.{Dead, Free, Standing, Waits, standing, standing_by}
+use Rattle.record_laws.specs.AnsweredOnce.{Dead, Standing, Waits, standing, standing_by}
 use Rattle.record_laws.specs.Answering.{is_waiting}
 use Rattle.record_laws.proofs.Answering.DueLemmas.{death_waits, thread_end_waits}
 use Rattle.record_laws.proofs.Answering.SayLemmas.{ChangeFits}

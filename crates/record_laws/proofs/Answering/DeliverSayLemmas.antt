@@ -1,7 +1,7 @@
 -- What the delivery of an interrupt and the timer tell of a thread: a handler starts in a free one.
-use Rattle.std.proofs.Common.{◌≡◌, ◌≢◌, ℕ, zero, suc, ◌≤◌, ◌<◌, ◌⊎◌, inl, inr, Bool, true, false, List, [], ◌∷◌, ◌++◌, Option, Some, None, refl, sym, ap, ◌∙◌, subst, arith}
+use Rattle.std.proofs.Common.{◌≡◌, ℕ, zero, suc, ◌≤◌, inl, inr, Bool, true, false, List, [], ◌∷◌, ◌++◌, Option, Some, None, refl, sym, ap, ◌∙◌, subst, arith}
 use Rattle.std.specs.Prelude.{◌==◌, if◌then◌else◌, is_some, nat_eq, slice_index_or}
-use Rattle.std.specs.List.{All, AllPairs}
+use Rattle.std.specs.List.{All}
 use Rattle.std.specs.Option.{option_map, option_map_or}
 use Rattle.std.proofs.lemmas.Bool.{false≢true}
 use Rattle.std.proofs.lemmas.Option.{none-some, same_Some}
@@ -17,9 +17,8 @@ use Rattle.machine_model.specs.State.Machine.{Claim, Idle, Joining, Machine, Pro
 use Rattle.machine_model.specs.State.Threads.{handler_thread, put_thread, thread_id, with_answer}
 use Rattle.machine_model.specs.Stepping.Interrupts.{delivered, delivered_lowest, handler_started, is_free_for_interrupt, is_idle, lowest_pending, pended}
 use Rattle.machine_model.specs.Stepping.Timer.{is_due, raised_by_timer, stands_after_irq, timed, timed_if, timer_change, with_irq, with_irq_if}
-use Rattle.machine_laws.proofs.Threading.ThreadAnswerLemmas.{same_thread-self}
 use Rattle.machine_laws.proofs.Threading.ThreadPutLemmas.{alike}
-use Rattle.record_laws.specs.AnsweredOnce.{Dead, DiesIf, Free, LeadsIf, Says, SayInTurn, Standing, Waits, standing, standing_by}
+use Rattle.record_laws.specs.AnsweredOnce.{Dead, DiesIf, Free, LeadsIf, Says, SayInTurn, Standing, standing, standing_by}
 use Rattle.record_laws.specs.Answering.{awaits_reply, is_waiting}
 use Rattle.record_laws.specs.RecordOrder.{IsBefore, rank}
 use Rattle.record_laws.proofs.Answering.SayLemmas.{say_append, say_first, say_none, unanswered_say}

@@ -1,17 +1,13 @@
 -- Each reply is due: it is to a thread that waits, or to the caller.
-use Rattle.std.proofs.Common.{◌≡◌, ℕ, zero, suc, ◌+◌, ◌<◌, ◌⊎◌, inl, inr, Bool, true, false, List, [], ◌∷◌, ◌++◌, map, Option, Some, None, refl, sym, ap, ◌∙◌, subst, arith}
-use Rattle.std.specs.Prelude.{◌==◌, ◌&&◌, is_some, nat_eq, slice_index_or, unwrap_or, if◌then◌else◌}
-use Rattle.std.specs.Bool.{⊤}
+use Rattle.std.proofs.Common.{◌≡◌, ℕ, ◌+◌, ◌⊎◌, inl, inr, Bool, true, false, List, [], ◌∷◌, ◌++◌, map, Option, Some, None, refl, sym, ap, ◌∙◌, subst}
+use Rattle.std.specs.Prelude.{◌==◌, is_some, nat_eq, slice_index_or, unwrap_or, if◌then◌else◌}
 use Rattle.std.specs.List.{All}
-use Rattle.std.specs.Option.{option_map_or, option_or}
+use Rattle.std.specs.Option.{option_or}
 use Rattle.std.proofs.lemmas.Bool.{and_parts, false≢true}
 use Rattle.std.proofs.lemmas.List.Elements.{All-append, All-cons, All-map, All-nil}
-use Rattle.std.proofs.lemmas.Option.{none-some}
-use Rattle.xk_base.specs.declared.errors.XousError.{XousError}
 use Rattle.xk_base.specs.declared.ids.Pid.{Pid}
 use Rattle.xk_base.specs.declared.ids.ThreadId.{ThreadId}
 use Rattle.xk_base.specs.declared.ids.Tid.{Tid}
-use Rattle.xk_base.specs.declared.limits.TheConstants.{TIMER_INTERRUPT}
 use Rattle.xk_base.specs.declared.records.Rec.{Rec}
 use Rattle.xk_base.specs.declared.records.What.{What}
 use Rattle.xk_base.specs.declared.records.What.TheVariants.{Call, Reply, Retry, Byte, Fault, End, Irq, Gone}
@@ -20,7 +16,6 @@ use Rattle.xk_base.specs.Calls.Replies.{refused_words, scalar1_words}
 use Rattle.xk_base.specs.Tables.Circle.{listed_ids, same_thread}
 use Rattle.xk_base.specs.Tables.Counting.{put_at}
 use Rattle.xk_base.proofs.CircleLemmas.{listed_ids-passes}
-use Rattle.isolation_laws.specs.TwoRuns.{records_by}
 use Rattle.machine_model.specs.Calling.Calls.{call}
 use Rattle.machine_model.specs.Ending.Closing.{any_server, closed, is_sender_at, refused_server, servers_closed}
 use Rattle.machine_model.specs.Ending.Ends.{death, end_with_last_thread, handler_ended, has_threads, is_joining, joiners_answered, thread_ended, waits_for_end}
@@ -29,14 +24,14 @@ use Rattle.machine_model.specs.Runs.Matched.{Matched}
 use Rattle.machine_model.specs.Runs.Moments.{Cause, ByStep, ByPick, ByIrq, ByKill, ByTurn}
 use Rattle.machine_model.specs.State.Changes.{Change, Delivery, Outcome, Refused, Retried, Served, Told, call_settled, death_told, delivery_told, replies, settled}
 use Rattle.machine_model.specs.State.Machine.{Claim, Idle, Joining, Machine, Ready, Receiving, Thread, ThreadState, Waiting}
-use Rattle.machine_model.specs.State.Order.{actor, ready_at}
+use Rattle.machine_model.specs.State.Order.{actor}
 use Rattle.machine_model.specs.State.Servers.{is_server_of}
 use Rattle.machine_model.specs.State.Threads.{Answers, change_thread, passed, put_thread, thread_id, with_state}
 use Rattle.machine_model.specs.Stepping.Acts.{executes}
 use Rattle.machine_model.specs.Stepping.Events.{killed, killed_if, picked, raised, raised_if}
-use Rattle.machine_model.specs.Stepping.Interrupts.{delivered, delivered_lowest, handler_started, is_free_for_interrupt, lowest_pending, pended, with_handler_next}
+use Rattle.machine_model.specs.Stepping.Interrupts.{delivered, delivered_lowest, handler_started, is_free_for_interrupt, lowest_pending, pended}
 use Rattle.machine_model.specs.Stepping.Reservations.{unreserved}
-use Rattle.machine_model.specs.Stepping.Step.{Recorded, acted, acted_if_there, after, console_told, counted, ends_handler, ends_thread, executed, performed, record_of, step, step_by, step_by_if}
+use Rattle.machine_model.specs.Stepping.Step.{Recorded, acted, acted_if_there, after, console_told, counted, ends_handler, executed, performed, record_of, step, step_by, step_by_if}
 use Rattle.machine_model.specs.Stepping.Timer.{is_due, timed, timed_if, timer_change, with_irq_if}
 use Rattle.machine_model.proofs.Runs.KeptLemmas.{matched_at}
 use Rattle.machine_model.proofs.StepLemmas.{no_step}

@@ -1,32 +1,24 @@
 -- Whom a served call answers, and what it leaves of the threads.
-use Rattle.std.proofs.Common.{◌≡◌, ◌≢◌, ℕ, ◌+◌, ◌⊎◌, inl, inr, Bool, true, false, List, [], ◌∷◌, ◌++◌, Option, Some, None, refl, sym, ap, ◌∙◌, subst, arith}
-use Rattle.std.specs.Prelude.{◌==◌, ◌&&◌, is_none, is_some, nat_eq, not, slice_index_or, unwrap_or, if◌then◌else◌}
-use Rattle.std.specs.Bool.{⊤}
+use Rattle.std.proofs.Common.{◌≡◌, ℕ, Bool, true, false, Option, Some, None, refl, sym, ap, ◌∙◌, subst}
+use Rattle.std.specs.Prelude.{◌&&◌, slice_index_or}
 use Rattle.std.specs.List.{All, list_any}
-use Rattle.std.specs.Option.{option_and_then, option_map, option_map_or, option_or}
-use Rattle.std.proofs.lemmas.Bool.{and_from, and_parts, eq-eqb, eqb-true, false≢true}
-use Rattle.std.proofs.lemmas.List.Elements.{All-weaker}
+use Rattle.std.specs.Option.{option_map_or}
+use Rattle.std.proofs.lemmas.Bool.{and_from, eq-eqb, false≢true}
 use Rattle.std.proofs.lemmas.List.Folds.{list_any_none}
-use Rattle.std.proofs.lemmas.Option.{none-some, same_Some}
-use Rattle.xk_base.specs.declared.errors.XousError.{XousError}
 use Rattle.xk_base.specs.declared.ids.Number.{Number}
-use Rattle.xk_base.specs.declared.ids.Pid.{Pid}
 use Rattle.xk_base.specs.declared.ids.Serial.{Serial}
 use Rattle.xk_base.specs.declared.ids.ThreadId.{ThreadId}
 use Rattle.xk_base.specs.declared.messages.Message.{Message}
-use Rattle.xk_base.specs.Tables.Circle.{same_thread}
-use Rattle.machine_model.specs.Ending.Closing.{any_server, is_sender_at}
-use Rattle.machine_model.specs.Messaging.MessageCounts.{HasIf, HasNone, HasOne, count_at, count_in}
+use Rattle.machine_model.specs.Ending.Closing.{is_sender_at}
+use Rattle.machine_model.specs.Messaging.MessageCounts.{HasIf, count_at}
 use Rattle.machine_model.specs.Messaging.Messages.{is_of_number, is_sent_by}
 use Rattle.machine_model.specs.Messaging.Receivers.{is_receiving, receiver, receiving_at}
 use Rattle.machine_model.specs.Runs.Matched.{Matched, is_sent_as, is_waiting_for, waits_for}
-use Rattle.machine_model.specs.State.Changes.{Change}
 use Rattle.machine_model.specs.State.Machine.{Idle, Joining, Machine, Ready, Receiving, Server, Thread, ThreadState, Waiting}
 use Rattle.machine_model.specs.State.Servers.{messages_of}
 use Rattle.machine_model.proofs.Matching.CountLemmas.{none_pass}
 use Rattle.machine_laws.proofs.Messaging.AnyServerLemmas.{no_server}
 use Rattle.machine_laws.proofs.Sending.SentReceiverLemmas.{receiver_receives}
-use Rattle.machine_laws.proofs.Threading.ThreadAnswerLemmas.{same_thread-self}
 use Rattle.record_laws.specs.Answering.{awaits_reply, is_waiting}
 
 -- ---- who waits

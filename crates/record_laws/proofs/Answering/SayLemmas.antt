@@ -1,18 +1,17 @@
 -- What the records of a change say of a thread.
-use Rattle.std.proofs.Common.{◌≡◌, ◌≢◌, ℕ, zero, suc, ◌+◌, ◌<◌, ◌⊎◌, inl, inr, Bool, true, false, List, [], ◌∷◌, ◌++◌, length, get_or, map, Option, Some, None, refl, sym, ap, ◌∙◌, subst, arith}
-use Rattle.std.specs.Prelude.{◌==◌, is_some, slice_index_or, unwrap_or, if◌then◌else◌}
-use Rattle.std.specs.List.{All, AllPairs, Contains}
+use Rattle.std.proofs.Common.{◌≡◌, ◌≢◌, ℕ, zero, suc, ◌<◌, Bool, true, false, List, [], ◌∷◌, ◌++◌, length, get_or, map, Option, Some, None, refl, sym, ap, ◌∙◌, subst, arith}
+use Rattle.std.specs.Prelude.{◌==◌, is_some, slice_index_or, unwrap_or}
+use Rattle.std.specs.List.{All, AllPairs}
 use Rattle.std.specs.Option.{option_map}
 use Rattle.std.proofs.lemmas.Bool.{false≢true}
-use Rattle.std.proofs.lemmas.Option.{none-some}
 use Rattle.xk_base.specs.declared.ids.Pid.{Pid}
 use Rattle.xk_base.specs.declared.ids.ThreadId.{ThreadId}
 use Rattle.xk_base.specs.declared.records.What.{What}
 use Rattle.xk_base.specs.declared.records.What.TheVariants.{Reply, Gone}
 use Rattle.xk_base.specs.Tables.Circle.{is_thread_id, listed_ids, place_of, same_thread}
 use Rattle.xk_base.proofs.CircleLemmas.{listed_ids-contains, listed_ids-passes}
-use Rattle.machine_model.specs.State.Changes.{Change, Delivery, death_told, delivery_told, replies, settled}
-use Rattle.machine_model.specs.State.Machine.{Machine, Thread}
+use Rattle.machine_model.specs.State.Changes.{Change, death_told, delivery_told, replies, settled}
+use Rattle.machine_model.specs.State.Machine.{Thread}
 use Rattle.machine_model.specs.State.Threads.{Answers, with_answer}
 use Rattle.machine_laws.proofs.Threading.ThreadAnswerLemmas.{same_thread-self}
 use Rattle.machine_laws.proofs.Threading.ThreadPutLemmas.{alike}

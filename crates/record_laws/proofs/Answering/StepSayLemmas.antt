@@ -1,15 +1,14 @@
 -- What each step and event tells of each thread, and so each run: how it comes to stand as it does.
-use Rattle.std.proofs.Common.{◌≡◌, ℕ, zero, suc, ◌+◌, ◌⊎◌, inl, inr, Bool, true, false, List, [], ◌∷◌, ◌++◌, length, map, Option, Some, None, refl, sym, ap, ◌∙◌, subst}
+use Rattle.std.proofs.Common.{◌≡◌, ℕ, ◌+◌, ◌⊎◌, inl, inr, Bool, true, false, List, [], ◌∷◌, length, map, Option, Some, None, refl, sym, ap, ◌∙◌, subst}
 use Rattle.std.specs.Prelude.{◌==◌, if◌then◌else◌, is_some}
 use Rattle.std.specs.Option.{option_map}
 use Rattle.std.proofs.lemmas.Bool.{false≢true}
 use Rattle.std.proofs.lemmas.List.{map-append}
 use Rattle.xk_base.specs.declared.events.Event.{Event}
-use Rattle.xk_base.specs.declared.ids.Pid.{Pid}
 use Rattle.xk_base.specs.declared.ids.ThreadId.{ThreadId}
 use Rattle.xk_base.specs.declared.records.Rec.{Rec}
 use Rattle.xk_base.specs.declared.records.What.{What}
-use Rattle.xk_base.specs.declared.records.What.TheVariants.{Byte, Call, End, Fault}
+use Rattle.xk_base.specs.declared.records.What.TheVariants.{Byte, End, Fault}
 use Rattle.xk_base.specs.Calls.Registers.{arguments_of, reg_at}
 use Rattle.xk_base.specs.Tables.Circle.{same_thread}
 use Rattle.isolation_laws.specs.TwoRuns.{records_by, records_of}
@@ -19,12 +18,11 @@ use Rattle.machine_model.specs.Ending.Ends.{death, handler_ended, thread_ended}
 use Rattle.machine_model.specs.Hart.Instructions.{CallsKernel, Executed, Next, Stores, StoresToConsole, StoresToTimer, Traps}
 use Rattle.machine_model.specs.Runs.Matched.{Matched}
 use Rattle.machine_model.specs.Runs.Moments.{Cause, ByStep, ByPick, ByIrq, ByKill, ByTurn, IsRun, Moment, caused, state_at}
-use Rattle.machine_model.specs.State.Changes.{Change, Told, settled}
+use Rattle.machine_model.specs.State.Changes.{Told, settled}
 use Rattle.machine_model.specs.State.Machine.{Claim, Idle, Machine, Process, Ready, Thread, ThreadState}
 use Rattle.machine_model.specs.State.Order.{actor, ready_at, turn}
 use Rattle.machine_model.specs.State.Threads.{change_thread, thread_id, with_registers, with_state}
 use Rattle.machine_model.specs.State.Views.{stored, timer_set}
-use Rattle.machine_model.specs.Stepping.Acts.{executes}
 use Rattle.machine_model.specs.Stepping.Events.{killed, killed_if, picked, raised, raised_if}
 use Rattle.machine_model.specs.Stepping.Interrupts.{delivered, pended}
 use Rattle.machine_model.specs.Stepping.Reservations.{unreserved}
@@ -38,7 +36,7 @@ use Rattle.machine_laws.proofs.Threading.ThreadAnswerLemmas.{IsReadyThread, read
 use Rattle.machine_laws.proofs.Threading.ThreadMoveLemmas.{matched_reserved}
 use Rattle.machine_laws.proofs.Threading.ThreadPutLemmas.{alike}
 use Rattle.machine_laws.proofs.Threading.ThreadStepLemmas.{actor_ready, step_of_thread, then_acted, turned_to}
-use Rattle.record_laws.specs.AnsweredOnce.{AnsweredOnce, Free, LeadsIf, Says, SayInTurn, Standing, StandingsFollow, standing, standing_by}
+use Rattle.record_laws.specs.AnsweredOnce.{AnsweredOnce, Free, LeadsIf, Says, SayInTurn, StandingsFollow, standing, standing_by}
 use Rattle.record_laws.specs.Answering.{awaits_reply, is_waiting}
 use Rattle.record_laws.proofs.Answering.CallSayLemmas.{call_tells}
 use Rattle.record_laws.proofs.Answering.CountLemmas.{calls_answered}
