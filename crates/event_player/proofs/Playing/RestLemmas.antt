@@ -26,10 +26,12 @@ use Rattle.event_player.specs.History.{with_ending}
 use Rattle.event_player.specs.Rooms.{ComesFull, Room}
 use Rattle.event_player.specs.Playing.{Comes, Plays, PlaysOn, StaysNear}
 use Rattle.event_player.specs.Standing.{Stand, stand}
+use Rattle.event_player.proofs.Playing.GatheringLemmas.{silent_same}
 use Rattle.event_player.proofs.Playing.HistoryLemmas.{gathered_same, met_steps, part_same}
 use Rattle.event_player.proofs.Playing.QuietLemmas.{quiet_counts, quiet_full, quiet_tick}
 use Rattle.event_player.proofs.Playing.StandingLemmas.{near_knows, room_stays, trust_stays, trusted_knows}
 use Rattle.event_player.proofs.Playing.StepLimitLemmas.{play_grows}
+use Rattle.event_player.proofs.Playing.TickLemmas.{silence_later}
 
 -- ---- the rest of an event, of whose front nothing is told
 
@@ -73,6 +75,8 @@ plays_of_rest tells whole rest limit old mid new result stands plays = record {
   trusted = λ trusted.
       comes_of_rest tells whole rest limit old mid new result stands.text stands.within (stands.trusted trusted) (plays.trusted (stands.trust ∙ trusted));
   near = λ near. let both = stands.near near in go both.1 (plays.near both.0);
+  ends = plays.ends;
+  silent = silence_later tells old.text mid.text new.text result (silent_same tells old.text mid.text stands.text) plays.silent;
 }
   where
     go : IsRest whole rest old.machine mid.machine

@@ -1,5 +1,6 @@
 -- A tick, one step further: what comes of the rest comes of the whole.
-use Rattle.std.proofs.Common.{◌≡◌, ◌≢◌, ◌+◌, ◌-◌, ◌≤◌, ◌⊎◌, ◌∙◌, inl, inr, ℕ, true, false, Result, Ok, Err, is_some, refl, sym, ap, subst, arith}
+use Rattle.std.proofs.Common.{◌≡◌, ◌≢◌, ◌+◌, ◌-◌, ◌≤◌, ◌⊎◌, ◌∙◌, inl, inr, ℕ, Bool, true, false, Result, Ok, Err, is_some, refl, sym, ap, subst, arith}
+use Rattle.std.specs.Prelude.{if◌then◌else◌}
 use Rattle.xk_base.specs.declared.events.Event.TheVariants.{Tick}
 use Rattle.machine_model.specs.State.Machine.{Machine}
 use Rattle.machine_model.specs.State.Order.{actor, turn}
@@ -12,16 +13,17 @@ use Rattle.machine_history.proofs.Histories.HistoryLemmas.{tick_idle, tick_met, 
 use Rattle.machine_history.proofs.Histories.LimitLemmas.{step_steps}
 use Rattle.event_player.specs.declared.telling.Telling.{Telling}
 use Rattle.event_player.specs.declared.ending.Ending.{Ending}
-use Rattle.event_player.specs.declared.ending.Ending.TheVariants.{Played, LimitMet}
+use Rattle.event_player.specs.declared.ending.Ending.TheVariants.{BadLine, Played, LimitMet}
 use Rattle.event_player.specs.declared.events.PlayFault.{PlayFault}
 use Rattle.event_player.specs.declared.events.PlayFault.TheVariants.{Write, Swap}
-use Rattle.event_player.specs.Gathering.{Gathered, Gathers, GathersPart, Text}
+use Rattle.event_player.specs.Gathering.{Gathered, Gathers, GathersPart, StaysSilent, Text}
 use Rattle.event_player.specs.History.{with_ending}
 use Rattle.event_player.specs.Rooms.{ComesFull, IsFull, Room}
-use Rattle.event_player.specs.Playing.{Comes, Plays, StaysNear}
+use Rattle.event_player.specs.Playing.{Comes, EndsAtNoLine, KeepsSilence, Plays, StaysNear}
 use Rattle.event_player.specs.Standing.{Stand}
 use Rattle.event_player.specs.Telling.{told}
 use Rattle.event_player.proofs.Playing.FullLemmas.{full_start, step_full, tick_full}
+use Rattle.event_player.proofs.Playing.GatheringLemmas.{gathers_silent, silent_after, silent_same}
 use Rattle.event_player.proofs.Playing.HistoryLemmas.{gathered_behind, gathered_nothing, gathered_same, gathered_stopped, met_steps, part_behind, part_front, part_same}
 use Rattle.event_player.proofs.Playing.StepLimitLemmas.{play_grows}
 
@@ -40,6 +42,28 @@ pub record DoesOne (tells : Telling) (limit : ℕ) (old mid : Stand) : Type 0 wh
   pub room : mid.room ≡ old.room
   pub trusted : old.trusted ≡ true → StepsTo tells old mid
   pub near : old.near ≡ true → ((mid.near ≡ true) × StepsTo tells old mid) ⊎ IsFull old.room (step old.machine).machine
+  pub silent : StaysSilent tells old.text mid.text
+
+-- ---- how an event ends, and whether the sink is touched
+
+-- after a silent front
+pub silence_later : (tells : Telling) (before mid after : Text) (result : Result Ending PlayFault) → StaysSilent tells before mid → KeepsSilence tells mid after result
+    → KeepsSilence tells before after result
+silence_later tells before mid after (Ok ending) first second = silent_after tells before mid after first second
+silence_later tells before mid after (Err Swap) first second = silent_after tells before mid after first second
+silence_later tells before mid after (Err Write) first second = tt
+
+-- the limit or the end of its steps is where a history of an event ends
+pub ends_no_line : (h : kernel.History) (ending : Ending) → (with_ending Played h).ending ≡ ending → EndsAtNoLine (Ok ending)
+ends_no_line h ending is = go h.met ending is
+  where
+    go : (met : Bool) (ending : Ending) → (if met then LimitMet else Played) ≡ ending → EndsAtNoLine (Ok ending)
+    go met Played is = tt
+    go met LimitMet is = tt
+    go true (BadLine line) is = cc
+    go false (BadLine line) is = cc
+
+-- ---- the rest of a tick
 
 -- the tick is the step, and then the tick of one step fewer
 one_step : (n limit : ℕ) (old mid : Stand) → 1 ≤ n → is_some (actor old.machine) ≡ true → old.machine.steps ≢ limit → mid.machine ≡ (step old.machine).machine
@@ -81,6 +105,8 @@ plays_later tells n limit old mid new result some one plays = record {
   trusted = λ trusted.
       comes_later tells n limit old mid new result some one.actor one.more (one.trusted trusted) (plays.trusted (one.trust ∙ trusted));
   near = λ near. go (one.near near);
+  ends = plays.ends;
+  silent = silence_later tells old.text mid.text new.text result one.silent plays.silent;
 }
   where
     full : (m : Machine) → m ≡ (step old.machine).machine → ComesFull mid.room m (event_moments (Tick (n - 1)) limit m) → ComesFull old.room old.machine (event_moments (Tick n) limit old.machine)
@@ -109,6 +135,8 @@ pub plays_surely : (tells : Telling) (n limit : ℕ) (old new : Stand) (ending :
 plays_surely tells n limit old new ending stays comes = record {
   trusted = λ trusted. comes;
   near = λ near. inl (stays near, comes);
+  ends = ends_no_line (play (Tick n) limit old.machine) ending comes.0.0;
+  silent = gathers_silent tells old.text new.text (play (Tick n) limit old.machine).records comes.0.1;
 }
 
 -- at the limit
@@ -160,6 +188,8 @@ pub plays_unwritten : (tells : Telling) (n limit : ℕ) (old new : Stand) → 1 
 plays_unwritten tells n limit old new some one = record {
   trusted = λ trusted. comes_unwritten tells n limit old new some one.actor one.more (one.trusted trusted);
   near = λ near. go (one.near near);
+  ends = tt;
+  silent = tt;
 }
   where
     go : ((new.near ≡ true) × GathersPart old.text new.text (told tells (step old.machine).records)) ⊎ IsFull old.room (step old.machine).machine
@@ -178,4 +208,6 @@ plays_swap tells n limit old new some ready more within same crowd =
     record {
       trusted = λ trusted. record { done = done; within = within; met = wrote.0; gathered = wrote.1 };
       near = λ near. inr (step_full old.room n limit old.machine some ready more (crowd near));
+      ends = tt;
+      silent = silent_same tells old.text new.text same;
     }
