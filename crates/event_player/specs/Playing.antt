@@ -1,5 +1,5 @@
 -- Events are played while the bytes of their file come in.
-use Rattle.std.specs.Prelude.{◌≡◌, ◌⊎◌, ℕ, Bool, true, false, List, [], ◌++◌, Option, Some, None, Result, Ok, Err}
+use Rattle.std.specs.Prelude.{◌≡◌, ◌⊎◌, ◌+◌, ℕ, Bool, true, false, List, [], ◌++◌, Option, Some, None, Result, Ok, Err}
 use Rattle.event_text.specs.EventFile.{Input, input_of}
 use Rattle.event_text.specs.Held.{Reader}
 use Rattle.event_text.specs.Lines.{whole_lines}
@@ -29,6 +29,12 @@ use Rattle.event_player.specs.Writing.{Wrote, WroteSome}
 
 -- ---- an event
 
+-- The store failed in a step of the event: what is told of so many of its steps was put or is held; and where no page was out before the
+-- event, some state up to the step behind them has more pages than there are frames for.
+pub record StopsIn (tells : Telling) (event : Event) (limit : ℕ) (old new : Stand) : Type 0 where
+  pub some : GathersSome tells old.text new.text limit (λ done. with_ending why.Played (play event done old.machine))
+  pub soon : old.near ≡ true → ComesFull old.room old.machine (event_moments event (some.done + 1) old.machine)
+
 -- The event was played, and exactly what is told of its records was put or is held; or a part from the front of that, where a write
 -- failed; or what is told of so many of its steps, where the store failed in the next.
 abbrev pub Comes : Telling → Event → ℕ → Stand → Stand → Result Ending PlayFault → Type 0
@@ -36,8 +42,7 @@ Comes tells event limit old new (Ok ending) =
     Gathered tells old.text new.text (with_ending why.Played (play event limit old.machine)) ending
     × (new.machine ≡ (play event limit old.machine).machine)
 Comes tells event limit old new (Err Write) = GatheredPart tells old.text new.text (with_ending why.Played (play event limit old.machine))
-Comes tells event limit old new (Err Swap) =
-    GathersSome tells old.text new.text limit (λ done. with_ending why.Played (play event done old.machine))
+Comes tells event limit old new (Err Swap) = StopsIn tells event limit old new
 
 -- no page is out afterwards, and the store didn't fail
 abbrev pub StaysNear : Stand → Result Ending PlayFault → Type 0
@@ -126,11 +131,16 @@ pub record EndsSo (run : Run) (taken : List ℕ) (finished : Bool) (now : Stand)
       × (now.machine ≡ (history_of input run.limit run.start).machine))
   pub silent : StaysSilent run.tells run.begun now.text
 
--- The store failed, and some state has more pages than there are frames for. Where the kernel is trusted, what is told of so many steps was
--- put or is held.
+-- What is told of so many steps of a run over such a file was put or is held, and some state up to the step behind them has more pages than
+-- there are frames for.
+pub record GathersSoon (run : Run) (now : Stand) (input : Input) : Type 0 where
+  pub some : GathersSome run.tells run.begun now.text run.limit (λ done. history_of input done run.start)
+  pub soon : ComesFull now.room run.start (moments_of input.events (some.done + 1) run.start)
+
+-- The store failed, and some state has more pages than there are frames for. Where the kernel is trusted, that is no later than in the step
+-- behind those of which is told.
 pub record StopsSo (run : Run) (taken : List ℕ) (finished : Bool) (now : Stand) : Type 0 where
-  pub exact : ForEach taken finished (λ input. now.trusted ≡ true
-      → GathersSome run.tells run.begun now.text run.limit (λ done. history_of input done run.start))
+  pub exact : ForEach taken finished (λ input. now.trusted ≡ true → GathersSoon run now input)
   pub full : ForEach taken finished (λ input. ComesFull now.room run.start (moments_of input.events run.limit run.start))
   pub silent : StaysSilent run.tells run.begun now.text
 
@@ -179,13 +189,17 @@ pub record PlaysInPart (run : Run) (left : Option (List ℕ)) (now : Stand) : Ty
   pub exact : IsKnown run now (input_of bytes)
       → GrowsByPrefix run.begun.out now.text.out (told run.tells (history_of (input_of bytes) run.limit run.start).records)
 
--- The store failed: some state has more pages than there are frames for, and, where the kernel is trusted, exactly what is told of so many
--- steps was written.
+-- exactly what is told of so many steps was written, and some state up to the step behind them has more pages than there are frames for
+pub record WroteSoon (run : Run) (bytes : List ℕ) (now : Stand) : Type 0 where
+  pub some : WroteSome run.tells run.begun.out now.text.out run.limit (λ done. history_of (input_of bytes) done run.start)
+  pub soon : ComesFull now.room run.start (moments_of (input_of bytes).events (some.done + 1) run.start)
+
+-- The store failed: some state has more pages than there are frames for. Where the kernel is trusted, that is no later than in the step behind
+-- those of which exactly what is told was written.
 pub record PlaysSome (run : Run) (left : Option (List ℕ)) (now : Stand) : Type 0 where
   pub bytes : List ℕ
   pub file : IsTold left bytes
-  pub exact : now.trusted ≡ true
-      → WroteSome run.tells run.begun.out now.text.out run.limit (λ done. history_of (input_of bytes) done run.start)
+  pub exact : now.trusted ≡ true → WroteSoon run bytes now
   pub full : ComesFull now.room run.start (moments_of (input_of bytes).events run.limit run.start)
   pub silent : StaysSilent run.tells run.begun now.text
 

@@ -3,6 +3,7 @@ use Rattle.std.proofs.Common.{◌≡◌, ◌≢◌, ◌≤◌, ◌⊎◌, ◌+�
 use Rattle.std.proofs.lemmas.List.{take-append-drop}
 use Rattle.xk_ports.specs.Told.{GrowsByPrefix}
 use Rattle.event_player.specs.Telling.{told}
+use Rattle.machine_model.specs.Runs.Moments.{Moment}
 use Rattle.machine_model.specs.State.Machine.{Machine}
 use Rattle.machine_model.specs.Stepping.Events.{nothing}
 use Rattle.xk_base.specs.declared.events.Event.{Event}
@@ -23,17 +24,17 @@ use Rattle.machine_history.specs.History.{history, play}
 use Rattle.machine_history.specs.HistoryMoments.{event_moments, moments_of}
 use Rattle.event_player.specs.History.{History, MayEnd, with_ending, history_of, end_of}
 use Rattle.event_player.specs.Rooms.{ComesFull}
-use Rattle.event_player.specs.Playing.{Advances, Comes, EndsAtNoLine, EndsSo, FailsSo, Follows, ForEach, Goes, HasPlayed, IsKnown, Plays, Reaches, Run, StaysNear}
+use Rattle.event_player.specs.Playing.{Advances, Comes, EndsAtNoLine, EndsSo, FailsSo, Follows, ForEach, GathersSoon, Goes, HasPlayed, IsKnown, Plays, Reaches, Run, StaysNear}
 use Rattle.event_player.specs.Standing.{Stand}
-use Rattle.event_player.specs.Gathering.{Gathered, GatheredPart, Gathers, GathersPart, GathersSome, Puts, Text, put, text}
+use Rattle.event_player.specs.Gathering.{Gathered, GatheredPart, Gathers, GathersPart, Puts, Text, put, text}
 use Rattle.event_player.specs.Writing.{Wrote}
 use Rattle.machine_history.proofs.Histories.HistoryLemmas.{history_first, history_none}
-use Rattle.event_player.proofs.Playing.FullLemmas.{events_full_front}
+use Rattle.event_player.proofs.Playing.FullLemmas.{events_full_front, events_full_later, first_event_full}
 use Rattle.event_player.proofs.Playing.GatheringLemmas.{all_put, gathers_put, gathers_unput, part_longer, silent_after, silent_put}
 use Rattle.host_io.proofs.ToldLemmas.{front_longer}
 use Rattle.event_player.proofs.Playing.HistoryLemmas.{behind, gathered_behind, gathered_nothing, gathered_same, history_after, history_stops, met_ends, met_steps, other_met, part_behind, part_followed, part_same, unmet_ends}
 use Rattle.event_player.proofs.Playing.SomeStepsLemmas.{some_first}
-use Rattle.event_player.proofs.Playing.StepLimitLemmas.{history_same, play_grows}
+use Rattle.event_player.proofs.Playing.StepLimitLemmas.{history_same, moments_same, play_grows}
 use Rattle.event_player.proofs.Playing.PlayingLemmas.{event_full, events_one, same_room}
 
 -- ---- the rest
@@ -241,6 +242,29 @@ fails_unwritten run mid next taken r event found trust room plays p = λ more ma
     part_completes run mid next.text taken r more may p both.0 _ is
     (part_followed run.tells mid.text next.text (end_of rest.bad) (play event run.limit mid.machine) (history rest.events run.limit) both.1)
 
+-- A run that follows its events, up to a limit that they don't pass, comes full in them or in the next.
+soon_full : (run : Run) (mid : Stand) (answered : List Event) (event : Event) (events : List Event) (limit : ℕ) → Follows run answered mid → mid.machine.steps ≤ limit
+    → Reaches run answered mid → (mid.near ≡ true → ComesFull mid.room mid.machine (event_moments event limit mid.machine))
+    → ComesFull mid.room run.start (moments_of (answered ++ event ∷ events) limit run.start)
+soon_full run mid answered event events limit follows within reaches soon = go reaches.near
+  where
+    there : (history answered run.limit run.start).machine.steps ≡ mid.machine.steps
+    there = ap (λ (x : Machine). x.steps) follows.there
+
+    same : history answered limit run.start ≡ history answered run.limit run.start
+    same = history_same answered run.limit limit run.start follows.unmet (omega (arith, there, within))
+
+    go : ((mid.near ≡ true) × Follows run answered mid) ⊎ ComesFull mid.room run.start (moments_of answered run.limit run.start)
+        → ComesFull mid.room run.start (moments_of (answered ++ event ∷ events) limit run.start)
+    go (inl both) =
+        events_full_later mid.room limit run.start mid.machine answered (event ∷ events)
+        (ap (λ (h : kernel.History). h.met) same ∙ follows.unmet) (ap (λ (h : kernel.History). h.machine) same ∙ follows.there)
+        (first_event_full mid.room limit mid.machine event events (soon both.0))
+    go (inr full) =
+        let C : List Moment → Type 0 = λ moments. ComesFull mid.room run.start moments in
+        events_full_front mid.room limit run.start answered (event ∷ events)
+        (subst C (sym (moments_same answered run.limit limit run.start follows.unmet (omega (arith, there, within)))) full)
+
 -- an event in which the store failed
 fails_swapped : (run : Run) (mid next : Stand) (taken : List ℕ) (r : Reader) (event : Event) → answer_of r ≡ answer.Event event
     → next.trusted ≡ mid.trusted → next.room ≡ mid.room → Plays run.tells event run.limit mid next (Err Swap)
@@ -251,16 +275,15 @@ fails_swapped run mid next taken r event found trust room plays p = record {
   silent = silent_after run.tells run.begun mid.text next.text p.silent plays.silent;
 }
   where
-    some : (more : List ℕ) → (r.finished ≡ true → more ≡ []) → mid.trusted ≡ true
-        → GathersSome run.tells run.begun next.text run.limit (λ done. history_of (input_of (taken ++ more)) done run.start)
+    some : (more : List ℕ) → (r.finished ≡ true → more ≡ []) → mid.trusted ≡ true → GathersSoon run next (input_of (taken ++ more))
     some more may before =
         let follows = p.reaches.trusted before in
         let comes = plays.trusted before in
-        let done : ℕ = comes.done in
+        let done : ℕ = comes.some.done in
         let rest : Input = left_of (after_next r) more in
         let played : kernel.History = play event done mid.machine in
-        let met : played.met ≡ true = other_met played LimitMet comes.met (λ e. cc) in
-        let within : mid.machine.steps ≤ done = omega (arith, play_grows event done mid.machine, met_steps event done mid.machine comes.met) in
+        let met : played.met ≡ true = other_met played LimitMet comes.some.met (λ e. cc) in
+        let within : mid.machine.steps ≤ done = omega (arith, play_grows event done mid.machine, met_steps event done mid.machine comes.some.met) in
         let A : kernel.History = history (play_of p.calls).answered run.limit run.start in
         let is : history_of (left_of r more) done mid.machine ≡ with_ending Played played =
         ap (λ (input : Input). history_of input done mid.machine) (left_event r more event may found)
@@ -268,8 +291,13 @@ fails_swapped run mid next taken r event found trust room plays p = record {
         ∙ met_ends (end_of rest.bad) Played played met) in
         let wrote = gathered_same run.tells run.begun next.text (history_of (input_of (taken ++ more)) done run.start) (behind A.records (with_ending Played played)) LimitMet
         (whole_at run mid taken r more done may p follows within ∙ ap (behind A.records) is)
-        (gathered_behind run.tells run.begun mid.text next.text A.records (with_ending Played played) LimitMet follows.gathered (comes.met, comes.gathered)) in
-        record { done = done; within = comes.within; met = wrote.0; gathered = wrote.1 }
+        (gathered_behind run.tells run.begun mid.text next.text A.records (with_ending Played played) LimitMet follows.gathered (comes.some.met, comes.some.gathered)) in
+        let C : List Event → Type 0 = λ es. ComesFull mid.room run.start (moments_of es (done + 1) run.start) in
+        record {
+          some = record { done = done; within = comes.some.within; met = wrote.0; gathered = wrote.1 };
+          soon = same_room mid.room next.room run.start _ room (subst C (sym (events_with run mid taken r event more found may p))
+              (soon_full run mid (play_of p.calls).answered event rest.events (done + 1) follows (omega (arith, within)) p.reaches comes.soon));
+        }
 
     full : (more : List ℕ) → (r.finished ≡ true → more ≡ []) → ComesFull next.room run.start (moments_of (input_of (taken ++ more)).events run.limit run.start)
     full more may =
@@ -321,7 +349,7 @@ pub fails_longer : (run : Run) (now : Stand) (taken rest whole : List ℕ) (f : 
 fails_longer run now taken rest whole f Write is unsaid p =
     longer (λ input. IsKnown run now input → GatheredPart run.tells run.begun now.text (history_of input run.limit run.start)) taken rest whole f is unsaid p
 fails_longer run now taken rest whole f Swap is unsaid p = record {
-  exact = longer (λ input. now.trusted ≡ true → GathersSome run.tells run.begun now.text run.limit (λ done. history_of input done run.start)) taken rest whole f is unsaid p.exact;
+  exact = longer (λ input. now.trusted ≡ true → GathersSoon run now input) taken rest whole f is unsaid p.exact;
   full = longer (λ input. ComesFull now.room run.start (moments_of input.events run.limit run.start)) taken rest whole f is unsaid p.full;
   silent = p.silent;
 }
@@ -392,8 +420,9 @@ pub put_swapped : (run : Run) (now : Stand) (after : Option (List ℕ)) (taken :
     → Puts now.text.out after now.text.held → FailsSo run taken f now Swap → FailsSo run taken f (with_text now (put after)) Swap
 put_swapped run now after taken f grown p = record {
   exact = λ more may trusted.
-      let some = p.exact more may trusted in
-      record { done = some.done; within = some.within; met = some.met; gathered = gathers_put run.begun now.text.out after now.text.held _ some.gathered grown };
+      let all = p.exact more may trusted in
+      let gathered = gathers_put run.begun now.text.out after now.text.held _ all.some.gathered grown in
+      record { some = record { done = all.some.done; within = all.some.within; met = all.some.met; gathered = gathered }; soon = all.soon };
   full = p.full;
   silent = silent_put run.tells run.begun now.text.out after now.text.held p.silent grown;
 }
@@ -419,7 +448,7 @@ trusted_of run now input full (inr never) = absurd (never full)
 pub unput_swapped : (run : Run) (now : Stand) (after : Option (List ℕ)) (taken : List ℕ) (f : Bool)
     → GrowsByPrefix now.text.out after now.text.held → FailsSo run taken f now Swap → FailsSo run taken f (with_text now (put after)) Write
 unput_swapped run now after taken f front p = λ more may known.
-    let some = p.exact more may (trusted_of run now (input_of (taken ++ more)) (p.full more may) known) in
+    let some = (p.exact more may (trusted_of run now (input_of (taken ++ more)) (p.full more may) known)).some in
     let first = some_first run.tells some.done run.limit run.start (input_of (taken ++ more)) some.within some.met in
     let P : List ℕ → Type 0 = λ text. GathersPart run.begun (put after) text in
     subst P (sym first.1) (part_longer run.begun (put after) _ first.0 (gathers_unput run.begun now.text.out after now.text.held _ some.gathered front))

@@ -41,7 +41,9 @@ module _ (tells : Telling) (limit : ℕ) (start : Machine) (begun out left left_
   runs_swapped stops = record {
     bytes = taken ++ more;
     file = is_file;
-    exact = λ trusted. some_put tells begun out limit (λ done. history_of (input_of (taken ++ more)) done start) (stops.exact more may trusted);
+    exact = λ trusted.
+        let all = stops.exact more may trusted in
+        record { some = some_put tells begun out limit (λ done. history_of (input_of (taken ++ more)) done start) all.some; soon = all.soon };
     full = stops.full more may;
     silent = stops.silent;
   }

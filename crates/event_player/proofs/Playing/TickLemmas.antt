@@ -76,34 +76,52 @@ one_step n limit old mid some ready more there =
 later_met : (n done : ℕ) (m : Machine) → (with_ending Played (play (Tick n) done m)).ending ≡ LimitMet → m.steps ≤ done
 later_met n done m met = omega (arith, play_grows (Tick n) done m, met_steps (Tick n) done m met)
 
-comes_later : (tells : Telling) (n limit : ℕ) (old mid new : Stand) (result : Result Ending PlayFault) → 1 ≤ n → is_some (actor old.machine) ≡ true
-    → old.machine.steps ≢ limit → StepsTo tells old mid → Comes tells (Tick (n - 1)) limit mid new result → Comes tells (Tick n) limit old new result
-comes_later tells n limit old mid new (Ok ending) some ready more did comes =
-    let one = one_step n limit old mid some ready more did.machine in (
+-- the states of the rest of a tick, in the room and on the machine of its first step
+rest_full : (tells : Telling) (n limit : ℕ) (old mid : Stand) → 1 ≤ n → is_some (actor old.machine) ≡ true → old.machine.steps ≢ limit → mid.room ≡ old.room
+    → mid.machine ≡ (step old.machine).machine → ComesFull mid.room mid.machine (event_moments (Tick (n - 1)) limit mid.machine)
+    → ComesFull old.room old.machine (event_moments (Tick n) limit old.machine)
+rest_full tells n limit old mid some ready more room there later =
+    let A : Machine → Type 0 = λ x. ComesFull mid.room x (event_moments (Tick (n - 1)) limit x) in
+    let B : Room → Type 0 = λ r. ComesFull r (step old.machine).machine (event_moments (Tick (n - 1)) limit (step old.machine).machine) in
+    tick_full old.room n limit old.machine some ready more (subst B room (subst A there later))
+
+comes_later : (tells : Telling) (n limit : ℕ) (old mid new : Stand) (result : Result Ending PlayFault) → 1 ≤ n → DoesOne tells limit old mid
+    → StepsTo tells old mid → Comes tells (Tick (n - 1)) limit mid new result → Comes tells (Tick n) limit old new result
+comes_later tells n limit old mid new (Ok ending) some does did comes =
+    let one = one_step n limit old mid some does.actor does.more did.machine in (
       gathered_same tells old.text new.text _ _ ending (ap (with_ending Played) one)
           (gathered_behind tells old.text mid.text new.text (step old.machine).records (with_ending Played (play (Tick (n - 1)) limit mid.machine)) ending did.gathered comes.0),
       comes.1 ∙ sym (ap (λ (h : kernel.History). h.machine) one),
     )
-comes_later tells n limit old mid new (Err Write) some ready more did comes =
-    let one = one_step n limit old mid some ready more did.machine in
+comes_later tells n limit old mid new (Err Write) some does did comes =
+    let one = one_step n limit old mid some does.actor does.more did.machine in
     part_same tells old.text new.text _ _ (ap (with_ending Played) one)
     (part_behind tells old.text mid.text new.text (step old.machine).records (with_ending Played (play (Tick (n - 1)) limit mid.machine)) did.gathered comes)
-comes_later tells n limit old mid new (Err Swap) some ready more did comes =
-    let done : ℕ = comes.done in
-    let grown = later_met (n - 1) done mid.machine comes.met in
-    let steps : mid.machine.steps ≡ old.machine.steps + 1 = ap (λ (m : Machine). m.steps) did.machine ∙ step_steps old.machine ready in
+comes_later tells n limit old mid new (Err Swap) some does did comes =
+    let done : ℕ = comes.some.done in
+    let grown = later_met (n - 1) done mid.machine comes.some.met in
+    let steps : mid.machine.steps ≡ old.machine.steps + 1 = ap (λ (m : Machine). m.steps) did.machine ∙ step_steps old.machine does.actor in
     let other : old.machine.steps ≢ done = λ e. absurd (omega (arith, e, grown, steps)) in
+    let behind : old.machine.steps ≢ done + 1 = λ e. absurd (omega (arith, e, grown, steps)) in
     let one : with_ending Played (play (Tick n) done old.machine) ≡ with_ending Played (kernel.behind (step old.machine).records (play (Tick (n - 1)) done mid.machine)) =
-    ap (with_ending Played) (one_step n done old mid some ready other did.machine) in
+    ap (with_ending Played) (one_step n done old mid some does.actor other did.machine) in
     let wrote = gathered_same tells old.text new.text (with_ending Played (play (Tick n) done old.machine)) _ LimitMet one
-    (gathered_behind tells old.text mid.text new.text (step old.machine).records (with_ending Played (play (Tick (n - 1)) done mid.machine)) LimitMet did.gathered (comes.met, comes.gathered)) in
-    record { done = done; within = comes.within; met = wrote.0; gathered = wrote.1 }
+    (gathered_behind tells old.text mid.text new.text (step old.machine).records (with_ending Played (play (Tick (n - 1)) done mid.machine)) LimitMet did.gathered (comes.some.met, comes.some.gathered)) in
+    record {
+      some = record { done = done; within = comes.some.within; met = wrote.0; gathered = wrote.1 };
+      soon = λ near. go behind (does.near near);
+    }
+  where
+    go : old.machine.steps ≢ comes.some.done + 1 → ((mid.near ≡ true) × StepsTo tells old mid) ⊎ IsFull old.room (step old.machine).machine
+        → ComesFull old.room old.machine (event_moments (Tick n) (comes.some.done + 1) old.machine)
+    go behind (inl both) = rest_full tells n (comes.some.done + 1) old mid some does.actor behind does.room did.machine (comes.soon both.0)
+    go behind (inr crowd) = step_full old.room n (comes.some.done + 1) old.machine some does.actor behind crowd
 
 pub plays_later : (tells : Telling) (n limit : ℕ) (old mid new : Stand) (result : Result Ending PlayFault) → 1 ≤ n → DoesOne tells limit old mid
     → Plays tells (Tick (n - 1)) limit mid new result → Plays tells (Tick n) limit old new result
 plays_later tells n limit old mid new result some one plays = record {
   trusted = λ trusted.
-      comes_later tells n limit old mid new result some one.actor one.more (one.trusted trusted) (plays.trusted (one.trust ∙ trusted));
+      comes_later tells n limit old mid new result some one (one.trusted trusted) (plays.trusted (one.trust ∙ trusted));
   near = λ near. go (one.near near);
   ends = plays.ends;
   silent = silence_later tells old.text mid.text new.text result one.silent plays.silent;
@@ -117,7 +135,7 @@ plays_later tells n limit old mid new result some one plays = record {
 
     rest : StepsTo tells old mid → (StaysNear new result × Comes tells (Tick (n - 1)) limit mid new result) ⊎ ComesFull mid.room mid.machine (event_moments (Tick (n - 1)) limit mid.machine)
         → (StaysNear new result × Comes tells (Tick n) limit old new result) ⊎ ComesFull old.room old.machine (event_moments (Tick n) limit old.machine)
-    rest did (inl both) = inl (both.0, comes_later tells n limit old mid new result some one.actor one.more did both.1)
+    rest did (inl both) = inl (both.0, comes_later tells n limit old mid new result some one did both.1)
     rest did (inr later) = inr (full mid.machine did.machine later)
 
     go : ((mid.near ≡ true) × StepsTo tells old mid) ⊎ IsFull old.room (step old.machine).machine
@@ -206,7 +224,10 @@ plays_swap tells n limit old new some ready more within same crowd =
     let P : Text → Type 0 = λ text. Gathered tells old.text text (with_ending Played (play (Tick n) done old.machine)) LimitMet in
     let wrote : P new.text = subst P (sym same) (gathered_same tells old.text old.text _ _ LimitMet is (gathered_stopped tells old.text Played old.machine)) in
     record {
-      trusted = λ trusted. record { done = done; within = within; met = wrote.0; gathered = wrote.1 };
+      trusted = λ trusted. record {
+        some = record { done = done; within = within; met = wrote.0; gathered = wrote.1 };
+        soon = λ near. step_full old.room n (done + 1) old.machine some ready (λ e. absurd (omega (arith, e))) (crowd near);
+      };
       near = λ near. inr (step_full old.room n limit old.machine some ready more (crowd near));
       ends = tt;
       silent = silent_same tells old.text new.text same;

@@ -178,7 +178,7 @@ tells_earlier play booted before call Done told = ran_earlier play booted before
 tells_earlier play booted before call (EventFault line) told = ran_earlier play booted before call (BadLine line) told
 tells_earlier play booted before call (StepLimit limit) told = ran_earlier play booted before call LimitMet told
 tells_earlier play booted before call SwapFault told =
-    record { events = told.events; is_file = told.is_file; exact = λ trusted. told.exact trusted; silent = λ silent. told.silent silent }
+    record { events = told.events; is_file = told.is_file; exact = λ trusted. let all = told.exact trusted in record { some = all.some; soon = all.soon }; silent = λ silent. told.silent silent }
 tells_earlier play booted before call WriteFault told = record { events = told.events; is_file = told.is_file; exact = λ known. told.exact known }
 tells_earlier play booted before call ReadFault told = lines_earlier play booted before call told
 tells_earlier play booted before call Usage told = absurd told

@@ -1,5 +1,5 @@
 -- How a call ends that plays events.
-use Rattle.std.specs.Prelude.{◌≡◌, ◌⊎◌, ℕ, Bool, true, false, List, [], ◌∷◌}
+use Rattle.std.specs.Prelude.{◌≡◌, ◌⊎◌, ◌+◌, ℕ, Bool, true, false, List, [], ◌∷◌}
 use Rattle.event_text.specs.EventFile.{input_of}
 use Rattle.event_text.specs.Lines.{whole_lines}
 use Rattle.machine_model.specs.State.Machine.{Machine}
@@ -47,13 +47,17 @@ pub record RanInPart (play : Play) (booted : Booted) (call : Call) : Type 0 wher
 abbrev pub IsSilent : Play → Call → Type 0
 IsSilent play call = is_silent play.tells ≡ true → IsUnwritten call
 
--- In a trusted run, exactly what the command tells as the records of so many steps come was written: of the history up to that step limit,
--- which it meets. So what was written ends at the end of a step or of an event. `ledger` wrote nothing, trusted or not.
+-- Exactly what the command tells as the records of so many steps come was written: of the history up to that step limit, which it meets. So
+-- what was written ends at the end of a step or of an event. And some state up to the step behind it has more pages than there are frames for.
+pub record WroteSteps (play : Play) (booted : Booted) (call : Call) (events : List ℕ) : Type 0 where
+  pub some : WroteSome play.tells call.out.written call.out.written_after play.limit (λ done. run_of done booted.machine events)
+  pub soon : ComesFull booted.room booted.machine (moments_of (input_of events).events (some.done + 1) booted.machine)
+
+-- so it is in a trusted run; `ledger` wrote nothing, trusted or not
 pub record RanSomeSteps (play : Play) (booted : Booted) (call : Call) : Type 0 where
   pub events : List ℕ
   pub is_file : IsFile call.host.files play.events events
-  pub exact : IsTrusted call.store booted.slots
-      → WroteSome play.tells call.out.written call.out.written_after play.limit (λ done. run_of done booted.machine events)
+  pub exact : IsTrusted call.store booted.slots → WroteSteps play booted call events
   pub silent : IsSilent play call
 
 -- Some bytes of the file were read, and none of their whole lines is bad. Where what the pages hold is known, the history over these lines

@@ -127,7 +127,12 @@ returns-in-Err-Swap-clause-played g c = λ start begins.
       content = record {
         events = runs.bytes;
         is_file = told_file file c.args.play.events.now before runs.bytes c.in-Ok.ensures.left runs.file;
-        exact = λ trusted. runs.exact (trusted_side c.play_file.ensures.keeps trusted);
+        exact = λ trusted.
+            let all = runs.exact (trusted_side c.play_file.ensures.keeps trusted) in
+            record {
+              some = all.some;
+              soon = full_on (room_in c.args.kernel.now) (room_in c.play_file.new.kernel) start _ (room_stays c.play_file.ensures.keeps) all.soon;
+            };
         silent = λ silent. ap (λ (t : Text). t.out) (runs.silent silent refl);
       };
       events_read = λ done. cc;
