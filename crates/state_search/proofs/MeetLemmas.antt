@@ -58,7 +58,12 @@ module _ {Label Key : Type 0} where
     more = adds.more;
     is = adds.is;
     each = λ k e h. (let o = adds.each k e h in record {
-      from_is = o.from_is; place = o.place; successor = o.successor; first = (let f = o.first in omega (arith, few)); is = o.is; label_is = o.label_is;
+      from_is = o.from_is;
+      place = o.place;
+      successor = o.successor;
+      first = (let f = o.first in omega (arith, few));
+      is = o.is;
+      label_is = o.label_is;
     });
   }
 
@@ -103,7 +108,14 @@ module _ {Label Key : Type 0} where
         anew : (q : Key) → (is_at (cmp s.key) q ≡ true) ⊎ (contains cmp old.seen q ≡ true)
             → (contains cmp old.seen q ≡ true) ⊎ IsAdded cmp (s ∷ []) 1 (added ∷ []) q
         anew q (inl h) = inr (record {
-          place = 0; edge = added; is = refl; told_place = 0; successor = s; first = omega arith; told_is = refl; label_is = refl;
+          place = 0;
+          edge = added;
+          is = refl;
+          told_place = 0;
+          successor = s;
+          first = omega arith;
+          told_is = refl;
+          label_is = refl;
           equal = is_equal (cmp s.key q) h;
         })
         anew q (inr h) = inl h
@@ -146,7 +158,12 @@ module _ {Label Key : Type 0} where
       where
         of_next : (e : Edge Label) → IsOneOf from (s ∷ []) 1 e → IsOneOf from told (n + 1) e
         of_next e o = record {
-          from_is = o.from_is; place = n; successor = s; first = omega arith; is = is; label_is = only_one from s e o;
+          from_is = o.from_is;
+          place = n;
+          successor = s;
+          first = omega arith;
+          is = is;
+          label_is = only_one from s e o;
         }
 
         each : (k : ℕ) (e : Edge Label) → (slice_get first.adds.more k ≡ Some e) ⊎ IsBehind first.adds.more next.adds.more k e
@@ -169,9 +186,15 @@ module _ {Label Key : Type 0} where
             → (contains cmp a.seen q ≡ true) ⊎ IsAdded cmp told (n + 1) (first.adds.more ++ next.adds.more) q
         old_added q (inl h) = inl h
         old_added q (inr d) = inr (record {
-          place = d.place; edge = d.edge;
+          place = d.place;
+          edge = d.edge;
           is = slice_get-front first.adds.more next.adds.more d.place (slice_get_within first.adds.more d.place d.edge d.is) ∙ d.is;
-          told_place = d.told_place; successor = d.successor; first = (let f = d.first in omega arith); told_is = d.told_is; label_is = d.label_is; equal = d.equal;
+          told_place = d.told_place;
+          successor = d.successor;
+          first = (let f = d.first in omega arith);
+          told_is = d.told_is;
+          label_is = d.label_is;
+          equal = d.equal;
         })
 
         same_successor : (q : Key) (d : IsAdded cmp (s ∷ []) 1 next.adds.more q) → s ≡ d.successor
@@ -187,9 +210,13 @@ module _ {Label Key : Type 0} where
         anew q (inr d) =
             let same : s ≡ d.successor = same_successor q d in
             inr (record {
-              place = length first.adds.more + d.place; edge = d.edge;
+              place = length first.adds.more + d.place;
+              edge = d.edge;
               is = slice_get-behind first.adds.more next.adds.more d.place ∙ d.is;
-              told_place = n; successor = s; first = omega arith; told_is = is;
+              told_place = n;
+              successor = s;
+              first = omega arith;
+              told_is = is;
               label_is = ap (λ (x : Successor Label Key). x.label) same ∙ d.label_is;
               equal = ap (λ (x : Successor Label Key). cmp x.key q) same ∙ d.equal;
             })

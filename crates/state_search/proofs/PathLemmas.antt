@@ -31,7 +31,7 @@ module _ {Label : Type 0} where
   enough (suc f) (suc g) edges zero tree few few' = refl
   enough (suc f) (suc g) edges (suc k) tree few few' =
       same_with (last_labels f edges) (last_labels g edges) (slice_get edges k)
-        (λ e is. enough f g edges e.from tree (let h = tree k e is in omega arith) (let h = tree k e is in omega arith))
+      (λ e is. enough f g edges e.from tree (let h = tree k e is in omega arith) (let h = tree k e is in omega arith))
 
   -- the labels to a node are those to the one before it, and that of its edge
   pub labels_to-edge : (edges : List (Edge Label)) (k : ℕ) (e : Edge Label) → IsTree edges → slice_get edges k ≡ Some e
@@ -51,7 +51,7 @@ module _ {Label : Type 0} where
       let there : k < length edges = omega arith in
       ap (with_edge (last_labels f (edges ++ more))) (slice_get-front edges more k there)
       ∙ same_with (last_labels f (edges ++ more)) (last_labels f edges) (slice_get edges k)
-          (λ e is. front_labels f edges more e.from tree (let h = tree k e is in omega (arith, there)))
+      (λ e is. front_labels f edges more e.from tree (let h = tree k e is in omega (arith, there)))
 
   pub labels_to-front : (edges more : List (Edge Label)) (node : ℕ) → IsTree edges → node ≤ length edges
       → labels_to (edges ++ more) node ≡ labels_to edges node

@@ -73,7 +73,12 @@ module _ {Node Label Key : Type 0} (after : Node → Label → Option Node) (IsK
   key_front : (edges more : List (Edge Label)) (q : Key) → IsTree edges → IsKeyFound after IsKey cmp start edges q
       → IsKeyFound after IsKey cmp start (edges ++ more) q
   key_front edges more q tree f = record {
-    number = f.number; node = f.node; is = found_front after start edges more f.number f.node tree f.is; key = f.key; of_node = f.of_node; equal = f.equal;
+    number = f.number;
+    node = f.node;
+    is = found_front after start edges more f.number f.node tree f.is;
+    key = f.key;
+    of_node = f.of_node;
+    equal = f.equal;
   }
 
   met_front : (edges more : List (Edge Label)) (i : ℕ) (next : Node) → IsTree edges → IsMetBy after IsKey cmp start edges i next
@@ -81,8 +86,12 @@ module _ {Node Label Key : Type 0} (after : Node → Label → Option Node) (IsK
   met_front edges more i next tree f = record {
     found_key = f.found_key;
     found = record {
-      number = f.found.number; node = f.found.node; is = found_front after start edges more f.found.number f.found.node tree f.found.is;
-      key = f.found.key; of_node = f.found.of_node; equal = f.found.equal;
+      number = f.found.number;
+      node = f.found.node;
+      is = found_front after start edges more f.found.number f.found.node tree f.found.is;
+      key = f.found.key;
+      of_node = f.found.of_node;
+      equal = f.found.equal;
     };
     by_then = λ k e is there.
         (let told = f.found.is.told in
@@ -95,7 +104,6 @@ module _ {Node Label Key : Type 0} (after : Node → Label → Option Node) (IsK
       (tells : Tells after start edges leaving) (left : length leaving ≤ length edges)
       (here : IsFound after start edges (length leaving) m) (all : AreEdges after IsKey m told)
       (each : (k : ℕ) (e : Edge Label) → slice_get more k ≡ Some e → IsOneOf (length leaving) told (length told) e) where
-
     new_tree : IsTree (edges ++ more)
     new_tree k e is = go (front_or_behind edges more k e is)
       where
@@ -115,7 +123,7 @@ module _ {Node Label Key : Type 0} (after : Node → Label → Option Node) (IsK
         let keyed : IsKeyAt after IsKey (after m s.label) s.key = all.each i s is in
         let o : IsOneOf (length leaving) told (length told) e = each k e there in
         let from : IsFound after start (edges ++ more) e.from m =
-            subst (λ (n : ℕ). IsFound after start (edges ++ more) n m) (sym o.from_is) (found_front after start edges more (length leaving) m tells.tree here) in
+        subst (λ (n : ℕ). IsFound after start (edges ++ more) n m) (sym o.from_is) (found_front after start edges more (length leaving) m tells.tree here) in
         record {
           next = keyed.node;
           is = found_edge after start (edges ++ more) (length edges + k) e m keyed.node new_tree (slice_get-behind edges more k ∙ there) from
@@ -184,7 +192,7 @@ module _ {Node Label Key : Type 0} (after : Node → Label → Option Node) (IsK
     the_node : (i : ℕ) (node : Node) → i ≡ length leaving → IsFound after start (edges ++ more) i node → m ≡ node
     the_node i node is f =
         found_same after start (edges ++ more) (length leaving) m node (found_front after start edges more (length leaving) m tells.tree here)
-          (subst (λ (n : ℕ). IsFound after start (edges ++ more) n node) is f)
+        (subst (λ (n : ℕ). IsFound after start (edges ++ more) n node) is f)
 
     -- and how many there are
     pub tells_next : Tells after start (edges ++ more) (leaving ++ length told ∷ [])
@@ -215,7 +223,6 @@ module _ {Node Label Key : Type 0} (after : Node → Label → Option Node) (IsK
     module _ (old seen : BTreeSet Key) (searched : SearchedAt after IsKey cmp start edges leaving old)
         (there : (i : ℕ) (s : Successor Label Key) → i < length told → slice_get told i ≡ Some s → contains cmp seen s.key ≡ true)
         (anew : (q : Key) → contains cmp seen q ≡ true → (contains cmp old q ≡ true) ⊎ IsAdded cmp told (length told) more q) where
-
       now_seen : (q : Key) → contains cmp seen q ≡ true → IsKeyFound after IsKey cmp start (edges ++ more) q
       now_seen q is = go (anew q is)
         where
@@ -224,7 +231,12 @@ module _ {Node Label Key : Type 0} (after : Node → Label → Option Node) (IsK
           go (inr d) =
               let new : IsNew d.place d.edge d.successor = new_node d.place d.edge d.successor d.told_place d.is d.told_is d.label_is in
               record {
-                number = suc (length edges + d.place); node = new.next; is = new.is; key = d.successor.key; of_node = new.is_key; equal = d.equal;
+                number = suc (length edges + d.place);
+                node = new.next;
+                is = new.is;
+                key = d.successor.key;
+                of_node = new.is_key;
+                equal = d.equal;
               }
 
       now_before : (k : ℕ) (e : Edge Label) → slice_get (edges ++ more) k ≡ Some e → e.from ≤ length leaving
@@ -244,7 +256,7 @@ module _ {Node Label Key : Type 0} (after : Node → Label → Option Node) (IsK
           go : (i < length leaving) ⊎ (i ≡ length leaving) → IsMetBy after IsKey cmp start (edges ++ more) i next
           go (inl less) =
               met_front edges more i next tells.tree
-                (searched.followed i node label next less (found_back after start edges more i node tells.tree (omega (arith, left, less)) f) is)
+              (searched.followed i node label next less (found_back after start edges more i node tells.tree (omega (arith, left, less)) f) is)
           go (inr last) =
               let same : m ≡ node = the_node i node last f in
               let from_m : after m label ≡ Some next = subst (λ (n : Node). after n label ≡ Some next) (sym same) is in
@@ -285,9 +297,9 @@ module _ {Node Label Key : Type 0} (after : Node → Label → Option Node) (IsK
       → AreEdges after IsKey m told → Adds from told (length told) edges edges' → leaving' ≡ leaving → Tells after start edges' leaving'
   tells_more_by edges edges' leaving leaving' m told from tells left from_is here all adds same =
       subst (λ (ls : List ℕ). Tells after start edges' ls) (sym same)
-        (subst (λ (es : List (Edge Label)). Tells after start es leaving) (sym adds.is)
-          (tells_more edges adds.more leaving m told tells left (subst (λ (n : ℕ). IsFound after start edges n m) from_is here) all
-            (λ k e h. subst (λ (n : ℕ). IsOneOf n told (length told) e) from_is (adds.each k e h))))
+      (subst (λ (es : List (Edge Label)). Tells after start es leaving) (sym adds.is)
+      (tells_more edges adds.more leaving m told tells left (subst (λ (n : ℕ). IsFound after start edges n m) from_is here) all
+      (λ k e h. subst (λ (n : ℕ). IsOneOf n told (length told) e) from_is (adds.each k e h))))
 
   pub searched_by : (old met : Search Label Key) (leaving' : List ℕ) (m : Node) (told : List (Successor Label Key)) (from : ℕ)
       → Searched after IsKey cmp start old → length old.leaving.items ≤ length old.edges.items → from ≡ length old.leaving.items
@@ -295,8 +307,8 @@ module _ {Node Label Key : Type 0} (after : Node → Label → Option Node) (IsK
       → leaving' ≡ old.leaving.items ++ length told ∷ [] → SearchedAt after IsKey cmp start met.edges.items leaving' met.seen
   searched_by old met leaving' m told from searched left from_is here all meets same =
       subst (λ (ls : List ℕ). SearchedAt after IsKey cmp start met.edges.items ls met.seen) (sym same)
-        (subst (λ (es : List (Edge Label)). SearchedAt after IsKey cmp start es (old.leaving.items ++ length told ∷ []) met.seen) (sym meets.adds.is)
-          (searched_on old.edges.items meets.adds.more old.leaving.items m told searched.tells left
-            (subst (λ (n : ℕ). IsFound after start old.edges.items n m) from_is here) all
-            (λ k e h. subst (λ (n : ℕ). IsOneOf n told (length told) e) from_is (meets.adds.each k e h))
-            old.seen met.seen searched meets.there meets.anew))
+      (subst (λ (es : List (Edge Label)). SearchedAt after IsKey cmp start es (old.leaving.items ++ length told ∷ []) met.seen) (sym meets.adds.is)
+      (searched_on old.edges.items meets.adds.more old.leaving.items m told searched.tells left
+      (subst (λ (n : ℕ). IsFound after start old.edges.items n m) from_is here) all
+      (λ k e h. subst (λ (n : ℕ). IsOneOf n told (length told) e) from_is (meets.adds.each k e h))
+      old.seen met.seen searched meets.there meets.anew))

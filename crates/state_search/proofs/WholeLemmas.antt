@@ -34,11 +34,11 @@ module _ {Node Label Key : Type 0} (after : Node → Label → Option Node) (IsK
         let order : a.0.from ≤ b.0.from = searched.in_order k l a.0 b.0 (omega arith) a.1 b.1 in
         let back : b.0.from ≤ l = searched.tells.tree l b.0 b.1 in
         let shorter : length (labels_to edges a.0.from) ≤ length (labels_to edges b.0.from) =
-            by_depth most a.0.from b.0.from (omega (arith, back, few)) order (omega (arith, back, within)) in
+        by_depth most a.0.from b.0.from (omega (arith, back, few)) order (omega (arith, back, within)) in
         let x : length (labels_to edges (suc k)) ≡ length (labels_to edges a.0.from) + 1 =
-            ap length (labels_to-edge edges k a.0 searched.tells.tree a.1) ∙ length-append (labels_to edges a.0.from) (a.0.label ∷ []) in
+        ap length (labels_to-edge edges k a.0 searched.tells.tree a.1) ∙ length-append (labels_to edges a.0.from) (a.0.label ∷ []) in
         let y : length (labels_to edges (suc l)) ≡ length (labels_to edges b.0.from) + 1 =
-            ap length (labels_to-edge edges l b.0 searched.tells.tree b.1) ∙ length-append (labels_to edges b.0.from) (b.0.label ∷ []) in
+        ap length (labels_to-edge edges l b.0 searched.tells.tree b.1) ∙ length-append (labels_to edges b.0.from) (b.0.label ∷ []) in
         omega (arith, shorter, x, y)
 
     -- the path of a node that was met from node i or before is longer than that to i by one at most
@@ -51,7 +51,7 @@ module _ {Node Label Key : Type 0} (after : Node → Label → Option Node) (IsK
         let from : a.0.from ≤ i = by k a.0 refl a.1 in
         let shorter : length (labels_to edges a.0.from) ≤ length (labels_to edges i) = by_depth i a.0.from i (omega arith) from within in
         let x : length (labels_to edges (suc k)) ≡ length (labels_to edges a.0.from) + 1 =
-            ap length (labels_to-edge edges k a.0 searched.tells.tree a.1) ∙ length-append (labels_to edges a.0.from) (a.0.label ∷ []) in
+        ap length (labels_to-edge edges k a.0 searched.tells.tree a.1) ∙ length-append (labels_to edges a.0.from) (a.0.label ∷ []) in
         omega (arith, shorter, x)
 
     module _ (all : length leaving ≡ length edges + 1) (tell : KeysTell after start IsKey cmp) where
@@ -63,18 +63,18 @@ module _ {Node Label Key : Type 0} (after : Node → Label → Option Node) (IsK
           record { number = i; is = subst (IsFound after start edges i) same f; no_longer = omega arith }
       told_from (label ∷ path) i m n f is =
           option_and_then_some (λ (next : Node). node_by after next path) (after m label) n is
-            (λ (next : Node) (by : after m label ≡ Some next) (rest : node_by after next path ≡ Some n).
-              (let within : i ≤ length edges = f.told in
-              let met : IsMetBy after IsKey cmp start edges i next = searched.followed i m label next (omega (arith, all, within)) f by in
-              let found : IsKeyFound after IsKey cmp start edges met.found_key = met.found in
-              let same : found.node ≡ next = tell (labels_to edges found.number) (labels_to edges i ++ label ∷ []) found.node next found.key met.found_key
-                  found.is.by_path (one_further after start (labels_to edges i) m next label f.by_path by) found.of_node met.of_next found.equal in
-              let later : IsTold after start edges n (length (labels_to edges found.number) + length path) =
-                  told_from path found.number next n (subst (IsFound after start edges found.number) same found.is) rest in
-              let depth : length (labels_to edges found.number) ≤ length (labels_to edges i) + 1 =
-                  met_depth i found.number within found.is.told met.by_then in
-              let short : length (labels_to edges later.number) ≤ length (labels_to edges found.number) + length path = later.no_longer in
-              record { number = later.number; is = later.is; no_longer = omega (arith, depth, short) }))
+          (λ (next : Node) (by : after m label ≡ Some next) (rest : node_by after next path ≡ Some n).
+          (let within : i ≤ length edges = f.told in
+          let met : IsMetBy after IsKey cmp start edges i next = searched.followed i m label next (omega (arith, all, within)) f by in
+          let found : IsKeyFound after IsKey cmp start edges met.found_key = met.found in
+          let same : found.node ≡ next = tell (labels_to edges found.number) (labels_to edges i ++ label ∷ []) found.node next found.key met.found_key
+          found.is.by_path (one_further after start (labels_to edges i) m next label f.by_path by) found.of_node met.of_next found.equal in
+          let later : IsTold after start edges n (length (labels_to edges found.number) + length path) =
+          told_from path found.number next n (subst (IsFound after start edges found.number) same found.is) rest in
+          let depth : length (labels_to edges found.number) ≤ length (labels_to edges i) + 1 =
+          met_depth i found.number within found.is.told met.by_then in
+          let short : length (labels_to edges later.number) ≤ length (labels_to edges found.number) + length path = later.no_longer in
+          record { number = later.number; is = later.is; no_longer = omega (arith, depth, short) }))
 
       start_found : IsFound after start edges 0 start
       start_found = record { told = omega arith; by_path = ap (node_by after start) (labels_to-start edges) }
@@ -151,4 +151,4 @@ pub only_key : {Key : Type 0} → (cmp : Key → Key → Ordering) (old new : BT
     → (q : Key) → contains cmp new q ≡ true → cmp key q ≡ Equal
 only_key cmp old new key none updates q is =
     is_equal (cmp key q)
-      (only_so (is_at (cmp key) q) (contains cmp old q) (ap (list_any (is_at (cmp q))) none) (sym (updates.0 q) ∙ is))
+    (only_so (is_at (cmp key) q) (contains cmp old q) (ap (list_any (is_at (cmp q))) none) (sym (updates.0 q) ∙ is))

@@ -4,11 +4,10 @@ ghost use Rattle.std.specs.Prelude.{◌≡◌, ◌≤◌, ◌+◌, ◌-◌, leng
 ghost use Rattle.state_search.specs.Searching.{Searched};
 ghost use Rattle.state_search.specs.Told.{Tells};
 
-use std::alloc::Global;
-
 use crate::found::{Cut, path_to};
 use crate::meeting::{Search, meet_all};
 use crate::space::{Space, Unanswered};
+use std::alloc::Global;
 
 /// Why a search goes no further.
 #[derive(Drop)]

@@ -3,11 +3,10 @@
 ghost use Rattle.std.specs.Prelude.{◌≡◌, ◌≤◌, ◌+◌, ◌-◌, [], ◌∷◌, length, OnOk, OnErr, IfErr};
 ghost use Rattle.state_search.specs.Searching.{Adds, Meets};
 
-use std::alloc::Global;
-use std::collections::BTreeSet;
-
 use crate::found::{Cut, Edge};
 use crate::space::Successor;
+use std::alloc::Global;
+use std::collections::BTreeSet;
 
 /// A search as far as it came.
 #[derive(Drop)]

@@ -3,12 +3,11 @@
 ghost use Rattle.std.specs.Prelude.{◌≡◌, ◌≤◌, ◌+◌, ◌-◌, [], length, IfOk, OnOk};
 ghost use Rattle.state_search.specs.Told.{KeysTell, Tells, TellsAll};
 
-use std::alloc::Global;
-
 use crate::expanding::{Stop, expand};
 use crate::found::{Cut, Extent, Found};
 use crate::meeting::Search;
 use crate::space::{Progress, Space, Unanswered, Watch};
+use std::alloc::Global;
 
 /// A search that has found the start alone goes on as far as it gets.
 fn go_on<S: Space, W: Watch>(

@@ -24,12 +24,16 @@ pub enum Unanswered<F> {
 /// one other at most.
 pub trait Space {
     type Label: Copy;
+
     type Key: Ord + Copy;
+
     type Fault: Drop;
 
     /// What stays the same while the space is searched, and on which the graph depends.
     ghost Setting: { Type 0 };
+
     ghost setting: { Self → Setting };
+
     ghost Node: { Type 0 };
     /// Where all paths begin.
     ghost start: { Setting → Node };

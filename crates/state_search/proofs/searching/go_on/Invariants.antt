@@ -2,8 +2,8 @@ use Rattle.std.proofs.Common.{◌≡◌, ◌≤◌, ◌+◌, ◌-◌, length}
 use Rattle.state_search.specs.Searching.{Searched}
 use Rattle.state_search.proofs.searching.go_on.Given as goal
 
-abbrev pub invariant-loop-search : goal.invariant-loop-search
-invariant-loop-search g l =
+abbrev pub invariant-loop-alloc : goal.invariant-loop-alloc
+invariant-loop-alloc g l =
     let at = g.S.Space.setting l.fn.space in
     record {
       kept : g.S.Space.setting l.space ≡ at;
@@ -11,5 +11,5 @@ invariant-loop-search g l =
       room : length l.search.edges.items ≤ l.limit - 1;
     }
 
-abbrev pub decreases-loop-search : goal.decreases-loop-search
-decreases-loop-search g l = l.limit + 1 - length l.search.leaving.items
+abbrev pub decreases-loop-alloc : goal.decreases-loop-alloc
+decreases-loop-alloc g l = l.limit + 1 - length l.search.leaving.items
