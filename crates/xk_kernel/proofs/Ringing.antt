@@ -1,3 +1,2 @@
 pub mod FewLemmas
-pub mod PlaceLemmas
 pub mod RingLemmas

@@ -15,6 +15,7 @@ use Rattle.thread_table.specs.declared.table.Threads.{Threads}
 use Rattle.thread_table.specs.declared.thread.Thread.{Thread as TableThread}
 use Rattle.thread_table.proofs.PlaceLemmas.{same_thread-true, same_thread-self, thread_map_valid}
 use Rattle.xk_parts.specs.Shown.{thread_of}
+use Rattle.irq_path.proofs.ThreadLemmas.{threads_put}
 use Rattle.xk_kernel.specs.State.{machine_of}
 use Rattle.xk_kernel.specs.declared.kernel.Kernel.{Kernel}
 
@@ -78,17 +79,13 @@ is_id held k n id e h = subst (λ n. is_thread_id n id ≡ true) e (valid_in_tab
 
 -- ---- a change of one thread
 
-put_each : (b : Bool) (t o : Option TableThread) → option_map thread_of (if b then t else o) ≡ (if b then option_map thread_of t else option_map thread_of o)
-put_each true t o = refl
-put_each false t o = refl
-
 -- one thread put into the table, or taken out, is put into the machine, or taken out
 pub machine_put : {W : Type 0} (held : W → Held) (k : Kernel W) (new : Threads) (id : ThreadId) (t : Option TableThread)
     → threads_of new ≡ put_at same_thread (threads_of k.threads) id t
     → machine_of held (record k { threads = new }) ≡ put_thread id (option_map thread_of t) (machine_of held k)
 unfolding machine_of
 machine_put held k new id t e = λ i. record (machine_of held k) {
-  threads = λ q. (ap (λ f. option_map thread_of (f q)) e ∙ put_each (same_thread q id) t (threads_of k.threads q)) i;
+  threads = threads_put k.threads new id t e i;
 }
 
 -- the log is no part of the machine

@@ -20,13 +20,11 @@ use Rattle.xk_base.specs.declared.errors.XousError.{XousError}
 use Rattle.xk_base.specs.declared.errors.XousError.TheVariants.{BadAlignment, InterruptInUse, InterruptNotFound}
 use Rattle.xk_base.specs.declared.ids.Pid.{Pid}
 use Rattle.xk_base.specs.declared.limits.TheConstants.{INTERRUPT_LIMIT, TIMER_INTERRUPT}
+use Rattle.irq_path.proofs.ClaimLemmas.{claims_shown-put, claims_shown-stay, pending_of, pending_shown-put, put_same}
 use Rattle.xk_kernel.specs.State.{claim_of, machine_of}
 use Rattle.xk_kernel.specs.declared.kernel.Kernel.{Kernel}
 
 -- ---- one claim
-
-abbrev pub pending_of : Option TableClaim → Bool
-pending_of o = option_map_or (λ c. c.pending) o false
 
 pub is_some_claim : (o : Option TableClaim) → is_some (option_map claim_of o) ≡ is_some o
 is_some_claim None = refl
@@ -35,16 +33,6 @@ is_some_claim (Some claim) = refl
 pub is_of_claim : (pid : Pid) (o : Option TableClaim) → is_claim_of pid (option_map claim_of o) ≡ is_of pid o
 is_of_claim pid None = refl
 is_of_claim pid (Some claim) = refl
-
-mapped_if : (b : Bool) (new old : Option TableClaim)
-    → option_map claim_of (if b then new else old) ≡ (if b then option_map claim_of new else option_map claim_of old)
-mapped_if true new old = refl
-mapped_if false new old = refl
-
-pending_if : (b : Bool) (new old : Option TableClaim)
-    → pending_of (if b then new else old) ≡ (if b then pending_of new else pending_of old)
-pending_if true new old = refl
-pending_if false new old = refl
 
 -- ---- a table with another claim, or none, at a number
 
@@ -62,18 +50,7 @@ module _ {W : Type 0} (held : W → Held) (k : Kernel W) (new : Claims) (n : ℕ
       → machine_of held with_claims
       ≡ record m { claims = put_at nat_eq m.claims n (option_map claim_of o); pending = put_at nat_eq m.pending n (pending_of o) }
   unfolding machine_of
-  put_claim o e = λ i. record (machine_of held k) {
-    claims = λ q. (ap (λ (f : ClaimMap). option_map claim_of (f q)) e ∙ mapped_if (nat_eq q n) o (claims_of k.claims q)) i;
-    pending = λ q. (ap (λ (f : ClaimMap). pending_of (f q)) e ∙ pending_if (nat_eq q n) o (claims_of k.claims q)) i;
-  }
-
-  -- what is put there already changes nothing
-  put_same : {A : Type 0} (f : ℕ → A) (x : A) → f n ≡ x → put_at nat_eq f n x ≡ f
-  put_same f x e = λ i q. at q (nat_eq q n) refl i
-    where
-      at : (q : ℕ) (b : Bool) → nat_eq q n ≡ b → (if b then x else f q) ≡ f q
-      at q true s = sym (ap f (eqb-true q n s) ∙ e)
-      at q false s = refl
+  put_claim o e = λ i. record (machine_of held k) { claims = claims_shown-put k.claims new n o e i; pending = pending_shown-put k.claims new n o e i }
 
   -- the number is claimed, which wasn't
   pub claimed : (claim : TableClaim) → claim.pending ≡ false → claims_of k.claims n ≡ None → PutsClaim (Some claim)
@@ -84,7 +61,7 @@ module _ {W : Type 0} (held : W → Held) (k : Kernel W) (new : Claims) (n : ℕ
       ∙ (λ i. record m { claims = put_at nat_eq m.claims n (Some (claim_of claim)); pending = same i })
     where
       same : put_at nat_eq m.pending n claim.pending ≡ m.pending
-      same = put_same m.pending claim.pending (ap pending_of none ∙ sym quiet)
+      same = put_same m.pending n claim.pending (ap pending_of none ∙ sym quiet)
 
   -- nobody claims the number any more, and the timer is disarmed where it is its own
   pub freed : (timer : Option ℕ) → timer ≡ disarmed_if (n == TIMER_INTERRUPT) k.timer → PutsClaim None
@@ -101,12 +78,10 @@ module _ {W : Type 0} (held : W → Held) (k : Kernel W) (new : Claims) (n : ℕ
   pub pending_put : (claim : TableClaim) (pending : Bool) → claims_of k.claims n ≡ Some claim → PutsClaim (Some (with_pending pending claim))
       → machine_of held with_claims ≡ record m { pending = put_at nat_eq m.pending n pending }
   unfolding machine_of
-  pending_put claim pending there e =
-      put_claim (Some (with_pending pending claim)) e
-      ∙ (λ i. record m { claims = same i; pending = put_at nat_eq m.pending n pending })
-    where
-      same : put_at nat_eq m.claims n (Some (claim_of claim)) ≡ m.claims
-      same = put_same m.claims (Some (claim_of claim)) (ap (option_map claim_of) there)
+  pending_put claim pending there e = λ i. record (machine_of held k) {
+    claims = claims_shown-stay k.claims new n claim pending there e i;
+    pending = pending_shown-put k.claims new n (Some (with_pending pending claim)) e i;
+  }
 
 -- a table that holds the same claims
 pub same_claims : {W : Type 0} (held : W → Held) (k : Kernel W) (new : Claims) → claims_of new ≡ claims_of k.claims

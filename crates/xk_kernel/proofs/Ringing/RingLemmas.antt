@@ -3,6 +3,7 @@ use Rattle.std.proofs.Common.{◌≡◌, ℕ, ◌+◌, ◌≤◌, Bool, true, fa
 use Rattle.std.specs.Prelude.{◌&&◌, is_some, if◌then◌else◌}
 use Rattle.std.specs.Option.{option_map}
 use Rattle.std.proofs.lemmas.Bool.{false≢true}
+use Rattle.std.proofs.lemmas.List.{map-append}
 use Rattle.std.proofs.lemmas.List.Elements.{All-append, All-map}
 use Rattle.irq_claims.specs.ClaimMap.{pend, with_pending}
 use Rattle.irq_claims.specs.ClaimsOf.{claims_of}
@@ -13,7 +14,7 @@ use Rattle.machine_model.specs.State.Machine.{Claim, Machine}
 use Rattle.machine_model.specs.State.Threads.{no_answers, thread_id}
 use Rattle.machine_model.specs.Stepping.Interrupts.{cursor_after, delivered, delivered_lowest, handler_started, is_free_for_interrupt, lowest_pending}
 use Rattle.machine_model.specs.Stepping.Step.{record_of}
-use Rattle.machine_model.specs.Stepping.Timer.{is_due, raised_by_timer, timed, timed_if, with_irq_if}
+use Rattle.machine_model.specs.Stepping.Timer.{is_due, raised_by_timer, timed, timed_if, with_irq, with_irq_if}
 use Rattle.sv32_space.specs.Tie.{Held}
 use Rattle.xk_base.specs.Log.{LogState}
 use Rattle.vm_memory.specs.Memory.{processes}
@@ -25,7 +26,7 @@ use Rattle.xk_base.specs.declared.limits.TheConstants.{TIMER_INTERRUPT}
 use Rattle.xk_base.specs.declared.records.Rec.{Rec}
 use Rattle.xk_base.specs.declared.records.What.{What}
 use Rattle.xk_base.specs.declared.records.What.TheVariants.{Irq}
-use Rattle.xk_kernel.specs.Ringing.{IsTimersClaimThere, LogTells, Rings, irq_place, log_of, moved_to, so_far}
+use Rattle.xk_kernel.specs.Ringing.{IsTimersClaimThere, LogTells, Rings, log_of, so_far}
 use Rattle.xk_kernel.specs.State.{claim_of, machine_of}
 use Rattle.xk_kernel.specs.Telling.{log_with}
 use Rattle.xk_kernel.specs.declared.kernel.Kernel.{Kernel}
@@ -34,7 +35,6 @@ use Rattle.xk_kernel.proofs.Calling.TellingLemmas.{told_length, told_nothing}
 use Rattle.xk_kernel.proofs.Interrupting.ClaimLemmas.{pending_put}
 use Rattle.xk_kernel.proofs.Interrupting.DeliveryLemmas.{Delivers}
 use Rattle.xk_kernel.proofs.Interrupting.RaiseLemmas.{claim_found, cursor_moves, delivery_pid, moved, settled_next}
-use Rattle.xk_kernel.proofs.Ringing.PlaceLemmas.{irq_placed}
 
 -- ---- what a delivery tells
 
@@ -170,21 +170,22 @@ module _ {W : Type 0} (held : W → Held) (old : Kernel W) (told : List What) (t
 
     -- the handler starts, and its record goes to its place
     starts_handler : starts ≡ true → (cursor : ThreadId) → cursor ≡ thread_id claim.pid 1 → (log : LogState)
-        → ((xs : List Rec) (x : Rec) → new.log.records ≡ xs ++ x ∷ [] → log ≡ record new.log { records = moved_to (irq_place claim.pid new.log.records) x xs })
+        → ((before : List What) (k : ℕ) → LogTells new.log (before ++ Irq claim.pid k ∷ []) → log ≡ log_of (with_irq (record { pid = claim.pid; number = k }) before) new.log)
         → Rings held old (record new { cursor = cursor; log = log }) told
     starts_handler running cursor goes log placed =
         let delivery : (d : Delivery) × (change.delivery ≡ Some d) = a_delivery change.delivery (sym running ∙ delivers.starts) in
-        let x : Rec = record_of old.log.step (Irq delivery.0.pid delivery.0.number) in
-        let logged : new.log ≡ log_with (Irq delivery.0.pid delivery.0.number ∷ []) old.log = log_after (Some delivery.0) delivery.1 in
-        let last : new.log.records ≡ map (record_of old.log.step) told ++ x ∷ [] =
-        ap (λ (l : LogState). l.records) logged ∙ ap (λ xs. xs ++ x ∷ []) tells in
+        let n : ℕ = delivery.0.number in
+        let logged : new.log ≡ log_with (Irq delivery.0.pid n ∷ []) old.log = log_after (Some delivery.0) delivery.1 in
         let its : claim.pid ≡ delivery.0.pid = sym (delivery_pid pending claim.pid delivery.0 delivery.1) in
+        let last : LogTells (log_with (Irq delivery.0.pid n ∷ []) old.log) (told ++ Irq claim.pid n ∷ []) =
+        ap (λ xs. xs ++ record_of old.log.step (Irq delivery.0.pid n) ∷ []) tells
+        ∙ sym (map-append (record_of old.log.step) told (Irq delivery.0.pid n ∷ []))
+        ∙ ap (λ p. map (record_of old.log.step) (told ++ Irq p n ∷ [])) (sym its) in
         record {
           machine = machine_rings cursor log (goes ∙ sym (ap (λ b. if b then thread_id claim.pid 1 else new.cursor) running));
           log =
-              placed (map (record_of old.log.step) told) x last
-              ∙ (λ i. record (logged i) { records = moved_to (irq_place (its i) (last i)) x (map (record_of old.log.step) told) })
-              ∙ (λ i. record old.log { records = sym (irq_placed delivery.0 old.log.step told) i })
+              placed told n (subst (λ (l : LogState). LogTells l (told ++ Irq claim.pid n ∷ [])) (sym logged) last)
+              ∙ (λ i. log_of (with_irq (record { pid = its i; number = n }) told) (logged i))
               ∙ sym (told_after (Some delivery.0) delivery.1);
         }
 
@@ -204,11 +205,12 @@ module _ {W : Type 0} (held : W → Held) (old : Kernel W) (told : List What) (t
     ring_pends idle = pends_only e of_claim.0 of_claim.1 pends after new answer for_claim idle
 
     pub ring_starts : answer ≡ true → (cursor : ThreadId) → cursor ≡ thread_id pid 1 → (log : LogState)
-        → ((xs : List Rec) (x : Rec) → new.log.records ≡ xs ++ x ∷ [] → log ≡ record new.log { records = moved_to (irq_place pid new.log.records) x xs })
+        → ((before : List What) (k : ℕ) → LogTells new.log (before ++ Irq pid k ∷ []) → log ≡ log_of (with_irq (record { pid = pid; number = k }) before) new.log)
         → Rings held old (record new { cursor = cursor; log = log }) told
     ring_starts running cursor goes log placed =
         starts_handler e of_claim.0 of_claim.1 pends after new answer for_claim running cursor (goes ∙ ap (λ p. thread_id p 1) (sym of_claim.2)) log
-        (λ xs x q. placed xs x q ∙ ap (λ p. record new.log { records = moved_to (irq_place p new.log.records) x xs }) (sym of_claim.2))
+        (subst (λ p. (before : List What) (k : ℕ) → LogTells new.log (before ++ Irq p k ∷ []) → log ≡ log_of (with_irq (record { pid = p; number = k }) before) new.log)
+        (sym of_claim.2) placed)
 
 -- its compare value, where it isn't due, and where it is
 pub timer_stays : {W : Type 0} (held : W → Held) (k : Kernel W) (timer : Option ℕ) → timer ≡ k.timer → machine_of held (record k { timer = timer }) ≡ machine_of held k

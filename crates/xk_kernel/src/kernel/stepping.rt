@@ -19,9 +19,9 @@ ghost use Rattle.xk_kernel.specs.Sound.{IsSound, IsUsable, IsWhole, Keeps};
 ghost use Rattle.xk_kernel.specs.State.{as_reservation, machine_of};
 ghost use Rattle.xk_kernel.specs.Stepping.{CountsStep, DoesStep, MayExchange};
 
-use crate::kernel::interrupts::HANDLER_RETURN;
 use crate::kernel::threads::THREAD_RETURN;
 use crate::kernel::{Kernel, Stepped, SwapFault};
+use irq_path::HANDLER_RETURN;
 use rv32_hart::Ran;
 use xk_base::{ThreadId, What};
 use xk_ports::SwapStore;

@@ -1,7 +1,7 @@
 //! One thread of the kernel is made, read, changed and answered; a step begins.
 
 ghost use Rattle.std.specs.Prelude.{◌≡◌, ◌+◌, ◌<◌, [], ◌∷◌, length, IsSome, IsTrue, Some};
-ghost use Rattle.machine_model.specs.State.Threads.{answer_to, change_thread, fresh_registers, give_answers, new_thread, passed};
+ghost use Rattle.machine_model.specs.State.Threads.{answer_to, change_thread, give_answers, new_thread, passed};
 ghost use Rattle.vm_memory.specs.Memory.{processes};
 ghost use Rattle.xk_base.specs.Tables.Circle.{is_thread_id};
 ghost use Rattle.xk_base.specs.declared.records.What.TheVariants.{Reply};
@@ -11,25 +11,14 @@ ghost use Rattle.xk_kernel.specs.State.{machine_of};
 ghost use Rattle.xk_kernel.specs.Telling.{Tells};
 
 use crate::kernel::Kernel;
+use irq_path::fresh_registers;
 use thread_table::{Thread, ThreadState};
-use xk_base::{Regs, ThreadId, What};
+use xk_base::{ThreadId, What};
 use xk_parts::{answer, pass};
 use xk_ports::SwapStore;
 
 /// The address at which a thread ends: a fetch there by a thread above tid 1 ends it.
 pub(super) const THREAD_RETURN: u32 = 0xFF80_3000;
-
-// Registers that begin with these values of ra and sp, these arguments from a0 on, and all else 0.
-pub(super) fn fresh_registers(ra: u32, sp: u32, args: [u32; 4]) -> Regs
-    ensures { result ≡ fresh_registers ra sp args }
-{
-    let mut regs = Regs::new();
-    regs.set(1, ra);
-    regs.set(2, sp);
-    let [a0, a1, a2, a3] = args;
-    regs.set_arguments([a0, a1, a2, a3, 0, 0, 0, 0]);
-    regs
-}
 
 // A thread that begins at an address.
 pub(super) fn new_thread(entry: u32, sp: u32, args: [u32; 4]) -> Thread

@@ -1,6 +1,6 @@
 use Rattle.std.proofs.Common.{◌≡◌, ◌+◌, drop}
-use Rattle.xk_kernel.specs.Ringing.{irq_place}
-use Rattle.xk_kernel.proofs.kernel.ringing.irq_place.Given as goal
+use Rattle.irq_path.specs.Placing.{irq_place}
+use Rattle.irq_path.proofs.placing.irq_place.Given as goal
 
 -- none of the records so far stands after
 abbrev pub invariant-records : goal.invariant-records

@@ -1,5 +1,5 @@
 use Rattle.std.proofs.Common.{◌≡◌, ◌++◌, take}
-use Rattle.xk_kernel.proofs.kernel.ringing.push_all.Given as goal
+use Rattle.irq_path.proofs.placing.push_all.Given as goal
 
 -- the records so far were appended
 abbrev pub invariant-records : goal.invariant-records

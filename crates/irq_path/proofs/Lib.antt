@@ -1,0 +1,4 @@
+pub mod ClaimLemmas
+pub mod DeliveryLemmas
+pub mod PlaceLemmas
+pub mod ThreadLemmas
