@@ -1,0 +1,109 @@
+//! A memory for the tests.
+
+ghost use Rattle.std.specs.Prelude.{◌≡◌, ◌<◌, ◌%◌, slice_index};
+ghost use Rattle.xk_base.specs.UserMemory.{number_at, size_of};
+
+use xk_base::{Failed, Stored, UserMemory, Width};
+
+/// 512 bytes from address 0, which a process may fetch, load and store. The last 16 are the
+/// console's.
+#[derive(Drop)]
+pub struct SmallMemory {
+    pub bytes: [u8; 512],
+}
+
+impl SmallMemory {
+    /// The number of that width at an address.
+    pub fn number(&self, va: u32, width: Width) -> u32
+        requires inside { va < 512 }
+        requires aligned { va % size_of width ≡ 0 }
+        ensures { result ≡ number_at (slice_index self.now.bytes) va width }
+    {
+        match width {
+            Width::Byte => self.byte(va),
+            Width::Half => self.byte(va) + 256 * self.byte(va + 1),
+            Width::Word => {
+                self.byte(va)
+                    + 256 * self.byte(va + 1)
+                    + 65536 * self.byte(va + 2)
+                    + 16_777_216 * self.byte(va + 3)
+            }
+        }
+    }
+
+    /// The byte at an address.
+    fn byte(&self, va: u32) -> u32
+        requires { va < 512 }
+        ensures is { result ≡ slice_index self.now.bytes va }
+        ensures fits { result < 256 }
+    {
+        u32::from(self.bytes[va as usize])
+    }
+}
+
+impl UserMemory for SmallMemory {
+    ghost use Rattle.std.specs.Prelude.{Some, None, false, nat_lt, nat_le, ◌&&◌, slice_index};
+    ghost use Rattle.std.proofs.Common.{rules};
+
+    ghost may = { λ memory access a. nat_lt a 512 };
+
+    ghost console = { λ memory a. nat_le 496 a && nat_lt a 512 };
+
+    ghost content = { λ memory. Some (slice_index memory.bytes) };
+
+    ghost out = { λ memory a. false };
+
+    ghost timer = { λ memory. None };
+
+    ghost fit = { λ memory. Unit {0} };
+
+    ghost faults = { λ memory. 0 };
+
+    ghost same_rest = { λ a b. Unit {0} };
+
+    fn fetch(&mut self, va: u32) -> Result<Option<u32>, Failed> {
+        if va >= 512 {
+            return Ok(None);
+        }
+        Ok(Some(self.number(va, Width::Word)))
+    }
+
+    fn load(&mut self, va: u32, width: Width) -> Result<Option<u32>, Failed> {
+        if va >= 512 {
+            return Ok(None);
+        }
+        Ok(Some(self.number(va, width)))
+    }
+
+    fn store(&mut self, va: u32, width: Width, value: u32) -> Result<Stored, Failed> {
+        if va >= 512 {
+            return Ok(Stored::Fault);
+        }
+        if va >= 496 {
+            return Ok(Stored::Device(va % 4096));
+        }
+        let at = va as usize;
+        match width {
+            Width::Byte => self.bytes[at] = (value % 256) as u8,
+            Width::Half => {
+                self.bytes[at] = (value % 256) as u8;
+                self.bytes[at + 1] = (value / 256 % 256) as u8;
+            }
+            Width::Word => {
+                self.bytes[at] = (value % 256) as u8;
+                self.bytes[at + 1] = (value / 256 % 256) as u8;
+                self.bytes[at + 2] = (value / 65536 % 256) as u8;
+                self.bytes[at + 3] = (value / 16_777_216 % 256) as u8;
+            }
+        }
+        Ok(Stored::Done)
+    }
+
+    fn can_store(&self, va: u32, _width: Width) -> bool {
+        va < 512
+    }
+
+    ghost bounded = { Prim.search rules };
+
+    ghost rest_over = { λ a b c h k. tt };
+}

@@ -1,0 +1,117 @@
+//! The events of a file, and its first bad line.
+
+use event_text::{Event, EventReader, NextEvent};
+use std::process::Abort;
+use xk_base::{Pid, Tid};
+
+/// The reader gives these answers when the file comes in pieces of this many bytes.
+fn expect_answers(rt: &impl Abort, file: &[u8], piece: usize, answers: &[NextEvent]) {
+    let mut reader = EventReader::new();
+    let mut rest = file;
+    for answer in answers {
+        let mut given = NextEvent::More;
+        for _ in 0..1000 {
+            given = reader.next();
+            if given != NextEvent::More {
+                break;
+            }
+            if rest.is_empty() {
+                reader.finish();
+            } else {
+                let taken = reader.feed(&rest[..rest.len().min(piece)]);
+                assert!(rt; taken > 0);
+                rest = &rest[taken..];
+            }
+        }
+        assert_eq!(rt; given, *answer);
+    }
+}
+
+fn tick(steps: u32) -> NextEvent {
+    NextEvent::Event(Event::Tick(steps))
+}
+
+fn kill(pid: u8) -> NextEvent {
+    NextEvent::Event(Event::Kill(Pid(pid)))
+}
+
+/// The line after `tick 1` is bad, and it is answered again.
+fn expect_bad(rt: &impl Abort, line: &[u8]) {
+    let mut reader = EventReader::new();
+    assert_eq!(rt; reader.feed(b"tick 1\n"), 7);
+    assert_eq!(rt; reader.next(), tick(1));
+    let next = reader.next();
+    assert_eq!(rt; next, NextEvent::More);
+    assert!(rt; reader.feed(line) > 0);
+    reader.finish();
+    assert_eq!(rt; reader.next(), NextEvent::Bad(2));
+    assert_eq!(rt; reader.next(), NextEvent::Bad(2));
+}
+
+#[test]
+fn event_lines(rt: HostRuntime) {
+    let file = b"tick 5\r\n   \n# note\n  kill   7  \ntick 4294967295\ntick 4294967296\n";
+    let answers = [
+        tick(5),
+        kill(7),
+        tick(4_294_967_295),
+        NextEvent::Bad(6),
+        NextEvent::Bad(6),
+    ];
+    for piece in [1usize, 7, 4096] {
+        expect_answers(&rt, file, piece, &answers);
+    }
+}
+
+#[test]
+fn good_lines(rt: HostRuntime) {
+    let file = b" # irq 1\nirq 31\npick 002  0255\r\ntick 0000000007\n\n\r\n  kill 3";
+    let answers = [
+        NextEvent::Event(Event::Irq(31)),
+        NextEvent::Event(Event::Pick(Pid(2), Tid(255))),
+        tick(7),
+        kill(3),
+        NextEvent::End,
+        NextEvent::End,
+    ];
+    for piece in [1usize, 7, 4096] {
+        expect_answers(&rt, file, piece, &answers);
+    }
+}
+
+#[test]
+fn files_without_events(rt: HostRuntime) {
+    expect_answers(&rt, b"", 1, &[NextEvent::End]);
+    expect_answers(&rt, b"\n\n\n", 7, &[NextEvent::End]);
+    // 64 spaces, with and without a line feed
+    let spaces = [b' '; 64];
+    expect_answers(&rt, &spaces, 4096, &[NextEvent::End]);
+}
+
+#[test]
+fn bad_lines(rt: HostRuntime) {
+    expect_bad(&rt, b"tick 4294967296");
+    expect_bad(&rt, b"irq 32");
+    expect_bad(&rt, b"pick 256 1");
+    expect_bad(&rt, b"pick 1 256");
+    expect_bad(&rt, b"kill 256");
+    expect_bad(&rt, b"tick");
+    expect_bad(&rt, b"tick 1 2");
+    expect_bad(&rt, b"pick 1");
+    expect_bad(&rt, b"tick 00000000001");
+    expect_bad(&rt, b"tick\r1");
+    expect_bad(&rt, b"tick 1\r\r");
+    expect_bad(&rt, b"tick\t1");
+    expect_bad(&rt, b"Tick 1");
+    expect_bad(&rt, b"tick -1");
+}
+
+#[test]
+fn long_lines(rt: HostRuntime) {
+    let spaces = [b' '; 65];
+    expect_bad(&rt, &spaces);
+    let mut line = [b' '; 66];
+    line[64] = b'\r';
+    line[65] = b'\n';
+    expect_bad(&rt, &line);
+}
