@@ -70,6 +70,3 @@ pub fn plan(
         Err(NoMemory) => Err(PlanError::NoMemory),
     }
 }
-
-#[cfg(test)]
-mod tests;

@@ -6,8 +6,6 @@ mod laws;
 mod line;
 mod numbers;
 mod reader;
-#[cfg(test)]
-mod tests;
 mod words;
 
 pub use event::NextEvent;

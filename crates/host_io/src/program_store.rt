@@ -119,6 +119,3 @@ impl<'a, D: Disk> SwapStore for ProgramStore<'a, D> {
         }
     }
 }
-
-#[cfg(test)]
-mod tests;

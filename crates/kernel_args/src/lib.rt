@@ -29,6 +29,3 @@ pub use laws::{converted_is_spelled, spelled_once_or_faulty};
 pub use loads::{file_size, file_sizes, is_zero_filled, loaded_bytes};
 pub use reading::read_args;
 pub use writing::{writable, write_args};
-
-#[cfg(test)]
-mod tests;

@@ -13,6 +13,3 @@ pub use free_runs::{free_run, least_free_is_the_ledgers};
 pub use loan::Loan;
 pub use runs::{end_run, give_run, lend_run, orphan_run, pass_run};
 pub use sending::may_send;
-
-#[cfg(test)]
-mod tests;

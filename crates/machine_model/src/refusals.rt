@@ -25,23 +25,3 @@ pub fn refusal_words(error: XousError) -> [u32; 8]
 {
     [1, error.code(), 0, 0, 0, 0, 0, 0]
 }
-
-#[cfg(test)]
-mod tests {
-    use super::*;
-
-    #[test]
-    fn first_of_two(rt: HostRuntime) {
-        let tests = [
-            (false, XousError::BadAlignment),
-            (true, XousError::ShareViolation),
-            (true, XousError::BadAddress),
-        ];
-        assert_eq!(rt; first_refusal(&tests), Some(XousError::ShareViolation));
-        assert_eq!(rt; first_refusal(&tests[..1]), None);
-        assert_eq!(rt;
-            refusal_words(XousError::ShareViolation),
-            [1, 19, 0, 0, 0, 0, 0, 0]
-        );
-    }
-}

@@ -190,6 +190,3 @@ impl Queues {
         ring.held_at(i)
     }
 }
-
-#[cfg(test)]
-mod tests;

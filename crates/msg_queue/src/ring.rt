@@ -284,6 +284,3 @@ impl Ring {
         )
     }
 }
-
-#[cfg(test)]
-mod tests;

@@ -128,6 +128,3 @@ impl Owners {
         let _ = &self.slots;
     }
 }
-
-#[cfg(test)]
-pub(crate) mod parts;

@@ -134,6 +134,3 @@ impl Ram {
         are_bytes(self.bytes.as_slice());
     }
 }
-
-#[cfg(test)]
-pub(crate) mod parts;

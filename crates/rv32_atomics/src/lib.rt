@@ -19,6 +19,3 @@ pub use decoding::decode_atomic;
 pub use encoding::encode_atomic;
 pub use laws::tables_are_apart;
 pub use run::{run_any, run_or_leave};
-
-#[cfg(test)]
-mod tests;

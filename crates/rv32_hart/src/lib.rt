@@ -13,6 +13,3 @@ mod stores;
 
 pub use ran::Ran;
 pub use run::{run_one, run_word};
-
-#[cfg(test)]
-mod tests;

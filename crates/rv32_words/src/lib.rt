@@ -14,6 +14,3 @@ mod opcodes;
 pub use decoding::decode;
 pub use encoding::encode;
 pub use insn::Insn;
-
-#[cfg(test)]
-mod tests;

@@ -24,6 +24,3 @@ pub use sides::{Entry, EntryKind, Side};
 pub use spaces::{leaf, new_space, root_of, set_leaf};
 pub use tables::{entry_word, maps_console, table_of};
 pub use walking::{Walked, walk};
-
-#[cfg(test)]
-mod tests;

@@ -6,6 +6,3 @@ mod exchanges;
 mod moves;
 
 pub use exchanges::{bring, evict};
-
-#[cfg(test)]
-mod tests;

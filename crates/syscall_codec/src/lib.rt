@@ -7,8 +7,6 @@ mod flags;
 mod numbers;
 mod read;
 mod replies;
-#[cfg(test)]
-mod tests;
 
 pub use calls::{Call, can_wait};
 pub use encode::call_words;

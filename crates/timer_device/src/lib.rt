@@ -8,6 +8,3 @@ mod page;
 pub use device::Timer;
 pub use laws::view_is_memory;
 pub use page::TimerView;
-
-#[cfg(test)]
-mod tests;

@@ -5,7 +5,5 @@
 
 mod lines;
 mod pieces;
-#[cfg(test)]
-mod tests;
 
 pub use lines::{EndWord, end_line, line};

@@ -11,8 +11,6 @@ mod pages;
 mod readers;
 mod removing;
 mod run_tests;
-#[cfg(test)]
-mod tests;
 mod user;
 
 pub use known::{KnownPages, KnownUser};

@@ -41,14 +41,3 @@ impl XousError {
         *self as u32
     }
 }
-
-#[cfg(test)]
-mod tests {
-    use super::*;
-
-    #[test]
-    fn codes(rt: HostRuntime) {
-        assert_eq!(rt; XousError::BadAlignment.code(), 1);
-        assert_eq!(rt; XousError::InvalidLimit.code(), 27);
-    }
-}

@@ -97,24 +97,3 @@ impl Log {
         self.records.as_slice()
     }
 }
-
-#[cfg(test)]
-mod tests {
-    use super::*;
-
-    #[test]
-    fn keeps_records_of_one_step(rt: HostRuntime) {
-        if let Ok(mut log) = Log::new(rt.alloc(), 2) {
-            log.push(What::Gone(Pid(2)));
-            log.clear(7);
-            log.push(What::Gone(Pid(3)));
-            let gone = Rec {
-                step: 7,
-                what: What::Gone(Pid(3)),
-            };
-            assert_eq!(rt; log.as_slice(), [gone].as_slice());
-        } else {
-            assert!(rt; false);
-        }
-    }
-}

@@ -60,17 +60,3 @@ impl<T: Clone + Copy> Row<T> {
         self.items.extend_from_slice(items).map_err(|_| NoMemory)
     }
 }
-
-#[cfg(test)]
-mod tests {
-    use super::*;
-
-    #[test]
-    fn keeps_order(rt: HostRuntime) {
-        let mut row = Row::new(rt.alloc());
-        assert_eq!(rt; row.push(7u32), Ok(()));
-        assert_eq!(rt; row.push(9u32), Ok(()));
-        assert_eq!(rt; row.extend_from_slice([7u32, 8].as_slice()), Ok(()));
-        assert_eq!(rt; row.as_slice(), [7, 9, 7, 8].as_slice());
-    }
-}

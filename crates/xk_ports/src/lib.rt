@@ -28,6 +28,3 @@ pub use sink::{Sink, put_all};
 pub use store::{StoreFault, SwapStore};
 pub use sure_sink::SureSink;
 pub use sure_store::SureStore;
-
-#[cfg(test)]
-mod tests;
