@@ -2,7 +2,7 @@
 
 ghost use Rattle.std.specs.Prelude.{◌≡◌, ◌<◌, ◌≤◌, [], ℕ, List, Option, length, take, IfOk, OnOk, OnErr};
 ghost use Rattle.xk_base.specs.Outside.{Rose};
-ghost use Rattle.xk_ports.specs.Told.{Grows, GrowsByPrefix};
+ghost use Rattle.xk_ports.specs.Told.{Grows, GrowsByProperPrefix};
 
 use xk_base::Failed;
 
@@ -29,10 +29,10 @@ pub trait Sink {
     ghost bounded: { (sink : Self) → faults sink ≤ 18446744073709551615 };
 }
 
-/// Appends all of `bytes`, or a part from their front where the sink failed.
+/// Appends all of `bytes`, or a proper part from their front where the sink failed.
 pub fn put_all<K: Sink>(out: &mut K, bytes: &[u8]) -> Result<(), Failed>
     ensures appended { OnOk result (Grows (K.written out.old) (K.written out.new) bytes.now) }
-    ensures front { OnErr result (GrowsByPrefix (K.written out.old) (K.written out.new) bytes.now) }
+    ensures front { OnErr result (GrowsByProperPrefix (K.written out.old) (K.written out.new) bytes.now) }
     ensures cause { OnErr result (Rose (K.faults out.old) (K.faults out.new)) }
     ensures never_falls { K.faults out.old ≤ K.faults out.new }
 {
