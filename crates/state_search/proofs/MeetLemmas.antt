@@ -67,8 +67,8 @@ module _ {Label Key : Type 0} where
     });
   }
 
-  module _ (cmp : Key → Key → Ordering) (from : ℕ) where
-    pub meets_none : (told : List (Successor Label Key)) (s : Search Label Key) → Meets cmp from told 0 s s
+  module _ {Note : Type 0} (cmp : Key → Key → Ordering) (from : ℕ) where
+    pub meets_none : (told : List (Successor Label Key)) (s : Search Label Key Note) → Meets cmp from told 0 s s
     meets_none told s = record {
       adds = record { more = []; is = sym (append-nil s.edges.items); each = λ k e h. absurd (none h) };
       kept = λ q h. h;
@@ -80,7 +80,7 @@ module _ {Label Key : Type 0} where
         none h = cc
 
     -- the edge is added, and its key is seen
-    pub meets_new : (s : Successor Label Key) (old new : Search Label Key)
+    pub meets_new : (s : Successor Label Key) (old new : Search Label Key Note)
         → new.edges.items ≡ old.edges.items ++ (record { from = from; label = s.label }) ∷ []
         → Updates cmp old.seen new.seen s.key true → Meets cmp from (s ∷ []) 1 old new
     meets_new s old new edges updates = record {
@@ -121,7 +121,7 @@ module _ {Label Key : Type 0} where
         anew q (inr h) = inl h
 
     -- the key was seen before
-    pub meets_known : (s : Successor Label Key) (old new : Search Label Key) → new.edges.items ≡ old.edges.items
+    pub meets_known : (s : Successor Label Key) (old new : Search Label Key Note) → new.edges.items ≡ old.edges.items
         → IsUnchanged old.seen new.seen → false ≡ not (contains cmp old.seen s.key) → Meets cmp from (s ∷ []) 1 old new
     meets_known s old new edges keys known = record {
       adds = record { more = []; is = edges ∙ sym (append-nil old.edges.items); each = λ k e h. absurd (none h) };
@@ -143,7 +143,7 @@ module _ {Label Key : Type 0} where
         there (suc i) t first is = absurd (omega arith)
 
     -- the first n, and then the next
-    pub meets_next : (told : List (Successor Label Key)) (n : ℕ) (s : Successor Label Key) (a b c : Search Label Key)
+    pub meets_next : (told : List (Successor Label Key)) (n : ℕ) (s : Successor Label Key) (a b c : Search Label Key Note)
         → Meets cmp from told n a b → slice_get told n ≡ Some s → Meets cmp from (s ∷ []) 1 b c → Meets cmp from told (n + 1) a c
     meets_next told n s a b c first is next = record {
       adds = record {

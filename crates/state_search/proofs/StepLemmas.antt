@@ -10,7 +10,7 @@ use Rattle.state_search.specs.declared.found.Edge.{Edge}
 use Rattle.state_search.specs.declared.meeting.Search.{Search}
 use Rattle.state_search.specs.declared.space.Successor.{Successor}
 use Rattle.state_search.specs.Edges.{AreEdges, IsKeyAt, HasLabel}
-use Rattle.state_search.specs.Graph.{node_by, IsEnd, IsLeft}
+use Rattle.state_search.specs.Graph.{node_by}
 use Rattle.state_search.specs.Paths.{IsTree, labels_to}
 use Rattle.state_search.specs.Searching.{IsOneOf, Adds, IsAdded, Meets, IsKeyFound, IsMetBy, SearchedAt, Searched}
 use Rattle.state_search.specs.Told.{IsFound, Tells}
@@ -68,8 +68,8 @@ module _ {Node Label : Type 0} (after : Node → Label → Option Node) where
       by_path = ap (node_by after start) (labels_to-edge edges k e tree there) ∙ one_further (labels_to edges e.from) m next e.label from.by_path is;
     }
 
-module _ {Node Label Key : Type 0} (after : Node → Label → Option Node) (IsKey : Node → Key → Type 0) (cmp : Key → Key → Ordering)
-    (start : Node) where
+module _ {Node Label Key Note : Type 0} (after : Node → Label → Option Node) (IsKey : Node → Key → Type 0)
+    (IsNote : Node → Note → Type 0) (cmp : Key → Key → Ordering) (start : Node) where
   key_front : (edges more : List (Edge Label)) (q : Key) → IsTree edges → IsKeyFound after IsKey cmp start edges q
       → IsKeyFound after IsKey cmp start (edges ++ more) q
   key_front edges more q tree f = record {
@@ -100,10 +100,10 @@ module _ {Node Label Key : Type 0} (after : Node → Label → Option Node) (IsK
     of_next = f.of_next;
   }
 
-  module _ (edges more : List (Edge Label)) (leaving : List ℕ) (m : Node) (told : List (Successor Label Key))
-      (tells : Tells after start edges leaving) (left : length leaving ≤ length edges)
-      (here : IsFound after start edges (length leaving) m) (all : AreEdges after IsKey m told)
-      (each : (k : ℕ) (e : Edge Label) → slice_get more k ≡ Some e → IsOneOf (length leaving) told (length told) e) where
+  module _ (edges more : List (Edge Label)) (notes : List Note) (m : Node) (told : List (Successor Label Key))
+      (tells : Tells after IsNote start edges notes) (left : length notes ≤ length edges)
+      (here : IsFound after start edges (length notes) m) (all : AreEdges after IsKey m told)
+      (each : (k : ℕ) (e : Edge Label) → slice_get more k ≡ Some e → IsOneOf (length notes) told (length told) e) where
     new_tree : IsTree (edges ++ more)
     new_tree k e is = go (front_or_behind edges more k e is)
       where
@@ -121,9 +121,9 @@ module _ {Node Label Key : Type 0} (after : Node → Label → Option Node) (IsK
         → s.label ≡ e.label → IsNew k e s
     new_node k e s i there is same =
         let keyed : IsKeyAt after IsKey (after m s.label) s.key = all.each i s is in
-        let o : IsOneOf (length leaving) told (length told) e = each k e there in
+        let o : IsOneOf (length notes) told (length told) e = each k e there in
         let from : IsFound after start (edges ++ more) e.from m =
-        subst (λ (n : ℕ). IsFound after start (edges ++ more) n m) (sym o.from_is) (found_front after start edges more (length leaving) m tells.tree here) in
+        subst (λ (n : ℕ). IsFound after start (edges ++ more) n m) (sym o.from_is) (found_front after start edges more (length notes) m tells.tree here) in
         record {
           next = keyed.node;
           is = found_edge after start (edges ++ more) (length edges + k) e m keyed.node new_tree (slice_get-behind edges more k ∙ there) from
@@ -144,83 +144,52 @@ module _ {Node Label Key : Type 0} (after : Node → Label → Option Node) (IsK
             let old : (node : Node) × IsFound after start edges (suc k) node = tells.led_to (suc k) (let w = slice_get_within edges k e h in omega arith) in
             (old.0, found_front after start edges more (suc k) old.0 tells.tree old.1)
         go e (inr b) =
-            let o : IsOneOf (length leaving) told (length told) e = each b.place e b.is in
+            let o : IsOneOf (length notes) told (length told) e = each b.place e b.is in
             let new : IsNew b.place e o.successor = new_node b.place e o.successor o.place b.is o.is o.label_is in
             (new.next, subst (λ (n : ℕ). IsFound after start (edges ++ more) (suc n) new.next) (sym b.sum) new.is)
 
-    -- the node's edges are told, but not yet how many there are
-    pub tells_more : Tells after start (edges ++ more) leaving
+    -- the node's edges are told, but not yet its note
+    pub tells_more : Tells after IsNote start (edges ++ more) notes
     tells_more = record {
       tree = new_tree;
       led_to = new_led_to;
       few = (let f = tells.few in omega (arith, length-append edges more));
-      ends = λ i node f is. tells.ends i node (back i node is f) is;
-      inner = λ i k node f is. tells.inner i k node (back i node is f) is;
+      noted = λ i node note f is. tells.noted i node note (back i node note is f) is;
     }
       where
-        back : {k : ℕ} (i : ℕ) (node : Node) → slice_get leaving i ≡ Some k → IsFound after start (edges ++ more) i node
+        back : (i : ℕ) (node : Node) (note : Note) → slice_get notes i ≡ Some note → IsFound after start (edges ++ more) i node
             → IsFound after start edges i node
-        back {k} i node is f = found_back after start edges more i node tells.tree (let w = slice_get_within leaving i k is in omega (arith, left)) f
-
-    some_none : (o : Option Node) → ((next : Node) → o ≡ Some next → ⊥) → o ≡ None
-    some_none None never = refl
-    some_none (Some next) never = absurd (never next refl)
-
-    no_edge : (ts : List (Successor Label Key)) → length ts ≡ 0 → (label : Label) → HasLabel after IsKey ts label → ⊥
-    no_edge [] none label h = let is : None ≡ Some h.edge = h.is in cc
-    no_edge (t ∷ ts) none label h = omega arith
-
-    an_edge : (ts : List (Successor Label Key)) (k : ℕ) → length ts ≡ suc k → (s : Successor Label Key) × (slice_get ts 0 ≡ Some s)
-    an_edge [] k some = absurd (omega arith)
-    an_edge (t ∷ ts) k some = (t, refl)
-
-    -- which number of edges is told where
-    at_which : (i k : ℕ) → slice_get (leaving ++ length told ∷ []) i ≡ Some k
-        → (slice_get leaving i ≡ Some k) ⊎ ((i ≡ length leaving) × (length told ≡ k))
-    at_which i k is = go (front_or_behind leaving (length told ∷ []) i k is)
-      where
-        last : (place : ℕ) → i ≡ length leaving + place → slice_get (length told ∷ []) place ≡ Some k → (i ≡ length leaving) × (length told ≡ k)
-        last zero sum is = (omega arith, cc)
-        last (suc place) sum is = absurd (let no : None ≡ Some k = is in let n : ⊥ = cc in n)
-
-        go : (slice_get leaving i ≡ Some k) ⊎ IsBehind leaving (length told ∷ []) i k
-            → (slice_get leaving i ≡ Some k) ⊎ ((i ≡ length leaving) × (length told ≡ k))
-        go (inl h) = inl h
-        go (inr b) = inr (last b.place b.sum b.is)
+        back i node note is f = found_back after start edges more i node tells.tree (let w = slice_get_within notes i note is in omega (arith, left)) f
 
     -- it is the node, where its number is told
-    the_node : (i : ℕ) (node : Node) → i ≡ length leaving → IsFound after start (edges ++ more) i node → m ≡ node
+    the_node : (i : ℕ) (node : Node) → i ≡ length notes → IsFound after start (edges ++ more) i node → m ≡ node
     the_node i node is f =
-        found_same after start (edges ++ more) (length leaving) m node (found_front after start edges more (length leaving) m tells.tree here)
+        found_same after start (edges ++ more) (length notes) m node (found_front after start edges more (length notes) m tells.tree here)
         (subst (λ (n : ℕ). IsFound after start (edges ++ more) n node) is f)
 
-    -- and how many there are
-    pub tells_next : Tells after start (edges ++ more) (leaving ++ length told ∷ [])
-    tells_next = record {
+    -- and its note
+    pub tells_next : (note : Note) → IsNote m note → Tells after IsNote start (edges ++ more) (notes ++ note ∷ [])
+    tells_next note right = record {
       tree = new_tree;
       led_to = new_led_to;
-      few = omega (arith, left, length-append edges more, length-append leaving (length told ∷ []));
-      ends = λ i node f is. ends i node f (at_which i 0 is);
-      inner = λ i k node f is. inner i k node f (at_which i (suc k) is);
+      few = omega (arith, left, length-append edges more, length-append notes (note ∷ []));
+      noted = λ i node other f is. noted i node other f (front_or_behind notes (note ∷ []) i other is);
     }
       where
-        ends : (i : ℕ) (node : Node) → IsFound after start (edges ++ more) i node
-            → (slice_get leaving i ≡ Some 0) ⊎ ((i ≡ length leaving) × (length told ≡ 0)) → IsEnd after node
-        ends i node f (inl h) = tells_more.ends i node f h
-        ends i node f (inr last) =
-            let same : m ≡ node = the_node i node last.0 f in
-            subst (IsEnd after) same (λ label. some_none (after m label) (λ next is. no_edge told last.1 label (all.all label next is)))
+        last : (i place : ℕ) (node : Node) (other : Note) → IsFound after start (edges ++ more) i node → i ≡ length notes + place
+            → slice_get (note ∷ []) place ≡ Some other → IsNote node other
+        last i zero node other f sum is =
+            let same : m ≡ node = the_node i node (omega (arith, sum)) f in
+            let one : note ≡ other = cc in
+            subst (λ (n : Node). IsNote n other) same (subst (IsNote m) one right)
+        last i (suc place) node other f sum is = absurd (let no : None ≡ Some other = is in let n : ⊥ = cc in n)
 
-        inner : (i k : ℕ) (node : Node) → IsFound after start (edges ++ more) i node
-            → (slice_get leaving i ≡ Some (suc k)) ⊎ ((i ≡ length leaving) × (length told ≡ suc k)) → IsLeft after node
-        inner i k node f (inl h) = tells_more.inner i k node f h
-        inner i k node f (inr last) =
-            let same : m ≡ node = the_node i node last.0 f in
-            let edge : (s : Successor Label Key) × (slice_get told 0 ≡ Some s) = an_edge told k last.1 in
-            let keyed : IsKeyAt after IsKey (after m edge.0.label) edge.0.key = all.each 0 edge.0 edge.1 in
-            subst (IsLeft after) same (record { label = edge.0.label; next = keyed.node; is = keyed.there })
+        noted : (i : ℕ) (node : Node) (other : Note) → IsFound after start (edges ++ more) i node
+            → (slice_get notes i ≡ Some other) ⊎ IsBehind notes (note ∷ []) i other → IsNote node other
+        noted i node other f (inl h) = tells_more.noted i node other f h
+        noted i node other f (inr b) = last i b.place node other f b.sum b.is
 
-    module _ (old seen : BTreeSet Key) (searched : SearchedAt after IsKey cmp start edges leaving old)
+    module _ (note : Note) (right : IsNote m note) (old seen : BTreeSet Key) (searched : SearchedAt after IsKey IsNote cmp start edges notes old)
         (there : (i : ℕ) (s : Successor Label Key) → i < length told → slice_get told i ≡ Some s → contains cmp seen s.key ≡ true)
         (anew : (q : Key) → contains cmp seen q ≡ true → (contains cmp old q ≡ true) ⊎ IsAdded cmp told (length told) more q) where
       now_seen : (q : Key) → contains cmp seen q ≡ true → IsKeyFound after IsKey cmp start (edges ++ more) q
@@ -239,21 +208,21 @@ module _ {Node Label Key : Type 0} (after : Node → Label → Option Node) (IsK
                 equal = d.equal;
               }
 
-      now_before : (k : ℕ) (e : Edge Label) → slice_get (edges ++ more) k ≡ Some e → e.from ≤ length leaving
+      now_before : (k : ℕ) (e : Edge Label) → slice_get (edges ++ more) k ≡ Some e → e.from ≤ length notes
       now_before k e is = go (front_or_behind edges more k e is)
         where
-          go : (slice_get edges k ≡ Some e) ⊎ IsBehind edges more k e → e.from ≤ length leaving
+          go : (slice_get edges k ≡ Some e) ⊎ IsBehind edges more k e → e.from ≤ length notes
           go (inl h) = let b = searched.before k e h in omega arith
           go (inr b) = let o = each b.place e b.is in let f = o.from_is in omega arith
 
-      now_followed : (i : ℕ) (node : Node) (label : Label) (next : Node) → i < length leaving + 1
+      now_followed : (i : ℕ) (node : Node) (label : Label) (next : Node) → i < length notes + 1
           → IsFound after start (edges ++ more) i node → after node label ≡ Some next → IsMetBy after IsKey cmp start (edges ++ more) i next
       now_followed i node label next within f is = go (which within)
         where
-          which : i < length leaving + 1 → (i < length leaving) ⊎ (i ≡ length leaving)
+          which : i < length notes + 1 → (i < length notes) ⊎ (i ≡ length notes)
           which h = grind arith
 
-          go : (i < length leaving) ⊎ (i ≡ length leaving) → IsMetBy after IsKey cmp start (edges ++ more) i next
+          go : (i < length notes) ⊎ (i ≡ length notes) → IsMetBy after IsKey cmp start (edges ++ more) i next
           go (inl less) =
               met_front edges more i next tells.tree
               (searched.followed i node label next less (found_back after start edges more i node tells.tree (omega (arith, left, less)) f) is)
@@ -281,34 +250,34 @@ module _ {Node Label Key : Type 0} (after : Node → Label → Option Node) (IsK
           go (inr b) (inl h') = absurd (let w = slice_get_within edges l f h' in let s = b.sum in let no : ⊥ = omega (arith, w, s, less) in no)
           go (inr b) (inr b') = let o = each b.place e b.is in let o' = each b'.place f b'.is in let x = o.from_is in let y = o'.from_is in omega arith
 
-      pub searched_on : SearchedAt after IsKey cmp start (edges ++ more) (leaving ++ length told ∷ []) seen
+      pub searched_on : SearchedAt after IsKey IsNote cmp start (edges ++ more) (notes ++ note ∷ []) seen
       searched_on = record {
-        tells = tells_next;
+        tells = tells_next note right;
         seen = now_seen;
-        followed = λ i node label next within. now_followed i node label next (omega (arith, within, length-append leaving (length told ∷ [])));
+        followed = λ i node label next within. now_followed i node label next (omega (arith, within, length-append notes (note ∷ [])));
         in_order = now_in_order;
-        before = λ k e is. (let b = now_before k e is in omega (arith, b, length-append leaving (length told ∷ [])));
+        before = λ k e is. (let b = now_before k e is in omega (arith, b, length-append notes (note ∷ [])));
       }
 
   -- the same with what a search has in other terms
 
-  pub tells_more_by : (edges edges' : List (Edge Label)) (leaving leaving' : List ℕ) (m : Node) (told : List (Successor Label Key)) (from : ℕ)
-      → Tells after start edges leaving → length leaving ≤ length edges → from ≡ length leaving → IsFound after start edges from m
-      → AreEdges after IsKey m told → Adds from told (length told) edges edges' → leaving' ≡ leaving → Tells after start edges' leaving'
-  tells_more_by edges edges' leaving leaving' m told from tells left from_is here all adds same =
-      subst (λ (ls : List ℕ). Tells after start edges' ls) (sym same)
-      (subst (λ (es : List (Edge Label)). Tells after start es leaving) (sym adds.is)
-      (tells_more edges adds.more leaving m told tells left (subst (λ (n : ℕ). IsFound after start edges n m) from_is here) all
+  pub tells_more_by : (edges edges' : List (Edge Label)) (notes notes' : List Note) (m : Node) (told : List (Successor Label Key)) (from : ℕ)
+      → Tells after IsNote start edges notes → length notes ≤ length edges → from ≡ length notes → IsFound after start edges from m
+      → AreEdges after IsKey m told → Adds from told (length told) edges edges' → notes' ≡ notes → Tells after IsNote start edges' notes'
+  tells_more_by edges edges' notes notes' m told from tells left from_is here all adds same =
+      subst (λ (ns : List Note). Tells after IsNote start edges' ns) (sym same)
+      (subst (λ (es : List (Edge Label)). Tells after IsNote start es notes) (sym adds.is)
+      (tells_more edges adds.more notes m told tells left (subst (λ (n : ℕ). IsFound after start edges n m) from_is here) all
       (λ k e h. subst (λ (n : ℕ). IsOneOf n told (length told) e) from_is (adds.each k e h))))
 
-  pub searched_by : (old met : Search Label Key) (leaving' : List ℕ) (m : Node) (told : List (Successor Label Key)) (from : ℕ)
-      → Searched after IsKey cmp start old → length old.leaving.items ≤ length old.edges.items → from ≡ length old.leaving.items
-      → IsFound after start old.edges.items from m → AreEdges after IsKey m told → Meets cmp from told (length told) old met
-      → leaving' ≡ old.leaving.items ++ length told ∷ [] → SearchedAt after IsKey cmp start met.edges.items leaving' met.seen
-  searched_by old met leaving' m told from searched left from_is here all meets same =
-      subst (λ (ls : List ℕ). SearchedAt after IsKey cmp start met.edges.items ls met.seen) (sym same)
-      (subst (λ (es : List (Edge Label)). SearchedAt after IsKey cmp start es (old.leaving.items ++ length told ∷ []) met.seen) (sym meets.adds.is)
-      (searched_on old.edges.items meets.adds.more old.leaving.items m told searched.tells left
+  pub searched_by : (old met : Search Label Key Note) (notes' : List Note) (m : Node) (told : List (Successor Label Key)) (note : Note) (from : ℕ)
+      → Searched after IsKey IsNote cmp start old → length old.notes.items ≤ length old.edges.items → from ≡ length old.notes.items
+      → IsFound after start old.edges.items from m → AreEdges after IsKey m told → IsNote m note → Meets cmp from told (length told) old met
+      → notes' ≡ old.notes.items ++ note ∷ [] → SearchedAt after IsKey IsNote cmp start met.edges.items notes' met.seen
+  searched_by old met notes' m told note from searched left from_is here all right meets same =
+      subst (λ (ns : List Note). SearchedAt after IsKey IsNote cmp start met.edges.items ns met.seen) (sym same)
+      (subst (λ (es : List (Edge Label)). SearchedAt after IsKey IsNote cmp start es (old.notes.items ++ note ∷ []) met.seen) (sym meets.adds.is)
+      (searched_on old.edges.items meets.adds.more old.notes.items m told searched.tells left
       (subst (λ (n : ℕ). IsFound after start old.edges.items n m) from_is here) all
       (λ k e h. subst (λ (n : ℕ). IsOneOf n told (length told) e) from_is (meets.adds.each k e h))
-      old.seen met.seen searched meets.there meets.anew))
+      note right old.seen met.seen searched meets.there meets.anew))

@@ -10,19 +10,19 @@ use Rattle.std.specs.BTreeMap.{is_at}
 use Rattle.std.specs.List.{list_any}
 use Rattle.std.proofs.lemmas.Bool.{false≢true}
 use Rattle.state_search.specs.declared.found.Edge.{Edge}
-use Rattle.state_search.specs.Graph.{node_by, IsEnd, IsLeft}
+use Rattle.state_search.specs.Graph.{node_by}
 use Rattle.state_search.specs.Paths.{IsTree, labels_to}
 use Rattle.state_search.specs.Searching.{IsKeyFound, IsMetBy, SearchedAt}
-use Rattle.state_search.specs.Told.{IsFound, IsTold, IsEndTold, Tells, TellsAll, KeysTell}
+use Rattle.state_search.specs.Told.{IsFound, IsTold, Tells, TellsAll, KeysTell}
 use Rattle.state_search.proofs.ListLemmas.{element_at}
 use Rattle.state_search.proofs.PathLemmas.{labels_to-edge, labels_to-start}
 use Rattle.state_search.proofs.MeetLemmas.{is_equal}
 use Rattle.state_search.proofs.StepLemmas.{one_further}
 
-module _ {Node Label Key : Type 0} (after : Node → Label → Option Node) (IsKey : Node → Key → Type 0) (cmp : Key → Key → Ordering)
-    (start : Node) where
-  module _ (edges : List (Edge Label)) (leaving : List ℕ) (keys : BTreeSet Key)
-      (searched : SearchedAt after IsKey cmp start edges leaving keys) where
+module _ {Node Label Key Note : Type 0} (after : Node → Label → Option Node) (IsKey : Node → Key → Type 0)
+    (IsNote : Node → Note → Type 0) (cmp : Key → Key → Ordering) (start : Node) where
+  module _ (edges : List (Edge Label)) (notes : List Note) (keys : BTreeSet Key)
+      (searched : SearchedAt after IsKey IsNote cmp start edges notes keys) where
     -- the paths of later nodes are no shorter
     by_depth : (most i j : ℕ) → j ≤ most → i ≤ j → j ≤ length edges → length (labels_to edges i) ≤ length (labels_to edges j)
     by_depth most zero j few less within = rw labels_to-start (omega arith)
@@ -54,7 +54,7 @@ module _ {Node Label Key : Type 0} (after : Node → Label → Option Node) (IsK
         ap length (labels_to-edge edges k a.0 searched.tells.tree a.1) ∙ length-append (labels_to edges a.0.from) (a.0.label ∷ []) in
         omega (arith, shorter, x)
 
-    module _ (all : length leaving ≡ length edges + 1) (tell : KeysTell after start IsKey cmp) where
+    module _ (all : length notes ≡ length edges + 1) (tell : KeysTell after start IsKey cmp) where
       -- the path of a node that is told, and then labels: a node that is told
       told_from : (path : List Label) (i : ℕ) (m n : Node) → IsFound after start edges i m → node_by after m path ≡ Some n
           → IsTold after start edges n (length (labels_to edges i) + length path)
@@ -86,26 +86,8 @@ module _ {Node Label Key : Type 0} (after : Node → Label → Option Node) (IsK
           let none : length (labels_to edges 0) ≡ 0 = ap length (labels_to-start edges) in
           record { number = told.number; is = told.is; no_longer = omega (arith, short, none) }
 
-      end_told : (node : Node) (number : ℕ) → IsFound after start edges number node → IsEnd after node → IsEndTold after start edges leaving node
-      end_told node number f ends =
-          let within : number ≤ length edges = f.told in
-          let there : (k : ℕ) × (slice_get leaving number ≡ Some k) = element_at leaving number (omega (arith, all, within)) in
-          go there.0 there.1
-        where
-          go : (k : ℕ) → slice_get leaving number ≡ Some k → IsEndTold after start edges leaving node
-          go zero is = record { number = number; is = f; none = is }
-          go (suc k) is =
-              let left : IsLeft after node = searched.tells.inner number k node f is in
-              let a : after node left.label ≡ None = ends left.label in
-              let b : after node left.label ≡ Some left.next = left.is in
-              absurd (let no : ⊥ = cc (a, b) in no)
-
-      pub tells_all : TellsAll after start edges leaving
-      tells_all = record {
-        each = told_by;
-        ends = λ path node is ends.
-            (let told : IsTold after start edges node (length path) = told_by path node is in end_told node told.number told.is ends);
-      }
+      pub tells_all : TellsAll after start edges
+      tells_all = told_by
 
   -- ---- the beginning
 
@@ -118,26 +100,25 @@ module _ {Node Label Key : Type 0} (after : Node → Label → Option Node) (IsK
   no_edge_yet [] is k e at = cc
   no_edge_yet (f ∷ edges) is k e at = cc
 
-  no_number_yet : (leaving : List ℕ) → leaving ≡ [] → (k n : ℕ) → slice_get leaving k ≡ Some n → ⊥
-  no_number_yet [] is k n at = cc
-  no_number_yet (f ∷ leaving) is k n at = cc
+  no_note_yet : (notes : List Note) → notes ≡ [] → (k : ℕ) (note : Note) → slice_get notes k ≡ Some note → ⊥
+  no_note_yet [] is k note at = cc
+  no_note_yet (other ∷ notes) is k note at = cc
 
   -- the start alone is told
-  pub tells_start : (edges : List (Edge Label)) (leaving : List ℕ) → edges ≡ [] → leaving ≡ [] → Tells after start edges leaving
-  tells_start edges leaving none none' = record {
+  pub tells_start : (edges : List (Edge Label)) (notes : List Note) → edges ≡ [] → notes ≡ [] → Tells after IsNote start edges notes
+  tells_start edges notes none none' = record {
     tree = λ k e at. absurd (no_edge_yet edges none k e at);
     led_to = λ i within. (start, start_alone edges none i within);
-    few = (let h : length leaving ≡ 0 = ap length none' in omega (arith, h));
-    ends = λ i node f at. absurd (no_number_yet leaving none' i 0 at);
-    inner = λ i k node f at. absurd (no_number_yet leaving none' i (suc k) at);
+    few = (let h : length notes ≡ 0 = ap length none' in omega (arith, h));
+    noted = λ i node note f at. absurd (no_note_yet notes none' i note at);
   }
 
-  pub searched_start : (edges : List (Edge Label)) (leaving : List ℕ) (keys : BTreeSet Key) (key : Key) → edges ≡ [] → leaving ≡ []
-      → ((q : Key) → contains cmp keys q ≡ true → cmp key q ≡ Equal) → IsKey start key → SearchedAt after IsKey cmp start edges leaving keys
-  searched_start edges leaving keys key none none' only is = record {
-    tells = tells_start edges leaving none none';
+  pub searched_start : (edges : List (Edge Label)) (notes : List Note) (keys : BTreeSet Key) (key : Key) → edges ≡ [] → notes ≡ []
+      → ((q : Key) → contains cmp keys q ≡ true → cmp key q ≡ Equal) → IsKey start key → SearchedAt after IsKey IsNote cmp start edges notes keys
+  searched_start edges notes keys key none none' only is = record {
+    tells = tells_start edges notes none none';
     seen = λ q h. record { number = 0; node = start; is = start_alone edges none 0 (omega arith); key = key; of_node = is; equal = only q h };
-    followed = λ i node label next within. absurd (let h : length leaving ≡ 0 = ap length none' in let no : ⊥ = omega (arith, h, within) in no);
+    followed = λ i node label next within. absurd (let h : length notes ≡ 0 = ap length none' in let no : ⊥ = omega (arith, h, within) in no);
     in_order = λ k l e f less at. absurd (no_edge_yet edges none k e at);
     before = λ k e at. absurd (no_edge_yet edges none k e at);
   }

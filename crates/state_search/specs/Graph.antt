@@ -1,5 +1,5 @@
 -- A graph of nodes with labelled edges: `after` is the node to which a label leads from a node, where such an edge leaves it.
-use Rattle.std.specs.Prelude.{◌≡◌, List, [], ◌∷◌, Option, Some, None}
+use Rattle.std.specs.Prelude.{◌≡◌, List, [], ◌∷◌, Option, Some}
 use Rattle.std.specs.Option.{option_and_then}
 
 module _ {Node Label : Type 0} (after : Node → Label → Option Node) where
@@ -11,13 +11,3 @@ module _ {Node Label : Type 0} (after : Node → Label → Option Node) where
   -- the path leads to a node
   abbrev pub LeadsOn : Node → List Label → Type 0
   LeadsOn node path = (last : Node) × (node_by node path ≡ Some last)
-
-  -- no edge leaves the node
-  abbrev pub IsEnd : Node → Type 0
-  IsEnd node = (label : Label) → after node label ≡ None
-
-  -- one does
-  pub record IsLeft (node : Node) : Type 0 where
-    pub label : Label
-    pub next : Node
-    pub is : after node label ≡ Some next

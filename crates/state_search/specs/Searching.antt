@@ -37,8 +37,9 @@ module _ {Label Key : Type 0} where
     pub label_is : successor.label ≡ edge.label
     pub equal : cmp successor.key q ≡ Equal
 
+module _ {Label Key Note : Type 0} where
   -- the nodes of the first n edges were met: each has its key among those seen, and what is seen anew are keys of nodes that were added
-  pub record Meets (cmp : Key → Key → Ordering) (from : ℕ) (told : List (Successor Label Key)) (n : ℕ) (old new : Search Label Key)
+  pub record Meets (cmp : Key → Key → Ordering) (from : ℕ) (told : List (Successor Label Key)) (n : ℕ) (old new : Search Label Key Note)
       : Type 0 where
     pub adds : Adds from told n old.edges.items new.edges.items
     pub kept : (q : Key) → contains cmp old.seen q ≡ true → contains cmp new.seen q ≡ true
@@ -64,16 +65,18 @@ module _ {Node Label Key : Type 0} (after : Node → Label → Option Node) (IsK
     pub by_then : (k : ℕ) (edge : Edge Label) → found.number ≡ suc k → slice_get edges k ≡ Some edge → edge.from ≤ i
     pub of_next : IsKey next found_key
 
-  pub record SearchedAt (edges : List (Edge Label)) (leaving : List ℕ) (keys : BTreeSet Key) : Type 0 where
-    pub tells : Tells after start edges leaving
+module _ {Node Label Key Note : Type 0} (after : Node → Label → Option Node) (IsKey : Node → Key → Type 0)
+    (IsNote : Node → Note → Type 0) (cmp : Key → Key → Ordering) (start : Node) where
+  pub record SearchedAt (edges : List (Edge Label)) (notes : List Note) (keys : BTreeSet Key) : Type 0 where
+    pub tells : Tells after IsNote start edges notes
     -- only keys of nodes that were found are seen
-    pub seen : (q : Key) → contains cmp keys q ≡ true → IsKeyFound edges q
+    pub seen : (q : Key) → contains cmp keys q ≡ true → IsKeyFound after IsKey cmp start edges q
     -- the edges of the first nodes were followed
-    pub followed : (i : ℕ) (node : Node) (label : Label) (next : Node) → i < length leaving
-        → IsFound after start edges i node → after node label ≡ Some next → IsMetBy edges i next
+    pub followed : (i : ℕ) (node : Node) (label : Label) (next : Node) → i < length notes
+        → IsFound after start edges i node → after node label ≡ Some next → IsMetBy after IsKey cmp start edges i next
     -- breadth first: the edges come from the nodes in their order, and from those whose edges were followed
     pub in_order : (k l : ℕ) (e f : Edge Label) → k ≤ l → slice_get edges k ≡ Some e → slice_get edges l ≡ Some f → e.from ≤ f.from
-    pub before : (k : ℕ) (e : Edge Label) → slice_get edges k ≡ Some e → e.from < length leaving
+    pub before : (k : ℕ) (e : Edge Label) → slice_get edges k ≡ Some e → e.from < length notes
 
-  abbrev pub Searched : Search Label Key → Type 0
-  Searched s = SearchedAt s.edges.items s.leaving.items s.seen
+  abbrev pub Searched : Search Label Key Note → Type 0
+  Searched s = SearchedAt s.edges.items s.notes.items s.seen

@@ -29,10 +29,10 @@ pub enum Extent {
 /// The nodes that a search found, numbered in the order in which it came to them. Node 0 is the start, and node k + 1 is that to which
 /// `edges[k]` leads.
 #[derive(Drop)]
-pub struct Found<L> {
+pub struct Found<L, N> {
     pub edges: Vec<Edge<L>>,
-    /// How many edges leave each of the first nodes. Those of the later nodes weren't followed.
-    pub leaving: Vec<usize>,
+    /// The notes of the first nodes. The edges of the later nodes weren't followed.
+    pub notes: Vec<N>,
     pub extent: Extent,
 }
 

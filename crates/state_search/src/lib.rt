@@ -10,7 +10,7 @@ mod space;
 
 pub use found::{Cut, Edge, Extent, Found, path_to};
 pub use searching::search;
-pub use space::{Progress, Space, Successor, Unanswered, Watch};
+pub use space::{Followed, Progress, Space, Successor, Unanswered, Watch};
 
 #[cfg(test)]
 mod tests;

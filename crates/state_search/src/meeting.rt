@@ -10,37 +10,37 @@ use std::collections::BTreeSet;
 
 /// A search as far as it came.
 #[derive(Drop)]
-pub(crate) struct Search<L, K: Ord> {
+pub(crate) struct Search<L, K: Ord, N> {
     /// As in `Found`.
     pub(crate) edges: Vec<Edge<L>>,
-    pub(crate) leaving: Vec<usize>,
+    pub(crate) notes: Vec<N>,
     /// The keys of the nodes that were found.
     pub(crate) seen: BTreeSet<K>,
 }
 
-impl<L, K: Ord> Search<L, K> {
+impl<L, K: Ord, N> Search<L, K, N> {
     /// Nothing is found but the start, whose key isn't known yet.
-    pub(crate) fn new(alloc: Global) -> Search<L, K>
+    pub(crate) fn new(alloc: Global) -> Search<L, K, N>
         ensures edges { result.edges.items ≡ [] }
-        ensures leaving { result.leaving.items ≡ [] }
+        ensures notes { result.notes.items ≡ [] }
         ensures seen { result.seen.keys ≡ [] }
     {
         Search {
             edges: Vec::new(alloc),
-            leaving: Vec::new(alloc),
+            notes: Vec::new(alloc),
             seen: BTreeSet::new(alloc),
         }
     }
 }
 
 /// A node is found by its edge, unless one with its key was; but not beyond `limit` nodes.
-pub(crate) fn meet<L: Copy, K: Ord + Copy>(
-    search: &mut Search<L, K>,
+pub(crate) fn meet<L: Copy, K: Ord + Copy, N>(
+    search: &mut Search<L, K, N>,
     from: usize,
     edge: Successor<L, K>,
     limit: usize,
 ) -> Result<(), Cut>
-    ensures leaving { search.new.leaving.items ≡ search.old.leaving.items }
+    ensures notes { search.new.notes.items ≡ search.old.notes.items }
     ensures ok { OnOk result (Meets K.cmp from (edge ∷ []) 1 search.old search.new) }
     ensures err { OnErr result (search.new.edges.items ≡ search.old.edges.items) }
     ensures within { length search.old.edges.items ≤ limit - 1 → length search.new.edges.items ≤ limit - 1 }
@@ -66,13 +66,13 @@ pub(crate) fn meet<L: Copy, K: Ord + Copy>(
 }
 
 /// So is the node of each of these edges, in their order.
-pub(crate) fn meet_all<L: Copy, K: Ord + Copy>(
-    search: &mut Search<L, K>,
+pub(crate) fn meet_all<L: Copy, K: Ord + Copy, N>(
+    search: &mut Search<L, K, N>,
     from: usize,
     edges: &[Successor<L, K>],
     limit: usize,
 ) -> Result<(), Cut>
-    ensures leaving { search.new.leaving.items ≡ search.old.leaving.items }
+    ensures notes { search.new.notes.items ≡ search.old.notes.items }
     ensures ok { OnOk result (Meets K.cmp from edges.now (length edges.now) search.old search.new) }
     ensures err { OnErr result (Adds from edges.now (length edges.now) search.old.edges.items search.new.edges.items) }
     ensures within { length search.old.edges.items ≤ limit - 1 → length search.new.edges.items ≤ limit - 1 }

@@ -1,6 +1,6 @@
 //! What is searched, and who watches.
 
-ghost use Rattle.std.specs.Prelude.{◌≡◌, IfOk, Option};
+ghost use Rattle.std.specs.Prelude.{◌≡◌, IfOk, Option, Some};
 ghost use Rattle.state_search.specs.Graph.{LeadsOn, node_by};
 ghost use Rattle.state_search.specs.Edges.{AreEdgesFrom};
 
@@ -11,6 +11,13 @@ use std::alloc::AllocError;
 pub struct Successor<L, K> {
     pub label: L,
     pub key: K,
+}
+
+/// What a space tells of a node: the edges that leave it, and a note.
+#[derive(Drop)]
+pub struct Followed<L, K, N> {
+    pub edges: Vec<Successor<L, K>>,
+    pub note: N,
 }
 
 /// Why a space gave no answer: for want of memory, or for a fault of its own.
@@ -27,6 +34,9 @@ pub trait Space {
 
     type Key: Ord + Copy;
 
+    /// What is to be known of each node whose edges were followed.
+    type Note: Copy;
+
     type Fault: Drop;
 
     /// What stays the same while the space is searched, and on which the graph depends.
@@ -41,21 +51,26 @@ pub trait Space {
     ghost after: { Setting → Node → Self.Label → Option Node };
     /// The key may be given for the node.
     ghost IsKey: { Setting → Node → Self.Key → Type 0 };
+    /// The note is right of the node.
+    ghost IsNote: { Setting → Node → Self.Note → Type 0 };
 
     /// A key of the start.
     fn first(&mut self) -> Result<Self::Key, Unanswered<Self::Fault>>
         ensures kept { setting self.new ≡ setting self.old }
         ensures key { IfOk result (λ key. IsKey (setting self.old) (start (setting self.old)) key) };
 
-    /// The edges that leave the node to which the path leads.
+    /// The edges that leave the node to which the path leads, and a note of it.
     fn successors(
         &mut self,
         path: &[Self::Label],
-    ) -> Result<Vec<Successor<Self::Label, Self::Key>>, Unanswered<Self::Fault>>
+    ) -> Result<Followed<Self::Label, Self::Key, Self::Note>, Unanswered<Self::Fault>>
         requires { LeadsOn (after (setting self.old)) (start (setting self.old)) path.now }
         ensures kept { setting self.new ≡ setting self.old }
         ensures edges { IfOk result (λ found. AreEdgesFrom (after (setting self.old)) (IsKey (setting self.old))
-            (node_by (after (setting self.old)) (start (setting self.old)) path.now) found.items) };
+            (node_by (after (setting self.old)) (start (setting self.old)) path.now) found.edges.items) }
+        ensures note { IfOk result (λ found. (node : Node)
+            → node_by (after (setting self.old)) (start (setting self.old)) path.now ≡ Some node
+            → IsNote (setting self.old) node found.note) };
 }
 
 /// How far a search has come.

@@ -15,9 +15,10 @@ struct Ring {
 impl Space for Ring {
     type Label = ();
     type Key = usize;
+    type Note = ();
     type Fault = AllocError;
 
-    ghost use Rattle.std.specs.Prelude.{Unit, tt, Some};
+    ghost use Rattle.std.specs.Prelude.{Some};
 
     ghost Setting = { Unit {0} };
 
@@ -31,6 +32,8 @@ impl Space for Ring {
 
     ghost IsKey = { λ at node key. Unit {0} };
 
+    ghost IsNote = { λ at node note. Unit {0} };
+
     fn first(&mut self) -> Result<usize, Unanswered<AllocError>> {
         Ok(0)
     }
@@ -38,16 +41,16 @@ impl Space for Ring {
     fn successors(
         &mut self,
         path: &[()],
-    ) -> Result<Vec<Successor<(), usize>>, Unanswered<AllocError>> {
+    ) -> Result<Followed<(), usize, ()>, Unanswered<AllocError>> {
         match one_edge(self.alloc, (path.len() % 3 + 1) % 3) {
-            Ok(edges) => Ok(edges),
+            Ok(edges) => Ok(Followed { edges, note: () }),
             Err(error) => Err(Unanswered::Memory(error)),
         }
     }
 }
 
 fn one_edge(alloc: Global, key: usize) -> Result<Vec<Successor<(), usize>>, AllocError>
-    ensures { IfOk result (λ edges. edges.items ≡ (record { label = (); key = key }) ∷ []) }
+    ensures { IfOk result (λ edges. edges.items ≡ (record { label = tt; key = key }) ∷ []) }
 {
     let mut edges = Vec::new(alloc);
     edges.push(Successor { label: (), key })?;
@@ -73,7 +76,7 @@ fn ring_is_searched(rt: HostRuntime) -> Result<(), Fail> {
     let mut count = Count { told: 0 };
     let whole = search(alloc, &mut ring, 3, &mut count)?;
     assert!(rt; whole.extent == Extent::Whole);
-    assert!(rt; whole.edges.len() == 2 && whole.leaving.len() == 3 && count.told == 3);
+    assert!(rt; whole.edges.len() == 2 && whole.notes.len() == 3 && count.told == 3);
     assert!(rt; path_to(alloc, &whole.edges, 2)?.len() == 2);
     let cut = search(alloc, &mut ring, 2, &mut count)?;
     assert!(rt; cut.extent == Extent::Cut(Cut::Nodes) && cut.edges.len() == 1);

@@ -10,7 +10,7 @@ loop-edge-preserved g c =
     let there : slice_get c.args.edges.now c.loop-edge.edge-index ≡ Some c.edge-item.result =
     slice_get_read c.args.edges.now (length c.args.edges.now) c.loop-edge.edge-index c.edge-item.result refl (omega arith) c.edge-item.is in
     record {
-      leaving = c.meet.ensures.leaving ∙ c.loop-edge.invariant.leaving;
+      notes = c.meet.ensures.notes ∙ c.loop-edge.invariant.notes;
       meets = meets_next g.K.Ord.cmp c.args.from c.args.edges.now c.loop-edge.edge-index c.edge-item.result c.args.search.now c.loop-edge.search c.meet.new.search
           c.loop-edge.invariant.meets there c.in-Ok.ensures.ok;
       within = λ h. c.meet.ensures.within (c.loop-edge.invariant.within h);

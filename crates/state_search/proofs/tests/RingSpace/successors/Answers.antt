@@ -1,5 +1,5 @@
 use Rattle.std.proofs.Common.{◌≡◌, ℕ, List, [], ◌∷◌, Option, Some, refl, ap}
-use Rattle.std.specs.Prelude.{Unit, tt, slice_get}
+use Rattle.std.specs.Prelude.{slice_get}
 use Rattle.state_search.specs.declared.space.Successor.{Successor}
 use Rattle.state_search.specs.Edges.{AreEdges}
 use Rattle.state_search.proofs.tests.RingSpace.successors.Goals as goal
