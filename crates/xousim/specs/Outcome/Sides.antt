@@ -108,7 +108,7 @@ pub record IsUnprepared (store : StoreSide) : Type 0 where
   pub faults : store.faults_after ≡ store.faults
 
 -- What the pages of a run of so many slots hold is known, whether they are out or not: the store that is handed back is honest and tells,
--- or the run has no slots. On this rests what is said of the machine of a run, of its output and of its ending, and nothing else.
+-- or the run has no slots.
 abbrev pub IsTrusted : StoreSide → ℕ → Type 0
 IsTrusted store slots = IsTrue (store.tells_truly || slots == 0)
 
