@@ -9,7 +9,7 @@ use Rattle.xk_base.specs.declared.events.Event.TheVariants.{Tick}
 use Rattle.machine_model.specs.State.Machine.{Machine}
 use Rattle.machine_history.specs.History.{history, play}
 use Rattle.machine_history.specs.HistoryMoments.{event_moments, moments_of}
-use Rattle.xk_ports.specs.Told.{GrowsByPrefix, Consumes}
+use Rattle.xk_ports.specs.Told.{GrowsByProperPrefix, Consumes}
 use Rattle.event_player.specs.declared.telling.Telling.{Telling}
 use Rattle.event_player.specs.declared.ending.Ending.{Ending}
 use Rattle.event_player.specs.declared.ending.Ending.TheVariants as why
@@ -35,7 +35,7 @@ pub record StopsIn (tells : Telling) (event : Event) (limit : ℕ) (old new : St
   pub some : GathersSome tells old.text new.text limit (λ done. with_ending why.Played (play event done old.machine))
   pub soon : old.near ≡ true → ComesFull old.room old.machine (event_moments event (some.done + 1) old.machine)
 
--- The event was played, and exactly what is told of its records was put or is held; or a part from the front of that, where a write
+-- The event was played, and exactly what is told of its records was put or is held; or a proper part from the front of that, where a write
 -- failed; or what is told of so many of its steps, where the store failed in the next.
 abbrev pub Comes : Telling → Event → ℕ → Stand → Stand → Result Ending PlayFault → Type 0
 Comes tells event limit old new (Ok ending) =
@@ -144,7 +144,7 @@ pub record StopsSo (run : Run) (taken : List ℕ) (finished : Bool) (now : Stand
   pub full : ForEach taken finished (λ input. ComesFull now.room run.start (moments_of input.events run.limit run.start))
   pub silent : StaysSilent run.tells run.begun now.text
 
--- where a write failed, a part from the front of what is told of the history was put
+-- where a write failed, a proper part from the front of what is told of the history was put
 abbrev pub FailsSo : Run → List ℕ → Bool → Stand → PlayFault → Type 0
 FailsSo run taken finished now Write =
     ForEach taken finished (λ input. IsKnown run now input
@@ -182,12 +182,12 @@ pub record PlaysOut (run : Run) (left : Option (List ℕ)) (now : Stand) (ending
       → (now.near ≡ true) ⊎ ComesFull now.room run.start (moments_of (input_of bytes).events run.limit run.start)
   pub silent : StaysSilent run.tells run.begun now.text
 
--- a write failed: a part of what is told of the history was written
+-- a write failed: a proper part from the front of what is told of the history was written
 pub record PlaysInPart (run : Run) (left : Option (List ℕ)) (now : Stand) : Type 0 where
   pub bytes : List ℕ
   pub file : IsTold left bytes
   pub exact : IsKnown run now (input_of bytes)
-      → GrowsByPrefix run.begun.out now.text.out (told run.tells (history_of (input_of bytes) run.limit run.start).records)
+      → GrowsByProperPrefix run.begun.out now.text.out (told run.tells (history_of (input_of bytes) run.limit run.start).records)
 
 -- exactly what is told of so many steps was written, and some state up to the step behind them has more pages than there are frames for
 pub record WroteSoon (run : Run) (bytes : List ℕ) (now : Stand) : Type 0 where

@@ -5,7 +5,7 @@ use Rattle.suspend_image.specs.Saveable.{IsSpellable}
 use Rattle.suspend_image.specs.StateBytes.{saved_bytes}
 use Rattle.xk_base.specs.Outside.{Rose}
 use Rattle.xk_ports.specs.declared.host.FileSlot.TheVariants.{Second}
-use Rattle.xk_ports.specs.Told.{Grows, GrowsByPrefix}
+use Rattle.xk_ports.specs.Told.{Grows, GrowsByProperPrefix}
 use Rattle.event_player.specs.declared.ending.Ending.{Ending}
 use Rattle.event_player.specs.declared.ending.Ending.TheVariants.{Played, LimitMet, BadLine}
 use Rattle.xousim.specs.declared.status.Status.{Status}
@@ -21,7 +21,7 @@ use Rattle.host_io.specs.Reading.{Asked, IsTold}
 use Rattle.event_player.specs.Telling.{closing}
 use Rattle.xousim.specs.Words.{Play, Resume, Suspend}
 
--- what is told at the end of a history that came to this machine was written, or a part of it, and this is the status
+-- what is told at the end of a history that came to this machine was written, or a proper part from its front, and this is the status
 abbrev pub Finishes : Play → Machine → Ending → SinkSide → Status → Type 0
 Finishes play machine ending out Done = (ending ≡ Played) × Grows out.written out.written_after (closing play.tells machine ending)
 Finishes play machine ending out (EventFault line) =
@@ -29,7 +29,7 @@ Finishes play machine ending out (EventFault line) =
 Finishes play machine ending out (StepLimit limit) =
     (limit ≡ play.limit) × (ending ≡ LimitMet) × Grows out.written out.written_after (closing play.tells machine ending)
 Finishes play machine ending out WriteFault =
-    Rose out.faults out.faults_after × GrowsByPrefix out.written out.written_after (closing play.tells machine ending)
+    Rose out.faults out.faults_after × GrowsByProperPrefix out.written out.written_after (closing play.tells machine ending)
 Finishes play machine ending out Usage = ⊥
 Finishes play machine ending out SwapFault = ⊥
 Finishes play machine ending out ReadFault = ⊥
@@ -63,10 +63,10 @@ EndsBooted play booted call = EndsNotPicked play call ⊎ EndsPicked play booted
 
 -- ---- `suspend`
 
--- the last state was saved, the status being this one: its state bytes were written, or a part of them
+-- the last state was saved, the status being this one: its state bytes were written, or a proper part from their front
 abbrev pub SavesState : Machine → SinkSide → Status → Type 0
 SavesState machine out Done = IsSpellable machine × Grows out.written out.written_after (saved_bytes machine)
-SavesState machine out WriteFault = GrowsByPrefix out.written out.written_after (saved_bytes machine)
+SavesState machine out WriteFault = GrowsByProperPrefix out.written out.written_after (saved_bytes machine)
 SavesState machine out SwapFault = Unit {0}
 SavesState machine out Usage = ⊥
 SavesState machine out ReadFault = ⊥

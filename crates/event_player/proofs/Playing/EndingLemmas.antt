@@ -1,7 +1,7 @@
 -- How a run over a file ends, by what was played so far and the next answer of the reader.
 use Rattle.std.proofs.Common.{◌≡◌, ◌≢◌, ◌≤◌, ◌⊎◌, ◌+◌, inl, inr, ℕ, arith, take, drop, length, length-append, length-take, Bool, true, false, List, [], ◌∷◌, ◌++◌, Option, Some, None, Result, Ok, Err, IsErrAnd, refl, sym, ap, ◌∙◌, subst, append_assoc, append-nil}
 use Rattle.std.proofs.lemmas.List.{take-append-drop}
-use Rattle.xk_ports.specs.Told.{GrowsByPrefix}
+use Rattle.xk_ports.specs.Told.{GrowsByProperPrefix}
 use Rattle.event_player.specs.Telling.{told}
 use Rattle.machine_model.specs.Runs.Moments.{Moment}
 use Rattle.machine_model.specs.State.Machine.{Machine}
@@ -429,7 +429,7 @@ put_swapped run now after taken f grown p = record {
 
 -- .. or a part of it
 pub unput_fails : (run : Run) (now : Stand) (after : Option (List ℕ)) (taken : List ℕ) (f : Bool) (r : Reader) (ended : Option Ending)
-    → (ended ≡ None → r.finished ≡ f) → GrowsByPrefix now.text.out after now.text.held → Goes run taken f r now (Ok ended) → FailsSo run taken f (with_text now (put after)) Write
+    → (ended ≡ None → r.finished ≡ f) → GrowsByProperPrefix now.text.out after now.text.held → Goes run taken f r now (Ok ended) → FailsSo run taken f (with_text now (put after)) Write
 unput_fails run now after taken f r None same front p = λ more may known.
     let left : History = history_of (left_of r more) run.limit now.machine in
     let in_time : r.finished ≡ true → more ≡ [] = λ said. may (sym (same refl) ∙ said) in
@@ -446,7 +446,7 @@ trusted_of run now input full (inl trusted) = trusted
 trusted_of run now input full (inr never) = absurd (never full)
 
 pub unput_swapped : (run : Run) (now : Stand) (after : Option (List ℕ)) (taken : List ℕ) (f : Bool)
-    → GrowsByPrefix now.text.out after now.text.held → FailsSo run taken f now Swap → FailsSo run taken f (with_text now (put after)) Write
+    → GrowsByProperPrefix now.text.out after now.text.held → FailsSo run taken f now Swap → FailsSo run taken f (with_text now (put after)) Write
 unput_swapped run now after taken f front p = λ more may known.
     let some = (p.exact more may (trusted_of run now (input_of (taken ++ more)) (p.full more may) known)).some in
     let first = some_first run.tells some.done run.limit run.start (input_of (taken ++ more)) some.within some.met in
@@ -461,10 +461,10 @@ all_of_it_put run now out after held taken f r ended same grown goes =
     let G : Text → Type 0 = λ t. Puts t.out after t.held in put_goes run now after taken f r ended (subst G (sym same) grown) goes
 
 pub part_of_it_put : (run : Run) (now : Stand) (out after : Option (List ℕ)) (held taken : List ℕ) (f : Bool) (r : Reader) (ended : Option Ending)
-    → now.text ≡ text out held → (ended ≡ None → r.finished ≡ f) → GrowsByPrefix out after held → Goes run taken f r now (Ok ended)
+    → now.text ≡ text out held → (ended ≡ None → r.finished ≡ f) → GrowsByProperPrefix out after held → Goes run taken f r now (Ok ended)
     → FailsSo run taken f (with_text now (put after)) Write
 part_of_it_put run now out after held taken f r ended same waits front goes =
-    let G : Text → Type 0 = λ t. GrowsByPrefix t.out after t.held in unput_fails run now after taken f r ended waits (subst G (sym same) front) goes
+    let G : Text → Type 0 = λ t. GrowsByProperPrefix t.out after t.held in unput_fails run now after taken f r ended waits (subst G (sym same) front) goes
 
 -- where the store failed
 pub steps_before_put : (run : Run) (now : Stand) (out after : Option (List ℕ)) (held taken : List ℕ) (f : Bool)
@@ -473,9 +473,9 @@ steps_before_put run now out after held taken f same grown fails =
     let G : Text → Type 0 = λ t. Puts t.out after t.held in put_swapped run now after taken f (subst G (sym same) grown) fails
 
 pub steps_before_unput : (run : Run) (now : Stand) (out after : Option (List ℕ)) (held taken : List ℕ) (f : Bool)
-    → now.text ≡ text out held → GrowsByPrefix out after held → FailsSo run taken f now Swap → FailsSo run taken f (with_text now (put after)) Write
+    → now.text ≡ text out held → GrowsByProperPrefix out after held → FailsSo run taken f now Swap → FailsSo run taken f (with_text now (put after)) Write
 steps_before_unput run now out after held taken f same front fails =
-    let G : Text → Type 0 = λ t. GrowsByPrefix t.out after t.held in unput_swapped run now after taken f (subst G (sym same) front) fails
+    let G : Text → Type 0 = λ t. GrowsByProperPrefix t.out after t.held in unput_swapped run now after taken f (subst G (sym same) front) fails
 
 -- a write failed before: nothing more is put
 pub none_of_it_put : (run : Run) (now : Stand) (out : Option (List ℕ)) (held taken : List ℕ) (f : Bool)

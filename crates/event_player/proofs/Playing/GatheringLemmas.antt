@@ -1,8 +1,9 @@
 -- Telling, one piece after another, while what is told is gathered.
 use Rattle.std.proofs.Common.{◌≡◌, ℕ, true, List, [], ◌∷◌, ◌++◌, Option, refl, sym, ap, subst, ◌∙◌, append_assoc, append-nil}
 use Rattle.xk_base.specs.declared.records.Rec.{Rec}
-use Rattle.xk_ports.specs.Told.{Grows, GrowsByPrefix}
+use Rattle.xk_ports.specs.Told.{Grows, GrowsByProperPrefix}
 use Rattle.xk_ports.proofs.ToldLemmas.{Grows-append, Grows-none}
+use Rattle.host_io.proofs.ToldLemmas.{left_longer}
 use Rattle.event_player.specs.declared.telling.Telling.{Telling}
 use Rattle.event_player.specs.declared.telling.Telling.TheVariants.{Ledger, Nothing, Run, Trace}
 use Rattle.event_player.specs.declared.ending.Ending.{Ending}
@@ -13,11 +14,11 @@ use Rattle.event_player.specs.Writing.{Wrote, WroteSome}
 
 -- ---- what is put
 
-pub first_none : (xs ys : List ℕ) → xs ++ ys ≡ [] → xs ≡ []
+first_none : (xs ys : List ℕ) → xs ++ ys ≡ [] → xs ≡ []
 first_none [] ys none = refl
 first_none (x ∷ xs) ys none = cc
 
-second_none : (xs ys : List ℕ) → xs ++ ys ≡ [] → ys ≡ []
+pub second_none : (xs ys : List ℕ) → xs ++ ys ≡ [] → ys ≡ []
 second_none [] ys none = none
 second_none (x ∷ xs) ys none = cc
 
@@ -54,8 +55,9 @@ pub part_later : (before mid after : Text) (xs ys : List ℕ) → Gathers before
 part_later before mid after xs ys first second = (
   first.front ++ second.0,
   second.1,
-  held_on before.held mid.held second.1 xs ys first.front second.0 first.cut second.2,
-  Grows-append before.out mid.out after.out first.front second.0 first.puts.grown second.3,
+  second.2,
+  held_on before.held mid.held second.1 xs ys first.front second.0 first.cut second.3,
+  Grows-append before.out mid.out after.out first.front second.0 first.puts.grown second.4,
 )
 
 -- a front of some text is a front of it with more behind it
@@ -63,8 +65,9 @@ pub part_longer : (before after : Text) (xs ys : List ℕ) → GathersPart befor
 part_longer before after xs ys part = (
   part.0,
   part.1 ++ ys,
-  sym (append_assoc before.held xs ys) ∙ (ap (λ (l : List ℕ). l ++ ys) part.2 ∙ append_assoc part.0 part.1 ys),
-  part.3,
+  left_longer part.1 ys part.2,
+  sym (append_assoc before.held xs ys) ∙ (ap (λ (l : List ℕ). l ++ ys) part.3 ∙ append_assoc part.0 part.1 ys),
+  part.4,
 )
 
 -- a front of what comes after
@@ -83,12 +86,13 @@ gathers_put before out after held xs first puts = record {
 }
 
 -- .. or a front of it
-pub gathers_unput : (before : Text) (out after : Option (List ℕ)) (held xs : List ℕ) → Gathers before (text out held) xs → GrowsByPrefix out after held → GathersPart before (put after) xs
+pub gathers_unput : (before : Text) (out after : Option (List ℕ)) (held xs : List ℕ) → Gathers before (text out held) xs → GrowsByProperPrefix out after held → GathersPart before (put after) xs
 gathers_unput before out after held xs first front = (
   first.front ++ front.0,
   front.1,
-  first.cut ∙ (ap (λ (l : List ℕ). first.front ++ l) front.2 ∙ sym (append_assoc first.front front.0 front.1)),
-  Grows-append before.out out after first.front front.0 first.puts.grown front.3,
+  front.2,
+  first.cut ∙ (ap (λ (l : List ℕ). first.front ++ l) front.3 ∙ sym (append_assoc first.front front.0 front.1)),
+  Grows-append before.out out after first.front front.0 first.puts.grown front.4,
 )
 
 -- where all was put before and after, what was told was written

@@ -1,5 +1,5 @@
 -- The parts of a call of `suspend`, put together.
-use Rattle.std.proofs.Common.{◌≡◌, ◌≤◌, ◌+◌, ◌⊎◌, inl, inr, ℕ, Bool, true, false, List, [], ◌∷◌, length, Option, None, Result, Ok, Err, IfErr, IsErrAnd}
+use Rattle.std.proofs.Common.{◌≡◌, ◌<◌, ◌≤◌, ◌+◌, ◌⊎◌, inl, inr, ℕ, Bool, true, false, List, [], ◌∷◌, length, Option, None, Result, Ok, Err, IfErr, IsErrAnd}
 use Rattle.std.proofs.Common.{refl, sym, ap, ◌∙◌, subst, arith}
 use Rattle.boot_plan.specs.Capacity.{capacity, page_frames}
 use Rattle.boot_plan.specs.declared.plans.BootPlan.{BootPlan}
@@ -19,7 +19,7 @@ use Rattle.xk_kernel.specs.State.{machine_of}
 use Rattle.xk_kernel.specs.declared.kernel.Kernel.{Kernel}
 use Rattle.xk_ports.specs.declared.store.SwapStore.{Ghosts as SwapStore}
 use Rattle.xk_ports.specs.Host.{IsLeftOf}
-use Rattle.xk_ports.specs.Told.{Grows, GrowsByPrefix}
+use Rattle.xk_ports.specs.Told.{Grows, GrowsByProperPrefix}
 use Rattle.xk_ports.specs.declared.host.FileSlot.TheVariants.{First}
 use Rattle.event_player.specs.declared.telling.Telling.TheVariants.{Nothing}
 use Rattle.event_player.specs.declared.ending.Ending.{Ending}
@@ -45,7 +45,7 @@ use Rattle.xousim.proofs.ReserverLemmas.{history_reserver, unreserved_known}
 use Rattle.xousim.proofs.Outcome.TopLemmas.{Before, IsBefore, asks_both, begun_at, booted_is, cause_earlier, lines_earlier, prepared_earlier, rose_after}
 use Rattle.xousim.proofs.Outcome.TrustLemmas.{full_on}
 use Rattle.host_io.proofs.ReadingLemmas.{told_file}
-use Rattle.event_player.proofs.Playing.GatheringLemmas.{first_none}
+use Rattle.event_player.proofs.Playing.GatheringLemmas.{second_none}
 
 -- ---- the start
 
@@ -177,8 +177,8 @@ saved_tells suspend booted last call near mid faults store events WriteFault is_
   exact = λ known.
       let all = came known in
       let h : History = run_of suspend.limit booted.machine events in
-      let G : Option (List ℕ) → Type 0 = λ out. GrowsByPrefix out call.out.written_after (saved_bytes last) in
-      let B : List ℕ → Type 0 = λ bytes. GrowsByPrefix call.out.written call.out.written_after bytes in
+      let G : Option (List ℕ) → Type 0 = λ out. GrowsByProperPrefix out call.out.written_after (saved_bytes last) in
+      let B : List ℕ → Type 0 = λ bytes. GrowsByProperPrefix call.out.written call.out.written_after bytes in
       let whole : saved_bytes last ≡ saved_of h = ap saved_bytes all.there ∙ ap (λ (e : Ending). saved_at h.machine e) (sym all.ended) in
       subst B whole (subst G same all.saved);
 }
@@ -190,13 +190,13 @@ saved_tells suspend booted last call near mid faults store events (ImageFault fa
 saved_tells suspend booted last call near mid faults store events (EventFault line) is_file may same came cause = absurd cause
 saved_tells suspend booted last call near mid faults store events (StepLimit limit) is_file may same came cause = absurd cause
 
--- where a write failed though nothing was told, nothing was written
-pub part_of_saved : (before after : Option (List ℕ)) (h : History) → GrowsByPrefix before after (told Nothing h.records)
-    → GrowsByPrefix before after (saved_of h)
+-- nothing is told as records come: no write of it can have failed
+pub part_of_saved : (before after : Option (List ℕ)) (h : History) → GrowsByProperPrefix before after (told Nothing h.records)
+    → GrowsByProperPrefix before after (saved_of h)
 part_of_saved before after h part =
-    let none : part.0 ≡ [] = first_none part.0 part.1 (sym part.2 ∙ nothing_told h.records) in
-    let G : List ℕ → Type 0 = λ bytes. Grows before after bytes in
-    ([], saved_of h, refl, subst G none part.3)
+    let none : part.1 ≡ [] = second_none part.0 part.1 (sym part.3 ∙ nothing_told h.records) in
+    let some : 0 < 0 = subst (λ (l : List ℕ). 0 < length l) none part.2 in
+    absurd (omega (arith, some))
 
 -- ---- a call that began earlier
 

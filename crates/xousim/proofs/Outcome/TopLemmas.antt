@@ -4,7 +4,7 @@ use Rattle.std.specs.Option.{option_map}
 use Rattle.xk_base.specs.Outside.{Rose}
 use Rattle.xk_ports.specs.Host.{FileAsked}
 use Rattle.xk_ports.specs.Store.{StoreAsked}
-use Rattle.xk_ports.specs.Told.{Grows, GrowsByPrefix}
+use Rattle.xk_ports.specs.Told.{Grows, GrowsByProperPrefix}
 use Rattle.xk_ports.specs.declared.host.FileSlot.TheVariants.{First, Second}
 use Rattle.xk_ports.proofs.ToldLemmas.{Grows-append}
 use Rattle.event_text.specs.EventFile.{input_of}
@@ -24,6 +24,7 @@ use Rattle.event_player.specs.Rooms.{Room}
 use Rattle.xousim.specs.Outcome.Starts.{Booted, KnowsPages, room_of}
 use Rattle.xousim.specs.Outcome.Images.{plan_in}
 use Rattle.host_io.specs.Reading.{Asked, IsFile, IsTold}
+use Rattle.host_io.proofs.ToldLemmas.{front_later, front_longer}
 use Rattle.event_player.specs.Telling.{closing, output, told}
 use Rattle.xousim.specs.Words.{Command, Play, command_in}
 use Rattle.event_player.specs.Writing.{Wrote}
@@ -45,22 +46,15 @@ grows_whole tells before mid after h ending m is there first last =
     subst P (same_closing tells h ending m is there) (Grows-append before mid after (told tells h.records) (closing tells m ending) first last)
 
 pub front_whole : (tells : Telling) (before mid after : Option (List ℕ)) (h : History) (ending : Ending) (m : Machine) → h.ending ≡ ending → m ≡ h.machine
-    → Grows before mid (told tells h.records) → GrowsByPrefix mid after (closing tells m ending) → GrowsByPrefix before after (output tells h)
-front_whole tells before mid after h ending m is there first last = (
-  told tells h.records ++ last.0,
-  last.1,
-  ap (λ (text : List ℕ). told tells h.records ++ text) (sym (same_closing tells h ending m is there) ∙ last.2) ∙ sym (append_assoc (told tells h.records) last.0 last.1),
-  Grows-append before mid after (told tells h.records) last.0 first last.3,
-)
+    → Grows before mid (told tells h.records) → GrowsByProperPrefix mid after (closing tells m ending) → GrowsByProperPrefix before after (output tells h)
+front_whole tells before mid after h ending m is there first last =
+    let P : List ℕ → Type 0 = λ text. GrowsByProperPrefix before after (told tells h.records ++ text) in
+    subst P (same_closing tells h ending m is there) (front_later before mid after (told tells h.records) (closing tells m ending) first last)
 
 -- a part of what is told as the records come is a part of all that is told
-pub part_of_whole : (tells : Telling) (before after : Option (List ℕ)) (h : History) → GrowsByPrefix before after (told tells h.records) → GrowsByPrefix before after (output tells h)
-part_of_whole tells before after h front = (
-  front.0,
-  front.1 ++ closing tells h.machine h.ending,
-  ap (λ (text : List ℕ). text ++ closing tells h.machine h.ending) front.2 ∙ append_assoc front.0 front.1 (closing tells h.machine h.ending),
-  front.3,
-)
+pub part_of_whole : (tells : Telling) (before after : Option (List ℕ)) (h : History) → GrowsByProperPrefix before after (told tells h.records)
+    → GrowsByProperPrefix before after (output tells h)
+part_of_whole tells before after h front = front_longer before after (told tells h.records) (closing tells h.machine h.ending) front
 
 -- ---- the event file
 

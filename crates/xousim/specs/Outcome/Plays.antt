@@ -5,7 +5,7 @@ use Rattle.event_text.specs.Lines.{whole_lines}
 use Rattle.machine_model.specs.State.Machine.{Machine}
 use Rattle.machine_history.specs.HistoryMoments.{moments_of}
 use Rattle.xk_ports.specs.declared.host.FileSlot.TheVariants.{First, Second}
-use Rattle.xk_ports.specs.Told.{Grows, GrowsByPrefix}
+use Rattle.xk_ports.specs.Told.{Grows, GrowsByProperPrefix}
 use Rattle.event_player.specs.declared.ending.Ending.{Ending}
 use Rattle.event_player.specs.declared.ending.Ending.TheVariants.{Played, LimitMet, BadLine}
 use Rattle.xousim.specs.declared.status.Status.{Status}
@@ -36,12 +36,12 @@ pub record Ran (play : Play) (booted : Booted) (call : Call) (ending : Ending) :
   pub may : MayEnd (input_of events) ending
   pub exact : KnowsPages call.store booted play.limit (input_of events).events → WroteAll play booted.machine call events ending
 
--- where what the pages hold is known, a part from the front of what the command tells of the history was written
+-- where what the pages hold is known, a proper part from the front of what the command tells of the history was written
 pub record RanInPart (play : Play) (booted : Booted) (call : Call) : Type 0 where
   pub events : List ℕ
   pub is_file : IsFile call.host.files play.events events
   pub exact : KnowsPages call.store booted play.limit (input_of events).events
-      → GrowsByPrefix call.out.written call.out.written_after (output play.tells (run_of play.limit booted.machine events))
+      → GrowsByProperPrefix call.out.written call.out.written_after (output play.tells (run_of play.limit booted.machine events))
 
 -- a command that tells nothing as records come wrote nothing
 abbrev pub IsSilent : Play → Call → Type 0

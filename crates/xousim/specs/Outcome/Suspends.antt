@@ -3,7 +3,7 @@ use Rattle.std.specs.Prelude.{◌≡◌, ◌⊎◌, ℕ, true, List, [], None}
 use Rattle.machine_model.specs.State.Machine.{Machine}
 use Rattle.suspend_image.specs.Saveable.{IsSpellable}
 use Rattle.suspend_image.specs.StateBytes.{saved_bytes}
-use Rattle.xk_ports.specs.Told.{Grows, GrowsByPrefix}
+use Rattle.xk_ports.specs.Told.{Grows, GrowsByProperPrefix}
 use Rattle.event_player.specs.declared.telling.Telling.TheVariants.{Nothing}
 use Rattle.event_player.specs.declared.ending.Ending.{Ending}
 use Rattle.event_player.specs.declared.ending.Ending.TheVariants.{Played, LimitMet, BadLine}
@@ -55,12 +55,12 @@ pub record RanSaved (suspend : Suspend) (booted : Booted) (call : Call) : Type 0
   pub may : MayEnd (input_of events) Played
   pub exact : KnowsPages call.store booted suspend.limit (input_of events).events → WroteState suspend booted.machine call events
 
--- where what the pages hold is known, a part from the front of what the command writes of the history was written
+-- where what the pages hold is known, a proper part from the front of what the command writes of the history was written
 pub record RanSavedInPart (suspend : Suspend) (booted : Booted) (call : Call) : Type 0 where
   pub events : List ℕ
   pub is_file : IsFile call.host.files suspend.events events
   pub exact : KnowsPages call.store booted suspend.limit (input_of events).events
-      → GrowsByPrefix call.out.written call.out.written_after (saved_of (run_of suspend.limit booted.machine events))
+      → GrowsByProperPrefix call.out.written call.out.written_after (saved_of (run_of suspend.limit booted.machine events))
 
 -- nothing was written; the event file may end in this way, and its history did where what the pages hold is known
 pub record RanUnsaved (suspend : Suspend) (booted : Booted) (call : Call) (ending : Ending) : Type 0 where
