@@ -140,7 +140,7 @@ module _ (number : Number) (m : Machine) (h : Matched m) where
               call = leaves_it number m w k e none _ a;
               told = Quiet (one_quiet number (λ id. false) m.cursor (message_words x) other) a;
               lost = refl;
-              stands = same_stands number m h _ (taken_other serial server there x rest queue other) refl a stands;
+              stands = same_stands number m h (change_server serial (λ s. with_received x (without_oldest s)) m) (taken_other serial server there x rest queue other) refl a stands;
               settled = inl (ap asks e ∙ none);
               delivery = refl;
               processes = refl;
@@ -149,7 +149,7 @@ module _ (number : Number) (m : Machine) (h : Matched m) where
               mid = Queued;
               last = left_by (message_words x);
               end = left_by (message_words x);
-              call = subst (λ s. CallSays number w _ s Queued) (sym (taken_stood serial server there x rest queue is a stands)) (leaves_it number m w k e none _ Queued);
+              call = subst (λ s. CallSays number w (answer_to m.cursor (message_words x) m.cursor ≡ Some plain_words) s Queued) (sym (taken_stood serial server there x rest queue is a stands)) (leaves_it number m w k e none _ Queued);
               told = One m.cursor (message_words x) (answer_itself m.cursor (message_words x)) is (to_itself number m.cursor (message_words x))
                   (cursor_known m h ready);
               lost = refl;

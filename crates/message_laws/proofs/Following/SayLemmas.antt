@@ -45,10 +45,10 @@ AreSettled (what ∷ told) = IsSettled what told × AreSettled told
 
 module _ (number : Number) where
   -- more records behind it make no difference
-  record IsAlike (what : What) (later more : List What) : Type 0 where
-    forward : is_forward_of number what more ≡ is_forward_of number what later
-    returned : is_return_of number what more ≡ is_return_of number what later
-    end : is_end_in what more ≡ is_end_in what later
+  pub record IsAlike (what : What) (later more : List What) : Type 0 where
+    pub forward : is_forward_of number what more ≡ is_forward_of number what later
+    pub returned : is_return_of number what more ≡ is_return_of number what later
+    pub end : is_end_in what more ≡ is_end_in what later
 
   alike : (what : What) (later more : List What) → IsSettled what later → IsAlike what later (later ++ more)
   alike (Call who words) later more (inr some) =
@@ -81,7 +81,7 @@ module _ (number : Number) where
   alike (Irq pid k) later more s = record { forward = refl; returned = refl; end = refl }
   alike (Gone pid) later more s = record { forward = refl; returned = refl; end = refl }
 
-  says_alike : (what : What) (later more : List What) (a b : Standing) → IsAlike what later more → Says number what later a b → Says number what more a b
+  pub says_alike : (what : What) (later more : List What) (a b : Standing) → IsAlike what later more → Says number what later a b → Says number what more a b
   says_alike what later more _ _ same (Accepted _ _ e) = Accepted what more e
   says_alike _ later more _ _ same (Delivered who words _ e) = Delivered who words more e
   says_alike what later more _ _ same (Forwarded _ _ e) = Forwarded what more (same.forward ∙ e)
